@@ -1,0 +1,17 @@
+use crate::Code;
+
+/// What is wrong, and where: the number of the file in the order in which the files were given,
+/// and the place in it as a number of bytes, both counted from 0.
+#[derive(Clone, Copy, Debug, PartialEq, Eq)]
+pub struct Fault {
+    pub code: Code,
+    pub file: u32,
+    pub at: u64,
+}
+
+/// A part of a file, in bytes: from `start` up to but not with `end`.
+#[derive(Clone, Copy, Debug, PartialEq, Eq)]
+pub struct Span {
+    pub start: u64,
+    pub end: u64,
+}
