@@ -1,0 +1,5 @@
+pub mod Ascends
+pub mod EscapedText
+pub mod HtmlRows
+pub mod RowPairs
+pub mod RowText

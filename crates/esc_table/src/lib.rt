@@ -1,0 +1,21 @@
+//! Escapes text by a table: each character that has a row becomes the row's text, and each other
+//! character stands for itself.
+//!
+//! A `Table` is seen by contracts as its rows, each a character and the list of the characters of
+//! its text. `Table::find` is exact in both answers, and what `escape_into` appends is exactly
+//! `escaped_text` of the rows and the text's characters; after a refusal its target is as it was.
+//! `html` is the one table so far: the rows that make a text safe in HTML.
+//!
+//! Stands on no other crate.
+#![tactic(auto)]
+
+mod characters;
+mod escape;
+mod html_table;
+mod memory;
+mod table;
+
+pub use escape::escape_into;
+pub use html_table::html;
+pub use memory::OutOfMemory;
+pub use table::{Row, Table};

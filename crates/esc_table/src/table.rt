@@ -1,0 +1,59 @@
+ghost use Rattle.std.specs.Prelude.{◌≡◌, ◌≤◌, length, option_map};
+ghost use Rattle.std.specs.Str.{chars};
+ghost use Rattle.esc_table.specs.Ascends.{Ascends};
+ghost use Rattle.esc_table.specs.RowPairs.{row_pairs};
+ghost use Rattle.esc_table.specs.RowText.{row_text};
+
+use std::marker::Model;
+
+/// A character and the text that stands for it.
+#[derive(Clone, Copy, Debug)]
+pub struct Row {
+    /// The character that is escaped.
+    pub from: char,
+    /// What is written in its place.
+    pub to: &'static str,
+}
+
+/// `N` rows, ascending by their characters.
+#[derive(Debug, Drop)]
+pub struct Table<const N: usize> {
+    rows: &'static [Row],
+}
+
+impl<const N: usize> Model for Table<N> {
+    ghost use Rattle.std.specs.Prelude.{◌≡◌, ℕ, List, length};
+    ghost use Rattle.esc_table.specs.Ascends.{Ascends};
+    ghost use Rattle.esc_table.specs.RowPairs.{row_pairs};
+
+    ghost Value = { List (ℕ × List ℕ) };
+
+    ghost view = { λ table. row_pairs table.rows.now };
+
+    ghost invariant = { λ table. (length table.rows.now ≡ N) × Ascends (row_pairs table.rows.now) };
+}
+
+impl<const N: usize> Table<N> {
+    /// The table of these rows: `N` of them, ascending by their characters, at most 256.
+    pub fn new(rows: &'static [Row]) -> Table<N>
+        requires size { N ≤ 256 }
+        requires count { length rows.now ≡ N }
+        requires ascending { Ascends (row_pairs rows.now) }
+        ensures { result ≡ row_pairs rows.now }
+    {
+        Table { rows }
+    }
+
+    /// The text of the row of `c`, and `None` exactly where no row has `c`.
+    pub fn find(&self, c: char) -> Option<&'static str>
+        requires { N ≤ 256 }
+        ensures { option_map (λ text. chars text.now) result ≡ row_text self.now c }
+    {
+        for row in self.rows {
+            if row.from == c {
+                return Some(row.to);
+            }
+        }
+        None
+    }
+}
