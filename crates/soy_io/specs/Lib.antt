@@ -1,0 +1,9 @@
+pub mod Added
+pub mod CallsMade
+pub mod FetchRose
+pub mod Fetches
+pub mod FileOf
+pub mod MemoryEnds
+pub mod PutRose
+pub mod Puts
+pub mod Rose

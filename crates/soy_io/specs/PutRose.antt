@@ -1,0 +1,10 @@
+-- The count of faults rose, if the put's fault is that the sink failed. Want of memory says nothing
+-- of the count.
+use Rattle.std.specs.Prelude.{ℕ}
+use Rattle.soy_io.specs.Rose.{Rose}
+use Rattle.soy_io.specs.declared.sink.PutFault.{PutFault}
+use Rattle.soy_io.specs.declared.sink.PutFault.TheVariants.{Failed, OutOfMemory}
+
+abbrev pub PutRose : PutFault → ℕ → ℕ → Type 0
+PutRose Failed before now = Rose before now
+PutRose OutOfMemory before now = Unit {0}
