@@ -3,7 +3,8 @@
 -- `u64`.
 --
 -- With the numbers 2 and 3, the first call doesn't fail, and after it the next one does.
-use Rattle.std.specs.Prelude.{ℕ, ◌+◌, ◌-◌, ◌^◌, List, Contains, min}
+use Rattle.std.specs.Prelude.{ℕ, ◌+◌, ◌-◌, ◌^◌, Bool, ◌==◌, if◌then◌else◌, List, min}
+use Rattle.std.specs.List.{list_any}
 
 pub record CallsMade : Type 0 where
   pub fails : List ℕ
@@ -14,12 +15,14 @@ pub record CallsMade : Type 0 where
 abbrev pub counted_up : ℕ → ℕ
 counted_up count = min (count + 1) (2 ^ 64 - 1)
 
-abbrev pub FailsNext : CallsMade → Type 0
-FailsNext made = Contains made.fails (counted_up made.calls)
+-- whether the next call is one of those that fail
+abbrev pub fails_next : CallsMade → Bool
+fails_next made = list_any (λ call. call == counted_up made.calls) made.fails
 
-abbrev pub after_call : CallsMade → CallsMade
-after_call made = record { fails = made.fails; calls = counted_up made.calls; faults = made.faults }
-
-abbrev pub after_fault : CallsMade → CallsMade
-after_fault made =
-    record { fails = made.fails; calls = counted_up made.calls; faults = counted_up made.faults }
+-- after that call
+abbrev pub next_made : CallsMade → CallsMade
+next_made made = record {
+    fails = made.fails;
+    calls = counted_up made.calls;
+    faults = if fails_next made then counted_up made.faults else made.faults;
+  }

@@ -1,6 +1,12 @@
 // The ends in memory that fail at chosen calls.
 ghost use Rattle.std.specs.Prelude.{◌≡◌, ◌≤◌, ◌<◌, ◌↔◌, [], Some, Err, IfOk, IfErr, IsTrue, MatchBool, length, min};
-ghost use Rattle.soy_io.specs.CallsMade.{FailsNext, after_call, after_fault};
+ghost use Rattle.std.specs.Bool.{OnTrue};
+ghost use Rattle.soy_io.specs.CallsMade.{fails_next, next_made};
+ghost use Rattle.soy_io.specs.FetchRose.{FetchRose};
+ghost use Rattle.soy_io.specs.Fetches.{Fetches};
+ghost use Rattle.soy_io.specs.PutRose.{PutRose};
+ghost use Rattle.soy_io.specs.Puts.{Puts};
+ghost use Rattle.soy_io.specs.Rose.{Rose};
 
 use crate::files::{NamedFile, fetch_from};
 use crate::library::{Fetch, FetchFault, Library};
@@ -37,8 +43,9 @@ impl FailingCalls {
 
     // Counts a call, and says whether it is one of those that fail.
     fn fails_now(&mut self) -> bool
-        ensures fails { IsTrue result ↔ FailsNext self.old }
-        ensures counted { MatchBool result (self.new ≡ after_fault self.old) (self.new ≡ after_call self.old) }
+        ensures fails { result ≡ fails_next self.old }
+        ensures counted { self.new ≡ next_made self.old }
+        ensures failed { OnTrue result (Rose self.old.faults self.new.faults) }
         ensures later { self.old.faults ≤ self.new.faults }
     {
         self.calls = self.calls.saturating_add(1);
@@ -85,7 +92,16 @@ impl Library for MemoryLibrary {
 
     ghost faults = { λ library. library.made.faults };
 
-    fn fetch(&mut self, name: &str, into: &mut Vec<u8>, limit: usize) -> Result<Fetch, FetchFault> {
+    fn fetch(&mut self, name: &str, into: &mut Vec<u8>, limit: usize) -> Result<Fetch, FetchFault>
+        ensures held { self.new.files ≡ self.old.files }
+        ensures answer { Fetches (Some self.old.files) name.now limit into.old.items into.new.items result }
+        ensures later { self.old.made.faults ≤ self.new.made.faults }
+        ensures failed { IfErr result (λ fault. FetchRose fault self.old.made.faults self.new.made.faults) }
+
+        // It fails at the calls that it was told, and at no others.
+        ensures fails { (result ≡ Err FetchFault.Failed) ↔ IsTrue (fails_next self.old.made) }
+        ensures counted { self.new.made ≡ next_made self.old.made }
+    {
         if self.made.fails_now() {
             return Err(FetchFault::Failed);
         }
@@ -142,7 +158,17 @@ impl Sink for MemorySink {
 
     ghost faults = { λ sink. sink.made.faults };
 
-    fn put(&mut self, piece: &[u8]) -> Result<usize, PutFault> {
+    fn put(&mut self, piece: &[u8]) -> Result<usize, PutFault>
+        ensures taken { Puts (Some self.old.taken) (Some self.new.taken) piece.now result }
+        ensures later { self.old.made.faults ≤ self.new.made.faults }
+        ensures failed { IfErr result (λ fault. PutRose fault self.old.made.faults self.new.made.faults) }
+
+        // It fails at the calls that it was told, and at no others, and takes as many bytes as it may.
+        ensures fails { (result ≡ Err PutFault.Failed) ↔ IsTrue (fails_next self.old.made) }
+        ensures counted { self.new.made ≡ next_made self.old.made }
+        ensures count { IfOk result (λ count. count ≡ min self.old.most (length piece.now)) }
+        ensures same_most { self.new.most ≡ self.old.most }
+    {
         if self.made.fails_now() {
             return Err(PutFault::Failed);
         }

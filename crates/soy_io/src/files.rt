@@ -2,7 +2,6 @@
 ghost use Rattle.std.specs.Prelude.{◌≡◌, ℕ, List, Some, IfErr, option_map};
 ghost use Rattle.soy_io.specs.FileOf.{file_of};
 ghost use Rattle.soy_io.specs.Fetches.{Fetches};
-ghost use Rattle.soy_io.specs.declared.library.FetchFault.TheVariants as fetch_fault;
 
 use crate::library::{Fetch, FetchFault};
 use std::marker::Model;
@@ -45,7 +44,7 @@ pub(crate) fn fetch_from(
     limit: usize,
 ) -> Result<Fetch, FetchFault>
     ensures answer { Fetches (Some files.now) name.now limit into.old.items into.new.items result }
-    ensures memory_only { IfErr result (λ fault. fault ≡ fetch_fault.OutOfMemory) }
+    ensures memory_only { IfErr result (λ fault. fault ≡ FetchFault.OutOfMemory) }
 {
     match file_named(files, name) {
         None => Ok(Fetch::Missing),

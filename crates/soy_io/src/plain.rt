@@ -1,5 +1,7 @@
 // The ends in memory that never fail.
-ghost use Rattle.std.specs.Prelude.{◌≡◌, [], Some, IfOk, length};
+ghost use Rattle.std.specs.Prelude.{◌≡◌, [], Some, IfErr, IfOk, length};
+ghost use Rattle.soy_io.specs.Fetches.{Fetches};
+ghost use Rattle.soy_io.specs.Puts.{Puts};
 
 use crate::files::{NamedFile, fetch_from};
 use crate::library::{Fetch, FetchFault, Library};
@@ -37,7 +39,11 @@ impl Library for PlainLibrary {
 
     ghost faults = { λ _. 0 };
 
-    fn fetch(&mut self, name: &str, into: &mut Vec<u8>, limit: usize) -> Result<Fetch, FetchFault> {
+    fn fetch(&mut self, name: &str, into: &mut Vec<u8>, limit: usize) -> Result<Fetch, FetchFault>
+        ensures same { self.new ≡ self.old }
+        ensures answer { Fetches (Some self.old) name.now limit into.old.items into.new.items result }
+        ensures memory_only { IfErr result (λ fault. fault ≡ FetchFault.OutOfMemory) }
+    {
         fetch_from(&self.files, name, into, limit)
     }
 }
@@ -82,7 +88,11 @@ impl Sink for PlainSink {
 
     ghost faults = { λ _. 0 };
 
-    fn put(&mut self, piece: &[u8]) -> Result<usize, PutFault> {
+    fn put(&mut self, piece: &[u8]) -> Result<usize, PutFault>
+        ensures taken { Puts (Some self.old) (Some self.new) piece.now result }
+        ensures whole { IfOk result (λ count. count ≡ length piece.now) }
+        ensures memory_only { IfErr result (λ fault. fault ≡ PutFault.OutOfMemory) }
+    {
         self.taken.extend_from_slice(piece)?;
         Ok(piece.len())
     }
