@@ -22,7 +22,7 @@ fails_next made = list_any (λ call. call == counted_up made.calls) made.fails
 -- after that call
 abbrev pub next_made : CallsMade → CallsMade
 next_made made = record {
-    fails = made.fails;
-    calls = counted_up made.calls;
-    faults = if fails_next made then counted_up made.faults else made.faults;
-  }
+  fails = made.fails;
+  calls = counted_up made.calls;
+  faults = if fails_next made then counted_up made.faults else made.faults;
+}

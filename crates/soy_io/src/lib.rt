@@ -20,3 +20,6 @@ pub use files::NamedFile;
 pub use library::{Fetch, FetchFault, Library};
 pub use plain::{PlainLibrary, PlainSink};
 pub use sink::{PutAll, PutFault, Sink, put_all};
+
+#[cfg(test)]
+mod tests;
