@@ -1,1 +1,2 @@
 mod EscapedParts
+mod RowSearch

@@ -1,6 +1,7 @@
--- The rows of HTML: `&`, `<`, `>`, `"` and `'` become character references (WHATWG HTML,
--- "Character references"), and so does a CR, which a browser would read as a line feed; U+0000,
--- which a browser drops or replaces by the place where it stands, becomes U+FFFD itself.
+-- The rows of HTML: `&`, `<`, `>`, `"` and `'` become character references, so that none of them
+-- begins or ends anything; so does a CR, which is read as a line feed; and U+0000, which is dropped
+-- or replaced by the place where it stands, becomes U+FFFD itself (WHATWG HTML, "Character
+-- references", "Preprocessing the input stream", "Tokenization").
 --
 -- The text `<i>` becomes `&lt;i&gt;`.
 use Rattle.std.specs.Prelude.{ℕ, List, [], ◌∷◌, codes}

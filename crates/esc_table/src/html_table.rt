@@ -3,8 +3,9 @@ ghost use Rattle.esc_table.specs.HtmlRows.{html_rows};
 
 use crate::table::{Row, Table};
 
-/// The rows that keep a text from ending, or beginning, anything in HTML (WHATWG HTML, "Character
-/// references", and its tokenizer, which drops U+0000 and reads a CR as a line feed).
+/// The rows that keep a text from beginning or ending anything in HTML, and from being changed as
+/// it is read: a browser takes a CR for a line feed, and drops or replaces U+0000 (WHATWG HTML,
+/// "Character references", "Preprocessing the input stream", "Tokenization").
 pub fn html() -> Table<7>
     ensures { result ≡ html_rows }
 {

@@ -19,3 +19,6 @@ pub use escape::escape_into;
 pub use html_table::html;
 pub use memory::OutOfMemory;
 pub use table::{Row, Table};
+
+#[cfg(test)]
+mod tests;

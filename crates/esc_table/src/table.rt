@@ -49,11 +49,9 @@ impl<const N: usize> Table<N> {
         requires { N ≤ 256 }
         ensures { option_map (λ text. chars text.now) result ≡ row_text self.now c }
     {
-        for row in self.rows {
-            if row.from == c {
-                return Some(row.to);
-            }
+        match self.rows.binary_search_by_key(&c, |row| row.from) {
+            Ok(at) => Some(self.rows[at].to),
+            Err(_) => None,
         }
-        None
     }
 }
