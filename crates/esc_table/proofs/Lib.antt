@@ -1,2 +1,2 @@
-mod EscapedParts
+pub mod EscapedParts
 mod RowSearch

@@ -1,1 +1,1 @@
-mod AddedParts
+pub mod AddedParts

@@ -1,4 +1,6 @@
 -- The ends in memory that fail at chosen calls, as contracts see them.
+--
+-- A new sink has taken nothing, and has made no call.
 use Rattle.std.specs.Prelude.{ℕ, List}
 use Rattle.soy_io.specs.CallsMade.{CallsMade}
 use Rattle.soy_io.specs.FileOf.{Files}
