@@ -1,0 +1,10 @@
+pub mod Answered
+pub mod Courses
+pub mod Cuts
+pub mod Endings
+pub mod Keys
+pub mod Numbers
+pub mod Pages
+pub mod Reading
+pub mod Spaces
+pub mod Took

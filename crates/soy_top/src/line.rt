@@ -1,0 +1,55 @@
+// The lines that the program writes for people.
+ghost use Rattle.std.specs.Prelude.{◌≡◌, IfOk};
+ghost use Rattle.std.specs.String.{string_bytes};
+ghost use Rattle.soy_top.specs.Line.{refusal_line, not_yet_line, too_large_line, entry_line, read_line, ended};
+
+use soy_base::{Code, OutOfMemory};
+use std::alloc::Global;
+
+/// The usage text.
+pub(crate) const USAGE: &str = "usage: soyc render TEMPLATE DATA BUNDLE FILE..
+soyc check BUNDLE FILE..
+soyc extract FILE..
+soyc gen NUMBER
+soyc play SCRIPT BUNDLE BUNDLE FILE..
+soyc preview TEMPLATE DATA BUNDLE FILE..
+soyc format FILE
+";
+
+/// The line of a refusal with its line feed, or want of memory.
+fn refusal_line(alloc: Global, subject: &str, code: Code) -> Result<String, OutOfMemory>
+    ensures { IfOk result (λ line. string_bytes line ≡ ended (refusal_line subject.now code)) }
+{
+    let number = code.number();
+    let word = code.word();
+    Ok(format!(in alloc; "{subject}: {number} {word}\n")?)
+}
+
+/// The line of a command that the program doesn't do yet.
+pub(crate) fn not_yet_line(alloc: Global, command: &str) -> Result<String, OutOfMemory>
+    ensures { IfOk result (λ line. string_bytes line ≡ ended (not_yet_line command.now)) }
+{
+    refusal_line(alloc, command, Code::NotYet)
+}
+
+/// The line of a file over its limit.
+pub(crate) fn too_large_line(alloc: Global, file: &str) -> Result<String, OutOfMemory>
+    ensures { IfOk result (λ line. string_bytes line ≡ ended (too_large_line file.now)) }
+{
+    let place = format!(in alloc; "{file}:1:1")?;
+    refusal_line(alloc, place.as_str(), Code::TooLarge)
+}
+
+/// The line of a template that may not be rendered.
+pub(crate) fn entry_line(alloc: Global, template: &str) -> Result<String, OutOfMemory>
+    ensures { IfOk result (λ line. string_bytes line ≡ ended (entry_line template.now)) }
+{
+    refusal_line(alloc, template, Code::Entry)
+}
+
+/// The line of a file that could not be read, with its line feed, or want of memory.
+pub(crate) fn read_line(alloc: Global, file: &str) -> Result<String, OutOfMemory>
+    ensures { IfOk result (λ line. string_bytes line ≡ ended (read_line file.now)) }
+{
+    Ok(format!(in alloc; "{file}: read fault\n")?)
+}

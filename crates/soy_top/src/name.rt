@@ -1,0 +1,50 @@
+// Names and dotted names.
+ghost use Rattle.std.specs.Prelude.{◌≡◌, ◌==◌};
+ghost use Rattle.std.specs.List.{list_all, slice_split};
+ghost use Rattle.soy_top.specs.Name.{begins_name, continues_name, is_name, is_dotted_name};
+ghost use Rattle.soy_top.specs.Parts.{parts_left};
+
+use crate::text::front;
+
+fn begins_name(byte: u8) -> bool
+    ensures { result ≡ begins_name byte }
+{
+    byte.is_ascii_alphabetic() || byte == b'_'
+}
+
+fn continues_name(byte: u8) -> bool
+    ensures { result ≡ continues_name byte }
+{
+    begins_name(byte) || byte.is_ascii_digit()
+}
+
+/// Whether a text is a name.
+pub(crate) fn is_name(text: &str) -> bool
+    ensures { result ≡ is_name text.now }
+{
+    match text.as_bytes() {
+        [] => false,
+        [first, others @ ..] => begins_name(*first) && continue_name(others),
+    }
+}
+
+fn continue_name(bytes: &[u8]) -> bool
+    ensures { result ≡ list_all continues_name bytes.now }
+{
+    bytes.iter().all(|byte| continues_name(*byte))
+}
+
+/// Whether a text is a dotted name.
+pub(crate) fn is_dotted_name(text: &str) -> bool
+    ensures { result ≡ is_dotted_name text.now }
+{
+    let mut rest = Some(text);
+    while let Some(names) = rest {
+        let (name, others) = front(names, '.');
+        if !is_name(name) {
+            return false;
+        }
+        rest = others;
+    }
+    true
+}
