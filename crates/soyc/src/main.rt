@@ -1,0 +1,37 @@
+//! The program `soyc`: hands its words, the files of the system and its two output streams to
+//! `soy_top::run`, and ends with the status that `run` answers, 0 to 6.
+//!
+//! The adapters here say of the real files and streams what `run` asks of a library and of sinks:
+//! each failure is counted, and nothing is told of their contents.
+#![tactic(auto)]
+
+mod library;
+mod sinks;
+
+use library::FileLibrary;
+use sinks::{ErrSink, OutSink};
+use soy_top::{Status, run};
+use std::alloc::Global;
+use std::env;
+use std::io::ErrorKind;
+use std::process::ExitCode;
+
+/// The words of the command line without the program's own name, and none where one isn't UTF-8.
+fn words(rt: &HostRuntime, alloc: Global) -> Result<Vec<String>, Status> {
+    match env::args(rt) {
+        Ok(args) => args.skip(1).collect(alloc).map_err(|_| Status::Memory),
+        Err(error) if error.kind() == ErrorKind::OutOfMemory => Err(Status::Memory),
+        Err(_) => Ok(Vec::new(alloc)),
+    }
+}
+
+fn main(rt: HostRuntime) -> ExitCode {
+    let mut files = FileLibrary::new(&rt);
+    let mut out = OutSink::new(rt.stdout());
+    let mut err = ErrSink::new(rt.stderr());
+    let status = match words(&rt, rt.alloc()) {
+        Ok(words) => run(rt.alloc(), words.as_slice(), &mut files, &mut out, &mut err),
+        Err(status) => status,
+    };
+    ExitCode::from(status as u8)
+}
