@@ -25,3 +25,6 @@ mod text;
 
 pub use program::run;
 pub use status::Status;
+
+#[cfg(test)]
+mod tests;

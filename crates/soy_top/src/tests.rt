@@ -1,0 +1,207 @@
+// The worked rows: expected answers are written by hand from the rules.
+use crate::{Status, run};
+use soy_io::{NamedFile, PlainLibrary, PlainSink};
+use std::alloc::Global;
+
+mod faults;
+mod rows;
+
+use rows::{DATA, FORMS, WORDS};
+
+/// A row: its name, the words, the file t.soy and the data d.json; the status, and the text that the
+/// output takes where that is Done, and else the messages.
+type Row = (
+    &'static str,
+    &'static str,
+    &'static str,
+    &'static str,
+    Status,
+    &'static str,
+);
+
+/// The words of a line, parted by one space each, and none in an empty line.
+fn words_of(alloc: Global, line: &str) -> Option<Vec<String>> {
+    let mut words = Vec::new(alloc);
+    if line.is_empty() {
+        return Some(words);
+    }
+    for word in line.split(' ') {
+        words.push(String::from_str(alloc, word).ok()?).ok()?;
+    }
+    Some(words)
+}
+
+/// A file in memory.
+fn named(alloc: Global, name: &str, bytes: &[u8]) -> Option<NamedFile> {
+    let name = String::from_str(alloc, name).ok()?;
+    let bytes = Vec::from_slice(alloc, bytes).ok()?;
+    Some(NamedFile { name, bytes })
+}
+
+/// The files t.soy and d.json.
+fn files_of(alloc: Global, file: &[u8], json: &[u8]) -> Option<Vec<NamedFile>> {
+    let mut files = Vec::new(alloc);
+    files.push(named(alloc, "t.soy", file)?).ok()?;
+    files.push(named(alloc, "d.json", json)?).ok()?;
+    Some(files)
+}
+
+/// How a run ended: the status, and what the output and the messages took.
+#[derive(Drop)]
+struct Ended {
+    status: Status,
+    out: Vec<u8>,
+    err: Vec<u8>,
+}
+
+fn taken_by(alloc: Global, status: Status, out: &[u8], err: &[u8]) -> Option<Ended> {
+    let out = Vec::from_slice(alloc, out).ok()?;
+    let err = Vec::from_slice(alloc, err).ok()?;
+    Some(Ended { status, out, err })
+}
+
+/// A run over plain ends.
+fn run_plain(alloc: Global, words: &[String], files: Vec<NamedFile>) -> Option<Ended> {
+    let mut files = PlainLibrary::new(files);
+    let mut out = PlainSink::new(alloc);
+    let mut err = PlainSink::new(alloc);
+    let status = run(alloc, words, &mut files, &mut out, &mut err);
+    taken_by(alloc, status, out.taken(), err.taken())
+}
+
+/// A run of a line of words over t.soy and d.json.
+fn run_line(alloc: Global, line: &str, file: &[u8], json: &[u8]) -> Option<Ended> {
+    let words = words_of(alloc, line)?;
+    let files = files_of(alloc, file, json)?;
+    run_plain(alloc, words.as_slice(), files)
+}
+
+/// Whether a row is answered as it says.
+fn is_answered(alloc: Global, row: &Row) -> bool {
+    let (_, line, file, json, status, text) = *row;
+    let Some(ended) = run_line(alloc, line, file.as_bytes(), json.as_bytes()) else {
+        return false;
+    };
+    let text = text.as_bytes();
+    let (out, err) = (ended.out.as_slice(), ended.err.as_slice());
+    let is_text = match status {
+        Status::Done => out == text && err.is_empty(),
+        _ => err == text && out.is_empty(),
+    };
+    is_text && ended.status == status
+}
+
+#[test]
+fn rows_of_words_files_and_data(rt: HostRuntime) {
+    for row in WORDS.iter().chain(&FORMS).chain(&DATA) {
+        assert!(rt; is_answered(rt.alloc(), row), "row {}", row.0);
+    }
+}
+
+/// A file of the first form whose whole length is this many bytes.
+fn file_of_length(alloc: Global, length: usize) -> Option<Vec<u8>> {
+    let mut file = Vec::from_slice(alloc, b"{namespace t}\n{template m}\n").ok()?;
+    for _ in 0..length {
+        if file.len() + 12 < length {
+            file.push(b'a').ok()?;
+        }
+    }
+    file.extend_from_slice(b"\n{/template}").ok()?;
+    Some(file)
+}
+
+/// `{}` with spaces before it, this many bytes long.
+fn data_of_length(alloc: Global, length: usize) -> Option<Vec<u8>> {
+    let mut json = Vec::new(alloc);
+    for _ in 0..length {
+        if json.len() + 2 < length {
+            json.push(b' ').ok()?;
+        }
+    }
+    json.extend_from_slice(b"{}").ok()?;
+    Some(json)
+}
+
+/// Whether a file and data of these lengths are answered so.
+fn is_limited(alloc: Global, row: &(usize, usize, Status, &str)) -> bool {
+    let (file, json, status, text) = *row;
+    let (Some(file), Some(json)) = (file_of_length(alloc, file), data_of_length(alloc, json)) else {
+        return false;
+    };
+    let line = "render t.m d.json - t.soy";
+    match run_line(alloc, line, file.as_slice(), json.as_slice()) {
+        Some(ended) => ended.status == status && ended.err.as_slice() == text.as_bytes(),
+        None => false,
+    }
+}
+
+#[test]
+fn rows_of_limits(rt: HostRuntime) {
+    let rows = [
+        (1_048_576, 4_194_304, Status::Done, ""),
+        (
+            1_048_577,
+            4_194_304,
+            Status::Refused,
+            "t.soy:1:1: 2 TooLarge\n",
+        ),
+        (
+            1_048_576,
+            4_194_305,
+            Status::Refused,
+            "d.json:1:1: 2 TooLarge\n",
+        ),
+        (
+            1_048_577,
+            4_194_305,
+            Status::Refused,
+            "d.json:1:1: 2 TooLarge\n",
+        ),
+    ];
+    for row in &rows {
+        assert!(rt;
+            is_limited(rt.alloc(), row),
+            "{} and {} bytes",
+            row.0,
+            row.1
+        );
+    }
+}
+
+/// The words of a command and so many times the word t.soy.
+fn with_files(alloc: Global, command: &str, count: usize) -> Option<Vec<String>> {
+    let mut words = words_of(alloc, command)?;
+    for _ in 0..count {
+        words.push(String::from_str(alloc, "t.soy").ok()?).ok()?;
+    }
+    Some(words)
+}
+
+/// The status of a command with so many files, none of which is there.
+fn status_with_files(alloc: Global, command: &str, count: usize) -> Option<Status> {
+    let words = with_files(alloc, command, count)?;
+    let ended = run_plain(alloc, words.as_slice(), Vec::new(alloc))?;
+    Some(ended.status)
+}
+
+#[test]
+fn rows_of_file_counts(rt: HostRuntime) {
+    let counts = [
+        (0, Status::Usage),
+        (1, Status::Refused),
+        (64, Status::Refused),
+        (65, Status::Usage),
+    ];
+    for command in [
+        "render t.m d.json b.json",
+        "check -",
+        "extract",
+        "play s - -",
+        "preview t.m d.json -",
+    ] {
+        for (count, status) in counts {
+            let ended = status_with_files(rt.alloc(), command, count);
+            assert_eq!(rt; ended, Some(status), "{command} with {count}");
+        }
+    }
+}
