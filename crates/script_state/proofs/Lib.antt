@@ -1,0 +1,4 @@
+pub mod Texts
+pub mod Comments
+pub mod Literals
+pub mod PlainTexts

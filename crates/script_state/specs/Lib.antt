@@ -2,6 +2,13 @@ pub mod Characters
 pub mod CssAfterValue
 pub mod CssNext
 pub mod CssPlacing
+pub mod HasNone
+pub mod IsLineText
+pub mod IsLiteralText
+pub mod IsPlainScript
+pub mod IsPlainStyle
+pub mod IsStyleCode
 pub mod JsNext
 pub mod JsPlacing
+pub mod StateAfter
 pub mod StringNext

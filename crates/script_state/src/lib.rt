@@ -13,8 +13,12 @@
 mod css_state;
 mod fault;
 mod js_state;
+pub mod laws;
 mod literal;
 
 pub use css_state::CssState;
 pub use fault::Bad;
 pub use js_state::JsState;
+
+#[cfg(test)]
+mod tests;
