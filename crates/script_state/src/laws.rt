@@ -118,7 +118,8 @@ pub fn law_style_in_pieces()
 /// and then what follows must end it.
 pub fn law_style_value()
     ensures ends { css_after_value CssState.Ready ≡ CssState.AfterValue }
-    ensures leaves { (state : CssState) → css_placing state ≢ placing.Takes place.CssValue → css_after_value state ≡ state }
+    ensures leaves { (state : CssState) → css_placing state ≢ placing.Takes place.CssValue →
+        css_after_value state ≡ state }
 {}
 
 /// Two states of a script are equal for the program exactly where they are the same state.
