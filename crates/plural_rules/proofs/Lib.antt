@@ -1,0 +1,10 @@
+pub mod TallyLaws
+pub mod Walk
+pub mod Symbols
+pub mod Tails
+pub mod Goes
+pub mod Sound
+pub mod Complete
+pub mod Fronts
+pub mod ReadLaws
+pub mod SayLaws
