@@ -1,0 +1,5 @@
+pub mod AsciiTable
+pub mod Runs
+pub mod BlockSteps
+pub mod BracketRuns
+pub mod BracketSteps

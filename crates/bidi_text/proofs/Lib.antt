@@ -1,0 +1,13 @@
+pub mod Starts
+pub mod WordKinds
+pub mod WordCuts
+pub mod Counted
+pub mod Isolates
+pub mod Matched
+pub mod LoneBytes
+pub mod Marking
+pub mod CleanedSoFar
+pub mod WrappedParts
+pub mod CleanedTwice
+pub mod Ascending
+pub mod Flags

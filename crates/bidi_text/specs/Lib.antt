@@ -1,0 +1,4 @@
+pub mod Estimate
+pub mod Pairs
+pub mod Clean
+pub mod Wrap
