@@ -1,11 +1,11 @@
 -- The answer that a run goes by, where the words ask for a page.
 use Rattle.std.proofs.Common.{◌≡◌, ℕ, List, [], Option, Some, None, Result, refl, sym, ap, ◌∙◌}
-use Rattle.std.specs.Prelude.{option_and_then, option_map, IfSome}
+use Rattle.std.specs.Prelude.{option_and_then}
 use Rattle.std.specs.Option.{option_map_or}
 use Rattle.soy_io.specs.FileOf.{Files, file_of}
 use Rattle.soy_top.specs.declared.ending.Ending.{Ending}
 use Rattle.soy_top.specs.declared.fetch.Inputs.{Inputs}
-use Rattle.soy_top.specs.Answer.{Answer, Page, page_asked, files_answer, command_answer, answer}
+use Rattle.soy_top.specs.Answer.{Page, page_asked, files_answer, command_answer}
 use Rattle.soy_top.specs.Asked.{Asked, asked_by_words}
 use Rattle.soy_top.specs.Ending.{page_wanted, page_files, fetched_files, answered, answered_for}
 use Rattle.soy_top.specs.Inputs.{page_answered, FetchesAll}

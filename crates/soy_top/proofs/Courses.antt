@@ -1,17 +1,14 @@
 -- The courses of a run.
-use Rattle.std.proofs.Common.{◌≡◌, ℕ, List, [], Option, Some, None, Result, Ok, Err, inl, inr, ◌⊎◌, refl, sym, ap, ◌∙◌, Contains}
+use Rattle.std.proofs.Common.{◌≡◌, ℕ, List, Option, Some, None, inl, inr, refl, ◌∙◌}
 use Rattle.std.specs.Prelude.{IfSome}
-use Rattle.soy_io.specs.Added.{added}
 use Rattle.soy_top.specs.declared.ending.Ending.{Ending}
 use Rattle.soy_top.specs.declared.ending.Ending.TheVariants as ending
-use Rattle.soy_top.specs.declared.fetch.Inputs.{Inputs}
-use Rattle.soy_top.specs.declared.status.Status.{Status}
 use Rattle.soy_top.specs.declared.status.Status.TheVariants as status
 use Rattle.soy_top.specs.Accepts.{Refuses}
-use Rattle.soy_top.specs.Answer.{Answer, Done, Refused}
+use Rattle.soy_top.specs.Answer.{Answer, Done}
 use Rattle.soy_top.specs.Concludes.{Concludes}
-use Rattle.soy_top.specs.Course.{Run, Course, Said, Wrote, Stopped, Says}
-use Rattle.soy_top.specs.Inputs.{IsGround, answer_by}
+use Rattle.soy_top.specs.Course.{Run, Course, Says}
+use Rattle.soy_top.specs.Inputs.{IsGround}
 use Rattle.soy_top.specs.Words.{Word}
 
 -- a run that comes to an ending with a ground says it

@@ -1,17 +1,15 @@
 -- Texts cut at the first mark, and at each mark.
-use Rattle.std.proofs.Common.{◌≡◌, ◌≢◌, ℕ, suc, zero, ◌<◌, ◌==◌, eqb, Bool, true, false, cond, List, [], ◌∷◌, ◌++◌, Option, Some, None, option_map, length, get_or, refl, sym, ap, ◌∙◌, arith, eq-eqb, ◌&&◌, Bor, MatchOption, MatchBool, take, drop, nat_eq, ◌-◌}
+use Rattle.std.proofs.Common.{◌≡◌, ◌≢◌, ℕ, suc, zero, ◌<◌, ◌==◌, eqb, Bool, true, false, cond, List, [], ◌∷◌, ◌++◌, Option, Some, None, option_map, length, get_or, refl, sym, ap, ◌∙◌, arith, eq-eqb, ◌&&◌, Bor, MatchOption, take, drop, nat_eq, ◌-◌}
 use Rattle.std.specs.List.{slice_split, onto_first, list_all}
 use Rattle.std.specs.Option.{option_map_or}
 use Rattle.std.specs.Str.{bytes_eq, IsUtf8, IsAscii}
 use Rattle.std.proofs.Math.Bool.{and_assoc}
 use Rattle.std.proofs.lemmas.Str.{IsUtf8-from_ascii}
-use Rattle.std.proofs.lemmas.Bool.{eqb-true, cases_eq}
 use Rattle.std.proofs.lemmas.Bool.Decides.{nat_tests, same_from_decides, Decides-eqb}
 use Rattle.std.specs.Str.Pattern.{FindsTextPrefix, FindsTextSuffix, StripsPrefix, StripsSuffix}
 use Rattle.std.specs.List.{starts_with, ends_with}
 use Rattle.std.proofs.lemmas.Str.Pattern.{IsSplitOnceResult, split_parts, starts_text, ends_text}
 use Rattle.soy_top.specs.FirstForm.{cut, after_front, before_back, is_empty, is_last_line, is_file_byte}
-use Rattle.soy_top.specs.Parts.{parts_left}
 
 -- no character of a text is the mark
 abbrev pub Lacks : ℕ → List ℕ → Type 0

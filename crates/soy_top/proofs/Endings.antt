@@ -1,15 +1,13 @@
 -- What the course of a run says of its end, where it takes more than a look at each way.
-use Rattle.std.proofs.Common.{◌≡◌, ℕ, List, [], take, length, Option, Some, None, inl, inr, ◌⊎◌, refl, sym, ap, ◌∙◌, Contains}
+use Rattle.std.proofs.Common.{◌≡◌, ℕ, List, take, length, Option, Some, None, inl, inr, sym, ap, ◌∙◌}
 use Rattle.std.specs.Prelude.{IfSome}
 use Rattle.std.proofs.Math.Seq.{take-length}
 use Rattle.soy_io.specs.Added.{added}
-use Rattle.soy_io.specs.Rose.{Rose}
 use Rattle.soy_top.specs.declared.status.Status.{Status}
 use Rattle.soy_top.specs.Answer.{Answer, Usage, Read, Refused, Done}
-use Rattle.soy_top.specs.Course.{Run, Course, Said, Wrote, Stopped, Says, IsDue}
+use Rattle.soy_top.specs.Course.{Run, Course, Says, IsDue}
 use Rattle.soy_top.specs.Ending.{TookPart, SaidPart, OnNoOutput, out_text, err_text}
 use Rattle.soy_top.specs.Line.{ended, read_line, usage_text}
-use Rattle.soy_top.specs.Words.{Word}
 use Rattle.soy_top.proofs.Took.{added-nil}
 
 -- whatever the status, a part of the text was taken

@@ -3,10 +3,9 @@ use Rattle.std.proofs.Common.{◌≡◌, ℕ, Bool, true, false, cond, List, [],
 use Rattle.std.specs.Prelude.{IfSome, option_and_then, option_map}
 use Rattle.std.specs.Str.{bytes_eq}
 use Rattle.std.proofs.lemmas.Slice.Eq.{bytes_eq-Decides}
-use Rattle.soy_io.specs.Added.{added}
 use Rattle.soy_io.specs.FileOf.{Files, file_of}
-use Rattle.soy_top.specs.Answer.{Answer, Usage, Read, Refused, Done, Page, page_asked, within, data_limit, file_limit, page_answer, named_answer, form_answer, inputs_answer, files_answer, asked_answer, command_answer, answer}
-use Rattle.soy_top.specs.Asked.{Asked, Render, Check, Extract, Gen, Play, Preview, Format, has_file_count, with_files, render_asked, check_asked, extract_asked, gen_asked, play_asked, preview_asked, format_asked, number_of, command_asked, asked_by_words}
+use Rattle.soy_top.specs.Answer.{Refused, Done, Page, page_asked, data_limit, file_limit, page_answer, form_answer, inputs_answer, files_answer, asked_answer, command_answer, answer}
+use Rattle.soy_top.specs.Asked.{Asked, Render, Check, Extract, Gen, Play, Preview, has_file_count, render_asked, check_asked, extract_asked, gen_asked, play_asked, preview_asked, format_asked, number_of, asked_by_words}
 use Rattle.soy_top.specs.Ending.{Took, TextWritten, page_wanted, answered, answered_for}
 use Rattle.soy_top.specs.FirstForm.{Form, first_form, full_name}
 use Rattle.soy_top.specs.FirstPage.{page_of, first_page}

@@ -3,7 +3,7 @@
 -- A run says something on the sink of messages, or it writes a page on the output, or memory runs
 -- out before either. What it says is due, and what it writes is the answer; the other sink stays as
 -- it was. In `before` and `now` stand the counts of faults, and in `taken` what a sink took.
-use Rattle.std.specs.Prelude.{◌≡◌, ℕ, List, Option, None, Some, ◌⊎◌, Contains, IfSome}
+use Rattle.std.specs.Prelude.{◌≡◌, ℕ, List, Option, Some, ◌⊎◌, Contains, IfSome}
 use Rattle.soy_io.specs.Rose.{Rose}
 use Rattle.soy_top.specs.declared.status.Status.{Status}
 use Rattle.soy_top.specs.declared.status.Status.TheVariants as status

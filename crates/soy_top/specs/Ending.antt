@@ -4,7 +4,7 @@
 -- where the words alone show it. Each answer comes exactly where it is due, but it yields to a sink
 -- that fails, to a library that fails, and to want of memory; and the first two are seen in the
 -- count of faults of that sink or library.
-use Rattle.std.specs.Prelude.{◌≡◌, ℕ, List, [], ◌∷◌, take, Option, None, Some, option_and_then, ◌⊎◌, Contains, IfSome}
+use Rattle.std.specs.Prelude.{◌≡◌, ℕ, List, [], ◌∷◌, take, Option, None, Some, option_and_then, ◌⊎◌, Contains}
 use Rattle.std.specs.Option.{option_map_or}
 use Rattle.soy_io.specs.Added.{added}
 use Rattle.soy_io.specs.FileOf.{Files}

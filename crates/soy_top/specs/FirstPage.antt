@@ -6,7 +6,7 @@
 -- `</span>`. Values are ASCII, so they have no character that runs from right to left.
 -- Example: `<b>{$x}</b>` with the value `<i>` of x gives
 -- `<b><span dir="ltr">&lt;i&gt;</span></b>`.
-use Rattle.std.specs.Prelude.{ℕ, List, [], ◌∷◌, ◌++◌, map, Bool, ◌&&◌, ◌||◌, ◌==◌, nat_le, Option, None, Some, option_and_then, unwrap_or, if◌then◌else◌, codes, encode_utf8_all}
+use Rattle.std.specs.Prelude.{ℕ, List, [], ◌++◌, map, Bool, ◌&&◌, ◌||◌, ◌==◌, nat_le, Option, None, Some, option_and_then, unwrap_or, if◌then◌else◌, codes, encode_utf8_all}
 use Rattle.std.specs.List.{flat_map}
 use Rattle.std.specs.Str.{chars}
 use Rattle.serde_json.specs.Data.{Data}

@@ -1,8 +1,4 @@
 -- The program's own types as the definitions see them.
-use Rattle.std.specs.Prelude.{ℕ, List, [], ◌∷◌, map, Option, None, Some, option_map, ◌==◌}
-use Rattle.std.specs.List.{slice_split}
-use Rattle.std.specs.String.{string_bytes}
-use denote.Ref.{Bor}
 use Rattle.soy_top.specs.declared.command.Command.{Command}
 use Rattle.soy_top.specs.declared.command.Command.TheVariants as command
 use Rattle.soy_top.specs.Asked.{Asked, Render, Check, Extract, Gen, Play, Preview, Format}

@@ -1,6 +1,5 @@
 -- The reader's own types as the definitions see them.
-use Rattle.std.specs.Prelude.{ℕ, List, map, Option, option_map}
-use denote.Ref.{Bor}
+use Rattle.std.specs.Prelude.{List, map}
 use Rattle.soy_top.specs.declared.first_form.Part.{Part}
 use Rattle.soy_top.specs.declared.first_form.Part.TheVariants as part
 use Rattle.soy_top.specs.declared.first_form.Form.{Form}

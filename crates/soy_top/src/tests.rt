@@ -4,9 +4,11 @@ use soy_io::{NamedFile, PlainLibrary, PlainSink};
 use std::alloc::Global;
 
 mod faults;
+mod forms;
 mod rows;
 
-use rows::{DATA, FORMS, WORDS};
+use forms::FORMS;
+use rows::{DATA, WORDS};
 
 /// A row: its name, the words, the file t.soy and the data d.json; the status, and the text that the
 /// output takes where that is Done, and else the messages.
@@ -92,8 +94,22 @@ fn is_answered(alloc: Global, row: &Row) -> bool {
 }
 
 #[test]
-fn rows_of_words_files_and_data(rt: HostRuntime) {
-    for row in WORDS.iter().chain(&FORMS).chain(&DATA) {
+fn rows_of_words(rt: HostRuntime) {
+    for row in WORDS {
+        assert!(rt; is_answered(rt.alloc(), row), "row {}", row.0);
+    }
+}
+
+#[test]
+fn rows_of_files(rt: HostRuntime) {
+    for row in FORMS {
+        assert!(rt; is_answered(rt.alloc(), row), "row {}", row.0);
+    }
+}
+
+#[test]
+fn rows_of_data(rt: HostRuntime) {
+    for row in DATA {
         assert!(rt; is_answered(rt.alloc(), row), "row {}", row.0);
     }
 }

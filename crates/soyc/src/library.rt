@@ -24,12 +24,7 @@ impl<'a, R: Files> FileLibrary<'a, R> {
 }
 
 /// Appends the first `limit` bytes of a file to `into`, and says how many they are.
-fn append<R: Files>(
-    files: &R,
-    name: &str,
-    into: &mut Vec<u8>,
-    limit: usize,
-) -> io::Result<usize>
+fn append<R: Files>(files: &R, name: &str, into: &mut Vec<u8>, limit: usize) -> io::Result<usize>
     ensures kept { take (length into.old.items) into.new.items ≡ into.old.items }
 {
     let file = File::open(files, name)?;

@@ -1,4 +1,4 @@
-use Rattle.std.proofs.Common.{◌≡◌, true, ◌∙◌, sym, rules, arith}
+use Rattle.std.proofs.Common.{◌≡◌, true, ◌∙◌, arith}
 use Rattle.std.proofs.lemmas.Bool.Decides.{nat_tests}
 use Rattle.soy_top.specs.Asked.{are_digits}
 use Rattle.soy_top.proofs.Numbers.{parsed_number}

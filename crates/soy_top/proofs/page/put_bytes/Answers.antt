@@ -1,4 +1,4 @@
-use Rattle.std.proofs.Common.{◌≡◌, ◌++◌, ◌∙◌, sym, ap, take, drop, arith}
+use Rattle.std.proofs.Common.{◌≡◌, ◌++◌, sym, arith}
 use Rattle.std.proofs.lemmas.List.{take-append-drop}
 use Rattle.soy_top.proofs.Took.{put_none, put_more, put_part, part_of_front}
 use Rattle.soy_top.proofs.page.put_bytes.Goals as goal

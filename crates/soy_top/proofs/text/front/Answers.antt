@@ -1,4 +1,4 @@
-use Rattle.std.proofs.Common.{◌≡◌, ◌∙◌, ap, sym}
+use Rattle.std.proofs.Common.{◌∙◌, ap, sym}
 use Rattle.soy_top.proofs.Cuts.{slice_split-cut, parts_of_cut}
 use Rattle.soy_top.proofs.text.front.Goals as goal
 

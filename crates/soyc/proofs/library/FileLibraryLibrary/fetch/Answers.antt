@@ -1,4 +1,4 @@
-use Rattle.std.proofs.Common.{◌≡◌, ◌++◌, ◌∙◌, sym, ap, length, drop}
+use Rattle.std.proofs.Common.{◌++◌, ◌∙◌, sym, ap, length, drop}
 use Rattle.std.proofs.lemmas.List.{take-append-drop}
 use Rattle.soyc.proofs.library.FileLibraryLibrary.fetch.Goals as goal
 
