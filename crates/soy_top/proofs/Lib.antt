@@ -3,8 +3,13 @@ pub mod Courses
 pub mod Cuts
 pub mod Endings
 pub mod Keys
+pub mod Marks
 pub mod Numbers
 pub mod Pages
+pub mod ReadForm
+pub mod ReadLines
 pub mod Reading
 pub mod Spaces
+pub mod SpelledForm
+pub mod SpelledLines
 pub mod Took

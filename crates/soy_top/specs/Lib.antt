@@ -15,4 +15,5 @@ pub mod Parts
 pub mod Seen
 pub mod SeenForm
 pub mod SeenPage
+pub mod Spells
 pub mod Words

@@ -15,6 +15,7 @@ mod data;
 mod ending;
 mod fetch;
 mod first_form;
+mod law;
 mod line;
 mod name;
 mod page;
@@ -23,6 +24,7 @@ mod program;
 mod status;
 mod text;
 
+pub use law::law_first_form;
 pub use program::run;
 pub use status::Status;
 

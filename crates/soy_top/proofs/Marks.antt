@@ -1,0 +1,186 @@
+-- Texts round a mark, by tests of their characters: what lacks the mark is one part, and the parts
+-- joined are the text.
+use Rattle.std.proofs.Common.{◌≡◌, ℕ, ◌==◌, Bool, true, false, not, cond, ◌&&◌, List, [], ◌∷◌, ◌++◌, Option, Some, None, option_map, refl, sym, ap, ◌∙◌, subst, eq-eqb, ◌||◌}
+use Rattle.std.specs.List.{slice_split, onto_first, list_all}
+use Rattle.std.proofs.lemmas.Bool.{eqb-true}
+use Rattle.std.proofs.lemmas.List.Folds.{list_all-append}
+use Rattle.std.specs.Option.{option_and_then}
+use Rattle.std.specs.Str.{bytes_eq}
+use Rattle.std.specs.Cmp.Lexicographic.{same_text}
+use Rattle.soy_top.specs.FirstForm.{cut}
+use Rattle.soy_top.specs.Words.{is_among}
+
+-- the parts of a conjunction that holds
+pub both_hold : (a b : Bool) → (a && b) ≡ true → (a ≡ true) × (b ≡ true)
+both_hold true b h = (refl, h)
+both_hold false b h = let e : false ≡ true = h in cc
+
+-- a conjunction of two that hold
+pub and_holds : (a b : Bool) → a ≡ true → b ≡ true → (a && b) ≡ true
+and_holds true b p q = q
+and_holds false b p q = p
+
+not_true : (b : Bool) → not b ≡ true → b ≡ false
+not_true true h = let e : false ≡ true = h in cc
+not_true false h = refl
+
+pub same_mark : (mark : ℕ) → (mark == mark) ≡ true
+same_mark mark = eq-eqb mark mark refl
+
+-- whether the mark stands nowhere in a text
+abbrev pub lacks : ℕ → List ℕ → Bool
+lacks mark text = list_all (λ c. not (c == mark)) text
+
+-- a text of what passes a test passes what that test implies
+pub list_all-weaken : (p q : ℕ → Bool) → ((c : ℕ) → p c ≡ true → q c ≡ true) → (text : List ℕ) → list_all p text ≡ true → list_all q text ≡ true
+list_all-weaken p q h [] e = refl
+list_all-weaken p q h (c ∷ cs) e =
+    let parts = both_hold (p c) (list_all p cs) e in
+    and_holds (q c) (list_all q cs) (h c parts.0) (list_all-weaken p q h cs parts.1)
+
+-- two texts in a row pass where both do
+pub list_all-both : {X : Type 0} (p : X → Bool) (xs ys : List X) → list_all p xs ≡ true → list_all p ys ≡ true → list_all p (xs ++ ys) ≡ true
+list_all-both p xs ys hx hy = list_all-append p xs ys ∙ and_holds (list_all p xs) (list_all p ys) hx hy
+
+pub list_all-halves : {X : Type 0} (p : X → Bool) (xs ys : List X) → list_all p (xs ++ ys) ≡ true → (list_all p xs ≡ true) × (list_all p ys ≡ true)
+list_all-halves p xs ys h = both_hold (list_all p xs) (list_all p ys) (sym (list_all-append p xs ys) ∙ h)
+
+-- up to the first mark a text is its first part
+pub split-at : (mark : ℕ) (text rest : List ℕ) → lacks mark text ≡ true → slice_split (λ c. c == mark) (text ++ (mark ∷ rest)) ≡ text ∷ slice_split (λ c. c == mark) rest
+split-at mark [] rest h = rw (same_mark mark) refl
+split-at mark (c ∷ cs) rest h =
+    let parts = both_hold (not (c == mark)) (lacks mark cs) h in
+    rw (not_true (c == mark) parts.0) (ap (onto_first c) (split-at mark cs rest parts.1))
+
+-- what lacks the mark before a text only lengthens its first part
+pub split-front : (mark : ℕ) (text rest first : List ℕ) (more : List (List ℕ)) → lacks mark text ≡ true → slice_split (λ c. c == mark) rest ≡ first ∷ more → slice_split (λ c. c == mark) (text ++ rest) ≡ (text ++ first) ∷ more
+split-front mark [] rest first more h e = e
+split-front mark (c ∷ cs) rest first more h e =
+    let parts = both_hold (not (c == mark)) (lacks mark cs) h in
+    rw (not_true (c == mark) parts.0) (ap (onto_first c) (split-front mark cs rest first more parts.1 e))
+
+-- a text is cut at its first mark
+pub cut-mark : (mark : ℕ) (text rest : List ℕ) → lacks mark text ≡ true → cut mark (text ++ (mark ∷ rest)) ≡ Some (text, rest)
+cut-mark mark [] rest h = rw (same_mark mark) refl
+cut-mark mark (c ∷ cs) rest h =
+    let parts = both_hold (not (c == mark)) (lacks mark cs) h in
+    rw (not_true (c == mark) parts.0) (ap (option_map (λ halves. (c ∷ halves.0, halves.1))) (cut-mark mark cs rest parts.1))
+
+-- the parts after a mark, each behind one
+abbrev pub after_mark : ℕ → List (List ℕ) → List ℕ
+after_mark mark [] = []
+after_mark mark (text ∷ texts) = mark ∷ (text ++ after_mark mark texts)
+
+-- the text that has these parts
+abbrev pub joined : ℕ → List (List ℕ) → List ℕ
+joined mark [] = []
+joined mark (text ∷ texts) = text ++ after_mark mark texts
+
+-- a first part and others
+pub record HasFirst (parts : List (List ℕ)) : Type 0 where
+  pub first : List ℕ
+  pub more : List (List ℕ)
+  pub is : parts ≡ first ∷ more
+
+onto_has : (c : ℕ) (parts : List (List ℕ)) → HasFirst (onto_first c parts)
+onto_has c [] = record { first = c ∷ []; more = []; is = refl }
+onto_has c (p ∷ ps) = record { first = c ∷ p; more = ps; is = refl }
+
+cond_has : (t : Bool) (c : ℕ) (parts : List (List ℕ)) → HasFirst (cond t ([] ∷ parts) (onto_first c parts))
+cond_has true c parts = record { first = []; more = parts; is = refl }
+cond_has false c parts = onto_has c parts
+
+pub split_has : (mark : ℕ) (text : List ℕ) → HasFirst (slice_split (λ c. c == mark) text)
+split_has mark [] = record { first = []; more = []; is = refl }
+split_has mark (c ∷ cs) = cond_has (c == mark) c (slice_split (λ b. b == mark) cs)
+
+joined_cond : (mark c : ℕ) (cs : List ℕ) (t : Bool) → (c == mark) ≡ t → (first : List ℕ) (more : List (List ℕ)) → joined mark (first ∷ more) ≡ cs → joined mark (cond t ([] ∷ (first ∷ more)) (onto_first c (first ∷ more))) ≡ c ∷ cs
+joined_cond mark c cs true e first more h =
+    let same : c ≡ mark = eqb-true c mark e in rw same (ap (λ rest. mark ∷ rest) h)
+joined_cond mark c cs false e first more h = ap (λ rest. c ∷ rest) h
+
+-- the parts of a text, joined, are the text
+pub joined-slice_split : (mark : ℕ) (text : List ℕ) → joined mark (slice_split (λ c. c == mark) text) ≡ text
+joined-slice_split mark [] = refl
+joined-slice_split mark (c ∷ cs) =
+    let has = split_has mark cs in
+    let before : joined mark (has.first ∷ has.more) ≡ cs = sym (ap (joined mark) has.is) ∙ joined-slice_split mark cs in
+    ap (λ parts. joined mark (cond (c == mark) ([] ∷ parts) (onto_first c parts))) has.is
+    ∙ joined_cond mark c cs (c == mark) refl has.first has.more before
+
+-- what holds of an answer, where there is one
+abbrev pub WhereSome : {A : Type 0} → (A → Type 0) → Option A → Type 0
+WhereSome P None = Unit {0}
+WhereSome P (Some x) = P x
+
+-- of an answer that was had it holds
+pub WhereSome-is : {A : Type 0} (P : A → Type 0) (o : Option A) (x : A) → WhereSome P o → o ≡ Some x → P x
+WhereSome-is P o x h e = subst (WhereSome P) e h
+
+pub WhereSome-and_then : {A B : Type 0} (P : A → Type 0) (Q : B → Type 0) (f : A → Option B) (o : Option A) → WhereSome P o → ((x : A) → P x → WhereSome Q (f x)) → WhereSome Q (option_and_then f o)
+WhereSome-and_then P Q f None h k = tt
+WhereSome-and_then P Q f (Some x) h k = k x h
+
+pub WhereSome-map : {A B : Type 0} (P : A → Type 0) (Q : B → Type 0) (f : A → B) (o : Option A) → WhereSome P o → ((x : A) → P x → Q (f x)) → WhereSome Q (option_map f o)
+WhereSome-map P Q f None h k = tt
+WhereSome-map P Q f (Some x) h k = k x h
+
+pub WhereSome-if : {A : Type 0} (Q : A → Type 0) (b : Bool) (o : Option A) → (b ≡ true → WhereSome Q o) → WhereSome Q (cond b o None)
+WhereSome-if Q true o h = h refl
+WhereSome-if Q false o h = tt
+
+-- the two halves of a text make it up, round the mark
+abbrev pub AreHalves : ℕ → List ℕ → List ℕ × List ℕ → Type 0
+AreHalves mark text halves = text ≡ halves.0 ++ (mark ∷ halves.1)
+
+cut_step : (mark c : ℕ) (cs : List ℕ) (t : Bool) → (c == mark) ≡ t → (r : Option (List ℕ × List ℕ)) → WhereSome (AreHalves mark cs) r → WhereSome (AreHalves mark (c ∷ cs)) (cond t (Some ([], cs)) (option_map (λ halves. (c ∷ halves.0, halves.1)) r))
+cut_step mark c cs true e r h = ap (λ m. m ∷ cs) (eqb-true c mark e)
+cut_step mark c cs false e None h = tt
+cut_step mark c cs false e (Some halves) h = ap (λ rest. c ∷ rest) h
+
+-- what a text is cut into makes it up
+pub cut-halves : (mark : ℕ) (text : List ℕ) → WhereSome (AreHalves mark text) (cut mark text)
+cut-halves mark [] = tt
+cut-halves mark (c ∷ cs) = cut_step mark c cs (c == mark) refl (cut mark cs) (cut-halves mark cs)
+
+-- the parts of a text pass where the text does
+pub split_cond : (p : ℕ → Bool) (c : ℕ) (t : Bool) (parts : List (List ℕ)) → p c ≡ true → list_all (list_all p) parts ≡ true → list_all (list_all p) (cond t ([] ∷ parts) (onto_first c parts)) ≡ true
+split_cond p c true parts hc h = h
+split_cond p c false [] hc h = and_holds (p c && true) true (and_holds (p c) true hc refl) refl
+split_cond p c false (part ∷ parts) hc h =
+    let halves = both_hold (list_all p part) (list_all (list_all p) parts) h in
+    and_holds (p c && list_all p part) (list_all (list_all p) parts) (and_holds (p c) (list_all p part) hc halves.0) halves.1
+
+pub split-all : (p : ℕ → Bool) (mark : ℕ) (text : List ℕ) → list_all p text ≡ true → list_all (list_all p) (slice_split (λ c. c == mark) text) ≡ true
+split-all p mark [] h = refl
+split-all p mark (c ∷ cs) h =
+    let parts = both_hold (p c) (list_all p cs) h in
+    split_cond p c (c == mark) (slice_split (λ b. b == mark) cs) parts.0 (split-all p mark cs parts.1)
+
+-- a text passes where its parts and the mark do
+after_mark-all : (p : ℕ → Bool) (mark : ℕ) (texts : List (List ℕ)) → p mark ≡ true → list_all (list_all p) texts ≡ true → list_all p (after_mark mark texts) ≡ true
+after_mark-all p mark [] hm h = refl
+after_mark-all p mark (text ∷ texts) hm h =
+    let parts = both_hold (list_all p text) (list_all (list_all p) texts) h in
+    and_holds (p mark) (list_all p (text ++ after_mark mark texts)) hm (list_all-both p text (after_mark mark texts) parts.0 (after_mark-all p mark texts hm parts.1))
+
+joined-all : (p : ℕ → Bool) (mark : ℕ) (texts : List (List ℕ)) → p mark ≡ true → list_all (list_all p) texts ≡ true → list_all p (joined mark texts) ≡ true
+joined-all p mark [] hm h = refl
+joined-all p mark (text ∷ texts) hm h =
+    let parts = both_hold (list_all p text) (list_all (list_all p) texts) h in
+    list_all-both p text (after_mark mark texts) parts.0 (after_mark-all p mark texts hm parts.1)
+
+pub all-split : (p : ℕ → Bool) (mark : ℕ) (text : List ℕ) → p mark ≡ true → list_all (list_all p) (slice_split (λ c. c == mark) text) ≡ true → list_all p text ≡ true
+all-split p mark text hm h =
+    sym (ap (list_all p) (joined-slice_split mark text)) ∙ joined-all p mark (slice_split (λ c. c == mark) text) hm h
+
+among_step : (p : List ℕ → Bool) (n : List ℕ) (ns : List (List ℕ)) (name : List ℕ) (t : Bool) → bytes_eq name n ≡ t → (t || is_among ns name) ≡ true → p n ≡ true → (is_among ns name ≡ true → p name ≡ true) → p name ≡ true
+among_step p n ns name true e h hn k = ap p (same_text name n (sym e)) ∙ hn
+among_step p n ns name false e h hn k = k h
+
+-- a text of a list passes what each of the list does
+pub among_all : (p : List ℕ → Bool) (names : List (List ℕ)) (name : List ℕ) → is_among names name ≡ true → list_all p names ≡ true → p name ≡ true
+among_all p [] name h e = let f : false ≡ true = h in cc
+among_all p (n ∷ ns) name h e =
+    let parts = both_hold (p n) (list_all p ns) e in
+    among_step p n ns name (bytes_eq name n) refl h parts.0 (λ rest. among_all p ns name rest parts.1)
