@@ -1,20 +1,13 @@
 -- What is read as the first form spells the form that was read.
-use Rattle.std.proofs.Common.{◌≡◌, ℕ, ◌==◌, Bool, true, false, cond, ◌&&◌, ◌||◌, List, [], ◌∷◌, ◌++◌, Option, Some, None, option_map, length, take, drop, ◌-◌, ◌⊎◌, inl, inr, refl, sym, ap, ◌∙◌, subst, arith, append_assoc, nat_eq, nat_le, codes, if◌then◌else◌}
-use Rattle.std.specs.List.{slice_split, onto_first, list_all, starts_with, ends_with, IsDistinct}
+use Rattle.std.proofs.Common.{◌≡◌, ℕ, ◌==◌, Bool, true, false, cond, ◌&&◌, ◌||◌, List, [], ◌∷◌, ◌++◌, Option, Some, None, option_map, refl, sym, ap, subst, arith, append_assoc, nat_le}
+use Rattle.std.specs.List.{slice_split, onto_first, list_all}
 use Rattle.std.specs.Option.{option_and_then, option_map_or}
-use Rattle.std.specs.Str.{bytes_eq}
-use Rattle.std.specs.Cmp.Lexicographic.{same_text}
 use Rattle.std.proofs.lemmas.Bool.{eqb-true}
 use Rattle.std.proofs.lemmas.Bool.Decides.{nat_tests}
-use Rattle.std.proofs.lemmas.Cmp.{nat_list_eq_equiv}
-use Rattle.std.proofs.lemmas.List.{take-append-drop}
-use Rattle.std.proofs.lemmas.List.Folds.{list_all-append}
-use Rattle.std.proofs.lemmas.Map.Keys.{IsDistinct-push}
-use Rattle.soy_top.specs.Name.{is_name, is_dotted_name}
 use Rattle.soy_top.specs.Words.{is_among}
-use Rattle.soy_top.specs.FirstForm.{Part, Static, Print, Form, Declared, is_empty, after_front, before_back, between, passing, namespace_of, template_of, param_of, is_plain, tag_names, cut, is_tag_and_text, are_text_and_tags, is_static, static_part, print_of, print_parts, parts_at_braces, parts_of, has_body_ends, is_last_line, is_template_end, body_read, declared, form_after, named_form, form_of_lines, is_file_byte, first_form}
-use Rattle.soy_top.specs.Spells.{IsPlain, IsStaticText, nothing, plain, tag, ArePrints, none, print, IsBody, param_line, param_lines, params_of, written, Spells}
-use Rattle.soy_top.proofs.Marks.{both_hold, and_holds, list_all-both, list_all-halves, after_mark, joined, joined-slice_split, WhereSome, WhereSome-is, WhereSome-and_then, WhereSome-map, WhereSome-if, AreHalves, cut-halves, split_cond, split-all}
+use Rattle.soy_top.specs.FirstForm.{Part, Print, is_plain, tag_names, cut, is_tag_and_text, are_text_and_tags, is_static, static_part, print_of, print_parts, parts_at_braces, parts_of, is_file_byte}
+use Rattle.soy_top.specs.Spells.{IsPlain, IsStaticText, nothing, plain, tag, ArePrints, none, print, IsBody}
+use Rattle.soy_top.proofs.Marks.{both_hold, list_all-halves, after_mark, joined, joined-slice_split, WhereSome, WhereSome-and_then, WhereSome-map, WhereSome-if, AreHalves, cut-halves, split_cond, split-all}
 
 -- a printing character
 abbrev pub is_line_byte : ℕ → Bool

@@ -1,5 +1,5 @@
 -- What is read of the lines of a file spells them, and what is read of a file spells its form.
-use Rattle.std.proofs.Common.{◌≡◌, ◌≢◌, ℕ, ◌==◌, Bool, true, false, not, cond, ◌&&◌, ◌||◌, List, [], ◌∷◌, ◌++◌, Option, Some, None, option_map, length, take, drop, ◌-◌, ◌⊎◌, inl, inr, refl, sym, ap, ◌∙◌, subst, arith, append_assoc, nat_eq, codes}
+use Rattle.std.proofs.Common.{◌≡◌, ◌≢◌, ℕ, ◌==◌, Bool, true, false, not, cond, ◌&&◌, List, [], ◌∷◌, ◌++◌, Option, Some, None, length, take, drop, ◌-◌, ◌⊎◌, inl, inr, refl, sym, ap, ◌∙◌, subst, arith, append_assoc, nat_eq, codes}
 use Rattle.std.specs.Prelude.{slice_index}
 use Rattle.std.specs.List.{slice_split, list_all, starts_with, ends_with, IsDistinct}
 use Rattle.std.specs.Option.{option_and_then, option_map_or}
@@ -11,8 +11,8 @@ use Rattle.std.proofs.lemmas.List.{take-append-drop, append-nil}
 use Rattle.std.proofs.lemmas.Map.Keys.{IsDistinct-push}
 use Rattle.soy_top.specs.Name.{is_name, is_dotted_name}
 use Rattle.soy_top.specs.Words.{is_among}
-use Rattle.soy_top.specs.FirstForm.{Part, Form, Declared, is_empty, after_front, before_back, between, passing, namespace_of, template_of, param_of, parts_of, has_body_ends, is_last_line, is_template_end, body_read, declared, form_after, named_form, form_of_lines, is_file_byte, first_form}
-use Rattle.soy_top.specs.Spells.{IsBody, param_line, param_lines, params_of, written, Spells}
+use Rattle.soy_top.specs.FirstForm.{Form, Declared, is_empty, after_front, before_back, between, passing, namespace_of, template_of, param_of, parts_of, has_body_ends, is_last_line, is_template_end, body_read, declared, named_form, form_of_lines, is_file_byte, first_form}
+use Rattle.soy_top.specs.Spells.{IsBody, param_lines, params_of, Spells}
 use Rattle.soy_top.proofs.Marks.{both_hold, and_holds, list_all-both, after_mark, joined, joined-slice_split, WhereSome, WhereSome-is, WhereSome-and_then, WhereSome-map, WhereSome-if}
 use Rattle.soy_top.proofs.ReadForm.{is_line_byte, lines-bytes, body_of_parts}
 
@@ -141,7 +141,6 @@ body_line params line lines names distinct l =
 -- what is read of lines, where it holds of the lines after the first
 abbrev Reads : List (List ℕ) → Type 0
 Reads lines = (params : List (List ℕ)) → list_all is_name params ≡ true → IsDistinct bytes_eq params → WhereSome (Middle params (after_mark 10 lines)) (declared params lines)
-
 
 empty_line : (params : List (List ℕ)) (marked : List ℕ) (o : Option Declared) → WhereSome (Middle params marked) o → WhereSome (Middle params (10 ∷ marked)) o
 empty_line params marked None h = tt

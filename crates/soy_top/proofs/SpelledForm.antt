@@ -1,12 +1,12 @@
 -- What spells a body is read as its parts.
-use Rattle.std.proofs.Common.{◌≡◌, ℕ, ◌==◌, Bool, true, false, not, cond, ◌&&◌, ◌||◌, List, [], ◌∷◌, ◌++◌, Option, Some, None, option_map, refl, sym, ap, ◌∙◌, subst, arith, append_assoc, nat_eq, nat_le, codes}
+use Rattle.std.proofs.Common.{◌≡◌, ℕ, ◌==◌, Bool, true, false, not, cond, ◌&&◌, ◌||◌, List, [], ◌∷◌, ◌++◌, Option, Some, None, option_map, refl, sym, ap, ◌∙◌, arith, append_assoc, nat_eq, nat_le, codes}
 use Rattle.std.specs.List.{slice_split, onto_first, list_all, starts_with}
 use Rattle.std.specs.Option.{option_and_then, option_map_or}
 use Rattle.std.proofs.lemmas.Bool.Decides.{nat_tests}
 use Rattle.std.proofs.lemmas.List.{append-nil}
 use Rattle.soy_top.specs.Name.{is_name, is_dotted_name, begins_name, continues_name}
 use Rattle.soy_top.specs.Words.{is_among}
-use Rattle.soy_top.specs.FirstForm.{Part, Static, Print, is_plain, tag_names, cut, is_tag_and_text, are_text_and_tags, is_static, static_part, print_of, print_parts, parts_at_braces, parts_of}
+use Rattle.soy_top.specs.FirstForm.{Part, Print, is_plain, tag_names, is_tag_and_text, are_text_and_tags, is_static, static_part, print_of, print_parts, parts_at_braces, parts_of}
 use Rattle.soy_top.specs.Spells.{IsPlain, IsStaticText, nothing, plain, tag, ArePrints, none, print, IsBody}
 use Rattle.soy_top.proofs.Marks.{both_hold, and_holds, lacks, list_all-weaken, list_all-both, split-at, split-front, cut-mark, after_mark, split_has, all-split, among_all}
 use Rattle.soy_top.proofs.ReadForm.{is_line_byte}

@@ -1,7 +1,7 @@
 -- What spells a form is read as that form.
-use Rattle.std.proofs.Common.{◌≡◌, ◌≢◌, ℕ, ◌==◌, ◌-◌, Bool, true, false, not, cond, ◌&&◌, ◌||◌, List, [], ◌∷◌, ◌++◌, Option, Some, None, option_map, length, take, drop, ◌⊎◌, inl, inr, refl, sym, ap, ◌∙◌, subst, arith, append_assoc, nat_eq, nat_le, codes}
+use Rattle.std.proofs.Common.{◌≡◌, ◌≢◌, ℕ, ◌==◌, ◌-◌, Bool, true, false, not, cond, ◌&&◌, ◌||◌, List, [], ◌∷◌, ◌++◌, Option, Some, None, option_map, length, take, drop, ◌⊎◌, inl, inr, refl, sym, ap, ◌∙◌, subst, arith, append_assoc, nat_eq, codes}
 use Rattle.std.specs.Prelude.{slice_index}
-use Rattle.std.specs.List.{slice_split, list_all, starts_with, ends_with, IsDistinct, AllByRecursion}
+use Rattle.std.specs.List.{slice_split, list_all, starts_with, IsDistinct, AllByRecursion}
 use Rattle.std.specs.Option.{option_and_then, option_map_or}
 use Rattle.std.specs.Str.{bytes_eq}
 use Rattle.std.proofs.Math.Seq.{take-append_seam, drop-append_seam}
@@ -11,8 +11,8 @@ use Rattle.std.proofs.lemmas.Map.Keys.{IsDistinct-head, IsDistinct-tail}
 use Rattle.std.proofs.lemmas.Slice.Eq.{bytes_eq-Decides}
 use Rattle.soy_top.specs.Name.{is_name, is_dotted_name}
 use Rattle.soy_top.specs.Words.{is_among}
-use Rattle.soy_top.specs.FirstForm.{Part, Form, Declared, is_empty, after_front, before_back, between, passing, namespace_of, template_of, param_of, parts_of, has_body_ends, is_last_line, is_template_end, body_read, declared, form_after, named_form, form_of_lines, is_file_byte, first_form}
-use Rattle.soy_top.specs.Spells.{IsBody, param_line, param_lines, params_of, written, Spells}
+use Rattle.soy_top.specs.FirstForm.{Form, Declared, is_empty, after_front, before_back, between, passing, namespace_of, template_of, param_of, has_body_ends, is_template_end, body_read, declared, form_after, named_form, form_of_lines, is_file_byte, first_form}
+use Rattle.soy_top.specs.Spells.{param_lines, params_of, written, Spells}
 use Rattle.soy_top.proofs.Marks.{both_hold, and_holds, lacks, list_all-weaken, list_all-both, split-at}
 use Rattle.soy_top.proofs.ReadForm.{is_line_byte}
 use Rattle.soy_top.proofs.ReadLines.{param_spelled, file_spelled}

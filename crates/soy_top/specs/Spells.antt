@@ -20,7 +20,7 @@ use Rattle.std.specs.List.{list_all, IsDistinct}
 use Rattle.std.specs.Str.{bytes_eq}
 use Rattle.soy_top.specs.Name.{is_name, is_dotted_name}
 use Rattle.soy_top.specs.Words.{is_among}
-use Rattle.soy_top.specs.FirstForm.{Part, Static, Print, Form, is_plain, tag_names, static_part}
+use Rattle.soy_top.specs.FirstForm.{Part, Print, Form, is_plain, tag_names, static_part}
 
 -- a printing character that is no part of a tag or a print
 pub record IsPlain (c : ℕ) : Type 0 where
