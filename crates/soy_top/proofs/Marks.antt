@@ -20,10 +20,12 @@ pub and_holds : (a b : Bool) → a ≡ true → b ≡ true → (a && b) ≡ true
 and_holds true b p q = q
 and_holds false b p q = p
 
+-- a test that fails, by its opposite
 not_true : (b : Bool) → not b ≡ true → b ≡ false
 not_true true h = let e : false ≡ true = h in cc
 not_true false h = refl
 
+-- a mark is itself
 pub same_mark : (mark : ℕ) → (mark == mark) ≡ true
 same_mark mark = eq-eqb mark mark refl
 
@@ -42,6 +44,7 @@ list_all-weaken p q h (c ∷ cs) e =
 pub list_all-both : {X : Type 0} (p : X → Bool) (xs ys : List X) → list_all p xs ≡ true → list_all p ys ≡ true → list_all p (xs ++ ys) ≡ true
 list_all-both p xs ys hx hy = list_all-append p xs ys ∙ and_holds (list_all p xs) (list_all p ys) hx hy
 
+-- of two texts in a row that pass each does
 pub list_all-halves : {X : Type 0} (p : X → Bool) (xs ys : List X) → list_all p (xs ++ ys) ≡ true → (list_all p xs ≡ true) × (list_all p ys ≡ true)
 list_all-halves p xs ys h = both_hold (list_all p xs) (list_all p ys) (sym (list_all-append p xs ys) ∙ h)
 
@@ -82,18 +85,22 @@ pub record HasFirst (parts : List (List ℕ)) : Type 0 where
   pub more : List (List ℕ)
   pub is : parts ≡ first ∷ more
 
+-- parts have a first, where a character is put before them
 onto_has : (c : ℕ) (parts : List (List ℕ)) → HasFirst (onto_first c parts)
 onto_has c [] = record { first = c ∷ []; more = []; is = refl }
 onto_has c (p ∷ ps) = record { first = c ∷ p; more = ps; is = refl }
 
+-- parts have a first, whether or not the text begins with the mark
 cond_has : (t : Bool) (c : ℕ) (parts : List (List ℕ)) → HasFirst (cond t ([] ∷ parts) (onto_first c parts))
 cond_has true c parts = record { first = []; more = parts; is = refl }
 cond_has false c parts = onto_has c parts
 
+-- a text has a first part
 pub split_has : (mark : ℕ) (text : List ℕ) → HasFirst (slice_split (λ c. c == mark) text)
 split_has mark [] = record { first = []; more = []; is = refl }
 split_has mark (c ∷ cs) = cond_has (c == mark) c (slice_split (λ b. b == mark) cs)
 
+-- one more character of the joined text
 joined_cond : (mark c : ℕ) (cs : List ℕ) (t : Bool) → (c == mark) ≡ t → (first : List ℕ) (more : List (List ℕ)) → joined mark (first ∷ more) ≡ cs → joined mark (cond t ([] ∷ (first ∷ more)) (onto_first c (first ∷ more))) ≡ c ∷ cs
 joined_cond mark c cs true e first more h =
     let same : c ≡ mark = eqb-true c mark e in rw same (ap (λ rest. mark ∷ rest) h)
@@ -117,14 +124,17 @@ WhereSome P (Some x) = P x
 pub WhereSome-is : {A : Type 0} (P : A → Type 0) (o : Option A) (x : A) → WhereSome P o → o ≡ Some x → P x
 WhereSome-is P o x h e = subst (WhereSome P) e h
 
+-- what holds of an answer that follows from another
 pub WhereSome-and_then : {A B : Type 0} (P : A → Type 0) (Q : B → Type 0) (f : A → Option B) (o : Option A) → WhereSome P o → ((x : A) → P x → WhereSome Q (f x)) → WhereSome Q (option_and_then f o)
 WhereSome-and_then P Q f None h k = tt
 WhereSome-and_then P Q f (Some x) h k = k x h
 
+-- what holds of an answer made of another
 pub WhereSome-map : {A B : Type 0} (P : A → Type 0) (Q : B → Type 0) (f : A → B) (o : Option A) → WhereSome P o → ((x : A) → P x → Q (f x)) → WhereSome Q (option_map f o)
 WhereSome-map P Q f None h k = tt
 WhereSome-map P Q f (Some x) h k = k x h
 
+-- what holds of an answer under a test
 pub WhereSome-if : {A : Type 0} (Q : A → Type 0) (b : Bool) (o : Option A) → (b ≡ true → WhereSome Q o) → WhereSome Q (cond b o None)
 WhereSome-if Q true o h = h refl
 WhereSome-if Q false o h = tt
@@ -133,6 +143,7 @@ WhereSome-if Q false o h = tt
 abbrev pub AreHalves : ℕ → List ℕ → List ℕ × List ℕ → Type 0
 AreHalves mark text halves = text ≡ halves.0 ++ (mark ∷ halves.1)
 
+-- one more character of the halves
 cut_step : (mark c : ℕ) (cs : List ℕ) (t : Bool) → (c == mark) ≡ t → (r : Option (List ℕ × List ℕ)) → WhereSome (AreHalves mark cs) r → WhereSome (AreHalves mark (c ∷ cs)) (cond t (Some ([], cs)) (option_map (λ halves. (c ∷ halves.0, halves.1)) r))
 cut_step mark c cs true e r h = ap (λ m. m ∷ cs) (eqb-true c mark e)
 cut_step mark c cs false e None h = tt
@@ -151,6 +162,7 @@ split_cond p c false (part ∷ parts) hc h =
     let halves = both_hold (list_all p part) (list_all (list_all p) parts) h in
     and_holds (p c && list_all p part) (list_all (list_all p) parts) (and_holds (p c) (list_all p part) hc halves.0) halves.1
 
+-- each part passes where the text does
 pub split-all : (p : ℕ → Bool) (mark : ℕ) (text : List ℕ) → list_all p text ≡ true → list_all (list_all p) (slice_split (λ c. c == mark) text) ≡ true
 split-all p mark [] h = refl
 split-all p mark (c ∷ cs) h =
@@ -164,16 +176,19 @@ after_mark-all p mark (text ∷ texts) hm h =
     let parts = both_hold (list_all p text) (list_all (list_all p) texts) h in
     and_holds (p mark) (list_all p (text ++ after_mark mark texts)) hm (list_all-both p text (after_mark mark texts) parts.0 (after_mark-all p mark texts hm parts.1))
 
+-- the joined text passes where its parts and the mark do
 joined-all : (p : ℕ → Bool) (mark : ℕ) (texts : List (List ℕ)) → p mark ≡ true → list_all (list_all p) texts ≡ true → list_all p (joined mark texts) ≡ true
 joined-all p mark [] hm h = refl
 joined-all p mark (text ∷ texts) hm h =
     let parts = both_hold (list_all p text) (list_all (list_all p) texts) h in
     list_all-both p text (after_mark mark texts) parts.0 (after_mark-all p mark texts hm parts.1)
 
+-- a text passes where each of its parts does, and the mark
 pub all-split : (p : ℕ → Bool) (mark : ℕ) (text : List ℕ) → p mark ≡ true → list_all (list_all p) (slice_split (λ c. c == mark) text) ≡ true → list_all p text ≡ true
 all-split p mark text hm h =
     sym (ap (list_all p) (joined-slice_split mark text)) ∙ joined-all p mark (slice_split (λ c. c == mark) text) hm h
 
+-- one name of the list, which is the text or is not
 among_step : (p : List ℕ → Bool) (n : List ℕ) (ns : List (List ℕ)) (name : List ℕ) (t : Bool) → bytes_eq name n ≡ t → (t || is_among ns name) ≡ true → p n ≡ true → (is_among ns name ≡ true → p name ≡ true) → p name ≡ true
 among_step p n ns name true e h hn k = ap p (same_text name n (sym e)) ∙ hn
 among_step p n ns name false e h hn k = k h

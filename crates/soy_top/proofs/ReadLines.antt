@@ -16,11 +16,13 @@ use Rattle.soy_top.specs.Spells.{IsBody, param_lines, params_of, Spells}
 use Rattle.soy_top.proofs.Marks.{both_hold, and_holds, list_all-both, after_mark, joined, joined-slice_split, WhereSome, WhereSome-is, WhereSome-and_then, WhereSome-map, WhereSome-if}
 use Rattle.soy_top.proofs.ReadForm.{is_line_byte, lines-bytes, body_of_parts}
 
+-- what follows a front, by the text
 front_read : (front line : List ℕ) → WhereSome (λ rest. line ≡ front ++ rest) (after_front front line)
 front_read front line =
     WhereSome-if (λ rest. line ≡ front ++ rest) (starts_with nat_eq line front) (Some (drop (length front) line))
     (λ t. sym (ap (λ rest. rest ++ drop (length front) line) (same_text front (take (length front) line) (sym t)) ∙ take-append-drop (length front) line))
 
+-- what stands before a back, by the text
 back_read : (back text : List ℕ) → WhereSome (λ rest. text ≡ rest ++ back) (before_back back text)
 back_read back text =
     let n = length text - length back in
@@ -32,10 +34,12 @@ record IsNamed (front back : List ℕ) (test : List ℕ → Bool) (line name : L
   pub spelled : line ≡ front ++ (name ++ back)
   pub passes : test name ≡ true
 
+-- the same with a front before it
 in_front : (front back rest : List ℕ) (o : Option (List ℕ)) → WhereSome (λ name. rest ≡ name ++ back) o → WhereSome (λ name. front ++ rest ≡ front ++ (name ++ back)) o
 in_front front back rest None h = tt
 in_front front back rest (Some name) h = ap (λ t. front ++ t) h
 
+-- what is read as a name between a front and a back stands there
 name_read : (front back : List ℕ) (test : List ℕ → Bool) (line : List ℕ) → WhereSome (IsNamed front back test line) (option_and_then (passing test) (between front back line))
 name_read front back test line =
     WhereSome-and_then (λ name. line ≡ front ++ (name ++ back)) (IsNamed front back test line) (passing test) (between front back line)
@@ -44,6 +48,7 @@ name_read front back test line =
     (in_front front back rest (before_back back rest) (back_read back rest))))
     (λ name e. WhereSome-if (IsNamed front back test line) (test name) (Some name) (λ t. record { spelled = e; passes = t }))
 
+-- a text that is empty by its length
 empty_is : (text : List ℕ) → is_empty text ≡ true → text ≡ []
 empty_is [] h = refl
 empty_is (c ∷ cs) h = let e : is_empty (c ∷ cs) ≡ false = grind (arith, nat_tests) in absurd (let f : false ≡ true = sym e ∙ h in cc)
@@ -59,11 +64,13 @@ record IsLast (marked : List ℕ) : Type 0 where
   pub ends : (end ≡ []) ⊎ (end ≡ codes "\n")
   pub spelled : marked ≡ end
 
+-- what is read after the end of the template
 last_read : (lines : List (List ℕ)) → is_last_line lines ≡ true → IsLast (after_mark 10 lines)
 last_read [] h = record { end = []; ends = inl refl; spelled = refl }
 last_read (last ∷ []) h = record { end = codes "\n"; ends = inr refl; spelled = ap (λ t. after_mark 10 (t ∷ [])) (empty_is last h) }
 last_read (last ∷ more ∷ lines) h = absurd (let f : false ≡ true = h in cc)
 
+-- what is read as the end of the template is written so
 end_read : (lines : List (List ℕ)) → is_template_end lines ≡ true → IsEnd (after_mark 10 lines)
 end_read [] h = absurd (let f : false ≡ true = h in cc)
 end_read (line ∷ lines) h =
@@ -87,6 +94,7 @@ record Middle (params : List (List ℕ)) (marked : List ℕ) (found : Declared) 
   pub body_ends : has_body_ends found.body ≡ true
   pub bytes : list_all is_line_byte found.body ≡ true
 
+-- an empty line before the others
 past_empty : (params : List (List ℕ)) (marked : List ℕ) (found : Declared) → Middle params marked found → Middle params (10 ∷ marked) found
 past_empty params marked found m = record {
   lines = None ∷ m.lines;
@@ -104,6 +112,7 @@ past_empty params marked found m = record {
 pub param_spelled : (name rest more : List ℕ) → (codes "{@param " ++ (name ++ codes ": string}")) ++ (10 ∷ (rest ++ more)) ≡ ((codes "{@param " ++ (name ++ codes ": string}\n")) ++ rest) ++ more
 param_spelled name rest more = simp append_assoc
 
+-- a declaration before the other lines
 past_param : (params : List (List ℕ)) (name line marked : List ℕ) (found : Declared) → line ≡ codes "{@param " ++ (name ++ codes ": string}") → Middle (params ++ name ∷ []) marked found → Middle params (10 ∷ (line ++ marked)) found
 past_param params name line marked found e m = record {
   lines = Some name ∷ m.lines;
@@ -117,10 +126,12 @@ past_param params name line marked found e m = record {
   bytes = m.bytes;
 }
 
+-- what holds of an answer that a test refuses
 else_none : {A : Type 0} (Q : A → Type 0) (b : Bool) (o : Option A) → (b ≡ false → WhereSome Q o) → WhereSome Q (cond b None o)
 else_none Q true o h = tt
 else_none Q false o h = h refl
 
+-- what is read from the body line on
 body_line : (params : List (List ℕ)) (line : List ℕ) (lines : List (List ℕ)) → list_all is_name params ≡ true → IsDistinct bytes_eq params → list_all is_line_byte line ≡ true → WhereSome (Middle params (after_mark 10 (line ∷ lines))) (body_read params line lines)
 body_line params line lines names distinct l =
     WhereSome-if (Middle params (after_mark 10 (line ∷ lines))) (has_body_ends line && is_template_end lines) (Some (record { params = params; body = line }))
@@ -142,14 +153,17 @@ body_line params line lines names distinct l =
 abbrev Reads : List (List ℕ) → Type 0
 Reads lines = (params : List (List ℕ)) → list_all is_name params ≡ true → IsDistinct bytes_eq params → WhereSome (Middle params (after_mark 10 lines)) (declared params lines)
 
+-- what is read past an empty line
 empty_line : (params : List (List ℕ)) (marked : List ℕ) (o : Option Declared) → WhereSome (Middle params marked) o → WhereSome (Middle params (10 ∷ marked)) o
 empty_line params marked None h = tt
 empty_line params marked (Some found) h = past_empty params marked found h
 
+-- what is read past a declaration
 param_line_read : (params : List (List ℕ)) (name line marked : List ℕ) (o : Option Declared) → line ≡ codes "{@param " ++ (name ++ codes ": string}") → WhereSome (Middle (params ++ name ∷ []) marked) o → WhereSome (Middle params (10 ∷ (line ++ marked))) o
 param_line_read params name line marked None e h = tt
 param_line_read params name line marked (Some found) e h = past_param params name line marked found e h
 
+-- what is read from a line that is not empty on
 line_read : (params : List (List ℕ)) (line : List ℕ) (lines : List (List ℕ)) → Reads lines → list_all is_name params ≡ true → IsDistinct bytes_eq params → list_all is_line_byte line ≡ true → (o : Option (List ℕ)) → WhereSome (IsNamed (codes "{@param ") (codes ": string}") is_name line) o → WhereSome (Middle params (after_mark 10 (line ∷ lines))) (option_map_or (λ name. cond (is_among params name) None (declared (params ++ name ∷ []) lines)) o (body_read params line lines))
 line_read params line lines reads names distinct l None h = body_line params line lines names distinct l
 line_read params line lines reads names distinct l (Some name) h =
@@ -157,6 +171,7 @@ line_read params line lines reads names distinct l (Some name) h =
     (λ t. param_line_read params name line (after_mark 10 lines) (declared (params ++ name ∷ []) lines) h.spelled
     (reads (params ++ name ∷ []) (list_all-both is_name params (name ∷ []) names (and_holds (is_name name) true h.passes refl)) (IsDistinct-push nat_list_eq_equiv params name distinct t)))
 
+-- what is read from any line on
 line_or_empty : (params : List (List ℕ)) (line : List ℕ) (lines : List (List ℕ)) → Reads lines → list_all is_name params ≡ true → IsDistinct bytes_eq params → list_all is_line_byte line ≡ true → (t : Bool) → is_empty line ≡ t → WhereSome (Middle params (after_mark 10 (line ∷ lines))) (cond t (declared params lines) (option_map_or (λ name. cond (is_among params name) None (declared (params ++ name ∷ []) lines)) (param_of line) (body_read params line lines)))
 line_or_empty params line lines reads names distinct l true e =
     subst (λ (t : List ℕ). WhereSome (Middle params (10 ∷ (t ++ after_mark 10 lines))) (declared params lines)) (sym (empty_is line e))
@@ -164,6 +179,7 @@ line_or_empty params line lines reads names distinct l true e =
 line_or_empty params line lines reads names distinct l false e =
     line_read params line lines reads names distinct l (param_of line) (name_read (codes "{@param ") (codes ": string}") is_name line)
 
+-- what is read of the lines after the first two is written so
 declared_read : (lines : List (List ℕ)) → list_all (list_all is_line_byte) lines ≡ true → Reads lines
 declared_read [] l params names distinct = tt
 declared_read (line ∷ lines) l params names distinct =
@@ -174,12 +190,14 @@ declared_read (line ∷ lines) l params names distinct =
 pub file_spelled : (namespace template rest : List ℕ) → (codes "{namespace " ++ (namespace ++ codes "}")) ++ (10 ∷ ((codes "{template " ++ (template ++ codes "}")) ++ (10 ∷ rest))) ≡ codes "{namespace " ++ (namespace ++ (codes "}\n{template " ++ (template ++ (codes "}\n" ++ rest))))
 file_spelled namespace template rest = simp append_assoc
 
+-- the first two lines, by what is read of them
 lines_spelled : (first second marked namespace template rest : List ℕ) → first ≡ codes "{namespace " ++ (namespace ++ codes "}") → second ≡ codes "{template " ++ (template ++ codes "}") → marked ≡ 10 ∷ rest → first ++ (10 ∷ (second ++ marked)) ≡ codes "{namespace " ++ (namespace ++ (codes "}\n{template " ++ (template ++ (codes "}\n" ++ rest))))
 lines_spelled first second marked namespace template rest e f g =
     ap (λ t. t ++ (10 ∷ (second ++ marked))) e
     ∙ (ap (λ t. (codes "{namespace " ++ (namespace ++ codes "}")) ++ (10 ∷ (t ++ marked))) f
     ∙ (ap (λ t. (codes "{namespace " ++ (namespace ++ codes "}")) ++ (10 ∷ ((codes "{template " ++ (template ++ codes "}")) ++ t))) g ∙ file_spelled namespace template rest))
 
+-- two numbers that a test tells apart differ
 apart_test : (a b : ℕ) → not (a == b) ≡ true → a ≢ b
 apart_test a b h e = let t : (a == b) ≡ true = (Decides-eqb a b).1 e in let f : false ≡ true = sym (ap not t) ∙ h in cc
 
@@ -190,6 +208,7 @@ ends_apart body h =
     let q = both_hold (not (slice_index body 0 == 32)) (not (slice_index body (length body - 1) == 32)) p.1 in
     ((λ e. apart_test (length body) 0 p.0 (ap length e)), apart_test (slice_index body 0) 32 q.0, apart_test (slice_index body (length body - 1)) 32 q.1)
 
+-- the form, by what is read of its lines
 named_read : (first second : List ℕ) (lines : List (List ℕ)) (o p : Option (List ℕ)) (q : Option Declared) → WhereSome (IsNamed (codes "{namespace ") (codes "}") is_dotted_name first) o → WhereSome (IsNamed (codes "{template ") (codes "}") is_name second) p → WhereSome (Middle [] (after_mark 10 lines)) q → WhereSome (Spells (joined 10 (first ∷ second ∷ lines))) (named_form o p q)
 named_read first second lines None p q a b m = tt
 named_read first second lines (Some namespace) None q a b m = tt
@@ -213,10 +232,12 @@ named_read first second lines (Some namespace) (Some template) (Some found) a b 
       parts = body;
     })
 
+-- no names are distinct
 none_distinct : IsDistinct bytes_eq []
 unfolding IsDistinct
 none_distinct = tt
 
+-- what is read of lines spells the form
 lines_read : (lines : List (List ℕ)) → list_all (list_all is_line_byte) lines ≡ true → WhereSome (Spells (joined 10 lines)) (form_of_lines lines)
 lines_read [] l = tt
 lines_read (first ∷ []) l = tt
@@ -225,6 +246,7 @@ lines_read (first ∷ second ∷ lines) l =
     let rest = both_hold (list_all is_line_byte second) (list_all (list_all is_line_byte) lines) b.1 in
     named_read first second lines (namespace_of first) (template_of second) (declared [] lines) (name_read (codes "{namespace ") (codes "}") is_dotted_name first) (name_read (codes "{template ") (codes "}") is_name second) (declared_read lines rest.1 [] refl none_distinct)
 
+-- what is read of a file spells the form
 file_read : (file : List ℕ) → WhereSome (Spells file) (first_form file)
 file_read file =
     WhereSome-if (Spells file) (list_all is_file_byte file) (form_of_lines (slice_split (λ c. c == 10) file))

@@ -15,10 +15,12 @@ use Rattle.soy_top.proofs.ReadForm.{is_line_byte}
 abbrev pub is_name_part : ℕ → Bool
 is_name_part c = continues_name c || (c == 46)
 
+-- of two facts the first holds
 or_first : (a b : Bool) → a ≡ true → (a || b) ≡ true
 or_first true b h = refl
 or_first false b h = let e : false ≡ true = h in cc
 
+-- a name is made of characters of names
 pub name_parts : (name : List ℕ) → is_name name ≡ true → list_all is_name_part name ≡ true
 name_parts [] h = refl
 name_parts (c ∷ cs) h =
@@ -26,21 +28,26 @@ name_parts (c ∷ cs) h =
     and_holds (is_name_part c) (list_all is_name_part cs) (or_first (continues_name c) (c == 46) (or_first (begins_name c) (nat_le 48 c && nat_le c 57) p.0))
     (list_all-weaken continues_name is_name_part (λ b t. or_first (continues_name b) (b == 46) t) cs p.1)
 
+-- so are names
 names_parts : (names : List (List ℕ)) → list_all is_name names ≡ true → list_all (list_all is_name_part) names ≡ true
 names_parts [] h = refl
 names_parts (name ∷ names) h =
     let p = both_hold (is_name name) (list_all is_name names) h in
     and_holds (list_all is_name_part name) (list_all (list_all is_name_part) names) (name_parts name p.0) (names_parts names p.1)
 
+-- so is a dotted name
 pub dotted_name_parts : (name : List ℕ) → is_dotted_name name ≡ true → list_all is_name_part name ≡ true
 dotted_name_parts name h = all-split is_name_part 46 name refl (names_parts (slice_split (λ c. c == 46) name) h)
 
+-- a character of names is a printing one
 part_line : (c : ℕ) → is_name_part c ≡ true → is_line_byte c ≡ true
 part_line c h = grind (arith, nat_tests)
 
+-- and no `{`
 part_brace : (c : ℕ) → is_name_part c ≡ true → not (c == 123) ≡ true
 part_brace c h = grind (arith, nat_tests)
 
+-- and no `}`
 part_end : (c : ℕ) → is_name_part c ≡ true → not (c == 125) ≡ true
 part_end c h = grind (arith, nat_tests)
 
@@ -56,30 +63,38 @@ static_all p hp less more tags (plain {c = c} {text = text} pc d) =
 static_all p hp less more tags (tag name text named d) =
     and_holds (p 60) (list_all p (name ++ (62 ∷ text))) less (list_all-both p name (62 ∷ text) (among_all (list_all p) tag_names name named tags) (and_holds (p 62) (list_all p text) more (static_all p hp less more tags d)))
 
+-- a plain character is a printing one
 plain_line : (c : ℕ) → IsPlain c → is_line_byte c ≡ true
 plain_line c h = let low = h.from_space in let high = h.to_tilde in grind (arith, nat_tests)
 
+-- and no `{`
 plain_brace : (c : ℕ) → IsPlain c → not (c == 123) ≡ true
 plain_brace c h = let plain : is_plain c ≡ true = h.plain in grind (arith, nat_tests)
 
+-- and no `<`
 plain_tag : (c : ℕ) → is_plain c ≡ true → (c == 60) ≡ false
 plain_tag c h = grind (arith, nat_tests)
 
+-- and no `{`, as a comparison with a text tests it
 plain_front : (c : ℕ) → is_plain c ≡ true → nat_eq 123 c ≡ false
 plain_front c h = grind (arith, nat_tests)
 
+-- a static text is made of printing characters
 pub static-line : {text : List ℕ} → IsStaticText text → list_all is_line_byte text ≡ true
 static-line d = static_all is_line_byte plain_line refl refl refl d
 
+-- and has no `{`
 pub static-brace : {text : List ℕ} → IsStaticText text → lacks 123 text ≡ true
 static-brace d = static_all (λ c. not (c == 123)) plain_brace refl refl refl d
 
+-- a plain character before what is read as a static text
 static_cons : (c : ℕ) (parts : List (List ℕ)) → is_plain c ≡ true → are_text_and_tags parts ≡ true → are_text_and_tags (onto_first c parts) ≡ true
 static_cons c [] hc h = let e : false ≡ true = h in cc
 static_cons c (text ∷ tags) hc h =
     let p = both_hold (list_all is_plain text) (list_all is_tag_and_text tags) h in
     and_holds (is_plain c && list_all is_plain text) (list_all is_tag_and_text tags) (and_holds (is_plain c) (list_all is_plain text) hc p.0) p.1
 
+-- a tag and the text after it are read as such
 tag_read : (name rest : List ℕ) → is_among tag_names name ≡ true → list_all is_plain rest ≡ true → is_tag_and_text (name ++ (62 ∷ rest)) ≡ true
 tag_read name rest named h =
     ap (λ r. option_map_or (λ halves. is_among tag_names halves.0 && list_all is_plain halves.1) r false) (cut-mark 62 name rest (among_all (lacks 62) tag_names name named refl))
@@ -112,14 +127,17 @@ record PrintTexts (params : List (List ℕ)) (more : List ℕ) (parts : List Par
   pub bare : list_all (lacks 123) texts ≡ true
   pub bytes : list_all is_line_byte more ≡ true
 
+-- an answer under two tests that hold
 if_both : {A : Type 0} (a b : Bool) (x : A) → a ≡ true → b ≡ true → cond (a && b) (Some x) None ≡ Some x
 if_both a b x h k = rw (h, k) refl
 
+-- a print is read as its name and text
 print_found : (params : List (List ℕ)) (name text : List ℕ) → is_among params name ≡ true → lacks 125 name ≡ true → is_static text ≡ true → print_of params (36 ∷ (name ++ (125 ∷ text))) ≡ Some (name, text)
 print_found params name text named ends static =
     ap (option_and_then (λ halves. cond (is_among params halves.0 && is_static halves.1) (Some halves) None)) (cut-mark 125 name text ends)
     ∙ if_both (is_among params name) (is_static text) (name, text) named static
 
+-- one more print before prints
 print_texts : (params : List (List ℕ)) (name text more : List ℕ) (parts : List Part) → is_among params name ≡ true → list_all is_name_part name ≡ true → IsStaticText text → PrintTexts params more parts → PrintTexts params (123 ∷ (36 ∷ (name ++ (125 ∷ (text ++ more))))) (Print name ∷ (static_part text ++ parts))
 print_texts params name text more parts named name_chars static rest = record {
   texts = (36 ∷ (name ++ (125 ∷ text))) ∷ rest.texts;
@@ -129,11 +147,13 @@ print_texts params name text more parts named name_chars static rest = record {
   bytes = list_all-both is_line_byte name (125 ∷ (text ++ more)) (name-line name name_chars) (list_all-both is_line_byte text more (static-line static) rest.bytes);
 }
 
+-- prints are read as what they are
 prints_texts : (params : List (List ℕ)) → list_all is_name params ≡ true → {more : List ℕ} {parts : List Part} → ArePrints params more parts → PrintTexts params more parts
 prints_texts params names none = record { texts = []; spelled = refl; read = refl; bare = refl; bytes = refl }
 prints_texts params names (print name text more {parts = parts} named static d) =
     print_texts params name text more parts named (name_parts name (among_all is_name params name named names)) static (prints_texts params names d)
 
+-- a static text and prints are read as their parts
 braces_found : (params : List (List ℕ)) (text : List ℕ) (texts : List (List ℕ)) (parts : List Part) → is_static text ≡ true → print_parts params texts ≡ Some parts → parts_at_braces params (text ∷ texts) ≡ Some (static_part text ++ parts)
 braces_found params text texts parts static read =
     if_true (is_static text) (option_map (λ more. static_part text ++ more) (print_parts params texts)) static ∙ ap (option_map (λ more. static_part text ++ more)) read
@@ -154,6 +174,7 @@ pub body-line : (params : List (List ℕ)) (body : List ℕ) (parts : List Part)
 body-line params body parts names b =
     ap (list_all is_line_byte) b.spelled ∙ list_all-both is_line_byte b.text b.more (static-line b.static) (prints_texts params names b.prints).bytes
 
+-- a static text and prints begin otherwise than a declaration
 no_front : {params : List (List ℕ)} {text more : List ℕ} {parts : List Part} → IsStaticText text → ArePrints params more parts → starts_with nat_eq (text ++ more) (codes "{@param ") ≡ false
 no_front nothing none = refl
 no_front nothing (print name text more named static d) = refl
