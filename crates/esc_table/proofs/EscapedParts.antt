@@ -2,16 +2,10 @@
 use Rattle.std.proofs.Common.{◌≡◌, ℕ, ◌≤◌, List, [], ◌∷◌, ◌++◌, ◌∙◌, ap, sym, encode_utf8_all, append-nil, length, take, length-append, arith}
 use Rattle.std.specs.Str.{chars, IsUtf8}
 use Rattle.std.specs.String.Boundary.{IsSplitPoint}
-use Rattle.std.specs.Char.{IsScalar, encode_utf8}
 use Rattle.std.proofs.Math.Seq.{take-append_seam}
 use Rattle.std.proofs.lemmas.Grind.{flat_map-append}
-use Rattle.std.proofs.lemmas.Str.{encodes-append, encodes-chars, chars_past_char, chars-nil, IsUtf8-encode, IsCharBoundary-from_take}
+use Rattle.std.proofs.lemmas.Str.{encodes-append, encodes-chars, IsCharBoundary-from_take}
 use Rattle.esc_table.specs.EscapedText.{escaped_character, escaped_text}
-
--- a character's bytes spell that character
-pub one_character : (c : ℕ) → IsScalar c → chars (encode_utf8 c) ≡ c ∷ []
-one_character c scalar =
-    chars_past_char (encode_utf8 c) [] c (IsUtf8-encode c scalar) (sym (append-nil (encode_utf8 c))) ∙ ap (λ rest. c ∷ rest) chars-nil
 
 -- where characters were added at the end, so were their bytes
 pub bytes_added : (old new more : List ℕ) → IsUtf8 old → IsUtf8 new → chars new ≡ chars old ++ more → new ≡ old ++ encode_utf8_all more
@@ -31,9 +25,12 @@ cut_at_old old new more text text' added =
     let boundary = IsCharBoundary-from_take new (length old) text' within (rw (front_stays old new more text text' added) text) in
     (boundary.0, λ _. boundary.1)
 
+-- more characters add what stands for them
+pub more_escaped : (rows : List (ℕ × List ℕ)) (text more : List ℕ) → escaped_text rows (text ++ more) ≡ escaped_text rows text ++ escaped_text rows more
+more_escaped rows text more = flat_map-append (escaped_character rows) text more
+
 -- one more character adds what stands for it
 pub next_escaped : (rows : List (ℕ × List ℕ)) (text : List ℕ) (c : ℕ) →
     escaped_text rows (text ++ c ∷ []) ≡ escaped_text rows text ++ escaped_character rows c
 next_escaped rows text c =
-    flat_map-append (escaped_character rows) text (c ∷ [])
-    ∙ ap (λ more. escaped_text rows text ++ more) (append-nil (escaped_character rows c))
+    more_escaped rows text (c ∷ []) ∙ ap (λ more. escaped_text rows text ++ more) (append-nil (escaped_character rows c))

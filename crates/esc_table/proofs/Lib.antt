@@ -1,2 +1,3 @@
+mod PushedSoFar
 pub mod EscapedParts
 mod RowSearch

@@ -1,5 +1,5 @@
-// Pushes that are seen as characters: every step between bytes and characters is here.
-ghost use Rattle.std.specs.Prelude.{◌≡◌, [], ◌∷◌, ◌++◌, OnOk, OnErr};
+// A push that is seen as characters.
+ghost use Rattle.std.specs.Prelude.{◌≡◌, ◌++◌, OnOk, OnErr};
 ghost use Rattle.std.specs.Str.{chars};
 ghost use Rattle.std.specs.String.{string_bytes};
 
@@ -10,13 +10,5 @@ pub(crate) fn push_text(out: &mut String, text: &str) -> Result<(), AllocError>
     ensures err { OnErr result (string_bytes out.new ≡ string_bytes out.old) }
 {
     out.push_str(text)?;
-    Ok(())
-}
-
-pub(crate) fn push_char(out: &mut String, c: char) -> Result<(), AllocError>
-    ensures ok { OnOk result (chars (string_bytes out.new) ≡ chars (string_bytes out.old) ++ c ∷ []) }
-    ensures err { OnErr result (string_bytes out.new ≡ string_bytes out.old) }
-{
-    out.push(c)?;
     Ok(())
 }

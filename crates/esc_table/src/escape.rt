@@ -1,9 +1,9 @@
 ghost use Rattle.std.specs.Prelude.{◌≡◌, ℕ, ◌≤◌, List, ◌++◌, OnOk, OnErr, encode_utf8_all};
 ghost use Rattle.std.specs.Str.{chars};
 ghost use Rattle.std.specs.String.{string_bytes};
-ghost use Rattle.esc_table.specs.EscapedText.{escaped_character, escaped_text};
+ghost use Rattle.esc_table.specs.EscapedText.{escaped_text};
 
-use crate::characters::{push_char, push_text};
+use crate::characters::push_text;
 use crate::memory::OutOfMemory;
 use crate::table::Table;
 use std::alloc::{AllocError, Global};
@@ -34,6 +34,8 @@ pub fn escape_into<const N: usize>(
 }
 
 // Pushes as `escape_into` appends; where memory is refused, a part may have been pushed.
+//
+// What stands between two characters with rows is pushed as one piece.
 fn push_escaped<const N: usize>(
     table: &Table<N>,
     text: &str,
@@ -43,24 +45,14 @@ fn push_escaped<const N: usize>(
     ensures ok { OnOk result (chars (string_bytes out.new) ≡ chars (string_bytes out.old) ++ escaped_text table.now (chars text.now)) }
     ensures grown { (more : List ℕ) × (chars (string_bytes out.new) ≡ chars (string_bytes out.old) ++ more) }
 {
-    for c in text.chars() {
-        push_escaped_char(table, c, out)?;
+    let mut begin = 0;
+    for (place, c) in text.char_indices() {
+        if let Some(row) = table.find(c) {
+            push_text(out, &text[begin..place])?;
+            push_text(out, row)?;
+            begin = place + c.len_utf8();
+        }
     }
+    push_text(out, &text[begin..])?;
     Ok(())
-}
-
-// Pushes the row's text where the character has a row, else the character.
-fn push_escaped_char<const N: usize>(
-    table: &Table<N>,
-    c: char,
-    out: &mut String,
-) -> Result<(), AllocError>
-    requires { N ≤ 256 }
-    ensures ok { OnOk result (chars (string_bytes out.new) ≡ chars (string_bytes out.old) ++ escaped_character table.now c) }
-    ensures err { OnErr result (string_bytes out.new ≡ string_bytes out.old) }
-{
-    match table.find(c) {
-        Some(row) => push_text(out, row),
-        None => push_char(out, c),
-    }
 }

@@ -1,9 +1,9 @@
--- What was pushed so far is what the characters so far become.
-use Rattle.std.proofs.Common.{◌≡◌, ◌++◌}
 use Rattle.std.specs.Str.{chars}
+use Rattle.std.specs.Str.Iter.{char_indices_offset, char_indices_rest}
 use Rattle.std.specs.String.{string_bytes}
-use Rattle.esc_table.specs.EscapedText.{escaped_text}
+use Rattle.esc_table.proofs.PushedSoFar.{PushedSoFar}
 use Rattle.esc_table.proofs.escape.push_escaped.Given as goal
 
-abbrev pub invariant-loop-c : goal.invariant-loop-c
-invariant-loop-c g l = chars (string_bytes l.out) ≡ chars (string_bytes l.initial.out) ++ escaped_text l.table l.yielded
+abbrev pub invariant-loop-place : goal.invariant-loop-place
+invariant-loop-place g l =
+    PushedSoFar l.table (chars (string_bytes l.initial.out)) (chars (string_bytes l.out)) l.begin (char_indices_offset l.place-iterator) (char_indices_rest l.place-iterator) l.text
