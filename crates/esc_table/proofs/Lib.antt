@@ -1,3 +1,4 @@
 mod PushedSoFar
 pub mod EscapedParts
+mod RowMarks
 mod RowSearch

@@ -1,5 +1,6 @@
 pub mod Ascends
 pub mod EscapedText
 pub mod HtmlRows
+pub mod Marked
 pub mod RowPairs
 pub mod RowText

@@ -1,6 +1,7 @@
 ghost use Rattle.std.specs.Prelude.{◌≡◌, ◌≤◌, length, option_map};
 ghost use Rattle.std.specs.Str.{chars};
 ghost use Rattle.esc_table.specs.Ascends.{Ascends};
+ghost use Rattle.esc_table.specs.Marked.{Marked};
 ghost use Rattle.esc_table.specs.RowPairs.{row_pairs};
 ghost use Rattle.esc_table.specs.RowText.{row_text};
 
@@ -19,18 +20,21 @@ pub struct Row {
 #[derive(Debug, Drop)]
 pub struct Table<const N: usize> {
     rows: &'static [Row],
+    // False where an ASCII character has no row, so that most characters are not searched for.
+    marks: [bool; 128],
 }
 
 impl<const N: usize> Model for Table<N> {
     ghost use Rattle.std.specs.Prelude.{◌≡◌, ℕ, List, length};
     ghost use Rattle.esc_table.specs.Ascends.{Ascends};
+    ghost use Rattle.esc_table.specs.Marked.{Marked};
     ghost use Rattle.esc_table.specs.RowPairs.{row_pairs};
 
     ghost Value = { List (ℕ × List ℕ) };
 
     ghost view = { λ table. row_pairs table.rows.now };
 
-    ghost invariant = { λ table. (length table.rows.now ≡ N) × Ascends (row_pairs table.rows.now) };
+    ghost invariant = { λ table. (length table.rows.now ≡ N) × Ascends (row_pairs table.rows.now) × Marked (row_pairs table.rows.now) table.marks };
 }
 
 impl<const N: usize> Table<N> {
@@ -41,7 +45,10 @@ impl<const N: usize> Table<N> {
         requires ascending { Ascends (row_pairs rows.now) }
         ensures { result ≡ row_pairs rows.now }
     {
-        Table { rows }
+        Table {
+            rows,
+            marks: marks(rows),
+        }
     }
 
     /// The text of the row of `c`, and `None` exactly where no row has `c`.
@@ -49,9 +56,25 @@ impl<const N: usize> Table<N> {
         requires { N ≤ 256 }
         ensures { option_map (λ text. chars text.now) result ≡ row_text self.now c }
     {
+        if c.is_ascii() && !self.marks[c as usize] {
+            return None;
+        }
         match self.rows.binary_search_by_key(&c, |row| row.from) {
             Ok(at) => Some(self.rows[at].to),
             Err(_) => None,
         }
     }
+}
+
+// A mark at each ASCII character that has a row.
+fn marks(rows: &[Row]) -> [bool; 128]
+    ensures { Marked (row_pairs rows.now) result }
+{
+    let mut marks = [false; 128];
+    for row in rows {
+        if row.from.is_ascii() {
+            marks[row.from as usize] = true;
+        }
+    }
+    marks
 }
