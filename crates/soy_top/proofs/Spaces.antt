@@ -1,6 +1,7 @@
 -- Values whose separators are spaces.
-use Rattle.std.proofs.Common.{◌≡◌, ℕ, Bool, true, false, ◌&&◌, cond, List, [], ◌∷◌, map, refl}
+use Rattle.std.proofs.Common.{◌≡◌, ℕ, Bool, true, false, ◌&&◌, ◌||◌, cond, List, [], ◌∷◌, map, refl, ap}
 use Rattle.std.specs.Prelude.{encode_utf8_all}
+use Rattle.std.specs.List.{list_any}
 use Rattle.std.specs.Str.{chars, IsUtf8}
 use Rattle.std.proofs.Math.Utf8.{scalar, scalars}
 use Rattle.std.proofs.lemmas.Str.{chars-encodes, scalars-chars}
@@ -27,3 +28,12 @@ scalars-spaced (c ∷ cs) h =
 -- a value with spaces for its separators is a text of just those characters
 pub chars-spaced : (value : List ℕ) → IsUtf8 value → chars (encode_utf8_all (map space_for (chars value))) ≡ map space_for (chars value)
 chars-spaced value utf8 = chars-encodes _ (scalars-spaced (chars value) (scalars-chars value utf8))
+
+-- a value without a separator is as it was
+unspaced_next : (c : ℕ) (cs : List ℕ) (here later : Bool) → (here || later) ≡ false → (later ≡ false → map space_for cs ≡ cs) → cond here 32 c ∷ map space_for cs ≡ c ∷ cs
+unspaced_next c cs true later h rest = let e : true ≡ false = h in cc
+unspaced_next c cs false later h rest = ap (λ cs. c ∷ cs) (rest h)
+
+pub unspaced : (cs : List ℕ) → list_any is_separator cs ≡ false → map space_for cs ≡ cs
+unspaced [] h = refl
+unspaced (c ∷ cs) h = unspaced_next c cs (is_separator c) (list_any is_separator cs) h (unspaced cs)

@@ -1,5 +1,6 @@
 // Writes a page, piece by piece.
 ghost use Rattle.std.specs.Prelude.{◌≡◌, ◌≤◌, [], ◌++◌, map, unwrap_or, OnOk, IfErr, IfOk, encode_utf8_all};
+ghost use Rattle.std.specs.List.{list_any};
 ghost use Rattle.std.specs.Str.{chars};
 ghost use Rattle.std.specs.String.{string_bytes};
 ghost use Rattle.serde_json.specs.View.{view};
@@ -9,7 +10,7 @@ ghost use Rattle.soy_io.specs.Added.{added};
 ghost use Rattle.soy_io.specs.PutRose.{PutRose};
 ghost use Rattle.soy_top.specs.Data.{value_of};
 ghost use Rattle.soy_top.specs.Ending.{TookPart};
-ghost use Rattle.soy_top.specs.FirstPage.{space_for, wrapped_value, part_bytes};
+ghost use Rattle.soy_top.specs.FirstPage.{is_separator, space_for, wrapped_value, part_bytes};
 ghost use Rattle.soy_top.specs.SeenForm.{seen_part};
 ghost use Rattle.soy_top.specs.SeenPage.{page_bytes};
 
@@ -31,14 +32,25 @@ pub(crate) struct Page<'a> {
     pub(crate) json: Value,
 }
 
-/// A space in place of a character that ends a paragraph or separates segments.
+/// Whether a character below 128 ends a paragraph or separates segments.
+fn is_separator(c: char) -> bool
+    ensures { result ≡ is_separator c }
+{
+    matches!(c, '\t' | '\n' | '\u{b}' | '\r' | '\u{1c}'..='\u{1f}')
+}
+
+/// Whether a value has a separator.
+fn has_separator(value: &str) -> bool
+    ensures { result ≡ list_any is_separator (chars value.now) }
+{
+    value.chars().any(is_separator)
+}
+
+/// A space in place of a separator.
 fn space_for(c: char) -> char
     ensures { result ≡ space_for c }
 {
-    match c {
-        '\t' | '\n' | '\u{b}' | '\r' | '\u{1c}'..='\u{1f}' => ' ',
-        _ => c,
-    }
+    if is_separator(c) { ' ' } else { c }
 }
 
 /// A value with its separators made spaces, or want of memory.
@@ -48,14 +60,24 @@ fn spaced(alloc: Global, value: &str) -> Result<String, OutOfMemory>
     Ok(value.chars().map(space_for).collect(alloc)?)
 }
 
-/// Adds the HTML rows of a value with its separators made spaces.
+/// Adds the HTML rows of a value.
+fn push_rows(alloc: Global, value: &str, text: &mut String) -> Result<(), OutOfMemory>
+    ensures { OnOk result (string_bytes text.new ≡ string_bytes text.old ++ encode_utf8_all (escaped_text html_rows (chars value.now))) }
+{
+    match escape_into(alloc, &html(), value, text) {
+        Ok(()) => Ok(()),
+        Err(_) => Err(OutOfMemory),
+    }
+}
+
+/// Adds the HTML rows of a value with its separators made spaces. A value without one isn't copied.
 fn push_escaped(alloc: Global, value: &str, text: &mut String) -> Result<(), OutOfMemory>
     ensures { OnOk result (string_bytes text.new ≡ string_bytes text.old ++ encode_utf8_all (escaped_text html_rows (map space_for (chars value.now)))) }
 {
-    let spaced = spaced(alloc, value)?;
-    match escape_into(alloc, &html(), spaced.as_str(), text) {
-        Ok(()) => Ok(()),
-        Err(_) => Err(OutOfMemory),
+    if has_separator(value) {
+        push_rows(alloc, spaced(alloc, value)?.as_str(), text)
+    } else {
+        push_rows(alloc, value, text)
     }
 }
 
