@@ -9,6 +9,8 @@ pub(crate) fn push_text(out: &mut String, text: &str) -> Result<(), AllocError>
     ensures ok { OnOk result (chars (string_bytes out.new) ≡ chars (string_bytes out.old) ++ chars text.now) }
     ensures err { OnErr result (string_bytes out.new ≡ string_bytes out.old) }
 {
-    out.push_str(text)?;
+    if !text.is_empty() {
+        out.push_str(text)?;
+    }
     Ok(())
 }
