@@ -1,4 +1,4 @@
-ghost use Rattle.std.specs.Prelude.{◌≡◌, ◌≤◌, length, option_map};
+ghost use Rattle.std.specs.Prelude.{◌≡◌, ◌≤◌, length, min, option_map};
 ghost use Rattle.std.specs.Str.{chars};
 ghost use Rattle.esc_table.specs.Ascends.{Ascends};
 ghost use Rattle.esc_table.specs.Marked.{Marked};
@@ -20,8 +20,8 @@ pub struct Row {
 #[derive(Debug, Drop)]
 pub struct Table<const N: usize> {
     rows: &'static [Row],
-    // False where an ASCII character has no row, so that most characters are not searched for.
-    marks: [bool; 128],
+    // False where no row has the character, so that most characters are not searched for.
+    marks: [bool; 129],
 }
 
 impl<const N: usize> Model for Table<N> {
@@ -56,7 +56,7 @@ impl<const N: usize> Table<N> {
         requires { N ≤ 256 }
         ensures { option_map (λ text. chars text.now) result ≡ row_text self.now c }
     {
-        if c.is_ascii() && !self.marks[c as usize] {
+        if !self.marks[mark_place(c)] {
             return None;
         }
         match self.rows.binary_search_by_key(&c, |row| row.from) {
@@ -66,15 +66,20 @@ impl<const N: usize> Table<N> {
     }
 }
 
-// A mark at each ASCII character that has a row.
-fn marks(rows: &[Row]) -> [bool; 128]
+// A mark for each character that has a row.
+fn marks(rows: &[Row]) -> [bool; 129]
     ensures { Marked (row_pairs rows.now) result }
 {
-    let mut marks = [false; 128];
+    let mut marks = [false; 129];
     for row in rows {
-        if row.from.is_ascii() {
-            marks[row.from as usize] = true;
-        }
+        marks[mark_place(row.from)] = true;
     }
     marks
+}
+
+// Where the mark of a character stands: each ASCII character has its own, and all others share the last.
+fn mark_place(c: char) -> usize
+    ensures { result ≡ min c 128 }
+{
+    (c as usize).min(128)
 }
