@@ -6,7 +6,9 @@
 //! `escaped_text` of the rows and the text's characters; after a refusal its target is as it was.
 //! `html` is the one table so far: the rows that make a text safe in HTML.
 //!
-//! Stands on no other crate.
+//! `Tail` holds the bytes of one character, and gives them into rooms of any size.
+//!
+//! Stands on no other crate of the workspace.
 #![tactic(auto)]
 
 mod characters;
@@ -14,11 +16,13 @@ mod escape;
 mod html_table;
 mod memory;
 mod table;
+mod tail;
 
 pub use escape::escape_into;
 pub use html_table::html;
 pub use memory::OutOfMemory;
 pub use table::{Row, Table};
+pub use tail::Tail;
 
 #[cfg(test)]
 mod tests;

@@ -35,3 +35,20 @@ fn html_escapes(rt: HostRuntime) -> Result<(), Fail> {
     }
     Ok(())
 }
+
+// A row is given over rooms of three bytes, and then a character of its own.
+#[test]
+fn a_tail_is_given_in_parts(rt: HostRuntime) -> Result<(), Fail> {
+    let mut tail = Tail::empty();
+    let mut room = *b"...";
+    assert_eq!(rt; tail.take(&mut room), 0);
+    tail.put('<', Some("&lt;"));
+    assert_eq!(rt; tail.take(&mut room), 3);
+    assert_eq!(rt; room, *b"&lt");
+    assert_eq!(rt; tail.take(&mut room), 1);
+    assert_eq!(rt; room, *b";lt");
+    tail.put('é', None);
+    assert_eq!(rt; tail.take(&mut room), 2);
+    assert_eq!(rt; room, *b"\xc3\xa9t");
+    Ok(())
+}
