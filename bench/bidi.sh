@@ -2,19 +2,9 @@
 # Times the classes and the estimate on 1 MiB of mixed text, and the search for stray isolate controls on 1 MiB of
 # initiators, of PDIs and of letters. Prints nanoseconds a character. Run it at any place: `bench/bidi.sh`.
 set -eu
-top=$(cd "$(dirname "$0")/.." && pwd)
-work=$(mktemp -d)
-trap 'rm -rf "$work"' EXIT
+. "$(dirname "$0")/setup.sh"
 
-cp "$top/HANDLES" "$work/HANDLES"
-mkdir -p "$work/crates/bench_bidi/src"
-for name in soy_base esc_table bidi_class bidi_text; do
-    (cd "$top/crates" && tar --exclude=out -cf - "$name") | (cd "$work/crates" && tar -xf -)
-    grep "^$name:" "$top/crates.txt" >> "$work/crates.txt"
-done
-echo "bench_bidi: soy_base bidi_class bidi_text" >> "$work/crates.txt"
-
-cat > "$work/crates/bench_bidi/src/main.rt" <<'PROGRAM'
+begin bench_bidi soy_base esc_table bidi_class bidi_text <<'PROGRAM'
 #![tactic(auto)]
 
 use bidi_class::{Class, class_of};
@@ -82,5 +72,4 @@ fn main(rt: HostRuntime) -> io::Result<()> {
 }
 PROGRAM
 
-(cd "$work/crates/bench_bidi" && rt run >"$work/log" 2>&1) || { cat "$work/log"; exit 1; }
-"$work/crates/bench_bidi/out/bench_bidi"
+measure bench_bidi

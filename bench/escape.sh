@@ -2,17 +2,9 @@
 # Times `escape_into` by the table of HTML on 1 MiB of plain letters, of text with one special character in twenty, and
 # of specials alone. Prints MiB of the text a second. Run it at any place: `bench/escape.sh`.
 set -eu
-top=$(cd "$(dirname "$0")/.." && pwd)
-work=$(mktemp -d)
-trap 'rm -rf "$work"' EXIT
+. "$(dirname "$0")/setup.sh"
 
-cp "$top/HANDLES" "$work/HANDLES"
-mkdir -p "$work/crates/bench_escape/src"
-(cd "$top/crates" && tar --exclude=out -cf - esc_table) | (cd "$work/crates" && tar -xf -)
-grep "^esc_table:" "$top/crates.txt" > "$work/crates.txt"
-echo "bench_escape: esc_table" >> "$work/crates.txt"
-
-cat > "$work/crates/bench_escape/src/main.rt" <<'PROGRAM'
+begin bench_escape esc_table <<'PROGRAM'
 #![tactic(auto)]
 
 use esc_table::{escape_into, html};
@@ -64,5 +56,4 @@ fn main(rt: HostRuntime) -> io::Result<()> {
 }
 PROGRAM
 
-(cd "$work/crates/bench_escape" && rt run >"$work/log" 2>&1) || { cat "$work/log"; exit 1; }
-"$work/crates/bench_escape/out/bench_escape"
+measure bench_escape

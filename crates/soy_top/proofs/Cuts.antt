@@ -1,5 +1,5 @@
 -- Texts cut at the first mark, and at each mark.
-use Rattle.std.proofs.Common.{◌≡◌, ◌≢◌, ℕ, suc, zero, ◌<◌, ◌==◌, eqb, Bool, true, false, cond, List, [], ◌∷◌, ◌++◌, Option, Some, None, option_map, length, get_or, refl, sym, ap, ◌∙◌, arith, eq-eqb, ◌&&◌, Bor, MatchOption, take, drop, nat_eq, ◌-◌}
+use Rattle.std.proofs.Common.{◌≡◌, ◌≢◌, ℕ, suc, zero, ◌<◌, ◌==◌, eqb, Bool, true, false, cond, List, [], ◌∷◌, ◌++◌, Option, Some, None, option_map, length, get_or, refl, sym, ap, ◌∙◌, arith, ◌&&◌, Bor, MatchOption, take, drop, nat_eq, ◌-◌}
 use Rattle.std.specs.List.{slice_split, onto_first, list_all}
 use Rattle.std.specs.Option.{option_map_or}
 use Rattle.std.specs.Str.{bytes_eq, IsUtf8, IsAscii}
@@ -9,6 +9,7 @@ use Rattle.std.proofs.lemmas.Bool.Decides.{nat_tests, same_from_decides, Decides
 use Rattle.std.specs.Str.Pattern.{FindsTextPrefix, FindsTextSuffix, StripsPrefix, StripsSuffix}
 use Rattle.std.specs.List.{starts_with, ends_with}
 use Rattle.std.proofs.lemmas.Str.Pattern.{IsSplitOnceResult, split_parts, starts_text, ends_text}
+use Rattle.soy_top.proofs.Marks.{both_hold, same_mark}
 use Rattle.soy_top.specs.FirstForm.{cut, after_front, before_back, is_empty, is_last_line, is_file_byte}
 
 -- no character of a text is the mark
@@ -26,9 +27,6 @@ pub cut-none : (mark : ℕ) (text : List ℕ) → Lacks mark text → cut mark t
 cut-none mark [] h = refl
 cut-none mark (c ∷ cs) h =
     rw (unmarked mark c cs h) (ap (option_map (λ halves. (c ∷ halves.0, halves.1))) (cut-none mark cs (Lacks-rest mark c cs h)))
-
-same_mark : (mark : ℕ) → (mark == mark) ≡ true
-same_mark mark = eq-eqb mark mark refl
 
 -- a text is cut at its first mark
 pub cut-at : (mark : ℕ) (text rest : List ℕ) → Lacks mark text → cut mark (text ++ (mark ∷ rest)) ≡ Some (text, rest)
@@ -124,29 +122,20 @@ pub bytes_eq-after_front : (text front back : List ℕ) → bytes_eq text (front
 bytes_eq-after_front text front back =
     bytes_eq-append text front back ∙ bytes_eq_by text front back (starts_with nat_eq text front) (after_front front text) refl refl
 
--- a text that doesn't begin with the front is no front with a back
-pub bytes_eq-no_front : (text front back : List ℕ) → None ≡ after_front front text → false ≡ bytes_eq text (front ++ back)
-bytes_eq-no_front text front back h =
-    sym (bytes_eq-after_front text front back ∙ ap (λ r. option_map_or (λ rest. bytes_eq rest back) r false) (sym h))
-
--- a text that begins with the front goes on with the back just where what follows it is the back
-pub bytes_eq-front : (text front back rest : List ℕ) → Some rest ≡ after_front front text → bytes_eq rest back ≡ bytes_eq text (front ++ back)
+-- a text is a front with a back just where it begins with the front, and what follows is the back
+pub bytes_eq-front : (text front back : List ℕ) (rest : Option (List ℕ)) → rest ≡ after_front front text → option_map_or (λ rest. bytes_eq rest back) rest false ≡ bytes_eq text (front ++ back)
 bytes_eq-front text front back rest h =
     sym (bytes_eq-after_front text front back ∙ ap (λ r. option_map_or (λ rest. bytes_eq rest back) r false) (sym h))
 
 file_byte_low : (b : ℕ) → is_file_byte b ≡ true → b < 128
 file_byte_low b h = grind (arith, nat_tests)
 
-both_true : (a b : Bool) → (a && b) ≡ true → (a ≡ true) × (b ≡ true)
-both_true true b h = (refl, h)
-both_true false b h = let e : false ≡ true = h in cc
-
 -- what a file may hold is ASCII
 pub IsAscii-file_bytes : (bytes : List ℕ) → list_all is_file_byte bytes ≡ true → IsAscii bytes
 IsAscii-file_bytes [] h i = omega arith
-IsAscii-file_bytes (b ∷ bs) h zero = file_byte_low b (both_true (is_file_byte b) (list_all is_file_byte bs) h).0
+IsAscii-file_bytes (b ∷ bs) h zero = file_byte_low b (both_hold (is_file_byte b) (list_all is_file_byte bs) h).0
 IsAscii-file_bytes (b ∷ bs) h (suc i) =
-    IsAscii-file_bytes bs (both_true (is_file_byte b) (list_all is_file_byte bs) h).1 i
+    IsAscii-file_bytes bs (both_hold (is_file_byte b) (list_all is_file_byte bs) h).1 i
 
 -- what a file may hold is UTF-8
 pub IsUtf8-file_bytes : (bytes : List ℕ) → list_all is_file_byte bytes ≡ true → IsUtf8 bytes

@@ -8,7 +8,7 @@ use Rattle.soy_top.specs.Answer.{Answer, Usage, Read, Refused, Done}
 use Rattle.soy_top.specs.Course.{Run, Course, Says, IsDue}
 use Rattle.soy_top.specs.Ending.{TookPart, SaidPart, OnNoOutput, out_text, err_text}
 use Rattle.soy_top.specs.Line.{ended, read_line, usage_text}
-use Rattle.soy_top.proofs.Took.{added-nil}
+use Rattle.soy_io.proofs.AddedParts.{added-nil}
 
 -- whatever the status, a part of the text was taken
 says_part : (wanted : Status) (text : List ℕ) (t t' : Option (List ℕ)) (b n : ℕ) (result : Status) → Says wanted text t t' b n result → TookPart t t' text

@@ -1,29 +1,22 @@
 -- Values whose separators are spaces.
-use Rattle.std.proofs.Common.{◌≡◌, ℕ, Bool, true, false, ◌&&◌, ◌||◌, cond, List, [], ◌∷◌, map, refl, ap}
+use Rattle.std.proofs.Common.{◌≡◌, ℕ, Bool, true, false, ◌||◌, cond, List, [], ◌∷◌, map, refl, ap}
 use Rattle.std.specs.Prelude.{encode_utf8_all}
 use Rattle.std.specs.List.{list_any}
 use Rattle.std.specs.Str.{chars, IsUtf8}
 use Rattle.std.proofs.Math.Utf8.{scalar, scalars}
 use Rattle.std.proofs.lemmas.Str.{chars-encodes, scalars-chars}
 use Rattle.soy_top.specs.FirstPage.{is_separator, space_for}
+use Rattle.soy_top.proofs.Marks.{both_hold, and_holds}
 
 scalar_space : (c : ℕ) (b : Bool) → scalar c ≡ true → scalar (cond b 32 c) ≡ true
 scalar_space c true h = refl
 scalar_space c false h = h
 
-both_true : (a b : Bool) → (a && b) ≡ true → (a ≡ true) × (b ≡ true)
-both_true true b h = (refl, h)
-both_true false b h = let e : false ≡ true = h in cc
-
-both : (a b : Bool) → a ≡ true → b ≡ true → (a && b) ≡ true
-both true b p q = q
-both false b p q = p
-
 scalars-spaced : (cs : List ℕ) → scalars cs ≡ true → scalars (map space_for cs) ≡ true
 scalars-spaced [] h = refl
 scalars-spaced (c ∷ cs) h =
-    let parts = both_true (scalar c) (scalars cs) h in
-    both (scalar (space_for c)) (scalars (map space_for cs)) (scalar_space c (is_separator c) parts.0) (scalars-spaced cs parts.1)
+    let parts = both_hold (scalar c) (scalars cs) h in
+    and_holds (scalar (space_for c)) (scalars (map space_for cs)) (scalar_space c (is_separator c) parts.0) (scalars-spaced cs parts.1)
 
 -- a value with spaces for its separators is a text of just those characters
 pub chars-spaced : (value : List ℕ) → IsUtf8 value → chars (encode_utf8_all (map space_for (chars value))) ≡ map space_for (chars value)

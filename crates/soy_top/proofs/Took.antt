@@ -1,24 +1,15 @@
 -- What a sink took of a text that is put piece by piece.
-use Rattle.std.proofs.Common.{◌≡◌, ℕ, ◌+◌, ◌<◌, ◌≤◌, List, [], ◌++◌, Option, Some, None, length, take, drop, get_or, add-one, refl, sym, ap, ◌∙◌, arith, min, append_assoc}
-use Rattle.std.proofs.lemmas.List.{append-nil, take-append-le, take_min}
+use Rattle.std.proofs.Common.{◌≡◌, ℕ, ◌+◌, ◌<◌, ◌≤◌, List, [], ◌++◌, Option, length, take, drop, get_or, add-one, refl, sym, ap, ◌∙◌, arith, min, append_assoc}
+use Rattle.std.proofs.lemmas.List.{take-append-le, take_min}
 use Rattle.std.proofs.Math.Seq.{take-append-add}
 use Rattle.std.proofs.Math.Seq.{drop-cons}
 use Rattle.serde_json.specs.Data.{Data}
 use Rattle.soy_io.specs.Added.{added}
+use Rattle.soy_io.proofs.AddedParts.{added-nil, added-added}
 use Rattle.soy_top.specs.declared.first_form.Part.{Part}
 use Rattle.soy_top.specs.FirstPage.{part_bytes, body_bytes}
 use Rattle.soy_top.specs.SeenForm.{seen_part, seen_parts}
 use Rattle.soy_top.specs.Ending.{TookPart}
-
--- nothing more was taken
-pub added-nil : (t : Option (List ℕ)) → t ≡ added t []
-added-nil None = refl
-added-nil (Some before) = ap Some (sym (append-nil before))
-
--- one text was taken after another
-pub added-added : (t : Option (List ℕ)) (a b : List ℕ) → added (added t a) b ≡ added t (a ++ b)
-added-added None a b = refl
-added-added (Some before) a b = ap Some (append_assoc before a b)
 
 -- from `before` to `now` the sink took a front of the text, and `rest` is left of it
 pub record PutSoFar (before now : Option (List ℕ)) (text rest : List ℕ) : Type 0 where

@@ -1,0 +1,23 @@
+# Sourced by the benchmarks: `begin NAME CRATE..` makes a folder with these crates and a program crate NAME over them,
+# whose text is read from standard input, and `measure NAME` builds it and prints its figures.
+top=$(cd "$(dirname "${BASH_SOURCE[0]}")/.." && pwd)
+work=$(mktemp -d)
+trap 'rm -rf "$work"' EXIT
+
+begin() {
+    local name=$1 crate
+    shift
+    cp "$top/HANDLES" "$work/HANDLES"
+    mkdir -p "$work/crates/$name/src"
+    for crate in "$@"; do
+        (cd "$top/crates" && tar --exclude=out -cf - "$crate") | (cd "$work/crates" && tar -xf -)
+        grep "^$crate:" "$top/crates.txt" >>"$work/crates.txt"
+    done
+    echo "$name: $*" >>"$work/crates.txt"
+    cat >"$work/crates/$name/src/main.rt"
+}
+
+measure() {
+    (cd "$work/crates/$1" && rt run >"$work/log" 2>&1) || { cat "$work/log"; exit 1; }
+    "$work/crates/$1/out/$1"
+}
