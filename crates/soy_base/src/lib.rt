@@ -18,7 +18,7 @@ pub use code::Code;
 pub use direction::Dir;
 pub use fault::{Fault, Span};
 pub use memory::{OutOfMemory, Refusal};
-pub use place::{Place, Placing};
+pub use place::{Place, Placing, ValueClass};
 pub use position::{Position, line_of};
 pub use seq::Seq;
 pub use text::Text;

@@ -33,6 +33,23 @@ pub enum Place {
     Plain,
 }
 
+/// What sort of value is printed, which together with its place decides how it is escaped.
+#[derive(Clone, Copy, Debug, PartialEq, Eq)]
+pub enum ValueClass {
+    /// A string, or a call of a template of kind text.
+    Text,
+    /// An int, or the count in a plural's branch.
+    Int,
+    /// A bool.
+    Bool,
+    /// Null.
+    Null,
+    /// A block or a call of kind html.
+    Html,
+    /// A block or a call of kind attributes.
+    Attributes,
+}
+
 /// What happens to a value at a point of a page: it is taken at a place, or refused.
 #[derive(Clone, Copy, Debug, PartialEq, Eq)]
 pub enum Placing {
