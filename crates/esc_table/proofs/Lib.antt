@@ -1,4 +1,5 @@
 mod PushedSoFar
 pub mod EscapedParts
+pub mod KeptStates
 mod RowMarks
 mod RowSearch

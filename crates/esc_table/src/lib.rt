@@ -6,6 +6,9 @@
 //! `escaped_text` of the rows and the text's characters; after a refusal its target is as it was.
 //! `html` is the one table so far: the rows that make a text safe in HTML.
 //!
+//! `law_escaped_text_keeps_state` says of any table and any step function: what the rows' texts and
+//! the characters without rows keep, every escaped text keeps.
+//!
 //! `Tail` holds the bytes of one character, and gives them into rooms of any size.
 //!
 //! Stands on no other crate of the workspace.
@@ -14,12 +17,14 @@
 mod characters;
 mod escape;
 mod html_table;
+mod law;
 mod memory;
 mod table;
 mod tail;
 
 pub use escape::escape_into;
 pub use html_table::html;
+pub use law::law_escaped_text_keeps_state;
 pub use memory::OutOfMemory;
 pub use table::{Row, Table};
 pub use tail::Tail;

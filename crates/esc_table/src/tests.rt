@@ -33,6 +33,7 @@ fn html_escapes(rt: HostRuntime) -> Result<(), Fail> {
     ] {
         assert_eq!(rt; table.find(c), row, "{c}");
     }
+    law_escaped_text_keeps_state::<u32, 7>(&table);
     Ok(())
 }
 
