@@ -1,7 +1,7 @@
-ghost use Rattle.std.specs.Prelude.{◌≡◌, ◌≤◌, length, min, option_map};
+ghost use Rattle.std.specs.Prelude.{◌≡◌, ◌≤◌, ◌<◌, length, option_map};
 ghost use Rattle.std.specs.Str.{chars};
 ghost use Rattle.esc_table.specs.Ascends.{Ascends};
-ghost use Rattle.esc_table.specs.Marked.{Marked};
+ghost use Rattle.esc_table.specs.Marked.{mark_place, Marked};
 ghost use Rattle.esc_table.specs.RowPairs.{row_pairs};
 ghost use Rattle.esc_table.specs.RowText.{row_text};
 
@@ -21,7 +21,7 @@ pub struct Row {
 pub struct Table<const N: usize> {
     rows: &'static [Row],
     // False where no row has the character, so that most characters are not searched for.
-    marks: [bool; 129],
+    marks: [bool; 256],
 }
 
 impl<const N: usize> Model for Table<N> {
@@ -67,19 +67,24 @@ impl<const N: usize> Table<N> {
 }
 
 // A mark for each character that has a row.
-fn marks(rows: &[Row]) -> [bool; 129]
+fn marks(rows: &[Row]) -> [bool; 256]
     ensures { Marked (row_pairs rows.now) result }
 {
-    let mut marks = [false; 129];
+    let mut marks = [false; 256];
     for row in rows {
         marks[mark_place(row.from)] = true;
     }
     marks
 }
 
-// Where the mark of a character stands: each ASCII character has its own, and all others share the last.
+// Where the mark of a character stands: each ASCII character has its own, and the others share 128.
 fn mark_place(c: char) -> usize
-    ensures { result ≡ min c 128 }
+    ensures place { result ≡ mark_place c }
+    ensures within { result < 256 }
 {
-    (c as usize).min(128)
+    if c.is_ascii() {
+        c as usize
+    } else {
+        128 + c as usize / 64 % 128
+    }
 }
