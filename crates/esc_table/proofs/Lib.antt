@@ -1,5 +1,6 @@
-mod PushedSoFar
 pub mod EscapedParts
 pub mod KeptStates
+mod PlainFronts
+mod PushedSoFar
 mod RowMarks
 mod RowSearch

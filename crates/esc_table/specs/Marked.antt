@@ -1,16 +1,18 @@
--- Marks that tell which characters have no row: where the mark at a character's place is false, no row has the character.
--- Each ASCII character has a mark of its own. The others share 128 marks, each those blocks of 64 characters that are
--- 128 blocks apart, so that one row beyond ASCII leaves the letters of most scripts without a mark.
+-- Marks that tell where a text has no character with a row: where the mark of the first byte of a character in UTF-8 is
+-- false, no row has the character. Only bytes that begin a character have marks, so a text may be cut where one stands.
 --
--- With rows for 38 and 60 alone, marks that are true at 38 and 60 and false elsewhere. U+2028 has the mark at 128, and so
--- have U+2000 to U+203F, but not the letters of Greek or Hebrew.
-use Rattle.std.specs.Prelude.{◌≡◌, ℕ, ◌+◌, ◌/◌, ◌%◌, nat_lt, List, Bool, false, if◌then◌else◌, None}
+-- With rows for 38 and U+2028 alone, marks that are true at 38 and at 0xE2, the first byte of E2 80 A8, and false elsewhere.
+use Rattle.std.specs.Prelude.{◌≡◌, ℕ, ◌≤◌, List, Bool, true, false, None, encode_utf8}
 use Rattle.std.specs.List.{slice_index_or}
 use Rattle.esc_table.specs.RowText.{row_text}
 
--- the place of a character's mark
-abbrev pub mark_place : ℕ → ℕ
-mark_place c = if nat_lt c 128 then c else 128 + c / 64 % 128
+-- the first byte of a character
+abbrev pub lead_byte : ℕ → ℕ
+lead_byte c = slice_index_or (encode_utf8 c) 0 0
 
-abbrev pub Marked : List (ℕ × List ℕ) → List Bool → Type 0
-Marked rows marks = (c : ℕ) → slice_index_or marks (mark_place c) false ≡ false → row_text rows c ≡ None
+abbrev pub is_marked : List Bool → ℕ → Bool
+is_marked marks byte = slice_index_or marks byte false
+
+pub record Marked (rows : List (ℕ × List ℕ)) (marks : List Bool) : Type 0 where
+  pub none : (c : ℕ) → is_marked marks (lead_byte c) ≡ false → row_text rows c ≡ None
+  pub begin : (byte : ℕ) → is_marked marks byte ≡ true → 128 ≤ byte → 192 ≤ byte

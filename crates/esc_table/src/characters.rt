@@ -1,5 +1,5 @@
-// A push that is seen as characters.
-ghost use Rattle.std.specs.Prelude.{◌≡◌, ◌++◌, OnOk, OnErr};
+// Pushes that are seen as characters.
+ghost use Rattle.std.specs.Prelude.{◌≡◌, [], ◌∷◌, ◌++◌, OnOk, OnErr};
 ghost use Rattle.std.specs.Str.{chars};
 ghost use Rattle.std.specs.String.{string_bytes};
 
@@ -12,5 +12,13 @@ pub(crate) fn push_text(out: &mut String, text: &str) -> Result<(), AllocError>
     if !text.is_empty() {
         out.push_str(text)?;
     }
+    Ok(())
+}
+
+pub(crate) fn push_character(out: &mut String, c: char) -> Result<(), AllocError>
+    ensures ok { OnOk result (chars (string_bytes out.new) ≡ chars (string_bytes out.old) ++ c ∷ []) }
+    ensures err { OnErr result (string_bytes out.new ≡ string_bytes out.old) }
+{
+    out.push(c)?;
     Ok(())
 }

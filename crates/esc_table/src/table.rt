@@ -1,7 +1,9 @@
-ghost use Rattle.std.specs.Prelude.{◌≡◌, ◌≤◌, ◌<◌, length, option_map};
-ghost use Rattle.std.specs.Str.{chars};
+ghost use Rattle.std.specs.Prelude.{◌≡◌, ◌≤◌, ◌<◌, ◌++◌, length, take, true, false, option_map, MatchOption, All};
+ghost use Rattle.std.specs.List.{slice_index_or};
+ghost use Rattle.std.specs.Str.{chars, IsUtf8};
 ghost use Rattle.esc_table.specs.Ascends.{Ascends};
-ghost use Rattle.esc_table.specs.Marked.{mark_place, Marked};
+ghost use Rattle.esc_table.specs.EscapedText.{escaped_text};
+ghost use Rattle.esc_table.specs.Marked.{is_marked, lead_byte, Marked};
 ghost use Rattle.esc_table.specs.RowPairs.{row_pairs};
 ghost use Rattle.esc_table.specs.RowText.{row_text};
 
@@ -20,7 +22,7 @@ pub struct Row {
 #[derive(Debug, Drop)]
 pub struct Table<const N: usize> {
     rows: &'static [Row],
-    // False where no row has the character, so that most characters are not searched for.
+    // False at each byte that begins no character with a row, so that most bytes are passed over unread.
     marks: [bool; 256],
 }
 
@@ -56,7 +58,7 @@ impl<const N: usize> Table<N> {
         requires { N ≤ 256 }
         ensures { option_map (λ text. chars text.now) result ≡ row_text self.now c }
     {
-        if !self.marks[mark_place(c)] {
+        if !self.marks[lead_byte(c) as usize] {
             return None;
         }
         match self.rows.binary_search_by_key(&c, |row| row.from) {
@@ -64,27 +66,46 @@ impl<const N: usize> Table<N> {
             Err(_) => None,
         }
     }
+
+    // A front of the text in which no character has a row, and what follows it: that is empty, or begins with a
+    // character that may have one.
+    pub(crate) fn plain_front<'a>(&self, text: &'a str) -> (&'a str, &'a str)
+        ensures whole { text.now ≡ result.0.now ++ result.1.now }
+        ensures front_utf8 { IsUtf8 result.0.now }
+        ensures rest_utf8 { IsUtf8 result.1.now }
+        ensures plain { escaped_text self.now (chars result.0.now) ≡ chars result.0.now }
+    {
+        match first_marked(&self.marks, text.as_bytes()) {
+            Some(place) => text.split_at(place),
+            None => (text, ""),
+        }
+    }
 }
 
-// A mark for each character that has a row.
+// Where the first byte that has a mark stands.
+fn first_marked(marks: &[bool; 256], bytes: &[u8]) -> Option<usize>
+    ensures { MatchOption result (All (λ byte. is_marked marks.now byte ≡ false) bytes.now)
+        (λ place. (place < length bytes.now) × All (λ byte. is_marked marks.now byte ≡ false) (take place bytes.now)
+        × (is_marked marks.now (slice_index_or bytes.now place 0) ≡ true)) }
+{
+    bytes.iter().position(|byte| marks[*byte as usize])
+}
+
+// A mark for the first byte of each character that has a row.
 fn marks(rows: &[Row]) -> [bool; 256]
     ensures { Marked (row_pairs rows.now) result }
 {
     let mut marks = [false; 256];
     for row in rows {
-        marks[mark_place(row.from)] = true;
+        marks[lead_byte(row.from) as usize] = true;
     }
     marks
 }
 
-// Where the mark of a character stands: each ASCII character has its own, and the others share 128.
-fn mark_place(c: char) -> usize
-    ensures place { result ≡ mark_place c }
-    ensures within { result < 256 }
+// The first byte of a character in UTF-8.
+fn lead_byte(c: char) -> u8
+    ensures lead { result ≡ lead_byte c }
+    ensures begin { 128 ≤ result → 192 ≤ result }
 {
-    if c.is_ascii() {
-        c as usize
-    } else {
-        128 + c as usize / 64 % 128
-    }
+    c.encode_utf8(&mut [0; 4]).as_bytes()[0]
 }
