@@ -1,0 +1,16 @@
+pub mod CssRows
+pub mod CssValue
+pub mod DecodedText
+pub mod Esc
+pub mod EscaperFor
+pub mod IsComponentText
+pub mod IsHtmlText
+pub mod IsJsStringText
+pub mod IsUriStartText
+pub mod JsRows
+pub mod JsValue
+pub mod Lacks
+pub mod PercentEncoded
+pub mod UriComponent
+pub mod UriNormal
+pub mod UriStart

@@ -1,0 +1,38 @@
+-- A text as the start of a URI: it may have one of four schemes, in any ASCII case, or none, and is then escaped as
+-- UriNormal. A text with any other scheme, as `javascript:`, is replaced whole by a URI that leads nowhere.
+--
+-- A scheme is what stands before a `:` that comes before the first `/`, `?`, `#` and `&` (RFC 3986, sections 3.1 and 4.2).
+-- The `&` is there since a browser reads the text after its character references.
+--
+-- The text `HTTP:x` has an allowed scheme, `a/b:c` has none, and `javascript:x` becomes `about:invalid#zSoyz`.
+use Rattle.std.specs.Prelude.{ℕ, List, [], ◌∷◌, Bool, true, false, not, ◌&&◌, ◌||◌, ◌==◌, if◌then◌else◌, codes}
+use Rattle.std.specs.Char.{to_ascii_lowercase}
+use Rattle.std.specs.List.{list_any}
+use Rattle.escapers.specs.UriComponent.{is_one_of}
+use Rattle.escapers.specs.UriNormal.{uri_normal}
+
+abbrev pub allowed_schemes : List (List ℕ)
+allowed_schemes = codes "http:" ∷ codes "https:" ∷ codes "mailto:" ∷ codes "ftp:" ∷ []
+
+-- the text, in ASCII lower case, begins with this front
+abbrev pub begins_in_any_case : List ℕ → List ℕ → Bool
+begins_in_any_case [] text = true
+begins_in_any_case (c ∷ front) [] = false
+begins_in_any_case (c ∷ front) (d ∷ text) = to_ascii_lowercase d == c && begins_in_any_case front text
+
+abbrev pub has_allowed_scheme : List ℕ → Bool
+has_allowed_scheme text = list_any (λ scheme. begins_in_any_case scheme text) allowed_schemes
+
+abbrev pub colon : ℕ
+colon = 0x3A
+
+-- a `:` comes before the first of `/`, `?`, `#` and `&`
+abbrev pub has_scheme : List ℕ → Bool
+has_scheme [] = false
+has_scheme (c ∷ text) = c == colon || (not (is_one_of (codes "/?#&") c) && has_scheme text)
+
+abbrev pub invalid_uri : List ℕ
+invalid_uri = codes "about:invalid#zSoyz"
+
+abbrev pub uri_start : List ℕ → List ℕ
+uri_start text = if has_allowed_scheme text || not (has_scheme text) then uri_normal text else invalid_uri

@@ -1,0 +1,36 @@
+//! What escaped texts are in the terms of what reads them, for every text. Each law is a contract
+//! with an empty body, so it holds of the definitions that `escape` follows.
+ghost use Rattle.std.specs.Prelude.{◌≡◌, ℕ, List, IsTrue};
+ghost use Rattle.std.specs.Str.{all_scalars};
+ghost use Rattle.esc_table.specs.EscapedText.{escaped_text};
+ghost use Rattle.esc_table.specs.HtmlRows.{html_rows};
+ghost use Rattle.escapers.specs.DecodedText.{decoded_text};
+ghost use Rattle.escapers.specs.IsComponentText.{IsComponentText};
+ghost use Rattle.escapers.specs.IsHtmlText.{IsHtmlText};
+ghost use Rattle.escapers.specs.IsJsStringText.{IsJsStringText};
+ghost use Rattle.escapers.specs.IsUriStartText.{IsUriStartText};
+ghost use Rattle.escapers.specs.JsRows.{js_rows};
+ghost use Rattle.escapers.specs.UriComponent.{uri_component};
+ghost use Rattle.escapers.specs.UriStart.{uri_start};
+
+/// A text escaped by the rows of HTML has no markup, and each `&` in it begins a reference.
+pub fn law_html_text()
+    ensures { (text : List ℕ) → IsHtmlText (escaped_text html_rows text) }
+{}
+
+/// A text escaped for a string literal of a script ends neither the literal nor the script.
+pub fn law_js_string_text()
+    ensures { (text : List ℕ) → IsJsStringText (escaped_text js_rows text) }
+{}
+
+/// A text escaped as a part of a URI has unreserved characters and encoded bytes alone, and is
+/// read back as the text that it was.
+pub fn law_uri_component_text()
+    ensures written { (text : List ℕ) → IsTrue (all_scalars text) → IsComponentText (uri_component text) }
+    ensures read_back { (text : List ℕ) → IsTrue (all_scalars text) → decoded_text (uri_component text) ≡ text }
+{}
+
+/// A text escaped as the start of a URI has an allowed scheme or none, also as the page has it.
+pub fn law_uri_start_text()
+    ensures { (text : List ℕ) → IsUriStartText (uri_start text) }
+{}
