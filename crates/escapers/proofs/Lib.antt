@@ -1,0 +1,6 @@
+mod Ampersands
+mod PercentBytes
+mod Pushed
+mod SchemeSearch
+mod Schemes
+mod UriSets

@@ -8,6 +8,12 @@ use Rattle.soy_base.specs.declared.place.ValueClass.TheVariants as class
 use Rattle.esc_table.specs.EscapedText.{escaped_text}
 use Rattle.escapers.specs.JsRows.{js_rows}
 
+abbrev pub js_literal : List ℕ → List ℕ
+js_literal text = codes "'" ++ (escaped_text js_rows text ++ codes "'")
+
+abbrev pub js_word : List ℕ → List ℕ
+js_word text = codes " " ++ (text ++ codes " ")
+
 abbrev pub js_value : ValueClass → List ℕ → List ℕ
-js_value class.Text text = codes "'" ++ (escaped_text js_rows text ++ codes "'")
-js_value _ text = codes " " ++ (text ++ codes " ")
+js_value class.Text text = js_literal text
+js_value _ text = js_word text

@@ -4,7 +4,12 @@ ghost use Rattle.std.specs.String.{string_bytes};
 ghost use Rattle.escapers.specs.Esc.{esc};
 ghost use Rattle.escapers.specs.EscaperFor.{IsEscaperOf};
 
+use crate::css::{push_css_string, push_css_value};
 use crate::escaper::Escaper;
+use crate::js::{push_js_string, push_js_value};
+use crate::push::{push_escaped, push_text};
+use crate::uri::{push_uri_component, push_uri_normal, push_uri_start};
+use esc_table::html;
 use soy_base::{Dir, OutOfMemory, ValueClass};
 use std::alloc::Global;
 
@@ -24,5 +29,32 @@ pub fn escape(
     ensures escaped { IfOk result (λ out. esc how class (chars text.now) ≡ Some (chars (string_bytes out))) }
     ensures bytes { IfOk result (λ out. option_map encode_utf8_all (esc how class (chars text.now)) ≡ Some (string_bytes out)) }
 {
-    Err(OutOfMemory)
+    let mut out = String::new(alloc);
+    push(alloc, how, class, text, &mut out)?;
+    Ok(out)
+}
+
+fn push(
+    alloc: Global,
+    how: Escaper,
+    class: ValueClass,
+    text: &str,
+    out: &mut String,
+) -> Result<(), OutOfMemory>
+    requires not_wrapped { how ≢ Escaper.Wrap }
+    requires not_as_is { how ≢ Escaper.AsIs }
+    ensures { OnOk result (option_map (λ more. chars (string_bytes out.old) ++ more) (esc how class (chars text.now)) ≡ Some (chars (string_bytes out.new))) }
+{
+    match how {
+        Escaper::Html => push_escaped(alloc, &html(), text, out),
+        Escaper::UriStart => push_uri_start(text, out),
+        Escaper::UriNormal => push_uri_normal(text, out),
+        Escaper::UriComponent => push_uri_component(text, out),
+        Escaper::JsString => push_js_string(alloc, text, out),
+        Escaper::JsValue => push_js_value(alloc, class, text, out),
+        Escaper::CssString => push_css_string(alloc, text, out),
+        Escaper::CssValue => push_css_value(text, out),
+        Escaper::Plain => push_text(text, out),
+        Escaper::Wrap | Escaper::AsIs => unreachable!(),
+    }
 }

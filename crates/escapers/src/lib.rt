@@ -11,9 +11,13 @@
 //! `percent_encoding`.
 #![tactic(auto)]
 
+mod css;
 mod escaper;
 mod escaping;
+mod js;
 pub mod laws;
+mod push;
+mod uri;
 
 pub use escaper::{Escaper, escaper_for};
 pub use escaping::escape;

@@ -1,0 +1,33 @@
+-- The sets of bytes that are encoded, against the characters that stand for themselves.
+use Rattle.std.proofs.Common.{◌≡◌, ℕ, ◌≤◌, Bool, true, false, not, refl, arith}
+use Rattle.std.proofs.lemmas.Bool.{agree_below, agree_below_at}
+use Rattle.std.proofs.lemmas.Bool.Decides.{nat_tests}
+use Rattle.percent_encoding.specs.AsciiSet.{contains}
+use Rattle.escapers.specs.declared.uri.TheConstants.{OUTSIDE_COMPONENT, OUTSIDE_URI}
+use Rattle.escapers.specs.UriComponent.{is_unreserved}
+use Rattle.escapers.specs.UriNormal.{is_normal}
+use Rattle.escapers.proofs.PercentBytes.{IsOutside}
+
+component_checked : agree_below (contains OUTSIDE_COMPONENT) (λ b. not (is_unreserved b)) 128 ≡ true
+component_checked = refl
+
+unreserved_ascii : (c : ℕ) → 128 ≤ c → is_unreserved c ≡ false
+unreserved_ascii c high = grind (arith, nat_tests)
+
+pub outside_component : IsOutside OUTSIDE_COMPONENT is_unreserved
+outside_component = record {
+  ascii = λ b low. agree_below_at (contains OUTSIDE_COMPONENT) (λ b. not (is_unreserved b)) 128 b component_checked low;
+  above = unreserved_ascii;
+}
+
+normal_checked : agree_below (contains OUTSIDE_URI) (λ b. not (is_normal b)) 128 ≡ true
+normal_checked = refl
+
+normal_ascii : (c : ℕ) → 128 ≤ c → is_normal c ≡ false
+normal_ascii c high = grind (arith, nat_tests)
+
+pub outside_uri : IsOutside OUTSIDE_URI is_normal
+outside_uri = record {
+  ascii = λ b low. agree_below_at (contains OUTSIDE_URI) (λ b. not (is_normal b)) 128 b normal_checked low;
+  above = normal_ascii;
+}
