@@ -1,13 +1,12 @@
 -- A text cut at its first `&`, and texts without one.
-use Rattle.std.proofs.Common.{◌≡◌, ℕ, ◌+◌, ◌<◌, ◌≤◌, Some, Bool, true, false, not, ◌||◌, ◌&&◌, eqb, List, [], ◌∷◌, ◌++◌, length, get_or, take, drop, refl, sym, ap, ◌∙◌, subst, encode_utf8, encode_utf8_all, IsTrue, if◌then◌else◌, arith, length-append, length-drop, take-append-drop}
+use Rattle.std.proofs.Common.{◌≡◌, ℕ, ◌<◌, Some, true, eqb, List, [], ◌∷◌, ◌++◌, length, take, drop, refl, sym, ap, ◌∙◌, arith, length-drop, take-append-drop}
 use Rattle.std.specs.List.{flat_map}
-use Rattle.std.specs.Str.{chars, IsUtf8, IsCharBoundary, NoCharPasses, NonePass}
-use Rattle.std.specs.Str.Pattern.{FindsChar, HasCharAt}
+use Rattle.std.specs.Str.{chars, IsUtf8, NoCharPasses, NonePass}
+use Rattle.std.specs.Str.Pattern.{FindsChar}
 use Rattle.std.proofs.lemmas.Bool.{and_parts, not-true, or_parts, cond-false}
 use Rattle.std.proofs.lemmas.Str.{chars-append, chars_past_char, chars_from_encodes, IsCharBoundary-before_ascii, IsUtf8-take, IsUtf8-drop, IsUtf8-past_char}
 use Rattle.std.proofs.lemmas.Str.Pattern.{drop_at_char}
 use Rattle.escapers.specs.Lacks.{lacks}
-use Rattle.escapers.specs.PercentEncoded.{percent_encoded}
 use Rattle.escapers.specs.UriNormal.{ampersand, is_normal, normal_character, uri_normal}
 use Rattle.escapers.proofs.PercentBytes.{stands_for}
 

@@ -1,6 +1,11 @@
 mod Ampersands
+mod ComponentTexts
+mod HtmlTexts
+mod KeptByRows
+mod LackedByRows
 mod PercentBytes
 mod Pushed
 mod SchemeSearch
 mod Schemes
+mod StartTexts
 mod UriSets

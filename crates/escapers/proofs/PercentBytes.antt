@@ -1,10 +1,10 @@
 -- How the bytes of a text are percent-encoded, character by character.
-use Rattle.std.proofs.Common.{◌≡◌, ℕ, ◌+◌, ◌/◌, ◌%◌, ◌<◌, ◌≤◌, Bool, true, false, not, ltb, List, [], ◌∷◌, ◌++◌, if◌then◌else◌, refl, sym, ap, ◌∙◌, ⊎_elim, encode_utf8, encode_utf8_all, append-nil, arith}
+use Rattle.std.proofs.Common.{◌≡◌, ℕ, ◌/◌, ◌%◌, ◌<◌, ◌≤◌, Bool, true, false, not, List, [], ◌∷◌, ◌++◌, if◌then◌else◌, sym, ap, ◌∙◌, ⊎_elim, encode_utf8, encode_utf8_all, arith}
 use Rattle.std.specs.Char.{IsScalar}
 use Rattle.std.specs.Fmt.{digit_glyph}
 use Rattle.std.specs.List.{AllByRecursion, flat_map}
 use Rattle.std.specs.Str.{chars, IsUtf8, all_scalars}
-use Rattle.std.proofs.lemmas.Bool.{agree_below, agree_below_at, and_parts, cases_Bool, cases_lt, cond-true, cond-false, cond_both, lt-ltb, le-ltb}
+use Rattle.std.proofs.lemmas.Bool.{and_parts, cases_Bool, cases_lt, cond-true, cond-false}
 use Rattle.std.proofs.lemmas.Bool.Decides.{nat_tests}
 use Rattle.std.proofs.lemmas.Str.{chars-append, chars-IsAscii, encode_ascii, encodes-chars, scalars-chars}
 use lib.Utf8.{encode, scalar_cases}
@@ -13,7 +13,7 @@ use Rattle.percent_encoding.specs.AsciiSet.{contains, should_percent_encode}
 use Rattle.percent_encoding.specs.Percent.{percent_encode, percent_encode_byte}
 use Rattle.percent_encoding.proofs.AsciiSetLemmas.{kept_from_outside, escaped_from_inside}
 use Rattle.percent_encoding.proofs.PercentLemmas.{percent_encode-nil, percent_encode-append, percent_encode_escaped, percent_encode_kept, IsAscii-percent_encode}
-use Rattle.escapers.specs.PercentEncoded.{percent_sign, upper_digit, encoded_byte, percent_encoded}
+use Rattle.escapers.specs.PercentEncoded.{percent_sign, encoded_byte, percent_encoded}
 
 -- a byte of a character above ASCII
 abbrev pub IsHighByte : ℕ → Type 0

@@ -8,6 +8,9 @@ use Rattle.std.specs.List.{list_any, starts_with}
 use Rattle.escapers.specs.Lacks.{lacks}
 use Rattle.escapers.specs.UriNormal.{ampersand}
 
+abbrev pub html_markup : List ℕ
+html_markup = 0x0 ∷ codes "<>\"'\r"
+
 abbrev pub html_references : List (List ℕ)
 html_references =
     codes "&amp;" ∷ codes "&lt;" ∷ codes "&gt;" ∷ codes "&quot;" ∷ codes "&#39;" ∷ codes "&#13;" ∷ []
@@ -16,5 +19,5 @@ abbrev pub begins_reference : List ℕ → Bool
 begins_reference text = list_any (λ reference. starts_with nat_eq text reference) html_references
 
 pub record IsHtmlText (text : List ℕ) : Type 0 where
-  pub no_markup : IsTrue (lacks (0x0 ∷ codes "<>\"'\r") text)
+  pub no_markup : IsTrue (lacks html_markup text)
   pub references : (before after : List ℕ) → text ≡ before ++ ampersand ∷ after → IsTrue (begins_reference (ampersand ∷ after))

@@ -2,7 +2,7 @@
 -- spaces, so that it touches no word before or after it (ECMA-262, "String Literals").
 --
 -- The string `it's` becomes `'it\x27s'`, and the int -3 becomes ` -3 `.
-use Rattle.std.specs.Prelude.{ℕ, List, [], ◌∷◌, ◌++◌, codes}
+use Rattle.std.specs.Prelude.{ℕ, List, ◌++◌, codes}
 use Rattle.soy_base.specs.declared.place.ValueClass.{ValueClass}
 use Rattle.soy_base.specs.declared.place.ValueClass.TheVariants as class
 use Rattle.esc_table.specs.EscapedText.{escaped_text}

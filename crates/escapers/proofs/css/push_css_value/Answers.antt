@@ -1,6 +1,5 @@
 use Rattle.std.proofs.Common.{◌∙◌, sym}
 use Rattle.std.specs.Str.{chars}
-use Rattle.escapers.specs.CssValue.{is_css_value}
 use Rattle.escapers.proofs.css.push_css_value.Goals as goal
 
 pub returns-else-is_css_value : goal.returns-else-is_css_value
