@@ -46,7 +46,8 @@ begins_decides (c ∷ front) (d ∷ bs) are =
     let own = (lower_is c both.0).0 in
     let rest = begins_decides front bs both.1 in (
       λ holds.
-          let parts = and_parts _ _ holds in
+          let parts =
+          and_parts (eqb (to_ascii_lowercase d) c) (begins_in_any_case front bs) holds in
           cc (eqb-true (to_ascii_lowercase d) c parts.0, own, rest.0 parts.1),
       λ same.
           let first : to_ascii_lowercase d ≡ to_ascii_lowercase c = cc in

@@ -21,3 +21,6 @@ mod uri;
 
 pub use escaper::{Escaper, escaper_for};
 pub use escaping::escape;
+
+#[cfg(test)]
+mod tests;

@@ -1,0 +1,93 @@
+#!/usr/bin/env bash
+# Times `escape` by each escaper on 1 MiB of plain letters, of text with one special character in twenty, and of specials
+# alone, and a copy of the same text beside it. Prints MiB of the text a second. Run it at any place: `bench/escapers.sh`.
+set -eu
+. "$(dirname "$0")/setup.sh"
+
+begin bench_escapers soy_base esc_table escapers <<'PROGRAM'
+#![tactic(auto)]
+
+use escapers::{Escaper, escape, escaper_for};
+use soy_base::{Dir, Place, ValueClass};
+use std::alloc::{AllocError, Global};
+use std::io;
+use std::rt::Clock;
+use std::time::Instant;
+
+const MIB: u32 = 1_048_576;
+
+fn repeated(alloc: Global, piece: &str) -> Result<String, AllocError> {
+    let mut text = String::new(alloc);
+    for _ in 0..MIB {
+        if text.len() >= MIB as usize {
+            break;
+        }
+        text.push_str(piece)?;
+    }
+    Ok(text)
+}
+
+/// The length of the text as it is escaped at a place; 0 where none is made there.
+fn escaped_len(alloc: Global, place: Place, text: &str) -> usize {
+    let Some(how) = escaper_for(place, ValueClass::Text) else {
+        return 0;
+    };
+    match how {
+        Escaper::Wrap | Escaper::AsIs => 0,
+        _ => match escape(alloc, how, ValueClass::Text, text, Dir::Ltr) {
+            Ok(out) => out.len(),
+            Err(_) => 0,
+        },
+    }
+}
+
+fn copied_len(alloc: Global, text: &str) -> usize {
+    match String::from_str(alloc, text) {
+        Ok(out) => out.len(),
+        Err(_) => 0,
+    }
+}
+
+/// The least time of nine runs.
+fn report<F: FnMut(&str) -> usize>(rt: &(impl Print + Clock), name: &str, of: &str, text: &str, mut run: F) -> io::Result<()>
+    requires { F.IsAlwaysCallable run }
+{
+    let mut best = u128::MAX;
+    let mut length = 0;
+    for _ in 0..9u32 {
+        let start = Instant::now(rt)?;
+        length = run(text);
+        best = best.min(start.elapsed(rt)?.as_nanos());
+    }
+    let rate = 1_000_000_000u128 * text.len() as u128 / best.max(1) / MIB as u128;
+    println!(rt; "{name}, {of}: {rate} MiB a second ({length} bytes)")
+}
+
+fn main(rt: HostRuntime) -> io::Result<()> {
+    let alloc = rt.alloc();
+    for (of, piece) in [
+        ("plain letters", "a"),
+        ("one special in twenty", "Ten words & no more."),
+        ("specials alone", "<&>\"'"),
+    ] {
+        let text = repeated(alloc, piece)?;
+        report(&rt, "a copy", of, text.as_str(), |text| copied_len(alloc, text))?;
+        for (name, place) in [
+            ("Html", Place::Attr),
+            ("UriStart", Place::UriStart),
+            ("UriNormal", Place::UriPath),
+            ("UriComponent", Place::UriQuery),
+            ("JsString", Place::JsSingle),
+            ("JsValue", Place::JsValue),
+            ("CssString", Place::CssString),
+            ("CssValue", Place::CssValue),
+            ("Plain", Place::Plain),
+        ] {
+            report(&rt, name, of, text.as_str(), |text| escaped_len(alloc, place, text))?;
+        }
+    }
+    Ok(())
+}
+PROGRAM
+
+measure bench_escapers
