@@ -1,5 +1,5 @@
-mod Ampersands
 mod ComponentTexts
+mod CutAtCharacter
 mod HtmlTexts
 mod KeptByRows
 mod LackedByRows

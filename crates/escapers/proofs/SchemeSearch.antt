@@ -1,24 +1,25 @@
--- A text's first character decides whether it has a scheme, or the rest does.
-use Rattle.std.proofs.Common.{◌≡◌, ℕ, true, false, not, ◌&&◌, ◌||◌, eqb, List, ◌++◌, length, ap, ◌∙◌, encode_utf8}
-use Rattle.std.specs.Str.{chars, IsUtf8}
-use Rattle.std.proofs.lemmas.List.{nil_from_length}
-use Rattle.std.proofs.lemmas.Str.{chars-nil, chars_past_char}
+-- A text has a scheme where nothing before its first `:` ends one.
+use Rattle.std.proofs.Common.{◌≡◌, ℕ, Bool, true, false, not, ◌&&◌, ◌||◌, eqb, List, [], ◌∷◌, ◌++◌, refl, ap, ◌∙◌}
+use Rattle.std.specs.List.{list_any}
+use Rattle.std.proofs.lemmas.Bool.{and_parts, and_right, not-true, or_parts}
+use Rattle.escapers.specs.Lacks.{lacks}
 use Rattle.escapers.specs.UriStart.{colon, ends_scheme, has_scheme}
 
-module _ (bs rest : List ℕ) (c : ℕ) (utf8 : IsUtf8 bs) (split : bs ≡ encode_utf8 c ++ rest) where
-  by_first : has_scheme (chars bs) ≡ (eqb c colon || (not (ends_scheme c) && has_scheme (chars rest)))
-  by_first = ap has_scheme (chars_past_char bs rest c utf8 split)
+not_colon : (c : ℕ) (text : List ℕ) → lacks (colon ∷ []) (c ∷ text) ≡ true → eqb c colon ≡ false
+not_colon c text none = (or_parts _ _ (not-true _ (and_parts _ _ none).0)).0
 
-  pub at_colon : c ≡ colon → has_scheme (chars bs) ≡ true
-  at_colon is = by_first ∙ ap (λ d. eqb d colon || (not (ends_scheme c) && has_scheme (chars rest))) is
+pub no_colon : (text : List ℕ) → lacks (colon ∷ []) text ≡ true → has_scheme text ≡ false
+no_colon [] none = refl
+no_colon (c ∷ text) none =
+    ap (λ t. t || (not (ends_scheme c) && has_scheme text)) (not_colon c text none)
+    ∙ and_right (not (ends_scheme c)) (has_scheme text) (no_colon text (and_parts _ _ none).1)
 
-  pub at_end_of_scheme : eqb c colon ≡ false → ends_scheme c ≡ true → has_scheme (chars bs) ≡ false
-  at_end_of_scheme other ends =
-      by_first ∙ ap (λ t. t || (not (ends_scheme c) && has_scheme (chars rest))) other ∙ ap (λ t. not t && has_scheme (chars rest)) ends
+not_either : (a b : Bool) → (not a && not b) ≡ not (a || b)
+not_either true b = refl
+not_either false b = refl
 
-  pub past_other : eqb c colon ≡ false → ends_scheme c ≡ false → has_scheme (chars bs) ≡ has_scheme (chars rest)
-  past_other other goes_on =
-      by_first ∙ ap (λ t. t || (not (ends_scheme c) && has_scheme (chars rest))) other ∙ ap (λ t. not t && has_scheme (chars rest)) goes_on
-
-pub at_end : (bs : List ℕ) → length bs ≡ 0 → has_scheme (chars bs) ≡ false
-at_end bs none = ap has_scheme (ap chars (nil_from_length bs none) ∙ chars-nil)
+pub before_colon : (front back : List ℕ) → lacks (colon ∷ []) front ≡ true → has_scheme (front ++ colon ∷ back) ≡ not (list_any ends_scheme front)
+before_colon [] back none = refl
+before_colon (c ∷ front) back none =
+    ap (λ t. t || (not (ends_scheme c) && has_scheme (front ++ colon ∷ back))) (not_colon c front none)
+    ∙ ap (λ t. not (ends_scheme c) && t) (before_colon front back (and_parts _ _ none).1) ∙ not_either (ends_scheme c) (list_any ends_scheme front)

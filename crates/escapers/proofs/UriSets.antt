@@ -1,12 +1,14 @@
 -- The sets of bytes that are encoded, against the characters that stand for themselves.
-use Rattle.std.proofs.Common.{◌≡◌, ℕ, ◌≤◌, true, false, not, refl, arith}
-use Rattle.std.proofs.lemmas.Bool.{agree_below, agree_below_at}
+use Rattle.std.proofs.Common.{◌≡◌, ℕ, ◌≤◌, true, false, not, eqb, List, [], ◌∷◌, ◌++◌, refl, sym, ap, ◌∙◌, arith}
+use Rattle.std.specs.List.{flat_map}
+use Rattle.std.proofs.lemmas.Bool.{agree_below, agree_below_at, and_parts, cond-false, not-true, or_parts}
 use Rattle.std.proofs.lemmas.Bool.Decides.{nat_tests}
 use Rattle.percent_encoding.specs.AsciiSet.{contains}
 use Rattle.escapers.specs.declared.uri.TheConstants.{OUTSIDE_COMPONENT, OUTSIDE_URI}
+use Rattle.escapers.specs.Lacks.{lacks}
 use Rattle.escapers.specs.UriComponent.{is_unreserved}
-use Rattle.escapers.specs.UriNormal.{is_normal}
-use Rattle.escapers.proofs.PercentBytes.{IsOutside}
+use Rattle.escapers.specs.UriNormal.{ampersand, is_normal, normal_character, uri_normal}
+use Rattle.escapers.proofs.PercentBytes.{IsOutside, stands_for}
 
 component_checked : agree_below (contains OUTSIDE_COMPONENT) (λ b. not (is_unreserved b)) 128 ≡ true
 component_checked = refl
@@ -31,3 +33,12 @@ outside_uri = record {
   ascii = λ b low. agree_below_at (contains OUTSIDE_URI) (λ b. not (is_normal b)) 128 b normal_checked low;
   above = normal_ascii;
 }
+
+-- where there is no `&`, the others stand for what they do
+pub normal_without : (cs : List ℕ) → lacks (ampersand ∷ []) cs ≡ true → flat_map (stands_for is_normal) cs ≡ uri_normal cs
+normal_without [] none = refl
+normal_without (c ∷ cs) none =
+    let parts = and_parts _ _ none in
+    let other = (or_parts _ _ (not-true _ parts.0)).0 in
+    ap (λ l. l ++ flat_map (stands_for is_normal) cs) (sym (cond-false (eqb c ampersand) _ (stands_for is_normal c) other))
+    ∙ ap (λ l. normal_character c ++ l) (normal_without cs parts.1)

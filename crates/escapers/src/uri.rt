@@ -1,6 +1,6 @@
 //! Texts as URIs and parts of URIs.
-ghost use Rattle.std.specs.Prelude.{◌≡◌, ◌++◌, ◌∷◌, [], IsTrue, OnOk, MatchOption};
-ghost use Rattle.std.specs.List.{list_all};
+ghost use Rattle.std.specs.Prelude.{◌≡◌, ◌<◌, ◌++◌, ◌∷◌, [], IsTrue, OnOk, MatchOption};
+ghost use Rattle.std.specs.List.{list_all, list_any};
 ghost use Rattle.std.specs.Str.{chars, IsUtf8};
 ghost use Rattle.std.specs.String.{string_bytes};
 ghost use Rattle.escapers.specs.Lacks.{lacks};
@@ -54,7 +54,7 @@ pub fn push_uri_normal(text: &str, out: &mut String) -> Result<(), OutOfMemory>
     ensures { OnOk result (chars (string_bytes out.new) ≡ chars (string_bytes out.old) ++ uri_normal (chars text.now)) }
 {
     let mut rest = text;
-    while let Some((part, after)) = around_ampersand(rest) {
+    while let Some((part, after)) = around(rest, '&') {
         push_without_ampersand(part, out)?;
         push_text("&amp;", out)?;
         rest = after;
@@ -87,12 +87,13 @@ fn push_without_ampersand(text: &str, out: &mut String) -> Result<(), OutOfMemor
     Ok(())
 }
 
-// What stands before the first `&` and after it.
-fn around_ampersand(text: &str) -> Option<(&str, &str)>
-    ensures { MatchOption result (IsTrue (lacks (ampersand ∷ []) (chars text.now)))
-        (λ parts. IsTrue (lacks (ampersand ∷ []) (chars parts.0.now)) × (chars text.now ≡ chars parts.0.now ++ ampersand ∷ chars parts.1.now) × IsUtf8 parts.1.now) }
+// What stands before the first such character of the text, and after it.
+fn around(text: &str, c: char) -> Option<(&str, &str)>
+    requires { c < 128 }
+    ensures { MatchOption result (IsTrue (lacks (c ∷ []) (chars text.now)))
+        (λ parts. IsTrue (lacks (c ∷ []) (chars parts.0.now)) × (chars text.now ≡ chars parts.0.now ++ c ∷ chars parts.1.now) × IsUtf8 parts.1.now) }
 {
-    text.split_once('&')
+    text.split_once(c)
 }
 
 fn has_allowed_scheme(text: &str) -> bool
@@ -118,15 +119,17 @@ fn begins_in_any_case(text: &str, front: &str) -> bool
 fn has_scheme(text: &str) -> bool
     ensures { result ≡ has_scheme (chars text.now) }
 {
-    for c in text.chars() {
-        if c == ':' {
-            return true;
-        }
-        if ends_scheme(c) {
-            return false;
-        }
+    match around(text, ':') {
+        Some((before, _)) => !ends_before(before),
+        None => false,
     }
-    false
+}
+
+// Whether a scheme could only end before the text does.
+fn ends_before(text: &str) -> bool
+    ensures { result ≡ list_any ends_scheme (chars text.now) }
+{
+    text.chars().any(ends_scheme)
 }
 
 fn ends_scheme(c: char) -> bool

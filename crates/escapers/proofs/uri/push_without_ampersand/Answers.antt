@@ -2,9 +2,8 @@ use Rattle.std.proofs.Common.{◌++◌, ap, ◌∙◌}
 use Rattle.std.specs.Str.{chars}
 use Rattle.std.specs.String.{string_bytes}
 use Rattle.std.proofs.lemmas.Str.{IsUtf8-string_bytes}
-use Rattle.escapers.proofs.Ampersands.{normal_without}
 use Rattle.escapers.proofs.PercentBytes.{pushed_encoded}
-use Rattle.escapers.proofs.UriSets.{outside_uri}
+use Rattle.escapers.proofs.UriSets.{normal_without, outside_uri}
 use Rattle.escapers.proofs.uri.push_without_ampersand.Goals as goal
 
 pub returns : goal.returns
