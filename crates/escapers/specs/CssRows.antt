@@ -1,9 +1,10 @@
--- The rows of a string in a style, each a character and the escape that stands for it: a backslash, the character's
--- number in lower hexadecimal digits, and a space, which ends the number and is no part of the string (CSS Syntax
--- Level 3, "Consume an escaped code point"). U+0000, which no style can name, becomes U+FFFD.
+-- The rows of a string in a style, each a character and the escape that stands for it: a backslash,
+-- the character's number in lower hexadecimal digits, and a space, which ends the number and is no
+-- part of the string (CSS Syntax Level 3, "Consume an escaped code point"). U+0000, which no style
+-- can name, becomes U+FFFD.
 --
--- They are the control characters, what ends or begins a string, a value, a block or a comment, what HTML reads, and
--- the line ends of Unicode.
+-- They are the control characters, what ends or begins a string, a value, a block or a comment,
+-- what HTML reads, and the line ends of Unicode.
 --
 -- The text `a"b` becomes `a\22 b`.
 use Rattle.std.specs.Prelude.{ℕ, List, [], ◌∷◌, codes}

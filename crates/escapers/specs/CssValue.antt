@@ -1,6 +1,7 @@
--- A value of a style: a name, a number or a color passes as it is, and anything else is replaced whole by a name that
--- no style knows. What passes is not empty, and each of its characters is a letter, a digit or one of `.`, `%`, `#`, `_` and `-`
--- (a part of what CSS Syntax Level 3, "Tokenization", reads as an identifier, a number, a percentage or a hash).
+-- A value of a style: a name, a number or a color passes as it is, and anything else is replaced
+-- whole by a name that no style knows. What passes is not empty, and each of its characters is a
+-- letter, a digit or one of `.`, `%`, `#`, `_` and `-` (a part of what CSS Syntax Level 3,
+-- "Tokenization", reads as an identifier, a number, a percentage or a hash).
 --
 -- The text `red` stays, and `red;x` becomes `zSoyz`.
 use Rattle.std.specs.Prelude.{ℕ, List, [], ◌∷◌, Bool, false, ◌||◌, if◌then◌else◌, codes}

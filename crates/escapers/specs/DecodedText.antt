@@ -1,5 +1,6 @@
--- A percent-encoded text read back: each `%` with the two digits after it is the byte that they name, every other
--- character of ASCII is its own byte, and the bytes are a text in UTF-8 (RFC 3986, section 2.1).
+-- A percent-encoded text read back: each `%` with the two digits after it is the byte that they
+-- name, every other character of ASCII is its own byte, and the bytes are a text in UTF-8 (RFC
+-- 3986, section 2.1).
 --
 -- `a%C3%A9` is read back as `aé`.
 use Rattle.std.specs.Prelude.{ℕ, ◌+◌, ◌*◌, ◌-◌, List, [], ◌∷◌, ◌==◌, if◌then◌else◌, nat_lt}

@@ -1,8 +1,8 @@
 -- Which escaper a place has for a class of value, and none where the place does not take the class.
 --
--- What isn't markup, a string, an int, a bool or null, has one escaper at each place but inside a tag, where none may
--- stand. A block of HTML stands between tags alone, and a block of attributes inside a tag alone; either is printed as
--- it is.
+-- What isn't markup (a string, an int, a bool or null) has one escaper at each place but inside a
+-- tag, where none may stand. A block of HTML stands between tags alone, and a block of attributes
+-- inside a tag alone; either is printed as it is.
 --
 -- A string in the query of a URI has UriComponent, and a block of HTML there has none.
 use Rattle.std.specs.Prelude.{◌≡◌, Option, None, Some}

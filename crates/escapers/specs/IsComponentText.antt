@@ -1,5 +1,5 @@
--- A text of unreserved characters and of bytes that are percent-encoded in upper hexadecimal digits, and of nothing else
--- (RFC 3986, sections 2.1 and 2.3).
+-- A text of unreserved characters and of bytes that are percent-encoded in upper hexadecimal
+-- digits, and of nothing else (RFC 3986, sections 2.1 and 2.3).
 --
 -- `a%26b` is such a text, and `a%2x`, `a%c3` and `a&b` are not.
 use Rattle.std.specs.Prelude.{ℕ, List, [], ◌∷◌, Bool, ◌||◌, IsTrue}
@@ -13,5 +13,7 @@ is_upper_digit c = is_in_range 0x30 0x39 c || is_in_range 0x41 0x46 c
 
 pub data IsComponentText : List ℕ → Type 0 where
   empty : IsComponentText []
-  unreserved : (c : ℕ) (rest : List ℕ) → IsTrue (is_unreserved c) → IsComponentText rest → IsComponentText (c ∷ rest)
-  encoded : (high low : ℕ) (rest : List ℕ) → IsTrue (is_upper_digit high) → IsTrue (is_upper_digit low) → IsComponentText rest → IsComponentText (percent_sign ∷ high ∷ low ∷ rest)
+  unreserved : (c : ℕ) (rest : List ℕ) → IsTrue (is_unreserved c)
+      → IsComponentText rest → IsComponentText (c ∷ rest)
+  encoded : (high low : ℕ) (rest : List ℕ) → IsTrue (is_upper_digit high) → IsTrue (is_upper_digit low)
+      → IsComponentText rest → IsComponentText (percent_sign ∷ high ∷ low ∷ rest)

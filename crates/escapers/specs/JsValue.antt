@@ -1,5 +1,6 @@
--- A value of a script: a string as a string literal in single quotes, and an int, a bool or null as it is between two
--- spaces, so that it touches no word before or after it (ECMA-262, "String Literals").
+-- A value of a script: a string as a string literal in single quotes, and an int, a bool or null as
+-- it is between two spaces, so that it touches no word before or after it (ECMA-262, "String
+-- Literals").
 --
 -- The string `it's` becomes `'it\x27s'`, and the int -3 becomes ` -3 `.
 use Rattle.std.specs.Prelude.{ℕ, List, ◌++◌, codes}

@@ -1,9 +1,11 @@
+pub mod Adds
 pub mod CssRows
 pub mod CssValue
 pub mod DecodedText
 pub mod Esc
 pub mod EscaperFor
 pub mod IsComponentText
+pub mod IsCssStringText
 pub mod IsHtmlText
 pub mod IsJsStringText
 pub mod IsUriStartText

@@ -1,4 +1,5 @@
--- A character percent-encoded: its bytes in UTF-8, each as `%` and two upper hexadecimal digits (RFC 3986, section 2.1).
+-- A character percent-encoded: its bytes in UTF-8, each as `%` and two upper hexadecimal digits
+-- (RFC 3986, section 2.1).
 --
 -- The letter `é` becomes `%C3%A9`.
 use Rattle.std.specs.Prelude.{ℕ, ◌+◌, ◌/◌, ◌%◌, List, [], ◌∷◌, if◌then◌else◌, nat_lt, encode_utf8}

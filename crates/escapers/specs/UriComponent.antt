@@ -1,5 +1,6 @@
--- A text as one part of a URI's query or fragment: the unreserved characters stand for themselves, and every other one
--- is percent-encoded (RFC 3986, section 2.3). So nothing in it ends the part or separates it from another.
+-- A text as one part of a URI's query or fragment: the unreserved characters stand for themselves,
+-- and every other one is percent-encoded (RFC 3986, section 2.3). So nothing in it ends the part or
+-- separates it from another.
 --
 -- The text `a&b c` becomes `a%26b%20c`.
 use Rattle.std.specs.Prelude.{ℕ, List, [], ◌∷◌, Bool, ◌||◌, ◌==◌, if◌then◌else◌, codes}

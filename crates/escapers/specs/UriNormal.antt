@@ -1,8 +1,9 @@
--- A text as a whole URI or a path of one, in an attribute's value: what may stand in a URI stands for itself, `&` becomes
--- a character reference, and every other character is percent-encoded.
+-- A text as a whole URI or a path of one, in an attribute's value: what may stand in a URI stands
+-- for itself, `&` becomes a character reference, and every other character is percent-encoded.
 --
--- Of RFC 3986 (section 2.2 and 2.3) all unreserved characters stand for themselves, and all reserved ones but the
--- quote, the parentheses and `&`; so does `%`, since the text may be encoded already.
+-- Of RFC 3986 (section 2.2 and 2.3) all unreserved characters stand for themselves, and all
+-- reserved ones but the quote, the parentheses and `&`; so does `%`, since the text may be encoded
+-- already.
 --
 -- The text `/a b?c&d` becomes `/a%20b?c&amp;d`.
 use Rattle.std.specs.Prelude.{ℕ, List, [], ◌∷◌, Bool, ◌||◌, ◌==◌, if◌then◌else◌, codes}
@@ -18,7 +19,8 @@ abbrev pub is_normal : ℕ → Bool
 is_normal c = is_unreserved c || is_one_of (codes ":/?#[]@!$*+,;=%") c
 
 abbrev pub normal_character : ℕ → List ℕ
-normal_character c = if c == ampersand then codes "&amp;" else (if is_normal c then c ∷ [] else percent_encoded c)
+normal_character c =
+    if c == ampersand then codes "&amp;" else (if is_normal c then c ∷ [] else percent_encoded c)
 
 abbrev pub uri_normal : List ℕ → List ℕ
 uri_normal text = flat_map normal_character text

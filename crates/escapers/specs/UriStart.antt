@@ -1,10 +1,12 @@
--- A text as the start of a URI: it may have one of four schemes, in any ASCII case, or none, and is then escaped as
--- UriNormal. A text with any other scheme, as `javascript:`, is replaced whole by a URI that leads nowhere.
+-- A text as the start of a URI: it may have one of four schemes, in any ASCII case, or none, and is
+-- then escaped as UriNormal. A text with any other scheme, as `javascript:`, is replaced whole by a
+-- URI that leads nowhere.
 --
--- A scheme is what stands before a `:` that comes before the first `/`, `?`, `#` and `&` (RFC 3986, sections 3.1 and 4.2).
--- The `&` is there since a browser reads the text after its character references.
+-- A scheme is what stands before a `:` that comes before the first `/`, `?` and `#`, and before the
+-- first `&`, which no scheme has (RFC 3986, sections 3.1 and 4.2).
 --
--- The text `HTTP:x` has an allowed scheme, `a/b:c` has none, and `javascript:x` becomes `about:invalid#zSoyz`.
+-- The text `HTTP:x` has an allowed scheme, `a/b:c` has none, and `javascript:x` becomes
+-- `about:invalid#zSoyz`.
 use Rattle.std.specs.Prelude.{ℕ, List, [], ◌∷◌, Bool, true, false, not, ◌&&◌, ◌||◌, ◌==◌, if◌then◌else◌, codes}
 use Rattle.std.specs.Char.{is_ascii_lowercase, to_ascii_lowercase}
 use Rattle.std.specs.List.{list_any}
@@ -25,11 +27,13 @@ is_scheme_character c = is_ascii_lowercase c || c == colon
 abbrev pub begins_in_any_case : List ℕ → List ℕ → Bool
 begins_in_any_case [] text = true
 begins_in_any_case (c ∷ front) [] = false
-begins_in_any_case (c ∷ front) (d ∷ text) = to_ascii_lowercase d == c && begins_in_any_case front text
+begins_in_any_case (c ∷ front) (d ∷ text) =
+    to_ascii_lowercase d == c && begins_in_any_case front text
 
 abbrev pub has_allowed_scheme : List ℕ → Bool
 has_allowed_scheme text = list_any (λ scheme. begins_in_any_case scheme text) allowed_schemes
 
+-- no scheme goes past such a character
 abbrev pub ends_scheme : ℕ → Bool
 ends_scheme c = is_one_of (codes "/?#&") c
 

@@ -1,9 +1,9 @@
 //! Texts as strings and values of a style.
-ghost use Rattle.std.specs.Prelude.{◌≡◌, ◌++◌, OnOk};
+ghost use Rattle.std.specs.Prelude.{◌≡◌, OnOk};
 ghost use Rattle.std.specs.List.{list_all};
 ghost use Rattle.std.specs.Str.{chars};
-ghost use Rattle.std.specs.String.{string_bytes};
 ghost use Rattle.esc_table.specs.EscapedText.{escaped_text};
+ghost use Rattle.escapers.specs.Adds.{Adds};
 ghost use Rattle.escapers.specs.CssRows.{css_rows};
 ghost use Rattle.escapers.specs.CssValue.{css_value, is_css_value, is_value_character};
 
@@ -14,14 +14,14 @@ use std::alloc::Global;
 
 /// Adds the text as a part of a string.
 pub fn push_css_string(alloc: Global, text: &str, out: &mut String) -> Result<(), OutOfMemory>
-    ensures { OnOk result (chars (string_bytes out.new) ≡ chars (string_bytes out.old) ++ escaped_text css_rows (chars text.now)) }
+    ensures { OnOk result (Adds out.old out.new (escaped_text css_rows (chars text.now))) }
 {
     push_escaped(alloc, &css_table(), text, out)
 }
 
 /// Adds the text as a whole value, or a name that no style knows in its place.
 pub fn push_css_value(text: &str, out: &mut String) -> Result<(), OutOfMemory>
-    ensures { OnOk result (chars (string_bytes out.new) ≡ chars (string_bytes out.old) ++ css_value (chars text.now)) }
+    ensures { OnOk result (Adds out.old out.new (css_value (chars text.now))) }
 {
     if is_css_value(text) {
         push_text(text, out)

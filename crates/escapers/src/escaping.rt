@@ -1,6 +1,7 @@
-ghost use Rattle.std.specs.Prelude.{◌≡◌, ◌≢◌, ◌++◌, Some, IfOk, OnOk, option_map, encode_utf8_all};
+ghost use Rattle.std.specs.Prelude.{◌≡◌, ◌≢◌, Some, IfOk, OnOk, IsSomeAnd, option_map, encode_utf8_all};
 ghost use Rattle.std.specs.Str.{chars};
 ghost use Rattle.std.specs.String.{string_bytes};
+ghost use Rattle.escapers.specs.Adds.{Adds};
 ghost use Rattle.escapers.specs.Esc.{esc};
 ghost use Rattle.escapers.specs.EscaperFor.{IsEscaperOf};
 
@@ -26,8 +27,10 @@ pub fn escape(
     requires not_wrapped { how ≢ Escaper.Wrap }
     requires not_as_is { how ≢ Escaper.AsIs }
     requires of_class { IsEscaperOf how class }
-    ensures escaped { IfOk result (λ out. esc how class (chars text.now) ≡ Some (chars (string_bytes out))) }
-    ensures bytes { IfOk result (λ out. option_map encode_utf8_all (esc how class (chars text.now)) ≡ Some (string_bytes out)) }
+    ensures escaped { IfOk result (λ out. esc how class (chars text.now)
+        ≡ Some (chars (string_bytes out))) }
+    ensures bytes { IfOk result (λ out. option_map encode_utf8_all (esc how class (chars text.now))
+        ≡ Some (string_bytes out)) }
 {
     let mut out = String::new(alloc);
     push(alloc, how, class, text, &mut out)?;
@@ -43,7 +46,7 @@ fn push(
 ) -> Result<(), OutOfMemory>
     requires not_wrapped { how ≢ Escaper.Wrap }
     requires not_as_is { how ≢ Escaper.AsIs }
-    ensures { OnOk result (option_map (λ more. chars (string_bytes out.old) ++ more) (esc how class (chars text.now)) ≡ Some (chars (string_bytes out.new))) }
+    ensures { OnOk result (IsSomeAnd (esc how class (chars text.now)) (Adds out.old out.new)) }
 {
     match how {
         Escaper::Html => push_escaped(alloc, &html(), text, out),

@@ -1,8 +1,8 @@
 //! Texts as string literals and values of a script.
-ghost use Rattle.std.specs.Prelude.{◌≡◌, ◌++◌, OnOk};
+ghost use Rattle.std.specs.Prelude.{◌≡◌, OnOk};
 ghost use Rattle.std.specs.Str.{chars};
-ghost use Rattle.std.specs.String.{string_bytes};
 ghost use Rattle.esc_table.specs.EscapedText.{escaped_text};
+ghost use Rattle.escapers.specs.Adds.{Adds};
 ghost use Rattle.escapers.specs.JsRows.{js_rows};
 ghost use Rattle.escapers.specs.JsValue.{js_literal, js_value, js_word};
 
@@ -13,7 +13,7 @@ use std::alloc::Global;
 
 /// Adds the text as a part of a string literal.
 pub fn push_js_string(alloc: Global, text: &str, out: &mut String) -> Result<(), OutOfMemory>
-    ensures { OnOk result (chars (string_bytes out.new) ≡ chars (string_bytes out.old) ++ escaped_text js_rows (chars text.now)) }
+    ensures { OnOk result (Adds out.old out.new (escaped_text js_rows (chars text.now))) }
 {
     push_escaped(alloc, &js_table(), text, out)
 }
@@ -25,7 +25,7 @@ pub fn push_js_value(
     text: &str,
     out: &mut String,
 ) -> Result<(), OutOfMemory>
-    ensures { OnOk result (chars (string_bytes out.new) ≡ chars (string_bytes out.old) ++ js_value class (chars text.now)) }
+    ensures { OnOk result (Adds out.old out.new (js_value class (chars text.now))) }
 {
     match class {
         ValueClass::Text => push_js_literal(alloc, text, out),
@@ -38,7 +38,7 @@ pub fn push_js_value(
 }
 
 fn push_js_literal(alloc: Global, text: &str, out: &mut String) -> Result<(), OutOfMemory>
-    ensures { OnOk result (chars (string_bytes out.new) ≡ chars (string_bytes out.old) ++ js_literal (chars text.now)) }
+    ensures { OnOk result (Adds out.old out.new (js_literal (chars text.now))) }
 {
     push_text("'", out)?;
     push_js_string(alloc, text, out)?;
@@ -46,7 +46,7 @@ fn push_js_literal(alloc: Global, text: &str, out: &mut String) -> Result<(), Ou
 }
 
 fn push_js_word(text: &str, out: &mut String) -> Result<(), OutOfMemory>
-    ensures { OnOk result (chars (string_bytes out.new) ≡ chars (string_bytes out.old) ++ js_word (chars text.now)) }
+    ensures { OnOk result (Adds out.old out.new (js_word (chars text.now))) }
 {
     push_text(" ", out)?;
     push_text(text, out)?;

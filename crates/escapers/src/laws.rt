@@ -4,8 +4,11 @@ ghost use Rattle.std.specs.Prelude.{◌≡◌, ℕ, List, IsTrue};
 ghost use Rattle.std.specs.Str.{all_scalars};
 ghost use Rattle.esc_table.specs.EscapedText.{escaped_text};
 ghost use Rattle.esc_table.specs.HtmlRows.{html_rows};
+ghost use Rattle.escapers.specs.CssRows.{css_rows};
+ghost use Rattle.escapers.specs.CssValue.{css_value, is_css_value};
 ghost use Rattle.escapers.specs.DecodedText.{decoded_text};
 ghost use Rattle.escapers.specs.IsComponentText.{IsComponentText};
+ghost use Rattle.escapers.specs.IsCssStringText.{IsCssStringText};
 ghost use Rattle.escapers.specs.IsHtmlText.{IsHtmlText};
 ghost use Rattle.escapers.specs.IsJsStringText.{IsJsStringText};
 ghost use Rattle.escapers.specs.IsUriStartText.{IsUriStartText};
@@ -23,11 +26,20 @@ pub fn law_js_string_text()
     ensures { (text : List ℕ) → IsJsStringText (escaped_text js_rows text) }
 {}
 
+/// A text escaped for a string of a style ends neither the string nor the style, and what stands for
+/// a value of a style is a value.
+pub fn law_css_texts()
+    ensures strings { (text : List ℕ) → IsCssStringText (escaped_text css_rows text) }
+    ensures values { (text : List ℕ) → IsTrue (is_css_value (css_value text)) }
+{}
+
 /// A text escaped as a part of a URI has unreserved characters and encoded bytes alone, and is
 /// read back as the text that it was.
 pub fn law_uri_component_text()
-    ensures written { (text : List ℕ) → IsTrue (all_scalars text) → IsComponentText (uri_component text) }
-    ensures read_back { (text : List ℕ) → IsTrue (all_scalars text) → decoded_text (uri_component text) ≡ text }
+    ensures written { (text : List ℕ) → IsTrue (all_scalars text)
+        → IsComponentText (uri_component text) }
+    ensures read_back { (text : List ℕ) → IsTrue (all_scalars text)
+        → decoded_text (uri_component text) ≡ text }
 {}
 
 /// A text escaped as the start of a URI has an allowed scheme or none, also as the page has it.

@@ -2,7 +2,7 @@
 ghost use Rattle.std.specs.Prelude.{◌≡◌, ◌<◌, ◌++◌, ◌∷◌, [], IsTrue, OnOk, MatchOption};
 ghost use Rattle.std.specs.List.{list_all, list_any};
 ghost use Rattle.std.specs.Str.{chars, IsUtf8};
-ghost use Rattle.std.specs.String.{string_bytes};
+ghost use Rattle.escapers.specs.Adds.{Adds};
 ghost use Rattle.escapers.specs.Lacks.{lacks};
 ghost use Rattle.escapers.specs.UriComponent.{uri_component};
 ghost use Rattle.escapers.specs.UriNormal.{ampersand, uri_normal};
@@ -43,7 +43,7 @@ const OUTSIDE_URI: AsciiSet = ascii_set!(
 
 /// Adds the text as one part of a query or fragment.
 pub fn push_uri_component(text: &str, out: &mut String) -> Result<(), OutOfMemory>
-    ensures { OnOk result (chars (string_bytes out.new) ≡ chars (string_bytes out.old) ++ uri_component (chars text.now)) }
+    ensures { OnOk result (Adds out.old out.new (uri_component (chars text.now))) }
 {
     utf8_percent_encode(text, OUTSIDE_COMPONENT).append_to(out)?;
     Ok(())
@@ -51,7 +51,7 @@ pub fn push_uri_component(text: &str, out: &mut String) -> Result<(), OutOfMemor
 
 /// Adds the text as a whole URI or a path.
 pub fn push_uri_normal(text: &str, out: &mut String) -> Result<(), OutOfMemory>
-    ensures { OnOk result (chars (string_bytes out.new) ≡ chars (string_bytes out.old) ++ uri_normal (chars text.now)) }
+    ensures { OnOk result (Adds out.old out.new (uri_normal (chars text.now))) }
 {
     let mut rest = text;
     while let Some((part, after)) = around(rest, '&') {
@@ -64,7 +64,7 @@ pub fn push_uri_normal(text: &str, out: &mut String) -> Result<(), OutOfMemory>
 
 /// Adds the text as the start of a URI, or a URI that leads nowhere in its place.
 pub fn push_uri_start(text: &str, out: &mut String) -> Result<(), OutOfMemory>
-    ensures { OnOk result (chars (string_bytes out.new) ≡ chars (string_bytes out.old) ++ uri_start (chars text.now)) }
+    ensures { OnOk result (Adds out.old out.new (uri_start (chars text.now))) }
 {
     if may_start_uri(text) {
         push_uri_normal(text, out)
@@ -81,7 +81,7 @@ fn may_start_uri(text: &str) -> bool
 
 fn push_without_ampersand(text: &str, out: &mut String) -> Result<(), OutOfMemory>
     requires { IsTrue (lacks (ampersand ∷ []) (chars text.now)) }
-    ensures { OnOk result (chars (string_bytes out.new) ≡ chars (string_bytes out.old) ++ uri_normal (chars text.now)) }
+    ensures { OnOk result (Adds out.old out.new (uri_normal (chars text.now))) }
 {
     utf8_percent_encode(text, OUTSIDE_URI).append_to(out)?;
     Ok(())
@@ -91,7 +91,8 @@ fn push_without_ampersand(text: &str, out: &mut String) -> Result<(), OutOfMemor
 fn around(text: &str, c: char) -> Option<(&str, &str)>
     requires { c < 128 }
     ensures { MatchOption result (IsTrue (lacks (c ∷ []) (chars text.now)))
-        (λ parts. IsTrue (lacks (c ∷ []) (chars parts.0.now)) × (chars text.now ≡ chars parts.0.now ++ c ∷ chars parts.1.now) × IsUtf8 parts.1.now) }
+        (λ parts. IsTrue (lacks (c ∷ []) (chars parts.0.now))
+        × (chars text.now ≡ chars parts.0.now ++ c ∷ chars parts.1.now) × IsUtf8 parts.1.now) }
 {
     text.split_once(c)
 }
@@ -120,13 +121,13 @@ fn has_scheme(text: &str) -> bool
     ensures { result ≡ has_scheme (chars text.now) }
 {
     match around(text, ':') {
-        Some((before, _)) => !ends_before(before),
+        Some((before, _)) => !has_scheme_end(before),
         None => false,
     }
 }
 
-// Whether a scheme could only end before the text does.
-fn ends_before(text: &str) -> bool
+// Whether the text has a character that no scheme goes past.
+fn has_scheme_end(text: &str) -> bool
     ensures { result ≡ list_any ends_scheme (chars text.now) }
 {
     text.chars().any(ends_scheme)
