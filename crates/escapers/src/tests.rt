@@ -164,7 +164,7 @@ const URI_START: &[(&str, &str)] = &[
     ("httpx:", "about:invalid#zSoyz"),
     ("ftps:x", "about:invalid#zSoyz"),
     (" http:x", "about:invalid#zSoyz"),
-    ("\u{212a}ttp:x", "about:invalid#zSoyz"),
+    ("http\u{17f}:x", "about:invalid#zSoyz"),
     (":", "about:invalid#zSoyz"),
     ("a/b:c", "a/b:c"),
     ("?:", "?:"),
