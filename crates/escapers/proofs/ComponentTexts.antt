@@ -15,10 +15,12 @@ use Rattle.escapers.proofs.PercentBytes.{IsHighByte, high_bytes, scalar_below}
 abbrev IsByte : ℕ → Type 0
 IsByte b = b < 256
 
+-- bytes above ASCII are bytes
 weaker : (bs : List ℕ) → AllByRecursion IsHighByte bs → AllByRecursion IsByte bs
 weaker [] are = tt
 weaker (b ∷ bs) are = (are.0.1, weaker bs are.1)
 
+-- a scalar value is encoded in bytes
 scalar_bytes : (c : ℕ) → IsScalar c → AllByRecursion IsByte (encode_utf8 c)
 scalar_bytes c is =
     ⊎_elim
@@ -26,6 +28,7 @@ scalar_bytes c is =
     (λ high. weaker (encode_utf8 c) (high_bytes c high (scalar_below c is)))
     (cases_lt c 128)
 
+-- a digit that is written is an upper one, and is read as its number
 digit_is_upper : (n : ℕ) → n < 16 → is_upper_digit (upper_digit n) ≡ true
 digit_is_upper n small = grind (arith, nat_tests)
 
@@ -34,6 +37,7 @@ digit_number-upper_digit n small = grind (arith, nat_tests)
 
 -- ---- what it has
 
+-- encoded bytes before such a text make such a text
 bytes_written : (bs rest : List ℕ) → AllByRecursion IsByte bs → IsComponentText rest → IsComponentText (flat_map encoded_byte bs ++ rest)
 bytes_written [] rest are more = more
 bytes_written (b ∷ bs) rest are more =
@@ -52,6 +56,7 @@ component_written (c ∷ text) are =
 
 -- ---- how it is read back
 
+-- an encoded byte is read back, and all of them are
 byte_decoded : (b : ℕ) (rest : List ℕ) → b < 256 → decoded_bytes (encoded_byte b ++ rest) ≡ b ∷ decoded_bytes rest
 byte_decoded b rest small =
     let high = digit_number-upper_digit (b / 16) (omega arith) in
@@ -64,15 +69,18 @@ bytes_decoded [] rest are = refl
 bytes_decoded (b ∷ bs) rest are =
     byte_decoded b (flat_map encoded_byte bs ++ rest) are.0 ∙ ap (λ l. b ∷ l) (bytes_decoded bs rest are.1)
 
+-- a character that is no `%` is read as itself
 other_decoded : (c : ℕ) (rest : List ℕ) → eqb c percent_sign ≡ false → decoded_bytes (c ∷ rest) ≡ c ∷ decoded_bytes rest
 other_decoded c [] other = refl
 other_decoded c (d ∷ []) other = refl
 other_decoded c (d ∷ e ∷ rest) other =
     cond-false (eqb c percent_sign) ((16 * digit_number d + digit_number e) ∷ decoded_bytes rest) (c ∷ decoded_bytes (d ∷ e ∷ rest)) other
 
+-- an unreserved character is of ASCII, and no `%`
 unreserved_is : (c : ℕ) → is_unreserved c ≡ true → (c < 128) × (eqb c percent_sign ≡ false)
 unreserved_is c passes = grind (arith, nat_tests)
 
+-- what stands for a character is read as its bytes
 character_decoded : (c : ℕ) (rest : List ℕ) → IsScalar c → decoded_bytes (component_character c ++ rest) ≡ encode_utf8 c ++ decoded_bytes rest
 character_decoded c rest is =
     ⊎_elim

@@ -17,9 +17,11 @@ has_references (c ∷ text) = (not (eqb c ampersand) || begins_reference (c ∷ 
 abbrev Holds : List ℕ → Type 0
 Holds text = has_references text ≡ true
 
+-- an `&` has a row
 no_ampersand : (c : ℕ) → row_text html_rows c ≡ None → eqb c ampersand ≡ false
 no_ampersand c none = grind (arith, nat_tests)
 
+-- so a character without one begins no reference
 plain_kept : (c : ℕ) → row_text html_rows c ≡ None → Keeps Holds (c ∷ [])
 plain_kept c none rest holds =
     ap (λ t. (not t || begins_reference (c ∷ rest)) && has_references rest) (no_ampersand c none) ∙ holds
@@ -30,10 +32,12 @@ html_holds =
     escaped_keeps Holds html_rows
     (λ _ h. h, (λ _ h. h, (λ _ h. h, (λ _ h. h, (λ _ h. h, (λ _ h. h, (λ _ h. h, tt))))))) plain_kept refl
 
+-- a reference begins at an `&` in the text
 from_ampersand : (before after : List ℕ) → has_references (before ++ ampersand ∷ after) ≡ true → begins_reference (ampersand ∷ after) ≡ true
 from_ampersand [] after holds = (and_parts _ _ holds).0
 from_ampersand (c ∷ before) after holds = from_ampersand before after (and_parts _ _ holds).1
 
+-- and does in every escaped text
 pub html_references_begin : (text before after : List ℕ) → escaped_text html_rows text ≡ before ++ ampersand ∷ after → begins_reference (ampersand ∷ after) ≡ true
 html_references_begin text before after cut =
     from_ampersand before after (subst (λ l. has_references l ≡ true) cut (html_holds text))

@@ -1,5 +1,5 @@
 -- What holds of each row's text and of each character without a row holds of every text escaped by the rows.
-use Rattle.std.proofs.Common.{◌≡◌, ℕ, true, false, eqb, List, [], ◌∷◌, ◌++◌, None, Some, unwrap_or, refl, sym, ◌∙◌, subst, ⊎_elim}
+use Rattle.std.proofs.Common.{◌≡◌, ℕ, eqb, List, [], ◌∷◌, ◌++◌, None, Some, unwrap_or, refl, sym, ◌∙◌, subst, ⊎_elim}
 use Rattle.std.specs.List.{AllByRecursion}
 use Rattle.std.proofs.lemmas.Bool.{cases_Bool, cond-true, cond-false}
 use Rattle.esc_table.specs.EscapedText.{escaped_character, escaped_text}
@@ -10,6 +10,7 @@ abbrev pub Keeps : (List ℕ → Type 0) → List ℕ → Type 0
 Keeps P piece = (rest : List ℕ) → P rest → P (piece ++ rest)
 
 module _ (P : List ℕ → Type 0) where
+  -- what stands for one character, whether it has a row or not
   row_kept : (rows : List (ℕ × List ℕ)) (c : ℕ) → AllByRecursion (λ row. Keeps P row.1) rows → (row_text rows c ≡ None → Keeps P (c ∷ [])) → Keeps P (escaped_character rows c)
   row_kept [] c each plain = plain refl
   row_kept (row ∷ rows) c each plain =
@@ -20,17 +21,8 @@ module _ (P : List ℕ → Type 0) where
       subst (λ o. Keeps P (unwrap_or o (c ∷ []))) (sym skip) (row_kept rows c each.1 (λ none. plain (skip ∙ none))))
       (cases_Bool (eqb row.0 c))
 
+  -- what stands for a whole text
   pub escaped_keeps : (rows : List (ℕ × List ℕ)) → AllByRecursion (λ row. Keeps P row.1) rows → ((c : ℕ) → row_text rows c ≡ None → Keeps P (c ∷ [])) → P [] → (text : List ℕ) → P (escaped_text rows text)
   escaped_keeps rows each plain empty [] = empty
   escaped_keeps rows each plain empty (c ∷ text) =
       row_kept rows c each (plain c) (escaped_text rows text) (escaped_keeps rows each plain empty text)
-
--- a character without a row is none of the rows' characters
-pub no_row : (row : ℕ × List ℕ) (rows : List (ℕ × List ℕ)) (c : ℕ) → row_text (row ∷ rows) c ≡ None → (eqb row.0 c ≡ false) × (row_text rows c ≡ None)
-no_row row rows c none =
-    ⊎_elim
-    (λ (same : eqb row.0 c ≡ true).
-    let found : Some row.1 ≡ None = sym (cond-true (eqb row.0 c) (Some row.1) (row_text rows c) same) ∙ none in
-    cc)
-    (λ (other : eqb row.0 c ≡ false). (other, sym (cond-false (eqb row.0 c) (Some row.1) (row_text rows c) other) ∙ none))
-    (cases_Bool (eqb row.0 c))

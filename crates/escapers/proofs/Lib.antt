@@ -1,11 +1,11 @@
-mod ComponentTexts
+pub mod ComponentTexts
 mod CutAtCharacter
-mod HtmlTexts
-mod KeptByRows
-mod LackedByRows
+pub mod HtmlTexts
+pub mod KeptByRows
+pub mod LackedByRows
 mod PercentBytes
 mod Pushed
 mod SchemeSearch
 mod Schemes
-mod StartTexts
+pub mod StartTexts
 mod UriSets

@@ -23,6 +23,7 @@ IsHighByte b = (128 ≤ b) × (b < 256)
 pub scalar_below : (c : ℕ) → IsScalar c → c < 1114112
 scalar_below c is = ⊎_elim (λ (h : c < 55296). omega arith) (λ (h : (57344 ≤ c) × (c < 1114112)). h.1) (scalar_cases c is)
 
+-- each byte of a character above ASCII is above it
 pub high_bytes : (c : ℕ) → 128 ≤ c → c < 1114112 → AllByRecursion IsHighByte (encode_utf8 c)
 unfolding encode
 high_bytes c high small = grind (arith, nat_tests)
@@ -57,6 +58,7 @@ pub record IsOutside (set : AsciiSet) (test : ℕ → Bool) : Type 0 where
   pub above : (c : ℕ) → 128 ≤ c → test c ≡ false
 
 module _ (set : AsciiSet) (test : ℕ → Bool) (outside : IsOutside set test) where
+  -- a character of ASCII
   ascii_encoded : (c : ℕ) → c < 128 → percent_encode set (c ∷ []) ≡ stands_for test c
   ascii_encoded c low =
       ⊎_elim
@@ -71,6 +73,7 @@ module _ (set : AsciiSet) (test : ℕ → Bool) (outside : IsOutside set test) w
       ∙ sym (cond-false (test c) (c ∷ []) (percent_encoded c) fails))
       (cases_Bool (test c))
 
+  -- any character
   character_encoded : (c : ℕ) → IsScalar c → percent_encode set (encode_utf8 c) ≡ stands_for test c
   character_encoded c is =
       ⊎_elim
@@ -80,6 +83,7 @@ module _ (set : AsciiSet) (test : ℕ → Bool) (outside : IsOutside set test) w
       ∙ sym (cond-false (test c) (c ∷ []) (percent_encoded c) (outside.above c high)))
       (cases_lt c 128)
 
+  -- a whole text
   text_encoded : (cs : List ℕ) → all_scalars cs ≡ true → percent_encode set (encode_utf8_all cs) ≡ flat_map (stands_for test) cs
   text_encoded [] are = percent_encode-nil set
   text_encoded (c ∷ cs) are =

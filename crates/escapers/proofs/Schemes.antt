@@ -10,10 +10,11 @@ use Rattle.std.proofs.lemmas.Str.{encode_ascii, encodes-chars}
 use lib.Utf8.{encode}
 use Rattle.escapers.specs.UriStart.{begins_in_any_case, is_scheme_character}
 
--- a character of a scheme is its own lower case, and no other character above ASCII has it
+-- a character of a scheme is its own lower case
 lower_is : (c : ℕ) → is_scheme_character c ≡ true → (to_ascii_lowercase c ≡ c) × (c < 128)
 lower_is c is = grind (arith, nat_tests)
 
+-- a character above ASCII has no lower case in ASCII
 high_other : (c d : ℕ) → c < 128 → 128 ≤ d → eqb (to_ascii_lowercase d) c ≡ false
 high_other c d low high = grind (arith, nat_tests)
 
@@ -55,6 +56,7 @@ begins_decides (c ∷ front) (d ∷ bs) are =
           and_from _ _ (eq-eqb (to_ascii_lowercase d) c (first ∙ own)) (rest.1 others),
     )
 
+-- so what is found in bytes holds of characters
 pub begins_from_bytes : (front bs : List ℕ) (r : Bool) → list_all is_scheme_character front ≡ true → IsUtf8 bs
     → (IsTrue r ↔ (map to_ascii_lowercase (take (length front) bs) ≡ map to_ascii_lowercase front)) → r ≡ begins_in_any_case front (chars bs)
 begins_from_bytes front bs r are utf8 same =

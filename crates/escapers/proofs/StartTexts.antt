@@ -15,12 +15,15 @@ use Rattle.escapers.specs.UriStart.{allowed_schemes, begins_in_any_case, colon, 
 abbrev is_inert : ℕ → Bool
 is_inert c = not (eqb c colon) && not (ends_scheme c)
 
+-- the rest decides after such a character
 past_inert : (c : ℕ) (rest : List ℕ) → is_inert c ≡ true → has_scheme (c ∷ rest) ≡ has_scheme rest
 past_inert c rest inert = grind (arith, nat_tests)
 
+-- a digit is such a character
 digit_inert : (n : ℕ) → is_inert (upper_digit n) ≡ true
 digit_inert n = grind (arith, nat_tests)
 
+-- so the rest decides after encoded bytes
 past_bytes : (bs rest : List ℕ) → has_scheme (flat_map encoded_byte bs ++ rest) ≡ has_scheme rest
 past_bytes [] rest = refl
 past_bytes (b ∷ bs) rest =
@@ -28,6 +31,7 @@ past_bytes (b ∷ bs) rest =
     past_inert (upper_digit (b / 16)) (upper_digit (b % 16) ∷ after) (digit_inert (b / 16)) ∙ past_inert (upper_digit (b % 16)) after (digit_inert (b % 16))
     ∙ past_bytes bs rest
 
+-- and so is a character that is encoded
 other_inert : (c : ℕ) → eqb c ampersand ≡ false → is_normal c ≡ false → is_inert c ≡ true
 other_inert c not_ampersand not_normal = grind (arith, nat_tests)
 
@@ -56,9 +60,11 @@ has_scheme-uri_normal (c ∷ text) =
 
 -- ---- a text with an allowed scheme
 
+-- a character of a scheme, in either case, stands for itself
 scheme_normal : (c d : ℕ) → is_scheme_character d ≡ true → to_ascii_lowercase c ≡ d → (eqb c ampersand ≡ false) × (is_normal c ≡ true)
 scheme_normal c d scheme lower = grind (arith, nat_tests)
 
+-- so a scheme at the front stays there
 begins_normal : (front text : List ℕ) → list_all is_scheme_character front ≡ true → begins_in_any_case front text ≡ true → begins_in_any_case front (uri_normal text) ≡ true
 begins_normal [] text are begins = refl
 begins_normal (d ∷ front) [] are begins = begins
@@ -70,6 +76,7 @@ begins_normal (d ∷ front) (c ∷ text) are begins =
     ap (λ l. begins_in_any_case (d ∷ front) (l ++ uri_normal text)) stays
     ∙ and_from _ _ parts.0 (begins_normal front text scheme.1 parts.1)
 
+-- whichever of the schemes it is
 any_normal : (schemes : List (List ℕ)) (text : List ℕ) → list_all (list_all is_scheme_character) schemes ≡ true → list_any (λ scheme. begins_in_any_case scheme text) schemes ≡ true
     → list_any (λ scheme. begins_in_any_case scheme (uri_normal text)) schemes ≡ true
 any_normal [] text are one = one

@@ -10,9 +10,11 @@ use Rattle.escapers.specs.UriComponent.{is_unreserved}
 use Rattle.escapers.specs.UriNormal.{ampersand, is_normal, normal_character, uri_normal}
 use Rattle.escapers.proofs.PercentBytes.{IsOutside, stands_for}
 
+-- the two agree on all of ASCII, by computing both
 component_checked : agree_below (contains OUTSIDE_COMPONENT) (λ b. not (is_unreserved b)) 128 ≡ true
 component_checked = refl
 
+-- no character above ASCII stands for itself
 unreserved_ascii : (c : ℕ) → 128 ≤ c → is_unreserved c ≡ false
 unreserved_ascii c high = grind (arith, nat_tests)
 
