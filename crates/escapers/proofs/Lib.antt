@@ -1,3 +1,4 @@
+mod AlphanumericTexts
 pub mod ComponentTexts
 mod CutAtCharacter
 pub mod HtmlTexts

@@ -7,6 +7,7 @@ ghost use Rattle.escapers.specs.Adds.{Adds};
 ghost use Rattle.escapers.specs.CssRows.{css_rows};
 ghost use Rattle.escapers.specs.CssValue.{css_value, is_css_value, is_value_character};
 
+use crate::alphanumeric::is_alphanumeric;
 use crate::push::{push_escaped, push_text};
 use esc_table::{Row, Table};
 use soy_base::OutOfMemory;
@@ -39,6 +40,9 @@ fn is_css_value(text: &str) -> bool
 fn has_value_characters(text: &str) -> bool
     ensures { result ≡ list_all is_value_character (chars text.now) }
 {
+    if is_alphanumeric(text) {
+        return true;
+    }
     text.chars().all(is_value_character)
 }
 

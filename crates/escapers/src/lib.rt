@@ -11,6 +11,7 @@
 //! `percent_encoding`.
 #![tactic(auto)]
 
+mod alphanumeric;
 mod css;
 mod escaper;
 mod escaping;

@@ -8,6 +8,7 @@ ghost use Rattle.escapers.specs.UriComponent.{uri_component};
 ghost use Rattle.escapers.specs.UriNormal.{ampersand, uri_normal};
 ghost use Rattle.escapers.specs.UriStart.{begins_in_any_case, ends_scheme, has_allowed_scheme, has_scheme, is_scheme_character, may_start_uri, uri_start};
 
+use crate::alphanumeric::is_alphanumeric;
 use crate::push::push_text;
 use percent_encoding::{AsciiSet, NON_ALPHANUMERIC, ascii_set, utf8_percent_encode};
 use soy_base::OutOfMemory;
@@ -45,6 +46,9 @@ const OUTSIDE_URI: AsciiSet = ascii_set!(
 pub fn push_uri_component(text: &str, out: &mut String) -> Result<(), OutOfMemory>
     ensures { OnOk result (Adds out.old out.new (uri_component (chars text.now))) }
 {
+    if is_alphanumeric(text) {
+        return push_text(text, out);
+    }
     utf8_percent_encode(text, OUTSIDE_COMPONENT).append_to(out)?;
     Ok(())
 }
@@ -83,6 +87,9 @@ fn push_without_ampersand(text: &str, out: &mut String) -> Result<(), OutOfMemor
     requires { IsTrue (lacks (ampersand ∷ []) (chars text.now)) }
     ensures { OnOk result (Adds out.old out.new (uri_normal (chars text.now))) }
 {
+    if is_alphanumeric(text) {
+        return push_text(text, out);
+    }
     utf8_percent_encode(text, OUTSIDE_URI).append_to(out)?;
     Ok(())
 }
