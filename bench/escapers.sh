@@ -1,6 +1,7 @@
 #!/usr/bin/env bash
 # Times `escape` by each escaper on 1 MiB of plain letters, of text with one special character in twenty, and of specials
-# alone, and a copy of the same text beside it. Prints MiB of the text a second. Run it at any place: `bench/escapers.sh`.
+# alone, and a copy of the same text beside it. Prints MiB of the text a second. CssValue stops at the first special, so its
+# figures there say nothing. Run it at any place: `bench/escapers.sh`.
 set -eu
 . "$(dirname "$0")/setup.sh"
 
