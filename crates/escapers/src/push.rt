@@ -27,7 +27,8 @@ pub fn push_escaped<const N: usize>(
     out: &mut String,
 ) -> Result<(), OutOfMemory>
     requires size { N ≤ 256 }
-    requires alphanumerics_stay { IsTrue (list_all (λ row. not (is_ascii_alphanumeric row.0)) table.now) }
+    requires alphanumerics_stay { IsTrue (list_all
+        (λ row. not (is_ascii_alphanumeric row.0)) table.now) }
     ensures { OnOk result (Adds out.old out.new (escaped_text table.now (chars text.now))) }
 {
     if is_alphanumeric(text) {
