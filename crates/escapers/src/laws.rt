@@ -26,8 +26,8 @@ pub fn law_js_string_text()
     ensures { (text : List ℕ) → IsJsStringText (escaped_text js_rows text) }
 {}
 
-/// A text escaped for a string of a style ends neither the string nor the style, and what stands for
-/// a value of a style is a value.
+/// A text escaped for a string of a style ends neither the string nor the style, and what stands
+/// for a value of a style is a value.
 pub fn law_css_texts()
     ensures strings { (text : List ℕ) → IsCssStringText (escaped_text css_rows text) }
     ensures values { (text : List ℕ) → IsTrue (is_css_value (css_value text)) }
