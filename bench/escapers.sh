@@ -1,7 +1,8 @@
 #!/usr/bin/env bash
-# Times `escape` by each escaper on 1 MiB of plain letters, of text with one special character in twenty, and of specials
-# alone, and a copy of the same text beside it. Prints MiB of the text a second. CssValue stops at the first special, so its
-# figures there say nothing. Run it at any place: `bench/escapers.sh`.
+# Times `escape` by each escaper on 1 MiB of plain letters, of words, of letters of two bytes, of text with one special
+# character in twenty, and of specials alone, and a copy of the same text beside it. Prints MiB of the text a second.
+# CssValue stops at the first special, so its figures say something of plain letters alone. Html by words is what
+# `esc_table::escape_into` does. Run it at any place: `bench/escapers.sh`.
 set -eu
 . "$(dirname "$0")/setup.sh"
 
@@ -68,6 +69,8 @@ fn main(rt: HostRuntime) -> io::Result<()> {
     let alloc = rt.alloc();
     for (of, piece) in [
         ("plain letters", "a"),
+        ("words", "Ten words, no more. "),
+        ("letters of two bytes", "\u{5d0}"),
         ("one special in twenty", "Ten words & no more."),
         ("specials alone", "<&>\"'"),
     ] {
