@@ -1,0 +1,34 @@
+-- What `lex` answers for the text of a file, given as its bytes: its tokens; or that it is over the limit; or the first
+-- place where no token begins; or want of memory, of which nothing is said.
+use Rattle.std.specs.Prelude.{◌≡◌, ℕ, ◌≤◌, ◌<◌, List, length, ◌⊎◌, Result, Ok, Err}
+use Rattle.std.specs.Str.{chars}
+use Rattle.std.specs.declared.alloc.Global.{Global}
+use Rattle.std.specs.declared.vec.Vec.{Vec}
+use Rattle.soy_base.specs.declared.code.Code.TheVariants as code
+use Rattle.soy_base.specs.declared.fault.Fault.{Fault}
+use Rattle.soy_base.specs.declared.memory.Refusal.{Refusal}
+use Rattle.soy_base.specs.declared.memory.Refusal.TheVariants.{Because, OutOfMemory}
+use Rattle.soy_lexer.specs.Tokens.{Tokens, FirstFault}
+use Rattle.soy_lexer.specs.declared.token.Token.{Token}
+
+-- the most bytes that a file may have
+abbrev pub largest_file : ℕ
+largest_file = 1048576
+
+pub record TooLarge (file : ℕ) (text : List ℕ) (fault : Fault) : Type 0 where
+  pub over : largest_file < length text
+  pub fault_is : fault ≡ record { code = code.TooLarge; file = file; at = 0 }
+
+pub record NoToken (file : ℕ) (text : List ℕ) (fault : Fault) : Type 0 where
+  pub within : length text ≤ largest_file
+  pub place : ℕ
+  pub first : FirstFault (chars text) place
+  pub fault_is : fault ≡ record { code = code.Lex; file = file; at = place }
+
+abbrev pub Refused : ℕ → List ℕ → Refusal Fault → Type 0
+Refused file text (Because fault) = TooLarge file text fault ⊎ NoToken file text fault
+Refused file text OutOfMemory = Unit {0}
+
+abbrev pub Lexes : ℕ → List ℕ → Result (Vec Token Global) (Refusal Fault) → Type 0
+Lexes file text (Ok tokens) = (length text ≤ largest_file) × Tokens (chars text) tokens.items
+Lexes file text (Err refusal) = Refused file text refusal

@@ -1,0 +1,11 @@
+pub mod Characters
+pub mod Cuts
+pub mod Strings
+pub mod Piece
+pub mod CommandPiece
+pub mod TextPiece
+pub mod Pieces
+pub mod Lines
+pub mod Tokens
+pub mod Lexes
+pub mod Steps

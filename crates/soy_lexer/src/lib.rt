@@ -1,0 +1,11 @@
+//! From the text of a template file to its tokens: text runs with their lines joined, literals, and
+//! the tokens of commands, each with its span and text; or the first place where no token begins.
+//!
+//! `lex` answers by `Tokens` and `FirstFault`, which cut the whole text into pieces and join the
+//! list of a run's lines, while the code joins as it reads. Stands on soy_base.
+#![tactic(auto)]
+
+mod step;
+mod token;
+
+pub use token::{Token, TokenKind};
