@@ -6,6 +6,7 @@
 #![tactic(auto)]
 
 mod step;
+mod text;
 mod token;
 
 pub use token::{Token, TokenKind};

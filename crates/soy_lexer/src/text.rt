@@ -1,0 +1,64 @@
+// Texts cut, seen by their characters.
+ghost use Rattle.std.specs.Prelude.{◌≡◌, ◌∷◌, ◌<◌, [], length, option_map, MatchOption};
+ghost use Rattle.std.specs.Char.{is_ascii_digit};
+ghost use Rattle.std.specs.Str.{chars};
+ghost use Rattle.soy_lexer.specs.Characters.{continues_name};
+ghost use Rattle.soy_lexer.specs.Cuts.{after_front, cut, front_while, after_while};
+ghost use Rattle.soy_lexer.specs.TextPiece.{continues_line};
+
+/// The first character of a text and what follows it, if there is one.
+pub(crate) fn first(text: &str) -> Option<(char, &str)>
+    ensures { MatchOption result (chars text.now ≡ []) (λ parts. chars text.now ≡ parts.0 ∷ chars parts.1.now) }
+{
+    let mut characters = text.chars();
+    let character = characters.next()?;
+    Some((character, characters.as_str()))
+}
+
+/// What follows a front, if the text begins with it.
+pub(crate) fn after_front<'a>(text: &'a str, front: &str) -> Option<&'a str>
+    ensures { option_map (λ rest. chars rest.now) result ≡ after_front (chars front.now) (chars text.now) }
+{
+    text.strip_prefix(front)
+}
+
+/// What stands before the first mark in a text and what follows it, if there is one.
+pub(crate) fn cut<'a>(text: &'a str, mark: &str) -> Option<(&'a str, &'a str)>
+    requires { 0 < length mark.now }
+    ensures { option_map (λ parts. (chars parts.0.now, chars parts.1.now)) result ≡ cut (chars mark.now) (chars text.now) }
+{
+    text.split_once(mark)
+}
+
+/// The characters at the front of a text that go on a name, and what follows them.
+pub(crate) fn name_characters(text: &str) -> (&str, &str)
+    ensures front { chars result.0.now ≡ front_while continues_name (chars text.now) }
+    ensures rest { chars result.1.now ≡ after_while continues_name (chars text.now) }
+{
+    match text.find(|c: char| !(c.is_ascii_alphanumeric() || c == '_')) {
+        Some(end) => text.split_at(end),
+        None => (text, ""),
+    }
+}
+
+/// The digits at the front of a text, and what follows them.
+pub(crate) fn digits(text: &str) -> (&str, &str)
+    ensures front { chars result.0.now ≡ front_while is_ascii_digit (chars text.now) }
+    ensures rest { chars result.1.now ≡ after_while is_ascii_digit (chars text.now) }
+{
+    match text.find(|c: char| !c.is_ascii_digit()) {
+        Some(end) => text.split_at(end),
+        None => (text, ""),
+    }
+}
+
+/// The characters of a text up to its first line end, and what follows them.
+pub(crate) fn line(text: &str) -> (&str, &str)
+    ensures front { chars result.0.now ≡ front_while continues_line (chars text.now) }
+    ensures rest { chars result.1.now ≡ after_while continues_line (chars text.now) }
+{
+    match text.find(|c: char| c == '\n' || c == '\r') {
+        Some(end) => text.split_at(end),
+        None => (text, ""),
+    }
+}
