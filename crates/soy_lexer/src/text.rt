@@ -2,9 +2,16 @@
 ghost use Rattle.std.specs.Prelude.{◌≡◌, ◌∷◌, ◌<◌, [], length, option_map, MatchOption};
 ghost use Rattle.std.specs.Char.{is_ascii_digit};
 ghost use Rattle.std.specs.Str.{chars};
-ghost use Rattle.soy_lexer.specs.Characters.{continues_name};
+ghost use Rattle.soy_lexer.specs.Characters.{continues_name, width};
 ghost use Rattle.soy_lexer.specs.Cuts.{after_front, cut, front_while, after_while};
 ghost use Rattle.soy_lexer.specs.TextPiece.{continues_line};
+
+/// How many bytes a text takes.
+pub(crate) fn width(text: &str) -> usize
+    ensures { result ≡ width (chars text.now) }
+{
+    text.len()
+}
 
 /// The first character of a text and what follows it, if there is one.
 pub(crate) fn first(text: &str) -> Option<(char, &str)>
