@@ -1,12 +1,14 @@
 -- Texts as bytes and as characters: where a text is cut, its characters are, and how many bytes they take.
-use Rattle.std.proofs.Common.{◌≡◌, ◌≢◌, ℕ, ◌+◌, ◌<◌, Bool, true, not, List, [], ◌∷◌, ◌++◌, Option, Some, None, option_map, MatchOption, length, take, drop, Bor, refl, sym, ap, subst, ◌∙◌, arith, encode_utf8, encode_utf8_all, length-append}
+use Rattle.std.proofs.Common.{◌≡◌, ◌≢◌, ℕ, ◌+◌, ◌-◌, ◌<◌, ◌≤◌, Bool, true, not, List, [], ◌∷◌, ◌++◌, Option, Some, None, option_map, MatchOption, IfSome, length, take, drop, Bor, refl, sym, ap, subst, ◌∙◌, arith, encode_utf8, encode_utf8_all, length-append}
+use Rattle.std.specs.Option.{option_or}
 use Rattle.std.specs.Str.{chars, IsUtf8, IsCharBoundary, NoCharPasses, NonePass}
 use Rattle.std.specs.Str.Pattern.{FindsTextPrefix, StripsPrefix, FindsText, SplitsAroundMatch, HasPassingCharAt}
 use Rattle.std.proofs.lemmas.Bool.Decides.{nat_tests}
-use Rattle.std.proofs.lemmas.Str.{chars-append, chars-nil, encodes-chars, encodes-append, chars_past_char, chars_from_encodes, length-encode, len_utf8_bounds, IsUtf8-append, IsUtf8-take, IsUtf8-drop, IsCharBoundary-at_seam}
+use Rattle.std.proofs.lemmas.Str.{chars-append, chars-nil, encodes-chars, encodes-append, chars_past_char, chars_from_encodes, length-encode, len_utf8_bounds, chars-IsAscii, IsUtf8-append, IsUtf8-take, IsUtf8-drop, IsCharBoundary-at_seam}
+use Rattle.std.proofs.lemmas.Str.Ascii.{IsAscii-cons, IsAscii-nil}
 use Rattle.std.proofs.lemmas.Str.Pattern.{split_text_parts}
 use Rattle.std.proofs.lemmas.List.{take-append-drop}
-use Rattle.std.proofs.Math.Seq.{drop-append_seam}
+use Rattle.std.proofs.Math.Seq.{drop-append_seam, take-append_seam}
 use Rattle.soy_lexer.specs.Characters.{width}
 use Rattle.soy_lexer.specs.Cuts.{after_front, cut, front_while, after_while}
 
@@ -34,6 +36,10 @@ some_characters text utf8 some = some_encoded (chars text) text (encodes-chars t
 pub next-first : (text before rest after : List ℕ) (c : ℕ) → IsUtf8 text → before ≡ text → before ≡ encode_utf8 c ++ rest → after ≡ rest → chars text ≡ c ∷ chars after
 next-first text before rest after c utf8 same split left =
     chars_past_char text rest c utf8 (sym same ∙ split) ∙ ap (λ l. c ∷ chars l) (sym left)
+
+-- an ASCII byte is its character
+pub chars-byte : (b : ℕ) → b < 128 → chars (b ∷ []) ≡ b ∷ []
+chars-byte b low = chars-IsAscii (b ∷ []) (IsAscii-cons b [] low IsAscii-nil)
 
 -- an option that can't be Some
 none_of : {A : Type 0} (r : Option A) → ((x : A) → r ≢ Some x) → r ≡ None
@@ -70,6 +76,17 @@ cut-first mark (c ∷ cs) back some h =
     let here : after_front mark (c ∷ (cs ++ (mark ++ back))) ≡ None = after_front-none mark (c ∷ (cs ++ (mark ++ back))) (λ rest. h [] rest (omega arith)) in
     let later : cut mark (cs ++ (mark ++ back)) ≡ Some (cs, back) = cut-first mark cs back some (λ a rest l e. h (c ∷ a) rest (omega (arith, l)) (ap (λ l. c ∷ l) e)) in
     rw (here, later) refl
+
+-- the parts of a cut with the mark between them are the text
+pub cut-whole : (mark text : List ℕ) → IfSome (cut mark text) (λ parts. text ≡ parts.0 ++ (mark ++ parts.1))
+cut-whole mark [] = tt
+cut-whole mark (c ∷ cs) = whole_by (after_front mark (c ∷ cs)) (cut mark cs) (λ rest e. after_front-whole mark (c ∷ cs) rest e) (cut-whole mark cs)
+  where
+    whole_by : (here : Option (List ℕ)) (later : Option (List ℕ × List ℕ)) → ((rest : List ℕ) → here ≡ Some rest → c ∷ cs ≡ mark ++ rest) → IfSome later (λ parts. cs ≡ parts.0 ++ (mark ++ parts.1)) →
+        IfSome {T = List ℕ × List ℕ} (option_or (option_map (λ rest. ([], rest)) here) (option_map (λ parts. (c ∷ parts.0, parts.1)) later)) (λ parts. c ∷ cs ≡ parts.0 ++ (mark ++ parts.1))
+    whole_by (Some rest) later h k = h rest refl
+    whole_by None None h k = tt
+    whole_by None (Some parts) h k = ap (λ l. c ∷ l) k
 
 -- of two fronts of one text the shorter one takes fewer bytes
 shorter_front : (a b x y : List ℕ) → a ++ x ≡ b ++ y → length a < length b → length (encode_utf8_all a) < length (encode_utf8_all b)
@@ -159,3 +176,31 @@ module _ (sort : ℕ → Bool) (text : List ℕ) (utf8 : IsUtf8 text) where
       ap chars (sym (take-append-drop end text)) ∙ chars-append (take end text) (drop end text) utf8_front ∙ ap (λ l. chars (take end text) ++ l) rest in
       let parts = front_while-stops sort (chars (take end text)) stop.0 (chars (drop after text)) of_sort stop.1 in
       (ap chars is_front ∙ sym (ap (front_while sort) whole ∙ parts.0), ap chars is_back ∙ rest ∙ sym (ap (after_while sort) whole ∙ parts.1))
+
+-- what stands in a text before its rest
+module _ (text rest front : List ℕ) (utf8 : IsUtf8 text) (utf8_rest : IsUtf8 rest) (whole : chars text ≡ front ++ chars rest) where
+  abbrev end : ℕ
+  end = length text - length rest
+
+  spelled_front : text ≡ encode_utf8_all front ++ rest
+  spelled_front =
+      sym (encodes-chars text utf8) ∙ ap encode_utf8_all whole ∙ encodes-append front (chars rest) ∙ ap (λ l. encode_utf8_all front ++ l) (encodes-chars rest utf8_rest)
+
+  both : length text ≡ length (encode_utf8_all front) + length rest
+  both = ap length spelled_front ∙ length-append (encode_utf8_all front) rest
+
+  pub rest_within : length rest ≤ length text
+  rest_within = omega (arith, both)
+
+  front_end : length (encode_utf8_all front) ≡ end
+  front_end = omega (arith, both)
+
+  pub front_boundary : IsCharBoundary text end
+  front_boundary = let P : ℕ → Type 0 = IsCharBoundary text in subst P front_end (IsCharBoundary-at_seam text (encode_utf8_all front) rest spelled_front utf8_rest)
+
+  front_bytes : take end text ≡ encode_utf8_all front
+  front_bytes = ap (take end) spelled_front ∙ ap (λ n. take n (encode_utf8_all front ++ rest)) (sym front_end) ∙ take-append_seam (encode_utf8_all front) rest
+
+  pub front_characters : (part : List ℕ) → IsUtf8 part → part ≡ take end text → chars text ≡ chars part ++ chars rest
+  front_characters part utf8_part is =
+      whole ∙ ap (λ l. l ++ chars rest) (chars_from_encodes front part utf8_part (sym (is ∙ front_bytes)))

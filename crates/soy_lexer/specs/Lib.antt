@@ -9,3 +9,5 @@ pub mod Lines
 pub mod Tokens
 pub mod Lexes
 pub mod Steps
+pub mod StringSteps
+pub mod ClosingName

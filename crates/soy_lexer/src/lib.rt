@@ -5,7 +5,10 @@
 //! list of a run's lines, while the code joins as it reads. Stands on soy_base.
 #![tactic(auto)]
 
+mod begins;
+mod command;
 mod step;
+mod string;
 mod text;
 mod token;
 

@@ -1,10 +1,14 @@
 // Texts cut, seen by their characters.
-ghost use Rattle.std.specs.Prelude.{◌≡◌, ◌∷◌, ◌<◌, [], length, option_map, MatchOption};
+ghost use Rattle.std.specs.Prelude.{◌≡◌, ℕ, ◌<◌, List, [], ◌∷◌, ◌++◌, length, option_map, MatchOption, OnOk, IfOk};
 ghost use Rattle.std.specs.Char.{is_ascii_digit};
 ghost use Rattle.std.specs.Str.{chars};
+ghost use Rattle.std.specs.String.{string_bytes};
 ghost use Rattle.soy_lexer.specs.Characters.{continues_name, width};
 ghost use Rattle.soy_lexer.specs.Cuts.{after_front, cut, front_while, after_while};
 ghost use Rattle.soy_lexer.specs.TextPiece.{continues_line};
+
+use soy_base::{OutOfMemory, Text};
+use std::alloc::Global;
 
 /// How many bytes a text takes.
 pub(crate) fn width(text: &str) -> usize
@@ -68,4 +72,27 @@ pub(crate) fn line(text: &str) -> (&str, &str)
         Some(end) => text.split_at(end),
         None => (text, ""),
     }
+}
+
+/// What stands in a text before its rest.
+pub(crate) fn before<'a>(text: &'a str, rest: &str) -> &'a str
+    requires { (front : List ℕ) × (chars text.now ≡ front ++ chars rest.now) }
+    ensures { chars text.now ≡ chars result.now ++ chars rest.now }
+{
+    &text[..text.len() - rest.len()]
+}
+
+/// Adds a character at the end of a text.
+pub(crate) fn push(text: &mut String, c: char) -> Result<(), OutOfMemory>
+    ensures { OnOk result (chars (string_bytes text.new) ≡ chars (string_bytes text.old) ++ c ∷ []) }
+{
+    text.push(c)?;
+    Ok(())
+}
+
+/// The text with these characters.
+pub(crate) fn text_of(alloc: Global, characters: &str) -> Result<Text, OutOfMemory>
+    ensures { IfOk result (λ text. text ≡ chars characters.now) }
+{
+    Ok(Text::new(String::from_str(alloc, characters)?))
 }

@@ -1,0 +1,129 @@
+// Strings.
+ghost use Rattle.std.specs.Prelude.{◌≡◌, ◌∷◌, IfOk, Some, None, if◌then◌else◌, option_map};
+ghost use Rattle.std.specs.Char.{digit_value, is_ascii_hexdigit};
+ghost use Rattle.std.specs.Str.{chars};
+ghost use Rattle.std.specs.String.{string_bytes};
+ghost use Rattle.soy_lexer.specs.Characters.{single_quote};
+ghost use Rattle.soy_lexer.specs.CommandPiece.{quoted_piece};
+ghost use Rattle.soy_lexer.specs.Steps.{Steps};
+ghost use Rattle.soy_lexer.specs.StringSteps.{IsAhead, Reads, value_and_rest};
+ghost use Rattle.soy_lexer.specs.Strings.{escaped, numbered, quoted, quoted_escape, quoted_number};
+
+use crate::begins::begins;
+use crate::step::{Part, Step};
+use crate::text::{before, first, push};
+use crate::token::TokenKind;
+use soy_base::{OutOfMemory, Refusal, Text};
+use std::alloc::Global;
+
+/// What stands next in a string.
+pub(crate) enum Ahead<'a> {
+    /// A character that the string has, as itself or as an escape.
+    Character(char, &'a str),
+    /// Its last quote.
+    End(&'a str),
+    /// The end of the text, or no escape.
+    Broken,
+}
+
+/// A string, whose first quote is passed in the second text.
+pub(crate) fn string_piece<'a>(
+    alloc: Global,
+    text: &'a str,
+    inner: &'a str,
+) -> Result<Step<'a>, Refusal<usize>>
+    requires { chars text.now ≡ single_quote ∷ chars inner.now }
+    ensures { Steps (quoted_piece (quoted (chars inner.now))) result }
+{
+    match characters(alloc, inner)? {
+        Some((value, rest)) => {
+            let written = before(text, rest);
+            let part = Part::Sign(TokenKind::Str, written, Text::new(value));
+            begins(part, written, rest)
+        }
+        None => Err(Refusal::Because(0)),
+    }
+}
+
+// The characters of a string after its first quote, and what follows the string.
+fn characters<'a>(alloc: Global, text: &'a str) -> Result<Option<(String, &'a str)>, OutOfMemory>
+    ensures { IfOk result (λ found. option_map (λ parts. (chars (string_bytes parts.0), chars parts.1.now)) found ≡ value_and_rest (quoted (chars text.now))) }
+{
+    let mut value = String::new(alloc);
+    let mut left = text;
+    loop {
+        match ahead_of(left) {
+            Ahead::Character(c, rest) => {
+                push(&mut value, c)?;
+                left = rest;
+            }
+            Ahead::End(rest) => return Ok(Some((value, rest))),
+            Ahead::Broken => return Ok(None),
+        }
+    }
+}
+
+fn ahead_of(text: &str) -> Ahead<'_>
+    ensures { IsAhead (chars text.now) result }
+{
+    match first(text) {
+        Some(('\'', rest)) => Ahead::End(rest),
+        Some(('\\', rest)) => match escape(rest) {
+            Some((c, rest)) => Ahead::Character(c, rest),
+            None => Ahead::Broken,
+        },
+        Some((c, rest)) => Ahead::Character(c, rest),
+        None => Ahead::Broken,
+    }
+}
+
+// The character that an escape stands for, from after its backslash on, and what follows it.
+fn escape(text: &str) -> Option<(char, &str)>
+    ensures { Reads (chars text.now) (quoted_escape (chars text.now)) result }
+{
+    let (c, rest) = first(text)?;
+    if c == 'u' {
+        number(rest)
+    } else {
+        Some((escaped(c)?, rest))
+    }
+}
+
+fn escaped(c: char) -> Option<char>
+    ensures { result ≡ escaped c }
+{
+    match c {
+        '\\' | '\'' | '"' => Some(c),
+        'n' => Some('\n'),
+        'r' => Some('\r'),
+        't' => Some('\t'),
+        'b' => Some('\u{8}'),
+        'f' => Some('\u{c}'),
+        _ => None,
+    }
+}
+
+// The character that the four digits after `\u` write, and what follows them.
+fn number(text: &str) -> Option<(char, &str)>
+    ensures { Reads (chars text.now) (quoted_number (chars text.now)) result }
+{
+    let (a, rest) = first(text)?;
+    let (b, rest) = first(rest)?;
+    let (c, rest) = first(rest)?;
+    let (d, rest) = first(rest)?;
+    Some((numbered(a, b, c, d)?, rest))
+}
+
+fn numbered(a: char, b: char, c: char, d: char) -> Option<char>
+    ensures { result ≡ numbered a b c d }
+{
+    let (a, b) = (hexadecimal(a)?, hexadecimal(b)?);
+    let (c, d) = (hexadecimal(c)?, hexadecimal(d)?);
+    char::from_u32(((a * 16 + b) * 16 + c) * 16 + d)
+}
+
+fn hexadecimal(c: char) -> Option<u32>
+    ensures { result ≡ (if is_ascii_hexdigit c then Some (digit_value c) else None) }
+{
+    c.to_digit(16)
+}
