@@ -243,6 +243,34 @@ white_found c text front rest white e f =
     let same : front ≡ c ∷ [] = append_cancel_right front (c ∷ []) rest (sym f ∙ e) in
     ap command_piece e ∙ begins_white c rest white ∙ ap (λ l. Begins (Passed l) rest) (sym same)
 
+pub begins_word : (c : ℕ) (cs : List ℕ) → is_white c ≡ false → begins_name c ≡ true → command_piece (c ∷ cs) ≡ unwrap_or (name_piece kind.Word [] (c ∷ cs)) (Fails 0)
+begins_word c cs white named =
+    let brace : (125 == c) ≡ false = grind (arith, nat_tests, named) in
+    let slash : (47 == c) ≡ false = grind (arith, nat_tests, named) in
+    rw (white, brace, slash, named) refl
+
+pub begins_int : (c : ℕ) (cs : List ℕ) → is_white c ≡ false → begins_name c ≡ false → is_ascii_digit c ≡ true → command_piece (c ∷ cs) ≡ unwrap_or (int_piece (c ∷ cs)) (Fails 0)
+begins_int c cs white named digit =
+    let brace : (125 == c) ≡ false = grind (arith, nat_tests, digit) in
+    let slash : (47 == c) ≡ false = grind (arith, nat_tests, digit) in
+    let dollar : (c == 36) ≡ false = grind (arith, nat_tests, digit) in
+    int_by (c == 48) refl brace slash dollar
+  where
+    int_by : (t : Bool) → (c == 48) ≡ t → (125 == c) ≡ false → (47 == c) ≡ false → (c == 36) ≡ false → command_piece (c ∷ cs) ≡ unwrap_or (int_piece (c ∷ cs)) (Fails 0)
+    int_by true e brace slash dollar = rw (white, brace, slash, named, dollar, e) refl
+    int_by false e brace slash dollar = rw (white, brace, slash, named, dollar, e, digit) refl
+
+pub begins_symbol : (c : ℕ) (cs : List ℕ) → is_white c ≡ false → begins_name c ≡ false → is_ascii_digit c ≡ false → c ≢ 125 → c ≢ 47 → c ≢ 36 → c ≢ 39 → c ≢ 34 →
+    command_piece (c ∷ cs) ≡ unwrap_or (symbol_piece (c ∷ cs)) (Fails 0)
+begins_symbol c cs white named digit brace slash dollar single double =
+    let no_brace : (125 == c) ≡ false = grind (arith, nat_tests, brace) in
+    let no_slash : (47 == c) ≡ false = grind (arith, nat_tests, slash) in
+    let no_zero : (c == 48) ≡ false = grind (arith, nat_tests, digit) in
+    let no_dollar : (c == 36) ≡ false = grind (arith, nat_tests, dollar) in
+    let no_single : (c == 39) ≡ false = grind (arith, nat_tests, single) in
+    let no_double : (c == 34) ≡ false = grind (arith, nat_tests, double) in
+    rw (white, no_brace, no_slash, named, no_dollar, no_zero, digit, no_single, no_double) refl
+
 pub begins_end : (c : ℕ) (cs : List ℕ) → c ≡ 125 → command_piece (c ∷ cs) ≡ Begins (Sign kind.End (c ∷ []) (c ∷ [])) cs
 begins_end c cs e = rw e refl
 

@@ -52,3 +52,12 @@ returns-in_err-d c =
     let b = hexadecimal_digit c.args.b c.in_ok-b.b c.in_ok-b.ensures in
     let third = hexadecimal_digit c.args.c c.in_ok-c.c c.in_ok-c.ensures in
     c.from_residual-in_err-d.ensures ∙ rw (a.0, b.0, third.0, no_hexadecimal_digit c.args.d c.in_err-d.ensures) refl
+
+pub overflow_mul-a : goal.overflow_mul-a
+overflow_mul-a c = omega (arith, (hexadecimal_digit c.args.a c.in_ok-a.a c.in_ok-a.ensures).2)
+
+pub returns-in_err-c : goal.returns-in_err-c
+returns-in_err-c c =
+    let a = hexadecimal_digit c.args.a c.in_ok-a.a c.in_ok-a.ensures in
+    let b = hexadecimal_digit c.args.b c.in_ok-b.b c.in_ok-b.ensures in
+    c.from_residual-in_err-c.ensures ∙ rw (a.0, b.0, no_hexadecimal_digit c.args.c c.in_err-c.ensures) refl
