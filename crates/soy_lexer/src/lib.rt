@@ -13,3 +13,6 @@ mod text;
 mod token;
 
 pub use token::{Token, TokenKind};
+
+#[cfg(test)]
+mod tests;
