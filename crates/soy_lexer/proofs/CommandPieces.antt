@@ -11,6 +11,7 @@ use Rattle.soy_lexer.specs.Strings.{Quoted, quoted}
 use Rattle.soy_lexer.specs.StringSteps.{value_and_rest}
 use Rattle.soy_lexer.proofs.StringReading.{quoted-whole}
 use Rattle.soy_lexer.proofs.Texts.{cut-whole}
+use Rattle.std.specs.Option.{option_or}
 use Rattle.soy_lexer.specs.Cuts.{cut, front_while, after_while}
 use Rattle.soy_lexer.specs.Piece.{Piece, Found, begins, written}
 use Rattle.soy_lexer.specs.Piece.Found.{Begins, Fails}
@@ -270,6 +271,13 @@ begins_symbol c cs white named digit brace slash dollar single double =
     let no_single : (c == 39) ≡ false = grind (arith, nat_tests, single) in
     let no_double : (c == 34) ≡ false = grind (arith, nat_tests, double) in
     rw (white, no_brace, no_slash, named, no_dollar, no_zero, digit, no_single, no_double) refl
+
+or_none : (o : Option Found) → unwrap_or (option_or o None) (Fails 0) ≡ unwrap_or o (Fails 0)
+or_none None = refl
+or_none (Some found) = refl
+
+pub begins_variable : (c : ℕ) (cs : List ℕ) → c ≡ 36 → command_piece (c ∷ cs) ≡ unwrap_or (name_piece kind.Variable (36 ∷ []) cs) (Fails 0)
+begins_variable c cs e = rw e (or_none (name_piece kind.Variable (36 ∷ []) cs))
 
 pub begins_end : (c : ℕ) (cs : List ℕ) → c ≡ 125 → command_piece (c ∷ cs) ≡ Begins (Sign kind.End (c ∷ []) (c ∷ [])) cs
 begins_end c cs e = rw e refl

@@ -1,3 +1,4 @@
 pub mod Texts
 pub mod CommandPieces
 pub mod StringReading
+mod LongestTokens

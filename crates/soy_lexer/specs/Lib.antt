@@ -11,3 +11,4 @@ pub mod Lexes
 pub mod Steps
 pub mod StringSteps
 pub mod ClosingName
+pub mod LongestToken

@@ -7,11 +7,13 @@
 
 mod begins;
 mod command;
+mod longest;
 mod step;
 mod string;
 mod text;
 mod token;
 
+pub use longest::law_longest_token;
 pub use token::{Token, TokenKind};
 
 #[cfg(test)]
