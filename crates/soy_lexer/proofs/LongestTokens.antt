@@ -1,5 +1,5 @@
 -- What a text in a command begins with is a token by its form, and the longest one there.
-use Rattle.std.proofs.Common.{◌≡◌, ◌≢◌, ℕ, ◌<◌, ◌≤◌, ◌==◌, ◌&&◌, ◌||◌, nat_le, if◌then◌else◌, not, Bool, true, false, List, [], ◌∷◌, ◌++◌, Option, Some, None, IfSome, option_map, unwrap_or, length, refl, sym, ap, subst, ◌∙◌, arith, append_assoc}
+use Rattle.std.proofs.Common.{rules, ◌≡◌, ◌≢◌, ℕ, ◌<◌, ◌≤◌, ◌==◌, ◌&&◌, ◌||◌, nat_le, if◌then◌else◌, not, Bool, true, false, List, [], ◌∷◌, ◌++◌, Option, Some, None, IfSome, option_map, unwrap_or, length, refl, sym, ap, subst, ◌∙◌, arith, append_assoc}
 use Rattle.std.specs.Char.{is_ascii_digit}
 use Rattle.std.specs.List.{list_all, list_any}
 use Rattle.std.specs.Option.{option_or, option_and_then}
@@ -405,91 +405,8 @@ greater_reaches (d ∷ ds) = greater_by (61 == d) refl
 
 symbol_reaches : (front : List ℕ) → is_symbol front ≡ true → SymbolReaches front
 symbol_reaches front h =
-    one_of_each SymbolReaches (symbols_of_two ++ symbols_of_one) front (
-      λ more. omega arith,
-      (
-        λ more. omega arith,
-        (
-          λ more. omega arith,
-          (
-            λ more. omega arith,
-            (
-              λ more. omega arith,
-              (
-                λ more. omega arith,
-                (
-                  λ more. omega arith,
-                  (
-                    λ more. omega arith,
-                    (
-                      λ more. omega arith,
-                      (
-                        λ more. omega arith,
-                        (
-                          λ more. omega arith,
-                          (
-                            λ more. omega arith,
-                            (
-                              λ more. omega arith,
-                              (
-                                λ more. omega arith,
-                                (
-                                  λ more. omega arith,
-                                  (
-                                    λ more. omega arith,
-                                    (
-                                      λ more. omega arith,
-                                      (
-                                        λ more. omega arith,
-                                        (
-                                          question_reaches,
-                                          (
-                                            equals_reaches,
-                                            (
-                                              less_reaches,
-                                              (
-                                                greater_reaches,
-                                                (
-                                                  λ more. omega arith,
-                                                  (
-                                                    λ more. omega arith,
-                                                    (
-                                                      λ more. omega arith,
-                                                      (
-                                                        λ more. omega arith,
-                                                        (
-                                                          λ more. omega arith,
-                                                          (
-                                                            λ more. omega arith,
-                                                            tt,
-                                                          ),
-                                                        ),
-                                                      ),
-                                                    ),
-                                                  ),
-                                                ),
-                                              ),
-                                            ),
-                                          ),
-                                        ),
-                                      ),
-                                    ),
-                                  ),
-                                ),
-                              ),
-                            ),
-                          ),
-                        ),
-                      ),
-                    ),
-                  ),
-                ),
-              ),
-            ),
-          ),
-        ),
-      ),
-    ) h
+    let each : Each SymbolReaches (symbols_of_two ++ symbols_of_one) = search (rules, question_reaches, equals_reaches, less_reaches, greater_reaches) in
+    one_of_each SymbolReaches (symbols_of_two ++ symbols_of_one) front each h
 
 pub token_reaches : (k : TokenKind) (front more : List ℕ) → IsToken k front → Reaches front (front ++ more) (command_piece (front ++ more))
 token_reaches kind.Text front more token = elim token.form [ ]
