@@ -7,14 +7,16 @@
 
 mod begins;
 mod command;
+mod law;
 mod longest;
 mod step;
 mod string;
+mod tests;
 mod text;
 mod token;
 
 pub use longest::law_longest_token;
+pub use law::law_tokens_unique;
 pub use token::{Token, TokenKind};
 
 #[cfg(test)]
-mod tests;
