@@ -1,6 +1,9 @@
 pub mod OnePieces
 pub mod Written
 pub mod SomePieces
+pub mod Running
+pub mod Kept
+pub mod TextEnds
 pub mod Texts
 pub mod CommandPieces
 pub mod StringReading

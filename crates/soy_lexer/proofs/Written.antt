@@ -1,6 +1,6 @@
 -- What a text begins with is what stands there: the characters of the piece, one at least, and then the rest. Where no
 -- token begins, that is within the text.
-use Rattle.std.proofs.Common.{◌≡◌, ℕ, ◌+◌, ◌<◌, ◌≤◌, List, [], ◌∷◌, ◌++◌, length, Bool, true, false, nat_le, ◌==◌, if◌then◌else◌, Option, None, Some, option_map, option_and_then, codes, refl, sym, ◌∙◌, ap, subst, arith, eqb-true, append_assoc, length-append}
+use Rattle.std.proofs.Common.{◌≡◌, ℕ, ◌<◌, ◌≤◌, List, [], ◌∷◌, ◌++◌, length, Bool, true, false, nat_le, ◌==◌, if◌then◌else◌, Option, None, Some, option_map, option_and_then, codes, refl, sym, ◌∙◌, ap, subst, arith, eqb-true, append_assoc, length-append}
 use Rattle.std.specs.Prelude.{unwrap_or}
 use Rattle.std.specs.Option.{option_or}
 use Rattle.std.specs.Char.{is_ascii_digit}
@@ -16,6 +16,7 @@ use Rattle.soy_lexer.specs.CommandPiece.{command_piece, opened_piece, white_piec
 use Rattle.soy_lexer.specs.TextPiece.{text_piece, block_comment, closed_comment, line_comment, continues_line, literal_piece, closed_literal, plain_piece, may_begin, piece_of}
 use Rattle.soy_lexer.specs.declared.token.TokenKind.{TokenKind}
 use Rattle.soy_lexer.specs.declared.token.TokenKind.TheVariants as kind
+use Rattle.soy_lexer.proofs.Texts.{after_front-whole, width-append}
 
 abbrev pub Stands : List ℕ → Found → Type 0
 Stands text (Begins p rest) = (text ≡ written p ++ rest) × (0 < length (written p))
@@ -24,11 +25,6 @@ Stands text (Fails further) = further ≤ width text
 abbrev pub StandsIf : List ℕ → Option Found → Type 0
 StandsIf text None = Unit {0}
 StandsIf text (Some found) = Stands text found
-
--- how wide two lists are together
-pub width-append : (xs ys : List ℕ) → width (xs ++ ys) ≡ width xs + width ys
-width-append [] ys = omega arith
-width-append (x ∷ xs) ys = omega (arith, width-append xs ys)
 
 -- a choice by a test, each way with what the test says
 if_ways : {A : Type 0} (P : A → Type 0) (b : Bool) (x y : A) → (b ≡ true → P x) → P y → P (if b then x else y)
@@ -45,15 +41,10 @@ or_else text (Some x) b f g = f
 
 -- cuts
 
-pub front_parts : (front text rest : List ℕ) → after_front front text ≡ Some rest → text ≡ front ++ rest
-front_parts [] text rest e = cc
-front_parts (f ∷ fs) [] rest e = absurd (cc)
-front_parts (f ∷ fs) (c ∷ cs) rest e = grind (arith, nat_tests, front_parts fs cs rest)
-
 after_parts : (front text : List ℕ) (f : List ℕ → Found) → ((inner : List ℕ) → text ≡ front ++ inner → Stands text (f inner)) →
     (o : Option (List ℕ)) → after_front front text ≡ o → StandsIf text (option_map f o)
 after_parts front text f each None e = tt
-after_parts front text f each (Some inner) e = each inner (front_parts front text inner e)
+after_parts front text f each (Some inner) e = each inner (after_front-whole front text inner e)
 
 pub while_parts : (sort : ℕ → Bool) (text : List ℕ) → text ≡ front_while sort text ++ after_while sort text
 while_parts sort [] = refl
@@ -65,7 +56,7 @@ IsCut mark text (Some parts) = text ≡ parts.0 ++ (mark ++ parts.1)
 
 cut_step : (mark : List ℕ) (c : ℕ) (cs : List ℕ) (f : Option (List ℕ)) (d : Option (List ℕ × List ℕ)) → after_front mark (c ∷ cs) ≡ f → IsCut mark cs d →
     IsCut mark (c ∷ cs) (option_or (option_map (λ rest. ([], rest)) f) (option_map (λ parts. (c ∷ parts.0, parts.1)) d))
-cut_step mark c cs (Some rest) d e h = front_parts mark (c ∷ cs) rest e
+cut_step mark c cs (Some rest) d e h = after_front-whole mark (c ∷ cs) rest e
 cut_step mark c cs None None e h = tt
 cut_step mark c cs None (Some parts) e h = ap (λ xs. c ∷ xs) h
 

@@ -12,3 +12,4 @@ pub mod Steps
 pub mod StringSteps
 pub mod ClosingName
 pub mod LongestToken
+pub mod Holds

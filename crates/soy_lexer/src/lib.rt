@@ -9,6 +9,7 @@ mod begins;
 mod command;
 mod law;
 mod longest;
+mod run;
 mod step;
 mod string;
 mod tests;

@@ -1,0 +1,25 @@
+-- A text without bytes, and the text of one character.
+use Rattle.std.proofs.Common.{◌≡◌, ℕ, ◌<◌, List, [], ◌∷◌, Bool, false, ◌==◌, length, encode_utf8, refl, sym, ap, ◌∙◌, append-nil, arith}
+use Rattle.std.specs.Char.{IsScalar}
+use Rattle.std.specs.Str.{chars, IsUtf8}
+use Rattle.std.proofs.lemmas.Bool.Decides.{nat_tests}
+use Rattle.std.proofs.lemmas.Str.{chars-nil, chars_past_char, IsUtf8-encode}
+use Rattle.soy_lexer.specs.Holds.{is_nil}
+use Rattle.soy_lexer.proofs.Texts.{some_characters}
+
+pub chars-encode : (c : ℕ) → IsScalar c → chars (encode_utf8 c) ≡ c ∷ []
+chars-encode c scalar =
+    chars_past_char (encode_utf8 c) [] c (IsUtf8-encode c scalar) (sym (append-nil (encode_utf8 c))) ∙ ap (λ l. c ∷ l) chars-nil
+
+some_not_nil : (cs : List ℕ) → 0 < length cs → false ≡ is_nil cs
+some_not_nil [] some = absurd (omega (arith, some))
+some_not_nil (c ∷ cs) some = refl
+
+empty_nil : (bytes : List ℕ) → IsUtf8 bytes → (length bytes == 0) ≡ is_nil (chars bytes)
+empty_nil [] utf8 = rw chars-nil refl
+empty_nil (b ∷ bs) utf8 =
+    let no : (length (b ∷ bs) == 0) ≡ false = grind (arith, nat_tests) in
+    no ∙ some_not_nil (chars (b ∷ bs)) (some_characters (b ∷ bs) utf8 (omega arith))
+
+pub no_bytes : (bytes seen : List ℕ) (result : Bool) → IsUtf8 bytes → seen ≡ bytes → result ≡ (length seen == 0) → result ≡ is_nil (chars bytes)
+no_bytes bytes seen result utf8 e r = r ∙ (ap (λ l. length l == 0) e ∙ empty_nil bytes utf8)

@@ -1,0 +1,82 @@
+-- What a run that is being read keeps of the characters read so far: the text of their lines as if the last one ended
+-- here, the white space that this would take away, and what the next characters need.
+--
+-- Of "a \n b " it keeps the text "a b" and the white space " ".
+use Rattle.std.specs.Prelude.{◌≡◌, ℕ, List, [], ◌∷◌, ◌++◌, Bool, true, false, ◌&&◌, ◌||◌, not, if◌then◌else◌}
+use Rattle.std.specs.List.{filter, slice_split}
+use Rattle.std.specs.Str.{chars}
+use Rattle.std.specs.String.{string_bytes}
+use Rattle.soy_lexer.specs.Characters.{is_line_end, space}
+use Rattle.soy_lexer.specs.Lines.{Placed, Line, without_end, trimmed, trimmed_after, has_characters, lines_of, ends_angle, characters, joined, first_place, last_end}
+use Rattle.soy_lexer.specs.declared.run.Run.{Run}
+
+-- a line, if it has characters
+abbrev pub unless_empty : Line → List Line
+unless_empty [] = []
+unless_empty (c ∷ cs) = (c ∷ cs) ∷ []
+
+-- lines, with more characters before the first
+abbrev pub begun : Line → List Line → List Line
+begun line [] = []
+begun line (first ∷ lines) = (line ++ first) ∷ lines
+
+-- the lines that are left of a line which begins so, and of the characters that follow
+abbrev pub lines_after : Bool → Line → List Placed → List Line
+lines_after fresh line rest =
+    let lines = begun line (slice_split (λ c. is_line_end c.character) rest) in
+    filter has_characters (if fresh then trimmed_after lines else trimmed lines)
+
+abbrev pub last_line : List Line → Line
+last_line [] = []
+last_line (line ∷ []) = line
+last_line (line ∷ next ∷ lines) = last_line (next ∷ lines)
+
+abbrev pub AllFilled : List Line → Type 0
+AllFilled [] = Unit {0}
+AllFilled ([] ∷ lines) = ⊥
+AllFilled ((c ∷ cs) ∷ lines) = AllFilled lines
+
+-- a present line after a line end begins with no white space; one without other characters is the first
+abbrev pub Begins : Bool → List Line → Line → Line → Type 0
+Begins true done line white = (line ≡ []) × (white ≡ [])
+Begins false done [] white = done ≡ []
+Begins false done (c ∷ cs) white = Unit {0}
+
+abbrev pub StartsAt : List Line → ℕ → Type 0
+StartsAt [] start = Unit {0}
+StartsAt (line ∷ lines) start = first_place (line ∷ lines) ≡ start
+
+pub record Keeps (text white : List ℕ) (fresh angle : Bool) (start text_end end : ℕ) (run : List Placed) : Type 0 where
+  pub done : List Line  -- the lines that have ended, as they are left
+  pub line : Line  -- the present one without the white space at its end
+  pub tail : Line  -- that white space
+  pub lines_are : (rest : List Placed) → lines_of (run ++ rest) ≡ done ++ lines_after fresh (line ++ tail) rest
+  pub filled : AllFilled done
+  pub without : without_end (line ++ tail) ≡ line
+  pub begins : Begins fresh done line tail
+  pub text_is : text ≡ joined (done ++ unless_empty line)
+  pub white_is : white ≡ characters tail
+  pub angle_is : angle ≡ ends_angle (last_line (done ++ unless_empty line))
+  pub starts : StartsAt (done ++ unless_empty (line ++ tail)) start
+  pub text_ends : last_end 0 (done ++ unless_empty line) ≡ text_end
+  pub ends : last_end 0 (done ++ unless_empty (line ++ tail)) ≡ end
+
+abbrev pub is_nil : List ℕ → Bool
+is_nil [] = true
+is_nil (c ∷ cs) = false
+
+-- where a run starts to which one more character comes that stands at this place
+abbrev pub start_of : List ℕ → List ℕ → ℕ → ℕ → ℕ
+start_of [] [] start place = place
+start_of [] (w ∷ ws) start place = start
+start_of (c ∷ cs) white start place = start
+
+-- whether a space comes between a text and the next character, of which either may be `<` or `>`
+abbrev pub needs_space : List ℕ → Bool → Bool → Bool → Bool
+needs_space text fresh angle next = fresh && not (is_nil text) && not (angle || next)
+
+abbrev pub space_before : List ℕ → Bool → Bool → Bool → List ℕ
+space_before text fresh angle next = if needs_space text fresh angle next then space ∷ [] else []
+
+abbrev pub Holds : Run → List Placed → Type 0
+Holds run list = Keeps (chars (string_bytes run.text)) (chars (string_bytes run.white)) run.fresh run.angle run.start run.text_end run.end list
