@@ -4,6 +4,9 @@ pub mod SomePieces
 pub mod Running
 pub mod Kept
 pub mod TextEnds
+pub mod TextPieces
+pub mod Reading
+pub mod Ordered
 pub mod Texts
 pub mod CommandPieces
 pub mod StringReading

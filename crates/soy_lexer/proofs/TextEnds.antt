@@ -1,15 +1,10 @@
--- A text without bytes, and the text of one character.
-use Rattle.std.proofs.Common.{◌≡◌, ℕ, ◌<◌, List, [], ◌∷◌, Bool, false, ◌==◌, length, encode_utf8, refl, sym, ap, ◌∙◌, append-nil, arith}
-use Rattle.std.specs.Char.{IsScalar}
+-- A text without bytes has no characters.
+use Rattle.std.proofs.Common.{◌≡◌, ℕ, ◌<◌, List, [], ◌∷◌, Bool, false, ◌==◌, length, refl, ap, ◌∙◌, arith}
 use Rattle.std.specs.Str.{chars, IsUtf8}
 use Rattle.std.proofs.lemmas.Bool.Decides.{nat_tests}
-use Rattle.std.proofs.lemmas.Str.{chars-nil, chars_past_char, IsUtf8-encode}
+use Rattle.std.proofs.lemmas.Str.{chars-nil}
 use Rattle.soy_lexer.specs.Holds.{is_nil}
 use Rattle.soy_lexer.proofs.Texts.{some_characters}
-
-pub chars-encode : (c : ℕ) → IsScalar c → chars (encode_utf8 c) ≡ c ∷ []
-chars-encode c scalar =
-    chars_past_char (encode_utf8 c) [] c (IsUtf8-encode c scalar) (sym (append-nil (encode_utf8 c))) ∙ ap (λ l. c ∷ l) chars-nil
 
 some_not_nil : (cs : List ℕ) → 0 < length cs → false ≡ is_nil cs
 some_not_nil [] some = absurd (omega (arith, some))

@@ -2,14 +2,14 @@
 -- a name, an int, a string, a value in double quotes, or a symbol.
 --
 -- `?:x` begins with the symbol `?:`, `07` with the int `0`, and `#` with no token.
-use Rattle.std.specs.Prelude.{ℕ, ◌+◌, ◌-◌, ◌*◌, List, [], ◌∷◌, ◌++◌, Bool, ◌==◌, nat_le, if◌then◌else◌, Option, None, Some, option_map, unwrap_or, codes}
+use Rattle.std.specs.Prelude.{ℕ, ◌+◌, ◌-◌, ◌*◌, List, [], ◌∷◌, ◌++◌, ◌==◌, nat_le, if◌then◌else◌, Option, None, Some, option_map, unwrap_or, codes}
 use Rattle.std.specs.Option.{option_or}
 use Rattle.std.specs.Char.{is_ascii_digit}
 use Rattle.soy_lexer.specs.Characters.{is_white, begins_name, continues_name, dollar, single_quote, double_quote}
 use Rattle.soy_lexer.specs.Cuts.{after_front, cut, front_while, after_while}
-use Rattle.soy_lexer.specs.Piece.{Piece, Found, begins}
+use Rattle.soy_lexer.specs.Piece.{Found, begins}
 use Rattle.soy_lexer.specs.Piece.Piece.{Passed, Sign}
-use Rattle.soy_lexer.specs.Piece.Found.{Begins, Fails}
+use Rattle.soy_lexer.specs.Piece.Found.{Fails}
 use Rattle.soy_lexer.specs.Strings.{Quoted, quoted}
 use Rattle.soy_lexer.specs.declared.token.TokenKind.{TokenKind}
 use Rattle.soy_lexer.specs.declared.token.TokenKind.TheVariants as kind

@@ -13,3 +13,7 @@ pub mod StringSteps
 pub mod ClosingName
 pub mod LongestToken
 pub mod Holds
+pub mod StepsIf
+pub mod SeenSide
+pub mod Lexed
+pub mod InOrder

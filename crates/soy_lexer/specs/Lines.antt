@@ -6,11 +6,10 @@
 -- 5. other white space stays.
 --
 -- The run "Hello \n  world" has the text "Hello world", and "a\n<b>\n" the text "a<b>".
-use Rattle.std.specs.Prelude.{ℕ, ◌+◌, List, [], ◌∷◌, ◌++◌, Bool, true, false, ◌||◌, ◌==◌, not, map, reverse, if◌then◌else◌}
+use Rattle.std.specs.Prelude.{ℕ, ◌+◌, List, [], ◌∷◌, ◌++◌, Bool, true, false, ◌||◌, ◌==◌, map, reverse, if◌then◌else◌}
 use Rattle.std.specs.List.{filter, slice_split}
 use Rattle.std.specs.Char.{len_utf8}
 use Rattle.soy_lexer.specs.Characters.{is_white, is_line_end, space}
-use Rattle.soy_lexer.specs.Cuts.{after_while}
 
 -- a character of a run, with its place in the file in bytes
 pub record Placed : Type 0 where

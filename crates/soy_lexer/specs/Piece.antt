@@ -1,7 +1,7 @@
 -- The pieces of which a text is a sequence, where in a text they stand, and what a text begins with.
 --
 -- The text `a{b /}` has the pieces `a`, which a run keeps, `{`, `b`, a space that is passed, and `/}`.
-use Rattle.std.specs.Prelude.{ℕ, ◌+◌, List, [], ◌∷◌, ◌++◌, Bool, true, false, Option, None, Some, codes}
+use Rattle.std.specs.Prelude.{ℕ, List, [], ◌∷◌, ◌++◌, Bool, false, Option, None, Some, codes}
 use Rattle.soy_lexer.specs.Characters.{is_white, width}
 use Rattle.soy_lexer.specs.Cuts.{cut}
 use Rattle.soy_lexer.specs.declared.token.TokenKind.{TokenKind}

@@ -8,9 +8,9 @@ use Rattle.std.specs.Option.{option_or}
 use Rattle.soy_lexer.specs.Characters.{is_white, is_line_end, opening_brace, closing_brace}
 use Rattle.soy_lexer.specs.Cuts.{after_front, cut, front_while, after_while}
 use Rattle.soy_lexer.specs.CommandPiece.{command_piece, opened_piece}
-use Rattle.soy_lexer.specs.Piece.{Piece, Found, Side, begins}
+use Rattle.soy_lexer.specs.Piece.{Found, Side, begins}
 use Rattle.soy_lexer.specs.Piece.Piece.{Kept, Passed, Literal, Sign}
-use Rattle.soy_lexer.specs.Piece.Found.{Begins, Fails}
+use Rattle.soy_lexer.specs.Piece.Found.{Fails}
 use Rattle.soy_lexer.specs.Piece.Side.{Outside, Opened, Inside}
 use Rattle.soy_lexer.specs.declared.token.TokenKind.TheVariants as kind
 

@@ -3,7 +3,7 @@
 --
 -- `Hello // greet`, `world{sp}` and `<b>!</b>` as three lines give the text `Hello world`, the tokens `{`, `sp` and `}`,
 -- and the text `<b>!</b>`.
-use Rattle.std.specs.Prelude.{◌≡◌, ℕ, ◌+◌, List, [], ◌∷◌, ◌++◌, true, Option, None, Some}
+use Rattle.std.specs.Prelude.{◌≡◌, ℕ, ◌+◌, List, [], ◌∷◌, ◌++◌, true, None, Some}
 use Rattle.soy_lexer.specs.Characters.{width}
 use Rattle.soy_lexer.specs.Lines.{Placed, Line, lines_of, joined, first_place, last_end}
 use Rattle.soy_lexer.specs.Piece.{Piece, written}

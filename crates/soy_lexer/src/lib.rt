@@ -8,16 +8,20 @@
 mod begins;
 mod command;
 mod law;
+mod lexer;
 mod longest;
 mod run;
+mod standing;
 mod step;
 mod string;
 mod tests;
 mod text;
+mod text_piece;
 mod token;
 
 pub use longest::law_longest_token;
 pub use law::law_tokens_unique;
+pub use lexer::lex;
 pub use token::{Token, TokenKind};
 
 #[cfg(test)]

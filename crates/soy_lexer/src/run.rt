@@ -6,6 +6,7 @@ ghost use Rattle.soy_lexer.specs.Holds.{Holds, is_nil, needs_space, start_of};
 ghost use Rattle.soy_lexer.specs.Lines.{Placed, is_angle};
 ghost use Rattle.soy_lexer.specs.Tokens.{run_token};
 
+use crate::text::push;
 use crate::token::{Token, TokenKind};
 use soy_base::{OutOfMemory, Span, Text};
 use std::alloc::Global;
@@ -34,13 +35,6 @@ fn is_angle(c: char) -> bool
     c == '<' || c == '>'
 }
 
-fn push(text: &mut String, c: char) -> Result<(), OutOfMemory>
-    ensures { OnOk result (chars (string_bytes text.new) ≡ chars (string_bytes text.old) ++ c ∷ []) }
-{
-    text.push(c)?;
-    Ok(())
-}
-
 fn push_all(text: &mut String, more: &str) -> Result<(), OutOfMemory>
     ensures { OnOk result (chars (string_bytes text.new) ≡ chars (string_bytes text.old) ++ chars more.now) }
 {
@@ -54,10 +48,11 @@ fn push_space_if(wanted: bool, text: &mut String) -> Result<(), OutOfMemory>
     if wanted { push(text, ' ') } else { Ok(()) }
 }
 
-fn is_empty(text: &String) -> bool
-    ensures { result ≡ is_nil (chars (string_bytes text.now)) }
+/// Whether a text has no characters.
+pub(crate) fn is_empty(text: &str) -> bool
+    ensures { result ≡ is_nil (chars text.now) }
 {
-    text.as_str().is_empty()
+    text.is_empty()
 }
 
 impl Run {
@@ -103,7 +98,7 @@ impl Run {
     fn start_with(&self, place: u64) -> u64
         ensures { result ≡ start_of (chars (string_bytes self.now.text)) (chars (string_bytes self.now.white)) self.now.start place }
     {
-        if is_empty(&self.text) && is_empty(&self.white) {
+        if is_empty(self.text.as_str()) && is_empty(self.white.as_str()) {
             place
         } else {
             self.start
@@ -114,7 +109,7 @@ impl Run {
     fn needs_space(&self, angle: bool) -> bool
         ensures { result ≡ needs_space (chars (string_bytes self.now.text)) self.now.fresh self.now.angle angle }
     {
-        self.fresh && !is_empty(&self.text) && !(self.angle || angle)
+        self.fresh && !is_empty(self.text.as_str()) && !(self.angle || angle)
     }
 
     fn add_white(&mut self, c: char, place: u64) -> Result<(), OutOfMemory>
@@ -163,7 +158,7 @@ impl Run {
             ..
         } = self;
         push_all(&mut text, white.as_str())?;
-        if is_empty(&text) {
+        if is_empty(text.as_str()) {
             return Ok(None);
         }
         Ok(Some(Token {

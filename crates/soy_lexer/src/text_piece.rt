@@ -1,0 +1,122 @@
+// The pieces of text outside of commands.
+ghost use Rattle.std.specs.Prelude.{◌≡◌, ◌∷◌, ◌++◌, true, codes};
+ghost use Rattle.std.specs.Str.{chars};
+ghost use Rattle.soy_lexer.specs.Characters.{opening_brace};
+ghost use Rattle.soy_lexer.specs.Cuts.{cut};
+ghost use Rattle.soy_lexer.specs.Steps.{Steps};
+ghost use Rattle.soy_lexer.specs.StepsIf.{StepsIf};
+ghost use Rattle.soy_lexer.specs.TextPiece.{block_comment, closed_comment, closed_literal, line_comment, literal_piece, may_begin, plain_piece, text_piece};
+
+use crate::begins::begins;
+use crate::step::{Part, Step};
+use crate::text::{after_front, before, cut, first, line, text_of};
+use crate::token::TokenKind;
+use soy_base::Refusal;
+use std::alloc::Global;
+
+/// The piece with which text begins that white space or the file's start comes before, or not.
+pub(crate) fn text_piece<'a>(
+    alloc: Global,
+    white: bool,
+    text: &'a str,
+) -> Result<Step<'a>, Refusal<usize>>
+    ensures { Steps (text_piece white (chars text.now)) result }
+{
+    if let Some(comment) = block_comment(text) {
+        return comment;
+    }
+    if white && let Some(comment) = line_comment(text) {
+        return comment;
+    }
+    if let Some(literal) = literal_piece(text) {
+        return literal;
+    }
+    plain_piece(alloc, text)
+}
+
+fn block_comment<'a>(text: &'a str) -> Option<Result<Step<'a>, Refusal<usize>>>
+    ensures { StepsIf (block_comment (chars text.now)) result }
+{
+    let inner = after_front(text, "/*")?;
+    Some(closed_comment(text, inner))
+}
+
+/// The comment whose `/*` stands before the second text.
+fn closed_comment<'a>(text: &'a str, inner: &'a str) -> Result<Step<'a>, Refusal<usize>>
+    requires { chars text.now ≡ codes "/*" ++ chars inner.now }
+    ensures { Steps (closed_comment (cut (codes "*/") (chars inner.now))) result }
+{
+    match cut(inner, "*/") {
+        Some((_, rest)) => {
+            let comment = before(text, rest);
+            begins(Part::Passed(comment), comment, rest)
+        }
+        None => Err(Refusal::Because(0)),
+    }
+}
+
+fn line_comment<'a>(text: &'a str) -> Option<Result<Step<'a>, Refusal<usize>>>
+    ensures { StepsIf (line_comment true (chars text.now)) result }
+{
+    let (_, rest) = line(after_front(text, "//")?);
+    let comment = before(text, rest);
+    Some(begins(Part::Passed(comment), comment, rest))
+}
+
+fn literal_piece<'a>(text: &'a str) -> Option<Result<Step<'a>, Refusal<usize>>>
+    ensures { StepsIf (literal_piece (chars text.now)) result }
+{
+    let inner = after_front(text, "{literal}")?;
+    Some(closed_literal(text, inner))
+}
+
+/// The literal whose `{literal}` stands before the second text.
+fn closed_literal<'a>(text: &'a str, inner: &'a str) -> Result<Step<'a>, Refusal<usize>>
+    requires { chars text.now ≡ codes "{literal}" ++ chars inner.now }
+    ensures { Steps (closed_literal (cut (codes "{/literal}") (chars inner.now))) result }
+{
+    match cut(inner, "{/literal}") {
+        Some((literal, rest)) => begins(Part::Literal(literal), before(text, rest), rest),
+        None => Err(Refusal::Because(0)),
+    }
+}
+
+/// Whether a `{` before this text begins a command.
+fn may_begin(text: &str) -> bool
+    ensures { result ≡ may_begin (chars text.now) }
+{
+    match first(text) {
+        Some((' ' | '\t' | '\n' | '\r' | '{', _)) => false,
+        _ => true,
+    }
+}
+
+fn plain_piece<'a>(alloc: Global, text: &'a str) -> Result<Step<'a>, Refusal<usize>>
+    ensures { Steps (plain_piece (chars text.now)) result }
+{
+    match first(text) {
+        Some(('{', rest)) => opening_brace(alloc, text, rest),
+        Some(('}' | '\0', _)) | None => Err(Refusal::Because(0)),
+        Some((c, rest)) => Ok(Step {
+            part: Part::Kept(c),
+            rest,
+        }),
+    }
+}
+
+/// The `{` of a command, if the rest may follow it.
+fn opening_brace<'a>(
+    alloc: Global,
+    text: &'a str,
+    rest: &'a str,
+) -> Result<Step<'a>, Refusal<usize>>
+    requires { chars text.now ≡ opening_brace ∷ chars rest.now }
+    ensures { Steps (plain_piece (chars text.now)) result }
+{
+    if !may_begin(rest) {
+        return Err(Refusal::Because(0));
+    }
+    let sign = before(text, rest);
+    let part = Part::Sign(TokenKind::Begin, sign, text_of(alloc, sign)?);
+    Ok(Step { part, rest })
+}
