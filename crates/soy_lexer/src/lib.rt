@@ -17,6 +17,7 @@ mod string;
 mod tests;
 mod text;
 mod text_piece;
+mod text_tests;
 mod token;
 
 pub use longest::law_longest_token;
@@ -24,4 +25,5 @@ pub use law::law_tokens_unique;
 pub use lexer::lex;
 pub use token::{Token, TokenKind};
 
+#[cfg(test)]
 #[cfg(test)]
