@@ -5,7 +5,7 @@ use Rattle.std.proofs.lemmas.Bool.Decides.{nat_tests}
 use Rattle.std.proofs.lemmas.List.{reverse-append}
 use Rattle.soy_lexer.specs.Characters.{is_white, is_line_end, space}
 use Rattle.soy_lexer.specs.Lines.{Placed, Line, without_end, lines_of, is_angle, begins_angle, ends_angle, characters, joined, last_end}
-use Rattle.soy_lexer.specs.Holds.{unless_empty, lines_after, last_line, AllFilled, Begins, StartsAt, Keeps, is_nil, start_of, space_before}
+use Rattle.soy_lexer.specs.Holds.{unless_empty, lines_after, last_line, AllFilled, IsPresent, StartsAt, Keeps, is_nil, start_of, space_before}
 use Rattle.soy_lexer.specs.Tokens.{token, token_of_lines, run_token}
 use Rattle.soy_lexer.specs.declared.token.TokenKind.TheVariants as kind
 use Rattle.soy_lexer.proofs.Running.{at_start, ended, ended_fresh, white_skipped, line_begun, line_longer, at_end, without_end-white, without_end-other, filled-append, last_line-append, starts_ended, last_end-append, filled_line, characters-append, gap, joined-append, joined_present}
@@ -30,13 +30,13 @@ nothing_kept text white no_text no_white =
     }
 
 -- the present line has no characters where it is fresh
-fresh_line : (fresh : Bool) (done : List Line) (line tail : Line) → Begins fresh done line tail → fresh ≡ true → line ++ tail ≡ []
+fresh_line : (fresh : Bool) (done : List Line) (line tail : Line) → IsPresent fresh done line tail → fresh ≡ true → line ++ tail ≡ []
 fresh_line true done line tail h e = rw (h.0, h.1) refl
 fresh_line false done line tail h e = absurd (cc)
 
 -- a line ends
 ends_line : (fresh : Bool) (done : List Line) (line tail : Line) (c : Placed) (rest : List Placed) → is_line_end c.character ≡ true →
-    without_end (line ++ tail) ≡ line → Begins fresh done line tail →
+    without_end (line ++ tail) ≡ line → IsPresent fresh done line tail →
     lines_after fresh (line ++ tail) (c ∷ rest) ≡ unless_empty line ++ lines_after true [] rest
 ends_line true done line tail c rest e w h = rw (h.0, h.1) (ended_fresh c rest e)
 ends_line false done line tail c rest e w h = ended (line ++ tail) c rest e ∙ ap (λ l. unless_empty l ++ lines_after true [] rest) w
@@ -107,7 +107,7 @@ starts_with ((d ∷ ds) ∷ []) [] tail c text white start start' filled t w s h
 starts_with ((d ∷ ds) ∷ []) (l ∷ ls) tail c text white start start' filled t w s h = h ∙ sym (s ∙ rw t refl)
 starts_with ((d ∷ ds) ∷ next ∷ done) line tail c text white start start' filled t w s h = h ∙ sym (s ∙ rw t refl)
 
-still_begins : (done : List Line) (line tail more : Line) → Begins false done line tail → Begins false done line more
+still_begins : (done : List Line) (line tail more : Line) → IsPresent false done line tail → IsPresent false done line more
 still_begins done [] tail more h = h
 still_begins done (c ∷ cs) tail more h = tt
 
@@ -142,13 +142,13 @@ white_kept {text} {white} {fresh = false} {angle} {start} {text_end} {end} {run}
 
 -- another character goes on with the present line
 
-goes_on : (fresh : Bool) (done : List Line) (line tail : Line) (c : Placed) (rest : List Placed) → Begins fresh done line tail →
+goes_on : (fresh : Bool) (done : List Line) (line tail : Line) (c : Placed) (rest : List Placed) → IsPresent fresh done line tail →
     is_white c.character ≡ false → is_line_end c.character ≡ false →
     lines_after fresh (line ++ tail) (c ∷ rest) ≡ lines_after false ((line ++ tail) ++ c ∷ []) rest
 goes_on true done line tail c rest h w e = rw (h.0, h.1) (line_begun c rest w e)
 goes_on false done line tail c rest h w e = line_longer (line ++ tail) c rest e
 
-begins_filled : (done : List Line) (line : Line) (c : Placed) → Begins false done (line ++ c ∷ []) []
+begins_filled : (done : List Line) (line : Line) (c : Placed) → IsPresent false done (line ++ c ∷ []) []
 begins_filled done [] c = tt
 begins_filled done (l ∷ ls) c = tt
 
@@ -176,7 +176,7 @@ new_line done text angle c filled t a =
     ∙ (ap (λ l. l ++ (gap done (c ∷ []) ++ c.character ∷ [])) t
     ∙ sym (joined-append done (c ∷ [])))))
 
-text_longer : (fresh : Bool) (done : List Line) (line tail : Line) (c : Placed) (text white : List ℕ) (angle : Bool) → AllFilled done → Begins fresh done line tail →
+text_longer : (fresh : Bool) (done : List Line) (line tail : Line) (c : Placed) (text white : List ℕ) (angle : Bool) → AllFilled done → IsPresent fresh done line tail →
     text ≡ joined (done ++ unless_empty line) → white ≡ characters tail → angle ≡ ends_angle (last_line (done ++ unless_empty line)) →
     ((text ++ space_before text fresh angle (is_angle c.character)) ++ white) ++ c.character ∷ [] ≡ joined (done ++ unless_empty ((line ++ tail) ++ c ∷ []))
 text_longer true done line tail c text white angle filled h t w a =
@@ -225,11 +225,11 @@ other_kept {text} {white} {fresh} {angle} {start} {text_end} {end} {run} text' w
     }
 
 -- the lines of the whole run, and their text
-left_lines : (fresh : Bool) (done : List Line) (line tail : Line) → Begins fresh done line tail → lines_after fresh (line ++ tail) [] ≡ unless_empty (line ++ tail)
+left_lines : (fresh : Bool) (done : List Line) (line tail : Line) → IsPresent fresh done line tail → lines_after fresh (line ++ tail) [] ≡ unless_empty (line ++ tail)
 left_lines true done line tail h = rw (h.0, h.1) refl
 left_lines false done line tail h = at_end (line ++ tail)
 
-left_text : (fresh : Bool) (done : List Line) (line tail : Line) → Begins fresh done line tail →
+left_text : (fresh : Bool) (done : List Line) (line tail : Line) → IsPresent fresh done line tail →
     joined (done ++ unless_empty (line ++ tail)) ≡ joined (done ++ unless_empty line) ++ characters tail
 left_text true done line tail h = rw (h.0, h.1) (sym (append-nil (joined (done ++ []))))
 left_text false done line tail h = joined_present false done line tail tail h refl

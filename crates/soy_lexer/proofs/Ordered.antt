@@ -45,22 +45,22 @@ ends_between from to (c ∷ cs) a =
     (omega (arith, a.0, later.0), later.1)
 
 -- a part of a list, in its order
-data Part : List Placed → List Placed → Type 0 where
-  Nothing : Part [] []
-  Same : (c : Placed) (xs ys : List Placed) → Part xs ys → Part (c ∷ xs) (c ∷ ys)
-  Left : (c : Placed) (xs ys : List Placed) → Part xs ys → Part xs (c ∷ ys)
+data IsSublist : List Placed → List Placed → Type 0 where
+  Nothing : IsSublist [] []
+  Same : (c : Placed) (xs ys : List Placed) → IsSublist xs ys → IsSublist (c ∷ xs) (c ∷ ys)
+  Left : (c : Placed) (xs ys : List Placed) → IsSublist xs ys → IsSublist xs (c ∷ ys)
 
-part_ascends : (xs ys : List Placed) → Part xs ys → (from to : ℕ) → Ascends from to ys → Ascends from to xs
+part_ascends : (xs ys : List Placed) → IsSublist xs ys → (from to : ℕ) → Ascends from to ys → Ascends from to xs
 part_ascends _ _ Nothing from to a = a
 part_ascends _ _ (Same c xs ys p) from to a = (a.0, part_ascends xs ys p (c.place + len_utf8 c.character) to a.1)
 part_ascends _ _ (Left c xs ys p) from to a =
     from_earlier from (c.place + len_utf8 c.character) to xs (omega (arith, a.0)) (part_ascends xs ys p (c.place + len_utf8 c.character) to a.1)
 
-all_of : (xs : List Placed) → Part xs xs
+all_of : (xs : List Placed) → IsSublist xs xs
 all_of [] = Nothing
 all_of (x ∷ xs) = Same x xs xs (all_of xs)
 
-both_parts : (xs ys us vs : List Placed) → Part xs ys → Part us vs → Part (xs ++ us) (ys ++ vs)
+both_parts : (xs ys us vs : List Placed) → IsSublist xs ys → IsSublist us vs → IsSublist (xs ++ us) (ys ++ vs)
 both_parts _ _ us vs Nothing q = q
 both_parts _ _ us vs (Same c xs ys p) q = Same c (xs ++ us) (ys ++ vs) (both_parts xs ys us vs p q)
 both_parts _ _ us vs (Left c xs ys p) q = Left c (xs ++ us) (ys ++ vs) (both_parts xs ys us vs p q)
@@ -68,16 +68,16 @@ both_parts _ _ us vs (Left c xs ys p) q = Left c (xs ++ us) (ys ++ vs) (both_par
 reverse-cons : (x : Placed) (xs : List Placed) → reverse xs ++ x ∷ [] ≡ reverse (x ∷ xs)
 reverse-cons x xs = sym (reverse-append (x ∷ []) xs)
 
-reverse_part : (xs ys : List Placed) → Part xs ys → Part (reverse xs) (reverse ys)
+reverse_part : (xs ys : List Placed) → IsSublist xs ys → IsSublist (reverse xs) (reverse ys)
 reverse_part _ _ Nothing = Nothing
 reverse_part _ _ (Same c xs ys p) =
-    subst (λ l. Part l (reverse (c ∷ ys))) (reverse-cons c xs)
-    (subst (λ l. Part (reverse xs ++ c ∷ []) l) (reverse-cons c ys) (both_parts (reverse xs) (reverse ys) (c ∷ []) (c ∷ []) (reverse_part xs ys p) (all_of (c ∷ []))))
+    subst (λ l. IsSublist l (reverse (c ∷ ys))) (reverse-cons c xs)
+    (subst (λ l. IsSublist (reverse xs ++ c ∷ []) l) (reverse-cons c ys) (both_parts (reverse xs) (reverse ys) (c ∷ []) (c ∷ []) (reverse_part xs ys p) (all_of (c ∷ []))))
 reverse_part _ _ (Left c xs ys p) =
-    subst (λ l. Part l (reverse (c ∷ ys))) (append-nil (reverse xs))
-    (subst (λ l. Part (reverse xs ++ []) l) (reverse-cons c ys) (both_parts (reverse xs) (reverse ys) [] (c ∷ []) (reverse_part xs ys p) (Left c [] [] Nothing)))
+    subst (λ l. IsSublist l (reverse (c ∷ ys))) (append-nil (reverse xs))
+    (subst (λ l. IsSublist (reverse xs ++ []) l) (reverse-cons c ys) (both_parts (reverse xs) (reverse ys) [] (c ∷ []) (reverse_part xs ys p) (Left c [] [] Nothing)))
 
-part_of_part : (xs ys zs : List Placed) → Part xs ys → Part ys zs → Part xs zs
+part_of_part : (xs ys zs : List Placed) → IsSublist xs ys → IsSublist ys zs → IsSublist xs zs
 part_of_part xs _ _ p Nothing = p
 part_of_part _ _ _ (Same c xs ys p) (Same _ _ zs q) = Same c xs zs (part_of_part xs ys zs p q)
 part_of_part xs _ _ (Left c _ ys p) (Same _ _ zs q) = Left c xs zs (part_of_part xs ys zs p q)
@@ -85,22 +85,22 @@ part_of_part xs ys _ p (Left c _ zs q) = Left c xs zs (part_of_part xs ys zs p q
 
 -- what is left of lines is a part of them
 
-start_part : (line : Line) → Part (without_start line) line
+start_part : (line : Line) → IsSublist (without_start line) line
 start_part [] = Nothing
 start_part (c ∷ cs) = by_white (is_white c.character) (start_part cs)
   where
-    by_white : (white : Bool) → Part (without_start cs) cs → Part (if white then without_start cs else c ∷ cs) (c ∷ cs)
+    by_white : (white : Bool) → IsSublist (without_start cs) cs → IsSublist (if white then without_start cs else c ∷ cs) (c ∷ cs)
     by_white true p = Left c (without_start cs) cs p
     by_white false p = all_of (c ∷ cs)
 
-end_part : (line : Line) → Part (without_end line) line
-end_part line = subst (λ l. Part (without_end line) l) (reverse-reverse line) (reverse_part (without_start (reverse line)) (reverse line) (start_part (reverse line)))
+end_part : (line : Line) → IsSublist (without_end line) line
+end_part line = subst (λ l. IsSublist (without_end line) l) (reverse-reverse line) (reverse_part (without_start (reverse line)) (reverse line) (start_part (reverse line)))
 
 abbrev pub flat : List Line → List Placed
 flat [] = []
 flat (line ∷ lines) = line ++ flat lines
 
-trimmed_after_part : (lines : List Line) → Part (flat (trimmed_after lines)) (flat lines)
+trimmed_after_part : (lines : List Line) → IsSublist (flat (trimmed_after lines)) (flat lines)
 trimmed_after_part [] = Nothing
 trimmed_after_part (line ∷ []) = both_parts (without_start line) line [] [] (start_part line) Nothing
 trimmed_after_part (line ∷ next ∷ lines) =
@@ -108,7 +108,7 @@ trimmed_after_part (line ∷ next ∷ lines) =
     (part_of_part (without_end (without_start line)) (without_start line) line (end_part (without_start line)) (start_part line))
     (trimmed_after_part (next ∷ lines))
 
-trimmed_part : (lines : List Line) → Part (flat (trimmed lines)) (flat lines)
+trimmed_part : (lines : List Line) → IsSublist (flat (trimmed lines)) (flat lines)
 trimmed_part [] = Nothing
 trimmed_part (line ∷ []) = all_of (line ++ [])
 trimmed_part (line ∷ next ∷ lines) =
@@ -131,17 +131,17 @@ onto_part c (line ∷ lines) = refl
 abbrev split : List Placed → List Line
 split run = slice_split (λ c. is_line_end c.character) run
 
-split_part : (run : List Placed) → Part (flat (split run)) run
+split_part : (run : List Placed) → IsSublist (flat (split run)) run
 split_part [] = Nothing
 split_part (c ∷ cs) = by_end (is_line_end c.character) (split_part cs)
   where
-    by_end : (ends : Bool) → Part (flat (split cs)) cs → Part (flat (cond ends ([] ∷ split cs) (onto_first c (split cs)))) (c ∷ cs)
+    by_end : (ends : Bool) → IsSublist (flat (split cs)) cs → IsSublist (flat (cond ends ([] ∷ split cs) (onto_first c (split cs)))) (c ∷ cs)
     by_end true p = Left c (flat (split cs)) cs p
-    by_end false p = subst (λ l. Part l (c ∷ cs)) (sym (onto_part c (split cs))) (Same c (flat (split cs)) cs p)
+    by_end false p = subst (λ l. IsSublist l (c ∷ cs)) (sym (onto_part c (split cs))) (Same c (flat (split cs)) cs p)
 
-lines_part : (run : List Placed) → Part (flat (lines_of run)) run
+lines_part : (run : List Placed) → IsSublist (flat (lines_of run)) run
 lines_part run =
-    subst (λ l. Part l run) (sym (filled_part (trimmed (split run))))
+    subst (λ l. IsSublist l run) (sym (filled_part (trimmed (split run))))
     (part_of_part (flat (trimmed (split run))) (flat (split run)) run (trimmed_part (split run)) (split_part run))
 
 -- a run's token stands between the run's ends

@@ -23,14 +23,14 @@ pub record Whole (text : List ℕ) (tokens : List Token) (place : ℕ) (run : Li
   pub whole : Pieces 0 (Outside true) text pieces stop
   pub tokens_are : tokens ++ tokens_of place run ps ≡ tokens_of 0 [] pieces
 
-pub record Goes_on (text rest : List ℕ) (side : Side) (lexer : Lexer) (place : ℕ) : Type 0 where
+pub record GoesOn (text rest : List ℕ) (side : Side) (lexer : Lexer) (place : ℕ) : Type 0 where
   pub tokens : List Token
   pub run : List Placed
   pub reads : Reads lexer tokens run
   pub within : width text ≡ place + width rest
   pub goes : (ps : List Piece) (stop : Option ℕ) → Pieces place side rest ps stop → Whole text tokens place run ps stop
 
-pub at_start : (text : List ℕ) (lexer : Lexer) → Reads lexer [] [] → Goes_on text text (Outside true) lexer 0
+pub at_start : (text : List ℕ) (lexer : Lexer) → Reads lexer [] [] → GoesOn text text (Outside true) lexer 0
 at_start text lexer reads =
     record {
       tokens = [];
@@ -40,7 +40,7 @@ at_start text lexer reads =
       goes = λ ps stop d. record { pieces = ps; whole = d; tokens_are = refl };
     }
 
-module _ (text rest : List ℕ) (side : Side) (lexer : Lexer) (place : ℕ) (old : Goes_on text rest side lexer place) where
+module _ (text rest : List ℕ) (side : Side) (lexer : Lexer) (place : ℕ) (old : GoesOn text rest side lexer place) where
   pub rest_within : width rest ≤ width text
   rest_within = omega (arith, old.within)
 
@@ -79,7 +79,7 @@ module _ (text rest : List ℕ) (side : Side) (lexer : Lexer) (place : ℕ) (old
     pub smaller : length rest' < length rest
     smaller = rest_shorter side rest p rest' begins
 
-    pub next : (lexer' : Lexer) (side' : Side) → is_nil rest ≡ false → side' ≡ after side p → Takes lexer lexer' place p → Goes_on text rest' side' lexer' (place + width (written p))
+    pub next : (lexer' : Lexer) (side' : Side) → is_nil rest ≡ false → side' ≡ after side p → Takes lexer lexer' place p → GoesOn text rest' side' lexer' (place + width (written p))
     next lexer' side' some stands takes =
         record {
           tokens = old.tokens ++ given place old.run p;

@@ -5,7 +5,7 @@ use Rattle.std.specs.Char.{len_utf8}
 use Rattle.std.proofs.lemmas.List.{reverse-append, reverse-reverse}
 use Rattle.soy_lexer.specs.Characters.{is_white, is_line_end}
 use Rattle.soy_lexer.specs.Lines.{Placed, Line, without_start, without_end, trimmed, trimmed_after, has_characters, lines_of, between, characters, joined, line_end, last_end}
-use Rattle.soy_lexer.specs.Holds.{unless_empty, lines_after, last_line, AllFilled, Begins, StartsAt}
+use Rattle.soy_lexer.specs.Holds.{unless_empty, lines_after, last_line, AllFilled, IsPresent, StartsAt}
 
 abbrev split : List Placed → List Line
 split run = slice_split (λ c. is_line_end c.character) run
@@ -175,7 +175,7 @@ joined_longer done c cs more =
     ∙ ap (λ l. l ++ characters more) (sym (joined-append done (c ∷ cs)))))))
 
 -- the same of a present line, which is the first where it has no characters yet
-pub joined_present : (fresh : Bool) (done : List Line) (line tail more : Line) → Begins fresh done line tail → fresh ≡ false →
+pub joined_present : (fresh : Bool) (done : List Line) (line tail more : Line) → IsPresent fresh done line tail → fresh ≡ false →
     joined (done ++ unless_empty (line ++ more)) ≡ joined (done ++ unless_empty line) ++ characters more
 joined_present true done line tail more h e = absurd (cc)
 joined_present false done [] tail [] h e = sym (append-nil (joined (done ++ [])))

@@ -13,8 +13,9 @@ use Rattle.soy_lexer.specs.StepsIf.{StepsIf}
 use Rattle.soy_lexer.specs.TextPiece.{continues_line, line_comment, may_begin, plain_piece}
 use Rattle.soy_lexer.specs.declared.step.Step.{Step}
 use Rattle.soy_lexer.specs.declared.token.TokenKind.TheVariants as kind
-use Rattle.soy_lexer.proofs.Texts.{after_front-whole}
-use Rattle.soy_lexer.proofs.Written.{IsCut, cut_parts, while_parts}
+use Rattle.soy_lexer.proofs.Texts.{after_front-whole, cut-whole}
+use Rattle.soy_lexer.proofs.Written.{IsCut}
+use Rattle.soy_lexer.proofs.CommandPieces.{while-whole}
 
 -- the marks, as characters
 pub comment_opens : chars (codes "/*") ≡ codes "/*"
@@ -63,7 +64,7 @@ module _ (mark written : List ℕ) (same : chars written ≡ mark) (front inner 
 
   pub up_to_mark : (a rest : List ℕ) → Some (a, rest) ≡ cut (chars written) inner → text ≡ (front ++ (a ++ mark)) ++ rest
   up_to_mark a rest some =
-      let parts : inner ≡ a ++ (mark ++ rest) = subst (λ o. IsCut mark inner o) (cut_there a rest some) (cut_parts mark inner) in
+      let parts : inner ≡ a ++ (mark ++ rest) = subst (λ o. IsCut mark inner o) (cut_there a rest some) (cut-whole mark inner) in
       whole ∙ (ap (λ l. front ++ l) (parts ∙ sym (append_assoc a mark rest)) ∙ sym (append_assoc front (a ++ mark) rest))
 
   pub before_mark : (a rest part : List ℕ) → Some (a, rest) ≡ cut (chars written) inner → text ≡ part ++ rest → part ≡ front ++ (a ++ mark)
@@ -74,7 +75,7 @@ pub line_front : (text inner rest : List ℕ) → Some inner ≡ after_front (ch
     text ≡ (codes "//" ++ front_while continues_line inner) ++ rest
 line_front text inner rest some is =
     after_it (codes "//") (codes "//") line_opens (λ inner. Fails 0) text inner some
-    ∙ ap (λ l. codes "//" ++ l) (while_parts continues_line inner ∙ ap (λ l. front_while continues_line inner ++ l) (sym is))
+    ∙ ap (λ l. codes "//" ++ l) (while-whole continues_line inner ∙ ap (λ l. front_while continues_line inner ++ l) (sym is))
 
 pub line_steps : (text inner rest part : List ℕ) (r : Result Step (Refusal ℕ)) → Some inner ≡ after_front (chars (codes "//")) text → rest ≡ after_while continues_line inner →
     text ≡ part ++ rest → Steps (begins (Passed part) rest) r → StepsIf (line_comment true text) (Some r)

@@ -1,6 +1,6 @@
 -- What a text begins with is what stands there: the characters of the piece, one at least, and then the rest. Where no
 -- token begins, that is within the text.
-use Rattle.std.proofs.Common.{◌≡◌, ℕ, ◌<◌, ◌≤◌, List, [], ◌∷◌, ◌++◌, length, Bool, true, false, nat_le, ◌==◌, if◌then◌else◌, Option, None, Some, option_map, option_and_then, codes, refl, sym, ◌∙◌, ap, subst, arith, eqb-true, append_assoc, length-append}
+use Rattle.std.proofs.Common.{IfSome, ◌≡◌, ℕ, ◌<◌, ◌≤◌, List, [], ◌∷◌, ◌++◌, length, Bool, true, false, nat_le, ◌==◌, if◌then◌else◌, Option, None, Some, option_map, option_and_then, codes, refl, sym, ◌∙◌, ap, subst, arith, eqb-true, append_assoc, length-append}
 use Rattle.std.specs.Prelude.{unwrap_or}
 use Rattle.std.specs.Option.{option_or}
 use Rattle.std.specs.Char.{is_ascii_digit}
@@ -16,7 +16,8 @@ use Rattle.soy_lexer.specs.CommandPiece.{command_piece, opened_piece, white_piec
 use Rattle.soy_lexer.specs.TextPiece.{text_piece, block_comment, closed_comment, line_comment, continues_line, literal_piece, closed_literal, plain_piece, may_begin, piece_of}
 use Rattle.soy_lexer.specs.declared.token.TokenKind.{TokenKind}
 use Rattle.soy_lexer.specs.declared.token.TokenKind.TheVariants as kind
-use Rattle.soy_lexer.proofs.Texts.{after_front-whole, width-append}
+use Rattle.soy_lexer.proofs.CommandPieces.{while-whole}
+use Rattle.soy_lexer.proofs.Texts.{cut-whole, after_front-whole, width-append}
 
 abbrev pub Stands : List ℕ → Found → Type 0
 Stands text (Begins p rest) = (text ≡ written p ++ rest) × (0 < length (written p))
@@ -46,23 +47,8 @@ after_parts : (front text : List ℕ) (f : List ℕ → Found) → ((inner : Lis
 after_parts front text f each None e = tt
 after_parts front text f each (Some inner) e = each inner (after_front-whole front text inner e)
 
-pub while_parts : (sort : ℕ → Bool) (text : List ℕ) → text ≡ front_while sort text ++ after_while sort text
-while_parts sort [] = refl
-while_parts sort (c ∷ cs) = grind (arith, nat_tests, while_parts sort cs)
-
 abbrev pub IsCut : List ℕ → List ℕ → Option (List ℕ × List ℕ) → Type 0
-IsCut mark text None = Unit {0}
-IsCut mark text (Some parts) = text ≡ parts.0 ++ (mark ++ parts.1)
-
-cut_step : (mark : List ℕ) (c : ℕ) (cs : List ℕ) (f : Option (List ℕ)) (d : Option (List ℕ × List ℕ)) → after_front mark (c ∷ cs) ≡ f → IsCut mark cs d →
-    IsCut mark (c ∷ cs) (option_or (option_map (λ rest. ([], rest)) f) (option_map (λ parts. (c ∷ parts.0, parts.1)) d))
-cut_step mark c cs (Some rest) d e h = after_front-whole mark (c ∷ cs) rest e
-cut_step mark c cs None None e h = tt
-cut_step mark c cs None (Some parts) e h = ap (λ xs. c ∷ xs) h
-
-pub cut_parts : (mark text : List ℕ) → IsCut mark text (cut mark text)
-cut_parts mark [] = tt
-cut_parts mark (c ∷ cs) = cut_step mark c cs (after_front mark (c ∷ cs)) (cut mark cs) refl (cut_parts mark cs)
+IsCut mark text o = IfSome o (λ parts. text ≡ parts.0 ++ (mark ++ parts.1))
 
 -- a piece is where its characters are, unless one is U+0000, which then is within the text
 unless_parts : (text : List ℕ) (p : Piece) (rest : List ℕ) → text ≡ written p ++ rest → 0 < length (written p) →
@@ -72,7 +58,7 @@ unless_parts text p rest e pos (Some parts) h =
     omega (arith, ap width e, ap width h, width-append (written p) rest, width-append parts.0 (0 ∷ parts.1))
 
 begins_parts : (text : List ℕ) (p : Piece) (rest : List ℕ) → text ≡ written p ++ rest → 0 < length (written p) → Stands text (begins p rest)
-begins_parts text p rest e pos = unless_parts text p rest e pos (cut (0 ∷ []) (written p)) (cut_parts (0 ∷ []) (written p))
+begins_parts text p rest e pos = unless_parts text p rest e pos (cut (0 ∷ []) (written p)) (cut-whole (0 ∷ []) (written p))
 
 -- text outside of commands
 
@@ -84,7 +70,7 @@ comment_ends text inner e (Some parts) h =
 block_parts : (text : List ℕ) → StandsIf text (block_comment text)
 block_parts text =
     after_parts (codes "/*") text (λ inner. closed_comment (cut (codes "*/") inner))
-    (λ inner e. comment_ends text inner e (cut (codes "*/") inner) (cut_parts (codes "*/") inner))
+    (λ inner e. comment_ends text inner e (cut (codes "*/") inner) (cut-whole (codes "*/") inner))
     (after_front (codes "/*") text) refl
 
 line_parts : (white : Bool) (text : List ℕ) → StandsIf text (line_comment white text)
@@ -94,7 +80,7 @@ line_parts true text =
     (λ inner. begins (Passed (codes "//" ++ front_while continues_line inner)) (after_while continues_line inner))
     (λ inner e.
     begins_parts text (Passed (codes "//" ++ front_while continues_line inner)) (after_while continues_line inner)
-    (e ∙ ap (λ xs. codes "//" ++ xs) (while_parts continues_line inner)) (omega arith))
+    (e ∙ ap (λ xs. codes "//" ++ xs) (while-whole continues_line inner)) (omega arith))
     (after_front (codes "//") text) refl
 
 literal_ends : (text inner : List ℕ) → text ≡ codes "{literal}" ++ inner → (o : Option (List ℕ × List ℕ)) → IsCut (codes "{/literal}") inner o →
@@ -106,7 +92,7 @@ literal_ends text inner e (Some parts) h =
 literal_parts : (text : List ℕ) → StandsIf text (literal_piece text)
 literal_parts text =
     after_parts (codes "{literal}") text (λ inner. closed_literal (cut (codes "{/literal}") inner))
-    (λ inner e. literal_ends text inner e (cut (codes "{/literal}") inner) (cut_parts (codes "{/literal}") inner))
+    (λ inner e. literal_ends text inner e (cut (codes "{/literal}") inner) (cut-whole (codes "{/literal}") inner))
     (after_front (codes "{literal}") text) refl
 
 plain_parts : (text : List ℕ) → Stands text (plain_piece text)
@@ -141,7 +127,7 @@ IsName text (Some name) = (text ≡ name.0 ++ name.1) × (0 < length name.0)
 
 name_parts : (text : List ℕ) → IsName text (name_front text)
 name_parts [] = tt
-name_parts (c ∷ cs) = if_ways (IsName (c ∷ cs)) (begins_name c) _ _ (λ _. (ap (λ xs. c ∷ xs) (while_parts continues_name cs), omega arith)) tt
+name_parts (c ∷ cs) = if_ways (IsName (c ∷ cs)) (begins_name c) _ _ (λ _. (ap (λ xs. c ∷ xs) (while-whole continues_name cs), omega arith)) tt
 
 named_parts : (kind : TokenKind) (before text : List ℕ) (o : Option (List ℕ × List ℕ)) → IsName text o →
     StandsIf (before ++ text) (option_map (λ name. begins (Sign kind (before ++ name.0) name.0) name.1) o)
@@ -168,7 +154,7 @@ int_parts [] = tt
 int_parts (c ∷ cs) =
     if_ways (StandsIf (c ∷ cs)) (c == 48) _ _ (λ _. begins_parts (c ∷ cs) (Sign kind.Int (c ∷ []) (c ∷ [])) cs refl (omega arith))
     (if_ways (StandsIf (c ∷ cs)) (is_ascii_digit c) _ _
-    (λ _. digits_parts (c ∷ cs) (c ∷ front_while is_ascii_digit cs) (after_while is_ascii_digit cs) (ap (λ xs. c ∷ xs) (while_parts is_ascii_digit cs)) (omega arith)) tt)
+    (λ _. digits_parts (c ∷ cs) (c ∷ front_while is_ascii_digit cs) (after_while is_ascii_digit cs) (ap (λ xs. c ∷ xs) (while-whole is_ascii_digit cs)) (omega arith)) tt)
 
 -- strings
 
@@ -232,7 +218,7 @@ attribute_parts [] = tt
 attribute_parts (c ∷ cs) =
     if_ways (StandsIf (c ∷ cs)) (c == double_quote) _ _
     (λ e. subst (λ d. Stands (d ∷ cs) (value_piece (cut (double_quote ∷ []) cs))) (sym (eqb-true c double_quote e))
-    (value_ends cs (cut (double_quote ∷ []) cs) (cut_parts (double_quote ∷ []) cs))) tt
+    (value_ends cs (cut (double_quote ∷ []) cs) (cut-whole (double_quote ∷ []) cs))) tt
 
 abbrev pub AllWritten : List (List ℕ) → Type 0
 AllWritten [] = Unit {0}

@@ -26,26 +26,30 @@ lines_after fresh line rest =
     let lines = begun line (slice_split (λ c. is_line_end c.character) rest) in
     filter has_characters (if fresh then trimmed_after lines else trimmed lines)
 
+-- the last of lines
 abbrev pub last_line : List Line → Line
 last_line [] = []
 last_line (line ∷ []) = line
 last_line (line ∷ next ∷ lines) = last_line (next ∷ lines)
 
+-- each line has characters
 abbrev pub AllFilled : List Line → Type 0
 AllFilled [] = Unit {0}
 AllFilled ([] ∷ lines) = ⊥
 AllFilled ((c ∷ cs) ∷ lines) = AllFilled lines
 
 -- a present line after a line end begins with no white space; one without other characters is the first
-abbrev pub Begins : Bool → List Line → Line → Line → Type 0
-Begins true done line white = (line ≡ []) × (white ≡ [])
-Begins false done [] white = done ≡ []
-Begins false done (c ∷ cs) white = Unit {0}
+abbrev pub IsPresent : Bool → List Line → Line → Line → Type 0
+IsPresent true done line white = (line ≡ []) × (white ≡ [])
+IsPresent false done [] white = done ≡ []
+IsPresent false done (c ∷ cs) white = Unit {0}
 
+-- lines start at this place, if there are any
 abbrev pub StartsAt : List Line → ℕ → Type 0
 StartsAt [] start = Unit {0}
 StartsAt (line ∷ lines) start = first_place (line ∷ lines) ≡ start
 
+-- what the parts of a run are for its characters
 pub record Keeps (text white : List ℕ) (fresh angle : Bool) (start text_end end : ℕ) (run : List Placed) : Type 0 where
   pub done : List Line  -- the lines that have ended, as they are left
   pub line : Line  -- the present one without the white space at its end
@@ -53,7 +57,7 @@ pub record Keeps (text white : List ℕ) (fresh angle : Bool) (start text_end en
   pub lines_are : (rest : List Placed) → lines_of (run ++ rest) ≡ done ++ lines_after fresh (line ++ tail) rest
   pub filled : AllFilled done
   pub without : without_end (line ++ tail) ≡ line
-  pub begins : Begins fresh done line tail
+  pub begins : IsPresent fresh done line tail
   pub text_is : text ≡ joined (done ++ unless_empty line)
   pub white_is : white ≡ characters tail
   pub angle_is : angle ≡ ends_angle (last_line (done ++ unless_empty line))
@@ -61,6 +65,7 @@ pub record Keeps (text white : List ℕ) (fresh angle : Bool) (start text_end en
   pub text_ends : last_end 0 (done ++ unless_empty line) ≡ text_end
   pub ends : last_end 0 (done ++ unless_empty (line ++ tail)) ≡ end
 
+-- whether a text has no characters
 abbrev pub is_nil : List ℕ → Bool
 is_nil [] = true
 is_nil (c ∷ cs) = false
@@ -75,8 +80,14 @@ start_of (c ∷ cs) white start place = start
 abbrev pub needs_space : List ℕ → Bool → Bool → Bool → Bool
 needs_space text fresh angle next = fresh && not (is_nil text) && not (angle || next)
 
+-- and the text that comes there
 abbrev pub space_before : List ℕ → Bool → Bool → Bool → List ℕ
 space_before text fresh angle next = if needs_space text fresh angle next then space ∷ [] else []
 
+-- a run was made of these characters
 abbrev pub Holds : Run → List Placed → Type 0
 Holds run list = Keeps (chars (string_bytes run.text)) (chars (string_bytes run.white)) run.fresh run.angle run.start run.text_end run.end list
+
+-- one more character came to a run
+abbrev pub Adds : Run → Run → Placed → Type 0
+Adds old new c = (run : List Placed) → Holds old run → Holds new (run ++ c ∷ [])

@@ -44,7 +44,7 @@ fn literal_start(place: u64, literal: &str) -> u64
 
 /// The tokens so far, and the run that goes on.
 #[derive(Debug, Drop)]
-pub(crate) struct Lexer {
+struct Lexer {
     alloc: Global,
     tokens: Vec<Token>,
     run: Run,

@@ -2,7 +2,7 @@ ghost use Rattle.std.specs.Prelude.{◌≡◌, ℕ, ◌<◌, ◌+◌, ◌^◌, L
 ghost use Rattle.std.specs.Str.{chars};
 ghost use Rattle.std.specs.String.{string_bytes};
 ghost use Rattle.soy_lexer.specs.Characters.{is_line_end, is_white, space};
-ghost use Rattle.soy_lexer.specs.Holds.{Holds, is_nil, needs_space, start_of};
+ghost use Rattle.soy_lexer.specs.Holds.{Adds, Holds, is_nil, needs_space, start_of};
 ghost use Rattle.soy_lexer.specs.Lines.{Placed, is_angle};
 ghost use Rattle.soy_lexer.specs.Tokens.{run_token};
 
@@ -74,7 +74,7 @@ impl Run {
     /// Adds the run's next character, which stands at this place.
     pub(crate) fn add(&mut self, c: char, place: u64) -> Result<(), OutOfMemory>
         requires { place + 4 < 2 ^ 64 }
-        ensures { OnOk result ((run : List Placed) → Holds self.old run → Holds self.new (run ++ record { place = place; character = c } ∷ [])) }
+        ensures { OnOk result (Adds self.old self.new (record { place = place; character = c })) }
     {
         match c {
             '\n' | '\r' => {
@@ -87,7 +87,7 @@ impl Run {
     }
 
     fn end_line(&mut self)
-        ensures { (run : List Placed) (c : Placed) → IsTrue (is_line_end c.character) → Holds self.old run → Holds self.new (run ++ c ∷ []) }
+        ensures { (c : Placed) → IsTrue (is_line_end c.character) → Adds self.old self.new c }
     {
         self.white.clear();
         self.fresh = true;
@@ -116,7 +116,7 @@ impl Run {
         requires white { IsTrue (is_white c) }
         requires goes_on { is_line_end c ≡ false }
         requires place { place + 4 < 2 ^ 64 }
-        ensures { OnOk result ((run : List Placed) → Holds self.old run → Holds self.new (run ++ record { place = place; character = c } ∷ [])) }
+        ensures { OnOk result (Adds self.old self.new (record { place = place; character = c })) }
     {
         if self.fresh {
             return Ok(());
@@ -130,7 +130,7 @@ impl Run {
     fn add_other(&mut self, c: char, place: u64) -> Result<(), OutOfMemory>
         requires other { is_white c ≡ false }
         requires place { place + 4 < 2 ^ 64 }
-        ensures { OnOk result ((run : List Placed) → Holds self.old run → Holds self.new (run ++ record { place = place; character = c } ∷ [])) }
+        ensures { OnOk result (Adds self.old self.new (record { place = place; character = c })) }
     {
         let angle = is_angle(c);
         let needs_space = self.needs_space(angle);

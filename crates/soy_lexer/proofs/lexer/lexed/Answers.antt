@@ -4,7 +4,7 @@ use Rattle.soy_lexer.specs.Characters.{width}
 use Rattle.soy_lexer.specs.Piece.{written}
 use Rattle.soy_lexer.specs.SeenSide.{seen_side}
 use Rattle.soy_lexer.specs.Steps.{seen_part}
-use Rattle.soy_lexer.proofs.Reading.{Goes_on, fails_within, ended, stopped, place_after, smaller, next}
+use Rattle.soy_lexer.proofs.Reading.{GoesOn, fails_within, ended, stopped, place_after, smaller, next}
 use Rattle.soy_lexer.proofs.lexer.lexed.Goals as goal
 
 pub overflow_add-result : goal.overflow_add-result
@@ -44,7 +44,7 @@ loop-rest-preserved c =
     omega (arith, after, c.width.ensures, c.width-length.ensures) in
     record {
       utf8 = search rules;
-      goes_on = subst (λ n. Goes_on (chars c.args.text.now) (chars c.in-Ok.step.rest.now) (seen_side c.after-standing.result) c.take.new.self n) place
+      goes_on = subst (λ n. GoesOn (chars c.args.text.now) (chars c.in-Ok.step.rest.now) (seen_side c.after-standing.result) c.take.new.self n) place
           (next (chars c.args.text.now) (chars c.loop-rest.rest.now) (seen_side c.loop-rest.standing) c.loop-rest.lexer c.loop-rest.place c.loop-rest.invariant.goes_on
           (seen_part c.in-Ok.step.part) (chars c.in-Ok.step.rest.now) c.in-Ok.ensures c.take.new.self (seen_side c.after-standing.result)
           (sym c.is_empty.ensures ∙ c.loop-rest-test.true) c.after-standing.ensures c.in_ok-take.ensures);

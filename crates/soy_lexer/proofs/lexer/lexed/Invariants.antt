@@ -1,14 +1,14 @@
 use Rattle.std.proofs.Common.{length}
 use Rattle.std.specs.Str.{chars, IsUtf8}
 use Rattle.soy_lexer.specs.SeenSide.{seen_side}
-use Rattle.soy_lexer.proofs.Reading.{Goes_on}
+use Rattle.soy_lexer.proofs.Reading.{GoesOn}
 use Rattle.soy_lexer.proofs.lexer.lexed.Given as goal
 
 abbrev pub invariant-loop-rest : goal.invariant-loop-rest
 invariant-loop-rest l =
     record {
       utf8 : IsUtf8 l.rest;
-      goes_on : Goes_on (chars l.text) (chars l.rest) (seen_side l.standing) l.lexer l.place;
+      goes_on : GoesOn (chars l.text) (chars l.rest) (seen_side l.standing) l.lexer l.place;
     }
 
 abbrev pub decreases-loop-rest : goal.decreases-loop-rest

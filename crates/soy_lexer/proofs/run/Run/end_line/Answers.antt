@@ -5,4 +5,4 @@ use Rattle.soy_lexer.proofs.Kept.{line_end_kept}
 use Rattle.soy_lexer.proofs.run.Run.end_line.Goals as goal
 
 pub returns : goal.returns
-returns c = λ run end ends holds. line_end_kept _ end holds ends (ap chars c.clear.ensures.bytes ∙ chars-nil)
+returns c = λ end ends run holds. line_end_kept _ end holds ends (ap chars c.clear.ensures.bytes ∙ chars-nil)
