@@ -14,16 +14,16 @@ mod run;
 mod standing;
 mod step;
 mod string;
-mod tests;
 mod text;
 mod text_piece;
-mod text_tests;
 mod token;
 
-pub use longest::law_longest_token;
 pub use law::law_tokens_unique;
 pub use lexer::lex;
+pub use longest::law_longest_token;
 pub use token::{Token, TokenKind};
 
 #[cfg(test)]
+mod tests;
 #[cfg(test)]
+mod text_tests;
