@@ -3,9 +3,9 @@ use Rattle.std.proofs.Common.{◌≡◌, ℕ, ◌+◌, List, [], ◌∷◌, ◌+
 use Rattle.std.specs.Char.{len_utf8}
 use Rattle.std.proofs.lemmas.Bool.Decides.{nat_tests}
 use Rattle.std.proofs.lemmas.List.{reverse-append}
-use Rattle.soy_lexer.specs.Characters.{is_white, is_line_end, space}
+use Rattle.soy_lexer.specs.Characters.{is_line_end, is_nil, is_white, space}
 use Rattle.soy_lexer.specs.Lines.{Placed, Line, without_end, lines_of, is_angle, begins_angle, ends_angle, characters, joined, last_end}
-use Rattle.soy_lexer.specs.Holds.{unless_empty, lines_after, last_line, AllFilled, IsPresent, StartsAt, Keeps, is_nil, start_of, space_before}
+use Rattle.soy_lexer.specs.Holds.{unless_empty, lines_after, last_line, AllFilled, IsPresent, StartsAt, Keeps, start_of, space_before}
 use Rattle.soy_lexer.specs.Tokens.{token, token_of_lines, run_token}
 use Rattle.soy_lexer.specs.declared.token.TokenKind.TheVariants as kind
 use Rattle.soy_lexer.proofs.Running.{at_start, ended, ended_fresh, white_skipped, line_begun, line_longer, at_end, without_end-white, without_end-other, filled-append, last_line-append, starts_ended, last_end-append, filled_line, characters-append, gap, joined-append, joined_present}

@@ -1,7 +1,6 @@
 -- The reading of a text piece by piece: what the pieces to come make of the rest, all pieces make of the whole.
 use Rattle.std.proofs.Common.{◌≡◌, ℕ, ◌+◌, ◌<◌, ◌≤◌, List, [], ◌∷◌, ◌++◌, true, false, Option, None, Some, length, refl, ap, subst, ◌∙◌, arith, append_assoc}
-use Rattle.soy_lexer.specs.Characters.{width}
-use Rattle.soy_lexer.specs.Holds.{is_nil}
+use Rattle.soy_lexer.specs.Characters.{is_nil, width}
 use Rattle.soy_lexer.specs.Lexed.{Reads, Takes}
 use Rattle.soy_lexer.specs.Lines.{Placed}
 use Rattle.soy_lexer.specs.Piece.{Piece, Side, written, after}

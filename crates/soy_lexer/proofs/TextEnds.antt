@@ -3,7 +3,7 @@ use Rattle.std.proofs.Common.{◌≡◌, ℕ, ◌<◌, List, [], ◌∷◌, Bool
 use Rattle.std.specs.Str.{chars, IsUtf8}
 use Rattle.std.proofs.lemmas.Bool.Decides.{nat_tests}
 use Rattle.std.proofs.lemmas.Str.{chars-nil}
-use Rattle.soy_lexer.specs.Holds.{is_nil}
+use Rattle.soy_lexer.specs.Characters.{is_nil}
 use Rattle.soy_lexer.proofs.Texts.{some_characters}
 
 some_not_nil : (cs : List ℕ) → 0 < length cs → false ≡ is_nil cs

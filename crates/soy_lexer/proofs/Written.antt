@@ -4,7 +4,6 @@ use Rattle.std.proofs.Common.{IfSome, ◌≡◌, ℕ, ◌<◌, ◌≤◌, List, 
 use Rattle.std.specs.Prelude.{unwrap_or}
 use Rattle.std.specs.Option.{option_or}
 use Rattle.std.specs.Char.{is_ascii_digit}
-use Rattle.std.proofs.lemmas.Bool.Decides.{nat_tests}
 use Rattle.soy_lexer.specs.Characters.{width, is_white, begins_name, continues_name, dollar, single_quote, double_quote, backslash, opening_brace, closing_brace}
 use Rattle.soy_lexer.specs.Cuts.{after_front, cut, front_while, after_while}
 use Rattle.soy_lexer.specs.Piece.{Piece, Found, Side, written, begins, unless_null}

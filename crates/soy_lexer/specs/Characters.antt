@@ -1,7 +1,7 @@
 -- The characters that tokens are told by, and how many bytes characters take in a file, which is UTF-8.
 --
 -- White space is space, tab, LF and CR; a name begins with an ASCII letter or `_`, and goes on with these and digits.
-use Rattle.std.specs.Prelude.{ℕ, ◌+◌, List, [], ◌∷◌, Bool, ◌||◌, ◌==◌}
+use Rattle.std.specs.Prelude.{ℕ, ◌+◌, List, [], ◌∷◌, Bool, true, false, ◌||◌, ◌==◌}
 use Rattle.std.specs.Char.{is_ascii_alphabetic, is_ascii_digit, len_utf8}
 
 abbrev pub tab : ℕ
@@ -51,3 +51,8 @@ continues_name c = begins_name c || is_ascii_digit c
 abbrev pub width : List ℕ → ℕ
 width [] = 0
 width (c ∷ cs) = len_utf8 c + width cs
+
+-- whether there are no characters
+abbrev pub is_nil : List ℕ → Bool
+is_nil [] = true
+is_nil (c ∷ cs) = false

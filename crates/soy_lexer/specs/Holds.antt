@@ -6,7 +6,7 @@ use Rattle.std.specs.Prelude.{◌≡◌, ℕ, List, [], ◌∷◌, ◌++◌, Boo
 use Rattle.std.specs.List.{filter, slice_split}
 use Rattle.std.specs.Str.{chars}
 use Rattle.std.specs.String.{string_bytes}
-use Rattle.soy_lexer.specs.Characters.{is_line_end, space}
+use Rattle.soy_lexer.specs.Characters.{is_line_end, is_nil, space}
 use Rattle.soy_lexer.specs.Lines.{Placed, Line, without_end, trimmed, trimmed_after, has_characters, lines_of, ends_angle, characters, joined, first_place, last_end}
 use Rattle.soy_lexer.specs.declared.run.Run.{Run}
 
@@ -64,11 +64,6 @@ pub record Keeps (text white : List ℕ) (fresh angle : Bool) (start text_end en
   pub starts : StartsAt (done ++ unless_empty (line ++ tail)) start
   pub text_ends : last_end 0 (done ++ unless_empty line) ≡ text_end
   pub ends : last_end 0 (done ++ unless_empty (line ++ tail)) ≡ end
-
--- whether a text has no characters
-abbrev pub is_nil : List ℕ → Bool
-is_nil [] = true
-is_nil (c ∷ cs) = false
 
 -- where a run starts to which one more character comes that stands at this place
 abbrev pub start_of : List ℕ → List ℕ → ℕ → ℕ → ℕ

@@ -13,10 +13,10 @@ ghost use Rattle.soy_lexer.specs.Tokens.{literal_start, run_token};
 ghost use Rattle.soy_lexer.specs.declared.token.Token.{Token};
 
 use crate::command::{command_piece, opened_piece};
-use crate::run::{Run, is_empty};
+use crate::run::Run;
 use crate::standing::Standing;
 use crate::step::{Part, Step};
-use crate::text::{text_of, width};
+use crate::text::{is_empty, text_of, width};
 use crate::text_piece::text_piece;
 use crate::token::{Token, TokenKind};
 use soy_base::{Code, Fault, OutOfMemory, Refusal, Span, Text};

@@ -2,11 +2,11 @@ ghost use Rattle.std.specs.Prelude.{◌≡◌, ℕ, ◌<◌, ◌+◌, ◌^◌, L
 ghost use Rattle.std.specs.Str.{chars};
 ghost use Rattle.std.specs.String.{string_bytes};
 ghost use Rattle.soy_lexer.specs.Characters.{is_line_end, is_white, space};
-ghost use Rattle.soy_lexer.specs.Holds.{Adds, Holds, is_nil, needs_space, start_of};
+ghost use Rattle.soy_lexer.specs.Holds.{Adds, Holds, needs_space, start_of};
 ghost use Rattle.soy_lexer.specs.Lines.{Placed, is_angle};
 ghost use Rattle.soy_lexer.specs.Tokens.{run_token};
 
-use crate::text::push;
+use crate::text::{is_empty, push, push_text};
 use crate::token::{Token, TokenKind};
 use soy_base::{OutOfMemory, Span, Text};
 use std::alloc::Global;
@@ -35,24 +35,10 @@ fn is_angle(c: char) -> bool
     c == '<' || c == '>'
 }
 
-fn push_all(text: &mut String, more: &str) -> Result<(), OutOfMemory>
-    ensures { OnOk result (chars (string_bytes text.new) ≡ chars (string_bytes text.old) ++ chars more.now) }
-{
-    text.push_str(more)?;
-    Ok(())
-}
-
 fn push_space_if(wanted: bool, text: &mut String) -> Result<(), OutOfMemory>
     ensures { OnOk result (chars (string_bytes text.new) ≡ chars (string_bytes text.old) ++ (if wanted then space ∷ [] else [])) }
 {
     if wanted { push(text, ' ') } else { Ok(()) }
-}
-
-/// Whether a text has no characters.
-pub(crate) fn is_empty(text: &str) -> bool
-    ensures { result ≡ is_nil (chars text.now) }
-{
-    text.is_empty()
 }
 
 impl Run {
@@ -136,7 +122,7 @@ impl Run {
         let needs_space = self.needs_space(angle);
         self.start = self.start_with(place);
         push_space_if(needs_space, &mut self.text)?;
-        push_all(&mut self.text, self.white.as_str())?;
+        push_text(&mut self.text, self.white.as_str())?;
         push(&mut self.text, c)?;
         self.white.clear();
         self.fresh = false;
@@ -157,7 +143,7 @@ impl Run {
             end,
             ..
         } = self;
-        push_all(&mut text, white.as_str())?;
+        push_text(&mut text, white.as_str())?;
         if is_empty(text.as_str()) {
             return Ok(None);
         }

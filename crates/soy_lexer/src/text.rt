@@ -3,7 +3,7 @@ ghost use Rattle.std.specs.Prelude.{◌≡◌, ℕ, ◌<◌, List, [], ◌∷◌
 ghost use Rattle.std.specs.Char.{is_ascii_digit};
 ghost use Rattle.std.specs.Str.{chars};
 ghost use Rattle.std.specs.String.{string_bytes};
-ghost use Rattle.soy_lexer.specs.Characters.{continues_name, width};
+ghost use Rattle.soy_lexer.specs.Characters.{continues_name, is_nil, width};
 ghost use Rattle.soy_lexer.specs.Cuts.{after_front, cut, front_while, after_while};
 ghost use Rattle.soy_lexer.specs.TextPiece.{continues_line};
 
@@ -15,6 +15,13 @@ pub(crate) fn width(text: &str) -> usize
     ensures { result ≡ width (chars text.now) }
 {
     text.len()
+}
+
+/// Whether a text has no characters.
+pub(crate) fn is_empty(text: &str) -> bool
+    ensures { result ≡ is_nil (chars text.now) }
+{
+    text.is_empty()
 }
 
 /// The first character of a text and what follows it, if there is one.
@@ -87,6 +94,14 @@ pub(crate) fn push(text: &mut String, c: char) -> Result<(), OutOfMemory>
     ensures { OnOk result (chars (string_bytes text.new) ≡ chars (string_bytes text.old) ++ c ∷ []) }
 {
     text.push(c)?;
+    Ok(())
+}
+
+/// Adds characters at the end of a text.
+pub(crate) fn push_text(text: &mut String, more: &str) -> Result<(), OutOfMemory>
+    ensures { OnOk result (chars (string_bytes text.new) ≡ chars (string_bytes text.old) ++ chars more.now) }
+{
+    text.push_str(more)?;
     Ok(())
 }
 

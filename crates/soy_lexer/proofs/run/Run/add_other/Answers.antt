@@ -11,7 +11,7 @@ pub returns : goal.returns
 returns c = λ run holds.
     other_kept _ _ _ _ _ (record { place = c.args.place; character = c.args.c }) holds c.requires.other (not_white c.args.c c.requires.other)
     (c.in_ok-push.ensures ∙ ap (λ l. l ++ c.args.c ∷ [])
-    (c.in_ok-push_all.ensures
+    (c.in_ok-push_text.ensures
     ∙ (ap (λ l. l ++ chars c.as_str.result.now) (c.in_ok-push_space_if.ensures ∙ ap (λ b. chars (string_bytes c.args.self.now.text) ++ (if b then space ∷ [] else [])) c.needs_space-needs_space.ensures)
     ∙ ap (λ l. (chars (string_bytes c.args.self.now.text) ++ space_before (chars (string_bytes c.args.self.now.text)) c.args.self.now.fresh c.args.self.now.angle c.is_angle-angle.result) ++ chars l) c.as_str.ensures.value)))
     (ap chars c.clear.ensures.bytes ∙ chars-nil)
