@@ -12,11 +12,13 @@ use Rattle.soy_lexer.specs.LongestToken.{is_name, is_int, is_nothing, is_symbol,
 use Rattle.soy_lexer.specs.LongestToken.StringRest.{Ends, Plain, Escape, Number}
 use Rattle.soy_lexer.specs.Piece.{Found, begins, unless_null, written}
 use Rattle.soy_lexer.specs.Piece.Found.{Begins, Fails}
-use Rattle.soy_lexer.specs.Piece.Piece.{Sign, Passed}
+use Rattle.soy_lexer.specs.Piece.Piece.{Sign, Passed, Kept, Literal}
 use Rattle.soy_lexer.specs.Strings.{Quoted, quoted, quoted_escape, quoted_number, escaped, numbered, with_character}
 use Rattle.soy_lexer.specs.declared.token.TokenKind.{TokenKind}
 use Rattle.soy_lexer.specs.declared.token.TokenKind.TheVariants as kind
 use Rattle.soy_lexer.proofs.CommandPieces.{begins_word, begins_int, begins_variable, digits_int, word, word_after, some_parts, no_null-cons}
+use Rattle.soy_lexer.proofs.Written.{Stands, piece_stands}
+use Rattle.soy_lexer.specs.Piece.Side.{Inside}
 use Rattle.soy_lexer.proofs.Texts.{cut-first}
 
 -- no U+0000 stands in a text that isn't cut at one, and the other way round
@@ -44,31 +46,36 @@ both_hold : (a b : Bool) → (a && b) ≡ true → (a ≡ true) × (b ≡ true)
 both_hold true b h = (refl, h)
 both_hold false b h = cc
 
+-- what is found is a token by its form, where it is one
+abbrev Formed : Found → Type 0
+Formed (Begins (Sign k written value) rest) = IsToken k written
+Formed _ = Unit {0}
+
 -- a piece of this form is a token where it begins
-begins_token : (k : TokenKind) (written value rest : List ℕ) → Form k written → GivesToken (begins (Sign k written value) rest)
+begins_token : (k : TokenKind) (written value rest : List ℕ) → Form k written → Formed (begins (Sign k written value) rest)
 begins_token k written value rest form = token_by (cut (0 ∷ []) written) refl
   where
-    token_by : (o : Option (List ℕ × List ℕ)) → cut (0 ∷ []) written ≡ o → GivesToken (unless_null o (Begins (Sign k written value) rest))
+    token_by : (o : Option (List ℕ × List ℕ)) → cut (0 ∷ []) written ≡ o → Formed (unless_null o (Begins (Sign k written value) rest))
     token_by None e = record { form = form; has_no_null = no_null-cut written e }
     token_by (Some parts) e = tt
 
 -- the same where something may begin
-abbrev GivesTokenIf : Option Found → Type 0
-GivesTokenIf None = Unit {0}
-GivesTokenIf (Some found) = GivesToken found
+abbrev FormedIf : Option Found → Type 0
+FormedIf None = Unit {0}
+FormedIf (Some found) = Formed found
 
-or_token : (a b : Option Found) → GivesTokenIf a → GivesTokenIf b → GivesTokenIf (option_or a b)
+or_token : (a b : Option Found) → FormedIf a → FormedIf b → FormedIf (option_or a b)
 or_token None b h k = k
 or_token (Some found) b h k = h
 
-unwrap_token : (a : Option Found) → GivesTokenIf a → GivesToken (unwrap_or a (Fails 0))
+unwrap_token : (a : Option Found) → FormedIf a → Formed (unwrap_or a (Fails 0))
 unwrap_token None h = tt
 unwrap_token (Some found) h = h
 
-fixed_token : (k : TokenKind) (front text : List ℕ) → Form k front → GivesTokenIf (fixed_piece k front text)
+fixed_token : (k : TokenKind) (front text : List ℕ) → Form k front → FormedIf (fixed_piece k front text)
 fixed_token k front text form = fixed_by (after_front front text)
   where
-    fixed_by : (o : Option (List ℕ)) → GivesTokenIf (option_map (λ rest. begins (Sign k front front) rest) o)
+    fixed_by : (o : Option (List ℕ)) → FormedIf (option_map (λ rest. begins (Sign k front front) rest) o)
     fixed_by None = tt
     fixed_by (Some rest) = begins_token k front front rest form
 
@@ -89,48 +96,48 @@ name_named (c ∷ cs) = named_by (begins_name c) refl
     named_by true e = rw e (rw e (all_while continues_name cs))
     named_by false e = rw e tt
 
-name_token : (k : TokenKind) (before text : List ℕ) → ((name : List ℕ) → is_name name ≡ true → Form k (before ++ name)) → GivesTokenIf (name_piece k before text)
+name_token : (k : TokenKind) (before text : List ℕ) → ((name : List ℕ) → is_name name ≡ true → Form k (before ++ name)) → FormedIf (name_piece k before text)
 name_token k before text form = name_by (name_front text) (name_named text)
   where
-    name_by : (o : Option (List ℕ × List ℕ)) → IfSome o (λ name. is_name name.0 ≡ true) → GivesTokenIf (option_map (λ name. begins (Sign k (before ++ name.0) name.0) name.1) o)
+    name_by : (o : Option (List ℕ × List ℕ)) → IfSome o (λ name. is_name name.0 ≡ true) → FormedIf (option_map (λ name. begins (Sign k (before ++ name.0) name.0) name.1) o)
     name_by None h = tt
     name_by (Some name) h = begins_token k (before ++ name.0) name.0 name.1 (form name.0 h)
 
-white_token : (text : List ℕ) → GivesTokenIf (white_piece text)
+white_token : (text : List ℕ) → FormedIf (white_piece text)
 white_token [] = tt
 white_token (c ∷ cs) = white_by (is_white c)
   where
-    passed_by : (o : Option (List ℕ × List ℕ)) → GivesToken (unless_null o (Begins (Passed (c ∷ [])) cs))
+    passed_by : (o : Option (List ℕ × List ℕ)) → Formed (unless_null o (Begins (Passed (c ∷ [])) cs))
     passed_by None = tt
     passed_by (Some parts) = tt
 
-    white_by : (t : Bool) → GivesTokenIf (if t then Some (begins (Passed (c ∷ [])) cs) else None)
+    white_by : (t : Bool) → FormedIf (if t then Some (begins (Passed (c ∷ [])) cs) else None)
     white_by true = passed_by (cut (0 ∷ []) (c ∷ []))
     white_by false = tt
 
-variable_token : (text : List ℕ) → GivesTokenIf (variable_piece text)
+variable_token : (text : List ℕ) → FormedIf (variable_piece text)
 variable_token [] = tt
 variable_token (c ∷ cs) = variable_by (c == 36)
   where
-    variable_by : (t : Bool) → GivesTokenIf (if t then name_piece kind.Variable (36 ∷ []) cs else None)
+    variable_by : (t : Bool) → FormedIf (if t then name_piece kind.Variable (36 ∷ []) cs else None)
     variable_by true = name_token kind.Variable (36 ∷ []) cs (λ name h. (refl, h))
     variable_by false = tt
 
-int_token : (text : List ℕ) → GivesTokenIf (int_piece text)
+int_token : (text : List ℕ) → FormedIf (int_piece text)
 int_token [] = tt
 int_token (c ∷ cs) = int_by (c == 48) refl
   where
     within_by : (t : Bool) → (c == 48) ≡ false → is_ascii_digit c ≡ true → nat_le (number_after 0 (c ∷ front_while is_ascii_digit cs)) largest_int ≡ t →
-        GivesToken (if t then begins (Sign kind.Int (c ∷ front_while is_ascii_digit cs) (c ∷ front_while is_ascii_digit cs)) (after_while is_ascii_digit cs) else Fails 0)
+        Formed (if t then begins (Sign kind.Int (c ∷ front_while is_ascii_digit cs) (c ∷ front_while is_ascii_digit cs)) (after_while is_ascii_digit cs) else Fails 0)
     within_by true e digit h =
         begins_token kind.Int (c ∷ front_while is_ascii_digit cs) (c ∷ front_while is_ascii_digit cs) (after_while is_ascii_digit cs) (rw (e, digit, all_while is_ascii_digit cs) h)
     within_by false e digit h = tt
 
-    digit_by : (t : Bool) → (c == 48) ≡ false → is_ascii_digit c ≡ t → GivesTokenIf (if t then Some (digits_piece (c ∷ front_while is_ascii_digit cs) (after_while is_ascii_digit cs)) else None)
+    digit_by : (t : Bool) → (c == 48) ≡ false → is_ascii_digit c ≡ t → FormedIf (if t then Some (digits_piece (c ∷ front_while is_ascii_digit cs) (after_while is_ascii_digit cs)) else None)
     digit_by true e digit = within_by (nat_le (number_after 0 (c ∷ front_while is_ascii_digit cs)) largest_int) e digit refl
     digit_by false e digit = tt
 
-    int_by : (t : Bool) → (c == 48) ≡ t → GivesTokenIf (if t then Some (begins (Sign kind.Int (c ∷ []) (c ∷ [])) cs) else if is_ascii_digit c then Some (digits_piece (c ∷ front_while is_ascii_digit cs) (after_while is_ascii_digit cs)) else None)
+    int_by : (t : Bool) → (c == 48) ≡ t → FormedIf (if t then Some (begins (Sign kind.Int (c ∷ []) (c ∷ [])) cs) else if is_ascii_digit c then Some (digits_piece (c ∷ front_while is_ascii_digit cs) (after_while is_ascii_digit cs)) else None)
     int_by true e = begins_token kind.Int (c ∷ []) (c ∷ []) cs (rw e refl)
     int_by false e = digit_by (is_ascii_digit c) e refl
 
@@ -174,15 +181,15 @@ mutual
   number_rest (a ∷ b ∷ c ∷ []) = tt
   number_rest (a ∷ b ∷ c ∷ d ∷ cs) = then_rest (92 ∷ 117 ∷ a ∷ b ∷ c ∷ d ∷ []) (numbered a b c d) (quoted cs) (λ e is ds rest. Number a b c d e ds is rest) (quoted_rest cs)
 
-string_token : (text : List ℕ) → GivesTokenIf (string_piece text)
+string_token : (text : List ℕ) → FormedIf (string_piece text)
 string_token [] = tt
 string_token (c ∷ cs) = string_by (c == 39)
   where
-    quoted_token : (o : Option Quoted) → IfSome o (λ q. StringRest q.written) → GivesToken (quoted_piece o)
+    quoted_token : (o : Option Quoted) → IfSome o (λ q. StringRest q.written) → Formed (quoted_piece o)
     quoted_token None h = tt
     quoted_token (Some q) h = begins_token kind.Str (39 ∷ q.written) q.value q.rest (refl, h)
 
-    string_by : (t : Bool) → GivesTokenIf (if t then Some (quoted_piece (quoted cs)) else None)
+    string_by : (t : Bool) → FormedIf (if t then Some (quoted_piece (quoted cs)) else None)
     string_by true = quoted_token (quoted cs) (quoted_rest cs)
     string_by false = tt
 
@@ -197,27 +204,27 @@ cut_lacks mark (c ∷ cs) = lacks_by (mark == c) (cut (mark ∷ []) cs) refl (cu
     lacks_by false None e h = tt
     lacks_by false (Some parts) e h = let apart : (c == mark) ≡ false = grind (arith, nat_tests, e) in rw apart h
 
-attribute_token : (text : List ℕ) → GivesTokenIf (attribute_piece text)
+attribute_token : (text : List ℕ) → FormedIf (attribute_piece text)
 attribute_token [] = tt
 attribute_token (c ∷ cs) = attribute_by (c == 34)
   where
-    value_token : (o : Option (List ℕ × List ℕ)) → IfSome o (λ parts. list_all (λ c. not (c == 34)) parts.0 ≡ true) → GivesToken (value_piece o)
+    value_token : (o : Option (List ℕ × List ℕ)) → IfSome o (λ parts. list_all (λ c. not (c == 34)) parts.0 ≡ true) → Formed (value_piece o)
     value_token None h = tt
     value_token (Some parts) h =
         begins_token kind.Attribute (34 ∷ (parts.0 ++ 34 ∷ [])) parts.0 parts.1 (refl, record { value = parts.0; is = refl; has_none = h })
 
-    attribute_by : (t : Bool) → GivesTokenIf (if t then Some (value_piece (cut (34 ∷ []) cs)) else None)
+    attribute_by : (t : Bool) → FormedIf (if t then Some (value_piece (cut (34 ∷ []) cs)) else None)
     attribute_by true = value_token (cut (34 ∷ []) cs) (cut_lacks 34 cs)
     attribute_by false = tt
 
-symbol_token : (symbols : List (List ℕ)) (text : List ℕ) → list_all is_symbol symbols ≡ true → GivesTokenIf (one_of symbols text)
+symbol_token : (symbols : List (List ℕ)) (text : List ℕ) → list_all is_symbol symbols ≡ true → FormedIf (one_of symbols text)
 symbol_token [] text h = tt
 symbol_token (symbol ∷ symbols) text h =
     let parts = both_hold (is_symbol symbol) (list_all is_symbol symbols) h in
     or_token (fixed_piece kind.Symbol symbol text) (one_of symbols text) (fixed_token kind.Symbol symbol text parts.0) (symbol_token symbols text parts.1)
 
-pub command_token : (text : List ℕ) → GivesToken (command_piece text)
-command_token text =
+command_formed : (text : List ℕ) → Formed (command_piece text)
+command_formed text =
     unwrap_token _ (
     or_token (white_piece text) _ (white_token text) (
     or_token (fixed_piece kind.End (125 ∷ []) text) _ (fixed_token kind.End (125 ∷ []) text refl) (
@@ -228,6 +235,16 @@ command_token text =
     or_token (string_piece text) _ (string_token text) (
     or_token (attribute_piece text) _ (attribute_token text) (
     or_token (one_of symbols_of_two text) (one_of symbols_of_one text) (symbol_token symbols_of_two text refl) (symbol_token symbols_of_one text refl))))))))))
+
+token_by : (text : List ℕ) (found : Found) → Stands text found → Formed found → GivesToken text found
+token_by text (Begins (Sign k written value) rest) stands formed = (stands.0, formed)
+token_by text (Begins (Kept c) rest) stands formed = tt
+token_by text (Begins (Passed passed) rest) stands formed = tt
+token_by text (Begins (Literal literal) rest) stands formed = tt
+token_by text (Fails further) stands formed = tt
+
+pub command_token : (text : List ℕ) → GivesToken text (command_piece text)
+command_token text = token_by text (command_piece text) (piece_stands Inside text) (command_formed text)
 
 -- more text makes the front of a sort no shorter
 while_longer : (sort : ℕ → Bool) (front more : List ℕ) → list_all sort front ≡ true → length front ≤ length (front_while sort (front ++ more))

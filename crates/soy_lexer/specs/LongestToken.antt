@@ -67,10 +67,10 @@ pub record IsToken (kind : TokenKind) (text : List ℕ) : Type 0 where
   pub form : Form kind text
   pub has_no_null : IsTrue (list_all (λ c. not (c == 0)) text)
 
--- what a text begins with is a token, if it is one that a parser sees
-abbrev pub GivesToken : Found → Type 0
-GivesToken (Begins (Sign kind written value) rest) = IsToken kind written
-GivesToken _ = Unit {0}
+-- the characters of the token with which a text begins are its front, and a token
+abbrev pub GivesToken : List ℕ → Found → Type 0
+GivesToken text (Begins (Sign kind written value) rest) = (text ≡ written ++ rest) × IsToken kind written
+GivesToken text _ = Unit {0}
 
 -- the number that the digits at the front of a text write is over the limit
 abbrev pub IsOverLimit : List ℕ → Type 0

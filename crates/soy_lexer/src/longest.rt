@@ -8,7 +8,7 @@ ghost use Rattle.soy_lexer.specs.declared.token.TokenKind.{TokenKind};
 /// What a text in a command begins with is a token by its form, and the longest one there. Only
 /// where the digits at its front write an int over the limit, it begins with none.
 pub fn law_longest_token()
-    ensures token { (text : List ℕ) → GivesToken (command_piece text) }
+    ensures token { (text : List ℕ) → GivesToken text (command_piece text) }
     ensures longest { (kind : TokenKind) (front more : List ℕ) → IsToken kind front →
         Reaches front (front ++ more) (command_piece (front ++ more)) }
 {}
