@@ -1,5 +1,5 @@
 // The pieces of text outside of commands.
-ghost use Rattle.std.specs.Prelude.{◌≡◌, ◌∷◌, ◌++◌, true, codes};
+ghost use Rattle.std.specs.Prelude.{◌≡◌, ◌∷◌, ◌++◌, true, codes, unwrap_or};
 ghost use Rattle.std.specs.Str.{chars};
 ghost use Rattle.soy_lexer.specs.Characters.{opening_brace};
 ghost use Rattle.soy_lexer.specs.Cuts.{cut};
@@ -22,16 +22,43 @@ pub(crate) fn text_piece<'a>(
 ) -> Result<Step<'a>, Refusal<usize>>
     ensures { Steps (text_piece white (chars text.now)) result }
 {
+    match first(text) {
+        Some(('/', rest)) => slash_piece(white, text, rest),
+        Some(('{', rest)) => brace_piece(alloc, text, rest),
+        Some(('}' | '\0', _)) | None => Err(Refusal::Because(0)),
+        Some((c, rest)) => Ok(Step {
+            part: Part::Kept(c),
+            rest,
+        }),
+    }
+}
+
+/// A comment, or the slash with which the text begins.
+fn slash_piece<'a>(white: bool, text: &'a str, rest: &'a str) -> Result<Step<'a>, Refusal<usize>>
+    requires { chars text.now ≡ codes "/" ++ chars rest.now }
+    ensures { Steps (text_piece white (chars text.now)) result }
+{
     if let Some(comment) = block_comment(text) {
         return comment;
     }
     if white && let Some(comment) = line_comment(text) {
         return comment;
     }
-    if let Some(literal) = literal_piece(text) {
-        return literal;
+    Ok(Step {
+        part: Part::Kept('/'),
+        rest,
+    })
+}
+
+/// A literal, or the `{` with which the text begins.
+fn brace_piece<'a>(alloc: Global, text: &'a str, rest: &'a str) -> Result<Step<'a>, Refusal<usize>>
+    requires { chars text.now ≡ opening_brace ∷ chars rest.now }
+    ensures { Steps (unwrap_or (literal_piece (chars text.now)) (plain_piece (chars text.now))) result }
+{
+    match literal_piece(text) {
+        Some(literal) => literal,
+        None => opening_brace(alloc, text, rest),
     }
-    plain_piece(alloc, text)
 }
 
 fn block_comment<'a>(text: &'a str) -> Option<Result<Step<'a>, Refusal<usize>>>
@@ -88,19 +115,6 @@ fn may_begin(text: &str) -> bool
     match first(text) {
         Some((' ' | '\t' | '\n' | '\r' | '{', _)) => false,
         _ => true,
-    }
-}
-
-fn plain_piece<'a>(alloc: Global, text: &'a str) -> Result<Step<'a>, Refusal<usize>>
-    ensures { Steps (plain_piece (chars text.now)) result }
-{
-    match first(text) {
-        Some(('{', rest)) => opening_brace(alloc, text, rest),
-        Some(('}' | '\0', _)) | None => Err(Refusal::Because(0)),
-        Some((c, rest)) => Ok(Step {
-            part: Part::Kept(c),
-            rest,
-        }),
     }
 }
 
