@@ -5,10 +5,10 @@ use Rattle.std.specs.List.{list_all, list_any}
 use Rattle.std.specs.Option.{option_or, option_and_then}
 use Rattle.std.specs.Str.{bytes_eq}
 use Rattle.std.proofs.lemmas.Bool.Decides.{nat_tests}
-use Rattle.soy_lexer.specs.Characters.{is_white, begins_name, continues_name}
+use Rattle.soy_lexer.specs.Characters.{is_white, begins_name, continues_name, is_nil}
 use Rattle.soy_lexer.specs.CommandPiece.{command_piece, white_piece, fixed_piece, name_front, name_piece, variable_piece, digits_piece, int_piece, quoted_piece, string_piece, value_piece, attribute_piece, one_of, symbols_of_one, symbols_of_two, largest_int, number_after}
 use Rattle.soy_lexer.specs.Cuts.{after_front, cut, front_while, after_while}
-use Rattle.soy_lexer.specs.LongestToken.{is_name, is_int, is_nothing, is_symbol, StringRest, ValueRest, Form, IsToken, GivesToken, Reaches}
+use Rattle.soy_lexer.specs.LongestToken.{is_name, is_int, is_symbol, StringRest, ValueRest, Form, IsToken, GivesToken, Reaches}
 use Rattle.soy_lexer.specs.LongestToken.StringRest.{Ends, Plain, Escape, Number}
 use Rattle.soy_lexer.specs.Piece.{Found, begins, unless_null, written}
 use Rattle.soy_lexer.specs.Piece.Found.{Begins, Fails}
@@ -290,13 +290,13 @@ int_reaches (c ∷ cs) more h = int_by (c == 48) refl h
     over_by true e digit all within = while_longer is_ascii_digit (c ∷ cs) more (rw digit all)
     over_by false e digit all over = grind (arith, nat_tests, over)
 
-    int_by : (t : Bool) → (c == 48) ≡ t → (if t then is_nothing cs else (list_all is_ascii_digit (c ∷ cs) && nat_le (number_after 0 (c ∷ cs)) largest_int)) ≡ true → Reaches (c ∷ cs) (c ∷ (cs ++ more)) (command_piece (c ∷ (cs ++ more)))
+    int_by : (t : Bool) → (c == 48) ≡ t → (if t then is_nil cs else (list_all is_ascii_digit (c ∷ cs) && nat_le (number_after 0 (c ∷ cs)) largest_int)) ≡ true → Reaches (c ∷ cs) (c ∷ (cs ++ more)) (command_piece (c ∷ (cs ++ more)))
     int_by true e h =
         let is : c ≡ 48 = grind (arith, nat_tests, e) in
         let alone : cs ≡ [] = nothing_by cs h in
         rw (alone, is) (omega arith)
       where
-        nothing_by : (cs : List ℕ) → is_nothing cs ≡ true → cs ≡ []
+        nothing_by : (cs : List ℕ) → is_nil cs ≡ true → cs ≡ []
         nothing_by [] h = refl
         nothing_by (c ∷ cs) h = cc
     int_by false e h =

@@ -1,7 +1,7 @@
 -- The reading of a text piece by piece: what the pieces to come make of the rest, all pieces make of the whole.
 use Rattle.std.proofs.Common.{◌≡◌, ℕ, ◌+◌, ◌<◌, ◌≤◌, List, [], ◌∷◌, ◌++◌, true, false, Option, None, Some, length, refl, ap, subst, ◌∙◌, arith, append_assoc}
 use Rattle.soy_lexer.specs.Characters.{is_nil, width}
-use Rattle.soy_lexer.specs.Lexed.{Reads, Takes}
+use Rattle.soy_lexer.specs.Lexed.{HasRead, Takes}
 use Rattle.soy_lexer.specs.Lines.{Placed}
 use Rattle.soy_lexer.specs.Piece.{Piece, Side, written, after}
 use Rattle.soy_lexer.specs.Piece.Found.{Begins, Fails}
@@ -25,11 +25,11 @@ pub record Whole (text : List ℕ) (tokens : List Token) (place : ℕ) (run : Li
 pub record GoesOn (text rest : List ℕ) (side : Side) (lexer : Lexer) (place : ℕ) : Type 0 where
   pub tokens : List Token
   pub run : List Placed
-  pub reads : Reads lexer tokens run
+  pub reads : HasRead lexer tokens run
   pub within : width text ≡ place + width rest
   pub goes : (ps : List Piece) (stop : Option ℕ) → Pieces place side rest ps stop → Whole text tokens place run ps stop
 
-pub at_start : (text : List ℕ) (lexer : Lexer) → Reads lexer [] [] → GoesOn text text (Outside true) lexer 0
+pub at_start : (text : List ℕ) (lexer : Lexer) → HasRead lexer [] [] → GoesOn text text (Outside true) lexer 0
 at_start text lexer reads =
     record {
       tokens = [];

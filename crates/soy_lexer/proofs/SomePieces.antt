@@ -1,5 +1,6 @@
 -- Every text has pieces: each one is written with a character at least, so the rest is shorter.
-use Rattle.std.proofs.Common.{◌≡◌, ℕ, zero, suc, true, ◌+◌, ◌<◌, ◌≤◌, ◌⊎◌, List, [], ◌∷◌, length, Option, None, Some, refl, ap, inl, inr, subst, arith, length-append}
+use Rattle.std.proofs.Common.{◌++◌, ◌≡◌, ℕ, zero, suc, true, ◌+◌, ◌<◌, ◌≤◌, ◌⊎◌, List, [], ◌∷◌, length, Option, None, Some, refl, ◌∙◌, ap, inl, inr, subst, arith, length-append}
+use Rattle.soy_lexer.specs.AllWritten.{all_written}
 use Rattle.soy_lexer.specs.Characters.{width}
 use Rattle.soy_lexer.specs.Piece.{Piece, Found, Side, written, after}
 use Rattle.soy_lexer.specs.Piece.Found.{Begins, Fails}
@@ -9,6 +10,7 @@ use Rattle.soy_lexer.specs.Pieces.Pieces.{Ended, Stopped, Goes}
 use Rattle.soy_lexer.specs.TextPiece.{piece_of}
 use Rattle.soy_lexer.specs.Tokens.{Tokens, FirstFault, tokens_of}
 use Rattle.soy_lexer.specs.declared.token.Token.{Token}
+use Rattle.soy_lexer.proofs.Texts.{width-append}
 use Rattle.soy_lexer.proofs.Written.{Stands, piece_stands}
 
 pub record HasPieces (place : ℕ) (side : Side) (text : List ℕ) : Type 0 where
@@ -49,3 +51,26 @@ pub tokens_or_fault : (text : List ℕ) → ((tokens : List Token) × Tokens tex
 tokens_or_fault text =
     let all = pieces_within (length text) 0 (Outside true) text (omega arith) in
     from_stop text all.pieces all.stop all.are
+
+-- pieces up to the end of a text are the text
+pub whole_written : (place : ℕ) (side : Side) (text : List ℕ) (ps : List Piece) (stop : Option ℕ) → Pieces place side text ps stop → stop ≡ None →
+    text ≡ all_written ps
+whole_written _ _ _ _ _ (Ended place side) e = refl
+whole_written _ _ _ _ _ (Stopped place side c cs further f) e = absurd (cc)
+whole_written _ _ _ _ _ (Goes place side c cs p rest ps stop f d) e =
+    (begins_stands side (c ∷ cs) p rest f).0 ∙ ap (λ l. written p ++ l) (whole_written (place + width (written p)) (after side p) rest ps stop d e)
+
+-- a place where no token begins is within the text
+pub stop_within : (place : ℕ) (side : Side) (text : List ℕ) (ps : List Piece) (stop : Option ℕ) → Pieces place side text ps stop → (stopped : ℕ) →
+    stop ≡ Some stopped → stopped ≤ place + width text
+stop_within _ _ _ _ _ (Ended place side) stopped e = absurd (cc)
+stop_within _ _ _ _ _ (Stopped place side c cs further f) stopped e =
+    let same : place + further ≡ stopped = cc in
+    let within : further ≤ width (c ∷ cs) = subst (λ x. Stands (c ∷ cs) x) f (piece_stands side (c ∷ cs)) in
+    omega (arith, same, within)
+stop_within _ _ _ _ _ (Goes place side c cs p rest ps stop f d) stopped e =
+    let stands = begins_stands side (c ∷ cs) p rest f in
+    omega (arith, stop_within (place + width (written p)) (after side p) rest ps stop d stopped e, ap width stands.0, width-append (written p) rest)
+
+pub fault_within : (text : List ℕ) (place : ℕ) → FirstFault text place → place ≤ width text
+fault_within text place first = omega (arith, stop_within 0 (Outside true) text first.pieces (Some place) first.front place refl)

@@ -17,11 +17,11 @@ Lexed text (Err (Because place)) = FirstFault text place
 Lexed text (Err OutOfMemory) = Unit {0}
 
 -- a lexer has these tokens so far, and its run these characters
-pub record Reads (lexer : Lexer) (tokens : List Token) (run : List Placed) : Type 0 where
+pub record HasRead (lexer : Lexer) (tokens : List Token) (run : List Placed) : Type 0 where
   pub tokens_are : lexer.tokens.items ≡ tokens
   pub run_holds : Holds lexer.run run
 
 -- it takes a piece that stands at this place
 abbrev pub Takes : Lexer → Lexer → ℕ → Piece → Type 0
 Takes old new place piece =
-    (tokens : List Token) (run : List Placed) → Reads old tokens run → Reads new (tokens ++ given place run piece) (run_after place run piece)
+    (tokens : List Token) (run : List Placed) → HasRead old tokens run → HasRead new (tokens ++ given place run piece) (run_after place run piece)

@@ -17,3 +17,4 @@ pub mod StepsIf
 pub mod SeenSide
 pub mod Lexed
 pub mod InOrder
+pub mod AllWritten

@@ -2,11 +2,11 @@
 --
 -- `?:` is a symbol, so `?:x` begins with it and not with `?`; `07` is no int, so it begins with `0`; and nothing begins with
 -- `9007199254740992`, which is an int over the limit, though the int `9` stands at its front.
-use Rattle.std.specs.Prelude.{◌≡◌, ◌≢◌, ℕ, ◌<◌, ◌≤◌, List, [], ◌∷◌, ◌++◌, Bool, true, false, ◌&&◌, ◌==◌, not, nat_le, if◌then◌else◌, IsTrue, Some, length, codes}
+use Rattle.std.specs.Prelude.{◌≡◌, ◌≢◌, ℕ, ◌<◌, ◌≤◌, List, [], ◌∷◌, ◌++◌, Bool, false, ◌&&◌, ◌==◌, not, nat_le, if◌then◌else◌, IsTrue, Some, length, codes}
 use Rattle.std.specs.Char.{is_ascii_digit}
 use Rattle.std.specs.List.{list_all, list_any}
 use Rattle.std.specs.Str.{bytes_eq}
-use Rattle.soy_lexer.specs.Characters.{begins_name, continues_name, dollar, single_quote, double_quote, backslash}
+use Rattle.soy_lexer.specs.Characters.{begins_name, continues_name, is_nil, dollar, single_quote, double_quote, backslash}
 use Rattle.soy_lexer.specs.CommandPiece.{largest_int, number_after, symbols_of_one, symbols_of_two}
 use Rattle.soy_lexer.specs.Cuts.{front_while}
 use Rattle.soy_lexer.specs.Piece.{Found}
@@ -21,14 +21,10 @@ abbrev pub is_name : List ℕ → Bool
 is_name [] = false
 is_name (c ∷ cs) = begins_name c && list_all continues_name cs
 
-abbrev pub is_nothing : List ℕ → Bool
-is_nothing [] = true
-is_nothing (c ∷ cs) = false
-
 -- `0`, or digits without a zero at their front that write no number over the limit
 abbrev pub is_int : List ℕ → Bool
 is_int [] = false
-is_int (c ∷ cs) = if c == 48 then is_nothing cs else (list_all is_ascii_digit (c ∷ cs) && nat_le (number_after 0 (c ∷ cs)) largest_int)
+is_int (c ∷ cs) = if c == 48 then is_nil cs else (list_all is_ascii_digit (c ∷ cs) && nat_le (number_after 0 (c ∷ cs)) largest_int)
 
 -- what stands in a string after its first quote: characters for themselves, escapes, and then the last quote
 pub data StringRest : List ℕ → Type 0 where

@@ -2,7 +2,7 @@ ghost use Rattle.std.specs.Prelude.{◌≡◌, ℕ, ◌+◌, ◌<◌, ◌≤◌,
 ghost use Rattle.std.specs.Str.{chars};
 ghost use Rattle.soy_lexer.specs.Characters.{width};
 ghost use Rattle.soy_lexer.specs.InOrder.{InOrder};
-ghost use Rattle.soy_lexer.specs.Lexed.{Lexed, Reads, Takes};
+ghost use Rattle.soy_lexer.specs.Lexed.{Lexed, HasRead, Takes};
 ghost use Rattle.soy_lexer.specs.Lexes.{Lexes, largest_file};
 ghost use Rattle.soy_lexer.specs.Lines.{Placed};
 ghost use Rattle.soy_lexer.specs.Piece.{after, written};
@@ -52,7 +52,7 @@ struct Lexer {
 
 impl Lexer {
     fn new(alloc: Global) -> Lexer
-        ensures { Reads result [] [] }
+        ensures { HasRead result [] [] }
     {
         Lexer {
             alloc,
@@ -81,7 +81,7 @@ impl Lexer {
 
     /// Ends the run, and adds a token after it.
     fn push(&mut self, kind: TokenKind, span: Span, text: Text) -> Result<(), OutOfMemory>
-        ensures { OnOk result ((tokens : List Token) (run : List Placed) → Reads self.old tokens run → Reads self.new (tokens ++ (run_token run ++ record { kind = kind; span = span; text = text } ∷ [])) []) }
+        ensures { OnOk result ((tokens : List Token) (run : List Placed) → HasRead self.old tokens run → HasRead self.new (tokens ++ (run_token run ++ record { kind = kind; span = span; text = text } ∷ [])) []) }
     {
         self.end_run()?;
         self.tokens.push(Token { kind, span, text })?;
@@ -89,7 +89,7 @@ impl Lexer {
     }
 
     fn end_run(&mut self) -> Result<(), OutOfMemory>
-        ensures { OnOk result ((tokens : List Token) (run : List Placed) → Reads self.old tokens run → Reads self.new (tokens ++ run_token run) []) }
+        ensures { OnOk result ((tokens : List Token) (run : List Placed) → HasRead self.old tokens run → HasRead self.new (tokens ++ run_token run) []) }
     {
         let run = replace(&mut self.run, Run::new(self.alloc));
         if let Some(token) = run.token()? {
@@ -99,7 +99,7 @@ impl Lexer {
     }
 
     fn finish(mut self) -> Result<Vec<Token>, OutOfMemory>
-        ensures { (tokens : List Token) (run : List Placed) → Reads self tokens run → IfOk result (λ all. all.items ≡ tokens ++ run_token run) }
+        ensures { (tokens : List Token) (run : List Placed) → HasRead self tokens run → IfOk result (λ all. all.items ≡ tokens ++ run_token run) }
     {
         self.end_run()?;
         let Lexer { tokens, .. } = self;

@@ -18,7 +18,7 @@ mod text;
 mod text_piece;
 mod token;
 
-pub use law::law_tokens_unique;
+pub use law::{law_pieces_are_the_text, law_tokens_unique};
 pub use lexer::lex;
 pub use longest::law_longest_token;
 pub use token::{Token, TokenKind};
