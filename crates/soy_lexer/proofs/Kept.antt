@@ -5,10 +5,14 @@ use Rattle.std.proofs.lemmas.Bool.Decides.{nat_tests}
 use Rattle.std.proofs.lemmas.List.{reverse-append}
 use Rattle.soy_lexer.specs.Characters.{is_line_end, is_nil, is_white, space}
 use Rattle.soy_lexer.specs.Lines.{Placed, Line, without_end, lines_of, is_angle, begins_angle, ends_angle, characters, joined, last_end}
-use Rattle.soy_lexer.specs.Holds.{unless_empty, lines_after, last_line, AllFilled, IsPresent, StartsAt, Keeps, start_of, space_before}
+use Rattle.soy_lexer.specs.Holds.{unless_empty, lines_after, last_line, AllFilled, IsPresent, StartsAt, Keeps, needs_space, start_of}
 use Rattle.soy_lexer.specs.Tokens.{token, token_of_lines, run_token}
 use Rattle.soy_lexer.specs.declared.token.TokenKind.TheVariants as kind
 use Rattle.soy_lexer.proofs.Running.{at_start, ended, ended_fresh, white_skipped, line_begun, line_longer, at_end, without_end-white, without_end-other, filled-append, last_line-append, starts_ended, last_end-append, filled_line, characters-append, gap, joined-append, joined_present}
+
+-- what comes between a text and the next character
+abbrev pub space_before : List ℕ → Bool → Bool → Bool → List ℕ
+space_before text fresh angle next = if needs_space text fresh angle next then space ∷ [] else []
 
 -- nothing yet
 pub nothing_kept : (text white : List ℕ) → text ≡ [] → white ≡ [] → Keeps text white false false 0 0 0 []
@@ -41,6 +45,7 @@ ends_line : (fresh : Bool) (done : List Line) (line tail : Line) (c : Placed) (r
 ends_line true done line tail c rest e w h = rw (h.0, h.1) (ended_fresh c rest e)
 ends_line false done line tail c rest e w h = ended (line ++ tail) c rest e ∙ ap (λ l. unless_empty l ++ lines_after true [] rest) w
 
+-- so the run keeps the line without its white space
 pub line_end_kept : {text white : List ℕ} {fresh angle : Bool} {start text_end end : ℕ} {run : List Placed} (white' : List ℕ) (c : Placed) →
     Keeps text white fresh angle start text_end end run → is_line_end c.character ≡ true → white' ≡ [] →
     Keeps text white' true angle start text_end text_end (run ++ c ∷ [])
@@ -107,6 +112,7 @@ starts_with ((d ∷ ds) ∷ []) [] tail c text white start start' filled t w s h
 starts_with ((d ∷ ds) ∷ []) (l ∷ ls) tail c text white start start' filled t w s h = h ∙ sym (s ∙ rw t refl)
 starts_with ((d ∷ ds) ∷ next ∷ done) line tail c text white start start' filled t w s h = h ∙ sym (s ∙ rw t refl)
 
+-- white space makes no line of a present one
 still_begins : (done : List Line) (line tail more : Line) → IsPresent false done line tail → IsPresent false done line more
 still_begins done [] tail more h = h
 still_begins done (c ∷ cs) tail more h = tt
@@ -142,19 +148,23 @@ white_kept {text} {white} {fresh = false} {angle} {start} {text_end} {end} {run}
 
 -- another character goes on with the present line
 
+-- the lines to come are those of a longer present line
 goes_on : (fresh : Bool) (done : List Line) (line tail : Line) (c : Placed) (rest : List Placed) → IsPresent fresh done line tail →
     is_white c.character ≡ false → is_line_end c.character ≡ false →
     lines_after fresh (line ++ tail) (c ∷ rest) ≡ lines_after false ((line ++ tail) ++ c ∷ []) rest
 goes_on true done line tail c rest h w e = rw (h.0, h.1) (line_begun c rest w e)
 goes_on false done line tail c rest h w e = line_longer (line ++ tail) c rest e
 
+-- a line with a character is a present line
 begins_filled : (done : List Line) (line : Line) (c : Placed) → IsPresent false done (line ++ c ∷ []) []
 begins_filled done [] c = tt
 begins_filled done (l ∷ ls) c = tt
 
+-- a line ends as its last character says
 ends_angle-append : (line : Line) (c : Placed) → ends_angle (line ++ c ∷ []) ≡ is_angle c.character
 ends_angle-append line c = ap begins_angle (reverse-append line (c ∷ []))
 
+-- a space where it is wanted, or none where it is not
 flipped : (b : Bool) → (if not b then space ∷ [] else []) ≡ (if b then [] else space ∷ [])
 flipped true = refl
 flipped false = refl
@@ -167,6 +177,7 @@ space_gap ([] ∷ done) text angle c filled t a = absurd filled
 space_gap ((d ∷ ds) ∷ []) text angle c filled t a = rw (t, a) (flipped (ends_angle (d ∷ ds) || is_angle c.character))
 space_gap ((d ∷ ds) ∷ next ∷ done) text angle c filled t a = rw (t, a) (flipped (ends_angle (last_line (next ∷ done)) || is_angle c.character))
 
+-- the text with the first character of a new line
 new_line : (done : List Line) (text : List ℕ) (angle : Bool) (c : Placed) → AllFilled done → text ≡ joined done → angle ≡ ends_angle (last_line done) →
     ((text ++ space_before text true angle (is_angle c.character)) ++ []) ++ c.character ∷ [] ≡ joined (done ++ (c ∷ []) ∷ [])
 new_line done text angle c filled t a =
@@ -176,6 +187,7 @@ new_line done text angle c filled t a =
     ∙ (ap (λ l. l ++ (gap done (c ∷ []) ++ c.character ∷ [])) t
     ∙ sym (joined-append done (c ∷ [])))))
 
+-- the text with one more character
 text_longer : (fresh : Bool) (done : List Line) (line tail : Line) (c : Placed) (text white : List ℕ) (angle : Bool) → AllFilled done → IsPresent fresh done line tail →
     text ≡ joined (done ++ unless_empty line) → white ≡ characters tail → angle ≡ ends_angle (last_line (done ++ unless_empty line)) →
     ((text ++ space_before text fresh angle (is_angle c.character)) ++ white) ++ c.character ∷ [] ≡ joined (done ++ unless_empty ((line ++ tail) ++ c ∷ []))
@@ -192,6 +204,7 @@ text_longer false done line tail c text white angle filled h t w a =
     ∙ (ap (λ l. joined (done ++ unless_empty line) ++ l) (sym (characters-append tail (c ∷ [])))
     ∙ sym (joined_present false done line tail (tail ++ c ∷ []) h refl)))))
 
+-- so the run keeps the longer line
 pub other_kept : {text white : List ℕ} {fresh angle : Bool} {start text_end end : ℕ} {run : List Placed} (text' white' : List ℕ) (angle' : Bool) (start' end' : ℕ) (c : Placed) →
     Keeps text white fresh angle start text_end end run → is_white c.character ≡ false → is_line_end c.character ≡ false →
     text' ≡ ((text ++ space_before text fresh angle angle') ++ white) ++ c.character ∷ [] → white' ≡ [] → angle' ≡ is_angle c.character →
@@ -229,16 +242,19 @@ left_lines : (fresh : Bool) (done : List Line) (line tail : Line) → IsPresent 
 left_lines true done line tail h = rw (h.0, h.1) refl
 left_lines false done line tail h = at_end (line ++ tail)
 
+-- and their text is that of the run with its white space
 left_text : (fresh : Bool) (done : List Line) (line tail : Line) → IsPresent fresh done line tail →
     joined (done ++ unless_empty (line ++ tail)) ≡ joined (done ++ unless_empty line) ++ characters tail
 left_text true done line tail h = rw (h.0, h.1) (sym (append-nil (joined (done ++ []))))
 left_text false done line tail h = joined_present false done line tail tail h refl
 
+-- the lines of the whole run
 all_lines : {text white : List ℕ} {fresh angle : Bool} {start text_end end : ℕ} {run : List Placed} →
     (k : Keeps text white fresh angle start text_end end run) → lines_of run ≡ k.done ++ unless_empty (k.line ++ k.tail)
 all_lines {text} {white} {fresh} {angle} {start} {text_end} {end} {run} k =
     ap lines_of (sym (append-nil run)) ∙ (k.lines_are [] ∙ ap (λ l. k.done ++ l) (left_lines fresh k.done k.line k.tail k.begins))
 
+-- and their text
 all_text : {text white : List ℕ} {fresh angle : Bool} {start text_end end : ℕ} {run : List Placed} →
     (k : Keeps text white fresh angle start text_end end run) → joined (k.done ++ unless_empty (k.line ++ k.tail)) ≡ text ++ white
 all_text {text} {white} {fresh} {angle} {start} {text_end} {end} {run} k =
@@ -257,6 +273,7 @@ no_lines ((c ∷ cs) ∷ next ∷ lines) text filled e n = absurd (not_nil (ap i
     not_nil : false ≡ true → ⊥
     not_nil h = cc
 
+-- lines with a text give one token
 one_token : (lines : List Line) (text : List ℕ) (start end : ℕ) → joined lines ≡ text → is_nil text ≡ false → StartsAt lines start → last_end 0 lines ≡ end →
     token kind.Text start end text ∷ [] ≡ token_of_lines lines
 one_token [] text start end e n s l = absurd (is_none (ap is_nil e ∙ n))
@@ -265,16 +282,19 @@ one_token [] text start end e n s l = absurd (is_none (ap is_nil e ∙ n))
     is_none h = cc
 one_token (line ∷ lines) text start end e n s l = rw (← e, ← s, ← l) refl
 
+-- of a run without a text no token is made
 pub no_token_kept : {text white : List ℕ} {fresh angle : Bool} {start text_end end : ℕ} {run : List Placed} (all : List ℕ) →
     Keeps text white fresh angle start text_end end run → all ≡ text ++ white → is_nil all ≡ true → [] ≡ run_token run
 no_token_kept all k e n =
     sym (ap token_of_lines (all_lines k) ∙ no_lines (k.done ++ unless_empty (k.line ++ k.tail)) all (filled-append k.done (k.line ++ k.tail) k.filled) (all_text k ∙ sym e) n)
 
+-- and else one
 pub token_kept : {text white : List ℕ} {fresh angle : Bool} {start text_end end : ℕ} {run : List Placed} (all : List ℕ) →
     Keeps text white fresh angle start text_end end run → all ≡ text ++ white → is_nil all ≡ false →
     token kind.Text start end all ∷ [] ≡ run_token run
 token_kept {start = start} {end = end} all k e n =
     one_token (k.done ++ unless_empty (k.line ++ k.tail)) all start end (all_text k ∙ sym e) n k.starts k.ends ∙ ap token_of_lines (sym (all_lines k))
 
+-- a character that is not white ends no line
 pub not_white : (c : ℕ) → is_white c ≡ false → is_line_end c ≡ false
 not_white c w = grind (arith, nat_tests)

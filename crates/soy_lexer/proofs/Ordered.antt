@@ -16,6 +16,7 @@ use Rattle.soy_lexer.specs.Pieces.Pieces.{Ended, Stopped, Goes}
 use Rattle.soy_lexer.specs.Tokens.{Tokens, token, token_of_lines, run_token, literal_start, given, run_after, tokens_of}
 use Rattle.soy_lexer.specs.declared.token.Token.{Token}
 use Rattle.soy_lexer.specs.declared.token.TokenKind.TheVariants as kind
+use Rattle.soy_lexer.proofs.Running.{line_end-append}
 use Rattle.soy_lexer.proofs.SomePieces.{begins_stands}
 use Rattle.soy_lexer.proofs.Texts.{width-append}
 
@@ -24,14 +25,17 @@ abbrev pub Ascends : ℕ → ℕ → List Placed → Type 0
 Ascends from to [] = from ≤ to
 Ascends from to (c ∷ cs) = (from ≤ c.place) × Ascends (c.place + len_utf8 c.character) to cs
 
+-- from an earlier place too
 from_earlier : (from later to : ℕ) (cs : List Placed) → from ≤ later → Ascends later to cs → Ascends from to cs
 from_earlier from later to [] h a = omega (arith, h, a)
 from_earlier from later to (c ∷ cs) h a = (omega (arith, h, a.0), a.1)
 
+-- up to a later place too
 to_later : (from to later : ℕ) (cs : List Placed) → to ≤ later → Ascends from to cs → Ascends from later cs
 to_later from to later [] h a = omega (arith, h, a)
 to_later from to later (c ∷ cs) h a = (a.0, to_later (c.place + len_utf8 c.character) to later cs h a.1)
 
+-- with one more character at the end
 one_more : (from to place c : ℕ) (cs : List Placed) → to ≤ place → Ascends from to cs →
     Ascends from (place + len_utf8 c) (cs ++ record { place = place; character = c } ∷ [])
 one_more from to place c [] h a = (omega (arith, h, a), omega arith)
@@ -50,24 +54,29 @@ data IsSublist : List Placed → List Placed → Type 0 where
   Same : (c : Placed) (xs ys : List Placed) → IsSublist xs ys → IsSublist (c ∷ xs) (c ∷ ys)
   Left : (c : Placed) (xs ys : List Placed) → IsSublist xs ys → IsSublist xs (c ∷ ys)
 
+-- what is left out changes no order
 part_ascends : (xs ys : List Placed) → IsSublist xs ys → (from to : ℕ) → Ascends from to ys → Ascends from to xs
 part_ascends _ _ Nothing from to a = a
 part_ascends _ _ (Same c xs ys p) from to a = (a.0, part_ascends xs ys p (c.place + len_utf8 c.character) to a.1)
 part_ascends _ _ (Left c xs ys p) from to a =
     from_earlier from (c.place + len_utf8 c.character) to xs (omega (arith, a.0)) (part_ascends xs ys p (c.place + len_utf8 c.character) to a.1)
 
+-- a list is a sublist of itself
 all_of : (xs : List Placed) → IsSublist xs xs
 all_of [] = Nothing
 all_of (x ∷ xs) = Same x xs xs (all_of xs)
 
+-- sublists one after the other
 both_parts : (xs ys us vs : List Placed) → IsSublist xs ys → IsSublist us vs → IsSublist (xs ++ us) (ys ++ vs)
 both_parts _ _ us vs Nothing q = q
 both_parts _ _ us vs (Same c xs ys p) q = Same c (xs ++ us) (ys ++ vs) (both_parts xs ys us vs p q)
 both_parts _ _ us vs (Left c xs ys p) q = Left c (xs ++ us) (ys ++ vs) (both_parts xs ys us vs p q)
 
+-- the reverse of a list with one more at its front
 reverse-cons : (x : Placed) (xs : List Placed) → reverse xs ++ x ∷ [] ≡ reverse (x ∷ xs)
 reverse-cons x xs = sym (reverse-append (x ∷ []) xs)
 
+-- sublists the other way round
 reverse_part : (xs ys : List Placed) → IsSublist xs ys → IsSublist (reverse xs) (reverse ys)
 reverse_part _ _ Nothing = Nothing
 reverse_part _ _ (Same c xs ys p) =
@@ -77,6 +86,7 @@ reverse_part _ _ (Left c xs ys p) =
     subst (λ l. IsSublist l (reverse (c ∷ ys))) (append-nil (reverse xs))
     (subst (λ l. IsSublist (reverse xs ++ []) l) (reverse-cons c ys) (both_parts (reverse xs) (reverse ys) [] (c ∷ []) (reverse_part xs ys p) (Left c [] [] Nothing)))
 
+-- sublists of sublists
 part_of_part : (xs ys zs : List Placed) → IsSublist xs ys → IsSublist ys zs → IsSublist xs zs
 part_of_part xs _ _ p Nothing = p
 part_of_part _ _ _ (Same c xs ys p) (Same _ _ zs q) = Same c xs zs (part_of_part xs ys zs p q)
@@ -85,6 +95,7 @@ part_of_part xs ys _ p (Left c _ zs q) = Left c xs zs (part_of_part xs ys zs p q
 
 -- what is left of lines is a part of them
 
+-- white space left out at the start of a line
 start_part : (line : Line) → IsSublist (without_start line) line
 start_part [] = Nothing
 start_part (c ∷ cs) = by_white (is_white c.character) (start_part cs)
@@ -93,13 +104,16 @@ start_part (c ∷ cs) = by_white (is_white c.character) (start_part cs)
     by_white true p = Left c (without_start cs) cs p
     by_white false p = all_of (c ∷ cs)
 
+-- and at its end
 end_part : (line : Line) → IsSublist (without_end line) line
 end_part line = subst (λ l. IsSublist (without_end line) l) (reverse-reverse line) (reverse_part (without_start (reverse line)) (reverse line) (start_part (reverse line)))
 
+-- lines one after the other
 abbrev pub flat : List Line → List Placed
 flat [] = []
 flat (line ∷ lines) = line ++ flat lines
 
+-- of lines after a line end
 trimmed_after_part : (lines : List Line) → IsSublist (flat (trimmed_after lines)) (flat lines)
 trimmed_after_part [] = Nothing
 trimmed_after_part (line ∷ []) = both_parts (without_start line) line [] [] (start_part line) Nothing
@@ -108,29 +122,35 @@ trimmed_after_part (line ∷ next ∷ lines) =
     (part_of_part (without_end (without_start line)) (without_start line) line (end_part (without_start line)) (start_part line))
     (trimmed_after_part (next ∷ lines))
 
+-- of all lines of a run
 trimmed_part : (lines : List Line) → IsSublist (flat (trimmed lines)) (flat lines)
 trimmed_part [] = Nothing
 trimmed_part (line ∷ []) = all_of (line ++ [])
 trimmed_part (line ∷ next ∷ lines) =
     both_parts (without_end line) line (flat (trimmed_after (next ∷ lines))) (flat (next ∷ lines)) (end_part line) (trimmed_after_part (next ∷ lines))
 
+-- lines without characters have none to leave out
 filled_part : (lines : List Line) → flat (filter has_characters lines) ≡ flat lines
 filled_part [] = refl
 filled_part ([] ∷ lines) = filled_part lines
 filled_part ((c ∷ cs) ∷ lines) = ap (λ l. (c ∷ cs) ++ l) (filled_part lines)
 
+-- and those that are left have characters
 all_filled : (lines : List Line) → AllFilled (filter has_characters lines)
 all_filled [] = tt
 all_filled ([] ∷ lines) = all_filled lines
 all_filled ((c ∷ cs) ∷ lines) = all_filled lines
 
+-- a character put before lines
 onto_part : (c : Placed) (lines : List Line) → flat (onto_first c lines) ≡ c ∷ flat lines
 onto_part c [] = refl
 onto_part c (line ∷ lines) = refl
 
+-- the lines of a run
 abbrev split : List Placed → List Line
 split run = slice_split (λ c. is_line_end c.character) run
 
+-- line ends left out
 split_part : (run : List Placed) → IsSublist (flat (split run)) run
 split_part [] = Nothing
 split_part (c ∷ cs) = by_end (is_line_end c.character) (split_part cs)
@@ -139,6 +159,7 @@ split_part (c ∷ cs) = by_end (is_line_end c.character) (split_part cs)
     by_end true p = Left c (flat (split cs)) cs p
     by_end false p = subst (λ l. IsSublist l (c ∷ cs)) (sym (onto_part c (split cs))) (Same c (flat (split cs)) cs p)
 
+-- what is left of a run is a part of it
 lines_part : (run : List Placed) → IsSublist (flat (lines_of run)) run
 lines_part run =
     subst (λ l. IsSublist l run) (sym (filled_part (trimmed (split run))))
@@ -146,21 +167,21 @@ lines_part run =
 
 -- a run's token stands between the run's ends
 
-line_end-append : (end : ℕ) (xs ys : List Placed) → line_end end (xs ++ ys) ≡ line_end (line_end end xs) ys
-line_end-append end [] ys = refl
-line_end-append end (x ∷ xs) ys = line_end-append (x.place + len_utf8 x.character) xs ys
-
+-- where lines end, their characters end
 last_end-flat : (end : ℕ) (lines : List Line) → last_end end lines ≡ line_end end (flat lines)
 last_end-flat end [] = refl
 last_end-flat end (line ∷ lines) = last_end-flat (line_end end line) lines ∙ sym (line_end-append end line (flat lines))
 
+-- characters in order lie between their ends
 within : (from to : ℕ) (cs : List Placed) → Ascends from to cs → from ≤ to
 within from to cs a = let e = ends_between from to cs a in omega (arith, e.0, e.1)
 
+-- tokens in order from an earlier place
 in_order_later : (from to end : ℕ) (tokens : List Token) → from ≤ to → InOrder to end tokens → InOrder from end tokens
 in_order_later from to end [] h o = omega (arith, h, o)
 in_order_later from to end (t ∷ ts) h o = (omega (arith, h, o.0), o.1, o.2)
 
+-- the token of lines, before others
 lines_in_order : (from to end : ℕ) (lines : List Line) (others : List Token) → AllFilled lines → Ascends from to (flat lines) → InOrder to end others →
     InOrder from end (token_of_lines lines ++ others)
 lines_in_order from to end [] others filled a o = in_order_later from to end others a o
@@ -171,6 +192,7 @@ lines_in_order from to end ((c ∷ cs) ∷ lines) others filled a o =
     let size = len_utf8_bounds c.character in
     (a.0, omega (arith, last, between.0, size.0), in_order_later (last_end 0 ((c ∷ cs) ∷ lines)) to end others (omega (arith, last, between.1)) o)
 
+-- the token of a run, before others
 run_in_order : (from to end : ℕ) (run : List Placed) (others : List Token) → Ascends from to run → InOrder to end others → InOrder from end (run_token run ++ others)
 run_in_order from to end run others a o =
     lines_in_order from to end (lines_of run) others (all_filled (trimmed (split run)))
@@ -181,9 +203,11 @@ width_some : (cs : List ℕ) → 0 < length cs → 0 < width cs
 width_some [] some = absurd (omega (arith, some))
 width_some (c ∷ cs) some = let size = len_utf8_bounds c in omega (arith, size.0)
 
+-- a literal takes more bytes than its front
 width-literal : (text : List ℕ) → 9 < width (written (Literal text))
 width-literal text = omega (arith, width-append text (codes "{/literal}"))
 
+-- it starts within its front
 literal_between : (place : ℕ) (text : List ℕ) → (place ≤ literal_start place text) × (literal_start place text ≤ place + 9)
 literal_between place [] = (omega arith, omega arith)
 literal_between place (c ∷ cs) = (omega arith, omega arith)
@@ -207,6 +231,7 @@ piece_in_order from place end run (Sign kind text value) others some a next =
     (run_in_order from place end run (t ∷ others) a
     (omega arith, omega (arith, some), next (place + width text) (omega arith)))
 
+-- the tokens of pieces, after those of a run
 pieces_in_order : (place : ℕ) (side : Side) (text : List ℕ) (ps : List Piece) (stop : Option ℕ) (from : ℕ) (run : List Placed) →
     Pieces place side text ps stop → stop ≡ None → Ascends from place run → InOrder from (place + width text) (tokens_of place run ps)
 pieces_in_order _ _ _ _ _ from run (Ended place side) none a =

@@ -29,6 +29,7 @@ pub record GoesOn (text rest : List ℕ) (side : Side) (lexer : Lexer) (place : 
   pub within : width text ≡ place + width rest
   pub goes : (ps : List Piece) (stop : Option ℕ) → Pieces place side rest ps stop → Whole text tokens place run ps stop
 
+-- before the first piece
 pub at_start : (text : List ℕ) (lexer : Lexer) → HasRead lexer [] [] → GoesOn text text (Outside true) lexer 0
 at_start text lexer reads =
     record {
@@ -40,14 +41,17 @@ at_start text lexer reads =
     }
 
 module _ (text rest : List ℕ) (side : Side) (lexer : Lexer) (place : ℕ) (old : GoesOn text rest side lexer place) where
+  -- the rest is within the text
   pub rest_within : width rest ≤ width text
   rest_within = omega (arith, old.within)
 
+  -- so is a place where no token begins
   pub fails_within : (further : ℕ) → piece_of side rest ≡ Fails further → place + further ≤ width text
   fails_within further fails =
       let within : further ≤ width rest = subst (λ f. Stands rest f) fails (piece_stands side rest) in
       omega (arith, old.within, within)
 
+  -- at the text's end the tokens are those of the whole
   pub ended : is_nil rest ≡ true → (all : List Token) → all ≡ old.tokens ++ run_token old.run → Tokens text all
   ended nil all is = from rest nil old.goes
     where
@@ -58,6 +62,7 @@ module _ (text rest : List ℕ) (side : Side) (lexer : Lexer) (place : ℕ) (old
           record { pieces = w.pieces; whole = w.whole; tokens_are = is ∙ w.tokens_are }
       from (c ∷ cs) nil goes = absurd (cc)
 
+  -- where no token begins is the whole text's first fault
   pub stopped : (further : ℕ) → is_nil rest ≡ false → piece_of side rest ≡ Fails further → FirstFault text (place + further)
   stopped further some fails = from rest some fails old.goes
     where
@@ -69,15 +74,19 @@ module _ (text rest : List ℕ) (side : Side) (lexer : Lexer) (place : ℕ) (old
           record { pieces = w.pieces; front = w.whole }
 
   module _ (p : Piece) (rest' : List ℕ) (begins : piece_of side rest ≡ Begins p rest') where
+    -- a piece and the rest after it take the bytes of the rest before
     pub parts : width rest ≡ width (written p) + width rest'
     parts = ap width (begins_stands side rest p rest' begins).0 ∙ width-append (written p) rest'
 
+    -- so the place after it is counted on
     pub place_after : width text ≡ (place + width (written p)) + width rest'
     place_after = omega (arith, old.within, parts)
 
+    -- and the rest after it is shorter
     pub smaller : length rest' < length rest
     smaller = rest_shorter side rest p rest' begins
 
+    -- and the reading goes on
     pub next : (lexer' : Lexer) (side' : Side) → is_nil rest ≡ false → side' ≡ after side p → Takes lexer lexer' place p → GoesOn text rest' side' lexer' (place + width (written p))
     next lexer' side' some stands takes =
         record {

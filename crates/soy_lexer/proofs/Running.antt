@@ -1,5 +1,5 @@
 -- What is left of a run's lines as its characters come one by one.
-use Rattle.std.proofs.Common.{◌≡◌, ℕ, ◌+◌, List, [], ◌∷◌, ◌++◌, Bool, true, false, cond, if◌then◌else◌, reverse, refl, sym, ◌∙◌, ap, append_assoc, append-nil}
+use Rattle.std.proofs.Common.{◌≡◌, ℕ, ◌+◌, List, [], ◌∷◌, ◌++◌, Bool, true, false, cond, reverse, refl, sym, ◌∙◌, ap, append_assoc, append-nil}
 use Rattle.std.specs.List.{filter, slice_split, onto_first}
 use Rattle.std.specs.Char.{len_utf8}
 use Rattle.std.proofs.lemmas.List.{reverse-append, reverse-reverse}
@@ -7,11 +7,9 @@ use Rattle.soy_lexer.specs.Characters.{is_white, is_line_end}
 use Rattle.soy_lexer.specs.Lines.{Placed, Line, without_start, without_end, trimmed, trimmed_after, has_characters, lines_of, between, characters, joined, line_end, last_end}
 use Rattle.soy_lexer.specs.Holds.{unless_empty, lines_after, last_line, AllFilled, IsPresent, StartsAt}
 
+-- the lines of a run, with their white space
 abbrev split : List Placed → List Line
 split run = slice_split (λ c. is_line_end c.character) run
-
-abbrev left : Bool → List Line → List Line
-left fresh lines = filter has_characters (if fresh then trimmed_after lines else trimmed lines)
 
 -- a run has a line at least
 
@@ -20,14 +18,17 @@ pub record SomeLines (lines : List Line) : Type 0 where
   pub others : List Line
   pub are : lines ≡ first ∷ others
 
+-- one more character before lines
 split_step : (ends : Bool) (c : Placed) (lines : List Line) → SomeLines lines → SomeLines (cond ends ([] ∷ lines) (onto_first c lines))
 split_step true c lines some = record { first = []; others = lines; are = refl }
 split_step false c lines some = record { first = c ∷ some.first; others = some.others; are = ap (λ ls. onto_first c ls) some.are }
 
+-- a run has a line
 some_lines : (run : List Placed) → SomeLines (split run)
 some_lines [] = record { first = []; others = []; are = refl }
 some_lines (c ∷ cs) = split_step (is_line_end c.character) c (split cs) (some_lines cs)
 
+-- a line is left if it has characters
 filter-cons : (line : Line) (lines : List Line) → filter has_characters (line ∷ lines) ≡ unless_empty line ++ filter has_characters lines
 filter-cons [] lines = refl
 filter-cons (c ∷ cs) lines = refl
@@ -40,12 +41,14 @@ at_start rest =
 
 -- a line ends
 
+-- a line end closes the present line
 pub ended : (line : Line) (c : Placed) (rest : List Placed) → is_line_end c.character ≡ true →
     lines_after false line (c ∷ rest) ≡ unless_empty (without_end line) ++ lines_after true [] rest
 ended line c rest e =
     let some = some_lines rest in
     rw (e, some.are, append-nil line) (filter-cons (without_end line) (trimmed_after (some.first ∷ some.others)))
 
+-- and does nothing to a line that has no characters yet
 pub ended_fresh : (c : Placed) (rest : List Placed) → is_line_end c.character ≡ true → lines_after true [] (c ∷ rest) ≡ lines_after true [] rest
 ended_fresh c rest e =
     let some = some_lines rest in
@@ -88,6 +91,7 @@ at_end line = rw (append-nil line) (filter-cons line [] ∙ append-nil (unless_e
 
 -- white space at a line's end
 
+-- white space at the end of a line goes
 pub without_end-white : (line : Line) (c : Placed) → is_white c.character ≡ true → without_end (line ++ c ∷ []) ≡ without_end line
 without_end-white line c white =
     ap (λ l. reverse (without_start l)) (reverse-append line (c ∷ [])) ∙ skipped (reverse line)
@@ -95,6 +99,7 @@ without_end-white line c white =
     skipped : (l : Line) → reverse (without_start (c ∷ l)) ≡ reverse (without_start l)
     skipped l = rw white refl
 
+-- and another character keeps all before it
 pub without_end-other : (line : Line) (c : Placed) → is_white c.character ≡ false → without_end (line ++ c ∷ []) ≡ line ++ c ∷ []
 without_end-other line c other =
     ap (λ l. reverse (without_start l)) (reverse-append line (c ∷ [])) ∙ (stays (reverse line) ∙ (ap reverse (sym (reverse-append line (c ∷ []))) ∙ reverse-reverse (line ++ c ∷ [])))
@@ -104,12 +109,14 @@ without_end-other line c other =
 
 -- lines that have characters
 
+-- with one more line, if it has characters
 pub filled-append : (done : List Line) (line : Line) → AllFilled done → AllFilled (done ++ unless_empty line)
 filled-append [] [] h = tt
 filled-append [] (c ∷ cs) h = tt
 filled-append ([] ∷ done) line h = absurd h
 filled-append ((c ∷ cs) ∷ done) line h = filled-append done line h
 
+-- the last line is the one that was added
 pub last_line-append : (done : List Line) (line : Line) → last_line (done ++ line ∷ []) ≡ line
 last_line-append [] line = refl
 last_line-append (d ∷ []) line = refl
@@ -117,6 +124,7 @@ last_line-append (d ∷ next ∷ done) line = last_line-append (next ∷ done) l
 
 -- places
 
+-- where lines start that lose their white space at the end
 pub starts_ended : (done : List Line) (line more : Line) (start : ℕ) → AllFilled done →
     StartsAt (done ++ unless_empty (line ++ more)) start → StartsAt (done ++ unless_empty line) start
 starts_ended [] [] more start filled h = tt
@@ -124,14 +132,17 @@ starts_ended [] (c ∷ cs) more start filled h = h
 starts_ended ([] ∷ done) line more start filled h = absurd filled
 starts_ended ((d ∷ ds) ∷ done) line more start filled h = h
 
-line_end-append : (end : ℕ) (line : Line) (c : Placed) → line_end end (line ++ c ∷ []) ≡ c.place + len_utf8 c.character
-line_end-append end [] c = refl
-line_end-append end (d ∷ ds) c = line_end-append (d.place + len_utf8 d.character) ds c
+-- where a line ends to which characters are added
+pub line_end-append : (end : ℕ) (line more : Line) → line_end end (line ++ more) ≡ line_end (line_end end line) more
+line_end-append end [] more = refl
+line_end-append end (c ∷ cs) more = line_end-append (c.place + len_utf8 c.character) cs more
 
+-- where lines end to which one is added
 last_end-line : (end : ℕ) (done : List Line) (line : Line) → last_end end (done ++ line ∷ []) ≡ line_end (last_end end done) line
 last_end-line end [] line = refl
 last_end-line end (d ∷ done) line = last_end-line (line_end end d) done line
 
+-- a line with one more character has characters
 pub filled_line : (line : Line) (c : Placed) → unless_empty (line ++ c ∷ []) ≡ (line ++ c ∷ []) ∷ []
 filled_line [] c = refl
 filled_line (d ∷ ds) c = refl
@@ -139,14 +150,16 @@ filled_line (d ∷ ds) c = refl
 -- the end of lines of which the last one has one more character
 pub last_end-append : (done : List Line) (line : Line) (c : Placed) → last_end 0 (done ++ unless_empty (line ++ c ∷ [])) ≡ c.place + len_utf8 c.character
 last_end-append done line c =
-    rw (filled_line line c, last_end-line 0 done (line ++ c ∷ [])) (line_end-append (last_end 0 done) line c)
+    rw (filled_line line c, last_end-line 0 done (line ++ c ∷ [])) (line_end-append (last_end 0 done) line (c ∷ []))
 
 -- characters
 
+-- the characters of a line and of what is added to it
 pub characters-append : (line more : Line) → characters (line ++ more) ≡ characters line ++ characters more
 characters-append [] more = refl
 characters-append (c ∷ cs) more = ap (λ l. c.character ∷ l) (characters-append cs more)
 
+-- what is put between lines and one more
 abbrev pub gap : List Line → Line → List ℕ
 gap [] next = []
 gap (line ∷ lines) next = between (last_line (line ∷ lines)) next
@@ -160,6 +173,7 @@ joined-append (d ∷ next ∷ done) line =
     ∙ (ap (λ l. characters d ++ l) (sym (append_assoc (between d next) (joined (next ∷ done)) (gap (next ∷ done) line ++ characters line)))
     ∙ sym (append_assoc (characters d) (between d next ++ joined (next ∷ done)) (gap (next ∷ done) line ++ characters line)))
 
+-- it depends on the first character of that line alone
 same_gap : (done : List Line) (c : Placed) (cs more : Line) → gap done ((c ∷ cs) ++ more) ≡ gap done (c ∷ cs)
 same_gap [] c cs more = refl
 same_gap (d ∷ done) c cs more = refl

@@ -28,6 +28,7 @@ rest_shorter side text p rest e =
     let stands = begins_stands side text p rest e in
     omega (arith, ap length stands.0, length-append (written p) rest, stands.1)
 
+-- the pieces of a text from what it begins with and the pieces of shorter texts
 from_found : (n place : ℕ) (side : Side) (c : ℕ) (cs : List ℕ) → length (c ∷ cs) ≤ suc n →
     ((place : ℕ) (side : Side) (text : List ℕ) → length text ≤ n → HasPieces place side text) →
     (f : Found) → piece_of side (c ∷ cs) ≡ f → HasPieces place side (c ∷ cs)
@@ -37,16 +38,19 @@ from_found n place side c cs h next (Begins p rest) e =
     let others = next (place + width (written p)) (after side p) rest (omega (arith, rest_shorter side (c ∷ cs) p rest e)) in
     record { pieces = p ∷ others.pieces; stop = others.stop; are = Goes place side c cs p rest others.pieces others.stop e others.are }
 
+-- a text that is no longer than this has pieces
 pieces_within : (n place : ℕ) (side : Side) (text : List ℕ) → length text ≤ n → HasPieces place side text
 pieces_within n place side [] h = record { pieces = []; stop = None; are = Ended place side }
 pieces_within zero place side (c ∷ cs) h = absurd (omega arith)
 pieces_within (suc n) place side (c ∷ cs) h = from_found n place side c cs h (pieces_within n) (piece_of side (c ∷ cs)) refl
 
+-- pieces up to the end give tokens, and others a fault
 from_stop : (text : List ℕ) (ps : List Piece) (stop : Option ℕ) → Pieces 0 (Outside true) text ps stop →
     ((tokens : List Token) × Tokens text tokens) ⊎ ((place : ℕ) × FirstFault text place)
 from_stop text ps None whole = inl (tokens_of 0 [] ps, record { pieces = ps; whole = whole; tokens_are = refl })
 from_stop text ps (Some place) front = inr (place, record { pieces = ps; front = front })
 
+-- a text has tokens, or a first fault
 pub tokens_or_fault : (text : List ℕ) → ((tokens : List Token) × Tokens text tokens) ⊎ ((place : ℕ) × FirstFault text place)
 tokens_or_fault text =
     let all = pieces_within (length text) 0 (Outside true) text (omega arith) in
@@ -72,5 +76,6 @@ stop_within _ _ _ _ _ (Goes place side c cs p rest ps stop f d) stopped e =
     let stands = begins_stands side (c ∷ cs) p rest f in
     omega (arith, stop_within (place + width (written p)) (after side p) rest ps stop d stopped e, ap width stands.0, width-append (written p) rest)
 
+-- the first place where no token begins is within the text
 pub fault_within : (text : List ℕ) (place : ℕ) → FirstFault text place → place ≤ width text
 fault_within text place first = omega (arith, stop_within 0 (Outside true) text first.pieces (Some place) first.front place refl)

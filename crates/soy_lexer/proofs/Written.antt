@@ -18,10 +18,12 @@ use Rattle.soy_lexer.specs.declared.token.TokenKind.TheVariants as kind
 use Rattle.soy_lexer.proofs.CommandPieces.{while-whole}
 use Rattle.soy_lexer.proofs.Texts.{cut-whole, after_front-whole, width-append}
 
+-- what is found is what the text begins with
 abbrev pub Stands : List ℕ → Found → Type 0
 Stands text (Begins p rest) = (text ≡ written p ++ rest) × (0 < length (written p))
 Stands text (Fails further) = further ≤ width text
 
+-- the same, if something is found
 abbrev pub StandsIf : List ℕ → Option Found → Type 0
 StandsIf text None = Unit {0}
 StandsIf text (Some found) = Stands text found
@@ -31,21 +33,25 @@ if_ways : {A : Type 0} (P : A → Type 0) (b : Bool) (x y : A) → (b ≡ true �
 if_ways P true x y f g = f refl
 if_ways P false x y f g = g
 
+-- of two finds each stands there
 or_ways : (text : List ℕ) (a b : Option Found) → StandsIf text a → StandsIf text b → StandsIf text (option_or a b)
 or_ways text None b f g = g
 or_ways text (Some x) b f g = f
 
+-- and so with what is found otherwise
 or_else : (text : List ℕ) (a : Option Found) (b : Found) → StandsIf text a → Stands text b → Stands text (unwrap_or a b)
 or_else text None b f g = g
 or_else text (Some x) b f g = f
 
 -- cuts
 
+-- what is found after a front
 after_parts : (front text : List ℕ) (f : List ℕ → Found) → ((inner : List ℕ) → text ≡ front ++ inner → Stands text (f inner)) →
     (o : Option (List ℕ)) → after_front front text ≡ o → StandsIf text (option_map f o)
 after_parts front text f each None e = tt
 after_parts front text f each (Some inner) e = each inner (after_front-whole front text inner e)
 
+-- the parts of a cut are the text
 abbrev pub IsCut : List ℕ → List ℕ → Option (List ℕ × List ℕ) → Type 0
 IsCut mark text o = IfSome o (λ parts. text ≡ parts.0 ++ (mark ++ parts.1))
 
@@ -56,22 +62,26 @@ unless_parts text p rest e pos None h = (e, pos)
 unless_parts text p rest e pos (Some parts) h =
     omega (arith, ap width e, ap width h, width-append (written p) rest, width-append parts.0 (0 ∷ parts.1))
 
+-- a piece with its written characters and its rest
 begins_parts : (text : List ℕ) (p : Piece) (rest : List ℕ) → text ≡ written p ++ rest → 0 < length (written p) → Stands text (begins p rest)
 begins_parts text p rest e pos = unless_parts text p rest e pos (cut (0 ∷ []) (written p)) (cut-whole (0 ∷ []) (written p))
 
 -- text outside of commands
 
+-- a comment after its `/*`
 comment_ends : (text inner : List ℕ) → text ≡ codes "/*" ++ inner → (o : Option (List ℕ × List ℕ)) → IsCut (codes "*/") inner o → Stands text (closed_comment o)
 comment_ends text inner e None h = omega arith
 comment_ends text inner e (Some parts) h =
     begins_parts text (Passed (codes "/*" ++ (parts.0 ++ codes "*/"))) parts.1 (e ∙ ap (λ xs. codes "/*" ++ xs) (h ∙ sym (append_assoc parts.0 (codes "*/") parts.1))) (omega arith)
 
+-- a comment
 block_parts : (text : List ℕ) → StandsIf text (block_comment text)
 block_parts text =
     after_parts (codes "/*") text (λ inner. closed_comment (cut (codes "*/") inner))
     (λ inner e. comment_ends text inner e (cut (codes "*/") inner) (cut-whole (codes "*/") inner))
     (after_front (codes "/*") text) refl
 
+-- a comment up to the end of its line
 line_parts : (white : Bool) (text : List ℕ) → StandsIf text (line_comment white text)
 line_parts false text = tt
 line_parts true text =
@@ -82,18 +92,21 @@ line_parts true text =
     (e ∙ ap (λ xs. codes "//" ++ xs) (while-whole continues_line inner)) (omega arith))
     (after_front (codes "//") text) refl
 
+-- a literal after its `{literal}`
 literal_ends : (text inner : List ℕ) → text ≡ codes "{literal}" ++ inner → (o : Option (List ℕ × List ℕ)) → IsCut (codes "{/literal}") inner o →
     Stands text (closed_literal o)
 literal_ends text inner e None h = omega arith
 literal_ends text inner e (Some parts) h =
     begins_parts text (Literal parts.0) parts.1 (e ∙ ap (λ xs. codes "{literal}" ++ xs) (h ∙ sym (append_assoc parts.0 (codes "{/literal}") parts.1))) (omega arith)
 
+-- a literal
 literal_parts : (text : List ℕ) → StandsIf text (literal_piece text)
 literal_parts text =
     after_parts (codes "{literal}") text (λ inner. closed_literal (cut (codes "{/literal}") inner))
     (λ inner e. literal_ends text inner e (cut (codes "{/literal}") inner) (cut-whole (codes "{/literal}") inner))
     (after_front (codes "{literal}") text) refl
 
+-- a `{` or a character of a run
 plain_parts : (text : List ℕ) → Stands text (plain_piece text)
 plain_parts [] = omega arith
 plain_parts (c ∷ cs) =
@@ -101,6 +114,7 @@ plain_parts (c ∷ cs) =
     (λ _. if_ways (Stands (c ∷ cs)) (may_begin cs) _ _ (λ _. begins_parts (c ∷ cs) (Sign kind.Begin (c ∷ []) (c ∷ [])) cs refl (omega arith)) (omega arith))
     (if_ways (Stands (c ∷ cs)) (c == closing_brace) _ _ (λ _. omega arith) (begins_parts (c ∷ cs) (Kept c) cs refl (omega arith)))
 
+-- whatever text begins with
 text_parts : (white : Bool) (text : List ℕ) → Stands text (text_piece white text)
 text_parts white text =
     or_else text (option_or (block_comment text) (option_or (line_comment white text) (literal_piece text))) (plain_piece text)
@@ -110,24 +124,29 @@ text_parts white text =
 
 -- commands
 
+-- white space in a command
 white_parts : (text : List ℕ) → StandsIf text (white_piece text)
 white_parts [] = tt
 white_parts (c ∷ cs) = if_ways (StandsIf (c ∷ cs)) (is_white c) _ _ (λ _. begins_parts (c ∷ cs) (Passed (c ∷ [])) cs refl (omega arith)) tt
 
+-- a token of these characters
 fixed_parts : (kind : TokenKind) (c : ℕ) (cs text : List ℕ) → StandsIf text (fixed_piece kind (c ∷ cs) text)
 fixed_parts kind c cs text =
     after_parts (c ∷ cs) text (λ rest. begins (Sign kind (c ∷ cs) (c ∷ cs)) rest)
     (λ rest e. begins_parts text (Sign kind (c ∷ cs) (c ∷ cs)) rest e (omega arith))
     (after_front (c ∷ cs) text) refl
 
+-- a name and what follows it are the text
 abbrev pub IsName : List ℕ → Option (List ℕ × List ℕ) → Type 0
 IsName text None = Unit {0}
 IsName text (Some name) = (text ≡ name.0 ++ name.1) × (0 < length name.0)
 
+-- a name
 name_parts : (text : List ℕ) → IsName text (name_front text)
 name_parts [] = tt
 name_parts (c ∷ cs) = if_ways (IsName (c ∷ cs)) (begins_name c) _ _ (λ _. (ap (λ xs. c ∷ xs) (while-whole continues_name cs), omega arith)) tt
 
+-- a token that ends with a name
 named_parts : (kind : TokenKind) (before text : List ℕ) (o : Option (List ℕ × List ℕ)) → IsName text o →
     StandsIf (before ++ text) (option_map (λ name. begins (Sign kind (before ++ name.0) name.0) name.1) o)
 named_parts kind before text None h = tt
@@ -135,19 +154,23 @@ named_parts kind before text (Some name) h =
     begins_parts (before ++ text) (Sign kind (before ++ name.0) name.0) name.1
     (ap (λ xs. before ++ xs) h.0 ∙ sym (append_assoc before name.0 name.1)) (omega (arith, length-append before name.0, h.1))
 
+-- a token of a name
 name_piece_parts : (kind : TokenKind) (before text : List ℕ) → StandsIf (before ++ text) (name_piece kind before text)
 name_piece_parts kind before text = named_parts kind before text (name_front text) (name_parts text)
 
+-- a variable
 variable_parts : (text : List ℕ) → StandsIf text (variable_piece text)
 variable_parts [] = tt
 variable_parts (c ∷ cs) =
     if_ways (StandsIf (c ∷ cs)) (c == dollar) _ _
     (λ e. subst (λ d. StandsIf (d ∷ cs) (name_piece kind.Variable (dollar ∷ []) cs)) (sym (eqb-true c dollar e)) (name_piece_parts kind.Variable (dollar ∷ []) cs)) tt
 
+-- an int of these digits
 digits_parts : (text digits rest : List ℕ) → text ≡ digits ++ rest → 0 < length digits → Stands text (digits_piece digits rest)
 digits_parts text digits rest e pos =
     if_ways (Stands text) (nat_le (number_after 0 digits) largest_int) _ _ (λ _. begins_parts text (Sign kind.Int digits digits) rest e pos) (omega arith)
 
+-- an int
 int_parts : (text : List ℕ) → StandsIf text (int_piece text)
 int_parts [] = tt
 int_parts (c ∷ cs) =
@@ -157,14 +180,17 @@ int_parts (c ∷ cs) =
 
 -- strings
 
+-- a string and what follows it are the text
 abbrev pub IsQuoted : List ℕ → Option Quoted → Type 0
 IsQuoted text None = Unit {0}
 IsQuoted text (Some string) = text ≡ string.written ++ string.rest
 
+-- a string with one more character
 with_parts : (front text : List ℕ) (c : ℕ) (o : Option Quoted) → IsQuoted text o → IsQuoted (front ++ text) (option_map (with_character front c) o)
 with_parts front text c None h = tt
 with_parts front text c (Some string) h = ap (λ xs. front ++ xs) h ∙ sym (append_assoc front string.written string.rest)
 
+-- the same, if there is one
 then_parts : (front text : List ℕ) (c : Option ℕ) (o : Option Quoted) → IsQuoted text o →
     IsQuoted (front ++ text) (option_and_then (λ character. option_map (with_character front character) o) c)
 then_parts front text None o h = tt
@@ -175,6 +201,7 @@ put_back : (c d : ℕ) (front cs : List ℕ) (o : Option Quoted) → (c == d) �
 put_back c d front cs o e h = subst (λ x. IsQuoted (front ++ (x ∷ cs)) o) (sym (eqb-true c d e)) h
 
 mutual
+  -- a string after its first quote, after a backslash, and after `\u`
   pub quoted_parts : (text : List ℕ) → IsQuoted text (quoted text)
   quoted_parts [] = tt
   quoted_parts (c ∷ cs) =
@@ -195,23 +222,27 @@ mutual
   number_parts (a ∷ b ∷ c ∷ []) = tt
   number_parts (a ∷ b ∷ c ∷ d ∷ cs) = then_parts (backslash ∷ 117 ∷ a ∷ b ∷ c ∷ d ∷ []) cs (numbered a b c d) (quoted cs) (quoted_parts cs)
 
+-- a string with its first quote
 string_ends : (cs : List ℕ) (o : Option Quoted) → IsQuoted cs o → Stands (single_quote ∷ cs) (quoted_piece o)
 string_ends cs None h = omega arith
 string_ends cs (Some string) h =
     begins_parts (single_quote ∷ cs) (Sign kind.Str (single_quote ∷ string.written) string.value) string.rest (ap (λ xs. single_quote ∷ xs) h) (omega arith)
 
+-- a string
 string_parts : (text : List ℕ) → StandsIf text (string_piece text)
 string_parts [] = tt
 string_parts (c ∷ cs) =
     if_ways (StandsIf (c ∷ cs)) (c == single_quote) _ _
     (λ e. subst (λ d. Stands (d ∷ cs) (quoted_piece (quoted cs))) (sym (eqb-true c single_quote e)) (string_ends cs (quoted cs) (quoted_parts cs))) tt
 
+-- a value after its first quote
 value_ends : (cs : List ℕ) (o : Option (List ℕ × List ℕ)) → IsCut (double_quote ∷ []) cs o → Stands (double_quote ∷ cs) (value_piece o)
 value_ends cs None h = omega arith
 value_ends cs (Some parts) h =
     begins_parts (double_quote ∷ cs) (Sign kind.Attribute (double_quote ∷ (parts.0 ++ double_quote ∷ [])) parts.0) parts.1
     (ap (λ xs. double_quote ∷ xs) (h ∙ sym (append_assoc parts.0 (double_quote ∷ []) parts.1))) (omega arith)
 
+-- a value
 attribute_parts : (text : List ℕ) → StandsIf text (attribute_piece text)
 attribute_parts [] = tt
 attribute_parts (c ∷ cs) =
@@ -219,21 +250,25 @@ attribute_parts (c ∷ cs) =
     (λ e. subst (λ d. Stands (d ∷ cs) (value_piece (cut (double_quote ∷ []) cs))) (sym (eqb-true c double_quote e))
     (value_ends cs (cut (double_quote ∷ []) cs) (cut-whole (double_quote ∷ []) cs))) tt
 
+-- each symbol has a character
 abbrev pub AllWritten : List (List ℕ) → Type 0
 AllWritten [] = Unit {0}
 AllWritten ([] ∷ symbols) = ⊥
 AllWritten ((c ∷ cs) ∷ symbols) = AllWritten symbols
 
+-- one of these symbols
 one_of_parts : (symbols : List (List ℕ)) (text : List ℕ) → AllWritten symbols → StandsIf text (one_of symbols text)
 one_of_parts [] text h = tt
 one_of_parts ([] ∷ symbols) text h = absurd h
 one_of_parts ((c ∷ cs) ∷ symbols) text h =
     or_ways text (fixed_piece kind.Symbol (c ∷ cs) text) (one_of symbols text) (fixed_parts kind.Symbol c cs text) (one_of_parts symbols text h)
 
+-- a symbol
 symbol_parts : (text : List ℕ) → StandsIf text (symbol_piece text)
 symbol_parts text =
     or_ways text (one_of symbols_of_two text) (one_of symbols_of_one text) (one_of_parts symbols_of_two text tt) (one_of_parts symbols_of_one text tt)
 
+-- whatever a text in a command begins with
 command_parts : (text : List ℕ) → Stands text (command_piece text)
 command_parts text =
     or_else text _ (Fails 0)
@@ -247,10 +282,12 @@ command_parts text =
     (or_ways text (attribute_piece text) (symbol_piece text) (attribute_parts text) (symbol_parts text)))))))))
     (omega arith)
 
+-- a slash with a name
 close_parts : (text : List ℕ) → StandsIf text (close_piece text)
 close_parts [] = tt
 close_parts (c ∷ cs) = if_ways (StandsIf (c ∷ cs)) (c == 47) _ _ (λ _. name_piece_parts kind.BeginClose (c ∷ []) cs) tt
 
+-- whatever follows the `{` of a command
 opened_parts : (text : List ℕ) → Stands text (opened_piece text)
 opened_parts text = or_else text (close_piece text) (command_piece text) (close_parts text) (command_parts text)
 

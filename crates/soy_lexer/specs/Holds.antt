@@ -6,7 +6,7 @@ use Rattle.std.specs.Prelude.{◌≡◌, ℕ, List, [], ◌∷◌, ◌++◌, Boo
 use Rattle.std.specs.List.{filter, slice_split}
 use Rattle.std.specs.Str.{chars}
 use Rattle.std.specs.String.{string_bytes}
-use Rattle.soy_lexer.specs.Characters.{is_line_end, is_nil, space}
+use Rattle.soy_lexer.specs.Characters.{is_line_end, is_nil}
 use Rattle.soy_lexer.specs.Lines.{Placed, Line, without_end, trimmed, trimmed_after, has_characters, lines_of, ends_angle, characters, joined, first_place, last_end}
 use Rattle.soy_lexer.specs.declared.run.Run.{Run}
 
@@ -74,10 +74,6 @@ start_of (c ∷ cs) white start place = start
 -- whether a space comes between a text and the next character, of which either may be `<` or `>`
 abbrev pub needs_space : List ℕ → Bool → Bool → Bool → Bool
 needs_space text fresh angle next = fresh && not (is_nil text) && not (angle || next)
-
--- and the text that comes there
-abbrev pub space_before : List ℕ → Bool → Bool → Bool → List ℕ
-space_before text fresh angle next = if needs_space text fresh angle next then space ∷ [] else []
 
 -- a run was made of these characters
 abbrev pub Holds : Run → List Placed → Type 0

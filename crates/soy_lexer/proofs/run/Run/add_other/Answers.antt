@@ -3,8 +3,7 @@ use Rattle.std.specs.Str.{chars}
 use Rattle.std.specs.String.{string_bytes}
 use Rattle.std.proofs.lemmas.Str.{chars-nil}
 use Rattle.soy_lexer.specs.Characters.{space}
-use Rattle.soy_lexer.specs.Holds.{space_before}
-use Rattle.soy_lexer.proofs.Kept.{other_kept, not_white}
+use Rattle.soy_lexer.proofs.Kept.{other_kept, not_white, space_before}
 use Rattle.soy_lexer.proofs.run.Run.add_other.Goals as goal
 
 pub returns : goal.returns
