@@ -82,6 +82,7 @@ fn main(rt: HostRuntime) -> io::Result<()> {
         ("one value", "{\"", "a", "\"}"),
         ("one name", "{", "a", "}"),
         ("symbols", "{", "?:", "}"),
+        ("text of words", "", "Ten words, and no more.\n", ""),
         ("text without line breaks", "", "a", ""),
         ("text of three bytes", "", "\u{20ac}", ""),
         ("slashes", "", "/ ", ""),

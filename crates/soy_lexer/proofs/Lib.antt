@@ -5,7 +5,9 @@ pub mod Running
 pub mod Kept
 pub mod TextEnds
 pub mod TextPieces
+pub mod WordsKept
 pub mod Reading
+pub mod WordsRead
 pub mod Ordered
 pub mod Texts
 pub mod CommandPieces

@@ -1,5 +1,5 @@
 -- Texts as bytes and as characters: where a text is cut, its characters are, and how many bytes they take.
-use Rattle.std.proofs.Common.{◌≡◌, ◌≢◌, ℕ, ◌+◌, ◌-◌, ◌<◌, ◌≤◌, Bool, true, not, List, [], ◌∷◌, ◌++◌, Option, Some, None, option_map, MatchOption, IfSome, length, take, drop, Bor, refl, sym, ap, subst, ◌∙◌, arith, encode_utf8, encode_utf8_all, length-append}
+use Rattle.std.proofs.Common.{◌≡◌, ◌≢◌, ℕ, ◌+◌, ◌-◌, ◌<◌, ◌≤◌, Bool, true, false, not, List, [], ◌∷◌, ◌++◌, Option, Some, None, option_map, MatchOption, IfSome, length, take, drop, Bor, refl, sym, ap, subst, ◌∙◌, arith, encode_utf8, encode_utf8_all, length-append}
 use Rattle.std.specs.Option.{option_or}
 use Rattle.std.specs.Str.{chars, IsUtf8, IsCharBoundary, NoCharPasses, NonePass}
 use Rattle.std.specs.Str.Pattern.{FindsTextPrefix, StripsPrefix, FindsText, SplitsAroundMatch, HasPassingCharAt}
@@ -11,6 +11,7 @@ use Rattle.std.proofs.lemmas.List.{take-append-drop}
 use Rattle.std.proofs.Math.Seq.{drop-append_seam, take-append_seam}
 use Rattle.soy_lexer.specs.Characters.{width}
 use Rattle.soy_lexer.specs.Cuts.{after_front, cut, front_while, after_while}
+use Rattle.soy_lexer.specs.Words.{begins_word, is_word_character}
 
 -- a text takes as many bytes as its characters
 width-encodes : (cs : List ℕ) → width cs ≡ length (encode_utf8_all cs)
@@ -204,3 +205,8 @@ module _ (text rest front : List ℕ) (utf8 : IsUtf8 text) (utf8_rest : IsUtf8 r
   pub front_characters : (part : List ℕ) → IsUtf8 part → part ≡ take end text → chars text ≡ chars part ++ chars rest
   front_characters part utf8_part is =
       whole ∙ ap (λ l. l ++ chars rest) (chars_from_encodes front part utf8_part (sym (is ∙ front_bytes)))
+
+-- a text that begins with no word has none at its front
+pub no_word : (text : List ℕ) → begins_word text ≡ false → (front_while is_word_character text ≡ []) × (after_while is_word_character text ≡ text)
+no_word [] h = (refl, refl)
+no_word (c ∷ cs) h = rw h (refl, refl)

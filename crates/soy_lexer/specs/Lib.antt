@@ -18,3 +18,4 @@ pub mod SeenSide
 pub mod Lexed
 pub mod InOrder
 pub mod AllWritten
+pub mod Words

@@ -1,9 +1,7 @@
 -- A text run: the characters that stand between two commands or literals, or between one of these and an end of the file,
--- without the comments in it, each with its place; and the text that its lines make:
--- 1. the white space on both sides of each line end goes;
--- 2. lines that are then empty go, 4. and nothing is put for them;
--- 3. two lines are joined with nothing where the one ends or the other begins with `<` or `>`, and else with a space;
--- 5. other white space stays.
+-- without the comments in it, each with its place; and the text that its lines make. The white space on both sides of each
+-- line end goes, and other white space stays. Lines that are then empty go, and nothing is put for them. Two lines that are
+-- left are joined with nothing where the one ends or the other begins with `<` or `>`, and else with a space.
 --
 -- The run "Hello \n  world" has the text "Hello world", and "a\n<b>\n" the text "a<b>".
 use Rattle.std.specs.Prelude.{ℕ, ◌+◌, List, [], ◌∷◌, ◌++◌, Bool, true, false, ◌||◌, ◌==◌, map, reverse, if◌then◌else◌}

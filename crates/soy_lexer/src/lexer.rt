@@ -1,4 +1,5 @@
-ghost use Rattle.std.specs.Prelude.{◌≡◌, ℕ, ◌+◌, ◌<◌, ◌≤◌, ◌^◌, List, [], ◌∷◌, ◌++◌, OnOk, IfOk, length};
+ghost use Rattle.std.specs.Prelude.{◌≡◌, ℕ, ◌+◌, ◌<◌, ◌≤◌, ◌^◌, List, [], ◌∷◌, ◌++◌, OnOk, IfOk, IsTrue, length};
+ghost use Rattle.std.specs.List.{list_all};
 ghost use Rattle.std.specs.Str.{chars};
 ghost use Rattle.soy_lexer.specs.Characters.{width};
 ghost use Rattle.soy_lexer.specs.InOrder.{InOrder};
@@ -10,6 +11,7 @@ ghost use Rattle.soy_lexer.specs.SeenSide.{seen_side};
 ghost use Rattle.soy_lexer.specs.Steps.{Steps, seen_part};
 ghost use Rattle.soy_lexer.specs.TextPiece.{piece_of};
 ghost use Rattle.soy_lexer.specs.Tokens.{literal_start, run_token};
+ghost use Rattle.soy_lexer.specs.Words.{TakesAll, is_word_character, placed};
 ghost use Rattle.soy_lexer.specs.declared.token.Token.{Token};
 
 use crate::command::{command_piece, opened_piece};
@@ -79,6 +81,15 @@ impl Lexer {
         }
     }
 
+    /// Takes a word that stands at a place.
+    fn take_word(&mut self, word: &str, place: u64) -> Result<(), OutOfMemory>
+        requires word { IsTrue (list_all is_word_character (chars word.now)) }
+        requires place { place + width (chars word.now) + 4 < 2 ^ 64 }
+        ensures { OnOk result (TakesAll self.old self.new (placed place (chars word.now))) }
+    {
+        self.run.add_word(word, place)
+    }
+
     /// Ends the run, and adds a token after it.
     fn push(&mut self, kind: TokenKind, span: Span, text: Text) -> Result<(), OutOfMemory>
         ensures { OnOk result ((tokens : List Token) (run : List Placed) → HasRead self.old tokens run → HasRead self.new (tokens ++ (run_token run ++ record { kind = kind; span = span; text = text } ∷ [])) []) }
@@ -129,7 +140,11 @@ fn lexed(alloc: Global, text: &str) -> Result<Vec<Token>, Refusal<u64>>
         rest = step.rest;
         let end = length - width(rest);
         lexer.take(step.part, place as u64, end as u64)?;
-        place = end;
+        let (word, others) = standing.word(rest);
+        lexer.take_word(word, end as u64)?;
+        standing = standing.after_word(word);
+        rest = others;
+        place = length - width(rest);
     }
     Ok(lexer.finish()?)
 }

@@ -1,12 +1,14 @@
 ghost use Rattle.std.specs.Prelude.{◌≡◌, ℕ, ◌<◌, ◌+◌, ◌^◌, List, [], ◌∷◌, ◌++◌, OnOk, IfOk, IsTrue, false, option_to_list, if◌then◌else◌};
 ghost use Rattle.std.specs.Str.{chars};
 ghost use Rattle.std.specs.String.{string_bytes};
-ghost use Rattle.soy_lexer.specs.Characters.{is_line_end, is_white, space};
+ghost use Rattle.std.specs.List.{list_all};
+ghost use Rattle.soy_lexer.specs.Characters.{is_line_end, is_white, space, width};
 ghost use Rattle.soy_lexer.specs.Holds.{Adds, Holds, needs_space, start_of};
 ghost use Rattle.soy_lexer.specs.Lines.{Placed, is_angle};
 ghost use Rattle.soy_lexer.specs.Tokens.{run_token};
+ghost use Rattle.soy_lexer.specs.Words.{AddsAll, IsWithinWord, is_word_character, placed};
 
-use crate::text::{is_empty, push, push_text};
+use crate::text::{first, is_empty, push, push_text, width};
 use crate::token::{Token, TokenKind};
 use soy_base::{OutOfMemory, Span, Text};
 use std::alloc::Global;
@@ -116,7 +118,8 @@ impl Run {
     fn add_other(&mut self, c: char, place: u64) -> Result<(), OutOfMemory>
         requires other { is_white c ≡ false }
         requires place { place + 4 < 2 ^ 64 }
-        ensures { OnOk result (Adds self.old self.new (record { place = place; character = c })) }
+        ensures adds { OnOk result (Adds self.old self.new (record { place = place; character = c })) }
+        ensures within { OnOk result (IsWithinWord self.new) }
     {
         let angle = is_angle(c);
         let needs_space = self.needs_space(angle);
@@ -129,6 +132,35 @@ impl Run {
         self.angle = angle;
         self.text_end = place + c.len_utf8() as u64;
         self.end = self.text_end;
+        Ok(())
+    }
+
+    /// Adds characters that stand one after the other from this place on, none of them white space.
+    pub(crate) fn add_word(&mut self, word: &str, place: u64) -> Result<(), OutOfMemory>
+        requires word { IsTrue (list_all is_word_character (chars word.now)) }
+        requires place { place + width (chars word.now) + 4 < 2 ^ 64 }
+        ensures { OnOk result (AddsAll self.old self.new (placed place (chars word.now))) }
+    {
+        if let Some((c, others)) = first(word) {
+            self.add_other(c, place)?;
+            self.go_on(others, place + c.len_utf8() as u64)?;
+        }
+        Ok(())
+    }
+
+    /// Adds more of them to a line that ends with one.
+    fn go_on(&mut self, word: &str, place: u64) -> Result<(), OutOfMemory>
+        requires word { IsTrue (list_all is_word_character (chars word.now)) }
+        requires place { place + width (chars word.now) + 4 < 2 ^ 64 }
+        requires within { IsWithinWord self.old }
+        ensures { OnOk result (AddsAll self.old self.new (placed place (chars word.now))) }
+    {
+        if !is_empty(word) {
+            push_text(&mut self.text, word)?;
+            self.angle = false;
+            self.text_end = place + width(word) as u64;
+            self.end = self.text_end;
+        }
         Ok(())
     }
 

@@ -1,9 +1,12 @@
 ghost use Rattle.std.specs.Prelude.{◌≡◌};
+ghost use Rattle.std.specs.Str.{chars, IsUtf8};
 ghost use Rattle.soy_lexer.specs.Piece.{after, after_passed, after_sign};
 ghost use Rattle.soy_lexer.specs.SeenSide.{seen_side};
 ghost use Rattle.soy_lexer.specs.Steps.{seen_part};
+ghost use Rattle.soy_lexer.specs.Words.{after_word, side_after, word};
 
 use crate::step::Part;
+use crate::text::{is_empty, word_characters};
 use crate::token::TokenKind;
 
 /// Where in a file the rest of its text stands.
@@ -27,6 +30,30 @@ impl Standing {
             Part::Passed(_) => self.after_passed(),
             Part::Literal(_) => Standing::Outside(false),
             Part::Sign(kind, _, _) => Standing::after_sign(*kind),
+        }
+    }
+
+    /// The word at the front of the text that stands there, and what follows it.
+    pub(crate) fn word(self, text: &str) -> (&str, &str)
+        ensures front { chars result.0.now ≡ word (seen_side self) (chars text.now) }
+        ensures rest { chars result.1.now ≡ after_word (seen_side self) (chars text.now) }
+        ensures utf8 { IsUtf8 result.1.now }
+    {
+        match self {
+            Standing::Outside(_) => word_characters(text),
+            Standing::Opened => ("", text),
+            Standing::Inside => ("", text),
+        }
+    }
+
+    /// Where the text after a word stands.
+    pub(crate) fn after_word(self, word: &str) -> Standing
+        ensures { seen_side result ≡ side_after (seen_side self) (chars word.now) }
+    {
+        if is_empty(word) {
+            self
+        } else {
+            Standing::Outside(false)
         }
     }
 

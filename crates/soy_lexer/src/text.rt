@@ -1,11 +1,12 @@
 // Texts cut, seen by their characters.
 ghost use Rattle.std.specs.Prelude.{◌≡◌, ℕ, ◌<◌, List, [], ◌∷◌, ◌++◌, length, option_map, MatchOption, OnOk, IfOk};
 ghost use Rattle.std.specs.Char.{is_ascii_digit};
-ghost use Rattle.std.specs.Str.{chars};
+ghost use Rattle.std.specs.Str.{chars, IsUtf8};
 ghost use Rattle.std.specs.String.{string_bytes};
 ghost use Rattle.soy_lexer.specs.Characters.{continues_name, is_nil, width};
 ghost use Rattle.soy_lexer.specs.Cuts.{after_front, cut, front_while, after_while};
 ghost use Rattle.soy_lexer.specs.TextPiece.{continues_line};
+ghost use Rattle.soy_lexer.specs.Words.{begins_word, is_word_character};
 
 use soy_base::{OutOfMemory, Text};
 use std::alloc::Global;
@@ -76,6 +77,49 @@ pub(crate) fn line(text: &str) -> (&str, &str)
     ensures rest { chars result.1.now ≡ after_while continues_line (chars text.now) }
 {
     match text.find(|c: char| c == '\n' || c == '\r') {
+        Some(end) => text.split_at(end),
+        None => (text, ""),
+    }
+}
+
+fn is_word_character(c: char) -> bool
+    ensures { result ≡ is_word_character c }
+{
+    !matches!(
+        c,
+        ' ' | '\t' | '\n' | '\r' | '<' | '>' | '\0' | '/' | '{' | '}'
+    )
+}
+
+/// Whether a text outside of commands begins with a word.
+fn begins_word(text: &str) -> bool
+    ensures { result ≡ begins_word (chars text.now) }
+{
+    match first(text) {
+        Some((c, _)) => is_word_character(c),
+        None => false,
+    }
+}
+
+/// The word at the front of a text outside of commands, and what follows it.
+pub(crate) fn word_characters(text: &str) -> (&str, &str)
+    ensures front { chars result.0.now ≡ front_while is_word_character (chars text.now) }
+    ensures rest { chars result.1.now ≡ after_while is_word_character (chars text.now) }
+    ensures utf8 { IsUtf8 result.1.now }
+{
+    if begins_word(text) {
+        some_word(text)
+    } else {
+        ("", text)
+    }
+}
+
+fn some_word(text: &str) -> (&str, &str)
+    ensures front { chars result.0.now ≡ front_while is_word_character (chars text.now) }
+    ensures rest { chars result.1.now ≡ after_while is_word_character (chars text.now) }
+    ensures utf8 { IsUtf8 result.1.now }
+{
+    match text.find(|c: char| !is_word_character(c)) {
         Some(end) => text.split_at(end),
         None => (text, ""),
     }

@@ -1,10 +1,12 @@
-use Rattle.std.proofs.Common.{rules, ◌≡◌, ◌+◌, ◌-◌, sym, subst, ◌∙◌, arith}
+use Rattle.std.proofs.Common.{◌≡◌, ◌+◌, ◌-◌, sym, ap, ◌∙◌, arith}
 use Rattle.std.specs.Str.{chars}
 use Rattle.soy_lexer.specs.Characters.{width}
 use Rattle.soy_lexer.specs.Piece.{written}
 use Rattle.soy_lexer.specs.SeenSide.{seen_side}
 use Rattle.soy_lexer.specs.Steps.{seen_part}
-use Rattle.soy_lexer.proofs.Reading.{GoesOn, fails_within, ended, stopped, place_after, smaller, next}
+use Rattle.soy_lexer.specs.Words.{word}
+use Rattle.soy_lexer.proofs.Reading.{fails_within, ended, stopped, place_after}
+use Rattle.soy_lexer.proofs.WordsRead.{all_word, word_within, word_smaller, both_next}
 use Rattle.soy_lexer.proofs.lexer.lexed.Goals as goal
 
 pub overflow_add-result : goal.overflow_add-result
@@ -31,23 +33,46 @@ take-requires-clause-end c =
     (seen_part c.in-Ok.step.part) (chars c.in-Ok.step.rest.now) c.in-Ok.ensures in
     omega (arith, after, c.width.ensures, c.width-length.ensures)
 
+pub take_word-requires-clause-word : goal.take_word-requires-clause-word
+take_word-requires-clause-word c = rw c.word.ensures.front (all_word (seen_side c.after-standing.result) (chars c.in-Ok.step.rest.now))
+
+pub take_word-requires-clause-place : goal.take_word-requires-clause-place
+take_word-requires-clause-place c =
+    let within = word_within (chars c.args.text.now) (chars c.loop-rest.rest.now) (seen_side c.loop-rest.standing) c.loop-rest.lexer c.loop-rest.place c.loop-rest.invariant.goes_on
+    (seen_part c.in-Ok.step.part) (chars c.in-Ok.step.rest.now) c.in-Ok.ensures (seen_side c.after-standing.result) in
+    let after = place_after (chars c.args.text.now) (chars c.loop-rest.rest.now) (seen_side c.loop-rest.standing) c.loop-rest.lexer c.loop-rest.place c.loop-rest.invariant.goes_on
+    (seen_part c.in-Ok.step.part) (chars c.in-Ok.step.rest.now) c.in-Ok.ensures in
+    omega (arith, within, after, ap width c.word.ensures.front, c.width.ensures, c.width-length.ensures, c.requires)
+
+pub overflow_sub-place : goal.overflow_sub-place
+overflow_sub-place c =
+    let within = word_within (chars c.args.text.now) (chars c.loop-rest.rest.now) (seen_side c.loop-rest.standing) c.loop-rest.lexer c.loop-rest.place c.loop-rest.invariant.goes_on
+    (seen_part c.in-Ok.step.part) (chars c.in-Ok.step.rest.now) c.in-Ok.ensures (seen_side c.after-standing.result) in
+    omega (arith, within, ap width c.word.ensures.rest, c.width-in-loop-rest.ensures, c.width-length.ensures)
+
 pub loop-rest-smaller : goal.loop-rest-smaller
-loop-rest-smaller c =
-    smaller (chars c.args.text.now) (chars c.loop-rest.rest.now) (seen_side c.loop-rest.standing) c.loop-rest.lexer c.loop-rest.place c.loop-rest.invariant.goes_on
-    (seen_part c.in-Ok.step.part) (chars c.in-Ok.step.rest.now) c.in-Ok.ensures
+loop-rest-smaller c = rw c.word.ensures.rest (word_smaller (chars c.args.text.now) (chars c.loop-rest.rest.now) (seen_side c.loop-rest.standing) c.loop-rest.lexer c.loop-rest.place c.loop-rest.invariant.goes_on
+    (seen_part c.in-Ok.step.part) (chars c.in-Ok.step.rest.now) c.in-Ok.ensures (seen_side c.after-standing.result))
 
 pub loop-rest-preserved : goal.loop-rest-preserved
 loop-rest-preserved c =
+    let standing = seen_side c.after-standing.result in
+    let piece = seen_part c.in-Ok.step.part in
+    let rest = chars c.in-Ok.step.rest.now in
+    let within = word_within (chars c.args.text.now) (chars c.loop-rest.rest.now) (seen_side c.loop-rest.standing) c.loop-rest.lexer c.loop-rest.place c.loop-rest.invariant.goes_on
+    (seen_part c.in-Ok.step.part) (chars c.in-Ok.step.rest.now) c.in-Ok.ensures (seen_side c.after-standing.result) in
     let after = place_after (chars c.args.text.now) (chars c.loop-rest.rest.now) (seen_side c.loop-rest.standing) c.loop-rest.lexer c.loop-rest.place c.loop-rest.invariant.goes_on
-    (seen_part c.in-Ok.step.part) (chars c.in-Ok.step.rest.now) c.in-Ok.ensures in
-    let place : c.loop-rest.place + width (written (seen_part c.in-Ok.step.part)) ≡ c.width-length.result - c.width.result =
+    piece rest c.in-Ok.ensures in
+    let start : c.width-length.result - c.width.result ≡ c.loop-rest.place + width (written piece) =
     omega (arith, after, c.width.ensures, c.width-length.ensures) in
+    let place : (c.loop-rest.place + width (written piece)) + width (word standing rest) ≡ c.width-length.result - c.width-in-loop-rest.result =
+    omega (arith, within, ap width c.word.ensures.rest, c.width-in-loop-rest.ensures, c.width-length.ensures) in
     record {
-      utf8 = search rules;
-      goes_on = subst (λ n. GoesOn (chars c.args.text.now) (chars c.in-Ok.step.rest.now) (seen_side c.after-standing.result) c.take.new.self n) place
-          (next (chars c.args.text.now) (chars c.loop-rest.rest.now) (seen_side c.loop-rest.standing) c.loop-rest.lexer c.loop-rest.place c.loop-rest.invariant.goes_on
-          (seen_part c.in-Ok.step.part) (chars c.in-Ok.step.rest.now) c.in-Ok.ensures c.take.new.self (seen_side c.after-standing.result)
-          (sym c.is_empty.ensures ∙ c.loop-rest-test.true) c.after-standing.ensures c.in_ok-take.ensures);
+      utf8 = c.word.ensures.utf8;
+      goes_on = rw (c.after_word-standing.ensures, c.word.ensures.front, c.word.ensures.rest, ← place)
+          (both_next (chars c.args.text.now) (chars c.loop-rest.rest.now) (seen_side c.loop-rest.standing) c.loop-rest.lexer c.loop-rest.place c.loop-rest.invariant.goes_on
+          (seen_part c.in-Ok.step.part) (chars c.in-Ok.step.rest.now) c.in-Ok.ensures (seen_side c.after-standing.result) c.take.new.self c.take_word.new.self
+          (sym c.is_empty.ensures ∙ c.loop-rest-test.true) c.after-standing.ensures c.in_ok-take.ensures (rw (← c.word.ensures.front, ← start) c.in_ok-take_word.ensures));
     }
 
 pub returns : goal.returns

@@ -1,13 +1,14 @@
-use Rattle.std.proofs.Common.{◌+◌, ◌++◌, [], ◌∷◌, if◌then◌else◌, ap, ◌∙◌}
+use Rattle.std.proofs.Common.{◌+◌, ◌++◌, [], ◌∷◌, if◌then◌else◌, refl, ap, ◌∙◌}
 use Rattle.std.specs.Str.{chars}
 use Rattle.std.specs.String.{string_bytes}
 use Rattle.std.proofs.lemmas.Str.{chars-nil}
-use Rattle.soy_lexer.specs.Characters.{space}
+use Rattle.soy_lexer.specs.Characters.{is_nil, space}
 use Rattle.soy_lexer.proofs.Kept.{other_kept, not_white, space_before}
+use Rattle.soy_lexer.proofs.WordsKept.{not_nil}
 use Rattle.soy_lexer.proofs.run.Run.add_other.Goals as goal
 
-pub returns : goal.returns
-returns c = λ run holds.
+pub returns-clause-adds : goal.returns-clause-adds
+returns-clause-adds c = λ run holds.
     other_kept _ _ _ _ _ (record { place = c.args.place; character = c.args.c }) holds c.requires.other (not_white c.args.c c.requires.other)
     (c.in_ok-push.ensures ∙ ap (λ l. l ++ c.args.c ∷ [])
     (c.in_ok-push_text.ensures
@@ -17,3 +18,10 @@ returns c = λ run holds.
     c.is_angle-angle.ensures
     c.start_with-self.ensures
     (ap (λ n. c.args.place + n) c.len_utf8.ensures.value)
+
+pub returns-clause-within : goal.returns-clause-within
+returns-clause-within c = record {
+  begun = refl;
+  no_white = ap chars c.clear.ensures.bytes ∙ chars-nil;
+  some_text = ap is_nil c.in_ok-push.ensures ∙ not_nil _ c.args.c;
+}
