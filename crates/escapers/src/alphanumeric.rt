@@ -15,15 +15,12 @@ pub fn is_alphanumeric(text: &str) -> bool
 fn are_alphanumeric(bytes: &[u8]) -> bool
     ensures { result ≡ list_all is_ascii_alphanumeric bytes.now }
 {
-    let mut rest = bytes;
-    while rest.len() > 64 {
-        let (chunk, later) = rest.split_at(64);
+    for chunk in bytes.chunks(64) {
         if !is_alphanumeric_chunk(chunk) {
             return false;
         }
-        rest = later;
     }
-    is_alphanumeric_chunk(rest)
+    true
 }
 
 // No branch within, so that many bytes are tested at once.

@@ -1,11 +1,8 @@
-use Rattle.std.proofs.Common.{◌≡◌, length}
+use Rattle.std.proofs.Common.{◌≡◌}
 use Rattle.std.specs.Char.{is_ascii_alphanumeric}
 use Rattle.std.specs.List.{list_all}
+use Rattle.std.specs.Slice.Iter.{chunks_rest}
 use Rattle.escapers.proofs.alphanumeric.are_alphanumeric.Given as goal
 
--- the rest decides
-abbrev pub invariant-loop-rest : goal.invariant-loop-rest
-invariant-loop-rest l = list_all is_ascii_alphanumeric l.rest ≡ list_all is_ascii_alphanumeric l.bytes
-
-abbrev pub decreases-loop-rest : goal.decreases-loop-rest
-decreases-loop-rest l = length l.rest
+abbrev pub invariant-loop-chunk : goal.invariant-loop-chunk
+invariant-loop-chunk l = list_all is_ascii_alphanumeric (chunks_rest l.chunk-iterator) ≡ list_all is_ascii_alphanumeric l.bytes
