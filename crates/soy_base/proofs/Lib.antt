@@ -1,1 +1,4 @@
+pub mod CutAt
 pub mod Lines
+pub mod States
+pub mod Texts

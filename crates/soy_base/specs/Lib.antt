@@ -1,3 +1,13 @@
+pub mod Among
+pub mod Appends
+pub mod ByteLength
+pub mod Characters
 pub mod Code
+pub mod Cuts
+pub mod Names
+pub mod Parts
 pub mod Position
+pub mod Stacks
+pub mod StateAfter
+pub mod WhiteSpace
 pub mod formers

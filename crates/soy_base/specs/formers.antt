@@ -1,1 +1,3 @@
+pub mod boxed
+pub mod row
 pub mod seq

@@ -1,3 +1,4 @@
+//! Refusals, with their numbers and words.
 ghost use Rattle.std.specs.Prelude.{◌≡◌};
 ghost use Rattle.soy_base.specs.Code.{code_number, code_word};
 

@@ -1,7 +1,9 @@
+//! What is wrong in a file, and where.
+
 use crate::Code;
 
 /// What is wrong, and where: the number of the file in the order in which the files were given,
-/// and the place in it as a number of bytes, both counted from 0.
+/// and the offset in it, in bytes, both from 0.
 #[derive(Clone, Copy, Debug, PartialEq, Eq)]
 pub struct Fault {
     pub code: Code,
@@ -14,4 +16,11 @@ pub struct Fault {
 pub struct Span {
     pub start: u64,
     pub end: u64,
+}
+
+/// A call that nests too deep: the file and the offset of its `{call` command.
+#[derive(Clone, Copy, Debug, PartialEq, Eq)]
+pub struct TooDeep {
+    pub file: u32,
+    pub at: u64,
 }

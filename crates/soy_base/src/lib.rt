@@ -5,23 +5,45 @@
 //! and a text or list as the list of what it holds. Stands on std alone.
 #![tactic(auto)]
 
+mod boxed;
 mod code;
+mod cuts;
 mod direction;
 mod fault;
+mod kind;
 mod memory;
+mod name;
+mod path;
 mod place;
 mod position;
+mod push;
+mod row;
 mod seq;
+mod stack;
+mod steps;
 mod text;
+mod white;
 
+pub use boxed::Boxed;
 pub use code::Code;
+pub use cuts::{
+    after_prefix, before, byte_len, cut, cut_at, first, first_part, is_empty, split_while,
+};
 pub use direction::Dir;
-pub use fault::{Fault, Span};
+pub use fault::{Fault, Span, TooDeep};
+pub use kind::Kind;
 pub use memory::{OutOfMemory, Refusal};
+pub use name::{begins_name, continues_name, is_dotted_name, is_name};
+pub use path::PathStep;
 pub use place::{Place, Placing, ValueClass};
 pub use position::{Position, line_of};
+pub use push::{push_char, push_text};
+pub use row::Row;
 pub use seq::Seq;
+pub use stack::Stack;
+pub use steps::Steps;
 pub use text::Text;
+pub use white::{is_line_break, is_template_space};
 
 #[cfg(test)]
 mod tests;

@@ -1,3 +1,4 @@
+//! Running out of memory, and refusals that may be that.
 ghost use Rattle.std.specs.Prelude.{◌≡◌};
 
 use std::alloc::{AllocError, AllocFailed};

@@ -1,3 +1,5 @@
+//! The places of a page and the classes of values.
+
 use crate::code::Code;
 
 /// Where in a page a value stands, which decides how it is escaped.

@@ -1,3 +1,4 @@
+//! Lines and columns.
 ghost use Rattle.std.specs.Prelude.{◌≡◌, ◌+◌, ◌-◌, ◌≤◌, ◌<◌, ◌^◌, length, Bool, if◌then◌else◌};
 ghost use Rattle.soy_base.specs.Position.{is_break_end, begins_character, breaks_within, characters_before};
 

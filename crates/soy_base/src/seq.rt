@@ -1,3 +1,4 @@
+//! A list, which contracts see as the list of its items.
 ghost use Rattle.std.specs.Prelude.{◌≡◌};
 
 use std::marker::Model;

@@ -1,8 +1,11 @@
-ghost use Rattle.std.specs.Prelude.{◌≡◌, [], ◌++◌, ◌↔◌, IsTrue, IfOk, OnOk, OnErr, encode_utf8_all};
-ghost use Rattle.std.specs.Str.{chars};
+//! A text, which contracts see as the list of its characters.
+ghost use Rattle.std.specs.Prelude.{◌≡◌, [], ◌++◌, IfOk, OnOk, OnErr, encode_utf8_all};
+ghost use Rattle.std.specs.Str.{chars, bytes_eq};
 ghost use Rattle.std.specs.String.{string_bytes};
+ghost use Rattle.soy_base.specs.Cuts.{is_nil};
 
 use crate::OutOfMemory;
+use crate::push::push_text;
 use std::alloc::Global;
 use std::marker::Model;
 
@@ -30,6 +33,15 @@ impl Text {
         Text { text }
     }
 
+    /// The text without characters. Takes no memory.
+    pub fn empty(alloc: Global) -> Text
+        ensures { result ≡ [] }
+    {
+        Text {
+            text: String::new(alloc),
+        }
+    }
+
     /// The text as a string slice.
     pub fn text(&self) -> &str
         ensures characters { chars result.now ≡ self.now }
@@ -38,7 +50,29 @@ impl Text {
         self.text.as_str()
     }
 
-    /// An equal text, or want of memory.
+    /// Whether the text has no characters.
+    pub fn is_empty(&self) -> bool
+        ensures { result ≡ is_nil self.now }
+    {
+        self.text.as_str().is_empty()
+    }
+
+    /// Whether the text has just these characters.
+    pub fn is(&self, other: &str) -> bool
+        ensures { result ≡ bytes_eq self.now (chars other.now) }
+    {
+        self.text.as_str() == other
+    }
+
+    /// Adds the characters of another text at the end.
+    pub fn append(&mut self, more: &Text) -> Result<(), OutOfMemory>
+        ensures ok { OnOk result (self.new ≡ self.old ++ more.now) }
+        ensures unchanged { OnErr result (self.new ≡ self.old) }
+    {
+        push_text(&mut self.text, more.text.as_str())
+    }
+
+    /// An equal text.
     pub fn copy(&self, alloc: Global) -> Result<Text, OutOfMemory>
         ensures { IfOk result (λ t. t ≡ self.now) }
     {
