@@ -1,5 +1,5 @@
 -- Texts cut at one character, and split at each.
-use Rattle.std.proofs.Common.{◌≡◌, ℕ, ◌+◌, ◌<◌, Some, None, true, false, not, cond, eqb, ◌==◌, ◌||◌, ◌&&◌, Bool, List, [], ◌∷◌, ◌++◌, Option, option_map, MatchOption, IfSome, Bor, length, take, drop, refl, sym, ap, ◌∙◌, arith, length-drop, length-append, take-append-drop, subst, IsTrue}
+use Rattle.std.proofs.Common.{◌≡◌, ℕ, ◌<◌, Some, None, true, false, not, cond, eqb, ◌==◌, ◌||◌, ◌&&◌, Bool, List, [], ◌∷◌, ◌++◌, Option, option_map, MatchOption, Bor, length, take, drop, refl, sym, ap, ◌∙◌, arith, length-drop, length-append, take-append-drop}
 use Rattle.std.specs.List.{slice_split, onto_first}
 use Rattle.std.specs.Option.{option_or}
 use Rattle.std.specs.Str.{chars, IsUtf8, NoCharPasses, NonePass}
@@ -9,7 +9,6 @@ use Rattle.std.proofs.lemmas.Str.{chars-append, chars_past_char, chars_from_enco
 use Rattle.std.proofs.lemmas.Str.Pattern.{IsSplitOnceResult, drop_at_char}
 use Rattle.soy_base.specs.Among.{lacks}
 use Rattle.soy_base.specs.Cuts.{cut}
-use Rattle.soy_base.specs.Parts.{parts_left}
 
 both_hold : (a b : Bool) → (a && b) ≡ true → (a ≡ true) × (b ≡ true)
 both_hold true b h = (refl, h)

@@ -29,7 +29,7 @@ step_within : (b : Bool) (start at : ℕ) → start ≤ at → cond b (suc at) s
 step_within true start at h = omega arith
 step_within false start at h = omega arith
 
--- a line starts at or before its places
+-- a line starts at or before its offsets
 pub line_start-≤ : (text : List ℕ) (at : ℕ) → line_start text at ≤ at
 unfolding line_start
 line_start-≤ text zero = omega arith
@@ -59,9 +59,9 @@ counted_on text at start h low =
     let more : count_by begins_character (take (at - start + 1) (drop start text)) ≡ count_by begins_character (take (at - start) (drop start text)) + cond (begins_character (get_or (drop start text) (at - start) 0)) 1 0 =
     counted_more begins_character (drop start text) (at - start) (omega (arith, length-drop start text)) in
     let same : at - start + 1 ≡ at + 1 - start = omega arith in
-    let place : start + (at - start) ≡ at = omega arith in
+    let offset : start + (at - start) ≡ at = omega arith in
     let byte : get_or (drop start text) (at - start) 0 ≡ get_or text at 0 =
-    get_or-drop start text (at - start) 0 ∙ ap (λ k. get_or text k 0) place in
+    get_or-drop start text (at - start) 0 ∙ ap (λ k. get_or text k 0) offset in
     ap (λ k. count_by begins_character (take k (drop start text))) (sym same) ∙ (more ∙ ap (λ x. count_by begins_character (take (at - start) (drop start text)) + cond (begins_character x) 1 0) byte)
 
 counted_line : (text : List ℕ) (at start : ℕ) (b : Bool) → at < length text → start ≤ at → count_by begins_character (take (at + 1 - cond b (suc at) start) (drop (cond b (suc at) start) text)) ≡ cond b 0 (count_by begins_character (take (at - start) (drop start text)) + cond (begins_character (get_or text at 0)) 1 0)

@@ -1,8 +1,9 @@
-//! The types that every other crate of the workspace names: refusals with their numbers and words,
-//! faults with their places, texts and lists as contracts see them, and lines and columns.
+//! What every other crate of the workspace names: refusals with their numbers and words, faults with their offsets,
+//! texts, lists, stacks and boxes as contracts see them, a counter of steps, and texts cut by their characters.
 //!
-//! Each call is pinned by one equation: a code's number and word, the line and column of a place,
-//! and a text or list as the list of what it holds. Stands on std alone.
+//! Each call is pinned by an equation on what it answers, and a refused call changes nothing. The steps between the
+//! bytes of a text and its characters are proved here, so that the crates above speak of characters alone. Depends on
+//! std alone.
 #![tactic(auto)]
 
 mod boxed;
@@ -27,7 +28,8 @@ mod white;
 pub use boxed::Boxed;
 pub use code::Code;
 pub use cuts::{
-    after_prefix, before, byte_len, cut, cut_at, first, first_part, is_empty, split_while,
+    after_prefix, before, byte_len, cut, cut_at, first, first_part, is_empty, split_digits,
+    split_line, split_name, split_while,
 };
 pub use direction::Dir;
 pub use fault::{Fault, Span, TooDeep};

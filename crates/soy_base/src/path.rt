@@ -3,7 +3,7 @@
 use crate::Text;
 
 /// A step into a value: to a member of a record by its key, or to an item of a list by its index, from 0.
-#[derive(Debug, Drop)]
+#[derive(Debug, PartialEq, Eq, Drop)]
 pub enum PathStep {
     Key(Text),
     Index(u64),

@@ -29,13 +29,13 @@ pub enum Place {
     JsDouble,
     /// A value of a style.
     CssValue,
-    /// A string of a style, in quotes of either sort.
+    /// A string of a style, in quotes of either kind.
     CssString,
     /// Text that isn't HTML.
     Plain,
 }
 
-/// What sort of value is printed, which together with its place decides how it is escaped.
+/// What kind of value is printed, which together with its place decides how it is escaped.
 #[derive(Clone, Copy, Debug, PartialEq, Eq)]
 pub enum ValueClass {
     /// A string, or a call of a template of kind text.

@@ -2,7 +2,7 @@
 ghost use Rattle.std.specs.Prelude.{◌≡◌, ◌+◌, ◌-◌, ◌≤◌, ◌<◌, ◌^◌, length, Bool, if◌then◌else◌};
 ghost use Rattle.soy_base.specs.Position.{is_break_end, begins_character, breaks_within, characters_before};
 
-/// A place in a text as an editor shows it: a line and a column, both counted from 1.
+/// A position in a text as an editor shows it: a line and a column, both counted from 1.
 #[derive(Clone, Copy, Debug, PartialEq, Eq)]
 pub struct Position {
     pub line: u64,
@@ -45,7 +45,7 @@ fn begins_character(byte: u8) -> bool
     byte < 128 || 191 < byte
 }
 
-/// The place `at` as an index. No slice is so long that its length has no successor.
+/// The offset `at` as an index. No slice is so long that its length has no successor.
 fn index_of(text: &[u8], at: u64) -> usize
     requires { at ≤ length text.now }
     ensures same { result ≡ at }
@@ -55,7 +55,7 @@ fn index_of(text: &[u8], at: u64) -> usize
     at as usize
 }
 
-/// The line and column of the place `at`, a number of bytes, in a text. A line break is LF, CR LF
+/// The line and column of the offset `at`, in bytes, in a text. A line break is LF, CR LF
 /// or CR; the column counts characters and not bytes.
 pub fn line_of(text: &[u8], at: u64) -> Position
     requires { at ≤ length text.now }

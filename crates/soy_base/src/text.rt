@@ -1,5 +1,7 @@
 //! A text, which contracts see as the list of its characters.
 ghost use Rattle.std.specs.Prelude.{◌≡◌, [], ◌++◌, IfOk, OnOk, OnErr, encode_utf8_all};
+ghost use Rattle.std.specs.Cmp.Rules.{comparing};
+ghost use Rattle.std.proofs.Common.{rules};
 ghost use Rattle.std.specs.Str.{chars, bytes_eq};
 ghost use Rattle.std.specs.String.{string_bytes};
 ghost use Rattle.soy_base.specs.Cuts.{is_nil};
@@ -79,4 +81,18 @@ impl Text {
         let text = String::from_str(alloc, self.text.as_str())?;
         Ok(Text { text })
     }
+}
+
+impl PartialEq for Text {
+    ghost eq = { λ a b. bytes_eq a b };
+
+    ghost laws = { Prim.search (comparing, rules) };
+
+    fn eq(&self, other: &Text) -> bool {
+        self.is(other.text())
+    }
+}
+
+impl Eq for Text {
+    ghost laws = { Prim.search (comparing, rules) };
 }

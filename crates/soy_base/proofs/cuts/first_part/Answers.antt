@@ -1,6 +1,6 @@
 use Rattle.std.proofs.Common.{◌∙◌, ap, sym}
 use Rattle.std.specs.Str.{chars}
-use Rattle.soy_base.proofs.CutAt.{slice_split-cut, parts_of_cut, around-shorter}
+use Rattle.soy_base.proofs.CutAt.{slice_split-cut, parts_of_cut}
 use Rattle.soy_base.proofs.cuts.first_part.Goals as goal
 
 pub returns-in-Some-clause-parts : goal.returns-in-Some-clause-parts
