@@ -1,6 +1,6 @@
 -- What stands among others, and what stands nowhere in a text.
 --
--- Example: `<` is among the characters `<>`; the text `a>b` doesn't lack them; and the part `*/` stands nowhere in `* /`.
+-- Example: `<` is among the characters `<>`; the text `a>b` doesn't lack them; the part `*/` stands nowhere in `* /`.
 use Rattle.std.specs.Prelude.{ℕ, List, ◌++◌, ◌==◌, ◌≢◌, Bool, not}
 use Rattle.std.specs.List.{list_all, list_any}
 use Rattle.std.specs.Str.{bytes_eq}

@@ -1,7 +1,8 @@
 -- Where a text is cut: after a prefix, around the first delimiter in it, and where its characters stop passing a test.
 --
--- Example: `a*/b*/` cut around `*/` is `a` and `b*/`; the longest prefix of letters of `ab1.` is `ab`, and `1.` follows it.
-use Rattle.std.specs.Prelude.{ℕ, List, [], ◌∷◌, Bool, true, false, ◌==◌, if◌then◌else◌, Option, None, Some, option_map}
+-- Example: `a*/b*/` cut around `*/` is `a` and `b*/`; the longest prefix of letters of `ab1.` is `ab`, and `1.` follows.
+use Rattle.std.specs.Prelude.{◌≡◌, ℕ, List, [], ◌∷◌, Bool, true, false, ◌==◌, if◌then◌else◌}
+use Rattle.std.specs.Prelude.{Option, None, Some, option_map}
 use Rattle.std.specs.Option.{option_or}
 
 -- whether a text has no characters
@@ -22,6 +23,10 @@ cut delimiter (c ∷ cs) =
     option_or
     (option_map (λ rest. ([], rest)) (after_prefix delimiter (c ∷ cs)))
     (option_map (λ parts. (c ∷ parts.0, parts.1)) (cut delimiter cs))
+
+-- what a call answers of a character is what the test gives
+abbrev pub Answers : (ℕ → Bool → Type 0) → (ℕ → Bool) → Type 0
+Answers post test = (c : ℕ) (answer : Bool) → post c answer → answer ≡ test c
 
 -- the longest prefix of characters that pass a test
 abbrev pub prefix_while : (ℕ → Bool) → List ℕ → List ℕ

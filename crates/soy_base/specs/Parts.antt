@@ -1,4 +1,5 @@
--- The parts of a text that is read part by part, around a delimiter: none is left, or those of what follows the delimiter.
+-- The parts that are left of a text that is read part by part, around a delimiter: none, or those of what follows the
+-- delimiter.
 --
 -- Example: of `a.b.c`, once `a` is read, the parts of `b.c` are left: `b` and `c`.
 use Rattle.std.specs.Prelude.{ℕ, List, [], Option, None, Some, ◌==◌}

@@ -6,7 +6,8 @@
 -- there is none, and the offset: of bytes outside 128 to 191, which are those that continue a
 -- character in UTF-8 (RFC 3629, section 3).
 -- Example: in the bytes of "a", CR, LF, "é", "b" the offset 5, before the "b", is in line 2, column 2.
-use Rattle.std.specs.Prelude.{ℕ, suc, zero, ◌+◌, ◌-◌, ◌==◌, ◌&&◌, ◌||◌, not, nat_lt, Bool, List, if◌then◌else◌, slice_index, take, drop, count_by}
+use Rattle.std.specs.Prelude.{ℕ, suc, zero, ◌+◌, ◌-◌, ◌==◌, ◌&&◌, ◌||◌, not, nat_lt, Bool, List, if◌then◌else◌}
+use Rattle.std.specs.Prelude.{slice_index, take, drop, count_by}
 
 -- whether a line break ends right after the byte at `at`; past the end of a text the byte is 0
 abbrev pub is_break_end : List ℕ → ℕ → Bool

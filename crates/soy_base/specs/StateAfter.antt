@@ -1,9 +1,9 @@
--- The state after a whole text: a step, from a state and a character to the next state, taken over the text's characters
--- in their order.
+-- The state after a whole text: a step, from a state and a character to the next state, taken over the characters of
+-- the text in their order.
 --
 -- There is no state after a text in which some step has none.
--- Example: by the step that counts and refuses the character `x`, the state after `ab` from 0 is 2, and after `axb` there
--- is none.
+-- Example: by the step that counts and refuses the character `x`, the state after `ab` from 0 is 2, and after `axb`
+-- there is none.
 use Rattle.std.specs.Prelude.{ℕ, List, [], ◌∷◌, Option, Some, option_and_then}
 
 abbrev pub state_after : {S : Type 0} → (S → ℕ → Option S) → S → List ℕ → Option S

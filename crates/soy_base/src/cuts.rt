@@ -1,5 +1,6 @@
 //! Texts that are cut, seen by their characters.
-ghost use Rattle.std.specs.Prelude.{◌≡◌, ℕ, ◌<◌, List, [], ◌∷◌, ◌++◌, length, option_map, MatchOption, IfSome, ◌==◌, Bool, true, not};
+ghost use Rattle.std.specs.Prelude.{◌≡◌, ℕ, ◌<◌, ◌==◌, Bool, true, not, List, [], ◌∷◌, ◌++◌, length};
+ghost use Rattle.std.specs.Prelude.{option_map, MatchOption, IfSome};
 ghost use Rattle.std.specs.Char.{is_ascii_digit};
 ghost use Rattle.std.specs.List.{slice_split};
 ghost use Rattle.std.specs.Str.{chars, IsUtf8};
@@ -8,7 +9,7 @@ ghost use Rattle.soy_base.specs.Among.{lacks};
 ghost use Rattle.soy_base.specs.Names.{continues_name};
 ghost use Rattle.soy_base.specs.WhiteSpace.{is_line_break};
 ghost use Rattle.soy_base.specs.Parts.{parts_left};
-ghost use Rattle.soy_base.specs.Cuts.{after_prefix, after_while, cut, is_nil, prefix_while};
+ghost use Rattle.soy_base.specs.Cuts.{after_prefix, after_while, cut, is_nil, prefix_while, Answers};
 
 use crate::name::continues_name;
 use crate::white::is_line_break;
@@ -67,7 +68,8 @@ pub fn cut_at(text: &str, delimiter: char) -> Option<(&str, &str)>
 /// The first part of a text around such characters, and what follows it, if there is more.
 pub fn first_part(text: &str, delimiter: char) -> (&str, Option<&str>)
     requires { delimiter < 128 }
-    ensures parts { slice_split (λ c. c == delimiter) (chars text.now) ≡ chars result.0.now ∷ parts_left delimiter result.1 }
+    ensures parts { slice_split (λ c. c == delimiter) (chars text.now)
+        ≡ chars result.0.now ∷ parts_left delimiter result.1 }
     ensures shorter { IfSome result.1 (λ rest. length (chars rest.now) < length (chars text.now)) }
 {
     match cut_at(text, delimiter) {
@@ -81,8 +83,10 @@ pub fn split_while<F: Fn(char) -> bool>(text: &str, passes: F) -> (&str, &str)
 where
     F: Drop,
     requires { F.IsAlwaysCallable passes }
-    ensures prefix { (test : ℕ → Bool) → ((c : ℕ) (b : Bool) → F.post passes c b → b ≡ test c) → chars result.0.now ≡ prefix_while test (chars text.now) }
-    ensures rest { (test : ℕ → Bool) → ((c : ℕ) (b : Bool) → F.post passes c b → b ≡ test c) → chars result.1.now ≡ after_while test (chars text.now) }
+    ensures prefix { (test : ℕ → Bool) → Answers (F.post passes) test
+        → chars result.0.now ≡ prefix_while test (chars text.now) }
+    ensures rest { (test : ℕ → Bool) → Answers (F.post passes) test
+        → chars result.1.now ≡ after_while test (chars text.now) }
     ensures utf8 { IsUtf8 result.1.now }
 {
     match text.find(|c: char| !passes(c)) {
