@@ -105,8 +105,8 @@ spelled_cut text delimiter prefix back utf8 utf8_delimiter e =
     ∙ ap (λ l. encode_utf8_all prefix ++ l) (encodes-append (chars delimiter) back ∙ ap (λ l. l ++ encode_utf8_all back) (encodes-chars delimiter utf8_delimiter))
 
 -- what `split_once` gives is the cut
-abbrev seen_parts : Option (Bor (List ℕ) × Bor (List ℕ)) → Option (List ℕ × List ℕ)
-seen_parts o = option_map (λ parts. (chars parts.0.now, chars parts.1.now)) o
+abbrev view_parts : Option (Bor (List ℕ) × Bor (List ℕ)) → Option (List ℕ × List ℕ)
+view_parts o = option_map (λ parts. (chars parts.0.now, chars parts.1.now)) o
 
 module _ (delimiter text : List ℕ) (utf8_delimiter : IsUtf8 delimiter) (utf8 : IsUtf8 text) where
   split_none : ((xs ys : List ℕ) → text ≢ xs ++ (delimiter ++ ys)) → cut (chars delimiter) (chars text) ≡ None
@@ -129,7 +129,7 @@ module _ (delimiter text : List ℕ) (utf8_delimiter : IsUtf8 delimiter) (utf8 :
       (ap (drop (length (encode_utf8_all a))) spelled ∙ drop-append_seam (encode_utf8_all a) (delimiter ++ encode_utf8_all rest)) in
       ap (cut (chars delimiter)) characters ∙ cut-first (chars delimiter) (chars x.0.now) (chars x.1.now) (some_characters delimiter utf8_delimiter some) lacks
 
-  pub split_once-cut : (r : Option (Bor (List ℕ) × Bor (List ℕ))) → 0 < length delimiter → MatchOption r (FindsText delimiter text None) (λ x. SplitsAroundMatch (FindsText delimiter) text x.0.now x.1.now) → seen_parts r ≡ cut (chars delimiter) (chars text)
+  pub split_once-cut : (r : Option (Bor (List ℕ) × Bor (List ℕ))) → 0 < length delimiter → MatchOption r (FindsText delimiter text None) (λ x. SplitsAroundMatch (FindsText delimiter) text x.0.now x.1.now) → view_parts r ≡ cut (chars delimiter) (chars text)
   split_once-cut None some h = sym (split_none (split_text_parts delimiter text None h))
   split_once-cut (Some x) some h = sym (split_some x some h)
 
