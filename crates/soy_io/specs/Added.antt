@@ -1,6 +1,6 @@
--- The bytes that a sink has taken, if it tells them, after it took these bytes as well.
+-- The bytes that a sink has taken, where they are known, after it took these bytes as well.
 --
--- "ab" with "c" added is "abc"; what isn't told stays untold.
+-- Example: "ab" with "c" added is "abc"; what isn't known stays unknown.
 use Rattle.std.specs.Prelude.{ℕ, List, ◌++◌, Option, None, Some}
 
 abbrev pub added : Option (List ℕ) → List ℕ → Option (List ℕ)

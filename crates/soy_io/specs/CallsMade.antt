@@ -1,8 +1,8 @@
--- The calls of an end that fails at chosen calls: the numbers of those that fail, counted from 1,
+-- The calls of a library or a sink that fails at chosen calls: the numbers of those that fail, counted from 1,
 -- how many calls were made, and how many of them failed. The counts stop at the last value of a
 -- `u64`.
 --
--- With the numbers 2 and 3, the first call doesn't fail, and after it the next one does.
+-- Example: with the numbers 2 and 3, the first call doesn't fail, and after it the next one does.
 use Rattle.std.specs.Prelude.{ℕ, ◌+◌, ◌-◌, ◌^◌, Bool, ◌==◌, if◌then◌else◌, List, min}
 use Rattle.std.specs.List.{list_any}
 

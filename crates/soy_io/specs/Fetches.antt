@@ -1,10 +1,10 @@
 -- What a fetch's answer says of the file and of the list that it is appended to, from `old` to
 -- `new`: `Whole` appended the bytes of the file, which are at most `limit`; `TooLarge` says that
 -- they are more, and `Missing` that there is no such file; after each answer but `Whole` the list
--- is as it was. Where the library doesn't tell its files, `Missing` never comes, and the others say
+-- is unchanged. Where the library's files aren't known, `Missing` never comes, and the others say
 -- nothing of a file.
 --
--- With the file ("a", "xyz"), a fetch of "a" within 3 is `Whole`, and within 2 `TooLarge`.
+-- Example: with the file ("a", "xyz"), a fetch of "a" within 3 is `Whole`, and within 2 `TooLarge`.
 use Rattle.std.specs.Prelude.{◌≡◌, ℕ, ◌<◌, ◌≤◌, List, ◌++◌, length, Option, None, Some, Result, Ok, Err}
 use Rattle.soy_io.specs.FileOf.{Files, file_of}
 use Rattle.soy_io.specs.declared.library.Fetch.{Fetch}
@@ -21,7 +21,7 @@ abbrev pub IsFileOver : Option Files → List ℕ → ℕ → Type 0
 IsFileOver None name limit = Unit {0}
 IsFileOver (Some files) name limit = (bytes : List ℕ) × (file_of files name ≡ Some bytes) × (limit < length bytes)
 
--- there is no such file, which only a library can know that tells its files
+-- there is no such file, which contracts know only where the files are known
 abbrev pub HasNoFile : Option Files → List ℕ → Type 0
 HasNoFile None name = ⊥
 HasNoFile (Some files) name = file_of files name ≡ None

@@ -3,7 +3,7 @@ pub mod CallsMade
 pub mod FetchRose
 pub mod Fetches
 pub mod FileOf
-pub mod MemoryEnds
+pub mod Memory
 pub mod PutRose
 pub mod Puts
 pub mod Rose

@@ -2,7 +2,7 @@
 -- that so many first bytes of the piece were taken, at least one of a piece that isn't empty; after
 -- a fault nothing was taken.
 --
--- A put of "abc" that answers 2 made "x" into "xab".
+-- Example: a put of "abc" that answers 2 made "x" into "xab".
 use Rattle.std.specs.Prelude.{◌≡◌, ℕ, ◌<◌, ◌≤◌, List, length, take, Option, Result, Ok, Err}
 use Rattle.soy_io.specs.Added.{added}
 use Rattle.soy_io.specs.declared.sink.PutFault.{PutFault}

@@ -1,6 +1,6 @@
 -- A count rose: it is greater than before, or stands at the last value of a `u64`, where it stays.
 --
--- From 2 to 3 it rose, from 2 to 2 it did not, from 2 ^ 64 - 1 to 2 ^ 64 - 1 it did.
+-- Example: from 2 to 3 it rose, from 2 to 2 it did not, from 2 ^ 64 - 1 to 2 ^ 64 - 1 it did.
 use Rattle.std.specs.Prelude.{ℕ, ◌+◌, ◌-◌, ◌^◌, ◌≤◌, min}
 
 abbrev pub Rose : ℕ → ℕ → Type 0

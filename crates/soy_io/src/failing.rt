@@ -1,4 +1,4 @@
-// The ends in memory that fail at chosen calls.
+//! A library and a sink in memory that fail at chosen calls.
 ghost use Rattle.std.specs.Prelude.{◌≡◌, ◌≤◌, ◌<◌, ◌↔◌, [], Some, Err, IfOk, IfErr, IsTrue, MatchBool, length, min};
 ghost use Rattle.std.specs.Bool.{OnTrue};
 ghost use Rattle.soy_io.specs.CallsMade.{fails_next, next_made};
@@ -14,7 +14,7 @@ use crate::sink::{PutFault, Sink};
 use std::alloc::Global;
 use std::marker::Model;
 
-// Counts the calls of an end, and says which of them fail.
+/// Counts the calls of a library or a sink, and says which of them fail.
 #[derive(Debug, Drop)]
 struct FailingCalls {
     fails: Vec<u64>,
@@ -31,6 +31,7 @@ impl Model for FailingCalls {
 }
 
 impl FailingCalls {
+    /// No call was made yet, and the n-th, from 1, fails where n is in `fails`.
     fn new(fails: Vec<u64>) -> FailingCalls
         ensures { result ≡ record { fails = fails.items; calls = 0; faults = 0 } }
     {
@@ -41,7 +42,7 @@ impl FailingCalls {
         }
     }
 
-    // Counts a call, and says whether it is one of those that fail.
+    /// Counts a call, and says whether it is one of those that fail.
     fn fails_now(&mut self) -> bool
         ensures fails { result ≡ fails_next self.old }
         ensures counted { self.new ≡ next_made self.old }
@@ -57,7 +58,7 @@ impl FailingCalls {
     }
 }
 
-/// A library of files in memory that fails at the calls that it is told. It tells its files.
+/// A library of files in memory that fails at chosen calls. Contracts know its files.
 #[derive(Debug, Drop)]
 pub struct MemoryLibrary {
     files: Vec<NamedFile>,
@@ -65,7 +66,7 @@ pub struct MemoryLibrary {
 }
 
 impl Model for MemoryLibrary {
-    ghost use Rattle.soy_io.specs.MemoryEnds.{FailingFiles};
+    ghost use Rattle.soy_io.specs.Memory.{FailingFiles};
 
     ghost Value = { FailingFiles };
 
@@ -98,7 +99,7 @@ impl Library for MemoryLibrary {
         ensures later { self.old.made.faults ≤ self.new.made.faults }
         ensures failed { IfErr result (λ fault. FetchRose fault self.old.made.faults self.new.made.faults) }
 
-        // It fails at the calls that it was told, and at no others.
+        // It fails at the chosen calls, and at no others.
         ensures fails { (result ≡ Err FetchFault.Failed) ↔ IsTrue (fails_next self.old.made) }
         ensures counted { self.new.made ≡ next_made self.old.made }
     {
@@ -109,8 +110,8 @@ impl Library for MemoryLibrary {
     }
 }
 
-/// A sink in memory that fails at the calls that it is told, and takes at most so many bytes of a
-/// piece. It tells the bytes that it has taken.
+/// A sink in memory that fails at chosen calls, and takes at most so many bytes of a piece. Contracts
+/// know the bytes that it has taken.
 #[derive(Debug, Drop)]
 pub struct MemorySink {
     taken: Vec<u8>,
@@ -120,7 +121,7 @@ pub struct MemorySink {
 
 impl Model for MemorySink {
     ghost use Rattle.std.specs.Prelude.{◌<◌};
-    ghost use Rattle.soy_io.specs.MemoryEnds.{FailingBytes};
+    ghost use Rattle.soy_io.specs.Memory.{FailingBytes};
 
     ghost Value = { FailingBytes };
 
@@ -163,7 +164,7 @@ impl Sink for MemorySink {
         ensures later { self.old.made.faults ≤ self.new.made.faults }
         ensures failed { IfErr result (λ fault. PutRose fault self.old.made.faults self.new.made.faults) }
 
-        // It fails at the calls that it was told, and at no others, and takes as many bytes as it may.
+        // It fails at the chosen calls, and at no others, and takes as many bytes as it may.
         ensures fails { (result ≡ Err PutFault.Failed) ↔ IsTrue (fails_next self.old.made) }
         ensures counted { self.new.made ≡ next_made self.old.made }
         ensures count { IfOk result (λ count. count ≡ min self.old.most (length piece.now)) }

@@ -1,4 +1,4 @@
-// The files of the libraries in memory.
+//! The files of the libraries in memory.
 ghost use Rattle.std.specs.Prelude.{◌≡◌, ℕ, List, Some, IfErr, option_map};
 ghost use Rattle.soy_io.specs.FileOf.{file_of};
 ghost use Rattle.soy_io.specs.Fetches.{Fetches};
@@ -24,7 +24,7 @@ impl Model for NamedFile {
     ghost view = { λ file. (string_bytes file.name, file.bytes.items) };
 }
 
-// Of two files of one name the first.
+/// The bytes of the file with this name, of two files of one name those of the first.
 fn file_named<'a>(files: &'a [NamedFile], name: &str) -> Option<&'a [u8]>
     ensures { option_map (λ bytes. bytes.now) result ≡ file_of files.now name.now }
 {
@@ -36,7 +36,7 @@ fn file_named<'a>(files: &'a [NamedFile], name: &str) -> Option<&'a [u8]>
     None
 }
 
-// The fetch of a library that holds these files and has no faults of its own.
+/// The fetch of a library that holds these files and has no faults of its own.
 pub(crate) fn fetch_from(
     files: &[NamedFile],
     name: &str,

@@ -1,3 +1,4 @@
+//! A library of named files.
 ghost use Rattle.std.specs.Prelude.{◌≡◌, ℕ, ◌≤◌, List, Option, IfErr};
 ghost use Rattle.soy_io.specs.FileOf.{Files};
 ghost use Rattle.soy_io.specs.Fetches.{Fetches};
@@ -8,7 +9,7 @@ use thiserror::Error;
 
 /// Named files that can be fetched. A name is seen as the list of its UTF-8 bytes.
 pub trait Library {
-    // The files that it holds, or `None` where it doesn't tell them.
+    // The files that it holds, or `None` where they aren't known.
     ghost held: { Self → Option Files };
 
     // How many times it has failed.
@@ -16,9 +17,9 @@ pub trait Library {
 
     /// Appends the bytes of the file with this name to `into`, if they are at most `limit`.
     ///
-    /// `Whole` says that the file was appended; after any other answer `into` is as it was. Where
-    /// the files are told, `TooLarge` comes only for a file longer than `limit`, and `Missing` only
-    /// where no file has the name; where they aren't told, `Missing` never comes. `Failed` comes
+    /// `Whole` says that the file was appended; after any other answer `into` is unchanged. Where
+    /// the files are known, `TooLarge` comes only for a file longer than `limit`, and `Missing` only
+    /// where no file has the name; where they aren't known, `Missing` never comes. `Failed` comes
     /// only where the library failed in this call, and `OutOfMemory` where memory was refused.
     fn fetch(&mut self, name: &str, into: &mut Vec<u8>, limit: usize) -> Result<Fetch, FetchFault>
         ensures held { held self.new ≡ held self.old }

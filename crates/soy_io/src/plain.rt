@@ -1,4 +1,4 @@
-// The ends in memory that never fail.
+//! A library and a sink in memory that never fail.
 ghost use Rattle.std.specs.Prelude.{◌≡◌, [], Some, IfErr, IfOk, length};
 ghost use Rattle.soy_io.specs.Fetches.{Fetches};
 ghost use Rattle.soy_io.specs.Puts.{Puts};
@@ -9,7 +9,7 @@ use crate::sink::{PutFault, Sink};
 use std::alloc::Global;
 use std::marker::Model;
 
-/// A library of files in memory, seen by contracts as its files. It tells them, and never fails.
+/// A library of files in memory, which contracts see as its files. It never fails.
 #[derive(Debug, Drop)]
 pub struct PlainLibrary {
     files: Vec<NamedFile>,
@@ -48,8 +48,8 @@ impl Library for PlainLibrary {
     }
 }
 
-/// A sink in memory, seen by contracts as the bytes that it has taken. It tells them, takes each
-/// piece whole, and never fails.
+/// A sink in memory, which contracts see as the bytes that it has taken. It takes each piece whole, and
+/// never fails.
 #[derive(Debug, Drop)]
 pub struct PlainSink {
     taken: Vec<u8>,

@@ -1,3 +1,4 @@
+//! A sink of bytes, and all of a list of bytes put into it.
 ghost use Rattle.std.specs.Prelude.{◌≡◌, ℕ, ◌<◌, ◌≤◌, List, Option, length, take, OnOk, IfErr};
 ghost use Rattle.soy_io.specs.Added.{added};
 ghost use Rattle.soy_io.specs.PutRose.{PutRose};
@@ -8,7 +9,7 @@ use thiserror::Error;
 
 /// Takes bytes, a piece at a time.
 pub trait Sink {
-    // The bytes that it has taken, or `None` where it doesn't tell them.
+    // The bytes that it has taken, or `None` where they aren't known.
     ghost taken: { Self → Option (List ℕ) };
 
     // How many times it has failed.

@@ -1,8 +1,9 @@
+//! Tests of what no clause says.
 use super::*;
 use std::alloc::Global;
 use std::test::Fail;
 
-// Three files, two of them of one name.
+/// Three files, two of them of one name.
 fn some_files(alloc: Global) -> Result<Vec<NamedFile>, Fail> {
     let mut files = Vec::new(alloc);
     for (name, text) in [("a", "xyz"), ("b", ""), ("a", "second")] {
@@ -14,7 +15,7 @@ fn some_files(alloc: Global) -> Result<Vec<NamedFile>, Fail> {
     Ok(files)
 }
 
-// Through the bound, as a program over any library does.
+/// Through the bound, as a program over any library does.
 fn fetched<L: Library>(
     library: &mut L,
     name: &str,
@@ -25,7 +26,7 @@ fn fetched<L: Library>(
 }
 
 #[test]
-fn plain_ends_give_and_take(rt: HostRuntime) -> Result<(), Fail> {
+fn the_plain_library_and_sink_give_and_take(rt: HostRuntime) -> Result<(), Fail> {
     let alloc = rt.alloc();
     let mut library = PlainLibrary::new(some_files(alloc)?);
     let rows = [
@@ -52,7 +53,7 @@ fn plain_ends_give_and_take(rt: HostRuntime) -> Result<(), Fail> {
 }
 
 #[test]
-fn failing_ends_fail_where_told(rt: HostRuntime) -> Result<(), Fail> {
+fn the_memory_library_and_sink_fail_at_chosen_calls(rt: HostRuntime) -> Result<(), Fail> {
     let alloc = rt.alloc();
     let mut library = MemoryLibrary::new(some_files(alloc)?, Vec::from_slice(alloc, &[2])?);
     let answers = [Ok(Fetch::Whole), Err(FetchFault::Failed), Ok(Fetch::Whole)];

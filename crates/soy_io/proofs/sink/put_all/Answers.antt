@@ -12,6 +12,6 @@ loop-taken-preserved g c =
     omega (arith, took.1, length-take (length bytes - done) (drop done bytes), length-drop done bytes, held.within, c.loop-taken-test.true) in
     record {
       within = within;
-      front = put_next _ _ _ done c.in-Ok.count bytes held.front took.0 within;
+      prefix = put_next _ _ _ done c.in-Ok.count bytes held.prefix took.0 within;
       later = omega (arith, held.later, c.put.ensures.later);
     }

@@ -6,7 +6,7 @@ use Rattle.soy_io.proofs.sink.put_all.Given as goal
 abbrev pub invariant-loop-taken : goal.invariant-loop-taken
 invariant-loop-taken g l = record {
   within : l.taken ≤ length l.bytes;
-  front : g.K.Sink.taken l.sink ≡ added (g.K.Sink.taken l.initial.sink) (take l.taken l.bytes);
+  prefix : g.K.Sink.taken l.sink ≡ added (g.K.Sink.taken l.initial.sink) (take l.taken l.bytes);
   later : g.K.Sink.faults l.initial.sink ≤ g.K.Sink.faults l.sink;
 }
 

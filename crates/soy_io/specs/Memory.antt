@@ -1,6 +1,6 @@
--- The ends in memory that fail at chosen calls, as contracts see them.
+-- The library and the sink in memory that fail at chosen calls, as contracts see them.
 --
--- A new sink has taken nothing, and has made no call.
+-- Example: a new sink has taken nothing, and no call of it was made.
 use Rattle.std.specs.Prelude.{ℕ, List}
 use Rattle.soy_io.specs.CallsMade.{CallsMade}
 use Rattle.soy_io.specs.FileOf.{Files}
