@@ -1,0 +1,58 @@
+#!/usr/bin/env bash
+# Renders a page of 8 MB with the program and prints MB a second, beside a copy of the same bytes, and the time of an
+# empty page: the least of eleven runs each. The program is built before, where it has to be.
+set -eu
+top=$(cd "$(dirname "${BASH_SOURCE[0]}")/.." && pwd)
+work=$(mktemp -d)
+trap 'rm -rf "$work"' EXIT
+"$top/soyc" --build-only >/dev/null 2>&1 || [ $? -eq 2 ]
+soyc=$top/crates/soyc/out/soyc
+
+# template NAME BODY: a file of one template with this body.
+template() {
+    printf '{namespace b}\n{template m}\n{@param x: string}\n%s\n{/template}\n' "$2" >"$work/$1"
+}
+
+# prints COUNT: so many prints, each in a tag.
+prints() {
+    awk -v count="$1" 'BEGIN { for (i = 0; i < count; i++) printf "<p>{$x}</p>" }'
+}
+
+# data NAME TEXT COUNT: a value of so many times this text.
+data() {
+    awk -v text="$2" -v count="$3" 'BEGIN { printf "{\"x\": \""; for (i = 0; i < count; i++) printf "%s", text; print "\"}" }' >"$work/$1"
+}
+
+# least COMMAND..: the least microseconds of eleven runs, the output in a file.
+least() {
+    local best=0 from took
+    for _ in 1 2 3 4 5 6 7 8 9 10 11; do
+        from=${EPOCHREALTIME/./}
+        "$@" >"$work/page"
+        took=$((${EPOCHREALTIME/./} - from))
+        if ((best == 0 || took < best)); then best=$took; fi
+    done
+    printf '%s' "$best"
+}
+
+row() {
+    awk -v name="$1" -v bytes="$2" -v took="$3" 'BEGIN { printf "%-42s %9d bytes %8.1f ms %8.0f MB/s\n", name, bytes, took / 1000, bytes / took }'
+}
+
+template empty.soy '<p></p>'
+template words.soy "$(prints 800)"
+template short.soy "$(prints 80000)"
+data words.json 'plain words in a row ' 480
+data marked.json 'a < b, c and d, e f g' 460
+data short.json 'some words, ' 5
+
+took=$(least "$soyc" render b.m "$work/words.json" - "$work/empty.soy")
+printf '%-42s %9d bytes %8.1f ms\n' 'an empty page' "$(stat -c %s "$work/page")" "$(awk -v t="$took" 'BEGIN { print t / 1000 }')"
+for case in words.soy:words.json:'words' words.soy:marked.json:'one special in twenty' short.soy:short.json:'values of 60 characters'; do
+    IFS=: read -r file json name <<<"$case"
+    took=$(least "$soyc" render b.m "$work/$json" - "$work/$file")
+    row "$name" "$(stat -c %s "$work/page")" "$took"
+done
+cp "$work/page" "$work/bytes"
+took=$(least cat "$work/bytes")
+row 'a copy of the last page' "$(stat -c %s "$work/page")" "$took"
