@@ -5,7 +5,8 @@ set -eu
 top=$(cd "$(dirname "${BASH_SOURCE[0]}")/.." && pwd)
 work=$(mktemp -d)
 trap 'rm -rf "$work"' EXIT
-"$top/soyc" --build-only >/dev/null 2>&1 || [ $? -eq 2 ]
+# With no words it writes its usage text and ends with 2.
+"$top/soyc" >/dev/null 2>&1 || [ $? -eq 2 ]
 soyc=$top/crates/soyc/out/soyc
 
 # template NAME BODY: a file of one template with this body.
