@@ -1,4 +1,5 @@
 pub mod Texts
+pub mod StyleCode
 pub mod Comments
 pub mod Literals
 pub mod PlainTexts

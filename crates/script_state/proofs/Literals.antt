@@ -1,16 +1,15 @@
 -- Lemmas on string literals, for any table that has their rows.
-use Rattle.std.proofs.Common.{◌≡◌, ◌≢◌, ℕ, List, [], ◌∷◌, ◌++◌, refl, ◌∙◌}
-use Rattle.std.specs.Prelude.{Option, Some}
+use Rattle.std.proofs.Common.{◌≡◌, ◌≢◌, ℕ, List, [], ◌∷◌, ◌++◌, refl, ◌∙◌, ap}
+use Rattle.std.specs.Prelude.{Option, Some, false, ◌==◌}
 use Rattle.std.proofs.lemmas.Bool.{ne_eqb}
-use Rattle.script_state.specs.Characters.{backslash, line_feed, carriage_return}
+use Rattle.script_state.specs.Characters.{backslash, line_feed, carriage_return, star}
 use Rattle.script_state.specs.IsLiteralText.{IsLiteralText, empty, plain, escape}
 use Rattle.script_state.specs.StateAfter.{state_after}
 use Rattle.script_state.specs.StringNext.{string_next}
 use Rattle.script_state.specs.declared.css_state.CssState.{CssState}
-use Rattle.script_state.specs.declared.css_state.CssState.TheVariants as css
-use Rattle.script_state.specs.CssNext.{css_next}
+use Rattle.script_state.specs.CssNext.{css_next, css_code_next}
 use Rattle.script_state.specs.IsStyleCode.{IsStyleCode}
-use Rattle.script_state.specs.Characters.{single_quote, double_quote}
+use Rattle.script_state.proofs.StyleCode.{style_code_next}
 use Rattle.script_state.proofs.Texts.{state_after-cons, state_after-append_some}
 
 -- a plain character stays in the literal
@@ -36,15 +35,6 @@ module _ {S : Type 0} (next : S → ℕ → Option S) (quote : ℕ) (within esca
       ∙ state_after-cons next within past quote [] closes
 
 -- a quote that begins a string of a style leads to the same state from wherever a string may begin
-pub style_quote : (state : CssState) (text : List ℕ) → IsStyleCode state → (state_after css_next state (single_quote ∷ text) ≡ state_after css_next css.Single text) × (state_after css_next state (double_quote ∷ text) ≡ state_after css_next css.Double text)
-style_quote css.Code text _ = (refl, refl)
-style_quote css.Ready text _ = (refl, refl)
-style_quote css.Slash text _ = (refl, refl)
-style_quote css.Comment text never = absurd never
-style_quote css.CommentStar text never = absurd never
-style_quote css.CodeEscape text never = absurd never
-style_quote css.Single text never = absurd never
-style_quote css.Double text never = absurd never
-style_quote css.SingleEscape text never = absurd never
-style_quote css.DoubleEscape text never = absurd never
-style_quote css.AfterValue text never = absurd never
+pub style_quote : (quote : ℕ) (inside state : CssState) (text : List ℕ) → (quote == star) ≡ false → css_code_next quote ≡ inside → IsStyleCode state → state_after css_next state (quote ∷ text) ≡ state_after css_next inside text
+style_quote quote inside state text other leads outside =
+    state_after-cons css_next state inside quote text (style_code_next state quote other outside ∙ ap Some leads)

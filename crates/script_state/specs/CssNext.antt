@@ -9,6 +9,7 @@ use Rattle.std.specs.declared.option.Option.{Option}
 use Rattle.script_state.specs.declared.css_state.CssState.{CssState}
 use Rattle.script_state.specs.declared.css_state.CssState.TheVariants.{Code, Ready, Slash, Comment, CommentStar, CodeEscape, Single, Double, SingleEscape, DoubleEscape, AfterValue}
 use Rattle.script_state.specs.Characters.{is_white_space, exclamation_mark, double_quote, single_quote, left_parenthesis, right_parenthesis, star, comma, slash, colon, semicolon, backslash, right_brace}
+use Rattle.script_state.specs.CommentNext.{comment_next, comment_star_next}
 use Rattle.script_state.specs.StringNext.{string_next}
 
 -- whether a value may begin after this character
@@ -31,13 +32,8 @@ css_next Ready c = Some (css_code_next c)
 css_next Slash c =
     if c == star then Some Comment
     else Some (css_code_next c)
-css_next Comment c =
-    if c == star then Some CommentStar
-    else Some Comment
-css_next CommentStar c =
-    if c == slash then Some Code
-    else (if c == star then Some CommentStar
-    else Some Comment)
+css_next Comment c = Some (comment_next Comment CommentStar c)
+css_next CommentStar c = Some (comment_star_next Comment CommentStar Code c)
 css_next CodeEscape c = Some Code
 css_next Single c = string_next single_quote Single SingleEscape Code c
 css_next Double c = string_next double_quote Double DoubleEscape Code c

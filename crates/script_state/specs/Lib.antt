@@ -1,4 +1,5 @@
 pub mod Characters
+pub mod CommentNext
 pub mod CssAfterValue
 pub mod CssNext
 pub mod CssPlacing

@@ -11,7 +11,7 @@ ghost use Rattle.script_state.specs.CssAfterValue.{css_after_value};
 ghost use Rattle.script_state.specs.CssNext.{css_next, is_before_value};
 ghost use Rattle.script_state.specs.CssPlacing.{css_placing};
 ghost use Rattle.script_state.specs.HasNone.{HasNone};
-ghost use Rattle.script_state.specs.IsLineText.{IsLineEnd, IsLineText};
+ghost use Rattle.script_state.specs.IsLineText.{IsLineTerminator, IsLineText};
 ghost use Rattle.script_state.specs.IsLiteralText.{IsLiteralText};
 ghost use Rattle.script_state.specs.IsPlainScript.{IsPlainScript};
 ghost use Rattle.script_state.specs.IsPlainStyle.{IsPlainStyle};
@@ -42,7 +42,7 @@ pub fn law_script_comment()
         (λ state. js_placing state ≡ placing.Refuses refusal.Place) }
     ensures after_block { (text : List ℕ) → HasNone (codes "*/") text →
         state_after js_next JsState.Code (codes "/*" ++ text ++ codes "*/") ≡ Some JsState.Code }
-    ensures after_line { (text : List ℕ) (end : ℕ) → IsLineText text → IsLineEnd end →
+    ensures after_line { (text : List ℕ) (end : ℕ) → IsLineText text → IsLineTerminator end →
         state_after js_next JsState.Code (codes "//" ++ text ++ end ∷ []) ≡ Some JsState.Code }
 {}
 
