@@ -70,7 +70,7 @@ pub(super) const LANGUAGES: &[(&str, &[Row])] = &[
             ),
             (
                 Category::Many,
-                "v = 0 and i != 1 and i % 10 = 0..1 or v = 0 and i % 10 = 5..9 or v = 0 and i % 100 = 12..14 @integer …",
+                "v = 0 and i != 1 and i % 10 = 0..1 or v = 0 and i % 10 = 5..9 or v = 0 and i % 100 = 12..14 @…",
                 &[0, 5, 12, 19, 100],
             ),
         ],
