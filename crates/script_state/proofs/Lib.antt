@@ -1,4 +1,3 @@
-pub mod Texts
 pub mod StyleCode
 pub mod Comments
 pub mod Literals

@@ -1,15 +1,15 @@
 -- The next state in a comment between `/*` and `*/`, of script and style alike.
 --
--- A slash directly after a star ends the comment. Any other character stays in it, and a star may
+-- A slash directly after an asterisk ends the comment. Any other character stays in it, and an asterisk may
 -- begin its end. (ECMAScript, "Comments"; CSS Syntax Level 3, "Consume comments".)
--- Example: in `/***/` the second star of the three after the first slash stays starred, and the
+-- Example: in `/***/` the second asterisk may begin the end, the third too, and the
 -- last slash ends the comment.
 use Rattle.std.specs.Prelude.{ℕ, ◌==◌, if◌then◌else◌}
-use Rattle.script_state.specs.Characters.{star, slash}
+use Rattle.soy_base.specs.Characters.{asterisk, slash}
 
--- where no star stands directly before the character
+-- where no asterisk stands directly before the character
 abbrev pub comment_next : {S : Type 0} → S → S → ℕ → S
-comment_next within starred c = if c == star then starred else within
+comment_next within starred c = if c == asterisk then starred else within
 
 -- where one does
 abbrev pub comment_star_next : {S : Type 0} → S → S → S → ℕ → S

@@ -6,11 +6,11 @@ ghost use Rattle.std.specs.Prelude.{ℕ, List, All, IsTrue, IsSomeAnd, Some, opt
 ghost use Rattle.soy_base.specs.declared.code.Code.TheVariants as refusal;
 ghost use Rattle.soy_base.specs.declared.place.Place.TheVariants as place;
 ghost use Rattle.soy_base.specs.declared.place.Placing.TheVariants as placing;
-ghost use Rattle.script_state.specs.Characters.{single_quote, double_quote};
+ghost use Rattle.soy_base.specs.Characters.{single_quote, double_quote};
 ghost use Rattle.script_state.specs.CssAfterValue.{css_after_value};
 ghost use Rattle.script_state.specs.CssNext.{css_next, is_before_value};
 ghost use Rattle.script_state.specs.CssPlacing.{css_placing};
-ghost use Rattle.script_state.specs.HasNone.{HasNone};
+ghost use Rattle.soy_base.specs.Among.{HasNone};
 ghost use Rattle.script_state.specs.IsLineText.{IsLineTerminator, IsLineText};
 ghost use Rattle.script_state.specs.IsLiteralText.{IsLiteralText};
 ghost use Rattle.script_state.specs.IsPlainScript.{IsPlainScript};
@@ -18,7 +18,7 @@ ghost use Rattle.script_state.specs.IsPlainStyle.{IsPlainStyle};
 ghost use Rattle.script_state.specs.IsStyleCode.{IsStyleCode};
 ghost use Rattle.script_state.specs.JsNext.{js_next};
 ghost use Rattle.script_state.specs.JsPlacing.{js_placing};
-ghost use Rattle.script_state.specs.StateAfter.{state_after};
+ghost use Rattle.soy_base.specs.StateAfter.{state_after};
 ghost use Rattle.script_state.specs.declared.css_state.CssState.{CssState};
 ghost use Rattle.script_state.specs.declared.js_state.JsState.{JsState};
 
