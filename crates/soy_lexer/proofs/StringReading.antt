@@ -5,14 +5,14 @@ use lib.Utf8.{scalar}
 use Rattle.std.specs.Option.{option_and_then, SomeIff}
 use Rattle.std.proofs.lemmas.Bool.Decides.{nat_tests}
 use Rattle.soy_lexer.specs.Strings.{Quoted, quoted, quoted_escape, quoted_number, escaped, numbered, hexadecimal, is_surrogate, with_character}
-use Rattle.soy_lexer.specs.StringSteps.{GoesOn, value_and_rest, with_first}
+use Rattle.soy_lexer.specs.StringSteps.{ContinuesWith, value_and_rest, with_first}
 
 -- a character before a string, as it is written
-first_of : (written : List ℕ) (c : ℕ) (string : Option Quoted) → value_and_rest (option_map (with_character written c) string) ≡ with_first c (value_and_rest string)
-first_of written c None = refl
-first_of written c (Some string) = refl
+first_of : (source_text : List ℕ) (c : ℕ) (string : Option Quoted) → value_and_rest (option_map (with_character source_text c) string) ≡ with_first c (value_and_rest string)
+first_of source_text c None = refl
+first_of source_text c (Some string) = refl
 
-pub plain_goes_on : (text : List ℕ) (c : ℕ) (rest : List ℕ) → text ≡ c ∷ rest → c ≢ 39 → c ≢ 92 → GoesOn text (quoted text) c rest
+pub plain_goes_on : (text : List ℕ) (c : ℕ) (rest : List ℕ) → text ≡ c ∷ rest → c ≢ 39 → c ≢ 92 → ContinuesWith text (quoted text) c rest
 plain_goes_on text c rest e quote slash =
     let no_quote : (c == 39) ≡ false = grind (arith, nat_tests, quote) in
     let no_slash : (c == 92) ≡ false = grind (arith, nat_tests, slash) in
@@ -21,7 +21,7 @@ plain_goes_on text c rest e quote slash =
       shorter = omega (arith, ap length e);
     }
 
-pub escape_goes_on : (text : List ℕ) (c d : ℕ) (rest : List ℕ) → text ≡ c ∷ rest → c ≢ 117 → Some d ≡ escaped c → GoesOn text (quoted_escape text) d rest
+pub escape_goes_on : (text : List ℕ) (c d : ℕ) (rest : List ℕ) → text ≡ c ∷ rest → c ≢ 117 → Some d ≡ escaped c → ContinuesWith text (quoted_escape text) d rest
 escape_goes_on text c d rest e apart h =
     let no_number : (c == 117) ≡ false = grind (arith, nat_tests, apart) in
     record {
@@ -29,7 +29,7 @@ escape_goes_on text c d rest e apart h =
       shorter = omega (arith, ap length e);
     }
 
-pub number_goes_on : (text : List ℕ) (a b c d e : ℕ) (rest : List ℕ) → text ≡ a ∷ b ∷ c ∷ d ∷ rest → Some e ≡ numbered a b c d → GoesOn text (quoted_number text) e rest
+pub number_goes_on : (text : List ℕ) (a b c d e : ℕ) (rest : List ℕ) → text ≡ a ∷ b ∷ c ∷ d ∷ rest → Some e ≡ numbered a b c d → ContinuesWith text (quoted_number text) e rest
 number_goes_on text a b c d e rest is h =
     record {
       read = ap (λ l. value_and_rest (quoted_number l)) is ∙ rw (sym h) (first_of (92 ∷ 117 ∷ a ∷ b ∷ c ∷ d ∷ []) e (quoted rest));
@@ -37,40 +37,40 @@ number_goes_on text a b c d e rest is h =
     }
 
 -- a string as it is written and what follows it are the text
-map_whole : (front : List ℕ) (c : ℕ) (cs : List ℕ) (string : Option Quoted) → IfSome string (λ q. cs ≡ q.written ++ q.rest) → IfSome (option_map (with_character front c) string) (λ q. front ++ cs ≡ q.written ++ q.rest)
-map_whole front c cs None h = tt
-map_whole front c cs (Some q) h = ap (λ l. front ++ l) h ∙ sym (append_assoc front q.written q.rest)
+map_whole : (prefix : List ℕ) (c : ℕ) (cs : List ℕ) (string : Option Quoted) → IfSome string (λ q. cs ≡ q.source_text ++ q.rest) → IfSome (option_map (with_character prefix c) string) (λ q. prefix ++ cs ≡ q.source_text ++ q.rest)
+map_whole prefix c cs None h = tt
+map_whole prefix c cs (Some q) h = ap (λ l. prefix ++ l) h ∙ sym (append_assoc prefix q.source_text q.rest)
 
-then_whole : (front cs : List ℕ) (character : Option ℕ) (string : Option Quoted) → IfSome string (λ q. cs ≡ q.written ++ q.rest) →
-    IfSome (option_and_then (λ c. option_map (with_character front c) string) character) (λ q. front ++ cs ≡ q.written ++ q.rest)
-then_whole front cs None string h = tt
-then_whole front cs (Some c) string h = map_whole front c cs string h
+then_whole : (prefix cs : List ℕ) (character : Option ℕ) (string : Option Quoted) → IfSome string (λ q. cs ≡ q.source_text ++ q.rest) →
+    IfSome (option_and_then (λ c. option_map (with_character prefix c) string) character) (λ q. prefix ++ cs ≡ q.source_text ++ q.rest)
+then_whole prefix cs None string h = tt
+then_whole prefix cs (Some c) string h = map_whole prefix c cs string h
 
-quoted_by : (c : ℕ) (cs : List ℕ) (t u : Bool) → (c == 39) ≡ t → (c == 92) ≡ u → IfSome (quoted cs) (λ q. cs ≡ q.written ++ q.rest) → IfSome (quoted_escape cs) (λ q. 92 ∷ cs ≡ q.written ++ q.rest) →
-    IfSome (quoted (c ∷ cs)) (λ q. c ∷ cs ≡ q.written ++ q.rest)
+quoted_by : (c : ℕ) (cs : List ℕ) (t u : Bool) → (c == 39) ≡ t → (c == 92) ≡ u → IfSome (quoted cs) (λ q. cs ≡ q.source_text ++ q.rest) → IfSome (quoted_escape cs) (λ q. 92 ∷ cs ≡ q.source_text ++ q.rest) →
+    IfSome (quoted (c ∷ cs)) (λ q. c ∷ cs ≡ q.source_text ++ q.rest)
 quoted_by c cs true u e f h k = rw e refl
 quoted_by c cs false true e f h k =
     let is : c ≡ 92 = grind (arith, nat_tests, f) in
-    rw (e, f) (subst (λ d. IfSome (quoted_escape cs) (λ q. d ∷ cs ≡ q.written ++ q.rest)) (sym is) k)
+    rw (e, f) (subst (λ d. IfSome (quoted_escape cs) (λ q. d ∷ cs ≡ q.source_text ++ q.rest)) (sym is) k)
 quoted_by c cs false false e f h k = rw (e, f) (map_whole (c ∷ []) c cs (quoted cs) h)
 
-escape_by : (c : ℕ) (cs : List ℕ) (t : Bool) → (c == 117) ≡ t → IfSome (quoted cs) (λ q. cs ≡ q.written ++ q.rest) → IfSome (quoted_number cs) (λ q. 92 ∷ 117 ∷ cs ≡ q.written ++ q.rest) →
-    IfSome (quoted_escape (c ∷ cs)) (λ q. 92 ∷ c ∷ cs ≡ q.written ++ q.rest)
+escape_by : (c : ℕ) (cs : List ℕ) (t : Bool) → (c == 117) ≡ t → IfSome (quoted cs) (λ q. cs ≡ q.source_text ++ q.rest) → IfSome (quoted_number cs) (λ q. 92 ∷ 117 ∷ cs ≡ q.source_text ++ q.rest) →
+    IfSome (quoted_escape (c ∷ cs)) (λ q. 92 ∷ c ∷ cs ≡ q.source_text ++ q.rest)
 escape_by c cs true e h k =
     let is : c ≡ 117 = grind (arith, nat_tests, e) in
-    rw e (subst (λ d. IfSome (quoted_number cs) (λ q. 92 ∷ d ∷ cs ≡ q.written ++ q.rest)) (sym is) k)
+    rw e (subst (λ d. IfSome (quoted_number cs) (λ q. 92 ∷ d ∷ cs ≡ q.source_text ++ q.rest)) (sym is) k)
 escape_by c cs false e h k = rw e (then_whole (92 ∷ c ∷ []) cs (escaped c) (quoted cs) h)
 
 mutual
-  pub quoted-whole : (cs : List ℕ) → IfSome (quoted cs) (λ q. cs ≡ q.written ++ q.rest)
+  pub quoted-whole : (cs : List ℕ) → IfSome (quoted cs) (λ q. cs ≡ q.source_text ++ q.rest)
   quoted-whole [] = tt
   quoted-whole (c ∷ cs) = quoted_by c cs (c == 39) (c == 92) refl refl (quoted-whole cs) (escape-whole cs)
 
-  escape-whole : (cs : List ℕ) → IfSome (quoted_escape cs) (λ q. 92 ∷ cs ≡ q.written ++ q.rest)
+  escape-whole : (cs : List ℕ) → IfSome (quoted_escape cs) (λ q. 92 ∷ cs ≡ q.source_text ++ q.rest)
   escape-whole [] = tt
   escape-whole (c ∷ cs) = escape_by c cs (c == 117) refl (quoted-whole cs) (number-whole cs)
 
-  number-whole : (cs : List ℕ) → IfSome (quoted_number cs) (λ q. 92 ∷ 117 ∷ cs ≡ q.written ++ q.rest)
+  number-whole : (cs : List ℕ) → IfSome (quoted_number cs) (λ q. 92 ∷ 117 ∷ cs ≡ q.source_text ++ q.rest)
   number-whole [] = tt
   number-whole (a ∷ []) = tt
   number-whole (a ∷ b ∷ []) = tt

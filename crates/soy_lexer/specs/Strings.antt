@@ -5,17 +5,17 @@
 use Rattle.std.specs.Prelude.{ℕ, ◌+◌, ◌*◌, List, [], ◌∷◌, ◌++◌, Bool, ◌==◌, ◌&&◌, ◌||◌, not, nat_le, if◌then◌else◌, Option, None, Some, option_map}
 use Rattle.std.specs.Option.{option_and_then}
 use Rattle.std.specs.Char.{is_ascii_hexdigit, digit_value}
-use Rattle.soy_lexer.specs.Characters.{line_feed, carriage_return, tab, double_quote, single_quote, backslash}
+use Rattle.soy_base.specs.Characters.{line_feed, carriage_return, tab, double_quote, single_quote, backslash}
 
 -- a string after its first quote: its characters as written, with the last quote, those that it has, and what follows
 pub record Quoted : Type 0 where
-  pub written : List ℕ
+  pub source_text : List ℕ
   pub value : List ℕ
   pub rest : List ℕ
 
 -- the string that begins with one more character, written so
 abbrev pub with_character : List ℕ → ℕ → Quoted → Quoted
-with_character written c string = record { written = written ++ string.written; value = c ∷ string.value; rest = string.rest }
+with_character source_text c string = record { source_text = source_text ++ string.source_text; value = c ∷ string.value; rest = string.rest }
 
 -- what a character stands for after a backslash
 abbrev pub escaped : ℕ → Option ℕ
@@ -46,7 +46,7 @@ abbrev mutual
   pub quoted : List ℕ → Option Quoted
   quoted [] = None
   quoted (c ∷ cs) =
-      if c == single_quote then Some (record { written = c ∷ []; value = []; rest = cs })
+      if c == single_quote then Some (record { source_text = c ∷ []; value = []; rest = cs })
       else if c == backslash then quoted_escape cs
       else option_map (with_character (c ∷ []) c) (quoted cs)
 

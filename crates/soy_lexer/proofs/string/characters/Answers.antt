@@ -15,7 +15,7 @@ pub loop-c-preserved : goal.loop-c-preserved
 loop-c-preserved c =
     record {
       read = c.loop-c.invariant.read ∙ ap (with_before (chars (string_bytes c.loop-c.value))) c.in-Character.ensures.read
-          ∙ read_more (value_and_rest (quoted (chars c.in-Character.rest.now))) c.in-Character.c (chars (string_bytes c.loop-c.value)) (chars (string_bytes c.push.new.text)) c.in_ok-push-in-Character.ensures;
+          ∙ read_more (value_and_rest (quoted (chars c.in-Character.rest.now))) c.in-Character.c (chars (string_bytes c.loop-c.value)) (chars (string_bytes c.push_char.new.out)) c.in_ok-push_char-in-Character.ensures.ok;
       utf8 = search rules;
     }
 

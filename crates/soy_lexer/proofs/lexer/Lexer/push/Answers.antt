@@ -9,5 +9,5 @@ returns c = λ tokens run reads.
     let one : Token = record { kind = c.args.kind; span = c.args.span; text = c.args.text } in
     record {
       tokens_are = c.in_ok-push.ensures.items ∙ (ap (λ l. l ++ one ∷ []) ended.tokens_are ∙ append_assoc tokens (run_token run) (one ∷ []));
-      run_holds = ended.run_holds;
+      run_is = ended.run_is;
     }
