@@ -1,5 +1,6 @@
--- Words that come to a run, and that are pieces one after the other.
-use Rattle.std.proofs.Common.{◌≡◌, ℕ, ◌+◌, List, [], ◌∷◌, ◌++◌, Bool, true, false, ◌&&◌, IsTrue, refl, sym, subst, ◌∙◌, arith, append-nil, append_assoc}
+-- Chunks that come to a run, and whose characters are pieces one after the other.
+use Rattle.std.proofs.Common.{◌≡◌, ℕ, ◌+◌, List, [], ◌∷◌, ◌++◌, Bool, true, false, ◌&&◌, IsTrue, refl, sym, subst, ◌∙◌}
+use Rattle.std.proofs.Common.{arith, append-nil, append_assoc}
 use Rattle.std.specs.List.{list_all}
 use Rattle.std.specs.Char.{len_utf8}
 use Rattle.std.proofs.lemmas.Bool.Decides.{nat_tests}
@@ -27,7 +28,8 @@ chunk_angle : (c : ℕ) → IsTrue (is_chunk_character c) → false ≡ is_angle
 chunk_angle c h = grind (arith, nat_tests, h)
 
 -- the first character of a chunk and the others
-pub first_of_chunk : (c : ℕ) (cs : List ℕ) → IsTrue (list_all is_chunk_character (c ∷ cs)) → IsTrue (is_chunk_character c) × IsTrue (list_all is_chunk_character cs)
+pub first_of_chunk : (c : ℕ) (cs : List ℕ) → IsTrue (list_all is_chunk_character (c ∷ cs))
+    → IsTrue (is_chunk_character c) × IsTrue (list_all is_chunk_character cs)
 first_of_chunk c cs h = by_first (is_chunk_character c) (list_all is_chunk_character cs) h
   where
     by_first : (a b : Bool) → IsTrue (a && b) → IsTrue a × IsTrue b
@@ -43,12 +45,14 @@ start_stays (d ∷ ds) start offset some = refl
 character_represented : (c offset : ℕ) → IsTrue (is_chunk_character c) →
     {text white : List ℕ} {fresh angle : Bool} {start text_end end : ℕ} {run : List RunCharacter} →
     Represents text white fresh angle start text_end end run → fresh ≡ false → white ≡ [] → is_nil text ≡ false →
-    Represents (text ++ c ∷ []) [] false false start (offset + len_utf8 c) (offset + len_utf8 c) (run ++ record { offset = offset; character = c } ∷ [])
+    Represents (text ++ c ∷ []) [] false false start (offset + len_utf8 c) (offset + len_utf8 c)
+    (run ++ record { offset = offset; character = c } ∷ [])
 character_represented c offset chunk {text} {white} {fresh} {angle} {start} {text_end} {end} {run} k begun none some =
     let longer : text ++ c ∷ [] ≡ ((text ++ space_before text fresh angle false) ++ white) ++ c ∷ [] =
     rw (begun, none, append-nil (text ++ []), append-nil text) refl in
     let starts : start ≡ start_with text white start offset = rw none (start_stays text start offset some) in
-    other_represented (text ++ c ∷ []) [] false start (offset + len_utf8 c) (record { offset = offset; character = c }) k
+    other_represented (text ++ c ∷ []) [] false start (offset + len_utf8 c) (record { offset = offset; character = c })
+    k
     (chunk_white c chunk) (chunk_line c chunk) longer refl (chunk_angle c chunk) starts refl
 
 -- and with more of them
@@ -57,32 +61,41 @@ pub chunk_represented : (c : ℕ) (cs : List ℕ) (offset : ℕ) → IsTrue (lis
     Represents text white fresh angle start text_end end run → fresh ≡ false → white ≡ [] → is_nil text ≡ false →
     (text' : List ℕ) (end' : ℕ) → text' ≡ text ++ c ∷ cs → end' ≡ offset + byte_len (c ∷ cs) →
     Represents text' [] false false start end' end' (run ++ run_characters offset (c ∷ cs))
-chunk_represented c [] offset chunk {text} {white} {fresh} {angle} {start} {text_end} {end} {run} k begun none some text' end' t n =
+chunk_represented c [] offset chunk {text} {white} {fresh} {angle} {start} {text_end} {end} {run} k begun none some
+    text' end' t n =
     let ends : end' ≡ offset + len_utf8 c = omega (arith, n) in
     rw (t, ends) (character_represented c offset (first_of_chunk c [] chunk).0 k begun none some)
-chunk_represented c (d ∷ ds) offset chunk {text} {white} {fresh} {angle} {start} {text_end} {end} {run} k begun none some text' end' t n =
+chunk_represented c (d ∷ ds) offset chunk {text} {white} {fresh} {angle} {start} {text_end} {end} {run} k begun none
+    some text' end' t n =
     let both = first_of_chunk c (d ∷ ds) chunk in
     let here : RunCharacter = record { offset = offset; character = c } in
-    subst (λ l. Represents text' [] false false start end' end' l) (append_assoc run (here ∷ []) (run_characters (offset + len_utf8 c) (d ∷ ds)))
-    (chunk_represented d ds (offset + len_utf8 c) both.1 (character_represented c offset both.0 k begun none some) refl refl (not_nil text c) text' end'
+    subst (λ l. Represents text' [] false false start end' end' l)
+    (append_assoc run (here ∷ []) (run_characters (offset + len_utf8 c) (d ∷ ds)))
+    (chunk_represented d ds (offset + len_utf8 c) both.1 (character_represented c offset both.0 k begun none some) refl
+    refl (not_nil text c) text' end'
     (t ∙ sym (append_assoc text (c ∷ []) (d ∷ ds))) (omega (arith, n)))
 
--- the same of a run that keeps its white space, of which it has none
+-- the same of a run that has no white space after its text
 pub chunk_added : (cs : List ℕ) (offset : ℕ) → IsTrue (list_all is_chunk_character cs) → is_nil cs ≡ false →
     {text white : List ℕ} {fresh angle : Bool} {start text_end end : ℕ} {run : List RunCharacter} →
     Represents text white fresh angle start text_end end run → fresh ≡ false → white ≡ [] → is_nil text ≡ false →
     (text' : List ℕ) (end' : ℕ) → text' ≡ text ++ cs → end' ≡ offset + byte_len cs →
     Represents text' white fresh false start end' end' (run ++ run_characters offset cs)
 chunk_added [] offset chunk filled k begun none some text' end' t n = absurd (cc)
-chunk_added (c ∷ cs) offset chunk filled {text} {white} {fresh} {angle} {start} {text_end} {end} {run} k begun none some text' end' t n =
+chunk_added (c ∷ cs) offset chunk filled {text} {white} {fresh} {angle} {start} {text_end} {end} {run} k begun none some
+    text' end' t n =
     rw (begun, none) (chunk_represented c cs offset chunk k begun none some text' end' t n)
 
 -- and of no more characters
-pub none_added : (P : List RunCharacter → Type 0) (cs : List ℕ) (offset : ℕ) → is_nil cs ≡ true → (run : List RunCharacter) → P run → P (run ++ run_characters offset cs)
+pub none_added : (P : List RunCharacter → Type 0) (cs : List ℕ) (offset : ℕ) → is_nil cs ≡ true
+    → (run : List RunCharacter) → P run → P (run ++ run_characters offset cs)
 none_added P [] offset nil run h = subst P (sym (append-nil run)) h
 none_added P (c ∷ cs) offset nil run h = absurd (cc)
 
 -- a character and then more of a chunk
 pub first_added : (P : List RunCharacter → Type 0) (c offset : ℕ) (cs : List ℕ) (run : List RunCharacter) →
-    P ((run ++ record { offset = offset; character = c } ∷ []) ++ run_characters (offset + len_utf8 c) cs) → P (run ++ run_characters offset (c ∷ cs))
-first_added P c offset cs run h = subst P (append_assoc run (record { offset = offset; character = c } ∷ []) (run_characters (offset + len_utf8 c) cs)) h
+    P ((run ++ record { offset = offset; character = c } ∷ []) ++ run_characters (offset + len_utf8 c) cs)
+    → P (run ++ run_characters offset (c ∷ cs))
+first_added P c offset cs run h =
+    subst P (append_assoc run (record { offset = offset; character = c } ∷ [])
+    (run_characters (offset + len_utf8 c) cs)) h

@@ -1,5 +1,7 @@
 -- The tokens of a text stand in its order.
-use Rattle.std.proofs.Common.{◌≡◌, ℕ, ◌+◌, ◌<◌, ◌≤◌, List, [], ◌∷◌, ◌++◌, Bool, true, false, cond, if◌then◌else◌, Option, None, reverse, length, refl, sym, ap, subst, ◌∙◌, arith, append_assoc, append-nil, add-zero, zero-add, codes}
+use Rattle.std.proofs.Common.{◌≡◌, ℕ, ◌+◌, ◌<◌, ◌≤◌, List, [], ◌∷◌, ◌++◌, Bool, true, false, cond, if◌then◌else◌}
+use Rattle.std.proofs.Common.{Option, None, reverse, length, refl, sym, ap, subst, ◌∙◌, arith, append_assoc, append-nil}
+use Rattle.std.proofs.Common.{add-zero, zero-add, codes}
 use Rattle.std.specs.List.{filter, slice_split, onto_first}
 use Rattle.std.specs.Char.{len_utf8}
 use Rattle.std.proofs.lemmas.List.{reverse-append, reverse-reverse}
@@ -8,7 +10,8 @@ use Rattle.soy_base.specs.WhiteSpace.{is_template_space, is_line_break}
 use Rattle.soy_base.specs.ByteLength.{byte_len}
 use Rattle.soy_lexer.specs.IsRunOf.{AllFilled}
 use Rattle.soy_lexer.specs.InOrder.{InOrder}
-use Rattle.soy_lexer.specs.Lines.{RunCharacter, Line, without_start, without_end, trimmed, trimmed_after, has_characters, lines_of, end_offset, last_end_offset}
+use Rattle.soy_lexer.specs.Lines.{RunCharacter, Line, without_start, without_end, trimmed, trimmed_after}
+use Rattle.soy_lexer.specs.Lines.{has_characters, lines_of, end_offset, last_end_offset}
 use Rattle.soy_lexer.specs.Piece.{Piece, source_text}
 use Rattle.soy_lexer.specs.ModeAfter.{mode_after}
 use Rattle.soy_lexer.specs.declared.mode.Mode.{Mode}
@@ -16,7 +19,8 @@ use Rattle.soy_lexer.specs.Piece.Piece.{TextCharacter, Skipped, Literal, Command
 use Rattle.soy_lexer.specs.declared.mode.Mode.TheVariants.{Outside}
 use Rattle.soy_lexer.specs.Pieces.{Pieces}
 use Rattle.soy_lexer.specs.Pieces.Pieces.{Ended, Stopped, Goes}
-use Rattle.soy_lexer.specs.Tokens.{Tokens, token, token_of_lines, run_token, literal_start, piece_tokens, run_after, tokens_of}
+use Rattle.soy_lexer.specs.Tokens.{Tokens, token, token_of_lines, run_token, literal_start, piece_tokens, run_after}
+use Rattle.soy_lexer.specs.Tokens.{tokens_of}
 use Rattle.soy_lexer.specs.declared.token.Token.{Token}
 use Rattle.soy_lexer.specs.declared.token.TokenKind.TheVariants as kind
 use Rattle.soy_lexer.proofs.Running.{end_offset-append}
@@ -45,7 +49,8 @@ one_more from to offset c [] h a = (omega (arith, h, a), omega arith)
 one_more from to offset c (d ∷ ds) h a = (a.0, one_more (d.offset + len_utf8 d.character) to offset c ds h a.1)
 
 -- the last of them ends in between
-ends_between : (from to : ℕ) (cs : List RunCharacter) → Ascends from to cs → (from ≤ end_offset from cs) × (end_offset from cs ≤ to)
+ends_between : (from to : ℕ) (cs : List RunCharacter) → Ascends from to cs → (from ≤ end_offset from cs)
+    × (end_offset from cs ≤ to)
 ends_between from to [] a = (omega arith, a)
 ends_between from to (c ∷ cs) a =
     let later = ends_between (c.offset + len_utf8 c.character) to cs a.1 in
@@ -62,7 +67,8 @@ part_ascends : (xs ys : List RunCharacter) → IsSublist xs ys → (from to : �
 part_ascends _ _ Nothing from to a = a
 part_ascends _ _ (Same c xs ys p) from to a = (a.0, part_ascends xs ys p (c.offset + len_utf8 c.character) to a.1)
 part_ascends _ _ (Left c xs ys p) from to a =
-    from_earlier from (c.offset + len_utf8 c.character) to xs (omega (arith, a.0)) (part_ascends xs ys p (c.offset + len_utf8 c.character) to a.1)
+    from_earlier from (c.offset + len_utf8 c.character) to xs (omega (arith, a.0))
+    (part_ascends xs ys p (c.offset + len_utf8 c.character) to a.1)
 
 -- a list is a sublist of itself
 all_of : (xs : List RunCharacter) → IsSublist xs xs
@@ -84,10 +90,12 @@ reverse_part : (xs ys : List RunCharacter) → IsSublist xs ys → IsSublist (re
 reverse_part _ _ Nothing = Nothing
 reverse_part _ _ (Same c xs ys p) =
     subst (λ l. IsSublist l (reverse (c ∷ ys))) (reverse-cons c xs)
-    (subst (λ l. IsSublist (reverse xs ++ c ∷ []) l) (reverse-cons c ys) (both_parts (reverse xs) (reverse ys) (c ∷ []) (c ∷ []) (reverse_part xs ys p) (all_of (c ∷ []))))
+    (subst (λ l. IsSublist (reverse xs ++ c ∷ []) l) (reverse-cons c ys)
+    (both_parts (reverse xs) (reverse ys) (c ∷ []) (c ∷ []) (reverse_part xs ys p) (all_of (c ∷ []))))
 reverse_part _ _ (Left c xs ys p) =
     subst (λ l. IsSublist l (reverse (c ∷ ys))) (append-nil (reverse xs))
-    (subst (λ l. IsSublist (reverse xs ++ []) l) (reverse-cons c ys) (both_parts (reverse xs) (reverse ys) [] (c ∷ []) (reverse_part xs ys p) (Left c [] [] Nothing)))
+    (subst (λ l. IsSublist (reverse xs ++ []) l) (reverse-cons c ys)
+    (both_parts (reverse xs) (reverse ys) [] (c ∷ []) (reverse_part xs ys p) (Left c [] [] Nothing)))
 
 -- sublists of sublists
 part_of_part : (xs ys zs : List RunCharacter) → IsSublist xs ys → IsSublist ys zs → IsSublist xs zs
@@ -103,13 +111,16 @@ start_part : (line : Line) → IsSublist (without_start line) line
 start_part [] = Nothing
 start_part (c ∷ cs) = by_white (is_template_space c.character) (start_part cs)
   where
-    by_white : (white : Bool) → IsSublist (without_start cs) cs → IsSublist (if white then without_start cs else c ∷ cs) (c ∷ cs)
+    by_white : (white : Bool) → IsSublist (without_start cs) cs
+        → IsSublist (if white then without_start cs else c ∷ cs) (c ∷ cs)
     by_white true p = Left c (without_start cs) cs p
     by_white false p = all_of (c ∷ cs)
 
 -- and at its end
 end_part : (line : Line) → IsSublist (without_end line) line
-end_part line = subst (λ l. IsSublist (without_end line) l) (reverse-reverse line) (reverse_part (without_start (reverse line)) (reverse line) (start_part (reverse line)))
+end_part line =
+    subst (λ l. IsSublist (without_end line) l) (reverse-reverse line)
+    (reverse_part (without_start (reverse line)) (reverse line) (start_part (reverse line)))
 
 -- lines one after the other
 abbrev pub flat : List Line → List RunCharacter
@@ -122,7 +133,8 @@ trimmed_after_part [] = Nothing
 trimmed_after_part (line ∷ []) = both_parts (without_start line) line [] [] (start_part line) Nothing
 trimmed_after_part (line ∷ next ∷ lines) =
     both_parts (without_end (without_start line)) line (flat (trimmed_after (next ∷ lines))) (flat (next ∷ lines))
-    (part_of_part (without_end (without_start line)) (without_start line) line (end_part (without_start line)) (start_part line))
+    (part_of_part (without_end (without_start line)) (without_start line) line (end_part (without_start line))
+    (start_part line))
     (trimmed_after_part (next ∷ lines))
 
 -- of all lines of a run
@@ -130,7 +142,8 @@ trimmed_part : (lines : List Line) → IsSublist (flat (trimmed lines)) (flat li
 trimmed_part [] = Nothing
 trimmed_part (line ∷ []) = all_of (line ++ [])
 trimmed_part (line ∷ next ∷ lines) =
-    both_parts (without_end line) line (flat (trimmed_after (next ∷ lines))) (flat (next ∷ lines)) (end_part line) (trimmed_after_part (next ∷ lines))
+    both_parts (without_end line) line (flat (trimmed_after (next ∷ lines))) (flat (next ∷ lines)) (end_part line)
+    (trimmed_after_part (next ∷ lines))
 
 -- lines without characters have none to leave out
 filled_part : (lines : List Line) → flat (filter has_characters lines) ≡ flat lines
@@ -158,7 +171,8 @@ split_part : (run : List RunCharacter) → IsSublist (flat (split run)) run
 split_part [] = Nothing
 split_part (c ∷ cs) = by_end (is_line_break c.character) (split_part cs)
   where
-    by_end : (ends : Bool) → IsSublist (flat (split cs)) cs → IsSublist (flat (cond ends ([] ∷ split cs) (onto_first c (split cs)))) (c ∷ cs)
+    by_end : (ends : Bool) → IsSublist (flat (split cs)) cs
+        → IsSublist (flat (cond ends ([] ∷ split cs) (onto_first c (split cs)))) (c ∷ cs)
     by_end true p = Left c (flat (split cs)) cs p
     by_end false p = subst (λ l. IsSublist l (c ∷ cs)) (sym (onto_part c (split cs))) (Same c (flat (split cs)) cs p)
 
@@ -173,7 +187,8 @@ lines_part run =
 -- where lines end, their characters end
 last_end_offset-flat : (end : ℕ) (lines : List Line) → last_end_offset end lines ≡ end_offset end (flat lines)
 last_end_offset-flat end [] = refl
-last_end_offset-flat end (line ∷ lines) = last_end_offset-flat (end_offset end line) lines ∙ sym (end_offset-append end line (flat lines))
+last_end_offset-flat end (line ∷ lines) =
+    last_end_offset-flat (end_offset end line) lines ∙ sym (end_offset-append end line (flat lines))
 
 -- characters in order lie between their ends
 within : (from to : ℕ) (cs : List RunCharacter) → Ascends from to cs → from ≤ to
@@ -185,23 +200,30 @@ in_order_later from to end [] h o = omega (arith, h, o)
 in_order_later from to end (t ∷ ts) h o = (omega (arith, h, o.0), o.1, o.2)
 
 -- the token of lines, before others
-lines_in_order : (from to end : ℕ) (lines : List Line) (others : List Token) → AllFilled lines → Ascends from to (flat lines) → InOrder to end others →
+lines_in_order : (from to end : ℕ) (lines : List Line) (others : List Token) → AllFilled lines
+    → Ascends from to (flat lines) → InOrder to end others →
     InOrder from end (token_of_lines lines ++ others)
 lines_in_order from to end [] others filled a o = in_order_later from to end others a o
 lines_in_order from to end ([] ∷ lines) others filled a o = absurd filled
 lines_in_order from to end ((c ∷ cs) ∷ lines) others filled a o =
-    let last : end_offset (c.offset + len_utf8 c.character) (cs ++ flat lines) ≡ last_end_offset 0 ((c ∷ cs) ∷ lines) = sym (last_end_offset-flat 0 ((c ∷ cs) ∷ lines)) in
+    let last : end_offset (c.offset + len_utf8 c.character) (cs ++ flat lines) ≡ last_end_offset 0 ((c ∷ cs) ∷ lines) =
+    sym (last_end_offset-flat 0 ((c ∷ cs) ∷ lines)) in
     let line_joint = ends_between (c.offset + len_utf8 c.character) to (cs ++ flat lines) a.1 in
-    let size = len_utf8_bounds c.character in
-    (a.0, omega (arith, last, line_joint.0, size.0), in_order_later (last_end_offset 0 ((c ∷ cs) ∷ lines)) to end others (omega (arith, last, line_joint.1)) o)
+    let size = len_utf8_bounds c.character in (
+      a.0,
+      omega (arith, last, line_joint.0, size.0),
+      in_order_later (last_end_offset 0 ((c ∷ cs) ∷ lines)) to end others
+          (omega (arith, last, line_joint.1)) o,
+    )
 
 -- the token of a run, before others
-run_in_order : (from to end : ℕ) (run : List RunCharacter) (others : List Token) → Ascends from to run → InOrder to end others → InOrder from end (run_token run ++ others)
+run_in_order : (from to end : ℕ) (run : List RunCharacter) (others : List Token) → Ascends from to run
+    → InOrder to end others → InOrder from end (run_token run ++ others)
 run_in_order from to end run others a o =
     lines_in_order from to end (lines_of run) others (all_filled (trimmed (split run)))
     (part_ascends (flat (lines_of run)) run (lines_part run) from to a) o
 
--- written characters take bytes
+-- characters take bytes
 byte_len_some : (cs : List ℕ) → 0 < length cs → 0 < byte_len cs
 byte_len_some [] some = absurd (omega (arith, some))
 byte_len_some (c ∷ cs) some = let size = len_utf8_bounds c in omega (arith, size.0)
@@ -211,16 +233,21 @@ byte_len-literal : (text : List ℕ) → 9 < byte_len (source_text (Literal text
 byte_len-literal text = omega (arith, byte_len-append text (codes "{/literal}"))
 
 -- it starts within its prefix
-literal_between : (offset : ℕ) (text : List ℕ) → (offset ≤ literal_start offset text) × (literal_start offset text ≤ offset + 9)
+literal_between : (offset : ℕ) (text : List ℕ) → (offset ≤ literal_start offset text)
+    × (literal_start offset text ≤ offset + 9)
 literal_between offset [] = (omega arith, omega arith)
 literal_between offset (c ∷ cs) = (omega arith, omega arith)
 
 -- the tokens that a piece gives, before those that others give
-piece_in_order : (from offset end : ℕ) (run : List RunCharacter) (p : Piece) (others : List Token) → 0 < byte_len (source_text p) → Ascends from offset run →
+piece_in_order : (from offset end : ℕ) (run : List RunCharacter) (p : Piece) (others : List Token)
+    → 0 < byte_len (source_text p) → Ascends from offset run →
     ((from : ℕ) → Ascends from (offset + byte_len (source_text p)) (run_after offset run p) → InOrder from end others) →
     InOrder from end (piece_tokens offset run p ++ others)
-piece_in_order from offset end run (TextCharacter c) others some a next = next from (subst (λ n. Ascends from n (run ++ record { offset = offset; character = c } ∷ [])) (ap (λ n. offset + n) (sym (add-zero (len_utf8 c)))) (one_more from offset offset c run (omega arith) a))
-piece_in_order from offset end run (Skipped text) others some a next = next from (to_later from offset (offset + byte_len text) run (omega arith) a)
+piece_in_order from offset end run (TextCharacter c) others some a next =
+    next from (subst (λ n. Ascends from n (run ++ record { offset = offset; character = c } ∷ []))
+    (ap (λ n. offset + n) (sym (add-zero (len_utf8 c)))) (one_more from offset offset c run (omega arith) a))
+piece_in_order from offset end run (Skipped text) others some a next =
+    next from (to_later from offset (offset + byte_len text) run (omega arith) a)
 piece_in_order from offset end run (Literal text) others some a next =
     let start = literal_between offset text in
     let size = byte_len-literal text in
@@ -235,17 +262,25 @@ piece_in_order from offset end run (CommandToken kind text value) others some a 
     (omega arith, omega (arith, some), next (offset + byte_len text) (omega arith)))
 
 -- the tokens of pieces, after those of a run
-pieces_in_order : (offset : ℕ) (mode : Mode) (text : List ℕ) (ps : List Piece) (stop : Option ℕ) (from : ℕ) (run : List RunCharacter) →
-    Pieces offset mode text ps stop → stop ≡ None → Ascends from offset run → InOrder from (offset + byte_len text) (tokens_of offset run ps)
+pieces_in_order : (offset : ℕ) (mode : Mode) (text : List ℕ) (ps : List Piece) (stop : Option ℕ) (from : ℕ)
+    (run : List RunCharacter) →
+    Pieces offset mode text ps stop → stop ≡ None → Ascends from offset run
+    → InOrder from (offset + byte_len text) (tokens_of offset run ps)
 pieces_in_order _ _ _ _ _ from run (Ended offset mode) none a =
-    subst (λ l. InOrder from (offset + 0) l) (append-nil (run_token run)) (run_in_order from offset (offset + 0) run [] a (omega arith))
+    subst (λ l. InOrder from (offset + 0) l) (append-nil (run_token run))
+    (run_in_order from offset (offset + 0) run [] a (omega arith))
 pieces_in_order _ _ _ _ _ from run (Stopped offset mode c cs further fails) none a = absurd (cc)
 pieces_in_order _ _ _ _ _ from run (Goes offset mode c cs p rest ps stop begins d) none a =
     let stands = begins_stands mode (c ∷ cs) p rest begins in
-    let both : (offset + byte_len (source_text p)) + byte_len rest ≡ offset + byte_len (c ∷ cs) = omega (arith, ap byte_len stands.0, byte_len-append (source_text p) rest) in
-    piece_in_order from offset (offset + byte_len (c ∷ cs)) run p (tokens_of (offset + byte_len (source_text p)) (run_after offset run p) ps) (byte_len_some (source_text p) stands.1) a
-    (λ later b. subst (λ n. InOrder later n (tokens_of (offset + byte_len (source_text p)) (run_after offset run p) ps)) both
-    (pieces_in_order (offset + byte_len (source_text p)) (mode_after mode p) rest ps stop later (run_after offset run p) d none b))
+    let both : (offset + byte_len (source_text p)) + byte_len rest
+    ≡ offset + byte_len (c ∷ cs) = omega (arith, ap byte_len stands.0, byte_len-append (source_text p) rest) in
+    piece_in_order from offset (offset + byte_len (c ∷ cs)) run p
+    (tokens_of (offset + byte_len (source_text p)) (run_after offset run p) ps)
+    (byte_len_some (source_text p) stands.1) a
+    (λ later b. subst (λ n. InOrder later n (tokens_of (offset + byte_len (source_text p)) (run_after offset run p) ps))
+    both
+    (pieces_in_order (offset + byte_len (source_text p)) (mode_after mode p) rest ps stop later (run_after offset run p)
+    d none b))
 
 -- the tokens of a text stand in its order
 pub tokens_in_order : (text : List ℕ) (tokens : List Token) → Tokens text tokens → InOrder 0 (byte_len text) tokens

@@ -1,5 +1,6 @@
--- Every text has pieces: each one is written with a character at least, so the rest is shorter.
-use Rattle.std.proofs.Common.{◌++◌, ◌≡◌, ℕ, zero, suc, true, ◌+◌, ◌<◌, ◌≤◌, ◌⊎◌, List, [], ◌∷◌, length, Option, None, Some, refl, ◌∙◌, ap, inl, inr, subst, arith, length-append}
+-- Every text has pieces: each one has a character at least, so the rest is shorter.
+use Rattle.std.proofs.Common.{◌++◌, ◌≡◌, ℕ, zero, suc, true, ◌+◌, ◌<◌, ◌≤◌, ◌⊎◌, List, [], ◌∷◌, length, Option, None}
+use Rattle.std.proofs.Common.{Some, refl, ◌∙◌, ap, inl, inr, subst, arith, length-append}
 use Rattle.soy_lexer.specs.AllSourceText.{all_source_text}
 use Rattle.soy_base.specs.ByteLength.{byte_len}
 use Rattle.soy_lexer.specs.Piece.{Piece, source_text}
@@ -22,11 +23,13 @@ pub record HasPieces (offset : ℕ) (mode : Mode) (text : List ℕ) : Type 0 whe
   pub are : Pieces offset mode text pieces stop
 
 -- a piece, which other text follows, is what stands there
-pub begins_stands : (mode : Mode) (text : List ℕ) (p : Piece) (rest : List ℕ) → piece_of mode text ≡ Begins p rest → Stands text (Begins p rest)
+pub begins_stands : (mode : Mode) (text : List ℕ) (p : Piece) (rest : List ℕ) → piece_of mode text ≡ Begins p rest
+    → Stands text (Begins p rest)
 begins_stands mode text p rest e = subst (λ f. Stands text f) e (piece_stands mode text)
 
 -- so the rest is shorter
-pub rest_shorter : (mode : Mode) (text : List ℕ) (p : Piece) (rest : List ℕ) → piece_of mode text ≡ Begins p rest → length rest < length text
+pub rest_shorter : (mode : Mode) (text : List ℕ) (p : Piece) (rest : List ℕ) → piece_of mode text ≡ Begins p rest
+    → length rest < length text
 rest_shorter mode text p rest e =
     let stands = begins_stands mode text p rest e in
     omega (arith, ap length stands.0, length-append (source_text p) rest, stands.1)
@@ -38,14 +41,20 @@ from_found : (n offset : ℕ) (mode : Mode) (c : ℕ) (cs : List ℕ) → length
 from_found n offset mode c cs h next (Fails further) e =
     record { pieces = []; stop = Some (offset + further); are = Stopped offset mode c cs further e }
 from_found n offset mode c cs h next (Begins p rest) e =
-    let others = next (offset + byte_len (source_text p)) (mode_after mode p) rest (omega (arith, rest_shorter mode (c ∷ cs) p rest e)) in
-    record { pieces = p ∷ others.pieces; stop = others.stop; are = Goes offset mode c cs p rest others.pieces others.stop e others.are }
+    let others = next (offset + byte_len (source_text p)) (mode_after mode p) rest
+    (omega (arith, rest_shorter mode (c ∷ cs) p rest e)) in
+    record {
+      pieces = p ∷ others.pieces;
+      stop = others.stop;
+      are = Goes offset mode c cs p rest others.pieces others.stop e others.are;
+    }
 
 -- a text that is no longer than this has pieces
 pieces_within : (n offset : ℕ) (mode : Mode) (text : List ℕ) → length text ≤ n → HasPieces offset mode text
 pieces_within n offset mode [] h = record { pieces = []; stop = None; are = Ended offset mode }
 pieces_within zero offset mode (c ∷ cs) h = absurd (omega arith)
-pieces_within (suc n) offset mode (c ∷ cs) h = from_found n offset mode c cs h (pieces_within n) (piece_of mode (c ∷ cs)) refl
+pieces_within (suc n) offset mode (c ∷ cs) h =
+    from_found n offset mode c cs h (pieces_within n) (piece_of mode (c ∷ cs)) refl
 
 -- pieces up to the end give tokens, and others a fault
 from_stop : (text : List ℕ) (ps : List Piece) (stop : Option ℕ) → Pieces 0 (Outside true) text ps stop →
@@ -54,21 +63,26 @@ from_stop text ps None whole = inl (tokens_of 0 [] ps, record { pieces = ps; who
 from_stop text ps (Some offset) prefix = inr (offset, record { pieces = ps; prefix = prefix })
 
 -- a text has tokens, or a first fault
-pub tokens_or_fault : (text : List ℕ) → ((tokens : List Token) × Tokens text tokens) ⊎ ((offset : ℕ) × FirstFault text offset)
+pub tokens_or_fault : (text : List ℕ) → ((tokens : List Token) × Tokens text tokens)
+    ⊎ ((offset : ℕ) × FirstFault text offset)
 tokens_or_fault text =
     let all = pieces_within (length text) 0 (Outside true) text (omega arith) in
     from_stop text all.pieces all.stop all.are
 
 -- pieces up to the end of a text are the text
-pub whole_source_text : (offset : ℕ) (mode : Mode) (text : List ℕ) (ps : List Piece) (stop : Option ℕ) → Pieces offset mode text ps stop → stop ≡ None →
+pub whole_source_text : (offset : ℕ) (mode : Mode) (text : List ℕ) (ps : List Piece) (stop : Option ℕ)
+    → Pieces offset mode text ps stop → stop ≡ None →
     text ≡ all_source_text ps
 whole_source_text _ _ _ _ _ (Ended offset mode) e = refl
 whole_source_text _ _ _ _ _ (Stopped offset mode c cs further f) e = absurd (cc)
 whole_source_text _ _ _ _ _ (Goes offset mode c cs p rest ps stop f d) e =
-    (begins_stands mode (c ∷ cs) p rest f).0 ∙ ap (λ l. source_text p ++ l) (whole_source_text (offset + byte_len (source_text p)) (mode_after mode p) rest ps stop d e)
+    (begins_stands mode (c ∷ cs) p rest f).0
+    ∙ ap (λ l. source_text p ++ l)
+    (whole_source_text (offset + byte_len (source_text p)) (mode_after mode p) rest ps stop d e)
 
--- a offset where no token begins is within the text
-pub stop_within : (offset : ℕ) (mode : Mode) (text : List ℕ) (ps : List Piece) (stop : Option ℕ) → Pieces offset mode text ps stop → (stopped : ℕ) →
+-- an offset where no token begins is within the text
+pub stop_within : (offset : ℕ) (mode : Mode) (text : List ℕ) (ps : List Piece) (stop : Option ℕ)
+    → Pieces offset mode text ps stop → (stopped : ℕ) →
     stop ≡ Some stopped → stopped ≤ offset + byte_len text
 stop_within _ _ _ _ _ (Ended offset mode) stopped e = absurd (cc)
 stop_within _ _ _ _ _ (Stopped offset mode c cs further f) stopped e =
@@ -77,8 +91,15 @@ stop_within _ _ _ _ _ (Stopped offset mode c cs further f) stopped e =
     omega (arith, same, within)
 stop_within _ _ _ _ _ (Goes offset mode c cs p rest ps stop f d) stopped e =
     let stands = begins_stands mode (c ∷ cs) p rest f in
-    omega (arith, stop_within (offset + byte_len (source_text p)) (mode_after mode p) rest ps stop d stopped e, ap byte_len stands.0, byte_len-append (source_text p) rest)
+    omega (
+      arith,
+      stop_within (offset + byte_len (source_text p)) (mode_after mode p) rest ps stop d stopped e,
+      ap
+          byte_len stands.0,
+      byte_len-append (source_text p) rest,
+    )
 
 -- the first offset where no token begins is within the text
 pub fault_within : (text : List ℕ) (offset : ℕ) → FirstFault text offset → offset ≤ byte_len text
-fault_within text offset first = omega (arith, stop_within 0 (Outside true) text first.pieces (Some offset) first.prefix offset refl)
+fault_within text offset first =
+    omega (arith, stop_within 0 (Outside true) text first.pieces (Some offset) first.prefix offset refl)

@@ -1,5 +1,5 @@
--- Characters that a run keeps one after the other and that are read at once: they stand outside of commands, begin nothing,
--- and are neither white space nor `<` nor `>`, so that nothing is asked of each of them.
+-- Chunks: characters of a run that stand one after the other and are read at once. They stand outside of commands,
+-- begin nothing, and are neither white space nor `<` nor `>`, so that nothing is asked of each of them.
 --
 -- The chunk of `ab c/d` outside of a command is `ab`, which ` c/d` follows; inside of one there is none.
 use Rattle.std.specs.Prelude.{◌≡◌, ℕ, ◌+◌, List, [], ◌∷◌, ◌++◌, Bool, false, ◌||◌, ◌==◌, not}
@@ -8,7 +8,7 @@ use Rattle.std.specs.Str.{chars}
 use Rattle.std.specs.String.{string_bytes}
 use Rattle.soy_base.specs.Cuts.{is_nil}
 use Rattle.soy_base.specs.WhiteSpace.{is_template_space}
-use Rattle.soy_base.specs.Characters.{left_brace, right_brace}
+use Rattle.soy_base.specs.Characters.{left_brace, right_brace, null, slash}
 use Rattle.soy_base.specs.Cuts.{prefix_while, after_while}
 use Rattle.soy_lexer.specs.IsRunOf.{IsRunOf}
 use Rattle.soy_lexer.specs.Lexed.{HasRead}
@@ -20,7 +20,8 @@ use Rattle.soy_lexer.specs.declared.run.Run.{Run}
 use Rattle.soy_lexer.specs.declared.token.Token.{Token}
 
 abbrev pub is_chunk_character : ℕ → Bool
-is_chunk_character c = not (is_template_space c || is_angle c || c == 0 || c == 47 || c == left_brace || c == right_brace)
+is_chunk_character c =
+    not (is_template_space c || is_angle c || c == null || c == slash || c == left_brace || c == right_brace)
 
 abbrev pub begins_chunk : List ℕ → Bool
 begins_chunk [] = false
@@ -37,12 +38,12 @@ after_chunk (Outside white) text = after_while is_chunk_character text
 after_chunk Opened text = text
 after_chunk Inside text = text
 
--- where the text after a chunk stands
+-- the mode after a chunk
 abbrev pub mode_after_chunk : Mode → List ℕ → Mode
 mode_after_chunk mode [] = mode
 mode_after_chunk mode (c ∷ cs) = Outside false
 
--- characters that stand one after the other from a offset on
+-- characters that stand one after the other from an offset on
 abbrev pub run_characters : ℕ → List ℕ → List RunCharacter
 run_characters offset [] = []
 run_characters offset (c ∷ cs) = record { offset = offset; character = c } ∷ run_characters (offset + len_utf8 c) cs
@@ -59,4 +60,5 @@ AddsCharacters old new more = (run : List RunCharacter) → IsRunOf old run → 
 
 -- and to the run of a lexer
 abbrev pub TakesCharacters : Lexer → Lexer → List RunCharacter → Type 0
-TakesCharacters old new more = (tokens : List Token) (run : List RunCharacter) → HasRead old tokens run → HasRead new tokens (run ++ more)
+TakesCharacters old new more =
+    (tokens : List Token) (run : List RunCharacter) → HasRead old tokens run → HasRead new tokens (run ++ more)

@@ -1,14 +1,15 @@
--- What a run that is being read keeps of the characters read so far: the text of their lines as if the last one ended
+-- What a run that is being read holds of the characters read so far: the text of their lines as if the last one ended
 -- here, the white space that this would take away, and what the next characters need.
 --
--- Of "a \n b " it keeps the text "a b" and the white space " ".
+-- Of "a \n b " it holds the text "a b" and the white space " ".
 use Rattle.std.specs.Prelude.{◌≡◌, ℕ, List, [], ◌∷◌, ◌++◌, Bool, true, false, ◌&&◌, ◌||◌, not, if◌then◌else◌}
 use Rattle.std.specs.List.{filter, slice_split}
 use Rattle.std.specs.Str.{chars}
 use Rattle.std.specs.String.{string_bytes}
 use Rattle.soy_base.specs.WhiteSpace.{is_line_break}
 use Rattle.soy_base.specs.Cuts.{is_nil}
-use Rattle.soy_lexer.specs.Lines.{RunCharacter, Line, without_end, trimmed, trimmed_after, has_characters, lines_of, ends_angle, characters, joined, first_offset, last_end_offset}
+use Rattle.soy_lexer.specs.Lines.{RunCharacter, Line, without_end, trimmed, trimmed_after, has_characters, lines_of}
+use Rattle.soy_lexer.specs.Lines.{ends_angle, characters, joined, first_offset, last_end_offset}
 use Rattle.soy_lexer.specs.declared.run.Run.{Run}
 
 -- a line, if it has characters
@@ -50,8 +51,9 @@ abbrev pub StartsAt : List Line → ℕ → Type 0
 StartsAt [] start = Unit {0}
 StartsAt (line ∷ lines) start = first_offset (line ∷ lines) ≡ start
 
--- what the parts of a run are for its characters
-pub record Represents (text white : List ℕ) (fresh angle : Bool) (start text_end end : ℕ) (run : List RunCharacter) : Type 0 where
+-- what the fields of a run are for its characters
+pub record Represents (text white : List ℕ) (fresh angle : Bool) (start text_end end : ℕ) (run : List RunCharacter) :
+    Type 0 where
   pub done : List Line  -- the lines that have ended, as they are left
   pub line : Line  -- the present one without the white space at its end
   pub tail : Line  -- that white space
@@ -66,7 +68,7 @@ pub record Represents (text white : List ℕ) (fresh angle : Bool) (start text_e
   pub text_ends : last_end_offset 0 (done ++ unless_empty line) ≡ text_end
   pub ends : last_end_offset 0 (done ++ unless_empty (line ++ tail)) ≡ end
 
--- where a run starts to which one more character comes that stands at this offset
+-- the offset where a run starts to which one more character comes that stands at this offset
 abbrev pub start_with : List ℕ → List ℕ → ℕ → ℕ → ℕ
 start_with [] [] start offset = offset
 start_with [] (w ∷ ws) start offset = start
@@ -78,7 +80,9 @@ needs_space text fresh angle next = fresh && not (is_nil text) && not (angle || 
 
 -- a run was made of these characters
 abbrev pub IsRunOf : Run → List RunCharacter → Type 0
-IsRunOf run list = Represents (chars (string_bytes run.text)) (chars (string_bytes run.white)) run.fresh run.angle run.start run.text_end run.end list
+IsRunOf run list =
+    Represents (chars (string_bytes run.text)) (chars (string_bytes run.white)) run.fresh run.angle run.start
+    run.text_end run.end list
 
 -- one more character came to a run
 abbrev pub AddsCharacter : Run → Run → RunCharacter → Type 0

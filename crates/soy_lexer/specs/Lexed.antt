@@ -24,7 +24,8 @@ pub record HasRead (lexer : Lexer) (tokens : List Token) (run : List RunCharacte
 -- it takes a piece that stands at this offset
 abbrev pub TakesPiece : Lexer → Lexer → ℕ → Piece → Type 0
 TakesPiece old new offset piece =
-    (tokens : List Token) (run : List RunCharacter) → HasRead old tokens run → HasRead new (tokens ++ piece_tokens offset run piece) (run_after offset run piece)
+    (tokens : List Token) (run : List RunCharacter) → HasRead old tokens run
+    → HasRead new (tokens ++ piece_tokens offset run piece) (run_after offset run piece)
 
 -- it ends its run, whose token it takes if anything is left of it
 abbrev pub EndsRun : Lexer → Lexer → Type 0

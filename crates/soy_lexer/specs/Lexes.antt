@@ -1,5 +1,5 @@
 -- What `lex` answers for the text of a file, given as its bytes: its tokens; or that it is over the limit; or the first
--- offset where no token begins; or running out of memory, of which nothing is said.
+-- offset where no token begins; or that memory ran out, of which nothing is said.
 use Rattle.std.specs.Prelude.{◌≡◌, ℕ, ◌≤◌, ◌<◌, List, length, ◌⊎◌, Result, Ok, Err}
 use Rattle.std.specs.Str.{chars}
 use Rattle.std.specs.declared.alloc.Global.{Global}

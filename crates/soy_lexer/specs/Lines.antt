@@ -1,14 +1,15 @@
--- A text run: the characters that stand between two commands or literals, or between one of these and an end of the file,
--- without the comments in it, each with its offset; and the text that its lines make. The white space on both sides of each
--- line break goes, and other white space stays. Lines that are then empty go, and nothing is put for them. Two lines that are
--- left are joined with nothing where the one ends or the other begins with `<` or `>`, and else with a space.
+-- A text run: the characters that stand between two commands or literals, or between one of these and an end of the
+-- file, without the comments in it, each with its offset; and the text that its lines make. The white space on both
+-- sides of each line break goes, and other white space stays. Lines that are then empty go, and nothing is put for
+-- them. Two lines that are left are joined with nothing where the one ends or the other begins with `<` or `>`, and
+-- else with a space.
 --
 -- The run "Hello \n  world" has the text "Hello world", and "a\n<b>\n" the text "a<b>".
 use Rattle.std.specs.Prelude.{ℕ, ◌+◌, List, [], ◌∷◌, ◌++◌, Bool, true, false, ◌||◌, ◌==◌, map, reverse, if◌then◌else◌}
 use Rattle.std.specs.List.{filter, slice_split}
 use Rattle.std.specs.Char.{len_utf8}
 use Rattle.soy_base.specs.WhiteSpace.{is_template_space, is_line_break}
-use Rattle.soy_base.specs.Characters.{space}
+use Rattle.soy_base.specs.Characters.{space, less_than, greater_than}
 
 -- a character of a run, with its offset in the file in bytes
 pub record RunCharacter : Type 0 where
@@ -48,7 +49,7 @@ abbrev pub lines_of : List RunCharacter → List Line
 lines_of run = filter has_characters (trimmed (slice_split (λ c. is_line_break c.character) run))
 
 abbrev pub is_angle : ℕ → Bool
-is_angle c = c == 60 || c == 62
+is_angle c = c == less_than || c == greater_than
 
 abbrev pub begins_angle : Line → Bool
 begins_angle [] = false

@@ -1,7 +1,8 @@
 -- The mode in which a reader is after a piece: whether it is outside of commands, with white space or the file's start
 -- directly before the rest or not; in a command, directly after its `{`; or in a command, further on.
 --
--- After the `{` of `{a}` the mode is Opened, after `a` Inside, and after `}` Outside, with no white space before the rest.
+-- After the `{` of `{a}` the mode is Opened, after `a` Inside, and after `}` Outside, with no white space before the
+-- rest.
 use Rattle.std.specs.Prelude.{false}
 use Rattle.soy_base.specs.WhiteSpace.{is_template_space}
 use Rattle.soy_lexer.specs.Piece.{Piece}

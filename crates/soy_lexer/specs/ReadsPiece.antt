@@ -1,4 +1,5 @@
--- What the reading of one piece answers: the piece with the rest of the text, or how many bytes further on no token begins.
+-- What the reading of one piece answers: the piece with the rest of the text, or how many bytes further on no token
+-- begins.
 use Rattle.std.specs.Prelude.{◌≡◌, ℕ, Result, Ok, Err}
 use Rattle.std.specs.Str.{chars}
 use Rattle.soy_base.specs.declared.memory.Refusal.{Refusal}

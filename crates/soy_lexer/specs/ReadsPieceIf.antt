@@ -1,4 +1,4 @@
--- What the reading of one piece answers where the text may begin with none of its sort.
+-- What the reading of one piece answers where the text may begin with none of its kind.
 use Rattle.std.specs.Prelude.{◌≡◌, ℕ, Option, None, Some, Result}
 use Rattle.soy_base.specs.declared.memory.Refusal.{Refusal}
 use Rattle.soy_lexer.specs.Found.{Found}

@@ -1,4 +1,4 @@
--- What is read of a string step by step: its characters are those of its first step and of what is left after that.
+-- How a string is read item by item: its characters are that of its next item and those of what is left after that.
 --
 -- 'a\n' is read as an a, a line feed and the last quote.
 use Rattle.std.specs.Prelude.{◌≡◌, ℕ, ◌<◌, List, [], ◌∷◌, Option, None, Some, option_map, length}
@@ -12,7 +12,7 @@ use denote.Ref.{Bor}
 abbrev pub value_and_rest : Option Quoted → Option (List ℕ × List ℕ)
 value_and_rest string = option_map (λ string. (string.value, string.rest)) string
 
--- the same with one more character at the prefix
+-- the same with one more character at its start
 abbrev pub with_first : ℕ → Option (List ℕ × List ℕ) → Option (List ℕ × List ℕ)
 with_first c string = option_map (λ parts. (c ∷ parts.0, parts.1)) string
 

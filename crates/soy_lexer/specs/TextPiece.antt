@@ -1,9 +1,10 @@
--- What text outside of commands begins with: a comment, a literal, the `{` of a command, or one character that a text run
--- keeps.
+-- What text outside of commands begins with: a comment, a literal, the `{` of a command, or one character of a text
+-- run.
 --
 -- A `//` begins a comment where white space or the file's start stands directly before it, so `http://` begins none. No
 -- token begins at a comment or literal without its end, at a `{` that white space or another `{` follows, or at a `}`.
-use Rattle.std.specs.Prelude.{ℕ, List, [], ◌∷◌, ◌++◌, Bool, true, false, ◌==◌, ◌||◌, not, if◌then◌else◌, Option, None, Some, option_map, unwrap_or, codes}
+use Rattle.std.specs.Prelude.{ℕ, List, [], ◌∷◌, ◌++◌, Bool, true, false, ◌==◌, ◌||◌, not, if◌then◌else◌, Option, None}
+use Rattle.std.specs.Prelude.{Some, option_map, unwrap_or, codes}
 use Rattle.std.specs.Option.{option_or}
 use Rattle.soy_base.specs.WhiteSpace.{is_template_space, is_line_break}
 use Rattle.soy_base.specs.Characters.{left_brace, right_brace}
@@ -27,11 +28,12 @@ block_comment text = option_map (λ inner. closed_comment (cut (codes "*/") inne
 abbrev pub continues_line : ℕ → Bool
 continues_line c = not (is_line_break c)
 
--- `//` up to the line's end
+-- `//` up to the next line break
 abbrev pub line_comment : Bool → List ℕ → Option Found
 line_comment false text = None
 line_comment true text =
-    option_map (λ inner. begins (Skipped (codes "//" ++ prefix_while continues_line inner)) (after_while continues_line inner)) (after_prefix (codes "//") text)
+    option_map (λ inner. begins (Skipped (codes "//" ++ prefix_while continues_line inner))
+    (after_while continues_line inner)) (after_prefix (codes "//") text)
 
 abbrev pub closed_literal : Option (List ℕ × List ℕ) → Found
 closed_literal None = Fails 0
@@ -39,7 +41,8 @@ closed_literal (Some parts) = begins (Literal parts.0) parts.1
 
 -- `{literal}` up to the next `{/literal}`
 abbrev pub literal_piece : List ℕ → Option Found
-literal_piece text = option_map (λ inner. closed_literal (cut (codes "{/literal}") inner)) (after_prefix (codes "{literal}") text)
+literal_piece text =
+    option_map (λ inner. closed_literal (cut (codes "{/literal}") inner)) (after_prefix (codes "{literal}") text)
 
 -- whether a `{` before this text begins a command
 abbrev pub may_begin : List ℕ → Bool
@@ -56,7 +59,8 @@ plain_piece (c ∷ cs) =
 
 abbrev pub text_piece : Bool → List ℕ → Found
 text_piece white text =
-    unwrap_or (option_or (block_comment text) (option_or (line_comment white text) (literal_piece text))) (plain_piece text)
+    unwrap_or (option_or (block_comment text) (option_or (line_comment white text) (literal_piece text)))
+    (plain_piece text)
 
 -- what a text begins with in this mode
 abbrev pub piece_of : Mode → List ℕ → Found

@@ -1,8 +1,8 @@
--- The tokens of a whole text: those that its pieces give in their order, with each text run between them as one token, or
--- as none where nothing is left of it. And the first offset where no token begins.
+-- The tokens of a whole text: those that its pieces give in their order, with each text run between them as one token,
+-- or as none where nothing is left of it. And the first offset where no token begins.
 --
--- `Hello // greet`, `world{sp}` and `<b>!</b>` as three lines give the text `Hello world`, the tokens `{`, `sp` and `}`,
--- and the text `<b>!</b>`.
+-- `Hello // greet`, `world{sp}` and `<b>!</b>` as three lines give the text `Hello world`, the tokens `{`, `sp` and
+-- `}`, and the text `<b>!</b>`.
 use Rattle.std.specs.Prelude.{◌≡◌, ℕ, ◌+◌, List, [], ◌∷◌, ◌++◌, true, None, Some}
 use Rattle.soy_base.specs.ByteLength.{byte_len}
 use Rattle.soy_lexer.specs.Lines.{RunCharacter, Line, lines_of, joined, first_offset, last_end_offset}
@@ -17,10 +17,11 @@ use Rattle.soy_lexer.specs.declared.token.TokenKind.TheVariants as kind
 abbrev pub token : TokenKind → ℕ → ℕ → List ℕ → Token
 token kind start end text = record { kind = kind; span = record { start = start; end = end }; text = text }
 
--- a run stands from its first kept character to its last one
+-- a run stands from its first character that is left to its last one
 abbrev pub token_of_lines : List Line → List Token
 token_of_lines [] = []
-token_of_lines (line ∷ lines) = token kind.Text (first_offset (line ∷ lines)) (last_end_offset 0 (line ∷ lines)) (joined (line ∷ lines)) ∷ []
+token_of_lines (line ∷ lines) =
+    token kind.Text (first_offset (line ∷ lines)) (last_end_offset 0 (line ∷ lines)) (joined (line ∷ lines)) ∷ []
 
 abbrev pub run_token : List RunCharacter → List Token
 run_token run = token_of_lines (lines_of run)
@@ -30,12 +31,15 @@ abbrev pub literal_start : ℕ → List ℕ → ℕ
 literal_start offset [] = offset
 literal_start offset (c ∷ cs) = offset + 9
 
--- the tokens that a piece at a offset gives, with the run before it where it ends that
+-- the tokens that a piece at an offset gives, with the run before it where it ends that
 abbrev pub piece_tokens : ℕ → List RunCharacter → Piece → List Token
 piece_tokens offset run (TextCharacter c) = []
 piece_tokens offset run (Skipped text) = []
-piece_tokens offset run (Literal text) = run_token run ++ (token kind.Text (literal_start offset text) (offset + byte_len (source_text (Literal text))) text ∷ [])
-piece_tokens offset run (CommandToken kind text value) = run_token run ++ (token kind offset (offset + byte_len text) value ∷ [])
+piece_tokens offset run (Literal text) =
+    run_token run ++ (token kind.Text (literal_start offset text) (offset + byte_len (source_text (Literal text))) text
+    ∷ [])
+piece_tokens offset run (CommandToken kind text value) =
+    run_token run ++ (token kind offset (offset + byte_len text) value ∷ [])
 
 -- the run so far after that piece
 abbrev pub run_after : ℕ → List RunCharacter → Piece → List RunCharacter
@@ -44,10 +48,12 @@ run_after offset run (Skipped text) = run
 run_after offset run (Literal text) = []
 run_after offset run (CommandToken kind text value) = []
 
--- the tokens of pieces from a offset on, after the run so far
+-- the tokens of pieces from an offset on, after the run so far
 abbrev pub tokens_of : ℕ → List RunCharacter → List Piece → List Token
 tokens_of offset run [] = run_token run
-tokens_of offset run (piece ∷ pieces) = piece_tokens offset run piece ++ tokens_of (offset + byte_len (source_text piece)) (run_after offset run piece) pieces
+tokens_of offset run (piece ∷ pieces) =
+    piece_tokens offset run piece ++ tokens_of (offset + byte_len (source_text piece)) (run_after offset run piece)
+    pieces
 
 -- these are the tokens of the text
 pub record Tokens (text : List ℕ) (tokens : List Token) : Type 0 where

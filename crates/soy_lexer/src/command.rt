@@ -1,13 +1,16 @@
 //! The pieces of commands.
 
-ghost use Rattle.std.specs.Prelude.{◌≡◌, ℕ, List, [], ◌∷◌, ◌++◌, IsTrue, nat_le, is_some, unwrap_or, option_map, MatchOption, codes, true};
+ghost use Rattle.std.specs.Prelude.{◌≡◌, ℕ, List, [], ◌∷◌, ◌++◌, IsTrue, nat_le, is_some, unwrap_or};
+ghost use Rattle.std.specs.Prelude.{option_map, MatchOption, codes, true};
 ghost use Rattle.std.specs.Char.{is_ascii_digit};
 ghost use Rattle.std.specs.Str.{chars};
 ghost use Rattle.soy_base.specs.Names.{begins_name};
-ghost use Rattle.soy_base.specs.Characters.{dollar_sign, double_quote};
+ghost use Rattle.soy_base.specs.Characters.{slash, dollar_sign, double_quote};
 ghost use Rattle.soy_base.specs.WhiteSpace.{is_template_space};
 ghost use Rattle.soy_lexer.specs.ClosingName.{closing_name};
-ghost use Rattle.soy_lexer.specs.CommandPiece.{command_piece, fixed_piece, int_piece, largest_int, name_prefix, name_piece, number_after, one_of, opened_piece, symbol_piece, symbols_of_one, symbols_of_two, value_piece};
+ghost use Rattle.soy_lexer.specs.CommandPiece.{command_piece, fixed_piece, int_piece, largest_int, name_prefix};
+ghost use Rattle.soy_lexer.specs.CommandPiece.{name_piece, number_after, one_of, opened_piece, symbol_piece};
+ghost use Rattle.soy_lexer.specs.CommandPiece.{symbols_of_one, symbols_of_two, value_piece};
 ghost use Rattle.soy_base.specs.Cuts.{cut};
 ghost use Rattle.soy_lexer.specs.Found.Found.{Begins, Fails};
 ghost use Rattle.soy_lexer.specs.Piece.Piece.{CommandToken};
@@ -19,14 +22,19 @@ use crate::source_piece::{FirstPiece, SourcePiece};
 use crate::string::string_piece;
 use crate::text::text_of;
 use crate::token::TokenKind;
-use soy_base::{Refusal, before, begins_name, cut, first, is_template_space, split_digits, split_name};
+use soy_base::{
+    Refusal, before, begins_name, cut, first, is_template_space, split_digits, split_name,
+};
 use std::alloc::Global;
 
 /// The greatest int that is a token.
 const LARGEST_INT: u64 = 9007199254740991;
 
 /// The piece with which a text in a command begins, directly after its `{`.
-pub(crate) fn opened_piece<'a>(alloc: Global, text: &'a str) -> Result<FirstPiece<'a>, Refusal<usize>>
+pub(crate) fn opened_piece<'a>(
+    alloc: Global,
+    text: &'a str,
+) -> Result<FirstPiece<'a>, Refusal<usize>>
     ensures { ReadsPiece (opened_piece (chars text.now)) result }
 {
     match closing_name(text) {
@@ -49,7 +57,10 @@ fn closing_name(text: &str) -> Option<(&str, &str)>
 }
 
 /// The piece with which a text in a command begins.
-pub(crate) fn command_piece<'a>(alloc: Global, text: &'a str) -> Result<FirstPiece<'a>, Refusal<usize>>
+pub(crate) fn command_piece<'a>(
+    alloc: Global,
+    text: &'a str,
+) -> Result<FirstPiece<'a>, Refusal<usize>>
     ensures { ReadsPiece (command_piece (chars text.now)) result }
 {
     match first(text) {
@@ -58,7 +69,7 @@ pub(crate) fn command_piece<'a>(alloc: Global, text: &'a str) -> Result<FirstPie
     }
 }
 
-/// The same by the first character.
+/// The piece with which a text in a command begins, by its first character `c`.
 fn piece_by_first<'a>(
     alloc: Global,
     text: &'a str,
@@ -95,14 +106,15 @@ fn command_token<'a>(
     value: &str,
     rest: &'a str,
 ) -> Result<FirstPiece<'a>, Refusal<usize>>
-    ensures { ReadsPiece (Begins (CommandToken kind (chars source_text.now) (chars value.now)) (chars rest.now)) result }
+    ensures { ReadsPiece
+        (Begins (CommandToken kind (chars source_text.now) (chars value.now)) (chars rest.now)) result }
 {
     let value = text_of(alloc, value)?;
     let piece = SourcePiece::CommandToken(kind, source_text, value);
     Ok(FirstPiece { piece, rest })
 }
 
-/// A token that goes up to the rest of its text, and whose text is as it is written.
+/// A token that goes up to the rest of its text, and whose text is its source text.
 fn command_token_to<'a>(
     alloc: Global,
     kind: TokenKind,
@@ -110,7 +122,8 @@ fn command_token_to<'a>(
     rest: &'a str,
 ) -> Result<FirstPiece<'a>, Refusal<usize>>
     requires { (prefix : List ℕ) × (chars text.now ≡ prefix ++ chars rest.now) }
-    ensures { (prefix : List ℕ) × (chars text.now ≡ prefix ++ chars rest.now) × ReadsPiece (Begins (CommandToken kind prefix prefix) (chars rest.now)) result }
+    ensures { (prefix : List ℕ) × (chars text.now ≡ prefix ++ chars rest.now)
+        × ReadsPiece (Begins (CommandToken kind prefix prefix) (chars rest.now)) result }
 {
     let source_text = before(text, rest);
     command_token(alloc, kind, source_text, source_text, rest)
@@ -128,6 +141,7 @@ fn name_prefix(text: &str) -> Option<(&str, &str)>
     }
 }
 
+/// A name.
 fn word_piece<'a>(alloc: Global, text: &'a str) -> Result<FirstPiece<'a>, Refusal<usize>>
     ensures { ReadsPiece (unwrap_or (name_piece kind.Word [] (chars text.now)) (Fails 0)) result }
 {
@@ -137,7 +151,7 @@ fn word_piece<'a>(alloc: Global, text: &'a str) -> Result<FirstPiece<'a>, Refusa
     }
 }
 
-/// A variable, whose `$` is passed in the second text.
+/// A variable; the second text is the first without its `$`.
 fn variable_piece<'a>(
     alloc: Global,
     text: &'a str,
@@ -155,6 +169,7 @@ fn variable_piece<'a>(
     }
 }
 
+/// An int; `c` is the first digit, and the second text follows it.
 fn int_piece<'a>(
     alloc: Global,
     text: &'a str,
@@ -190,7 +205,7 @@ fn is_within_limit(digits: &str) -> bool
     true
 }
 
-/// A value in double quotes, of which the first is passed in the second text.
+/// A value in double quotes; the second text is the first without its quote.
 fn attribute_piece<'a>(
     alloc: Global,
     text: &'a str,
@@ -213,9 +228,13 @@ fn attribute_piece<'a>(
     }
 }
 
-/// The `/}` of a command, whose slash is passed in the second text.
-fn slash_piece<'a>(alloc: Global, text: &'a str, after: &'a str) -> Result<FirstPiece<'a>, Refusal<usize>>
-    requires { chars text.now ≡ 47 ∷ chars after.now }
+/// The `/}` of a command; the second text is the first without its slash.
+fn slash_piece<'a>(
+    alloc: Global,
+    text: &'a str,
+    after: &'a str,
+) -> Result<FirstPiece<'a>, Refusal<usize>>
+    requires { chars text.now ≡ slash ∷ chars after.now }
     ensures { ReadsPiece (unwrap_or (fixed_piece kind.SlashEnd (codes "/}") (chars text.now)) (Fails 0)) result }
 {
     match first(after) {
@@ -224,6 +243,7 @@ fn slash_piece<'a>(alloc: Global, text: &'a str, after: &'a str) -> Result<First
     }
 }
 
+/// A symbol, the longest that begins with `c`.
 fn symbol_piece<'a>(
     alloc: Global,
     text: &'a str,
@@ -242,7 +262,9 @@ fn symbol_piece<'a>(
 
 /// What follows a symbol of two characters, if these are the first one and the one after it.
 fn after_symbol_of_two(c: char, after: &str) -> Option<&str>
-    ensures { MatchOption result (one_of symbols_of_two (c ∷ chars after.now) ≡ None) (λ rest. (d : ℕ) × (chars after.now ≡ d ∷ chars rest.now) × (is_some (one_of symbols_of_two (c ∷ d ∷ [])) ≡ true)) }
+    ensures { MatchOption result (one_of symbols_of_two (c ∷ chars after.now) ≡ None)
+        (λ rest. (d : ℕ) × (chars after.now ≡ d ∷ chars rest.now)
+        × (is_some (one_of symbols_of_two (c ∷ d ∷ [])) ≡ true)) }
 {
     let (d, rest) = first(after)?;
     if is_symbol_of_two(c, d) {
@@ -252,6 +274,7 @@ fn after_symbol_of_two(c: char, after: &str) -> Option<&str>
     }
 }
 
+/// Whether these two characters are a symbol.
 fn is_symbol_of_two(c: char, d: char) -> bool
     ensures { result ≡ is_some (one_of symbols_of_two (c ∷ d ∷ [])) }
 {
@@ -263,6 +286,7 @@ fn is_symbol_of_two(c: char, d: char) -> bool
     }
 }
 
+/// Whether this character alone is a symbol.
 fn is_symbol_of_one(c: char) -> bool
     ensures { result ≡ is_some (one_of symbols_of_one (c ∷ [])) }
 {

@@ -43,7 +43,11 @@ fn literal_start(offset: u64, literal: &str) -> u64
     requires { offset + 9 < 2 ^ 64 }
     ensures { result ≡ literal_start offset (chars literal.now) }
 {
-    if is_empty(literal) { offset } else { offset + 9 }
+    if is_empty(literal) {
+        offset
+    } else {
+        offset + 9
+    }
 }
 
 /// The tokens so far, and the run that goes on.
@@ -80,7 +84,11 @@ impl Lexer {
                 let text = text_of(self.alloc, literal)?;
                 self.push(TokenKind::Text, Span { start, end }, text)
             }
-            SourcePiece::CommandToken(kind, _, text) => self.push(kind, Span { start: offset, end }, text),
+            SourcePiece::CommandToken(kind, _, text) => self.push(
+                kind,
+                Span { start: offset, end },
+                text,
+            ),
         }
     }
 

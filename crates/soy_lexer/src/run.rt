@@ -93,7 +93,8 @@ impl Run {
     /// The offset where the run starts with one more character, which stands at this offset.
     fn start_with(&self, offset: u64) -> u64
         ensures { result
-            ≡ start_with (chars (string_bytes self.now.text)) (chars (string_bytes self.now.white)) self.now.start offset }
+            ≡ start_with (chars (string_bytes self.now.text)) (chars (string_bytes self.now.white))
+            self.now.start offset }
     {
         if is_empty(self.text.as_str()) && is_empty(self.white.as_str()) {
             offset

@@ -47,7 +47,9 @@ pub(crate) fn string_piece<'a>(
 
 /// The characters of a string after its first quote, and what follows the string.
 fn characters<'a>(alloc: Global, text: &'a str) -> Result<Option<(String, &'a str)>, OutOfMemory>
-    ensures { IfOk result (λ found. option_map (λ parts. (chars (string_bytes parts.0), chars parts.1.now)) found ≡ value_and_rest (quoted (chars text.now))) }
+    ensures { IfOk result (λ found.
+        option_map (λ parts. (chars (string_bytes parts.0), chars parts.1.now)) found
+        ≡ value_and_rest (quoted (chars text.now))) }
 {
     let mut value = String::new(alloc);
     let mut left = text;

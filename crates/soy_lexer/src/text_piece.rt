@@ -6,7 +6,8 @@ ghost use Rattle.soy_base.specs.Characters.{left_brace};
 ghost use Rattle.soy_base.specs.Cuts.{cut};
 ghost use Rattle.soy_lexer.specs.ReadsPiece.{ReadsPiece};
 ghost use Rattle.soy_lexer.specs.ReadsPieceIf.{ReadsPieceIf};
-ghost use Rattle.soy_lexer.specs.TextPiece.{block_comment, closed_comment, closed_literal, line_comment, literal_piece, may_begin, plain_piece, text_piece};
+ghost use Rattle.soy_lexer.specs.TextPiece.{block_comment, closed_comment, closed_literal, line_comment};
+ghost use Rattle.soy_lexer.specs.TextPiece.{literal_piece, may_begin, plain_piece, text_piece};
 
 use crate::begins::begins;
 use crate::source_piece::{FirstPiece, SourcePiece};
@@ -35,7 +36,11 @@ pub(crate) fn text_piece<'a>(
 }
 
 /// A comment, or the slash with which the text begins.
-fn slash_piece<'a>(white: bool, text: &'a str, rest: &'a str) -> Result<FirstPiece<'a>, Refusal<usize>>
+fn slash_piece<'a>(
+    white: bool,
+    text: &'a str,
+    rest: &'a str,
+) -> Result<FirstPiece<'a>, Refusal<usize>>
     requires { chars text.now ≡ codes "/" ++ chars rest.now }
     ensures { ReadsPiece (text_piece white (chars text.now)) result }
 {
@@ -52,7 +57,11 @@ fn slash_piece<'a>(white: bool, text: &'a str, rest: &'a str) -> Result<FirstPie
 }
 
 /// A literal, or the `{` with which the text begins.
-fn brace_piece<'a>(alloc: Global, text: &'a str, rest: &'a str) -> Result<FirstPiece<'a>, Refusal<usize>>
+fn brace_piece<'a>(
+    alloc: Global,
+    text: &'a str,
+    rest: &'a str,
+) -> Result<FirstPiece<'a>, Refusal<usize>>
     requires { chars text.now ≡ left_brace ∷ chars rest.now }
     ensures { ReadsPiece (unwrap_or (literal_piece (chars text.now)) (plain_piece (chars text.now))) result }
 {
@@ -62,6 +71,7 @@ fn brace_piece<'a>(alloc: Global, text: &'a str, rest: &'a str) -> Result<FirstP
     }
 }
 
+/// A comment that begins with `/*`, if the text begins with one.
 fn block_comment<'a>(text: &'a str) -> Option<Result<FirstPiece<'a>, Refusal<usize>>>
     ensures { ReadsPieceIf (block_comment (chars text.now)) result }
 {
@@ -83,6 +93,7 @@ fn closed_comment<'a>(text: &'a str, inner: &'a str) -> Result<FirstPiece<'a>, R
     }
 }
 
+/// A comment that begins with `//`, if the text begins with one.
 fn line_comment<'a>(text: &'a str) -> Option<Result<FirstPiece<'a>, Refusal<usize>>>
     ensures { ReadsPieceIf (line_comment true (chars text.now)) result }
 {
@@ -91,6 +102,7 @@ fn line_comment<'a>(text: &'a str) -> Option<Result<FirstPiece<'a>, Refusal<usiz
     Some(begins(SourcePiece::Skipped(comment), comment, rest))
 }
 
+/// A literal, if the text begins with one.
 fn literal_piece<'a>(text: &'a str) -> Option<Result<FirstPiece<'a>, Refusal<usize>>>
     ensures { ReadsPieceIf (literal_piece (chars text.now)) result }
 {

@@ -9,9 +9,12 @@ use Rattle.soy_lexer.proofs.begins.begins.Goals as goal
 
 pub returns : goal.returns
 returns c =
-    null_free (view_piece c.args.piece) (chars c.args.text.now) (chars c.args.rest.now) c.requires (c.in-None.ensures ∙ ap (λ delimiter. cut delimiter (chars c.args.text.now)) (chars-byte 0 (omega arith)))
+    null_free (view_piece c.args.piece) (chars c.args.text.now) (chars c.args.rest.now) c.requires
+    (c.in-None.ensures ∙ ap (λ delimiter. cut delimiter (chars c.args.text.now)) (chars-byte 0 (omega arith)))
 
 pub returns-in-Some : goal.returns-in-Some
 returns-in-Some c =
-    null_within (view_piece c.args.piece) (chars c.args.text.now) (chars c.in-Some.prefix.now) (chars c.in-Some.field-0-1.now) (chars c.args.rest.now) c.requires
-    (c.in-Some.ensures ∙ ap (λ delimiter. cut delimiter (chars c.args.text.now)) (chars-byte 0 (omega arith))) ∙ ap Fails (sym c.byte_len.ensures)
+    null_within (view_piece c.args.piece) (chars c.args.text.now) (chars c.in-Some.prefix.now)
+    (chars c.in-Some.field-0-1.now) (chars c.args.rest.now) c.requires
+    (c.in-Some.ensures ∙ ap (λ delimiter. cut delimiter (chars c.args.text.now)) (chars-byte 0 (omega arith)))
+    ∙ ap Fails (sym c.byte_len.ensures)

@@ -14,12 +14,14 @@ same_some m n e = cc
 pub returns-clause-one_list : goal.returns-clause-one_list
 returns-clause-one_list c = λ text first second one two.
     one.tokens_are
-    ∙ ap (λ ps. tokens_of 0 [] ps) (one_pieces 0 (Outside true) text one.pieces two.pieces None None one.whole two.whole).0
+    ∙ ap (λ ps. tokens_of 0 [] ps)
+    (one_pieces 0 (Outside true) text one.pieces two.pieces None None one.whole two.whole).0
     ∙ sym two.tokens_are
 
 pub returns-clause-one_fault : goal.returns-clause-one_fault
 returns-clause-one_fault c = λ text first second one two.
-    same_some first second (one_pieces 0 (Outside true) text one.pieces two.pieces (Some first) (Some second) one.prefix two.prefix).1
+    same_some first second (one_pieces 0 (Outside true) text one.pieces two.pieces (Some first) (Some second) one.prefix
+    two.prefix).1
 
 pub returns-clause-never_both : goal.returns-clause-never_both
 returns-clause-never_both c = λ text tokens offset one two.

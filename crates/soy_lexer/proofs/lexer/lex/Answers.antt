@@ -10,4 +10,5 @@ lexed-requires c = omega (arith, byte_len-chars c.args.text.now c.utf8.text, c.i
 
 pub returns-in-Ok-clause-in_order : goal.returns-in-Ok-clause-in_order
 returns-in-Ok-clause-in_order c =
-    subst (λ n. InOrder 0 n c.in-Ok.tokens.items) (byte_len-chars c.args.text.now c.utf8.text) (tokens_in_order (chars c.args.text.now) c.in-Ok.tokens.items c.in-Ok.ensures)
+    subst (λ n. InOrder 0 n c.in-Ok.tokens.items) (byte_len-chars c.args.text.now c.utf8.text)
+    (tokens_in_order (chars c.args.text.now) c.in-Ok.tokens.items c.in-Ok.ensures)

@@ -9,5 +9,6 @@ before-brace-requires c = (left_brace ∷ [], c.requires)
 
 pub returns : goal.returns
 returns c =
-    brace_begins (chars c.args.text.now) (chars c.before-brace.result.now) c.in_ok-text_of.field-0 (chars c.args.rest.now) c.requires c.before-brace.ensures
+    brace_begins (chars c.args.text.now) (chars c.before-brace.result.now) c.in_ok-text_of.field-0
+    (chars c.args.rest.now) c.requires c.before-brace.ensures
     c.in_ok-text_of.ensures c.if-not-may_begin.ensures

@@ -8,21 +8,26 @@ use Rattle.soy_lexer.proofs.text_piece.closed_literal.Goals as goal
 pub before-requires : goal.before-requires
 before-requires c = (
   codes "{literal}" ++ (chars c.in-Some.literal.now ++ codes "{/literal}"),
-  up_to_delimiter (codes "{/literal}") (codes "{/literal}") literal_closes (codes "{literal}") (chars c.args.inner.now) (chars c.args.text.now) c.requires
+  up_to_delimiter (codes "{/literal}") (codes "{/literal}") literal_closes (codes "{literal}") (chars c.args.inner.now)
+      (chars c.args.text.now) c.requires
       (chars c.in-Some.literal.now) (chars c.in-Some.rest.now) c.in-Some.ensures,
 )
 
 pub begins-requires : goal.begins-requires
 begins-requires c =
-    before_delimiter (codes "{/literal}") (codes "{/literal}") literal_closes (codes "{literal}") (chars c.args.inner.now) (chars c.args.text.now) c.requires
-    (chars c.in-Some.literal.now) (chars c.in-Some.rest.now) (chars c.before-in-Some.result.now) c.in-Some.ensures c.before-in-Some.ensures
+    before_delimiter (codes "{/literal}") (codes "{/literal}") literal_closes (codes "{literal}")
+    (chars c.args.inner.now) (chars c.args.text.now) c.requires
+    (chars c.in-Some.literal.now) (chars c.in-Some.rest.now) (chars c.before-in-Some.result.now) c.in-Some.ensures
+    c.before-in-Some.ensures
 
 pub returns-in-Some : goal.returns-in-Some
 returns-in-Some c =
-    let there = cut_there (codes "{/literal}") (codes "{/literal}") literal_closes (codes "{literal}") (chars c.args.inner.now) (chars c.args.text.now) c.requires
+    let there = cut_there (codes "{/literal}") (codes "{/literal}") literal_closes (codes "{literal}")
+    (chars c.args.inner.now) (chars c.args.text.now) c.requires
     (chars c.in-Some.literal.now) (chars c.in-Some.rest.now) c.in-Some.ensures in
     subst (λ f. ReadsPiece f c.begins.result) (sym (ap closed_literal there)) c.begins.ensures
 
 pub returns-in-None : goal.returns-in-None
 returns-in-None c =
-    ap closed_literal (no_delimiter (codes "{/literal}") (codes "{/literal}") literal_closes (codes "{literal}") (chars c.args.inner.now) (chars c.args.text.now) c.requires c.in-None.ensures)
+    ap closed_literal (no_delimiter (codes "{/literal}") (codes "{/literal}") literal_closes (codes "{literal}")
+    (chars c.args.inner.now) (chars c.args.text.now) c.requires c.in-None.ensures)

@@ -7,14 +7,18 @@ use Rattle.soy_lexer.proofs.text_piece.literal_piece.Goals as goal
 
 pub returns-in_err-inner : goal.returns-in_err-inner
 returns-in_err-inner c =
-    without_prefix (codes "{literal}") (codes "{literal}") literal_opens (λ inner. closed_literal (cut (codes "{/literal}") inner)) (chars c.args.text.now)
+    without_prefix (codes "{literal}") (codes "{literal}") literal_opens
+    (λ inner. closed_literal (cut (codes "{/literal}") inner)) (chars c.args.text.now)
     c.from_residual.result c.in_err-inner.ensures c.from_residual.ensures
 
 pub closed_literal-requires : goal.closed_literal-requires
 closed_literal-requires c =
-    after_it (codes "{literal}") (codes "{literal}") literal_opens (λ inner. closed_literal (cut (codes "{/literal}") inner)) (chars c.args.text.now) (chars c.in_ok-inner.inner.now) c.in_ok-inner.ensures
+    after_it (codes "{literal}") (codes "{literal}") literal_opens
+    (λ inner. closed_literal (cut (codes "{/literal}") inner)) (chars c.args.text.now)
+    (chars c.in_ok-inner.inner.now) c.in_ok-inner.ensures
 
 pub returns : goal.returns
 returns c =
-    with_prefix (codes "{literal}") (codes "{literal}") literal_opens (λ inner. closed_literal (cut (codes "{/literal}") inner)) (chars c.args.text.now)
+    with_prefix (codes "{literal}") (codes "{literal}") literal_opens
+    (λ inner. closed_literal (cut (codes "{/literal}") inner)) (chars c.args.text.now)
     (chars c.in_ok-inner.inner.now) c.closed_literal.result c.in_ok-inner.ensures c.closed_literal.ensures

@@ -11,4 +11,5 @@ returns-in_ok-go_on c = λ run is_run.
     let all = c.in_ok-go_on.ensures one (c.in_ok-add_other.ensures.adds run is_run) in
     rw c.in-Some.ensures
     (first_added (λ l. IsRunOf c.go_on.new.self l) c.in-Some.c c.args.offset (chars c.in-Some.others.now) run
-    (subst (λ n. IsRunOf c.go_on.new.self (one ++ run_characters (c.args.offset + n) (chars c.in-Some.others.now))) c.len_utf8.ensures.value all))
+    (subst (λ n. IsRunOf c.go_on.new.self (one ++ run_characters (c.args.offset + n) (chars c.in-Some.others.now)))
+    c.len_utf8.ensures.value all))

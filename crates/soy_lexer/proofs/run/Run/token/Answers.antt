@@ -14,5 +14,6 @@ returns-then-is_empty c = λ run is_run.
 pub returns : goal.returns
 returns c = λ run is_run.
     token_represented c.new.result is_run
-    (c.new.ensures ∙ (c.in_ok-push_text.ensures.ok ∙ ap (λ l. chars (string_bytes c.args.self.text) ++ chars l) c.as_str.ensures.value))
+    (c.new.ensures ∙ (c.in_ok-push_text.ensures.ok
+    ∙ ap (λ l. chars (string_bytes c.args.self.text) ++ chars l) c.as_str.ensures.value))
     (ap is_nil c.new.ensures ∙ (ap (λ l. is_nil (chars l)) (sym c.as_str-2.ensures.value) ∙ sym c.if-is_empty.ensures))
