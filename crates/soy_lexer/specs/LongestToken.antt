@@ -7,7 +7,7 @@ use Rattle.std.specs.Prelude.{if◌then◌else◌, IsTrue, Some, length, codes}
 use Rattle.std.specs.Char.{is_ascii_digit}
 use Rattle.std.specs.List.{list_all, list_any}
 use Rattle.std.specs.Str.{bytes_eq}
-use Rattle.soy_base.specs.Names.{begins_name, continues_name}
+use Rattle.soy_base.specs.Names.{is_name}
 use Rattle.soy_base.specs.Cuts.{is_nil}
 use Rattle.soy_base.specs.Characters.{dollar_sign, single_quote, double_quote, backslash, null}
 use Rattle.soy_lexer.specs.CommandPiece.{largest_int, number_after, symbols_of_one, symbols_of_two}
@@ -18,11 +18,6 @@ use Rattle.soy_lexer.specs.Found.Found.{Begins, Fails}
 use Rattle.soy_lexer.specs.Strings.{escaped, numbered}
 use Rattle.soy_lexer.specs.declared.token.TokenKind.{TokenKind}
 use Rattle.soy_lexer.specs.declared.token.TokenKind.TheVariants as kind
-
--- an ASCII letter or `_`, followed by these and digits
-abbrev pub is_name : List ℕ → Bool
-is_name [] = false
-is_name (c ∷ cs) = begins_name c && list_all continues_name cs
 
 -- `0`, or digits without a zero at their start that write no number over the limit
 abbrev pub is_int : List ℕ → Bool
