@@ -1,6 +1,6 @@
 #!/usr/bin/env bash
-# Times `lex` on files of 1 MiB: on one like a template file, and on shapes of one sort alone, which would show work that
-# grows faster than the text. Prints MiB of the file a second and how many tokens it has. Run it at any place:
+# Times `lex` on files of 1 MiB: on one like a template file, and on shapes of one kind alone, which would show work that
+# grows faster than the text. Prints MiB of the file a second and how many tokens it has. Run it from any folder:
 # `bench/lexer.sh`.
 set -eu
 . "$(dirname "$0")/setup.sh"
@@ -38,16 +38,16 @@ const TEMPLATE: &str = r#"
 "#;
 
 /// As many whole pieces as 1 MiB has room for, between two ends.
-fn repeated(alloc: Global, front: &str, piece: &str, back: &str) -> Result<String, AllocError> {
-    let most = MIB.saturating_sub(piece.len()).saturating_sub(back.len());
-    let mut text = String::from_str(alloc, front)?;
+fn repeated(alloc: Global, prefix: &str, piece: &str, suffix: &str) -> Result<String, AllocError> {
+    let most = MIB.saturating_sub(piece.len()).saturating_sub(suffix.len());
+    let mut text = String::from_str(alloc, prefix)?;
     for _ in 0..MIB {
         if text.len() > most {
             break;
         }
         text.push_str(piece)?;
     }
-    text.push_str(back)?;
+    text.push_str(suffix)?;
     Ok(text)
 }
 
@@ -68,7 +68,7 @@ fn report(rt: &(impl Print + Clock), alloc: Global, name: &str, text: &str) -> i
 
 fn main(rt: HostRuntime) -> io::Result<()> {
     let alloc = rt.alloc();
-    for (name, front, piece, back) in [
+    for (name, prefix, piece, suffix) in [
         ("template file", "{namespace shop}\n", TEMPLATE, ""),
         ("commands {a}", "", "{a}", ""),
         ("line breaks", "", "\n", ""),
@@ -90,7 +90,7 @@ fn main(rt: HostRuntime) -> io::Result<()> {
         ("white space after a letter", "a", " \n", "a"),
         ("white space in a command", "{a", " ", "}"),
     ] {
-        let text = repeated(alloc, front, piece, back)?;
+        let text = repeated(alloc, prefix, piece, suffix)?;
         report(&rt, alloc, name, text.as_str())?;
     }
     Ok(())

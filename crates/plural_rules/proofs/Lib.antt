@@ -5,6 +5,6 @@ pub mod Tails
 pub mod Goes
 pub mod Sound
 pub mod Complete
-pub mod Fronts
+pub mod Prefixes
 pub mod ReadLaws
-pub mod SayLaws
+pub mod EntryLaws

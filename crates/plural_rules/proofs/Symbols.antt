@@ -1,4 +1,4 @@
--- What a symbol tells of the character that has it, and white space and digits as symbols.
+-- What a symbol says of the character that has it, and white space and digits as symbols.
 use Rattle.std.proofs.Common.{◌≡◌, ℕ, ◌-◌, Bool, true, false, [], ◌∷◌, refl, sym, ap, arith}
 use Rattle.std.specs.Prelude.{IsTrue, if◌then◌else◌, ◌==◌}
 use Rattle.std.specs.Char.{is_ascii_digit}
@@ -6,9 +6,10 @@ use Rattle.std.proofs.lemmas.Bool.{eqb-true}
 use Rattle.std.proofs.lemmas.Grind.{common_steps}
 use Rattle.plural_rules.specs.declared.condition.Operand.TheVariants as operand
 use Rattle.plural_rules.specs.declared.steps.Symbol.{Symbol}
-use Rattle.plural_rules.specs.declared.steps.Symbol.TheVariants.{White, Digit, Percent, Equals, Exclamation, Dot, Comma, At, Letter, A, D, O, R, Foreign}
+use Rattle.plural_rules.specs.declared.steps.Symbol.TheVariants.{White, Digit, Percent, Equals, Exclamation, Dot, Comma}
+use Rattle.plural_rules.specs.declared.steps.Symbol.TheVariants.{At, Letter, A, D, O, R, Foreign}
 use Rattle.plural_rules.specs.Condition.{is_white, letter_of}
-use Rattle.plural_rules.specs.Steps.{symbol_of, letter_symbol_of}
+use Rattle.plural_rules.specs.NextStep.{symbol_of, letter_symbol_of}
 
 -- the symbol may be that of the character
 abbrev pub Marks : Symbol → ℕ → Type 0

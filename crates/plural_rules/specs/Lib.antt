@@ -1,8 +1,9 @@
 pub mod Category
 pub mod Condition
 pub mod Holds
-pub mod Says
+pub mod AreRulesOf
+pub mod RefusesEntries
 pub mod Parts
-pub mod Steps
+pub mod NextStep
 pub mod Tally
-pub mod Reading
+pub mod ReadsParts

@@ -1,3 +1,5 @@
+//! The plural categories.
+
 ghost use Rattle.std.specs.Prelude.{◌≡◌};
 ghost use Rattle.plural_rules.specs.Category.{is_same};
 
@@ -13,6 +15,7 @@ pub enum Category {
 }
 
 impl Category {
+    /// Whether two categories are the same.
     pub(crate) fn is(self, other: Category) -> bool
         ensures { result ≡ is_same self other }
     {

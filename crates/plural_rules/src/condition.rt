@@ -1,8 +1,10 @@
+//! A condition as it is stored: a flat list of parts.
+
 ghost use Rattle.std.specs.Prelude.{◌≡◌};
 
 /// An operand of UTS #35, part 3, "Operands".
 #[derive(Clone, Copy, Debug)]
-pub enum Operand {
+pub(crate) enum Operand {
     N,
     I,
     V,
@@ -15,23 +17,23 @@ pub enum Operand {
 
 /// What a relation compares, and whether it asks for one of its values (`=`) or for none (`!=`).
 #[derive(Clone, Copy, Debug)]
-pub struct Comparison {
-    pub operand: Operand,
-    pub modulus: Option<u64>,
-    pub equal: bool,
+pub(crate) struct Comparison {
+    pub(crate) operand: Operand,
+    pub(crate) modulus: Option<u64>,
+    pub(crate) equal: bool,
 }
 
 /// The values from `first` to `last`, both among them; a single value has both ends.
 #[derive(Clone, Copy, Debug)]
-pub struct Values {
-    pub first: u64,
-    pub last: u64,
+pub(crate) struct Values {
+    pub(crate) first: u64,
+    pub(crate) last: u64,
 }
 
-/// A part of a condition that is kept flat, its parts in the order of the text: each alternative of `or`
+/// A part of a condition that is stored flat, its parts in the order of the text: each alternative of `or`
 /// begins with `Alternative`, each relation with its `Comparison`, and the relation's values follow.
 #[derive(Clone, Copy, Debug)]
-pub enum Part {
+pub(crate) enum RulePart {
     Alternative,
     Comparison(Comparison),
     Values(Values),

@@ -1,29 +1,31 @@
-ghost use Rattle.std.specs.Prelude.{◌≡◌, []};
-ghost use Rattle.plural_rules.specs.Holds.{value_of, remainder_of, holds};
-ghost use Rattle.plural_rules.specs.Parts.{condition_of};
-ghost use Rattle.plural_rules.specs.Tally.{is_met_with, found_in, begun};
+//! Whether a stored condition holds of a whole number.
 
-use crate::condition::{Comparison, Operand, Part, Values};
+ghost use Rattle.std.specs.Prelude.{◌≡◌, []};
+ghost use Rattle.plural_rules.specs.Holds.{operand_value, remainder_of, holds};
+ghost use Rattle.plural_rules.specs.Parts.{condition_of};
+ghost use Rattle.plural_rules.specs.Tally.{is_met_with, found_in, comparing};
+
+use crate::condition::{Comparison, Operand, RulePart, Values};
 
 /// A relation in the middle of its values: what is compared, and whether one of the values was it.
 #[derive(Clone, Copy, Debug)]
-pub struct Compared {
-    pub value: u64,
-    pub equal: bool,
-    pub found: bool,
+pub(crate) struct Compared {
+    pub(crate) value: u64,
+    pub(crate) equal: bool,
+    pub(crate) found: bool,
 }
 
 /// What is known of a number after some parts of a condition: whether an alternative holds that has ended,
 /// whether the relations hold that have ended in the alternative after it, and the relation that hasn't ended.
 #[derive(Clone, Copy, Debug)]
-pub struct Tally {
-    pub any: bool,
-    pub all: bool,
-    pub relation: Option<Compared>,
+pub(crate) struct Tally {
+    pub(crate) any: bool,
+    pub(crate) all: bool,
+    pub(crate) relation: Option<Compared>,
 }
 
 /// Whether a condition holds of a whole number.
-pub fn holds(parts: &[Part], n: i64) -> bool
+pub(crate) fn holds(parts: &[RulePart], n: i64) -> bool
     ensures { result ≡ holds (condition_of parts.now) n }
 {
     let mut tally = Tally::new();
@@ -37,6 +39,7 @@ impl Tally {
     ghost use Rattle.std.specs.Prelude.{◌≡◌, ◌&&◌, ◌||◌, []};
     ghost use Rattle.plural_rules.specs.Tally.{no_tally, tally_with, is_met_with};
 
+    /// Before the first part.
     fn new() -> Tally
         ensures { result ≡ no_tally }
     {
@@ -47,21 +50,22 @@ impl Tally {
         }
     }
 
-    fn with(self, part: Part, n: i64) -> Tally
+    /// The tally after one more part.
+    fn with(self, part: RulePart, n: i64) -> Tally
         ensures { result ≡ tally_with n part self }
     {
         match part {
-            Part::Alternative => Tally {
+            RulePart::Alternative => Tally {
                 any: self.holds(),
                 all: true,
                 relation: None,
             },
-            Part::Comparison(comparison) => Tally {
+            RulePart::Comparison(comparison) => Tally {
                 any: self.any,
                 all: self.all && is_met(self.relation),
-                relation: Some(begun(comparison, n)),
+                relation: Some(comparing(comparison, n)),
             },
-            Part::Values(values) => Tally {
+            RulePart::Values(values) => Tally {
                 any: self.any,
                 all: self.all,
                 relation: with_values(self.relation, values),
@@ -77,6 +81,7 @@ impl Tally {
     }
 }
 
+/// Whether a relation holds that has no more values.
 fn is_met(relation: Option<Compared>) -> bool
     ensures { result ≡ is_met_with [] relation }
 {
@@ -86,6 +91,7 @@ fn is_met(relation: Option<Compared>) -> bool
     }
 }
 
+/// The relation after one more of its values.
 fn with_values(relation: Option<Compared>, values: Values) -> Option<Compared>
     ensures { result ≡ found_in values relation }
 {
@@ -97,8 +103,9 @@ fn with_values(relation: Option<Compared>, values: Values) -> Option<Compared>
     })
 }
 
-fn begun(comparison: Comparison, n: i64) -> Compared
-    ensures { result ≡ begun comparison n }
+/// The relation before its values.
+fn comparing(comparison: Comparison, n: i64) -> Compared
+    ensures { result ≡ comparing comparison n }
 {
     Compared {
         value: remainder(comparison.modulus, value(comparison.operand, n)),
@@ -109,7 +116,7 @@ fn begun(comparison: Comparison, n: i64) -> Compared
 
 /// The value of an operand for a whole number.
 fn value(operand: Operand, n: i64) -> u64
-    ensures { result ≡ value_of operand n }
+    ensures { result ≡ operand_value operand n }
 {
     match operand {
         Operand::N | Operand::I => n.unsigned_abs(),
@@ -117,6 +124,7 @@ fn value(operand: Operand, n: i64) -> u64
     }
 }
 
+/// The remainder by a modulus, or the value itself where there is none.
 fn remainder(modulus: Option<u64>, value: u64) -> u64
     ensures { result ≡ remainder_of modulus value }
 {

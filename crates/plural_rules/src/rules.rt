@@ -1,7 +1,9 @@
+//! The rules of a language, and what they say of a number.
+
 ghost use Rattle.std.specs.Prelude.{◌≡◌, [], IfOk, IfErr};
 
 use crate::category::Category;
-use crate::condition::Part;
+use crate::condition::RulePart;
 use crate::number::holds;
 use crate::reader::parts_of;
 use std::alloc::{AllocError, AllocFailed, Global};
@@ -14,8 +16,8 @@ pub struct RuleText {
     pub text: String,
 }
 
-/// Where a text stops being a rule: the category of its entry, and the length in bytes of the longest front of the text
-/// with which some rule of that category begins.
+/// Where a text stops being a rule: the category of its entry, and the offset, which is the length in
+/// bytes of the longest prefix of the text with which some rule of that category begins.
 #[derive(Clone, Copy, Debug, PartialEq, Eq)]
 pub struct RuleFault {
     pub category: Category,
@@ -93,7 +95,7 @@ impl Model for RuleText {
 #[derive(Debug, Drop)]
 struct Rule {
     category: Category,
-    parts: Vec<Part>,
+    parts: Vec<RulePart>,
 }
 
 impl Model for Rule {
@@ -134,16 +136,18 @@ const ASKED: [Category; 5] = [
 impl Rules {
     ghost use Rattle.std.specs.Prelude.{◌≡◌, [], IfOk, IfErr};
     ghost use Rattle.plural_rules.specs.Category.{category_of, holds_for};
-    ghost use Rattle.plural_rules.specs.Says.{Say, AreOnly, Refuses};
+    ghost use Rattle.plural_rules.specs.AreRulesOf.{AreRulesOf, AreOnlyRulesOf};
+    ghost use Rattle.plural_rules.specs.RefusesEntries.{RefusesEntries};
     ghost use Rattle.std.specs.List.{find};
 
-    /// The rules of some entries, whose texts are conditions of UTS #35, part 3, "Plural rules syntax"; the condition of the
-    /// category other is empty. Of two entries of one category the first counts. Refused for the first entry whose text is no
-    /// rule of its category, with the length in bytes of the longest front of the text with which such a rule begins.
+    /// The rules of some entries, whose texts are conditions of UTS #35, part 3, "Plural rules syntax";
+    /// the condition of the category other is empty. Of two entries of one category the first counts.
+    /// Refused for the first entry whose text is no rule of its category, with the length in bytes of
+    /// the longest prefix of the text with which such a rule begins.
     pub fn parse(alloc: Global, entries: &[RuleText]) -> Result<Rules, RuleRefusal>
-        ensures ok { IfOk result (λ rules. Say entries.now rules) }
-        ensures only { IfOk result (λ rules. AreOnly entries.now rules) }
-        ensures refused { IfErr result (λ refusal. Refuses entries.now refusal) }
+        ensures ok { IfOk result (λ rules. AreRulesOf entries.now rules) }
+        ensures only { IfOk result (λ rules. AreOnlyRulesOf entries.now rules) }
+        ensures refused { IfErr result (λ refusal. RefusesEntries entries.now refusal) }
     {
         let mut rules = Vec::with_capacity(alloc, entries.len())?;
         for entry in entries {
@@ -190,7 +194,7 @@ impl Rules {
         false
     }
 
-    /// Equal rules, kept a second time.
+    /// A copy of the rules, equal to them.
     pub fn copy(&self, alloc: Global) -> Result<Rules, OutOfMemory>
         ensures { IfOk result (λ rules. rules ≡ self.now) }
     {
@@ -206,11 +210,13 @@ impl Rule {
     ghost use Rattle.std.specs.Prelude.{◌≡◌, IfOk, IfErr};
     ghost use Rattle.plural_rules.specs.Category.{is_same};
     ghost use Rattle.plural_rules.specs.Holds.{holds};
-    ghost use Rattle.plural_rules.specs.Says.{IsRuleOf, IsRefused};
+    ghost use Rattle.plural_rules.specs.AreRulesOf.{IsRuleOf};
+    ghost use Rattle.plural_rules.specs.RefusesEntries.{RefusesEntry};
 
+    /// The rule that an entry spells.
     fn read(alloc: Global, entry: &RuleText) -> Result<Rule, RuleRefusal>
         ensures ok { IfOk result (λ rule. IsRuleOf entry.now rule) }
-        ensures refused { IfErr result (λ refusal. IsRefused entry.now refusal) }
+        ensures refused { IfErr result (λ refusal. RefusesEntry entry.now refusal) }
     {
         Ok(Rule {
             category: entry.category,
@@ -218,18 +224,21 @@ impl Rule {
         })
     }
 
+    /// Whether the rule is of the category.
     fn is_for(&self, category: Category) -> bool
         ensures { result ≡ is_same self.now.0 category }
     {
         self.category.is(category)
     }
 
+    /// Whether the condition of the rule holds of a number.
     fn holds(&self, n: i64) -> bool
         ensures { result ≡ holds self.now.1 n }
     {
         holds(&self.parts, n)
     }
 
+    /// A copy of the rule, equal to it.
     fn copy(&self) -> Result<Rule, OutOfMemory>
         ensures { IfOk result (λ rule. rule ≡ self.now) }
     {

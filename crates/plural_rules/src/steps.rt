@@ -1,15 +1,19 @@
+//! The steps of the reader: its states, what a character is to it, and where it leads.
+
 ghost use Rattle.std.specs.Prelude.{◌≡◌};
-ghost use Rattle.plural_rules.specs.Steps.{symbol_of, letter_symbol_of, going, giving, start_of, next_step};
-ghost use Rattle.plural_rules.specs.Steps.{relation_step, operand_step, sign_step, exclamation_step, comparison_step};
-ghost use Rattle.plural_rules.specs.Steps.{value_step, digits_step, digits_end_step, spaced_step, after_step, first_step};
-ghost use Rattle.plural_rules.specs.Steps.{range_step, dot_step, a_step, an_step, o_step, blank_step};
+ghost use Rattle.plural_rules.specs.NextStep.{symbol_of, letter_symbol_of, going, giving};
+ghost use Rattle.plural_rules.specs.NextStep.{start_step, next_step, relation_step, operand_step};
+ghost use Rattle.plural_rules.specs.NextStep.{operator_step, exclamation_step, comparison_step};
+ghost use Rattle.plural_rules.specs.NextStep.{value_step, digits_step, digits_end_step};
+ghost use Rattle.plural_rules.specs.NextStep.{spaced_step, after_step, first_step, range_step};
+ghost use Rattle.plural_rules.specs.NextStep.{dot_step, a_step, an_step, o_step, blank_step};
 
 use crate::category::Category;
-use crate::condition::{Comparison, Operand, Part, Values};
+use crate::condition::{Comparison, Operand, RulePart, Values};
 
 /// What a character is to the reader.
 #[derive(Clone, Copy, Debug)]
-pub enum Symbol {
+pub(crate) enum Symbol {
     White,
     Digit(u64),
     Percent,
@@ -28,15 +32,15 @@ pub enum Symbol {
 
 /// What a value is for: a modulus, a value or the first end of a range, or the last end of one.
 #[derive(Clone, Copy, Debug)]
-pub enum Slot {
+pub(crate) enum Slot {
     Modulus(Operand),
     First,
     Last(u64),
 }
 
-/// Where the reader stands in a rule.
+/// The state of the reader in a rule.
 #[derive(Clone, Copy, Debug)]
-pub enum Place {
+pub(crate) enum RuleState {
     /// A relation has to come.
     Relation,
     /// After an operand.
@@ -51,11 +55,11 @@ pub enum Place {
     After(Slot, u64),
     /// After the first dot of a range.
     Dot(u64),
-    /// In the word `and`, after its first letter.
+    /// In the keyword `and`, after its first letter.
     A,
-    /// In the word `and`, after its second letter.
+    /// In the keyword `and`, after its second letter.
     An,
-    /// In the word `or`, after its first letter.
+    /// In the keyword `or`, after its first letter.
     O,
     /// In the samples.
     Samples,
@@ -65,32 +69,34 @@ pub enum Place {
 
 /// Where a character leads, and the part of the condition that ends with it.
 #[derive(Clone, Copy, Debug)]
-pub struct Step {
-    pub place: Place,
-    pub part: Option<Part>,
+pub(crate) struct RuleStep {
+    pub(crate) state: RuleState,
+    pub(crate) part: Option<RulePart>,
 }
 
 /// The largest value of a rule: 2^53 - 1.
 const LARGEST: u64 = 9_007_199_254_740_991;
 
-fn going(place: Place) -> Option<Step>
-    ensures { result ≡ going place }
+/// A step that gives no part.
+fn going(state: RuleState) -> Option<RuleStep>
+    ensures { result ≡ going state }
 {
-    Some(Step { place, part: None })
+    Some(RuleStep { state, part: None })
 }
 
-fn giving(part: Part, place: Place) -> Option<Step>
-    ensures { result ≡ giving part place }
+/// A step that gives a part.
+fn giving(part: RulePart, state: RuleState) -> Option<RuleStep>
+    ensures { result ≡ giving part state }
 {
-    Some(Step {
-        place,
+    Some(RuleStep {
+        state,
         part: Some(part),
     })
 }
 
 impl Symbol {
     /// What a character is to the reader.
-    pub fn of(character: char) -> Symbol
+    pub(crate) fn of(character: char) -> Symbol
         ensures { result ≡ symbol_of character }
     {
         match character {
@@ -106,6 +112,7 @@ impl Symbol {
         }
     }
 
+    /// What a letter is to the reader.
     fn of_letter(character: char) -> Symbol
         ensures { result ≡ letter_symbol_of character }
     {
@@ -127,77 +134,81 @@ impl Symbol {
     }
 }
 
-impl Step {
-    /// The place where a rule of the category begins, and the part that begins it.
-    pub fn start(category: Category) -> Step
-        ensures { result ≡ start_of category }
+impl RuleStep {
+    /// The state where a rule of the category begins, and the part that begins it.
+    pub(crate) fn start(category: Category) -> RuleStep
+        ensures { result ≡ start_step category }
     {
         match category {
-            Category::Other => Step {
-                place: Place::Blank,
+            Category::Other => RuleStep {
+                state: RuleState::Blank,
                 part: None,
             },
-            _ => Step {
-                place: Place::Relation,
-                part: Some(Part::Alternative),
+            _ => RuleStep {
+                state: RuleState::Relation,
+                part: Some(RulePart::Alternative),
             },
         }
     }
 }
 
-impl Place {
+impl RuleState {
     /// The step at a symbol, or `None` where no rule goes on with it.
-    pub fn next(self, symbol: Symbol) -> Option<Step>
+    pub(crate) fn next(self, symbol: Symbol) -> Option<RuleStep>
         ensures { result ≡ next_step self symbol }
     {
         match self {
-            Place::Relation => relation(symbol),
-            Place::Operand(operand) => after_operand(operand, symbol),
-            Place::Exclamation(operand, modulus) => after_exclamation(operand, modulus, symbol),
-            Place::Value(slot) => value(slot, symbol),
-            Place::Digits(slot, number) => after_digit(slot, number, symbol),
-            Place::After(slot, number) => after_space(slot, number, symbol),
-            Place::Dot(first) => after_dot(first, symbol),
-            Place::A => after_a(symbol),
-            Place::An => after_an(symbol),
-            Place::O => after_o(symbol),
-            Place::Samples => going(Place::Samples),
-            Place::Blank => blank(symbol),
+            RuleState::Relation => relation(symbol),
+            RuleState::Operand(operand) => after_operand(operand, symbol),
+            RuleState::Exclamation(operand, modulus) => after_exclamation(operand, modulus, symbol),
+            RuleState::Value(slot) => value(slot, symbol),
+            RuleState::Digits(slot, number) => after_digit(slot, number, symbol),
+            RuleState::After(slot, number) => after_space(slot, number, symbol),
+            RuleState::Dot(first) => after_dot(first, symbol),
+            RuleState::A => after_a(symbol),
+            RuleState::An => after_an(symbol),
+            RuleState::O => after_o(symbol),
+            RuleState::Samples => going(RuleState::Samples),
+            RuleState::Blank => blank(symbol),
         }
     }
 }
 
-fn relation(symbol: Symbol) -> Option<Step>
+/// Where a relation has to come.
+fn relation(symbol: Symbol) -> Option<RuleStep>
     ensures { result ≡ relation_step symbol }
 {
     match symbol {
-        Symbol::White => going(Place::Relation),
-        Symbol::Letter(operand) => going(Place::Operand(operand)),
+        Symbol::White => going(RuleState::Relation),
+        Symbol::Letter(operand) => going(RuleState::Operand(operand)),
         _ => None,
     }
 }
 
-fn after_operand(operand: Operand, symbol: Symbol) -> Option<Step>
+/// After an operand.
+fn after_operand(operand: Operand, symbol: Symbol) -> Option<RuleStep>
     ensures { result ≡ operand_step operand symbol }
 {
     match symbol {
-        Symbol::White => going(Place::Operand(operand)),
-        Symbol::Percent => going(Place::Value(Slot::Modulus(operand))),
-        _ => sign(operand, None, symbol),
+        Symbol::White => going(RuleState::Operand(operand)),
+        Symbol::Percent => going(RuleState::Value(Slot::Modulus(operand))),
+        _ => operator(operand, None, symbol),
     }
 }
 
-fn sign(operand: Operand, modulus: Option<u64>, symbol: Symbol) -> Option<Step>
-    ensures { result ≡ sign_step operand modulus symbol }
+/// Where the `=` or `!=` of a relation has to come.
+fn operator(operand: Operand, modulus: Option<u64>, symbol: Symbol) -> Option<RuleStep>
+    ensures { result ≡ operator_step operand modulus symbol }
 {
     match symbol {
         Symbol::Equals => comparison(operand, modulus, true),
-        Symbol::Exclamation => going(Place::Exclamation(operand, modulus)),
+        Symbol::Exclamation => going(RuleState::Exclamation(operand, modulus)),
         _ => None,
     }
 }
 
-fn after_exclamation(operand: Operand, modulus: Option<u64>, symbol: Symbol) -> Option<Step>
+/// After the `!` of `!=`.
+fn after_exclamation(operand: Operand, modulus: Option<u64>, symbol: Symbol) -> Option<RuleStep>
     ensures { result ≡ exclamation_step operand modulus symbol }
 {
     match symbol {
@@ -206,7 +217,8 @@ fn after_exclamation(operand: Operand, modulus: Option<u64>, symbol: Symbol) -> 
     }
 }
 
-fn comparison(operand: Operand, modulus: Option<u64>, equal: bool) -> Option<Step>
+/// After the `=` or `!=` of a relation, which gives what it compares.
+fn comparison(operand: Operand, modulus: Option<u64>, equal: bool) -> Option<RuleStep>
     ensures { result ≡ comparison_step operand modulus equal }
 {
     let comparison = Comparison {
@@ -214,27 +226,32 @@ fn comparison(operand: Operand, modulus: Option<u64>, equal: bool) -> Option<Ste
         modulus,
         equal,
     };
-    giving(Part::Comparison(comparison), Place::Value(Slot::First))
+    giving(
+        RulePart::Comparison(comparison),
+        RuleState::Value(Slot::First),
+    )
 }
 
-fn value(slot: Slot, symbol: Symbol) -> Option<Step>
+/// Where a value has to come.
+fn value(slot: Slot, symbol: Symbol) -> Option<RuleStep>
     ensures { result ≡ value_step slot symbol }
 {
     match symbol {
-        Symbol::White => going(Place::Value(slot)),
-        Symbol::Digit(digit) => going(Place::Digits(slot, digit)),
+        Symbol::White => going(RuleState::Value(slot)),
+        Symbol::Digit(digit) => going(RuleState::Digits(slot, digit)),
         _ => None,
     }
 }
 
-fn after_digit(slot: Slot, number: u64, symbol: Symbol) -> Option<Step>
+/// After a digit of a value.
+fn after_digit(slot: Slot, number: u64, symbol: Symbol) -> Option<RuleStep>
     ensures { result ≡ digits_step slot number symbol }
 {
     match symbol {
         Symbol::Digit(digit) => {
             let number = number.saturating_mul(10).saturating_add(digit);
             if number <= LARGEST {
-                going(Place::Digits(slot, number))
+                going(RuleState::Digits(slot, number))
             } else {
                 None
             }
@@ -243,7 +260,8 @@ fn after_digit(slot: Slot, number: u64, symbol: Symbol) -> Option<Step>
     }
 }
 
-fn after_digits(slot: Slot, number: u64, symbol: Symbol) -> Option<Step>
+/// After the last digit of a value.
+fn after_digits(slot: Slot, number: u64, symbol: Symbol) -> Option<RuleStep>
     ensures { result ≡ digits_end_step slot number symbol }
 {
     match (slot, number) {
@@ -252,20 +270,22 @@ fn after_digits(slot: Slot, number: u64, symbol: Symbol) -> Option<Step>
     }
 }
 
-fn after_space(slot: Slot, number: u64, symbol: Symbol) -> Option<Step>
+/// After a value and white space.
+fn after_space(slot: Slot, number: u64, symbol: Symbol) -> Option<RuleStep>
     ensures { result ≡ spaced_step slot number symbol }
 {
     match symbol {
-        Symbol::White => going(Place::After(slot, number)),
+        Symbol::White => going(RuleState::After(slot, number)),
         _ => after_value(slot, number, symbol),
     }
 }
 
-fn after_value(slot: Slot, number: u64, symbol: Symbol) -> Option<Step>
+/// After a value, with no white space to come.
+fn after_value(slot: Slot, number: u64, symbol: Symbol) -> Option<RuleStep>
     ensures { result ≡ after_step slot number symbol }
 {
     match slot {
-        Slot::Modulus(operand) => sign(operand, Some(number), symbol),
+        Slot::Modulus(operand) => operator(operand, Some(number), symbol),
         Slot::First => after_first(number, symbol),
         Slot::Last(first) => after_range(
             Values {
@@ -277,11 +297,12 @@ fn after_value(slot: Slot, number: u64, symbol: Symbol) -> Option<Step>
     }
 }
 
-fn after_first(number: u64, symbol: Symbol) -> Option<Step>
+/// After a value that may be the first end of a range.
+fn after_first(number: u64, symbol: Symbol) -> Option<RuleStep>
     ensures { result ≡ first_step number symbol }
 {
     match symbol {
-        Symbol::Dot => going(Place::Dot(number)),
+        Symbol::Dot => going(RuleState::Dot(number)),
         _ => after_range(
             Values {
                 first: number,
@@ -292,61 +313,67 @@ fn after_first(number: u64, symbol: Symbol) -> Option<Step>
     }
 }
 
-fn after_range(values: Values, symbol: Symbol) -> Option<Step>
+/// After a value or a range, which it gives.
+fn after_range(values: Values, symbol: Symbol) -> Option<RuleStep>
     ensures { result ≡ range_step values symbol }
 {
-    let place = match symbol {
-        Symbol::Comma => Place::Value(Slot::First),
-        Symbol::A => Place::A,
-        Symbol::O => Place::O,
-        Symbol::At => Place::Samples,
+    let state = match symbol {
+        Symbol::Comma => RuleState::Value(Slot::First),
+        Symbol::A => RuleState::A,
+        Symbol::O => RuleState::O,
+        Symbol::At => RuleState::Samples,
         _ => return None,
     };
-    giving(Part::Values(values), place)
+    giving(RulePart::Values(values), state)
 }
 
-fn after_dot(first: u64, symbol: Symbol) -> Option<Step>
+/// After the first of the two dots of a range.
+fn after_dot(first: u64, symbol: Symbol) -> Option<RuleStep>
     ensures { result ≡ dot_step first symbol }
 {
     match symbol {
-        Symbol::Dot => going(Place::Value(Slot::Last(first))),
+        Symbol::Dot => going(RuleState::Value(Slot::Last(first))),
         _ => None,
     }
 }
 
-fn after_a(symbol: Symbol) -> Option<Step>
+/// In the keyword `and`, after its first letter.
+fn after_a(symbol: Symbol) -> Option<RuleStep>
     ensures { result ≡ a_step symbol }
 {
     match symbol {
-        Symbol::Letter(Operand::N) => going(Place::An),
+        Symbol::Letter(Operand::N) => going(RuleState::An),
         _ => None,
     }
 }
 
-fn after_an(symbol: Symbol) -> Option<Step>
+/// In the keyword `and`, after its second letter.
+fn after_an(symbol: Symbol) -> Option<RuleStep>
     ensures { result ≡ an_step symbol }
 {
     match symbol {
-        Symbol::D => going(Place::Relation),
+        Symbol::D => going(RuleState::Relation),
         _ => None,
     }
 }
 
-fn after_o(symbol: Symbol) -> Option<Step>
+/// In the keyword `or`, after its first letter.
+fn after_o(symbol: Symbol) -> Option<RuleStep>
     ensures { result ≡ o_step symbol }
 {
     match symbol {
-        Symbol::R => giving(Part::Alternative, Place::Relation),
+        Symbol::R => giving(RulePart::Alternative, RuleState::Relation),
         _ => None,
     }
 }
 
-fn blank(symbol: Symbol) -> Option<Step>
+/// In the empty condition of the category other.
+fn blank(symbol: Symbol) -> Option<RuleStep>
     ensures { result ≡ blank_step symbol }
 {
     match symbol {
-        Symbol::White => going(Place::Blank),
-        Symbol::At => going(Place::Samples),
+        Symbol::White => going(RuleState::Blank),
+        Symbol::At => going(RuleState::Samples),
         _ => None,
     }
 }

@@ -1,4 +1,4 @@
-pub mod Texts
+pub mod StyleCode
 pub mod Comments
 pub mod Literals
 pub mod PlainTexts

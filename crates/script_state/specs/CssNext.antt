@@ -7,13 +7,18 @@
 use Rattle.std.specs.Prelude.{ℕ, Bool, ◌==◌, ◌||◌, if◌then◌else◌, Some, None}
 use Rattle.std.specs.declared.option.Option.{Option}
 use Rattle.script_state.specs.declared.css_state.CssState.{CssState}
-use Rattle.script_state.specs.declared.css_state.CssState.TheVariants.{Code, Ready, Slash, Comment, CommentStar, CodeEscape, Single, Double, SingleEscape, DoubleEscape, AfterValue}
-use Rattle.script_state.specs.Characters.{is_white_space, exclamation_mark, double_quote, single_quote, left_parenthesis, right_parenthesis, star, comma, slash, colon, semicolon, backslash, right_brace}
+use Rattle.script_state.specs.declared.css_state.CssState.TheVariants.{Code, Ready, Slash, Comment, CommentStar}
+use Rattle.script_state.specs.declared.css_state.CssState.TheVariants.{CodeEscape, Single, Double, SingleEscape}
+use Rattle.script_state.specs.declared.css_state.CssState.TheVariants.{DoubleEscape, AfterValue}
+use Rattle.soy_base.specs.Characters.{exclamation_mark, double_quote, single_quote, left_parenthesis, right_parenthesis}
+use Rattle.soy_base.specs.Characters.{asterisk, comma, slash, colon, semicolon, backslash, right_brace}
+use Rattle.std.specs.Char.{is_ascii_whitespace}
+use Rattle.script_state.specs.CommentNext.{comment_next, comment_star_next}
 use Rattle.script_state.specs.StringNext.{string_next}
 
 -- whether a value may begin after this character
 abbrev pub is_before_value : ℕ → Bool
-is_before_value c = is_white_space c || c == colon || c == comma || c == left_parenthesis
+is_before_value c = is_ascii_whitespace c || c == colon || c == comma || c == left_parenthesis
 
 -- the rows of Code and of Ready
 abbrev pub css_code_next : ℕ → CssState
@@ -29,21 +34,16 @@ abbrev pub css_next : CssState → ℕ → Option CssState
 css_next Code c = Some (css_code_next c)
 css_next Ready c = Some (css_code_next c)
 css_next Slash c =
-    if c == star then Some Comment
+    if c == asterisk then Some Comment
     else Some (css_code_next c)
-css_next Comment c =
-    if c == star then Some CommentStar
-    else Some Comment
-css_next CommentStar c =
-    if c == slash then Some Code
-    else (if c == star then Some CommentStar
-    else Some Comment)
+css_next Comment c = Some (comment_next Comment CommentStar c)
+css_next CommentStar c = Some (comment_star_next Comment CommentStar Code c)
 css_next CodeEscape c = Some Code
 css_next Single c = string_next single_quote Single SingleEscape Code c
 css_next Double c = string_next double_quote Double DoubleEscape Code c
 css_next SingleEscape c = Some Single
 css_next DoubleEscape c = Some Double
 css_next AfterValue c =
-    if is_white_space c || c == comma then Some Ready
+    if is_ascii_whitespace c || c == comma then Some Ready
     else (if c == semicolon || c == right_parenthesis || c == exclamation_mark || c == right_brace then Some Code
     else None)

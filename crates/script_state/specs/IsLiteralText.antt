@@ -5,9 +5,10 @@
 -- is open at its end. (ECMAScript, "String Literals"; CSS Syntax Level 3, "Consume a string token".)
 -- Example: `it\'s` is one for both quotes, and `it's` for the double quote alone.
 use Rattle.std.specs.Prelude.{ℕ, List, [], ◌∷◌, ◌≢◌}
-use Rattle.script_state.specs.Characters.{line_feed, carriage_return, backslash}
+use Rattle.soy_base.specs.Characters.{line_feed, carriage_return, backslash}
 
 pub data IsLiteralText (quote : ℕ) : List ℕ → Type 0 where
   empty : IsLiteralText quote []
-  plain : {c : ℕ} {rest : List ℕ} → c ≢ quote → c ≢ backslash → c ≢ line_feed → c ≢ carriage_return → IsLiteralText quote rest → IsLiteralText quote (c ∷ rest)
+  plain : {c : ℕ} {rest : List ℕ} → c ≢ quote → c ≢ backslash → c ≢ line_feed → c ≢ carriage_return
+      → IsLiteralText quote rest → IsLiteralText quote (c ∷ rest)
   escape : {c : ℕ} {rest : List ℕ} → IsLiteralText quote rest → IsLiteralText quote (backslash ∷ c ∷ rest)

@@ -1,8 +1,7 @@
-pub mod Characters
+pub mod CommentNext
 pub mod CssAfterValue
 pub mod CssNext
 pub mod CssPlacing
-pub mod HasNone
 pub mod IsLineText
 pub mod IsLiteralText
 pub mod IsPlainScript
@@ -10,5 +9,4 @@ pub mod IsPlainStyle
 pub mod IsStyleCode
 pub mod JsNext
 pub mod JsPlacing
-pub mod StateAfter
 pub mod StringNext

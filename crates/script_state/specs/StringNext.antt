@@ -6,7 +6,7 @@
 -- Example: with the quote `'`, the character `"` stays within the literal.
 use Rattle.std.specs.Prelude.{ℕ, ◌==◌, ◌||◌, if◌then◌else◌, Some, None}
 use Rattle.std.specs.declared.option.Option.{Option}
-use Rattle.script_state.specs.Characters.{backslash, line_feed, carriage_return}
+use Rattle.soy_base.specs.Characters.{backslash, line_feed, carriage_return}
 
 abbrev pub string_next : {S : Type 0} → ℕ → S → S → S → ℕ → Option S
 string_next quote within escape after c =

@@ -1,13 +1,15 @@
+//! The states of a style, and how a character and a printed value lead from one to the next.
+
 ghost use Rattle.std.specs.Prelude.{◌≡◌, OnOk, OnErr};
 ghost use Rattle.script_state.specs.CssNext.{css_next, css_code_next};
 ghost use Rattle.script_state.specs.CssPlacing.{css_placing};
 ghost use Rattle.script_state.specs.CssAfterValue.{css_after_value};
 
 use crate::fault::Bad;
-use crate::literal::next_in_string;
+use crate::rows::{move_to, next_after_star, next_in_comment, next_in_string};
 use soy_base::{Code, Place, Placing};
 
-/// Where a point of a style stands, by the characters and values before it. CSS Syntax Level 3,
+/// The state of a style at a point, by the characters and values before it. CSS Syntax Level 3,
 /// "Tokenization".
 #[derive(Clone, Copy, Debug, PartialEq, Eq)]
 pub enum CssState {
@@ -44,19 +46,13 @@ impl CssState {
     }
 
     /// Reads one character of the style. `Bad` says that the style can't be followed past it: at a
-    /// line's end in a string, or where a printed value goes on in other text.
+    /// line break in a string, or where a printed value goes on in other text.
     pub fn step(&mut self, c: char) -> Result<(), Bad>
         ensures ok { OnOk result (css_next self.old c ≡ Some self.new) }
         ensures bad { OnErr result (css_next self.old c ≡ None) }
         ensures unchanged { OnErr result (self.new ≡ self.old) }
     {
-        match self.next(c) {
-            Some(next) => {
-                *self = next;
-                Ok(())
-            }
-            None => Err(Bad),
-        }
+        move_to(self, self.next(c))
     }
 
     /// A printed value stands here: it leads from `Ready` to `AfterValue` and leaves each other
@@ -80,6 +76,7 @@ impl CssState {
         }
     }
 
+    /// The state after one character, or None where it is a fault.
     fn next(self, c: char) -> Option<CssState>
         ensures { result ≡ css_next self c }
     {
@@ -87,8 +84,8 @@ impl CssState {
         match self {
             Code | Ready => Some(next_in_code(c)),
             Slash => Some(if c == '*' { Comment } else { next_in_code(c) }),
-            Comment => Some(if c == '*' { CommentStar } else { Comment }),
-            CommentStar => Some(next_after_star(c)),
+            Comment => Some(next_in_comment(Comment, CommentStar, c)),
+            CommentStar => Some(next_after_star(Comment, CommentStar, Code, c)),
             CodeEscape => Some(Code),
             Single => next_in_string('\'', Single, SingleEscape, Code, c),
             Double => next_in_string('"', Double, DoubleEscape, Code, c),
@@ -99,6 +96,7 @@ impl CssState {
     }
 }
 
+/// The rows of code, whether a value may begin there or not.
 fn next_in_code(c: char) -> CssState
     ensures { result ≡ css_code_next c }
 {
@@ -112,16 +110,7 @@ fn next_in_code(c: char) -> CssState
     }
 }
 
-fn next_after_star(c: char) -> CssState
-    ensures { Some result ≡ css_next CssState.CommentStar c }
-{
-    match c {
-        '/' => CssState::Code,
-        '*' => CssState::CommentStar,
-        _ => CssState::Comment,
-    }
-}
-
+/// The row after a printed value, which what follows must end.
 fn next_after_value(c: char) -> Option<CssState>
     ensures { result ≡ css_next CssState.AfterValue c }
 {

@@ -1,12 +1,14 @@
+//! The states of a script, and how a character leads from one to the next.
+
 ghost use Rattle.std.specs.Prelude.{◌≡◌, OnOk, OnErr};
 ghost use Rattle.script_state.specs.JsNext.{js_next};
 ghost use Rattle.script_state.specs.JsPlacing.{js_placing};
 
 use crate::fault::Bad;
-use crate::literal::next_in_string;
+use crate::rows::{move_to, next_after_star, next_in_comment, next_in_string};
 use soy_base::{Code, Place, Placing};
 
-/// Where a point of a script stands, by the characters before it. ECMAScript, "Comments" and
+/// The state of a script at a point, by the characters before it. ECMAScript, "Comments" and
 /// "String Literals".
 #[derive(Clone, Copy, Debug, PartialEq, Eq)]
 pub enum JsState {
@@ -14,7 +16,7 @@ pub enum JsState {
     Code,
     /// After a slash that begins a comment or a fault.
     Slash,
-    /// In a comment that ends with its line.
+    /// In a comment that ends at a line terminator.
     Line,
     /// In a comment that ends at a star and a slash.
     Block,
@@ -39,19 +41,13 @@ impl JsState {
     }
 
     /// Reads one character of the script. `Bad` says that the script can't be followed past it: at
-    /// a backtick, a slash that begins no comment, or a line's end in a string literal.
+    /// a backtick, a slash that begins no comment, or a line break in a string literal.
     pub fn step(&mut self, c: char) -> Result<(), Bad>
         ensures ok { OnOk result (js_next self.old c ≡ Some self.new) }
         ensures bad { OnErr result (js_next self.old c ≡ None) }
         ensures unchanged { OnErr result (self.new ≡ self.old) }
     {
-        match self.next(c) {
-            Some(next) => {
-                *self = next;
-                Ok(())
-            }
-            None => Err(Bad),
-        }
+        move_to(self, self.next(c))
     }
 
     /// A printed value stands here: it leaves the state.
@@ -71,6 +67,7 @@ impl JsState {
         }
     }
 
+    /// The state after one character, or None where it is a fault.
     fn next(self, c: char) -> Option<JsState>
         ensures { result ≡ js_next self c }
     {
@@ -79,8 +76,8 @@ impl JsState {
             Code => next_in_code(c),
             Slash => next_after_slash(c),
             Line => Some(next_in_line(c)),
-            Block => Some(if c == '*' { BlockStar } else { Block }),
-            BlockStar => Some(next_after_star(c)),
+            Block => Some(next_in_comment(Block, BlockStar, c)),
+            BlockStar => Some(next_after_star(Block, BlockStar, Code, c)),
             Single => next_in_string('\'', Single, SingleEscape, Code, c),
             Double => next_in_string('"', Double, DoubleEscape, Code, c),
             SingleEscape => Some(Single),
@@ -89,6 +86,7 @@ impl JsState {
     }
 }
 
+/// The row of code outside comments and string literals.
 fn next_in_code(c: char) -> Option<JsState>
     ensures { result ≡ js_next JsState.Code c }
 {
@@ -101,6 +99,7 @@ fn next_in_code(c: char) -> Option<JsState>
     }
 }
 
+/// The row after a slash of code.
 fn next_after_slash(c: char) -> Option<JsState>
     ensures { result ≡ js_next JsState.Slash c }
 {
@@ -111,21 +110,12 @@ fn next_after_slash(c: char) -> Option<JsState>
     }
 }
 
+/// The row of a comment that a line terminator ends.
 fn next_in_line(c: char) -> JsState
     ensures { Some result ≡ js_next JsState.Line c }
 {
     match c {
         '\n' | '\r' | '\u{2028}' | '\u{2029}' => JsState::Code,
         _ => JsState::Line,
-    }
-}
-
-fn next_after_star(c: char) -> JsState
-    ensures { Some result ≡ js_next JsState.BlockStar c }
-{
-    match c {
-        '/' => JsState::Code,
-        '*' => JsState::BlockStar,
-        _ => JsState::Block,
     }
 }

@@ -6,19 +6,19 @@ ghost use Rattle.std.specs.Prelude.{ℕ, List, All, IsTrue, IsSomeAnd, Some, opt
 ghost use Rattle.soy_base.specs.declared.code.Code.TheVariants as refusal;
 ghost use Rattle.soy_base.specs.declared.place.Place.TheVariants as place;
 ghost use Rattle.soy_base.specs.declared.place.Placing.TheVariants as placing;
-ghost use Rattle.script_state.specs.Characters.{single_quote, double_quote};
+ghost use Rattle.soy_base.specs.Characters.{single_quote, double_quote};
 ghost use Rattle.script_state.specs.CssAfterValue.{css_after_value};
 ghost use Rattle.script_state.specs.CssNext.{css_next, is_before_value};
 ghost use Rattle.script_state.specs.CssPlacing.{css_placing};
-ghost use Rattle.script_state.specs.HasNone.{HasNone};
-ghost use Rattle.script_state.specs.IsLineText.{IsLineEnd, IsLineText};
+ghost use Rattle.soy_base.specs.Among.{HasNone};
+ghost use Rattle.script_state.specs.IsLineText.{IsLineTerminator, IsLineText};
 ghost use Rattle.script_state.specs.IsLiteralText.{IsLiteralText};
 ghost use Rattle.script_state.specs.IsPlainScript.{IsPlainScript};
 ghost use Rattle.script_state.specs.IsPlainStyle.{IsPlainStyle};
 ghost use Rattle.script_state.specs.IsStyleCode.{IsStyleCode};
 ghost use Rattle.script_state.specs.JsNext.{js_next};
 ghost use Rattle.script_state.specs.JsPlacing.{js_placing};
-ghost use Rattle.script_state.specs.StateAfter.{state_after};
+ghost use Rattle.soy_base.specs.StateAfter.{state_after};
 ghost use Rattle.script_state.specs.declared.css_state.CssState.{CssState};
 ghost use Rattle.script_state.specs.declared.js_state.JsState.{JsState};
 
@@ -42,7 +42,7 @@ pub fn law_script_comment()
         (λ state. js_placing state ≡ placing.Refuses refusal.Place) }
     ensures after_block { (text : List ℕ) → HasNone (codes "*/") text →
         state_after js_next JsState.Code (codes "/*" ++ text ++ codes "*/") ≡ Some JsState.Code }
-    ensures after_line { (text : List ℕ) (end : ℕ) → IsLineText text → IsLineEnd end →
+    ensures after_line { (text : List ℕ) (end : ℕ) → IsLineText text → IsLineTerminator end →
         state_after js_next JsState.Code (codes "//" ++ text ++ end ∷ []) ≡ Some JsState.Code }
 {}
 

@@ -1,7 +1,9 @@
+//! Each row of both tables, and scripts and styles as authors write them.
+
 use super::*;
 use soy_base::{Code, Place, Placing};
 
-// Stands for a printed value in the scripts and styles below.
+/// Stands for a printed value in the scripts and styles below.
 const PRINT: char = '§';
 
 const VALUE: Placing = Placing::Takes(Place::JsValue);
@@ -16,7 +18,7 @@ const STRING: Placing = Placing::Takes(Place::CssString);
 
 const REFUSED: Placing = Placing::Refuses(Code::Place);
 
-// A state, a character, and the next state or None where the character is a fault.
+/// A state, a character, and the next state or None where the character is a fault.
 const SCRIPT_ROWS: &[(JsState, char, Option<JsState>)] = &[
     (JsState::Code, '/', Some(JsState::Slash)),
     (JsState::Code, '\'', Some(JsState::Single)),
@@ -58,6 +60,7 @@ const SCRIPT_ROWS: &[(JsState, char, Option<JsState>)] = &[
     (JsState::DoubleEscape, '\\', Some(JsState::Double)),
 ];
 
+/// The same for a style.
 const STYLE_ROWS: &[(CssState, char, Option<CssState>)] = &[
     (CssState::Code, '\t', Some(CssState::Ready)),
     (CssState::Code, '\n', Some(CssState::Ready)),
@@ -116,13 +119,54 @@ const STYLE_ROWS: &[(CssState, char, Option<CssState>)] = &[
     (CssState::AfterValue, '(', None),
 ];
 
-fn script_row_holds(before: JsState, c: char, after: Option<JsState>) -> bool {
-    let mut state = before;
-    let step = state.step(c);
-    step.is_ok() == after.is_some() && state == after.unwrap_or(before)
+/// What a test asks of the states of a script and of a style alike.
+trait Machine: Copy + PartialEq {
+    fn start() -> Self;
+
+    fn step(&mut self, c: char) -> Result<(), Bad>;
+
+    fn value(&mut self);
+
+    fn placing(&self) -> Placing;
 }
 
-fn style_row_holds(before: CssState, c: char, after: Option<CssState>) -> bool {
+impl Machine for JsState {
+    fn start() -> JsState {
+        JsState::start()
+    }
+
+    fn step(&mut self, c: char) -> Result<(), Bad> {
+        JsState::step(self, c)
+    }
+
+    fn value(&mut self) {
+        JsState::value(self)
+    }
+
+    fn placing(&self) -> Placing {
+        JsState::placing(self)
+    }
+}
+
+impl Machine for CssState {
+    fn start() -> CssState {
+        CssState::start()
+    }
+
+    fn step(&mut self, c: char) -> Result<(), Bad> {
+        CssState::step(self, c)
+    }
+
+    fn value(&mut self) {
+        CssState::value(self)
+    }
+
+    fn placing(&self) -> Placing {
+        CssState::placing(self)
+    }
+}
+
+fn row_holds<M: Machine>(before: M, c: char, after: Option<M>) -> bool {
     let mut state = before;
     let step = state.step(c);
     step.is_ok() == after.is_some() && state == after.unwrap_or(before)
@@ -131,21 +175,18 @@ fn style_row_holds(before: CssState, c: char, after: Option<CssState>) -> bool {
 #[test]
 fn each_row_of_script_leads_on_or_refuses(rt: HostRuntime) {
     for (before, c, after) in SCRIPT_ROWS {
-        assert!(rt;
-            script_row_holds(*before, *c, *after),
-            "{before:?} at {c:?}"
-        );
+        assert!(rt; row_holds(*before, *c, *after), "{before:?} at {c:?}");
     }
 }
 
 #[test]
 fn each_row_of_style_leads_on_or_refuses(rt: HostRuntime) {
     for (before, c, after) in STYLE_ROWS {
-        assert!(rt; style_row_holds(*before, *c, *after), "{before:?} at {c:?}");
+        assert!(rt; row_holds(*before, *c, *after), "{before:?} at {c:?}");
     }
 }
 
-// A script, what happens to each value that it prints, and where it ends.
+/// A script, what happens to each value that it prints, and where it ends.
 const SCRIPTS: &[(&str, &[Placing], Result<JsState, Bad>)] = &[
     ("", &[], Ok(JsState::Code)),
     ("var user = §;", &[VALUE], Ok(JsState::Code)),
@@ -202,6 +243,7 @@ const SCRIPTS: &[(&str, &[Placing], Result<JsState, Bad>)] = &[
     ("var t = `§`;", &[], Err(Bad)),
 ];
 
+/// The same for a style.
 const STYLES: &[(&str, &[Placing], Result<CssState, Bad>)] = &[
     ("§", &[REFUSED], Ok(CssState::Code)),
     ("color:§", &[CSS], Ok(CssState::AfterValue)),
@@ -252,26 +294,11 @@ const STYLES: &[(&str, &[Placing], Result<CssState, Bad>)] = &[
     ("content: '\n§'", &[], Err(Bad)),
 ];
 
-fn script_goes(script: &str, placings: &[Placing], end: Result<JsState, Bad>) -> bool {
-    let mut state = JsState::start();
+/// Whether a text meets these placings at its printed values, and ends so.
+fn leads<M: Machine>(text: &str, placings: &[Placing], end: Result<M, Bad>) -> bool {
+    let mut state = M::start();
     let mut left = placings.iter();
-    for c in script.chars() {
-        if c == PRINT {
-            if left.next() != Some(&state.placing()) {
-                return false;
-            }
-            state.value();
-        } else if state.step(c).is_err() {
-            return left.next().is_none() && end == Err(Bad);
-        }
-    }
-    left.next().is_none() && end == Ok(state)
-}
-
-fn style_goes(style: &str, placings: &[Placing], end: Result<CssState, Bad>) -> bool {
-    let mut state = CssState::start();
-    let mut left = placings.iter();
-    for c in style.chars() {
+    for c in text.chars() {
         if c == PRINT {
             if left.next() != Some(&state.placing()) {
                 return false;
@@ -287,13 +314,13 @@ fn style_goes(style: &str, placings: &[Placing], end: Result<CssState, Bad>) -> 
 #[test]
 fn values_of_scripts_meet_their_places(rt: HostRuntime) {
     for (script, placings, end) in SCRIPTS {
-        assert!(rt; script_goes(script, placings, *end), "{script}");
+        assert!(rt; leads(script, placings, *end), "{script}");
     }
 }
 
 #[test]
 fn values_of_styles_meet_their_places(rt: HostRuntime) {
     for (style, placings, end) in STYLES {
-        assert!(rt; style_goes(style, placings, *end), "{style}");
+        assert!(rt; leads(style, placings, *end), "{style}");
     }
 }

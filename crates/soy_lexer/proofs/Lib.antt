@@ -1,15 +1,14 @@
 pub mod OnePieces
-pub mod Written
+pub mod SourceTexts
 pub mod SomePieces
 pub mod Running
-pub mod Kept
-pub mod TextEnds
+pub mod Represented
 pub mod TextPieces
-pub mod WordsKept
+pub mod ChunksAdded
 pub mod Reading
-pub mod WordsRead
+pub mod ChunksRead
 pub mod Ordered
-pub mod Texts
+pub mod Chunks
 pub mod CommandPieces
 pub mod StringReading
 mod LongestTokens

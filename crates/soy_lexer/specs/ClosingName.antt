@@ -2,8 +2,9 @@
 --
 -- "/if}" has the name "if", and "}" follows it.
 use Rattle.std.specs.Prelude.{ℕ, List, [], ◌∷◌, ◌==◌, if◌then◌else◌, Option, None}
-use Rattle.soy_lexer.specs.CommandPiece.{name_front}
+use Rattle.soy_base.specs.Characters.{slash}
+use Rattle.soy_lexer.specs.CommandPiece.{name_prefix}
 
 abbrev pub closing_name : List ℕ → Option (List ℕ × List ℕ)
 closing_name [] = None
-closing_name (c ∷ cs) = if c == 47 then name_front cs else None
+closing_name (c ∷ cs) = if c == slash then name_prefix cs else None

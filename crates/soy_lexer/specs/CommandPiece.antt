@@ -1,15 +1,18 @@
--- What the rest of a command begins with: white space, `}`, `/}`, or the longest token that begins there: a name, `$` and
--- a name, an int, a string, a value in double quotes, or a symbol.
+-- What the rest of a command begins with: white space, `}`, `/}`, or the longest token that begins there: a name, `$`
+-- and a name, an int, a string, a value in double quotes, or a symbol.
 --
 -- `?:x` begins with the symbol `?:`, `07` with the int `0`, and `#` with no token.
-use Rattle.std.specs.Prelude.{ℕ, ◌+◌, ◌-◌, ◌*◌, List, [], ◌∷◌, ◌++◌, ◌==◌, nat_le, if◌then◌else◌, Option, None, Some, option_map, unwrap_or, codes}
+use Rattle.std.specs.Prelude.{ℕ, ◌+◌, ◌-◌, ◌*◌, List, [], ◌∷◌, ◌++◌, ◌==◌, nat_le, if◌then◌else◌, Option, None, Some}
+use Rattle.std.specs.Prelude.{option_map, unwrap_or, codes}
 use Rattle.std.specs.Option.{option_or}
 use Rattle.std.specs.Char.{is_ascii_digit}
-use Rattle.soy_lexer.specs.Characters.{is_white, begins_name, continues_name, dollar, single_quote, double_quote}
-use Rattle.soy_lexer.specs.Cuts.{after_front, cut, front_while, after_while}
-use Rattle.soy_lexer.specs.Piece.{Found, begins}
-use Rattle.soy_lexer.specs.Piece.Piece.{Passed, Sign}
-use Rattle.soy_lexer.specs.Piece.Found.{Fails}
+use Rattle.soy_base.specs.WhiteSpace.{is_template_space}
+use Rattle.soy_base.specs.Names.{begins_name, continues_name}
+use Rattle.soy_base.specs.Characters.{dollar_sign, single_quote, double_quote, slash}
+use Rattle.soy_base.specs.Cuts.{after_prefix, cut, prefix_while, after_while}
+use Rattle.soy_lexer.specs.Found.{Found, begins}
+use Rattle.soy_lexer.specs.Piece.Piece.{Skipped, CommandToken}
+use Rattle.soy_lexer.specs.Found.Found.{Fails}
 use Rattle.soy_lexer.specs.Strings.{Quoted, quoted}
 use Rattle.soy_lexer.specs.declared.token.TokenKind.{TokenKind}
 use Rattle.soy_lexer.specs.declared.token.TokenKind.TheVariants as kind
@@ -17,24 +20,27 @@ use Rattle.soy_lexer.specs.declared.token.TokenKind.TheVariants as kind
 -- white space, a character at a time
 abbrev pub white_piece : List ℕ → Option Found
 white_piece [] = None
-white_piece (c ∷ cs) = if is_white c then Some (begins (Passed (c ∷ [])) cs) else None
+white_piece (c ∷ cs) = if is_template_space c then Some (begins (Skipped (c ∷ [])) cs) else None
 
--- the token that is written so, where the text begins with that
+-- the token whose source text is this, where the text begins with that
 abbrev pub fixed_piece : TokenKind → List ℕ → List ℕ → Option Found
-fixed_piece kind front text = option_map (λ rest. begins (Sign kind front front) rest) (after_front front text)
+fixed_piece kind prefix text =
+    option_map (λ rest. begins (CommandToken kind prefix prefix) rest) (after_prefix prefix text)
 
--- the name at the front of a text and what follows it
-abbrev pub name_front : List ℕ → Option (List ℕ × List ℕ)
-name_front [] = None
-name_front (c ∷ cs) = if begins_name c then Some (c ∷ front_while continues_name cs, after_while continues_name cs) else None
+-- the name at the start of a text and what follows it
+abbrev pub name_prefix : List ℕ → Option (List ℕ × List ℕ)
+name_prefix [] = None
+name_prefix (c ∷ cs) =
+    if begins_name c then Some (c ∷ prefix_while continues_name cs, after_while continues_name cs) else None
 
 -- a name, with these characters before it in a token of this kind
 abbrev pub name_piece : TokenKind → List ℕ → List ℕ → Option Found
-name_piece kind before text = option_map (λ name. begins (Sign kind (before ++ name.0) name.0) name.1) (name_front text)
+name_piece kind before text =
+    option_map (λ name. begins (CommandToken kind (before ++ name.0) name.0) name.1) (name_prefix text)
 
 abbrev pub variable_piece : List ℕ → Option Found
 variable_piece [] = None
-variable_piece (c ∷ cs) = if c == dollar then name_piece kind.Variable (dollar ∷ []) cs else None
+variable_piece (c ∷ cs) = if c == dollar_sign then name_piece kind.Variable (dollar_sign ∷ []) cs else None
 
 -- the number that decimal digits write after those of n
 abbrev pub number_after : ℕ → List ℕ → ℕ
@@ -46,18 +52,20 @@ largest_int = 9007199254740991
 
 -- an int is 0, or digits that begin with another one; where it is over the limit, no token begins
 abbrev pub digits_piece : List ℕ → List ℕ → Found
-digits_piece digits rest = if nat_le (number_after 0 digits) largest_int then begins (Sign kind.Int digits digits) rest else Fails 0
+digits_piece digits rest =
+    if nat_le (number_after 0 digits) largest_int then begins (CommandToken kind.Int digits digits) rest else Fails 0
 
 abbrev pub int_piece : List ℕ → Option Found
 int_piece [] = None
 int_piece (c ∷ cs) =
-    if c == 48 then Some (begins (Sign kind.Int (c ∷ []) (c ∷ [])) cs)
-    else if is_ascii_digit c then Some (digits_piece (c ∷ front_while is_ascii_digit cs) (after_while is_ascii_digit cs))
+    if c == 48 then Some (begins (CommandToken kind.Int (c ∷ []) (c ∷ [])) cs)
+    else if is_ascii_digit c then Some
+    (digits_piece (c ∷ prefix_while is_ascii_digit cs) (after_while is_ascii_digit cs))
     else None
 
 abbrev pub quoted_piece : Option Quoted → Found
 quoted_piece None = Fails 0
-quoted_piece (Some string) = begins (Sign kind.Str (single_quote ∷ string.written) string.value) string.rest
+quoted_piece (Some string) = begins (CommandToken kind.Str (single_quote ∷ string.source_text) string.value) string.rest
 
 abbrev pub string_piece : List ℕ → Option Found
 string_piece [] = None
@@ -65,7 +73,8 @@ string_piece (c ∷ cs) = if c == single_quote then Some (quoted_piece (quoted c
 
 abbrev pub value_piece : Option (List ℕ × List ℕ) → Found
 value_piece None = Fails 0
-value_piece (Some parts) = begins (Sign kind.Attribute (double_quote ∷ (parts.0 ++ double_quote ∷ [])) parts.0) parts.1
+value_piece (Some parts) =
+    begins (CommandToken kind.Attribute (double_quote ∷ (parts.0 ++ double_quote ∷ [])) parts.0) parts.1
 
 -- a value in double quotes goes up to the next one
 abbrev pub attribute_piece : List ℕ → Option Found
@@ -79,7 +88,8 @@ symbols_of_two =
 
 abbrev pub symbols_of_one : List (List ℕ)
 symbols_of_one =
-    codes "." ∷ codes "[" ∷ codes "]" ∷ codes "(" ∷ codes ")" ∷ codes "," ∷ codes ":" ∷ codes "?" ∷ codes "=" ∷ codes "<" ∷
+    codes "." ∷ codes "[" ∷ codes "]" ∷ codes "(" ∷ codes ")" ∷ codes "," ∷ codes ":" ∷ codes "?" ∷ codes "="
+    ∷ codes "<" ∷
     codes ">" ∷ codes "+" ∷ codes "-" ∷ codes "*" ∷ codes "%" ∷ codes "|" ∷ codes "@" ∷ []
 
 -- the one of the symbols, of which each is as long as the others, with which the text begins
@@ -108,7 +118,7 @@ command_piece text =
 -- directly after the `{` of a command a `/` with a name is one token, which closes
 abbrev pub close_piece : List ℕ → Option Found
 close_piece [] = None
-close_piece (c ∷ cs) = if c == 47 then name_piece kind.BeginClose (c ∷ []) cs else None
+close_piece (c ∷ cs) = if c == slash then name_piece kind.BeginClose (c ∷ []) cs else None
 
 abbrev pub opened_piece : List ℕ → Found
 opened_piece text = unwrap_or (close_piece text) (command_piece text)

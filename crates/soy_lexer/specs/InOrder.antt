@@ -5,7 +5,8 @@
 use Rattle.std.specs.Prelude.{ℕ, ◌≤◌, ◌<◌, List, [], ◌∷◌}
 use Rattle.soy_lexer.specs.declared.token.Token.{Token}
 
--- from this place up to that one
+-- from this offset up to that one
 abbrev pub InOrder : ℕ → ℕ → List Token → Type 0
 InOrder from to [] = from ≤ to
-InOrder from to (token ∷ tokens) = (from ≤ token.span.start) × (token.span.start < token.span.end) × InOrder token.span.end to tokens
+InOrder from to (token ∷ tokens) =
+    (from ≤ token.span.start) × (token.span.start < token.span.end) × InOrder token.span.end to tokens

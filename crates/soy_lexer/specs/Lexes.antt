@@ -1,5 +1,5 @@
 -- What `lex` answers for the text of a file, given as its bytes: its tokens; or that it is over the limit; or the first
--- place where no token begins; or want of memory, of which nothing is said.
+-- offset where no token begins; or that memory ran out, of which nothing is said.
 use Rattle.std.specs.Prelude.{◌≡◌, ℕ, ◌≤◌, ◌<◌, List, length, ◌⊎◌, Result, Ok, Err}
 use Rattle.std.specs.Str.{chars}
 use Rattle.std.specs.declared.alloc.Global.{Global}
@@ -21,14 +21,14 @@ pub record TooLarge (file : ℕ) (text : List ℕ) (fault : Fault) : Type 0 wher
 
 pub record NoToken (file : ℕ) (text : List ℕ) (fault : Fault) : Type 0 where
   pub within : length text ≤ largest_file
-  pub place : ℕ
-  pub first : FirstFault (chars text) place
-  pub fault_is : fault ≡ record { code = code.Lex; file = file; at = place }
+  pub offset : ℕ
+  pub first : FirstFault (chars text) offset
+  pub fault_is : fault ≡ record { code = code.Lex; file = file; at = offset }
 
-abbrev pub Refused : ℕ → List ℕ → Refusal Fault → Type 0
-Refused file text (Because fault) = TooLarge file text fault ⊎ NoToken file text fault
-Refused file text OutOfMemory = Unit {0}
+abbrev pub RefusesFile : ℕ → List ℕ → Refusal Fault → Type 0
+RefusesFile file text (Because fault) = TooLarge file text fault ⊎ NoToken file text fault
+RefusesFile file text OutOfMemory = Unit {0}
 
 abbrev pub Lexes : ℕ → List ℕ → Result (Vec Token Global) (Refusal Fault) → Type 0
 Lexes file text (Ok tokens) = (length text ≤ largest_file) × Tokens (chars text) tokens.items
-Lexes file text (Err refusal) = Refused file text refusal
+Lexes file text (Err refusal) = RefusesFile file text refusal

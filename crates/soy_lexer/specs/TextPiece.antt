@@ -1,35 +1,39 @@
--- What text outside of commands begins with: a comment, a literal, the `{` of a command, or one character that a text run
--- keeps.
+-- What text outside of commands begins with: a comment, a literal, the `{` of a command, or one character of a text
+-- run.
 --
 -- A `//` begins a comment where white space or the file's start stands directly before it, so `http://` begins none. No
 -- token begins at a comment or literal without its end, at a `{` that white space or another `{` follows, or at a `}`.
-use Rattle.std.specs.Prelude.{ℕ, List, [], ◌∷◌, ◌++◌, Bool, true, false, ◌==◌, ◌||◌, not, if◌then◌else◌, Option, None, Some, option_map, unwrap_or, codes}
+use Rattle.std.specs.Prelude.{ℕ, List, [], ◌∷◌, ◌++◌, Bool, true, false, ◌==◌, ◌||◌, not, if◌then◌else◌, Option, None}
+use Rattle.std.specs.Prelude.{Some, option_map, unwrap_or, codes}
 use Rattle.std.specs.Option.{option_or}
-use Rattle.soy_lexer.specs.Characters.{is_white, is_line_end, opening_brace, closing_brace}
-use Rattle.soy_lexer.specs.Cuts.{after_front, cut, front_while, after_while}
+use Rattle.soy_base.specs.WhiteSpace.{is_template_space, is_line_break}
+use Rattle.soy_base.specs.Characters.{left_brace, right_brace}
+use Rattle.soy_base.specs.Cuts.{after_prefix, cut, prefix_while, after_while}
 use Rattle.soy_lexer.specs.CommandPiece.{command_piece, opened_piece}
-use Rattle.soy_lexer.specs.Piece.{Found, Side, begins}
-use Rattle.soy_lexer.specs.Piece.Piece.{Kept, Passed, Literal, Sign}
-use Rattle.soy_lexer.specs.Piece.Found.{Fails}
-use Rattle.soy_lexer.specs.Piece.Side.{Outside, Opened, Inside}
+use Rattle.soy_lexer.specs.Found.{Found, begins}
+use Rattle.soy_lexer.specs.declared.mode.Mode.{Mode}
+use Rattle.soy_lexer.specs.Piece.Piece.{TextCharacter, Skipped, Literal, CommandToken}
+use Rattle.soy_lexer.specs.Found.Found.{Fails}
+use Rattle.soy_lexer.specs.declared.mode.Mode.TheVariants.{Outside, Opened, Inside}
 use Rattle.soy_lexer.specs.declared.token.TokenKind.TheVariants as kind
 
 abbrev pub closed_comment : Option (List ℕ × List ℕ) → Found
 closed_comment None = Fails 0
-closed_comment (Some parts) = begins (Passed (codes "/*" ++ (parts.0 ++ codes "*/"))) parts.1
+closed_comment (Some parts) = begins (Skipped (codes "/*" ++ (parts.0 ++ codes "*/"))) parts.1
 
 -- `/* .. */`
 abbrev pub block_comment : List ℕ → Option Found
-block_comment text = option_map (λ inner. closed_comment (cut (codes "*/") inner)) (after_front (codes "/*") text)
+block_comment text = option_map (λ inner. closed_comment (cut (codes "*/") inner)) (after_prefix (codes "/*") text)
 
 abbrev pub continues_line : ℕ → Bool
-continues_line c = not (is_line_end c)
+continues_line c = not (is_line_break c)
 
--- `//` up to the line's end
+-- `//` up to the next line break
 abbrev pub line_comment : Bool → List ℕ → Option Found
 line_comment false text = None
 line_comment true text =
-    option_map (λ inner. begins (Passed (codes "//" ++ front_while continues_line inner)) (after_while continues_line inner)) (after_front (codes "//") text)
+    option_map (λ inner. begins (Skipped (codes "//" ++ prefix_while continues_line inner))
+    (after_while continues_line inner)) (after_prefix (codes "//") text)
 
 abbrev pub closed_literal : Option (List ℕ × List ℕ) → Found
 closed_literal None = Fails 0
@@ -37,27 +41,29 @@ closed_literal (Some parts) = begins (Literal parts.0) parts.1
 
 -- `{literal}` up to the next `{/literal}`
 abbrev pub literal_piece : List ℕ → Option Found
-literal_piece text = option_map (λ inner. closed_literal (cut (codes "{/literal}") inner)) (after_front (codes "{literal}") text)
+literal_piece text =
+    option_map (λ inner. closed_literal (cut (codes "{/literal}") inner)) (after_prefix (codes "{literal}") text)
 
 -- whether a `{` before this text begins a command
 abbrev pub may_begin : List ℕ → Bool
 may_begin [] = true
-may_begin (c ∷ cs) = not (is_white c || c == opening_brace)
+may_begin (c ∷ cs) = not (is_template_space c || c == left_brace)
 
 -- a `{`, or one character of a run
 abbrev pub plain_piece : List ℕ → Found
 plain_piece [] = Fails 0
 plain_piece (c ∷ cs) =
-    if c == opening_brace then (if may_begin cs then begins (Sign kind.Begin (c ∷ []) (c ∷ [])) cs else Fails 0)
-    else if c == closing_brace then Fails 0
-    else begins (Kept c) cs
+    if c == left_brace then (if may_begin cs then begins (CommandToken kind.Begin (c ∷ []) (c ∷ [])) cs else Fails 0)
+    else if c == right_brace then Fails 0
+    else begins (TextCharacter c) cs
 
 abbrev pub text_piece : Bool → List ℕ → Found
 text_piece white text =
-    unwrap_or (option_or (block_comment text) (option_or (line_comment white text) (literal_piece text))) (plain_piece text)
+    unwrap_or (option_or (block_comment text) (option_or (line_comment white text) (literal_piece text)))
+    (plain_piece text)
 
--- what a text begins with on this side
-abbrev pub piece_of : Side → List ℕ → Found
+-- what a text begins with in this mode
+abbrev pub piece_of : Mode → List ℕ → Found
 piece_of (Outside white) text = text_piece white text
 piece_of Opened text = opened_piece text
 piece_of Inside text = command_piece text

@@ -1,23 +1,25 @@
+//! A piece in which no U+0000 stands.
+
 ghost use Rattle.std.specs.Prelude.{◌≡◌};
 ghost use Rattle.std.specs.Str.{chars};
-ghost use Rattle.soy_lexer.specs.Piece.{begins, written};
-ghost use Rattle.soy_lexer.specs.Steps.{Steps, seen_part};
+ghost use Rattle.soy_lexer.specs.Found.{begins};
+ghost use Rattle.soy_lexer.specs.Piece.{source_text};
+ghost use Rattle.soy_lexer.specs.ReadsPiece.{ReadsPiece, view_piece};
 
-use crate::step::{Part, Step};
-use crate::text::{cut, width};
-use soy_base::Refusal;
+use crate::source_piece::{FirstPiece, SourcePiece};
+use soy_base::{Refusal, byte_len, cut};
 
 /// A piece that stands in these characters, unless a U+0000 is one of them.
 pub(crate) fn begins<'a>(
-    part: Part<'a>,
+    piece: SourcePiece<'a>,
     text: &str,
     rest: &'a str,
-) -> Result<Step<'a>, Refusal<usize>>
-    requires { chars text.now ≡ written (seen_part part) }
-    ensures { Steps (begins (seen_part part.entry) (chars rest.now)) result }
+) -> Result<FirstPiece<'a>, Refusal<usize>>
+    requires { chars text.now ≡ source_text (view_piece piece) }
+    ensures { ReadsPiece (begins (view_piece piece.entry) (chars rest.now)) result }
 {
     match cut(text, "\0") {
-        Some((front, _)) => Err(Refusal::Because(width(front))),
-        None => Ok(Step { part, rest }),
+        Some((prefix, _)) => Err(Refusal::Because(byte_len(prefix))),
+        None => Ok(FirstPiece { piece, rest }),
     }
 }

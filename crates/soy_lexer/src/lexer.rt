@@ -1,47 +1,53 @@
+//! The lexer: the pieces of a text one after the other, and the tokens that they make.
+
 ghost use Rattle.std.specs.Prelude.{◌≡◌, ℕ, ◌+◌, ◌<◌, ◌≤◌, ◌^◌, List, [], ◌∷◌, ◌++◌, OnOk, IfOk, IsTrue, length};
 ghost use Rattle.std.specs.List.{list_all};
 ghost use Rattle.std.specs.Str.{chars};
-ghost use Rattle.soy_lexer.specs.Characters.{width};
+ghost use Rattle.soy_base.specs.ByteLength.{byte_len};
 ghost use Rattle.soy_lexer.specs.InOrder.{InOrder};
-ghost use Rattle.soy_lexer.specs.Lexed.{Lexed, HasRead, Takes};
+ghost use Rattle.soy_lexer.specs.Lexed.{Lexed, HasRead, TakesPiece, TakesToken, EndsRun};
 ghost use Rattle.soy_lexer.specs.Lexes.{Lexes, largest_file};
-ghost use Rattle.soy_lexer.specs.Lines.{Placed};
-ghost use Rattle.soy_lexer.specs.Piece.{after, written};
-ghost use Rattle.soy_lexer.specs.SeenSide.{seen_side};
-ghost use Rattle.soy_lexer.specs.Steps.{Steps, seen_part};
+ghost use Rattle.soy_lexer.specs.Lines.{RunCharacter};
+ghost use Rattle.soy_lexer.specs.ModeAfter.{mode_after};
+ghost use Rattle.soy_lexer.specs.Piece.{source_text};
+ghost use Rattle.soy_lexer.specs.ReadsPiece.{ReadsPiece, view_piece};
 ghost use Rattle.soy_lexer.specs.TextPiece.{piece_of};
 ghost use Rattle.soy_lexer.specs.Tokens.{literal_start, run_token};
-ghost use Rattle.soy_lexer.specs.Words.{TakesAll, is_word_character, placed};
+ghost use Rattle.soy_lexer.specs.Chunks.{TakesCharacters, is_chunk_character, run_characters};
 ghost use Rattle.soy_lexer.specs.declared.token.Token.{Token};
 
 use crate::command::{command_piece, opened_piece};
+use crate::mode::Mode;
 use crate::run::Run;
-use crate::standing::Standing;
-use crate::step::{Part, Step};
-use crate::text::{is_empty, text_of, width};
+use crate::source_piece::{FirstPiece, SourcePiece};
+use crate::text::text_of;
 use crate::text_piece::text_piece;
 use crate::token::{Token, TokenKind};
-use soy_base::{Code, Fault, OutOfMemory, Refusal, Span, Text};
+use soy_base::{Code, Fault, OutOfMemory, Refusal, Span, Text, byte_len, is_empty};
 use std::alloc::Global;
 use std::mem::replace;
 
-/// The piece with which the text that stands there begins.
-fn piece<'a>(alloc: Global, standing: Standing, text: &'a str) -> Result<Step<'a>, Refusal<usize>>
-    ensures { Steps (piece_of (seen_side standing) (chars text.now)) result }
+/// The piece with which a text in this mode begins.
+fn piece<'a>(alloc: Global, mode: Mode, text: &'a str) -> Result<FirstPiece<'a>, Refusal<usize>>
+    ensures { ReadsPiece (piece_of mode (chars text.now)) result }
 {
-    match standing {
-        Standing::Outside(white) => text_piece(alloc, white, text),
-        Standing::Opened => opened_piece(alloc, text),
-        Standing::Inside => command_piece(alloc, text),
+    match mode {
+        Mode::Outside(white) => text_piece(alloc, white, text),
+        Mode::Opened => opened_piece(alloc, text),
+        Mode::Inside => command_piece(alloc, text),
     }
 }
 
-/// Where the token of a literal begins whose `{` stands at this place.
-fn literal_start(place: u64, literal: &str) -> u64
-    requires { place + 9 < 2 ^ 64 }
-    ensures { result ≡ literal_start place (chars literal.now) }
+/// The offset where the token of a literal begins whose `{` stands at this offset.
+fn literal_start(offset: u64, literal: &str) -> u64
+    requires { offset + 9 < 2 ^ 64 }
+    ensures { result ≡ literal_start offset (chars literal.now) }
 {
-    if is_empty(literal) { place } else { place + 9 }
+    if is_empty(literal) {
+        offset
+    } else {
+        offset + 9
+    }
 }
 
 /// The tokens so far, and the run that goes on.
@@ -53,6 +59,7 @@ struct Lexer {
 }
 
 impl Lexer {
+    /// A lexer without tokens. Takes no memory.
     fn new(alloc: Global) -> Lexer
         ensures { HasRead result [] [] }
     {
@@ -63,44 +70,49 @@ impl Lexer {
         }
     }
 
-    /// Takes a piece that stands between two places.
-    fn take(&mut self, part: Part, place: u64, end: u64) -> Result<(), OutOfMemory>
-        requires place { place + 9 < 2 ^ 64 }
-        requires end { end ≡ place + width (written (seen_part part)) }
-        ensures { OnOk result (Takes self.old self.new place (seen_part part.entry)) }
+    /// Takes a piece that stands between two offsets.
+    fn take(&mut self, piece: SourcePiece, offset: u64, end: u64) -> Result<(), OutOfMemory>
+        requires offset { offset + 9 < 2 ^ 64 }
+        requires end { end ≡ offset + byte_len (source_text (view_piece piece)) }
+        ensures { OnOk result (TakesPiece self.old self.new offset (view_piece piece.entry)) }
     {
-        match part {
-            Part::Kept(c) => self.run.add(c, place),
-            Part::Passed(_) => Ok(()),
-            Part::Literal(literal) => {
-                let start = literal_start(place, literal);
+        match piece {
+            SourcePiece::TextCharacter(c) => self.run.add(c, offset),
+            SourcePiece::Skipped(_) => Ok(()),
+            SourcePiece::Literal(literal) => {
+                let start = literal_start(offset, literal);
                 let text = text_of(self.alloc, literal)?;
                 self.push(TokenKind::Text, Span { start, end }, text)
             }
-            Part::Sign(kind, _, text) => self.push(kind, Span { start: place, end }, text),
+            SourcePiece::CommandToken(kind, _, text) => self.push(
+                kind,
+                Span { start: offset, end },
+                text,
+            ),
         }
     }
 
-    /// Takes a word that stands at a place.
-    fn take_word(&mut self, word: &str, place: u64) -> Result<(), OutOfMemory>
-        requires word { IsTrue (list_all is_word_character (chars word.now)) }
-        requires place { place + width (chars word.now) + 4 < 2 ^ 64 }
-        ensures { OnOk result (TakesAll self.old self.new (placed place (chars word.now))) }
+    /// Takes a chunk that stands at an offset.
+    fn take_chunk(&mut self, chunk: &str, offset: u64) -> Result<(), OutOfMemory>
+        requires chunk { IsTrue (list_all is_chunk_character (chars chunk.now)) }
+        requires offset { offset + byte_len (chars chunk.now) + 4 < 2 ^ 64 }
+        ensures { OnOk result (TakesCharacters self.old self.new (run_characters offset (chars chunk.now))) }
     {
-        self.run.add_word(word, place)
+        self.run.add_chunk(chunk, offset)
     }
 
     /// Ends the run, and adds a token after it.
     fn push(&mut self, kind: TokenKind, span: Span, text: Text) -> Result<(), OutOfMemory>
-        ensures { OnOk result ((tokens : List Token) (run : List Placed) → HasRead self.old tokens run → HasRead self.new (tokens ++ (run_token run ++ record { kind = kind; span = span; text = text } ∷ [])) []) }
+        ensures { OnOk result (TakesToken self.old self.new (record { kind = kind; span = span; text = text })) }
     {
         self.end_run()?;
         self.tokens.push(Token { kind, span, text })?;
         Ok(())
     }
 
+    /// Ends the run, and adds its token if anything is left of it.
     fn end_run(&mut self) -> Result<(), OutOfMemory>
-        ensures { OnOk result ((tokens : List Token) (run : List Placed) → HasRead self.old tokens run → HasRead self.new (tokens ++ run_token run) []) }
+        ensures { OnOk result (EndsRun self.old self.new) }
     {
         let run = replace(&mut self.run, Run::new(self.alloc));
         if let Some(token) = run.token()? {
@@ -109,8 +121,10 @@ impl Lexer {
         Ok(())
     }
 
+    /// Ends the run, and gives all tokens.
     fn finish(mut self) -> Result<Vec<Token>, OutOfMemory>
-        ensures { (tokens : List Token) (run : List Placed) → HasRead self tokens run → IfOk result (λ all. all.items ≡ tokens ++ run_token run) }
+        ensures { (tokens : List Token) (run : List RunCharacter) → HasRead self tokens run →
+            IfOk result (λ all. all.items ≡ tokens ++ run_token run) }
     {
         self.end_run()?;
         let Lexer { tokens, .. } = self;
@@ -118,33 +132,33 @@ impl Lexer {
     }
 }
 
-/// The tokens of a text that is within the limit, or the first place where no token begins.
+/// The tokens of a text that is within the limit, or the first offset where no token begins.
 fn lexed(alloc: Global, text: &str) -> Result<Vec<Token>, Refusal<u64>>
-    requires { width (chars text.now) ≤ largest_file }
+    requires { byte_len (chars text.now) ≤ largest_file }
     ensures { Lexed (chars text.now) result }
 {
-    let length = width(text);
+    let length = byte_len(text);
     let mut lexer = Lexer::new(alloc);
-    let mut standing = Standing::Outside(true);
-    let mut place = 0;
+    let mut mode = Mode::Outside(true);
+    let mut offset = 0;
     let mut rest = text;
     while !is_empty(rest) {
-        let step = match piece(alloc, standing, rest) {
-            Ok(step) => step,
+        let read = match piece(alloc, mode, rest) {
+            Ok(read) => read,
             Err(Refusal::Because(further)) => {
-                return Err(Refusal::Because((place + further) as u64));
+                return Err(Refusal::Because((offset + further) as u64));
             }
             Err(Refusal::OutOfMemory) => return Err(Refusal::OutOfMemory),
         };
-        standing = standing.after(&step.part);
-        rest = step.rest;
-        let end = length - width(rest);
-        lexer.take(step.part, place as u64, end as u64)?;
-        let (word, others) = standing.word(rest);
-        lexer.take_word(word, end as u64)?;
-        standing = standing.after_word(word);
+        mode = mode.after(&read.piece);
+        rest = read.rest;
+        let end = length - byte_len(rest);
+        lexer.take(read.piece, offset as u64, end as u64)?;
+        let (chunk, others) = mode.chunk(rest);
+        lexer.take_chunk(chunk, end as u64)?;
+        mode = mode.after_chunk(chunk);
         rest = others;
-        place = length - width(rest);
+        offset = length - byte_len(rest);
     }
     Ok(lexer.finish()?)
 }
@@ -153,7 +167,7 @@ fn lexed(alloc: Global, text: &str) -> Result<Vec<Token>, Refusal<u64>>
 const LARGEST_FILE: usize = 1048576;
 
 /// The tokens of the text of a file, in its order; or why it has none: it is over 1,048,576 bytes,
-/// or no token begins at a place, which is the first such place in bytes.
+/// or no token begins at an offset, which is the first such offset in bytes.
 pub fn lex(alloc: Global, text: &str, file: u32) -> Result<Vec<Token>, Refusal<Fault>>
     ensures lexes { Lexes file text.now result }
     ensures in_order { IfOk result (λ tokens. InOrder 0 (length text.now) tokens.items) }

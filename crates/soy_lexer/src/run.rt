@@ -1,52 +1,59 @@
-ghost use Rattle.std.specs.Prelude.{◌≡◌, ℕ, ◌<◌, ◌+◌, ◌^◌, List, [], ◌∷◌, ◌++◌, OnOk, IfOk, IsTrue, false, option_to_list, if◌then◌else◌};
+//! A text run as it is read, with its lines joined.
+
+ghost use Rattle.std.specs.Prelude.{◌≡◌, ℕ, ◌<◌, ◌+◌, ◌^◌, List, [], ◌∷◌, ◌++◌, OnOk, IfOk, IsTrue};
+ghost use Rattle.std.specs.Prelude.{false, option_to_list, if◌then◌else◌};
 ghost use Rattle.std.specs.Str.{chars};
 ghost use Rattle.std.specs.String.{string_bytes};
 ghost use Rattle.std.specs.List.{list_all};
-ghost use Rattle.soy_lexer.specs.Characters.{is_line_end, is_white, space, width};
-ghost use Rattle.soy_lexer.specs.Holds.{Adds, Holds, needs_space, start_of};
-ghost use Rattle.soy_lexer.specs.Lines.{Placed, is_angle};
+ghost use Rattle.soy_base.specs.Appends.{Appends};
+ghost use Rattle.soy_base.specs.WhiteSpace.{is_line_break, is_template_space};
+ghost use Rattle.soy_base.specs.Characters.{space};
+ghost use Rattle.soy_base.specs.ByteLength.{byte_len};
+ghost use Rattle.soy_lexer.specs.IsRunOf.{AddsCharacter, IsRunOf, needs_space, start_with};
+ghost use Rattle.soy_lexer.specs.Lines.{RunCharacter, is_angle};
 ghost use Rattle.soy_lexer.specs.Tokens.{run_token};
-ghost use Rattle.soy_lexer.specs.Words.{AddsAll, IsWithinWord, is_word_character, placed};
+ghost use Rattle.soy_lexer.specs.Chunks.{AddsCharacters, IsWithinChunk, is_chunk_character, run_characters};
 
-use crate::text::{first, is_empty, push, push_text, width};
 use crate::token::{Token, TokenKind};
-use soy_base::{OutOfMemory, Span, Text};
+use soy_base::{OutOfMemory, Span, Text, byte_len, first, is_empty, push_char, push_text};
 use std::alloc::Global;
 
 /// A text run as it is read, its lines joined up to the last character that isn't white space.
 #[derive(Debug, Drop)]
 pub(crate) struct Run {
     text: String,
-    /// The white space after the text, which goes where a line end follows it.
+    /// The white space after the text, which goes where a line break follows it.
     white: String,
-    /// Whether the present line follows a line end and has no character yet.
+    /// Whether the present line follows a line break and has no character yet.
     fresh: bool,
     /// Whether the text ends with `<` or `>`.
     angle: bool,
-    /// Where the first character stands.
+    /// The offset of the first character.
     start: u64,
-    /// Where the text ends.
+    /// The offset where the text ends.
     text_end: u64,
-    /// Where the white space after it ends.
+    /// The offset where the white space after it ends.
     end: u64,
 }
 
+/// Whether a character is `<` or `>`.
 fn is_angle(c: char) -> bool
     ensures { result ≡ is_angle c }
 {
     c == '<' || c == '>'
 }
 
-fn push_space_if(wanted: bool, text: &mut String) -> Result<(), OutOfMemory>
-    ensures { OnOk result (chars (string_bytes text.new) ≡ chars (string_bytes text.old) ++ (if wanted then space ∷ [] else [])) }
+/// Adds a space if one is needed.
+fn push_space_if(text: &mut String, needed: bool) -> Result<(), OutOfMemory>
+    ensures { OnOk result (Appends text.old text.new (if needed then space ∷ [] else [])) }
 {
-    if wanted { push(text, ' ') } else { Ok(()) }
+    if needed { push_char(text, ' ') } else { Ok(()) }
 }
 
 impl Run {
     /// A run without characters. Takes no memory.
     pub(crate) fn new(alloc: Global) -> Run
-        ensures { Holds result [] }
+        ensures { IsRunOf result [] }
     {
         Run {
             text: String::new(alloc),
@@ -59,35 +66,38 @@ impl Run {
         }
     }
 
-    /// Adds the run's next character, which stands at this place.
-    pub(crate) fn add(&mut self, c: char, place: u64) -> Result<(), OutOfMemory>
-        requires { place + 4 < 2 ^ 64 }
-        ensures { OnOk result (Adds self.old self.new (record { place = place; character = c })) }
+    /// Adds the run's next character, which stands at this offset.
+    pub(crate) fn add(&mut self, c: char, offset: u64) -> Result<(), OutOfMemory>
+        requires { offset + 4 < 2 ^ 64 }
+        ensures { OnOk result (AddsCharacter self.old self.new (record { offset = offset; character = c })) }
     {
         match c {
             '\n' | '\r' => {
-                self.end_line();
+                self.break_line();
                 Ok(())
             }
-            ' ' | '\t' => self.add_white(c, place),
-            _ => self.add_other(c, place),
+            ' ' | '\t' => self.add_white(c, offset),
+            _ => self.add_other(c, offset),
         }
     }
 
-    fn end_line(&mut self)
-        ensures { (c : Placed) → IsTrue (is_line_end c.character) → Adds self.old self.new c }
+    /// Ends the present line at a line break.
+    fn break_line(&mut self)
+        ensures { (c : RunCharacter) → IsTrue (is_line_break c.character) → AddsCharacter self.old self.new c }
     {
         self.white.clear();
         self.fresh = true;
         self.end = self.text_end;
     }
 
-    /// Where the run starts with one more character, which stands at this place.
-    fn start_with(&self, place: u64) -> u64
-        ensures { result ≡ start_of (chars (string_bytes self.now.text)) (chars (string_bytes self.now.white)) self.now.start place }
+    /// The offset where the run starts with one more character, which stands at this offset.
+    fn start_with(&self, offset: u64) -> u64
+        ensures { result
+            ≡ start_with (chars (string_bytes self.now.text)) (chars (string_bytes self.now.white))
+            self.now.start offset }
     {
         if is_empty(self.text.as_str()) && is_empty(self.white.as_str()) {
-            place
+            offset
         } else {
             self.start
         }
@@ -100,65 +110,67 @@ impl Run {
         self.fresh && !is_empty(self.text.as_str()) && !(self.angle || angle)
     }
 
-    fn add_white(&mut self, c: char, place: u64) -> Result<(), OutOfMemory>
-        requires white { IsTrue (is_white c) }
-        requires goes_on { is_line_end c ≡ false }
-        requires place { place + 4 < 2 ^ 64 }
-        ensures { OnOk result (Adds self.old self.new (record { place = place; character = c })) }
+    /// Adds white space that breaks no line.
+    fn add_white(&mut self, c: char, offset: u64) -> Result<(), OutOfMemory>
+        requires white { IsTrue (is_template_space c) }
+        requires goes_on { is_line_break c ≡ false }
+        requires offset { offset + 4 < 2 ^ 64 }
+        ensures { OnOk result (AddsCharacter self.old self.new (record { offset = offset; character = c })) }
     {
         if self.fresh {
             return Ok(());
         }
-        self.start = self.start_with(place);
-        push(&mut self.white, c)?;
-        self.end = place + c.len_utf8() as u64;
+        self.start = self.start_with(offset);
+        push_char(&mut self.white, c)?;
+        self.end = offset + c.len_utf8() as u64;
         Ok(())
     }
 
-    fn add_other(&mut self, c: char, place: u64) -> Result<(), OutOfMemory>
-        requires other { is_white c ≡ false }
-        requires place { place + 4 < 2 ^ 64 }
-        ensures adds { OnOk result (Adds self.old self.new (record { place = place; character = c })) }
-        ensures within { OnOk result (IsWithinWord self.new) }
+    /// Adds a character that is no white space.
+    fn add_other(&mut self, c: char, offset: u64) -> Result<(), OutOfMemory>
+        requires other { is_template_space c ≡ false }
+        requires offset { offset + 4 < 2 ^ 64 }
+        ensures adds { OnOk result (AddsCharacter self.old self.new (record { offset = offset; character = c })) }
+        ensures within { OnOk result (IsWithinChunk self.new) }
     {
         let angle = is_angle(c);
         let needs_space = self.needs_space(angle);
-        self.start = self.start_with(place);
-        push_space_if(needs_space, &mut self.text)?;
+        self.start = self.start_with(offset);
+        push_space_if(&mut self.text, needs_space)?;
         push_text(&mut self.text, self.white.as_str())?;
-        push(&mut self.text, c)?;
+        push_char(&mut self.text, c)?;
         self.white.clear();
         self.fresh = false;
         self.angle = angle;
-        self.text_end = place + c.len_utf8() as u64;
+        self.text_end = offset + c.len_utf8() as u64;
         self.end = self.text_end;
         Ok(())
     }
 
-    /// Adds characters that stand one after the other from this place on, none of them white space.
-    pub(crate) fn add_word(&mut self, word: &str, place: u64) -> Result<(), OutOfMemory>
-        requires word { IsTrue (list_all is_word_character (chars word.now)) }
-        requires place { place + width (chars word.now) + 4 < 2 ^ 64 }
-        ensures { OnOk result (AddsAll self.old self.new (placed place (chars word.now))) }
+    /// Adds characters that stand one after the other from this offset on, none of them white space.
+    pub(crate) fn add_chunk(&mut self, chunk: &str, offset: u64) -> Result<(), OutOfMemory>
+        requires chunk { IsTrue (list_all is_chunk_character (chars chunk.now)) }
+        requires offset { offset + byte_len (chars chunk.now) + 4 < 2 ^ 64 }
+        ensures { OnOk result (AddsCharacters self.old self.new (run_characters offset (chars chunk.now))) }
     {
-        if let Some((c, others)) = first(word) {
-            self.add_other(c, place)?;
-            self.go_on(others, place + c.len_utf8() as u64)?;
+        if let Some((c, others)) = first(chunk) {
+            self.add_other(c, offset)?;
+            self.go_on(others, offset + c.len_utf8() as u64)?;
         }
         Ok(())
     }
 
     /// Adds more of them to a line that ends with one.
-    fn go_on(&mut self, word: &str, place: u64) -> Result<(), OutOfMemory>
-        requires word { IsTrue (list_all is_word_character (chars word.now)) }
-        requires place { place + width (chars word.now) + 4 < 2 ^ 64 }
-        requires within { IsWithinWord self.old }
-        ensures { OnOk result (AddsAll self.old self.new (placed place (chars word.now))) }
+    fn go_on(&mut self, chunk: &str, offset: u64) -> Result<(), OutOfMemory>
+        requires chunk { IsTrue (list_all is_chunk_character (chars chunk.now)) }
+        requires offset { offset + byte_len (chars chunk.now) + 4 < 2 ^ 64 }
+        requires within { IsWithinChunk self.old }
+        ensures { OnOk result (AddsCharacters self.old self.new (run_characters offset (chars chunk.now))) }
     {
-        if !is_empty(word) {
-            push_text(&mut self.text, word)?;
+        if !is_empty(chunk) {
+            push_text(&mut self.text, chunk)?;
             self.angle = false;
-            self.text_end = place + width(word) as u64;
+            self.text_end = offset + byte_len(chunk) as u64;
             self.end = self.text_end;
         }
         Ok(())
@@ -166,7 +178,8 @@ impl Run {
 
     /// The token of the run, if anything is left of it.
     pub(crate) fn token(self) -> Result<Option<Token>, OutOfMemory>
-        ensures { (run : List Placed) → Holds self run → IfOk result (λ token. option_to_list token ≡ run_token run) }
+        ensures { (run : List RunCharacter) → IsRunOf self run →
+            IfOk result (λ token. option_to_list token ≡ run_token run) }
     {
         let Run {
             mut text,

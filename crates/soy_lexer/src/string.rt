@@ -1,23 +1,23 @@
-// Strings.
+//! Strings of commands: from a first quote to the last one, with the escapes undone.
+
 ghost use Rattle.std.specs.Prelude.{◌≡◌, ◌∷◌, IfOk, Some, None, if◌then◌else◌, option_map};
 ghost use Rattle.std.specs.Char.{digit_value, is_ascii_hexdigit};
 ghost use Rattle.std.specs.Str.{chars};
 ghost use Rattle.std.specs.String.{string_bytes};
-ghost use Rattle.soy_lexer.specs.Characters.{single_quote};
+ghost use Rattle.soy_base.specs.Characters.{single_quote};
 ghost use Rattle.soy_lexer.specs.CommandPiece.{quoted_piece};
-ghost use Rattle.soy_lexer.specs.Steps.{Steps};
-ghost use Rattle.soy_lexer.specs.StringSteps.{IsAhead, Reads, value_and_rest};
+ghost use Rattle.soy_lexer.specs.ReadsPiece.{ReadsPiece};
+ghost use Rattle.soy_lexer.specs.StringSteps.{IsNextItem, ReadsEscape, value_and_rest};
 ghost use Rattle.soy_lexer.specs.Strings.{escaped, numbered, quoted, quoted_escape, quoted_number};
 
 use crate::begins::begins;
-use crate::step::{Part, Step};
-use crate::text::{before, first, push};
+use crate::source_piece::{FirstPiece, SourcePiece};
 use crate::token::TokenKind;
-use soy_base::{OutOfMemory, Refusal, Text};
+use soy_base::{OutOfMemory, Refusal, Text, before, first, push_char};
 use std::alloc::Global;
 
-/// What stands next in a string.
-pub(crate) enum Ahead<'a> {
+/// The next item of a string.
+pub(crate) enum NextItem<'a> {
     /// A character that the string has, as itself or as an escape.
     Character(char, &'a str),
     /// Its last quote.
@@ -26,60 +26,63 @@ pub(crate) enum Ahead<'a> {
     Broken,
 }
 
-/// A string, whose first quote is passed in the second text.
+/// A string; the second text is the first without its first quote.
 pub(crate) fn string_piece<'a>(
     alloc: Global,
     text: &'a str,
     inner: &'a str,
-) -> Result<Step<'a>, Refusal<usize>>
+) -> Result<FirstPiece<'a>, Refusal<usize>>
     requires { chars text.now ≡ single_quote ∷ chars inner.now }
-    ensures { Steps (quoted_piece (quoted (chars inner.now))) result }
+    ensures { ReadsPiece (quoted_piece (quoted (chars inner.now))) result }
 {
     match characters(alloc, inner)? {
         Some((value, rest)) => {
-            let written = before(text, rest);
-            let part = Part::Sign(TokenKind::Str, written, Text::new(value));
-            begins(part, written, rest)
+            let source_text = before(text, rest);
+            let piece = SourcePiece::CommandToken(TokenKind::Str, source_text, Text::new(value));
+            begins(piece, source_text, rest)
         }
         None => Err(Refusal::Because(0)),
     }
 }
 
-// The characters of a string after its first quote, and what follows the string.
+/// The characters of a string after its first quote, and what follows the string.
 fn characters<'a>(alloc: Global, text: &'a str) -> Result<Option<(String, &'a str)>, OutOfMemory>
-    ensures { IfOk result (λ found. option_map (λ parts. (chars (string_bytes parts.0), chars parts.1.now)) found ≡ value_and_rest (quoted (chars text.now))) }
+    ensures { IfOk result (λ found.
+        option_map (λ parts. (chars (string_bytes parts.0), chars parts.1.now)) found
+        ≡ value_and_rest (quoted (chars text.now))) }
 {
     let mut value = String::new(alloc);
     let mut left = text;
     loop {
-        match ahead_of(left) {
-            Ahead::Character(c, rest) => {
-                push(&mut value, c)?;
+        match next_item(left) {
+            NextItem::Character(c, rest) => {
+                push_char(&mut value, c)?;
                 left = rest;
             }
-            Ahead::End(rest) => return Ok(Some((value, rest))),
-            Ahead::Broken => return Ok(None),
+            NextItem::End(rest) => return Ok(Some((value, rest))),
+            NextItem::Broken => return Ok(None),
         }
     }
 }
 
-fn ahead_of(text: &str) -> Ahead<'_>
-    ensures { IsAhead (chars text.now) result }
+/// The next item of a string from there on.
+fn next_item(text: &str) -> NextItem<'_>
+    ensures { IsNextItem (chars text.now) result }
 {
     match first(text) {
-        Some(('\'', rest)) => Ahead::End(rest),
+        Some(('\'', rest)) => NextItem::End(rest),
         Some(('\\', rest)) => match escape(rest) {
-            Some((c, rest)) => Ahead::Character(c, rest),
-            None => Ahead::Broken,
+            Some((c, rest)) => NextItem::Character(c, rest),
+            None => NextItem::Broken,
         },
-        Some((c, rest)) => Ahead::Character(c, rest),
-        None => Ahead::Broken,
+        Some((c, rest)) => NextItem::Character(c, rest),
+        None => NextItem::Broken,
     }
 }
 
-// The character that an escape stands for, from after its backslash on, and what follows it.
+/// The character that an escape stands for, from after its backslash on, and what follows it.
 fn escape(text: &str) -> Option<(char, &str)>
-    ensures { Reads (chars text.now) (quoted_escape (chars text.now)) result }
+    ensures { ReadsEscape (chars text.now) (quoted_escape (chars text.now)) result }
 {
     let (c, rest) = first(text)?;
     if c == 'u' {
@@ -89,6 +92,7 @@ fn escape(text: &str) -> Option<(char, &str)>
     }
 }
 
+/// The character for which one stands after a backslash.
 fn escaped(c: char) -> Option<char>
     ensures { result ≡ escaped c }
 {
@@ -103,9 +107,9 @@ fn escaped(c: char) -> Option<char>
     }
 }
 
-// The character that the four digits after `\u` write, and what follows them.
+/// The character that the four digits after `\u` write, and what follows them.
 fn number(text: &str) -> Option<(char, &str)>
-    ensures { Reads (chars text.now) (quoted_number (chars text.now)) result }
+    ensures { ReadsEscape (chars text.now) (quoted_number (chars text.now)) result }
 {
     let (a, rest) = first(text)?;
     let (b, rest) = first(rest)?;
@@ -114,6 +118,7 @@ fn number(text: &str) -> Option<(char, &str)>
     Some((numbered(a, b, c, d)?, rest))
 }
 
+/// The character that four hexadecimal digits write.
 fn numbered(a: char, b: char, c: char, d: char) -> Option<char>
     ensures { result ≡ numbered a b c d }
 {
@@ -122,6 +127,7 @@ fn numbered(a: char, b: char, c: char, d: char) -> Option<char>
     char::from_u32(((a * 16 + b) * 16 + c) * 16 + d)
 }
 
+/// The value of a hexadecimal digit.
 fn hexadecimal(c: char) -> Option<u32>
     ensures { result ≡ (if is_ascii_hexdigit c then Some (digit_value c) else None) }
 {

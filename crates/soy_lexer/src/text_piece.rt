@@ -1,17 +1,19 @@
-// The pieces of text outside of commands.
+//! The pieces of text outside of commands.
+
 ghost use Rattle.std.specs.Prelude.{◌≡◌, ◌∷◌, ◌++◌, true, codes, unwrap_or};
 ghost use Rattle.std.specs.Str.{chars};
-ghost use Rattle.soy_lexer.specs.Characters.{opening_brace};
-ghost use Rattle.soy_lexer.specs.Cuts.{cut};
-ghost use Rattle.soy_lexer.specs.Steps.{Steps};
-ghost use Rattle.soy_lexer.specs.StepsIf.{StepsIf};
-ghost use Rattle.soy_lexer.specs.TextPiece.{block_comment, closed_comment, closed_literal, line_comment, literal_piece, may_begin, plain_piece, text_piece};
+ghost use Rattle.soy_base.specs.Characters.{left_brace};
+ghost use Rattle.soy_base.specs.Cuts.{cut};
+ghost use Rattle.soy_lexer.specs.ReadsPiece.{ReadsPiece};
+ghost use Rattle.soy_lexer.specs.ReadsPieceIf.{ReadsPieceIf};
+ghost use Rattle.soy_lexer.specs.TextPiece.{block_comment, closed_comment, closed_literal, line_comment};
+ghost use Rattle.soy_lexer.specs.TextPiece.{literal_piece, may_begin, plain_piece, text_piece};
 
 use crate::begins::begins;
-use crate::step::{Part, Step};
-use crate::text::{after_front, before, cut, first, line, text_of};
+use crate::source_piece::{FirstPiece, SourcePiece};
+use crate::text::text_of;
 use crate::token::TokenKind;
-use soy_base::Refusal;
+use soy_base::{Refusal, after_prefix, before, cut, first, split_line};
 use std::alloc::Global;
 
 /// The piece with which text begins that white space or the file's start comes before, or not.
@@ -19,24 +21,28 @@ pub(crate) fn text_piece<'a>(
     alloc: Global,
     white: bool,
     text: &'a str,
-) -> Result<Step<'a>, Refusal<usize>>
-    ensures { Steps (text_piece white (chars text.now)) result }
+) -> Result<FirstPiece<'a>, Refusal<usize>>
+    ensures { ReadsPiece (text_piece white (chars text.now)) result }
 {
     match first(text) {
         Some(('/', rest)) => slash_piece(white, text, rest),
         Some(('{', rest)) => brace_piece(alloc, text, rest),
         Some(('}' | '\0', _)) | None => Err(Refusal::Because(0)),
-        Some((c, rest)) => Ok(Step {
-            part: Part::Kept(c),
+        Some((c, rest)) => Ok(FirstPiece {
+            piece: SourcePiece::TextCharacter(c),
             rest,
         }),
     }
 }
 
 /// A comment, or the slash with which the text begins.
-fn slash_piece<'a>(white: bool, text: &'a str, rest: &'a str) -> Result<Step<'a>, Refusal<usize>>
+fn slash_piece<'a>(
+    white: bool,
+    text: &'a str,
+    rest: &'a str,
+) -> Result<FirstPiece<'a>, Refusal<usize>>
     requires { chars text.now ≡ codes "/" ++ chars rest.now }
-    ensures { Steps (text_piece white (chars text.now)) result }
+    ensures { ReadsPiece (text_piece white (chars text.now)) result }
 {
     if let Some(comment) = block_comment(text) {
         return comment;
@@ -44,66 +50,73 @@ fn slash_piece<'a>(white: bool, text: &'a str, rest: &'a str) -> Result<Step<'a>
     if white && let Some(comment) = line_comment(text) {
         return comment;
     }
-    Ok(Step {
-        part: Part::Kept('/'),
+    Ok(FirstPiece {
+        piece: SourcePiece::TextCharacter('/'),
         rest,
     })
 }
 
 /// A literal, or the `{` with which the text begins.
-fn brace_piece<'a>(alloc: Global, text: &'a str, rest: &'a str) -> Result<Step<'a>, Refusal<usize>>
-    requires { chars text.now ≡ opening_brace ∷ chars rest.now }
-    ensures { Steps (unwrap_or (literal_piece (chars text.now)) (plain_piece (chars text.now))) result }
+fn brace_piece<'a>(
+    alloc: Global,
+    text: &'a str,
+    rest: &'a str,
+) -> Result<FirstPiece<'a>, Refusal<usize>>
+    requires { chars text.now ≡ left_brace ∷ chars rest.now }
+    ensures { ReadsPiece (unwrap_or (literal_piece (chars text.now)) (plain_piece (chars text.now))) result }
 {
     match literal_piece(text) {
         Some(literal) => literal,
-        None => opening_brace(alloc, text, rest),
+        None => begin_piece(alloc, text, rest),
     }
 }
 
-fn block_comment<'a>(text: &'a str) -> Option<Result<Step<'a>, Refusal<usize>>>
-    ensures { StepsIf (block_comment (chars text.now)) result }
+/// A comment that begins with `/*`, if the text begins with one.
+fn block_comment<'a>(text: &'a str) -> Option<Result<FirstPiece<'a>, Refusal<usize>>>
+    ensures { ReadsPieceIf (block_comment (chars text.now)) result }
 {
-    let inner = after_front(text, "/*")?;
+    let inner = after_prefix(text, "/*")?;
     Some(closed_comment(text, inner))
 }
 
 /// The comment whose `/*` stands before the second text.
-fn closed_comment<'a>(text: &'a str, inner: &'a str) -> Result<Step<'a>, Refusal<usize>>
+fn closed_comment<'a>(text: &'a str, inner: &'a str) -> Result<FirstPiece<'a>, Refusal<usize>>
     requires { chars text.now ≡ codes "/*" ++ chars inner.now }
-    ensures { Steps (closed_comment (cut (codes "*/") (chars inner.now))) result }
+    ensures { ReadsPiece (closed_comment (cut (codes "*/") (chars inner.now))) result }
 {
     match cut(inner, "*/") {
         Some((_, rest)) => {
             let comment = before(text, rest);
-            begins(Part::Passed(comment), comment, rest)
+            begins(SourcePiece::Skipped(comment), comment, rest)
         }
         None => Err(Refusal::Because(0)),
     }
 }
 
-fn line_comment<'a>(text: &'a str) -> Option<Result<Step<'a>, Refusal<usize>>>
-    ensures { StepsIf (line_comment true (chars text.now)) result }
+/// A comment that begins with `//`, if the text begins with one.
+fn line_comment<'a>(text: &'a str) -> Option<Result<FirstPiece<'a>, Refusal<usize>>>
+    ensures { ReadsPieceIf (line_comment true (chars text.now)) result }
 {
-    let (_, rest) = line(after_front(text, "//")?);
+    let (_, rest) = split_line(after_prefix(text, "//")?);
     let comment = before(text, rest);
-    Some(begins(Part::Passed(comment), comment, rest))
+    Some(begins(SourcePiece::Skipped(comment), comment, rest))
 }
 
-fn literal_piece<'a>(text: &'a str) -> Option<Result<Step<'a>, Refusal<usize>>>
-    ensures { StepsIf (literal_piece (chars text.now)) result }
+/// A literal, if the text begins with one.
+fn literal_piece<'a>(text: &'a str) -> Option<Result<FirstPiece<'a>, Refusal<usize>>>
+    ensures { ReadsPieceIf (literal_piece (chars text.now)) result }
 {
-    let inner = after_front(text, "{literal}")?;
+    let inner = after_prefix(text, "{literal}")?;
     Some(closed_literal(text, inner))
 }
 
 /// The literal whose `{literal}` stands before the second text.
-fn closed_literal<'a>(text: &'a str, inner: &'a str) -> Result<Step<'a>, Refusal<usize>>
+fn closed_literal<'a>(text: &'a str, inner: &'a str) -> Result<FirstPiece<'a>, Refusal<usize>>
     requires { chars text.now ≡ codes "{literal}" ++ chars inner.now }
-    ensures { Steps (closed_literal (cut (codes "{/literal}") (chars inner.now))) result }
+    ensures { ReadsPiece (closed_literal (cut (codes "{/literal}") (chars inner.now))) result }
 {
     match cut(inner, "{/literal}") {
-        Some((literal, rest)) => begins(Part::Literal(literal), before(text, rest), rest),
+        Some((literal, rest)) => begins(SourcePiece::Literal(literal), before(text, rest), rest),
         None => Err(Refusal::Because(0)),
     }
 }
@@ -119,18 +132,18 @@ fn may_begin(text: &str) -> bool
 }
 
 /// The `{` of a command, if the rest may follow it.
-fn opening_brace<'a>(
+fn begin_piece<'a>(
     alloc: Global,
     text: &'a str,
     rest: &'a str,
-) -> Result<Step<'a>, Refusal<usize>>
-    requires { chars text.now ≡ opening_brace ∷ chars rest.now }
-    ensures { Steps (plain_piece (chars text.now)) result }
+) -> Result<FirstPiece<'a>, Refusal<usize>>
+    requires { chars text.now ≡ left_brace ∷ chars rest.now }
+    ensures { ReadsPiece (plain_piece (chars text.now)) result }
 {
     if !may_begin(rest) {
         return Err(Refusal::Because(0));
     }
-    let sign = before(text, rest);
-    let part = Part::Sign(TokenKind::Begin, sign, text_of(alloc, sign)?);
-    Ok(Step { part, rest })
+    let brace = before(text, rest);
+    let piece = SourcePiece::CommandToken(TokenKind::Begin, brace, text_of(alloc, brace)?);
+    Ok(FirstPiece { piece, rest })
 }

@@ -1,3 +1,5 @@
+//! The tokens of a file.
+
 use soy_base::{Span, Text};
 
 /// What a token is.
@@ -27,11 +29,11 @@ pub enum TokenKind {
     SlashEnd,
 }
 
-/// A token: what it is, where it stands in its file, and its text.
+/// A token: its kind, its span in the file, and its text.
 ///
 /// The text is that of the joined run or the literal, the name without its `$` or `/`, the digits,
 /// the string without its quotes and with its escapes undone, the value without its quotes, and
-/// otherwise the characters as they stand.
+/// otherwise its source text.
 #[derive(Debug, Drop)]
 pub struct Token {
     pub kind: TokenKind,

@@ -11,5 +11,6 @@ invariant-loop-at l = record {
   is_finite : (goal.iterator-loop-at).is_finite l.at-iterator;
   utf8 : IsUtf8 (char_indices_rest l.at-iterator);
   length : char_indices_offset l.at-iterator + length (char_indices_rest l.at-iterator) ≡ length l.text;
-  is_at : IsAt l.category (chars l.text) l.parts.items l.place (char_indices_offset l.at-iterator) (chars (char_indices_rest l.at-iterator));
+  is_at : IsAt l.category (chars l.text) l.parts.items l.state (char_indices_offset l.at-iterator)
+      (chars (char_indices_rest l.at-iterator));
 }

@@ -1,5 +1,5 @@
 use Rattle.script_state.specs.JsNext.{js_next}
-use Rattle.script_state.proofs.Texts.{state_after-append}
+use Rattle.soy_base.proofs.States.{state_after-append}
 use Rattle.script_state.proofs.laws.law_script_in_pieces.Goals as goal
 
 pub returns : goal.returns

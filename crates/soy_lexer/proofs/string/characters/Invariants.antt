@@ -8,7 +8,8 @@ use Rattle.soy_lexer.proofs.string.characters.Given as goal
 
 abbrev pub invariant-loop-c : goal.invariant-loop-c
 invariant-loop-c l = record {
-  read : value_and_rest (quoted (chars l.text)) ≡ with_before (chars (string_bytes l.value)) (value_and_rest (quoted (chars l.left)));
+  read : value_and_rest (quoted (chars l.text)) ≡ with_before (chars (string_bytes l.value))
+      (value_and_rest (quoted (chars l.left)));
   utf8 : IsUtf8 l.left;
 }
 

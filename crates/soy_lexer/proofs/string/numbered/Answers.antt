@@ -44,7 +44,8 @@ returns c =
     let b = hexadecimal_digit c.args.b c.in_ok-b.b c.in_ok-b.ensures in
     let third = hexadecimal_digit c.args.c c.in_ok-c.c c.in_ok-c.ensures in
     let fourth = hexadecimal_digit c.args.d c.in_ok-d.d c.in_ok-d.ensures in
-    numbered-digits c.args.a c.args.b c.args.c c.args.d c.in_ok-a.a c.in_ok-b.b c.in_ok-c.c c.in_ok-d.d c.from_u32.result a b third fourth c.from_u32.ensures.value
+    numbered-digits c.args.a c.args.b c.args.c c.args.d c.in_ok-a.a c.in_ok-b.b c.in_ok-c.c c.in_ok-d.d
+    c.from_u32.result a b third fourth c.from_u32.ensures.value
 
 pub returns-in_err-d : goal.returns-in_err-d
 returns-in_err-d c =

@@ -9,4 +9,9 @@ returns-in_err-parts_of-clause-refused c =
     rw (p.1, p.2, ← c.entry.view_is) (refused_entry _ _ _ (rw c.as_str.ensures.value at c.in_err-parts_of.ensures))
 
 pub returns-clause-ok : goal.returns-clause-ok
-returns-clause-ok c = rw (← c.entry.view_is) (refl, condition_read-Condition _ _ _ (rw c.as_str.ensures.value at c.in_ok-parts_of.ensures))
+returns-clause-ok c =
+    rw (← c.entry.view_is) (
+      refl,
+      condition_read-Condition _ _ _
+          (rw c.as_str.ensures.value at c.in_ok-parts_of.ensures),
+    )

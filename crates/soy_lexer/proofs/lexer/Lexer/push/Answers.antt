@@ -8,6 +8,8 @@ returns c = λ tokens run reads.
     let ended = c.in_ok-end_run.ensures tokens run reads in
     let one : Token = record { kind = c.args.kind; span = c.args.span; text = c.args.text } in
     record {
-      tokens_are = c.in_ok-push.ensures.items ∙ (ap (λ l. l ++ one ∷ []) ended.tokens_are ∙ append_assoc tokens (run_token run) (one ∷ []));
-      run_holds = ended.run_holds;
+      tokens_are =
+          c.in_ok-push.ensures.items ∙ (ap (λ l. l ++ one ∷ []) ended.tokens_are
+          ∙ append_assoc tokens (run_token run) (one ∷ []));
+      run_is = ended.run_is;
     }

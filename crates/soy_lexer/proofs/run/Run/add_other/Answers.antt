@@ -2,26 +2,33 @@ use Rattle.std.proofs.Common.{◌+◌, ◌++◌, [], ◌∷◌, if◌then◌else
 use Rattle.std.specs.Str.{chars}
 use Rattle.std.specs.String.{string_bytes}
 use Rattle.std.proofs.lemmas.Str.{chars-nil}
-use Rattle.soy_lexer.specs.Characters.{is_nil, space}
-use Rattle.soy_lexer.proofs.Kept.{other_kept, not_white, space_before}
-use Rattle.soy_lexer.proofs.WordsKept.{not_nil}
+use Rattle.soy_base.specs.Cuts.{is_nil}
+use Rattle.soy_base.specs.Characters.{space}
+use Rattle.soy_lexer.proofs.Represented.{other_represented, not_white, space_before}
+use Rattle.soy_lexer.proofs.ChunksAdded.{not_nil}
 use Rattle.soy_lexer.proofs.run.Run.add_other.Goals as goal
 
 pub returns-clause-adds : goal.returns-clause-adds
-returns-clause-adds c = λ run holds.
-    other_kept _ _ _ _ _ (record { place = c.args.place; character = c.args.c }) holds c.requires.other (not_white c.args.c c.requires.other)
-    (c.in_ok-push.ensures ∙ ap (λ l. l ++ c.args.c ∷ [])
-    (c.in_ok-push_text.ensures
-    ∙ (ap (λ l. l ++ chars c.as_str.result.now) (c.in_ok-push_space_if.ensures ∙ ap (λ b. chars (string_bytes c.args.self.now.text) ++ (if b then space ∷ [] else [])) c.needs_space-needs_space.ensures)
-    ∙ ap (λ l. (chars (string_bytes c.args.self.now.text) ++ space_before (chars (string_bytes c.args.self.now.text)) c.args.self.now.fresh c.args.self.now.angle c.is_angle-angle.result) ++ chars l) c.as_str.ensures.value)))
+returns-clause-adds c = λ run is_run.
+    other_represented _ _ _ _ _ (record { offset = c.args.offset; character = c.args.c }) is_run c.requires.other
+    (not_white c.args.c c.requires.other)
+    (c.in_ok-push_char.ensures.ok ∙ ap (λ l. l ++ c.args.c ∷ [])
+    (c.in_ok-push_text.ensures.ok
+    ∙ (ap (λ l. l ++ chars c.as_str.result.now)
+    (c.in_ok-push_space_if.ensures
+    ∙ ap (λ b. chars (string_bytes c.args.self.now.text) ++ (if b then space ∷ [] else []))
+    c.needs_space-needs_space.ensures)
+    ∙ ap (λ l. (chars (string_bytes c.args.self.now.text)
+    ++ space_before (chars (string_bytes c.args.self.now.text)) c.args.self.now.fresh c.args.self.now.angle
+    c.is_angle-angle.result) ++ chars l) c.as_str.ensures.value)))
     (ap chars c.clear.ensures.bytes ∙ chars-nil)
     c.is_angle-angle.ensures
     c.start_with-self.ensures
-    (ap (λ n. c.args.place + n) c.len_utf8.ensures.value)
+    (ap (λ n. c.args.offset + n) c.len_utf8.ensures.value)
 
 pub returns-clause-within : goal.returns-clause-within
 returns-clause-within c = record {
-  begun = refl;
+  not_fresh = refl;
   no_white = ap chars c.clear.ensures.bytes ∙ chars-nil;
-  some_text = ap is_nil c.in_ok-push.ensures ∙ not_nil _ c.args.c;
+  some_text = ap is_nil c.in_ok-push_char.ensures.ok ∙ not_nil _ c.args.c;
 }

@@ -1,6 +1,0 @@
-use Rattle.std.proofs.Common.{refl}
-use Rattle.soy_lexer.proofs.TextEnds.{no_bytes}
-use Rattle.soy_lexer.proofs.text.is_empty.Goals as goal
-
-pub returns : goal.returns
-returns c = no_bytes c.args.text.now _ _ c.utf8.text refl c.is_empty.ensures

@@ -1,0 +1,82 @@
+//! The mode of the lexer: whether the rest of a text stands outside of commands or in one.
+
+ghost use Rattle.std.specs.Prelude.{◌≡◌};
+ghost use Rattle.std.specs.Str.{chars, IsUtf8};
+ghost use Rattle.soy_lexer.specs.ModeAfter.{mode_after, mode_after_skipped, mode_after_token};
+ghost use Rattle.soy_lexer.specs.ReadsPiece.{view_piece};
+ghost use Rattle.soy_lexer.specs.Chunks.{after_chunk, mode_after_chunk, chunk};
+
+use crate::source_piece::SourcePiece;
+use crate::text::split_chunk;
+use crate::token::TokenKind;
+use soy_base::{is_empty, is_template_space};
+
+/// The mode in which the rest of a text is read.
+#[derive(Clone, Copy, Debug, PartialEq, Eq)]
+pub(crate) enum Mode {
+    /// In text, with white space or the file's start directly before it or not.
+    Outside(bool),
+    /// In a command, directly after its `{`.
+    Opened,
+    /// In a command, further on.
+    Inside,
+}
+
+impl Mode {
+    /// The mode after a piece.
+    pub(crate) fn after(self, piece: &SourcePiece) -> Mode
+        ensures { result ≡ mode_after self (view_piece piece.now) }
+    {
+        match piece {
+            SourcePiece::TextCharacter(c) => Mode::Outside(is_template_space(*c)),
+            SourcePiece::Skipped(_) => self.after_skipped(),
+            SourcePiece::Literal(_) => Mode::Outside(false),
+            SourcePiece::CommandToken(kind, _, _) => Mode::after_token(*kind),
+        }
+    }
+
+    /// The chunk with which a text in this mode begins, and what follows it.
+    pub(crate) fn chunk(self, text: &str) -> (&str, &str)
+        ensures prefix { chars result.0.now ≡ chunk self (chars text.now) }
+        ensures rest { chars result.1.now ≡ after_chunk self (chars text.now) }
+        ensures utf8 { IsUtf8 result.1.now }
+    {
+        match self {
+            Mode::Outside(_) => split_chunk(text),
+            Mode::Opened => ("", text),
+            Mode::Inside => ("", text),
+        }
+    }
+
+    /// The mode after a chunk.
+    pub(crate) fn after_chunk(self, chunk: &str) -> Mode
+        ensures { result ≡ mode_after_chunk self (chars chunk.now) }
+    {
+        if is_empty(chunk) {
+            self
+        } else {
+            Mode::Outside(false)
+        }
+    }
+
+    /// The mode after a comment, or after white space in a command.
+    fn after_skipped(self) -> Mode
+        ensures { result ≡ mode_after_skipped self }
+    {
+        match self {
+            Mode::Outside(_) => Mode::Outside(false),
+            Mode::Opened | Mode::Inside => Mode::Inside,
+        }
+    }
+
+    /// The mode after a token of a command.
+    fn after_token(kind: TokenKind) -> Mode
+        ensures { result ≡ mode_after_token kind }
+    {
+        match kind {
+            TokenKind::Begin => Mode::Opened,
+            TokenKind::End | TokenKind::SlashEnd => Mode::Outside(false),
+            _ => Mode::Inside,
+        }
+    }
+}
