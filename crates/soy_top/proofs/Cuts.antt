@@ -34,15 +34,15 @@ cut-at mark [] rest h = rw (same_mark mark) refl
 cut-at mark (c ∷ cs) rest h =
     rw (unmarked mark c cs h) (ap (option_map (λ halves. (c ∷ halves.0, halves.1))) (cut-at mark cs rest (Lacks-rest mark c cs h)))
 
-abbrev seen_halves : Option (Bor (List ℕ) × Bor (List ℕ)) → Option (List ℕ × List ℕ)
-seen_halves o = option_map (λ halves. (halves.0.now, halves.1.now)) o
+abbrev view_halves : Option (Bor (List ℕ) × Bor (List ℕ)) → Option (List ℕ × List ℕ)
+view_halves o = option_map (λ halves. (halves.0.now, halves.1.now)) o
 
 -- what `split_once` gives is the cut
-cut_by : (mark : ℕ) (text : List ℕ) (r : Option (Bor (List ℕ) × Bor (List ℕ))) → MatchOption r (Lacks mark text) (λ x. (text ≡ x.0.now ++ (mark ∷ x.1.now)) × Lacks mark x.0.now) → seen_halves r ≡ cut mark text
+cut_by : (mark : ℕ) (text : List ℕ) (r : Option (Bor (List ℕ) × Bor (List ℕ))) → MatchOption r (Lacks mark text) (λ x. (text ≡ x.0.now ++ (mark ∷ x.1.now)) × Lacks mark x.0.now) → view_halves r ≡ cut mark text
 cut_by mark text None h = sym (cut-none mark text h)
 cut_by mark text (Some x) h = sym (ap (cut mark) h.0 ∙ cut-at mark x.0.now x.1.now h.1)
 
-pub split_once-cut : (mark : ℕ) (text : List ℕ) (r : Option (Bor (List ℕ) × Bor (List ℕ))) → IsSplitOnceResult mark text r → mark < 128 → seen_halves r ≡ cut mark text
+pub split_once-cut : (mark : ℕ) (text : List ℕ) (r : Option (Bor (List ℕ) × Bor (List ℕ))) → IsSplitOnceResult mark text r → mark < 128 → view_halves r ≡ cut mark text
 split_once-cut mark text r h low = cut_by mark text r (split_parts mark text r h low)
 
 -- the parts of a text by where it is cut first

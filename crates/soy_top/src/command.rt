@@ -1,9 +1,10 @@
-// What the words of the command line ask for.
+//! What the words of the command line ask for.
+
 ghost use Rattle.std.specs.Prelude.{◌≡◌, option_map};
 ghost use Rattle.std.specs.Char.{is_ascii_digit};
 ghost use Rattle.std.specs.List.{list_all};
 ghost use Rattle.soy_top.specs.Asked.{asked_by_words, render_asked, check_asked, extract_asked, gen_asked, play_asked, preview_asked, format_asked, are_digits, number_of, has_file_count};
-ghost use Rattle.soy_top.specs.Seen.{seen_command};
+ghost use Rattle.soy_top.specs.View.{view_command};
 ghost use Rattle.soy_top.specs.Words.{words_of};
 
 /// A command with its words. `files` are 1 to 64 names of files.
@@ -45,7 +46,7 @@ pub(crate) enum Command<'a> {
 /// The command of these words, and none exactly where they are no command with its counts and its
 /// number.
 pub(crate) fn command_of(words: &[String]) -> Option<Command<'_>>
-    ensures { option_map seen_command result ≡ asked_by_words (words_of words.now) }
+    ensures { option_map view_command result ≡ asked_by_words (words_of words.now) }
 {
     let (command, words) = words.split_first()?;
     match command.as_str() {
@@ -67,7 +68,7 @@ fn has_file_count(files: &[String]) -> bool
 }
 
 fn render_of(words: &[String]) -> Option<Command<'_>>
-    ensures { option_map seen_command result ≡ render_asked (words_of words.now) }
+    ensures { option_map view_command result ≡ render_asked (words_of words.now) }
 {
     match words {
         [template, data_file, bundle, files @ ..] if has_file_count(files) => {
@@ -83,7 +84,7 @@ fn render_of(words: &[String]) -> Option<Command<'_>>
 }
 
 fn check_of(words: &[String]) -> Option<Command<'_>>
-    ensures { option_map seen_command result ≡ check_asked (words_of words.now) }
+    ensures { option_map view_command result ≡ check_asked (words_of words.now) }
 {
     match words {
         [bundle, files @ ..] if has_file_count(files) => Some(Command::Check {
@@ -95,7 +96,7 @@ fn check_of(words: &[String]) -> Option<Command<'_>>
 }
 
 fn extract_of(files: &[String]) -> Option<Command<'_>>
-    ensures { option_map seen_command result ≡ extract_asked (words_of files.now) }
+    ensures { option_map view_command result ≡ extract_asked (words_of files.now) }
 {
     if has_file_count(files) {
         return Some(Command::Extract { files });
@@ -126,7 +127,7 @@ fn number_of(word: &str) -> Option<u32>
 }
 
 fn gen_of(words: &[String]) -> Option<Command<'_>>
-    ensures { option_map seen_command result ≡ gen_asked (words_of words.now) }
+    ensures { option_map view_command result ≡ gen_asked (words_of words.now) }
 {
     match words {
         [number] => {
@@ -138,7 +139,7 @@ fn gen_of(words: &[String]) -> Option<Command<'_>>
 }
 
 fn play_of(words: &[String]) -> Option<Command<'_>>
-    ensures { option_map seen_command result ≡ play_asked (words_of words.now) }
+    ensures { option_map view_command result ≡ play_asked (words_of words.now) }
 {
     match words {
         [script, first, second, files @ ..] if has_file_count(files) => Some(Command::Play {
@@ -152,7 +153,7 @@ fn play_of(words: &[String]) -> Option<Command<'_>>
 }
 
 fn preview_of(words: &[String]) -> Option<Command<'_>>
-    ensures { option_map seen_command result ≡ preview_asked (words_of words.now) }
+    ensures { option_map view_command result ≡ preview_asked (words_of words.now) }
 {
     match words {
         [template, data_file, bundle, files @ ..] if has_file_count(files) => {
@@ -168,7 +169,7 @@ fn preview_of(words: &[String]) -> Option<Command<'_>>
 }
 
 fn format_of(words: &[String]) -> Option<Command<'_>>
-    ensures { option_map seen_command result ≡ format_asked (words_of words.now) }
+    ensures { option_map view_command result ≡ format_asked (words_of words.now) }
 {
     match words {
         [file] => Some(Command::Format {

@@ -1,10 +1,11 @@
-// Reads files of the first form. The lexer and the parser of whole files take its place.
+//! Reads files of the first form, until the lexer and the parser of whole files do.
+
 ghost use Rattle.std.specs.Prelude.{◌≡◌, [], ◌∷◌, ◌++◌, ◌==◌, option_map, IfOk, OnOk};
 ghost use Rattle.std.specs.List.{list_all, slice_split};
 ghost use Rattle.std.specs.Str.{bytes_eq};
 ghost use Rattle.soy_top.specs.FirstForm.{is_plain, is_empty, is_tag_and_text, is_static, Print, print_of, static_part, parts_of, namespace_of, template_of, param_of, has_body_ends, is_last_line, is_template_end, body_read, declared, form_after, form_of_lines, full_name, is_file_byte, first_form, passing, print_parts, tag_names};
 ghost use Rattle.soy_top.specs.Parts.{parts_left};
-ghost use Rattle.soy_top.specs.SeenForm.{seen_parts, seen_declared, seen_form};
+ghost use Rattle.soy_top.specs.ViewForm.{view_parts, view_declared, view_form};
 ghost use Rattle.soy_top.specs.Words.{is_among};
 
 use crate::name::{is_dotted_name, is_name};
@@ -124,7 +125,7 @@ fn print_of<'a>(params: &Params<'_>, text: &'a str) -> Option<(&'a str, &'a str)
 
 /// Adds a static text to the parts, where it isn't empty.
 fn push_static<'a>(parts: &mut Vec<Part<'a>>, text: &'a str) -> Result<(), OutOfMemory>
-    ensures ok { OnOk result (seen_parts parts.new.items ≡ seen_parts parts.old.items ++ static_part text.now) }
+    ensures ok { OnOk result (view_parts parts.new.items ≡ view_parts parts.old.items ++ static_part text.now) }
 {
     if !text.is_empty() {
         parts.push(Part::Static(text))?;
@@ -138,7 +139,7 @@ fn push_print<'a>(
     name: &'a str,
     text: &'a str,
 ) -> Result<(), OutOfMemory>
-    ensures ok { OnOk result (seen_parts parts.new.items ≡ seen_parts parts.old.items ++ (Print name.now ∷ static_part text.now)) }
+    ensures ok { OnOk result (view_parts parts.new.items ≡ view_parts parts.old.items ++ (Print name.now ∷ static_part text.now)) }
 {
     parts.push(Part::Print(name))?;
     push_static(parts, text)
@@ -150,7 +151,7 @@ fn parts_of<'a>(
     params: &Params<'_>,
     body: &'a str,
 ) -> Result<Option<Vec<Part<'a>>>, OutOfMemory>
-    ensures { IfOk result (λ parts. option_map (λ found. seen_parts found.items) parts ≡ parts_of params.now body.now) }
+    ensures { IfOk result (λ parts. option_map (λ found. view_parts found.items) parts ≡ parts_of params.now body.now) }
 {
     let mut parts = Vec::new(alloc);
     let (text, mut rest) = front(body, '{');
@@ -205,7 +206,7 @@ fn declared_in<'a>(
     alloc: Global,
     lines: Option<&'a str>,
 ) -> Result<Option<Declared<'a>>, OutOfMemory>
-    ensures { IfOk result (λ read. option_map seen_declared read ≡ declared [] (parts_left 10 lines.entry)) }
+    ensures { IfOk result (λ read. option_map view_declared read ≡ declared [] (parts_left 10 lines.entry)) }
 {
     let mut params = Params::new(alloc);
     let mut rest = lines;
@@ -226,7 +227,7 @@ fn declared_in<'a>(
 
 /// The body line, if it may be one and the lines after it end the template.
 fn body_read<'a>(params: Params<'a>, line: &'a str, lines: Option<&str>) -> Option<Declared<'a>>
-    ensures { option_map seen_declared result ≡ body_read params.entry line.now (parts_left 10 lines.entry) }
+    ensures { option_map view_declared result ≡ body_read params.entry line.now (parts_left 10 lines.entry) }
 {
     if has_body_ends(line) && is_template_end(lines) {
         return Some(Declared { params, body: line });
@@ -236,7 +237,7 @@ fn body_read<'a>(params: Params<'a>, line: &'a str, lines: Option<&str>) -> Opti
 
 /// The form of a text, if it is of the first form but for its bytes.
 fn form_of_text<'a>(alloc: Global, text: &'a str) -> Result<Option<Form<'a>>, OutOfMemory>
-    ensures { IfOk result (λ form. option_map seen_form form ≡ form_of_lines (slice_split (λ c. c == 10) text.now)) }
+    ensures { IfOk result (λ form. option_map view_form form ≡ form_of_lines (slice_split (λ c. c == 10) text.now)) }
 {
     let (first, others) = front(text, '\n');
     let Some(text) = others else {
@@ -256,7 +257,7 @@ fn form_after<'a>(
     template: &'a str,
     lines: Option<&'a str>,
 ) -> Result<Option<Form<'a>>, OutOfMemory>
-    ensures { IfOk result (λ form. option_map seen_form form ≡ form_after namespace.now template.now (declared [] (parts_left 10 lines.entry))) }
+    ensures { IfOk result (λ form. option_map view_form form ≡ form_after namespace.now template.now (declared [] (parts_left 10 lines.entry))) }
 {
     let Some(read) = declared_in(alloc, lines)? else {
         return Ok(None);
@@ -284,7 +285,7 @@ fn are_file_bytes(bytes: &[u8]) -> bool
 
 /// The form of a file, if it is of the first form, or want of memory.
 pub(crate) fn read_form<'a>(alloc: Global, file: &'a [u8]) -> Result<Option<Form<'a>>, OutOfMemory>
-    ensures { IfOk result (λ form. option_map seen_form form ≡ first_form file.now) }
+    ensures { IfOk result (λ form. option_map view_form form ≡ first_form file.now) }
 {
     if !are_file_bytes(file) {
         return Ok(None);
@@ -298,7 +299,7 @@ pub(crate) fn read_form<'a>(alloc: Global, file: &'a [u8]) -> Result<Option<Form
 impl Form<'_> {
     /// Whether the template's full name is this one: the namespace, a dot and its name.
     pub(crate) fn is_named(&self, name: &str) -> bool
-        ensures { result ≡ bytes_eq name.now (full_name (seen_form self.now)) }
+        ensures { result ≡ bytes_eq name.now (full_name (view_form self.now)) }
     {
         let Some(rest) = after_front(name, self.namespace) else {
             return false;

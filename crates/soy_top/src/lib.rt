@@ -15,16 +15,18 @@ mod data;
 mod ending;
 mod fetch;
 mod first_form;
-mod law;
+mod laws;
 mod line;
 mod name;
+mod output;
 mod page;
 mod params;
 mod program;
 mod status;
 mod text;
+mod wanted;
 
-pub use law::law_first_form;
+pub use laws::law_first_form;
 pub use program::run;
 pub use status::Status;
 
