@@ -1,10 +1,11 @@
 pub mod Answering
 pub mod Courses
 pub mod Cuts
+pub mod Delimiters
 pub mod Fetching
 pub mod Keys
-pub mod Marks
 pub mod Numbers
+pub mod Pages
 pub mod ReadForm
 pub mod ReadLines
 pub mod Reading

@@ -3,15 +3,16 @@
 -- The cases are tried in this order. Words that are no command get the usage text. The first file that the words want
 -- and that isn't held can't be read. The first file over its limit is refused, in the order of the words. The rest is
 -- answered by the contents: what the program doesn't do yet is refused, which is every command but a `render` of one
--- file in the source language; and so is, in this order, a file that isn't of the first form, a template's name that the
--- file doesn't have, and data that aren't of the first form. Else the answer is the page.
+-- file in the source language; and so are, in this order, a file that isn't of the first form, a template's name that
+-- the file doesn't have, and data that aren't of the first form. Else the answer is the page.
 -- Example: the words `render t.zz d.json - t.soy` with a file of t.m are refused by `t.zz: 29 Entry`.
 use Rattle.std.specs.Prelude.{ℕ, List, [], ◌∷◌, Option, None, Some, option_map, if◌then◌else◌, codes, String}
 use Rattle.std.specs.Option.{option_map_or}
 use Rattle.std.specs.Str.{bytes_eq}
 use Rattle.soy_io.specs.FileOf.{Files}
 use Rattle.soy_top.specs.Asked.{Asked, Render, Check, Extract, Gen, Play, Preview, Format, asked_by_words}
-use Rattle.soy_top.specs.FilesWanted.{FileWanted, asked_files, wanted_files, known_files, first_not_held, first_over_limit, contents}
+use Rattle.soy_top.specs.FilesWanted.{FileWanted, asked_files, wanted_files, known_files, first_not_held}
+use Rattle.soy_top.specs.FilesWanted.{first_over_limit, contents}
 use Rattle.soy_top.specs.FirstForm.{Form, first_form, full_name}
 use Rattle.soy_top.specs.FirstPage.{page_of}
 use Rattle.soy_top.specs.Line.{not_yet_line, too_large_line, entry_line, read_line, usage_text, ended}
@@ -68,7 +69,8 @@ contents_answer (Format file) contents = not_yet (codes "format")
 -- the answer by the limits of the files
 abbrev pub limits_answer : Files → Asked → List FileWanted → Answer
 limits_answer files asked wanted =
-    option_map_or (λ file. Refused (too_large_line file)) (first_over_limit files wanted) (contents_answer asked (contents files wanted))
+    option_map_or (λ file. Refused (too_large_line file)) (first_over_limit files wanted)
+    (contents_answer asked (contents files wanted))
 
 -- the answer by the files that are held
 abbrev pub files_answer : Files → Asked → List FileWanted → Answer

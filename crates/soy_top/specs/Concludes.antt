@@ -33,7 +33,8 @@ Concludes ending.Memory err SameErr result = (result ≡ status.Memory) × SameE
 abbrev pub MayEnd : Option Answer → List Word → ℕ × ℕ → Ending → Type 0
 MayEnd answer names file_faults ending.Usage = answer ≡ Some Usage
 MayEnd answer names file_faults (ending.Read text) =
-    (file : Word) × Contains names file × (Rose file_faults.0 file_faults.1 ⊎ (answer ≡ Some (Read file))) × (string_bytes text ≡ ended (read_line file))
+    (file : Word) × Contains names file × (Rose file_faults.0 file_faults.1 ⊎ (answer ≡ Some (Read file)))
+    × (string_bytes text ≡ ended (read_line file))
 MayEnd answer names file_faults (ending.Refused text) =
     (line : List ℕ) × IfSome answer (λ a. a ≡ Refused line) × (string_bytes text ≡ ended line)
 MayEnd answer names file_faults ending.Memory = Unit {0}

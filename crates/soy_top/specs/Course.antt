@@ -59,7 +59,8 @@ UsageIsDue run wanted text = (wanted ≡ status.Usage) × (run.answer ≡ Some U
 -- it is due that a file can't be read: the library failed, or the answer is that
 abbrev pub ReadIsDue : Run → Status → List ℕ → Type 0
 ReadIsDue run wanted text =
-    (file : Word) × (wanted ≡ status.Read) × Contains run.names file × (Rose run.file_faults.0 run.file_faults.1 ⊎ (run.answer ≡ Some (Read file))) × (text ≡ ended (read_line file))
+    (file : Word) × (wanted ≡ status.Read) × Contains run.names file
+    × (Rose run.file_faults.0 run.file_faults.1 ⊎ (run.answer ≡ Some (Read file))) × (text ≡ ended (read_line file))
 
 -- the line of a refusal is due
 abbrev pub RefusalIsDue : Run → Status → List ℕ → Type 0

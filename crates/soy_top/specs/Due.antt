@@ -2,8 +2,8 @@
 --
 -- A status that is due yields to a sink that failed, to a library that failed before it, and to running out of memory;
 -- the first two are seen in the count of faults of that sink or library.
--- Example: where a page is due, the status is Done; or Write, and the output failed; or Read, and the library failed, or
--- Write then, and standard error failed; or Memory.
+-- Example: where a page is due, the status is Done; or Write, and the output failed; or Read, and the library failed;
+-- or then Write, and standard error failed too; or Memory.
 use Rattle.std.specs.Prelude.{◌≡◌, ℕ, ◌⊎◌}
 use Rattle.soy_io.specs.Rose.{Rose}
 use Rattle.soy_top.specs.declared.status.Status.{Status}

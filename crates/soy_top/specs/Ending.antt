@@ -18,7 +18,8 @@ UsageSaid answer err = (answer ≡ Some Usage) × Took err usage_text
 -- Read: it was said of a file of the words that it can't be read, and the library failed or lacks the file
 abbrev pub ReadSaid : Option Answer → List Word → ℕ × ℕ → Change → Type 0
 ReadSaid answer names file_faults err =
-    (file : Word) × Contains names file × (Rose file_faults.0 file_faults.1 ⊎ (answer ≡ Some (Read file))) × Took err (ended (read_line file))
+    (file : Word) × Contains names file × (Rose file_faults.0 file_faults.1 ⊎ (answer ≡ Some (Read file)))
+    × Took err (ended (read_line file))
 
 -- Refused: the line of the refusal that is the answer was said
 abbrev pub RefusalSaid : Option Answer → Change → Type 0
@@ -31,7 +32,8 @@ TextWritten answer out = IfSome answer (λ a. (text : List ℕ) × (a ≡ Done t
 -- TooDeep: the text that is the answer was written, and its line was said
 abbrev pub TooDeepSaid : Option Answer → Change → Change → Type 0
 TooDeepSaid answer out err =
-    IfSome answer (λ a. (text : List ℕ) × (line : List ℕ) × (a ≡ TooDeep text line) × Took out text × Took err (ended line))
+    IfSome answer (λ a. (text : List ℕ) × (line : List ℕ) × (a ≡ TooDeep text line)
+    × Took out text × Took err (ended line))
 
 -- the output took the whole text of an answer that ends too deep
 abbrev pub TookTooDeep : Option Answer → Change → Type 0
@@ -52,7 +54,9 @@ OutPart answer out = IfSome answer (λ a. TookPrefix out (out_text a))
 -- can't be read
 abbrev pub ErrPart : Option Answer → List Word → ℕ × ℕ → Change → Type 0
 ErrPart answer names file_faults err =
-    IfSome answer (λ a. TookPrefix err (err_text a) ⊎ ((file : Word) × Contains names file × Rose file_faults.0 file_faults.1 × TookPrefix err (ended (read_line file))))
+    IfSome answer (λ a. TookPrefix err (err_text a)
+    ⊎ ((file : Word) × Contains names file × Rose file_faults.0 file_faults.1
+    × TookPrefix err (ended (read_line file))))
 
 -- a fact where nothing is for the output
 abbrev pub OnNoOutput : Answer → Type 0 → Type 0

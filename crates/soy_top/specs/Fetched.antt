@@ -2,7 +2,8 @@
 --
 -- Example: after a file within its limit, its bytes stand last in the contents; after one over its limit, the contents
 -- are unchanged, and the first such file is known.
-use Rattle.std.specs.Prelude.{◌≡◌, ℕ, List, [], ◌∷◌, ◌++◌, Option, None, Some, ◌⊎◌, Contains, IfSome, Result, Ok, Err, Vec, option_map}
+use Rattle.std.specs.Prelude.{◌≡◌, ℕ, List, [], ◌∷◌, ◌++◌, Option, None, Some, ◌⊎◌, Contains, IfSome, Result, Ok}
+use Rattle.std.specs.Prelude.{Err, Vec, option_map}
 use Rattle.std.specs.Option.{option_or}
 use Rattle.std.specs.String.{string_bytes}
 use Rattle.std.specs.declared.alloc.Global.{Global}
@@ -70,10 +71,14 @@ IsNotHeld (Some files) wanted name = first_not_held files wanted ≡ Some name
 
 -- what a fetch of all files says
 abbrev pub FetchesAll : Option Files → List FileWanted → ℕ × ℕ → Result (Vec (Vec ℕ Global) Global) Ending → Type 0
-FetchesAll known wanted faults (Ok fetched) = IfSome known (λ files. AreContents files wanted (view_contents fetched.items))
+FetchesAll known wanted faults (Ok fetched) =
+    IfSome known (λ files. AreContents files wanted (view_contents fetched.items))
 FetchesAll known wanted faults (Err ending.Usage) = ⊥
 FetchesAll known wanted faults (Err (ending.Read line)) =
-    (name : Word) × Contains (file_names wanted) name × (Rose faults.0 faults.1 ⊎ IsNotHeld known wanted name) × (string_bytes line ≡ ended (read_line name))
+    (name : Word) × Contains (file_names wanted) name × (Rose faults.0 faults.1 ⊎ IsNotHeld known wanted name)
+    × (string_bytes line ≡ ended (read_line name))
 FetchesAll known wanted faults (Err (ending.Refused line)) =
-    (name : Word) × IfSome known (λ files. (first_not_held files wanted ≡ None) × (first_over_limit files wanted ≡ Some name)) × (string_bytes line ≡ ended (too_large_line name))
+    (name : Word)
+    × IfSome known (λ files. (first_not_held files wanted ≡ None) × (first_over_limit files wanted ≡ Some name))
+    × (string_bytes line ≡ ended (too_large_line name))
 FetchesAll known wanted faults (Err ending.Memory) = Unit {0}

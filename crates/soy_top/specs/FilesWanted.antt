@@ -3,7 +3,8 @@
 -- DATA and BUNDLE may have 4 MiB, and a FILE 1 MiB. The bundle `-` is no file. What the program doesn't do yet wants no
 -- files: it does a `render` of one FILE in the source language.
 -- Example: `render t.m d.json - t.soy` wants d.json and then t.soy; where neither is held, d.json is the first.
-use Rattle.std.specs.Prelude.{ℕ, List, [], ◌∷◌, ◌++◌, map, length, Bool, false, nat_lt, Option, None, Some, is_some, unwrap_or, if◌then◌else◌, codes, String}
+use Rattle.std.specs.Prelude.{ℕ, List, [], ◌∷◌, ◌++◌, map, length, Bool, false, nat_lt, Option, None, Some, is_some}
+use Rattle.std.specs.Prelude.{unwrap_or, if◌then◌else◌, codes, String}
 use Rattle.std.specs.Option.{option_map_or}
 use Rattle.std.specs.Str.{bytes_eq}
 use Rattle.soy_io.specs.FileOf.{Files, file_of}

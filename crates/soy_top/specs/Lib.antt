@@ -1,6 +1,7 @@
 pub mod Accepts
 pub mod Answer
 pub mod Asked
+pub mod ByteParts
 pub mod Change
 pub mod Concludes
 pub mod Course
@@ -11,10 +12,9 @@ pub mod Fetched
 pub mod FilesWanted
 pub mod FirstForm
 pub mod FirstPage
+pub mod IsPage
 pub mod Line
-pub mod Name
 pub mod Output
-pub mod Parts
 pub mod Spells
 pub mod View
 pub mod ViewForm

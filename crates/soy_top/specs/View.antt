@@ -16,7 +16,8 @@ view_command (command.Check bundle files) = Check bundle.now (words_of files.now
 view_command (command.Extract files) = Extract (words_of files.now)
 view_command (command.Gen number) = Gen number
 view_command (command.Play script first second files) = Play script.now first.now second.now (words_of files.now)
-view_command (command.Preview template json bundle files) = Preview template.now json.now bundle.now (words_of files.now)
+view_command (command.Preview template json bundle files) =
+    Preview template.now json.now bundle.now (words_of files.now)
 view_command (command.Format file) = Format file.now
 
 abbrev pub view_file : FileWanted → files.FileWanted

@@ -20,4 +20,9 @@ view_declared read = record { params = read.params; body = read.body.now }
 
 abbrev pub view_form : Form → form.Form
 view_form read =
-    record { namespace = read.namespace.now; template = read.template.now; params = read.params; body = view_parts read.body.items }
+    record {
+      namespace = read.namespace.now;
+      template = read.template.now;
+      params = read.params;
+      body = view_parts read.body.items;
+    }

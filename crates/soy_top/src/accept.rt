@@ -3,7 +3,8 @@
 ghost use Rattle.std.specs.Prelude.{◌≡◌};
 ghost use Rattle.serde_json.specs.View.{view};
 ghost use Rattle.soy_top.specs.Accepts.{Accepts, AcceptsPage, Refuses};
-ghost use Rattle.soy_top.specs.Answer.{contents_answer, form_answer, named_answer, not_yet, page_answer, render_answer};
+ghost use Rattle.soy_top.specs.Answer.{contents_answer, form_answer, named_answer, not_yet, page_answer};
+ghost use Rattle.soy_top.specs.Answer.{render_answer};
 ghost use Rattle.soy_top.specs.FirstForm.{first_form};
 ghost use Rattle.soy_top.specs.FirstPage.{page_of, page_with};
 ghost use Rattle.soy_top.specs.View.{view_command, view_contents};

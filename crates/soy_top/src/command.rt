@@ -3,7 +3,9 @@
 ghost use Rattle.std.specs.Prelude.{◌≡◌, option_map};
 ghost use Rattle.std.specs.Char.{is_ascii_digit};
 ghost use Rattle.std.specs.List.{list_all};
-ghost use Rattle.soy_top.specs.Asked.{asked_by_words, render_asked, check_asked, extract_asked, gen_asked, play_asked, preview_asked, format_asked, are_digits, number_of, has_file_count};
+ghost use Rattle.soy_top.specs.Asked.{asked_by_words, render_asked, check_asked, extract_asked, gen_asked};
+ghost use Rattle.soy_top.specs.Asked.{play_asked, preview_asked, format_asked, are_digits, number_of};
+ghost use Rattle.soy_top.specs.Asked.{has_file_count};
 ghost use Rattle.soy_top.specs.View.{view_command};
 ghost use Rattle.soy_top.specs.Words.{words_of};
 
@@ -61,12 +63,14 @@ pub(crate) fn command_of(words: &[String]) -> Option<Command<'_>>
     }
 }
 
+/// Whether there are as many files as a command takes.
 fn has_file_count(files: &[String]) -> bool
     ensures { result ≡ has_file_count (words_of files.now) }
 {
     0 < files.len() && files.len() <= 64
 }
 
+/// The words after `render`.
 fn render_of(words: &[String]) -> Option<Command<'_>>
     ensures { option_map view_command result ≡ render_asked (words_of words.now) }
 {
@@ -83,6 +87,7 @@ fn render_of(words: &[String]) -> Option<Command<'_>>
     }
 }
 
+/// The words after `check`.
 fn check_of(words: &[String]) -> Option<Command<'_>>
     ensures { option_map view_command result ≡ check_asked (words_of words.now) }
 {
@@ -95,6 +100,7 @@ fn check_of(words: &[String]) -> Option<Command<'_>>
     }
 }
 
+/// The words after `extract`.
 fn extract_of(files: &[String]) -> Option<Command<'_>>
     ensures { option_map view_command result ≡ extract_asked (words_of files.now) }
 {
@@ -104,12 +110,14 @@ fn extract_of(files: &[String]) -> Option<Command<'_>>
     None
 }
 
+/// Whether a word is made of decimal digits.
 fn all_digits(word: &str) -> bool
     ensures { result ≡ list_all is_ascii_digit word.now }
 {
     word.as_bytes().iter().all(|b| b.is_ascii_digit())
 }
 
+/// Whether a word is 1 to 10 decimal digits.
 fn are_digits(word: &str) -> bool
     ensures { result ≡ are_digits word.now }
 {
@@ -126,6 +134,7 @@ fn number_of(word: &str) -> Option<u32>
     word.parse::<u32>().ok()
 }
 
+/// The words after `gen`.
 fn gen_of(words: &[String]) -> Option<Command<'_>>
     ensures { option_map view_command result ≡ gen_asked (words_of words.now) }
 {
@@ -138,6 +147,7 @@ fn gen_of(words: &[String]) -> Option<Command<'_>>
     }
 }
 
+/// The words after `play`.
 fn play_of(words: &[String]) -> Option<Command<'_>>
     ensures { option_map view_command result ≡ play_asked (words_of words.now) }
 {
@@ -152,6 +162,7 @@ fn play_of(words: &[String]) -> Option<Command<'_>>
     }
 }
 
+/// The words after `preview`.
 fn preview_of(words: &[String]) -> Option<Command<'_>>
     ensures { option_map view_command result ≡ preview_asked (words_of words.now) }
 {
@@ -168,6 +179,7 @@ fn preview_of(words: &[String]) -> Option<Command<'_>>
     }
 }
 
+/// The words after `format`.
 fn format_of(words: &[String]) -> Option<Command<'_>>
     ensures { option_map view_command result ≡ format_asked (words_of words.now) }
 {

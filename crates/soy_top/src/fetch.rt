@@ -51,7 +51,8 @@ fn fetch<L: Library>(
 ) -> Result<Option<Vec<u8>>, Ending>
     ensures held { L.held files.new ≡ L.held files.old }
     ensures later { L.faults files.old ≤ L.faults files.new }
-    ensures fetched { FetchesFile (L.held files.old) (view_file file.now) (L.faults files.old, L.faults files.new) result }
+    ensures fetched { FetchesFile (L.held files.old) (view_file file.now)
+        (L.faults files.old, L.faults files.new) result }
 {
     let mut bytes = Vec::new(alloc);
     match files.fetch(file.name, &mut bytes, file.limit) {

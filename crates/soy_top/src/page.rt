@@ -47,14 +47,14 @@ fn has_separator(value: &str) -> bool
     value.chars().any(is_separator)
 }
 
-/// A space in place of a separator.
+/// A space instead of a separator.
 fn space_for(c: char) -> char
     ensures { result ≡ space_for c }
 {
     if is_separator(c) { ' ' } else { c }
 }
 
-/// A value with its separators made spaces, or out of memory.
+/// A value with its separators made spaces.
 fn spaced(alloc: Global, value: &str) -> Result<String, OutOfMemory>
     ensures { IfOk result (λ text. string_bytes text ≡ encode_utf8_all (map space_for (chars value.now))) }
 {
@@ -63,7 +63,8 @@ fn spaced(alloc: Global, value: &str) -> Result<String, OutOfMemory>
 
 /// Adds the HTML rows of a value.
 fn push_rows(alloc: Global, value: &str, text: &mut String) -> Result<(), OutOfMemory>
-    ensures { OnOk result (string_bytes text.new ≡ string_bytes text.old ++ encode_utf8_all (escaped_text html_rows (chars value.now))) }
+    ensures { OnOk result (string_bytes text.new ≡
+        string_bytes text.old ++ encode_utf8_all (escaped_text html_rows (chars value.now))) }
 {
     match escape_into(alloc, &html(), value, text) {
         Ok(()) => Ok(()),
@@ -73,7 +74,8 @@ fn push_rows(alloc: Global, value: &str, text: &mut String) -> Result<(), OutOfM
 
 /// Adds the HTML rows of a value with its separators made spaces. A value without one isn't copied.
 fn push_escaped(alloc: Global, value: &str, text: &mut String) -> Result<(), OutOfMemory>
-    ensures { OnOk result (string_bytes text.new ≡ string_bytes text.old ++ encode_utf8_all (escaped_text html_rows (map space_for (chars value.now)))) }
+    ensures { OnOk result (string_bytes text.new ≡
+        string_bytes text.old ++ encode_utf8_all (escaped_text html_rows (map space_for (chars value.now)))) }
 {
     if has_separator(value) {
         push_rows(alloc, spaced(alloc, value)?.as_str(), text)
@@ -82,7 +84,7 @@ fn push_escaped(alloc: Global, value: &str, text: &mut String) -> Result<(), Out
     }
 }
 
-/// A value in its span, or out of memory.
+/// A value in its span.
 fn wrap(alloc: Global, value: &str) -> Result<String, OutOfMemory>
     ensures { IfOk result (λ text. string_bytes text ≡ wrapped_value value.now) }
 {
@@ -121,7 +123,8 @@ fn put_part<K: Sink>(
     out: &mut K,
 ) -> Result<(), PutFault>
     ensures ok { OnOk result (Took (change K.Sink out.old out.new) (part_bytes (view json.now) (view_part part.now))) }
-    ensures err { IfErr result (λ fault. TookPrefix (change K.Sink out.old out.new) (part_bytes (view json.now) (view_part part.now))) }
+    ensures err { IfErr result (λ fault.
+        TookPrefix (change K.Sink out.old out.new) (part_bytes (view json.now) (view_part part.now))) }
     ensures later { K.faults out.old ≤ K.faults out.new }
     ensures failed { IfErr result (λ fault. PutRose fault (K.faults out.old) (K.faults out.new)) }
 {

@@ -7,7 +7,8 @@ ghost use Rattle.soy_top.specs.Change.{change};
 ghost use Rattle.soy_top.specs.Concludes.{MayEnd};
 ghost use Rattle.soy_top.specs.Course.{Course, Wrote, run_of};
 ghost use Rattle.soy_top.specs.Due.{UsageDue, ReadDue, RefusedDue, DoneDue, TooDeepDue};
-ghost use Rattle.soy_top.specs.Ending.{UsageSaid, ReadSaid, RefusalSaid, TextWritten, TooDeepSaid, SinkFailed, OutPart, ErrPart, OnNoOutput, OnNothingWritten};
+ghost use Rattle.soy_top.specs.Ending.{UsageSaid, ReadSaid, RefusalSaid, TextWritten, TooDeepSaid, SinkFailed};
+ghost use Rattle.soy_top.specs.Ending.{OutPart, ErrPart, OnNoOutput, OnNothingWritten};
 ghost use Rattle.soy_top.specs.FilesWanted.{wanted_files, wanted_names};
 ghost use Rattle.soy_top.specs.Words.{Word, words_of};
 
@@ -90,8 +91,10 @@ pub fn run<L: Library, K: Sink, E: Sink>(
     err: &mut E,
 ) -> Status
     // Usage comes exactly where the words are no command.
-    ensures usage_only { result ≡ Status.Usage → UsageSaid (answered (L.held files.old) words.now) (change E.Sink err.old err.new) }
-    ensures usage_due { answered (L.held files.old) words.now ≡ Some Usage → UsageDue (change E.Sink err.old err.new) result }
+    ensures usage_only { result ≡ Status.Usage →
+        UsageSaid (answered (L.held files.old) words.now) (change E.Sink err.old err.new) }
+    ensures usage_due { answered (L.held files.old) words.now ≡ Some Usage →
+        UsageDue (change E.Sink err.old err.new) result }
 
     // Read comes where a file of the words isn't there, or where the library fails.
     ensures read_only { result ≡ Status.Read →
@@ -101,12 +104,14 @@ pub fn run<L: Library, K: Sink, E: Sink>(
         ReadDue (change E.Sink err.old err.new) result }
 
     // Refused comes exactly where there is a first fault, and its line is said.
-    ensures refused_only { result ≡ Status.Refused → RefusalSaid (answered (L.held files.old) words.now) (change E.Sink err.old err.new) }
+    ensures refused_only { result ≡ Status.Refused →
+        RefusalSaid (answered (L.held files.old) words.now) (change E.Sink err.old err.new) }
     ensures refused_due { (line : List ℕ) → answered (L.held files.old) words.now ≡ Some (Refused line) →
         RefusedDue (L.faults files.old, L.faults files.new) (change E.Sink err.old err.new) result }
 
     // Done comes exactly where there is a text to write, and all of it was written.
-    ensures done_only { result ≡ Status.Done → TextWritten (answered (L.held files.old) words.now) (change K.Sink out.old out.new) }
+    ensures done_only { result ≡ Status.Done →
+        TextWritten (answered (L.held files.old) words.now) (change K.Sink out.old out.new) }
     ensures done_due { (text : List ℕ) → answered (L.held files.old) words.now ≡ Some (Done text) →
         DoneDue (L.faults files.old, L.faults files.new) (change K.Sink out.old out.new) (change E.Sink err.old err.new)
         result }
@@ -116,7 +121,7 @@ pub fn run<L: Library, K: Sink, E: Sink>(
     ensures too_deep_only { result ≡ Status.TooDeep →
         TooDeepSaid (answered (L.held files.old) words.now) (change K.Sink out.old out.new)
         (change E.Sink err.old err.new) }
-    ensures too_deep_due { (text : List ℕ) → (line : List ℕ) → answered (L.held files.old) words.now ≡ Some (TooDeep text line) →
+    ensures too_deep_due { (text line : List ℕ) → answered (L.held files.old) words.now ≡ Some (TooDeep text line) →
         TooDeepDue (L.faults files.old, L.faults files.new) (change K.Sink out.old out.new)
         (change E.Sink err.old err.new) result }
 
@@ -132,7 +137,8 @@ pub fn run<L: Library, K: Sink, E: Sink>(
 
     // What isn't needed is unchanged, its count of faults included.
     ensures nothing_written { OnNothingWritten result (out.new ≡ out.old) }
-    ensures out_untouched { IfSome (answered (L.held files.old) words.now) (λ answer. OnNoOutput answer (out.new ≡ out.old)) }
+    ensures out_untouched { IfSome (answered (L.held files.old) words.now) (λ answer.
+        OnNoOutput answer (out.new ≡ out.old)) }
     ensures err_untouched { (text : List ℕ) → answered (L.held files.old) words.now ≡ Some (Done text) →
         (err.new ≡ err.old) ⊎ Rose (L.faults files.old) (L.faults files.new) }
     ensures files_untouched { wanted_files (words_of words.now) ≡ [] → files.new ≡ files.old }

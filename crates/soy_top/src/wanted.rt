@@ -2,7 +2,8 @@
 
 ghost use Rattle.std.specs.Prelude.{◌≡◌, [], ◌++◌, IfOk, OnOk};
 ghost use Rattle.soy_top.specs.Asked.{Render};
-ghost use Rattle.soy_top.specs.FilesWanted.{asked_files, bundle_files, data_file, is_rendered, is_source_language, render_files, source_file};
+ghost use Rattle.soy_top.specs.FilesWanted.{asked_files, bundle_files, data_file, is_rendered, is_source_language};
+ghost use Rattle.soy_top.specs.FilesWanted.{render_files, source_file};
 ghost use Rattle.soy_top.specs.View.{view_command, view_file, view_files};
 ghost use Rattle.soy_top.specs.Words.{words_of};
 
