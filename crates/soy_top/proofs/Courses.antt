@@ -1,5 +1,5 @@
 -- What the course of a run says of each status, of what the two sinks took and of what is unchanged.
-use Rattle.std.proofs.Common.{◌≡◌, ℕ, List, [], take, length, Option, Some, None, inl, inr, ◌⊎◌, refl, sym, ap, subst, ◌∙◌, arith}
+use Rattle.std.proofs.Common.{◌≡◌, ℕ, List, [], ◌∷◌, take, length, Option, Some, None, inl, inr, ◌⊎◌, refl, sym, ap, subst, ◌∙◌, arith}
 use Rattle.std.specs.Prelude.{IfSome, Contains}
 use Rattle.std.proofs.Math.Seq.{take-length}
 use Rattle.soy_io.proofs.AddedParts.{added-nil}
@@ -17,7 +17,7 @@ use Rattle.soy_top.specs.Course.{Run, Course, Said, Wrote, Says, Stops, WritesTo
 use Rattle.soy_top.specs.Due.{IsDue, UsageDue, ReadDue, RefusedDue, DoneDue, TooDeepDue}
 use Rattle.soy_top.specs.Ending.{UsageSaid, ReadSaid, RefusalSaid, TextWritten, TooDeepSaid, TookTooDeep, SinkFailed, OutPart, ErrPart, OnNoOutput, OnNothingWritten}
 use Rattle.soy_top.specs.Line.{ended, read_line, usage_text}
-use Rattle.soy_top.specs.Output.{End, Whole, AtCall, ended_answer, output_answer}
+use Rattle.soy_top.specs.Output.{End, Whole, AtCall, OnEmpty, OnNoText, ended_answer, output_answer}
 use Rattle.soy_top.specs.Words.{Word}
 
 -- an answer that is known is the one that is said of it
@@ -111,16 +111,20 @@ said_whole : (wanted shown : Status) (text : List ℕ) (sink : Change) (result :
 said_whole wanted shown text sink result (inl h) is never = (sym h.0 ∙ is, h.1)
 said_whole wanted shown text sink result (inr h) is never = absurd (never (subst IsStopped is (stops_status text sink result h)))
 
+on_empty : (P : Type 0) (text : List ℕ) → P → OnEmpty text P
+on_empty P [] h = h
+on_empty P (c ∷ text) h = tt
+
 on_no_output : (P : Type 0) (a : Answer) → P → OnNoOutput a P
 on_no_output P Usage h = h
 on_no_output P (Read file) h = h
 on_no_output P (Refused line) h = h
 on_no_output P (Done text) h = tt
-on_no_output P (TooDeep text line) h = tt
+on_no_output P (TooDeep text line) h = on_empty P text h
 
-no_output_of_end : (P : Type 0) (text : List ℕ) (end : End) → OnNoOutput (ended_answer text end) P
-no_output_of_end P text Whole = tt
-no_output_of_end P text (AtCall line) = tt
+no_output_of_end : (P : Type 0) (text : List ℕ) (end : End) → OnNoText text end P → OnNoOutput (ended_answer text end) P
+no_output_of_end P text Whole h = tt
+no_output_of_end P text (AtCall line) h = h
 
 text_of_end : (sink : Change) (text : List ℕ) (end : End) → TookPrefix sink text → TookPrefix sink (out_text (ended_answer text end))
 text_of_end sink text Whole h = h
@@ -455,7 +459,7 @@ module _ (run : Run) (SameOut SameErr : Type 0) where
   pub out_untouched : Course run SameOut SameErr → IfSome run.answer (λ a. OnNoOutput a SameOut)
   out_untouched (inl said) = for_any run.answer _ (λ a. on_no_output SameOut a said.same_out)
   out_untouched (inr (inl wrote)) =
-      for_one run.answer (output_answer wrote.output) (λ a. OnNoOutput a SameOut) wrote.is_answer (no_output_of_end SameOut wrote.output.text wrote.output.end)
+      for_one run.answer (output_answer wrote.output) (λ a. OnNoOutput a SameOut) wrote.is_answer (no_output_of_end SameOut wrote.output.text wrote.output.end wrote.no_text)
   out_untouched (inr (inr stopped)) = for_any run.answer _ (λ a. on_no_output SameOut a stopped.same_out)
 
   module _ (out_keeps : SameOut → run.out.taken_after ≡ run.out.taken_before) (err_keeps : SameErr → run.err.taken_after ≡ run.err.taken_before) where

@@ -11,7 +11,7 @@ use Rattle.soy_top.specs.declared.status.Status.TheVariants as status
 use Rattle.soy_top.specs.Answer.{Answer, Usage, Read, Refused, Done, TooDeep}
 use Rattle.soy_top.specs.Change.{Change, Took, TookPrefix, Failed}
 use Rattle.soy_top.specs.Line.{ended, read_line, usage_text}
-use Rattle.soy_top.specs.Output.{End, Whole, AtCall, Output, output_answer}
+use Rattle.soy_top.specs.Output.{End, Whole, AtCall, Output, OnNoText, output_answer}
 use Rattle.soy_top.specs.Words.{Word}
 
 -- a put of a text stopped: the sink failed or memory ran out, and the sink took a prefix
@@ -79,10 +79,11 @@ pub record Said (run : Run) (SameOut : Type 0) : Type 0 where
   pub same_out : SameOut
 
 -- what was accepted was written, and its line was said where it ends too deep
-pub record Wrote (run : Run) (SameErr : Type 0) : Type 0 where
+pub record Wrote (run : Run) (SameOut SameErr : Type 0) : Type 0 where
   pub output : Output
   pub is_answer : IfSome run.answer (λ a. a ≡ output_answer output)
   pub writes : Writes output run.out run.err SameErr run.result
+  pub no_text : OnNoText output.text output.end SameOut
 
 -- memory ran out before anything was put
 pub record Stopped (run : Run) (SameOut SameErr : Type 0) : Type 0 where
@@ -91,4 +92,4 @@ pub record Stopped (run : Run) (SameOut SameErr : Type 0) : Type 0 where
   pub same_err : SameErr
 
 abbrev pub Course : Run → Type 0 → Type 0 → Type 0
-Course run SameOut SameErr = Said run SameOut ⊎ (Wrote run SameErr ⊎ Stopped run SameOut SameErr)
+Course run SameOut SameErr = Said run SameOut ⊎ (Wrote run SameOut SameErr ⊎ Stopped run SameOut SameErr)

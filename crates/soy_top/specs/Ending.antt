@@ -9,6 +9,7 @@ use Rattle.soy_top.specs.declared.status.Status.TheVariants as status
 use Rattle.soy_top.specs.Answer.{Answer, Usage, Read, Refused, Done, TooDeep, out_text, err_text}
 use Rattle.soy_top.specs.Change.{Change, Took, TookPrefix, Failed}
 use Rattle.soy_top.specs.Line.{ended, read_line, usage_text}
+use Rattle.soy_top.specs.Output.{OnEmpty}
 use Rattle.soy_top.specs.Words.{Word}
 
 -- Usage: the words are no command, and the usage text was said
@@ -58,13 +59,13 @@ ErrPart answer names file_faults err =
     ⊎ ((file : Word) × Contains names file × Rose file_faults.0 file_faults.1
     × TookPrefix err (ended (read_line file))))
 
--- a fact where nothing is for the output
+-- a fact where nothing is for the output, as where the text of an answer that ends too deep is empty
 abbrev pub OnNoOutput : Answer → Type 0 → Type 0
 OnNoOutput Usage P = P
 OnNoOutput (Read file) P = P
 OnNoOutput (Refused line) P = P
 OnNoOutput (Done text) P = Unit {0}
-OnNoOutput (TooDeep text line) P = Unit {0}
+OnNoOutput (TooDeep text line) P = OnEmpty text P
 
 -- a fact where the status says that nothing was answered on the output
 abbrev pub OnNothingWritten : Status → Type 0 → Type 0

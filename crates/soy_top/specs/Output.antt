@@ -2,7 +2,7 @@
 --
 -- It is whole, or it ends before a call that nests too deep, whose line is then for standard error.
 -- Example: a page of a template that calls itself without end is the text up to the call at the depth of 101.
-use Rattle.std.specs.Prelude.{ℕ, List}
+use Rattle.std.specs.Prelude.{ℕ, List, [], ◌∷◌}
 use Rattle.soy_top.specs.Answer.{Answer, Done, TooDeep}
 
 pub data End : Type 0 where
@@ -13,6 +13,16 @@ pub data End : Type 0 where
 pub record Output : Type 0 where
   pub text : List ℕ
   pub end : End
+
+-- a fact where the text is empty
+abbrev pub OnEmpty : List ℕ → Type 0 → Type 0
+OnEmpty [] P = P
+OnEmpty (c ∷ text) P = Unit {0}
+
+-- a fact where nothing is for the output, since the text ends too deep before its first character
+abbrev pub OnNoText : List ℕ → End → Type 0 → Type 0
+OnNoText text Whole P = Unit {0}
+OnNoText text (AtCall line) P = OnEmpty text P
 
 -- the answer that it is
 abbrev pub ended_answer : List ℕ → End → Answer

@@ -4,6 +4,7 @@ ghost use Rattle.std.specs.Prelude.{◌≡◌, ◌≤◌, IfErr, IfOk};
 ghost use Rattle.soy_io.specs.PutRose.{PutRose};
 ghost use Rattle.soy_top.specs.Change.{change, Took, TookPrefix};
 ghost use Rattle.soy_top.specs.Course.{Writes};
+ghost use Rattle.soy_top.specs.Output.{OnNoText};
 ghost use Rattle.soy_top.specs.ViewOutput.{IsEnd, view_output};
 
 use crate::ending::{put_status, say};
@@ -32,6 +33,7 @@ impl Output<'_> {
         ensures ok { IfOk result (λ end. Took (change K.Sink out.old out.new) (view_output self.now).text) }
         ensures end { IfOk result (λ end. IsEnd (view_output self.now).end end) }
         ensures err { IfErr result (λ fault. TookPrefix (change K.Sink out.old out.new) (view_output self.now).text) }
+        ensures no_text { OnNoText (view_output self.now).text (view_output self.now).end (out.new ≡ out.old) }
         ensures later { K.faults out.old ≤ K.faults out.new }
         ensures failed { IfErr result (λ fault. PutRose fault (K.faults out.old) (K.faults out.new)) }
     {
@@ -45,6 +47,7 @@ impl Output<'_> {
     pub(crate) fn write<K: Sink, E: Sink>(&self, alloc: Global, out: &mut K, err: &mut E) -> Status
         ensures written { Writes (view_output self.now) (change K.Sink out.old out.new) (change E.Sink err.old err.new)
             (err.new ≡ err.old) result }
+        ensures no_text { OnNoText (view_output self.now).text (view_output self.now).end (out.new ≡ out.old) }
         ensures out_later { K.faults out.old ≤ K.faults out.new }
         ensures err_later { E.faults err.old ≤ E.faults err.new }
     {

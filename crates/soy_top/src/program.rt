@@ -33,7 +33,7 @@ fn perform<L: Library, K: Sink, E: Sink>(
     ensures wrote { IfOk result (λ status.
         Wrote (run_of (answered (L.held files.old) words.now) (wanted_names words.now)
         (L.faults files.old, L.faults files.new) (change K.Sink out.old out.new) (change E.Sink err.old err.new)
-        status) (err.new ≡ err.old)) }
+        status) (out.new ≡ out.old) (err.new ≡ err.old)) }
     ensures may_end { IfErr result (λ ending.
         MayEnd (answered (L.held files.old) words.now) (wanted_names words.now)
         (L.faults files.old, L.faults files.new) ending) }

@@ -21,4 +21,5 @@ returns-clause-wrote g c = record {
   output = view_output c.in_ok-output.output;
   is_answer = answer-same _ _ _ (answer-fetched _ (words_of c.args.words.now) (view_command c.in-Some.command) _ _ (view_contents c.as_slice-2.result.now) c.in-Some.ensures (ap view_files c.as_slice.ensures.value ∙ c.in_ok-wanted.ensures) c.in_ok-contents.ensures.fetched (ap view_contents (sym c.as_slice-2.ensures.value))) c.in_ok-output.ensures;
   writes = c.write.ensures.written;
+  no_text = c.write.ensures.no_text;
 }
