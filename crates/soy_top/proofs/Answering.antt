@@ -1,8 +1,7 @@
 -- What is known of the answer from what the words ask for and from what was fetched.
-use Rattle.std.proofs.Common.{◌≡◌, ℕ, Bool, true, false, cond, List, [], ◌∷◌, Option, Some, None, Result, Ok, Err, Vec, length, refl, sym, ap, subst, ◌∙◌, arith, codes, inl, inr, ◌⊎◌}
-use Rattle.std.specs.Prelude.{IfSome, Contains, option_map, String}
+use Rattle.std.proofs.Common.{◌≡◌, ℕ, Bool, true, false, cond, List, [], ◌∷◌, Option, Some, None, Err, Vec, length, refl, sym, ap, subst, ◌∙◌, codes, inl, inr, ◌⊎◌}
+use Rattle.std.specs.Prelude.{IfSome, option_map}
 use Rattle.std.specs.Option.{option_map_or}
-use Rattle.std.specs.String.{string_bytes}
 use Rattle.std.specs.declared.alloc.Global.{Global}
 use Rattle.std.specs.Str.{bytes_eq}
 use Rattle.soy_io.specs.FileOf.{Files}
@@ -10,14 +9,14 @@ use Rattle.soy_io.specs.Rose.{Rose}
 use Rattle.soy_top.specs.declared.ending.Ending.{Ending}
 use Rattle.soy_top.specs.declared.ending.Ending.TheVariants as ending
 use Rattle.soy_top.specs.Accepts.{Refuses}
-use Rattle.soy_top.specs.Answer.{Answer, Usage, Read, Refused, Done, not_yet, page_answer, named_answer, form_answer, render_answer, contents_answer, limits_answer, files_answer, asked_answer, answer, known_answer}
+use Rattle.soy_top.specs.Answer.{Answer, Usage, Read, Refused, not_yet, page_answer, form_answer, render_answer, contents_answer, limits_answer, asked_answer, answer, known_answer}
 use Rattle.soy_top.specs.Asked.{Asked, Render, Check, Extract, Gen, Play, Preview, Format, asked_by_words}
 use Rattle.soy_top.specs.Concludes.{MayEnd}
 use Rattle.soy_top.specs.Fetched.{AreContents, FetchesAll, IsNotHeld}
 use Rattle.soy_top.specs.FilesWanted.{FileWanted, asked_files, wanted_files, file_names, known_files, first_not_held, first_over_limit, contents}
 use Rattle.soy_top.specs.FirstForm.{Form, first_form, full_name}
 use Rattle.soy_top.specs.FirstPage.{page_of}
-use Rattle.soy_top.specs.Line.{too_large_line, ended}
+use Rattle.soy_top.specs.Line.{too_large_line}
 use Rattle.soy_top.specs.View.{view_contents}
 use Rattle.soy_top.specs.Words.{Word}
 

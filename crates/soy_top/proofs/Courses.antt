@@ -1,5 +1,5 @@
 -- What the course of a run says of each status, of what the two sinks took and of what is unchanged.
-use Rattle.std.proofs.Common.{◌≡◌, ℕ, List, [], ◌∷◌, take, length, Option, Some, None, inl, inr, ◌⊎◌, refl, sym, ap, subst, ◌∙◌, arith}
+use Rattle.std.proofs.Common.{◌≡◌, ℕ, List, [], ◌∷◌, length, Option, Some, None, inl, inr, ◌⊎◌, refl, sym, ap, subst, ◌∙◌, arith}
 use Rattle.std.specs.Prelude.{IfSome, Contains}
 use Rattle.std.proofs.Math.Seq.{take-length}
 use Rattle.soy_io.proofs.AddedParts.{added-nil}
@@ -13,9 +13,9 @@ use Rattle.soy_top.specs.declared.status.Status.{Status}
 use Rattle.soy_top.specs.declared.status.Status.TheVariants as status
 use Rattle.soy_top.specs.Answer.{Answer, Usage, Read, Refused, Done, TooDeep, out_text, err_text}
 use Rattle.soy_top.specs.Change.{Change, Took, TookPrefix, Failed}
-use Rattle.soy_top.specs.Course.{Run, Course, Said, Wrote, Says, Stops, WritesTo, TextIsDue}
+use Rattle.soy_top.specs.Course.{Run, Course, Said, Says, Stops, WritesTo, TextIsDue}
 use Rattle.soy_top.specs.Due.{IsDue, UsageDue, ReadDue, RefusedDue, DoneDue, TooDeepDue}
-use Rattle.soy_top.specs.Ending.{UsageSaid, ReadSaid, RefusalSaid, TextWritten, TooDeepSaid, TookTooDeep, SinkFailed, OutPart, ErrPart, OnNoOutput, OnNothingWritten}
+use Rattle.soy_top.specs.Ending.{UsageSaid, ReadSaid, RefusalSaid, TextWritten, TooDeepSaid, SinkFailed, OutPart, ErrPart, OnNoOutput, OnNothingWritten}
 use Rattle.soy_top.specs.Line.{ended, read_line, usage_text}
 use Rattle.soy_top.specs.Output.{End, Whole, AtCall, OnEmpty, OnNoText, ended_answer, output_answer}
 use Rattle.soy_top.specs.Words.{Word}

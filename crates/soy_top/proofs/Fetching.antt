@@ -1,6 +1,6 @@
 -- What the fetches of the files that are wanted say of the files that are held.
-use Rattle.std.proofs.Common.{◌≡◌, ℕ, ◌<◌, ◌≤◌, Bool, true, false, cond, List, [], ◌∷◌, ◌++◌, Option, Some, None, Result, Ok, Err, length, drop, refl, sym, ap, subst, ◌∙◌, arith, append_assoc, append-nil, nat_lt, get_or, add-one, min, ◌+◌, Vec, inl, inr, ◌⊎◌}
-use Rattle.std.specs.Prelude.{IfSome, Contains, unwrap_or, is_some, map}
+use Rattle.std.proofs.Common.{◌≡◌, ℕ, ◌<◌, ◌≤◌, Bool, true, false, cond, List, [], ◌∷◌, ◌++◌, Option, Some, None, Result, Ok, Err, length, drop, refl, sym, ap, subst, ◌∙◌, arith, append_assoc, append-nil, nat_lt, get_or, add-one, ◌+◌, Vec, inl, inr, ◌⊎◌}
+use Rattle.std.specs.Prelude.{IfSome, Contains, unwrap_or}
 use Rattle.std.specs.Option.{option_or}
 use Rattle.std.specs.declared.alloc.Global.{Global}
 use Rattle.std.proofs.Math.ListN.{drop_of_length-le}
@@ -8,8 +8,7 @@ use Rattle.std.proofs.Math.Seq.{drop-cons}
 use Rattle.std.proofs.lemmas.List.{get_or-map, length-map}
 use Rattle.soy_io.specs.Rose.{Rose}
 use Rattle.std.proofs.lemmas.Bool.{lt-ltb, ltb-true}
-use Rattle.std.proofs.lemmas.Bool.Decides.{nat_tests}
-use Rattle.soy_io.specs.Fetches.{IsFileWithin, IsFileOver, HasNoFile}
+use Rattle.soy_io.specs.Fetches.{HasNoFile}
 use Rattle.soy_io.specs.FileOf.{Files, file_of}
 use Rattle.soy_top.specs.declared.ending.Ending.{Ending}
 use Rattle.soy_top.specs.declared.ending.Ending.TheVariants as ending

@@ -1,5 +1,5 @@
 -- Where the answer is a text, the words and the files are those of a page.
-use Rattle.std.proofs.Common.{◌≡◌, ℕ, Bool, true, false, cond, List, [], ◌∷◌, Option, Some, None, inl, inr, ◌⊎◌, refl, sym, ap, subst, ◌∙◌, codes}
+use Rattle.std.proofs.Common.{◌≡◌, ℕ, Bool, true, false, cond, List, [], ◌∷◌, Option, Some, None, inl, inr, ◌⊎◌, refl, sym, ap, ◌∙◌, codes}
 use Rattle.std.specs.Prelude.{option_and_then, option_map, unwrap_or, is_some}
 use Rattle.std.specs.Option.{option_map_or}
 use Rattle.std.specs.Str.{bytes_eq}
@@ -7,7 +7,7 @@ use Rattle.std.proofs.lemmas.Slice.Eq.{bytes_eq-Decides}
 use Rattle.soy_io.specs.FileOf.{Files, file_of}
 use Rattle.soy_top.specs.Answer.{Answer, Usage, Read, Refused, Done, page_answer, form_answer, render_answer, contents_answer, asked_answer, limits_answer, answer}
 use Rattle.soy_top.specs.Asked.{Asked, Render, Check, Extract, Gen, Play, Preview, Format, has_file_count, render_asked, check_asked, extract_asked, gen_asked, play_asked, preview_asked, format_asked, number_of, asked_by_words}
-use Rattle.soy_top.specs.FilesWanted.{FileWanted, data_file, source_file, is_source_language, is_rendered, render_files, asked_files, first_not_held, first_over_limit, content, contents}
+use Rattle.soy_top.specs.FilesWanted.{FileWanted, data_file, source_file, is_rendered, render_files, asked_files, first_not_held, first_over_limit, content, contents}
 use Rattle.soy_top.specs.FirstForm.{Form, first_form, full_name}
 use Rattle.soy_top.specs.FirstPage.{page_of, first_page}
 use Rattle.soy_top.specs.IsPage.{IsPage}

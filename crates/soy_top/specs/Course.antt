@@ -8,7 +8,7 @@ use Rattle.std.specs.Prelude.{◌≡◌, ℕ, List, Option, Some, ◌⊎◌, Con
 use Rattle.soy_io.specs.Rose.{Rose}
 use Rattle.soy_top.specs.declared.status.Status.{Status}
 use Rattle.soy_top.specs.declared.status.Status.TheVariants as status
-use Rattle.soy_top.specs.Answer.{Answer, Usage, Read, Refused, Done, TooDeep}
+use Rattle.soy_top.specs.Answer.{Answer, Usage, Read, Refused}
 use Rattle.soy_top.specs.Change.{Change, Took, TookPrefix, Failed}
 use Rattle.soy_top.specs.Line.{ended, read_line, usage_text}
 use Rattle.soy_top.specs.Output.{End, Whole, AtCall, Output, OnNoText, output_answer}

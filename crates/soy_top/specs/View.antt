@@ -1,7 +1,7 @@
 -- The program's own types as the definitions see them.
 --
 -- Example: the command of the words `format t.soy` is seen as what these words ask for.
-use Rattle.std.specs.Prelude.{ℕ, List, map, Vec, String}
+use Rattle.std.specs.Prelude.{ℕ, List, map, Vec}
 use Rattle.std.specs.declared.alloc.Global.{Global}
 use Rattle.soy_top.specs.declared.command.Command.{Command}
 use Rattle.soy_top.specs.declared.command.Command.TheVariants as command

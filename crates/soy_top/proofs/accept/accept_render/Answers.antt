@@ -1,4 +1,4 @@
-use Rattle.std.proofs.Common.{◌≡◌, length, arith}
+use Rattle.std.proofs.Common.{arith}
 use Rattle.soy_top.proofs.Answering.{other_contents}
 use Rattle.soy_top.proofs.accept.accept_render.Goals as goal
 

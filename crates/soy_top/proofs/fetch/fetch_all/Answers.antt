@@ -1,4 +1,4 @@
-use Rattle.std.proofs.Common.{rules, ◌≡◌, ◌≤◌, length, arith}
+use Rattle.std.proofs.Common.{rules}
 use Rattle.std.proofs.lemmas.Result.{err_from_is_err_and}
 use Rattle.soy_top.proofs.Fetching.{fetched-step, fetched-all, fetch-stops, none_wanted}
 use Rattle.soy_top.proofs.fetch.fetch_all.Goals as goal
