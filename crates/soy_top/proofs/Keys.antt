@@ -3,7 +3,7 @@ use Rattle.std.proofs.Common.{◌≡◌, ℕ, Bool, true, false, not, ◌||◌, 
 use Rattle.std.specs.List.{list_any}
 use Rattle.std.specs.Str.{bytes_eq}
 use Rattle.std.proofs.lemmas.List.{map-append}
-use Rattle.soy_top.specs.Words.{is_among}
+use Rattle.soy_base.specs.Among.{is_among}
 
 abbrev pub key_names : List (Bor (List ℕ)) → List (List ℕ)
 key_names keys = map (λ key. key.now) keys

@@ -1,9 +1,9 @@
-pub mod Answered
+pub mod Answering
 pub mod Courses
 pub mod Cuts
-pub mod Endings
+pub mod Delimiters
+pub mod Fetching
 pub mod Keys
-pub mod Marks
 pub mod Numbers
 pub mod Pages
 pub mod ReadForm

@@ -4,10 +4,10 @@ use Rattle.std.specs.List.{slice_split, onto_first, list_all}
 use Rattle.std.specs.Option.{option_and_then, option_map_or}
 use Rattle.std.proofs.lemmas.Bool.{eqb-true}
 use Rattle.std.proofs.lemmas.Bool.Decides.{nat_tests}
-use Rattle.soy_top.specs.Words.{is_among}
+use Rattle.soy_base.specs.Among.{is_among}
 use Rattle.soy_top.specs.FirstForm.{Part, Print, is_plain, tag_names, cut, is_tag_and_text, are_text_and_tags, is_static, static_part, print_of, print_parts, parts_at_braces, parts_of, is_file_byte}
 use Rattle.soy_top.specs.Spells.{IsPlain, IsStaticText, nothing, plain, tag, ArePrints, none, print, IsBody}
-use Rattle.soy_top.proofs.Marks.{both_hold, list_all-halves, after_mark, joined, joined-slice_split, WhereSome, WhereSome-and_then, WhereSome-map, WhereSome-if, AreHalves, cut-halves, split_cond, split-all}
+use Rattle.soy_top.proofs.Delimiters.{both_hold, list_all-halves, after_mark, joined, joined-slice_split, WhereSome, WhereSome-and_then, WhereSome-map, WhereSome-if, AreHalves, cut-halves, split_cond, split-all}
 
 -- a printing character
 abbrev pub is_line_byte : ℕ → Bool

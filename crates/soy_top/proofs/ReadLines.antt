@@ -9,44 +9,44 @@ use Rattle.std.proofs.lemmas.Bool.Decides.{nat_tests, Decides-eqb}
 use Rattle.std.proofs.lemmas.Cmp.{nat_list_eq_equiv}
 use Rattle.std.proofs.lemmas.List.{take-append-drop, append-nil}
 use Rattle.std.proofs.lemmas.Map.Keys.{IsDistinct-push}
-use Rattle.soy_top.specs.Name.{is_name, is_dotted_name}
-use Rattle.soy_top.specs.Words.{is_among}
-use Rattle.soy_top.specs.FirstForm.{Form, Declared, is_empty, after_front, before_back, between, passing, namespace_of, template_of, param_of, parts_of, has_body_ends, is_last_line, is_template_end, body_read, declared, named_form, form_of_lines, is_file_byte, first_form}
+use Rattle.soy_base.specs.Names.{is_name, is_dotted_name}
+use Rattle.soy_base.specs.Among.{is_among}
+use Rattle.soy_top.specs.FirstForm.{Form, Declared, is_empty, after_prefix, before_suffix, between, passing, namespace_of, template_of, param_of, parts_of, has_body_ends, is_last_line, is_template_end, body_read, declared, named_form, form_of_lines, is_file_byte, first_form}
 use Rattle.soy_top.specs.Spells.{IsBody, param_lines, params_of, Spells}
-use Rattle.soy_top.proofs.Marks.{both_hold, and_holds, list_all-both, after_mark, joined, joined-slice_split, WhereSome, WhereSome-is, WhereSome-and_then, WhereSome-map, WhereSome-if}
+use Rattle.soy_top.proofs.Delimiters.{both_hold, and_holds, list_all-both, after_mark, joined, joined-slice_split, WhereSome, WhereSome-is, WhereSome-and_then, WhereSome-map, WhereSome-if}
 use Rattle.soy_top.proofs.ReadForm.{is_line_byte, lines-bytes, body_of_parts}
 
--- what follows a front, by the text
-front_read : (front line : List ℕ) → WhereSome (λ rest. line ≡ front ++ rest) (after_front front line)
-front_read front line =
-    WhereSome-if (λ rest. line ≡ front ++ rest) (starts_with nat_eq line front) (Some (drop (length front) line))
-    (λ t. sym (ap (λ rest. rest ++ drop (length front) line) (same_text front (take (length front) line) (sym t)) ∙ take-append-drop (length front) line))
+-- what follows a prefix, by the text
+prefix_read : (prefix line : List ℕ) → WhereSome (λ rest. line ≡ prefix ++ rest) (after_prefix prefix line)
+prefix_read prefix line =
+    WhereSome-if (λ rest. line ≡ prefix ++ rest) (starts_with nat_eq line prefix) (Some (drop (length prefix) line))
+    (λ t. sym (ap (λ rest. rest ++ drop (length prefix) line) (same_text prefix (take (length prefix) line) (sym t)) ∙ take-append-drop (length prefix) line))
 
--- what stands before a back, by the text
-back_read : (back text : List ℕ) → WhereSome (λ rest. text ≡ rest ++ back) (before_back back text)
-back_read back text =
-    let n = length text - length back in
-    WhereSome-if (λ rest. text ≡ rest ++ back) (ends_with nat_eq text back) (Some (take n text))
-    (λ t. sym (ap (λ rest. take n text ++ rest) (same_text back (drop n text) (sym t)) ∙ take-append-drop n text))
+-- what stands before a suffix, by the text
+suffix_read : (suffix text : List ℕ) → WhereSome (λ rest. text ≡ rest ++ suffix) (before_suffix suffix text)
+suffix_read suffix text =
+    let n = length text - length suffix in
+    WhereSome-if (λ rest. text ≡ rest ++ suffix) (ends_with nat_eq text suffix) (Some (take n text))
+    (λ t. sym (ap (λ rest. take n text ++ rest) (same_text suffix (drop n text) (sym t)) ∙ take-append-drop n text))
 
--- a line that holds a name, between a front and a back
-record IsNamed (front back : List ℕ) (test : List ℕ → Bool) (line name : List ℕ) : Type 0 where
-  pub spelled : line ≡ front ++ (name ++ back)
+-- a line that holds a name, between a prefix and a suffix
+record IsNamed (prefix suffix : List ℕ) (test : List ℕ → Bool) (line name : List ℕ) : Type 0 where
+  pub spelled : line ≡ prefix ++ (name ++ suffix)
   pub passes : test name ≡ true
 
--- the same with a front before it
-in_front : (front back rest : List ℕ) (o : Option (List ℕ)) → WhereSome (λ name. rest ≡ name ++ back) o → WhereSome (λ name. front ++ rest ≡ front ++ (name ++ back)) o
-in_front front back rest None h = tt
-in_front front back rest (Some name) h = ap (λ t. front ++ t) h
+-- the same with a prefix before it
+in_prefix : (prefix suffix rest : List ℕ) (o : Option (List ℕ)) → WhereSome (λ name. rest ≡ name ++ suffix) o → WhereSome (λ name. prefix ++ rest ≡ prefix ++ (name ++ suffix)) o
+in_prefix prefix suffix rest None h = tt
+in_prefix prefix suffix rest (Some name) h = ap (λ t. prefix ++ t) h
 
--- what is read as a name between a front and a back stands there
-name_read : (front back : List ℕ) (test : List ℕ → Bool) (line : List ℕ) → WhereSome (IsNamed front back test line) (option_and_then (passing test) (between front back line))
-name_read front back test line =
-    WhereSome-and_then (λ name. line ≡ front ++ (name ++ back)) (IsNamed front back test line) (passing test) (between front back line)
-    (WhereSome-and_then (λ rest. line ≡ front ++ rest) (λ name. line ≡ front ++ (name ++ back)) (before_back back) (after_front front line) (front_read front line)
-    (λ rest e. subst (λ (t : List ℕ). WhereSome (λ name. t ≡ front ++ (name ++ back)) (before_back back rest)) (sym e)
-    (in_front front back rest (before_back back rest) (back_read back rest))))
-    (λ name e. WhereSome-if (IsNamed front back test line) (test name) (Some name) (λ t. record { spelled = e; passes = t }))
+-- what is read as a name between a prefix and a suffix stands there
+name_read : (prefix suffix : List ℕ) (test : List ℕ → Bool) (line : List ℕ) → WhereSome (IsNamed prefix suffix test line) (option_and_then (passing test) (between prefix suffix line))
+name_read prefix suffix test line =
+    WhereSome-and_then (λ name. line ≡ prefix ++ (name ++ suffix)) (IsNamed prefix suffix test line) (passing test) (between prefix suffix line)
+    (WhereSome-and_then (λ rest. line ≡ prefix ++ rest) (λ name. line ≡ prefix ++ (name ++ suffix)) (before_suffix suffix) (after_prefix prefix line) (prefix_read prefix line)
+    (λ rest e. subst (λ (t : List ℕ). WhereSome (λ name. t ≡ prefix ++ (name ++ suffix)) (before_suffix suffix rest)) (sym e)
+    (in_prefix prefix suffix rest (before_suffix suffix rest) (suffix_read suffix rest))))
+    (λ name e. WhereSome-if (IsNamed prefix suffix test line) (test name) (Some name) (λ t. record { spelled = e; passes = t }))
 
 -- a text that is empty by its length
 empty_is : (text : List ℕ) → is_empty text ≡ true → text ≡ []
@@ -82,7 +82,7 @@ end_read (line ∷ lines) h =
       spelled = ap (λ t. 10 ∷ (t ++ after_mark 10 lines)) (same_text line (codes "{/template}") (sym p.0)) ∙ ap (λ t. codes "\n{/template}" ++ t) last.spelled;
     }
 
--- the lines between the template's first line and its end, each behind a line end
+-- the lines between the template's first line and its end, each behind a line break
 record Middle (params : List (List ℕ)) (marked : List ℕ) (found : Declared) : Type 0 where
   pub lines : List (Option (List ℕ))
   pub end : List ℕ
@@ -108,7 +108,7 @@ past_empty params marked found m = record {
   bytes = m.bytes;
 }
 
--- a declaration with its line end, before more lines
+-- a declaration with its line break, before more lines
 pub param_spelled : (name rest more : List ℕ) → (codes "{@param " ++ (name ++ codes ": string}")) ++ (10 ∷ (rest ++ more)) ≡ ((codes "{@param " ++ (name ++ codes ": string}\n")) ++ rest) ++ more
 param_spelled name rest more = simp append_assoc
 

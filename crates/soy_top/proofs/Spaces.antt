@@ -6,7 +6,7 @@ use Rattle.std.specs.Str.{chars, IsUtf8}
 use Rattle.std.proofs.Math.Utf8.{scalar, scalars}
 use Rattle.std.proofs.lemmas.Str.{chars-encodes, scalars-chars}
 use Rattle.soy_top.specs.FirstPage.{is_separator, space_for}
-use Rattle.soy_top.proofs.Marks.{both_hold, and_holds}
+use Rattle.soy_top.proofs.Delimiters.{both_hold, and_holds}
 
 scalar_space : (c : ℕ) (b : Bool) → scalar c ≡ true → scalar (cond b 32 c) ≡ true
 scalar_space c true h = refl
@@ -22,7 +22,7 @@ scalars-spaced (c ∷ cs) h =
 pub chars-spaced : (value : List ℕ) → IsUtf8 value → chars (encode_utf8_all (map space_for (chars value))) ≡ map space_for (chars value)
 chars-spaced value utf8 = chars-encodes _ (scalars-spaced (chars value) (scalars-chars value utf8))
 
--- a value without a separator is as it was
+-- a value without a separator is unchanged
 unspaced_next : (c : ℕ) (cs : List ℕ) (here later : Bool) → (here || later) ≡ false → (later ≡ false → map space_for cs ≡ cs) → cond here 32 c ∷ map space_for cs ≡ c ∷ cs
 unspaced_next c cs true later h rest = let e : true ≡ false = h in cc
 unspaced_next c cs false later h rest = ap (λ cs. c ∷ cs) (rest h)

@@ -1,14 +1,15 @@
 -- What spells a body is read as its parts.
-use Rattle.std.proofs.Common.{◌≡◌, ℕ, ◌==◌, Bool, true, false, not, cond, ◌&&◌, ◌||◌, List, [], ◌∷◌, ◌++◌, Option, Some, None, option_map, refl, sym, ap, ◌∙◌, arith, append_assoc, nat_eq, nat_le, codes}
+use Rattle.std.proofs.Common.{◌≡◌, ℕ, ◌==◌, Bool, true, false, not, cond, ◌&&◌, ◌||◌, List, [], ◌∷◌, ◌++◌, Option, Some, None, option_map, refl, sym, ap, ◌∙◌, arith, append_assoc, nat_eq, codes}
 use Rattle.std.specs.List.{slice_split, onto_first, list_all, starts_with}
 use Rattle.std.specs.Option.{option_and_then, option_map_or}
 use Rattle.std.proofs.lemmas.Bool.Decides.{nat_tests}
 use Rattle.std.proofs.lemmas.List.{append-nil}
-use Rattle.soy_top.specs.Name.{is_name, is_dotted_name, begins_name, continues_name}
-use Rattle.soy_top.specs.Words.{is_among}
+use Rattle.std.specs.Char.{is_ascii_digit}
+use Rattle.soy_base.specs.Names.{is_name, is_dotted_name, begins_name, continues_name}
+use Rattle.soy_base.specs.Among.{is_among}
 use Rattle.soy_top.specs.FirstForm.{Part, Print, is_plain, tag_names, is_tag_and_text, are_text_and_tags, is_static, static_part, print_of, print_parts, parts_at_braces, parts_of}
 use Rattle.soy_top.specs.Spells.{IsPlain, IsStaticText, nothing, plain, tag, ArePrints, none, print, IsBody}
-use Rattle.soy_top.proofs.Marks.{both_hold, and_holds, lacks, list_all-weaken, list_all-both, split-at, split-front, cut-mark, after_mark, split_has, all-split, among_all}
+use Rattle.soy_top.proofs.Delimiters.{both_hold, and_holds, lacks, list_all-weaken, list_all-both, split-at, split-prefix, cut-delimiter, after_mark, split_has, all-split, among_all}
 use Rattle.soy_top.proofs.ReadForm.{is_line_byte}
 
 -- a character of a dotted name
@@ -25,7 +26,7 @@ pub name_parts : (name : List ℕ) → is_name name ≡ true → list_all is_nam
 name_parts [] h = refl
 name_parts (c ∷ cs) h =
     let p = both_hold (begins_name c) (list_all continues_name cs) h in
-    and_holds (is_name_part c) (list_all is_name_part cs) (or_first (continues_name c) (c == 46) (or_first (begins_name c) (nat_le 48 c && nat_le c 57) p.0))
+    and_holds (is_name_part c) (list_all is_name_part cs) (or_first (continues_name c) (c == 46) (or_first (begins_name c) (is_ascii_digit c) p.0))
     (list_all-weaken continues_name is_name_part (λ b t. or_first (continues_name b) (b == 46) t) cs p.1)
 
 -- so are names
@@ -76,8 +77,8 @@ plain_tag : (c : ℕ) → is_plain c ≡ true → (c == 60) ≡ false
 plain_tag c h = grind (arith, nat_tests)
 
 -- and no `{`, as a comparison with a text tests it
-plain_front : (c : ℕ) → is_plain c ≡ true → nat_eq 123 c ≡ false
-plain_front c h = grind (arith, nat_tests)
+plain_prefix : (c : ℕ) → is_plain c ≡ true → nat_eq 123 c ≡ false
+plain_prefix c h = grind (arith, nat_tests)
 
 -- a static text is made of printing characters
 pub static-line : {text : List ℕ} → IsStaticText text → list_all is_line_byte text ≡ true
@@ -97,7 +98,7 @@ static_cons c (text ∷ tags) hc h =
 -- a tag and the text after it are read as such
 tag_read : (name rest : List ℕ) → is_among tag_names name ≡ true → list_all is_plain rest ≡ true → is_tag_and_text (name ++ (62 ∷ rest)) ≡ true
 tag_read name rest named h =
-    ap (λ r. option_map_or (λ halves. is_among tag_names halves.0 && list_all is_plain halves.1) r false) (cut-mark 62 name rest (among_all (lacks 62) tag_names name named refl))
+    ap (λ r. option_map_or (λ halves. is_among tag_names halves.0 && list_all is_plain halves.1) r false) (cut-delimiter 62 name rest (among_all (lacks 62) tag_names name named refl))
     ∙ and_holds (is_among tag_names name) (list_all is_plain rest) named h
 
 -- a static text is read as one
@@ -109,15 +110,15 @@ static-is (tag name text named d) =
     let has = split_has 60 text in
     let read : are_text_and_tags (has.first ∷ has.more) ≡ true = sym (ap are_text_and_tags has.is) ∙ static-is d in
     let p = both_hold (list_all is_plain has.first) (list_all is_tag_and_text has.more) read in
-    ap (list_all is_tag_and_text) (split-front 60 name (62 ∷ text) (62 ∷ has.first) has.more (among_all (lacks 60) tag_names name named refl) (ap (onto_first 62) has.is))
+    ap (list_all is_tag_and_text) (split-prefix 60 name (62 ∷ text) (62 ∷ has.first) has.more (among_all (lacks 60) tag_names name named refl) (ap (onto_first 62) has.is))
     ∙ and_holds (is_tag_and_text (name ++ (62 ∷ has.first))) (list_all is_tag_and_text has.more) (tag_read name has.first named p.0) p.1
 
--- parts that lack the mark are those of the text that they make up
-pub split-joined : (mark : ℕ) (text : List ℕ) (texts : List (List ℕ)) → lacks mark text ≡ true → list_all (lacks mark) texts ≡ true → slice_split (λ c. c == mark) (text ++ after_mark mark texts) ≡ text ∷ texts
-split-joined mark text [] h hs = split-front mark text [] [] [] h refl ∙ ap (λ t. t ∷ []) (append-nil text)
-split-joined mark text (next ∷ texts) h hs =
-    let p = both_hold (lacks mark next) (list_all (lacks mark) texts) hs in
-    split-at mark text (next ++ after_mark mark texts) h ∙ ap (λ rest. text ∷ rest) (split-joined mark next texts p.0 p.1)
+-- parts that lack the delimiter are those of the text that they make up
+pub split-joined : (delimiter : ℕ) (text : List ℕ) (texts : List (List ℕ)) → lacks delimiter text ≡ true → list_all (lacks delimiter) texts ≡ true → slice_split (λ c. c == delimiter) (text ++ after_mark delimiter texts) ≡ text ∷ texts
+split-joined delimiter text [] h hs = split-prefix delimiter text [] [] [] h refl ∙ ap (λ t. t ∷ []) (append-nil text)
+split-joined delimiter text (next ∷ texts) h hs =
+    let p = both_hold (lacks delimiter next) (list_all (lacks delimiter) texts) hs in
+    split-at delimiter text (next ++ after_mark delimiter texts) h ∙ ap (λ rest. text ∷ rest) (split-joined delimiter next texts p.0 p.1)
 
 -- what follows each `{` of prints
 record PrintTexts (params : List (List ℕ)) (more : List ℕ) (parts : List Part) : Type 0 where
@@ -134,7 +135,7 @@ if_both a b x h k = rw (h, k) refl
 -- a print is read as its name and text
 print_found : (params : List (List ℕ)) (name text : List ℕ) → is_among params name ≡ true → lacks 125 name ≡ true → is_static text ≡ true → print_of params (36 ∷ (name ++ (125 ∷ text))) ≡ Some (name, text)
 print_found params name text named ends static =
-    ap (option_and_then (λ halves. cond (is_among params halves.0 && is_static halves.1) (Some halves) None)) (cut-mark 125 name text ends)
+    ap (option_and_then (λ halves. cond (is_among params halves.0 && is_static halves.1) (Some halves) None)) (cut-delimiter 125 name text ends)
     ∙ if_both (is_among params name) (is_static text) (name, text) named static
 
 -- one more print before prints
@@ -175,13 +176,13 @@ body-line params body parts names b =
     ap (list_all is_line_byte) b.spelled ∙ list_all-both is_line_byte b.text b.more (static-line b.static) (prints_texts params names b.prints).bytes
 
 -- a static text and prints begin otherwise than a declaration
-no_front : {params : List (List ℕ)} {text more : List ℕ} {parts : List Part} → IsStaticText text → ArePrints params more parts → starts_with nat_eq (text ++ more) (codes "{@param ") ≡ false
-no_front nothing none = refl
-no_front nothing (print name text more named static d) = refl
-no_front (plain {c = c} {text = text} pc d) e = rw (plain_front c pc.plain) refl
-no_front (tag name text named d) e = refl
+no_prefix : {params : List (List ℕ)} {text more : List ℕ} {parts : List Part} → IsStaticText text → ArePrints params more parts → starts_with nat_eq (text ++ more) (codes "{@param ") ≡ false
+no_prefix nothing none = refl
+no_prefix nothing (print name text more named static d) = refl
+no_prefix (plain {c = c} {text = text} pc d) e = rw (plain_prefix c pc.plain) refl
+no_prefix (tag name text named d) e = refl
 
 -- a body doesn't begin as a declaration does
 pub body_no_param : (params : List (List ℕ)) (body : List ℕ) (parts : List Part) → IsBody params body parts → starts_with nat_eq body (codes "{@param ") ≡ false
 body_no_param params body parts b =
-    ap (λ t. starts_with nat_eq t (codes "{@param ")) b.spelled ∙ no_front b.static b.prints
+    ap (λ t. starts_with nat_eq t (codes "{@param ")) b.spelled ∙ no_prefix b.static b.prints

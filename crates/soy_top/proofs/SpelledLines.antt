@@ -9,11 +9,11 @@ use Rattle.std.proofs.lemmas.Bool.Decides.{nat_tests, Decides-eqb}
 use Rattle.std.proofs.lemmas.List.{append-nil, length-append}
 use Rattle.std.proofs.lemmas.Map.Keys.{IsDistinct-head, IsDistinct-tail}
 use Rattle.std.proofs.lemmas.Slice.Eq.{bytes_eq-Decides}
-use Rattle.soy_top.specs.Name.{is_name, is_dotted_name}
-use Rattle.soy_top.specs.Words.{is_among}
-use Rattle.soy_top.specs.FirstForm.{Form, Declared, is_empty, after_front, before_back, between, passing, namespace_of, template_of, param_of, has_body_ends, is_template_end, body_read, declared, form_after, named_form, form_of_lines, is_file_byte, first_form}
+use Rattle.soy_base.specs.Names.{is_name, is_dotted_name}
+use Rattle.soy_base.specs.Among.{is_among}
+use Rattle.soy_top.specs.FirstForm.{Form, Declared, is_empty, after_prefix, before_suffix, between, passing, namespace_of, template_of, param_of, has_body_ends, is_template_end, body_read, declared, form_after, named_form, form_of_lines, is_file_byte, first_form}
 use Rattle.soy_top.specs.Spells.{param_lines, params_of, written, Spells}
-use Rattle.soy_top.proofs.Marks.{both_hold, and_holds, lacks, list_all-weaken, list_all-both, split-at}
+use Rattle.soy_top.proofs.Delimiters.{both_hold, and_holds, lacks, list_all-weaken, list_all-both, split-at}
 use Rattle.soy_top.proofs.ReadForm.{is_line_byte}
 use Rattle.soy_top.proofs.ReadLines.{param_spelled, file_spelled}
 use Rattle.soy_top.proofs.SpelledForm.{name_parts, dotted_name_parts, name-line, parts_of-IsBody, body-line, body_no_param}
@@ -22,33 +22,33 @@ use Rattle.soy_top.proofs.SpelledForm.{name_parts, dotted_name_parts, name-line,
 same_bytes : (text : List ℕ) → bytes_eq text text ≡ true
 same_bytes text = (bytes_eq-Decides text text).1 refl
 
--- what follows a front that was found
-front_at : (text front back : List ℕ) → text ≡ front → cond (bytes_eq front text) (Some back) None ≡ Some back
-front_at text front back e = rw e (rw (same_bytes front) refl)
+-- what follows a prefix that was found
+prefix_at : (text prefix suffix : List ℕ) → text ≡ prefix → cond (bytes_eq prefix text) (Some suffix) None ≡ Some suffix
+prefix_at text prefix suffix e = rw e (rw (same_bytes prefix) refl)
 
--- what follows a front
-after_front-append : (front back : List ℕ) → after_front front (front ++ back) ≡ Some back
-after_front-append front back =
-    front_at (take (length front) (front ++ back)) front (drop (length front) (front ++ back)) (take-append_seam front back) ∙ ap Some (drop-append_seam front back)
+-- what follows a prefix
+after_prefix-append : (prefix suffix : List ℕ) → after_prefix prefix (prefix ++ suffix) ≡ Some suffix
+after_prefix-append prefix suffix =
+    prefix_at (take (length prefix) (prefix ++ suffix)) prefix (drop (length prefix) (prefix ++ suffix)) (take-append_seam prefix suffix) ∙ ap Some (drop-append_seam prefix suffix)
 
--- what stands before a back, by its length
-back_at : (n : ℕ) (text back : List ℕ) → n ≡ length text → cond (bytes_eq back (drop n (text ++ back))) (Some (take n (text ++ back))) None ≡ Some text
-back_at n text back e = rw e (rw (drop-append_seam text back, take-append_seam text back) (rw (same_bytes back) refl))
+-- what stands before a suffix, by its length
+back_at : (n : ℕ) (text suffix : List ℕ) → n ≡ length text → cond (bytes_eq suffix (drop n (text ++ suffix))) (Some (take n (text ++ suffix))) None ≡ Some text
+back_at n text suffix e = rw e (rw (drop-append_seam text suffix, take-append_seam text suffix) (rw (same_bytes suffix) refl))
 
--- what stands before a back
-before_back-append : (text back : List ℕ) → before_back back (text ++ back) ≡ Some text
-before_back-append text back =
-    back_at (length (text ++ back) - length back) text back (rw (length-append text back) (omega arith))
+-- what stands before a suffix
+before_suffix-append : (text suffix : List ℕ) → before_suffix suffix (text ++ suffix) ≡ Some text
+before_suffix-append text suffix =
+    back_at (length (text ++ suffix) - length suffix) text suffix (rw (length-append text suffix) (omega arith))
 
 -- a text that passes is the answer
 passing-is : (test : List ℕ → Bool) (text : List ℕ) → test text ≡ true → passing test text ≡ Some text
 passing-is test text h = rw h refl
 
--- a name is read from between its front and back
-name_found : (front back : List ℕ) (test : List ℕ → Bool) (name : List ℕ) → test name ≡ true → option_and_then (passing test) (between front back (front ++ (name ++ back))) ≡ Some name
-name_found front back test name h =
-    ap (λ rest. option_and_then (passing test) (option_and_then (before_back back) rest)) (after_front-append front (name ++ back))
-    ∙ (ap (option_and_then (passing test)) (before_back-append name back) ∙ passing-is test name h)
+-- a name is read from between its prefix and suffix
+name_found : (prefix suffix : List ℕ) (test : List ℕ → Bool) (name : List ℕ) → test name ≡ true → option_and_then (passing test) (between prefix suffix (prefix ++ (name ++ suffix))) ≡ Some name
+name_found prefix suffix test name h =
+    ap (λ rest. option_and_then (passing test) (option_and_then (before_suffix suffix) rest)) (after_prefix-append prefix (name ++ suffix))
+    ∙ (ap (option_and_then (passing test)) (before_suffix-append name suffix) ∙ passing-is test name h)
 
 -- what holds of each name holds of the one in the middle
 all_at : (P : List ℕ → Type 0) (names : List (List ℕ)) (name : List ℕ) (more : List (List ℕ)) → AllByRecursion P (names ++ (name ∷ more)) → P name
@@ -88,7 +88,7 @@ else_step t a b h = rw h refl
 
 -- a text that begins otherwise is no declaration
 no_param : (body : List ℕ) → starts_with nat_eq body (codes "{@param ") ≡ false → param_of body ≡ None
-no_param body h = ap (λ o. option_and_then (passing is_name) (option_and_then (before_back (codes ": string}")) o)) (else_some (starts_with nat_eq body (codes "{@param ")) (Some (drop 8 body)) h)
+no_param body h = ap (λ o. option_and_then (passing is_name) (option_and_then (before_suffix (codes ": string}")) o)) (else_some (starts_with nat_eq body (codes "{@param ")) (Some (drop 8 body)) h)
   where
     else_some : (t : Bool) (o : Option (List ℕ)) → t ≡ false → cond t o None ≡ None
     else_some t o h = rw h refl
@@ -182,7 +182,7 @@ names_found o p q namespace template found ho hp hq = rw (ho, hp, hq) refl
 holds : (t : Bool) (o : Option Form) → t ≡ true → cond t o None ≡ o
 holds t o h = rw h refl
 
--- numbers that differ are told apart
+-- numbers that differ fail the test
 differs : (a b : ℕ) → a ≢ b → not (a == b) ≡ true
 differs a b h = differs_by (a == b) refl
   where

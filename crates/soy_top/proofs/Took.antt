@@ -8,10 +8,13 @@ use Rattle.soy_io.specs.Added.{added}
 use Rattle.soy_io.proofs.AddedParts.{added-nil, added-added}
 use Rattle.soy_top.specs.declared.first_form.Part.{Part}
 use Rattle.soy_top.specs.FirstPage.{part_bytes, body_bytes}
-use Rattle.soy_top.specs.SeenForm.{seen_part, seen_parts}
-use Rattle.soy_top.specs.Ending.{TookPart}
+use Rattle.soy_top.specs.ViewForm.{view_part, view_parts}
 
--- from `before` to `now` the sink took a front of the text, and `rest` is left of it
+-- from `before` to `now` the sink took a prefix of the text
+abbrev pub PrefixTaken : Option (List ℕ) → Option (List ℕ) → List ℕ → Type 0
+PrefixTaken before now text = (n : ℕ) × (now ≡ added before (take n text))
+
+-- from `before` to `now` the sink took a prefix of the text, and `rest` is left of it
 pub record PutSoFar (before now : Option (List ℕ)) (text rest : List ℕ) : Type 0 where
   pub done : List ℕ
   pub split : text ≡ done ++ rest
@@ -34,28 +37,28 @@ pub put_rest : (before now then : Option (List ℕ)) (text rest : List ℕ) → 
 put_rest before now then text rest far took =
     took ∙ (ap (λ t. added t rest) far.taken ∙ (added-added before far.done rest ∙ ap (added before) (sym far.split)))
 
--- a front of the rest was taken
-pub put_part : (before now then : Option (List ℕ)) (text rest : List ℕ) → PutSoFar before now text rest → TookPart now then rest → TookPart before then text
+-- a prefix of the rest was taken
+pub put_part : (before now then : Option (List ℕ)) (text rest : List ℕ) → PutSoFar before now text rest → PrefixTaken now then rest → PrefixTaken before then text
 put_part before now then text rest far part =
     (length far.done + part.0, part.1 ∙ (ap (λ t. added t (take part.0 rest)) far.taken ∙ (added-added before far.done (take part.0 rest) ∙ ap (added before) (sym (ap (take (length far.done + part.0)) far.split ∙ take-append-add far.done rest part.0)))))
 
--- a front of a front was taken
-pub part_of_front : (now then : Option (List ℕ)) (rest piece others : List ℕ) (n : ℕ) → rest ≡ piece ++ others → n ≤ length piece → then ≡ added now (take n piece) → TookPart now then rest
-part_of_front now then rest piece others n same within took =
+-- a prefix of a prefix was taken
+pub prefix_of_prefix : (now then : Option (List ℕ)) (rest piece others : List ℕ) (n : ℕ) → rest ≡ piece ++ others → n ≤ length piece → then ≡ added now (take n piece) → PrefixTaken now then rest
+prefix_of_prefix now then rest piece others n same within took =
     (n, took ∙ ap (added now) (sym (ap (take n) same ∙ take-append-le n piece others within)))
 
 -- the body from one part on is that part and the body from the next on
-pub body_bytes-drop : (value : Data) (parts : List Part) (i : ℕ) (d : Part) → i < length parts → body_bytes value (seen_parts (drop i parts)) ≡ part_bytes value (seen_part (get_or parts i d)) ++ body_bytes value (seen_parts (drop (i + 1) parts))
+pub body_bytes-drop : (value : Data) (parts : List Part) (i : ℕ) (d : Part) → i < length parts → body_bytes value (view_parts (drop i parts)) ≡ part_bytes value (view_part (get_or parts i d)) ++ body_bytes value (view_parts (drop (i + 1) parts))
 body_bytes-drop value parts i d within =
-    ap (λ rest. body_bytes value (seen_parts rest)) (drop-cons parts i d within) ∙ ap (λ k. part_bytes value (seen_part (get_or parts i d)) ++ body_bytes value (seen_parts (drop k parts))) (sym (add-one i))
+    ap (λ rest. body_bytes value (view_parts rest)) (drop-cons parts i d within) ∙ ap (λ k. part_bytes value (view_part (get_or parts i d)) ++ body_bytes value (view_parts (drop k parts))) (sym (add-one i))
 
 -- the same where the parts are shown under another name
-pub body_bytes-step : (value : Data) (parts shown : List Part) (i : ℕ) (d : Part) → shown ≡ parts → i < length shown → body_bytes value (seen_parts (drop i parts)) ≡ part_bytes value (seen_part (get_or shown i d)) ++ body_bytes value (seen_parts (drop (i + 1) parts))
+pub body_bytes-step : (value : Data) (parts shown : List Part) (i : ℕ) (d : Part) → shown ≡ parts → i < length shown → body_bytes value (view_parts (drop i parts)) ≡ part_bytes value (view_part (get_or shown i d)) ++ body_bytes value (view_parts (drop (i + 1) parts))
 body_bytes-step value parts shown i d same within =
-    ap (λ items. body_bytes value (seen_parts (drop i items))) (sym same) ∙ (body_bytes-drop value shown i d within ∙ ap (λ items. part_bytes value (seen_part (get_or shown i d)) ++ body_bytes value (seen_parts (drop (i + 1) items))) same)
+    ap (λ items. body_bytes value (view_parts (drop i items))) (sym same) ∙ (body_bytes-drop value shown i d within ∙ ap (λ items. part_bytes value (view_part (get_or shown i d)) ++ body_bytes value (view_parts (drop (i + 1) items))) same)
 
--- a front of the part at hand is a front of what is left
-pub part_of_part : (now then : Option (List ℕ)) (rest piece others : List ℕ) → rest ≡ piece ++ others → TookPart now then piece → TookPart now then rest
+-- a prefix of the next part is a prefix of what is left
+pub part_of_part : (now then : Option (List ℕ)) (rest piece others : List ℕ) → rest ≡ piece ++ others → PrefixTaken now then piece → PrefixTaken now then rest
 part_of_part now then rest piece others same part =
     let n : ℕ = min part.0 (length piece) in
     (n, part.1 ∙ ap (added now) (sym (take_min part.0 piece) ∙ (sym (take-append-le n piece others (omega arith)) ∙ ap (take n) (sym same))))

@@ -1,20 +1,22 @@
 -- What the program answers to its words, where a library holds these files.
 --
--- The cases are tried in this order. Words that are no command get the usage text. What the program
--- doesn't do yet is refused by the words alone: every command but a `render` of one file in the
--- source language. Then the first file of the words that isn't there can't be read. Then the first
--- of these faults is refused: a file over its limit, in the order of the words; a file that isn't
--- of the first form; a template's name that the file doesn't have; data that aren't of the first
--- form. Else the answer is the page.
+-- The cases are tried in this order. Words that are no command get the usage text. The first file that the words want
+-- and that isn't held can't be read. The first file over its limit is refused, in the order of the words. The rest is
+-- answered by the contents: what the program doesn't do yet is refused, which is every command but a `render` of one
+-- file in the source language; and so are, in this order, a file that isn't of the first form, a template's name that
+-- the file doesn't have, and data that aren't of the first form. Else the answer is the page.
 -- Example: the words `render t.zz d.json - t.soy` with a file of t.m are refused by `t.zz: 29 Entry`.
-use Rattle.std.specs.Prelude.{ℕ, List, [], ◌∷◌, length, nat_lt, Option, None, Some, if◌then◌else◌, codes}
+use Rattle.std.specs.Prelude.{ℕ, List, [], ◌∷◌, Option, None, Some, option_map, if◌then◌else◌, codes, String}
+use Rattle.std.specs.Option.{option_map_or}
 use Rattle.std.specs.Str.{bytes_eq}
-use Rattle.soy_io.specs.FileOf.{Files, file_of}
+use Rattle.soy_io.specs.FileOf.{Files}
 use Rattle.soy_top.specs.Asked.{Asked, Render, Check, Extract, Gen, Play, Preview, Format, asked_by_words}
+use Rattle.soy_top.specs.FilesWanted.{FileWanted, asked_files, wanted_files, known_files, first_not_held}
+use Rattle.soy_top.specs.FilesWanted.{first_over_limit, contents}
 use Rattle.soy_top.specs.FirstForm.{Form, first_form, full_name}
 use Rattle.soy_top.specs.FirstPage.{page_of}
-use Rattle.soy_top.specs.Line.{not_yet_line, too_large_line, entry_line}
-use Rattle.soy_top.specs.Words.{Word}
+use Rattle.soy_top.specs.Line.{not_yet_line, too_large_line, entry_line, read_line, usage_text, ended}
+use Rattle.soy_top.specs.Words.{Word, words_of}
 
 pub data Answer : Type 0 where
   -- the usage text
@@ -25,77 +27,82 @@ pub data Answer : Type 0 where
   Refused : List ℕ → Answer
   -- the whole text for the output, as UTF-8 bytes
   Done : List ℕ → Answer
+  -- the text for the output up to a call that nests too deep, and the line of that call for standard error
+  TooDeep : List ℕ → List ℕ → Answer
 
--- a page to render in the source language: the template's full name, the data and the one file
-pub record Page : Type 0 where
-  pub template : Word
-  pub json : Word
-  pub file : Word
-
--- the page to render, where the program does what is asked
-abbrev pub page_asked : Asked → Option Page
-page_asked (Render template json bundle []) = None
-page_asked (Render template json bundle (file ∷ [])) =
-    if bytes_eq bundle (codes "-") then Some (record { template = template; json = json; file = file }) else None
-page_asked (Render template json bundle (file ∷ other ∷ files)) = None
-page_asked (Check bundle files) = None
-page_asked (Extract files) = None
-page_asked (Gen number) = None
-page_asked (Play script first second files) = None
-page_asked (Preview template json bundle files) = None
-page_asked (Format file) = None
-
--- the bytes of a file, if they are within a limit
-abbrev pub within : ℕ → List ℕ → Option (List ℕ)
-within limit bytes = if nat_lt limit (length bytes) then None else Some bytes
-
--- the limits in bytes
-abbrev pub file_limit : ℕ
-file_limit = 1048576
-
-abbrev pub data_limit : ℕ
-data_limit = 4194304
-
--- the first word
-abbrev pub command_word : List Word → Word
-command_word [] = []
-command_word (command ∷ words) = command
+-- that the program doesn't do this yet
+abbrev pub not_yet : Word → Answer
+not_yet command = Refused (not_yet_line command)
 
 -- the page, or that the data aren't of the first form
 abbrev pub page_answer : Option (List ℕ) → Answer
-page_answer None = Refused (not_yet_line (codes "render"))
+page_answer None = not_yet (codes "render")
 page_answer (Some text) = Done text
 
--- the answer by a form that was read
-abbrev pub named_answer : Page → Form → List ℕ → Answer
-named_answer page form json =
-    if bytes_eq page.template (full_name form) then page_answer (page_of form json) else Refused (entry_line page.template)
+-- the answer by the template's name, the data and a form that was read
+abbrev pub named_answer : Word → List ℕ → Form → Answer
+named_answer template json form =
+    if bytes_eq template (full_name form) then page_answer (page_of form json) else Refused (entry_line template)
 
 -- the answer by the file, if it is of the first form
-abbrev pub form_answer : Page → List ℕ → Option Form → Answer
-form_answer page json None = Refused (not_yet_line (codes "render"))
-form_answer page json (Some form) = named_answer page form json
+abbrev pub form_answer : Word → List ℕ → Option Form → Answer
+form_answer template json None = not_yet (codes "render")
+form_answer template json (Some form) = named_answer template json form
 
--- the answer by the data and the file, each if it is within its limit
-abbrev pub inputs_answer : Page → Option (List ℕ) → Option (List ℕ) → Answer
-inputs_answer page None file = Refused (too_large_line page.json)
-inputs_answer page (Some json) None = Refused (too_large_line page.file)
-inputs_answer page (Some json) (Some file) = form_answer page json (first_form file)
+-- the answer to a `render` by its contents, which are none where the program doesn't do it yet
+abbrev pub render_answer : Word → List (List ℕ) → Answer
+render_answer template [] = not_yet (codes "render")
+render_answer template (json ∷ []) = not_yet (codes "render")
+render_answer template (json ∷ file ∷ []) = form_answer template json (first_form file)
+render_answer template (json ∷ file ∷ other ∷ files) = not_yet (codes "render")
 
--- the answer by the data and the file, each if it is there
-abbrev pub files_answer : Page → Option (List ℕ) → Option (List ℕ) → Answer
-files_answer page None file = Read page.json
-files_answer page (Some json) None = Read page.file
-files_answer page (Some json) (Some file) = inputs_answer page (within data_limit json) (within file_limit file)
+-- the answer to what is asked by the contents of the files that it wants
+abbrev pub contents_answer : Asked → List (List ℕ) → Answer
+contents_answer (Render template json bundle files) contents = render_answer template contents
+contents_answer (Check bundle files) contents = not_yet (codes "check")
+contents_answer (Extract files) contents = not_yet (codes "extract")
+contents_answer (Gen number) contents = not_yet (codes "gen")
+contents_answer (Play script first second files) contents = not_yet (codes "play")
+contents_answer (Preview template json bundle files) contents = not_yet (codes "preview")
+contents_answer (Format file) contents = not_yet (codes "format")
 
--- the answer for a page, or that the program doesn't do this yet
-abbrev pub asked_answer : Files → List Word → Option Page → Answer
-asked_answer files words None = Refused (not_yet_line (command_word words))
-asked_answer files words (Some page) = files_answer page (file_of files page.json) (file_of files page.file)
+-- the answer by the limits of the files
+abbrev pub limits_answer : Files → Asked → List FileWanted → Answer
+limits_answer files asked wanted =
+    option_map_or (λ file. Refused (too_large_line file)) (first_over_limit files wanted)
+    (contents_answer asked (contents files wanted))
 
-abbrev pub command_answer : Files → List Word → Option Asked → Answer
-command_answer files words None = Usage
-command_answer files words (Some asked) = asked_answer files words (page_asked asked)
+-- the answer by the files that are held
+abbrev pub files_answer : Files → Asked → List FileWanted → Answer
+files_answer files asked wanted =
+    option_map_or Read (first_not_held files wanted) (limits_answer files asked wanted)
+
+abbrev pub asked_answer : Files → Asked → Answer
+asked_answer files asked = files_answer files asked (asked_files asked)
 
 abbrev pub answer : Files → List Word → Answer
-answer files words = command_answer files words (asked_by_words words)
+answer files words = option_map_or (asked_answer files) (asked_by_words words) Usage
+
+-- the answer, where the files that the words want are known
+abbrev pub known_answer : Option Files → List Word → Option Answer
+known_answer held words = option_map (λ files. answer files words) (known_files held (wanted_files words))
+
+-- the same for the words of a call
+abbrev pub answered : {A : Type 0} → Option Files → List (String A) → Option Answer
+answered held words = known_answer held (words_of words)
+
+-- the text for the output
+abbrev pub out_text : Answer → List ℕ
+out_text Usage = []
+out_text (Read file) = []
+out_text (Refused line) = []
+out_text (Done text) = text
+out_text (TooDeep text line) = text
+
+-- the text for standard error
+abbrev pub err_text : Answer → List ℕ
+err_text Usage = usage_text
+err_text (Read file) = ended (read_line file)
+err_text (Refused line) = ended line
+err_text (Done text) = []
+err_text (TooDeep text line) = ended line

@@ -4,7 +4,8 @@
 -- has FILE words, there are 1 to 64 of them. NUMBER is 1 to 10 decimal digits with a value below
 -- 2 ^ 32; leading zeros are allowed. All other words ask for nothing.
 -- Example: `render t.m d.json - t.soy` asks to render t.m of t.soy with the data of d.json.
-use Rattle.std.specs.Prelude.{ℕ, ◌^◌, List, [], ◌∷◌, length, Bool, ◌&&◌, nat_lt, nat_le, Option, None, Some, option_map, if◌then◌else◌, codes}
+use Rattle.std.specs.Prelude.{ℕ, ◌^◌, List, [], ◌∷◌, length, Bool, ◌&&◌, nat_lt, nat_le, Option, None, Some}
+use Rattle.std.specs.Prelude.{option_map, if◌then◌else◌, codes}
 use Rattle.std.specs.Char.{is_ascii_digit}
 use Rattle.std.specs.List.{list_all}
 use Rattle.std.specs.Str.{bytes_eq}
@@ -55,7 +56,8 @@ are_digits word = list_all is_ascii_digit word && (nat_lt 0 (length word) && nat
 -- the value of 1 to 10 decimal digits, if it is below 2 ^ 32
 abbrev pub number_of : Word → Option ℕ
 number_of word =
-    if are_digits word then (if nat_lt (digits_value 10 word) (2 ^ 32) then Some (digits_value 10 word) else None) else None
+    if are_digits word then (if nat_lt (digits_value 10 word) (2 ^ 32) then Some (digits_value 10 word) else None)
+    else None
 
 abbrev pub gen_asked : List Word → Option Asked
 gen_asked [] = None

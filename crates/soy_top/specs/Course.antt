@@ -1,67 +1,89 @@
 -- The course of a run, from which all that is promised of its end follows.
 --
--- A run says something on the sink of messages, or it writes a page on the output, or memory runs
--- out before either. What it says is due, and what it writes is the answer; the other sink stays as
--- it was. In `before` and `now` stand the counts of faults, and in `taken` what a sink took.
+-- A run says something due on standard error; or it writes its whole answer to the output; or it writes the text of an
+-- answer that ends too deep to the output and then says its line on standard error; or memory runs out before anything.
+-- A sink that a course doesn't need is unchanged, and a put that fails or is refused memory ends it.
+-- Example: where the library lacks d.json, the run says `d.json: read fault`, and the output is unchanged.
 use Rattle.std.specs.Prelude.{◌≡◌, ℕ, List, Option, Some, ◌⊎◌, Contains, IfSome}
 use Rattle.soy_io.specs.Rose.{Rose}
 use Rattle.soy_top.specs.declared.status.Status.{Status}
 use Rattle.soy_top.specs.declared.status.Status.TheVariants as status
-use Rattle.soy_top.specs.Answer.{Answer, Usage, Read, Refused, Done}
-use Rattle.soy_top.specs.Ending.{Took, TookPart}
+use Rattle.soy_top.specs.Answer.{Answer, Usage, Read, Refused}
+use Rattle.soy_top.specs.Change.{Change, Took, TookPrefix, Failed}
 use Rattle.soy_top.specs.Line.{ended, read_line, usage_text}
+use Rattle.soy_top.specs.Output.{End, Whole, AtCall, Output, OnNoText, output_answer}
 use Rattle.soy_top.specs.Words.{Word}
 
--- a text was put on a sink: it took all and the status is the one that was wanted, or it failed or
--- memory ran out, and it took a part
-abbrev pub Says : Status → List ℕ → Option (List ℕ) → Option (List ℕ) → ℕ → ℕ → Status → Type 0
-Says wanted text taken taken' before now result =
-    ((result ≡ wanted) × Took taken taken' text) ⊎ (((result ≡ status.Write) × Rose before now × TookPart taken taken' text) ⊎ ((result ≡ status.Memory) × TookPart taken taken' text))
+-- a put of a text stopped: the sink failed or memory ran out, and the sink took a prefix
+abbrev pub Stops : List ℕ → Change → Status → Type 0
+Stops text sink result =
+    ((result ≡ status.Write) × Failed sink × TookPrefix sink text) ⊎ ((result ≡ status.Memory) × TookPrefix sink text)
 
--- the usage text is due
-abbrev pub UsageIsDue : Option Answer → Status → List ℕ → Type 0
-UsageIsDue answer wanted text = (wanted ≡ status.Usage) × (answer ≡ Some Usage) × (text ≡ usage_text)
+-- a text was put: the sink took all of it and the status is the one that was wanted, or the put stopped
+abbrev pub Says : Status → List ℕ → Change → Status → Type 0
+Says wanted text sink result = ((result ≡ wanted) × Took sink text) ⊎ Stops text sink result
 
--- it is due that a file can't be read: the library failed, or it has no such file
-abbrev pub ReadIsDue : Option Answer → List Word → ℕ → ℕ → Status → List ℕ → Type 0
-ReadIsDue answer files before now wanted text =
-    (file : Word) × (wanted ≡ status.Read) × Contains files file × (Rose before now ⊎ (answer ≡ Some (Read file))) × (text ≡ ended (read_line file))
+-- an output was written, and its line was said where it ends too deep
+abbrev pub WritesTo : List ℕ → End → Change → Change → Type 0 → Status → Type 0
+WritesTo text Whole out err SameErr result = Says status.Done text out result × SameErr
+WritesTo text (AtCall line) out err SameErr result =
+    (Stops text out result × SameErr) ⊎ (Took out text × Says status.TooDeep (ended line) err result)
 
--- a refusal is due
-abbrev pub RefusalIsDue : Option Answer → Status → List ℕ → Type 0
-RefusalIsDue answer wanted text =
-    (line : List ℕ) × (wanted ≡ status.Refused) × IfSome answer (λ a. a ≡ Refused line) × (text ≡ ended line)
+abbrev pub Writes : Output → Change → Change → Type 0 → Status → Type 0
+Writes output out err SameErr result = WritesTo output.text output.end out err SameErr result
 
-abbrev pub IsDue : Option Answer → List Word → ℕ → ℕ → Status → List ℕ → Type 0
-IsDue answer files before now wanted text =
-    UsageIsDue answer wanted text ⊎ (ReadIsDue answer files before now wanted text ⊎ RefusalIsDue answer wanted text)
-
--- what a run does: the answer by the definitions, the files that it fetches, the counts of faults of
--- the library, of the output and of the messages, and what the two sinks took
+-- what a run goes by and what it did: the answer, the names of the files that it wants, the counts of the library's
+-- faults before and after, the changes of the two sinks, and the status
 pub record Run : Type 0 where
   pub answer : Option Answer
-  pub files : List Word
+  pub names : List Word
   pub file_faults : ℕ × ℕ
-  pub out_taken : Option (List ℕ) × Option (List ℕ)
-  pub out_faults : ℕ × ℕ
-  pub err_taken : Option (List ℕ) × Option (List ℕ)
-  pub err_faults : ℕ × ℕ
+  pub out : Change
+  pub err : Change
   pub result : Status
 
--- something due was said, and the output stays as it was
+abbrev pub run_of : Option Answer → List Word → ℕ × ℕ → Change → Change → Status → Run
+run_of answer names file_faults out err result = record {
+  answer = answer;
+  names = names;
+  file_faults = file_faults;
+  out = out;
+  err = err;
+  result = result;
+}
+
+-- the usage text is due
+abbrev pub UsageIsDue : Run → Status → List ℕ → Type 0
+UsageIsDue run wanted text = (wanted ≡ status.Usage) × (run.answer ≡ Some Usage) × (text ≡ usage_text)
+
+-- it is due that a file can't be read: the library failed, or the answer is that
+abbrev pub ReadIsDue : Run → Status → List ℕ → Type 0
+ReadIsDue run wanted text =
+    (file : Word) × (wanted ≡ status.Read) × Contains run.names file
+    × (Rose run.file_faults.0 run.file_faults.1 ⊎ (run.answer ≡ Some (Read file))) × (text ≡ ended (read_line file))
+
+-- the line of a refusal is due
+abbrev pub RefusalIsDue : Run → Status → List ℕ → Type 0
+RefusalIsDue run wanted text =
+    (line : List ℕ) × (wanted ≡ status.Refused) × IfSome run.answer (λ a. a ≡ Refused line) × (text ≡ ended line)
+
+abbrev pub TextIsDue : Run → Status → List ℕ → Type 0
+TextIsDue run wanted text = UsageIsDue run wanted text ⊎ (ReadIsDue run wanted text ⊎ RefusalIsDue run wanted text)
+
+-- something due was said, and the output is unchanged
 pub record Said (run : Run) (SameOut : Type 0) : Type 0 where
   pub wanted : Status
   pub text : List ℕ
-  pub due : IsDue run.answer run.files run.file_faults.0 run.file_faults.1 wanted text
-  pub says : Says wanted text run.err_taken.0 run.err_taken.1 run.err_faults.0 run.err_faults.1 run.result
+  pub due : TextIsDue run wanted text
+  pub says : Says wanted text run.err run.result
   pub same_out : SameOut
 
--- the page was written, and the messages stay as they were
-pub record Wrote (run : Run) (SameErr : Type 0) : Type 0 where
-  pub text : List ℕ
-  pub is_answer : IfSome run.answer (λ a. a ≡ Done text)
-  pub says : Says status.Done text run.out_taken.0 run.out_taken.1 run.out_faults.0 run.out_faults.1 run.result
-  pub same_err : SameErr
+-- what was accepted was written, and its line was said where it ends too deep
+pub record Wrote (run : Run) (SameOut SameErr : Type 0) : Type 0 where
+  pub output : Output
+  pub is_answer : IfSome run.answer (λ a. a ≡ output_answer output)
+  pub writes : Writes output run.out run.err SameErr run.result
+  pub no_text : OnNoText output.text output.end SameOut
 
 -- memory ran out before anything was put
 pub record Stopped (run : Run) (SameOut SameErr : Type 0) : Type 0 where
@@ -70,4 +92,4 @@ pub record Stopped (run : Run) (SameOut SameErr : Type 0) : Type 0 where
   pub same_err : SameErr
 
 abbrev pub Course : Run → Type 0 → Type 0 → Type 0
-Course run SameOut SameErr = Said run SameOut ⊎ (Wrote run SameErr ⊎ Stopped run SameOut SameErr)
+Course run SameOut SameErr = Said run SameOut ⊎ (Wrote run SameOut SameErr ⊎ Stopped run SameOut SameErr)

@@ -3,7 +3,8 @@
 -- The data are an object. The value of a parameter is the member of its name, where that is a
 -- string of characters below 128; other members are passed over.
 -- Example: in `{"x":"<i>","y":1}` the value of x is `<i>`, and y has none.
-use Rattle.std.specs.Prelude.{ℕ, List, Bool, ◌&&◌, nat_lt, Option, None, Some, option_and_then, is_some, if◌then◌else◌}
+use Rattle.std.specs.Prelude.{ℕ, List, Bool, ◌&&◌, nat_lt, Option, None, Some, option_and_then, is_some}
+use Rattle.std.specs.Prelude.{if◌then◌else◌}
 use Rattle.std.specs.List.{list_all}
 use Rattle.std.specs.Str.{is_utf8}
 use Rattle.serde_json.specs.Data.{Data}

@@ -5,19 +5,21 @@
 --   2. `{template M}`, M a name,
 --   3. any number of lines that are empty or `{@param P: string}`, each P another name,
 --   4. the body line,
---   5. `{/template}`, with or without a line end after it.
+--   5. `{/template}`, with or without a line break after it.
 -- The body line isn't empty and neither begins nor ends with a space. It is made of characters
 -- other than `{`, `}`, `<`, `>`, `&` and `/`, of whole tags `<n>` and `</n>` with n among b, i, em,
 -- p, ul and li, and of prints `{$P}` of declared parameters.
 -- Example: the body line `<b>{$x}</b>` has three parts: `<b>`, the print of x, and `</b>`.
 --
 -- This is how a file is read, line by line and part by part; `Spells` says how one is written.
-use Rattle.std.specs.Prelude.{ℕ, ◌-◌, List, [], ◌∷◌, ◌++◌, length, take, drop, Bool, true, false, not, ◌&&◌, ◌||◌, ◌==◌, nat_eq, nat_le, Option, None, Some, option_and_then, option_map, if◌then◌else◌, codes, slice_index}
+use Rattle.std.specs.Prelude.{ℕ, ◌-◌, List, [], ◌∷◌, ◌++◌, length, take, drop, Bool, true, false, not, ◌&&◌, ◌||◌}
+use Rattle.std.specs.Prelude.{◌==◌, nat_eq, nat_le, Option, None, Some, option_and_then, option_map, if◌then◌else◌}
+use Rattle.std.specs.Prelude.{codes, slice_index}
 use Rattle.std.specs.List.{list_all, list_any, slice_split, starts_with, ends_with}
 use Rattle.std.specs.Option.{option_map_or}
 use Rattle.std.specs.Str.{bytes_eq}
-use Rattle.soy_top.specs.Name.{is_name, is_dotted_name}
-use Rattle.soy_top.specs.Words.{is_among}
+use Rattle.soy_base.specs.Names.{is_name, is_dotted_name}
+use Rattle.soy_base.specs.Among.{is_among}
 
 -- a part of the body: text with whole tags, or the print of a parameter
 pub data Part : Type 0 where
@@ -33,17 +35,18 @@ pub record Form : Type 0 where
 abbrev pub is_empty : List ℕ → Bool
 is_empty text = length text == 0
 
--- what follows a front, if the text begins with it
-abbrev pub after_front : List ℕ → List ℕ → Option (List ℕ)
-after_front front text = if starts_with nat_eq text front then Some (drop (length front) text) else None
+-- what follows a prefix, if the text begins with it
+abbrev pub after_prefix : List ℕ → List ℕ → Option (List ℕ)
+after_prefix prefix text = if starts_with nat_eq text prefix then Some (drop (length prefix) text) else None
 
--- what stands before a back, if the text ends with it
-abbrev pub before_back : List ℕ → List ℕ → Option (List ℕ)
-before_back back text = if ends_with nat_eq text back then Some (take (length text - length back) text) else None
+-- what stands before a suffix, if the text ends with it
+abbrev pub before_suffix : List ℕ → List ℕ → Option (List ℕ)
+before_suffix suffix text =
+    if ends_with nat_eq text suffix then Some (take (length text - length suffix) text) else None
 
--- what stands in a line between a front and a back
+-- what stands in a line between a prefix and a suffix
 abbrev pub between : List ℕ → List ℕ → List ℕ → Option (List ℕ)
-between front back line = option_and_then (before_back back) (after_front front line)
+between prefix suffix line = option_and_then (before_suffix suffix) (after_prefix prefix line)
 
 -- the text, if it passes a test
 abbrev pub passing : (List ℕ → Bool) → List ℕ → Option (List ℕ)
@@ -65,12 +68,14 @@ is_plain c = not (list_any (λ d. d == c) (codes "{}<>&/"))
 -- the names of tags, with the slash of those that end an element
 abbrev pub tag_names : List (List ℕ)
 tag_names =
-    codes "b" ∷ codes "i" ∷ codes "em" ∷ codes "p" ∷ codes "ul" ∷ codes "li" ∷ codes "/b" ∷ codes "/i" ∷ codes "/em" ∷ codes "/p" ∷ codes "/ul" ∷ codes "/li" ∷ []
+    codes "b" ∷ codes "i" ∷ codes "em" ∷ codes "p" ∷ codes "ul" ∷ codes "li" ∷ codes "/b"
+    ∷ codes "/i" ∷ codes "/em" ∷ codes "/p" ∷ codes "/ul" ∷ codes "/li" ∷ []
 
--- a text in two, round the first character that is the given one
+-- a text in two, around the first character that is the given one
 abbrev pub cut : ℕ → List ℕ → Option (List ℕ × List ℕ)
-cut mark [] = None
-cut mark (c ∷ cs) = if c == mark then Some ([], cs) else option_map (λ halves. (c ∷ halves.0, halves.1)) (cut mark cs)
+cut delimiter [] = None
+cut delimiter (c ∷ cs) =
+    if c == delimiter then Some ([], cs) else option_map (λ halves. (c ∷ halves.0, halves.1)) (cut delimiter cs)
 
 -- whether what follows a `<` is the rest of a tag, and then plain characters
 abbrev pub is_tag_and_text : List ℕ → Bool
@@ -94,12 +99,17 @@ static_part (c ∷ cs) = Static (c ∷ cs) ∷ []
 abbrev pub print_of : List (List ℕ) → List ℕ → Option (List ℕ × List ℕ)
 print_of params [] = None
 print_of params (c ∷ cs) =
-    if c == 36 then option_and_then (λ halves. if is_among params halves.0 && is_static halves.1 then Some halves else None) (cut 125 cs) else None
+    if c == 36 then
+    option_and_then (λ halves. if is_among params halves.0 && is_static halves.1 then Some halves else None)
+    (cut 125 cs)
+    else None
 
 abbrev pub print_parts : List (List ℕ) → List (List ℕ) → Option (List Part)
 print_parts params [] = Some []
 print_parts params (text ∷ texts) =
-    option_and_then (λ print. option_map (λ parts. (Print print.0 ∷ static_part print.1) ++ parts) (print_parts params texts)) (print_of params text)
+    option_and_then
+    (λ print. option_map (λ parts. (Print print.0 ∷ static_part print.1) ++ parts) (print_parts params texts))
+    (print_of params text)
 
 abbrev pub parts_at_braces : List (List ℕ) → List (List ℕ) → Option (List Part)
 parts_at_braces params [] = None
@@ -115,7 +125,7 @@ abbrev pub has_body_ends : List ℕ → Bool
 has_body_ends line =
     not (is_empty line) && (not (slice_index line 0 == 32) && not (slice_index line (length line - 1) == 32))
 
--- whether nothing follows a line, or only its line end
+-- whether nothing follows a line, or only its line break
 abbrev pub is_last_line : List (List ℕ) → Bool
 is_last_line [] = true
 is_last_line (last ∷ []) = is_empty last
@@ -140,12 +150,15 @@ abbrev pub declared : List (List ℕ) → List (List ℕ) → Option Declared
 declared params [] = None
 declared params (line ∷ lines) =
     if is_empty line then declared params lines else
-    option_map_or (λ name. if is_among params name then None else declared (params ++ name ∷ []) lines) (param_of line) (body_read params line lines)
+    option_map_or (λ name. if is_among params name then None else declared (params ++ name ∷ []) lines)
+    (param_of line) (body_read params line lines)
 
 -- the form of a template of this name, by what was read before its end
 abbrev pub form_after : List ℕ → List ℕ → Option Declared → Option Form
 form_after namespace template read =
-    option_and_then (λ found. option_map (λ body. record { namespace = namespace; template = template; params = found.params; body = body }) (parts_of found.params found.body)) read
+    option_and_then (λ found.
+    option_map (λ body. record { namespace = namespace; template = template; params = found.params; body = body })
+    (parts_of found.params found.body)) read
 
 -- the form of a template by its names, if both are there
 abbrev pub named_form : Option (List ℕ) → Option (List ℕ) → Option Declared → Option Form

@@ -6,7 +6,8 @@
 -- `</span>`. Values are ASCII, so they have no character that runs from right to left.
 -- Example: `<b>{$x}</b>` with the value `<i>` of x gives
 -- `<b><span dir="ltr">&lt;i&gt;</span></b>`.
-use Rattle.std.specs.Prelude.{ℕ, List, [], ◌++◌, map, Bool, ◌&&◌, ◌||◌, ◌==◌, nat_le, Option, None, Some, option_and_then, unwrap_or, if◌then◌else◌, codes, encode_utf8_all}
+use Rattle.std.specs.Prelude.{ℕ, List, [], ◌++◌, map, Bool, ◌&&◌, ◌||◌, ◌==◌, nat_le, Option, None, Some}
+use Rattle.std.specs.Prelude.{option_and_then, unwrap_or, if◌then◌else◌, codes, encode_utf8_all}
 use Rattle.std.specs.List.{flat_map}
 use Rattle.std.specs.Str.{chars}
 use Rattle.serde_json.specs.Data.{Data}
@@ -25,7 +26,8 @@ space_for c = if is_separator c then 32 else c
 -- a value in its span
 abbrev pub wrapped_value : List ℕ → List ℕ
 wrapped_value value =
-    codes "<span dir=\"ltr\">" ++ (encode_utf8_all (escaped_text html_rows (map space_for (chars value))) ++ codes "</span>")
+    codes "<span dir=\"ltr\">"
+    ++ (encode_utf8_all (escaped_text html_rows (map space_for (chars value))) ++ codes "</span>")
 
 abbrev pub part_bytes : Data → Part → List ℕ
 part_bytes json (Static text) = text

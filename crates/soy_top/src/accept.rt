@@ -1,91 +1,115 @@
-// Accepts what was fetched as a page, or refuses it.
-ghost use Rattle.std.specs.Prelude.{◌≡◌, None};
+//! Accepts what was fetched, or refuses it.
+
+ghost use Rattle.std.specs.Prelude.{◌≡◌};
 ghost use Rattle.serde_json.specs.View.{view};
-ghost use Rattle.soy_top.specs.Accepts.{Accepts, Refuses};
-ghost use Rattle.soy_top.specs.Answer.{form_answer, named_answer, page_answer};
+ghost use Rattle.soy_top.specs.Accepts.{Accepts, AcceptsPage, Refuses};
+ghost use Rattle.soy_top.specs.Answer.{contents_answer, form_answer, named_answer, not_yet, page_answer};
+ghost use Rattle.soy_top.specs.Answer.{render_answer};
 ghost use Rattle.soy_top.specs.FirstForm.{first_form};
 ghost use Rattle.soy_top.specs.FirstPage.{page_of, page_with};
-ghost use Rattle.soy_top.specs.Inputs.{answer_by, seen_page};
-ghost use Rattle.soy_top.specs.SeenForm.{seen_form};
+ghost use Rattle.soy_top.specs.View.{view_command, view_contents};
+ghost use Rattle.soy_top.specs.ViewForm.{view_form};
 
+use crate::command::Command;
 use crate::data::{has_values, read_data};
-use crate::ending::{Ending, refused};
-use crate::fetch::{Fetched, Inputs, PageWords};
+use crate::ending::Ending;
 use crate::first_form::{Form, read_form};
-use crate::line::{entry_line, not_yet_line, too_large_line};
+use crate::line::{entry_line, not_yet_line};
+use crate::output::Output;
 use crate::page::Page;
 use serde_json::Value;
-use soy_base::OutOfMemory;
 use std::alloc::Global;
 
-/// The page of what was fetched, or how the run ends in its place.
-pub(crate) fn accept<'a>(alloc: Global, inputs: &'a Inputs<'_>) -> Result<Page<'a>, Ending<'a>>
-    ensures { Accepts (answer_by inputs.now) result }
+/// What is to be written for a command with the contents of the files that it wants.
+pub(crate) fn accept<'a>(
+    alloc: Global,
+    command: Command<'_>,
+    contents: &'a [Vec<u8>],
+) -> Result<Output<'a>, Ending>
+    ensures { Accepts (contents_answer (view_command command.entry) (view_contents contents.now)) result }
 {
-    let Fetched::Whole(json) = &inputs.json else {
-        return Err(refused(too_large_line(alloc, inputs.page.json)));
-    };
-    let Fetched::Whole(file) = &inputs.file else {
-        return Err(refused(too_large_line(alloc, inputs.page.file)));
-    };
-    accept_file(alloc, &inputs.page, json.as_slice(), file.as_slice())
+    match command {
+        Command::Render { template, .. } => accept_render(alloc, template, contents),
+        Command::Check { .. } => Err(not_yet(alloc, "check")),
+        Command::Extract { .. } => Err(not_yet(alloc, "extract")),
+        Command::Gen { .. } => Err(not_yet(alloc, "gen")),
+        Command::Play { .. } => Err(not_yet(alloc, "play")),
+        Command::Preview { .. } => Err(not_yet(alloc, "preview")),
+        Command::Format { .. } => Err(not_yet(alloc, "format")),
+    }
 }
 
-/// The refusal of input that the program doesn't render yet.
-fn not_yet<'a>(alloc: Global) -> Ending<'a>
-    ensures { Refuses (page_answer None) result }
+/// That the program doesn't do what a command asks for yet.
+fn not_yet(alloc: Global, command: &str) -> Ending
+    ensures { Refuses (not_yet command.now) result }
 {
-    refused(not_yet_line(alloc, "render"))
+    match not_yet_line(alloc, command) {
+        Ok(line) => Ending::Refused(line),
+        Err(refused) => refused.into(),
+    }
 }
 
-/// The page of a file and its data, each within its limit.
+/// The page of a `render`.
+fn accept_render<'a>(
+    alloc: Global,
+    template: &str,
+    contents: &'a [Vec<u8>],
+) -> Result<Output<'a>, Ending>
+    ensures { Accepts (render_answer template.now (view_contents contents.now)) result }
+{
+    let [json, file] = contents else {
+        return Err(not_yet(alloc, "render"));
+    };
+    let page = accept_file(alloc, template, json.as_slice(), file.as_slice())?;
+    Ok(Output::Page(page))
+}
+
+/// The page of a file and its data.
 fn accept_file<'a>(
     alloc: Global,
-    page: &PageWords<'_>,
+    template: &str,
     json: &[u8],
     file: &'a [u8],
-) -> Result<Page<'a>, Ending<'a>>
-    ensures { Accepts (form_answer (seen_page page.now) json.now (first_form file.now)) result }
+) -> Result<Page<'a>, Ending>
+    ensures { AcceptsPage (form_answer template.now json.now (first_form file.now)) result }
 {
-    match read_form(alloc, file) {
-        Ok(Some(form)) => accept_form(alloc, page, json, form),
-        Ok(None) => Err(not_yet(alloc)),
-        Err(OutOfMemory) => Err(Ending::Memory),
+    match read_form(alloc, file)? {
+        Some(form) => accept_form(alloc, template, json, form),
+        None => Err(not_yet(alloc, "render")),
     }
 }
 
 /// The page of a form and its data.
 fn accept_form<'a>(
     alloc: Global,
-    page: &PageWords<'_>,
+    template: &str,
     json: &[u8],
     form: Form<'a>,
-) -> Result<Page<'a>, Ending<'a>>
-    ensures { Accepts (named_answer (seen_page page.now) (seen_form form.entry) json.now) result }
+) -> Result<Page<'a>, Ending>
+    ensures { AcceptsPage (named_answer template.now json.now (view_form form.entry)) result }
 {
-    if !form.is_named(page.template) {
-        return Err(refused(entry_line(alloc, page.template)));
+    if !form.is_named(template) {
+        return Err(Ending::Refused(entry_line(alloc, template)?));
     }
     accept_data(alloc, json, form)
 }
 
 /// The page of a form with its data.
-fn accept_data<'a>(alloc: Global, json: &[u8], form: Form<'a>) -> Result<Page<'a>, Ending<'a>>
-    ensures { Accepts (page_answer (page_of (seen_form form.entry) json.now)) result }
+fn accept_data<'a>(alloc: Global, json: &[u8], form: Form<'a>) -> Result<Page<'a>, Ending>
+    ensures { AcceptsPage (page_answer (page_of (view_form form.entry) json.now)) result }
 {
-    match read_data(alloc, json) {
-        Ok(Some(json)) => accept_values(alloc, json, form),
-        Ok(None) => Err(not_yet(alloc)),
-        Err(OutOfMemory) => Err(Ending::Memory),
+    match read_data(alloc, json)? {
+        Some(json) => accept_values(alloc, json, form),
+        None => Err(not_yet(alloc, "render")),
     }
 }
 
 /// The page of a form with data that were read.
-fn accept_values<'a>(alloc: Global, json: Value, form: Form<'a>) -> Result<Page<'a>, Ending<'a>>
-    ensures { Accepts (page_answer (page_with (seen_form form.entry) (view json))) result }
+fn accept_values<'a>(alloc: Global, json: Value, form: Form<'a>) -> Result<Page<'a>, Ending>
+    ensures { AcceptsPage (page_answer (page_with (view_form form.entry) (view json))) result }
 {
     if !has_values(&form.params, &json) {
-        return Err(not_yet(alloc));
+        return Err(not_yet(alloc, "render"));
     }
     let Form { body, .. } = form;
     Ok(Page { body, json })

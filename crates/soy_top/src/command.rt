@@ -1,9 +1,12 @@
-// What the words of the command line ask for.
+//! What the words of the command line ask for.
+
 ghost use Rattle.std.specs.Prelude.{◌≡◌, option_map};
 ghost use Rattle.std.specs.Char.{is_ascii_digit};
 ghost use Rattle.std.specs.List.{list_all};
-ghost use Rattle.soy_top.specs.Asked.{asked_by_words, render_asked, check_asked, extract_asked, gen_asked, play_asked, preview_asked, format_asked, are_digits, number_of, has_file_count};
-ghost use Rattle.soy_top.specs.Seen.{seen_command};
+ghost use Rattle.soy_top.specs.Asked.{asked_by_words, render_asked, check_asked, extract_asked, gen_asked};
+ghost use Rattle.soy_top.specs.Asked.{play_asked, preview_asked, format_asked, are_digits, number_of};
+ghost use Rattle.soy_top.specs.Asked.{has_file_count};
+ghost use Rattle.soy_top.specs.View.{view_command};
 ghost use Rattle.soy_top.specs.Words.{words_of};
 
 /// A command with its words. `files` are 1 to 64 names of files.
@@ -45,7 +48,7 @@ pub(crate) enum Command<'a> {
 /// The command of these words, and none exactly where they are no command with its counts and its
 /// number.
 pub(crate) fn command_of(words: &[String]) -> Option<Command<'_>>
-    ensures { option_map seen_command result ≡ asked_by_words (words_of words.now) }
+    ensures { option_map view_command result ≡ asked_by_words (words_of words.now) }
 {
     let (command, words) = words.split_first()?;
     match command.as_str() {
@@ -60,14 +63,16 @@ pub(crate) fn command_of(words: &[String]) -> Option<Command<'_>>
     }
 }
 
+/// Whether there are as many files as a command takes.
 fn has_file_count(files: &[String]) -> bool
     ensures { result ≡ has_file_count (words_of files.now) }
 {
     0 < files.len() && files.len() <= 64
 }
 
+/// The words after `render`.
 fn render_of(words: &[String]) -> Option<Command<'_>>
-    ensures { option_map seen_command result ≡ render_asked (words_of words.now) }
+    ensures { option_map view_command result ≡ render_asked (words_of words.now) }
 {
     match words {
         [template, data_file, bundle, files @ ..] if has_file_count(files) => {
@@ -82,8 +87,9 @@ fn render_of(words: &[String]) -> Option<Command<'_>>
     }
 }
 
+/// The words after `check`.
 fn check_of(words: &[String]) -> Option<Command<'_>>
-    ensures { option_map seen_command result ≡ check_asked (words_of words.now) }
+    ensures { option_map view_command result ≡ check_asked (words_of words.now) }
 {
     match words {
         [bundle, files @ ..] if has_file_count(files) => Some(Command::Check {
@@ -94,8 +100,9 @@ fn check_of(words: &[String]) -> Option<Command<'_>>
     }
 }
 
+/// The words after `extract`.
 fn extract_of(files: &[String]) -> Option<Command<'_>>
-    ensures { option_map seen_command result ≡ extract_asked (words_of files.now) }
+    ensures { option_map view_command result ≡ extract_asked (words_of files.now) }
 {
     if has_file_count(files) {
         return Some(Command::Extract { files });
@@ -103,12 +110,14 @@ fn extract_of(files: &[String]) -> Option<Command<'_>>
     None
 }
 
+/// Whether a word is made of decimal digits.
 fn all_digits(word: &str) -> bool
     ensures { result ≡ list_all is_ascii_digit word.now }
 {
     word.as_bytes().iter().all(|b| b.is_ascii_digit())
 }
 
+/// Whether a word is 1 to 10 decimal digits.
 fn are_digits(word: &str) -> bool
     ensures { result ≡ are_digits word.now }
 {
@@ -125,8 +134,9 @@ fn number_of(word: &str) -> Option<u32>
     word.parse::<u32>().ok()
 }
 
+/// The words after `gen`.
 fn gen_of(words: &[String]) -> Option<Command<'_>>
-    ensures { option_map seen_command result ≡ gen_asked (words_of words.now) }
+    ensures { option_map view_command result ≡ gen_asked (words_of words.now) }
 {
     match words {
         [number] => {
@@ -137,8 +147,9 @@ fn gen_of(words: &[String]) -> Option<Command<'_>>
     }
 }
 
+/// The words after `play`.
 fn play_of(words: &[String]) -> Option<Command<'_>>
-    ensures { option_map seen_command result ≡ play_asked (words_of words.now) }
+    ensures { option_map view_command result ≡ play_asked (words_of words.now) }
 {
     match words {
         [script, first, second, files @ ..] if has_file_count(files) => Some(Command::Play {
@@ -151,8 +162,9 @@ fn play_of(words: &[String]) -> Option<Command<'_>>
     }
 }
 
+/// The words after `preview`.
 fn preview_of(words: &[String]) -> Option<Command<'_>>
-    ensures { option_map seen_command result ≡ preview_asked (words_of words.now) }
+    ensures { option_map view_command result ≡ preview_asked (words_of words.now) }
 {
     match words {
         [template, data_file, bundle, files @ ..] if has_file_count(files) => {
@@ -167,8 +179,9 @@ fn preview_of(words: &[String]) -> Option<Command<'_>>
     }
 }
 
+/// The words after `format`.
 fn format_of(words: &[String]) -> Option<Command<'_>>
-    ensures { option_map seen_command result ≡ format_asked (words_of words.now) }
+    ensures { option_map view_command result ≡ format_asked (words_of words.now) }
 {
     match words {
         [file] => Some(Command::Format {

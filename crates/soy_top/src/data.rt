@@ -1,4 +1,5 @@
-// The data of a page.
+//! The data of a page.
+
 ghost use Rattle.std.specs.Prelude.{◌≡◌, nat_lt, option_map, is_some, IfOk};
 ghost use Rattle.std.specs.List.{list_all};
 ghost use Rattle.serde_json.specs.View.{view};
@@ -10,7 +11,7 @@ use soy_base::OutOfMemory;
 use std::alloc::Global;
 use std::str;
 
-/// The data that bytes spell, if they are UTF-8 and JSON, or want of memory.
+/// The data that bytes spell, if they are UTF-8 and JSON.
 pub(crate) fn read_data(alloc: Global, bytes: &[u8]) -> Result<Option<Value>, OutOfMemory>
     ensures { IfOk result (λ json. option_map view json ≡ data_of bytes.now) }
 {
@@ -28,6 +29,7 @@ pub(crate) fn read_data(alloc: Global, bytes: &[u8]) -> Result<Option<Value>, Ou
     }
 }
 
+/// Whether a text is ASCII.
 fn is_ascii(text: &str) -> bool
     ensures { result ≡ list_all (λ c. nat_lt c 128) text.now }
 {

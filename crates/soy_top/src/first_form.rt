@@ -1,15 +1,20 @@
-// Reads files of the first form. The lexer and the parser of whole files take its place.
+//! Reads files of the first form, until the lexer and the parser of whole files do.
+
 ghost use Rattle.std.specs.Prelude.{◌≡◌, [], ◌∷◌, ◌++◌, ◌==◌, option_map, IfOk, OnOk};
 ghost use Rattle.std.specs.List.{list_all, slice_split};
 ghost use Rattle.std.specs.Str.{bytes_eq};
-ghost use Rattle.soy_top.specs.FirstForm.{is_plain, is_empty, is_tag_and_text, is_static, Print, print_of, static_part, parts_of, namespace_of, template_of, param_of, has_body_ends, is_last_line, is_template_end, body_read, declared, form_after, form_of_lines, full_name, is_file_byte, first_form, passing, print_parts, tag_names};
-ghost use Rattle.soy_top.specs.Parts.{parts_left};
-ghost use Rattle.soy_top.specs.SeenForm.{seen_parts, seen_declared, seen_form};
-ghost use Rattle.soy_top.specs.Words.{is_among};
+ghost use Rattle.soy_top.specs.FirstForm.{is_plain, is_empty, is_tag_and_text, is_static, Print, print_of};
+ghost use Rattle.soy_top.specs.FirstForm.{static_part, parts_of, namespace_of, template_of, param_of};
+ghost use Rattle.soy_top.specs.FirstForm.{has_body_ends, is_last_line, is_template_end, body_read, declared};
+ghost use Rattle.soy_top.specs.FirstForm.{form_after, form_of_lines, full_name, is_file_byte, first_form, passing};
+ghost use Rattle.soy_top.specs.FirstForm.{print_parts, tag_names};
+ghost use Rattle.soy_top.specs.ByteParts.{byte_parts_left};
+ghost use Rattle.soy_top.specs.ViewForm.{view_parts, view_declared, view_form};
+ghost use Rattle.soy_base.specs.Among.{is_among};
 
 use crate::name::{is_dotted_name, is_name};
 use crate::params::Params;
-use crate::text::{after_front, between, cut, front};
+use crate::text::{after_prefix, between, cut, first_part};
 use soy_base::OutOfMemory;
 use std::alloc::Global;
 use std::str;
@@ -37,6 +42,7 @@ struct Declared<'a> {
     body: &'a str,
 }
 
+/// The namespace that a line names.
 fn namespace_of(line: &str) -> Option<&str>
     ensures { option_map (λ name. name.now) result ≡ namespace_of line.now }
 {
@@ -48,6 +54,7 @@ fn namespace_of(line: &str) -> Option<&str>
     }
 }
 
+/// The name of the template that a line begins.
 fn template_of(line: &str) -> Option<&str>
     ensures { option_map (λ name. name.now) result ≡ template_of line.now }
 {
@@ -55,6 +62,7 @@ fn template_of(line: &str) -> Option<&str>
     if is_name(name) { Some(name) } else { None }
 }
 
+/// The name of the parameter that a line declares.
 fn param_of(line: &str) -> Option<&str>
     ensures { option_map (λ name. name.now) result ≡ param_of line.now }
 {
@@ -62,18 +70,21 @@ fn param_of(line: &str) -> Option<&str>
     if is_name(name) { Some(name) } else { None }
 }
 
+/// Whether a byte is a character of the body that is no part of a tag or a print.
 fn is_plain(byte: u8) -> bool
     ensures { result ≡ is_plain byte }
 {
     !b"{}<>&/".contains(&byte)
 }
 
+/// Whether a text is made of such characters.
 fn is_plain_text(text: &str) -> bool
     ensures { result ≡ list_all is_plain text.now }
 {
     text.as_bytes().iter().all(|byte| is_plain(*byte))
 }
 
+/// Whether a name is that of a tag, with the slash of one that ends an element.
 fn is_tag_name(name: &str) -> bool
     ensures { result ≡ is_among tag_names name.now }
 {
@@ -97,12 +108,12 @@ fn is_tag_and_text(text: &str) -> bool
 fn is_static(text: &str) -> bool
     ensures { result ≡ is_static text.now }
 {
-    let (plain, mut rest) = front(text, '<');
+    let (plain, mut rest) = first_part(text, '<');
     if !is_plain_text(plain) {
         return false;
     }
     while let Some(tags) = rest {
-        let (tag, others) = front(tags, '<');
+        let (tag, others) = first_part(tags, '<');
         if !is_tag_and_text(tag) {
             return false;
         }
@@ -115,7 +126,7 @@ fn is_static(text: &str) -> bool
 fn print_of<'a>(params: &Params<'_>, text: &'a str) -> Option<(&'a str, &'a str)>
     ensures { option_map (λ print. (print.0.now, print.1.now)) result ≡ print_of params.now text.now }
 {
-    let (name, text) = cut(after_front(text, "$")?, '}')?;
+    let (name, text) = cut(after_prefix(text, "$")?, '}')?;
     if params.contains(name) && is_static(text) {
         return Some((name, text));
     }
@@ -124,7 +135,7 @@ fn print_of<'a>(params: &Params<'_>, text: &'a str) -> Option<(&'a str, &'a str)
 
 /// Adds a static text to the parts, where it isn't empty.
 fn push_static<'a>(parts: &mut Vec<Part<'a>>, text: &'a str) -> Result<(), OutOfMemory>
-    ensures ok { OnOk result (seen_parts parts.new.items ≡ seen_parts parts.old.items ++ static_part text.now) }
+    ensures ok { OnOk result (view_parts parts.new.items ≡ view_parts parts.old.items ++ static_part text.now) }
 {
     if !text.is_empty() {
         parts.push(Part::Static(text))?;
@@ -138,7 +149,8 @@ fn push_print<'a>(
     name: &'a str,
     text: &'a str,
 ) -> Result<(), OutOfMemory>
-    ensures ok { OnOk result (seen_parts parts.new.items ≡ seen_parts parts.old.items ++ (Print name.now ∷ static_part text.now)) }
+    ensures ok { OnOk result
+        (view_parts parts.new.items ≡ view_parts parts.old.items ++ (Print name.now ∷ static_part text.now)) }
 {
     parts.push(Part::Print(name))?;
     push_static(parts, text)
@@ -150,16 +162,16 @@ fn parts_of<'a>(
     params: &Params<'_>,
     body: &'a str,
 ) -> Result<Option<Vec<Part<'a>>>, OutOfMemory>
-    ensures { IfOk result (λ parts. option_map (λ found. seen_parts found.items) parts ≡ parts_of params.now body.now) }
+    ensures { IfOk result (λ parts. option_map (λ found. view_parts found.items) parts ≡ parts_of params.now body.now) }
 {
     let mut parts = Vec::new(alloc);
-    let (text, mut rest) = front(body, '{');
+    let (text, mut rest) = first_part(body, '{');
     if !is_static(text) {
         return Ok(None);
     }
     push_static(&mut parts, text)?;
     while let Some(prints) = rest {
-        let (print, others) = front(prints, '{');
+        let (print, others) = first_part(prints, '{');
         let Some((name, text)) = print_of(params, print) else {
             return Ok(None);
         };
@@ -179,20 +191,20 @@ fn has_body_ends(line: &str) -> bool
 
 /// Whether these are the lines after the body.
 fn is_template_end(lines: Option<&str>) -> bool
-    ensures { result ≡ is_template_end (parts_left 10 lines.entry) }
+    ensures { result ≡ is_template_end (byte_parts_left 10 lines.entry) }
 {
     match lines {
         None => false,
         Some(text) => {
-            let (end, last) = front(text, '\n');
+            let (end, last) = first_part(text, '\n');
             end == "{/template}" && is_last_line(last)
         }
     }
 }
 
-/// Whether nothing follows a line, or only its line end.
+/// Whether nothing follows a line, or only its line break.
 fn is_last_line(lines: Option<&str>) -> bool
-    ensures { result ≡ is_last_line (parts_left 10 lines.entry) }
+    ensures { result ≡ is_last_line (byte_parts_left 10 lines.entry) }
 {
     match lines {
         None => true,
@@ -205,12 +217,12 @@ fn declared_in<'a>(
     alloc: Global,
     lines: Option<&'a str>,
 ) -> Result<Option<Declared<'a>>, OutOfMemory>
-    ensures { IfOk result (λ read. option_map seen_declared read ≡ declared [] (parts_left 10 lines.entry)) }
+    ensures { IfOk result (λ read. option_map view_declared read ≡ declared [] (byte_parts_left 10 lines.entry)) }
 {
     let mut params = Params::new(alloc);
     let mut rest = lines;
     while let Some(text) = rest {
-        let (line, others) = front(text, '\n');
+        let (line, others) = first_part(text, '\n');
         if !line.is_empty() {
             let Some(name) = param_of(line) else {
                 return Ok(body_read(params, line, others));
@@ -226,7 +238,7 @@ fn declared_in<'a>(
 
 /// The body line, if it may be one and the lines after it end the template.
 fn body_read<'a>(params: Params<'a>, line: &'a str, lines: Option<&str>) -> Option<Declared<'a>>
-    ensures { option_map seen_declared result ≡ body_read params.entry line.now (parts_left 10 lines.entry) }
+    ensures { option_map view_declared result ≡ body_read params.entry line.now (byte_parts_left 10 lines.entry) }
 {
     if has_body_ends(line) && is_template_end(lines) {
         return Some(Declared { params, body: line });
@@ -236,13 +248,13 @@ fn body_read<'a>(params: Params<'a>, line: &'a str, lines: Option<&str>) -> Opti
 
 /// The form of a text, if it is of the first form but for its bytes.
 fn form_of_text<'a>(alloc: Global, text: &'a str) -> Result<Option<Form<'a>>, OutOfMemory>
-    ensures { IfOk result (λ form. option_map seen_form form ≡ form_of_lines (slice_split (λ c. c == 10) text.now)) }
+    ensures { IfOk result (λ form. option_map view_form form ≡ form_of_lines (slice_split (λ c. c == 10) text.now)) }
 {
-    let (first, others) = front(text, '\n');
+    let (first, others) = first_part(text, '\n');
     let Some(text) = others else {
         return Ok(None);
     };
-    let (second, others) = front(text, '\n');
+    let (second, others) = first_part(text, '\n');
     let (Some(namespace), Some(template)) = (namespace_of(first), template_of(second)) else {
         return Ok(None);
     };
@@ -256,7 +268,8 @@ fn form_after<'a>(
     template: &'a str,
     lines: Option<&'a str>,
 ) -> Result<Option<Form<'a>>, OutOfMemory>
-    ensures { IfOk result (λ form. option_map seen_form form ≡ form_after namespace.now template.now (declared [] (parts_left 10 lines.entry))) }
+    ensures { IfOk result (λ form. option_map view_form form ≡
+        form_after namespace.now template.now (declared [] (byte_parts_left 10 lines.entry))) }
 {
     let Some(read) = declared_in(alloc, lines)? else {
         return Ok(None);
@@ -282,9 +295,9 @@ fn are_file_bytes(bytes: &[u8]) -> bool
         .all(|byte| *byte == b'\n' || (b' '..=b'~').contains(byte))
 }
 
-/// The form of a file, if it is of the first form, or want of memory.
+/// The form of a file, if it is of the first form.
 pub(crate) fn read_form<'a>(alloc: Global, file: &'a [u8]) -> Result<Option<Form<'a>>, OutOfMemory>
-    ensures { IfOk result (λ form. option_map seen_form form ≡ first_form file.now) }
+    ensures { IfOk result (λ form. option_map view_form form ≡ first_form file.now) }
 {
     if !are_file_bytes(file) {
         return Ok(None);
@@ -298,12 +311,12 @@ pub(crate) fn read_form<'a>(alloc: Global, file: &'a [u8]) -> Result<Option<Form
 impl Form<'_> {
     /// Whether the template's full name is this one: the namespace, a dot and its name.
     pub(crate) fn is_named(&self, name: &str) -> bool
-        ensures { result ≡ bytes_eq name.now (full_name (seen_form self.now)) }
+        ensures { result ≡ bytes_eq name.now (full_name (view_form self.now)) }
     {
-        let Some(rest) = after_front(name, self.namespace) else {
+        let Some(rest) = after_prefix(name, self.namespace) else {
             return false;
         };
-        let Some(template) = after_front(rest, ".") else {
+        let Some(template) = after_prefix(rest, ".") else {
             return false;
         };
         template == self.template

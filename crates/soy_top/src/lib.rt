@@ -1,11 +1,11 @@
 //! The top call of `soyc`: all that the program does, over any library of files and any two sinks.
 //!
-//! `run` goes by `answered`, a function of the words and of the files that the library tells. Its
-//! clauses say of each status exactly when it comes, what each sink took, and what stays as it was;
-//! want of memory alone is free. So far `run` renders pages of the first form, which is one file
-//! of plain markup with prints of ASCII text; the module `first_form` reads it.
+//! `run` goes by `answered`, a function of the words and of the files that the library is known to
+//! hold. Its clauses say of each status exactly when it comes, what each sink took, and what is
+//! unchanged; running out of memory alone is free. So far `run` renders pages of the first form,
+//! which is one file of plain markup with prints of ASCII text; the module `first_form` reads it.
 //!
-//! Stands on soy_base, soy_io and esc_table, and on serde_json for the data and indexmap for the
+//! Depends on soy_base, soy_io and esc_table, and on serde_json for the data and indexmap for the
 //! parameters in their order.
 #![tactic(auto)]
 
@@ -15,16 +15,18 @@ mod data;
 mod ending;
 mod fetch;
 mod first_form;
-mod law;
+mod laws;
 mod line;
 mod name;
+mod output;
 mod page;
 mod params;
 mod program;
 mod status;
 mod text;
+mod wanted;
 
-pub use law::law_first_form;
+pub use laws::{law_answer_is_page, law_first_form};
 pub use program::run;
 pub use status::Status;
 

@@ -1,4 +1,5 @@
-// The lines that the program writes for people.
+//! The lines that the program writes for people.
+
 ghost use Rattle.std.specs.Prelude.{◌≡◌, IfOk};
 ghost use Rattle.std.specs.String.{string_bytes};
 ghost use Rattle.soy_top.specs.Line.{refusal_line, not_yet_line, too_large_line, entry_line, read_line, ended};
@@ -16,7 +17,7 @@ soyc preview TEMPLATE DATA BUNDLE FILE..
 soyc format FILE
 ";
 
-/// The line of a refusal with its line feed, or want of memory.
+/// The line of a refusal, with its line feed.
 fn refusal_line(alloc: Global, subject: &str, code: Code) -> Result<String, OutOfMemory>
     ensures { IfOk result (λ line. string_bytes line ≡ ended (refusal_line subject.now code)) }
 {
@@ -36,8 +37,8 @@ pub(crate) fn not_yet_line(alloc: Global, command: &str) -> Result<String, OutOf
 pub(crate) fn too_large_line(alloc: Global, file: &str) -> Result<String, OutOfMemory>
     ensures { IfOk result (λ line. string_bytes line ≡ ended (too_large_line file.now)) }
 {
-    let place = format!(in alloc; "{file}:1:1")?;
-    refusal_line(alloc, place.as_str(), Code::TooLarge)
+    let position = format!(in alloc; "{file}:1:1")?;
+    refusal_line(alloc, position.as_str(), Code::TooLarge)
 }
 
 /// The line of a template that may not be rendered.
@@ -47,7 +48,7 @@ pub(crate) fn entry_line(alloc: Global, template: &str) -> Result<String, OutOfM
     refusal_line(alloc, template, Code::Entry)
 }
 
-/// The line of a file that could not be read, with its line feed, or want of memory.
+/// The line of a file that could not be read, with its line feed.
 pub(crate) fn read_line(alloc: Global, file: &str) -> Result<String, OutOfMemory>
     ensures { IfOk result (λ line. string_bytes line ≡ ended (read_line file.now)) }
 {

@@ -1,17 +1,20 @@
-// Names and dotted names.
+//! Names and dotted names of ASCII, seen by their bytes.
+
 ghost use Rattle.std.specs.Prelude.{◌≡◌, ◌==◌};
 ghost use Rattle.std.specs.List.{list_all, slice_split};
-ghost use Rattle.soy_top.specs.Name.{begins_name, continues_name, is_name, is_dotted_name};
-ghost use Rattle.soy_top.specs.Parts.{parts_left};
+ghost use Rattle.soy_base.specs.Names.{begins_name, continues_name, is_name, is_dotted_name};
+ghost use Rattle.soy_top.specs.ByteParts.{byte_parts_left};
 
-use crate::text::front;
+use crate::text::first_part;
 
+/// Whether a name may begin with a byte.
 fn begins_name(byte: u8) -> bool
     ensures { result ≡ begins_name byte }
 {
     byte.is_ascii_alphabetic() || byte == b'_'
 }
 
+/// Whether a name may go on with a byte.
 fn continues_name(byte: u8) -> bool
     ensures { result ≡ continues_name byte }
 {
@@ -28,6 +31,7 @@ pub(crate) fn is_name(text: &str) -> bool
     }
 }
 
+/// Whether a name may go on with all of these bytes.
 fn continue_name(bytes: &[u8]) -> bool
     ensures { result ≡ list_all continues_name bytes.now }
 {
@@ -40,7 +44,7 @@ pub(crate) fn is_dotted_name(text: &str) -> bool
 {
     let mut rest = Some(text);
     while let Some(names) = rest {
-        let (name, others) = front(names, '.');
+        let (name, others) = first_part(names, '.');
         if !is_name(name) {
             return false;
         }

@@ -1,4 +1,5 @@
-// Writes a page, piece by piece.
+//! Puts a page, piece by piece.
+
 ghost use Rattle.std.specs.Prelude.{◌≡◌, ◌≤◌, [], ◌++◌, map, unwrap_or, OnOk, IfErr, IfOk, encode_utf8_all};
 ghost use Rattle.std.specs.List.{list_any};
 ghost use Rattle.std.specs.Str.{chars};
@@ -6,16 +7,16 @@ ghost use Rattle.std.specs.String.{string_bytes};
 ghost use Rattle.serde_json.specs.View.{view};
 ghost use Rattle.esc_table.specs.EscapedText.{escaped_text};
 ghost use Rattle.esc_table.specs.HtmlRows.{html_rows};
-ghost use Rattle.soy_io.specs.Added.{added};
 ghost use Rattle.soy_io.specs.PutRose.{PutRose};
 ghost use Rattle.soy_top.specs.Data.{value_of};
-ghost use Rattle.soy_top.specs.Ending.{TookPart};
+ghost use Rattle.soy_top.specs.Change.{change, Took, TookPrefix};
 ghost use Rattle.soy_top.specs.FirstPage.{is_separator, space_for, wrapped_value, part_bytes};
-ghost use Rattle.soy_top.specs.SeenForm.{seen_part};
-ghost use Rattle.soy_top.specs.SeenPage.{page_bytes};
+ghost use Rattle.soy_top.specs.ViewForm.{view_part};
+ghost use Rattle.soy_top.specs.ViewOutput.{IsEnd, page_bytes, view_page};
 
 use crate::data::value_of;
 use crate::first_form::Part;
+use crate::output::End;
 use esc_table::{escape_into, html};
 use serde_json::Value;
 use soy_base::OutOfMemory;
@@ -46,14 +47,14 @@ fn has_separator(value: &str) -> bool
     value.chars().any(is_separator)
 }
 
-/// A space in place of a separator.
+/// A space instead of a separator.
 fn space_for(c: char) -> char
     ensures { result ≡ space_for c }
 {
     if is_separator(c) { ' ' } else { c }
 }
 
-/// A value with its separators made spaces, or want of memory.
+/// A value with its separators made spaces.
 fn spaced(alloc: Global, value: &str) -> Result<String, OutOfMemory>
     ensures { IfOk result (λ text. string_bytes text ≡ encode_utf8_all (map space_for (chars value.now))) }
 {
@@ -62,7 +63,8 @@ fn spaced(alloc: Global, value: &str) -> Result<String, OutOfMemory>
 
 /// Adds the HTML rows of a value.
 fn push_rows(alloc: Global, value: &str, text: &mut String) -> Result<(), OutOfMemory>
-    ensures { OnOk result (string_bytes text.new ≡ string_bytes text.old ++ encode_utf8_all (escaped_text html_rows (chars value.now))) }
+    ensures { OnOk result (string_bytes text.new ≡
+        string_bytes text.old ++ encode_utf8_all (escaped_text html_rows (chars value.now))) }
 {
     match escape_into(alloc, &html(), value, text) {
         Ok(()) => Ok(()),
@@ -72,7 +74,8 @@ fn push_rows(alloc: Global, value: &str, text: &mut String) -> Result<(), OutOfM
 
 /// Adds the HTML rows of a value with its separators made spaces. A value without one isn't copied.
 fn push_escaped(alloc: Global, value: &str, text: &mut String) -> Result<(), OutOfMemory>
-    ensures { OnOk result (string_bytes text.new ≡ string_bytes text.old ++ encode_utf8_all (escaped_text html_rows (map space_for (chars value.now)))) }
+    ensures { OnOk result (string_bytes text.new ≡
+        string_bytes text.old ++ encode_utf8_all (escaped_text html_rows (map space_for (chars value.now)))) }
 {
     if has_separator(value) {
         push_rows(alloc, spaced(alloc, value)?.as_str(), text)
@@ -81,7 +84,7 @@ fn push_escaped(alloc: Global, value: &str, text: &mut String) -> Result<(), Out
     }
 }
 
-/// A value in its span, or want of memory.
+/// A value in its span.
 fn wrap(alloc: Global, value: &str) -> Result<String, OutOfMemory>
     ensures { IfOk result (λ text. string_bytes text ≡ wrapped_value value.now) }
 {
@@ -92,9 +95,9 @@ fn wrap(alloc: Global, value: &str) -> Result<String, OutOfMemory>
 }
 
 /// Puts bytes, not too many at once.
-fn put_bytes<K: Sink>(out: &mut K, bytes: &[u8]) -> Result<(), PutFault>
-    ensures ok { OnOk result (K.taken out.new ≡ added (K.taken out.old) bytes.now) }
-    ensures err { IfErr result (λ fault. TookPart (K.taken out.old) (K.taken out.new) bytes.now) }
+pub(crate) fn put_bytes<K: Sink>(out: &mut K, bytes: &[u8]) -> Result<(), PutFault>
+    ensures ok { OnOk result (Took (change K.Sink out.old out.new) bytes.now) }
+    ensures err { IfErr result (λ fault. TookPrefix (change K.Sink out.old out.new) bytes.now) }
     ensures later { K.faults out.old ≤ K.faults out.new }
     ensures failed { IfErr result (λ fault. PutRose fault (K.faults out.old) (K.faults out.new)) }
 {
@@ -119,8 +122,9 @@ fn put_part<K: Sink>(
     part: &Part<'_>,
     out: &mut K,
 ) -> Result<(), PutFault>
-    ensures ok { OnOk result (K.taken out.new ≡ added (K.taken out.old) (part_bytes (view json.now) (seen_part part.now))) }
-    ensures err { IfErr result (λ fault. TookPart (K.taken out.old) (K.taken out.new) (part_bytes (view json.now) (seen_part part.now))) }
+    ensures ok { OnOk result (Took (change K.Sink out.old out.new) (part_bytes (view json.now) (view_part part.now))) }
+    ensures err { IfErr result (λ fault.
+        TookPrefix (change K.Sink out.old out.new) (part_bytes (view json.now) (view_part part.now))) }
     ensures later { K.faults out.old ≤ K.faults out.new }
     ensures failed { IfErr result (λ fault. PutRose fault (K.faults out.old) (K.faults out.new)) }
 {
@@ -142,8 +146,8 @@ fn value_or_empty<'a>(json: &'a Value, name: &str) -> &'a str
 
 /// Puts a value in its span.
 fn put_value<K: Sink>(alloc: Global, value: &str, out: &mut K) -> Result<(), PutFault>
-    ensures ok { OnOk result (K.taken out.new ≡ added (K.taken out.old) (wrapped_value value.now)) }
-    ensures err { IfErr result (λ fault. TookPart (K.taken out.old) (K.taken out.new) (wrapped_value value.now)) }
+    ensures ok { OnOk result (Took (change K.Sink out.old out.new) (wrapped_value value.now)) }
+    ensures err { IfErr result (λ fault. TookPrefix (change K.Sink out.old out.new) (wrapped_value value.now)) }
     ensures later { K.faults out.old ≤ K.faults out.new }
     ensures failed { IfErr result (λ fault. PutRose fault (K.faults out.old) (K.faults out.new)) }
 {
@@ -154,10 +158,11 @@ fn put_value<K: Sink>(alloc: Global, value: &str, out: &mut K) -> Result<(), Put
 }
 
 impl Page<'_> {
-    /// Puts the page, part by part.
-    pub(crate) fn put<K: Sink>(&self, alloc: Global, out: &mut K) -> Result<(), PutFault>
-        ensures ok { OnOk result (K.taken out.new ≡ added (K.taken out.old) (page_bytes self.now)) }
-        ensures err { IfErr result (λ fault. TookPart (K.taken out.old) (K.taken out.new) (page_bytes self.now)) }
+    /// Puts the page, part by part, and says how it ended.
+    pub(crate) fn put<K: Sink>(&self, alloc: Global, out: &mut K) -> Result<End, PutFault>
+        ensures ok { IfOk result (λ end. Took (change K.Sink out.old out.new) (view_page self.now).text) }
+        ensures end { IfOk result (λ end. IsEnd (view_page self.now).end end) }
+        ensures err { IfErr result (λ fault. TookPrefix (change K.Sink out.old out.new) (view_page self.now).text) }
         ensures later { K.faults out.old ≤ K.faults out.new }
         ensures failed { IfErr result (λ fault. PutRose fault (K.faults out.old) (K.faults out.new)) }
     {
@@ -166,6 +171,6 @@ impl Page<'_> {
                 return Err(fault);
             }
         }
-        Ok(())
+        Ok(End::Whole)
     }
 }

@@ -1,8 +1,10 @@
+//! The declared parameters of a template.
+
 ghost use Rattle.std.specs.Prelude.{◌≡◌, [], ◌∷◌, ◌++◌, true, false, is_some, IfOk, MatchBool};
 ghost use Rattle.std.specs.List.{list_all};
 ghost use Rattle.serde_json.specs.View.{view};
 ghost use Rattle.soy_top.specs.Data.{value_of};
-ghost use Rattle.soy_top.specs.Words.{is_among};
+ghost use Rattle.soy_base.specs.Among.{is_among};
 
 use crate::data::all_have_values;
 use indexmap::IndexSet;
@@ -38,7 +40,9 @@ impl<'a> Params<'a> {
 
     /// Declares a parameter, and says whether its name is a new one; else nothing changes.
     pub(crate) fn declare(&mut self, name: &'a str) -> Result<bool, OutOfMemory>
-        ensures ok { IfOk result (λ is_new. MatchBool is_new ((is_among self.old name.now ≡ false) × (self.new ≡ self.old ++ name.now ∷ [])) ((is_among self.old name.now ≡ true) × (self.new ≡ self.old))) }
+        ensures ok { IfOk result (λ is_new. MatchBool is_new
+            ((is_among self.old name.now ≡ false) × (self.new ≡ self.old ++ name.now ∷ []))
+            ((is_among self.old name.now ≡ true) × (self.new ≡ self.old))) }
     {
         Ok(self.names.insert(name)?)
     }

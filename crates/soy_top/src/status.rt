@@ -1,3 +1,5 @@
+//! How a run ended.
+
 /// How a run ended. The program's exit status is the number of the variant.
 #[derive(Clone, Copy, Debug, PartialEq, Eq)]
 pub enum Status {

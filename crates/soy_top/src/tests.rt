@@ -1,4 +1,6 @@
-// The worked rows: expected answers are written by hand from the rules.
+//! The worked rows: expected answers are written by hand from the rules.
+
+use crate::output::Output;
 use crate::{Status, run};
 use soy_io::{NamedFile, PlainLibrary, PlainSink};
 use std::alloc::Global;
@@ -11,7 +13,7 @@ use forms::FORMS;
 use rows::{DATA, WORDS};
 
 /// A row: its name, the words, the file t.soy and the data d.json; the status, and the text that the
-/// output takes where that is Done, and else the messages.
+/// output takes where that is Done, and else standard error.
 type Row = (
     &'static str,
     &'static str,
@@ -21,7 +23,7 @@ type Row = (
     &'static str,
 );
 
-/// The words of a line, parted by one space each, and none in an empty line.
+/// The words of a line, with one space between two of them, and none in an empty line.
 fn words_of(alloc: Global, line: &str) -> Option<Vec<String>> {
     let mut words = Vec::new(alloc);
     if line.is_empty() {
@@ -48,7 +50,7 @@ fn files_of(alloc: Global, file: &[u8], json: &[u8]) -> Option<Vec<NamedFile>> {
     Some(files)
 }
 
-/// How a run ended: the status, and what the output and the messages took.
+/// How a run ended: the status, and what the output and standard error took.
 #[derive(Drop)]
 struct Ended {
     status: Status,
@@ -62,7 +64,7 @@ fn taken_by(alloc: Global, status: Status, out: &[u8], err: &[u8]) -> Option<End
     Some(Ended { status, out, err })
 }
 
-/// A run over plain ends.
+/// A run over a library and sinks that never fail.
 fn run_plain(alloc: Global, words: &[String], files: Vec<NamedFile>) -> Option<Ended> {
     let mut files = PlainLibrary::new(files);
     let mut out = PlainSink::new(alloc);
@@ -181,6 +183,73 @@ fn rows_of_limits(rt: HostRuntime) {
             row.0,
             row.1
         );
+    }
+}
+
+/// So many times the byte `[`.
+fn brackets(alloc: Global, length: usize) -> Option<Vec<u8>> {
+    let mut json = Vec::new(alloc);
+    for _ in 0..length {
+        json.push(b'[').ok()?;
+    }
+    Some(json)
+}
+
+/// Whether a file with data is refused by this line, and the output took nothing.
+fn is_refused(alloc: Global, file: &[u8], json: &[u8], line: &str) -> bool {
+    match run_line(alloc, "render t.m d.json - t.soy", file, json) {
+        Some(ended) => {
+            ended.status == Status::Refused
+                && ended.err.as_slice() == line.as_bytes()
+                && ended.out.is_empty()
+        }
+        None => false,
+    }
+}
+
+#[test]
+fn rows_of_bytes(rt: HostRuntime) {
+    let file = rows::FILE.as_bytes();
+    let deep = brackets(rt.alloc(), 4_194_304);
+    let deep = match &deep {
+        Some(deep) => deep.as_slice(),
+        None => b"",
+    };
+    let rows: [(&str, &[u8], &[u8]); 5] = [
+        (
+            "FILE with a byte 255",
+            b"{namespace t}\n{template m}\n\xff\n{/template}\n",
+            b"{}",
+        ),
+        (
+            "FILE cut within a character",
+            b"{namespace t}\n{template m}\na\n{/template}\n\xc3",
+            b"{}",
+        ),
+        ("DATA with a byte 255", file, b"{\"x\":\"\xff\"}"),
+        ("DATA cut within a character", file, b"{\"x\":\"a\"}\xc3"),
+        ("4 MiB of brackets as DATA", file, deep),
+    ];
+    for (name, file, json) in rows {
+        assert!(rt; is_refused(rt.alloc(), file, json, rows::NOT_YET), "{name}");
+    }
+}
+
+/// Whether a text that is there is written whole.
+fn is_text_written(alloc: Global, text: &str) -> bool {
+    let Ok(copy) = String::from_str(alloc, text) else {
+        return false;
+    };
+    let mut out = PlainSink::new(alloc);
+    let mut err = PlainSink::new(alloc);
+    let status = Output::Text(copy).write(alloc, &mut out, &mut err);
+    status == Status::Done && out.taken() == text.as_bytes() && err.taken().is_empty()
+}
+
+#[test]
+fn a_text_that_is_there(rt: HostRuntime) {
+    for text in ["", "ok\n"] {
+        assert!(rt; is_text_written(rt.alloc(), text), "{text}");
     }
 }
 

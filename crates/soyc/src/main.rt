@@ -1,15 +1,15 @@
 //! The program `soyc`: hands its words, the files of the system and its two output streams to
 //! `soy_top::run`, and ends with the status that `run` answers, 0 to 6.
 //!
-//! The adapters here say of the real files and streams what `run` asks of a library and of sinks:
-//! each failure is counted, and nothing is told of their contents.
+//! The adapters here are a library over the real files and sinks over the real streams: each failure
+//! is counted, and contracts know nothing of what files and streams hold. Depends on soy_top and soy_io.
 #![tactic(auto)]
 
 mod library;
 mod sinks;
 
 use library::FileLibrary;
-use sinks::{ErrSink, OutSink};
+use sinks::StreamSink;
 use soy_top::{Status, run};
 use std::alloc::Global;
 use std::env;
@@ -27,8 +27,8 @@ fn words(rt: &HostRuntime, alloc: Global) -> Result<Vec<String>, Status> {
 
 fn main(rt: HostRuntime) -> ExitCode {
     let mut files = FileLibrary::new(&rt);
-    let mut out = OutSink::new(rt.stdout());
-    let mut err = ErrSink::new(rt.stderr());
+    let mut out = StreamSink::new(rt.stdout());
+    let mut err = StreamSink::new(rt.stderr());
     let status = match words(&rt, rt.alloc()) {
         Ok(words) => run(rt.alloc(), words.as_slice(), &mut files, &mut out, &mut err),
         Err(status) => status,

@@ -1,9 +1,10 @@
-// The output streams of the process as sinks. A put is a write: nothing is gathered.
+//! The output streams of the process as sinks.
+
 ghost use Rattle.std.specs.Prelude.{◌≡◌, ◌<◌, ◌≤◌, None, IfOk, IfErr, length};
 ghost use Rattle.soy_io.specs.PutRose.{PutRose};
 
 use soy_io::{PutFault, Sink};
-use std::io::{ErrorKind, Stderr, Stdout, Write};
+use std::io::{ErrorKind, Write};
 
 /// Writes the first bytes of a piece, and counts a fault where the stream fails or takes nothing.
 fn write_to<W: Write>(stream: &mut W, faults: &mut u64, piece: &[u8]) -> Result<usize, PutFault>
@@ -23,49 +24,24 @@ fn write_to<W: Write>(stream: &mut W, faults: &mut u64, piece: &[u8]) -> Result<
     Err(PutFault::Failed)
 }
 
-/// Standard output.
+/// A sink over a stream, of which nothing is known but its faults. A put is a write: nothing is
+/// gathered.
 #[derive(Drop)]
-pub struct OutSink {
-    stream: Stdout,
+pub(crate) struct StreamSink<W> {
+    stream: W,
     faults: u64,
 }
 
-impl OutSink {
+impl<W: Write> StreamSink<W> {
     /// A sink that has not failed.
-    pub fn new(stream: Stdout) -> OutSink
-        ensures { result.faults ≡ 0 }
+    pub(crate) fn new(stream: W) -> StreamSink<W>
+        ensures { ⟦<StreamSink<W> as Sink>⟧.faults result ≡ 0 }
     {
-        OutSink { stream, faults: 0 }
+        StreamSink { stream, faults: 0 }
     }
 }
 
-impl Sink for OutSink {
-    ghost taken = { λ _. None };
-
-    ghost faults = { λ sink. sink.faults };
-
-    fn put(&mut self, piece: &[u8]) -> Result<usize, PutFault> {
-        write_to(&mut self.stream, &mut self.faults, piece)
-    }
-}
-
-/// Standard error.
-#[derive(Drop)]
-pub struct ErrSink {
-    stream: Stderr,
-    faults: u64,
-}
-
-impl ErrSink {
-    /// A sink that has not failed.
-    pub fn new(stream: Stderr) -> ErrSink
-        ensures { result.faults ≡ 0 }
-    {
-        ErrSink { stream, faults: 0 }
-    }
-}
-
-impl Sink for ErrSink {
+impl<W: Write> Sink for StreamSink<W> {
     ghost taken = { λ _. None };
 
     ghost faults = { λ sink. sink.faults };

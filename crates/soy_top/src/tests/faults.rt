@@ -1,4 +1,4 @@
-// Libraries and sinks that fail, or that are refused memory.
+//! Libraries and sinks that fail, or that are refused memory.
 ghost use Rattle.std.specs.Prelude.{◌<◌, None};
 
 use super::{Ended, files_of, taken_by, words_of};
@@ -36,12 +36,12 @@ fn with_failing_out(alloc: Global, file: &[u8], most: usize, put: u64) -> Option
     taken_by(alloc, status, out.taken(), err.taken())
 }
 
-/// Whether the output took so many bytes of the page, and the messages nothing.
+/// Whether the output took so many bytes of the page, and standard error nothing.
 fn has_taken(ended: Option<Ended>, status: Status, page: &[u8], count: usize) -> bool {
     match ended {
         Some(ended) => {
-            let front = page.get(..count);
-            ended.status == status && front == Some(ended.out.as_slice()) && ended.err.is_empty()
+            let prefix = page.get(..count);
+            ended.status == status && prefix == Some(ended.out.as_slice()) && ended.err.is_empty()
         }
         None => false,
     }
@@ -70,7 +70,7 @@ fn an_output_that_fails(rt: HostRuntime) {
     assert!(rt; has_taken(ended, Status::Write, b"aaaaaaaaaaaaaaaaaaaaaaaaaaa", 27));
 }
 
-/// A run that says a refusal on messages that fail at their first put.
+/// A run that says a refusal on a standard error that fails at its first put.
 fn with_failing_err(alloc: Global) -> Option<Ended> {
     let words = words_of(alloc, "render t.zz d.json - t.soy")?;
     let mut files = PlainLibrary::new(files_of(alloc, FILE, JSON)?);
@@ -90,7 +90,7 @@ fn with_failing_fetch(alloc: Global, fetch: u64) -> Option<Ended> {
     taken_by(alloc, status, out.taken(), err.taken())
 }
 
-/// Whether a run ended so with these messages, and the output took nothing.
+/// Whether a run ended so with this text on standard error, and the output took nothing.
 fn has_said(ended: Option<Ended>, status: Status, text: &str) -> bool {
     match ended {
         Some(ended) => {
@@ -103,7 +103,7 @@ fn has_said(ended: Option<Ended>, status: Status, text: &str) -> bool {
 }
 
 #[test]
-fn messages_and_fetches_that_fail(rt: HostRuntime) {
+fn a_standard_error_and_fetches_that_fail(rt: HostRuntime) {
     assert!(rt; has_said(with_failing_err(rt.alloc()), Status::Write, ""));
     let ended = with_failing_fetch(rt.alloc(), 1);
     assert!(rt; has_said(ended, Status::Read, "d.json: read fault\n"));
@@ -111,11 +111,23 @@ fn messages_and_fetches_that_fail(rt: HostRuntime) {
     assert!(rt; has_said(ended, Status::Read, "t.soy: read fault\n"));
 }
 
-/// A sink that is refused memory at one put, and takes each other piece whole.
+/// A sink that is refused memory after so many puts, takes at most so many bytes of a piece, and counts
+/// the bytes that it took.
 #[derive(Drop)]
 struct ScarceSink {
     left: u64,
-    count: u64,
+    most: usize,
+    count: usize,
+}
+
+impl ScarceSink {
+    fn new(left: u64, most: usize) -> ScarceSink {
+        ScarceSink {
+            left,
+            most,
+            count: 0,
+        }
+    }
 }
 
 impl Sink for ScarceSink {
@@ -128,57 +140,96 @@ impl Sink for ScarceSink {
             return Err(PutFault::OutOfMemory);
         }
         self.left -= 1;
-        self.count = self.count.saturating_add(1);
-        Ok(piece.len())
+        let count = piece.len().min(self.most.max(1));
+        self.count = self.count.saturating_add(count);
+        Ok(count)
     }
 }
 
-/// A library that is refused memory at every fetch.
+/// A library that has the same file under each name, and is refused memory after so many fetches.
 #[derive(Drop)]
-struct ScarceLibrary;
+struct ScarceLibrary {
+    left: u64,
+}
 
 impl Library for ScarceLibrary {
     ghost held = { λ _. None };
 
     ghost faults = { λ _. 0 };
 
-    fn fetch(&mut self, _: &str, _: &mut Vec<u8>, _: usize) -> Result<Fetch, FetchFault> {
-        Err(FetchFault::OutOfMemory)
+    fn fetch(&mut self, _: &str, into: &mut Vec<u8>, _: usize) -> Result<Fetch, FetchFault> {
+        if self.left == 0 {
+            return Err(FetchFault::OutOfMemory);
+        }
+        self.left -= 1;
+        into.extend_from_slice(JSON)?;
+        Ok(Fetch::Whole)
     }
 }
 
-/// The status with an output that is refused memory after so many puts, and how many it took.
-fn with_scarce_out(alloc: Global, left: u64) -> Option<(Status, u64)> {
+/// The status with an output that is refused memory after so many puts, and how many bytes it took.
+fn with_scarce_out(alloc: Global, left: u64) -> Option<(Status, usize)> {
     let words = words_of(alloc, "render t.m d.json - t.soy")?;
     let mut files = PlainLibrary::new(files_of(alloc, FILE, JSON)?);
-    let mut out = ScarceSink { left, count: 0 };
+    let mut out = ScarceSink::new(left, 4096);
     let mut err = PlainSink::new(alloc);
     let status = run(alloc, words.as_slice(), &mut files, &mut out, &mut err);
     Some((status, out.count))
 }
 
-/// The status with a library that is refused memory.
-fn with_scarce_files(alloc: Global) -> Option<Status> {
+/// The status with a standard error that is refused memory after so many puts of at most four bytes,
+/// and how many bytes it took of a line of fifteen.
+fn with_scarce_err(alloc: Global, left: u64) -> Option<(Status, usize)> {
+    let words = words_of(alloc, "render t.zz d.json - t.soy")?;
+    let mut files = PlainLibrary::new(files_of(alloc, FILE, JSON)?);
+    let mut out = PlainSink::new(alloc);
+    let mut err = ScarceSink::new(left, 4);
+    let status = run(alloc, words.as_slice(), &mut files, &mut out, &mut err);
+    Some((status, err.count))
+}
+
+/// A run with a library that is refused memory after so many fetches.
+fn with_scarce_files(alloc: Global, left: u64) -> Option<Ended> {
     let words = words_of(alloc, "render t.m d.json - t.soy")?;
+    let mut files = ScarceLibrary { left };
     let mut out = PlainSink::new(alloc);
     let mut err = PlainSink::new(alloc);
-    Some(run(
-        alloc,
-        words.as_slice(),
-        &mut ScarceLibrary,
-        &mut out,
-        &mut err,
-    ))
+    let status = run(alloc, words.as_slice(), &mut files, &mut out, &mut err);
+    taken_by(alloc, status, out.taken(), err.taken())
 }
 
 #[test]
-fn ends_that_are_refused_memory(rt: HostRuntime) {
-    for left in 0..3 {
-        assert_eq!(rt;
-            with_scarce_out(rt.alloc(), left),
-            Some((Status::Memory, left))
-        );
+fn sinks_that_are_refused_memory(rt: HostRuntime) {
+    // How many puts come before the refusal, the status, and how many bytes were taken.
+    for (left, status, count) in [
+        (0, Status::Memory, 0),
+        (1, Status::Memory, 3),
+        (2, Status::Memory, 35),
+        (3, Status::Done, 39),
+    ] {
+        let ended = with_scarce_out(rt.alloc(), left);
+        assert_eq!(rt; ended, Some((status, count)), "output, {left} puts");
     }
-    assert_eq!(rt; with_scarce_out(rt.alloc(), 3), Some((Status::Done, 3)));
-    assert_eq!(rt; with_scarce_files(rt.alloc()), Some(Status::Memory));
+    for (left, status, count) in [
+        (0, Status::Memory, 0),
+        (1, Status::Memory, 4),
+        (2, Status::Memory, 8),
+        (3, Status::Memory, 12),
+        (4, Status::Refused, 15),
+    ] {
+        let ended = with_scarce_err(rt.alloc(), left);
+        assert_eq!(rt; ended, Some((status, count)), "standard error, {left} puts");
+    }
+}
+
+#[test]
+fn a_library_that_is_refused_memory(rt: HostRuntime) {
+    for (left, status, text) in [
+        (0, Status::Memory, ""),
+        (1, Status::Memory, ""),
+        (2, Status::Refused, "render: 30 NotYet\n"),
+    ] {
+        let ended = with_scarce_files(rt.alloc(), left);
+        assert!(rt; has_said(ended, status, text), "{left} fetches");
+    }
 }

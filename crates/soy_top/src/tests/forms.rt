@@ -1,4 +1,4 @@
-// Rows of files: which are of the first form, and which are not.
+//! Rows of files: which are of the first form, and which are not.
 use super::Row;
 use super::rows::{FILE, JSON, NOT_YET};
 use crate::Status;
@@ -14,7 +14,7 @@ pub(super) const FORMS: &[Row] = &[
         "<b><span dir=\"ltr\">&lt;i&gt;</span></b>",
     ),
     (
-        "no line end at the end",
+        "no line break at the end",
         "render t.m d.json - t.soy",
         "{namespace t}\n{template m}\n{@param x: string}\n<b>{$x}</b>\n{/template}",
         JSON,
@@ -78,7 +78,7 @@ pub(super) const FORMS: &[Row] = &[
         NOT_YET,
     ),
     (
-        "line ends of two bytes",
+        "line breaks of two bytes",
         "render t.m d.json - t.soy",
         "{namespace t}\r\n{template m}\r\n{@param x: string}\r\n<b>{$x}</b>\r\n{/template}\r\n",
         JSON,
@@ -382,7 +382,7 @@ pub(super) const FORMS: &[Row] = &[
         NOT_YET,
     ),
     (
-        "two line ends at the end",
+        "two line breaks at the end",
         "render t.m d.json - t.soy",
         "{namespace t}\n{template m}\n{@param x: string}\n<b>{$x}</b>\n{/template}\n\n",
         JSON,

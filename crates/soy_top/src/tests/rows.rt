@@ -1,4 +1,4 @@
-// The tables of rows.
+//! The tables of words and of data.
 use super::Row;
 use crate::Status;
 

@@ -1,5 +1,5 @@
 use Rattle.std.proofs.Common.{◌∙◌, sym, ap}
-use Rattle.soy_top.specs.Words.{is_among}
+use Rattle.soy_base.specs.Among.{is_among}
 use Rattle.soy_top.proofs.Keys.{is_among-key_names}
 use Rattle.soy_top.proofs.params.Params.contains.Goals as goal
 

@@ -7,4 +7,4 @@ returns-in-Ok-clause-answer g c =
     let old = c.args.into.now.items in
     let new = c.append.new.into.items in
     let rest = drop (length old) new in
-    (rest, sym (ap (λ front. front ++ rest) (sym c.in-Ok.ensures.kept) ∙ take-append-drop (length old) new), tt)
+    (rest, sym (ap (λ prefix. prefix ++ rest) (sym c.in-Ok.ensures.unchanged) ∙ take-append-drop (length old) new), tt)
