@@ -1,0 +1,48 @@
+-- The part of a URI after one more static character of an attribute's value.
+--
+-- A colon, a slash, a question mark and a number sign lead from part to part as in RFC 3986, section 3, and every other
+-- character stays, but that it ends Start. Characters before the first colon are a scheme: `http`, `https`, `mailto` and
+-- `ftp` are followed by a path, and any other by BadScheme, where no value may stand. After a value at the start a colon
+-- is a fault, since the value would be the scheme.
+-- Example: after `https:` the part is Path, after `javascript:` it is BadScheme, and after `a/b?c` it is Query.
+use Rattle.std.specs.Prelude.{ℕ, List, [], ◌∷◌, Result, Ok, Err, ◌==◌, ◌&&◌, if◌then◌else◌, codes}
+use Rattle.std.specs.Char.{to_ascii_lowercase}
+use Rattle.soy_base.specs.declared.code.Code.{Code}
+use Rattle.soy_base.specs.declared.code.Code.TheVariants as code
+use Rattle.script_state.specs.Characters.{colon, slash}
+use Rattle.html_state.specs.declared.row.UriPart.{UriPart}
+use Rattle.html_state.specs.declared.row.UriPart.TheVariants as part
+use Rattle.html_state.specs.Characters.{question_mark, number_sign, is_letter}
+use Rattle.html_state.specs.Kept.{begun}
+use Rattle.html_state.specs.Texts.{is_among, is_prefix_among}
+
+abbrev pub schemes : List (List ℕ)
+schemes = codes "http" ∷ codes "https" ∷ codes "mailto" ∷ codes "ftp" ∷ []
+
+-- the part after these characters and one more, which is none of the four: a letter may go on with a scheme
+abbrev pub scheme_next : List ℕ → ℕ → UriPart
+scheme_next prefix c =
+    if is_letter c && is_prefix_among schemes (begun prefix (to_ascii_lowercase c)) then part.Scheme (begun prefix (to_ascii_lowercase c))
+    else part.NoScheme
+
+-- the columns of `:`, `/`, `?`, `#` and of the others
+abbrev pub by_character : UriPart → UriPart → UriPart → UriPart → UriPart → ℕ → UriPart
+by_character at_colon at_slash at_question_mark at_number_sign at_other c =
+    if c == colon then at_colon
+    else (if c == slash then at_slash
+    else (if c == question_mark then at_question_mark
+    else (if c == number_sign then at_number_sign
+    else at_other)))
+
+abbrev pub part_next : UriPart → ℕ → Result UriPart Code
+part_next part.Start c = Ok (by_character part.BadScheme part.Path part.Query part.Fragment (scheme_next [] c) c)
+part_next (part.Scheme prefix) c =
+    Ok (by_character (if is_among schemes prefix then part.Path else part.BadScheme) part.Path part.Query part.Fragment (scheme_next prefix c) c)
+part_next part.NoScheme c = Ok (by_character part.BadScheme part.Path part.Query part.Fragment part.NoScheme c)
+part_next part.AfterStart c =
+    if c == colon then Err code.UriStart
+    else Ok (by_character part.AfterStart part.Path part.Query part.Fragment part.AfterStart c)
+part_next part.Path c = Ok (by_character part.Path part.Path part.Query part.Fragment part.Path c)
+part_next part.Query c = Ok (by_character part.Query part.Query part.Query part.Fragment part.Query c)
+part_next part.Fragment c = Ok part.Fragment
+part_next part.BadScheme c = Ok part.BadScheme

@@ -1,0 +1,8 @@
+//! A stand-in.
+
+#[derive(Clone, Copy, Debug, PartialEq, Eq)]
+pub enum Kind {
+    Html,
+    Attributes,
+    Text,
+}

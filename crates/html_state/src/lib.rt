@@ -1,0 +1,28 @@
+//! The state of an HTML tokenizer at each character of a page, and what happens to a value that is printed there.
+//!
+//! A `State` is made for a kind of text (`State::start`) and read on a character at a time: `step` for a character of
+//! static text, `value_step` for one of a value, `value` for the mark that a printed value leaves, `end_text` for the
+//! end of a static text. `placing` says what happens to a value, `may_end` whether a text of a kind may end, `part`
+//! which part of the markup a character belongs to. Each call is one equation with the tables of specs/, and two states
+//! are equal where the tables can't tell them apart by what they keep. A state is copied and takes no memory.
+//! Depends on soy_base and script_state.
+#![tactic(auto)]
+
+mod attribute;
+mod element;
+mod kind;
+mod markup;
+mod name;
+mod names;
+mod number;
+mod place;
+mod prefix;
+mod reference;
+mod row;
+mod state;
+mod tag;
+mod text;
+mod uri;
+
+pub use kind::Kind;
+pub use row::{Part, State};

@@ -1,0 +1,193 @@
+//! What a state is: the row of the tokenizer's table with what the row keeps, and a reference that isn't decided.
+
+use crate::name::Name;
+use crate::prefix::Prefix;
+use script_state::{CssState, JsState};
+
+/// Which tag a name stands in.
+#[derive(Clone, Copy, Debug, PartialEq, Eq)]
+pub enum TagKind {
+    Start,
+    End,
+}
+
+/// The tag that an attribute stands in. A text of kind attributes has one without a name.
+#[derive(Clone, Copy, Debug, PartialEq, Eq)]
+pub enum Tag {
+    Named(TagKind, Name),
+    Block,
+}
+
+/// The quote that begins and ends a value.
+#[derive(Clone, Copy, Debug, PartialEq, Eq)]
+pub enum Quote {
+    Single,
+    Double,
+}
+
+/// A URI attribute. `src`, `data` and `href` are kept apart, since some tags refuse a value at their start.
+#[derive(Clone, Copy, Debug, PartialEq, Eq)]
+pub enum UriName {
+    Src,
+    Data,
+    Href,
+    Other,
+}
+
+/// The kind of an attribute.
+#[derive(Clone, Copy, Debug, PartialEq, Eq)]
+pub enum Attribute {
+    Uri(UriName),
+    Event,
+    NoPrint,
+    Style,
+    Plain,
+}
+
+/// The part of a URI, by the static characters of an attribute's value so far. RFC 3986, section 3.
+#[derive(Clone, Copy, Debug, PartialEq, Eq)]
+pub enum UriPart {
+    /// Before the first character.
+    Start,
+    /// After characters that begin a scheme.
+    Scheme(Prefix),
+    /// After others that may still be a scheme, or a path.
+    NoScheme,
+    /// Where a value stood at the start.
+    AfterStart,
+    Path,
+    Query,
+    Fragment,
+    /// After a colon that ends none of the known schemes.
+    BadScheme,
+}
+
+/// The value of an attribute so far, by the attribute's kind.
+#[derive(Clone, Copy, Debug, PartialEq, Eq)]
+pub enum AttributeValue {
+    Uri(UriName, UriPart),
+    Event,
+    NoPrint,
+    Style(CssState),
+    Plain,
+}
+
+/// An element whose text isn't data, with the state of its script or style.
+#[derive(Clone, Copy, Debug, PartialEq, Eq)]
+pub enum Element {
+    Title,
+    Textarea,
+    Style(CssState),
+    Xmp,
+    Iframe,
+    Noembed,
+    Noframes,
+    Noscript,
+    Script(JsState),
+}
+
+/// What an element's text begins that may be its end tag, or a comment in a script.
+#[derive(Clone, Copy, Debug, PartialEq, Eq)]
+pub enum Begun {
+    /// So many characters of `</` and the element's name.
+    EndTag(u8),
+    /// `<!`
+    Bang,
+    /// `<!-`
+    BangDash,
+}
+
+/// A row of the table within a tag, past its name.
+#[derive(Clone, Copy, Debug, PartialEq, Eq)]
+pub enum TagRow {
+    /// Before attribute name state. After attribute name state is this one too.
+    BeforeName,
+    /// The same, directly after a printed block of attributes.
+    AfterPrinted,
+    /// Attribute name state, with the name so far.
+    AttributeName(Name),
+    /// Before attribute value state.
+    BeforeValue(Attribute),
+    /// Attribute value (double-quoted) state, attribute value (single-quoted) state.
+    Quoted(Quote, AttributeValue),
+    /// Attribute value (unquoted) state.
+    Unquoted(AttributeValue),
+    /// After attribute value (quoted) state.
+    AfterQuoted,
+    /// Self-closing start tag state.
+    SelfClosing,
+}
+
+/// A row of the table: a state of the tokenizer of WHATWG HTML, 13.2.5, and what it keeps.
+#[derive(Clone, Copy, Debug, PartialEq, Eq)]
+pub enum Row {
+    /// Data state.
+    Data,
+    /// Tag open state.
+    TagOpen,
+    /// End tag open state.
+    EndTagOpen,
+    /// Tag name state, with the name so far.
+    TagName(TagKind, Name),
+    /// A state within a tag, past its name.
+    InTag(Tag, TagRow),
+    /// Markup declaration open state, with the characters so far that begin a comment or a DOCTYPE.
+    MarkupDeclaration(Name),
+    /// Bogus comment state.
+    BogusComment,
+    /// DOCTYPE state and those after it.
+    Doctype,
+    /// Comment start state.
+    CommentStart,
+    /// Comment start dash state.
+    StartDash,
+    /// Comment state.
+    Comment,
+    /// Comment end dash state.
+    EndDash,
+    /// Comment end state.
+    CommentEnd,
+    /// Comment end bang state.
+    EndBang,
+    /// RCDATA state, RAWTEXT state, script data state.
+    Within(Element),
+    /// The less-than sign, end tag open and end tag name states of these three, and script data escape start state.
+    BegunEndTag(Element, Begun),
+    /// Past the end of a tag that a text of kind attributes stands in.
+    Outside,
+    /// Text that isn't HTML.
+    Plain,
+}
+
+/// A reference whose `&` isn't decided. WHATWG HTML, 13.2.5, character reference state and those after it.
+#[derive(Clone, Copy, Debug, PartialEq, Eq)]
+pub enum Reference {
+    /// None.
+    Decided,
+    /// The characters after `&`, while they begin a known name or a number.
+    Begun(Prefix),
+    /// Letters and digits that begin no known name.
+    NoName,
+}
+
+/// The state of the tokenizer after the characters of a text.
+#[derive(Clone, Copy, Debug, PartialEq, Eq)]
+pub struct State {
+    pub(crate) row: Row,
+    pub(crate) reference: Reference,
+}
+
+/// Which part of the markup the next character belongs to.
+#[derive(Clone, Copy, Debug, PartialEq, Eq)]
+pub enum Part {
+    /// Text between tags.
+    Text,
+    /// The name of a tag.
+    TagName,
+    /// The name of an attribute.
+    AttrName,
+    /// The value of an attribute.
+    AttrValue,
+    /// Anything else.
+    Hidden,
+}
