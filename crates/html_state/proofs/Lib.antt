@@ -1,3 +1,4 @@
 pub mod GoesOn
 pub mod KeptCharacters
 pub mod Texts
+pub mod SameStates

@@ -2,15 +2,16 @@
 use Rattle.std.proofs.Common.{◌≡◌, ◌≢◌, ◌<◌, ◌≤◌, ℕ, Bool, true, false, eqb, ◌&&◌, List, [], ◌∷◌, length, suc, drop, refl, ap}
 use Rattle.std.proofs.Math.ListN.{drop_of_length-le}
 use Rattle.std.proofs.Math.Seq.{drop-cons}
-use Rattle.html_state.specs.Texts.{is_text, is_prefix}
+use Rattle.std.specs.Str.{bytes_eq}
+use Rattle.html_state.specs.Texts.{is_prefix}
 
 -- texts of two lengths are two
-pub lengths_differ : (one other : List ℕ) → length one ≢ length other → is_text one other ≡ false
+pub lengths_differ : (one other : List ℕ) → length one ≢ length other → bytes_eq one other ≡ false
 lengths_differ [] [] differ = absurd (differ refl)
 lengths_differ [] (d ∷ ds) differ = refl
 lengths_differ (c ∷ cs) [] differ = refl
 lengths_differ (c ∷ cs) (d ∷ ds) differ = rest_false (eqb c d) (lengths_differ cs ds (λ same. differ (ap suc same))) where
-  rest_false : (same : Bool) → is_text cs ds ≡ false → (same && is_text cs ds) ≡ false
+  rest_false : (same : Bool) → bytes_eq cs ds ≡ false → (same && bytes_eq cs ds) ≡ false
   rest_false true is = is
   rest_false false is = refl
 

@@ -7,8 +7,8 @@ use Rattle.script_state.specs.CssAfterValue.{css_after_value}
 use Rattle.html_state.specs.declared.row.AttributeValue.{AttributeValue}
 use Rattle.html_state.specs.declared.row.AttributeValue.TheVariants as value
 use Rattle.html_state.specs.declared.row.Element.TheVariants as element
-use Rattle.html_state.specs.declared.row.Row.{Row}
-use Rattle.html_state.specs.declared.row.Row.TheVariants as row
+use Rattle.html_state.specs.declared.row.HtmlRow.{HtmlRow}
+use Rattle.html_state.specs.declared.row.HtmlRow.TheVariants as row
 use Rattle.html_state.specs.declared.row.State.{State}
 use Rattle.html_state.specs.declared.row.TagRow.{TagRow}
 use Rattle.html_state.specs.declared.row.TagRow.TheVariants as tag_row
@@ -30,7 +30,7 @@ tag_row_after_value tag_row.BeforeName = tag_row.AfterPrinted
 tag_row_after_value (tag_row.Quoted quote value) = tag_row.Quoted quote (value_after_value value)
 tag_row_after_value other = other
 
-abbrev pub row_after_value : Row → Row
+abbrev pub row_after_value : HtmlRow → HtmlRow
 row_after_value (row.InTag around inner) = row.InTag around (tag_row_after_value inner)
 row_after_value (row.Within (element.Style state)) = row.Within (element.Style (css_after_value state))
 row_after_value other = other

@@ -7,7 +7,9 @@ use Rattle.std.specs.Prelude.{ℕ, List, [], ◌∷◌, if◌then◌else◌, cod
 use Rattle.html_state.specs.declared.row.Attribute.{Attribute}
 use Rattle.html_state.specs.declared.row.Attribute.TheVariants as attribute
 use Rattle.html_state.specs.declared.row.UriName.TheVariants as uri
-use Rattle.html_state.specs.Texts.{is_text, is_prefix, is_among}
+use Rattle.std.specs.Str.{bytes_eq}
+use Rattle.soy_base.specs.Among.{is_among}
+use Rattle.html_state.specs.Texts.{is_prefix}
 
 -- the URI attributes beside `src`, `data` and `href`
 abbrev pub uri_names : List (List ℕ)
@@ -20,11 +22,11 @@ no_print_names = codes "dir" ∷ codes "srcset" ∷ codes "srcdoc" ∷ codes "im
 
 abbrev pub attribute_named : List ℕ → Attribute
 attribute_named name =
-    if is_text name (codes "src") then attribute.Uri uri.Src
-    else (if is_text name (codes "data") then attribute.Uri uri.Data
-    else (if is_text name (codes "href") then attribute.Uri uri.Href
+    if bytes_eq name (codes "src") then attribute.Uri uri.Src
+    else (if bytes_eq name (codes "data") then attribute.Uri uri.Data
+    else (if bytes_eq name (codes "href") then attribute.Uri uri.Href
     else (if is_among uri_names name then attribute.Uri uri.Other
     else (if is_prefix (codes "on") name then attribute.Event
     else (if is_among no_print_names name then attribute.NoPrint
-    else (if is_text name (codes "style") then attribute.Style
+    else (if bytes_eq name (codes "style") then attribute.Style
     else attribute.Plain))))))

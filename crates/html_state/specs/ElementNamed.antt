@@ -9,22 +9,22 @@ use Rattle.script_state.specs.declared.js_state.JsState.TheVariants as js
 use Rattle.script_state.specs.declared.css_state.CssState.TheVariants as css
 use Rattle.html_state.specs.declared.row.Element.{Element}
 use Rattle.html_state.specs.declared.row.Element.TheVariants as element
-use Rattle.html_state.specs.Texts.{is_text}
+use Rattle.std.specs.Str.{bytes_eq}
 
 abbrev pub refused_names : List (List ℕ)
 refused_names = codes "svg" ∷ codes "math" ∷ codes "plaintext" ∷ []
 
 abbrev pub element_named : List ℕ → Option Element
 element_named name =
-    if is_text name (codes "title") then Some element.Title
-    else (if is_text name (codes "textarea") then Some element.Textarea
-    else (if is_text name (codes "style") then Some (element.Style css.Code)
-    else (if is_text name (codes "xmp") then Some element.Xmp
-    else (if is_text name (codes "iframe") then Some element.Iframe
-    else (if is_text name (codes "noembed") then Some element.Noembed
-    else (if is_text name (codes "noframes") then Some element.Noframes
-    else (if is_text name (codes "noscript") then Some element.Noscript
-    else (if is_text name (codes "script") then Some (element.Script js.Code)
+    if bytes_eq name (codes "title") then Some element.Title
+    else (if bytes_eq name (codes "textarea") then Some element.Textarea
+    else (if bytes_eq name (codes "style") then Some (element.Style css.Code)
+    else (if bytes_eq name (codes "xmp") then Some element.Xmp
+    else (if bytes_eq name (codes "iframe") then Some element.Iframe
+    else (if bytes_eq name (codes "noembed") then Some element.Noembed
+    else (if bytes_eq name (codes "noframes") then Some element.Noframes
+    else (if bytes_eq name (codes "noscript") then Some element.Noscript
+    else (if bytes_eq name (codes "script") then Some (element.Script js.Code)
     else None))))))))
 
 abbrev pub element_name : Element → List ℕ

@@ -1,10 +1,11 @@
 pub mod AfterText
 pub mod AfterValue
 pub mod AttributeNamed
-pub mod Characters
+pub mod DeclarationNext
 pub mod ElementNamed
 pub mod ElementNext
-pub mod IsDeclaration
+pub mod EndsName
+pub mod IsSame
 pub mod Kept
 pub mod MayEnd
 pub mod Next
@@ -12,6 +13,7 @@ pub mod Padding
 pub mod PartNext
 pub mod PartOf
 pub mod References
+pub mod RowKinds
 pub mod RowNext
 pub mod Start
 pub mod StatePlacing

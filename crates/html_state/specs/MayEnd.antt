@@ -4,10 +4,10 @@
 -- block of attributes. Text ends anywhere.
 -- Example: after `<b` no text may end.
 use Rattle.std.specs.Prelude.{Bool, true, false}
-use Rattle.html_state.specs.declared.kind.Kind.{Kind}
-use Rattle.html_state.specs.declared.kind.Kind.TheVariants as kind
-use Rattle.html_state.specs.declared.row.Row.{Row}
-use Rattle.html_state.specs.declared.row.Row.TheVariants as row
+use Rattle.soy_base.specs.declared.kind.Kind.{Kind}
+use Rattle.soy_base.specs.declared.kind.Kind.TheVariants as kind
+use Rattle.html_state.specs.declared.row.HtmlRow.{HtmlRow}
+use Rattle.html_state.specs.declared.row.HtmlRow.TheVariants as row
 use Rattle.html_state.specs.declared.row.State.{State}
 use Rattle.html_state.specs.declared.row.TagRow.{TagRow}
 use Rattle.html_state.specs.declared.row.TagRow.TheVariants as tag_row
@@ -19,7 +19,7 @@ may_end_in_tag (tag_row.AttributeName _) = true
 may_end_in_tag tag_row.AfterQuoted = true
 may_end_in_tag _ = false
 
-abbrev pub may_end_row : Kind → Row → Bool
+abbrev pub may_end_row : Kind → HtmlRow → Bool
 may_end_row kind.Html row.Data = true
 may_end_row kind.Attributes (row.InTag _ inner) = may_end_in_tag inner
 may_end_row kind.Text row.Plain = true

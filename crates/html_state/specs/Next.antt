@@ -9,27 +9,27 @@ use Rattle.std.specs.Prelude.{ℕ, Bool, true, false, not, ◌==◌, ◌&&◌, i
 use Rattle.std.specs.Char.{is_ascii_alphanumeric}
 use Rattle.soy_base.specs.declared.code.Code.{Code}
 use Rattle.soy_base.specs.declared.code.Code.TheVariants as code
-use Rattle.script_state.specs.Characters.{semicolon}
+use Rattle.soy_base.specs.Among.{is_among}
+use Rattle.soy_base.specs.Characters.{ampersand, equals_sign, number_sign, semicolon}
 use Rattle.html_state.specs.declared.row.Attribute.TheVariants as attribute
 use Rattle.html_state.specs.declared.row.AttributeValue.TheVariants as value
 use Rattle.html_state.specs.declared.row.Element.TheVariants as element
 use Rattle.html_state.specs.declared.row.Reference.{Reference}
 use Rattle.html_state.specs.declared.row.Reference.TheVariants as reference
-use Rattle.html_state.specs.declared.row.Row.{Row}
-use Rattle.html_state.specs.declared.row.Row.TheVariants as row
+use Rattle.html_state.specs.declared.row.HtmlRow.{HtmlRow}
+use Rattle.html_state.specs.declared.row.HtmlRow.TheVariants as row
 use Rattle.html_state.specs.declared.row.State.{State}
 use Rattle.html_state.specs.declared.row.TagRow.{TagRow}
 use Rattle.html_state.specs.declared.row.TagRow.TheVariants as tag_row
-use Rattle.html_state.specs.Characters.{ampersand, equals_sign, number_sign}
 use Rattle.html_state.specs.Kept.{begun}
 use Rattle.html_state.specs.References.{begins_numeric, is_numeric, name_begun, reference_names}
 use Rattle.html_state.specs.RowNext.{row_next}
-use Rattle.html_state.specs.Texts.{and_then, is_among}
+use Rattle.html_state.specs.Texts.{and_then}
 
-abbrev pub pending : Row → Reference → State
+abbrev pub pending : HtmlRow → Reference → State
 pending now reference = record { row = now; reference = reference }
 
-abbrev pub at_row : Row → State
+abbrev pub at_row : HtmlRow → State
 at_row now = pending now reference.Decided
 
 -- ---- which rows the rules of references speak of
@@ -60,23 +60,23 @@ has_references_in_tag (tag_row.Quoted _ _) = true
 has_references_in_tag (tag_row.Unquoted (value.Uri _ _)) = true
 has_references_in_tag _ = false
 
-abbrev pub is_style_value : Row → Bool
+abbrev pub is_style_value : HtmlRow → Bool
 is_style_value (row.InTag _ inner) = is_style_in_tag inner
 is_style_value _ = false
 
-abbrev pub is_quoted : Row → Bool
+abbrev pub is_quoted : HtmlRow → Bool
 is_quoted (row.InTag _ inner) = is_quoted_in_tag inner
 is_quoted _ = false
 
-abbrev pub is_unquoted : Row → Bool
+abbrev pub is_unquoted : HtmlRow → Bool
 is_unquoted (row.InTag _ inner) = is_unquoted_in_tag inner
 is_unquoted _ = false
 
-abbrev pub is_uri_value : Row → Bool
+abbrev pub is_uri_value : HtmlRow → Bool
 is_uri_value (row.InTag _ inner) = is_uri_in_tag inner
 is_uri_value _ = false
 
-abbrev pub has_references : Row → Bool
+abbrev pub has_references : HtmlRow → Bool
 has_references row.Data = true
 has_references (row.Within element.Title) = true
 has_references (row.Within element.Textarea) = true
@@ -86,17 +86,17 @@ has_references _ = false
 -- ---- a static character
 
 -- the reference that a character begins with which this row is reached
-abbrev pub begun_reference : Row → ℕ → Reference
+abbrev pub begun_reference : HtmlRow → ℕ → Reference
 begun_reference now c = if c == ampersand && has_references now then reference.Begun [] else reference.Decided
 
 -- where no reference is pending
-abbrev pub plain_next : Row → ℕ → Result State Code
+abbrev pub plain_next : HtmlRow → ℕ → Result State Code
 plain_next now c =
     if c == ampersand && is_style_value now then Err code.Reference
     else and_then (λ following. Ok (pending following (begun_reference following c))) (row_next true now c)
 
 -- directly after `&`
-abbrev pub ampersand_next : Row → ℕ → Result State Code
+abbrev pub ampersand_next : HtmlRow → ℕ → Result State Code
 ampersand_next now c =
     if c == number_sign then (if is_uri_value now then Err code.Reference else Ok (pending now (reference.Begun (begun [] c))))
     else (if is_ascii_alphanumeric c && not (is_unquoted now) then Ok (pending now (name_begun (begun [] c)))
@@ -111,26 +111,26 @@ numeric_next digits c =
     else Err code.Reference)
 
 -- the character that ends letters and digits after `&`, which are a name or not
-abbrev pub name_end : Row → Bool → ℕ → Result State Code
+abbrev pub name_end : HtmlRow → Bool → ℕ → Result State Code
 name_end now is_name c =
     if c == semicolon then (if is_name then Ok (at_row now) else Err code.Reference)
     else (if c == equals_sign && is_quoted now then plain_next now c
     else Err code.Ampersand)
 
 -- after `&` and these letters and digits, which begin a name
-abbrev pub name_next : Row → List ℕ → ℕ → Result State Code
+abbrev pub name_next : HtmlRow → List ℕ → ℕ → Result State Code
 name_next now letters c =
     if is_ascii_alphanumeric c then Ok (pending now (name_begun (begun letters c)))
     else name_end now (is_among reference_names letters) c
 
 -- after `&` and these characters
-abbrev pub begun_next : Row → List ℕ → ℕ → Result State Code
+abbrev pub begun_next : HtmlRow → List ℕ → ℕ → Result State Code
 begun_next now [] c = ampersand_next now c
 begun_next now (first ∷ rest) c =
     if first == number_sign then and_then (λ following. Ok (pending now following)) (numeric_next rest c)
     else name_next now (first ∷ rest) c
 
-abbrev pub reference_next : Row → Reference → ℕ → Result State Code
+abbrev pub reference_next : HtmlRow → Reference → ℕ → Result State Code
 reference_next now reference.Decided c = plain_next now c
 reference_next now (reference.Begun prefix) c = begun_next now prefix c
 reference_next now reference.NoName c =

@@ -5,16 +5,16 @@
 -- `ftp` are followed by a path, and any other by BadScheme, where no value may stand. After a value at the start a colon
 -- is a fault, since the value would be the scheme.
 -- Example: after `https:` the part is Path, after `javascript:` it is BadScheme, and after `a/b?c` it is Query.
-use Rattle.std.specs.Prelude.{ℕ, List, [], ◌∷◌, Result, Ok, Err, ◌==◌, ◌&&◌, if◌then◌else◌, codes}
-use Rattle.std.specs.Char.{to_ascii_lowercase}
+use Rattle.std.specs.Prelude.{⊤, ℕ, List, [], ◌∷◌, Result, Ok, Err, ◌==◌, ◌&&◌, if◌then◌else◌, codes}
+use Rattle.std.specs.Char.{is_ascii_alphabetic, to_ascii_lowercase}
 use Rattle.soy_base.specs.declared.code.Code.{Code}
 use Rattle.soy_base.specs.declared.code.Code.TheVariants as code
-use Rattle.script_state.specs.Characters.{colon, slash}
+use Rattle.soy_base.specs.Among.{is_among}
+use Rattle.soy_base.specs.Characters.{colon, number_sign, question_mark, slash}
 use Rattle.html_state.specs.declared.row.UriPart.{UriPart}
 use Rattle.html_state.specs.declared.row.UriPart.TheVariants as part
-use Rattle.html_state.specs.Characters.{question_mark, number_sign, is_letter}
 use Rattle.html_state.specs.Kept.{begun}
-use Rattle.html_state.specs.Texts.{is_among, is_prefix_among}
+use Rattle.html_state.specs.Texts.{is_prefix_among}
 
 abbrev pub schemes : List (List ℕ)
 schemes = codes "http" ∷ codes "https" ∷ codes "mailto" ∷ codes "ftp" ∷ []
@@ -22,7 +22,7 @@ schemes = codes "http" ∷ codes "https" ∷ codes "mailto" ∷ codes "ftp" ∷ 
 -- the part after these characters and one more, which is none of the four: a letter may go on with a scheme
 abbrev pub scheme_next : List ℕ → ℕ → UriPart
 scheme_next prefix c =
-    if is_letter c && is_prefix_among schemes (begun prefix (to_ascii_lowercase c)) then part.Scheme (begun prefix (to_ascii_lowercase c))
+    if is_ascii_alphabetic c && is_prefix_among schemes (begun prefix (to_ascii_lowercase c)) then part.Scheme (begun prefix (to_ascii_lowercase c))
     else part.NoScheme
 
 -- the columns of `:`, `/`, `?`, `#` and of the others
@@ -46,3 +46,11 @@ part_next part.Path c = Ok (by_character part.Path part.Path part.Query part.Fra
 part_next part.Query c = Ok (by_character part.Query part.Query part.Query part.Fragment part.Query c)
 part_next part.Fragment c = Ok part.Fragment
 part_next part.BadScheme c = Ok part.BadScheme
+
+-- the parts before a path: in them the characters so far may be a scheme, or what a value at the start goes on with
+abbrev pub MayBeScheme : UriPart → Type 0
+MayBeScheme part.Path = ⊥
+MayBeScheme part.Query = ⊥
+MayBeScheme part.Fragment = ⊥
+MayBeScheme part.BadScheme = ⊥
+MayBeScheme _ = ⊤

@@ -3,8 +3,8 @@
 -- Example: after `<b` it is the name of a tag, and in the text of a title it is hidden.
 use Rattle.html_state.specs.declared.row.Part.{Part}
 use Rattle.html_state.specs.declared.row.Part.TheVariants as part
-use Rattle.html_state.specs.declared.row.Row.{Row}
-use Rattle.html_state.specs.declared.row.Row.TheVariants as row
+use Rattle.html_state.specs.declared.row.HtmlRow.{HtmlRow}
+use Rattle.html_state.specs.declared.row.HtmlRow.TheVariants as row
 use Rattle.html_state.specs.declared.row.State.{State}
 use Rattle.html_state.specs.declared.row.TagRow.{TagRow}
 use Rattle.html_state.specs.declared.row.TagRow.TheVariants as tag_row
@@ -15,7 +15,7 @@ part_in_tag (tag_row.Quoted _ _) = part.AttrValue
 part_in_tag (tag_row.Unquoted _) = part.AttrValue
 part_in_tag _ = part.Hidden
 
-abbrev pub part_of_row : Row → Part
+abbrev pub part_of_row : HtmlRow → Part
 part_of_row row.Data = part.Text
 part_of_row row.TagOpen = part.TagName
 part_of_row row.EndTagOpen = part.TagName

@@ -6,44 +6,49 @@
 -- of the element, given to its table then. In a script `<!--` is a fault.
 -- Example: after `<title>a</ti` a `t` goes on with the end tag, and an `x` leads back to the text of the title.
 use Rattle.std.specs.Prelude.{ℕ, ◌+◌, Bool, true, false, List, [], ◌∷◌, Option, Some, None, Result, Ok, Err, ◌==◌, ◌&&◌, ◌||◌, if◌then◌else◌, codes, length, take, get_or, nat_lt}
-use Rattle.std.specs.Char.{to_ascii_lowercase}
+use Rattle.std.specs.Char.{is_ascii_alphabetic, to_ascii_lowercase}
+use Rattle.std.specs.Str.{bytes_eq}
 use Rattle.soy_base.specs.declared.code.Code.{Code}
 use Rattle.soy_base.specs.declared.code.Code.TheVariants as code
-use Rattle.script_state.specs.Characters.{slash, exclamation_mark}
+use Rattle.soy_base.specs.Among.{is_among}
+use Rattle.soy_base.specs.Characters.{exclamation_mark, greater_than, less_than, minus_sign, question_mark, slash}
 use Rattle.html_state.specs.declared.row.Begun.{Begun}
 use Rattle.html_state.specs.declared.row.Begun.TheVariants as begun
+use Rattle.html_state.specs.declared.row.DeclarationRow.{DeclarationRow}
+use Rattle.html_state.specs.declared.row.DeclarationRow.TheVariants as declaration
 use Rattle.html_state.specs.declared.row.Element.{Element}
-use Rattle.html_state.specs.declared.row.Row.{Row}
-use Rattle.html_state.specs.declared.row.Row.TheVariants as row
+use Rattle.html_state.specs.declared.row.HtmlRow.{HtmlRow}
+use Rattle.html_state.specs.declared.row.HtmlRow.TheVariants as row
 use Rattle.html_state.specs.declared.row.Tag.{Tag}
 use Rattle.html_state.specs.declared.row.Tag.TheVariants as tag
 use Rattle.html_state.specs.declared.row.TagKind.{TagKind}
 use Rattle.html_state.specs.declared.row.TagKind.TheVariants as kind
 use Rattle.html_state.specs.declared.row.TagRow.{TagRow}
-use Rattle.html_state.specs.Characters.{ends_name, is_letter, less_than, greater_than, hyphen, question_mark}
+use Rattle.html_state.specs.DeclarationNext.{declaration_next}
 use Rattle.html_state.specs.ElementNamed.{element_name, element_named, refused_names}
 use Rattle.html_state.specs.ElementNext.{element_after, element_next, end_tag, is_script, may_end_element}
+use Rattle.html_state.specs.EndsName.{ends_name}
 use Rattle.html_state.specs.Kept.{named}
 use Rattle.html_state.specs.TagRowNext.{past_name, tag_row_next}
-use Rattle.html_state.specs.Texts.{and_then, is_among, is_prefix, is_text}
+use Rattle.html_state.specs.Texts.{and_then, is_prefix}
 
 -- ---- data and tags
 
-abbrev pub data_next : ℕ → Row
+abbrev pub data_next : ℕ → HtmlRow
 data_next c = if c == less_than then row.TagOpen else row.Data
 
-abbrev pub opened : Option Element → Row
+abbrev pub opened : Option Element → HtmlRow
 opened (Some now) = row.Within now
 opened None = row.Data
 
 -- past the `>` of a tag
-abbrev pub after_tag : Tag → Row
+abbrev pub after_tag : Tag → HtmlRow
 after_tag tag.Block = row.Outside
 after_tag (tag.Named kind.End name) = row.Data
 after_tag (tag.Named kind.Start name) = opened (element_named name)
 
 -- in the tag, or past its end
-abbrev pub in_tag : Tag → Option TagRow → Row
+abbrev pub in_tag : Tag → Option TagRow → HtmlRow
 in_tag around (Some inner) = row.InTag around inner
 in_tag around None = after_tag around
 
@@ -54,80 +59,76 @@ is_refused kind.End name = false
 
 -- ---- declarations
 
-abbrev pub declaration_next : List ℕ → ℕ → Row
-declaration_next prefix c =
+-- in a comment or a declaration, or past its end
+abbrev pub in_declaration : Option DeclarationRow → HtmlRow
+in_declaration (Some inner) = row.InDeclaration inner
+in_declaration None = row.Data
+
+-- after `<!`, these characters and one more
+abbrev pub markup_declaration_next : List ℕ → ℕ → HtmlRow
+markup_declaration_next prefix c =
     let more = named prefix c in
-    if is_text more (codes "--") then row.CommentStart
-    else (if is_text more (codes "doctype") then row.Doctype
+    if bytes_eq more (codes "--") then row.InDeclaration declaration.CommentStart
+    else (if bytes_eq more (codes "doctype") then row.InDeclaration declaration.Doctype
     else (if is_prefix more (codes "--") || is_prefix more (codes "doctype") then row.MarkupDeclaration more
-    else (if c == greater_than then row.Data
-    else row.BogusComment)))
+    else in_declaration (declaration_next declaration.BogusComment c)))
 
 -- ---- the text of an element
 
-abbrev pub within_next : Element → ℕ → Result Row Code
+abbrev pub within_next : Element → ℕ → Result HtmlRow Code
 within_next now c =
     if c == less_than then Ok (row.BegunEndTag now (begun.EndTag 1))
     else and_then (λ following. Ok (row.Within following)) (element_next now c)
 
 -- these characters began no end tag: they are text, and so is the one that shows it
-abbrev pub given_up : Element → List ℕ → ℕ → Result Row Code
+abbrev pub given_up : Element → List ℕ → ℕ → Result HtmlRow Code
 given_up now characters c = and_then (λ following. within_next following c) (element_after now characters)
 
--- after so many characters of the end tag
-abbrev pub end_tag_next : Element → ℕ → ℕ → Result Row Code
-end_tag_next now count c =
-    if nat_lt count (length (end_tag now)) && to_ascii_lowercase c == get_or (end_tag now) count 0 then Ok (row.BegunEndTag now (begun.EndTag (count + 1)))
-    else (if count == length (end_tag now) && ends_name c then
-    (if may_end_element now then Ok (in_tag (tag.Named kind.End (element_name now)) (past_name c)) else Err code.Script)
-    else (if is_script now && (count == 1 && c == exclamation_mark) then Ok (row.BegunEndTag now begun.Bang)
-    else given_up now (take count (end_tag now)) c))
+-- what is begun after one more character that goes on with it
+abbrev pub goes_on_begun : Element → Begun → ℕ → Option Begun
+goes_on_begun now (begun.EndTag count) c =
+    if nat_lt count (length (end_tag now)) && to_ascii_lowercase c == get_or (end_tag now) count 0 then Some (begun.EndTag (count + 1))
+    else (if is_script now && (count == 1 && c == exclamation_mark) then Some begun.Bang
+    else None)
+goes_on_begun now begun.Bang c = if c == minus_sign then Some begun.BangDash else None
+goes_on_begun now begun.BangDash c = None
 
-abbrev pub begun_next : Element → Begun → ℕ → Result Row Code
-begun_next now (begun.EndTag count) c = end_tag_next now count c
-begun_next now begun.Bang c = if c == hyphen then Ok (row.BegunEndTag now begun.BangDash) else given_up now (codes "<!") c
-begun_next now begun.BangDash c = if c == hyphen then Err code.Script else given_up now (codes "<!-") c
+-- after one that doesn't
+abbrev pub begun_end : Element → Begun → ℕ → Result HtmlRow Code
+begun_end now (begun.EndTag count) c =
+    if count == length (end_tag now) && ends_name c then
+    (if may_end_element now then Ok (in_tag (tag.Named kind.End (element_name now)) (past_name c)) else Err code.Script)
+    else given_up now (take count (end_tag now)) c
+begun_end now begun.Bang c = given_up now (codes "<!") c
+begun_end now begun.BangDash c = if c == minus_sign then Err code.Script else given_up now (codes "<!-") c
+
+abbrev pub begun_or : Element → Option Begun → Result HtmlRow Code → Result HtmlRow Code
+begun_or now (Some following) other = Ok (row.BegunEndTag now following)
+begun_or now None other = other
+
+abbrev pub begun_next : Element → Begun → ℕ → Result HtmlRow Code
+begun_next now begun c = begun_or now (goes_on_begun now begun c) (begun_end now begun c)
 
 -- ---- the table; the Bool says whether the character is one of static text
 
-abbrev pub row_next : Bool → Row → ℕ → Result Row Code
+abbrev pub row_next : Bool → HtmlRow → ℕ → Result HtmlRow Code
 row_next static row.Data c = Ok (data_next c)
 row_next static row.TagOpen c =
     Ok (if c == exclamation_mark then row.MarkupDeclaration []
     else (if c == slash then row.EndTagOpen
-    else (if is_letter c then row.TagName kind.Start (named [] c)
-    else (if c == question_mark then row.BogusComment
+    else (if is_ascii_alphabetic c then row.TagName kind.Start (named [] c)
+    else (if c == question_mark then row.InDeclaration declaration.BogusComment
     else data_next c))))
 row_next static row.EndTagOpen c =
-    Ok (if is_letter c then row.TagName kind.End (named [] c)
+    Ok (if is_ascii_alphabetic c then row.TagName kind.End (named [] c)
     else (if c == greater_than then row.Data
-    else row.BogusComment))
+    else row.InDeclaration declaration.BogusComment))
 row_next static (row.TagName kind name) c =
     if ends_name c then (if is_refused kind name then Err code.InName else Ok (in_tag (tag.Named kind name) (past_name c)))
     else Ok (row.TagName kind (named name c))
 row_next static (row.InTag around inner) c = and_then (λ following. Ok (in_tag around following)) (tag_row_next static inner c)
-row_next static (row.MarkupDeclaration prefix) c = Ok (declaration_next prefix c)
-row_next static row.BogusComment c = Ok (if c == greater_than then row.Data else row.BogusComment)
-row_next static row.Doctype c = Ok (if c == greater_than then row.Data else row.Doctype)
-row_next static row.CommentStart c =
-    Ok (if c == hyphen then row.StartDash
-    else (if c == greater_than then row.Data
-    else row.Comment))
-row_next static row.StartDash c =
-    Ok (if c == hyphen then row.CommentEnd
-    else (if c == greater_than then row.Data
-    else row.Comment))
-row_next static row.Comment c = Ok (if c == hyphen then row.EndDash else row.Comment)
-row_next static row.EndDash c = Ok (if c == hyphen then row.CommentEnd else row.Comment)
-row_next static row.CommentEnd c =
-    Ok (if c == greater_than then row.Data
-    else (if c == exclamation_mark then row.EndBang
-    else (if c == hyphen then row.CommentEnd
-    else row.Comment)))
-row_next static row.EndBang c =
-    Ok (if c == hyphen then row.EndDash
-    else (if c == greater_than then row.Data
-    else row.Comment))
+row_next static (row.MarkupDeclaration prefix) c = Ok (markup_declaration_next prefix c)
+row_next static (row.InDeclaration inner) c = Ok (in_declaration (declaration_next inner c))
 row_next static (row.Within now) c = within_next now c
 row_next static (row.BegunEndTag now begun) c = begun_next now begun c
 row_next static row.Outside c = Ok row.Outside

@@ -8,14 +8,15 @@ use Rattle.soy_base.specs.declared.code.Code.TheVariants as code
 use Rattle.soy_base.specs.declared.place.Place.TheVariants as place
 use Rattle.soy_base.specs.declared.place.Placing.{Placing}
 use Rattle.soy_base.specs.declared.place.Placing.TheVariants.{Takes, Refuses}
+use Rattle.soy_base.specs.Among.{is_among}
 use Rattle.script_state.specs.CssPlacing.{css_placing}
 use Rattle.script_state.specs.JsPlacing.{js_placing}
 use Rattle.html_state.specs.declared.row.AttributeValue.{AttributeValue}
 use Rattle.html_state.specs.declared.row.AttributeValue.TheVariants as value
 use Rattle.html_state.specs.declared.row.Element.{Element}
 use Rattle.html_state.specs.declared.row.Element.TheVariants as element
-use Rattle.html_state.specs.declared.row.Row.{Row}
-use Rattle.html_state.specs.declared.row.Row.TheVariants as row
+use Rattle.html_state.specs.declared.row.HtmlRow.{HtmlRow}
+use Rattle.html_state.specs.declared.row.HtmlRow.TheVariants as row
 use Rattle.html_state.specs.declared.row.State.{State}
 use Rattle.html_state.specs.declared.row.Tag.{Tag}
 use Rattle.html_state.specs.declared.row.Tag.TheVariants as tag
@@ -25,7 +26,6 @@ use Rattle.html_state.specs.declared.row.UriName.{UriName}
 use Rattle.html_state.specs.declared.row.UriName.TheVariants as uri
 use Rattle.html_state.specs.declared.row.UriPart.{UriPart}
 use Rattle.html_state.specs.declared.row.UriPart.TheVariants as part
-use Rattle.html_state.specs.Texts.{is_among}
 
 abbrev pub refuses_start : UriName → List ℕ → Bool
 refuses_start uri.Src name = is_among (codes "script" ∷ codes "iframe" ∷ codes "embed" ∷ []) name
@@ -64,7 +64,7 @@ element_placing (element.Style state) = css_placing state
 element_placing (element.Script state) = js_placing state
 element_placing _ = Refuses code.Place
 
-abbrev pub row_placing : Row → Placing
+abbrev pub row_placing : HtmlRow → Placing
 row_placing row.Data = Takes place.Text
 row_placing row.TagOpen = Refuses code.InName
 row_placing row.EndTagOpen = Refuses code.InName

@@ -8,14 +8,15 @@
 use Rattle.std.specs.Prelude.{ℕ, Bool, List, [], Option, Some, None, Result, Ok, Err, ◌==◌, if◌then◌else◌}
 use Rattle.soy_base.specs.declared.code.Code.{Code}
 use Rattle.soy_base.specs.declared.code.Code.TheVariants as code
-use Rattle.script_state.specs.Characters.{is_white_space, slash, double_quote, single_quote}
+use Rattle.std.specs.Char.{is_ascii_whitespace}
+use Rattle.soy_base.specs.Characters.{double_quote, equals_sign, greater_than, single_quote, slash}
 use Rattle.html_state.specs.declared.row.Attribute.{Attribute}
 use Rattle.html_state.specs.declared.row.AttributeValue.{AttributeValue}
 use Rattle.html_state.specs.declared.row.Quote.TheVariants as quote
 use Rattle.html_state.specs.declared.row.TagRow.{TagRow}
 use Rattle.html_state.specs.declared.row.TagRow.TheVariants as tag_row
 use Rattle.html_state.specs.AttributeNamed.{attribute_named}
-use Rattle.html_state.specs.Characters.{ends_name, equals_sign, greater_than}
+use Rattle.html_state.specs.EndsName.{ends_name}
 use Rattle.html_state.specs.Kept.{named}
 use Rattle.html_state.specs.Texts.{and_then}
 use Rattle.html_state.specs.ValueNext.{begun_value, may_end_value, quote_character, value_next}
@@ -35,7 +36,7 @@ before_name c =
 
 abbrev pub before_value : Bool → Attribute → ℕ → Result (Option TagRow) Code
 before_value static attribute c =
-    if is_white_space c then Ok (Some (tag_row.BeforeValue attribute))
+    if is_ascii_whitespace c then Ok (Some (tag_row.BeforeValue attribute))
     else (if c == greater_than then Ok None
     else (if c == double_quote then Ok (Some (tag_row.Quoted quote.Double (begun_value attribute)))
     else (if c == single_quote then Ok (Some (tag_row.Quoted quote.Single (begun_value attribute)))
@@ -57,7 +58,7 @@ tag_row_next static (tag_row.Quoted quote value) c =
     if c == quote_character quote then past_value value (Some tag_row.AfterQuoted)
     else and_then (λ following. Ok (Some (tag_row.Quoted quote following))) (value_next static value c)
 tag_row_next static (tag_row.Unquoted value) c =
-    if is_white_space c then past_value value (Some tag_row.BeforeName)
+    if is_ascii_whitespace c then past_value value (Some tag_row.BeforeName)
     else (if c == greater_than then past_value value None
     else and_then (λ following. Ok (Some (tag_row.Unquoted following))) (value_next static value c))
 tag_row_next static tag_row.AfterQuoted c = before_name c

@@ -6,7 +6,7 @@
 use Rattle.std.specs.Prelude.{ℕ, Bool, true, false, Option, Some, None, Result, Ok, Err, if◌then◌else◌}
 use Rattle.soy_base.specs.declared.code.Code.{Code}
 use Rattle.soy_base.specs.declared.code.Code.TheVariants as code
-use Rattle.script_state.specs.Characters.{double_quote, single_quote}
+use Rattle.soy_base.specs.Characters.{double_quote, single_quote}
 use Rattle.script_state.specs.CssNext.{css_next}
 use Rattle.script_state.specs.declared.css_state.CssState.{CssState}
 use Rattle.script_state.specs.declared.css_state.CssState.TheVariants as css

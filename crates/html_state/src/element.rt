@@ -1,17 +1,18 @@
 //! The text of an element that isn't data, and what may end it.
 
-ghost use Rattle.std.specs.Prelude.{◌≡◌, ◌==◌, ◌&&◌, Ok, Err, OnOk, OnErr, IfErr, ◌≤◌, length, take, get_or, nat_lt};
+ghost use Rattle.std.specs.Prelude.{◌≡◌, ◌==◌, ◌&&◌, Ok, Err, OnOk, OnErr, IfErr, ◌≤◌, length, take, get_or, nat_lt, if◌then◌else◌};
 ghost use Rattle.std.specs.Char.{to_ascii_lowercase};
 ghost use Rattle.html_state.specs.ElementNamed.{element_name};
 ghost use Rattle.html_state.specs.ElementNext.{element_after, element_next, end_tag, is_script, may_end_element};
-ghost use Rattle.html_state.specs.RowNext.{begun_next, end_tag_next, given_up, in_tag, within_next};
+ghost use Rattle.html_state.specs.RowNext.{begun_end, begun_next, given_up, goes_on_begun, in_tag, within_next};
 ghost use Rattle.html_state.specs.TagRowNext.{past_name};
+ghost use Rattle.soy_base.specs.declared.code.Code.TheVariants as code;
 ghost use Rattle.html_state.specs.declared.row.Tag.TheVariants as tag;
 ghost use Rattle.html_state.specs.declared.row.TagKind.TheVariants as kind;
 
 use crate::name::Name;
 use crate::names::element_name;
-use crate::row::{Begun, Element, Row, Tag, TagKind};
+use crate::row::{Begun, Element, HtmlRow, Tag, TagKind};
 use crate::tag::past_tag_name;
 use crate::text::ends_name;
 use script_state::{CssState, JsState};
@@ -111,19 +112,19 @@ fn element_after(element: &Element, characters: &[u8]) -> Result<Element, Code>
 }
 
 /// The row after one more character of the element's text, or of what may end it.
-pub(crate) fn within_next(element: &Element, c: char) -> Result<Row, Code>
+pub(crate) fn within_next(element: &Element, c: char) -> Result<HtmlRow, Code>
     ensures { result ≡ within_next element.now c }
 {
     if c == '<' {
-        return Ok(Row::BegunEndTag(*element, Begun::EndTag(1)));
+        return Ok(HtmlRow::BegunEndTag(*element, Begun::EndTag(1)));
     }
     let mut now = *element;
     step_element(&mut now, c)?;
-    Ok(Row::Within(now))
+    Ok(HtmlRow::Within(now))
 }
 
 /// The row after characters that began no end tag, and the one that shows it.
-fn given_up(element: &Element, characters: &[u8], c: char) -> Result<Row, Code>
+fn given_up(element: &Element, characters: &[u8], c: char) -> Result<HtmlRow, Code>
     ensures { result ≡ given_up element.now characters.now c }
 {
     let now = element_after(element, characters)?;
@@ -131,7 +132,7 @@ fn given_up(element: &Element, characters: &[u8], c: char) -> Result<Row, Code>
 }
 
 /// The row past the name of the element's end tag.
-fn ended(element: &Element, c: char) -> Row
+fn ended(element: &Element, c: char) -> HtmlRow
     ensures { result ≡ in_tag (tag.Named kind.End (element_name element.now)) (past_name c) }
 {
     past_tag_name(
@@ -140,37 +141,32 @@ fn ended(element: &Element, c: char) -> Row
     )
 }
 
-fn end_tag_next(element: &Element, count: u8, c: char) -> Result<Row, Code>
-    ensures { result ≡ end_tag_next element.now count c }
+/// The row past the name of the element's end tag, or the fault that its text may not end.
+fn end_element(element: &Element, c: char) -> Result<HtmlRow, Code>
+    ensures { result ≡ (if may_end_element element.now then Ok (in_tag (tag.Named kind.End (element_name element.now)) (past_name c))
+        else Err code.Script) }
 {
-    if goes_on(element, count, c) {
-        Ok(Row::BegunEndTag(*element, Begun::EndTag(count + 1)))
-    } else if is_whole(element, count) && ends_name(c) {
-        if may_end_element(element) {
-            Ok(ended(element, c))
-        } else {
-            Err(Code::Script)
-        }
-    } else if is_script(element) && (count == 1 && c == '!') {
-        Ok(Row::BegunEndTag(*element, Begun::Bang))
+    if may_end_element(element) {
+        Ok(ended(element, c))
     } else {
-        given_up(element, end_tag_prefix(element, count), c)
+        Err(Code::Script)
     }
 }
 
-/// The row after one more character of what may end an element, or begin a comment in a script.
-pub(crate) fn begun_next(element: &Element, begun: Begun, c: char) -> Result<Row, Code>
+/// The row after a character that doesn't go on with what was begun.
+pub(crate) fn begun_end(element: &Element, begun: Begun, c: char) -> Result<HtmlRow, Code>
+    requires { goes_on_begun element.now begun c ≡ None }
     ensures { result ≡ begun_next element.now begun c }
 {
     match begun {
-        Begun::EndTag(count) => end_tag_next(element, count, c),
-        Begun::Bang => {
-            if c == '-' {
-                Ok(Row::BegunEndTag(*element, Begun::BangDash))
+        Begun::EndTag(count) => {
+            if is_whole(element, count) && ends_name(c) {
+                end_element(element, c)
             } else {
-                given_up(element, b"<!", c)
+                given_up(element, end_tag_prefix(element, count), c)
             }
         }
+        Begun::Bang => given_up(element, b"<!", c),
         Begun::BangDash => {
             if c == '-' {
                 Err(Code::Script)
@@ -178,5 +174,30 @@ pub(crate) fn begun_next(element: &Element, begun: Begun, c: char) -> Result<Row
                 given_up(element, b"<!-", c)
             }
         }
+    }
+}
+
+/// What is begun after a character that goes on with it.
+pub(crate) fn goes_on_begun(element: &Element, begun: Begun, c: char) -> Option<Begun>
+    ensures { result ≡ goes_on_begun element.now begun c }
+{
+    match begun {
+        Begun::EndTag(count) => {
+            if goes_on(element, count, c) {
+                Some(Begun::EndTag(count + 1))
+            } else if is_script(element) && (count == 1 && c == '!') {
+                Some(Begun::Bang)
+            } else {
+                None
+            }
+        }
+        Begun::Bang => {
+            if c == '-' {
+                Some(Begun::BangDash)
+            } else {
+                None
+            }
+        }
+        Begun::BangDash => None,
     }
 }

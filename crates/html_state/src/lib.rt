@@ -9,8 +9,9 @@
 #![tactic(auto)]
 
 mod attribute;
+mod declaration;
 mod element;
-mod kind;
+mod laws;
 mod markup;
 mod name;
 mod names;
@@ -24,5 +25,5 @@ mod tag;
 mod text;
 mod uri;
 
-pub use kind::Kind;
+pub use laws::law_equality;
 pub use row::{Part, State};

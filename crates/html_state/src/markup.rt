@@ -1,92 +1,72 @@
 //! The table of the tokenizer.
 
-ghost use Rattle.std.specs.Prelude.{◌≡◌, Ok, Err, OnOk, OnErr, IfErr, IsTrue, true};
-ghost use Rattle.html_state.specs.Characters.{ends_name};
-ghost use Rattle.html_state.specs.IsDeclaration.{IsDeclaration, KeepsLittle};
-ghost use Rattle.html_state.specs.RowNext.{data_next, declaration_next, row_next};
-ghost use Rattle.html_state.specs.declared.row.Row.TheVariants as row;
+ghost use Rattle.std.specs.Prelude.{◌≡◌, Ok, Err, OnOk, OnErr, IfErr, IsTrue, true, None};
+ghost use Rattle.html_state.specs.EndsName.{ends_name};
+ghost use Rattle.html_state.specs.RowNext.{begun_end, goes_on_begun, markup_declaration_next, row_next};
+ghost use Rattle.html_state.specs.RowKinds.{IsSmall, IsTagName, past_tag};
+ghost use Rattle.html_state.specs.declared.row.Begun.TheVariants as begun;
+ghost use Rattle.html_state.specs.declared.row.HtmlRow.TheVariants as row;
 
-use crate::element::{begun_next, step_element};
+use crate::declaration::step_declaration;
+use crate::element::{begun_end, goes_on_begun, step_element};
 use crate::name::Name;
 use crate::names::is_refused;
-use crate::row::{Begun, Row, Tag, TagKind};
+use crate::row::{Begun, DeclarationRow, Element, HtmlRow, Tag, TagKind};
 use crate::tag::{after_tag, past_tag_name, step_in_tag};
-use crate::text::{ends_name, is_letter, is_prefix, is_text};
+use crate::text::{ends_name, is_prefix, is_text};
 use soy_base::Code;
 
-fn data_next(c: char) -> Row
-    ensures { result ≡ data_next c }
-{
-    if c == '<' { Row::TagOpen } else { Row::Data }
-}
-
-fn after_tag_open(c: char) -> Row
+fn after_tag_open(c: char) -> HtmlRow
     ensures { row_next true row.TagOpen c ≡ Ok result }
 {
     if c == '!' {
-        Row::MarkupDeclaration(Name::new())
+        HtmlRow::MarkupDeclaration(Name::new())
     } else if c == '/' {
-        Row::EndTagOpen
-    } else if is_letter(c) {
-        Row::TagName(TagKind::Start, Name::of(c))
+        HtmlRow::EndTagOpen
+    } else if c.is_ascii_alphabetic() {
+        HtmlRow::TagName(TagKind::Start, Name::of(c))
     } else if c == '?' {
-        Row::BogusComment
+        HtmlRow::InDeclaration(DeclarationRow::BogusComment)
+    } else if c == '<' {
+        HtmlRow::TagOpen
     } else {
-        data_next(c)
+        HtmlRow::Data
     }
 }
 
-fn after_end_tag_open(c: char) -> Row
+fn after_end_tag_open(c: char) -> HtmlRow
     ensures { row_next true row.EndTagOpen c ≡ Ok result }
 {
-    if is_letter(c) {
-        Row::TagName(TagKind::End, Name::of(c))
+    if c.is_ascii_alphabetic() {
+        HtmlRow::TagName(TagKind::End, Name::of(c))
     } else if c == '>' {
-        Row::Data
+        HtmlRow::Data
     } else {
-        Row::BogusComment
+        HtmlRow::InDeclaration(DeclarationRow::BogusComment)
     }
 }
 
-fn declaration_next(prefix: &Name, c: char) -> Row
-    ensures { result ≡ declaration_next prefix.now c }
+fn markup_declaration_next(prefix: &Name, c: char) -> HtmlRow
+    ensures { result ≡ markup_declaration_next prefix.now c }
 {
     let mut more = *prefix;
     more.push(c);
     let characters = more.characters();
     if is_text(characters, b"--") {
-        Row::CommentStart
+        HtmlRow::InDeclaration(DeclarationRow::CommentStart)
     } else if is_text(characters, b"doctype") {
-        Row::Doctype
+        HtmlRow::InDeclaration(DeclarationRow::Doctype)
     } else if is_prefix(characters, b"--") || is_prefix(characters, b"doctype") {
-        Row::MarkupDeclaration(more)
+        HtmlRow::MarkupDeclaration(more)
     } else if c == '>' {
-        Row::Data
+        HtmlRow::Data
     } else {
-        Row::BogusComment
-    }
-}
-
-/// The rows of comments and declarations that keep no prefix.
-fn in_declaration(row: &Row, c: char) -> Row
-    requires { IsDeclaration row.now }
-    ensures { row_next true row.now c ≡ Ok result }
-{
-    use Row::*;
-    match (row, c) {
-        (BogusComment | Doctype | CommentStart | StartDash | CommentEnd | EndBang, '>') => Data,
-        (Doctype, _) => Doctype,
-        (CommentStart, '-') => StartDash,
-        (StartDash | EndDash | CommentEnd, '-') => CommentEnd,
-        (Comment | EndBang, '-') => EndDash,
-        (CommentEnd, '!') => EndBang,
-        (BogusComment, _) => BogusComment,
-        _ => Comment,
+        HtmlRow::InDeclaration(DeclarationRow::BogusComment)
     }
 }
 
 /// The row past the name of a tag, or the fault that its name is.
-fn tag_name_end(kind: TagKind, name: &Name, c: char) -> Result<Row, Code>
+fn tag_name_end(kind: TagKind, name: &Name, c: char) -> Result<HtmlRow, Code>
     requires { IsTrue (ends_name c) }
     ensures { result ≡ row_next true (row.TagName kind name.now) c }
 {
@@ -97,62 +77,149 @@ fn tag_name_end(kind: TagKind, name: &Name, c: char) -> Result<Row, Code>
     }
 }
 
-/// The rows that keep little.
-fn next_row(row: &Row, c: char) -> Result<Row, Code>
-    requires { KeepsLittle row.now }
-    ensures { result ≡ row_next true row.now c }
+// Each function below that isn't inlined makes a whole row. The step of a character that makes none stays small.
+
+#[inline(never)]
+fn open_tag(html: &mut HtmlRow)
+    ensures { html.new ≡ row.TagOpen }
 {
-    match row {
-        Row::TagOpen => Ok(after_tag_open(c)),
-        Row::EndTagOpen => Ok(after_end_tag_open(c)),
-        Row::MarkupDeclaration(prefix) => Ok(declaration_next(prefix, c)),
-        Row::BegunEndTag(element, begun) => begun_next(element, *begun, c),
-        Row::Outside => Ok(Row::Outside),
-        Row::Plain => Ok(Row::Plain),
-        _ => Ok(in_declaration(row, c)),
+    *html = HtmlRow::TagOpen;
+}
+
+#[inline(never)]
+fn return_to_data(html: &mut HtmlRow)
+    ensures { html.new ≡ row.Data }
+{
+    *html = HtmlRow::Data;
+}
+
+#[inline(never)]
+fn begin_end_tag(html: &mut HtmlRow, element: Element)
+    ensures { html.new ≡ row.BegunEndTag element (begun.EndTag 1) }
+{
+    *html = HtmlRow::BegunEndTag(element, Begun::EndTag(1));
+}
+
+/// A character at which a tag ends.
+#[inline(never)]
+fn end_tag(html: &mut HtmlRow)
+    ensures { html.new ≡ past_tag html.old }
+{
+    if let HtmlRow::InTag(tag, _) = html {
+        let next = after_tag(tag);
+        *html = next;
     }
 }
 
-/// One more character of a text.
-pub(crate) fn step_row(row: &mut Row, c: char, is_static: bool) -> Result<(), Code>
-    ensures ok { OnOk result (row_next is_static row.old c ≡ Ok row.new) }
-    ensures err { IfErr result (λ code. row_next is_static row.old c ≡ Err code) }
-    ensures unchanged { OnErr result (row.new ≡ row.old) }
+/// A character at which a tag's name ends.
+#[inline(never)]
+fn end_tag_name(html: &mut HtmlRow, c: char) -> Result<(), Code>
+    requires tag { IsTagName html.old }
+    requires end { IsTrue (ends_name c) }
+    ensures ok { OnOk result (row_next true html.old c ≡ Ok html.new) }
+    ensures err { IfErr result (λ code. row_next true html.old c ≡ Err code) }
+    ensures unchanged { OnErr result (html.new ≡ html.old) }
 {
-    match row {
-        Row::Data => {
+    if let HtmlRow::TagName(kind, name) = html {
+        match tag_name_end(*kind, name, c) {
+            Ok(next) => {
+                *html = next;
+                Ok(())
+            }
+            Err(code) => Err(code),
+        }
+    } else {
+        Ok(())
+    }
+}
+
+/// A character that doesn't go on with what was begun in an element's text.
+#[inline(never)]
+fn end_begun(html: &mut HtmlRow, element: Element, begun: Begun, c: char) -> Result<(), Code>
+    requires { goes_on_begun element begun c ≡ None }
+    ensures ok { OnOk result (begun_end element begun c ≡ Ok html.new) }
+    ensures err { IfErr result (λ code. begun_end element begun c ≡ Err code) }
+    ensures unchanged { OnErr result (html.new ≡ html.old) }
+{
+    match begun_end(&element, begun, c) {
+        Ok(next) => {
+            *html = next;
+            Ok(())
+        }
+        Err(code) => Err(code),
+    }
+}
+
+/// The rows that a character always leads to a whole new one.
+#[inline(never)]
+fn step_small(html: &mut HtmlRow, c: char)
+    requires { IsSmall html.old }
+    ensures { row_next true html.old c ≡ Ok html.new }
+{
+    let next = match html {
+        HtmlRow::TagOpen => after_tag_open(c),
+        HtmlRow::EndTagOpen => after_end_tag_open(c),
+        HtmlRow::MarkupDeclaration(prefix) => markup_declaration_next(prefix, c),
+        HtmlRow::Outside => HtmlRow::Outside,
+        _ => HtmlRow::Plain,
+    };
+    *html = next;
+}
+
+/// One more character of a text.
+pub(crate) fn step_row(html: &mut HtmlRow, c: char, is_static: bool) -> Result<(), Code>
+    ensures ok { OnOk result (row_next is_static html.old c ≡ Ok html.new) }
+    ensures err { IfErr result (λ code. row_next is_static html.old c ≡ Err code) }
+    ensures unchanged { OnErr result (html.new ≡ html.old) }
+{
+    match html {
+        HtmlRow::Data => {
             if c == '<' {
-                *row = Row::TagOpen;
+                open_tag(html);
             }
             Ok(())
         }
-        Row::InTag(tag, inner) => {
+        HtmlRow::InTag(_, inner) => {
             if step_in_tag(inner, c, is_static)? {
-                let next = after_tag(tag);
-                *row = next;
+                end_tag(html);
             }
             Ok(())
         }
-        Row::Within(element) => {
+        HtmlRow::Within(element) => {
             if c != '<' {
                 return step_element(element, c);
             }
-            let begun = Row::BegunEndTag(*element, Begun::EndTag(1));
-            *row = begun;
+            let element = *element;
+            begin_end_tag(html, element);
             Ok(())
         }
-        Row::TagName(kind, name) => {
-            if !ends_name(c) {
-                name.push(c);
-                return Ok(());
+        HtmlRow::TagName(_, name) => {
+            if ends_name(c) {
+                return end_tag_name(html, c);
             }
-            let next = tag_name_end(*kind, name, c)?;
-            *row = next;
+            name.push(c);
             Ok(())
         }
+        HtmlRow::InDeclaration(inner) => {
+            if step_declaration(inner, c) {
+                return_to_data(html);
+            }
+            Ok(())
+        }
+        HtmlRow::BegunEndTag(element, begun) => match goes_on_begun(element, *begun, c) {
+            Some(next) => {
+                *begun = next;
+                Ok(())
+            }
+            None => {
+                let element = *element;
+                let begun = *begun;
+                end_begun(html, element, begun, c)
+            }
+        },
+        HtmlRow::Outside | HtmlRow::Plain => Ok(()),
         _ => {
-            let next = next_row(row, c)?;
-            *row = next;
+            step_small(html, c);
             Ok(())
         }
     }

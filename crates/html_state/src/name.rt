@@ -6,7 +6,7 @@ ghost use Rattle.html_state.specs.Kept.{named};
 use std::marker::Model;
 
 /// The first 17 characters of a name, in lower case. Contracts see the list of them.
-#[derive(Clone, Copy, Debug, PartialEq, Eq)]
+#[derive(Clone, Copy, Debug)]
 pub struct Name {
     characters: [char; 17],
     count: u8,
@@ -28,6 +28,26 @@ impl Model for Name {
       characters = padded 17 s.count s.characters h.0 h.1 h.2 i;
       count = counted 17 s.count s.characters h.0 h.1 i;
     } };
+}
+
+impl PartialEq for Name {
+    ghost use Rattle.std.specs.Prelude.{nat_eq};
+    ghost use Rattle.std.specs.Cmp.Lexicographic.{pointwise, nat_list_eq_equiv};
+    ghost use Rattle.std.specs.Cmp.{partial_equiv_from_equiv};
+
+    ghost eq = { pointwise nat_eq };
+
+    ghost laws = { partial_equiv_from_equiv nat_list_eq_equiv };
+
+    fn eq(&self, other: &Name) -> bool {
+        self.characters() == other.characters()
+    }
+}
+
+impl Eq for Name {
+    ghost use Rattle.std.specs.Cmp.Lexicographic.{nat_list_eq_equiv};
+
+    ghost laws = { nat_list_eq_equiv };
 }
 
 impl Name {

@@ -1,10 +1,11 @@
 //! The names of HTML that decide how a page is read.
 
 ghost use Rattle.std.specs.Prelude.{◌≡◌, ◌≤◌, length, codes};
+ghost use Rattle.soy_base.specs.Among.{is_among};
 ghost use Rattle.html_state.specs.AttributeNamed.{attribute_named, no_print_names, uri_names};
 ghost use Rattle.html_state.specs.ElementNamed.{element_name, element_named};
 ghost use Rattle.html_state.specs.RowNext.{is_refused};
-ghost use Rattle.html_state.specs.Texts.{is_among, is_prefix};
+ghost use Rattle.html_state.specs.Texts.{is_prefix};
 
 use crate::name::Name;
 use crate::row::{Attribute, Element, TagKind, UriName};

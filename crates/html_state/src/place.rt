@@ -5,7 +5,7 @@ ghost use Rattle.script_state.specs.CssAfterValue.{css_after_value};
 ghost use Rattle.html_state.specs.AfterValue.{part_after_value, row_after_value, value_after_value};
 ghost use Rattle.html_state.specs.StatePlacing.{element_placing, quoted_placing, refuses_start, row_placing, tag_name, tag_row_placing, uri_placing};
 
-use crate::row::{AttributeValue, Element, Row, Tag, TagRow, UriName, UriPart};
+use crate::row::{AttributeValue, Element, HtmlRow, Tag, TagRow, UriName, UriPart};
 use crate::text::is_among;
 use soy_base::{Code, Place, Placing};
 
@@ -89,15 +89,17 @@ fn element_placing(element: &Element) -> Placing
 }
 
 /// What happens to a value in this row.
-pub(crate) fn row_placing(row: &Row) -> Placing
+pub(crate) fn row_placing(row: &HtmlRow) -> Placing
     ensures { result ≡ row_placing row.now }
 {
     match row {
-        Row::Data => Placing::Takes(Place::Text),
-        Row::TagOpen | Row::EndTagOpen | Row::TagName(_, _) => Placing::Refuses(Code::InName),
-        Row::InTag(tag, inner) => tag_row_placing(tag, inner),
-        Row::Within(element) => element_placing(element),
-        Row::Plain => Placing::Takes(Place::Plain),
+        HtmlRow::Data => Placing::Takes(Place::Text),
+        HtmlRow::TagOpen | HtmlRow::EndTagOpen | HtmlRow::TagName(_, _) => Placing::Refuses(
+            Code::InName,
+        ),
+        HtmlRow::InTag(tag, inner) => tag_row_placing(tag, inner),
+        HtmlRow::Within(element) => element_placing(element),
+        HtmlRow::Plain => Placing::Takes(Place::Plain),
         _ => Placing::Refuses(Code::Place),
     }
 }
@@ -118,17 +120,17 @@ fn mark_value(value: &mut AttributeValue)
 }
 
 /// A value stands in this row.
-pub(crate) fn mark_row(row: &mut Row)
+pub(crate) fn mark_row(row: &mut HtmlRow)
     ensures { row.new ≡ row_after_value row.old }
 {
     match row {
-        Row::InTag(_, TagRow::Quoted(_, value)) => mark_value(value),
-        Row::InTag(_, inner) => {
+        HtmlRow::InTag(_, TagRow::Quoted(_, value)) => mark_value(value),
+        HtmlRow::InTag(_, inner) => {
             if let TagRow::BeforeName = inner {
                 *inner = TagRow::AfterPrinted;
             }
         }
-        Row::Within(Element::Style(state)) => state.value(),
+        HtmlRow::Within(Element::Style(state)) => state.value(),
         _ => {}
     }
 }

@@ -7,7 +7,7 @@ use std::marker::Model;
 
 /// The first 9 characters, all of ASCII, of what may still become a scheme or a reference. Contracts see the list of
 /// them.
-#[derive(Clone, Copy, Debug, PartialEq, Eq)]
+#[derive(Clone, Copy, Debug)]
 pub struct Prefix {
     characters: [u8; 9],
     count: u8,
@@ -29,6 +29,26 @@ impl Model for Prefix {
       characters = padded 9 s.count s.characters h.0 h.1 h.2 i;
       count = counted 9 s.count s.characters h.0 h.1 i;
     } };
+}
+
+impl PartialEq for Prefix {
+    ghost use Rattle.std.specs.Prelude.{nat_eq};
+    ghost use Rattle.std.specs.Cmp.Lexicographic.{pointwise, nat_list_eq_equiv};
+    ghost use Rattle.std.specs.Cmp.{partial_equiv_from_equiv};
+
+    ghost eq = { pointwise nat_eq };
+
+    ghost laws = { partial_equiv_from_equiv nat_list_eq_equiv };
+
+    fn eq(&self, other: &Prefix) -> bool {
+        self.characters() == other.characters()
+    }
+}
+
+impl Eq for Prefix {
+    ghost use Rattle.std.specs.Cmp.Lexicographic.{nat_list_eq_equiv};
+
+    ghost laws = { nat_list_eq_equiv };
 }
 
 impl Prefix {

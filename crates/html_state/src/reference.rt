@@ -2,17 +2,17 @@
 
 ghost use Rattle.std.specs.Prelude.{◌≡◌, ◌∷◌, Ok, Err, OnOk, OnErr, IfErr, false, IsTrue};
 ghost use Rattle.std.specs.Char.{is_ascii_alphanumeric};
-ghost use Rattle.html_state.specs.Characters.{number_sign};
+ghost use Rattle.soy_base.specs.Among.{is_among};
+ghost use Rattle.soy_base.specs.Characters.{number_sign};
 ghost use Rattle.html_state.specs.Kept.{begun};
 ghost use Rattle.html_state.specs.Next.{ampersand_next, begun_next, begun_reference, has_references, is_quoted, is_style_value, is_unquoted, is_uri_value, name_end, name_next, next, numeric_next, plain_next};
 ghost use Rattle.html_state.specs.References.{name_begun, reference_names};
-ghost use Rattle.html_state.specs.Texts.{is_among};
 ghost use Rattle.html_state.specs.declared.row.Reference.{Reference};
 
 use crate::markup::step_row;
 use crate::number::{begins_numeric, is_numeric};
 use crate::prefix::Prefix;
-use crate::row::{Attribute, AttributeValue, Element, Reference, Row, State, TagRow};
+use crate::row::{Attribute, AttributeValue, Element, HtmlRow, Reference, State, TagRow};
 use crate::text::{begins_one, is_one};
 use soy_base::Code;
 
@@ -39,12 +39,12 @@ fn name_begun(prefix: Prefix) -> Reference
     }
 }
 
-fn is_style_value(row: &Row) -> bool
+fn is_style_value(row: &HtmlRow) -> bool
     ensures { result ≡ is_style_value row.now }
 {
     matches!(
         row,
-        Row::InTag(
+        HtmlRow::InTag(
             _,
             TagRow::BeforeValue(Attribute::Style)
                 | TagRow::Quoted(_, AttributeValue::Style(_))
@@ -53,24 +53,24 @@ fn is_style_value(row: &Row) -> bool
     )
 }
 
-fn is_quoted(row: &Row) -> bool
+fn is_quoted(row: &HtmlRow) -> bool
     ensures { result ≡ is_quoted row.now }
 {
-    matches!(row, Row::InTag(_, TagRow::Quoted(_, _)))
+    matches!(row, HtmlRow::InTag(_, TagRow::Quoted(_, _)))
 }
 
-fn is_unquoted(row: &Row) -> bool
+fn is_unquoted(row: &HtmlRow) -> bool
     ensures { result ≡ is_unquoted row.now }
 {
-    matches!(row, Row::InTag(_, TagRow::Unquoted(_)))
+    matches!(row, HtmlRow::InTag(_, TagRow::Unquoted(_)))
 }
 
-fn is_uri_value(row: &Row) -> bool
+fn is_uri_value(row: &HtmlRow) -> bool
     ensures { result ≡ is_uri_value row.now }
 {
     matches!(
         row,
-        Row::InTag(
+        HtmlRow::InTag(
             _,
             TagRow::Quoted(_, AttributeValue::Uri(_, _))
                 | TagRow::Unquoted(AttributeValue::Uri(_, _))
@@ -78,14 +78,14 @@ fn is_uri_value(row: &Row) -> bool
     )
 }
 
-fn has_references(row: &Row) -> bool
+fn has_references(row: &HtmlRow) -> bool
     ensures { result ≡ has_references row.now }
 {
     matches!(
         row,
-        Row::Data
-            | Row::Within(Element::Title | Element::Textarea)
-            | Row::InTag(
+        HtmlRow::Data
+            | HtmlRow::Within(Element::Title | Element::Textarea)
+            | HtmlRow::InTag(
                 _,
                 TagRow::Quoted(_, _) | TagRow::Unquoted(AttributeValue::Uri(_, _))
             )
@@ -93,7 +93,7 @@ fn has_references(row: &Row) -> bool
 }
 
 /// The reference that a character begins with which this row is reached.
-fn begun_reference(row: &Row, c: char) -> Reference
+fn begun_reference(row: &HtmlRow, c: char) -> Reference
     ensures { result ≡ begun_reference row.now c }
 {
     if c == '&' && has_references(row) {
@@ -210,8 +210,9 @@ fn step_begun(state: &mut State, prefix: Prefix, c: char) -> Result<(), Code>
     }
 }
 
-/// A static character.
-pub(crate) fn step_static(state: &mut State, c: char) -> Result<(), Code>
+/// A static character where a reference is pending.
+#[inline(never)]
+fn step_pending(state: &mut State, c: char) -> Result<(), Code>
     ensures ok { OnOk result (next state.old c ≡ Ok state.new) }
     ensures err { IfErr result (λ code. next state.old c ≡ Err code) }
     ensures unchanged { OnErr result (state.new ≡ state.old) }
@@ -229,5 +230,23 @@ pub(crate) fn step_static(state: &mut State, c: char) -> Result<(), Code>
                 end_name(state, false, c)
             }
         }
+    }
+}
+
+/// A static character.
+pub(crate) fn step_static(state: &mut State, c: char) -> Result<(), Code>
+    ensures ok { OnOk result (next state.old c ≡ Ok state.new) }
+    ensures err { IfErr result (λ code. next state.old c ≡ Err code) }
+    ensures unchanged { OnErr result (state.new ≡ state.old) }
+{
+    match &state.reference {
+        Reference::Decided => {
+            if c == '&' {
+                step_pending(state, c)
+            } else {
+                step_row(&mut state.row, c, true)
+            }
+        }
+        _ => step_pending(state, c),
     }
 }

@@ -118,21 +118,9 @@ pub enum TagRow {
     SelfClosing,
 }
 
-/// A row of the table: a state of the tokenizer of WHATWG HTML, 13.2.5, and what it keeps.
+/// A row of the table in a comment or a declaration.
 #[derive(Clone, Copy, Debug, PartialEq, Eq)]
-pub enum Row {
-    /// Data state.
-    Data,
-    /// Tag open state.
-    TagOpen,
-    /// End tag open state.
-    EndTagOpen,
-    /// Tag name state, with the name so far.
-    TagName(TagKind, Name),
-    /// A state within a tag, past its name.
-    InTag(Tag, TagRow),
-    /// Markup declaration open state, with the characters so far that begin a comment or a DOCTYPE.
-    MarkupDeclaration(Name),
+pub enum DeclarationRow {
     /// Bogus comment state.
     BogusComment,
     /// DOCTYPE state and those after it.
@@ -149,6 +137,25 @@ pub enum Row {
     CommentEnd,
     /// Comment end bang state.
     EndBang,
+}
+
+/// A row of the table: a state of the tokenizer of WHATWG HTML, 13.2.5, and what it keeps.
+#[derive(Clone, Copy, Debug, PartialEq, Eq)]
+pub enum HtmlRow {
+    /// Data state.
+    Data,
+    /// Tag open state.
+    TagOpen,
+    /// End tag open state.
+    EndTagOpen,
+    /// Tag name state, with the name so far.
+    TagName(TagKind, Name),
+    /// A state within a tag, past its name.
+    InTag(Tag, TagRow),
+    /// Markup declaration open state, with the characters so far that begin a comment or a DOCTYPE.
+    MarkupDeclaration(Name),
+    /// A state of a comment or a declaration.
+    InDeclaration(DeclarationRow),
     /// RCDATA state, RAWTEXT state, script data state.
     Within(Element),
     /// The less-than sign, end tag open and end tag name states of these three, and script data escape start state.
@@ -173,7 +180,7 @@ pub enum Reference {
 /// The state of the tokenizer after the characters of a text.
 #[derive(Clone, Copy, Debug, PartialEq, Eq)]
 pub struct State {
-    pub(crate) row: Row,
+    pub(crate) row: HtmlRow,
     pub(crate) reference: Reference,
 }
 

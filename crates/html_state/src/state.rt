@@ -9,12 +9,11 @@ ghost use Rattle.html_state.specs.Start.{start};
 ghost use Rattle.html_state.specs.StatePlacing.{placing};
 ghost use Rattle.html_state.specs.TakesClass.{takes_class};
 
-use crate::kind::Kind;
 use crate::markup::step_row;
 use crate::place::{mark_row, row_placing};
 use crate::reference::step_static;
-use crate::row::{Part, Reference, Row, State, Tag, TagRow};
-use soy_base::{Code, Placing, ValueClass};
+use crate::row::{HtmlRow, Part, Reference, State, Tag, TagRow};
+use soy_base::{Code, Kind, Placing, ValueClass};
 
 impl State {
     /// The state in which a text of a kind begins.
@@ -22,9 +21,9 @@ impl State {
         ensures { result ≡ start kind }
     {
         let row = match kind {
-            Kind::Html => Row::Data,
-            Kind::Attributes => Row::InTag(Tag::Block, TagRow::BeforeName),
-            Kind::Text => Row::Plain,
+            Kind::Html => HtmlRow::Data,
+            Kind::Attributes => HtmlRow::InTag(Tag::Block, TagRow::BeforeName),
+            Kind::Text => HtmlRow::Plain,
         };
         State {
             row,
@@ -82,8 +81,8 @@ impl State {
         ensures { result ≡ may_end kind self.now }
     {
         match (kind, &self.row) {
-            (Kind::Html, Row::Data) => true,
-            (Kind::Attributes, Row::InTag(_, inner)) => {
+            (Kind::Html, HtmlRow::Data) => true,
+            (Kind::Attributes, HtmlRow::InTag(_, inner)) => {
                 matches!(
                     inner,
                     TagRow::BeforeName
@@ -92,7 +91,7 @@ impl State {
                         | TagRow::AfterQuoted
                 )
             }
-            (Kind::Text, Row::Plain) => true,
+            (Kind::Text, HtmlRow::Plain) => true,
             _ => false,
         }
     }
@@ -102,10 +101,10 @@ impl State {
         ensures { result ≡ part_of self.now }
     {
         match &self.row {
-            Row::Data => Part::Text,
-            Row::TagOpen | Row::EndTagOpen | Row::TagName(_, _) => Part::TagName,
-            Row::InTag(_, TagRow::AttributeName(_)) => Part::AttrName,
-            Row::InTag(_, TagRow::Quoted(_, _) | TagRow::Unquoted(_)) => Part::AttrValue,
+            HtmlRow::Data => Part::Text,
+            HtmlRow::TagOpen | HtmlRow::EndTagOpen | HtmlRow::TagName(_, _) => Part::TagName,
+            HtmlRow::InTag(_, TagRow::AttributeName(_)) => Part::AttrName,
+            HtmlRow::InTag(_, TagRow::Quoted(_, _) | TagRow::Unquoted(_)) => Part::AttrValue,
             _ => Part::Hidden,
         }
     }

@@ -1,8 +1,11 @@
 //! The rows within a tag.
 
-ghost use Rattle.std.specs.Prelude.{◌≡◌, Ok, Err, Some, None, OnErr, IfOk, IfErr, if◌then◌else◌, true};
+ghost use Rattle.std.specs.Prelude.{◌≡◌, Ok, Err, Some, None, ◌==◌, [], OnOk, OnErr, IfOk, IfErr, if◌then◌else◌, true, false};
+ghost use Rattle.std.specs.Char.{is_ascii_whitespace};
+ghost use Rattle.soy_base.specs.Characters.{greater_than};
+ghost use Rattle.html_state.specs.Kept.{named};
 ghost use Rattle.html_state.specs.RowNext.{after_tag, in_tag, opened};
-ghost use Rattle.html_state.specs.TagRowNext.{before_name, before_value, past_name, past_value, tag_row_next};
+ghost use Rattle.html_state.specs.TagRowNext.{before_name, before_value, past_name, tag_row_next};
 ghost use Rattle.html_state.specs.Texts.{and_then};
 ghost use Rattle.html_state.specs.ValueNext.{begun_value, value_next};
 ghost use Rattle.html_state.specs.declared.row.TagRow.TheVariants as tag_row;
@@ -10,56 +13,69 @@ ghost use Rattle.html_state.specs.declared.row.TagRow.TheVariants as tag_row;
 use crate::attribute::{begun_value, may_end_value, quote_character, step_value};
 use crate::name::Name;
 use crate::names::{attribute_named, element_named};
-use crate::row::{Attribute, AttributeValue, Element, Quote, Row, Tag, TagKind, TagRow};
-use crate::text::{ends_name, is_white_space};
+use crate::row::{Attribute, Element, HtmlRow, Quote, Tag, TagKind, TagRow};
+use crate::text::ends_name;
 use soy_base::Code;
 
-fn opened(element: Option<Element>) -> Row
+fn opened(element: Option<Element>) -> HtmlRow
     ensures { result ≡ opened element }
 {
     match element {
-        Some(element) => Row::Within(element),
-        None => Row::Data,
+        Some(element) => HtmlRow::Within(element),
+        None => HtmlRow::Data,
     }
 }
 
 /// The row past the end of a tag.
-pub(crate) fn after_tag(tag: &Tag) -> Row
+pub(crate) fn after_tag(tag: &Tag) -> HtmlRow
     ensures { result ≡ after_tag tag.now }
 {
     match tag {
-        Tag::Block => Row::Outside,
-        Tag::Named(TagKind::End, _) => Row::Data,
+        Tag::Block => HtmlRow::Outside,
+        Tag::Named(TagKind::End, _) => HtmlRow::Data,
         Tag::Named(TagKind::Start, name) => opened(element_named(name)),
     }
 }
 
 /// The row past the name of a tag.
-pub(crate) fn past_tag_name(tag: Tag, c: char) -> Row
+pub(crate) fn past_tag_name(tag: Tag, c: char) -> HtmlRow
     ensures { result ≡ in_tag tag (past_name c) }
 {
     match c {
-        '/' => Row::InTag(tag, TagRow::SelfClosing),
+        '/' => HtmlRow::InTag(tag, TagRow::SelfClosing),
         '>' => after_tag(&tag),
-        _ => Row::InTag(tag, TagRow::BeforeName),
+        _ => HtmlRow::InTag(tag, TagRow::BeforeName),
     }
+}
+
+/// Another row within a tag, which keeps nothing.
+#[inline(never)]
+fn turn_to(row: &mut TagRow, slash: bool)
+    ensures { row.new ≡ (if slash then tag_row.SelfClosing else tag_row.BeforeName) }
+{
+    *row = if slash {
+        TagRow::SelfClosing
+    } else {
+        TagRow::BeforeName
+    };
 }
 
 /// After white space, `/` or `>`. The answers of this function and those below say whether the tag ends.
 fn step_past_name(row: &mut TagRow, c: char) -> bool
     ensures { past_name c ≡ (if result then None else Some row.new) }
 {
-    match c {
-        '/' => {
-            *row = TagRow::SelfClosing;
-            false
-        }
-        '>' => true,
-        _ => {
-            *row = TagRow::BeforeName;
-            false
-        }
+    if c == '>' {
+        return true;
     }
+    turn_to(row, c == '/');
+    false
+}
+
+#[inline(never)]
+fn begin_name(row: &mut TagRow, c: char)
+    ensures { row.new ≡ tag_row.AttributeName (named [] c) }
+{
+    *row = TagRow::AttributeName(Name::of(c));
 }
 
 fn step_before_name(row: &mut TagRow, c: char) -> Result<bool, Code>
@@ -72,7 +88,7 @@ fn step_before_name(row: &mut TagRow, c: char) -> Result<bool, Code>
     } else if c == '=' {
         Err(Code::InName)
     } else {
-        *row = TagRow::AttributeName(Name::of(c));
+        begin_name(row, c);
         Ok(false)
     }
 }
@@ -90,13 +106,9 @@ fn step_after_printed(row: &mut TagRow, c: char) -> Result<bool, Code>
 }
 
 /// The first character of an unquoted value.
-fn step_first(
-    row: &mut TagRow,
-    attribute: Attribute,
-    c: char,
-    is_static: bool,
-) -> Result<bool, Code>
-    ensures ok { IfOk result (λ ended. and_then (λ following. Ok (Some (tag_row.Unquoted following))) (value_next is_static (begun_value attribute) c) ≡ Ok (if ended then None else Some row.new)) }
+fn step_first(row: &mut TagRow, attribute: Attribute, c: char, is_static: bool) -> Result<(), Code>
+    ensures ok { OnOk result (and_then (λ following. Ok (Some (tag_row.Unquoted following))) (value_next is_static (begun_value attribute) c)
+        ≡ Ok (Some row.new)) }
     ensures err { IfErr result (λ code. value_next is_static (begun_value attribute) c ≡ Err code) }
     ensures unchanged { OnErr result (row.new ≡ row.old) }
 {
@@ -104,9 +116,29 @@ fn step_first(
     match step_value(&mut value, c, is_static) {
         Ok(()) => {
             *row = TagRow::Unquoted(value);
-            Ok(false)
+            Ok(())
         }
         Err(code) => Err(code),
+    }
+}
+
+/// A quote, or the first character of an unquoted value.
+#[inline(never)]
+fn begin_value(row: &mut TagRow, attribute: Attribute, c: char, is_static: bool) -> Result<(), Code>
+    requires space { is_ascii_whitespace c ≡ false }
+    requires end { (c == greater_than) ≡ false }
+    ensures ok { OnOk result (before_value is_static attribute c ≡ Ok (Some row.new)) }
+    ensures err { IfErr result (λ code. before_value is_static attribute c ≡ Err code) }
+    ensures unchanged { OnErr result (row.new ≡ row.old) }
+{
+    if c == '"' {
+        *row = TagRow::Quoted(Quote::Double, begun_value(attribute));
+        Ok(())
+    } else if c == '\'' {
+        *row = TagRow::Quoted(Quote::Single, begun_value(attribute));
+        Ok(())
+    } else {
+        step_first(row, attribute, c, is_static)
     }
 }
 
@@ -121,19 +153,30 @@ fn step_before_value(
     ensures err { IfErr result (λ code. before_value is_static attribute c ≡ Err code) }
     ensures unchanged { OnErr result (row.new ≡ row.old) }
 {
-    if is_white_space(c) {
-        Ok(false)
-    } else if c == '>' {
-        Ok(true)
-    } else if c == '"' {
-        *row = TagRow::Quoted(Quote::Double, begun_value(attribute));
-        Ok(false)
-    } else if c == '\'' {
-        *row = TagRow::Quoted(Quote::Single, begun_value(attribute));
-        Ok(false)
-    } else {
-        step_first(row, attribute, c, is_static)
+    if c.is_ascii_whitespace() {
+        return Ok(false);
     }
+    if c == '>' {
+        return Ok(true);
+    }
+    begin_value(row, attribute, c, is_static)?;
+    Ok(false)
+}
+
+/// The `=` after an attribute's name.
+#[inline(never)]
+fn end_name(row: &mut TagRow, attribute: Attribute)
+    ensures { row.new ≡ tag_row.BeforeValue attribute }
+{
+    *row = TagRow::BeforeValue(attribute);
+}
+
+/// The quote that ends a value.
+#[inline(never)]
+fn end_quoted(row: &mut TagRow)
+    ensures { row.new ≡ tag_row.AfterQuoted }
+{
+    *row = TagRow::AfterQuoted;
 }
 
 /// One more character within a tag, past its name.
@@ -144,16 +187,16 @@ pub(crate) fn step_in_tag(row: &mut TagRow, c: char, is_static: bool) -> Result<
 {
     match row {
         TagRow::AttributeName(name) => {
-            if !ends_name(c) && c != '=' {
-                name.push(c);
-                return Ok(false);
+            if ends_name(c) {
+                return Ok(step_past_name(row, c));
             }
             if c == '=' {
                 let attribute = attribute_named(name);
-                *row = TagRow::BeforeValue(attribute);
+                end_name(row, attribute);
                 return Ok(false);
             }
-            Ok(step_past_name(row, c))
+            name.push(c);
+            Ok(false)
         }
         TagRow::Quoted(quote, value) => {
             if c != quote_character(*quote) {
@@ -163,11 +206,11 @@ pub(crate) fn step_in_tag(row: &mut TagRow, c: char, is_static: bool) -> Result<
             if !may_end_value(value) {
                 return Err(Code::Script);
             }
-            *row = TagRow::AfterQuoted;
+            end_quoted(row);
             Ok(false)
         }
         TagRow::Unquoted(value) => {
-            if !is_white_space(c) && c != '>' {
+            if !c.is_ascii_whitespace() && c != '>' {
                 step_value(value, c, is_static)?;
                 return Ok(false);
             }

@@ -1,34 +1,21 @@
 //! Texts compared, and characters that the tables name.
 
 ghost use Rattle.std.specs.Prelude.{◌≡◌, map};
-ghost use Rattle.script_state.specs.Characters.{is_white_space};
-ghost use Rattle.html_state.specs.Characters.{ends_name, is_letter};
-ghost use Rattle.html_state.specs.Texts.{is_among, is_prefix, is_prefix_among, is_text};
-
-/// White space of HTML.
-pub(crate) fn is_white_space(c: char) -> bool
-    ensures { result ≡ is_white_space c }
-{
-    matches!(c, '\t' | '\n' | '\x0c' | '\r' | ' ')
-}
+ghost use Rattle.std.specs.Str.{bytes_eq};
+ghost use Rattle.soy_base.specs.Among.{is_among};
+ghost use Rattle.html_state.specs.EndsName.{ends_name};
+ghost use Rattle.html_state.specs.Texts.{is_prefix, is_prefix_among};
 
 /// White space, `/` or `>`.
 pub(crate) fn ends_name(c: char) -> bool
     ensures { result ≡ ends_name c }
 {
-    is_white_space(c) || c == '/' || c == '>'
-}
-
-/// A letter of ASCII.
-pub(crate) fn is_letter(c: char) -> bool
-    ensures { result ≡ is_letter c }
-{
-    matches!(c, 'A'..='Z' | 'a'..='z')
+    c.is_ascii_whitespace() || c == '/' || c == '>'
 }
 
 /// Whether characters are those of a text of ASCII.
 pub(crate) fn is_text(characters: &[char], text: &[u8]) -> bool
-    ensures { result ≡ is_text characters.now text.now }
+    ensures { result ≡ bytes_eq characters.now text.now }
 {
     if characters.len() != text.len() {
         return false;
@@ -70,7 +57,7 @@ pub(crate) fn is_prefix(characters: &[char], text: &[u8]) -> bool
 
 /// Whether two texts of ASCII are the same.
 fn is_same(one: &[u8], text: &[u8]) -> bool
-    ensures { result ≡ is_text one.now text.now }
+    ensures { result ≡ bytes_eq one.now text.now }
 {
     if one.len() != text.len() {
         return false;

@@ -1,12 +1,12 @@
 //! The part of a URI.
 
 ghost use Rattle.std.specs.Prelude.{◌≡◌, Ok, Err, OnOk, OnErr, IfErr};
-ghost use Rattle.html_state.specs.PartNext.{by_character, part_next, scheme_next, schemes};
-ghost use Rattle.html_state.specs.Texts.{is_among};
+ghost use Rattle.soy_base.specs.Among.{is_among};
+ghost use Rattle.html_state.specs.PartNext.{MayBeScheme, by_character, part_next, scheme_next, schemes};
 
 use crate::prefix::Prefix;
 use crate::row::UriPart;
-use crate::text::{begins_one, is_letter, is_one};
+use crate::text::{begins_one, is_one};
 use soy_base::Code;
 
 const SCHEMES: [&[u8]; 4] = [b"http", b"https", b"mailto", b"ftp"];
@@ -22,7 +22,7 @@ fn is_scheme(prefix: &Prefix) -> bool
 fn scheme_next(prefix: &Prefix, c: char) -> UriPart
     ensures { result ≡ scheme_next prefix.now c }
 {
-    if is_letter(c) {
+    if c.is_ascii_alphabetic() {
         let more = prefix.with(c.to_ascii_lowercase());
         if begins_one(more.characters(), &SCHEMES) {
             return UriPart::Scheme(more);
@@ -51,7 +51,9 @@ fn by_character(
     }
 }
 
+/// The part after a character, where the part may still be a scheme.
 fn next_part(part: &UriPart, c: char) -> Result<UriPart, Code>
+    requires { MayBeScheme part.now }
     ensures { result ≡ part_next part.now c }
 {
     use UriPart::*;
@@ -69,22 +71,19 @@ fn next_part(part: &UriPart, c: char) -> Result<UriPart, Code>
             Ok(by_character(at_colon, Path, Query, Fragment, scheme_next(prefix, c), c))
         }
         NoScheme => Ok(by_character(BadScheme, Path, Query, Fragment, NoScheme, c)),
-        AfterStart => {
+        _ => {
             if c == ':' {
                 Err(Code::UriStart)
             } else {
                 Ok(by_character(AfterStart, Path, Query, Fragment, AfterStart, c))
             }
         }
-        Path => Ok(by_character(Path, Path, Query, Fragment, Path, c)),
-        Query => Ok(by_character(Query, Query, Query, Fragment, Query, c)),
-        Fragment => Ok(Fragment),
-        BadScheme => Ok(BadScheme),
     }
 }
 
-/// One more static character of a URI.
-pub(crate) fn step_part(part: &mut UriPart, c: char) -> Result<(), Code>
+#[inline(never)]
+fn step_scheme(part: &mut UriPart, c: char) -> Result<(), Code>
+    requires { MayBeScheme part.old }
     ensures ok { OnOk result (part_next part.old c ≡ Ok part.new) }
     ensures err { IfErr result (λ code. part_next part.old c ≡ Err code) }
     ensures unchanged { OnErr result (part.new ≡ part.old) }
@@ -95,5 +94,31 @@ pub(crate) fn step_part(part: &mut UriPart, c: char) -> Result<(), Code>
             Ok(())
         }
         Err(code) => Err(code),
+    }
+}
+
+/// One more static character of a URI.
+pub(crate) fn step_part(part: &mut UriPart, c: char) -> Result<(), Code>
+    ensures ok { OnOk result (part_next part.old c ≡ Ok part.new) }
+    ensures err { IfErr result (λ code. part_next part.old c ≡ Err code) }
+    ensures unchanged { OnErr result (part.new ≡ part.old) }
+{
+    match part {
+        UriPart::Path => {
+            if c == '?' {
+                *part = UriPart::Query;
+            } else if c == '#' {
+                *part = UriPart::Fragment;
+            }
+            Ok(())
+        }
+        UriPart::Query => {
+            if c == '#' {
+                *part = UriPart::Fragment;
+            }
+            Ok(())
+        }
+        UriPart::Fragment | UriPart::BadScheme => Ok(()),
+        _ => step_scheme(part, c),
     }
 }

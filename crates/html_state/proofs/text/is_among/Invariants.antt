@@ -1,5 +1,5 @@
 use Rattle.std.proofs.Common.{◌≡◌, drop, map}
-use Rattle.html_state.specs.Texts.{is_among}
+use Rattle.soy_base.specs.Among.{is_among}
 use Rattle.html_state.proofs.text.is_among.Given as goal
 
 abbrev pub invariant-loop-text : goal.invariant-loop-text
