@@ -20,11 +20,6 @@ element_next (element.Script state) c = followed element.Script (js_next state c
 element_next (element.Style state) c = followed element.Style (css_next state c)
 element_next other c = Ok other
 
--- after several characters
-abbrev pub element_after : Element → List ℕ → Result Element Code
-element_after now [] = Ok now
-element_after now (c ∷ rest) = and_then (λ following. element_after following rest) (element_next now c)
-
 abbrev pub may_end_element : Element → Bool
 may_end_element (element.Script js.Code) = true
 may_end_element (element.Script js.Line) = true

@@ -24,9 +24,10 @@ use Rattle.html_state.specs.declared.row.Tag.TheVariants as tag
 use Rattle.html_state.specs.declared.row.TagKind.{TagKind}
 use Rattle.html_state.specs.declared.row.TagKind.TheVariants as kind
 use Rattle.html_state.specs.declared.row.TagRow.{TagRow}
+use Rattle.html_state.specs.AfterText.{after_text}
 use Rattle.html_state.specs.DeclarationNext.{declaration_next}
 use Rattle.html_state.specs.ElementNamed.{element_name, element_named, refused_names}
-use Rattle.html_state.specs.ElementNext.{element_after, element_next, end_tag, is_script, may_end_element}
+use Rattle.html_state.specs.ElementNext.{element_next, end_tag, is_script, may_end_element}
 use Rattle.html_state.specs.EndsName.{ends_name}
 use Rattle.html_state.specs.Kept.{named}
 use Rattle.html_state.specs.TagRowNext.{past_name, tag_row_next}
@@ -82,7 +83,7 @@ within_next now c =
 
 -- these characters began no end tag: they are text, and so is the one that shows it
 abbrev pub given_up : Element → List ℕ → ℕ → Result HtmlRow Code
-given_up now characters c = and_then (λ following. within_next following c) (element_after now characters)
+given_up now characters c = and_then (λ following. within_next following c) (after_text element_next now characters)
 
 -- what is begun after one more character that goes on with it
 abbrev pub goes_on_begun : Element → Begun → ℕ → Option Begun

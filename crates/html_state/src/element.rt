@@ -2,8 +2,9 @@
 
 ghost use Rattle.std.specs.Prelude.{◌≡◌, ◌==◌, ◌&&◌, Ok, Err, OnOk, OnErr, IfErr, ◌≤◌, length, take, get_or, nat_lt, if◌then◌else◌};
 ghost use Rattle.std.specs.Char.{to_ascii_lowercase};
+ghost use Rattle.html_state.specs.AfterText.{after_text};
 ghost use Rattle.html_state.specs.ElementNamed.{element_name};
-ghost use Rattle.html_state.specs.ElementNext.{element_after, element_next, end_tag, is_script, may_end_element};
+ghost use Rattle.html_state.specs.ElementNext.{element_next, end_tag, is_script, may_end_element};
 ghost use Rattle.html_state.specs.RowNext.{begun_end, begun_next, given_up, goes_on_begun, in_tag, within_next};
 ghost use Rattle.html_state.specs.TagRowNext.{past_name};
 ghost use Rattle.soy_base.specs.declared.code.Code.TheVariants as code;
@@ -102,7 +103,7 @@ fn is_whole(element: &Element, count: u8) -> bool
 
 /// The element after several characters of its text.
 fn element_after(element: &Element, characters: &[u8]) -> Result<Element, Code>
-    ensures { result ≡ element_after element.now characters.now }
+    ensures { result ≡ after_text element_next element.now characters.now }
 {
     let mut now = *element;
     for c in characters {

@@ -1,11 +1,92 @@
 //! What the tables come to, for every text. Each law is a contract with an empty body, so it holds of the definitions
 //! that the calls of a state follow.
 
-ghost use Rattle.std.specs.Prelude.{◌≡◌, ◌↔◌};
+ghost use Rattle.std.specs.Prelude.{◌≡◌, ◌↔◌, ◌++◌, ◌∷◌, [], ℕ, List, Ok, IsTrue, true, Option};
+ghost use Rattle.soy_base.specs.declared.place.Place.TheVariants as place;
+ghost use Rattle.html_state.specs.Follows.{Follows, FollowsOn, IsOutside};
+ghost use Rattle.html_state.specs.IsSafe.{HasNoTag, IsSafe, IsSafeAt};
+ghost use Rattle.html_state.specs.Leads.{Leads};
+ghost use Rattle.html_state.specs.StatePlacing.{placing};
+ghost use Rattle.soy_base.specs.Among.{lacks};
+ghost use Rattle.soy_base.specs.Characters.{ampersand, less_than};
+ghost use Rattle.soy_base.specs.StateAfter.{state_after};
+ghost use Rattle.script_state.specs.CssNext.{css_next};
+ghost use Rattle.script_state.specs.JsNext.{js_next};
+ghost use Rattle.script_state.specs.declared.css_state.CssState.{CssState};
+ghost use Rattle.script_state.specs.declared.js_state.JsState.{JsState};
+ghost use Rattle.html_state.specs.AfterText.{after_text};
 ghost use Rattle.html_state.specs.IsSame.{IsSame};
+ghost use Rattle.html_state.specs.Next.{at_row, next, value_character_next};
+ghost use Rattle.html_state.specs.PartNext.{part_next};
+ghost use Rattle.html_state.specs.RowAt.{in_script, in_style, inside, quoted};
+ghost use Rattle.html_state.specs.TextKinds.{IsPlainRawtext, IsRcdata, RunsNothing};
+ghost use Rattle.html_state.specs.Texts.{and_then};
+ghost use Rattle.html_state.specs.ValueNext.{followed, quote_character};
+ghost use Rattle.html_state.specs.declared.row.AttributeValue.{AttributeValue};
+ghost use Rattle.html_state.specs.declared.row.AttributeValue.TheVariants as value;
+ghost use Rattle.html_state.specs.declared.row.Element.{Element};
+ghost use Rattle.html_state.specs.declared.row.HtmlRow.TheVariants as row;
+ghost use Rattle.html_state.specs.declared.row.Quote.{Quote};
 ghost use Rattle.html_state.specs.declared.row.State.{State};
+ghost use Rattle.html_state.specs.declared.row.Tag.{Tag};
+ghost use Rattle.html_state.specs.declared.row.UriName.{UriName};
+ghost use Rattle.html_state.specs.declared.row.UriPart.{UriPart};
 
 /// States that `==` holds for are equal, and equal states are such.
 pub fn law_equality()
     ensures { (one other : State) → IsSame one other ↔ (one ≡ other) }
+{}
+
+/// A text may be read in pieces: the state after two pieces, or the first fault in them, is that of their whole.
+pub fn law_text_in_pieces()
+    ensures static_text { (state : State) (first second : List ℕ) → after_text next state (first ++ second)
+        ≡ and_then (λ middle. after_text next middle second) (after_text next state first) }
+    ensures value { (state : State) (first second : List ℕ) → after_text value_character_next state (first ++ second)
+        ≡ and_then (λ middle. after_text value_character_next middle second) (after_text value_character_next state first) }
+{}
+
+/// Static text without `<` and `&` stays in data and in RCDATA, and text without `<` stays in RAWTEXT other than a
+/// style's. In a script or a style it moves the table of scripts or of styles alone, and where that has no next state
+/// the fault is 18.
+pub fn law_plain_text()
+    ensures in_data { (text : List ℕ) → IsTrue (lacks (less_than ∷ ampersand ∷ []) text) →
+        after_text next (at_row row.Data) text ≡ Ok (at_row row.Data) }
+    ensures in_rcdata { (now : Element) (text : List ℕ) → IsRcdata now → IsTrue (lacks (less_than ∷ ampersand ∷ []) text) →
+        after_text next (inside now) text ≡ Ok (inside now) }
+    ensures in_rawtext { (now : Element) (text : List ℕ) → IsPlainRawtext now → IsTrue (lacks (less_than ∷ []) text) →
+        after_text next (inside now) text ≡ Ok (inside now) }
+    ensures in_script { (state : JsState) (text : List ℕ) → IsTrue (lacks (less_than ∷ []) text) →
+        after_text next (in_script state) text ≡ followed in_script (state_after js_next state text) }
+    ensures in_style { (state : CssState) (text : List ℕ) → IsTrue (lacks (less_than ∷ []) text) →
+        after_text next (in_style state) text ≡ followed in_style (state_after css_next state text) }
+{}
+
+/// Static text of a quoted value without its quote and `&` stays in it. It moves the part of a URI, or the table of
+/// styles, and nothing else; where these meet a fault it is that one.
+pub fn law_quoted_text()
+    ensures plain { (around : Tag) (quote : Quote) (now : AttributeValue) (text : List ℕ) → RunsNothing now →
+        IsTrue (lacks (quote_character quote ∷ ampersand ∷ []) text) →
+        after_text next (quoted around quote now) text ≡ Ok (quoted around quote now) }
+    ensures uri { (around : Tag) (quote : Quote) (name : UriName) (part : UriPart) (text : List ℕ) →
+        IsTrue (lacks (quote_character quote ∷ ampersand ∷ []) text) →
+        after_text next (quoted around quote (value.Uri name part)) text
+        ≡ and_then (λ following. Ok (quoted around quote (value.Uri name following))) (after_text part_next part text) }
+    ensures style { (around : Tag) (quote : Quote) (state : CssState) (text : List ℕ) →
+        IsTrue (lacks (quote_character quote ∷ ampersand ∷ []) text) →
+        after_text next (quoted around quote (value.Style state)) text
+        ≡ followed (λ following. quoted around quote (value.Style following)) (state_after css_next state text) }
+{}
+
+/// Characters that keep a place lead a state with that placing, with the mark that a value sets, to the state that a
+/// value leaves behind. Text without `<` keeps the place Text.
+pub fn law_safe_value()
+    ensures each_place { (state : State) (out : List ℕ) → IsSafeAt (placing state) out → Leads state out }
+    ensures text_place { (out : List ℕ) → HasNoTag out → IsSafe place.Text out }
+{}
+
+/// Where a static character is no fault of the walk's and doesn't lead it out of its tag, it is none of the page's, and
+/// the page goes on as the walk does.
+pub fn law_page_step()
+    ensures { (around : Option Tag) (page walk : State) (c : ℕ) → Follows around page walk → (IsOutside walk.row → ⊥) →
+        FollowsOn around (next page c) (next walk c) }
 {}

@@ -25,5 +25,8 @@ mod tag;
 mod text;
 mod uri;
 
-pub use laws::law_equality;
+pub use laws::{
+    law_equality, law_page_step, law_plain_text, law_quoted_text, law_safe_value,
+    law_text_in_pieces,
+};
 pub use row::{Part, State};
