@@ -6,3 +6,5 @@ pub mod Pieces
 pub mod PlainTexts
 pub mod SafeTexts
 pub mod PageSteps
+pub mod PagePlaces
+pub mod PageFrames

@@ -37,7 +37,7 @@ use Rattle.html_state.specs.Texts.{and_then}
 -- ---- rows
 
 -- a row within a tag follows itself
-same_tag_row : (inner : TagRow) → FollowsTagRow inner inner
+pub same_tag_row : (inner : TagRow) → FollowsTagRow inner inner
 same_tag_row tag_row.BeforeName = refl
 same_tag_row (tag_row.AttributeName n) = refl
 same_tag_row (tag_row.BeforeValue a) = refl
@@ -48,7 +48,7 @@ same_tag_row tag_row.SelfClosing = refl
 same_tag_row tag_row.AfterPrinted = tt
 
 -- outside of a block of attributes a row follows itself
-same_row : (now : HtmlRow) → FollowsRow None now now
+pub same_row : (now : HtmlRow) → FollowsRow None now now
 same_row (row.InTag around inner) = (refl, same_tag_row inner)
 same_row row.Outside = tt
 same_row row.Data = refl

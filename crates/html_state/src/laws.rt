@@ -2,8 +2,15 @@
 //! that the calls of a state follow.
 
 ghost use Rattle.std.specs.Prelude.{◌≡◌, ◌↔◌, ◌++◌, ◌∷◌, [], ℕ, List, Ok, IsTrue, true, Option};
+ghost use Rattle.soy_base.specs.declared.kind.Kind.{Kind};
 ghost use Rattle.soy_base.specs.declared.place.Place.TheVariants as place;
-ghost use Rattle.html_state.specs.Follows.{Follows, FollowsOn, IsOutside};
+ghost use Rattle.soy_base.specs.declared.place.ValueClass.TheVariants as class;
+ghost use Rattle.html_state.specs.AfterValue.{after_value};
+ghost use Rattle.html_state.specs.MayEnd.{may_end};
+ghost use Rattle.html_state.specs.PartOf.{part_of};
+ghost use Rattle.html_state.specs.TakesClass.{takes_class};
+ghost use Rattle.html_state.specs.declared.row.Reference.TheVariants as reference;
+ghost use Rattle.html_state.specs.Follows.{Follows, FollowsOn, FramesAttributes, FramesHtml, IsOutside, LeadsPage, PlacedAlike};
 ghost use Rattle.html_state.specs.IsSafe.{HasNoTag, IsSafe, IsSafeAt};
 ghost use Rattle.html_state.specs.Leads.{Leads};
 ghost use Rattle.html_state.specs.StatePlacing.{placing};
@@ -16,7 +23,7 @@ ghost use Rattle.script_state.specs.declared.css_state.CssState.{CssState};
 ghost use Rattle.script_state.specs.declared.js_state.JsState.{JsState};
 ghost use Rattle.html_state.specs.AfterText.{after_text};
 ghost use Rattle.html_state.specs.IsSame.{IsSame};
-ghost use Rattle.html_state.specs.Next.{at_row, next, value_character_next};
+ghost use Rattle.html_state.specs.Next.{at_row, is_decided, next, text_end, value_character_next};
 ghost use Rattle.html_state.specs.PartNext.{part_next};
 ghost use Rattle.html_state.specs.RowAt.{in_script, in_style, inside, quoted};
 ghost use Rattle.html_state.specs.TextKinds.{IsPlainRawtext, IsRcdata, RunsNothing};
@@ -35,6 +42,17 @@ ghost use Rattle.html_state.specs.declared.row.UriPart.{UriPart};
 /// States that `==` holds for are equal, and equal states are such.
 pub fn law_equality()
     ensures { (one other : State) → IsSame one other ↔ (one ≡ other) }
+{}
+
+/// States that `==` holds for go on alike, and have the same placings and ends.
+pub fn law_equal_states()
+    ensures steps { (one other : State) (c : ℕ) → IsSame one other → next one c ≡ next other c }
+    ensures value_steps { (one other : State) (c : ℕ) → IsSame one other → value_character_next one c ≡ value_character_next other c }
+    ensures values { (one other : State) → IsSame one other → after_value one ≡ after_value other }
+    ensures placings { (one other : State) → IsSame one other → placing one ≡ placing other }
+    ensures ends { (kind : Kind) (one other : State) → IsSame one other → may_end kind one ≡ may_end kind other }
+    ensures text_ends { (one other : State) → IsSame one other → text_end one ≡ text_end other }
+    ensures parts { (one other : State) → IsSame one other → part_of one ≡ part_of other }
 {}
 
 /// A text may be read in pieces: the state after two pieces, or the first fault in them, is that of their whole.
@@ -89,4 +107,35 @@ pub fn law_safe_value()
 pub fn law_page_step()
     ensures { (around : Option Tag) (page walk : State) (c : ℕ) → Follows around page walk → (IsOutside walk.row → ⊥) →
         FollowsOn around (next page c) (next walk c) }
+{}
+
+/// Where the walk takes a value, the page takes it at the same place. A real tag may refuse the start of a URI that a
+/// block took.
+pub fn law_page_place()
+    ensures { (around : Option Tag) (page walk : State) → Follows around page walk →
+        PlacedAlike around (placing page) (placing walk) }
+{}
+
+/// Characters that keep the walk's place lead the page, with the mark that the value sets, to a state that goes on as
+/// the walk's past the value.
+pub fn law_page_value()
+    ensures { (around : Option Tag) (page walk : State) (out : List ℕ) → Follows around page walk →
+        IsSafeAt (placing walk) out → LeadsPage around page walk out }
+{}
+
+/// Where the walk takes a block and no reference is pending, the page goes on as the walk of the block from its start,
+/// and where the block may end, as the walk past the block.
+pub fn law_page_frame()
+    ensures attributes { (around : Option Tag) (page walk : State) → Follows around page walk →
+        IsTrue (takes_class (placing walk) class.Attributes) → walk.reference ≡ reference.Decided →
+        FramesAttributes around page walk }
+    ensures html { (around : Option Tag) (page walk : State) → Follows around page walk →
+        IsTrue (takes_class (placing walk) class.Html) → walk.reference ≡ reference.Decided →
+        FramesHtml around page walk }
+{}
+
+/// Where a static text ends for the walk, it ends for the page.
+pub fn law_page_text_end()
+    ensures { (around : Option Tag) (page walk : State) → Follows around page walk → IsTrue (is_decided walk.reference) →
+        text_end page ≡ Ok page }
 {}

@@ -26,7 +26,8 @@ mod text;
 mod uri;
 
 pub use laws::{
-    law_equality, law_page_step, law_plain_text, law_quoted_text, law_safe_value,
+    law_equal_states, law_equality, law_page_frame, law_page_place, law_page_step,
+    law_page_text_end, law_page_value, law_plain_text, law_quoted_text, law_safe_value,
     law_text_in_pieces,
 };
 pub use row::{Part, State};
