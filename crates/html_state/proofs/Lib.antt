@@ -4,7 +4,7 @@ pub mod Texts
 pub mod SameStates
 pub mod Pieces
 pub mod PlainTexts
-pub mod SafeTexts
+pub mod KeptPlaces
 pub mod PageSteps
 pub mod PagePlaces
 pub mod PageFrames

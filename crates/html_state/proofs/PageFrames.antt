@@ -34,7 +34,7 @@ use Rattle.html_state.specs.declared.row.UriPart.TheVariants as part
 use Rattle.html_state.specs.AfterText.{after_text}
 use Rattle.html_state.specs.AfterValue.{after_value, row_after_value, tag_row_after_value, value_after_value}
 use Rattle.html_state.specs.Follows.{Follows, FollowsOutside, FollowsRow, FollowsTag, FollowsTagRow, FramesAttributes, FramesHtml, IsPastPrinted, LeadsPage, PlacedAlike}
-use Rattle.html_state.specs.IsSafe.{IsSafeAt}
+use Rattle.html_state.specs.KeepsPlace.{KeepsPlaceAt}
 use Rattle.html_state.specs.Leads.{LeadsRow, marked_row}
 use Rattle.html_state.specs.MayEnd.{may_end, may_end_in_tag, may_end_row}
 use Rattle.html_state.specs.Next.{pending}
@@ -44,7 +44,7 @@ use Rattle.html_state.specs.StatePlacing.{element_placing, placing, quoted_placi
 use Rattle.html_state.specs.TakesClass.{takes_class}
 use Rattle.html_state.specs.Texts.{and_then}
 use Rattle.html_state.proofs.PageSteps.{same_row, same_tag_row}
-use Rattle.html_state.proofs.SafeTexts.{in_quotes, quoted_holds, row_holds, value_rows}
+use Rattle.html_state.proofs.KeptPlaces.{in_quotes, quoted_holds, row_holds, value_rows}
 
 -- ---- a value
 
@@ -53,13 +53,13 @@ LeadsPageRow around page walk out =
     (now : HtmlRow) × (after_text (row_next false) page out ≡ Ok now) × FollowsRow around (marked_row page now) (row_after_value walk)
 
 quoted_value : (around : Option Tag) (page walk : Tag) (quote : Quote) (now : AttributeValue) (out : List ℕ) → FollowsTag around page walk →
-    IsSafeAt (quoted_placing (tag_name walk) now) out → LeadsPageRow around (in_quotes page quote now) (in_quotes walk quote now) out
+    KeepsPlaceAt (quoted_placing (tag_name walk) now) out → LeadsPageRow around (in_quotes page quote now) (in_quotes walk quote now) out
 quoted_value around page walk quote now out is safe =
     let leads = quoted_holds page quote (tag_name walk) now out safe in
     (leads.0, leads.1, subst (λ r. FollowsRow around r (in_quotes walk quote (value_after_value now))) (sym leads.2) (is, refl))
 
 in_tag_value : (around : Option Tag) (page walk : Tag) (inner within : TagRow) (out : List ℕ) → FollowsTag around page walk → FollowsTagRow inner within →
-    IsSafeAt (tag_row_placing walk within) out → LeadsPageRow around (row.InTag page inner) (row.InTag walk within) out
+    KeepsPlaceAt (tag_row_placing walk within) out → LeadsPageRow around (row.InTag page inner) (row.InTag walk within) out
 in_tag_value around page walk inner (tag_row.Quoted quote now) out is same safe =
     subst (λ i. LeadsPageRow around (row.InTag page i) (in_quotes walk quote now) out) (sym same) (quoted_value around page walk quote now out is safe)
 in_tag_value around page walk inner tag_row.AfterPrinted out is past never = absurd never
@@ -73,11 +73,11 @@ in_tag_value around page walk inner tag_row.SelfClosing out is same never = absu
 itself : (now : HtmlRow) (out : List ℕ) → LeadsRow now out → LeadsPageRow None now now out
 itself now out leads = (leads.0, leads.1, subst (λ r. FollowsRow None r (row_after_value now)) (sym leads.2) (same_row (row_after_value now)))
 
-outside_value : (around : Option Tag) (page walk : HtmlRow) (out : List ℕ) → FollowsOutside around page walk → IsSafeAt (row_placing walk) out → LeadsPageRow around page walk out
+outside_value : (around : Option Tag) (page walk : HtmlRow) (out : List ℕ) → FollowsOutside around page walk → KeepsPlaceAt (row_placing walk) out → LeadsPageRow around page walk out
 outside_value None page walk out same safe = subst (λ r. LeadsPageRow None r walk out) (sym same) (itself walk out (row_holds walk out safe))
 outside_value (Some around) page walk out never safe = absurd never
 
-row_value : (around : Option Tag) (page walk : HtmlRow) (out : List ℕ) → FollowsRow around page walk → IsSafeAt (row_placing walk) out → LeadsPageRow around page walk out
+row_value : (around : Option Tag) (page walk : HtmlRow) (out : List ℕ) → FollowsRow around page walk → KeepsPlaceAt (row_placing walk) out → LeadsPageRow around page walk out
 row_value around (row.InTag page inner) (row.InTag walk within) out f safe = in_tag_value around page walk inner within out f.0 f.1 safe
 row_value around page row.Outside out f never = absurd never
 row_value around page row.Data out f safe = outside_value around page row.Data out f safe
@@ -100,7 +100,7 @@ row_value around (row.BegunEndTag e b) (row.InTag walk within) out f safe = outs
 row_value around row.Plain (row.InTag walk within) out f safe = outside_value around row.Plain (row.InTag walk within) out f safe
 row_value around row.Outside (row.InTag walk within) out f safe = outside_value around row.Outside (row.InTag walk within) out f safe
 
-pub page_value : (around : Option Tag) (page walk : State) (out : List ℕ) → Follows around page walk → IsSafeAt (placing walk) out → LeadsPage around page walk out
+pub page_value : (around : Option Tag) (page walk : State) (out : List ℕ) → Follows around page walk → KeepsPlaceAt (placing walk) out → LeadsPage around page walk out
 page_value around page walk out f safe =
     let leads = row_value around page.row walk.row out f.0 safe in (
       pending leads.0 page.reference,

@@ -34,7 +34,7 @@ use Rattle.html_state.specs.declared.row.UriPart.TheVariants as part
 use Rattle.html_state.specs.AfterText.{after_text}
 use Rattle.html_state.specs.AfterValue.{after_value, row_after_value, tag_row_after_value, value_after_value}
 use Rattle.html_state.specs.Follows.{Follows, FollowsOutside, FollowsRow, FollowsTag, FollowsTagRow, FramesAttributes, FramesHtml, IsPastPrinted, LeadsPage, PlacedAlike}
-use Rattle.html_state.specs.IsSafe.{IsSafeAt}
+use Rattle.html_state.specs.KeepsPlace.{KeepsPlaceAt}
 use Rattle.html_state.specs.Leads.{LeadsRow, marked_row}
 use Rattle.html_state.specs.MayEnd.{may_end, may_end_in_tag, may_end_row}
 use Rattle.html_state.specs.Next.{pending}
@@ -44,7 +44,7 @@ use Rattle.html_state.specs.StatePlacing.{element_placing, placing, quoted_placi
 use Rattle.html_state.specs.TakesClass.{takes_class}
 use Rattle.html_state.specs.Texts.{and_then}
 use Rattle.html_state.proofs.PageSteps.{same_row, same_tag_row}
-use Rattle.html_state.proofs.SafeTexts.{in_quotes, quoted_holds, row_holds, value_rows}
+use Rattle.html_state.proofs.KeptPlaces.{in_quotes, quoted_holds, row_holds, value_rows}
 
 alike : (around : Option Tag) (at : Placing) → PlacedAlike around at at
 alike around (Refuses fault) = tt

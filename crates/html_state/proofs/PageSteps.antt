@@ -27,8 +27,8 @@ use Rattle.html_state.specs.declared.row.UriPart.{UriPart}
 use Rattle.html_state.specs.declared.row.UriPart.TheVariants as part
 use Rattle.html_state.specs.EndsName.{ends_name}
 use Rattle.html_state.specs.Follows.{Follows, FollowsOn, FollowsOutside, FollowsRow, FollowsTag, FollowsTagRow, IsOutside, IsPastPrinted}
-use Rattle.html_state.specs.Kept.{begun}
-use Rattle.html_state.specs.Next.{ampersand_next, at_row, begun_next, begun_reference, has_references, has_references_in_tag, is_quoted, is_quoted_in_tag, is_style_in_tag, is_style_value, is_unquoted, is_unquoted_in_tag, is_uri_in_tag, is_uri_value, name_end, name_next, next, numeric_next, pending, plain_next, reference_next}
+use Rattle.html_state.specs.Kept.{prefix_with}
+use Rattle.html_state.specs.Next.{ampersand_next, at_row, is_decided, text_end, reference_begun_next, begun_reference, has_references, has_references_in_tag, is_quoted, is_quoted_in_tag, is_style_in_tag, is_style_value, is_unquoted, is_unquoted_in_tag, is_uri_in_tag, is_uri_value, name_end, name_next, next, numeric_next, pending, plain_next, reference_next}
 use Rattle.html_state.specs.References.{name_begun, reference_names}
 use Rattle.html_state.specs.RowNext.{after_tag, in_tag, row_next}
 use Rattle.html_state.specs.TagRowNext.{past_name, tag_row_next}
@@ -260,9 +260,9 @@ module _ (around : Option Tag) (page walk : HtmlRow) (f : FollowsRow around page
   ampersand_on : FollowsOn around (ampersand_next page c) (ampersand_next walk c)
   ampersand_on =
       choose around (eqb c number_sign) (eqb c number_sign) _ _ _ _ refl
-      (choose around (is_uri_value page) (is_uri_value walk) (Err code.Reference) (Ok (pending page (reference.Begun (begun [] c)))) (Err code.Reference) (Ok (pending walk (reference.Begun (begun [] c)))) uri_alike tt (pending_on (reference.Begun (begun [] c))))
-      (choose around (is_ascii_alphanumeric c && not (is_unquoted page)) (is_ascii_alphanumeric c && not (is_unquoted walk)) (Ok (pending page (name_begun (begun [] c)))) (plain_next page c) (Ok (pending walk (name_begun (begun [] c)))) (plain_next walk c)
-      (ap (λ b. is_ascii_alphanumeric c && not b) unquoted_alike) (pending_on (name_begun (begun [] c))) plain_on)
+      (choose around (is_uri_value page) (is_uri_value walk) (Err code.Reference) (Ok (pending page (reference.Begun (prefix_with [] c)))) (Err code.Reference) (Ok (pending walk (reference.Begun (prefix_with [] c)))) uri_alike tt (pending_on (reference.Begun (prefix_with [] c))))
+      (choose around (is_ascii_alphanumeric c && not (is_unquoted page)) (is_ascii_alphanumeric c && not (is_unquoted walk)) (Ok (pending page (name_begun (prefix_with [] c)))) (plain_next page c) (Ok (pending walk (name_begun (prefix_with [] c)))) (plain_next walk c)
+      (ap (λ b. is_ascii_alphanumeric c && not b) unquoted_alike) (pending_on (name_begun (prefix_with [] c))) plain_on)
 
   numeric_on : (o : Result Reference Code) → FollowsOn around (and_then (λ following. Ok (pending page following)) o) (and_then (λ following. Ok (pending walk following)) o)
   numeric_on (Ok following) = pending_on following
@@ -277,10 +277,10 @@ module _ (around : Option Tag) (page walk : HtmlRow) (f : FollowsRow around page
 
   name_on : (letters : List ℕ) → FollowsOn around (name_next page letters c) (name_next walk letters c)
   name_on letters =
-      choose around (is_ascii_alphanumeric c) (is_ascii_alphanumeric c) (Ok (pending page (name_begun (begun letters c)))) (name_end page (is_among reference_names letters) c) (Ok (pending walk (name_begun (begun letters c)))) (name_end walk (is_among reference_names letters) c) refl
-      (pending_on (name_begun (begun letters c))) (end_on (is_among reference_names letters))
+      choose around (is_ascii_alphanumeric c) (is_ascii_alphanumeric c) (Ok (pending page (name_begun (prefix_with letters c)))) (name_end page (is_among reference_names letters) c) (Ok (pending walk (name_begun (prefix_with letters c)))) (name_end walk (is_among reference_names letters) c) refl
+      (pending_on (name_begun (prefix_with letters c))) (end_on (is_among reference_names letters))
 
-  begun_on : (prefix : List ℕ) → FollowsOn around (begun_next page prefix c) (begun_next walk prefix c)
+  begun_on : (prefix : List ℕ) → FollowsOn around (reference_begun_next page prefix c) (reference_begun_next walk prefix c)
   begun_on [] = ampersand_on
   begun_on (first ∷ rest) =
       choose around (eqb first number_sign) (eqb first number_sign) (and_then (λ following. Ok (pending page following)) (numeric_next rest c)) (name_next page (first ∷ rest) c) (and_then (λ following. Ok (pending walk following)) (numeric_next rest c)) (name_next walk (first ∷ rest) c) refl
@@ -293,6 +293,74 @@ module _ (around : Option Tag) (page walk : HtmlRow) (f : FollowsRow around page
       choose around (is_ascii_alphanumeric c) (is_ascii_alphanumeric c) (Ok (pending page reference.NoName)) (name_end page false c) (Ok (pending walk reference.NoName)) (name_end walk false c) refl
       (pending_on reference.NoName) (end_on false)
 
-pub page_step : (around : Option Tag) (page walk : State) (c : ℕ) → Follows around page walk → (IsOutside walk.row → ⊥) → FollowsOn around (next page c) (next walk c)
-page_step around page walk c f not_outside =
+-- ---- past the end of the walk's tag
+
+outside_choose : (around : Option Tag) (b : Bool) (page walk_then walk_else : Result State Code) → FollowsOn around page walk_then → FollowsOn around page walk_else →
+    FollowsOn around page (if b then walk_then else walk_else)
+outside_choose around true page walk_then walk_else on_then on_else = on_then
+outside_choose around false page walk_then walk_else on_then on_else = on_else
+
+module _ (around : Option Tag) (page : Result State Code) (c : ℕ) where
+  plain_outside : FollowsOn around page (plain_next row.Outside c)
+  plain_outside =
+      outside_choose around (eqb c ampersand && false) page (Err code.Reference) (Ok (pending row.Outside (begun_reference row.Outside c))) tt (inl tt)
+
+  ampersand_outside : FollowsOn around page (ampersand_next row.Outside c)
+  ampersand_outside =
+      outside_choose around (eqb c number_sign) page (Ok (pending row.Outside (reference.Begun (prefix_with [] c)))) _ (inl tt)
+      (outside_choose around (is_ascii_alphanumeric c && true) page (Ok (pending row.Outside (name_begun (prefix_with [] c)))) (plain_next row.Outside c) (inl tt) plain_outside)
+
+  end_outside : (is_name : Bool) → FollowsOn around page (name_end row.Outside is_name c)
+  end_outside is_name =
+      outside_choose around (eqb c semicolon) page (if is_name then Ok (at_row row.Outside) else Err code.Reference) _
+      (outside_choose around is_name page (Ok (at_row row.Outside)) (Err code.Reference) (inl tt) tt)
+      (outside_choose around (eqb c equals_sign && false) page (plain_next row.Outside c) (Err code.Ampersand) plain_outside tt)
+
+  numeric_outside : (o : Result Reference Code) → FollowsOn around page (and_then (λ following. Ok (pending row.Outside following)) o)
+  numeric_outside (Ok following) = inl tt
+  numeric_outside (Err fault) = tt
+
+  begun_outside : (prefix : List ℕ) → FollowsOn around page (reference_begun_next row.Outside prefix c)
+  begun_outside [] = ampersand_outside
+  begun_outside (first ∷ rest) =
+      outside_choose around (eqb first number_sign) page (and_then (λ following. Ok (pending row.Outside following)) (numeric_next rest c)) (name_next row.Outside (first ∷ rest) c)
+      (numeric_outside (numeric_next rest c))
+      (outside_choose around (is_ascii_alphanumeric c) page (Ok (pending row.Outside (name_begun (prefix_with (first ∷ rest) c)))) (name_end row.Outside (is_among reference_names (first ∷ rest)) c) (inl tt) (end_outside (is_among reference_names (first ∷ rest))))
+
+  outside_stays : (now : Reference) → FollowsOn around page (reference_next row.Outside now c)
+  outside_stays reference.Decided = plain_outside
+  outside_stays (reference.Begun prefix) = begun_outside prefix
+  outside_stays reference.NoName =
+      outside_choose around (is_ascii_alphanumeric c) page (Ok (pending row.Outside reference.NoName)) (name_end row.Outside false c) (inl tt) (end_outside false)
+
+outside_row : (walk : HtmlRow) → IsOutside walk → walk ≡ row.Outside
+outside_row row.Outside is = refl
+outside_row (row.InTag t i) never = absurd never
+outside_row row.Data never = absurd never
+outside_row row.TagOpen never = absurd never
+outside_row row.EndTagOpen never = absurd never
+outside_row (row.TagName k n) never = absurd never
+outside_row (row.MarkupDeclaration p) never = absurd never
+outside_row (row.InDeclaration d) never = absurd never
+outside_row (row.Within e) never = absurd never
+outside_row (row.BegunEndTag e b) never = absurd never
+outside_row row.Plain never = absurd never
+
+step_cases : (around : Option Tag) (page walk : State) (c : ℕ) → Follows around page walk → (IsOutside walk.row ⊎ (IsOutside walk.row → ⊥)) → FollowsOn around (next page c) (next walk c)
+step_cases around page walk c f (inl outside) =
+    subst (λ r. FollowsOn around (next page c) (reference_next r walk.reference c)) (sym (outside_row walk.row outside)) (outside_stays around (next page c) c walk.reference)
+step_cases around page walk c f (inr not_outside) =
     subst (λ r. FollowsOn around (reference_next page.row r c) (next walk c)) (sym f.1) (reference_on around page.row walk.row f.0 not_outside c walk.reference)
+
+pub page_step : (around : Option Tag) (page walk : State) (c : ℕ) → Follows around page walk → FollowsOn around (next page c) (next walk c)
+page_step around page walk c f = step_cases around page walk c f (outside_or_not walk.row)
+
+-- ---- the end of a static text
+
+end_if : (decided : Bool) (page walk : State) → (if decided then Ok walk else Err code.Ampersand) ≡ Ok walk → (if decided then Ok page else Err code.Ampersand) ≡ Ok page
+end_if true page walk is = refl
+end_if false page walk is = cc
+
+pub page_text_end : (around : Option Tag) (page walk : State) → Follows around page walk → text_end walk ≡ Ok walk → text_end page ≡ Ok page
+page_text_end around page walk f is =
+    subst (λ r. (if is_decided r then Ok page else Err code.Ampersand) ≡ Ok page) (sym f.1) (end_if (is_decided walk.reference) page walk is)

@@ -10,7 +10,7 @@ use Rattle.html_state.specs.Texts.{and_then}
 use Rattle.html_state.specs.ValueNext.{followed}
 
 -- two pieces are read one after the other
-pub after_text-append : {S : Type 0} (step : S → ℕ → Result S Code) (now : S) (first second : List ℕ) →
+pub after_text-append : {S A : Type 0} (step : S → A → Result S Code) (now : S) (first second : List A) →
     after_text step now (first ++ second) ≡ and_then (λ middle. after_text step middle second) (after_text step now first)
 after_text-append step now [] second = refl
 after_text-append step now (c ∷ first) second =

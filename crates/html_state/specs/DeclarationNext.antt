@@ -1,7 +1,7 @@
 -- Comments and declarations: the row after a character, or none where it ends them.
 --
--- What follows `<!` is a comment, a DOCTYPE or a bogus comment. (WHATWG HTML, 13.2.5.41 to 13.2.5.71, where a DOCTYPE is
--- one row.)
+-- What follows `<!` is a comment, a DOCTYPE or a bogus comment. (WHATWG HTML, 13.2.5.41 to 13.2.5.68, where a DOCTYPE is
+-- one row. A CDATA section is a bogus comment.)
 -- Example: `<!-->` is a whole comment, and so is `<!--a--!>`.
 use Rattle.std.specs.Prelude.{ℕ, Option, Some, None, ◌==◌, if◌then◌else◌}
 use Rattle.soy_base.specs.Characters.{exclamation_mark, greater_than, minus_sign}

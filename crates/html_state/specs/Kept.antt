@@ -8,9 +8,9 @@ use Rattle.std.specs.Prelude.{ℕ, List, [], ◌∷◌, ◌++◌, take}
 use Rattle.std.specs.Char.{to_ascii_lowercase}
 
 -- a name with one more character
-abbrev pub named : List ℕ → ℕ → List ℕ
-named name c = take 17 (name ++ to_ascii_lowercase c ∷ [])
+abbrev pub name_with : List ℕ → ℕ → List ℕ
+name_with name c = take 17 (name ++ to_ascii_lowercase c ∷ [])
 
 -- a prefix with one more character
-abbrev pub begun : List ℕ → ℕ → List ℕ
-begun prefix c = take 9 (prefix ++ c ∷ [])
+abbrev pub prefix_with : List ℕ → ℕ → List ℕ
+prefix_with prefix c = take 9 (prefix ++ c ∷ [])

@@ -6,8 +6,8 @@ pub mod ElementNamed
 pub mod ElementNext
 pub mod EndsName
 pub mod Follows
-pub mod IsSafe
 pub mod IsSame
+pub mod KeepsPlace
 pub mod Kept
 pub mod Leads
 pub mod MayEnd
@@ -15,6 +15,7 @@ pub mod Next
 pub mod Padding
 pub mod PartNext
 pub mod PartOf
+pub mod Pieces
 pub mod References
 pub mod RowAt
 pub mod RowKinds

@@ -1,9 +1,10 @@
 -- The state after one more character, static or of a value, and after the end of a static text.
 --
 -- A state is a row and a reference that isn't decided. A static `&` may begin a reference in data, in the text of
--- `title` and `textarea`, in quoted values, and in unquoted ones of a URI attribute; the characters after it decide
--- whether it is one, an `&` that stands for itself, or a fault. In a style attribute each `&` is fault 17, and so is one
--- before `#` in a URI attribute. A character of a value begins no reference. (WHATWG HTML, 13.2.5.72 to 13.2.5.84.)
+-- `title` and `textarea` and in quoted values; the characters after it decide whether it is one, an `&` that stands for
+-- itself, or a fault. In an unquoted value of a URI attribute it begins none, and is pending until the next character.
+-- In a style attribute each `&` is fault 17, and so is one before `#` in a URI attribute. A character of a value begins
+-- no reference. (WHATWG HTML, 13.2.5.72 to 13.2.5.80.)
 -- Example: in `a&b c` the space is fault 16, and in `a & b` it shows that the `&` is an ampersand.
 use Rattle.std.specs.Prelude.{ℕ, Bool, true, false, not, ◌==◌, ◌&&◌, if◌then◌else◌, List, [], ◌∷◌, drop, Result, Ok, Err}
 use Rattle.std.specs.Char.{is_ascii_alphanumeric}
@@ -21,7 +22,7 @@ use Rattle.html_state.specs.declared.row.HtmlRow.TheVariants as row
 use Rattle.html_state.specs.declared.row.State.{State}
 use Rattle.html_state.specs.declared.row.TagRow.{TagRow}
 use Rattle.html_state.specs.declared.row.TagRow.TheVariants as tag_row
-use Rattle.html_state.specs.Kept.{begun}
+use Rattle.html_state.specs.Kept.{prefix_with}
 use Rattle.html_state.specs.References.{begins_numeric, is_numeric, name_begun, reference_names}
 use Rattle.html_state.specs.RowNext.{row_next}
 use Rattle.html_state.specs.Texts.{and_then}
@@ -54,7 +55,7 @@ is_uri_in_tag (tag_row.Quoted _ (value.Uri _ _)) = true
 is_uri_in_tag (tag_row.Unquoted (value.Uri _ _)) = true
 is_uri_in_tag _ = false
 
--- an `&` that led here may begin a reference
+-- an `&` that led here is pending
 abbrev pub has_references_in_tag : TagRow → Bool
 has_references_in_tag (tag_row.Quoted _ _) = true
 has_references_in_tag (tag_row.Unquoted (value.Uri _ _)) = true
@@ -98,16 +99,16 @@ plain_next now c =
 -- directly after `&`
 abbrev pub ampersand_next : HtmlRow → ℕ → Result State Code
 ampersand_next now c =
-    if c == number_sign then (if is_uri_value now then Err code.Reference else Ok (pending now (reference.Begun (begun [] c))))
-    else (if is_ascii_alphanumeric c && not (is_unquoted now) then Ok (pending now (name_begun (begun [] c)))
+    if c == number_sign then (if is_uri_value now then Err code.Reference else Ok (pending now (reference.Begun (prefix_with [] c))))
+    else (if is_ascii_alphanumeric c && not (is_unquoted now) then Ok (pending now (name_begun (prefix_with [] c)))
     else plain_next now c)
 
 -- after `&#` and these characters
 abbrev pub numeric_next : List ℕ → ℕ → Result Reference Code
 numeric_next digits c =
     if c == semicolon then (if is_numeric digits then Ok reference.Decided else Err code.Reference)
-    else (if is_ascii_alphanumeric c && begins_numeric (drop 1 (begun (number_sign ∷ digits) c)) then
-    Ok (reference.Begun (begun (number_sign ∷ digits) c))
+    else (if is_ascii_alphanumeric c && begins_numeric (drop 1 (prefix_with (number_sign ∷ digits) c)) then
+    Ok (reference.Begun (prefix_with (number_sign ∷ digits) c))
     else Err code.Reference)
 
 -- the character that ends letters and digits after `&`, which are a name or not
@@ -120,19 +121,19 @@ name_end now is_name c =
 -- after `&` and these letters and digits, which begin a name
 abbrev pub name_next : HtmlRow → List ℕ → ℕ → Result State Code
 name_next now letters c =
-    if is_ascii_alphanumeric c then Ok (pending now (name_begun (begun letters c)))
+    if is_ascii_alphanumeric c then Ok (pending now (name_begun (prefix_with letters c)))
     else name_end now (is_among reference_names letters) c
 
 -- after `&` and these characters
-abbrev pub begun_next : HtmlRow → List ℕ → ℕ → Result State Code
-begun_next now [] c = ampersand_next now c
-begun_next now (first ∷ rest) c =
+abbrev pub reference_begun_next : HtmlRow → List ℕ → ℕ → Result State Code
+reference_begun_next now [] c = ampersand_next now c
+reference_begun_next now (first ∷ rest) c =
     if first == number_sign then and_then (λ following. Ok (pending now following)) (numeric_next rest c)
     else name_next now (first ∷ rest) c
 
 abbrev pub reference_next : HtmlRow → Reference → ℕ → Result State Code
 reference_next now reference.Decided c = plain_next now c
-reference_next now (reference.Begun prefix) c = begun_next now prefix c
+reference_next now (reference.Begun prefix) c = reference_begun_next now prefix c
 reference_next now reference.NoName c =
     if is_ascii_alphanumeric c then Ok (pending now reference.NoName)
     else name_end now false c

@@ -13,7 +13,7 @@ use Rattle.soy_base.specs.Among.{is_among}
 use Rattle.soy_base.specs.Characters.{colon, number_sign, question_mark, slash}
 use Rattle.html_state.specs.declared.row.UriPart.{UriPart}
 use Rattle.html_state.specs.declared.row.UriPart.TheVariants as part
-use Rattle.html_state.specs.Kept.{begun}
+use Rattle.html_state.specs.Kept.{prefix_with}
 use Rattle.html_state.specs.Texts.{is_prefix_among}
 
 abbrev pub schemes : List (List ℕ)
@@ -22,12 +22,12 @@ schemes = codes "http" ∷ codes "https" ∷ codes "mailto" ∷ codes "ftp" ∷ 
 -- the part after these characters and one more, which is none of the four: a letter may go on with a scheme
 abbrev pub scheme_next : List ℕ → ℕ → UriPart
 scheme_next prefix c =
-    if is_ascii_alphabetic c && is_prefix_among schemes (begun prefix (to_ascii_lowercase c)) then part.Scheme (begun prefix (to_ascii_lowercase c))
+    if is_ascii_alphabetic c && is_prefix_among schemes (prefix_with prefix (to_ascii_lowercase c)) then part.Scheme (prefix_with prefix (to_ascii_lowercase c))
     else part.NoScheme
 
 -- the columns of `:`, `/`, `?`, `#` and of the others
-abbrev pub by_character : UriPart → UriPart → UriPart → UriPart → UriPart → ℕ → UriPart
-by_character at_colon at_slash at_question_mark at_number_sign at_other c =
+abbrev pub part_by_character : UriPart → UriPart → UriPart → UriPart → UriPart → ℕ → UriPart
+part_by_character at_colon at_slash at_question_mark at_number_sign at_other c =
     if c == colon then at_colon
     else (if c == slash then at_slash
     else (if c == question_mark then at_question_mark
@@ -35,15 +35,15 @@ by_character at_colon at_slash at_question_mark at_number_sign at_other c =
     else at_other)))
 
 abbrev pub part_next : UriPart → ℕ → Result UriPart Code
-part_next part.Start c = Ok (by_character part.BadScheme part.Path part.Query part.Fragment (scheme_next [] c) c)
+part_next part.Start c = Ok (part_by_character part.BadScheme part.Path part.Query part.Fragment (scheme_next [] c) c)
 part_next (part.Scheme prefix) c =
-    Ok (by_character (if is_among schemes prefix then part.Path else part.BadScheme) part.Path part.Query part.Fragment (scheme_next prefix c) c)
-part_next part.NoScheme c = Ok (by_character part.BadScheme part.Path part.Query part.Fragment part.NoScheme c)
+    Ok (part_by_character (if is_among schemes prefix then part.Path else part.BadScheme) part.Path part.Query part.Fragment (scheme_next prefix c) c)
+part_next part.NoScheme c = Ok (part_by_character part.BadScheme part.Path part.Query part.Fragment part.NoScheme c)
 part_next part.AfterStart c =
     if c == colon then Err code.UriStart
-    else Ok (by_character part.AfterStart part.Path part.Query part.Fragment part.AfterStart c)
-part_next part.Path c = Ok (by_character part.Path part.Path part.Query part.Fragment part.Path c)
-part_next part.Query c = Ok (by_character part.Query part.Query part.Query part.Fragment part.Query c)
+    else Ok (part_by_character part.AfterStart part.Path part.Query part.Fragment part.AfterStart c)
+part_next part.Path c = Ok (part_by_character part.Path part.Path part.Query part.Fragment part.Path c)
+part_next part.Query c = Ok (part_by_character part.Query part.Query part.Query part.Fragment part.Query c)
 part_next part.Fragment c = Ok part.Fragment
 part_next part.BadScheme c = Ok part.BadScheme
 

@@ -1,4 +1,4 @@
--- The part of the markup that the next character belongs to, by the row.
+-- The part of the markup that a state is in, by its row.
 --
 -- Example: after `<b` it is the name of a tag, and in the text of a title it is hidden.
 use Rattle.html_state.specs.declared.row.Part.{Part}

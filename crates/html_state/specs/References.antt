@@ -2,21 +2,28 @@
 --
 -- The names are compared as they are written. A number has 1 to 7 decimal digits, or `x` or `X` and 1 to 6 hexadecimal
 -- ones, and is that of a Unicode scalar value: 9, 10, 13, or at least 32 and not 127 to 159. (WHATWG HTML, 13.2.5.72 to
--- 13.2.5.84, 13.5 "Named character references".)
+-- 13.2.5.80, 13.5 "Named character references".)
 -- Example: `&amp;` is a reference and `&AMP;` isn't; `&#33;` is one, and no reference begins with `&#9999999`.
-use Rattle.std.specs.Prelude.{ℕ, zero, suc, ◌+◌, ◌*◌, ◌-◌, Bool, true, false, ◌==◌, ◌&&◌, ◌||◌, if◌then◌else◌, List, [], ◌∷◌, codes, length, nat_lt, nat_le, min}
+use Rattle.std.specs.Prelude.{ℕ, zero, suc, ◌+◌, ◌*◌, ◌-◌, Bool, true, false, ◌==◌, ◌&&◌, ◌||◌, if◌then◌else◌, List, [], ◌∷◌, codes, map, length, nat_lt, nat_le, min}
 use Rattle.std.specs.List.{list_all}
 use Rattle.html_state.specs.declared.row.Reference.{Reference}
 use Rattle.html_state.specs.declared.row.Reference.TheVariants as reference
 use Rattle.html_state.specs.Texts.{is_prefix_among}
 
+-- the known names, each with the character that its reference stands for
+abbrev pub named_references : List (List ℕ × ℕ)
+named_references =
+    (codes "amp", 0x26) ∷ (codes "lt", 0x3c) ∷ (codes "gt", 0x3e) ∷ (codes "quot", 0x22) ∷
+    (codes "nbsp", 0xa0) ∷ (codes "copy", 0xa9) ∷ (codes "reg", 0xae) ∷ (codes "sect", 0xa7) ∷
+    (codes "mdash", 0x2014) ∷ (codes "ndash", 0x2013) ∷ (codes "hellip", 0x2026) ∷ (codes "laquo", 0xab) ∷
+    (codes "raquo", 0xbb) ∷ (codes "lsquo", 0x2018) ∷ (codes "rsquo", 0x2019) ∷ (codes "para", 0xb6) ∷
+    (codes "ldquo", 0x201c) ∷ (codes "rdquo", 0x201d) ∷ (codes "bull", 0x2022) ∷ (codes "middot", 0xb7) ∷
+    (codes "times", 0xd7) ∷ (codes "deg", 0xb0) ∷ (codes "euro", 0x20ac) ∷ (codes "trade", 0x2122) ∷
+    (codes "larr", 0x2190) ∷ (codes "rarr", 0x2192) ∷ (codes "lrm", 0x200e) ∷ (codes "rlm", 0x200f) ∷
+    (codes "zwnj", 0x200c) ∷ (codes "zwj", 0x200d) ∷ (codes "shy", 0xad) ∷ []
+
 abbrev pub reference_names : List (List ℕ)
-reference_names =
-    codes "amp" ∷ codes "lt" ∷ codes "gt" ∷ codes "quot" ∷ codes "nbsp" ∷ codes "copy" ∷ codes "reg" ∷ codes "sect" ∷
-    codes "mdash" ∷ codes "ndash" ∷ codes "hellip" ∷ codes "laquo" ∷ codes "raquo" ∷ codes "lsquo" ∷ codes "rsquo" ∷
-    codes "para" ∷ codes "ldquo" ∷ codes "rdquo" ∷ codes "bull" ∷ codes "middot" ∷ codes "times" ∷ codes "deg" ∷
-    codes "euro" ∷ codes "trade" ∷ codes "larr" ∷ codes "rarr" ∷ codes "lrm" ∷ codes "rlm" ∷ codes "zwnj" ∷
-    codes "zwj" ∷ codes "shy" ∷ []
+reference_names = map (λ reference. reference.0) named_references
 
 -- the characters after `&`, kept while they begin a name
 abbrev pub name_begun : List ℕ → Reference
@@ -30,7 +37,7 @@ digit_value c =
     else (if nat_le 97 c && nat_le c 102 then c - 87
     else 16))
 
--- every number above that of Unicode's last character counts as this one
+-- each number above that of Unicode's last character counts as this one
 abbrev pub beyond : ℕ
 beyond = 0x110000
 

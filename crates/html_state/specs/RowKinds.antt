@@ -1,6 +1,6 @@
 -- Rows by what a step of them reads.
 --
--- Example: before a tag's name nothing is kept, so a step makes a whole new row.
+-- Example: after `<` nothing is kept, so a step makes a whole new row.
 use Rattle.std.specs.Prelude.{⊤}
 use Rattle.html_state.specs.declared.row.HtmlRow.{HtmlRow}
 use Rattle.html_state.specs.declared.row.HtmlRow.TheVariants as row
@@ -10,14 +10,12 @@ abbrev pub IsTagName : HtmlRow → Type 0
 IsTagName (row.TagName _ _) = ⊤
 IsTagName _ = ⊥
 
--- the rows before a name and a declaration, and those that nothing leaves
-abbrev pub IsSmall : HtmlRow → Type 0
-IsSmall row.TagOpen = ⊤
-IsSmall row.EndTagOpen = ⊤
-IsSmall (row.MarkupDeclaration _) = ⊤
-IsSmall row.Outside = ⊤
-IsSmall row.Plain = ⊤
-IsSmall _ = ⊥
+-- the rows that open a tag or a declaration
+abbrev pub IsOpening : HtmlRow → Type 0
+IsOpening row.TagOpen = ⊤
+IsOpening row.EndTagOpen = ⊤
+IsOpening (row.MarkupDeclaration _) = ⊤
+IsOpening _ = ⊥
 
 -- past the end of the tag that the row is in, if any
 abbrev pub past_tag : HtmlRow → HtmlRow

@@ -29,7 +29,7 @@ use Rattle.html_state.specs.DeclarationNext.{declaration_next}
 use Rattle.html_state.specs.ElementNamed.{element_name, element_named, refused_names}
 use Rattle.html_state.specs.ElementNext.{element_next, end_tag, is_script, may_end_element}
 use Rattle.html_state.specs.EndsName.{ends_name}
-use Rattle.html_state.specs.Kept.{named}
+use Rattle.html_state.specs.Kept.{name_with}
 use Rattle.html_state.specs.TagRowNext.{past_name, tag_row_next}
 use Rattle.html_state.specs.Texts.{and_then, is_prefix}
 
@@ -68,7 +68,7 @@ in_declaration None = row.Data
 -- after `<!`, these characters and one more
 abbrev pub markup_declaration_next : List ℕ → ℕ → HtmlRow
 markup_declaration_next prefix c =
-    let more = named prefix c in
+    let more = name_with prefix c in
     if bytes_eq more (codes "--") then row.InDeclaration declaration.CommentStart
     else (if bytes_eq more (codes "doctype") then row.InDeclaration declaration.Doctype
     else (if is_prefix more (codes "--") || is_prefix more (codes "doctype") then row.MarkupDeclaration more
@@ -107,8 +107,8 @@ abbrev pub begun_or : Element → Option Begun → Result HtmlRow Code → Resul
 begun_or now (Some following) other = Ok (row.BegunEndTag now following)
 begun_or now None other = other
 
-abbrev pub begun_next : Element → Begun → ℕ → Result HtmlRow Code
-begun_next now begun c = begun_or now (goes_on_begun now begun c) (begun_end now begun c)
+abbrev pub end_tag_next : Element → Begun → ℕ → Result HtmlRow Code
+end_tag_next now begun c = begun_or now (goes_on_begun now begun c) (begun_end now begun c)
 
 -- ---- the table; the Bool says whether the character is one of static text
 
@@ -117,20 +117,20 @@ row_next static row.Data c = Ok (data_next c)
 row_next static row.TagOpen c =
     Ok (if c == exclamation_mark then row.MarkupDeclaration []
     else (if c == slash then row.EndTagOpen
-    else (if is_ascii_alphabetic c then row.TagName kind.Start (named [] c)
+    else (if is_ascii_alphabetic c then row.TagName kind.Start (name_with [] c)
     else (if c == question_mark then row.InDeclaration declaration.BogusComment
     else data_next c))))
 row_next static row.EndTagOpen c =
-    Ok (if is_ascii_alphabetic c then row.TagName kind.End (named [] c)
+    Ok (if is_ascii_alphabetic c then row.TagName kind.End (name_with [] c)
     else (if c == greater_than then row.Data
     else row.InDeclaration declaration.BogusComment))
 row_next static (row.TagName kind name) c =
     if ends_name c then (if is_refused kind name then Err code.InName else Ok (in_tag (tag.Named kind name) (past_name c)))
-    else Ok (row.TagName kind (named name c))
+    else Ok (row.TagName kind (name_with name c))
 row_next static (row.InTag around inner) c = and_then (λ following. Ok (in_tag around following)) (tag_row_next static inner c)
 row_next static (row.MarkupDeclaration prefix) c = Ok (markup_declaration_next prefix c)
 row_next static (row.InDeclaration inner) c = Ok (in_declaration (declaration_next inner c))
 row_next static (row.Within now) c = within_next now c
-row_next static (row.BegunEndTag now begun) c = begun_next now begun c
+row_next static (row.BegunEndTag now begun) c = end_tag_next now begun c
 row_next static row.Outside c = Ok row.Outside
 row_next static row.Plain c = Ok row.Plain

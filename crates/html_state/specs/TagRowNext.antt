@@ -17,7 +17,7 @@ use Rattle.html_state.specs.declared.row.TagRow.{TagRow}
 use Rattle.html_state.specs.declared.row.TagRow.TheVariants as tag_row
 use Rattle.html_state.specs.AttributeNamed.{attribute_named}
 use Rattle.html_state.specs.EndsName.{ends_name}
-use Rattle.html_state.specs.Kept.{named}
+use Rattle.html_state.specs.Kept.{name_with}
 use Rattle.html_state.specs.Texts.{and_then}
 use Rattle.html_state.specs.ValueNext.{begun_value, may_end_value, quote_character, value_next}
 
@@ -32,7 +32,7 @@ abbrev pub before_name : ℕ → Result (Option TagRow) Code
 before_name c =
     if ends_name c then Ok (past_name c)
     else (if c == equals_sign then Err code.InName
-    else Ok (Some (tag_row.AttributeName (named [] c))))
+    else Ok (Some (tag_row.AttributeName (name_with [] c))))
 
 abbrev pub before_value : Bool → Attribute → ℕ → Result (Option TagRow) Code
 before_value static attribute c =
@@ -52,7 +52,7 @@ tag_row_next static tag_row.AfterPrinted c = if ends_name c then Ok (past_name c
 tag_row_next static (tag_row.AttributeName name) c =
     if ends_name c then Ok (past_name c)
     else (if c == equals_sign then Ok (Some (tag_row.BeforeValue (attribute_named name)))
-    else Ok (Some (tag_row.AttributeName (named name c))))
+    else Ok (Some (tag_row.AttributeName (name_with name c))))
 tag_row_next static (tag_row.BeforeValue attribute) c = before_value static attribute c
 tag_row_next static (tag_row.Quoted quote value) c =
     if c == quote_character quote then past_value value (Some tag_row.AfterQuoted)

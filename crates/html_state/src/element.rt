@@ -5,7 +5,7 @@ ghost use Rattle.std.specs.Char.{to_ascii_lowercase};
 ghost use Rattle.html_state.specs.AfterText.{after_text};
 ghost use Rattle.html_state.specs.ElementNamed.{element_name};
 ghost use Rattle.html_state.specs.ElementNext.{element_next, end_tag, is_script, may_end_element};
-ghost use Rattle.html_state.specs.RowNext.{begun_end, begun_next, given_up, goes_on_begun, in_tag, within_next};
+ghost use Rattle.html_state.specs.RowNext.{begun_end, end_tag_next, given_up, goes_on_begun, in_tag, within_next};
 ghost use Rattle.html_state.specs.TagRowNext.{past_name};
 ghost use Rattle.soy_base.specs.declared.code.Code.TheVariants as code;
 ghost use Rattle.html_state.specs.declared.row.Tag.TheVariants as tag;
@@ -157,7 +157,7 @@ fn end_element(element: &Element, c: char) -> Result<HtmlRow, Code>
 /// The row after a character that doesn't go on with what was begun.
 pub(crate) fn begun_end(element: &Element, begun: Begun, c: char) -> Result<HtmlRow, Code>
     requires { goes_on_begun element.now begun c ≡ None }
-    ensures { result ≡ begun_next element.now begun c }
+    ensures { result ≡ end_tag_next element.now begun c }
 {
     match begun {
         Begun::EndTag(count) => {

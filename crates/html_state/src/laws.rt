@@ -2,38 +2,39 @@
 //! that the calls of a state follow.
 
 ghost use Rattle.std.specs.Prelude.{◌≡◌, ◌↔◌, ◌++◌, ◌∷◌, [], ℕ, List, Ok, IsTrue, true, Option};
-ghost use Rattle.soy_base.specs.declared.kind.Kind.{Kind};
-ghost use Rattle.soy_base.specs.declared.place.Place.TheVariants as place;
-ghost use Rattle.soy_base.specs.declared.place.ValueClass.TheVariants as class;
-ghost use Rattle.html_state.specs.AfterValue.{after_value};
-ghost use Rattle.html_state.specs.MayEnd.{may_end};
-ghost use Rattle.html_state.specs.PartOf.{part_of};
-ghost use Rattle.html_state.specs.TakesClass.{takes_class};
-ghost use Rattle.html_state.specs.declared.row.Reference.TheVariants as reference;
-ghost use Rattle.html_state.specs.Follows.{Follows, FollowsOn, FramesAttributes, FramesHtml, IsOutside, LeadsPage, PlacedAlike};
-ghost use Rattle.html_state.specs.IsSafe.{HasNoTag, IsSafe, IsSafeAt};
-ghost use Rattle.html_state.specs.Leads.{Leads};
-ghost use Rattle.html_state.specs.StatePlacing.{placing};
 ghost use Rattle.soy_base.specs.Among.{lacks};
 ghost use Rattle.soy_base.specs.Characters.{ampersand, less_than};
 ghost use Rattle.soy_base.specs.StateAfter.{state_after};
+ghost use Rattle.soy_base.specs.declared.kind.Kind.{Kind};
+ghost use Rattle.soy_base.specs.declared.place.Place.TheVariants as place;
+ghost use Rattle.soy_base.specs.declared.place.ValueClass.TheVariants as class;
 ghost use Rattle.script_state.specs.CssNext.{css_next};
 ghost use Rattle.script_state.specs.JsNext.{js_next};
 ghost use Rattle.script_state.specs.declared.css_state.CssState.{CssState};
 ghost use Rattle.script_state.specs.declared.js_state.JsState.{JsState};
 ghost use Rattle.html_state.specs.AfterText.{after_text};
+ghost use Rattle.html_state.specs.AfterValue.{after_value};
+ghost use Rattle.html_state.specs.Follows.{Follows, FollowsOn, FramesAttributes, FramesHtml, LeadsPage, PlacedAlike};
 ghost use Rattle.html_state.specs.IsSame.{IsSame};
-ghost use Rattle.html_state.specs.Next.{at_row, is_decided, next, text_end, value_character_next};
+ghost use Rattle.html_state.specs.KeepsPlace.{HasNoLessThan, KeepsPlace, KeepsPlaceAt};
+ghost use Rattle.html_state.specs.Leads.{Leads};
+ghost use Rattle.html_state.specs.MayEnd.{may_end};
+ghost use Rattle.html_state.specs.Next.{at_row, next, text_end, value_character_next};
 ghost use Rattle.html_state.specs.PartNext.{part_next};
+ghost use Rattle.html_state.specs.PartOf.{part_of};
+ghost use Rattle.html_state.specs.Pieces.{Piece, after_pieces};
 ghost use Rattle.html_state.specs.RowAt.{in_script, in_style, inside, quoted};
+ghost use Rattle.html_state.specs.StatePlacing.{placing};
+ghost use Rattle.html_state.specs.TakesClass.{takes_class};
 ghost use Rattle.html_state.specs.TextKinds.{IsPlainRawtext, IsRcdata, RunsNothing};
 ghost use Rattle.html_state.specs.Texts.{and_then};
 ghost use Rattle.html_state.specs.ValueNext.{followed, quote_character};
-ghost use Rattle.html_state.specs.declared.row.AttributeValue.{AttributeValue};
 ghost use Rattle.html_state.specs.declared.row.AttributeValue.TheVariants as value;
+ghost use Rattle.html_state.specs.declared.row.AttributeValue.{AttributeValue};
 ghost use Rattle.html_state.specs.declared.row.Element.{Element};
 ghost use Rattle.html_state.specs.declared.row.HtmlRow.TheVariants as row;
 ghost use Rattle.html_state.specs.declared.row.Quote.{Quote};
+ghost use Rattle.html_state.specs.declared.row.Reference.TheVariants as reference;
 ghost use Rattle.html_state.specs.declared.row.State.{State};
 ghost use Rattle.html_state.specs.declared.row.Tag.{Tag};
 ghost use Rattle.html_state.specs.declared.row.UriName.{UriName};
@@ -61,6 +62,12 @@ pub fn law_text_in_pieces()
         ≡ and_then (λ middle. after_text next middle second) (after_text next state first) }
     ensures value { (state : State) (first second : List ℕ) → after_text value_character_next state (first ++ second)
         ≡ and_then (λ middle. after_text value_character_next middle second) (after_text value_character_next state first) }
+{}
+
+/// Pieces may be read in parts: the state after two lists of pieces, or the first fault in them, is that of their whole.
+pub fn law_pieces_in_parts()
+    ensures { (state : State) (first second : List Piece) → after_pieces state (first ++ second)
+        ≡ and_then (λ middle. after_pieces middle second) (after_pieces state first) }
 {}
 
 /// Static text without `<` and `&` stays in data and in RCDATA, and text without `<` stays in RAWTEXT other than a
@@ -97,15 +104,15 @@ pub fn law_quoted_text()
 
 /// Characters that keep a place lead a state with that placing, with the mark that a value sets, to the state that a
 /// value leaves behind. Text without `<` keeps the place Text.
-pub fn law_safe_value()
-    ensures each_place { (state : State) (out : List ℕ) → IsSafeAt (placing state) out → Leads state out }
-    ensures text_place { (out : List ℕ) → HasNoTag out → IsSafe place.Text out }
+pub fn law_kept_place()
+    ensures each_place { (state : State) (out : List ℕ) → KeepsPlaceAt (placing state) out → Leads state out }
+    ensures text_place { (out : List ℕ) → HasNoLessThan out → KeepsPlace place.Text out }
 {}
 
-/// Where a static character is no fault of the walk's and doesn't lead it out of its tag, it is none of the page's, and
-/// the page goes on as the walk does.
+/// Where a static character is no fault of the walk's, the walk leaves its tag, or it is none of the page's and the page
+/// goes on as the walk does.
 pub fn law_page_step()
-    ensures { (around : Option Tag) (page walk : State) (c : ℕ) → Follows around page walk → (IsOutside walk.row → ⊥) →
+    ensures { (around : Option Tag) (page walk : State) (c : ℕ) → Follows around page walk →
         FollowsOn around (next page c) (next walk c) }
 {}
 
@@ -120,7 +127,7 @@ pub fn law_page_place()
 /// the walk's past the value.
 pub fn law_page_value()
     ensures { (around : Option Tag) (page walk : State) (out : List ℕ) → Follows around page walk →
-        IsSafeAt (placing walk) out → LeadsPage around page walk out }
+        KeepsPlaceAt (placing walk) out → LeadsPage around page walk out }
 {}
 
 /// Where the walk takes a block and no reference is pending, the page goes on as the walk of the block from its start,
@@ -134,8 +141,8 @@ pub fn law_page_frame()
         FramesHtml around page walk }
 {}
 
-/// Where a static text ends for the walk, it ends for the page.
+/// Where a static text may end for the walk, it may for the page.
 pub fn law_page_text_end()
-    ensures { (around : Option Tag) (page walk : State) → Follows around page walk → IsTrue (is_decided walk.reference) →
+    ensures { (around : Option Tag) (page walk : State) → Follows around page walk → text_end walk ≡ Ok walk →
         text_end page ≡ Ok page }
 {}

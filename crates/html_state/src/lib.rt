@@ -3,8 +3,9 @@
 //! A `State` is made for a kind of text (`State::start`) and read on a character at a time: `step` for a character of
 //! static text, `value_step` for one of a value, `value` for the mark that a printed value leaves, `end_text` for the
 //! end of a static text. `placing` says what happens to a value, `may_end` whether a text of a kind may end, `part`
-//! which part of the markup a character belongs to. Each call is one equation with the tables of specs/, and two states
-//! are equal where the tables can't tell them apart by what they keep. A state is copied and takes no memory.
+//! the part of the markup that a state is in. Each call is one equation with the tables of specs/. Two states are equal
+//! exactly where they keep the same row, with what the row keeps, and the same reference. A state is copied and takes no
+//! memory.
 //! Depends on soy_base and script_state.
 #![tactic(auto)]
 
@@ -26,8 +27,11 @@ mod text;
 mod uri;
 
 pub use laws::{
-    law_equal_states, law_equality, law_page_frame, law_page_place, law_page_step,
-    law_page_text_end, law_page_value, law_plain_text, law_quoted_text, law_safe_value,
+    law_equal_states, law_equality, law_kept_place, law_page_frame, law_page_place, law_page_step,
+    law_page_text_end, law_page_value, law_pieces_in_parts, law_plain_text, law_quoted_text,
     law_text_in_pieces,
 };
 pub use row::{Part, State};
+
+#[cfg(test)]
+mod tests;

@@ -3,7 +3,7 @@
 ghost use Rattle.std.specs.Prelude.{◌≡◌, Ok, Err, OnOk, OnErr, IfErr, IsTrue, true, None};
 ghost use Rattle.html_state.specs.EndsName.{ends_name};
 ghost use Rattle.html_state.specs.RowNext.{begun_end, goes_on_begun, markup_declaration_next, row_next};
-ghost use Rattle.html_state.specs.RowKinds.{IsSmall, IsTagName, past_tag};
+ghost use Rattle.html_state.specs.RowKinds.{IsOpening, IsTagName, past_tag};
 ghost use Rattle.html_state.specs.declared.row.Begun.TheVariants as begun;
 ghost use Rattle.html_state.specs.declared.row.HtmlRow.TheVariants as row;
 
@@ -102,7 +102,7 @@ fn begin_end_tag(html: &mut HtmlRow, element: Element)
 
 /// A character at which a tag ends.
 #[inline(never)]
-fn end_tag(html: &mut HtmlRow)
+fn step_tag_end(html: &mut HtmlRow)
     ensures { html.new ≡ past_tag html.old }
 {
     if let HtmlRow::InTag(tag, _) = html {
@@ -113,7 +113,7 @@ fn end_tag(html: &mut HtmlRow)
 
 /// A character at which a tag's name ends.
 #[inline(never)]
-fn end_tag_name(html: &mut HtmlRow, c: char) -> Result<(), Code>
+fn step_tag_name_end(html: &mut HtmlRow, c: char) -> Result<(), Code>
     requires tag { IsTagName html.old }
     requires end { IsTrue (ends_name c) }
     ensures ok { OnOk result (row_next true html.old c ≡ Ok html.new) }
@@ -135,7 +135,7 @@ fn end_tag_name(html: &mut HtmlRow, c: char) -> Result<(), Code>
 
 /// A character that doesn't go on with what was begun in an element's text.
 #[inline(never)]
-fn end_begun(html: &mut HtmlRow, element: Element, begun: Begun, c: char) -> Result<(), Code>
+fn step_begun_end(html: &mut HtmlRow, element: Element, begun: Begun, c: char) -> Result<(), Code>
     requires { goes_on_begun element begun c ≡ None }
     ensures ok { OnOk result (begun_end element begun c ≡ Ok html.new) }
     ensures err { IfErr result (λ code. begun_end element begun c ≡ Err code) }
@@ -150,18 +150,16 @@ fn end_begun(html: &mut HtmlRow, element: Element, begun: Begun, c: char) -> Res
     }
 }
 
-/// The rows that a character always leads to a whole new one.
+/// The rows that open a tag or a declaration, each character of which makes a whole row.
 #[inline(never)]
-fn step_small(html: &mut HtmlRow, c: char)
-    requires { IsSmall html.old }
+fn step_opening(html: &mut HtmlRow, c: char)
+    requires { IsOpening html.old }
     ensures { row_next true html.old c ≡ Ok html.new }
 {
     let next = match html {
         HtmlRow::TagOpen => after_tag_open(c),
-        HtmlRow::EndTagOpen => after_end_tag_open(c),
         HtmlRow::MarkupDeclaration(prefix) => markup_declaration_next(prefix, c),
-        HtmlRow::Outside => HtmlRow::Outside,
-        _ => HtmlRow::Plain,
+        _ => after_end_tag_open(c),
     };
     *html = next;
 }
@@ -181,7 +179,7 @@ pub(crate) fn step_row(html: &mut HtmlRow, c: char, is_static: bool) -> Result<(
         }
         HtmlRow::InTag(_, inner) => {
             if step_in_tag(inner, c, is_static)? {
-                end_tag(html);
+                step_tag_end(html);
             }
             Ok(())
         }
@@ -195,7 +193,7 @@ pub(crate) fn step_row(html: &mut HtmlRow, c: char, is_static: bool) -> Result<(
         }
         HtmlRow::TagName(_, name) => {
             if ends_name(c) {
-                return end_tag_name(html, c);
+                return step_tag_name_end(html, c);
             }
             name.push(c);
             Ok(())
@@ -214,12 +212,12 @@ pub(crate) fn step_row(html: &mut HtmlRow, c: char, is_static: bool) -> Result<(
             None => {
                 let element = *element;
                 let begun = *begun;
-                end_begun(html, element, begun, c)
+                step_begun_end(html, element, begun, c)
             }
         },
         HtmlRow::Outside | HtmlRow::Plain => Ok(()),
         _ => {
-            step_small(html, c);
+            step_opening(html, c);
             Ok(())
         }
     }

@@ -1,7 +1,7 @@
-//! The name of a tag or an attribute.
+//! The name of a tag or an attribute, and the characters of a declaration's.
 
 ghost use Rattle.std.specs.Prelude.{◌≡◌, ◌≤◌, ◌++◌, ◌∷◌, [], length, take};
-ghost use Rattle.html_state.specs.Kept.{named};
+ghost use Rattle.html_state.specs.Kept.{name_with};
 
 use std::marker::Model;
 
@@ -63,7 +63,7 @@ impl Name {
 
     /// The name that begins with a character.
     pub(crate) fn of(c: char) -> Name
-        ensures { result ≡ named [] c }
+        ensures { result ≡ name_with [] c }
     {
         let mut name = Name::new();
         name.push(c);
@@ -84,7 +84,7 @@ impl Name {
 
     /// One more character.
     pub(crate) fn push(&mut self, c: char)
-        ensures { self.new ≡ named self.old c }
+        ensures { self.new ≡ name_with self.old c }
     {
         self.keep(c.to_ascii_lowercase());
     }

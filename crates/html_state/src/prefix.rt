@@ -1,7 +1,7 @@
 //! What may still become a scheme or a reference.
 
 ghost use Rattle.std.specs.Prelude.{◌≡◌, ◌<◌, []};
-ghost use Rattle.html_state.specs.Kept.{begun};
+ghost use Rattle.html_state.specs.Kept.{prefix_with};
 
 use std::marker::Model;
 
@@ -65,7 +65,7 @@ impl Prefix {
     /// The prefix with one more character.
     pub(crate) fn with(&self, c: char) -> Prefix
         requires { c < 128 }
-        ensures { result ≡ begun self.now c }
+        ensures { result ≡ prefix_with self.now c }
     {
         let mut more = *self;
         if more.count < 9 {

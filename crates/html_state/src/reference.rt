@@ -4,8 +4,8 @@ ghost use Rattle.std.specs.Prelude.{◌≡◌, ◌∷◌, Ok, Err, OnOk, OnErr, 
 ghost use Rattle.std.specs.Char.{is_ascii_alphanumeric};
 ghost use Rattle.soy_base.specs.Among.{is_among};
 ghost use Rattle.soy_base.specs.Characters.{number_sign};
-ghost use Rattle.html_state.specs.Kept.{begun};
-ghost use Rattle.html_state.specs.Next.{ampersand_next, begun_next, begun_reference, has_references, is_quoted, is_style_value, is_unquoted, is_uri_value, name_end, name_next, next, numeric_next, plain_next};
+ghost use Rattle.html_state.specs.Kept.{prefix_with};
+ghost use Rattle.html_state.specs.Next.{ampersand_next, reference_begun_next, begun_reference, has_references, is_quoted, is_style_value, is_unquoted, is_uri_value, name_end, name_next, next, numeric_next, plain_next};
 ghost use Rattle.html_state.specs.References.{name_begun, reference_names};
 ghost use Rattle.html_state.specs.declared.row.Reference.{Reference};
 
@@ -161,7 +161,7 @@ fn numeric_next(prefix: &Prefix, digits: &[u8], c: char) -> Result<Reference, Co
 }
 
 /// The character that ends letters and digits after `&`, which are a name or not.
-fn end_name(state: &mut State, is_name: bool, c: char) -> Result<(), Code>
+fn step_name_end(state: &mut State, is_name: bool, c: char) -> Result<(), Code>
     ensures ok { OnOk result (name_end state.old.row is_name c ≡ Ok state.new) }
     ensures err { IfErr result (λ code. name_end state.old.row is_name c ≡ Err code) }
     ensures unchanged { OnErr result (state.new ≡ state.old) }
@@ -189,14 +189,14 @@ fn step_name(state: &mut State, letters: &Prefix, c: char) -> Result<(), Code>
         state.reference = name_begun(letters.with(c));
         Ok(())
     } else {
-        end_name(state, is_reference_name(letters.characters()), c)
+        step_name_end(state, is_reference_name(letters.characters()), c)
     }
 }
 
 /// A character after `&` and these.
 fn step_begun(state: &mut State, prefix: Prefix, c: char) -> Result<(), Code>
-    ensures ok { OnOk result (begun_next state.old.row prefix c ≡ Ok state.new) }
-    ensures err { IfErr result (λ code. begun_next state.old.row prefix c ≡ Err code) }
+    ensures ok { OnOk result (reference_begun_next state.old.row prefix c ≡ Ok state.new) }
+    ensures err { IfErr result (λ code. reference_begun_next state.old.row prefix c ≡ Err code) }
     ensures unchanged { OnErr result (state.new ≡ state.old) }
 {
     match prefix.characters() {
@@ -227,7 +227,7 @@ fn step_pending(state: &mut State, c: char) -> Result<(), Code>
             if c.is_ascii_alphanumeric() {
                 Ok(())
             } else {
-                end_name(state, false, c)
+                step_name_end(state, false, c)
             }
         }
     }

@@ -49,7 +49,7 @@ pub enum Attribute {
 pub enum UriPart {
     /// Before the first character.
     Start,
-    /// After characters that begin a scheme.
+    /// After characters that begin one of the four known schemes.
     Scheme(Prefix),
     /// After others that may still be a scheme, or a path.
     NoScheme,
@@ -158,7 +158,8 @@ pub enum HtmlRow {
     InDeclaration(DeclarationRow),
     /// RCDATA state, RAWTEXT state, script data state.
     Within(Element),
-    /// The less-than sign, end tag open and end tag name states of these three, and script data escape start state.
+    /// The less-than sign, end tag open and end tag name states of these three, script data escape start state and
+    /// script data escape start dash state.
     BegunEndTag(Element, Begun),
     /// Past the end of a tag that a text of kind attributes stands in.
     Outside,
@@ -184,7 +185,7 @@ pub struct State {
     pub(crate) reference: Reference,
 }
 
-/// Which part of the markup the next character belongs to.
+/// The part of the markup that a state is in.
 #[derive(Clone, Copy, Debug, PartialEq, Eq)]
 pub enum Part {
     /// Text between tags.

@@ -96,7 +96,7 @@ impl State {
         }
     }
 
-    /// The part of the markup that the next character belongs to.
+    /// The part of the markup that the state is in.
     pub fn part(&self) -> Part
         ensures { result ≡ part_of self.now }
     {

@@ -3,7 +3,7 @@
 ghost use Rattle.std.specs.Prelude.{◌≡◌, Ok, Err, Some, None, ◌==◌, [], OnOk, OnErr, IfOk, IfErr, if◌then◌else◌, true, false};
 ghost use Rattle.std.specs.Char.{is_ascii_whitespace};
 ghost use Rattle.soy_base.specs.Characters.{greater_than};
-ghost use Rattle.html_state.specs.Kept.{named};
+ghost use Rattle.html_state.specs.Kept.{name_with};
 ghost use Rattle.html_state.specs.RowNext.{after_tag, in_tag, opened};
 ghost use Rattle.html_state.specs.TagRowNext.{before_name, before_value, past_name, tag_row_next};
 ghost use Rattle.html_state.specs.Texts.{and_then};
@@ -73,7 +73,7 @@ fn step_past_name(row: &mut TagRow, c: char) -> bool
 
 #[inline(never)]
 fn begin_name(row: &mut TagRow, c: char)
-    ensures { row.new ≡ tag_row.AttributeName (named [] c) }
+    ensures { row.new ≡ tag_row.AttributeName (name_with [] c) }
 {
     *row = TagRow::AttributeName(Name::of(c));
 }
@@ -165,7 +165,7 @@ fn step_before_value(
 
 /// The `=` after an attribute's name.
 #[inline(never)]
-fn end_name(row: &mut TagRow, attribute: Attribute)
+fn step_equals_sign(row: &mut TagRow, attribute: Attribute)
     ensures { row.new ≡ tag_row.BeforeValue attribute }
 {
     *row = TagRow::BeforeValue(attribute);
@@ -192,7 +192,7 @@ pub(crate) fn step_in_tag(row: &mut TagRow, c: char, is_static: bool) -> Result<
             }
             if c == '=' {
                 let attribute = attribute_named(name);
-                end_name(row, attribute);
+                step_equals_sign(row, attribute);
                 return Ok(false);
             }
             name.push(c);

@@ -55,21 +55,6 @@ pub(crate) fn is_prefix(characters: &[char], text: &[u8]) -> bool
     true
 }
 
-/// Whether two texts of ASCII are the same.
-fn is_same(one: &[u8], text: &[u8]) -> bool
-    ensures { result ≡ bytes_eq one.now text.now }
-{
-    if one.len() != text.len() {
-        return false;
-    }
-    for i in 0..one.len() {
-        if one[i] != text[i] {
-            return false;
-        }
-    }
-    true
-}
-
 /// Whether a text of ASCII begins with another.
 fn begins(prefix: &[u8], text: &[u8]) -> bool
     ensures { result ≡ is_prefix prefix.now text.now }
@@ -90,7 +75,7 @@ pub(crate) fn is_one(one: &[u8], texts: &[&[u8]]) -> bool
     ensures { result ≡ is_among (map (λ t. t.now) texts.now) one.now }
 {
     for text in texts {
-        if is_same(one, text) {
+        if one == *text {
             return true;
         }
     }

@@ -2,7 +2,7 @@
 
 ghost use Rattle.std.specs.Prelude.{◌≡◌, Ok, Err, OnOk, OnErr, IfErr};
 ghost use Rattle.soy_base.specs.Among.{is_among};
-ghost use Rattle.html_state.specs.PartNext.{MayBeScheme, by_character, part_next, scheme_next, schemes};
+ghost use Rattle.html_state.specs.PartNext.{MayBeScheme, part_by_character, part_next, scheme_next, schemes};
 
 use crate::prefix::Prefix;
 use crate::row::UriPart;
@@ -32,7 +32,7 @@ fn scheme_next(prefix: &Prefix, c: char) -> UriPart
 }
 
 /// The part of the columns `:`, `/`, `?`, `#` and the others.
-fn by_character(
+fn part_by_character(
     at_colon: UriPart,
     at_slash: UriPart,
     at_question_mark: UriPart,
@@ -40,7 +40,7 @@ fn by_character(
     at_other: UriPart,
     c: char,
 ) -> UriPart
-    ensures { result ≡ by_character at_colon at_slash at_question_mark at_number_sign at_other c }
+    ensures { result ≡ part_by_character at_colon at_slash at_question_mark at_number_sign at_other c }
 {
     match c {
         ':' => at_colon,
@@ -58,7 +58,7 @@ fn next_part(part: &UriPart, c: char) -> Result<UriPart, Code>
 {
     use UriPart::*;
     match part {
-        Start => Ok(by_character(
+        Start => Ok(part_by_character(
             BadScheme,
             Path,
             Query,
@@ -68,14 +68,14 @@ fn next_part(part: &UriPart, c: char) -> Result<UriPart, Code>
         )),
         Scheme(prefix) => {
             let at_colon = if is_scheme(prefix) { Path } else { BadScheme };
-            Ok(by_character(at_colon, Path, Query, Fragment, scheme_next(prefix, c), c))
+            Ok(part_by_character(at_colon, Path, Query, Fragment, scheme_next(prefix, c), c))
         }
-        NoScheme => Ok(by_character(BadScheme, Path, Query, Fragment, NoScheme, c)),
+        NoScheme => Ok(part_by_character(BadScheme, Path, Query, Fragment, NoScheme, c)),
         _ => {
             if c == ':' {
                 Err(Code::UriStart)
             } else {
-                Ok(by_character(AfterStart, Path, Query, Fragment, AfterStart, c))
+                Ok(part_by_character(AfterStart, Path, Query, Fragment, AfterStart, c))
             }
         }
     }

@@ -1,5 +1,5 @@
-use Rattle.std.proofs.Common.{refl}
+use Rattle.html_state.proofs.PageSteps.{page_text_end}
 use Rattle.html_state.proofs.laws.law_page_text_end.Goals as goal
 
 pub returns : goal.returns
-returns c = λ around page walk f decided. rw (f.1, decided) refl
+returns c = page_text_end

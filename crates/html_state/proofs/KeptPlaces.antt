@@ -35,7 +35,7 @@ use Rattle.html_state.specs.declared.row.UriPart.TheVariants as part
 use Rattle.html_state.specs.AfterText.{after_text}
 use Rattle.html_state.specs.AfterValue.{part_after_value}
 use Rattle.html_state.specs.ElementNext.{element_next}
-use Rattle.html_state.specs.IsSafe.{HasNoQuote, HasNoTag, IsSafeAt}
+use Rattle.html_state.specs.KeepsPlace.{HasNoQuote, HasNoLessThan, KeepsPlaceAt}
 use Rattle.html_state.specs.Leads.{Leads, LeadsRow, marked_part}
 use Rattle.html_state.specs.Next.{pending, value_character_next}
 use Rattle.html_state.specs.RowNext.{in_tag, row_next}
@@ -79,11 +79,11 @@ module _ (around : Tag) (quote : Quote) where
     ap (λ p. in_quotes around quote (value.Uri attribute p)) mark,
   )
 
-  start_safe : (refused : Bool) (out : List ℕ) → IsSafeAt (if refused then Refuses code.UriStart else Takes place.UriStart) out → HasNoQuote out
+  start_safe : (refused : Bool) (out : List ℕ) → KeepsPlaceAt (if refused then Refuses code.UriStart else Takes place.UriStart) out → HasNoQuote out
   start_safe true out never = absurd never
   start_safe false out none = none
 
-  pub uri_holds : (name : List ℕ) (attribute : UriName) (before : UriPart) (out : List ℕ) → IsSafeAt (uri_placing attribute name before) out →
+  pub uri_holds : (name : List ℕ) (attribute : UriName) (before : UriPart) (out : List ℕ) → KeepsPlaceAt (uri_placing attribute name before) out →
       LeadsRow (in_quotes around quote (value.Uri attribute before)) out
   uri_holds name attribute part.Start out safe = uri_leads attribute part.Start out (start_safe (refuses_start attribute name) out safe) refl
   uri_holds name attribute part.Path out safe = uri_leads attribute part.Path out safe refl
@@ -100,7 +100,7 @@ module _ (around : Tag) (quote : Quote) where
       quoted_text (value.Style before) out none
       ∙ ap (and_then (λ following. Ok (in_quotes around quote following))) (table_text css_next value.Style (value_next false) (λ s c. refl) before out ∙ ap (followed value.Style) led)
 
-  style_holds : (before : CssState) (out : List ℕ) → IsSafeAt (css_placing before) out → LeadsRow (in_quotes around quote (value.Style before)) out
+  style_holds : (before : CssState) (out : List ℕ) → KeepsPlaceAt (css_placing before) out → LeadsRow (in_quotes around quote (value.Style before)) out
   style_holds css.Ready out safe = (in_quotes around quote (value.Style css.Code), style_leads css.Ready css.Code out safe.1 safe.2, refl)
   style_holds css.Single out safe = (in_quotes around quote (value.Style css.Single), style_leads css.Single css.Single out safe.1 safe.2, refl)
   style_holds css.Double out safe = (in_quotes around quote (value.Style css.Double), style_leads css.Double css.Double out safe.1 safe.3, refl)
@@ -113,7 +113,7 @@ module _ (around : Tag) (quote : Quote) where
   style_holds css.DoubleEscape out never = absurd never
   style_holds css.AfterValue out never = absurd never
 
-  pub quoted_holds : (name : List ℕ) (now : AttributeValue) (out : List ℕ) → IsSafeAt (quoted_placing name now) out → LeadsRow (in_quotes around quote now) out
+  pub quoted_holds : (name : List ℕ) (now : AttributeValue) (out : List ℕ) → KeepsPlaceAt (quoted_placing name now) out → LeadsRow (in_quotes around quote now) out
   quoted_holds name (value.Uri attribute before) out safe = uri_holds name attribute before out safe
   quoted_holds name (value.Style before) out safe = style_holds before out safe
   quoted_holds name value.Plain out safe = (in_quotes around quote value.Plain, still_quoted value.Plain (λ c. refl) out safe, refl)
@@ -126,23 +126,23 @@ element_one : (now : Element) (c : ℕ) → (eqb c less_than) ≡ false →
     row_next false (row.Within now) c ≡ and_then (λ following. Ok (row.Within following)) (element_next now c)
 element_one now c no_tag = rw (no_tag) refl
 
-element_text : (now : Element) (out : List ℕ) → HasNoTag out →
+element_text : (now : Element) (out : List ℕ) → HasNoLessThan out →
     after_text (row_next false) (row.Within now) out ≡ and_then (λ following. Ok (row.Within following)) (after_text element_next now out)
 element_text now out none =
     within_text (row_next false) element_next row.Within (less_than ∷ []) (λ x c is. element_one x c (none_of_one (eqb c less_than) is)) now out none
 
-still_element : (now : Element) → ((c : ℕ) → element_next now c ≡ Ok now) → (out : List ℕ) → HasNoTag out →
+still_element : (now : Element) → ((c : ℕ) → element_next now c ≡ Ok now) → (out : List ℕ) → HasNoLessThan out →
     after_text (row_next false) (row.Within now) out ≡ Ok (row.Within now)
 still_element now still out none =
     element_text now out none ∙ ap (and_then (λ following. Ok (row.Within following))) (still_text element_next now still out)
 
-sheet_leads : (before now : CssState) (out : List ℕ) → HasNoTag out → state_after css_next before out ≡ Some now →
+sheet_leads : (before now : CssState) (out : List ℕ) → HasNoLessThan out → state_after css_next before out ≡ Some now →
     after_text (row_next false) (row.Within (element.Style before)) out ≡ Ok (row.Within (element.Style now))
 sheet_leads before now out none led =
     element_text (element.Style before) out none
     ∙ ap (and_then (λ following. Ok (row.Within following))) (table_text css_next element.Style element_next (λ s c. refl) before out ∙ ap (followed element.Style) led)
 
-sheet_holds : (before : CssState) (out : List ℕ) → IsSafeAt (css_placing before) out → LeadsRow (row.Within (element.Style before)) out
+sheet_holds : (before : CssState) (out : List ℕ) → KeepsPlaceAt (css_placing before) out → LeadsRow (row.Within (element.Style before)) out
 sheet_holds css.Ready out safe = (row.Within (element.Style css.Code), sheet_leads css.Ready css.Code out safe.0 safe.2, refl)
 sheet_holds css.Single out safe = (row.Within (element.Style css.Single), sheet_leads css.Single css.Single out safe.0 safe.2, refl)
 sheet_holds css.Double out safe = (row.Within (element.Style css.Double), sheet_leads css.Double css.Double out safe.0 safe.3, refl)
@@ -155,7 +155,7 @@ sheet_holds css.SingleEscape out never = absurd never
 sheet_holds css.DoubleEscape out never = absurd never
 sheet_holds css.AfterValue out never = absurd never
 
-script_leads : (state : JsState) (out : List ℕ) → HasNoTag out → state_after js_next state out ≡ Some state → LeadsRow (row.Within (element.Script state)) out
+script_leads : (state : JsState) (out : List ℕ) → HasNoLessThan out → state_after js_next state out ≡ Some state → LeadsRow (row.Within (element.Script state)) out
 script_leads state out none led = (
   row.Within (element.Script state),
   element_text (element.Script state) out none
@@ -163,7 +163,7 @@ script_leads state out none led = (
   refl,
 )
 
-script_holds : (state : JsState) (out : List ℕ) → IsSafeAt (js_placing state) out → LeadsRow (row.Within (element.Script state)) out
+script_holds : (state : JsState) (out : List ℕ) → KeepsPlaceAt (js_placing state) out → LeadsRow (row.Within (element.Script state)) out
 script_holds js.Code out safe = script_leads js.Code out safe.0 safe.1
 script_holds js.Single out safe = script_leads js.Single out safe.0 safe.1
 script_holds js.Double out safe = script_leads js.Double out safe.0 safe.1
@@ -174,7 +174,7 @@ script_holds js.BlockStar out never = absurd never
 script_holds js.SingleEscape out never = absurd never
 script_holds js.DoubleEscape out never = absurd never
 
-element_holds : (now : Element) (out : List ℕ) → IsSafeAt (element_placing now) out → LeadsRow (row.Within now) out
+element_holds : (now : Element) (out : List ℕ) → KeepsPlaceAt (element_placing now) out → LeadsRow (row.Within now) out
 element_holds element.Title out safe = (row.Within element.Title, still_element element.Title (λ c. refl) out safe, refl)
 element_holds element.Textarea out safe = (row.Within element.Textarea, still_element element.Textarea (λ c. refl) out safe, refl)
 element_holds (element.Style state) out safe = sheet_holds state out safe
@@ -187,7 +187,7 @@ element_holds element.Noscript out never = absurd never
 
 -- ---- every row, and every state
 
-tag_holds : (around : Tag) (inner : TagRow) (out : List ℕ) → IsSafeAt (tag_row_placing around inner) out → LeadsRow (row.InTag around inner) out
+tag_holds : (around : Tag) (inner : TagRow) (out : List ℕ) → KeepsPlaceAt (tag_row_placing around inner) out → LeadsRow (row.InTag around inner) out
 tag_holds around (tag_row.Quoted quote now) out safe = quoted_holds around quote (tag_name around) now out safe
 tag_holds around tag_row.BeforeName out never = absurd never
 tag_holds around tag_row.AfterPrinted out never = absurd never
@@ -197,7 +197,7 @@ tag_holds around (tag_row.Unquoted now) out never = absurd never
 tag_holds around tag_row.AfterQuoted out never = absurd never
 tag_holds around tag_row.SelfClosing out never = absurd never
 
-pub row_holds : (before : HtmlRow) (out : List ℕ) → IsSafeAt (row_placing before) out → LeadsRow before out
+pub row_holds : (before : HtmlRow) (out : List ℕ) → KeepsPlaceAt (row_placing before) out → LeadsRow before out
 row_holds row.Data out safe = (row.Data, safe, refl)
 row_holds (row.InTag around inner) out safe = tag_holds around inner out safe
 row_holds (row.Within now) out safe = element_holds now out safe
@@ -218,7 +218,7 @@ value_rows reference before (c ∷ rest) =
     elim (row_next false before c) as (λ o. and_then (λ s. after_text value_character_next s rest) (and_then (λ now. Ok (pending now reference)) o) ≡ and_then (λ now. Ok (pending now reference)) (and_then (λ r. after_text (row_next false) r rest) o))
     [ Ok now ↦ value_rows reference now rest | Err fault ↦ refl ]
 
-pub holds : (before : State) (out : List ℕ) → IsSafeAt (placing before) out → Leads before out
+pub holds : (before : State) (out : List ℕ) → KeepsPlaceAt (placing before) out → Leads before out
 holds before out safe =
     let leads = row_holds before.row out safe in (
       pending leads.0 before.reference,
@@ -230,7 +230,7 @@ holds before out safe =
 data_one : (c : ℕ) → (eqb c less_than) ≡ false → row_next false row.Data c ≡ Ok row.Data
 data_one c no_tag = rw (no_tag) refl
 
-pub safe_text : (out : List ℕ) → HasNoTag out → after_text (row_next false) row.Data out ≡ Ok row.Data
+pub safe_text : (out : List ℕ) → HasNoLessThan out → after_text (row_next false) row.Data out ≡ Ok row.Data
 safe_text out none =
     within_text (row_next false) (λ (x : Unit {0}) c. Ok x) (λ x. row.Data) (less_than ∷ []) (λ x c is. data_one c (none_of_one (eqb c less_than) is)) tt out none
     ∙ ap (and_then (λ x. Ok row.Data)) (still_text (λ (x : Unit {0}) c. Ok x) tt (λ c. refl) out)

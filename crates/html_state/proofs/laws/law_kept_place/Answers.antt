@@ -1,5 +1,5 @@
-use Rattle.html_state.proofs.SafeTexts.{holds, safe_text}
-use Rattle.html_state.proofs.laws.law_safe_value.Goals as goal
+use Rattle.html_state.proofs.KeptPlaces.{holds, safe_text}
+use Rattle.html_state.proofs.laws.law_kept_place.Goals as goal
 
 pub returns-clause-each_place : goal.returns-clause-each_place
 returns-clause-each_place c = holds

@@ -1,6 +1,0 @@
-use Rattle.std.proofs.Common.{◌≡◌, drop}
-use Rattle.std.specs.Str.{bytes_eq}
-use Rattle.html_state.proofs.text.is_same.Given as goal
-
-abbrev pub invariant-loop-i : goal.invariant-loop-i
-invariant-loop-i l = bytes_eq (drop l.i l.one) (drop l.i l.text) ≡ bytes_eq l.one l.text
