@@ -33,14 +33,16 @@ use Rattle.html_state.specs.declared.row.UriPart.{UriPart}
 use Rattle.html_state.specs.declared.row.UriPart.TheVariants as part
 use Rattle.html_state.specs.AfterText.{after_text}
 use Rattle.html_state.specs.AfterValue.{after_value, row_after_value, tag_row_after_value, value_after_value}
-use Rattle.html_state.specs.Follows.{Follows, FollowsOutside, FollowsRow, FollowsTag, FollowsTagRow, FramesAttributes, FramesHtml, IsPastPrinted, LeadsPage, PlacedAlike}
+use Rattle.html_state.specs.Follows.{Follows, FollowsOutside, FollowsRow, FollowsTag, FollowsTagRow, FramesAttributes}
+use Rattle.html_state.specs.Follows.{FramesHtml, IsPastPrinted, LeadsPage, PlacedAlike}
 use Rattle.html_state.specs.KeepsPlace.{KeepsPlaceAt}
 use Rattle.html_state.specs.Leads.{LeadsRow, marked_row}
 use Rattle.html_state.specs.MayEnd.{may_end, may_end_in_tag, may_end_row}
 use Rattle.html_state.specs.Next.{pending}
 use Rattle.html_state.specs.RowNext.{row_next}
 use Rattle.html_state.specs.Start.{start}
-use Rattle.html_state.specs.StatePlacing.{element_placing, placing, quoted_placing, refuses_start, row_placing, tag_name, tag_row_placing, uri_placing}
+use Rattle.html_state.specs.StatePlacing.{element_placing, placing, quoted_placing, refuses_start, row_placing}
+use Rattle.html_state.specs.StatePlacing.{tag_name, tag_row_placing, uri_placing}
 use Rattle.html_state.specs.TakesClass.{takes_class}
 use Rattle.html_state.specs.Texts.{and_then}
 use Rattle.html_state.proofs.PageSteps.{same_row, same_tag_row}
@@ -50,18 +52,28 @@ use Rattle.html_state.proofs.KeptPlaces.{in_quotes, quoted_holds, row_holds, val
 
 abbrev pub LeadsPageRow : Option Tag → HtmlRow → HtmlRow → List ℕ → Type 0
 LeadsPageRow around page walk out =
-    (now : HtmlRow) × (after_text (row_next false) page out ≡ Ok now) × FollowsRow around (marked_row page now) (row_after_value walk)
+    (now : HtmlRow) × (after_text (row_next false) page out ≡ Ok now)
+    × FollowsRow around (marked_row page now) (row_after_value walk)
 
-quoted_value : (around : Option Tag) (page walk : Tag) (quote : Quote) (now : AttributeValue) (out : List ℕ) → FollowsTag around page walk →
-    KeepsPlaceAt (quoted_placing (tag_name walk) now) out → LeadsPageRow around (in_quotes page quote now) (in_quotes walk quote now) out
+quoted_value : (around : Option Tag) (page walk : Tag) (quote : Quote) (now : AttributeValue) (out : List ℕ) →
+    FollowsTag around page walk →
+    KeepsPlaceAt (quoted_placing (tag_name walk) now) out →
+    LeadsPageRow around (in_quotes page quote now) (in_quotes walk quote now) out
 quoted_value around page walk quote now out is safe =
-    let leads = quoted_holds page quote (tag_name walk) now out safe in
-    (leads.0, leads.1, subst (λ r. FollowsRow around r (in_quotes walk quote (value_after_value now))) (sym leads.2) (is, refl))
+    let leads = quoted_holds page quote (tag_name walk) now out safe in (
+      leads.0,
+      leads.1,
+      subst (λ r. FollowsRow around r (in_quotes walk quote (value_after_value now))) (sym leads.2)
+          (is, refl),
+    )
 
-in_tag_value : (around : Option Tag) (page walk : Tag) (inner within : TagRow) (out : List ℕ) → FollowsTag around page walk → FollowsTagRow inner within →
-    KeepsPlaceAt (tag_row_placing walk within) out → LeadsPageRow around (row.InTag page inner) (row.InTag walk within) out
+in_tag_value : (around : Option Tag) (page walk : Tag) (inner within : TagRow) (out : List ℕ) →
+    FollowsTag around page walk → FollowsTagRow inner within →
+    KeepsPlaceAt (tag_row_placing walk within) out →
+    LeadsPageRow around (row.InTag page inner) (row.InTag walk within) out
 in_tag_value around page walk inner (tag_row.Quoted quote now) out is same safe =
-    subst (λ i. LeadsPageRow around (row.InTag page i) (in_quotes walk quote now) out) (sym same) (quoted_value around page walk quote now out is safe)
+    subst (λ i. LeadsPageRow around (row.InTag page i) (in_quotes walk quote now) out) (sym same)
+    (quoted_value around page walk quote now out is safe)
 in_tag_value around page walk inner tag_row.AfterPrinted out is past never = absurd never
 in_tag_value around page walk inner tag_row.BeforeName out is same never = absurd never
 in_tag_value around page walk inner (tag_row.AttributeName n) out is same never = absurd never
@@ -71,36 +83,57 @@ in_tag_value around page walk inner tag_row.AfterQuoted out is same never = absu
 in_tag_value around page walk inner tag_row.SelfClosing out is same never = absurd never
 
 itself : (now : HtmlRow) (out : List ℕ) → LeadsRow now out → LeadsPageRow None now now out
-itself now out leads = (leads.0, leads.1, subst (λ r. FollowsRow None r (row_after_value now)) (sym leads.2) (same_row (row_after_value now)))
+itself now out leads = (
+  leads.0,
+  leads.1,
+  subst (λ r. FollowsRow None r (row_after_value now)) (sym leads.2)
+      (same_row (row_after_value now)),
+)
 
-outside_value : (around : Option Tag) (page walk : HtmlRow) (out : List ℕ) → FollowsOutside around page walk → KeepsPlaceAt (row_placing walk) out → LeadsPageRow around page walk out
-outside_value None page walk out same safe = subst (λ r. LeadsPageRow None r walk out) (sym same) (itself walk out (row_holds walk out safe))
+outside_value : (around : Option Tag) (page walk : HtmlRow) (out : List ℕ) → FollowsOutside around page walk →
+    KeepsPlaceAt (row_placing walk) out → LeadsPageRow around page walk out
+outside_value None page walk out same safe = subst (λ r. LeadsPageRow None r walk out) (sym same)
+    (itself walk out (row_holds walk out safe))
 outside_value (Some around) page walk out never safe = absurd never
 
-row_value : (around : Option Tag) (page walk : HtmlRow) (out : List ℕ) → FollowsRow around page walk → KeepsPlaceAt (row_placing walk) out → LeadsPageRow around page walk out
-row_value around (row.InTag page inner) (row.InTag walk within) out f safe = in_tag_value around page walk inner within out f.0 f.1 safe
+row_value : (around : Option Tag) (page walk : HtmlRow) (out : List ℕ) → FollowsRow around page walk →
+    KeepsPlaceAt (row_placing walk) out → LeadsPageRow around page walk out
+row_value around (row.InTag page inner) (row.InTag walk within) out f safe =
+    in_tag_value around page walk inner within out f.0 f.1 safe
 row_value around page row.Outside out f never = absurd never
 row_value around page row.Data out f safe = outside_value around page row.Data out f safe
 row_value around page row.TagOpen out f safe = outside_value around page row.TagOpen out f safe
 row_value around page row.EndTagOpen out f safe = outside_value around page row.EndTagOpen out f safe
 row_value around page (row.TagName k n) out f safe = outside_value around page (row.TagName k n) out f safe
-row_value around page (row.MarkupDeclaration p) out f safe = outside_value around page (row.MarkupDeclaration p) out f safe
+row_value around page (row.MarkupDeclaration p) out f safe =
+    outside_value around page (row.MarkupDeclaration p) out f safe
 row_value around page (row.InDeclaration d) out f safe = outside_value around page (row.InDeclaration d) out f safe
 row_value around page (row.Within e) out f safe = outside_value around page (row.Within e) out f safe
 row_value around page (row.BegunEndTag e b) out f safe = outside_value around page (row.BegunEndTag e b) out f safe
 row_value around page row.Plain out f safe = outside_value around page row.Plain out f safe
-row_value around row.Data (row.InTag walk within) out f safe = outside_value around row.Data (row.InTag walk within) out f safe
-row_value around row.TagOpen (row.InTag walk within) out f safe = outside_value around row.TagOpen (row.InTag walk within) out f safe
-row_value around row.EndTagOpen (row.InTag walk within) out f safe = outside_value around row.EndTagOpen (row.InTag walk within) out f safe
-row_value around (row.TagName k n) (row.InTag walk within) out f safe = outside_value around (row.TagName k n) (row.InTag walk within) out f safe
-row_value around (row.MarkupDeclaration p) (row.InTag walk within) out f safe = outside_value around (row.MarkupDeclaration p) (row.InTag walk within) out f safe
-row_value around (row.InDeclaration d) (row.InTag walk within) out f safe = outside_value around (row.InDeclaration d) (row.InTag walk within) out f safe
-row_value around (row.Within e) (row.InTag walk within) out f safe = outside_value around (row.Within e) (row.InTag walk within) out f safe
-row_value around (row.BegunEndTag e b) (row.InTag walk within) out f safe = outside_value around (row.BegunEndTag e b) (row.InTag walk within) out f safe
-row_value around row.Plain (row.InTag walk within) out f safe = outside_value around row.Plain (row.InTag walk within) out f safe
-row_value around row.Outside (row.InTag walk within) out f safe = outside_value around row.Outside (row.InTag walk within) out f safe
+row_value around row.Data (row.InTag walk within) out f safe =
+    outside_value around row.Data (row.InTag walk within) out f safe
+row_value around row.TagOpen (row.InTag walk within) out f safe =
+    outside_value around row.TagOpen (row.InTag walk within) out f safe
+row_value around row.EndTagOpen (row.InTag walk within) out f safe =
+    outside_value around row.EndTagOpen (row.InTag walk within) out f safe
+row_value around (row.TagName k n) (row.InTag walk within) out f safe =
+    outside_value around (row.TagName k n) (row.InTag walk within) out f safe
+row_value around (row.MarkupDeclaration p) (row.InTag walk within) out f safe =
+    outside_value around (row.MarkupDeclaration p) (row.InTag walk within) out f safe
+row_value around (row.InDeclaration d) (row.InTag walk within) out f safe =
+    outside_value around (row.InDeclaration d) (row.InTag walk within) out f safe
+row_value around (row.Within e) (row.InTag walk within) out f safe =
+    outside_value around (row.Within e) (row.InTag walk within) out f safe
+row_value around (row.BegunEndTag e b) (row.InTag walk within) out f safe =
+    outside_value around (row.BegunEndTag e b) (row.InTag walk within) out f safe
+row_value around row.Plain (row.InTag walk within) out f safe =
+    outside_value around row.Plain (row.InTag walk within) out f safe
+row_value around row.Outside (row.InTag walk within) out f safe =
+    outside_value around row.Outside (row.InTag walk within) out f safe
 
-pub page_value : (around : Option Tag) (page walk : State) (out : List ℕ) → Follows around page walk → KeepsPlaceAt (placing walk) out → LeadsPage around page walk out
+pub page_value : (around : Option Tag) (page walk : State) (out : List ℕ) → Follows around page walk →
+    KeepsPlaceAt (placing walk) out → LeadsPage around page walk out
 page_value around page walk out f safe =
     let leads = row_value around page.row walk.row out f.0 safe in (
       pending leads.0 page.reference,
@@ -145,11 +178,13 @@ attributes_js js.Double = refl
 attributes_js js.SingleEscape = refl
 attributes_js js.DoubleEscape = refl
 
-attributes_start : (refused : Bool) → takes_class (if refused then Refuses code.UriStart else Takes place.UriStart) class.Attributes ≡ false
+attributes_start : (refused : Bool) → takes_class (if refused then Refuses code.UriStart
+    else Takes place.UriStart) class.Attributes ≡ false
 attributes_start true = refl
 attributes_start false = refl
 
-attributes_quoted : (name : List ℕ) (now : AttributeValue) → takes_class (quoted_placing name now) class.Attributes ≡ false
+attributes_quoted : (name : List ℕ) (now : AttributeValue) →
+    takes_class (quoted_placing name now) class.Attributes ≡ false
 attributes_quoted name (value.Uri attribute part.Start) = attributes_start (refuses_start attribute name)
 attributes_quoted name (value.Uri attribute (part.Scheme prefix)) = refl
 attributes_quoted name (value.Uri attribute part.NoScheme) = refl
@@ -188,7 +223,8 @@ attributes_row row.Outside is = cc
 attributes_row (row.InTag around tag_row.BeforeName) is = tt
 attributes_row (row.InTag around (tag_row.AttributeName n)) is = cc
 attributes_row (row.InTag around (tag_row.BeforeValue a)) is = cc
-attributes_row (row.InTag around (tag_row.Quoted q v)) is = absurd (differ (sym (attributes_quoted (tag_name around) v) ∙ is))
+attributes_row (row.InTag around (tag_row.Quoted q v)) is =
+    absurd (differ (sym (attributes_quoted (tag_name around) v) ∙ is))
 attributes_row (row.InTag around (tag_row.Unquoted v)) is = cc
 attributes_row (row.InTag around tag_row.AfterQuoted) is = cc
 attributes_row (row.InTag around tag_row.SelfClosing) is = cc
@@ -218,7 +254,8 @@ html_js js.Double = refl
 html_js js.SingleEscape = refl
 html_js js.DoubleEscape = refl
 
-html_start : (refused : Bool) → takes_class (if refused then Refuses code.UriStart else Takes place.UriStart) class.Html ≡ false
+html_start : (refused : Bool) → takes_class (if refused then Refuses code.UriStart else Takes place.UriStart) class.Html
+    ≡ false
 html_start true = refl
 html_start false = refl
 
@@ -272,13 +309,16 @@ html_row (row.InTag around tag_row.AfterPrinted) is = cc
 -- the page's tag and its row within it, where the walk is within a tag
 abbrev pub InTagOf : Option Tag → HtmlRow → Tag → TagRow → Type 0
 InTagOf around page walk within =
-    (tag_of : Tag) × (inner : TagRow) × (page ≡ row.InTag tag_of inner) × FollowsTag around tag_of walk × FollowsTagRow inner within
+    (tag_of : Tag) × (inner : TagRow) × (page ≡ row.InTag tag_of inner) × FollowsTag around tag_of walk
+    × FollowsTagRow inner within
 
-outside_tag : (around : Option Tag) (page : HtmlRow) (walk : Tag) (within : TagRow) → FollowsOutside around page (row.InTag walk within) → InTagOf around page walk within
+outside_tag : (around : Option Tag) (page : HtmlRow) (walk : Tag) (within : TagRow) →
+    FollowsOutside around page (row.InTag walk within) → InTagOf around page walk within
 outside_tag None page walk within same = (walk, within, same, refl, same_tag_row within)
 outside_tag (Some around) page walk within never = absurd never
 
-page_tag : (around : Option Tag) (page : HtmlRow) (walk : Tag) (within : TagRow) → FollowsRow around page (row.InTag walk within) → InTagOf around page walk within
+page_tag : (around : Option Tag) (page : HtmlRow) (walk : Tag) (within : TagRow) →
+    FollowsRow around page (row.InTag walk within) → InTagOf around page walk within
 page_tag around (row.InTag page inner) walk within f = (page, inner, refl, f.0, f.1)
 page_tag around row.Data walk within f = outside_tag around row.Data walk within f
 page_tag around row.TagOpen walk within f = outside_tag around row.TagOpen walk within f
@@ -302,7 +342,8 @@ past_block inner (tag_row.Unquoted now) same ends = absurd (differ ends)
 past_block inner tag_row.SelfClosing same ends = absurd (differ ends)
 
 -- where the block may end, the page's row is one past a printed block, in the tag around it
-block_end : (inside : Tag) (now ended : HtmlRow) → FollowsRow (Some inside) now ended → may_end_row kind.Attributes ended ≡ true →
+block_end : (inside : Tag) (now ended : HtmlRow) → FollowsRow (Some inside) now ended →
+    may_end_row kind.Attributes ended ≡ true →
     (inner : TagRow) × (now ≡ row.InTag inside inner) × IsPastPrinted inner
 block_end inside now (row.InTag walk within) f ends =
     let found = page_tag (Some inside) now walk within f in
@@ -318,16 +359,25 @@ block_end inside now (row.Within e) f ends = absurd (differ ends)
 block_end inside now (row.BegunEndTag e b) f ends = absurd (differ ends)
 block_end inside now row.Plain f ends = absurd (differ ends)
 
-module _ (around : Option Tag) (page walk : State) (walk_tag : Tag) (is_row : walk.row ≡ row.InTag walk_tag tag_row.BeforeName) (f : Follows around page walk) (decided : walk.reference ≡ reference.Decided) where
+module _ (around : Option Tag) (page walk : State) (walk_tag : Tag)
+    (is_row : walk.row ≡ row.InTag walk_tag tag_row.BeforeName) (f : Follows around page walk)
+    (decided : walk.reference ≡ reference.Decided) where
   pub attributes_frame : FramesAttributes around page walk
   attributes_frame =
-      let found = page_tag around page.row walk_tag tag_row.BeforeName (subst (λ r. FollowsRow around page.row r) is_row f.0) in
+      let found = page_tag around page.row walk_tag tag_row.BeforeName
+      (subst (λ r. FollowsRow around page.row r) is_row f.0) in
       let page_row : page.row ≡ row.InTag found.0 tag_row.BeforeName = found.2 ∙ ap (row.InTag found.0) found.4 in (
         found.0,
-        (subst (λ r. FollowsRow (Some found.0) r (row.InTag tag.Block tag_row.BeforeName)) (sym page_row) ((refl, refl), refl), f.1 ∙ decided),
+        (
+          subst (λ r. FollowsRow (Some found.0) r (row.InTag tag.Block tag_row.BeforeName)) (sym page_row)
+              ((refl, refl), refl),
+          f.1 ∙ decided,
+        ),
         λ now ended in_block ends none.
             let past = block_end found.0 now.row ended.row in_block.0 ends in (
-              subst (λ r. FollowsRow around now.row (row_after_value r)) (sym is_row) (subst (λ r. FollowsRow around r (row.InTag walk_tag tag_row.AfterPrinted)) (sym past.1) (found.3, past.2)),
+              subst (λ r. FollowsRow around now.row (row_after_value r)) (sym is_row)
+                  (subst (λ r. FollowsRow around r (row.InTag walk_tag tag_row.AfterPrinted)) (sym past.1)
+                  (found.3, past.2)),
               in_block.1 ∙ (none ∙ sym decided),
             ),
       )
@@ -352,10 +402,12 @@ before_name_row (row.BegunEndTag e b) never = absurd never
 before_name_row row.Plain never = absurd never
 before_name_row row.Outside never = absurd never
 
-pub page_attributes : (around : Option Tag) (page walk : State) → Follows around page walk → IsTrue (takes_class (placing walk) class.Attributes) → walk.reference ≡ reference.Decided →
+pub page_attributes : (around : Option Tag) (page walk : State) → Follows around page walk →
+    IsTrue (takes_class (placing walk) class.Attributes) → walk.reference ≡ reference.Decided →
     FramesAttributes around page walk
 page_attributes around page walk f takes decided =
-    let found = before_name_row walk.row (attributes_row walk.row takes) in attributes_frame around page walk found.0 found.1 f decided
+    let found = before_name_row walk.row (attributes_row walk.row takes) in attributes_frame around page walk found.0
+    found.1 f decided
 
 -- ---- blocks of HTML
 
@@ -385,7 +437,8 @@ ended_row (row.BegunEndTag e b) ends = absurd (differ ends)
 ended_row row.Plain ends = absurd (differ ends)
 ended_row row.Outside ends = absurd (differ ends)
 
-data_outside : (around : Option Tag) (page now : HtmlRow) → FollowsOutside around page row.Data → now ≡ row.Data → FollowsOutside around now row.Data
+data_outside : (around : Option Tag) (page now : HtmlRow) → FollowsOutside around page row.Data → now ≡ row.Data →
+    FollowsOutside around now row.Data
 data_outside None page now same is = is
 data_outside (Some around) page now never is = absurd never
 
@@ -393,15 +446,18 @@ page_data : (around : Option Tag) (page : HtmlRow) → FollowsOutside around pag
 page_data None page same = same
 page_data (Some around) page never = absurd never
 
-pub page_html : (around : Option Tag) (page walk : State) → Follows around page walk → IsTrue (takes_class (placing walk) class.Html) → walk.reference ≡ reference.Decided →
+pub page_html : (around : Option Tag) (page walk : State) → Follows around page walk →
+    IsTrue (takes_class (placing walk) class.Html) → walk.reference ≡ reference.Decided →
     FramesHtml around page walk
 page_html around page walk f takes decided =
     let is_row : walk.row ≡ row.Data = data_row walk.row (html_row walk.row takes) in
     let in_data : FollowsOutside around page.row row.Data = subst (λ r. FollowsRow around page.row r) is_row f.0 in (
       (page_data around page.row in_data, f.1 ∙ decided),
       λ now ended in_block ends none.
-          let is_data : now.row ≡ row.Data = subst (λ r. FollowsRow None now.row r) (ended_row ended.row ends) in_block.0 in (
-            subst (λ r. FollowsRow around now.row (row_after_value r)) (sym is_row) (data_outside around page.row now.row in_data is_data),
+          let is_data : now.row ≡ row.Data = subst (λ r. FollowsRow None now.row r)
+          (ended_row ended.row ends) in_block.0 in (
+            subst (λ r. FollowsRow around now.row (row_after_value r)) (sym is_row)
+                (data_outside around page.row now.row in_data is_data),
             in_block.1 ∙ (none ∙ sym decided),
           ),
     )

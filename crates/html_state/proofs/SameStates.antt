@@ -170,7 +170,8 @@ same_attribute_value attribute_value.Event attribute_value.Event is = refl
 same_attribute_value attribute_value.Event _ is = absurd (never is)
 same_attribute_value attribute_value.NoPrint attribute_value.NoPrint is = refl
 same_attribute_value attribute_value.NoPrint _ is = absurd (never is)
-same_attribute_value (attribute_value.Style a0) (attribute_value.Style b0) is = ap attribute_value.Style (same_css_state a0 b0 is)
+same_attribute_value (attribute_value.Style a0) (attribute_value.Style b0) is =
+    ap attribute_value.Style (same_css_state a0 b0 is)
 same_attribute_value (attribute_value.Style _) _ is = absurd (never is)
 same_attribute_value attribute_value.Plain attribute_value.Plain is = refl
 same_attribute_value attribute_value.Plain _ is = absurd (never is)
@@ -272,9 +273,11 @@ same_html_row (html_row.InTag a0 a1) (html_row.InTag b0 b1) is =
     let e1 : a1 ≡ b1 = same_tag_row a1 b1 parts.1 in
     cc
 same_html_row (html_row.InTag _ _) _ is = absurd (never is)
-same_html_row (html_row.MarkupDeclaration a0) (html_row.MarkupDeclaration b0) is = ap html_row.MarkupDeclaration (same_list a0 b0 is)
+same_html_row (html_row.MarkupDeclaration a0) (html_row.MarkupDeclaration b0) is =
+    ap html_row.MarkupDeclaration (same_list a0 b0 is)
 same_html_row (html_row.MarkupDeclaration _) _ is = absurd (never is)
-same_html_row (html_row.InDeclaration a0) (html_row.InDeclaration b0) is = ap html_row.InDeclaration (same_declaration_row a0 b0 is)
+same_html_row (html_row.InDeclaration a0) (html_row.InDeclaration b0) is =
+    ap html_row.InDeclaration (same_declaration_row a0 b0 is)
 same_html_row (html_row.InDeclaration _) _ is = absurd (never is)
 same_html_row (html_row.Within a0) (html_row.Within b0) is = ap html_row.Within (same_element a0 b0 is)
 same_html_row (html_row.Within _) _ is = absurd (never is)

@@ -1,7 +1,7 @@
 -- The state after a printed value, at a place that takes it: the state before it with the mark that the value sets.
 --
--- A value at the start of a URI is followed by the part AfterStart, a value where a style's value may begin by the state
--- AfterValue, and a block of attributes by the row AfterPrinted. Any other value leaves the state.
+-- A value at the start of a URI is followed by the part AfterStart, a value where a style's value may begin by the
+-- state AfterValue, and a block of attributes by the row AfterPrinted. Any other value leaves the state.
 -- Example: after the value in `<a href="{$x}` the part is AfterStart, so a second value is refused.
 use Rattle.script_state.specs.CssAfterValue.{css_after_value}
 use Rattle.html_state.specs.declared.row.AttributeValue.{AttributeValue}

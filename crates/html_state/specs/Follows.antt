@@ -1,11 +1,11 @@
 -- The state of a page goes on as that of a walk over templates.
 --
 -- A walk follows each block and each template by itself. It begins a block of attributes in a tag without a name, where
--- the page is in a real tag, the one around the block. After the block the walk keeps the mark that a block was printed,
--- where the page is past the block's last attribute. In all else their states are the same. Where the walk has left its
--- tag, nothing is said of the page.
--- Example: in `<p {$b}` with the block `class="a"` the page is after a quoted value, in `p`, where the walk of the block
--- is in its own tag and that around it in AfterPrinted.
+-- the page is in a real tag, the one around the block. After the block the walk keeps the mark that a block was
+-- printed, where the page is past the block's last attribute. In all else their states are the same. Where the walk has
+-- left its tag, nothing is said of the page.
+-- Example: in `<p {$b}` with the block `class="a"` the page is after a quoted value, in `p`, where the walk of the
+-- block is in its own tag and that around it in AfterPrinted.
 use Rattle.std.specs.Prelude.{◌≡◌, ◌⊎◌, ⊤, ℕ, List, Option, Some, None, Result, Ok, Err, IsTrue, false}
 use Rattle.soy_base.specs.declared.code.Code.{Code}
 use Rattle.soy_base.specs.declared.code.Code.TheVariants as code
@@ -52,7 +52,8 @@ FollowsOutside (Some _) page walk = ⊥
 
 abbrev pub FollowsRow : Option Tag → HtmlRow → HtmlRow → Type 0
 FollowsRow around page row.Outside = ⊤
-FollowsRow around (row.InTag page inner) (row.InTag walk within) = FollowsTag around page walk × FollowsTagRow inner within
+FollowsRow around (row.InTag page inner) (row.InTag walk within) = FollowsTag around page walk
+    × FollowsTagRow inner within
 FollowsRow around page walk = FollowsOutside around page walk
 
 abbrev pub Follows : Option Tag → State → State → Type 0
@@ -78,10 +79,11 @@ PlacedAlike around page (Takes point) = page ≡ Takes point
 -- these characters and the mark lead the page to a state that goes on as the walk's after its value
 abbrev pub LeadsPage : Option Tag → State → State → List ℕ → Type 0
 LeadsPage around page walk out =
-    (now : State) × (after_text value_character_next page out ≡ Ok now) × Follows around (marked page now) (after_value walk)
+    (now : State) × (after_text value_character_next page out ≡ Ok now)
+    × Follows around (marked page now) (after_value walk)
 
--- a block of attributes that the walk prints: there is a tag around it, and where the block may end, the page goes on as
--- the walk does past it
+-- a block of attributes that the walk prints: there is a tag around it, and where the block may end, the page goes on
+-- as the walk does past it
 abbrev pub FramesAttributes : Option Tag → State → State → Type 0
 FramesAttributes around page walk =
     (inside : Tag) × Follows (Some inside) page (start kind.Attributes)

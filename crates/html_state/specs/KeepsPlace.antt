@@ -1,5 +1,5 @@
--- What is enough for the characters of a value to keep the place where it is printed: the law `law_kept_place` says that
--- they lead each state with this placing to the same state, but that at CssValue they lead from Ready to Code.
+-- What is enough for the characters of a value to keep the place where it is printed: the law `law_kept_place` says
+-- that they lead each state with this placing to the same state, but that at CssValue they lead from Ready to Code.
 --
 -- In text they may be whole markup that leads back to data. Elsewhere they may hold no `<` or no quote, as the place
 -- has it, and a script's or a style's table must come back to where it was.
@@ -39,7 +39,8 @@ KeepsPlace place.UriFragment out = HasNoQuote out
 KeepsPlace place.JsValue out = HasNoLessThan out × (state_after js_next js.Code out ≡ Some js.Code)
 KeepsPlace place.JsSingle out = HasNoLessThan out × (state_after js_next js.Single out ≡ Some js.Single)
 KeepsPlace place.JsDouble out = HasNoLessThan out × (state_after js_next js.Double out ≡ Some js.Double)
-KeepsPlace place.CssValue out = HasNoLessThan out × HasNoQuote out × (state_after css_next css.Ready out ≡ Some css.Code)
+KeepsPlace place.CssValue out = HasNoLessThan out × HasNoQuote out
+    × (state_after css_next css.Ready out ≡ Some css.Code)
 KeepsPlace place.CssString out =
     HasNoLessThan out × HasNoQuote out × (state_after css_next css.Single out ≡ Some css.Single)
     × (state_after css_next css.Double out ≡ Some css.Double)

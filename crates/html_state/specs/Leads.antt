@@ -1,7 +1,7 @@
 -- The characters of a value, and then the mark that the value sets, lead to the state that a value leaves behind.
 --
--- The mark goes by the state before the characters: at the start of a URI it is AfterStart, and at Ready of a style it is
--- AfterValue.
+-- The mark goes by the state before the characters: at the start of a URI it is AfterStart, and at Ready of a style it
+-- is AfterValue.
 -- Example: from `<p style="color:` the characters `red` lead to Code, and the mark to AfterValue.
 use Rattle.std.specs.Prelude.{◌≡◌, ℕ, List, Ok, false}
 use Rattle.script_state.specs.declared.css_state.CssState.{CssState}
@@ -50,7 +50,8 @@ marked before now = pending (marked_row before.row now.row) now.reference
 
 abbrev pub LeadsRow : HtmlRow → List ℕ → Type 0
 LeadsRow before out =
-    (now : HtmlRow) × (after_text (row_next false) before out ≡ Ok now) × (marked_row before now ≡ row_after_value before)
+    (now : HtmlRow) × (after_text (row_next false) before out ≡ Ok now)
+    × (marked_row before now ≡ row_after_value before)
 
 abbrev pub Leads : State → List ℕ → Type 0
 Leads before out =

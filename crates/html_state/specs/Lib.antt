@@ -16,6 +16,7 @@ pub mod Padding
 pub mod PartNext
 pub mod PartOf
 pub mod Pieces
+pub mod QuoteCharacter
 pub mod References
 pub mod RowAt
 pub mod RowKinds

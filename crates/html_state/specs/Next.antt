@@ -6,7 +6,8 @@
 -- In a style attribute each `&` is fault 17, and so is one before `#` in a URI attribute. A character of a value begins
 -- no reference. (WHATWG HTML, 13.2.5.72 to 13.2.5.80.)
 -- Example: in `a&b c` the space is fault 16, and in `a & b` it shows that the `&` is an ampersand.
-use Rattle.std.specs.Prelude.{ℕ, Bool, true, false, not, ◌==◌, ◌&&◌, if◌then◌else◌, List, [], ◌∷◌, drop, Result, Ok, Err}
+use Rattle.std.specs.Prelude.{ℕ, Bool, true, false, not, ◌==◌, ◌&&◌, if◌then◌else◌, List, [], ◌∷◌, drop, Result, Ok}
+use Rattle.std.specs.Prelude.{Err}
 use Rattle.std.specs.Char.{is_ascii_alphanumeric}
 use Rattle.soy_base.specs.declared.code.Code.{Code}
 use Rattle.soy_base.specs.declared.code.Code.TheVariants as code
@@ -99,7 +100,8 @@ plain_next now c =
 -- directly after `&`
 abbrev pub ampersand_next : HtmlRow → ℕ → Result State Code
 ampersand_next now c =
-    if c == number_sign then (if is_uri_value now then Err code.Reference else Ok (pending now (reference.Begun (prefix_with [] c))))
+    if c == number_sign then (if is_uri_value now then Err code.Reference
+    else Ok (pending now (reference.Begun (prefix_with [] c))))
     else (if is_ascii_alphanumeric c && not (is_unquoted now) then Ok (pending now (name_begun (prefix_with [] c)))
     else plain_next now c)
 
@@ -144,7 +146,8 @@ next state c = reference_next state.row state.reference c
 -- ---- a character of a value, and the end of a static text
 
 abbrev pub value_character_next : State → ℕ → Result State Code
-value_character_next state c = and_then (λ following. Ok (pending following state.reference)) (row_next false state.row c)
+value_character_next state c = and_then (λ following. Ok (pending following state.reference))
+    (row_next false state.row c)
 
 abbrev pub is_decided : Reference → Bool
 is_decided reference.Decided = true

@@ -7,7 +7,8 @@ pub counted : (room count : ℕ) (array : List ℕ) → count ≤ room → lengt
 counted room count array small full = length-take-le count array (subst (λ n. count ≤ n) (sym full) small)
 
 -- those in use, filled up, are the array
-pub padded : (room count : ℕ) (array : List ℕ) → count ≤ room → length array ≡ room → drop count array ≡ replicate (room - count) 0 →
+pub padded : (room count : ℕ) (array : List ℕ) → count ≤ room → length array ≡ room →
+    drop count array ≡ replicate (room - count) 0 →
     take count array ++ replicate (room - length (take count array)) 0 ≡ array
 padded room count array small full rest =
     ap (λ n. take count array ++ replicate (room - n) 0) (counted room count array small full)

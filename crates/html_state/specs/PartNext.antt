@@ -1,9 +1,9 @@
 -- The part of a URI after one more static character of an attribute's value.
 --
 -- A colon, a slash, a question mark and a number sign lead from part to part as in RFC 3986, section 3, and every other
--- character stays, but that it ends Start. Characters before the first colon are a scheme: `http`, `https`, `mailto` and
--- `ftp` are followed by a path, and any other by BadScheme, where no value may stand. After a value at the start a colon
--- is a fault, since the value would be the scheme.
+-- character stays, but that it ends Start. Characters before the first colon are a scheme: `http`, `https`, `mailto`
+-- and `ftp` are followed by a path, and any other by BadScheme, where no value may stand. After a value at the start a
+-- colon is a fault, since the value would be the scheme.
 -- Example: after `https:` the part is Path, after `javascript:` it is BadScheme, and after `a/b?c` it is Query.
 use Rattle.std.specs.Prelude.{⊤, ℕ, List, [], ◌∷◌, Result, Ok, Err, ◌==◌, ◌&&◌, if◌then◌else◌, codes}
 use Rattle.std.specs.Char.{is_ascii_alphabetic, to_ascii_lowercase}
@@ -22,7 +22,8 @@ schemes = codes "http" ∷ codes "https" ∷ codes "mailto" ∷ codes "ftp" ∷ 
 -- the part after these characters and one more, which is none of the four: a letter may go on with a scheme
 abbrev pub scheme_next : List ℕ → ℕ → UriPart
 scheme_next prefix c =
-    if is_ascii_alphabetic c && is_prefix_among schemes (prefix_with prefix (to_ascii_lowercase c)) then part.Scheme (prefix_with prefix (to_ascii_lowercase c))
+    if is_ascii_alphabetic c && is_prefix_among schemes (prefix_with prefix (to_ascii_lowercase c))
+    then part.Scheme (prefix_with prefix (to_ascii_lowercase c))
     else part.NoScheme
 
 -- the columns of `:`, `/`, `?`, `#` and of the others
@@ -37,7 +38,8 @@ part_by_character at_colon at_slash at_question_mark at_number_sign at_other c =
 abbrev pub part_next : UriPart → ℕ → Result UriPart Code
 part_next part.Start c = Ok (part_by_character part.BadScheme part.Path part.Query part.Fragment (scheme_next [] c) c)
 part_next (part.Scheme prefix) c =
-    Ok (part_by_character (if is_among schemes prefix then part.Path else part.BadScheme) part.Path part.Query part.Fragment (scheme_next prefix c) c)
+    Ok (part_by_character (if is_among schemes prefix then part.Path
+    else part.BadScheme) part.Path part.Query part.Fragment (scheme_next prefix c) c)
 part_next part.NoScheme c = Ok (part_by_character part.BadScheme part.Path part.Query part.Fragment part.NoScheme c)
 part_next part.AfterStart c =
     if c == colon then Err code.UriStart

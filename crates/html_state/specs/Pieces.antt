@@ -23,7 +23,8 @@ pub data Piece : Type 0 where
 
 abbrev pub after_piece : State → Piece → Result State Code
 after_piece before (Static text) = and_then text_end (after_text next before text)
-after_piece before (Value class out) = and_then (λ now. Ok (marked before now)) (after_text value_character_next before out)
+after_piece before (Value class out) = and_then (λ now. Ok (marked before now))
+    (after_text value_character_next before out)
 
 abbrev pub after_pieces : State → List Piece → Result State Code
 after_pieces = after_text after_piece

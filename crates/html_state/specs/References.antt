@@ -4,7 +4,8 @@
 -- ones, and is that of a Unicode scalar value: 9, 10, 13, or at least 32 and not 127 to 159. (WHATWG HTML, 13.2.5.72 to
 -- 13.2.5.80, 13.5 "Named character references".)
 -- Example: `&amp;` is a reference and `&AMP;` isn't; `&#33;` is one, and no reference begins with `&#9999999`.
-use Rattle.std.specs.Prelude.{ℕ, zero, suc, ◌+◌, ◌*◌, ◌-◌, Bool, true, false, ◌==◌, ◌&&◌, ◌||◌, if◌then◌else◌, List, [], ◌∷◌, codes, map, length, nat_lt, nat_le, min}
+use Rattle.std.specs.Prelude.{ℕ, zero, suc, ◌+◌, ◌*◌, ◌-◌, Bool, true, false, ◌==◌, ◌&&◌, ◌||◌, if◌then◌else◌, List, []}
+use Rattle.std.specs.Prelude.{◌∷◌, codes, map, length, nat_lt, nat_le, min}
 use Rattle.std.specs.List.{list_all}
 use Rattle.html_state.specs.declared.row.Reference.{Reference}
 use Rattle.html_state.specs.declared.row.Reference.TheVariants as reference
@@ -53,7 +54,8 @@ meet low high from to = nat_le low to && nat_le from high
 -- a number of this range is that of a reference
 abbrev pub is_some_allowed : ℕ → ℕ → Bool
 is_some_allowed low high =
-    meet low high 9 10 || meet low high 13 13 || meet low high 32 126 || meet low high 160 0xd7ff || meet low high 0xe000 0x10ffff
+    meet low high 9 10 || meet low high 13 13 || meet low high 32 126 || meet low high 160 0xd7ff
+    || meet low high 0xe000 0x10ffff
 
 -- so is a number of this range with at most so many more digits
 unfoldable pub may_go_on : ℕ → ℕ → ℕ → ℕ → Bool

@@ -2,10 +2,11 @@
 --
 -- The rows are the states of WHATWG HTML, 13.2.5, in a profile: one row for each state that a page of this profile can
 -- be in, and one for each few that act alike. In the text of an element that isn't data, a `<` and what follows it are
--- a begun end tag while they are a prefix of `<`, `/` and the element's name in any case. What proves to be none is text
--- of the element, given to its table then. In a script `<!--` is a fault.
+-- a begun end tag while they are a prefix of `<`, `/` and the element's name in any case. What proves to be none is
+-- text of the element, given to its table then. In a script `<!--` is a fault.
 -- Example: after `<title>a</ti` a `t` goes on with the end tag, and an `x` leads back to the text of the title.
-use Rattle.std.specs.Prelude.{ℕ, ◌+◌, Bool, true, false, List, [], ◌∷◌, Option, Some, None, Result, Ok, Err, ◌==◌, ◌&&◌, ◌||◌, if◌then◌else◌, codes, length, take, get_or, nat_lt}
+use Rattle.std.specs.Prelude.{ℕ, ◌+◌, Bool, true, false, List, [], ◌∷◌, Option, Some, None, Result, Ok, Err, ◌==◌, ◌&&◌}
+use Rattle.std.specs.Prelude.{◌||◌, if◌then◌else◌, codes, length, take, get_or, nat_lt}
 use Rattle.std.specs.Char.{is_ascii_alphabetic, to_ascii_lowercase}
 use Rattle.std.specs.Str.{bytes_eq}
 use Rattle.soy_base.specs.declared.code.Code.{Code}
@@ -88,7 +89,8 @@ given_up now characters c = and_then (λ following. within_next following c) (af
 -- what is begun after one more character that goes on with it
 abbrev pub goes_on_begun : Element → Begun → ℕ → Option Begun
 goes_on_begun now (begun.EndTag count) c =
-    if nat_lt count (length (end_tag now)) && to_ascii_lowercase c == get_or (end_tag now) count 0 then Some (begun.EndTag (count + 1))
+    if nat_lt count (length (end_tag now)) && to_ascii_lowercase c == get_or (end_tag now) count 0
+    then Some (begun.EndTag (count + 1))
     else (if is_script now && (count == 1 && c == exclamation_mark) then Some begun.Bang
     else None)
 goes_on_begun now begun.Bang c = if c == minus_sign then Some begun.BangDash else None
@@ -125,9 +127,11 @@ row_next static row.EndTagOpen c =
     else (if c == greater_than then row.Data
     else row.InDeclaration declaration.BogusComment))
 row_next static (row.TagName kind name) c =
-    if ends_name c then (if is_refused kind name then Err code.InName else Ok (in_tag (tag.Named kind name) (past_name c)))
+    if ends_name c then (if is_refused kind name then Err code.InName
+    else Ok (in_tag (tag.Named kind name) (past_name c)))
     else Ok (row.TagName kind (name_with name c))
-row_next static (row.InTag around inner) c = and_then (λ following. Ok (in_tag around following)) (tag_row_next static inner c)
+row_next static (row.InTag around inner) c = and_then (λ following. Ok (in_tag around following))
+    (tag_row_next static inner c)
 row_next static (row.MarkupDeclaration prefix) c = Ok (markup_declaration_next prefix c)
 row_next static (row.InDeclaration inner) c = Ok (in_declaration (declaration_next inner c))
 row_next static (row.Within now) c = within_next now c

@@ -34,7 +34,8 @@ refuses_start uri.Href name = is_among (codes "link" ∷ codes "base" ∷ []) na
 refuses_start uri.Other name = false
 
 abbrev pub uri_placing : UriName → List ℕ → UriPart → Placing
-uri_placing attribute name part.Start = if refuses_start attribute name then Refuses code.UriStart else Takes place.UriStart
+uri_placing attribute name part.Start = if refuses_start attribute name then Refuses code.UriStart
+    else Takes place.UriStart
 uri_placing attribute name part.Path = Takes place.UriPath
 uri_placing attribute name part.Query = Takes place.UriQuery
 uri_placing attribute name part.Fragment = Takes place.UriFragment

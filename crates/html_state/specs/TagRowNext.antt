@@ -1,9 +1,9 @@
--- The rows within a tag, past its name: the next row at a character, none where the character ends the tag, or the fault
--- that the character is.
+-- The rows within a tag, past its name: the next row at a character, none where the character ends the tag, or the
+-- fault that the character is.
 --
 -- After an attribute's name the row is that before a name, since `=` is a fault in both. A quoted value is followed by
--- white space, `/`, `>` or directly by a further name. Directly after a printed block of attributes only the first three
--- may follow. (WHATWG HTML, 13.2.5.32 to 13.2.5.40.)
+-- white space, `/`, `>` or directly by a further name. Directly after a printed block of attributes only the first
+-- three may follow. (WHATWG HTML, 13.2.5.32 to 13.2.5.40.)
 -- Example: before a name `>` ends the tag, `=` is fault 14, and `a` begins a name.
 use Rattle.std.specs.Prelude.{ℕ, Bool, List, [], Option, Some, None, Result, Ok, Err, ◌==◌, if◌then◌else◌}
 use Rattle.soy_base.specs.declared.code.Code.{Code}
@@ -19,7 +19,8 @@ use Rattle.html_state.specs.AttributeNamed.{attribute_named}
 use Rattle.html_state.specs.EndsName.{ends_name}
 use Rattle.html_state.specs.Kept.{name_with}
 use Rattle.html_state.specs.Texts.{and_then}
-use Rattle.html_state.specs.ValueNext.{begun_value, may_end_value, quote_character, value_next}
+use Rattle.html_state.specs.QuoteCharacter.{quote_character}
+use Rattle.html_state.specs.ValueNext.{begun_value, may_end_value, value_next}
 
 -- after white space, `/` or `>`
 abbrev pub past_name : ℕ → Option TagRow

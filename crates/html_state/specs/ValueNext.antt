@@ -1,12 +1,11 @@
 -- The value of an attribute: where it begins, what one more character makes of it, and whether it may end.
 --
--- A URI's part goes by the static characters alone. The characters of a style run the table of styles, printed ones too,
--- and where that has no next state the character is a fault. (WHATWG HTML, 13.2.5.36 to 13.2.5.39.)
+-- A URI's part goes by the static characters alone. The characters of a style run the table of styles, printed ones
+-- too, and where that has no next state the character is a fault. (WHATWG HTML, 13.2.5.36 to 13.2.5.39.)
 -- Example: in `style="color:` a style is in Ready, and it may end neither in a string nor in a comment.
 use Rattle.std.specs.Prelude.{ℕ, Bool, true, false, Option, Some, None, Result, Ok, Err, if◌then◌else◌}
 use Rattle.soy_base.specs.declared.code.Code.{Code}
 use Rattle.soy_base.specs.declared.code.Code.TheVariants as code
-use Rattle.soy_base.specs.Characters.{double_quote, single_quote}
 use Rattle.script_state.specs.CssNext.{css_next}
 use Rattle.script_state.specs.declared.css_state.CssState.{CssState}
 use Rattle.script_state.specs.declared.css_state.CssState.TheVariants as css
@@ -14,8 +13,6 @@ use Rattle.html_state.specs.declared.row.Attribute.{Attribute}
 use Rattle.html_state.specs.declared.row.Attribute.TheVariants as attribute
 use Rattle.html_state.specs.declared.row.AttributeValue.{AttributeValue}
 use Rattle.html_state.specs.declared.row.AttributeValue.TheVariants as value
-use Rattle.html_state.specs.declared.row.Quote.{Quote}
-use Rattle.html_state.specs.declared.row.Quote.TheVariants as quote
 use Rattle.html_state.specs.declared.row.UriPart.TheVariants as part
 use Rattle.html_state.specs.PartNext.{part_next}
 use Rattle.html_state.specs.Texts.{and_then}
@@ -24,10 +21,6 @@ use Rattle.html_state.specs.Texts.{and_then}
 abbrev pub followed : {A B : Type 0} → (A → B) → Option A → Result B Code
 followed holding (Some state) = Ok (holding state)
 followed holding None = Err code.Script
-
-abbrev pub quote_character : Quote → ℕ
-quote_character quote.Single = single_quote
-quote_character quote.Double = double_quote
 
 abbrev pub begun_value : Attribute → AttributeValue
 begun_value (attribute.Uri name) = value.Uri name part.Start

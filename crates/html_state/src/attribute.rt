@@ -1,7 +1,8 @@
 //! The value of an attribute.
 
 ghost use Rattle.std.specs.Prelude.{◌≡◌, Ok, Err, OnOk, OnErr, IfErr};
-ghost use Rattle.html_state.specs.ValueNext.{begun_value, may_end_style, may_end_value, quote_character, value_next};
+ghost use Rattle.html_state.specs.QuoteCharacter.{quote_character};
+ghost use Rattle.html_state.specs.ValueNext.{begun_value, may_end_style, may_end_value, value_next};
 
 use crate::row::{Attribute, AttributeValue, Quote, UriPart};
 use crate::uri::step_part;

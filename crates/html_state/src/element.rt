@@ -1,6 +1,7 @@
 //! The text of an element that isn't data, and what may end it.
 
-ghost use Rattle.std.specs.Prelude.{◌≡◌, ◌==◌, ◌&&◌, Ok, Err, OnOk, OnErr, IfErr, ◌≤◌, length, take, get_or, nat_lt, if◌then◌else◌};
+ghost use Rattle.std.specs.Prelude.{◌≡◌, ◌==◌, ◌&&◌, Ok, Err, OnOk, OnErr, IfErr, ◌≤◌, length, take, get_or, nat_lt};
+ghost use Rattle.std.specs.Prelude.{if◌then◌else◌};
 ghost use Rattle.std.specs.Char.{to_ascii_lowercase};
 ghost use Rattle.html_state.specs.AfterText.{after_text};
 ghost use Rattle.html_state.specs.ElementNamed.{element_name};
@@ -88,7 +89,8 @@ fn end_tag_prefix(element: &Element, count: u8) -> &'static [u8]
 
 /// Whether a character goes on with the end tag.
 fn goes_on(element: &Element, count: u8, c: char) -> bool
-    ensures { result ≡ (nat_lt count (length (end_tag element.now)) && to_ascii_lowercase c == get_or (end_tag element.now) count 0) }
+    ensures { result ≡ (nat_lt count (length (end_tag element.now))
+        && to_ascii_lowercase c == get_or (end_tag element.now) count 0) }
 {
     let whole = end_tag(element);
     let count = count as usize;
@@ -144,8 +146,8 @@ fn ended(element: &Element, c: char) -> HtmlRow
 
 /// The row past the name of the element's end tag, or the fault that its text may not end.
 fn end_element(element: &Element, c: char) -> Result<HtmlRow, Code>
-    ensures { result ≡ (if may_end_element element.now then Ok (in_tag (tag.Named kind.End (element_name element.now)) (past_name c))
-        else Err code.Script) }
+    ensures { result ≡ (if may_end_element element.now
+        then Ok (in_tag (tag.Named kind.End (element_name element.now)) (past_name c)) else Err code.Script) }
 {
     if may_end_element(element) {
         Ok(ended(element, c))

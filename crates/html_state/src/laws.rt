@@ -28,7 +28,8 @@ ghost use Rattle.html_state.specs.StatePlacing.{placing};
 ghost use Rattle.html_state.specs.TakesClass.{takes_class};
 ghost use Rattle.html_state.specs.TextKinds.{IsPlainRawtext, IsRcdata, RunsNothing};
 ghost use Rattle.html_state.specs.Texts.{and_then};
-ghost use Rattle.html_state.specs.ValueNext.{followed, quote_character};
+ghost use Rattle.html_state.specs.QuoteCharacter.{quote_character};
+ghost use Rattle.html_state.specs.ValueNext.{followed};
 ghost use Rattle.html_state.specs.declared.row.AttributeValue.TheVariants as value;
 ghost use Rattle.html_state.specs.declared.row.AttributeValue.{AttributeValue};
 ghost use Rattle.html_state.specs.declared.row.Element.{Element};
@@ -48,7 +49,8 @@ pub fn law_equality()
 /// States that `==` holds for go on alike, and have the same placings and ends.
 pub fn law_equal_states()
     ensures steps { (one other : State) (c : ℕ) → IsSame one other → next one c ≡ next other c }
-    ensures value_steps { (one other : State) (c : ℕ) → IsSame one other → value_character_next one c ≡ value_character_next other c }
+    ensures value_steps { (one other : State) (c : ℕ) → IsSame one other →
+        value_character_next one c ≡ value_character_next other c }
     ensures values { (one other : State) → IsSame one other → after_value one ≡ after_value other }
     ensures placings { (one other : State) → IsSame one other → placing one ≡ placing other }
     ensures ends { (kind : Kind) (one other : State) → IsSame one other → may_end kind one ≡ may_end kind other }
@@ -61,10 +63,12 @@ pub fn law_text_in_pieces()
     ensures static_text { (state : State) (first second : List ℕ) → after_text next state (first ++ second)
         ≡ and_then (λ middle. after_text next middle second) (after_text next state first) }
     ensures value { (state : State) (first second : List ℕ) → after_text value_character_next state (first ++ second)
-        ≡ and_then (λ middle. after_text value_character_next middle second) (after_text value_character_next state first) }
+        ≡ and_then (λ middle. after_text value_character_next middle second)
+        (after_text value_character_next state first) }
 {}
 
-/// Pieces may be read in parts: the state after two lists of pieces, or the first fault in them, is that of their whole.
+/// Pieces may be read in parts: the state after two lists of pieces, or the first fault in them, is that of their
+/// whole.
 pub fn law_pieces_in_parts()
     ensures { (state : State) (first second : List Piece) → after_pieces state (first ++ second)
         ≡ and_then (λ middle. after_pieces middle second) (after_pieces state first) }
@@ -76,8 +80,8 @@ pub fn law_pieces_in_parts()
 pub fn law_plain_text()
     ensures in_data { (text : List ℕ) → IsTrue (lacks (less_than ∷ ampersand ∷ []) text) →
         after_text next (at_row row.Data) text ≡ Ok (at_row row.Data) }
-    ensures in_rcdata { (now : Element) (text : List ℕ) → IsRcdata now → IsTrue (lacks (less_than ∷ ampersand ∷ []) text) →
-        after_text next (inside now) text ≡ Ok (inside now) }
+    ensures in_rcdata { (now : Element) (text : List ℕ) → IsRcdata now →
+        IsTrue (lacks (less_than ∷ ampersand ∷ []) text) → after_text next (inside now) text ≡ Ok (inside now) }
     ensures in_rawtext { (now : Element) (text : List ℕ) → IsPlainRawtext now → IsTrue (lacks (less_than ∷ []) text) →
         after_text next (inside now) text ≡ Ok (inside now) }
     ensures in_script { (state : JsState) (text : List ℕ) → IsTrue (lacks (less_than ∷ []) text) →
@@ -109,8 +113,8 @@ pub fn law_kept_place()
     ensures text_place { (out : List ℕ) → HasNoLessThan out → KeepsPlace place.Text out }
 {}
 
-/// Where a static character is no fault of the walk's, the walk leaves its tag, or it is none of the page's and the page
-/// goes on as the walk does.
+/// Where a static character is no fault of the walk's, the walk leaves its tag, or it is none of the page's and the
+/// page goes on as the walk does.
 pub fn law_page_step()
     ensures { (around : Option Tag) (page walk : State) (c : ℕ) → Follows around page walk →
         FollowsOn around (next page c) (next walk c) }

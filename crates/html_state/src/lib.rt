@@ -4,8 +4,8 @@
 //! static text, `value_step` for one of a value, `value` for the mark that a printed value leaves, `end_text` for the
 //! end of a static text. `placing` says what happens to a value, `may_end` whether a text of a kind may end, `part`
 //! the part of the markup that a state is in. Each call is one equation with the tables of specs/. Two states are equal
-//! exactly where they keep the same row, with what the row keeps, and the same reference. A state is copied and takes no
-//! memory.
+//! exactly where they keep the same row, with what the row keeps, and the same reference. A state is copied and takes
+//! no memory.
 //! Depends on soy_base and script_state.
 #![tactic(auto)]
 

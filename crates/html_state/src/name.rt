@@ -20,7 +20,8 @@ impl Model for Name {
 
     ghost view = { λ s. take s.count s.characters };
 
-    ghost invariant = { λ s. (s.count ≤ 17) × (length s.characters ≡ 17) × (drop s.count s.characters ≡ replicate (17 - s.count) 0) };
+    ghost invariant = { λ s. (s.count ≤ 17) × (length s.characters ≡ 17)
+        × (drop s.count s.characters ≡ replicate (17 - s.count) 0) };
 
     ghost inverse = { λ l. record { characters = l ++ replicate (17 - length l) 0; count = length l } };
 

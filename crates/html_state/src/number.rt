@@ -1,7 +1,8 @@
 //! References by number.
 
 ghost use Rattle.std.specs.Prelude.{◌≡◌, ◌≤◌};
-ghost use Rattle.html_state.specs.References.{are_digits, begins_number, begins_numeric, beyond, digit_value, is_number, is_numeric, is_some_allowed, may_go_on, meet, value_from};
+ghost use Rattle.html_state.specs.References.{are_digits, begins_number, begins_numeric, beyond, digit_value};
+ghost use Rattle.html_state.specs.References.{is_number, is_numeric, is_some_allowed, may_go_on, meet, value_from};
 
 /// Above each number of Unicode.
 const BEYOND: u32 = 0x110000;

@@ -3,7 +3,8 @@
 ghost use Rattle.std.specs.Prelude.{◌≡◌};
 ghost use Rattle.script_state.specs.CssAfterValue.{css_after_value};
 ghost use Rattle.html_state.specs.AfterValue.{part_after_value, row_after_value, value_after_value};
-ghost use Rattle.html_state.specs.StatePlacing.{element_placing, quoted_placing, refuses_start, row_placing, tag_name, tag_row_placing, uri_placing};
+ghost use Rattle.html_state.specs.StatePlacing.{element_placing, quoted_placing, refuses_start, row_placing, tag_name};
+ghost use Rattle.html_state.specs.StatePlacing.{tag_row_placing, uri_placing};
 
 use crate::row::{AttributeValue, Element, HtmlRow, Tag, TagRow, UriName, UriPart};
 use crate::text::is_among;

@@ -21,7 +21,8 @@ impl Model for Prefix {
 
     ghost view = { λ s. take s.count s.characters };
 
-    ghost invariant = { λ s. (s.count ≤ 9) × (length s.characters ≡ 9) × (drop s.count s.characters ≡ replicate (9 - s.count) 0) };
+    ghost invariant = { λ s. (s.count ≤ 9) × (length s.characters ≡ 9)
+        × (drop s.count s.characters ≡ replicate (9 - s.count) 0) };
 
     ghost inverse = { λ l. record { characters = l ++ replicate (9 - length l) 0; count = length l } };
 

@@ -5,7 +5,9 @@ ghost use Rattle.std.specs.Char.{is_ascii_alphanumeric};
 ghost use Rattle.soy_base.specs.Among.{is_among};
 ghost use Rattle.soy_base.specs.Characters.{number_sign};
 ghost use Rattle.html_state.specs.Kept.{prefix_with};
-ghost use Rattle.html_state.specs.Next.{ampersand_next, reference_begun_next, begun_reference, has_references, is_quoted, is_style_value, is_unquoted, is_uri_value, name_end, name_next, next, numeric_next, plain_next};
+ghost use Rattle.html_state.specs.Next.{ampersand_next, reference_begun_next, begun_reference, has_references};
+ghost use Rattle.html_state.specs.Next.{is_quoted, is_style_value, is_unquoted, is_uri_value, name_end, name_next};
+ghost use Rattle.html_state.specs.Next.{next, numeric_next, plain_next};
 ghost use Rattle.html_state.specs.References.{name_begun, reference_names};
 ghost use Rattle.html_state.specs.declared.row.Reference.{Reference};
 

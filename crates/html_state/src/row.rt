@@ -1,5 +1,12 @@
 //! What a state is: the row of the tokenizer's table with what the row keeps, and a reference that isn't decided.
 
+ghost use Rattle.std.specs.Prelude.{◌==◌};
+ghost use Rattle.std.specs.Ordering.{on};
+ghost use Rattle.std.specs.Cmp.Rules.{comparing};
+ghost use Rattle.std.proofs.Common.{rules};
+ghost use Rattle.html_state.specs.QuoteCharacter.{quote_character};
+
+use crate::attribute::quote_character;
 use crate::name::Name;
 use crate::prefix::Prefix;
 use script_state::{CssState, JsState};
@@ -19,10 +26,24 @@ pub enum Tag {
 }
 
 /// The quote that begins and ends a value.
-#[derive(Clone, Copy, Debug, PartialEq, Eq)]
+#[derive(Clone, Copy, Debug)]
 pub enum Quote {
     Single,
     Double,
+}
+
+impl PartialEq for Quote {
+    ghost eq = { on quote_character ◌==◌ };
+
+    ghost laws = { Prim.search (comparing, rules) };
+
+    fn eq(&self, other: &Quote) -> bool {
+        quote_character(*self) == quote_character(*other)
+    }
+}
+
+impl Eq for Quote {
+    ghost laws = { Prim.search (comparing, rules) };
 }
 
 /// A URI attribute. `src`, `data` and `href` are kept apart, since some tags refuse a value at their start.

@@ -1,6 +1,7 @@
 //! The rows within a tag.
 
-ghost use Rattle.std.specs.Prelude.{◌≡◌, Ok, Err, Some, None, ◌==◌, [], OnOk, OnErr, IfOk, IfErr, if◌then◌else◌, true, false};
+ghost use Rattle.std.specs.Prelude.{◌≡◌, Ok, Err, Some, None, ◌==◌, [], OnOk, OnErr, IfOk, IfErr, if◌then◌else◌, true};
+ghost use Rattle.std.specs.Prelude.{false};
 ghost use Rattle.std.specs.Char.{is_ascii_whitespace};
 ghost use Rattle.soy_base.specs.Characters.{greater_than};
 ghost use Rattle.html_state.specs.Kept.{name_with};
@@ -94,7 +95,8 @@ fn step_before_name(row: &mut TagRow, c: char) -> Result<bool, Code>
 }
 
 fn step_after_printed(row: &mut TagRow, c: char) -> Result<bool, Code>
-    ensures ok { IfOk result (λ ended. tag_row_next true tag_row.AfterPrinted c ≡ Ok (if ended then None else Some row.new)) }
+    ensures ok { IfOk result (λ ended. tag_row_next true tag_row.AfterPrinted c
+        ≡ Ok (if ended then None else Some row.new)) }
     ensures err { IfErr result (λ code. tag_row_next true tag_row.AfterPrinted c ≡ Err code) }
     ensures unchanged { OnErr result (row.new ≡ row.old) }
 {
@@ -107,8 +109,8 @@ fn step_after_printed(row: &mut TagRow, c: char) -> Result<bool, Code>
 
 /// The first character of an unquoted value.
 fn step_first(row: &mut TagRow, attribute: Attribute, c: char, is_static: bool) -> Result<(), Code>
-    ensures ok { OnOk result (and_then (λ following. Ok (Some (tag_row.Unquoted following))) (value_next is_static (begun_value attribute) c)
-        ≡ Ok (Some row.new)) }
+    ensures ok { OnOk result (and_then (λ following. Ok (Some (tag_row.Unquoted following)))
+        (value_next is_static (begun_value attribute) c) ≡ Ok (Some row.new)) }
     ensures err { IfErr result (λ code. value_next is_static (begun_value attribute) c ≡ Err code) }
     ensures unchanged { OnErr result (row.new ≡ row.old) }
 {

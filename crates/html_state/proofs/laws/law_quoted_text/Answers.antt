@@ -13,18 +13,22 @@ use Rattle.html_state.proofs.laws.law_quoted_text.Goals as goal
 
 pub returns-clause-plain : goal.returns-clause-plain
 returns-clause-plain c = λ around quote now text is none.
-    plain_quoted around quote now text none ∙ ap (and_then (λ following. Ok (quoted around quote following))) (plain_value now text is)
+    plain_quoted around quote now text none ∙ ap (and_then (λ following. Ok (quoted around quote following)))
+    (plain_value now text is)
 
 pub returns-clause-uri : goal.returns-clause-uri
 returns-clause-uri c = λ around quote name part text none.
     plain_quoted around quote (value.Uri name part) text none
     ∙ (ap (and_then (λ following. Ok (quoted around quote following))) (plain_uri name part text)
-    ∙ elim (after_text part_next part text) as (λ o. and_then (λ following. Ok (quoted around quote following)) (and_then (λ following. Ok (value.Uri name following)) o) ≡ and_then (λ following. Ok (quoted around quote (value.Uri name following))) o)
+    ∙ elim (after_text part_next part text) as (λ o. and_then (λ following. Ok (quoted around quote following))
+    (and_then (λ following. Ok (value.Uri name following)) o)
+    ≡ and_then (λ following. Ok (quoted around quote (value.Uri name following))) o)
     [ Ok following ↦ refl | Err fault ↦ refl ])
 
 pub returns-clause-style : goal.returns-clause-style
 returns-clause-style c = λ around quote state text none.
     plain_quoted around quote (value.Style state) text none
     ∙ (ap (and_then (λ following. Ok (quoted around quote following))) (plain_style_value state text)
-    ∙ elim (state_after css_next state text) as (λ o. and_then (λ following. Ok (quoted around quote following)) (followed value.Style o) ≡ followed (λ following. quoted around quote (value.Style following)) o)
+    ∙ elim (state_after css_next state text) as (λ o. and_then (λ following. Ok (quoted around quote following))
+    (followed value.Style o) ≡ followed (λ following. quoted around quote (value.Style following)) o)
     [ Some following ↦ refl | None ↦ refl ])

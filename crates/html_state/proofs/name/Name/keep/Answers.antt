@@ -11,4 +11,5 @@ invariant_of-self c = (
 
 pub returns-else-self-lt17 : goal.returns-else-self-lt17
 returns-else-self-lt17 c =
-    kept_else c.self.inside.count 17 c.self.inside.characters c.args.self.now c.args.c c.self.view_is c.self.invariant.0 c.if-self-lt17.false c.self.invariant.1
+    kept_else c.self.inside.count 17 c.self.inside.characters c.args.self.now c.args.c c.self.view_is c.self.invariant.0
+    c.if-self-lt17.false c.self.invariant.1
