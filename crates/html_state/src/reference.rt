@@ -1,6 +1,6 @@
 //! References, from their `&` to the character that decides them.
 
-ghost use Rattle.std.specs.Prelude.{◌≡◌, ◌∷◌, Ok, Err, OnOk, OnErr, IfErr, false, IsTrue};
+ghost use Rattle.std.specs.Prelude.{List, ℕ, map, ◌≡◌, ◌∷◌, Ok, Err, OnOk, OnErr, IfErr, false, IsTrue};
 ghost use Rattle.std.specs.Char.{is_ascii_alphanumeric};
 ghost use Rattle.soy_base.specs.Among.{is_among};
 ghost use Rattle.soy_base.specs.Characters.{number_sign};
@@ -9,6 +9,7 @@ ghost use Rattle.html_state.specs.Next.{ampersand_next, reference_begun_next, be
 ghost use Rattle.html_state.specs.Next.{is_quoted, is_style_value, is_unquoted, is_uri_value, name_end, name_next};
 ghost use Rattle.html_state.specs.Next.{next, numeric_next, plain_next};
 ghost use Rattle.html_state.specs.References.{name_begun, reference_names};
+ghost use Rattle.html_state.specs.Texts.{is_prefix_among};
 ghost use Rattle.html_state.specs.declared.row.Reference.{Reference};
 
 use crate::markup::step_row;
@@ -18,23 +19,56 @@ use crate::row::{Attribute, AttributeValue, Element, HtmlRow, Reference, State, 
 use crate::text::{begins_one, is_one};
 use soy_base::Code;
 
-const REFERENCE_NAMES: [&[u8]; 31] = [
-    b"amp", b"lt", b"gt", b"quot", b"nbsp", b"copy", b"reg", b"sect", b"mdash", b"ndash",
-    b"hellip", b"laquo", b"raquo", b"lsquo", b"rsquo", b"para", b"ldquo", b"rdquo", b"bull",
-    b"middot", b"times", b"deg", b"euro", b"trade", b"larr", b"rarr", b"lrm", b"rlm", b"zwnj",
-    b"zwj", b"shy",
-];
+/// What the known names go on with that begin with a character.
+fn names_after(first: u8) -> &'static [&'static [u8]]
+    ensures begun { (rest : List ℕ) → is_prefix_among reference_names (first ∷ rest)
+        ≡ is_prefix_among (map (λ t. t.now) result.now) rest }
+    ensures whole { (rest : List ℕ) → is_among reference_names (first ∷ rest)
+        ≡ is_among (map (λ t. t.now) result.now) rest }
+{
+    match first {
+        b'a' => &[b"mp"],
+        b'b' => &[b"ull"],
+        b'c' => &[b"opy"],
+        b'd' => &[b"eg"],
+        b'e' => &[b"uro"],
+        b'g' => &[b"t"],
+        b'h' => &[b"ellip"],
+        b'l' => &[b"t", b"aquo", b"squo", b"dquo", b"arr", b"rm"],
+        b'm' => &[b"dash", b"iddot"],
+        b'n' => &[b"bsp", b"dash"],
+        b'p' => &[b"ara"],
+        b'q' => &[b"uot"],
+        b'r' => &[b"eg", b"aquo", b"squo", b"dquo", b"arr", b"lm"],
+        b's' => &[b"ect", b"hy"],
+        b't' => &[b"imes", b"rade"],
+        b'z' => &[b"wnj", b"wj"],
+        _ => &[],
+    }
+}
 
 fn is_reference_name(characters: &[u8]) -> bool
     ensures { result ≡ is_among reference_names characters.now }
 {
-    is_one(characters, &REFERENCE_NAMES)
+    match characters {
+        [] => false,
+        [first, rest @ ..] => is_one(rest, names_after(*first)),
+    }
+}
+
+fn begins_reference_name(characters: &[u8]) -> bool
+    ensures { result ≡ is_prefix_among reference_names characters.now }
+{
+    match characters {
+        [] => true,
+        [first, rest @ ..] => begins_one(rest, names_after(*first)),
+    }
 }
 
 fn name_begun(prefix: Prefix) -> Reference
     ensures { result ≡ name_begun prefix }
 {
-    if begins_one(prefix.characters(), &REFERENCE_NAMES) {
+    if begins_reference_name(prefix.characters()) {
         Reference::Begun(prefix)
     } else {
         Reference::NoName
