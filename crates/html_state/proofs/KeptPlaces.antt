@@ -32,7 +32,7 @@ use Rattle.html_state.specs.declared.row.TagRow.TheVariants as tag_row
 use Rattle.html_state.specs.declared.row.UriName.{UriName}
 use Rattle.html_state.specs.declared.row.UriPart.{UriPart}
 use Rattle.html_state.specs.declared.row.UriPart.TheVariants as part
-use Rattle.html_state.specs.AfterText.{after_text}
+use Rattle.html_state.specs.AfterAll.{after_all}
 use Rattle.html_state.specs.AfterValue.{part_after_value}
 use Rattle.html_state.specs.ElementNext.{element_next}
 use Rattle.html_state.specs.KeepsPlace.{HasNoQuote, HasNoLessThan, KeepsPlaceAt}
@@ -68,15 +68,15 @@ module _ (around : Tag) (quote : Quote) where
       [ Ok following ↦ refl | Err fault ↦ refl ])
 
   quoted_text : (now : AttributeValue) (out : List ℕ) → HasNoQuote out →
-      after_text (row_next false) (in_quotes around quote now) out
-      ≡ and_then (λ following. Ok (in_quotes around quote following)) (after_text (value_next false) now out)
+      after_all (row_next false) (in_quotes around quote now) out
+      ≡ and_then (λ following. Ok (in_quotes around quote following)) (after_all (value_next false) now out)
   quoted_text now out none =
       within_text (row_next false) (value_next false) (in_quotes around quote) (double_quote ∷ single_quote ∷ [])
       (λ x c is. quoted_one x c (no_own_quote quote c is)) now out none
 
   still_quoted : (now : AttributeValue) → ((c : ℕ) → value_next false now c ≡ Ok now) → (out : List ℕ) →
       HasNoQuote out →
-      after_text (row_next false) (in_quotes around quote now) out ≡ Ok (in_quotes around quote now)
+      after_all (row_next false) (in_quotes around quote now) out ≡ Ok (in_quotes around quote now)
   still_quoted now still out none =
       quoted_text now out none ∙ ap (and_then (λ following. Ok (in_quotes around quote following)))
       (still_text (value_next false) now still out)
@@ -109,7 +109,7 @@ module _ (around : Tag) (quote : Quote) where
   uri_holds name attribute part.BadScheme out never = absurd never
 
   style_leads : (before now : CssState) (out : List ℕ) → HasNoQuote out → state_after css_next before out ≡ Some now →
-      after_text (row_next false) (in_quotes around quote (value.Style before)) out
+      after_all (row_next false) (in_quotes around quote (value.Style before)) out
       ≡ Ok (in_quotes around quote (value.Style now))
   style_leads before now out none led =
       quoted_text (value.Style before) out none
@@ -161,20 +161,20 @@ element_one : (now : Element) (c : ℕ) → (eqb c less_than) ≡ false →
 element_one now c no_tag = rw (no_tag) refl
 
 element_text : (now : Element) (out : List ℕ) → HasNoLessThan out →
-    after_text (row_next false) (row.Within now) out
-    ≡ and_then (λ following. Ok (row.Within following)) (after_text element_next now out)
+    after_all (row_next false) (row.Within now) out
+    ≡ and_then (λ following. Ok (row.Within following)) (after_all element_next now out)
 element_text now out none =
     within_text (row_next false) element_next row.Within (less_than ∷ [])
     (λ x c is. element_one x c (none_of_one (eqb c less_than) is)) now out none
 
 still_element : (now : Element) → ((c : ℕ) → element_next now c ≡ Ok now) → (out : List ℕ) → HasNoLessThan out →
-    after_text (row_next false) (row.Within now) out ≡ Ok (row.Within now)
+    after_all (row_next false) (row.Within now) out ≡ Ok (row.Within now)
 still_element now still out none =
     element_text now out none ∙ ap (and_then (λ following. Ok (row.Within following)))
     (still_text element_next now still out)
 
 sheet_leads : (before now : CssState) (out : List ℕ) → HasNoLessThan out → state_after css_next before out ≡ Some now →
-    after_text (row_next false) (row.Within (element.Style before)) out ≡ Ok (row.Within (element.Style now))
+    after_all (row_next false) (row.Within (element.Style before)) out ≡ Ok (row.Within (element.Style now))
 sheet_leads before now out none led =
     element_text (element.Style before) out none
     ∙ ap (and_then (λ following. Ok (row.Within following)))
@@ -275,13 +275,13 @@ row_holds row.Outside out never = absurd never
 
 -- a value's characters leave the reference
 pub value_rows : (reference : Reference) (before : HtmlRow) (out : List ℕ) →
-    after_text value_character_next (pending before reference) out
-    ≡ and_then (λ now. Ok (pending now reference)) (after_text (row_next false) before out)
+    after_all value_character_next (pending before reference) out
+    ≡ and_then (λ now. Ok (pending now reference)) (after_all (row_next false) before out)
 value_rows reference before [] = refl
 value_rows reference before (c ∷ rest) =
-    elim (row_next false before c) as (λ o. and_then (λ s. after_text value_character_next s rest)
+    elim (row_next false before c) as (λ o. and_then (λ s. after_all value_character_next s rest)
     (and_then (λ now. Ok (pending now reference)) o)
-    ≡ and_then (λ now. Ok (pending now reference)) (and_then (λ r. after_text (row_next false) r rest) o))
+    ≡ and_then (λ now. Ok (pending now reference)) (and_then (λ r. after_all (row_next false) r rest) o))
     [ Ok now ↦ value_rows reference now rest | Err fault ↦ refl ]
 
 pub holds : (before : State) (out : List ℕ) → KeepsPlaceAt (placing before) out → Leads before out
@@ -296,7 +296,7 @@ holds before out safe =
 data_one : (c : ℕ) → (eqb c less_than) ≡ false → row_next false row.Data c ≡ Ok row.Data
 data_one c no_tag = rw (no_tag) refl
 
-pub safe_text : (out : List ℕ) → HasNoLessThan out → after_text (row_next false) row.Data out ≡ Ok row.Data
+pub safe_text : (out : List ℕ) → HasNoLessThan out → after_all (row_next false) row.Data out ≡ Ok row.Data
 safe_text out none =
     within_text (row_next false) (λ (x : Unit {0}) c. Ok x) (λ x. row.Data) (less_than ∷ [])
     (λ x c is. data_one c (none_of_one (eqb c less_than) is)) tt out none

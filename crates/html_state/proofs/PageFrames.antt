@@ -31,7 +31,7 @@ use Rattle.html_state.specs.declared.row.TagRow.TheVariants as tag_row
 use Rattle.html_state.specs.declared.row.UriName.{UriName}
 use Rattle.html_state.specs.declared.row.UriPart.{UriPart}
 use Rattle.html_state.specs.declared.row.UriPart.TheVariants as part
-use Rattle.html_state.specs.AfterText.{after_text}
+use Rattle.html_state.specs.AfterAll.{after_all}
 use Rattle.html_state.specs.AfterValue.{after_value, row_after_value, tag_row_after_value, value_after_value}
 use Rattle.html_state.specs.Follows.{Follows, FollowsOutside, FollowsRow, FollowsTag, FollowsTagRow, FramesAttributes}
 use Rattle.html_state.specs.Follows.{FramesHtml, IsPastPrinted, LeadsPage, PlacedAlike}
@@ -52,7 +52,7 @@ use Rattle.html_state.proofs.KeptPlaces.{in_quotes, quoted_holds, row_holds, val
 
 abbrev pub LeadsPageRow : Option Tag → HtmlRow → HtmlRow → List ℕ → Type 0
 LeadsPageRow around page walk out =
-    (now : HtmlRow) × (after_text (row_next false) page out ≡ Ok now)
+    (now : HtmlRow) × (after_all (row_next false) page out ≡ Ok now)
     × FollowsRow around (marked_row page now) (row_after_value walk)
 
 quoted_value : (around : Option Tag) (page walk : Tag) (quote : Quote) (now : AttributeValue) (out : List ℕ) →

@@ -31,7 +31,7 @@ use Rattle.html_state.specs.declared.row.TagRow.TheVariants as tag_row
 use Rattle.html_state.specs.declared.row.UriName.{UriName}
 use Rattle.html_state.specs.declared.row.UriPart.{UriPart}
 use Rattle.html_state.specs.declared.row.UriPart.TheVariants as part
-use Rattle.html_state.specs.AfterText.{after_text}
+use Rattle.html_state.specs.AfterAll.{after_all}
 use Rattle.html_state.specs.AfterValue.{after_value, row_after_value, tag_row_after_value, value_after_value}
 use Rattle.html_state.specs.Follows.{Follows, FollowsOutside, FollowsRow, FollowsTag, FollowsTagRow, FramesAttributes}
 use Rattle.html_state.specs.Follows.{FramesHtml, IsPastPrinted, LeadsPage, PlacedAlike}

@@ -22,7 +22,7 @@ use Rattle.html_state.specs.declared.row.Tag.{Tag}
 use Rattle.html_state.specs.declared.row.TagRow.TheVariants as tag_row
 use Rattle.html_state.specs.declared.row.UriName.{UriName}
 use Rattle.html_state.specs.declared.row.UriPart.{UriPart}
-use Rattle.html_state.specs.AfterText.{after_text}
+use Rattle.html_state.specs.AfterAll.{after_all}
 use Rattle.html_state.specs.ElementNext.{element_next}
 use Rattle.html_state.specs.Next.{at_row, has_references, next, pending}
 use Rattle.html_state.specs.PartNext.{part_next}
@@ -41,7 +41,7 @@ data_one : (c : ℕ) → (eqb c less_than) ≡ false → (eqb c ampersand) ≡ f
 data_one c no_tag no_reference = rw (no_tag, no_reference) refl
 
 pub plain_data : (text : List ℕ) → IsTrue (lacks (less_than ∷ ampersand ∷ []) text) →
-    after_text next (at_row row.Data) text ≡ Ok (at_row row.Data)
+    after_all next (at_row row.Data) text ≡ Ok (at_row row.Data)
 plain_data text none =
     within_text next (λ (x : Unit {0}) c. Ok x) (λ x. at_row row.Data) (less_than ∷ ampersand ∷ [])
     (λ x c is. let no = none_of_two (eqb c less_than) (eqb c ampersand) is in data_one c no.0 no.1) tt text none
@@ -59,7 +59,7 @@ element_one now c no_tag no_reference =
     [ Ok following ↦ refl | Err fault ↦ refl ])
 
 pub plain_element : (now : Element) (text : List ℕ) → IsTrue (lacks (less_than ∷ ampersand ∷ []) text) →
-    after_text next (inside now) text ≡ and_then (λ following. Ok (inside following)) (after_text element_next now text)
+    after_all next (inside now) text ≡ and_then (λ following. Ok (inside following)) (after_all element_next now text)
 plain_element now text none =
     within_text next element_next inside (less_than ∷ ampersand ∷ [])
     (λ x c is. let no = none_of_two (eqb c less_than) (eqb c ampersand) is in element_one x c no.0 no.1) now text none
@@ -76,7 +76,7 @@ rcdata_still element.Noscript never c = absurd never
 rcdata_still (element.Script state) never c = absurd never
 
 pub plain_rcdata : (now : Element) (text : List ℕ) → IsRcdata now → IsTrue (lacks (less_than ∷ ampersand ∷ []) text) →
-    after_text next (inside now) text ≡ Ok (inside now)
+    after_all next (inside now) text ≡ Ok (inside now)
 plain_rcdata now text is none =
     plain_element now text none ∙ ap (and_then (λ following. Ok (inside following)))
     (still_text element_next now (rcdata_still now is) text)
@@ -94,7 +94,7 @@ rawtext_one (element.Style state) never c no_tag = absurd never
 rawtext_one (element.Script state) never c no_tag = absurd never
 
 pub plain_rawtext : (now : Element) (text : List ℕ) → IsPlainRawtext now → IsTrue (lacks (less_than ∷ []) text) →
-    after_text next (inside now) text ≡ Ok (inside now)
+    after_all next (inside now) text ≡ Ok (inside now)
 plain_rawtext now text is none =
     within_text next (λ (x : Unit {0}) c. Ok x) (λ x. inside now) (less_than ∷ [])
     (λ x c lacking. rawtext_one now is c (none_of_one (eqb c less_than) lacking)) tt text none
@@ -113,7 +113,7 @@ script_one state c no_tag =
     [ Some following ↦ rw (and_no (eqb c ampersand)) refl | None ↦ refl ])
 
 pub plain_script : (state : JsState) (text : List ℕ) → IsTrue (lacks (less_than ∷ []) text) →
-    after_text next (in_script state) text ≡ followed in_script (state_after js_next state text)
+    after_all next (in_script state) text ≡ followed in_script (state_after js_next state text)
 plain_script state text none =
     within_text next (λ s c. followed (λ t. t) (js_next s c)) in_script (less_than ∷ [])
     (λ s c is. script_one s c (none_of_one (eqb c less_than) is)) state text none
@@ -134,7 +134,7 @@ style_one state c no_tag =
     [ Some following ↦ rw (and_no (eqb c ampersand)) refl | None ↦ refl ])
 
 pub plain_style : (state : CssState) (text : List ℕ) → IsTrue (lacks (less_than ∷ []) text) →
-    after_text next (in_style state) text ≡ followed in_style (state_after css_next state text)
+    after_all next (in_style state) text ≡ followed in_style (state_after css_next state text)
 plain_style state text none =
     within_text next (λ s c. followed (λ t. t) (css_next s c)) in_style (less_than ∷ [])
     (λ s c is. style_one s c (none_of_one (eqb c less_than) is)) state text none
@@ -160,8 +160,8 @@ module _ (around : Tag) (quote : Quote) where
 
   pub plain_quoted : (now : AttributeValue) (text : List ℕ) →
       IsTrue (lacks (quote_character quote ∷ ampersand ∷ []) text) →
-      after_text next (quoted around quote now) text ≡ and_then (λ following. Ok (quoted around quote following))
-      (after_text (value_next true) now text)
+      after_all next (quoted around quote now) text ≡ and_then (λ following. Ok (quoted around quote following))
+      (after_all (value_next true) now text)
   plain_quoted now text none =
       within_text next (value_next true) (quoted around quote) (quote_character quote ∷ ampersand ∷ [])
       (λ x c is. let no = none_of_two (eqb c (quote_character quote)) (eqb c ampersand) is in quoted_one x c no.0 no.1)
@@ -175,19 +175,19 @@ runs_nothing (value.Uri name part) never c = absurd never
 runs_nothing (value.Style state) never c = absurd never
 
 pub plain_value : (now : AttributeValue) (text : List ℕ) → RunsNothing now →
-    after_text (value_next true) now text ≡ Ok now
+    after_all (value_next true) now text ≡ Ok now
 plain_value now text is = still_text (value_next true) now (runs_nothing now is) text
 
 pub plain_style_value : (state : CssState) (text : List ℕ) →
-    after_text (value_next true) (value.Style state) text ≡ followed value.Style (state_after css_next state text)
+    after_all (value_next true) (value.Style state) text ≡ followed value.Style (state_after css_next state text)
 plain_style_value state text = table_text css_next value.Style (value_next true) (λ s c. refl) state text
 
 pub plain_uri : (name : UriName) (part : UriPart) (text : List ℕ) →
-    after_text (value_next true) (value.Uri name part) text
-    ≡ and_then (λ following. Ok (value.Uri name following)) (after_text part_next part text)
+    after_all (value_next true) (value.Uri name part) text
+    ≡ and_then (λ following. Ok (value.Uri name following)) (after_all part_next part text)
 plain_uri name part [] = refl
 plain_uri name part (c ∷ rest) =
-    elim (part_next part c) as (λ o. and_then (λ v. after_text (value_next true) v rest)
+    elim (part_next part c) as (λ o. and_then (λ v. after_all (value_next true) v rest)
     (and_then (λ following. Ok (value.Uri name following)) o)
-    ≡ and_then (λ following. Ok (value.Uri name following)) (and_then (λ p. after_text part_next p rest) o))
+    ≡ and_then (λ following. Ok (value.Uri name following)) (and_then (λ p. after_all part_next p rest) o))
     [ Ok following ↦ plain_uri name following rest | Err fault ↦ refl ]

@@ -1,8 +1,7 @@
 -- The kind of an attribute, by its name.
 --
--- A URI attribute's value is a URI. An event attribute, whose name begins with `on`, and five others take no
--- printed value. A
--- style attribute's value is a style. All others are plain. (WHATWG HTML, "Attributes".)
+-- A URI attribute's value is a URI. An event attribute, whose name begins with `on`, and five others take no printed
+-- value. A style attribute's value is a style. All others are plain. (WHATWG HTML, "Attributes".)
 -- Example: `href` is a URI attribute, `onclick` an event attribute, and `hrefs` a plain one.
 use Rattle.std.specs.Prelude.{ℕ, List, [], ◌∷◌, if◌then◌else◌, codes}
 use Rattle.html_state.specs.declared.row.Attribute.{Attribute}

@@ -21,7 +21,7 @@ use Rattle.html_state.specs.declared.row.Tag.{Tag}
 use Rattle.html_state.specs.declared.row.Tag.TheVariants as tag
 use Rattle.html_state.specs.declared.row.TagRow.{TagRow}
 use Rattle.html_state.specs.declared.row.TagRow.TheVariants as tag_row
-use Rattle.html_state.specs.AfterText.{after_text}
+use Rattle.html_state.specs.AfterAll.{after_all}
 use Rattle.html_state.specs.AfterValue.{after_value, row_after_value}
 use Rattle.html_state.specs.Leads.{marked}
 use Rattle.html_state.specs.MayEnd.{may_end}
@@ -79,7 +79,7 @@ PlacedAlike around page (Takes point) = page ≡ Takes point
 -- these characters and the mark lead the page to a state that goes on as the walk's after its value
 abbrev pub LeadsPage : Option Tag → State → State → List ℕ → Type 0
 LeadsPage around page walk out =
-    (now : State) × (after_text value_character_next page out ≡ Ok now)
+    (now : State) × (after_all value_character_next page out ≡ Ok now)
     × Follows around (marked page now) (after_value walk)
 
 -- a block of attributes that the walk prints: there is a tag around it, and where the block may end, the page goes on

@@ -16,7 +16,7 @@ use Rattle.script_state.specs.CssNext.{css_next}
 use Rattle.script_state.specs.JsNext.{js_next}
 use Rattle.script_state.specs.declared.css_state.CssState.TheVariants as css
 use Rattle.script_state.specs.declared.js_state.JsState.TheVariants as js
-use Rattle.html_state.specs.AfterText.{after_text}
+use Rattle.html_state.specs.AfterAll.{after_all}
 use Rattle.html_state.specs.RowNext.{row_next}
 use Rattle.html_state.specs.declared.row.HtmlRow.TheVariants as row
 
@@ -28,7 +28,7 @@ abbrev pub HasNoQuote : List ℕ → Type 0
 HasNoQuote text = IsTrue (lacks (double_quote ∷ single_quote ∷ []) text)
 
 abbrev pub KeepsPlace : Place → List ℕ → Type 0
-KeepsPlace place.Text out = after_text (row_next false) row.Data out ≡ Ok row.Data
+KeepsPlace place.Text out = after_all (row_next false) row.Data out ≡ Ok row.Data
 KeepsPlace place.Rcdata out = HasNoLessThan out
 KeepsPlace place.Tag out = ⊥
 KeepsPlace place.Attr out = HasNoQuote out

@@ -16,7 +16,7 @@ use Rattle.html_state.specs.declared.row.TagRow.{TagRow}
 use Rattle.html_state.specs.declared.row.TagRow.TheVariants as tag_row
 use Rattle.html_state.specs.declared.row.UriPart.{UriPart}
 use Rattle.html_state.specs.declared.row.UriPart.TheVariants as part
-use Rattle.html_state.specs.AfterText.{after_text}
+use Rattle.html_state.specs.AfterAll.{after_all}
 use Rattle.html_state.specs.AfterValue.{after_value, row_after_value}
 use Rattle.html_state.specs.Next.{pending, value_character_next}
 use Rattle.html_state.specs.RowNext.{row_next}
@@ -50,9 +50,9 @@ marked before now = pending (marked_row before.row now.row) now.reference
 
 abbrev pub LeadsRow : HtmlRow → List ℕ → Type 0
 LeadsRow before out =
-    (now : HtmlRow) × (after_text (row_next false) before out ≡ Ok now)
+    (now : HtmlRow) × (after_all (row_next false) before out ≡ Ok now)
     × (marked_row before now ≡ row_after_value before)
 
 abbrev pub Leads : State → List ℕ → Type 0
 Leads before out =
-    (now : State) × (after_text value_character_next before out ≡ Ok now) × (marked before now ≡ after_value before)
+    (now : State) × (after_all value_character_next before out ≡ Ok now) × (marked before now ≡ after_value before)

@@ -1,4 +1,4 @@
-pub mod AfterText
+pub mod AfterAll
 pub mod AfterValue
 pub mod AttributeNamed
 pub mod DeclarationNext

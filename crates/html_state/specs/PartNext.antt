@@ -35,11 +35,14 @@ part_by_character at_colon at_slash at_question_mark at_number_sign at_other c =
     else (if c == number_sign then at_number_sign
     else at_other)))
 
+-- past the colon that ends these characters
+abbrev pub past_scheme : List ℕ → UriPart
+past_scheme prefix = if is_among schemes prefix then part.Path else part.BadScheme
+
 abbrev pub part_next : UriPart → ℕ → Result UriPart Code
 part_next part.Start c = Ok (part_by_character part.BadScheme part.Path part.Query part.Fragment (scheme_next [] c) c)
 part_next (part.Scheme prefix) c =
-    Ok (part_by_character (if is_among schemes prefix then part.Path
-    else part.BadScheme) part.Path part.Query part.Fragment (scheme_next prefix c) c)
+    Ok (part_by_character (past_scheme prefix) part.Path part.Query part.Fragment (scheme_next prefix c) c)
 part_next part.NoScheme c = Ok (part_by_character part.BadScheme part.Path part.Query part.Fragment part.NoScheme c)
 part_next part.AfterStart c =
     if c == colon then Err code.UriStart

@@ -25,7 +25,7 @@ use Rattle.html_state.specs.declared.row.Tag.TheVariants as tag
 use Rattle.html_state.specs.declared.row.TagKind.{TagKind}
 use Rattle.html_state.specs.declared.row.TagKind.TheVariants as kind
 use Rattle.html_state.specs.declared.row.TagRow.{TagRow}
-use Rattle.html_state.specs.AfterText.{after_text}
+use Rattle.html_state.specs.AfterAll.{after_all}
 use Rattle.html_state.specs.DeclarationNext.{declaration_next}
 use Rattle.html_state.specs.ElementNamed.{element_name, element_named, refused_names}
 use Rattle.html_state.specs.ElementNext.{element_next, end_tag, is_script, may_end_element}
@@ -84,7 +84,7 @@ within_next now c =
 
 -- these characters began no end tag: they are text, and so is the one that shows it
 abbrev pub given_up : Element → List ℕ → ℕ → Result HtmlRow Code
-given_up now characters c = and_then (λ following. within_next following c) (after_text element_next now characters)
+given_up now characters c = and_then (λ following. within_next following c) (after_all element_next now characters)
 
 -- what is begun after one more character that goes on with it
 abbrev pub goes_on_begun : Element → Begun → ℕ → Option Begun

@@ -3,7 +3,7 @@
 ghost use Rattle.std.specs.Prelude.{◌≡◌, ◌==◌, ◌&&◌, Ok, Err, OnOk, OnErr, IfErr, ◌≤◌, length, take, get_or, nat_lt};
 ghost use Rattle.std.specs.Prelude.{if◌then◌else◌};
 ghost use Rattle.std.specs.Char.{to_ascii_lowercase};
-ghost use Rattle.html_state.specs.AfterText.{after_text};
+ghost use Rattle.html_state.specs.AfterAll.{after_all};
 ghost use Rattle.html_state.specs.ElementNamed.{element_name};
 ghost use Rattle.html_state.specs.ElementNext.{element_next, end_tag, is_script, may_end_element};
 ghost use Rattle.html_state.specs.RowNext.{begun_end, end_tag_next, given_up, goes_on_begun, in_tag, within_next};
@@ -105,7 +105,7 @@ fn is_whole(element: &Element, count: u8) -> bool
 
 /// The element after several characters of its text.
 fn element_after(element: &Element, characters: &[u8]) -> Result<Element, Code>
-    ensures { result ≡ after_text element_next element.now characters.now }
+    ensures { result ≡ after_all element_next element.now characters.now }
 {
     let mut now = *element;
     for c in characters {
@@ -170,13 +170,8 @@ pub(crate) fn begun_end(element: &Element, begun: Begun, c: char) -> Result<Html
             }
         }
         Begun::Bang => given_up(element, b"<!", c),
-        Begun::BangDash => {
-            if c == '-' {
-                Err(Code::Script)
-            } else {
-                given_up(element, b"<!-", c)
-            }
-        }
+        Begun::BangDash if c == '-' => Err(Code::Script),
+        Begun::BangDash => given_up(element, b"<!-", c),
     }
 }
 

@@ -1,5 +1,6 @@
 //! What the tables come to, for every text. Each law is a contract with an empty body, so it holds of the definitions
-//! that the calls of a state follow.
+//! that the calls of a state follow. In the laws of pages the walk is over templates: it follows each block by itself,
+//! where the page has the block in a tag of its own.
 
 ghost use Rattle.std.specs.Prelude.{◌≡◌, ◌↔◌, ◌++◌, ◌∷◌, [], ℕ, List, Ok, IsTrue, true, Option};
 ghost use Rattle.soy_base.specs.Among.{lacks};
@@ -12,7 +13,7 @@ ghost use Rattle.script_state.specs.CssNext.{css_next};
 ghost use Rattle.script_state.specs.JsNext.{js_next};
 ghost use Rattle.script_state.specs.declared.css_state.CssState.{CssState};
 ghost use Rattle.script_state.specs.declared.js_state.JsState.{JsState};
-ghost use Rattle.html_state.specs.AfterText.{after_text};
+ghost use Rattle.html_state.specs.AfterAll.{after_all};
 ghost use Rattle.html_state.specs.AfterValue.{after_value};
 ghost use Rattle.html_state.specs.Follows.{Follows, FollowsOn, FramesAttributes, FramesHtml, LeadsPage, PlacedAlike};
 ghost use Rattle.html_state.specs.IsSame.{IsSame};
@@ -58,18 +59,17 @@ pub fn law_equal_states()
     ensures parts { (one other : State) → IsSame one other → part_of one ≡ part_of other }
 {}
 
-/// A text may be read in pieces: the state after two pieces, or the first fault in them, is that of their whole.
-pub fn law_text_in_pieces()
-    ensures static_text { (state : State) (first second : List ℕ) → after_text next state (first ++ second)
-        ≡ and_then (λ middle. after_text next middle second) (after_text next state first) }
-    ensures value { (state : State) (first second : List ℕ) → after_text value_character_next state (first ++ second)
-        ≡ and_then (λ middle. after_text value_character_next middle second)
-        (after_text value_character_next state first) }
+/// Two texts read one after the other are their joined text: the state after them, or the first fault in them.
+pub fn law_joined_texts()
+    ensures static_text { (state : State) (first second : List ℕ) → after_all next state (first ++ second)
+        ≡ and_then (λ middle. after_all next middle second) (after_all next state first) }
+    ensures value { (state : State) (first second : List ℕ) → after_all value_character_next state (first ++ second)
+        ≡ and_then (λ middle. after_all value_character_next middle second)
+        (after_all value_character_next state first) }
 {}
 
-/// Pieces may be read in parts: the state after two lists of pieces, or the first fault in them, is that of their
-/// whole.
-pub fn law_pieces_in_parts()
+/// Two lists of pieces read one after the other are the joined list, likewise.
+pub fn law_joined_pieces()
     ensures { (state : State) (first second : List Piece) → after_pieces state (first ++ second)
         ≡ and_then (λ middle. after_pieces middle second) (after_pieces state first) }
 {}
@@ -79,15 +79,15 @@ pub fn law_pieces_in_parts()
 /// the fault is 18.
 pub fn law_plain_text()
     ensures in_data { (text : List ℕ) → IsTrue (lacks (less_than ∷ ampersand ∷ []) text) →
-        after_text next (at_row row.Data) text ≡ Ok (at_row row.Data) }
+        after_all next (at_row row.Data) text ≡ Ok (at_row row.Data) }
     ensures in_rcdata { (now : Element) (text : List ℕ) → IsRcdata now →
-        IsTrue (lacks (less_than ∷ ampersand ∷ []) text) → after_text next (inside now) text ≡ Ok (inside now) }
+        IsTrue (lacks (less_than ∷ ampersand ∷ []) text) → after_all next (inside now) text ≡ Ok (inside now) }
     ensures in_rawtext { (now : Element) (text : List ℕ) → IsPlainRawtext now → IsTrue (lacks (less_than ∷ []) text) →
-        after_text next (inside now) text ≡ Ok (inside now) }
+        after_all next (inside now) text ≡ Ok (inside now) }
     ensures in_script { (state : JsState) (text : List ℕ) → IsTrue (lacks (less_than ∷ []) text) →
-        after_text next (in_script state) text ≡ followed in_script (state_after js_next state text) }
+        after_all next (in_script state) text ≡ followed in_script (state_after js_next state text) }
     ensures in_style { (state : CssState) (text : List ℕ) → IsTrue (lacks (less_than ∷ []) text) →
-        after_text next (in_style state) text ≡ followed in_style (state_after css_next state text) }
+        after_all next (in_style state) text ≡ followed in_style (state_after css_next state text) }
 {}
 
 /// Static text of a quoted value without its quote and `&` stays in it. It moves the part of a URI, or the table of
@@ -95,19 +95,19 @@ pub fn law_plain_text()
 pub fn law_quoted_text()
     ensures plain { (around : Tag) (quote : Quote) (now : AttributeValue) (text : List ℕ) → RunsNothing now →
         IsTrue (lacks (quote_character quote ∷ ampersand ∷ []) text) →
-        after_text next (quoted around quote now) text ≡ Ok (quoted around quote now) }
+        after_all next (quoted around quote now) text ≡ Ok (quoted around quote now) }
     ensures uri { (around : Tag) (quote : Quote) (name : UriName) (part : UriPart) (text : List ℕ) →
         IsTrue (lacks (quote_character quote ∷ ampersand ∷ []) text) →
-        after_text next (quoted around quote (value.Uri name part)) text
-        ≡ and_then (λ following. Ok (quoted around quote (value.Uri name following))) (after_text part_next part text) }
+        after_all next (quoted around quote (value.Uri name part)) text
+        ≡ and_then (λ following. Ok (quoted around quote (value.Uri name following))) (after_all part_next part text) }
     ensures style { (around : Tag) (quote : Quote) (state : CssState) (text : List ℕ) →
         IsTrue (lacks (quote_character quote ∷ ampersand ∷ []) text) →
-        after_text next (quoted around quote (value.Style state)) text
+        after_all next (quoted around quote (value.Style state)) text
         ≡ followed (λ following. quoted around quote (value.Style following)) (state_after css_next state text) }
 {}
 
-/// Characters that keep a place lead a state with that placing, with the mark that a value sets, to the state that a
-/// value leaves behind. Text without `<` keeps the place Text.
+/// Characters that are enough to keep a place lead a state with that placing, with the mark that a value sets, to the
+/// state that a value leaves behind. Text without `<` keeps the place Text.
 pub fn law_kept_place()
     ensures each_place { (state : State) (out : List ℕ) → KeepsPlaceAt (placing state) out → Leads state out }
     ensures text_place { (out : List ℕ) → HasNoLessThan out → KeepsPlace place.Text out }

@@ -27,9 +27,9 @@ mod text;
 mod uri;
 
 pub use laws::{
-    law_equal_states, law_equality, law_kept_place, law_page_frame, law_page_place, law_page_step,
-    law_page_text_end, law_page_value, law_pieces_in_parts, law_plain_text, law_quoted_text,
-    law_text_in_pieces,
+    law_equal_states, law_equality, law_joined_pieces, law_joined_texts, law_kept_place,
+    law_page_frame, law_page_place, law_page_step, law_page_text_end, law_page_value,
+    law_plain_text, law_quoted_text,
 };
 pub use row::{Part, State};
 

@@ -99,6 +99,7 @@ const ROWS: &[(&str, Result<Placing, Code>)] = &[
     ("<title>a</titlex", Ok(Placing::Takes(Place::Rcdata))),
     ("<title>a</title ", TAG),
     ("<title>a</title>", TEXT),
+    ("<title>a</title/", NO_PLACE),
     ("<TEXTAREA/>", Ok(Placing::Takes(Place::Rcdata))),
     ("<xmp><b>", NO_PLACE),
     ("<xmp>&</xmp>", TEXT),
@@ -124,6 +125,8 @@ const ROWS: &[(&str, Result<Placing, Code>)] = &[
     ("<p style=\"color:", Ok(Placing::Takes(Place::CssValue))),
     ("<p style=color:", NO_PLACE),
     ("<p style=\"a:§;\"", NO_PLACE),
+    ("<p style=\"a:§\"", NO_PLACE),
+    ("<p style=\"/\"", NO_PLACE),
     ("<p style=\"a:§b", Err(Code::Script)),
     ("<p style=\"a:§&", Err(Code::Reference)),
     ("<p style=\"/*\"", Err(Code::Script)),
@@ -136,6 +139,8 @@ const REFERENCES: &[(&str, Result<Placing, Code>)] = &[
     ("&foo;", Err(Code::Reference)),
     ("&AMP;", Err(Code::Reference)),
     ("&#33;", TEXT),
+    ("&#X41;", TEXT),
+    ("&#x1", Err(Code::Ampersand)),
     ("&#x1g", Err(Code::Reference)),
     ("&#3", Err(Code::Ampersand)),
     ("&#", Err(Code::Ampersand)),
@@ -151,7 +156,11 @@ const REFERENCES: &[(&str, Result<Placing, Code>)] = &[
     ("<a href=\"a&#58;\"", Err(Code::Reference)),
     ("<a href=\"a&amp;", NO_START),
     ("<a href=\"/a&amp;", PATH),
+    ("<a href=\"a&", Err(Code::Ampersand)),
+    ("<a href=\"a&#", Err(Code::Reference)),
+    ("<p style=\"a&", Err(Code::Reference)),
     ("<p style=\"a&amp;\"", Err(Code::Reference)),
+    ("&#999999", Err(Code::Ampersand)),
     ("&#9999999", Err(Code::Reference)),
     ("&#1114111;", TEXT),
     ("&#x10FFFF;", TEXT),
@@ -197,6 +206,7 @@ const URIS: &[(&str, Result<Placing, Code>)] = &[
     ("<img SRC='", START),
     ("<script src=\"", NO_START),
     ("<script src=\"/", PATH),
+    ("</script src=\"", NO_START),
     ("<iframe src=\"", NO_START),
     ("<embed src=\"", NO_START),
     ("<object data=\"", NO_START),
@@ -372,7 +382,7 @@ fn placing_past(text: &str, value: &str) -> Result<Placing, Code> {
 }
 
 #[test]
-fn values_are_followed_by_their_characters(rt: HostRuntime) {
+fn value_characters_begin_no_reference_and_leave_the_uri_part(rt: HostRuntime) {
     for (text, value, answer) in VALUES {
         assert!(rt; placing_past(text, value) == *answer, "{text} and {value}");
     }

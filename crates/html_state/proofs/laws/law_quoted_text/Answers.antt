@@ -5,7 +5,7 @@ use Rattle.script_state.specs.CssNext.{css_next}
 use Rattle.html_state.specs.declared.row.AttributeValue.TheVariants as value
 use Rattle.html_state.specs.RowAt.{quoted}
 use Rattle.html_state.specs.PartNext.{part_next}
-use Rattle.html_state.specs.AfterText.{after_text}
+use Rattle.html_state.specs.AfterAll.{after_all}
 use Rattle.html_state.specs.Texts.{and_then}
 use Rattle.html_state.specs.ValueNext.{followed}
 use Rattle.html_state.proofs.PlainTexts.{plain_quoted, plain_style_value, plain_uri, plain_value}
@@ -20,7 +20,7 @@ pub returns-clause-uri : goal.returns-clause-uri
 returns-clause-uri c = λ around quote name part text none.
     plain_quoted around quote (value.Uri name part) text none
     ∙ (ap (and_then (λ following. Ok (quoted around quote following))) (plain_uri name part text)
-    ∙ elim (after_text part_next part text) as (λ o. and_then (λ following. Ok (quoted around quote following))
+    ∙ elim (after_all part_next part text) as (λ o. and_then (λ following. Ok (quoted around quote following))
     (and_then (λ following. Ok (value.Uri name following)) o)
     ≡ and_then (λ following. Ok (quoted around quote (value.Uri name following))) o)
     [ Ok following ↦ refl | Err fault ↦ refl ])

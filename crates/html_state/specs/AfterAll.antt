@@ -1,4 +1,4 @@
--- The state after a whole list, or the first fault in it: a step taken over the items in their order.
+-- The state after a whole list, or the first fault in it: a step taken over all items in their order.
 --
 -- The items are the characters of a text, and the step that of static characters, `next`, or that of a value's
 -- characters, `value_character_next`; or they are pieces.
@@ -7,6 +7,6 @@ use Rattle.std.specs.Prelude.{List, [], ◌∷◌, Result, Ok}
 use Rattle.soy_base.specs.declared.code.Code.{Code}
 use Rattle.html_state.specs.Texts.{and_then}
 
-abbrev pub after_text : {S A : Type 0} → (S → A → Result S Code) → S → List A → Result S Code
-after_text step now [] = Ok now
-after_text step now (item ∷ rest) = and_then (λ following. after_text step following rest) (step now item)
+abbrev pub after_all : {S A : Type 0} → (S → A → Result S Code) → S → List A → Result S Code
+after_all step now [] = Ok now
+after_all step now (item ∷ rest) = and_then (λ following. after_all step following rest) (step now item)
