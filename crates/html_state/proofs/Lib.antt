@@ -1,0 +1,10 @@
+pub mod GoesOn
+pub mod KeptCharacters
+pub mod Texts
+pub mod SameStates
+pub mod Pieces
+pub mod PlainTexts
+pub mod KeptPlaces
+pub mod PageSteps
+pub mod PagePlaces
+pub mod PageFrames
