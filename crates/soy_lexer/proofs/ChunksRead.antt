@@ -4,10 +4,9 @@ use Rattle.std.proofs.Common.{length, refl, sym, ap, subst, ◌∙◌, arith, ap
 use Rattle.std.specs.List.{list_all}
 use Rattle.std.specs.Char.{len_utf8}
 use Rattle.std.proofs.lemmas.Bool.Decides.{nat_tests}
-use Rattle.soy_base.specs.Cuts.{is_nil}
+use Rattle.soy_base.specs.Cuts.{is_nil, prefix_while}
 use Rattle.soy_base.specs.WhiteSpace.{is_template_space}
 use Rattle.soy_base.specs.ByteLength.{byte_len}
-use Rattle.soy_base.specs.Cuts.{prefix_while}
 use Rattle.soy_lexer.specs.Lexed.{TakesPiece}
 use Rattle.soy_lexer.specs.Lines.{RunCharacter}
 use Rattle.soy_lexer.specs.Piece.{Piece, source_text}

@@ -8,14 +8,12 @@ use Rattle.std.specs.Option.{option_or, option_and_then}
 use Rattle.std.specs.Str.{bytes_eq}
 use Rattle.std.proofs.lemmas.Bool.Decides.{nat_tests}
 use Rattle.soy_base.specs.WhiteSpace.{is_template_space}
-use Rattle.soy_base.specs.Names.{begins_name, continues_name}
-use Rattle.soy_base.specs.Cuts.{is_nil}
+use Rattle.soy_base.specs.Names.{begins_name, continues_name, is_name}
+use Rattle.soy_base.specs.Cuts.{is_nil, after_prefix, cut, prefix_while, after_while}
 use Rattle.soy_lexer.specs.CommandPiece.{command_piece, white_piece, fixed_piece, name_prefix, name_piece}
 use Rattle.soy_lexer.specs.CommandPiece.{variable_piece, digits_piece, int_piece, quoted_piece, string_piece}
 use Rattle.soy_lexer.specs.CommandPiece.{value_piece, attribute_piece, one_of, symbols_of_one, symbols_of_two}
 use Rattle.soy_lexer.specs.CommandPiece.{largest_int, number_after}
-use Rattle.soy_base.specs.Cuts.{after_prefix, cut, prefix_while, after_while}
-use Rattle.soy_base.specs.Names.{is_name}
 use Rattle.soy_lexer.specs.LongestToken.{is_int, is_symbol, StringRest, ValueRest, TokenForm, IsToken, GivesToken}
 use Rattle.soy_lexer.specs.LongestToken.{Reaches}
 use Rattle.soy_lexer.specs.LongestToken.StringRest.{Ends, Plain, Escape, Number}

@@ -6,10 +6,9 @@ use Rattle.std.specs.Prelude.{◌≡◌, ℕ, ◌+◌, List, [], ◌∷◌, ◌+
 use Rattle.std.specs.Char.{len_utf8}
 use Rattle.std.specs.Str.{chars}
 use Rattle.std.specs.String.{string_bytes}
-use Rattle.soy_base.specs.Cuts.{is_nil}
+use Rattle.soy_base.specs.Cuts.{is_nil, prefix_while, after_while}
 use Rattle.soy_base.specs.WhiteSpace.{is_template_space}
 use Rattle.soy_base.specs.Characters.{left_brace, right_brace, null, slash}
-use Rattle.soy_base.specs.Cuts.{prefix_while, after_while}
 use Rattle.soy_lexer.specs.IsRunOf.{IsRunOf}
 use Rattle.soy_lexer.specs.Lexed.{HasRead}
 use Rattle.soy_lexer.specs.Lines.{RunCharacter, is_angle}

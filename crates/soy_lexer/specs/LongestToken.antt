@@ -8,10 +8,9 @@ use Rattle.std.specs.Char.{is_ascii_digit}
 use Rattle.std.specs.List.{list_all, list_any}
 use Rattle.std.specs.Str.{bytes_eq}
 use Rattle.soy_base.specs.Names.{is_name}
-use Rattle.soy_base.specs.Cuts.{is_nil}
+use Rattle.soy_base.specs.Cuts.{is_nil, prefix_while}
 use Rattle.soy_base.specs.Characters.{dollar_sign, single_quote, double_quote, backslash, null}
 use Rattle.soy_lexer.specs.CommandPiece.{largest_int, number_after, symbols_of_one, symbols_of_two}
-use Rattle.soy_base.specs.Cuts.{prefix_while}
 use Rattle.soy_lexer.specs.Found.{Found}
 use Rattle.soy_lexer.specs.Piece.Piece.{CommandToken}
 use Rattle.soy_lexer.specs.Found.Found.{Begins, Fails}

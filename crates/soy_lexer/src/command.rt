@@ -1,7 +1,7 @@
 //! The pieces of commands.
 
-ghost use Rattle.std.specs.Prelude.{◌≡◌, ℕ, List, [], ◌∷◌, ◌++◌, IsTrue, nat_le, is_some, unwrap_or};
-ghost use Rattle.std.specs.Prelude.{option_map, MatchOption, codes, true};
+ghost use Rattle.std.specs.Prelude.{◌≡◌, ℕ, List, [], ◌∷◌, ◌++◌, IsTrue, nat_le, is_some, unwrap_or, option_map};
+ghost use Rattle.std.specs.Prelude.{MatchOption, codes, true};
 ghost use Rattle.std.specs.Char.{is_ascii_digit};
 ghost use Rattle.std.specs.Str.{chars};
 ghost use Rattle.soy_base.specs.Names.{begins_name};

@@ -6,8 +6,8 @@ ghost use Rattle.soy_base.specs.Characters.{left_brace};
 ghost use Rattle.soy_base.specs.Cuts.{cut};
 ghost use Rattle.soy_lexer.specs.ReadsPiece.{ReadsPiece};
 ghost use Rattle.soy_lexer.specs.ReadsPieceIf.{ReadsPieceIf};
-ghost use Rattle.soy_lexer.specs.TextPiece.{block_comment, closed_comment, closed_literal, line_comment};
-ghost use Rattle.soy_lexer.specs.TextPiece.{literal_piece, may_begin, plain_piece, text_piece};
+ghost use Rattle.soy_lexer.specs.TextPiece.{block_comment, closed_comment, closed_literal, line_comment, literal_piece};
+ghost use Rattle.soy_lexer.specs.TextPiece.{may_begin, plain_piece, text_piece};
 
 use crate::begins::begins;
 use crate::source_piece::{FirstPiece, SourcePiece};
