@@ -1,6 +1,6 @@
 pub mod EscapedParts
-pub mod KeptStates
-mod PlainFronts
+pub mod StatesKept
+mod PassedSoFar
+mod PlainTexts
 mod PushedSoFar
-mod RowMarks
 mod RowSearch

@@ -1,7 +1,8 @@
 pub mod Ascends
 pub mod EscapedText
 pub mod HtmlRows
-pub mod KeptState
-pub mod Marked
+pub mod LeadBytes
+pub mod PlainPrefix
 pub mod RowPairs
 pub mod RowText
+pub mod StateAfter

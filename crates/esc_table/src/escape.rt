@@ -1,15 +1,16 @@
+//! Whole texts by a table.
 ghost use Rattle.std.specs.Prelude.{◌≡◌, ℕ, ◌≤◌, ◌-◌, List, ◌++◌, length, OnOk, OnErr, IfOk, encode_utf8_all};
 ghost use Rattle.std.specs.Str.{chars, IsUtf8};
 ghost use Rattle.std.specs.String.{string_bytes};
 ghost use Rattle.esc_table.specs.EscapedText.{escaped_character, escaped_text};
 
-use crate::characters::{push_character, push_text};
+use crate::characters::{push_char, push_text};
 use crate::memory::OutOfMemory;
 use crate::table::Table;
 use std::alloc::{AllocError, Global};
 
-/// Appends the text to `out`, each character that has a row as the row's text and each other one
-/// as itself. Where memory is refused, `out` is as it was.
+/// Appends the text to `out`, each character that has a row as the row's text and each other one as itself. Out of
+/// memory, `out` is unchanged.
 ///
 /// `out` grows in the memory that it keeps itself; the first argument says that the call allocates.
 pub fn escape_into<const N: usize>(
@@ -23,17 +24,17 @@ pub fn escape_into<const N: usize>(
     ensures bytes { OnOk result (string_bytes out.new ≡ string_bytes out.old ++ encode_utf8_all (escaped_text table.now (chars text.now))) }
     ensures err { OnErr result (string_bytes out.new ≡ string_bytes out.old) }
 {
-    let mark = out.len();
+    let old_len = out.len();
     match push_escaped(table, text, out) {
         Ok(()) => Ok(()),
         Err(_) => {
-            out.truncate(mark);
+            out.truncate(old_len);
             Err(OutOfMemory)
         }
     }
 }
 
-// Pushes as `escape_into` appends; where memory is refused, a part may have been pushed.
+// Pushes as `escape_into` appends; out of memory, a part may have been pushed.
 //
 // What stands before a character that may have a row is pushed as one piece.
 fn push_escaped<const N: usize>(
@@ -47,7 +48,7 @@ fn push_escaped<const N: usize>(
 {
     let mut rest = text;
     while !rest.is_empty() {
-        let (plain, others) = table.plain_front(rest);
+        let (plain, others) = table.plain_run(rest);
         push_text(out, plain)?;
         rest = push_first(table, others, out)?;
     }
@@ -88,6 +89,6 @@ fn push_escaped_character<const N: usize>(
 {
     match table.find(c) {
         Some(row) => push_text(out, row),
-        None => push_character(out, c),
+        None => push_char(out, c),
     }
 }

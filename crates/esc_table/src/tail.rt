@@ -1,4 +1,5 @@
-ghost use Rattle.std.specs.Prelude.{◌≡◌, ◌≤◌, [], ◌++◌, length, take, drop, min, IfSome, option_map, unwrap_or, encode_utf8};
+//! The bytes of one character on their way into rooms.
+ghost use Rattle.std.specs.Prelude.{◌≡◌, ◌+◌, ◌≤◌, [], ◌++◌, length, take, drop, min, IfSome, option_map, unwrap_or, encode_utf8};
 
 use arrayvec::ArrayVec;
 use std::marker::Model;
@@ -34,20 +35,20 @@ impl Tail {
         ensures { self.new ≡ unwrap_or (option_map (λ text. text.now) row.entry) (encode_utf8 c) }
     {
         match row {
-            Some(text) => self.add(text),
-            None => self.add(c.encode_utf8(&mut [0; 4])),
+            Some(text) => self.push(text),
+            None => self.push(c.encode_utf8(&mut [0; 4])),
         }
     }
 
-    fn add(&mut self, text: &str)
-        requires none_pending { self.old ≡ [] }
-        requires size { length text.now ≤ 16 }
-        ensures { self.new ≡ text.now }
+    /// Makes the bytes of the text pending too, after those that are.
+    pub fn push(&mut self, text: &str)
+        requires size { length self.old + length text.now ≤ 16 }
+        ensures { self.new ≡ self.old ++ text.now }
     {
         let _full = self.pending.try_extend_from_slice(text.as_bytes());
     }
 
-    /// Moves the first pending bytes into the front of the room, as many as it takes, and gives their number.
+    /// Moves the first pending bytes to the beginning of the room, as many as it takes, and gives their number.
     pub fn take(&mut self, room: &mut [u8]) -> usize
         ensures count { result ≡ min (length self.old) (length room.old) }
         ensures given { room.new ≡ take (min (length self.old) (length room.old)) self.old ++ drop (min (length self.old) (length room.old)) room.old }

@@ -39,7 +39,7 @@ alphanumeric_characters bs utf8 = ap is_alphanumeric (sym (encodes-chars bs utf8
 abbrev pub has_no_alphanumeric_row : List (ℕ × List ℕ) → Bool
 has_no_alphanumeric_row rows = list_all (λ row. not (is_ascii_alphanumeric row.0)) rows
 
-alphanumeric_row : (rows : List (ℕ × List ℕ)) (c : ℕ) → has_no_alphanumeric_row rows ≡ true → is_ascii_alphanumeric c ≡ true → row_text rows c ≡ None
+pub alphanumeric_row : (rows : List (ℕ × List ℕ)) (c : ℕ) → has_no_alphanumeric_row rows ≡ true → is_ascii_alphanumeric c ≡ true → row_text rows c ≡ None
 alphanumeric_row [] c none is = refl
 alphanumeric_row (row ∷ rows) c none is =
     let parts = and_parts _ _ none in

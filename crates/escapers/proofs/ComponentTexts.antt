@@ -8,11 +8,12 @@ use Rattle.std.proofs.lemmas.Bool.Decides.{nat_tests}
 use Rattle.std.proofs.lemmas.Str.{chars-encodes, encode_ascii}
 use Rattle.escapers.specs.DecodedText.{decoded_bytes, decoded_text, digit_number}
 use Rattle.escapers.specs.IsComponentText.{IsComponentText, is_upper_digit, empty, unreserved, encoded}
-use Rattle.escapers.specs.PercentEncoded.{percent_sign, upper_digit, encoded_byte, percent_encoded}
+use Rattle.soy_base.specs.Characters.{percent_sign}
+use Rattle.escapers.specs.PercentEncoded.{upper_digit, encoded_byte, percent_encoded}
 use Rattle.escapers.specs.UriComponent.{is_unreserved, component_character, uri_component}
 use Rattle.escapers.proofs.PercentBytes.{IsHighByte, high_bytes, scalar_below}
 
-abbrev IsByte : ℕ → Type 0
+abbrev pub IsByte : ℕ → Type 0
 IsByte b = b < 256
 
 -- bytes above ASCII are bytes
@@ -21,7 +22,7 @@ weaker [] are = tt
 weaker (b ∷ bs) are = (are.0.1, weaker bs are.1)
 
 -- a scalar value is encoded in bytes
-scalar_bytes : (c : ℕ) → IsScalar c → AllByRecursion IsByte (encode_utf8 c)
+pub scalar_bytes : (c : ℕ) → IsScalar c → AllByRecursion IsByte (encode_utf8 c)
 scalar_bytes c is =
     ⊎_elim
     (λ (low : c < 128). let small : c < 256 = omega arith in rw (encode_ascii c low) (small, tt))

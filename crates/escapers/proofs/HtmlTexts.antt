@@ -6,7 +6,7 @@ use Rattle.esc_table.specs.EscapedText.{escaped_text}
 use Rattle.esc_table.specs.HtmlRows.{html_rows}
 use Rattle.esc_table.specs.RowText.{row_text}
 use Rattle.escapers.specs.IsHtmlText.{begins_reference}
-use Rattle.escapers.specs.UriNormal.{ampersand}
+use Rattle.soy_base.specs.Characters.{ampersand}
 use Rattle.escapers.proofs.KeptByRows.{Keeps, escaped_keeps}
 
 -- wherever an `&` stands, a reference begins

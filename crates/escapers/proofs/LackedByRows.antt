@@ -5,8 +5,8 @@ use Rattle.std.specs.List.{AllByRecursion, list_all}
 use Rattle.std.proofs.lemmas.Bool.{and_from, and_parts, both_ways, eqb-true, false_from_ne_true, or_cases}
 use Rattle.esc_table.specs.EscapedText.{escaped_text}
 use Rattle.esc_table.specs.RowText.{row_text}
-use Rattle.escapers.specs.Lacks.{lacks}
-use Rattle.escapers.specs.UriComponent.{is_one_of}
+use Rattle.soy_base.specs.Among.{lacks}
+use Rattle.soy_base.specs.Among.{is_one_of}
 use Rattle.escapers.proofs.KeptByRows.{Keeps, escaped_keeps}
 
 -- a test that holds of each of these holds of any one of them

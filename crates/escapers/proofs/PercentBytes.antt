@@ -13,7 +13,8 @@ use Rattle.percent_encoding.specs.AsciiSet.{contains, should_percent_encode}
 use Rattle.percent_encoding.specs.Percent.{percent_encode, percent_encode_byte}
 use Rattle.percent_encoding.proofs.AsciiSetLemmas.{kept_from_outside, escaped_from_inside}
 use Rattle.percent_encoding.proofs.PercentLemmas.{percent_encode-nil, percent_encode-append, percent_encode_escaped, percent_encode_kept, IsAscii-percent_encode}
-use Rattle.escapers.specs.PercentEncoded.{percent_sign, encoded_byte, percent_encoded}
+use Rattle.soy_base.specs.Characters.{percent_sign}
+use Rattle.escapers.specs.PercentEncoded.{encoded_byte, percent_encoded}
 
 -- a byte of a character above ASCII
 abbrev pub IsHighByte : ℕ → Type 0

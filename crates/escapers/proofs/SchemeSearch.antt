@@ -2,8 +2,9 @@
 use Rattle.std.proofs.Common.{◌≡◌, ℕ, Bool, true, false, not, ◌&&◌, ◌||◌, eqb, List, [], ◌∷◌, ◌++◌, refl, ap, ◌∙◌}
 use Rattle.std.specs.List.{list_any}
 use Rattle.std.proofs.lemmas.Bool.{and_parts, and_right, not-true, or_parts}
-use Rattle.escapers.specs.Lacks.{lacks}
-use Rattle.escapers.specs.UriStart.{colon, ends_scheme, has_scheme}
+use Rattle.soy_base.specs.Among.{lacks}
+use Rattle.soy_base.specs.Characters.{colon}
+use Rattle.escapers.specs.UriStart.{ends_scheme, has_scheme}
 
 -- the first character of a text without a `:`
 not_colon : (c : ℕ) (text : List ℕ) → lacks (colon ∷ []) (c ∷ text) ≡ true → eqb c colon ≡ false

@@ -6,8 +6,9 @@ use Rattle.std.proofs.lemmas.Bool.{and_from, and_parts, cases_Bool, cond-true, c
 use Rattle.std.proofs.lemmas.Bool.Decides.{nat_tests}
 use Rattle.escapers.specs.IsUriStartText.{IsUriStartText}
 use Rattle.escapers.specs.PercentEncoded.{upper_digit, encoded_byte, percent_encoded}
-use Rattle.escapers.specs.UriNormal.{ampersand, is_normal, normal_character, uri_normal}
-use Rattle.escapers.specs.UriStart.{allowed_schemes, begins_in_any_case, colon, ends_scheme, has_allowed_scheme, has_scheme, invalid_uri, is_scheme_character, may_start_uri, uri_start}
+use Rattle.soy_base.specs.Characters.{ampersand, colon}
+use Rattle.escapers.specs.UriNormal.{is_normal, normal_character, uri_normal}
+use Rattle.escapers.specs.UriStart.{allowed_schemes, begins_in_any_case, ends_scheme, has_allowed_scheme, has_scheme, invalid_uri, is_scheme_character, may_start_uri, uri_start}
 
 -- ---- a text without a scheme
 

@@ -5,9 +5,10 @@ use Rattle.std.proofs.lemmas.Bool.{agree_below, agree_below_at, and_parts, cond-
 use Rattle.std.proofs.lemmas.Bool.Decides.{nat_tests}
 use Rattle.percent_encoding.specs.AsciiSet.{contains}
 use Rattle.escapers.specs.declared.uri.TheConstants.{OUTSIDE_COMPONENT, OUTSIDE_URI}
-use Rattle.escapers.specs.Lacks.{lacks}
+use Rattle.soy_base.specs.Among.{lacks}
 use Rattle.escapers.specs.UriComponent.{is_unreserved}
-use Rattle.escapers.specs.UriNormal.{ampersand, is_normal, normal_character, uri_normal}
+use Rattle.soy_base.specs.Characters.{ampersand}
+use Rattle.escapers.specs.UriNormal.{is_normal, normal_character, uri_normal}
 use Rattle.escapers.proofs.PercentBytes.{IsOutside, stands_for}
 
 -- the two agree on all of ASCII, by computing both

@@ -7,7 +7,7 @@
 use Rattle.std.specs.Prelude.{ℕ, List, [], ◌∷◌, Bool, false, ◌||◌, if◌then◌else◌, codes}
 use Rattle.std.specs.Char.{is_ascii_alphanumeric}
 use Rattle.std.specs.List.{list_all}
-use Rattle.escapers.specs.UriComponent.{is_one_of}
+use Rattle.soy_base.specs.Among.{is_one_of}
 
 abbrev pub is_value_character : ℕ → Bool
 is_value_character c = is_ascii_alphanumeric c || is_one_of (codes ".%#_-") c

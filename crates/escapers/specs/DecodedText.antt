@@ -5,7 +5,7 @@
 -- `a%C3%A9` is read back as `aé`.
 use Rattle.std.specs.Prelude.{ℕ, ◌+◌, ◌*◌, ◌-◌, List, [], ◌∷◌, ◌==◌, if◌then◌else◌, nat_lt}
 use Rattle.std.specs.Str.{chars}
-use Rattle.escapers.specs.PercentEncoded.{percent_sign}
+use Rattle.soy_base.specs.Characters.{percent_sign}
 
 -- the number of an upper hexadecimal digit
 abbrev pub digit_number : ℕ → ℕ

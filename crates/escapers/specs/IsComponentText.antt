@@ -4,7 +4,7 @@
 -- `a%26b` is such a text, and `a%2x`, `a%c3` and `a&b` are not.
 use Rattle.std.specs.Prelude.{ℕ, List, [], ◌∷◌, Bool, ◌||◌, IsTrue}
 use Rattle.std.specs.Int.{is_in_range}
-use Rattle.escapers.specs.PercentEncoded.{percent_sign}
+use Rattle.soy_base.specs.Characters.{percent_sign}
 use Rattle.escapers.specs.UriComponent.{is_unreserved}
 
 -- '0' to '9' or 'A' to 'F'

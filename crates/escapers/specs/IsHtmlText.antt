@@ -5,8 +5,8 @@
 -- `a&lt;b` is such a text, and `a&b` is not.
 use Rattle.std.specs.Prelude.{◌≡◌, ℕ, List, [], ◌∷◌, ◌++◌, Bool, IsTrue, nat_eq, codes}
 use Rattle.std.specs.List.{list_any, starts_with}
-use Rattle.escapers.specs.Lacks.{lacks}
-use Rattle.escapers.specs.UriNormal.{ampersand}
+use Rattle.soy_base.specs.Among.{lacks}
+use Rattle.soy_base.specs.Characters.{ampersand}
 
 abbrev pub html_markup : List ℕ
 html_markup = 0x0 ∷ codes "<>\"'\r"

@@ -1,4 +1,3 @@
-pub mod Adds
 pub mod CssRows
 pub mod CssValue
 pub mod DecodedText
@@ -8,11 +7,13 @@ pub mod IsComponentText
 pub mod IsCssStringText
 pub mod IsHtmlText
 pub mod IsJsStringText
+pub mod IsJsWord
 pub mod IsUriStartText
 pub mod JsRows
 pub mod JsValue
-pub mod Lacks
 pub mod PercentEncoded
+pub mod PlainPrefix
+pub mod ShortRows
 pub mod UriComponent
 pub mod UriNormal
 pub mod UriStart

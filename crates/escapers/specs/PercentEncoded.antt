@@ -4,13 +4,11 @@
 -- The letter `é` becomes `%C3%A9`.
 use Rattle.std.specs.Prelude.{ℕ, ◌+◌, ◌/◌, ◌%◌, List, [], ◌∷◌, if◌then◌else◌, nat_lt, encode_utf8}
 use Rattle.std.specs.List.{flat_map}
+use Rattle.soy_base.specs.Characters.{percent_sign}
 
 -- the digit of a number below 16: '0' to '9', then 'A' to 'F'
 abbrev pub upper_digit : ℕ → ℕ
 upper_digit n = if nat_lt n 10 then 48 + n else 55 + n
-
-abbrev pub percent_sign : ℕ
-percent_sign = 0x25
 
 abbrev pub encoded_byte : ℕ → List ℕ
 encoded_byte byte = percent_sign ∷ upper_digit (byte / 16) ∷ upper_digit (byte % 16) ∷ []

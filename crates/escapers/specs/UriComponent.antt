@@ -3,14 +3,11 @@
 -- separates it from another.
 --
 -- The text `a&b c` becomes `a%26b%20c`.
-use Rattle.std.specs.Prelude.{ℕ, List, [], ◌∷◌, Bool, ◌||◌, ◌==◌, if◌then◌else◌, codes}
+use Rattle.std.specs.Prelude.{ℕ, List, [], ◌∷◌, Bool, ◌||◌, if◌then◌else◌, codes}
 use Rattle.std.specs.Char.{is_ascii_alphanumeric}
-use Rattle.std.specs.List.{flat_map, list_any}
+use Rattle.std.specs.List.{flat_map}
+use Rattle.soy_base.specs.Among.{is_one_of}
 use Rattle.escapers.specs.PercentEncoded.{percent_encoded}
-
--- the character is one of these
-abbrev pub is_one_of : List ℕ → ℕ → Bool
-is_one_of these c = list_any (λ d. c == d) these
 
 abbrev pub is_unreserved : ℕ → Bool
 is_unreserved c = is_ascii_alphanumeric c || is_one_of (codes "-._~") c

@@ -8,11 +8,10 @@
 -- The text `/a b?c&d` becomes `/a%20b?c&amp;d`.
 use Rattle.std.specs.Prelude.{ℕ, List, [], ◌∷◌, Bool, ◌||◌, ◌==◌, if◌then◌else◌, codes}
 use Rattle.std.specs.List.{flat_map}
+use Rattle.soy_base.specs.Among.{is_one_of}
+use Rattle.soy_base.specs.Characters.{ampersand}
 use Rattle.escapers.specs.PercentEncoded.{percent_encoded}
-use Rattle.escapers.specs.UriComponent.{is_one_of, is_unreserved}
-
-abbrev pub ampersand : ℕ
-ampersand = 0x26
+use Rattle.escapers.specs.UriComponent.{is_unreserved}
 
 -- the character may stand as it is
 abbrev pub is_normal : ℕ → Bool

@@ -10,25 +10,23 @@
 use Rattle.std.specs.Prelude.{ℕ, List, [], ◌∷◌, Bool, true, false, not, ◌&&◌, ◌||◌, ◌==◌, if◌then◌else◌, codes}
 use Rattle.std.specs.Char.{is_ascii_lowercase, to_ascii_lowercase}
 use Rattle.std.specs.List.{list_any}
-use Rattle.escapers.specs.UriComponent.{is_one_of}
+use Rattle.soy_base.specs.Among.{is_one_of}
+use Rattle.soy_base.specs.Characters.{colon}
 use Rattle.escapers.specs.UriNormal.{uri_normal}
 
 abbrev pub allowed_schemes : List (List ℕ)
 allowed_schemes = codes "http:" ∷ codes "https:" ∷ codes "mailto:" ∷ codes "ftp:" ∷ []
 
-abbrev pub colon : ℕ
-colon = 0x3A
-
 -- a character of the schemes as they are written above
 abbrev pub is_scheme_character : ℕ → Bool
 is_scheme_character c = is_ascii_lowercase c || c == colon
 
--- the text, in ASCII lower case, begins with this front
+-- the text, in ASCII lower case, begins with this prefix
 abbrev pub begins_in_any_case : List ℕ → List ℕ → Bool
 begins_in_any_case [] text = true
-begins_in_any_case (c ∷ front) [] = false
-begins_in_any_case (c ∷ front) (d ∷ text) =
-    to_ascii_lowercase d == c && begins_in_any_case front text
+begins_in_any_case (c ∷ prefix) [] = false
+begins_in_any_case (c ∷ prefix) (d ∷ text) =
+    to_ascii_lowercase d == c && begins_in_any_case prefix text
 
 abbrev pub has_allowed_scheme : List ℕ → Bool
 has_allowed_scheme text = list_any (λ scheme. begins_in_any_case scheme text) allowed_schemes

@@ -5,13 +5,13 @@ ghost use Rattle.std.specs.List.{list_all};
 ghost use Rattle.std.specs.Str.{chars};
 
 /// Whether the text has letters and digits of ASCII alone.
-pub fn is_alphanumeric(text: &str) -> bool
+pub(crate) fn is_alphanumeric(text: &str) -> bool
     ensures { result ≡ list_all is_ascii_alphanumeric (chars text.now) }
 {
     are_alphanumeric(text.as_bytes())
 }
 
-// Chunks, so that a byte that is none is found early.
+/// Chunk by chunk, so that another byte is found early.
 fn are_alphanumeric(bytes: &[u8]) -> bool
     ensures { result ≡ list_all is_ascii_alphanumeric bytes.now }
 {
@@ -23,7 +23,7 @@ fn are_alphanumeric(bytes: &[u8]) -> bool
     true
 }
 
-// No branch within, so that many bytes are tested at once.
+/// Without a branch, so that many bytes are tested at once.
 fn is_alphanumeric_chunk(bytes: &[u8]) -> bool
     ensures { result ≡ list_all is_ascii_alphanumeric bytes.now }
 {

@@ -1,3 +1,4 @@
+//! The escapers, and the table of places and classes.
 ghost use Rattle.std.specs.Prelude.{◌≡◌};
 ghost use Rattle.escapers.specs.EscaperFor.{escaper_of, text_escaper, html_escaper, attributes_escaper};
 
@@ -43,6 +44,7 @@ pub fn escaper_for(place: Place, class: ValueClass) -> Option<Escaper>
     }
 }
 
+/// The row of a place for a value that isn't markup.
 fn for_text(place: Place) -> Option<Escaper>
     ensures { result ≡ text_escaper place }
 {
@@ -61,6 +63,7 @@ fn for_text(place: Place) -> Option<Escaper>
     }
 }
 
+/// The row of a place for a block of HTML.
 fn for_html(place: Place) -> Option<Escaper>
     ensures { result ≡ html_escaper place }
 {
@@ -70,6 +73,7 @@ fn for_html(place: Place) -> Option<Escaper>
     }
 }
 
+/// The row of a place for a block of attributes.
 fn for_attributes(place: Place) -> Option<Escaper>
     ensures { result ≡ attributes_escaper place }
 {

@@ -1,6 +1,12 @@
+//! The table of places and classes, each row of each escaper, and texts made piece by piece.
+ghost use Rattle.std.specs.Prelude.{IsTrue};
+ghost use Rattle.escapers.specs.Esc.{is_by_characters};
+
 use super::*;
+use esc_table::Tail;
 use soy_base::{Dir, Place, ValueClass};
-use std::alloc::Global;
+use std::alloc::{AllocError, Global};
+use std::test::Fail;
 
 // A place, and its escapers for HTML, for attributes and for what isn't markup.
 const PLACES: &[(Place, Option<Escaper>, Option<Escaper>, Option<Escaper>)] = &[
@@ -20,7 +26,7 @@ const PLACES: &[(Place, Option<Escaper>, Option<Escaper>, Option<Escaper>)] = &[
     (Place::Plain, None, None, Some(Escaper::Plain)),
 ];
 
-// What a text becomes. Each table has every row of the escaper, and the characters next to it.
+// Texts and their escaped forms. Each table has every row of the escaper, and the characters next to it.
 const HTML: &[(&str, &str)] = &[
     ("\0\u{1}", "\u{fffd}\u{1}"),
     ("\u{c}\r\u{e}", "\u{c}&#13;\u{e}"),
@@ -182,6 +188,20 @@ const JS_WORD: &[(&str, &str)] = &[("-3", " -3 ")];
 
 const PLAIN: &[(&str, &str)] = &[("<a&\0\u{5d0}>", "<a&\0\u{5d0}>"), ("", "")];
 
+// The tables, each with a place and a class of value that it holds for.
+const ESCAPED: &[(Place, ValueClass, &[(&str, &str)])] = &[
+    (Place::Attr, ValueClass::Text, HTML),
+    (Place::JsSingle, ValueClass::Text, JS_STRING),
+    (Place::CssString, ValueClass::Text, CSS_STRING),
+    (Place::CssValue, ValueClass::Text, CSS_VALUE),
+    (Place::UriQuery, ValueClass::Text, URI_COMPONENT),
+    (Place::UriPath, ValueClass::Text, URI_NORMAL),
+    (Place::UriStart, ValueClass::Text, URI_START),
+    (Place::JsValue, ValueClass::Text, JS_TEXT),
+    (Place::JsValue, ValueClass::Int, JS_WORD),
+    (Place::Plain, ValueClass::Text, PLAIN),
+];
+
 #[test]
 fn escapers_of_places(rt: HostRuntime) {
     for (place, html, attributes, text) in PLACES {
@@ -209,100 +229,82 @@ fn gives(alloc: Global, place: Place, class: ValueClass, text: &str, want: &str)
 }
 
 #[test]
-fn html(rt: HostRuntime) {
-    for (text, want) in HTML {
-        assert!(rt;
-            gives(rt.alloc(), Place::Attr, ValueClass::Text, text, want),
-            "{text:?}"
-        );
+fn whole_texts(rt: HostRuntime) {
+    for (place, class, rows) in ESCAPED {
+        for (text, want) in *rows {
+            assert!(rt; gives(rt.alloc(), *place, *class, text, want), "{text:?}");
+        }
     }
 }
 
-#[test]
-fn js_string(rt: HostRuntime) {
-    for (text, want) in JS_STRING {
-        assert!(rt;
-            gives(rt.alloc(), Place::JsSingle, ValueClass::Text, text, want),
-            "{text:?}"
-        );
+// The escaped form of a text of at most 64 characters, made of plain prefixes and of single characters.
+fn pieces(alloc: Global, how: Escaper, text: &str) -> Result<Vec<u8>, AllocError>
+    requires { IsTrue (is_by_characters how) }
+{
+    let mut out = Vec::new(alloc);
+    let mut rest = text;
+    for _ in 0..64u32 {
+        let (plain, others) = plain_prefix(how, rest);
+        out.extend_from_slice(plain.as_bytes())?;
+        let mut characters = others.chars();
+        if let Some(c) = characters.next() {
+            let mut tail = Tail::empty();
+            put_char(how, c, &mut tail);
+            let mut room = [0; 16];
+            let len = tail.take(&mut room);
+            if len == escaped_char_len(how, c) {
+                out.extend_from_slice(&room[..len])?;
+            }
+        }
+        rest = characters.as_str();
     }
+    Ok(out)
+}
+
+// Whether each text of a table is made so.
+fn are_made(alloc: Global, how: Escaper, rows: &[(&str, &str)]) -> bool
+    requires { IsTrue (is_by_characters how) }
+{
+    for (text, want) in rows {
+        match pieces(alloc, how, text) {
+            Ok(out) => {
+                if out.as_slice() != want.as_bytes() {
+                    return false;
+                }
+            }
+            Err(_) => return false,
+        }
+    }
+    true
 }
 
 #[test]
-fn css_string(rt: HostRuntime) {
-    for (text, want) in CSS_STRING {
-        assert!(rt;
-            gives(rt.alloc(), Place::CssString, ValueClass::Text, text, want),
-            "{text:?}"
-        );
-    }
+fn texts_in_pieces(rt: HostRuntime) -> Result<(), Fail> {
+    let alloc = rt.alloc();
+    assert!(rt; are_made(alloc, Escaper::Html, HTML));
+    assert!(rt; are_made(alloc, Escaper::UriNormal, URI_NORMAL));
+    assert!(rt; are_made(alloc, Escaper::UriComponent, URI_COMPONENT));
+    assert!(rt; are_made(alloc, Escaper::JsString, JS_STRING));
+    assert!(rt; are_made(alloc, Escaper::CssString, CSS_STRING));
+    assert!(rt; are_made(alloc, Escaper::Plain, PLAIN));
+    Ok(())
 }
 
-#[test]
-fn css_value(rt: HostRuntime) {
-    for (text, want) in CSS_VALUE {
-        assert!(rt;
-            gives(rt.alloc(), Place::CssValue, ValueClass::Text, text, want),
-            "{text:?}"
-        );
-    }
-}
+// A text and its longest prefix that stands for itself in a string of a script.
+const JS_PREFIXES: &[(&str, &str)] = &[
+    ("\u{201c}it's", "\u{201c}it"),
+    ("\u{2027}\u{2028}", "\u{2027}"),
+    ("\u{84}\u{86}\u{85}", "\u{84}\u{86}"),
+    ("words", "words"),
+    ("\u{201c}\u{201d}", "\u{201c}\u{201d}"),
+];
 
 #[test]
-fn uri_component(rt: HostRuntime) {
-    for (text, want) in URI_COMPONENT {
-        assert!(rt;
-            gives(rt.alloc(), Place::UriQuery, ValueClass::Text, text, want),
-            "{text:?}"
-        );
-    }
-}
-
-#[test]
-fn uri_normal(rt: HostRuntime) {
-    for (text, want) in URI_NORMAL {
-        assert!(rt;
-            gives(rt.alloc(), Place::UriPath, ValueClass::Text, text, want),
-            "{text:?}"
-        );
-    }
-}
-
-#[test]
-fn uri_start(rt: HostRuntime) {
-    for (text, want) in URI_START {
-        assert!(rt;
-            gives(rt.alloc(), Place::UriStart, ValueClass::Text, text, want),
-            "{text:?}"
-        );
-    }
-}
-
-#[test]
-fn js_text(rt: HostRuntime) {
-    for (text, want) in JS_TEXT {
-        assert!(rt;
-            gives(rt.alloc(), Place::JsValue, ValueClass::Text, text, want),
-            "{text:?}"
-        );
-    }
-}
-
-#[test]
-fn js_word(rt: HostRuntime) {
-    for (text, want) in JS_WORD {
-        assert!(rt;
-            gives(rt.alloc(), Place::JsValue, ValueClass::Int, text, want),
-            "{text:?}"
-        );
-    }
-}
-
-#[test]
-fn plain(rt: HostRuntime) {
-    for (text, want) in PLAIN {
-        assert!(rt;
-            gives(rt.alloc(), Place::Plain, ValueClass::Text, text, want),
+fn plain_prefixes_pass_lead_bytes(rt: HostRuntime) {
+    for (text, prefix) in JS_PREFIXES {
+        assert_eq!(rt;
+            plain_prefix(Escaper::JsString, text).0,
+            *prefix,
             "{text:?}"
         );
     }

@@ -17,12 +17,12 @@ shorter front bs short =
 
 pub returns-in-Some : goal.returns-in-Some
 returns-in-Some c =
-    let bytes : c.in-Some.bytes.now ≡ take (length c.args.front.now) c.args.text.now =
-    c.in-Some.ensures.lookup.0.2 ∙ first_bytes c.as_bytes.result.now (length c.args.front.now) ∙ ap (take (length c.args.front.now)) c.as_bytes.ensures.value in
-    begins_from_bytes c.args.front.now c.args.text.now c.eq_ignore_ascii_case.result c.requires c.utf8.text
+    let bytes : c.in-Some.bytes.now ≡ take (length c.args.prefix.now) c.args.text.now =
+    c.in-Some.ensures.lookup.0.2 ∙ first_bytes c.as_bytes.result.now (length c.args.prefix.now) ∙ ap (take (length c.args.prefix.now)) c.as_bytes.ensures.value in
+    begins_from_bytes c.args.prefix.now c.args.text.now c.eq_ignore_ascii_case.result c.requires c.utf8.text
     (rw (bytes, c.as_bytes-in-Some.ensures.value) at c.eq_ignore_ascii_case.ensures.test)
 
 pub returns-in-None : goal.returns-in-None
 returns-in-None c =
-    begins_from_bytes c.args.front.now c.args.text.now false c.requires c.utf8.text
-    (shorter c.args.front.now c.args.text.now (grind (arith, c.in-None.ensures.lookup.0, ap length c.as_bytes.ensures.value)))
+    begins_from_bytes c.args.prefix.now c.args.text.now false c.requires c.utf8.text
+    (shorter c.args.prefix.now c.args.text.now (grind (arith, c.in-None.ensures.lookup.0, ap length c.as_bytes.ensures.value)))

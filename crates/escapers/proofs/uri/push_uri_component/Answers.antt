@@ -11,7 +11,7 @@ use Rattle.escapers.proofs.uri.push_uri_component.Goals as goal
 
 pub returns-then-is_alphanumeric : goal.returns-then-is_alphanumeric
 returns-then-is_alphanumeric c =
-    rw (alphanumeric_stands is_unreserved (chars c.args.text.now) (λ c is. or_left _ _ is) (sym c.is_alphanumeric.ensures ∙ c.if-is_alphanumeric.true)) c.push_text.ensures
+    rw (alphanumeric_stands is_unreserved (chars c.args.text.now) (λ c is. or_left _ _ is) (sym c.is_alphanumeric.ensures ∙ c.if-is_alphanumeric.true)) c.push_text.ensures.ok
 
 pub returns : goal.returns
 returns c =

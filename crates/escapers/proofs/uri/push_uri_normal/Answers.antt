@@ -2,7 +2,8 @@ use Rattle.std.proofs.Common.{◌≡◌, ◌++◌, ◌∷◌, ap, sym, ◌∙◌
 use Rattle.std.specs.Str.{chars}
 use Rattle.std.specs.String.{string_bytes}
 use Rattle.std.proofs.lemmas.Grind.{flat_map-append}
-use Rattle.escapers.specs.UriNormal.{ampersand, normal_character, uri_normal}
+use Rattle.soy_base.specs.Characters.{ampersand}
+use Rattle.escapers.specs.UriNormal.{normal_character, uri_normal}
 use Rattle.escapers.proofs.Pushed.{three_pushed}
 use Rattle.escapers.proofs.uri.push_uri_normal.Goals as goal
 
@@ -14,6 +15,6 @@ loop-part-preserved c =
     let part = chars c.in-Some.part.now in
     let after = chars c.in-Some.after.now in
     let cut : uri_normal (chars c.loop-part.rest.now) ≡ uri_normal part ++ (codes "&amp;" ++ uri_normal after) =
-    ap uri_normal c.in-Some.ensures.1 ∙ flat_map-append normal_character part (ampersand ∷ after) in
-    let joined = three_pushed start (chars (string_bytes c.push_without_ampersand.new.out)) (chars (string_bytes c.push_text.new.out)) (uri_normal part) (codes "&amp;") (uri_normal after) c.in_ok-push_without_ampersand.ensures c.in_ok-push_text.ensures in
-    (c.in-Some.ensures.2, joined ∙ ap (λ l. start ++ l) (sym cut) ∙ c.loop-part.invariant.1)
+    ap uri_normal c.in-Some.ensures.around.1 ∙ flat_map-append normal_character part (ampersand ∷ after) in
+    let joined = three_pushed start (chars (string_bytes c.push_without_ampersand.new.out)) (chars (string_bytes c.push_text.new.out)) (uri_normal part) (codes "&amp;") (uri_normal after) c.in_ok-push_without_ampersand.ensures c.in_ok-push_text.ensures.ok in
+    (c.in-Some.ensures.around.2, joined ∙ ap (λ l. start ++ l) (sym cut) ∙ c.loop-part.invariant.1)

@@ -12,7 +12,7 @@ use Rattle.escapers.proofs.uri.push_without_ampersand.Goals as goal
 pub returns-then-is_alphanumeric : goal.returns-then-is_alphanumeric
 returns-then-is_alphanumeric c =
     let same = sym (normal_without (chars c.args.text.now) c.requires) ∙ alphanumeric_stands is_normal (chars c.args.text.now) (λ c is. or_left _ _ (or_left _ _ is)) (sym c.is_alphanumeric.ensures ∙ c.if-is_alphanumeric.true) in
-    rw same c.push_text.ensures
+    rw same c.push_text.ensures.ok
 
 pub returns : goal.returns
 returns c =
