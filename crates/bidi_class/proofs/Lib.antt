@@ -3,3 +3,4 @@ pub mod Runs
 pub mod BlockSteps
 pub mod BracketRuns
 pub mod BracketSteps
+pub mod PairParts

@@ -1,4 +1,7 @@
--- The class that the general category of a character gives, where no code point of the table decides before it.
+-- The class that the general category of a character gives, where no code point of the table decides before it (Unicode
+-- Character Database, General_Category).
+--
+-- Mn gives NSM, Lu gives L, and Sm gives ON.
 use Rattle.std.specs.Prelude.{if◌then◌else◌}
 use Rattle.ucd_category.specs.declared.GeneralCategory.{GeneralCategory}
 use Rattle.bidi_class.specs.declared.class.Class.{Class}

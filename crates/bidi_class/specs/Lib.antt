@@ -1,3 +1,4 @@
-pub mod Class
 pub mod Brackets
 pub mod CategoryClass
+pub mod Class
+pub mod Pairs

@@ -18,7 +18,7 @@ static ASCII: [Class; 128] = [
 
 /// The class of an ASCII character.
 #[inline]
-pub fn ascii_class(c: char) -> Class
+pub(crate) fn ascii_class(c: char) -> Class
     requires { c < 0x80 }
     ensures { result ≡ bidi_class c }
 {

@@ -1,4 +1,4 @@
-//! The classes of the blocks in which code points decide, each named after what stands there.
+//! The classes of the blocks in which code points decide, each named after what it has.
 ghost use Rattle.std.specs.Prelude.{◌≡◌, ◌≤◌};
 ghost use Rattle.bidi_class.specs.Class.{bidi_class};
 
@@ -7,7 +7,7 @@ use crate::class::Class;
 
 /// The class of a character from U+0080 to U+058F: Latin, Greek, Cyrillic and Armenian.
 #[tactic(auto, using(crate::proofs::BlockSteps::latin_classes))]
-pub fn latin_class(c: char) -> Class
+pub(crate) fn latin_class(c: char) -> Class
     requires low { 0x80 ≤ c }
     requires high { c ≤ 0x58F }
     ensures { result ≡ bidi_class c }
@@ -26,7 +26,7 @@ pub fn latin_class(c: char) -> Class
 
 /// The class of a character from U+0590 to U+08FF: Hebrew, Arabic and their neighbors.
 #[tactic(auto, using(crate::proofs::BlockSteps::right_to_left_classes))]
-pub fn right_to_left_class(c: char) -> Class
+pub(crate) fn right_to_left_class(c: char) -> Class
     requires low { 0x590 ≤ c }
     requires high { c ≤ 0x8FF }
     ensures { result ≡ bidi_class c }
@@ -44,9 +44,9 @@ pub fn right_to_left_class(c: char) -> Class
     }
 }
 
-/// The class of a character from U+0900 to U+1FFF: scripts of India and of other places, with one space.
+/// The class of a character from U+0900 to U+1FFF: scripts of India and of other regions, with one space.
 #[tactic(auto, using(crate::proofs::BlockSteps::indic_classes))]
-pub fn indic_class(c: char) -> Class
+pub(crate) fn indic_class(c: char) -> Class
     requires low { 0x900 ≤ c }
     requires high { c ≤ 0x1FFF }
     ensures { result ≡ bidi_class c }
@@ -59,7 +59,7 @@ pub fn indic_class(c: char) -> Class
 
 /// The class of a character from U+2000 to U+202F: spaces, marks of direction, embeddings and overrides.
 #[tactic(auto, using(crate::proofs::BlockSteps::spaces_classes))]
-pub fn space_class(c: char) -> Class
+pub(crate) fn space_class(c: char) -> Class
     requires low { 0x2000 ≤ c }
     requires high { c ≤ 0x202F }
     ensures { result ≡ bidi_class c }
@@ -82,7 +82,7 @@ pub fn space_class(c: char) -> Class
 
 /// The class of a character from U+2030 to U+206F: punctuation and isolate controls.
 #[tactic(auto, using(crate::proofs::BlockSteps::punctuation_classes))]
-pub fn punctuation_class(c: char) -> Class
+pub(crate) fn punctuation_class(c: char) -> Class
     requires low { 0x2030 ≤ c }
     requires high { c ≤ 0x206F }
     ensures { result ≡ bidi_class c }
@@ -102,7 +102,7 @@ pub fn punctuation_class(c: char) -> Class
 
 /// The class of a character from U+2070 to U+2213: superscripts, subscripts, currencies and operators.
 #[tactic(auto, using(crate::proofs::BlockSteps::symbols_classes))]
-pub fn symbol_class(c: char) -> Class
+pub(crate) fn symbol_class(c: char) -> Class
     requires low { 0x2070 ≤ c }
     requires high { c ≤ 0x2213 }
     ensures { result ≡ bidi_class c }
@@ -117,7 +117,7 @@ pub fn symbol_class(c: char) -> Class
 
 /// The class of a character from U+2214 to U+FB1C: symbols and East Asian scripts, with one space.
 #[tactic(auto, using(crate::proofs::BlockSteps::east_asian_classes))]
-pub fn east_asian_class(c: char) -> Class
+pub(crate) fn east_asian_class(c: char) -> Class
     requires low { 0x2214 ≤ c }
     requires high { c ≤ 0xFB1C }
     ensures { result ≡ bidi_class c }
@@ -130,7 +130,7 @@ pub fn east_asian_class(c: char) -> Class
 
 /// The class of a character from U+FB1D to U+FEFF: presentation forms of Hebrew and Arabic.
 #[tactic(auto, using(crate::proofs::BlockSteps::presentation_classes))]
-pub fn presentation_class(c: char) -> Class
+pub(crate) fn presentation_class(c: char) -> Class
     requires low { 0xFB1D ≤ c }
     requires high { c ≤ 0xFEFF }
     ensures { result ≡ bidi_class c }
@@ -147,7 +147,7 @@ pub fn presentation_class(c: char) -> Class
 
 /// The class of a character from U+10800 to U+10FFF: old right-to-left scripts.
 #[tactic(auto, using(crate::proofs::BlockSteps::old_scripts_classes))]
-pub fn old_script_class(c: char) -> Class
+pub(crate) fn old_script_class(c: char) -> Class
     requires low { 0x10800 ≤ c }
     requires high { c ≤ 0x10FFF }
     ensures { result ≡ bidi_class c }
@@ -162,7 +162,7 @@ pub fn old_script_class(c: char) -> Class
 
 /// The class of a character from U+1E800 to U+1EFFF: younger right-to-left scripts and Arabic mathematical letters.
 #[tactic(auto, using(crate::proofs::BlockSteps::new_scripts_classes))]
-pub fn new_script_class(c: char) -> Class
+pub(crate) fn new_script_class(c: char) -> Class
     requires low { 0x1E800 ≤ c }
     requires high { c ≤ 0x1EFFF }
     ensures { result ≡ bidi_class c }

@@ -7,7 +7,7 @@ use crate::class::Class;
 use unicode::properties::GeneralCategory;
 
 /// NSM for a mark, and `other` for another character.
-pub fn unless_mark(c: char, other: Class) -> Class
+pub(crate) fn unless_mark(c: char, other: Class) -> Class
     ensures { result ≡ unless_mark other (general_category c) }
 {
     match GeneralCategory::for_char(c) {
@@ -17,7 +17,7 @@ pub fn unless_mark(c: char, other: Class) -> Class
 }
 
 /// NSM for a mark, L for a letter, a number or a spacing mark, and ON for another character.
-pub fn category_class(c: char) -> Class
+pub(crate) fn category_class(c: char) -> Class
     ensures { result ≡ category_class (general_category c) }
 {
     match GeneralCategory::for_char(c) {

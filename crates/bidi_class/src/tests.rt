@@ -1,7 +1,8 @@
-use crate::{Bracket, Class, bracket_of, class_of, is_initiator};
+//! Classes and brackets at the ends of each range, written from outside.
+use crate::{Bracket, Class, bracket_of, class_of, is_initiator, law_pairs};
 
 // The first and the last character of each range of the table, row by row, and of some runs of one category.
-const ENDS: [(Class, &str); 37] = [
+const ENDS: &[(Class, &str)] = &[
     (Class::B, "\u{a}\u{d}\u{1c}\u{1e}\u{85}\u{2029}"),
     (Class::S, "\u{9}\u{b}\u{1f}"),
     (
@@ -81,7 +82,7 @@ const ENDS: [(Class, &str); 37] = [
 ];
 
 // The character one past each of these ranges.
-const PAST: [(Class, &str); 7] = [
+const PAST: &[(Class, &str)] = &[
     (
         Class::L,
         "\u{ba}\u{d8}\u{370}\u{48a}\u{1681}\u{2071}\u{212f}\u{a000}\u{11000}",
@@ -120,6 +121,7 @@ fn initiators(rt: HostRuntime) {
     for c in "a\u{200e}\u{202a}\u{202b}\u{2065}\u{2069}".chars() {
         assert!(rt; !is_initiator(c), "at U+{:04X}", c as u32);
     }
+    law_pairs();
 }
 
 #[test]

@@ -5,7 +5,7 @@ use Rattle.std.proofs.lemmas.Bool.{cases_Bool}
 use Rattle.std.proofs.lemmas.Str.{length-encode, len_utf8_bounds}
 use Rattle.bidi_text.specs.Clean.{dropped_bytes, is_dropped}
 use Rattle.bidi_text.proofs.CleanedSoFar.{HeadFrom, left_out, left_out-cons, left_out_from}
-use Rattle.bidi_text.proofs.LoneBytes.{front_byte-snoc}
+use Rattle.bidi_text.proofs.LoneBytes.{prefix_byte-snoc}
 
 -- a smaller number before numbers that ascend
 increasing-cons : (n low : ℕ) (ns : List ℕ) → n < low → HeadFrom low ns → IsStrictlyIncreasing ns → IsStrictlyIncreasing (n ∷ ns)
@@ -15,15 +15,15 @@ increasing-cons n low (m ∷ ns) below from rise (suc k) h =
     let next : suc (k + 1) ≡ suc k + 1 = omega arith in
     subst (λ i. slice_index (m ∷ ns) k < slice_index (n ∷ m ∷ ns) i) next (rise k (omega arith))
 
--- from the character after a front on
-increasing-left_out : (front cs : List ℕ) → IsStrictlyIncreasing (left_out front cs)
-increasing-left_out front [] = λ k h. absurd (omega arith)
-increasing-left_out front (c ∷ cs) =
-    elim (cases_Bool (is_dropped (front ++ (c ∷ cs)) (length front, c))) [
-      | inl out ↦ subst IsStrictlyIncreasing (sym (left_out-cons front c cs true out))
-          (increasing-cons (length (encode_utf8_all front)) (length (encode_utf8_all (front ++ c ∷ []))) (left_out (front ++ c ∷ []) cs)
-          (omega (arith, front_byte-snoc front c, length-encode c, (len_utf8_bounds c).0)) (left_out_from (front ++ c ∷ []) cs) (increasing-left_out (front ++ c ∷ []) cs))
-      | inr kept ↦ subst IsStrictlyIncreasing (sym (left_out-cons front c cs false kept)) (increasing-left_out (front ++ c ∷ []) cs)
+-- from the character after a prefix on
+increasing-left_out : (prefix cs : List ℕ) → IsStrictlyIncreasing (left_out prefix cs)
+increasing-left_out prefix [] = λ k h. absurd (omega arith)
+increasing-left_out prefix (c ∷ cs) =
+    elim (cases_Bool (is_dropped (prefix ++ (c ∷ cs)) (length prefix, c))) [
+      | inl out ↦ subst IsStrictlyIncreasing (sym (left_out-cons prefix c cs true out))
+          (increasing-cons (length (encode_utf8_all prefix)) (length (encode_utf8_all (prefix ++ c ∷ []))) (left_out (prefix ++ c ∷ []) cs)
+          (omega (arith, prefix_byte-snoc prefix c, length-encode c, (len_utf8_bounds c).0)) (left_out_from (prefix ++ c ∷ []) cs) (increasing-left_out (prefix ++ c ∷ []) cs))
+      | inr kept ↦ subst IsStrictlyIncreasing (sym (left_out-cons prefix c cs false kept)) (increasing-left_out (prefix ++ c ∷ []) cs)
     ]
 
 -- of a whole text

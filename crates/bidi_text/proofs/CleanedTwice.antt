@@ -5,7 +5,7 @@ use Rattle.std.proofs.lemmas.List.{nil_from_length}
 use Rattle.bidi_class.specs.declared.class.Class.{Class}
 use Rattle.bidi_class.specs.declared.class.Class.TheVariants.{B, S}
 use Rattle.bidi_class.specs.Class.{bidi_class, begins_isolate}
-use Rattle.bidi_text.specs.Pairs.{ends_isolate, is_initiator, is_closing, is_in_pair}
+use Rattle.bidi_class.specs.Pairs.{ends_isolate, is_initiator, is_closing, is_in_pair}
 use Rattle.bidi_text.specs.Clean.{cleaned_text, dropped_bytes, is_dropped, is_isolate_control, is_separator, spaced}
 use Rattle.bidi_text.proofs.CleanedSoFar.{left_clean, left_clean-cons, left_out, left_out-cons}
 use Rattle.bidi_text.proofs.Isolates.{first, lone_closings, lone_initiators}
@@ -64,46 +64,46 @@ pub record Paired (begun : ℕ) (cs cleaned : List ℕ) : Type 0 where
   pub closings_are : lone_closings cleaned ≡ min begun (lone_closings cs)
   pub initiators_are : lone_initiators cleaned ≡ 0
 
-left_clean-Paired : (front cs : List ℕ) → Paired (lone_initiators front) cs (left_clean front cs)
-left_clean-Paired front [] = record { closings_are = omega arith; initiators_are = refl }
-left_clean-Paired front (c ∷ cs) =
-    let begun : ℕ = lone_initiators front in
-    let later : List ℕ = left_clean (front ++ c ∷ []) cs in
-    let rest : Paired (lone_initiators (front ++ c ∷ [])) cs later = left_clean-Paired (front ++ c ∷ []) cs in
+left_clean-Paired : (prefix cs : List ℕ) → Paired (lone_initiators prefix) cs (left_clean prefix cs)
+left_clean-Paired prefix [] = record { closings_are = omega arith; initiators_are = refl }
+left_clean-Paired prefix (c ∷ cs) =
+    let begun : ℕ = lone_initiators prefix in
+    let later : List ℕ = left_clean (prefix ++ c ∷ []) cs in
+    let rest : Paired (lone_initiators (prefix ++ c ∷ [])) cs later = left_clean-Paired (prefix ++ c ∷ []) cs in
     elim (first c cs) [
       | BeginsLone b e none counts ↦
-          let out : is_dropped (front ++ (c ∷ cs)) (length front, c) ≡ true = dropped_begins front c cs b ∙ ap not (le-ltb 0 (lone_closings cs) (omega arith)) in
-          let same : left_clean front (c ∷ cs) ≡ later = left_clean-cons front c cs true out in
+          let out : is_dropped (prefix ++ (c ∷ cs)) (length prefix, c) ≡ true = dropped_begins prefix c cs b ∙ ap not (le-ltb 0 (lone_closings cs) (omega arith)) in
+          let same : left_clean prefix (c ∷ cs) ≡ later = left_clean-cons prefix c cs true out in
           subst (Paired begun (c ∷ cs)) (sym same) (record { closings_are = omega (arith, rest.closings_are); initiators_are = rest.initiators_are })
       | BeginsMatched b e some counts ↦
-          let kept : is_dropped (front ++ (c ∷ cs)) (length front, c) ≡ false = dropped_begins front c cs b ∙ ap not (lt-ltb 0 (lone_closings cs) some) in
-          let same : left_clean front (c ∷ cs) ≡ c ∷ later = left_clean-cons front c cs false kept ∙ ap (λ k. k ∷ later) (spaced-begins c b) in
-          let more : lone_closings later ≡ min (begun + 1) (lone_closings cs) = rest.closings_are ∙ ap (λ n. min n (lone_closings cs)) (lone_initiators-begins front c b e) in
+          let kept : is_dropped (prefix ++ (c ∷ cs)) (length prefix, c) ≡ false = dropped_begins prefix c cs b ∙ ap not (lt-ltb 0 (lone_closings cs) some) in
+          let same : left_clean prefix (c ∷ cs) ≡ c ∷ later = left_clean-cons prefix c cs false kept ∙ ap (λ k. k ∷ later) (spaced-begins c b) in
+          let more : lone_closings later ≡ min (begun + 1) (lone_closings cs) = rest.closings_are ∙ ap (λ n. min n (lone_closings cs)) (lone_initiators-begins prefix c b e) in
           subst (Paired begun (c ∷ cs)) (sym same) (record {
             closings_are = omega (arith, lone_closings-begins c later b, more);
             initiators_are = cond-true _ _ _ b ∙ cond-false _ _ _ (ne_eqb (lone_closings later) 0 (λ none. absurd (omega (arith, more)))) ∙ rest.initiators_are;
           })
       | EndsOne b e counts ↦
-          let is : is_dropped (front ++ (c ∷ cs)) (length front, c) ≡ not (nat_lt 0 begun) = dropped_ends front c cs b e in
-          let more : lone_closings later ≡ min (begun - 1) (lone_closings cs) = rest.closings_are ∙ ap (λ n. min n (lone_closings cs)) (lone_initiators-ends front c b e) in
+          let is : is_dropped (prefix ++ (c ∷ cs)) (length prefix, c) ≡ not (nat_lt 0 begun) = dropped_ends prefix c cs b e in
+          let more : lone_closings later ≡ min (begun - 1) (lone_closings cs) = rest.closings_are ∙ ap (λ n. min n (lone_closings cs)) (lone_initiators-ends prefix c b e) in
           elim (cases_lt 0 begun) [
             | inl some ↦
-                let kept : is_dropped (front ++ (c ∷ cs)) (length front, c) ≡ false = is ∙ ap not (lt-ltb 0 begun some) in
-                let same : left_clean front (c ∷ cs) ≡ c ∷ later = left_clean-cons front c cs false kept ∙ ap (λ k. k ∷ later) (spaced-ends c e) in
+                let kept : is_dropped (prefix ++ (c ∷ cs)) (length prefix, c) ≡ false = is ∙ ap not (lt-ltb 0 begun some) in
+                let same : left_clean prefix (c ∷ cs) ≡ c ∷ later = left_clean-cons prefix c cs false kept ∙ ap (λ k. k ∷ later) (spaced-ends c e) in
                 subst (Paired begun (c ∷ cs)) (sym same) (record {
                   closings_are = omega (arith, lone_closings-ends c later b e, more);
                   initiators_are = cond-false _ _ _ b ∙ rest.initiators_are;
                 })
             | inr none ↦
-                let out : is_dropped (front ++ (c ∷ cs)) (length front, c) ≡ true = is ∙ ap not (le-ltb 0 begun none) in
-                let same : left_clean front (c ∷ cs) ≡ later = left_clean-cons front c cs true out in
+                let out : is_dropped (prefix ++ (c ∷ cs)) (length prefix, c) ≡ true = is ∙ ap not (le-ltb 0 begun none) in
+                let same : left_clean prefix (c ∷ cs) ≡ later = left_clean-cons prefix c cs true out in
                 subst (Paired begun (c ∷ cs)) (sym same) (record { closings_are = omega (arith, more); initiators_are = rest.initiators_are })
           ]
       | StaysOut b e counts ↦
-          let kept : is_dropped (front ++ (c ∷ cs)) (length front, c) ≡ false = dropped_stays front c cs b e in
-          let same : left_clean front (c ∷ cs) ≡ spaced c ∷ later = left_clean-cons front c cs false kept in
+          let kept : is_dropped (prefix ++ (c ∷ cs)) (length prefix, c) ≡ false = dropped_stays prefix c cs b e in
+          let same : left_clean prefix (c ∷ cs) ≡ spaced c ∷ later = left_clean-cons prefix c cs false kept in
           let roles = spaced-stays c b e in
-          let more : lone_closings later ≡ min begun (lone_closings cs) = rest.closings_are ∙ ap (λ n. min n (lone_closings cs)) (lone_initiators-stays front c b e) in
+          let more : lone_closings later ≡ min begun (lone_closings cs) = rest.closings_are ∙ ap (λ n. min n (lone_closings cs)) (lone_initiators-stays prefix c b e) in
           subst (Paired begun (c ∷ cs)) (sym same) (record {
             closings_are = lone_closings-stays (spaced c) later roles.0 roles.1 ∙ more ∙ ap (min begun) (sym (lone_closings-stays c cs b e));
             initiators_are = cond-false _ _ _ roles.0 ∙ rest.initiators_are;
@@ -121,34 +121,34 @@ dropped_bytes-cleaned text =
     dropped_bytes-lone_bytes (cleaned_text text) ∙ ap (λ l. l ++ lone_initiator_bytes 0 (cleaned_text text)) no_closings ∙ no_initiators
 
 -- where nothing is left out from a character on, that character is kept
-kept_from : (front : List ℕ) (c : ℕ) (cs : List ℕ) → left_out front (c ∷ cs) ≡ []
-    → (is_dropped (front ++ (c ∷ cs)) (length front, c) ≡ false) × (left_out (front ++ c ∷ []) cs ≡ [])
-kept_from front c cs none =
-    elim (cases_Bool (is_dropped (front ++ (c ∷ cs)) (length front, c))) [
-      | inl out ↦ absurd (not_empty _ _ (sym (left_out-cons front c cs true out) ∙ none))
-      | inr kept ↦ (kept, sym (left_out-cons front c cs false kept) ∙ none)
+kept_from : (prefix : List ℕ) (c : ℕ) (cs : List ℕ) → left_out prefix (c ∷ cs) ≡ []
+    → (is_dropped (prefix ++ (c ∷ cs)) (length prefix, c) ≡ false) × (left_out (prefix ++ c ∷ []) cs ≡ [])
+kept_from prefix c cs none =
+    elim (cases_Bool (is_dropped (prefix ++ (c ∷ cs)) (length prefix, c))) [
+      | inl out ↦ absurd (not_empty _ _ (sym (left_out-cons prefix c cs true out) ∙ none))
+      | inr kept ↦ (kept, sym (left_out-cons prefix c cs false kept) ∙ none)
     ]
   where
     not_empty : (n : ℕ) (ns : List ℕ) → n ∷ ns ≡ [] → ⊥
     not_empty n ns e = cc
 
 -- so all characters from there on are kept
-left_clean-kept : (front cs : List ℕ) → left_out front cs ≡ [] → left_clean front cs ≡ map spaced cs
-left_clean-kept front [] none = refl
-left_clean-kept front (c ∷ cs) none =
-    let kept = kept_from front c cs none in
-    left_clean-cons front c cs false kept.0 ∙ ap (λ l. spaced c ∷ l) (left_clean-kept (front ++ c ∷ []) cs kept.1)
+left_clean-kept : (prefix cs : List ℕ) → left_out prefix cs ≡ [] → left_clean prefix cs ≡ map spaced cs
+left_clean-kept prefix [] none = refl
+left_clean-kept prefix (c ∷ cs) none =
+    let kept = kept_from prefix c cs none in
+    left_clean-cons prefix c cs false kept.0 ∙ ap (λ l. spaced c ∷ l) (left_clean-kept (prefix ++ c ∷ []) cs kept.1)
 
 -- what was cleaned has no separators
-map-spaced : (front cs : List ℕ) → map spaced (left_clean front cs) ≡ left_clean front cs
-map-spaced front [] = refl
-map-spaced front (c ∷ cs) =
-    elim (cases_Bool (is_dropped (front ++ (c ∷ cs)) (length front, c))) [
-      | inl out ↦ let same = left_clean-cons front c cs true out in ap (map spaced) same ∙ map-spaced (front ++ c ∷ []) cs ∙ sym same
+map-spaced : (prefix cs : List ℕ) → map spaced (left_clean prefix cs) ≡ left_clean prefix cs
+map-spaced prefix [] = refl
+map-spaced prefix (c ∷ cs) =
+    elim (cases_Bool (is_dropped (prefix ++ (c ∷ cs)) (length prefix, c))) [
+      | inl out ↦ let same = left_clean-cons prefix c cs true out in ap (map spaced) same ∙ map-spaced (prefix ++ c ∷ []) cs ∙ sym same
       | inr kept ↦
-          let same = left_clean-cons front c cs false kept in
-          ap (map spaced) same ∙ ap (λ k. k ∷ map spaced (left_clean (front ++ c ∷ []) cs)) (spaced-spaced c)
-          ∙ ap (λ l. spaced c ∷ l) (map-spaced (front ++ c ∷ []) cs) ∙ sym same
+          let same = left_clean-cons prefix c cs false kept in
+          ap (map spaced) same ∙ ap (λ k. k ∷ map spaced (left_clean (prefix ++ c ∷ []) cs)) (spaced-spaced c)
+          ∙ ap (λ l. spaced c ∷ l) (map-spaced (prefix ++ c ∷ []) cs) ∙ sym same
     ]
 
 -- cleaning a cleaned text changes nothing
@@ -156,21 +156,21 @@ pub cleaned_text-cleaned_text : (text : List ℕ) → cleaned_text (cleaned_text
 cleaned_text-cleaned_text text = left_clean-kept [] (cleaned_text text) (dropped_bytes-cleaned text) ∙ map-spaced [] text
 
 -- where nothing is left out, each isolate control is in a pair
-controls_paired : (front cs : List ℕ) (n : ℕ) → left_out front cs ≡ [] → n < length cs → is_isolate_control (slice_index cs n) ≡ true → is_in_pair (front ++ cs) (length front + n) ≡ true
-controls_paired front [] n none within control = absurd (omega arith)
-controls_paired front (c ∷ cs) zero none within control =
-    let text : List ℕ = front ++ (c ∷ cs) in
-    let kept : not (is_in_pair text (length front)) ≡ false =
-    sym (ap (λ t. t && not (is_in_pair text (length front))) control) ∙ (kept_from front c cs none).0 in
-    let at : length front ≡ length front + 0 = omega arith in
-    subst (λ n. is_in_pair text n ≡ true) at (not-false (is_in_pair text (length front)) kept)
-controls_paired front (c ∷ cs) (suc n) none within control =
-    let later = controls_paired (front ++ c ∷ []) cs n (kept_from front c cs none).1 (omega arith) control in
-    let at : length (front ++ c ∷ []) + n ≡ length front + suc n = omega (arith, length-append front (c ∷ [])) in
-    subst (λ k. is_in_pair (front ++ (c ∷ cs)) k ≡ true) at (subst (λ t. is_in_pair t (length (front ++ c ∷ []) + n) ≡ true) (append_assoc front (c ∷ []) cs) later)
+controls_paired : (prefix cs : List ℕ) (n : ℕ) → left_out prefix cs ≡ [] → n < length cs → is_isolate_control (slice_index cs n) ≡ true → is_in_pair (prefix ++ cs) (length prefix + n) ≡ true
+controls_paired prefix [] n none within control = absurd (omega arith)
+controls_paired prefix (c ∷ cs) zero none within control =
+    let text : List ℕ = prefix ++ (c ∷ cs) in
+    let kept : not (is_in_pair text (length prefix)) ≡ false =
+    sym (ap (λ t. t && not (is_in_pair text (length prefix))) control) ∙ (kept_from prefix c cs none).0 in
+    let at : length prefix ≡ length prefix + 0 = omega arith in
+    subst (λ n. is_in_pair text n ≡ true) at (not-false (is_in_pair text (length prefix)) kept)
+controls_paired prefix (c ∷ cs) (suc n) none within control =
+    let later = controls_paired (prefix ++ c ∷ []) cs n (kept_from prefix c cs none).1 (omega arith) control in
+    let at : length (prefix ++ c ∷ []) + n ≡ length prefix + suc n = omega (arith, length-append prefix (c ∷ [])) in
+    subst (λ k. is_in_pair (prefix ++ (c ∷ cs)) k ≡ true) at (subst (λ t. is_in_pair t (length (prefix ++ c ∷ []) + n) ≡ true) (append_assoc prefix (c ∷ []) cs) later)
 
 -- each isolate control of a cleaned text is in a pair
-pub cleaned_text-paired : (text : List ℕ) (place : ℕ) → place < length (cleaned_text text) → is_isolate_control (slice_index (cleaned_text text) place) ≡ true → is_in_pair (cleaned_text text) place ≡ true
-cleaned_text-paired text place within control =
-    let at : 0 + place ≡ place = omega arith in
-    subst (λ n. is_in_pair (cleaned_text text) n ≡ true) at (controls_paired [] (cleaned_text text) place (dropped_bytes-cleaned text) within control)
+pub cleaned_text-paired : (text : List ℕ) (index : ℕ) → index < length (cleaned_text text) → is_isolate_control (slice_index (cleaned_text text) index) ≡ true → is_in_pair (cleaned_text text) index ≡ true
+cleaned_text-paired text index within control =
+    let at : 0 + index ≡ index = omega arith in
+    subst (λ n. is_in_pair (cleaned_text text) n ≡ true) at (controls_paired [] (cleaned_text text) index (dropped_bytes-cleaned text) within control)

@@ -5,7 +5,7 @@ use Rattle.std.proofs.lemmas.List.Sums.{sum_by-cons, count_by_more_yes, count_by
 use Rattle.bidi_class.specs.declared.class.Class.{Class}
 use Rattle.bidi_class.specs.declared.class.Class.TheVariants.{LRI, RLI, FSI, PDI}
 use Rattle.bidi_class.specs.Class.{bidi_class, begins_isolate}
-use Rattle.bidi_text.specs.Pairs.{ends_isolate, is_initiator, is_closing, initiators, closings}
+use Rattle.bidi_class.specs.Pairs.{ends_isolate, is_initiator, is_closing, initiators, closings}
 
 -- what a character does to an isolate
 pub data Role (c : ℕ) : Type 0 where
@@ -133,29 +133,29 @@ lone_closings-le (c ∷ cs) d led =
           omega arith
     ]
 
--- the PDI at a place is the first that finds more than some number of open initiators before it closed
-pub record ClosesAt (cs : List ℕ) (d place : ℕ) : Type 0 where
-  pub within : place < length cs
-  pub closing : is_closing (slice_index cs place) ≡ true
-  pub balanced : closings (take place cs) ≡ initiators (take place cs) + d
-  pub led : (n : ℕ) → n ≤ place → closings (take n cs) ≤ initiators (take n cs) + d
+-- the PDI at a index is the first that finds more than some number of open initiators before it closed
+pub record ClosesAt (cs : List ℕ) (d index : ℕ) : Type 0 where
+  pub within : index < length cs
+  pub closing : is_closing (slice_index cs index) ≡ true
+  pub balanced : closings (take index cs) ≡ initiators (take index cs) + d
+  pub led : (n : ℕ) → n ≤ index → closings (take n cs) ≤ initiators (take n cs) + d
 
 -- the same with one more character before the text
-closes_later : (c : ℕ) (cs : List ℕ) (d d' place begun ended lone_ends lone_begins : ℕ) → Counts c cs begun ended lone_ends lone_begins → d' + ended ≡ d + begun
-    → ClosesAt cs d' place → ClosesAt (c ∷ cs) d (suc place)
-closes_later c cs d d' place begun ended lone_ends lone_begins counts same at = record {
+closes_later : (c : ℕ) (cs : List ℕ) (d d' index begun ended lone_ends lone_begins : ℕ) → Counts c cs begun ended lone_ends lone_begins → d' + ended ≡ d + begun
+    → ClosesAt cs d' index → ClosesAt (c ∷ cs) d (suc index)
+closes_later c cs d d' index begun ended lone_ends lone_begins counts same at = record {
   within = omega (arith, at.within);
   closing = at.closing;
-  balanced = omega (arith, at.balanced, counts.closings_are (take place cs), counts.initiators_are (take place cs));
+  balanced = omega (arith, at.balanced, counts.closings_are (take index cs), counts.initiators_are (take index cs));
   led = led_later;
 }
   where
-    led_later : (n : ℕ) → n ≤ suc place → closings (take n (c ∷ cs)) ≤ initiators (take n (c ∷ cs)) + d
+    led_later : (n : ℕ) → n ≤ suc index → closings (take n (c ∷ cs)) ≤ initiators (take n (c ∷ cs)) + d
     led_later zero h = omega arith
     led_later (suc n) h = omega (arith, at.led n (omega arith), counts.closings_are (take n cs), counts.initiators_are (take n cs))
 
--- where more PDIs than that are lone there is such a place
-pub closes_at : (cs : List ℕ) (d : ℕ) → d < lone_closings cs → (place : ℕ) × ClosesAt cs d place
+-- where more PDIs than that are lone there is such a index
+pub closes_at : (cs : List ℕ) (d : ℕ) → d < lone_closings cs → (index : ℕ) × ClosesAt cs d index
 closes_at [] d more = absurd (omega arith)
 closes_at (c ∷ cs) d more =
     elim (first c cs) [
@@ -176,26 +176,26 @@ closes_at (c ∷ cs) d more =
 pub closing_only : (c : ℕ) → is_closing c ≡ true → is_initiator c ≡ false
 closing_only c h = elim (role c) [ Begins b e ↦ absurd (both_ways _ e h) | Ends b e ↦ b | Stays b e ↦ b ]
 
--- such a place shows that more are lone
-pub lone_closings-gt : (cs : List ℕ) (d place : ℕ) → ClosesAt cs d place → d < lone_closings cs
-lone_closings-gt cs d place at =
+-- such a index shows that more are lone
+pub lone_closings-gt : (cs : List ℕ) (d index : ℕ) → ClosesAt cs d index → d < lone_closings cs
+lone_closings-gt cs d index at =
     omega (
       arith,
-      closings-take-le cs (place + 1),
+      closings-take-le cs (index + 1),
       at.balanced,
-      count_by_more_yes is_closing cs place 0 at.within at.closing,
-      count_by_more_no is_initiator cs place 0 at.within (closing_only (slice_index cs place) at.closing),
+      count_by_more_yes is_closing cs index 0 at.within at.closing,
+      count_by_more_no is_initiator cs index 0 at.within (closing_only (slice_index cs index) at.closing),
     )
 
--- the initiator at a place is open at the end of the text, with all after it in pairs
-pub record OpensAt (cs : List ℕ) (place : ℕ) : Type 0 where
-  pub within : place < length cs
-  pub opening : is_initiator (slice_index cs place) ≡ true
-  pub even : initiators (drop (suc place) cs) ≡ closings (drop (suc place) cs)
-  pub led : (n : ℕ) → n ≤ length (drop (suc place) cs) → closings (take n (drop (suc place) cs)) ≤ initiators (take n (drop (suc place) cs))
+-- the initiator at a index is open at the end of the text, with all after it in pairs
+pub record OpensAt (cs : List ℕ) (index : ℕ) : Type 0 where
+  pub within : index < length cs
+  pub opening : is_initiator (slice_index cs index) ≡ true
+  pub even : initiators (drop (suc index) cs) ≡ closings (drop (suc index) cs)
+  pub led : (n : ℕ) → n ≤ length (drop (suc index) cs) → closings (take n (drop (suc index) cs)) ≤ initiators (take n (drop (suc index) cs))
 
--- where an initiator is lone there is such a place
-pub opens_at : (cs : List ℕ) → 0 < lone_initiators cs → (place : ℕ) × OpensAt cs place
+-- where an initiator is lone there is such a index
+pub opens_at : (cs : List ℕ) → 0 < lone_initiators cs → (index : ℕ) × OpensAt cs index
 opens_at [] some = absurd (omega arith)
 opens_at (c ∷ cs) some =
     elim (cases_lt 0 (lone_initiators cs)) [
@@ -217,9 +217,9 @@ opens_at (c ∷ cs) some =
       ]
     ]
 
--- such a place shows that one is lone
-pub lone_initiators-gt : (cs : List ℕ) (place : ℕ) → OpensAt cs place → 0 < lone_initiators cs
-lone_initiators-gt [] place at = absurd (omega (arith, at.within))
+-- such a index shows that one is lone
+pub lone_initiators-gt : (cs : List ℕ) (index : ℕ) → OpensAt cs index → 0 < lone_initiators cs
+lone_initiators-gt [] index at = absurd (omega (arith, at.within))
 lone_initiators-gt (c ∷ cs) zero at =
     let none : lone_closings cs ≤ 0 = lone_closings-le cs 0 (λ n h. omega (arith, at.led n h)) in
     elim (first c cs) [
@@ -228,9 +228,9 @@ lone_initiators-gt (c ∷ cs) zero at =
       | EndsOne b e counts ↦ absurd (both_ways _ b at.opening)
       | StaysOut b e counts ↦ absurd (both_ways _ b at.opening)
     ]
-lone_initiators-gt (c ∷ cs) (suc place) at =
+lone_initiators-gt (c ∷ cs) (suc index) at =
     let rest : 0 < lone_initiators cs =
-    lone_initiators-gt cs place (record { within = omega (arith, at.within); opening = at.opening; even = at.even; led = at.led }) in
+    lone_initiators-gt cs index (record { within = omega (arith, at.within); opening = at.opening; even = at.even; led = at.led }) in
     elim (first c cs) [
       | BeginsLone b e matched counts ↦ omega arith
       | BeginsMatched b e matched counts ↦ omega arith

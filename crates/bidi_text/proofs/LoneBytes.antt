@@ -6,7 +6,7 @@ use Rattle.std.proofs.lemmas.List.{drop-drop, length-drop, nil_from_length}
 use Rattle.std.proofs.lemmas.Str.{encodes-append}
 use Rattle.std.proofs.lemmas.List.Sums.{sum_by-append}
 use Rattle.std.proofs.Math.Seq.{take-append_seam}
-use Rattle.bidi_text.specs.Pairs.{is_initiator, is_closing, initiators, closings, is_in_pair}
+use Rattle.bidi_class.specs.Pairs.{is_initiator, is_closing, initiators, closings, is_in_pair}
 use Rattle.bidi_text.specs.Clean.{is_dropped, dropped_byte, dropped_bytes}
 use Rattle.bidi_text.proofs.Isolates.{role, first, lone_closings, lone_initiators, initiators-closings}
 use Rattle.bidi_text.proofs.Isolates.Role.{Begins, Ends, Stays}
@@ -66,84 +66,84 @@ length-lone_initiator_bytes at (c ∷ cs) =
     ]
 
 -- a character at the end that closes nothing leaves the lone PDIs as they are
-lone_closings-snoc : (front : List ℕ) (c : ℕ) → is_closing c ≡ false → lone_closings (front ++ c ∷ []) ≡ lone_closings front
+lone_closings-snoc : (prefix : List ℕ) (c : ℕ) → is_closing c ≡ false → lone_closings (prefix ++ c ∷ []) ≡ lone_closings prefix
 lone_closings-snoc [] c e = elim (role c) [ Begins b h ↦ lone_closings-begins c [] b | Ends b h ↦ absurd (both_ways _ e h) | Stays b h ↦ lone_closings-stays c [] b h ]
-lone_closings-snoc (f ∷ front) c e =
-    let rest = lone_closings-snoc front c e in
+lone_closings-snoc (f ∷ prefix) c e =
+    let rest = lone_closings-snoc prefix c e in
     elim (role f) [
-      | Begins b h ↦ lone_closings-begins f (front ++ c ∷ []) b ∙ ap (λ n. n - 1) rest ∙ sym (lone_closings-begins f front b)
-      | Ends b h ↦ lone_closings-ends f (front ++ c ∷ []) b h ∙ ap (λ n. n + 1) rest ∙ sym (lone_closings-ends f front b h)
-      | Stays b h ↦ lone_closings-stays f (front ++ c ∷ []) b h ∙ rest ∙ sym (lone_closings-stays f front b h)
+      | Begins b h ↦ lone_closings-begins f (prefix ++ c ∷ []) b ∙ ap (λ n. n - 1) rest ∙ sym (lone_closings-begins f prefix b)
+      | Ends b h ↦ lone_closings-ends f (prefix ++ c ∷ []) b h ∙ ap (λ n. n + 1) rest ∙ sym (lone_closings-ends f prefix b h)
+      | Stays b h ↦ lone_closings-stays f (prefix ++ c ∷ []) b h ∙ rest ∙ sym (lone_closings-stays f prefix b h)
     ]
 
 -- a PDI at the end is lone where no initiator is
-lone_closings-snoc_ends : (front : List ℕ) (c : ℕ) → is_initiator c ≡ false → is_closing c ≡ true → lone_closings (front ++ c ∷ []) ≡ lone_closings front + (1 - lone_initiators front)
+lone_closings-snoc_ends : (prefix : List ℕ) (c : ℕ) → is_initiator c ≡ false → is_closing c ≡ true → lone_closings (prefix ++ c ∷ []) ≡ lone_closings prefix + (1 - lone_initiators prefix)
 lone_closings-snoc_ends [] c b e = lone_closings-ends c [] b e
-lone_closings-snoc_ends (f ∷ front) c b e =
-    let rest = lone_closings-snoc_ends front c b e in
-    elim (first f front) [
-      | BeginsLone fb fe none counts ↦ omega (arith, lone_closings-begins f (front ++ c ∷ []) fb)
-      | BeginsMatched fb fe some counts ↦ omega (arith, lone_closings-begins f (front ++ c ∷ []) fb)
-      | EndsOne fb fe counts ↦ omega (arith, lone_closings-ends f (front ++ c ∷ []) fb fe)
-      | StaysOut fb fe counts ↦ omega (arith, lone_closings-stays f (front ++ c ∷ []) fb fe)
+lone_closings-snoc_ends (f ∷ prefix) c b e =
+    let rest = lone_closings-snoc_ends prefix c b e in
+    elim (first f prefix) [
+      | BeginsLone fb fe none counts ↦ omega (arith, lone_closings-begins f (prefix ++ c ∷ []) fb)
+      | BeginsMatched fb fe some counts ↦ omega (arith, lone_closings-begins f (prefix ++ c ∷ []) fb)
+      | EndsOne fb fe counts ↦ omega (arith, lone_closings-ends f (prefix ++ c ∷ []) fb fe)
+      | StaysOut fb fe counts ↦ omega (arith, lone_closings-stays f (prefix ++ c ∷ []) fb fe)
     ]
 
 -- how a character at the end changes the number of lone initiators
-initiators-snoc : (front : List ℕ) (c : ℕ) → initiators (front ++ c ∷ []) ≡ initiators front + initiators (c ∷ [])
-initiators-snoc front c = sum_by-append (λ (x : ℕ). cond (is_initiator x) 1 0) front (c ∷ [])
+initiators-snoc : (prefix : List ℕ) (c : ℕ) → initiators (prefix ++ c ∷ []) ≡ initiators prefix + initiators (c ∷ [])
+initiators-snoc prefix c = sum_by-append (λ (x : ℕ). cond (is_initiator x) 1 0) prefix (c ∷ [])
 
-closings-snoc : (front : List ℕ) (c : ℕ) → closings (front ++ c ∷ []) ≡ closings front + closings (c ∷ [])
-closings-snoc front c = sum_by-append (λ (x : ℕ). cond (is_closing x) 1 0) front (c ∷ [])
+closings-snoc : (prefix : List ℕ) (c : ℕ) → closings (prefix ++ c ∷ []) ≡ closings prefix + closings (c ∷ [])
+closings-snoc prefix c = sum_by-append (λ (x : ℕ). cond (is_closing x) 1 0) prefix (c ∷ [])
 
-pub lone_initiators-begins : (front : List ℕ) (c : ℕ) → is_initiator c ≡ true → is_closing c ≡ false → lone_initiators (front ++ c ∷ []) ≡ lone_initiators front + 1
-lone_initiators-begins front c b e =
+pub lone_initiators-begins : (prefix : List ℕ) (c : ℕ) → is_initiator c ≡ true → is_closing c ≡ false → lone_initiators (prefix ++ c ∷ []) ≡ lone_initiators prefix + 1
+lone_initiators-begins prefix c b e =
     let one : initiators (c ∷ []) ≡ 1 = ap (λ t. 0 + cond t 1 0) b in
     let none : closings (c ∷ []) ≡ 0 = ap (λ t. 0 + cond t 1 0) e in
-    omega (arith, initiators-closings (front ++ c ∷ []), initiators-closings front, initiators-snoc front c, closings-snoc front c, lone_closings-snoc front c e)
+    omega (arith, initiators-closings (prefix ++ c ∷ []), initiators-closings prefix, initiators-snoc prefix c, closings-snoc prefix c, lone_closings-snoc prefix c e)
 
-pub lone_initiators-ends : (front : List ℕ) (c : ℕ) → is_initiator c ≡ false → is_closing c ≡ true → lone_initiators (front ++ c ∷ []) ≡ lone_initiators front - 1
-lone_initiators-ends front c b e =
+pub lone_initiators-ends : (prefix : List ℕ) (c : ℕ) → is_initiator c ≡ false → is_closing c ≡ true → lone_initiators (prefix ++ c ∷ []) ≡ lone_initiators prefix - 1
+lone_initiators-ends prefix c b e =
     let none : initiators (c ∷ []) ≡ 0 = ap (λ t. 0 + cond t 1 0) b in
     let one : closings (c ∷ []) ≡ 1 = ap (λ t. 0 + cond t 1 0) e in
-    omega (arith, initiators-closings (front ++ c ∷ []), initiators-closings front, initiators-snoc front c, closings-snoc front c, lone_closings-snoc_ends front c b e)
+    omega (arith, initiators-closings (prefix ++ c ∷ []), initiators-closings prefix, initiators-snoc prefix c, closings-snoc prefix c, lone_closings-snoc_ends prefix c b e)
 
-pub lone_initiators-stays : (front : List ℕ) (c : ℕ) → is_initiator c ≡ false → is_closing c ≡ false → lone_initiators (front ++ c ∷ []) ≡ lone_initiators front
-lone_initiators-stays front c b e =
+pub lone_initiators-stays : (prefix : List ℕ) (c : ℕ) → is_initiator c ≡ false → is_closing c ≡ false → lone_initiators (prefix ++ c ∷ []) ≡ lone_initiators prefix
+lone_initiators-stays prefix c b e =
     let none : initiators (c ∷ []) ≡ 0 = ap (λ t. 0 + cond t 1 0) b in
     let no_end : closings (c ∷ []) ≡ 0 = ap (λ t. 0 + cond t 1 0) e in
-    omega (arith, initiators-closings (front ++ c ∷ []), initiators-closings front, initiators-snoc front c, closings-snoc front c, lone_closings-snoc front c e)
+    omega (arith, initiators-closings (prefix ++ c ∷ []), initiators-closings prefix, initiators-snoc prefix c, closings-snoc prefix c, lone_closings-snoc prefix c e)
 
 -- what is left out of a text from a character on: the PDIs that are lone and find no initiator open before, and the lone initiators
 abbrev pub lone_bytes : ℕ → ℕ → List ℕ → List ℕ
 lone_bytes begun at cs = drop begun (lone_closing_bytes at cs) ++ lone_initiator_bytes at cs
 
--- the character after the front of a text, and the text after it
-at_seam : (front : List ℕ) (c : ℕ) (cs : List ℕ) → slice_index (front ++ (c ∷ cs)) (length front) ≡ c
+-- the character after the prefix of a text, and the text after it
+at_seam : (prefix : List ℕ) (c : ℕ) (cs : List ℕ) → slice_index (prefix ++ (c ∷ cs)) (length prefix) ≡ c
 at_seam [] c cs = refl
-at_seam (f ∷ front) c cs = at_seam front c cs
+at_seam (f ∷ prefix) c cs = at_seam prefix c cs
 
-after_seam : (front : List ℕ) (c : ℕ) (cs : List ℕ) → drop (suc (length front)) (front ++ (c ∷ cs)) ≡ cs
+after_seam : (prefix : List ℕ) (c : ℕ) (cs : List ℕ) → drop (suc (length prefix)) (prefix ++ (c ∷ cs)) ≡ cs
 after_seam [] c cs = refl
-after_seam (f ∷ front) c cs = after_seam front c cs
+after_seam (f ∷ prefix) c cs = after_seam prefix c cs
 
--- whether the character after a front is left out
-pub dropped_begins : (front : List ℕ) (c : ℕ) (cs : List ℕ) → is_initiator c ≡ true → is_dropped (front ++ (c ∷ cs)) (length front, c) ≡ not (nat_lt 0 (lone_closings cs))
-dropped_begins front c cs b =
-    let text : List ℕ = front ++ (c ∷ cs) in
-    let opening : is_initiator (slice_index text (length front)) ≡ true = subst (λ x. is_initiator x ≡ true) (sym (at_seam front c cs)) b in
-    ap (λ t. t && not (is_in_pair text (length front))) (or_left (is_initiator c) (is_closing c) b)
-    ∙ ap not (is_in_pair-initiator text (length front) opening) ∙ ap (λ rest. not (nat_lt 0 (lone_closings rest))) (after_seam front c cs)
+-- whether the character after a prefix is left out
+pub dropped_begins : (prefix : List ℕ) (c : ℕ) (cs : List ℕ) → is_initiator c ≡ true → is_dropped (prefix ++ (c ∷ cs)) (length prefix, c) ≡ not (nat_lt 0 (lone_closings cs))
+dropped_begins prefix c cs b =
+    let text : List ℕ = prefix ++ (c ∷ cs) in
+    let opening : is_initiator (slice_index text (length prefix)) ≡ true = subst (λ x. is_initiator x ≡ true) (sym (at_seam prefix c cs)) b in
+    ap (λ t. t && not (is_in_pair text (length prefix))) (or_left (is_initiator c) (is_closing c) b)
+    ∙ ap not (is_in_pair-initiator text (length prefix) opening) ∙ ap (λ rest. not (nat_lt 0 (lone_closings rest))) (after_seam prefix c cs)
 
-pub dropped_ends : (front : List ℕ) (c : ℕ) (cs : List ℕ) → is_initiator c ≡ false → is_closing c ≡ true → is_dropped (front ++ (c ∷ cs)) (length front, c) ≡ not (nat_lt 0 (lone_initiators front))
-dropped_ends front c cs b e =
-    let text : List ℕ = front ++ (c ∷ cs) in
-    let closing : is_closing (slice_index text (length front)) ≡ true = subst (λ x. is_closing x ≡ true) (sym (at_seam front c cs)) e in
-    let within : length front < length text = omega (arith, length-append front (c ∷ cs)) in
-    ap (λ t. t && not (is_in_pair text (length front))) (or_right (is_initiator c) (is_closing c) e)
-    ∙ ap not (is_in_pair-closing text (length front) within closing) ∙ ap (λ before. not (nat_lt 0 (lone_initiators before))) (take-append_seam front (c ∷ cs))
+pub dropped_ends : (prefix : List ℕ) (c : ℕ) (cs : List ℕ) → is_initiator c ≡ false → is_closing c ≡ true → is_dropped (prefix ++ (c ∷ cs)) (length prefix, c) ≡ not (nat_lt 0 (lone_initiators prefix))
+dropped_ends prefix c cs b e =
+    let text : List ℕ = prefix ++ (c ∷ cs) in
+    let closing : is_closing (slice_index text (length prefix)) ≡ true = subst (λ x. is_closing x ≡ true) (sym (at_seam prefix c cs)) e in
+    let within : length prefix < length text = omega (arith, length-append prefix (c ∷ cs)) in
+    ap (λ t. t && not (is_in_pair text (length prefix))) (or_right (is_initiator c) (is_closing c) e)
+    ∙ ap not (is_in_pair-closing text (length prefix) within closing) ∙ ap (λ before. not (nat_lt 0 (lone_initiators before))) (take-append_seam prefix (c ∷ cs))
 
-pub dropped_stays : (front : List ℕ) (c : ℕ) (cs : List ℕ) → is_initiator c ≡ false → is_closing c ≡ false → is_dropped (front ++ (c ∷ cs)) (length front, c) ≡ false
-dropped_stays front c cs b e = ap (λ t. t && not (is_in_pair (front ++ (c ∷ cs)) (length front))) (or_from (is_initiator c) (is_closing c) b e)
+pub dropped_stays : (prefix : List ℕ) (c : ℕ) (cs : List ℕ) → is_initiator c ≡ false → is_closing c ≡ false → is_dropped (prefix ++ (c ∷ cs)) (length prefix, c) ≡ false
+dropped_stays prefix c cs b e = ap (λ t. t && not (is_in_pair (prefix ++ (c ∷ cs)) (length prefix))) (or_from (is_initiator c) (is_closing c) b e)
 
 -- no list is left of none
 pub drop-nil : (n : ℕ) → drop {A = ℕ} n [] ≡ []
@@ -204,45 +204,45 @@ lone_bytes-stays begun at c cs b e =
     let first_begins : lone_initiator_bytes at (c ∷ cs) ≡ lone_initiator_bytes next cs = cond-false _ _ _ b in
     ap (λ l. drop begun l ++ lone_initiator_bytes next cs) (sym first_ends) ∙ ap (λ l. drop begun (lone_closing_bytes at (c ∷ cs)) ++ l) (sym first_begins)
 
--- the byte of a character after a front, if it is left out
-pub dropped_byte_is : (front : List ℕ) (c : ℕ) (cs : List ℕ) (flag : Bool) → is_dropped (front ++ (c ∷ cs)) (length front, c) ≡ flag
-    → dropped_byte (front ++ (c ∷ cs)) (length front, c) ≡ (if flag then length (encode_utf8_all front) ∷ [] else [])
-dropped_byte_is front c cs flag is =
-    ap (λ t. if t then length (encode_utf8_all (take (length front) (front ++ (c ∷ cs)))) ∷ [] else []) is
-    ∙ ap (λ before. if flag then length (encode_utf8_all before) ∷ [] else []) (take-append_seam front (c ∷ cs))
+-- the byte of a character after a prefix, if it is left out
+pub dropped_byte_is : (prefix : List ℕ) (c : ℕ) (cs : List ℕ) (flag : Bool) → is_dropped (prefix ++ (c ∷ cs)) (length prefix, c) ≡ flag
+    → dropped_byte (prefix ++ (c ∷ cs)) (length prefix, c) ≡ (if flag then length (encode_utf8_all prefix) ∷ [] else [])
+dropped_byte_is prefix c cs flag is =
+    ap (λ t. if t then length (encode_utf8_all (take (length prefix) (prefix ++ (c ∷ cs)))) ∷ [] else []) is
+    ∙ ap (λ before. if flag then length (encode_utf8_all before) ∷ [] else []) (take-append_seam prefix (c ∷ cs))
 
 -- the byte after one more character
-pub front_byte-snoc : (front : List ℕ) (c : ℕ) → length (encode_utf8_all (front ++ c ∷ [])) ≡ length (encode_utf8_all front) + length (encode_utf8 c)
-front_byte-snoc front c =
-    ap length (encodes-append front (c ∷ [])) ∙ length-append (encode_utf8_all front) (encode_utf8_all (c ∷ []))
-    ∙ ap (λ l. length (encode_utf8_all front) + length l) (append-nil (encode_utf8 c))
+pub prefix_byte-snoc : (prefix : List ℕ) (c : ℕ) → length (encode_utf8_all (prefix ++ c ∷ [])) ≡ length (encode_utf8_all prefix) + length (encode_utf8 c)
+prefix_byte-snoc prefix c =
+    ap length (encodes-append prefix (c ∷ [])) ∙ length-append (encode_utf8_all prefix) (encode_utf8_all (c ∷ []))
+    ∙ ap (λ l. length (encode_utf8_all prefix) + length l) (append-nil (encode_utf8 c))
 
--- what is left out from the character after a front on
-pub dropped-lone_bytes : (front cs : List ℕ) → flat_map (dropped_byte (front ++ cs)) (enumerate_from (length front) cs) ≡ lone_bytes (lone_initiators front) (length (encode_utf8_all front)) cs
-dropped-lone_bytes front [] = sym (append-nil (drop (lone_initiators front) []) ∙ drop-nil (lone_initiators front))
-dropped-lone_bytes front (c ∷ cs) =
-    let text : List ℕ = front ++ (c ∷ cs) in
-    let at : ℕ = length (encode_utf8_all front) in
+-- what is left out from the character after a prefix on
+pub dropped-lone_bytes : (prefix cs : List ℕ) → flat_map (dropped_byte (prefix ++ cs)) (enumerate_from (length prefix) cs) ≡ lone_bytes (lone_initiators prefix) (length (encode_utf8_all prefix)) cs
+dropped-lone_bytes prefix [] = sym (append-nil (drop (lone_initiators prefix) []) ∙ drop-nil (lone_initiators prefix))
+dropped-lone_bytes prefix (c ∷ cs) =
+    let text : List ℕ = prefix ++ (c ∷ cs) in
+    let at : ℕ = length (encode_utf8_all prefix) in
     let next : ℕ = at + length (encode_utf8 c) in
-    let later : List ℕ = flat_map (dropped_byte text) (enumerate_from (length front + 1) cs) in
-    let rest : later ≡ lone_bytes (lone_initiators (front ++ c ∷ [])) next cs =
-    ap (λ n. flat_map (dropped_byte text) (enumerate_from n cs)) (sym (length-append front (c ∷ [])))
-    ∙ ap (λ t. flat_map (dropped_byte t) (enumerate_from (length (front ++ c ∷ [])) cs)) (sym (append_assoc front (c ∷ []) cs))
-    ∙ dropped-lone_bytes (front ++ c ∷ []) cs
-    ∙ ap (λ n. lone_bytes (lone_initiators (front ++ c ∷ [])) n cs) (front_byte-snoc front c) in
+    let later : List ℕ = flat_map (dropped_byte text) (enumerate_from (length prefix + 1) cs) in
+    let rest : later ≡ lone_bytes (lone_initiators (prefix ++ c ∷ [])) next cs =
+    ap (λ n. flat_map (dropped_byte text) (enumerate_from n cs)) (sym (length-append prefix (c ∷ [])))
+    ∙ ap (λ t. flat_map (dropped_byte t) (enumerate_from (length (prefix ++ c ∷ [])) cs)) (sym (append_assoc prefix (c ∷ []) cs))
+    ∙ dropped-lone_bytes (prefix ++ c ∷ []) cs
+    ∙ ap (λ n. lone_bytes (lone_initiators (prefix ++ c ∷ [])) n cs) (prefix_byte-snoc prefix c) in
     elim (role c) [
       | Begins b e ↦
-          ap (λ l. l ++ later) (dropped_byte_is front c cs _ (dropped_begins front c cs b))
-          ∙ ap (λ l. (if not (nat_lt 0 (lone_closings cs)) then at ∷ [] else []) ++ l) (rest ∙ ap (λ n. lone_bytes n next cs) (lone_initiators-begins front c b e))
-          ∙ lone_bytes-begins (lone_initiators front) at c cs b
+          ap (λ l. l ++ later) (dropped_byte_is prefix c cs _ (dropped_begins prefix c cs b))
+          ∙ ap (λ l. (if not (nat_lt 0 (lone_closings cs)) then at ∷ [] else []) ++ l) (rest ∙ ap (λ n. lone_bytes n next cs) (lone_initiators-begins prefix c b e))
+          ∙ lone_bytes-begins (lone_initiators prefix) at c cs b
       | Ends b e ↦
-          ap (λ l. l ++ later) (dropped_byte_is front c cs _ (dropped_ends front c cs b e))
-          ∙ ap (λ l. (if not (nat_lt 0 (lone_initiators front)) then at ∷ [] else []) ++ l) (rest ∙ ap (λ n. lone_bytes n next cs) (lone_initiators-ends front c b e))
-          ∙ lone_bytes-ends (lone_initiators front) at c cs b e
+          ap (λ l. l ++ later) (dropped_byte_is prefix c cs _ (dropped_ends prefix c cs b e))
+          ∙ ap (λ l. (if not (nat_lt 0 (lone_initiators prefix)) then at ∷ [] else []) ++ l) (rest ∙ ap (λ n. lone_bytes n next cs) (lone_initiators-ends prefix c b e))
+          ∙ lone_bytes-ends (lone_initiators prefix) at c cs b e
       | Stays b e ↦
-          ap (λ l. l ++ later) (dropped_byte_is front c cs _ (dropped_stays front c cs b e))
-          ∙ rest ∙ ap (λ n. lone_bytes n next cs) (lone_initiators-stays front c b e)
-          ∙ lone_bytes-stays (lone_initiators front) at c cs b e
+          ap (λ l. l ++ later) (dropped_byte_is prefix c cs _ (dropped_stays prefix c cs b e))
+          ∙ rest ∙ ap (λ n. lone_bytes n next cs) (lone_initiators-stays prefix c b e)
+          ∙ lone_bytes-stays (lone_initiators prefix) at c cs b e
     ]
 
 -- what is left out of a text

@@ -5,7 +5,7 @@ use Rattle.std.proofs.lemmas.List.{take-append-le, nil_from_length}
 use Rattle.std.proofs.lemmas.Str.{IsUtf8-past_char, chars_past_char, chars-nil}
 use Rattle.std.proofs.Math.Seq.{take-length, take-append_seam}
 use Rattle.std.specs.Str.{IsUtf8, chars}
-use Rattle.bidi_text.specs.Pairs.{is_initiator, is_closing}
+use Rattle.bidi_class.specs.Pairs.{is_initiator, is_closing}
 use Rattle.bidi_text.specs.Clean.{dropped_bytes}
 use Rattle.bidi_text.proofs.Isolates.{lone_closings}
 use Rattle.bidi_text.proofs.LoneBytes.{drop-nil, lone_bytes, lone_bytes-begins, lone_bytes-ends, lone_bytes-stays, dropped_bytes-lone_bytes}
@@ -89,22 +89,22 @@ settled-stays lone begun at c cs b e =
     ∙ ap (λ n. lone ++ (take (length begun - n) begun ++ lone_bytes (length begun) at (c ∷ cs))) (sym same)
 
 -- a list that is not empty has a last element
-last_split : (xs : List ℕ) → 0 < length xs → (front : List ℕ) × (last : ℕ) × (xs ≡ front ++ last ∷ [])
+last_split : (xs : List ℕ) → 0 < length xs → (prefix : List ℕ) × (last : ℕ) × (xs ≡ prefix ++ last ∷ [])
 last_split [] some = absurd (omega arith)
 last_split (x ∷ []) some = ([], x, refl)
 last_split (x ∷ y ∷ xs) some = let rest = last_split (y ∷ xs) (omega arith) in (x ∷ rest.0, rest.1, ap (λ l. x ∷ l) rest.2)
 
--- the loop's invariant: the places found are lone PDIs, so many, and then open initiators
-pub record Marking (places : List ℕ) (closings at : ℕ) (rest text : List ℕ) : Type 0 where
+-- the loop's invariant: the offsets found are lone PDIs, so many, and then open initiators
+pub record Marking (offsets : List ℕ) (closings at : ℕ) (rest text : List ℕ) : Type 0 where
   pub lone : List ℕ
   pub begun : List ℕ
-  pub parts : places ≡ lone ++ begun
+  pub parts : offsets ≡ lone ++ begun
   pub count : length lone ≡ closings
   pub finds : settled lone begun at (chars rest) ≡ dropped_bytes (chars text)
   pub utf8 : IsUtf8 rest
   pub bounded : at + length rest ≡ length text
 
--- a character was read from the front of the bytes
+-- a character was read from the prefix of the bytes
 pub record ReadsOne (c at next : ℕ) (bytes rest : List ℕ) : Type 0 where
   pub split : bytes ≡ encode_utf8 c ++ rest
   pub past : next ≡ at + length (encode_utf8 c)
@@ -136,10 +136,10 @@ marking_start text utf8 = record {
   bounded = omega arith;
 }
 
-module _ {places : List ℕ} {closings at next c : ℕ} {bytes rest text : List ℕ} (marking : Marking places closings at bytes text) (reads : ReadsOne c at next bytes rest) where
+module _ {offsets : List ℕ} {closings at next c : ℕ} {bytes rest text : List ℕ} (marking : Marking offsets closings at bytes text) (reads : ReadsOne c at next bytes rest) where
   -- an initiator was added
-  pub marking_begins : (places' : List ℕ) → is_initiator c ≡ true → places' ≡ places ++ at ∷ [] → Marking places' closings next rest text
-  marking_begins places' b added = record {
+  pub marking_begins : (offsets' : List ℕ) → is_initiator c ≡ true → offsets' ≡ offsets ++ at ∷ [] → Marking offsets' closings next rest text
+  marking_begins offsets' b added = record {
     lone = marking.lone;
     begun = marking.begun ++ at ∷ [];
     parts = added ∙ ap (λ l. l ++ at ∷ []) marking.parts ∙ append_assoc marking.lone marking.begun (at ∷ []);
@@ -151,30 +151,30 @@ module _ {places : List ℕ} {closings at next c : ℕ} {bytes rest text : List 
   }
 
   -- the last open initiator was taken
-  pub marking_closes : (places' : List ℕ) → is_initiator c ≡ false → is_closing c ≡ true → closings < length places → places' ≡ take (length places - 1) places → Marking places' closings next rest text
-  marking_closes places' b e some taken =
+  pub marking_closes : (offsets' : List ℕ) → is_initiator c ≡ false → is_closing c ≡ true → closings < length offsets → offsets' ≡ take (length offsets - 1) offsets → Marking offsets' closings next rest text
+  marking_closes offsets' b e some taken =
       let split = last_split marking.begun (omega (arith, marking.count, ap length marking.parts, length-append marking.lone marking.begun)) in
-      let front : List ℕ = split.0 in
+      let prefix : List ℕ = split.0 in
       let last : ℕ = split.1 in
-      let whole : places ≡ (marking.lone ++ front) ++ last ∷ [] =
-      marking.parts ∙ ap (λ l. marking.lone ++ l) split.2 ∙ sym (append_assoc marking.lone front (last ∷ [])) in
-      let shorter : length places - 1 ≡ length (marking.lone ++ front) = omega (arith, ap length whole, length-append (marking.lone ++ front) (last ∷ [])) in
+      let whole : offsets ≡ (marking.lone ++ prefix) ++ last ∷ [] =
+      marking.parts ∙ ap (λ l. marking.lone ++ l) split.2 ∙ sym (append_assoc marking.lone prefix (last ∷ [])) in
+      let shorter : length offsets - 1 ≡ length (marking.lone ++ prefix) = omega (arith, ap length whole, length-append (marking.lone ++ prefix) (last ∷ [])) in
       record {
         lone = marking.lone;
-        begun = front;
-        parts = taken ∙ ap (λ n. take n places) shorter ∙ ap (λ l. take (length (marking.lone ++ front)) l) whole ∙ take-append_seam (marking.lone ++ front) (last ∷ []);
+        begun = prefix;
+        parts = taken ∙ ap (λ n. take n offsets) shorter ∙ ap (λ l. take (length (marking.lone ++ prefix)) l) whole ∙ take-append_seam (marking.lone ++ prefix) (last ∷ []);
         count = marking.count;
-        finds = settled_next marking.lone (front ++ last ∷ []) marking.lone front c at next bytes rest text marking.utf8 reads
-            (settled-closes marking.lone front last at c (chars rest) b e) (ap (λ l. settled marking.lone l at (chars bytes)) (sym split.2) ∙ marking.finds);
+        finds = settled_next marking.lone (prefix ++ last ∷ []) marking.lone prefix c at next bytes rest text marking.utf8 reads
+            (settled-closes marking.lone prefix last at c (chars rest) b e) (ap (λ l. settled marking.lone l at (chars bytes)) (sym split.2) ∙ marking.finds);
         utf8 = reads_utf8 marking.utf8 reads;
         bounded = reads_bounded (length text) reads marking.bounded;
       }
 
   -- a lone PDI was added
-  pub marking_lone : (places' : List ℕ) → is_initiator c ≡ false → is_closing c ≡ true → length places ≤ closings → places' ≡ places ++ at ∷ [] → Marking places' (closings + 1) next rest text
-  marking_lone places' b e none added =
+  pub marking_lone : (offsets' : List ℕ) → is_initiator c ≡ false → is_closing c ≡ true → length offsets ≤ closings → offsets' ≡ offsets ++ at ∷ [] → Marking offsets' (closings + 1) next rest text
+  marking_lone offsets' b e none added =
       let empty : marking.begun ≡ [] = nil_from_length marking.begun (omega (arith, marking.count, ap length marking.parts, length-append marking.lone marking.begun)) in
-      let whole : places ≡ marking.lone = marking.parts ∙ ap (λ l. marking.lone ++ l) empty ∙ append-nil marking.lone in
+      let whole : offsets ≡ marking.lone = marking.parts ∙ ap (λ l. marking.lone ++ l) empty ∙ append-nil marking.lone in
       record {
         lone = marking.lone ++ at ∷ [];
         begun = [];
@@ -187,7 +187,7 @@ module _ {places : List ℕ} {closings at next c : ℕ} {bytes rest text : List 
       }
 
   -- nothing was done
-  pub marking_stays : is_initiator c ≡ false → is_closing c ≡ false → Marking places closings next rest text
+  pub marking_stays : is_initiator c ≡ false → is_closing c ≡ false → Marking offsets closings next rest text
   marking_stays b e = record {
     lone = marking.lone;
     begun = marking.begun;
@@ -200,8 +200,8 @@ module _ {places : List ℕ} {closings at next c : ℕ} {bytes rest text : List 
   }
 
 -- all is found where nothing is left
-pub marking_end : {places : List ℕ} {closings at : ℕ} {rest text : List ℕ} → Marking places closings at rest text → length rest ≡ 0 → places ≡ dropped_bytes (chars text)
-marking_end {places} {closings} {at} {rest} {text} marking none =
+pub marking_end : {offsets : List ℕ} {closings at : ℕ} {rest text : List ℕ} → Marking offsets closings at rest text → length rest ≡ 0 → offsets ≡ dropped_bytes (chars text)
+marking_end {offsets} {closings} {at} {rest} {text} marking none =
     let no_chars : chars rest ≡ [] = ap chars (nil_from_length rest none) ∙ chars-nil in
     let n : ℕ = length marking.begun in
     let all : n ≡ n - 0 = omega arith in

@@ -19,8 +19,8 @@ starts_with-chars text word utf8 ascii =
     same_test _ _
     (λ h. begins (chars text) word (chars (drop (length word) text))
     (ap chars (begins_with text word h) ∙ chars-append word (drop (length word) text) (IsUtf8-from_ascii word ascii)
-    ∙ ap (λ front. front ++ chars (drop (length word) text)) (chars-IsAscii word ascii)))
+    ∙ ap (λ prefix. prefix ++ chars (drop (length word) text)) (chars-IsAscii word ascii)))
     (λ h. let rest = drop (length word) (chars text) in
     begins text word (encode_utf8_all rest)
     (sym (encodes-chars text utf8) ∙ ap encode_utf8_all (begins_with (chars text) word h) ∙ encodes-append word rest
-    ∙ ap (λ front. front ++ encode_utf8_all rest) (encodes-IsAscii word ascii)))
+    ∙ ap (λ prefix. prefix ++ encode_utf8_all rest) (encodes-IsAscii word ascii)))

@@ -40,17 +40,17 @@ pub words_of-blank : (gap : List ℕ) → NonePass is_not_whitespace gap → wor
 words_of-blank gap blank = ap words_of (sym (append-nil gap)) ∙ after_gap gap [] blank
 
 -- what follows characters of a text is a text
-utf8_after : (front bytes rest : List ℕ) → IsUtf8 bytes → bytes ≡ encode_utf8_all front ++ rest → IsUtf8 rest
+utf8_after : (prefix bytes rest : List ℕ) → IsUtf8 bytes → bytes ≡ encode_utf8_all prefix ++ rest → IsUtf8 rest
 utf8_after [] bytes rest utf8 split = subst IsUtf8 split utf8
-utf8_after (c ∷ front) bytes rest utf8 split =
-    let next : List ℕ = encode_utf8_all front ++ rest in
-    utf8_after front next rest (IsUtf8-past_char bytes next c utf8 (split ∙ append_assoc (encode_utf8 c) (encode_utf8_all front) rest)) refl
+utf8_after (c ∷ prefix) bytes rest utf8 split =
+    let next : List ℕ = encode_utf8_all prefix ++ rest in
+    utf8_after prefix next rest (IsUtf8-past_char bytes next c utf8 (split ∙ append_assoc (encode_utf8 c) (encode_utf8_all prefix) rest)) refl
 
 -- bytes that begin with the bytes of characters
-chars-front : (front bytes rest : List ℕ) → IsUtf8 bytes → bytes ≡ encode_utf8_all front ++ rest → chars bytes ≡ front ++ chars rest
-chars-front front bytes rest utf8 split =
-    sym (chars_from_encodes (front ++ chars rest) bytes utf8
-    (encodes-append front (chars rest) ∙ ap (λ end. encode_utf8_all front ++ end) (encodes-chars rest (utf8_after front bytes rest utf8 split)) ∙ sym split))
+chars-prefix : (prefix bytes rest : List ℕ) → IsUtf8 bytes → bytes ≡ encode_utf8_all prefix ++ rest → chars bytes ≡ prefix ++ chars rest
+chars-prefix prefix bytes rest utf8 split =
+    sym (chars_from_encodes (prefix ++ chars rest) bytes utf8
+    (encodes-append prefix (chars rest) ∙ ap (λ end. encode_utf8_all prefix ++ end) (encodes-chars rest (utf8_after prefix bytes rest utf8 split)) ∙ sym split))
 
 -- bytes that are empty or begin with the bytes of white space are those of such a text
 begins_blank : (bytes rest : List ℕ) → IsUtf8 bytes → EmptyOrStartsWithPassing is_whitespace bytes rest → BeginsBlank (chars bytes)
@@ -79,7 +79,7 @@ cuts gap (c ∷ more) bytes rest utf8 blank solid nonempty split ends =
     let utf8_from_word : IsUtf8 (word ++ rest) = utf8_after gap bytes (word ++ rest) utf8 split in
     let utf8_rest : IsUtf8 rest = utf8_after (c ∷ more) (word ++ rest) rest utf8_from_word refl in
     let read : chars bytes ≡ gap ++ ((c ∷ more) ++ chars rest) =
-    chars-front gap bytes (word ++ rest) utf8 split ∙ ap (λ end. gap ++ end) (chars-front (c ∷ more) (word ++ rest) rest utf8_from_word refl) in
+    chars-prefix gap bytes (word ++ rest) utf8 split ∙ ap (λ end. gap ++ end) (chars-prefix (c ∷ more) (word ++ rest) rest utf8_from_word refl) in
     let read_word : chars word ≡ c ∷ more = sym (chars_from_encodes (c ∷ more) word (utf8_word word rest utf8_from_word utf8_rest) refl) in
     record {
       utf8 = utf8_rest;

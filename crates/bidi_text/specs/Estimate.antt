@@ -12,8 +12,7 @@
 -- else its direction is that of its context.
 --
 -- With a word of U+05D0 and a word `b` a text is right to left, since 5 times 1 is more than 2 times 2; with a third word
--- `c` it is left to right. The text `!`
--- has the direction of its context.
+-- `c` it is left to right. The text `!` has the direction of its context.
 use Rattle.std.specs.Prelude.{ℕ, ◌*◌, Bool, true, false, ◌||◌, nat_lt, nat_eq, List, [], ◌∷◌, ◌++◌, if◌then◌else◌, Option, map, find, count_by, codes}
 use Rattle.std.specs.List.{list_any, starts_with}
 use Rattle.std.specs.Option.{option_map_or}
@@ -32,7 +31,8 @@ ended_word (c ∷ cs) = (c ∷ cs) ∷ []
 -- the words of a text that follows the beginning of a word
 abbrev pub words_after : List ℕ → List ℕ → List (List ℕ)
 words_after word [] = ended_word word
-words_after word (c ∷ cs) = if is_whitespace c then ended_word word ++ words_after [] cs else words_after (word ++ c ∷ []) cs
+words_after word (c ∷ cs) =
+    if is_whitespace c then ended_word word ++ words_after [] cs else words_after (word ++ c ∷ []) cs
 
 -- the words of a text
 abbrev pub words_of : List ℕ → List (List ℕ)
@@ -109,4 +109,6 @@ word_kinds text = map word_kind (words_of text)
 -- the direction of a text in a context
 abbrev pub estimated_direction : List ℕ → Dir → Dir
 estimated_direction text context =
-    direction_by (count_by counts_right_to_left (word_kinds text)) (count_by counts_in_total (word_kinds text)) (list_any is_weak (word_kinds text)) context
+    direction_by
+    (count_by counts_right_to_left (word_kinds text)) (count_by counts_in_total (word_kinds text))
+    (list_any is_weak (word_kinds text)) context

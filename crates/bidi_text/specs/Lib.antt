@@ -1,4 +1,3 @@
-pub mod Estimate
-pub mod Pairs
 pub mod Clean
+pub mod Estimate
 pub mod Wrap

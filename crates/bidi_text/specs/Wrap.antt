@@ -1,7 +1,7 @@
 -- The wrapped text: a value's HTML form in a `span` that carries the value's own direction (WHATWG HTML, the `dir`
 -- attribute), so that the value is isolated from the text around it.
 --
--- It is `<span dir="`, then `ltr` or `rtl` by the estimate of the value as it is, neither cleaned nor escaped, then
+-- It is `<span dir="`, then `ltr` or `rtl` by the estimate of the value itself, neither cleaned nor escaped, then
 -- `">`, then the cleaned text by the rows of HTML, then `</span>`. The attribute stands there also where the estimate
 -- is the direction of the context.
 --
@@ -21,4 +21,5 @@ direction_word Rtl = codes "rtl"
 
 abbrev pub wrapped_text : List ℕ → Dir → List ℕ
 wrapped_text text context =
-    codes "<span dir=\"" ++ (direction_word (estimated_direction text context) ++ (codes "\">" ++ (escaped_text html_rows (cleaned_text text) ++ codes "</span>")))
+    codes "<span dir=\"" ++ (direction_word (estimated_direction text context)
+    ++ (codes "\">" ++ (escaped_text html_rows (cleaned_text text) ++ codes "</span>")))

@@ -8,7 +8,7 @@ ghost use Rattle.bidi_text.specs.Estimate.{counts_in_total, counts_right_to_left
 use bidi_class::{Class, class_of};
 use soy_base::Dir;
 
-/// The direction of a text, estimated by its words, or the context's where no word tells.
+/// The direction of a text, estimated by its words, or the context's where no word decides.
 ///
 /// A word is a run of characters that are no white space. The text is right to left where more than two fifths of the
 /// words that count are, by the first character of class L, R or AL of each. After the estimate of BidiFormatter, over
@@ -44,8 +44,10 @@ impl Tally {
     fn count(&mut self, word: &str)
         requires ordered { self.old.right_to_left ≤ self.old.total }
         requires room { self.old.total + 1 < 2 ^ 64 }
-        ensures right_to_left { self.new.right_to_left ≡ self.old.right_to_left + (if counts_right_to_left (word_kind (chars word.now)) then 1 else 0) }
-        ensures total { self.new.total ≡ self.old.total + (if counts_in_total (word_kind (chars word.now)) then 1 else 0) }
+        ensures right_to_left { self.new.right_to_left
+            ≡ self.old.right_to_left + (if counts_right_to_left (word_kind (chars word.now)) then 1 else 0) }
+        ensures total { self.new.total
+            ≡ self.old.total + (if counts_in_total (word_kind (chars word.now)) then 1 else 0) }
         ensures weak { self.new.weak ≡ (self.old.weak || is_weak (word_kind (chars word.now))) }
     {
         let strong = first_strong(word);
@@ -61,7 +63,7 @@ impl Tally {
         }
     }
 
-    /// The direction by all words, or the context's where none tells.
+    /// The direction by all words, or the context's where none decides.
     fn direction(&self, context: Dir) -> Dir
         ensures { result ≡ direction_by self.now.right_to_left self.now.total self.now.weak context }
     {

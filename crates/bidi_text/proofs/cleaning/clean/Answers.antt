@@ -6,48 +6,48 @@ use Rattle.std.proofs.lemmas.Str.{chars-nil}
 use Rattle.bidi_text.proofs.CleanedSoFar.{cleaned_dropped, cleaned_end, cleaned_kept, cleaned_start}
 use Rattle.bidi_text.proofs.Marking.{ReadsOne}
 use Rattle.bidi_text.proofs.cleaning.clean.Goals as goal
-use Rattle.bidi_text.proofs.cleaning.clean.Goals.{in_default-via-in-Some-split_first+else-first-place, in_default-via-in_default}
+use Rattle.bidi_text.proofs.cleaning.clean.Goals.{in_default-via-in-Some-split_first+else-first-offset, in_default-via-in_default}
 
 -- the text is read from its start
-pub loop-place-init : goal.loop-place-init
-loop-place-init c =
-    let same = c.into_iter-place-iterator.ensures.into_iter_gives in
+pub loop-offset-init : goal.loop-offset-init
+loop-offset-init c =
+    let same = c.into_iter-offset-iterator.ensures.into_iter_gives in
     rw (
-      c.items-places.ensures ∙ c.in_ok-found.ensures.places,
+      c.items-offsets.ensures ∙ c.in_ok-found.ensures.offsets,
       c.new-cleaned.ensures.bytes,
       chars-nil,
-      ap char_indices_offset same ∙ c.char_indices-place-items.ensures.offset,
-      ap char_indices_rest same ∙ c.char_indices-place-items.ensures.rest,
+      ap char_indices_offset same ∙ c.char_indices-offset-items.ensures.offset,
+      ap char_indices_rest same ∙ c.char_indices-offset-items.ensures.rest,
     )
     (cleaned_start c.args.text.now c.utf8.text)
 
 -- the character is the next that is left out
-pub loop-place-preserved-then-first-place : goal.loop-place-preserved-then-first-place
-loop-place-preserved-then-first-place c =
+pub loop-offset-preserved-then-first-offset : goal.loop-offset-preserved-then-first-offset
+loop-offset-preserved-then-first-offset c =
     let step = c.in-Some.ensures.steps in
-    let reads : ReadsOne c.in-Some.c (char_indices_offset c.loop-place.place-iterator) (char_indices_offset c.next.new.self) (char_indices_rest c.loop-place.place-iterator) (char_indices_rest c.next.new.self) =
+    let reads : ReadsOne c.in-Some.c (char_indices_offset c.loop-offset.offset-iterator) (char_indices_offset c.next.new.self) (char_indices_rest c.loop-offset.offset-iterator) (char_indices_rest c.next.new.self) =
     record { split = step.1; past = step.2 } in
-    cleaned_dropped c.loop-place.invariant reads c.in-Some-split_first.later.now
-    (c.in-Some-split_first.ensures.cases.0 ∙ ap (λ n. n ∷ c.in-Some-split_first.later.now) (c.if-first-place.true ∙ step.0))
+    cleaned_dropped c.loop-offset.invariant reads c.in-Some-split_first.later.now
+    (c.in-Some-split_first.ensures.cases.0 ∙ ap (λ n. n ∷ c.in-Some-split_first.later.now) (c.if-first-offset.true ∙ step.0))
 
 -- a list that begins with a number is no other one
-other_head : (places later rest : List ℕ) (first at place : ℕ) → places ≡ first ∷ later → (first ≡ place → ⊥) → place ≡ at → places ≡ at ∷ rest → ⊥
-other_head places later rest first at place split other same is = other (cc)
+other_head : (offsets later rest : List ℕ) (first at offset : ℕ) → offsets ≡ first ∷ later → (first ≡ offset → ⊥) → offset ≡ at → offsets ≡ at ∷ rest → ⊥
+other_head offsets later rest first at offset split other same is = other (cc)
 
 -- the character is kept
-pub loop-place-preserved : goal.loop-place-preserved
-loop-place-preserved c =
+pub loop-offset-preserved : goal.loop-offset-preserved
+loop-offset-preserved c =
     let step = c.in-Some.ensures.steps in
-    let reads : ReadsOne c.in-Some.c (char_indices_offset c.loop-place.place-iterator) (char_indices_offset c.next.new.self) (char_indices_rest c.loop-place.place-iterator) (char_indices_rest c.next.new.self) =
+    let reads : ReadsOne c.in-Some.c (char_indices_offset c.loop-offset.offset-iterator) (char_indices_offset c.next.new.self) (char_indices_rest c.loop-offset.offset-iterator) (char_indices_rest c.next.new.self) =
     record { split = step.1; past = step.2 } in
-    cleaned_kept c.loop-place.invariant reads (chars (string_bytes c.push_char.new.out))
+    cleaned_kept c.loop-offset.invariant reads (chars (string_bytes c.push_char.new.out))
     (λ later is. elim c.in_default.branch [
-      | in_default-via-in-Some-split_first+else-first-place w ↦
-          other_head _ w.in-Some-split_first.later.now later w.in-Some-split_first.first.now _ c.in-Some.place w.in-Some-split_first.ensures.cases.0 w.if-first-place.false step.0 is
+      | in_default-via-in-Some-split_first+else-first-offset w ↦
+          other_head _ w.in-Some-split_first.later.now later w.in-Some-split_first.first.now _ c.in-Some.offset w.in-Some-split_first.ensures.cases.0 w.if-first-offset.false step.0 is
       | in_default-via-in_default w ↦ omega (arith, w.in_default.ensures.cases, ap length is)
     ])
-    (c.in_ok-push_char-in_default.ensures ∙ ap (λ k. chars (string_bytes c.loop-place.cleaned) ++ k ∷ []) c.spaced.ensures)
+    (c.in_ok-push_char-in_default.ensures.ok ∙ ap (λ k. chars (string_bytes c.loop-offset.cleaned) ++ k ∷ []) c.spaced.ensures)
 
 -- no character is left
 pub returns : goal.returns
-returns c = cleaned_end c.loop-place.invariant c.in-None.ensures.steps.0
+returns c = cleaned_end c.loop-offset.invariant c.in-None.ensures.steps.0

@@ -4,8 +4,8 @@
 -- as many initiators as PDIs, and each prefix of that text holds at least as many initiators as PDIs. In other words,
 -- a PDI matches the nearest initiator before it that is still open.
 --
--- In RLI, `a`, LRI, `b`, PDI, PDI, PDI the pairs are the places 2 and 4, and 0 and 5, counted from 0. The last PDI is in
--- no pair.
+-- In RLI, `a`, LRI, `b`, PDI, PDI, PDI the pairs are the characters 2 and 4, and 0 and 5, counted from 0. The last PDI is
+-- in no pair.
 use Rattle.std.specs.Prelude.{ℕ, ◌+◌, Bool, true, false, ◌==◌, ◌&&◌, ◌||◌, nat_lt, nat_le, List, take, length, slice_index, slice_range, count_by}
 use Rattle.std.specs.List.{list_any, list_all, range_with_len}
 use Rattle.bidi_class.specs.declared.class.Class.{Class}
@@ -39,14 +39,16 @@ is_even text = initiators text == closings text
 
 -- each prefix of the text holds at least as many initiators as PDIs
 abbrev pub is_led : List ℕ → Bool
-is_led text = list_all (λ n. nat_le (closings (take n text)) (initiators (take n text))) (range_with_len 0 (length text + 1))
+is_led text =
+    list_all (λ n. nat_le (closings (take n text)) (initiators (take n text))) (range_with_len 0 (length text + 1))
 
--- the two places are a pair
+-- the characters at the two indexes are a pair
 abbrev pub is_pair : List ℕ → ℕ → ℕ → Bool
 is_pair text first second =
     (nat_lt first second && is_initiator (slice_index text first) && is_closing (slice_index text second))
     && (is_even (slice_range text (first + 1) second) && is_led (slice_range text (first + 1) second))
 
--- the place is one of a pair
+-- the character at the index is one of a pair
 abbrev pub is_in_pair : List ℕ → ℕ → Bool
-is_in_pair text place = list_any (λ other. is_pair text place other || is_pair text other place) (range_with_len 0 (length text))
+is_in_pair text index =
+    list_any (λ other. is_pair text index other || is_pair text other index) (range_with_len 0 (length text))

@@ -1,5 +1,0 @@
-use Rattle.std.proofs.lemmas.Str.{chars-append, IsUtf8-string_bytes}
-use Rattle.bidi_text.proofs.characters.push_text.Goals as goal
-
-pub returns : goal.returns
-returns c = rw c.in_ok-push_str.ensures.bytes (chars-append _ _ (IsUtf8-string_bytes c.args.out.now))
