@@ -11,18 +11,18 @@ use Rattle.esc_table.specs.EscapedText.{escaped_character, escaped_text}
 pub bytes_added : (old new more : List ℕ) → IsUtf8 old → IsUtf8 new → chars new ≡ chars old ++ more → new ≡ old ++ encode_utf8_all more
 bytes_added old new more text text' added =
     sym (encodes-chars new text') ∙ ap encode_utf8_all added ∙ encodes-append (chars old) more
-    ∙ ap (λ front. front ++ encode_utf8_all more) (encodes-chars old text)
+    ∙ ap (λ prefix. prefix ++ encode_utf8_all more) (encodes-chars old text)
 
--- then the old bytes are the front of the new ones
-pub front_stays : (old new more : List ℕ) → IsUtf8 old → IsUtf8 new → chars new ≡ chars old ++ more → take (length old) new ≡ old
-front_stays old new more text text' added =
+-- then the old bytes are the prefix of the new ones
+pub prefix_stays : (old new more : List ℕ) → IsUtf8 old → IsUtf8 new → chars new ≡ chars old ++ more → take (length old) new ≡ old
+prefix_stays old new more text text' added =
     ap (take (length old)) (bytes_added old new more text text' added) ∙ take-append_seam old (encode_utf8_all more)
 
 -- so the new text may be cut where the old one ended
 pub cut_at_old : (old new more : List ℕ) → IsUtf8 old → IsUtf8 new → chars new ≡ chars old ++ more → IsSplitPoint new (length old)
 cut_at_old old new more text text' added =
     let within : length old ≤ length new = omega (arith, ap length (bytes_added old new more text text' added), length-append old (encode_utf8_all more)) in
-    let boundary = IsCharBoundary-from_take new (length old) text' within (rw (front_stays old new more text text' added) text) in
+    let boundary = IsCharBoundary-from_take new (length old) text' within (rw (prefix_stays old new more text text' added) text) in
     (boundary.0, λ _. boundary.1)
 
 -- more characters add what stands for them

@@ -1,4 +1,4 @@
--- What is pushed of a text so far: what stands for a front of it, so that what stands for the rest is still to come.
+-- What is pushed of a text so far: what stands for a prefix of it, so that what stands for the rest is still to come.
 use Rattle.std.proofs.Common.{◌≡◌, ℕ, List, ◌++◌, ◌∙◌, sym, ap, length, encode_utf8, append-nil, append_assoc}
 use Rattle.std.specs.Str.{chars, IsUtf8}
 use Rattle.std.proofs.lemmas.List.{nil_from_length}
@@ -20,25 +20,25 @@ module _ (rows : List (ℕ × List ℕ)) where
       ap (λ l. l ++ escaped_text rows (chars rest)) grows ∙ append_assoc out (escaped_character rows c) (escaped_text rows (chars rest))
       ∙ ap (λ l. out ++ escaped_text rows l) (sym (chars_past_char text rest c utf8 split))
 
-  -- a front that stands for itself, and then what stands for the rest
-  pub front_pushed : (text front rest out out' : List ℕ) → IsUtf8 front → text ≡ front ++ rest → escaped_text rows (chars front) ≡ chars front → out' ≡ out ++ chars front
+  -- a prefix that stands for itself, and then what stands for the rest
+  pub prefix_pushed : (text prefix rest out out' : List ℕ) → IsUtf8 prefix → text ≡ prefix ++ rest → escaped_text rows (chars prefix) ≡ chars prefix → out' ≡ out ++ chars prefix
       → out' ++ escaped_text rows (chars rest) ≡ out ++ escaped_text rows (chars text)
-  front_pushed text front rest out out' utf8 split plain grows =
-      ap (λ l. l ++ escaped_text rows (chars rest)) grows ∙ append_assoc out (chars front) (escaped_text rows (chars rest))
-      ∙ ap (λ l. out ++ (l ++ escaped_text rows (chars rest))) (sym plain) ∙ ap (λ l. out ++ l) (sym (more_escaped rows (chars front) (chars rest)))
-      ∙ ap (λ l. out ++ escaped_text rows l) (sym (ap chars split ∙ chars-append front rest utf8))
+  prefix_pushed text prefix rest out out' utf8 split plain grows =
+      ap (λ l. l ++ escaped_text rows (chars rest)) grows ∙ append_assoc out (chars prefix) (escaped_text rows (chars rest))
+      ∙ ap (λ l. out ++ (l ++ escaped_text rows (chars rest))) (sym plain) ∙ ap (λ l. out ++ l) (sym (more_escaped rows (chars prefix) (chars rest)))
+      ∙ ap (λ l. out ++ escaped_text rows l) (sym (ap chars split ∙ chars-append prefix rest utf8))
 
-  -- a front that stands for itself and then what stands for more of the text
-  pub next_pushed : (start out rest text front others rest' pushed out' : List ℕ) → PushedSoFar rows start out rest text → IsUtf8 front → rest ≡ front ++ others
-      → escaped_text rows (chars front) ≡ chars front → pushed ≡ out ++ chars front
+  -- a prefix that stands for itself and then what stands for more of the text
+  pub next_pushed : (start out rest text prefix others rest' pushed out' : List ℕ) → PushedSoFar rows start out rest text → IsUtf8 prefix → rest ≡ prefix ++ others
+      → escaped_text rows (chars prefix) ≡ chars prefix → pushed ≡ out ++ chars prefix
       → out' ++ escaped_text rows (chars rest') ≡ pushed ++ escaped_text rows (chars others) → IsUtf8 rest' → ((more : List ℕ) × (out' ≡ pushed ++ more))
       → PushedSoFar rows start out' rest' text
-  next_pushed start out rest text front others rest' pushed out' so_far utf8 split plain front_grows grows utf8_rest longer = record {
-    whole = grows ∙ front_pushed rest front others out pushed utf8 split plain front_grows ∙ so_far.whole;
+  next_pushed start out rest text prefix others rest' pushed out' so_far utf8 split plain prefix_grows grows utf8_rest longer = record {
+    whole = grows ∙ prefix_pushed rest prefix others out pushed utf8 split plain prefix_grows ∙ so_far.whole;
     utf8 = utf8_rest;
-    more = (so_far.more ++ chars front) ++ longer.0;
-    grown = longer.1 ∙ ap (λ l. l ++ longer.0) (front_grows ∙ ap (λ l. l ++ chars front) so_far.grown ∙ append_assoc start so_far.more (chars front))
-        ∙ append_assoc start (so_far.more ++ chars front) longer.0;
+    more = (so_far.more ++ chars prefix) ++ longer.0;
+    grown = longer.1 ∙ ap (λ l. l ++ longer.0) (prefix_grows ∙ ap (λ l. l ++ chars prefix) so_far.grown ∙ append_assoc start so_far.more (chars prefix))
+        ∙ append_assoc start (so_far.more ++ chars prefix) longer.0;
   }
 
   -- where nothing is left, all is pushed

@@ -23,8 +23,8 @@ not_either true b = refl
 not_either false b = refl
 
 -- what stands before the first `:` decides
-pub before_colon : (front back : List ℕ) → lacks (colon ∷ []) front ≡ true → has_scheme (front ++ colon ∷ back) ≡ not (list_any ends_scheme front)
+pub before_colon : (prefix back : List ℕ) → lacks (colon ∷ []) prefix ≡ true → has_scheme (prefix ++ colon ∷ back) ≡ not (list_any ends_scheme prefix)
 before_colon [] back none = refl
-before_colon (c ∷ front) back none =
-    ap (λ t. t || (not (ends_scheme c) && has_scheme (front ++ colon ∷ back))) (not_colon c front none)
-    ∙ ap (λ t. not (ends_scheme c) && t) (before_colon front back (and_parts _ _ none).1) ∙ not_either (ends_scheme c) (list_any ends_scheme front)
+before_colon (c ∷ prefix) back none =
+    ap (λ t. t || (not (ends_scheme c) && has_scheme (prefix ++ colon ∷ back))) (not_colon c prefix none)
+    ∙ ap (λ t. not (ends_scheme c) && t) (before_colon prefix back (and_parts _ _ none).1) ∙ not_either (ends_scheme c) (list_any ends_scheme prefix)

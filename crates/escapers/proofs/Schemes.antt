@@ -1,4 +1,4 @@
--- The front of a text in any ASCII case, by bytes and by characters.
+-- The prefix of a text in any ASCII case, by bytes and by characters.
 use Rattle.std.proofs.Common.{◌≡◌, ℕ, ◌<◌, ◌≤◌, Bool, true, false, ◌&&◌, eqb, List, [], ◌∷◌, ◌++◌, length, take, map, refl, sym, ap, ◌∙◌, ⊎_elim, encode_utf8, encode_utf8_all, IsTrue, ◌↔◌, arith}
 use Rattle.std.specs.Bool.{Decides}
 use Rattle.std.specs.Char.{to_ascii_lowercase}
@@ -19,46 +19,46 @@ high_other : (c d : ℕ) → c < 128 → 128 ≤ d → eqb (to_ascii_lowercase d
 high_other c d low high = grind (arith, nat_tests)
 
 -- a character above ASCII begins with a byte above ASCII
-high_first : (c d : ℕ) (front rest : List ℕ) → c < 128 → 128 ≤ d → begins_in_any_case (c ∷ front) (encode_utf8 d ++ rest) ≡ false
+high_first : (c d : ℕ) (prefix rest : List ℕ) → c < 128 → 128 ≤ d → begins_in_any_case (c ∷ prefix) (encode_utf8 d ++ rest) ≡ false
 unfolding encode
-high_first c d front rest low high = grind (arith, nat_tests)
+high_first c d prefix rest low high = grind (arith, nat_tests)
 
 -- bytes begin as their characters do
-begins_bytes : (front cs : List ℕ) → list_all is_scheme_character front ≡ true → begins_in_any_case front (encode_utf8_all cs) ≡ begins_in_any_case front cs
+begins_bytes : (prefix cs : List ℕ) → list_all is_scheme_character prefix ≡ true → begins_in_any_case prefix (encode_utf8_all cs) ≡ begins_in_any_case prefix cs
 begins_bytes [] cs are = refl
-begins_bytes (c ∷ front) [] are = refl
-begins_bytes (c ∷ front) (d ∷ cs) are =
+begins_bytes (c ∷ prefix) [] are = refl
+begins_bytes (c ∷ prefix) (d ∷ cs) are =
     let both = and_parts _ _ are in
     let small = (lower_is c both.0).1 in
     ⊎_elim
     (λ low.
-    ap (λ l. begins_in_any_case (c ∷ front) (l ++ encode_utf8_all cs)) (encode_ascii d low)
-    ∙ ap (λ t. eqb (to_ascii_lowercase d) c && t) (begins_bytes front cs both.1))
-    (λ high. high_first c d front (encode_utf8_all cs) small high ∙ sym (ap (λ t. t && begins_in_any_case front cs) (high_other c d small high)))
+    ap (λ l. begins_in_any_case (c ∷ prefix) (l ++ encode_utf8_all cs)) (encode_ascii d low)
+    ∙ ap (λ t. eqb (to_ascii_lowercase d) c && t) (begins_bytes prefix cs both.1))
+    (λ high. high_first c d prefix (encode_utf8_all cs) small high ∙ sym (ap (λ t. t && begins_in_any_case prefix cs) (high_other c d small high)))
     (cases_lt d 128)
 
--- the front as the lower case of the first bytes
-begins_decides : (front bs : List ℕ) → list_all is_scheme_character front ≡ true →
-    Decides (begins_in_any_case front bs) (map to_ascii_lowercase (take (length front) bs) ≡ map to_ascii_lowercase front)
+-- the prefix as the lower case of the first bytes
+begins_decides : (prefix bs : List ℕ) → list_all is_scheme_character prefix ≡ true →
+    Decides (begins_in_any_case prefix bs) (map to_ascii_lowercase (take (length prefix) bs) ≡ map to_ascii_lowercase prefix)
 begins_decides [] bs are = (λ _. refl, λ _. refl)
-begins_decides (c ∷ front) [] are = (λ never. cc, λ never. cc)
-begins_decides (c ∷ front) (d ∷ bs) are =
+begins_decides (c ∷ prefix) [] are = (λ never. cc, λ never. cc)
+begins_decides (c ∷ prefix) (d ∷ bs) are =
     let both = and_parts _ _ are in
     let own = (lower_is c both.0).0 in
-    let rest = begins_decides front bs both.1 in (
+    let rest = begins_decides prefix bs both.1 in (
       λ holds.
           let parts =
-          and_parts (eqb (to_ascii_lowercase d) c) (begins_in_any_case front bs) holds in
+          and_parts (eqb (to_ascii_lowercase d) c) (begins_in_any_case prefix bs) holds in
           cc (eqb-true (to_ascii_lowercase d) c parts.0, own, rest.0 parts.1),
       λ same.
           let first : to_ascii_lowercase d ≡ to_ascii_lowercase c = cc in
-          let others : map to_ascii_lowercase (take (length front) bs) ≡ map to_ascii_lowercase front = cc in
+          let others : map to_ascii_lowercase (take (length prefix) bs) ≡ map to_ascii_lowercase prefix = cc in
           and_from _ _ (eq-eqb (to_ascii_lowercase d) c (first ∙ own)) (rest.1 others),
     )
 
 -- so what is found in bytes holds of characters
-pub begins_from_bytes : (front bs : List ℕ) (r : Bool) → list_all is_scheme_character front ≡ true → IsUtf8 bs
-    → (IsTrue r ↔ (map to_ascii_lowercase (take (length front) bs) ≡ map to_ascii_lowercase front)) → r ≡ begins_in_any_case front (chars bs)
-begins_from_bytes front bs r are utf8 same =
-    same_from_decides r (begins_in_any_case front bs) (same.0, same.1) (begins_decides front bs are)
-    ∙ ap (begins_in_any_case front) (sym (encodes-chars bs utf8)) ∙ begins_bytes front (chars bs) are
+pub begins_from_bytes : (prefix bs : List ℕ) (r : Bool) → list_all is_scheme_character prefix ≡ true → IsUtf8 bs
+    → (IsTrue r ↔ (map to_ascii_lowercase (take (length prefix) bs) ≡ map to_ascii_lowercase prefix)) → r ≡ begins_in_any_case prefix (chars bs)
+begins_from_bytes prefix bs r are utf8 same =
+    same_from_decides r (begins_in_any_case prefix bs) (same.0, same.1) (begins_decides prefix bs are)
+    ∙ ap (begins_in_any_case prefix) (sym (encodes-chars bs utf8)) ∙ begins_bytes prefix (chars bs) are

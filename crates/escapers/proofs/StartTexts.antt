@@ -65,17 +65,17 @@ has_scheme-uri_normal (c ∷ text) =
 scheme_normal : (c d : ℕ) → is_scheme_character d ≡ true → to_ascii_lowercase c ≡ d → (eqb c ampersand ≡ false) × (is_normal c ≡ true)
 scheme_normal c d scheme lower = grind (arith, nat_tests)
 
--- so a scheme at the front stays there
-begins_normal : (front text : List ℕ) → list_all is_scheme_character front ≡ true → begins_in_any_case front text ≡ true → begins_in_any_case front (uri_normal text) ≡ true
+-- so a scheme at the prefix stays there
+begins_normal : (prefix text : List ℕ) → list_all is_scheme_character prefix ≡ true → begins_in_any_case prefix text ≡ true → begins_in_any_case prefix (uri_normal text) ≡ true
 begins_normal [] text are begins = refl
-begins_normal (d ∷ front) [] are begins = begins
-begins_normal (d ∷ front) (c ∷ text) are begins =
+begins_normal (d ∷ prefix) [] are begins = begins
+begins_normal (d ∷ prefix) (c ∷ text) are begins =
     let scheme = and_parts _ _ are in
     let parts = and_parts _ _ begins in
     let facts = scheme_normal c d scheme.0 (eqb-true (to_ascii_lowercase c) d parts.0) in
     let stays : normal_character c ≡ c ∷ [] = cond-false (eqb c ampersand) _ _ facts.0 ∙ cond-true (is_normal c) _ (percent_encoded c) facts.1 in
-    ap (λ l. begins_in_any_case (d ∷ front) (l ++ uri_normal text)) stays
-    ∙ and_from _ _ parts.0 (begins_normal front text scheme.1 parts.1)
+    ap (λ l. begins_in_any_case (d ∷ prefix) (l ++ uri_normal text)) stays
+    ∙ and_from _ _ parts.0 (begins_normal prefix text scheme.1 parts.1)
 
 -- whichever of the schemes it is
 any_normal : (schemes : List (List ℕ)) (text : List ℕ) → list_all (list_all is_scheme_character) schemes ≡ true → list_any (λ scheme. begins_in_any_case scheme text) schemes ≡ true

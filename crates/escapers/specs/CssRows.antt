@@ -4,7 +4,7 @@
 -- can name, becomes U+FFFD.
 --
 -- They are the control characters, what ends or begins a string, a value, a block or a comment,
--- what HTML reads, and the line ends of Unicode.
+-- what HTML reads, and the line breaks of Unicode.
 --
 -- The text `a"b` becomes `a\22 b`.
 use Rattle.std.specs.Prelude.{ℕ, List, [], ◌∷◌, codes}

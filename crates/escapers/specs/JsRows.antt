@@ -1,6 +1,6 @@
 -- The rows of a string literal in a script, each a character and the escape that stands for it.
 --
--- The quotes and the backtick can then end no literal, a line end can't cut it off, and without
+-- The quotes and the backtick can then end no literal, a line break can't cut it off, and without
 -- `<`, `>`, `&`, `=` and `/` nothing in it ends the script's element, opens a comment of HTML or is
 -- read as a reference (ECMA-262, "String Literals": HexEscapeSequence and SingleEscapeCharacter;
 -- WHATWG HTML, "Restrictions for contents of script elements").

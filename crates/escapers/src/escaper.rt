@@ -27,7 +27,7 @@ pub enum Escaper {
     CssValue,
     /// The text itself, where nothing reads it as markup.
     Plain,
-    /// Markup that was escaped as it was made.
+    /// Markup, which was escaped when it was made.
     AsIs,
 }
 

@@ -11,9 +11,9 @@ first_bytes : (bs : List ℕ) (n : ℕ) → slice_range bs 0 n ≡ take n bs
 first_bytes bs n = grind arith
 
 -- a text that is shorter begins otherwise
-shorter : (front bs : List ℕ) → length bs < length front → IsTrue false ↔ (map to_ascii_lowercase (take (length front) bs) ≡ map to_ascii_lowercase front)
-shorter front bs short =
-    (λ never. absurd (false≢true never), λ same. absurd (omega (arith, ap length same, length-map front to_ascii_lowercase, length-map (take (length front) bs) to_ascii_lowercase, length-take (length front) bs)))
+shorter : (prefix bs : List ℕ) → length bs < length prefix → IsTrue false ↔ (map to_ascii_lowercase (take (length prefix) bs) ≡ map to_ascii_lowercase prefix)
+shorter prefix bs short =
+    (λ never. absurd (false≢true never), λ same. absurd (omega (arith, ap length same, length-map prefix to_ascii_lowercase, length-map (take (length prefix) bs) to_ascii_lowercase, length-take (length prefix) bs)))
 
 pub returns-in-Some : goal.returns-in-Some
 returns-in-Some c =
