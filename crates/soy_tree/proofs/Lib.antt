@@ -1,1 +1,11 @@
 pub mod Views
+pub mod Members
+pub mod SameTypes
+pub mod MembersHave
+pub mod Costs
+pub mod Accepting
+pub mod ValueTypes
+mod Rows
+mod AcceptRows
+mod TypeRows
+mod ValueRows

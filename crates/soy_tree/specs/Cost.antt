@@ -26,3 +26,14 @@ cost (Not e span) env = 1 + cost e env
 cost (Binary op a b span) env = 1 + (cost a env + right_cost op (is_truthy (val a env)) (cost b env))
 cost (Coalesce a b span) env = 1 + (cost a env + (if is_null (val a env) then cost b env else 0))
 cost (Conditional c a b span) env = 1 + (cost c env + (if is_truthy (val c env) then cost a env else cost b env))
+
+-- the number of all nodes of an expression
+abbrev pub node_count : Expr → ℕ
+node_count (Member e name takes_null span) = 1 + node_count e
+node_count (Index e i takes_null span) = 1 + (node_count e + node_count i)
+node_count (Minus e span) = 1 + node_count e
+node_count (Not e span) = 1 + node_count e
+node_count (Binary op a b span) = 1 + (node_count a + node_count b)
+node_count (Coalesce a b span) = 1 + (node_count a + node_count b)
+node_count (Conditional c a b span) = 1 + (node_count c + (node_count a + node_count b))
+node_count _ = 1

@@ -1,22 +1,24 @@
 -- The members of types, types without null, and types that are joined.
--- A type that is no union is the one member of itself, and a union of one member is that member. Two types are joined into
+-- A type that is no union is the one member of itself, and a union of one member is that member. (The grammar has no union
+-- in a union; the members of such a one are members.) Two types are joined into
 -- the union of the left one's members and then those of the right one that aren't yet among them.
 -- Example: `int|null` without null is `int`; `int|null` joined with `string|null` is `int|null|string`.
 use Rattle.std.specs.Prelude.{Bool, true, false, not, ◌&&◌, ◌||◌, List, [], ◌∷◌, ◌++◌, filter, if◌then◌else◌, bytes_eq}
 use Rattle.std.specs.List.{list_any, list_all}
 use Rattle.soy_tree.specs.Types.{Name, SoyType, Members, FieldTypes, NullType, BoolType, IntType, StringType, HtmlType, AttributesType, ListType, MapType, RecordType, UnionType, no_member, member, no_field, field}
 
-abbrev pub member_list : Members → List SoyType
-member_list no_member = []
-member_list (member t ts) = t ∷ member_list ts
+abbrev mutual
+  pub members : SoyType → List SoyType
+  members (UnionType ts) = union_members ts
+  members t = t ∷ []
+
+  pub union_members : Members → List SoyType
+  union_members no_member = []
+  union_members (member t ts) = members t ++ union_members ts
 
 abbrev pub members_of : List SoyType → Members
 members_of [] = no_member
 members_of (t ∷ ts) = member t (members_of ts)
-
-abbrev pub members : SoyType → List SoyType
-members (UnionType ts) = member_list ts
-members t = t ∷ []
 
 abbrev pub union_of : List SoyType → SoyType
 union_of (t ∷ []) = t
@@ -51,11 +53,14 @@ abbrev pub is_null_type : SoyType → Bool
 is_null_type NullType = true
 is_null_type _ = false
 
+abbrev pub is_some_type : SoyType → Bool
+is_some_type t = not (is_null_type t)
+
 abbrev pub has_null : SoyType → Bool
 has_null t = list_any is_null_type (members t)
 
 abbrev pub type_without_null : SoyType → SoyType
-type_without_null t = union_of (filter (λ m. not (is_null_type m)) (members t))
+type_without_null t = union_of (filter is_some_type (members t))
 
 -- the members, with one more unless it is among them
 abbrev pub with_member : List SoyType → SoyType → List SoyType

@@ -3,22 +3,14 @@
 -- that fails; it keeps the name, or the types of both operands.
 -- Example: with `$n` an int, `$n + 'a'` is a string, and `$n + true` fails with 8, keeping int and bool.
 use Rattle.std.specs.Prelude.{ℕ, ℤ, pos, negsuc, Bool, true, false, not, ◌&&◌, ◌||◌, ◌==◌, List, [], ◌∷◌, Option, Some, None, Result, Ok, Err, if◌then◌else◌, bytes_eq}
-use Rattle.soy_base.specs.declared.code.Code.{Code}
-use Rattle.soy_base.specs.declared.code.Code.TheVariants as code
 use Rattle.soy_base.specs.declared.fault.Span.{Span}
 use Rattle.soy_tree.specs.declared.expr.BinaryOp.{BinaryOp}
 use Rattle.soy_tree.specs.declared.expr.BinaryOp.TheVariants as op
 use Rattle.soy_tree.specs.Types.{Name, SoyType, FieldTypes, NullType, BoolType, IntType, StringType, ListType, MapType, RecordType, no_field, field}
 use Rattle.soy_tree.specs.Members.{is_same_type, has_null, type_without_null, joined, is_simple, has_block}
 use Rattle.soy_tree.specs.TypeText.{type_text}
+use Rattle.soy_tree.specs.Faults.{TypeFault, and_then, found, mistyped}
 use Rattle.soy_tree.specs.Expressions.{Expr, NullLiteral, BoolLiteral, IntLiteral, StringLiteral, Variable, Member, Index, Minus, Not, Binary, Coalesce, Conditional}
-
--- a code, an offset, and the two names or types that differ, or one and nothing
-pub record TypeFault : Type 0 where
-  pub code : Code
-  pub at : ℕ
-  pub left : List ℕ
-  pub right : List ℕ
 
 -- the variables that are visible, with their types
 abbrev pub Scope : Type 0
@@ -32,17 +24,6 @@ variable_type name (v ∷ scope) = if bytes_eq v.0 name then Some v.1 else varia
 abbrev pub field_type : Name → FieldTypes → Option SoyType
 field_type name no_field = None
 field_type name (field other t fields) = if bytes_eq other name then Some t else field_type name fields
-
-abbrev pub and_then : {A B E : Type 0} → Result A E → (A → Result B E) → Result B E
-and_then (Ok a) next = next a
-and_then (Err e) next = Err e
-
-abbrev pub found : {A : Type 0} → Name → Span → Option A → Result A TypeFault
-found name span None = Err (record { code = code.Unknown; at = span.start; left = name; right = [] })
-found name span (Some t) = Ok t
-
-abbrev pub mistyped : {A : Type 0} → Span → List ℕ → List ℕ → Result A TypeFault
-mistyped span left right = Err (record { code = code.Mistyped; at = span.start; left = left; right = right })
 
 -- the type, if the operands' types fit
 abbrev pub fitting : Bool → SoyType → Span → SoyType → SoyType → Result SoyType TypeFault

@@ -9,7 +9,7 @@ use Rattle.soy_tree.specs.declared.expr.BinaryOp.TheVariants as op
 use Rattle.soy_tree.specs.Types.{Name}
 use Rattle.soy_tree.specs.Values.{Value, Items, Entries, NullValue, BoolValue, IntValue, StringValue, ListValue, MapValue, RecordValue, no_item, item, no_entry, entry}
 use Rattle.soy_tree.specs.Ints.{nearest}
-use Rattle.soy_tree.specs.Has.{entry_value}
+use Rattle.soy_tree.specs.Has.{entry_value, field_value}
 use Rattle.soy_tree.specs.Expressions.{Expr, NullLiteral, BoolLiteral, IntLiteral, StringLiteral, Variable, Member, Index, Minus, Not, Binary, Coalesce, Conditional}
 
 -- what a variable is bound to: a value, or a block, of which an expression knows nothing
@@ -35,9 +35,13 @@ abbrev pub is_truthy : {A : Type 0} → Binding A → Bool
 is_truthy (Known v) = truth v
 is_truthy (BlockOf a) = true
 
+abbrev pub is_null_value : Value → Bool
+is_null_value NullValue = true
+is_null_value _ = false
+
 abbrev pub is_null : {A : Type 0} → Binding A → Bool
-is_null (Known NullValue) = true
-is_null _ = false
+is_null (Known v) = is_null_value v
+is_null (BlockOf a) = false
 
 -- the text of null, a bool, an int or a string
 abbrev pub value_text : Value → List ℕ
@@ -109,10 +113,9 @@ abbrev pub operand : {A : Type 0} → Binding A → Value
 operand (Known v) = v
 operand (BlockOf a) = BoolValue true
 
--- the first entry of this name, or null
+-- the field of this name, or null
 abbrev pub member_value : Name → Value → Value
-member_value name (RecordValue es) = unwrap_or (entry_value name es) NullValue
-member_value name _ = NullValue
+member_value name v = unwrap_or (field_value name v) NullValue
 
 abbrev pub item_value : Items → ℕ → Value
 item_value no_item n = NullValue

@@ -1,7 +1,11 @@
 //! Translations, and the bundle that brings them.
 
+ghost use Rattle.std.specs.Prelude.{◌≡◌, []};
+ghost use Rattle.soy_base.specs.declared.direction.Dir.TheVariants as dir;
+
 use plural_rules::{Category, Rules};
 use soy_base::{Dir, Seq, Text};
+use std::alloc::Global;
 
 /// A part of a translation.
 #[derive(Drop)]
@@ -72,4 +76,18 @@ pub struct Bundle {
     pub plural: Rules,
     pub ordinal: Rules,
     pub messages: Seq<Translation>,
+}
+
+impl Bundle {
+    /// The bundle of the source language: from left to right, without rules and without translations. Takes no memory.
+    pub fn source(alloc: Global) -> Bundle
+        ensures { result ≡ record { dir = dir.Ltr; plural = []; ordinal = []; messages = [] } }
+    {
+        Bundle {
+            dir: Dir::Ltr,
+            plural: Rules::none(alloc),
+            ordinal: Rules::none(alloc),
+            messages: Seq::new(Vec::new(alloc)),
+        }
+    }
 }

@@ -1,12 +1,21 @@
-//! The types that parser, checker, meaning, compiler and renderer share.
+//! The types that parser, checker, meaning, compiler and renderer share: types, values, expressions,
+//! nodes, messages, trees and the parts of translations.
+//!
+//! `accepts` says which type accepts which, `narrow` takes null away from a type, and each `copy` gives
+//! an equal tree. `Typed` holds trees of which everything is true that the checker demands. In specs/
+//! the same trees stand once more as plain data, with the definitions that other crates cite.
+//! Depends on soy_base and plural_rules.
 #![tactic(auto)]
 
 mod acceptance;
 mod bundle;
 mod expr;
+mod laws;
+mod narrowing;
 mod node;
 mod soy_type;
 mod tree;
+mod typed;
 mod value;
 
 pub use acceptance::accepts;
@@ -14,9 +23,15 @@ pub use bundle::{
     Bundle, ExactArm, MsgPart, NamedArm, PluralPart, SelectArm, SelectPart, Translation,
 };
 pub use expr::{BinaryOp, Expr, ExprNode};
+pub use laws::{law_accepts_by_members, law_cost, law_joined, law_narrow, law_value_type};
+pub use narrowing::narrow;
 pub use node::{
-    Arm, Argument, Case, Form, Given, Message, MessageBody, Node, PluralCase, SelectCase,
+    Argument, Arm, Case, Form, Given, Message, MessageBody, Node, PluralCase, SelectCase,
 };
 pub use soy_type::{Field, SoyType};
 pub use tree::{Param, Template, Tree};
+pub use typed::Typed;
 pub use value::{Entry, Value};
+
+#[cfg(test)]
+mod tests;

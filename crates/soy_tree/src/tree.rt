@@ -1,7 +1,10 @@
 //! The trees of files.
 
+ghost use Rattle.std.specs.Prelude.{◌≡◌, IfOk};
+
 use crate::{Node, SoyType};
-use soy_base::{Kind, Seq, Span, Text};
+use soy_base::{Kind, OutOfMemory, Seq, Span, Text};
+use std::alloc::Global;
 
 /// A file: its namespace and its templates.
 #[derive(Drop)]
@@ -28,4 +31,18 @@ pub struct Param {
     pub of: SoyType,
     pub required: bool,
     pub span: Span,
+}
+
+impl Param {
+    /// An equal parameter.
+    pub fn copy(&self, alloc: Global) -> Result<Param, OutOfMemory>
+        ensures { IfOk result (λ p. p ≡ self.now) }
+    {
+        Ok(Param {
+            name: self.name.copy(alloc)?,
+            of: self.of.copy(alloc)?,
+            required: self.required,
+            span: self.span,
+        })
+    }
 }

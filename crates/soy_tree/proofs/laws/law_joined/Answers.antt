@@ -1,0 +1,8 @@
+use Rattle.soy_tree.proofs.MembersHave.{joined_left, joined_right}
+use Rattle.soy_tree.proofs.laws.law_joined.Goals as goal
+
+pub returns-clause-left : goal.returns-clause-left
+returns-clause-left c = joined_left
+
+pub returns-clause-right : goal.returns-clause-right
+returns-clause-right c = joined_right

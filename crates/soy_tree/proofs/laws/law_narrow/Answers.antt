@@ -1,0 +1,8 @@
+use Rattle.soy_tree.proofs.MembersHave.{null_or_narrowed, narrowed_has}
+use Rattle.soy_tree.proofs.laws.law_narrow.Goals as goal
+
+pub returns-clause-null_or_narrowed : goal.returns-clause-null_or_narrowed
+returns-clause-null_or_narrowed c = null_or_narrowed
+
+pub returns-clause-nothing_else : goal.returns-clause-nothing_else
+returns-clause-nothing_else c = narrowed_has

@@ -1,0 +1,46 @@
+//! Laws of the definitions, each a function that does nothing and whose contract is the law.
+
+ghost use Rattle.std.specs.Prelude.{◌≡◌, Ok, true, ◌<◌, ◌≤◌, ◌⊎◌};
+ghost use Rattle.std.specs.List.{list_any};
+ghost use Rattle.soy_tree.specs.Types.{SoyType, Members, UnionType};
+ghost use Rattle.soy_tree.specs.Values.{Value, NullValue};
+ghost use Rattle.soy_tree.specs.Expressions.{Expr};
+ghost use Rattle.soy_tree.specs.Members.{members, type_without_null, joined};
+ghost use Rattle.soy_tree.specs.Accepts.{accepts, accepts_member, all_members};
+ghost use Rattle.soy_tree.specs.Has.{Has};
+ghost use Rattle.soy_tree.specs.Fits.{Fits, IsOf};
+ghost use Rattle.soy_tree.specs.Formed.{is_formed_expr};
+ghost use Rattle.soy_tree.specs.TypeOf.{Scope, type_of};
+ghost use Rattle.soy_tree.specs.Val.{Env, val};
+ghost use Rattle.soy_tree.specs.Cost.{cost, node_count};
+
+/// A type accepts a union where it accepts each of its members, and a member where one of its own members does.
+pub fn law_accepts_by_members()
+    ensures each { (to : SoyType) (ts : Members) → accepts to (UnionType ts) ≡ all_members (accepts_member to) ts }
+    ensures one { (to from : SoyType) → accepts_member to from
+        ≡ list_any (λ t. accepts_member t from) (members to) }
+{}
+
+/// A value is of a type where it is null and the type has null, or where it is of the type without null.
+pub fn law_narrow()
+    ensures null_or_narrowed { (v : Value) (t : SoyType) → Has v t → (v ≡ NullValue) ⊎ Has v (type_without_null t) }
+    ensures nothing_else { (v : Value) (t : SoyType) → Has v (type_without_null t) → Has v t }
+{}
+
+/// A value of either type is of the joined type.
+pub fn law_joined()
+    ensures left { (v : Value) (t u : SoyType) → Has v t → Has v (joined t u) }
+    ensures right { (v : Value) (t u : SoyType) → Has v u → Has v (joined t u) }
+{}
+
+/// The value of an expression is of the type that the rules give, or a block where that has an html or attributes member.
+pub fn law_value_type<A>()
+    ensures { (e : Expr) (scope : Scope) (env : Env A) (t : SoyType) → is_formed_expr e ≡ true
+        → Fits scope env → type_of e scope ≡ Ok t → IsOf (val e env) t }
+{}
+
+/// An expression values at least one node, and no more than it has.
+pub fn law_cost<A>()
+    ensures some { (e : Expr) (env : Env A) → 0 < cost e env }
+    ensures at_most { (e : Expr) (env : Env A) → cost e env ≤ node_count e }
+{}
