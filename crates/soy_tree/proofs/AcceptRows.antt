@@ -3,7 +3,7 @@ use Rattle.std.proofs.Common.{◌≡◌, true, false}
 use mathlib.Core.Path.{refl}
 use Rattle.soy_tree.specs.Types.{NullType, BoolType, IntType, StringType, HtmlType, AttributesType, ListType, MapType}
 use Rattle.soy_tree.specs.Accepts.{accepts}
-use Rattle.soy_tree.proofs.Rows.{a, b, union, alone, none, one_field, two_fields}
+use Rattle.soy_tree.proofs.Rows.{a, b, union, none, one_field, two_fields}
 
 -- each member of the other's union is accepted by one of its own
 union_of_one_more : accepts (union IntType NullType) IntType ≡ true

@@ -1,8 +1,8 @@
 -- What it means, by members, that a type accepts another.
-use Rattle.std.proofs.Common.{◌≡◌, Bool, true, false, ◌||◌, ◌&&◌, List, [], ◌∷◌, ◌++◌}
-use Rattle.std.specs.List.{list_any, list_all}
-use mathlib.Core.Path.{refl, ap, sym, ◌∙◌}
-use Rattle.soy_tree.specs.Types.{SoyType, Members, FieldTypes, NullType, BoolType, IntType, StringType, HtmlType, AttributesType, ListType, MapType, RecordType, UnionType, no_member, member}
+use Rattle.std.proofs.Common.{◌≡◌, Bool, true, false, ◌||◌, List, [], ◌∷◌, ◌++◌}
+use Rattle.std.specs.List.{list_any}
+use mathlib.Core.Path.{refl, ap, ◌∙◌}
+use Rattle.soy_tree.specs.Types.{SoyType, Members, NullType, BoolType, IntType, StringType, HtmlType, AttributesType, ListType, MapType, RecordType, UnionType, no_member, member}
 use Rattle.soy_tree.specs.Members.{members, union_members}
 use Rattle.soy_tree.specs.Accepts.{accepts_member, some_accepts}
 

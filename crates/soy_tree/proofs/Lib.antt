@@ -5,6 +5,7 @@ pub mod MembersHave
 pub mod Costs
 pub mod Accepting
 pub mod ValueTypes
+pub mod TemplateNumbers
 mod Rows
 mod AcceptRows
 mod TypeRows

@@ -1,7 +1,7 @@
 -- Members of unions and lists of types.
 use Rattle.std.proofs.Common.{◌≡◌, Bool, true, false, List, [], ◌∷◌, ◌++◌, filter}
 use Rattle.std.specs.Prelude.{if◌then◌else◌}
-use mathlib.Core.Path.{refl, ap, sym}
+use mathlib.Core.Path.{refl, ap}
 use Rattle.soy_tree.specs.Types.{SoyType}
 use Rattle.soy_tree.specs.Members.{is_some_type}
 

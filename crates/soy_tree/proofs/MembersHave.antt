@@ -1,14 +1,15 @@
 -- Which value is of a union, of a type without null, and of joined types.
-use Rattle.std.proofs.Common.{◌≡◌, ℕ, Bool, true, false, ◌||◌, not, List, [], ◌∷◌, ◌++◌, filter, ◌⊎◌}
-use Rattle.std.specs.Prelude.{if◌then◌else◌, ◌≢◌}
+use Rattle.std.proofs.Common.{◌≡◌, Bool, true, false, ◌||◌, List, [], ◌∷◌, ◌++◌, filter, ◌⊎◌}
+use Rattle.std.specs.Prelude.{if◌then◌else◌}
 use Rattle.std.specs.List.{list_any}
-use mathlib.Core.Path.{refl, sym}
+use mathlib.Core.Path.{refl}
 use mathlib.Core.Logic.{inl, inr}
-use Rattle.soy_tree.specs.Types.{SoyType, Members, NullType, BoolType, IntType, StringType, HtmlType, AttributesType, ListType, MapType, RecordType, UnionType, no_member, member}
+use Rattle.soy_tree.specs.Types.{SoyType, Members, NullType, BoolType, IntType, StringType, HtmlType, AttributesType, ListType, MapType, RecordType, UnionType, no_member, member, FieldTypes, no_field, field}
 use Rattle.soy_tree.specs.Values.{Value, NullValue, BoolValue, IntValue, StringValue, ListValue, MapValue, RecordValue}
 use Rattle.soy_tree.specs.Members.{members_of, members, union_members, union_of, is_some_type, type_without_null, is_same_type, with_member, with_members, joined}
-use Rattle.soy_tree.specs.Has.{Has, HasSome, IsNull}
+use Rattle.soy_tree.specs.Has.{Has, HasSome, HasFields, IsNull}
 use Rattle.soy_tree.proofs.SameTypes.{same_type}
+use Rattle.soy_tree.proofs.Members.{kept_append}
 
 -- the value is of one of the types
 abbrev pub HasAny : Value → List SoyType → Type 0
@@ -159,6 +160,36 @@ null_or_narrowed v t h = or_union v (filter is_some_type (members t)) (filtered 
 -- a value of the type without null is of the type
 pub narrowed_has : (v : Value) (t : SoyType) → Has v (type_without_null t) → Has v t
 narrowed_has v t h = members_have v t (unfiltered v (members t) (has_union v (filter is_some_type (members t)) h))
+
+-- null is of no type without null
+pub null_no_record : (fields : FieldTypes) → HasFields NullValue fields → ⊥
+null_no_record no_field h = h
+null_no_record (field name t fields) h = null_no_record fields h.1
+
+pub neither : {P Q : Type 0} → (P → ⊥) → (Q → ⊥) → P ⊎ Q → ⊥
+neither f g (inl p) = f p
+neither f g (inr q) = g q
+
+mutual
+  pub null_gone : (t : SoyType) → HasAny NullValue (filter is_some_type (members t)) → ⊥
+  null_gone NullType h = h
+  null_gone BoolType h = neither (λ p. p) (λ q. q) h
+  null_gone IntType h = neither (λ p. p) (λ q. q) h
+  null_gone StringType h = neither (λ p. p) (λ q. q) h
+  null_gone HtmlType h = neither (λ p. p) (λ q. q) h
+  null_gone AttributesType h = neither (λ p. p) (λ q. q) h
+  null_gone (ListType t) h = neither (λ p. p) (λ q. q) h
+  null_gone (MapType t) h = neither (λ p. p) (λ q. q) h
+  null_gone (RecordType fields) h = neither (λ p. null_no_record fields p) (λ q. q) h
+  null_gone (UnionType ts) h = nulls_gone ts h
+
+  pub nulls_gone : (ts : Members) → HasAny NullValue (filter is_some_type (union_members ts)) → ⊥
+  nulls_gone no_member h = h
+  nulls_gone (member t ts) h =
+      neither (λ p. null_gone t p) (λ q. nulls_gone ts q) (parted NullValue (filter is_some_type (members t)) (filter is_some_type (union_members ts)) (rw (kept_append (members t) (union_members ts)) at h))
+
+pub null_not_narrowed : (t : SoyType) → Has NullValue (type_without_null t) → ⊥
+null_not_narrowed t h = null_gone t (has_union NullValue (filter is_some_type (members t)) h)
 
 pub append_last : (v : Value) (ts : List SoyType) (t : SoyType) → Has v t → HasAny v (ts ++ t ∷ [])
 append_last v [] t h = inl h

@@ -1,7 +1,7 @@
 -- What the rows below are made of: spans, names, types and expressions.
-use Rattle.std.specs.Prelude.{ℕ, ℤ, pos, List, [], ◌∷◌, Bool, codes}
+use Rattle.std.specs.Prelude.{ℕ, pos, List, [], ◌∷◌, codes}
 use Rattle.soy_base.specs.declared.fault.Span.{Span}
-use Rattle.soy_tree.specs.Types.{Name, SoyType, NullType, BoolType, IntType, StringType, RecordType, UnionType, no_member, member, no_field, field}
+use Rattle.soy_tree.specs.Types.{Name, SoyType, RecordType, UnionType, no_member, member, no_field, field}
 use Rattle.soy_tree.specs.Expressions.{Expr, IntLiteral, StringLiteral, Variable}
 use Rattle.soy_tree.specs.TypeOf.{Scope}
 

@@ -1,15 +1,15 @@
 -- Rows: the types of operators and accesses, and where they fail.
 use Rattle.std.proofs.Common.{◌≡◌, List, [], ◌∷◌, true, false}
-use Rattle.std.specs.Prelude.{Ok, Err, codes, ℕ, Result}
+use Rattle.std.specs.Prelude.{Ok, codes, ℕ, Result}
 use mathlib.Core.Path.{refl}
 use Rattle.soy_base.specs.declared.code.Code.TheVariants as code
 use Rattle.soy_tree.specs.declared.expr.BinaryOp.TheVariants as op
 use Rattle.soy_tree.specs.Types.{SoyType, NullType, BoolType, IntType, StringType, HtmlType, ListType, MapType}
-use Rattle.soy_tree.specs.Expressions.{Expr, NullLiteral, BoolLiteral, Member, Index, Minus, Not, Binary, Coalesce, Conditional}
+use Rattle.soy_tree.specs.Expressions.{NullLiteral, BoolLiteral, Member, Index, Minus, Not, Binary, Coalesce, Conditional}
 use Rattle.soy_tree.specs.Faults.{TypeFault, fails}
-use Rattle.soy_tree.specs.TypeOf.{Scope, type_of}
+use Rattle.soy_tree.specs.TypeOf.{type_of}
 use Rattle.soy_tree.specs.Narrowing.{not_null, narrowed}
-use Rattle.soy_tree.proofs.Rows.{at, a, b, n, union, alone, none, one_field, two_fields, var, int, text, scope_of}
+use Rattle.soy_tree.proofs.Rows.{at, a, b, n, union, none, one_field, var, int, text, scope_of}
 
 abbrev failed : ℕ → List ℕ → List ℕ → Result SoyType TypeFault
 failed offset left right = fails code.Mistyped offset left right

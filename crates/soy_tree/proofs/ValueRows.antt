@@ -1,15 +1,14 @@
 -- Rows: values, truth and cost.
-use Rattle.std.proofs.Common.{◌≡◌, List, [], ◌∷◌, true, false, Bool, ℕ}
-use Rattle.std.specs.Prelude.{ℤ, pos, negsuc, codes}
+use Rattle.std.proofs.Common.{◌≡◌, [], ◌∷◌, true, false}
+use Rattle.std.specs.Prelude.{pos, negsuc, codes}
 use mathlib.Core.Path.{refl}
 use Rattle.soy_tree.specs.declared.expr.BinaryOp.{BinaryOp}
 use Rattle.soy_tree.specs.declared.expr.BinaryOp.TheVariants as op
-use Rattle.soy_tree.specs.Types.{Name}
-use Rattle.soy_tree.specs.Values.{Value, NullValue, BoolValue, IntValue, StringValue, ListValue, MapValue, RecordValue, no_item, item, no_entry, entry}
+use Rattle.soy_tree.specs.Values.{Value, NullValue, BoolValue, IntValue, StringValue, ListValue, MapValue, no_item, item, no_entry, entry}
 use Rattle.soy_tree.specs.Expressions.{Expr, NullLiteral, BoolLiteral, Member, Index, Minus, Not, Binary, Coalesce, Conditional}
-use Rattle.soy_tree.specs.Val.{Binding, Known, BlockOf, Env, val, is_truthy}
+use Rattle.soy_tree.specs.Val.{Binding, Known, BlockOf, Env, val}
 use Rattle.soy_tree.specs.Cost.{cost}
-use Rattle.soy_tree.proofs.Rows.{at, a, b, n, var, int, text}
+use Rattle.soy_tree.proofs.Rows.{at, a, b, var, int, text}
 
 -- an environment of one value, and one of one block
 abbrev bound : Value → Env (Unit {0})

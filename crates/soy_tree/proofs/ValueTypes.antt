@@ -1,6 +1,6 @@
 -- The value of an expression is of the type that the rules give.
-use Rattle.std.proofs.Common.{◌≡◌, ℕ, zero, suc, ◌+◌, ◌<◌, ◌≤◌, ◌-◌, min, Bool, true, false, ◌||◌, ◌&&◌, not, List, [], ◌∷◌, ◌++◌, filter, ◌⊎◌, arith}
-use Rattle.std.specs.Prelude.{if◌then◌else◌, ℤ, pos, negsuc, Option, Some, None, Result, Ok, Err, unwrap_or, bytes_eq, nat_le}
+use Rattle.std.proofs.Common.{◌≡◌, ℕ, zero, suc, Bool, true, false, ◌||◌, ◌&&◌, not, List, [], ◌∷◌, ◌++◌, filter, ◌⊎◌, arith}
+use Rattle.std.specs.Prelude.{if◌then◌else◌, ℤ, pos, negsuc, Option, Some, None, Result, Ok, Err, unwrap_or, bytes_eq}
 use Rattle.std.specs.List.{list_any}
 use Rattle.std.proofs.lemmas.Bool.{leb-true}
 use mathlib.Core.Path.{refl, sym, ap}
@@ -12,15 +12,15 @@ use Rattle.soy_tree.specs.Types.{Name, SoyType, Members, FieldTypes, NullType, B
 use Rattle.soy_tree.specs.Values.{Value, Items, Entries, NullValue, BoolValue, IntValue, StringValue, ListValue, MapValue, RecordValue, no_item, item, no_entry, entry}
 use Rattle.soy_tree.specs.Ints.{largest, nearest}
 use Rattle.soy_tree.specs.Expressions.{Expr, NullLiteral, BoolLiteral, IntLiteral, StringLiteral, Variable, Member, Index, Minus, Not, Binary, Coalesce, Conditional}
-use Rattle.soy_tree.specs.Members.{members_of, members, union_members, union_of, is_null_type, is_some_type, type_without_null, joined, has_null, has_block, is_block_member, is_same_type, is_simple}
-use Rattle.soy_tree.specs.Has.{Has, HasSome, HasFields, IsNull, IsBool, IsInt, IsString, IsListOf, IsMapOf, IsRecord, IsWithinRange, EachItem, EachEntry, IsThere, entry_value, field_value}
-use Rattle.soy_tree.specs.Faults.{TypeFault, and_then, found, mistyped, fails}
-use Rattle.soy_tree.specs.TypeOf.{Scope, variable_type, field_type, type_of, is_int, is_string, fitting, accessed_type, with_null_of, member_type, index_type, binary_type, sum_type, are_texts, is_divisor}
+use Rattle.soy_tree.specs.Members.{members_of, members, union_members, union_of, is_null_type, is_some_type, type_without_null, joined, has_null, has_block, is_block_member, is_simple}
+use Rattle.soy_tree.specs.Has.{Has, HasSome, HasFields, IsInt, IsString, IsListOf, IsMapOf, IsWithinRange, EachItem, EachEntry, IsThere, entry_value, field_value}
+use Rattle.soy_tree.specs.Faults.{TypeFault, and_then, found, mistyped}
+use Rattle.soy_tree.specs.TypeOf.{Scope, variable_type, field_type, type_of, is_int, is_string, fitting, accessed_type, with_null_of, member_type, index_type, binary_type, are_texts, is_divisor}
 use Rattle.soy_tree.specs.Formed.{is_formed_expr, is_formed_int}
 use Rattle.soy_tree.specs.Val.{Binding, Known, BlockOf, Env, binding, is_null_value, val, operand, member_value, index_value, item_value, negated, binary_value, int_result, sum_or_text, is_null, is_truthy}
 use Rattle.soy_tree.specs.Fits.{IsOf, Fits}
 use Rattle.soy_tree.proofs.SameTypes.{same_type, same_name, both}
-use Rattle.soy_tree.proofs.MembersHave.{null_or_narrowed, joined_left, joined_right, mapped}
+use Rattle.soy_tree.proofs.MembersHave.{null_no_record, null_or_narrowed, joined_left, joined_right, mapped}
 use Rattle.soy_tree.proofs.Accepting.{any_append}
 use Rattle.soy_tree.specs.TypeText.{type_text}
 use Rattle.soy_base.specs.Names.{is_name}
@@ -161,10 +161,6 @@ or_true_left false b e = let no : ⊥ = cc in absurd no
 pub or_true_right : (a b : Bool) → b ≡ true → (a || b) ≡ true
 or_true_right true b e = refl
 or_true_right false b e = e
-
-pub null_no_record : (fields : FieldTypes) → HasFields NullValue fields → ⊥
-null_no_record no_field h = h
-null_no_record (field name t fields) h = null_no_record fields h.1
 
 mutual
   pub null_among : (t : SoyType) → Has NullValue t → list_any is_null_type (members t) ≡ true

@@ -1,10 +1,10 @@
 -- A list of the code and the list that it stands for, from an index on.
-use Rattle.std.proofs.Common.{◌≡◌, ℕ, zero, suc, ◌+◌, ◌<◌, List, [], ◌∷◌, drop, length, slice_index_or, arith, Bool, ◌&&◌}
-use mathlib.Core.Path.{refl, sym, ap}
+use Rattle.std.proofs.Common.{◌≡◌, ℕ, zero, suc, ◌+◌, ◌<◌, List, [], ◌∷◌, drop, length, slice_index_or, arith, ◌&&◌}
+use mathlib.Core.Path.{refl}
 use Rattle.soy_tree.specs.declared.soy_type.Field as code_field
 use Rattle.soy_tree.specs.Types.{Name, SoyType, FieldTypes, field}
 use Rattle.soy_tree.specs.Accepts.{accepts_fields, has_field, each_member, accepts_member}
-use Rattle.soy_tree.specs.ViewTypes.{view_type, view_field, view_fields, type_layer, field_layer, fields_of}
+use Rattle.soy_tree.specs.ViewTypes.{view_type, view_field, view_fields, type_layer, field_layer}
 
 pub view_field-is : (f : code_field.Field) → view_field f ≡ (f.name, view_type f.of)
 view_field-is f = code_field.fold_out-Field SoyType (Name × SoyType) type_layer field_layer f

@@ -4,7 +4,7 @@
 -- a lower-case letter or a digit. A tag's is made from its name: START_ and END_ stand before those of start and end tags,
 -- but not before that of br, hr, img, input, wbr and of a tag that ends in `/>`.
 -- Example: `{$a.userName}` has USER_NAME, `<a href="/x">` START_LINK, `<br>` BREAK, and `<my-tag/>` MY_TAG.
-use Rattle.std.specs.Prelude.{ℕ, Bool, true, false, ◌&&◌, ◌||◌, ◌==◌, List, [], ◌∷◌, ◌++◌, map, reverse, Option, Some, None, if◌then◌else◌, bytes_eq, codes}
+use Rattle.std.specs.Prelude.{ℕ, Bool, false, ◌&&◌, ◌||◌, ◌==◌, List, [], ◌∷◌, ◌++◌, map, reverse, Option, Some, None, if◌then◌else◌, bytes_eq, codes}
 use Rattle.std.specs.List.{list_any}
 use Rattle.std.specs.Char.{is_ascii_alphabetic, is_ascii_digit, is_ascii_lowercase, is_ascii_uppercase, is_ascii_whitespace, to_ascii_lowercase, to_ascii_uppercase}
 use Rattle.soy_base.specs.Characters.{slash, greater_than, underscore}

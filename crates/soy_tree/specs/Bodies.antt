@@ -3,12 +3,11 @@
 -- params and its block demand. Each command is taken to the scope after it, or to the first fault: a variable of a let is
 -- visible up to the end of the block, arm, case or body that the let stands in.
 -- Example: `{let $x: 1 /}{$x}` adds `$x` of type int, and `{$x}{let $x: 1 /}` fails with 7 at `$x`.
-use Rattle.std.specs.Prelude.{ℕ, Bool, true, false, not, ◌&&◌, ◌||◌, List, [], ◌∷◌, map, Option, Some, None, Result, Ok, Err, is_some, if◌then◌else◌, bytes_eq}
-use Rattle.std.specs.List.{list_any}
+use Rattle.std.specs.Prelude.{Bool, true, false, ◌&&◌, List, [], ◌∷◌, Option, Some, None, Result, Ok, is_some, if◌then◌else◌, bytes_eq}
 use Rattle.soy_base.specs.declared.code.Code.TheVariants as code
 use Rattle.soy_base.specs.declared.fault.Span.{Span}
 use Rattle.soy_tree.specs.Types.{Name, SoyType, IntType, HtmlType, AttributesType, ListType}
-use Rattle.soy_tree.specs.Members.{is_same_type, members, is_simple}
+use Rattle.soy_tree.specs.Members.{members, is_simple}
 use Rattle.soy_tree.specs.Accepts.{accepts}
 use Rattle.soy_tree.specs.TypeText.{type_text}
 use Rattle.soy_tree.specs.Faults.{TypeFault, and_then, fails, mistyped}

@@ -4,15 +4,15 @@
 -- given twice goes before the faults of its type; those go from left to right, a union's own after those of its members.
 -- Every fault is at the `{` of its command, one inside a parameter's type at the `{` of the parameter's.
 -- Example: `{@param a: list<html>}` fails with 8, and `{@param a: html|null|null}` doesn't.
-use Rattle.std.specs.Prelude.{ℕ, ◌<◌, Bool, true, false, not, ◌&&◌, ◌||◌, nat_lt, List, [], ◌∷◌, filter, length, Option, Some, None, if◌then◌else◌, bytes_eq}
+use Rattle.std.specs.Prelude.{ℕ, Bool, true, false, not, ◌&&◌, nat_lt, List, [], ◌∷◌, filter, length, Option, Some, None, if◌then◌else◌, bytes_eq}
 use Rattle.std.specs.List.{list_any}
 use Rattle.std.specs.Option.{option_or}
 use Rattle.soy_base.specs.declared.code.Code.TheVariants as code
-use Rattle.soy_tree.specs.Types.{Name, SoyType, Members, FieldTypes, NullType, BoolType, IntType, StringType, HtmlType, AttributesType, ListType, MapType, RecordType, UnionType, no_member, member, no_field, field}
+use Rattle.soy_tree.specs.Types.{Name, SoyType, Members, FieldTypes, HtmlType, AttributesType, ListType, MapType, RecordType, UnionType, no_member, member, no_field, field}
 use Rattle.soy_tree.specs.Members.{members, is_some_type, has_block}
 use Rattle.soy_tree.specs.TypeText.{type_text}
 use Rattle.soy_tree.specs.Faults.{TypeFault}
-use Rattle.soy_tree.specs.Trees.{Param, Template}
+use Rattle.soy_tree.specs.Trees.{Param}
 use Rattle.soy_tree.specs.Templates.{Declared, full_name}
 
 abbrev pub is_among : Name → List Name → Bool

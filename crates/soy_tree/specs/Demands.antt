@@ -2,7 +2,7 @@
 -- There are two passes over all files, declarations and bodies, and the first fault of the first pass that has one counts.
 -- Example: where the first file's body has an unknown variable and the second file declares a parameter twice, the fault is
 -- the 6 of the second file.
-use Rattle.std.specs.Prelude.{ℕ, List, [], ◌∷◌, Option, Some, None, Result, Ok, Err, option_map}
+use Rattle.std.specs.Prelude.{ℕ, List, [], ◌∷◌, Option, Some, None, Ok, Err, option_map}
 use Rattle.std.specs.Option.{option_or}
 use Rattle.soy_tree.specs.Types.{Name}
 use Rattle.soy_tree.specs.Faults.{TypeFault}

@@ -9,7 +9,7 @@ use Rattle.std.specs.List.{list_all}
 use Rattle.std.specs.Char.{is_ascii_alphabetic, is_ascii_digit}
 use Rattle.soy_base.specs.Characters.{underscore, minus_sign}
 use Rattle.soy_base.specs.Names.{is_name, is_dotted_name}
-use Rattle.soy_tree.specs.Types.{Name, SoyType, Members, FieldTypes, NullType, ListType, MapType, RecordType, UnionType, no_member, member, no_field, field}
+use Rattle.soy_tree.specs.Types.{SoyType, Members, FieldTypes, ListType, MapType, RecordType, UnionType, no_member, member, no_field, field}
 use Rattle.soy_tree.specs.Ints.{largest}
 use Rattle.soy_tree.specs.Expressions.{Expr, IntLiteral, Variable, Member, Index, Minus, Not, Binary, Coalesce, Conditional}
 use Rattle.soy_tree.specs.Nodes.{Node, Nodes, Otherwise, Arms, Cases, Arguments, Given, Message, Fallback, MessageBody, PluralCases, SelectCases, TextNode, Print, If, Switch, For, Let, LetBlock, Call, MessageNode, no_node, node, no_otherwise, otherwise, no_arm, arm, no_case, case, no_argument, argument, Plain, Block, message, no_fallback, fallback, Parts, Plural, Select, no_plural_case, plural_case, no_select_case, select_case}

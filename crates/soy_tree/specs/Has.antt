@@ -4,7 +4,7 @@
 -- has for each field an entry of its name, the first of them of the field's type, and perhaps more entries. A union holds
 -- where one member does.
 -- Example: the record with `a` 1 and `b` null has the type `[b: int|null]`.
-use Rattle.std.specs.Prelude.{ℕ, ℤ, pos, negsuc, ◌≤◌, ◌<◌, ◌⊎◌, List, Option, Some, None, if◌then◌else◌, bytes_eq}
+use Rattle.std.specs.Prelude.{ℤ, pos, negsuc, ◌≤◌, ◌<◌, ◌⊎◌, Option, Some, None, if◌then◌else◌, bytes_eq}
 use Rattle.soy_tree.specs.Types.{Name, SoyType, Members, FieldTypes, NullType, BoolType, IntType, StringType, HtmlType, AttributesType, ListType, MapType, RecordType, UnionType, no_member, member, no_field, field}
 use Rattle.soy_tree.specs.Values.{Value, Items, Entries, NullValue, BoolValue, IntValue, StringValue, ListValue, MapValue, RecordValue, no_item, item, no_entry, entry}
 use Rattle.soy_tree.specs.Ints.{largest}

@@ -3,9 +3,9 @@
 -- in a union; the members of such a one are members.) Two types are joined into
 -- the union of the left one's members and then those of the right one that aren't yet among them.
 -- Example: `int|null` without null is `int`; `int|null` joined with `string|null` is `int|null|string`.
-use Rattle.std.specs.Prelude.{Bool, true, false, not, ◌&&◌, ◌||◌, List, [], ◌∷◌, ◌++◌, filter, if◌then◌else◌, bytes_eq}
+use Rattle.std.specs.Prelude.{Bool, true, false, not, ◌&&◌, List, [], ◌∷◌, ◌++◌, filter, if◌then◌else◌, bytes_eq}
 use Rattle.std.specs.List.{list_any, list_all}
-use Rattle.soy_tree.specs.Types.{Name, SoyType, Members, FieldTypes, NullType, BoolType, IntType, StringType, HtmlType, AttributesType, ListType, MapType, RecordType, UnionType, no_member, member, no_field, field}
+use Rattle.soy_tree.specs.Types.{SoyType, Members, FieldTypes, NullType, BoolType, IntType, StringType, HtmlType, AttributesType, ListType, MapType, RecordType, UnionType, no_member, member, no_field, field}
 
 abbrev mutual
   pub members : SoyType → List SoyType

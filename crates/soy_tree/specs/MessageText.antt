@@ -2,7 +2,7 @@
 -- A tag begins at `<` followed by a letter, or by `/` and a letter, and ends at the first `>` outside quotes. It holds text
 -- and prints. Any `"` or `'` in its text opens a quote, which goes to the next one of its kind, also past prints.
 -- Example: `a<b title="{$x}>">c` is the text `a`, a tag of text, a print and text, and the text `c`.
-use Rattle.std.specs.Prelude.{ℕ, Bool, true, false, ◌&&◌, ◌||◌, ◌==◌, List, [], ◌∷◌, ◌++◌, map, Option, Some, None, option_map, if◌then◌else◌}
+use Rattle.std.specs.Prelude.{ℕ, Bool, false, ◌&&◌, ◌||◌, ◌==◌, List, [], ◌∷◌, ◌++◌, Option, Some, None, option_map, if◌then◌else◌}
 use Rattle.std.specs.Char.{is_ascii_alphabetic}
 use Rattle.soy_base.specs.Characters.{less_than, greater_than, slash, double_quote, single_quote}
 use Rattle.soy_base.specs.declared.fault.Span.{Span}

@@ -3,15 +3,14 @@
 -- content of a base name has the base name as its name. Several have `_1`, `_2` and so on, in order of first appearance; a
 -- number is passed over where the name so made is another base name of the message.
 -- Example: a message with two contents of the base name NAME and one of NAME_1 has the names NAME_2, NAME_3 and NAME_1.
-use Rattle.std.specs.Prelude.{ℕ, zero, suc, ◌+◌, Bool, true, false, ◌&&◌, ◌==◌, List, [], ◌∷◌, ◌++◌, filter, length, Option, Some, None, if◌then◌else◌, bytes_eq}
+use Rattle.std.specs.Prelude.{ℕ, zero, suc, ◌+◌, Bool, true, false, ◌&&◌, ◌==◌, List, [], ◌∷◌, ◌++◌, length, Option, Some, None, if◌then◌else◌, bytes_eq}
 use Rattle.std.specs.List.{list_any}
 use Rattle.std.specs.Fmt.{decimal}
 use Rattle.soy_base.specs.Characters.{underscore}
-use Rattle.soy_base.specs.declared.fault.Span.{Span}
 use Rattle.soy_tree.specs.Types.{Name}
 use Rattle.soy_tree.specs.Expressions.{Expr}
 use Rattle.soy_tree.specs.SameExpression.{is_same_expr}
-use Rattle.soy_tree.specs.Nodes.{Nodes, MessageBody, PluralCases, SelectCases, Parts, Plural, Select, no_plural_case, plural_case, no_select_case, select_case}
+use Rattle.soy_tree.specs.Nodes.{MessageBody, PluralCases, SelectCases, Parts, Plural, Select, no_plural_case, plural_case, no_select_case, select_case}
 use Rattle.soy_tree.specs.MessageText.{Piece, Character, Printed, Cut, TextCut, PrintCut, TagCut, pieces_of, cuts_of}
 use Rattle.soy_tree.specs.BaseNames.{base_of_expr, base_of_print, base_of_tag}
 

@@ -2,7 +2,7 @@
 -- A template's full name is its namespace, a `.` and its name. In a call a name without an inner dot means the caller's
 -- namespace, and one with an inner dot is a full name. A private template is seen from its own namespace alone.
 -- Example: in the namespace `a.b` the call of `c` means `a.b.c`.
-use Rattle.std.specs.Prelude.{ℕ, ◌+◌, Bool, true, false, not, ◌||◌, ◌==◌, List, [], ◌∷◌, ◌++◌, Option, Some, None, map, if◌then◌else◌, bytes_eq, codes}
+use Rattle.std.specs.Prelude.{ℕ, ◌+◌, Bool, not, ◌||◌, ◌==◌, List, [], ◌∷◌, ◌++◌, Option, Some, None, map, if◌then◌else◌, bytes_eq}
 use Rattle.std.specs.List.{list_any}
 use Rattle.soy_base.specs.Characters.{full_stop}
 use Rattle.soy_base.specs.declared.kind.Kind.{Kind}

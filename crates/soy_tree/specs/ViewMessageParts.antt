@@ -6,7 +6,6 @@ use Rattle.soy_tree.specs.declared.bundle.ExactArm as code_exact
 use Rattle.soy_tree.specs.declared.bundle.NamedArm as code_named
 use Rattle.soy_tree.specs.declared.bundle.SelectArm as code_select
 use Rattle.soy_tree.specs.declared.bundle.MsgPart.TheOpen.{MsgPart-F, ExactArm-F, NamedArm-F, PluralPart-F, SelectArm-F, SelectPart-F}
-use Rattle.soy_tree.specs.Types.{Name}
 use Rattle.soy_tree.specs.MessageParts.{MsgPart, MsgParts, ExactArms, NamedArms, SelectArms, TextPart, Placeholder, NumberPart, PluralPart, SelectPart, no_part, part, no_exact_arm, exact_arm, no_named_arm, named_arm, no_select_arm, select_arm}
 
 abbrev pub parts_of : List MsgPart → MsgParts

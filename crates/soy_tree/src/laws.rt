@@ -21,9 +21,10 @@ pub fn law_accepts_by_members()
         ≡ list_any (λ t. accepts_member t from) (members to) }
 {}
 
-/// A value is of a type where it is null and the type has null, or where it is of the type without null.
+/// The type without null is without null, and has every other value of the type and no more.
 pub fn law_narrow()
     ensures null_or_narrowed { (v : Value) (t : SoyType) → Has v t → (v ≡ NullValue) ⊎ Has v (type_without_null t) }
+    ensures null_gone { (t : SoyType) → Has NullValue (type_without_null t) → ⊥ }
     ensures nothing_else { (v : Value) (t : SoyType) → Has v (type_without_null t) → Has v t }
 {}
 

@@ -1,9 +1,9 @@
 //! Typed trees.
 
-ghost use Rattle.std.specs.Prelude.{◌≡◌};
-ghost use Rattle.soy_tree.specs.Typed.{AreTyped};
+ghost use Rattle.std.specs.Prelude.{◌≡◌, option_map, slice_get};
+ghost use Rattle.soy_tree.specs.Typed.{AreTyped, params_at, templates_of};
 
-use crate::Tree;
+use crate::{Param, Template, Tree};
 use soy_base::Seq;
 use std::marker::Model;
 
@@ -47,4 +47,32 @@ impl Typed {
     {
         self.trees.items()
     }
+
+    /// The parameters of the template of a number, templates being counted by first appearance. Takes no memory.
+    pub fn params(&self, template: usize) -> &[Param]
+        ensures { result.now ≡ params_at template (templates_of self.now) }
+    {
+        params_in(self.trees.items(), template)
+    }
+}
+
+/// The parameters of the template of a number among those of the trees.
+fn params_in(trees: &[Tree], template: usize) -> &[Param]
+    ensures { result.now ≡ params_at template (templates_of trees.now) }
+{
+    let mut left = template;
+    for tree in trees {
+        let templates = tree.templates.items();
+        if let Some(found) = template_at(templates, left) {
+            return found.params.items();
+        }
+        left -= templates.len();
+    }
+    &[]
+}
+
+fn template_at(templates: &[Template], number: usize) -> Option<&Template>
+    ensures { option_map (λ t. t.now) result ≡ slice_get templates.now number }
+{
+    templates.get(number)
 }

@@ -1,4 +1,4 @@
-use Rattle.std.proofs.Common.{rules, ◌≡◌}
+use Rattle.std.proofs.Common.{rules}
 use Rattle.soy_tree.proofs.Views.{accepts_fields-drop}
 use Rattle.soy_tree.proofs.acceptance.+accepting.Goals as goal
 
