@@ -10,3 +10,4 @@ mod Rows
 mod AcceptRows
 mod TypeRows
 mod ValueRows
+mod BodyRows

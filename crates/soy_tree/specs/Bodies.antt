@@ -32,10 +32,11 @@ Checked = Result Scope TypeFault
 abbrev pub new_variable : Name → Span → Scope → Checked
 new_variable name span scope = if is_some (variable_type name scope) then fails code.Twice span.start name [] else Ok scope
 
--- the variables of a loop
+-- the variables of a loop, two names that aren't visible yet; outside its body they stay so
 abbrev pub new_variables : Name → Option Name → Span → Scope → Checked
 new_variables name None span scope = new_variable name span scope
-new_variables name (Some index) span scope = and_then (new_variable name span scope) (λ s. new_variable index span ((name, IntType) ∷ s))
+new_variables name (Some index) span scope =
+    and_then (new_variable name span scope) (λ s. and_then (new_variable index span ((name, IntType) ∷ s)) (λ inner. Ok s))
 
 abbrev pub has_member : List SoyType → Bool
 has_member [] = false
