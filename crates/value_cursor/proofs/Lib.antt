@@ -1,0 +1,13 @@
+mod Closed
+mod Enclosed
+mod Forms
+mod Givings
+mod LeftOut
+mod LenSoFar
+mod Marked
+mod PlainRuns
+mod Rooms
+mod RunSoFar
+mod SchemeSearch
+mod Schemes
+mod Wrapped

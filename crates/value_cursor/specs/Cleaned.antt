@@ -1,0 +1,39 @@
+-- What is cleaned of a text, character by character: an isolate control may be left out, by the byte offset at which it
+-- stands, and a separator of paragraphs or segments becomes a space.
+--
+-- A text that isn't wrapped stays as it is. Of a wrapped text without an isolate initiator every isolate control is left
+-- out, since none is in a pair; of another, those at the marked offsets (UAX #9, BD9). Of `a`, U+2069 the character at
+-- the offset 1 is left out.
+use Rattle.std.specs.Prelude.{◌≡◌, ℕ, Bool, true, false, IsTrue, ◌&&◌, ◌==◌, List, Option, None, Some, if◌then◌else◌}
+use Rattle.std.specs.List.{list_any}
+use Rattle.std.specs.List.Sorted.{IsStrictlyIncreasing}
+use Rattle.bidi_class.specs.Pairs.{is_initiator}
+use Rattle.bidi_text.specs.Clean.{dropped_bytes, is_isolate_control, spaced}
+use Rattle.value_cursor.specs.declared.cleaning.Cleaning.{Cleaning}
+use Rattle.value_cursor.specs.declared.cleaning.Cleaning.TheVariants as cleaning
+
+-- an isolate control at this offset is left out
+abbrev pub is_left_out : Cleaning → ℕ → Bool
+is_left_out cleaning.Nothing offset = false
+is_left_out cleaning.Unpaired offset = true
+is_left_out (cleaning.Marked marks) offset = list_any (λ place. place == offset) marks.places
+
+abbrev pub cleaned_or_none : Bool → ℕ → Option ℕ
+cleaned_or_none leaves_out c = if is_isolate_control c && leaves_out then None else Some (spaced c)
+
+-- what becomes of the character at an offset
+abbrev pub cleaned : Cleaning → ℕ → ℕ → Option ℕ
+cleaned cleaning.Nothing offset c = Some c
+cleaned cleaning.Unpaired offset c = cleaned_or_none true c
+cleaned (cleaning.Marked marks) offset c = cleaned_or_none (is_left_out (cleaning.Marked marks) offset) c
+
+-- the marked offsets ascend
+abbrev pub Ascends : Cleaning → Type 0
+Ascends (cleaning.Marked marks) = IsStrictlyIncreasing marks.places
+Ascends _ = Unit {0}
+
+-- it is what is cleaned of this text where it is wrapped
+abbrev pub Cleans : Cleaning → List ℕ → Type 0
+Cleans cleaning.Nothing text = IsTrue false
+Cleans cleaning.Unpaired text = list_any is_initiator text ≡ false
+Cleans (cleaning.Marked marks) text = marks.places ≡ dropped_bytes text

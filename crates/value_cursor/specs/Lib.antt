@@ -1,0 +1,5 @@
+pub mod Cleaned
+pub mod BytesLeft
+pub mod EscapedForm
+pub mod Gives
+pub mod Joined

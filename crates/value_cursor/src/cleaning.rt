@@ -1,0 +1,84 @@
+//! What is cleaned of a text's characters before they are escaped.
+ghost use Rattle.std.specs.Prelude.{◌≡◌, not, OnErr, IfOk, IsTrue, ◌&&◌};
+ghost use Rattle.std.specs.List.{list_any};
+ghost use Rattle.std.specs.Str.{chars};
+ghost use Rattle.bidi_class.specs.Class.{bidi_class};
+ghost use Rattle.bidi_class.specs.Pairs.{is_initiator};
+ghost use Rattle.bidi_text.specs.Clean.{is_isolate_control, is_separator};
+ghost use Rattle.value_cursor.specs.Cleaned.{Ascends, cleaned, is_left_out, Cleans};
+
+use bidi_class::{Class, class_of, is_initiator};
+use bidi_text::{Marks, marks};
+use soy_base::OutOfMemory;
+use std::alloc::Global;
+
+/// What is cleaned of a text.
+#[derive(Debug, Drop)]
+pub(crate) enum Cleaning {
+    /// Nothing.
+    Nothing,
+    /// Every isolate control is left out, since no pair has one, and separators become spaces.
+    Unpaired,
+    /// The isolate controls at these offsets are left out, and separators become spaces.
+    Marked(Marks),
+}
+
+impl Cleaning {
+    /// What is cleaned of a text that is wrapped. Takes memory only where the text has an isolate initiator.
+    pub(crate) fn of(alloc: Global, text: &str) -> Result<Cleaning, OutOfMemory>
+        ensures cleans { IfOk result (λ cleaning. Cleans cleaning (chars text.now)) }
+        ensures ascending { IfOk result Ascends }
+        ensures memory { OnErr result (IsTrue (list_any is_initiator (chars text.now))) }
+    {
+        if !has_initiator(text) {
+            return Ok(Cleaning::Unpaired);
+        }
+        let found = marks(alloc, text)?;
+        Ok(Cleaning::Marked(found))
+    }
+
+    /// What becomes of the character at an offset of the text; none where it is left out.
+    pub(crate) fn cleaned(&self, offset: usize, c: char) -> Option<char>
+        requires { Ascends self.now }
+        ensures { result ≡ cleaned self.now offset c }
+    {
+        match self {
+            Cleaning::Nothing => Some(c),
+            Cleaning::Unpaired | Cleaning::Marked(_) => match class_of(c) {
+                Class::B | Class::S => Some(' '),
+                Class::LRI | Class::RLI | Class::FSI | Class::PDI if self.leaves_out(offset) =>
+                    None,
+                _ => Some(c),
+            },
+        }
+    }
+
+    /// Whether an isolate control at this offset is left out.
+    fn leaves_out(&self, offset: usize) -> bool
+        requires { Ascends self.now }
+        ensures { result ≡ is_left_out self.now offset }
+    {
+        match self {
+            Cleaning::Nothing => false,
+            Cleaning::Unpaired => true,
+            Cleaning::Marked(marks) => marks.places.items().binary_search(&(offset as u64)).is_ok(),
+        }
+    }
+}
+
+/// Whether the text has an isolate initiator.
+fn has_initiator(text: &str) -> bool
+    ensures { result ≡ list_any is_initiator (chars text.now) }
+{
+    text.chars().any(|c| is_initiator(c))
+}
+
+/// Whether no cleaning changes the character or leaves it out.
+pub(crate) fn is_clean(c: char) -> bool
+    ensures { result ≡ (not (is_isolate_control c) && not (is_separator (bidi_class c))) }
+{
+    !matches!(
+        class_of(c),
+        Class::B | Class::S | Class::LRI | Class::RLI | Class::FSI | Class::PDI
+    )
+}

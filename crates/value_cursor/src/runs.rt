@@ -1,0 +1,41 @@
+//! Runs of characters that stand for themselves.
+ghost use Rattle.std.specs.Prelude.{◌≡◌, ◌≤◌, ◌++◌, ℕ, List, length};
+ghost use Rattle.std.specs.Str.{chars, IsUtf8};
+ghost use Rattle.value_cursor.specs.BytesLeft.{forms, IsPlan};
+
+use crate::cleaning::{Cleaning, is_clean};
+use crate::plan::Plan;
+use escapers::plain_prefix;
+use soy_base::split_while;
+
+/// How far ahead a text that is cleaned is searched for a character that doesn't stand for itself. It is searched twice,
+/// for what is escaped and for what is cleaned, and the one may stand far behind the other.
+const WINDOW: usize = 128;
+
+/// A prefix of the text whose characters stand for themselves, and the rest.
+pub(crate) fn plain_run<'a>(plan: &Plan, text: &'a str) -> (&'a str, &'a str)
+    requires { IsPlan plan.now }
+    ensures whole { text.now ≡ result.0.now ++ result.1.now }
+    ensures run_utf8 { IsUtf8 result.0.now }
+    ensures rest_utf8 { IsUtf8 result.1.now }
+    ensures plain { (offset : ℕ) → forms plan.now offset (chars result.0.now) ≡ chars result.0.now }
+{
+    match plan.cleaning {
+        Cleaning::Nothing => plain_prefix(plan.how, text),
+        Cleaning::Unpaired | Cleaning::Marked(_) => {
+            let (plain, _) = plain_prefix(plan.how, clipped(text, WINDOW));
+            let (_, others) = split_while(plain, is_clean);
+            text.split_at(plain.len() - others.len())
+        }
+    }
+}
+
+/// The longest prefix of whole characters of a text in so many bytes.
+pub(crate) fn clipped(text: &str, limit: usize) -> &str
+    ensures prefix { (rest : List ℕ) × (text.now ≡ result.now ++ rest) × IsUtf8 rest }
+    ensures utf8 { IsUtf8 result.now }
+    ensures within { length result.now ≤ limit }
+{
+    let (prefix, _) = text.split_at(text.floor_char_boundary(limit));
+    prefix
+}
