@@ -1,6 +1,6 @@
 -- What a cursor still has to give of a text's escaped form, in bytes: what is pending, then the forms of the characters
--- from its offset on, each cleaned and escaped, then what closes the form. The characters are the text's own, or those of
--- another text that stands instead of it.
+-- from its offset on, each cleaned and escaped, then what closes the form. The characters are the text's own, or those
+-- of another text that stands instead of it.
 --
 -- A cursor by Html at the offset 1 of `a<b`, with nothing pending, has `&lt;b` left.
 use Rattle.std.specs.Prelude.{◌≡◌, ℕ, ◌+◌, ◌≤◌, List, [], ◌∷◌, ◌++◌, length, drop, IsTrue, encode_utf8_all}

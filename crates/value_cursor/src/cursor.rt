@@ -1,5 +1,6 @@
 //! Cursors: what they stand for, and the calls on them.
-ghost use Rattle.std.specs.Prelude.{◌≡◌, ◌≢◌, ◌≤◌, ◌<◌, ◌++◌, ℕ, List, [], Some, length, take, drop, min, IfOk, OnErr, IsTrue, option_map, encode_utf8_all};
+ghost use Rattle.std.specs.Prelude.{◌≡◌, ◌≢◌, ◌≤◌, ◌<◌, ◌++◌, ℕ, List, [], Some, length, take, drop, min};
+ghost use Rattle.std.specs.Prelude.{IfOk, OnErr, IsTrue, option_map, encode_utf8_all};
 ghost use Rattle.std.specs.List.{flat_map, list_any};
 ghost use Rattle.std.specs.Str.{chars, IsCharBoundary};
 ghost use Rattle.bidi_class.specs.Pairs.{is_initiator};
@@ -50,7 +51,8 @@ impl Cursor {
         requires of_class { IsEscaperOf how class }
         ensures fits { IfOk result (λ cursor. Fits cursor text.now) }
         ensures whole { IfOk result (λ cursor.
-            option_map encode_utf8_all (escaped_form how class (chars text.now) context) ≡ Some (bytes_left cursor text.now)) }
+            option_map encode_utf8_all (escaped_form how class (chars text.now) context)
+            ≡ Some (bytes_left cursor text.now)) }
         ensures initiator { OnErr result (IsTrue (list_any is_initiator (chars text.now))) }
         ensures wrapped { OnErr result (how ≡ Escaper.Wrap) }
     {
@@ -122,7 +124,8 @@ impl Cursor {
         requires not_wrapped { how ≢ Escaper.Wrap }
         requires not_as_is { how ≢ Escaper.AsIs }
         ensures fits { Fits result text.now }
-        ensures whole { option_map encode_utf8_all (esc how class (chars text.now)) ≡ Some (bytes_left result text.now) }
+        ensures whole { option_map encode_utf8_all (esc how class (chars text.now))
+            ≡ Some (bytes_left result text.now) }
     {
         match how {
             Escaper::UriStart if may_start_uri(text) => Cursor::by_characters(
@@ -140,7 +143,8 @@ impl Cursor {
     fn by_characters(how: Escaper, text: &str) -> Cursor
         requires { IsTrue (is_by_characters how) }
         ensures fits { Fits result text.now }
-        ensures whole { bytes_left result text.now ≡ encode_utf8_all (flat_map (escaped_character how) (chars text.now)) }
+        ensures whole { bytes_left result text.now
+            ≡ encode_utf8_all (flat_map (escaped_character how) (chars text.now)) }
     {
         Cursor::enclosed(Plan::escaping(how), "", "", text)
     }
@@ -194,7 +198,8 @@ impl Cursor {
         requires opening { length opening.now ≤ 16 }
         requires closing { length closing.now ≤ 16 }
         ensures fits { Fits result text.now }
-        ensures whole { bytes_left result text.now ≡ (opening.now ++ bytes_from plan (source plan text.now) 0) ++ closing.now }
+        ensures whole { bytes_left result text.now
+            ≡ (opening.now ++ bytes_from plan (source plan text.now) 0) ++ closing.now }
     {
         let len = plan.len(plan.source(text));
         let mut pending = Tail::empty();

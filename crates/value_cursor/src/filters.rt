@@ -3,7 +3,8 @@ ghost use Rattle.std.specs.Prelude.{◌≡◌, IsTrue};
 ghost use Rattle.std.specs.List.{list_all, list_any};
 ghost use Rattle.std.specs.Str.{chars};
 ghost use Rattle.escapers.specs.CssValue.{is_css_value, is_value_character};
-ghost use Rattle.escapers.specs.UriStart.{begins_in_any_case, ends_scheme, has_allowed_scheme, has_scheme, is_scheme_character, may_start_uri};
+ghost use Rattle.escapers.specs.UriStart.{begins_in_any_case, ends_scheme, has_allowed_scheme};
+ghost use Rattle.escapers.specs.UriStart.{has_scheme, is_scheme_character, may_start_uri};
 
 use soy_base::cut_at;
 

@@ -23,7 +23,8 @@ impl Progress {
     pub(crate) fn run(&mut self, plan: &Plan, source: &str, room: &mut [u8]) -> usize
         requires plan { IsPlan plan.now }
         requires boundary { IsCharBoundary source.now self.old.offset }
-        ensures gives { Gives (bytes_after plan.now source.now self.old) (bytes_after plan.now source.now self.new) room.old room.new result }
+        ensures gives { Gives (bytes_after plan.now source.now self.old) (bytes_after plan.now source.now self.new)
+            room.old room.new result }
         ensures boundary { IsCharBoundary source.now self.new.offset }
         ensures finished { result < length room.old → (self.new.pending ≡ []) × (self.new.offset ≡ length source.now) }
     {
@@ -40,7 +41,8 @@ impl Progress {
         requires boundary { IsCharBoundary source.now self.old.offset }
         requires none_pending { self.old.pending ≡ [] }
         requires more { self.old.offset < length source.now }
-        ensures gives { Gives (bytes_after plan.now source.now self.old) (bytes_after plan.now source.now self.new) room.old room.new result }
+        ensures gives { Gives (bytes_after plan.now source.now self.old) (bytes_after plan.now source.now self.new)
+            room.old room.new result }
         ensures boundary { IsCharBoundary source.now self.new.offset }
         ensures further { self.old.offset < self.new.offset }
         ensures full { result < length room.old → self.new.pending ≡ [] }
@@ -54,7 +56,8 @@ impl Progress {
         requires plan { IsPlan plan.now }
         requires boundary { IsCharBoundary source.now self.old.offset }
         requires none_pending { self.old.pending ≡ [] }
-        ensures gives { Gives (bytes_after plan.now source.now self.old) (bytes_after plan.now source.now self.new) room.old room.new result }
+        ensures gives { Gives (bytes_after plan.now source.now self.old) (bytes_after plan.now source.now self.new)
+            room.old room.new result }
         ensures boundary { IsCharBoundary source.now self.new.offset }
         ensures none_pending { self.new.pending ≡ [] }
         ensures later { self.old.offset ≤ self.new.offset }

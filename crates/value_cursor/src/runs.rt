@@ -8,8 +8,8 @@ use crate::plan::Plan;
 use escapers::plain_prefix;
 use soy_base::split_while;
 
-/// How far ahead a text that is cleaned is searched for a character that doesn't stand for itself. It is searched twice,
-/// for what is escaped and for what is cleaned, and the one may stand far behind the other.
+/// How far ahead a text that is cleaned is searched for a character that doesn't stand for itself. It is searched
+/// twice, for what is escaped and for what is cleaned, and the one may stand far behind the other.
 const WINDOW: usize = 128;
 
 /// A prefix of the text whose characters stand for themselves, and the rest.

@@ -1,11 +1,14 @@
 //! Escaped forms given into rooms of many sizes.
+ghost use Rattle.value_cursor.specs.BytesLeft.{Fits};
+
 use super::*;
 use escapers::{Escaper, escaper_for};
 use soy_base::{Dir, Place, ValueClass};
 use std::alloc::Global;
 use std::test::Fail;
 
-// Texts that have every row of the escaper, the characters next to it and characters of two to four bytes, with their forms.
+// Texts that have every row of the escaper, the characters next to it and characters of two to four bytes, and their
+// forms.
 const HTML: &[(&str, &str)] = &[
     (
         "\0\u{1}\u{c}\r\u{e}!\"#%&'(;<=>?",
@@ -143,7 +146,22 @@ const ESCAPED: &[(Place, ValueClass, &[(&str, &str)])] = &[
 
 const SIZES: &[usize] = &[1, 2, 3, 7, 4096];
 
-// Whether the form of a value is given as wanted into rooms of so many bytes, with the right number of bytes left before each.
+// Whether a cursor gives just these bytes, room by room, and says before each how many are left.
+fn gives_just(cursor: &mut Cursor, text: &str, want: &[u8], room: &mut [u8]) -> bool
+    requires { Fits cursor.old text.now }
+{
+    if cursor.left() != want.len() as u128 {
+        return false;
+    }
+    let count = cursor.fill(text, room);
+    if count == 0 || count > want.len() {
+        return want.is_empty();
+    }
+    let (first, others) = want.split_at(count);
+    room.starts_with(first) && gives_just(cursor, text, others, room)
+}
+
+// Whether the form of a value is given as wanted into rooms of so many bytes.
 fn gives(
     alloc: Global,
     place: Place,
@@ -156,19 +174,16 @@ fn gives(
     let Some(how) = escaper_for(place, class) else {
         return Ok(false);
     };
-    if size > 4096 || how == Escaper::AsIs {
+    if size > 4096 {
         return Ok(false);
     }
-    let mut cursor = Cursor::begin(alloc, how, class, text, Dir::Ltr)?;
-    let mut given = Vec::new(alloc);
-    for _ in 0..=want.len() {
-        if cursor.left() != want.len().saturating_sub(given.len()) as u128 {
-            return Ok(false);
+    match how {
+        Escaper::AsIs => Ok(false),
+        _ => {
+            let mut cursor = Cursor::begin(alloc, how, class, text, Dir::Ltr)?;
+            Ok(gives_just(&mut cursor, text, want.as_bytes(), &mut room[..size]))
         }
-        let count = cursor.fill(text, &mut room[..size]);
-        given.extend_from_slice(&room[..count])?;
     }
-    Ok(given.as_slice() == want.as_bytes())
 }
 
 #[test]
@@ -187,17 +202,19 @@ fn forms_in_rooms(rt: HostRuntime) -> Result<(), Fail> {
 // The wrapped value `<i>`, piece by piece; what stands in a room behind the bytes that it is given stays.
 #[test]
 fn cursor_in_pieces(rt: HostRuntime) -> Result<(), Fail> {
-    let mut room = [b'.'; 100];
+    let mut first = [b'.'; 17];
+    let mut second = [b'.'; 2];
+    let mut third = [b'.'; 100];
     let mut cursor = Cursor::begin(rt.alloc(), Escaper::Wrap, ValueClass::Text, "<i>", Dir::Ltr)?;
     assert_eq!(rt; cursor.left(), 32);
-    assert_eq!(rt; cursor.fill("<i>", &mut room[..17]), 17);
-    assert_eq!(rt; &room[..18], b"<span dir=\"ltr\">&.");
-    assert_eq!(rt; cursor.fill("<i>", &mut room[..2]), 2);
-    assert_eq!(rt; &room[..3], b"ltp");
+    assert_eq!(rt; cursor.fill("<i>", &mut first), 17);
+    assert_eq!(rt; first.as_slice(), b"<span dir=\"ltr\">&".as_slice());
+    assert_eq!(rt; cursor.fill("<i>", &mut second), 2);
+    assert_eq!(rt; second.as_slice(), b"lt".as_slice());
     assert_eq!(rt; cursor.left(), 13);
-    assert_eq!(rt; cursor.fill("<i>", &mut room), 13);
-    assert_eq!(rt; &room[..19], b";i&gt;</span>ltr\">&");
+    assert_eq!(rt; cursor.fill("<i>", &mut third), 13);
+    assert!(rt; third.as_slice().starts_with(b";i&gt;</span>...".as_slice()));
     assert_eq!(rt; cursor.left(), 0);
-    assert_eq!(rt; cursor.fill("<i>", &mut room), 0);
+    assert_eq!(rt; cursor.fill("<i>", &mut third), 0);
     Ok(())
 }
