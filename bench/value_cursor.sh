@@ -160,4 +160,12 @@ fn main(rt: HostRuntime) -> io::Result<()> {
 }
 PROGRAM
 
+mkdir -p "$work/crates/bench_value_cursor/proofs/+fill_all"
+cat >"$work/crates/bench_value_cursor/proofs/+fill_all/Invariants.antt" <<'PROOF'
+use Rattle.bench_value_cursor.proofs.+fill_all.Given as goal
+
+abbrev pub decreases-fill_all : goal.decreases-fill_all
+decreases-fill_all l = l.calls
+PROOF
+
 measure bench_value_cursor
