@@ -1,0 +1,13 @@
+pub mod Types
+pub mod Values
+pub mod Expressions
+pub mod Nodes
+pub mod Trees
+pub mod MessageParts
+pub mod ViewTypes
+pub mod ViewValues
+pub mod ViewExpressions
+pub mod ViewNodes
+pub mod ViewTrees
+pub mod ViewMessageParts
+pub mod Accepts

@@ -1,6 +1,7 @@
 //! The types that parser, checker, meaning, compiler and renderer share.
 #![tactic(auto)]
 
+mod acceptance;
 mod bundle;
 mod expr;
 mod node;
@@ -8,6 +9,7 @@ mod soy_type;
 mod tree;
 mod value;
 
+pub use acceptance::accepts;
 pub use bundle::{
     Bundle, ExactArm, MsgPart, NamedArm, PluralPart, SelectArm, SelectPart, Translation,
 };
