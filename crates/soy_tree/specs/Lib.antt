@@ -4,6 +4,7 @@ pub mod Expressions
 pub mod Nodes
 pub mod Trees
 pub mod MessageParts
+pub mod Members
 pub mod ViewTypes
 pub mod ViewValues
 pub mod ViewExpressions
@@ -11,3 +12,10 @@ pub mod ViewNodes
 pub mod ViewTrees
 pub mod ViewMessageParts
 pub mod Accepts
+pub mod TypeText
+pub mod Ints
+pub mod Has
+pub mod TypeOf
+pub mod Val
+pub mod Cost
+pub mod Narrowing

@@ -4,10 +4,7 @@ use Rattle.soy_tree.specs.declared.soy_type.SoyType as code
 use Rattle.soy_tree.specs.declared.soy_type.Field as code_field
 use Rattle.soy_tree.specs.declared.soy_type.SoyType.TheOpen.{SoyType-F, Field-F}
 use Rattle.soy_tree.specs.Types.{Name, SoyType, Members, FieldTypes, NullType, BoolType, IntType, StringType, HtmlType, AttributesType, ListType, MapType, RecordType, UnionType, no_member, member, no_field, field}
-
-abbrev pub members_of : List SoyType → Members
-members_of [] = no_member
-members_of (t ∷ ts) = member t (members_of ts)
+use Rattle.soy_tree.specs.Members.{members_of}
 
 abbrev pub fields_of : List (Name × SoyType) → FieldTypes
 fields_of [] = no_field

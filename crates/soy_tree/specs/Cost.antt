@@ -1,0 +1,28 @@
+-- The number of nodes that are valued for the value of an expression.
+-- `and`, `or`, `?:` and `c ? a : b` value a later operand only where its value is needed.
+-- Example: `$a and $b` costs 2 where `$a` is falsy, and else 3.
+use Rattle.std.specs.Prelude.{ℕ, ◌+◌, Bool, if◌then◌else◌}
+use Rattle.soy_tree.specs.declared.expr.BinaryOp.{BinaryOp}
+use Rattle.soy_tree.specs.declared.expr.BinaryOp.TheVariants as op
+use Rattle.soy_tree.specs.Expressions.{Expr, NullLiteral, BoolLiteral, IntLiteral, StringLiteral, Variable, Member, Index, Minus, Not, Binary, Coalesce, Conditional}
+use Rattle.soy_tree.specs.Val.{Env, val, is_truthy, is_null}
+
+-- what the right operand costs, by the truth of the left one
+abbrev pub right_cost : BinaryOp → Bool → ℕ → ℕ
+right_cost op.And left n = if left then n else 0
+right_cost op.Or left n = if left then 0 else n
+right_cost _ left n = n
+
+abbrev pub cost : {A : Type 0} → Expr → Env A → ℕ
+cost (NullLiteral span) env = 1
+cost (BoolLiteral b span) env = 1
+cost (IntLiteral n span) env = 1
+cost (StringLiteral text span) env = 1
+cost (Variable name span) env = 1
+cost (Member e name takes_null span) env = 1 + cost e env
+cost (Index e i takes_null span) env = 1 + (cost e env + cost i env)
+cost (Minus e span) env = 1 + cost e env
+cost (Not e span) env = 1 + cost e env
+cost (Binary op a b span) env = 1 + (cost a env + right_cost op (is_truthy (val a env)) (cost b env))
+cost (Coalesce a b span) env = 1 + (cost a env + (if is_null (val a env) then cost b env else 0))
+cost (Conditional c a b span) env = 1 + (cost c env + (if is_truthy (val c env) then cost a env else cost b env))
