@@ -1,5 +1,5 @@
 -- A value of a type is of each type that accepts it.
-use Rattle.std.proofs.Common.{◌≡◌, Bool, true, false, ◌&&◌, ◌||◌, List, [], ◌∷◌, ◌++◌, ◌⊎◌}
+use Rattle.std.proofs.Common.{◌≡◌, Bool, true, false, ◌||◌, List, [], ◌∷◌, ◌⊎◌}
 use Rattle.std.specs.Prelude.{if◌then◌else◌, bytes_eq, Option, Some, None}
 use Rattle.std.specs.List.{list_all}
 use mathlib.Core.Path.{refl}
@@ -42,19 +42,7 @@ use Rattle.soy_tree.specs.Values.{
 }
 use Rattle.soy_tree.specs.Members.{members}
 use Rattle.soy_tree.specs.Accepts.{accepts, accepts_member, some_accepts, accepts_fields, has_field, each_member}
-use Rattle.soy_tree.specs.Has.{
-  Has,
-  HasSome,
-  HasFields,
-  IsRecord,
-  EachItem,
-  EachEntry,
-  IsListOf,
-  IsMapOf,
-  IsThere,
-  entry_value,
-  field_value,
-}
+use Rattle.soy_tree.specs.Has.{Has, HasSome, HasFields, IsRecord, EachItem, EachEntry, IsListOf, IsMapOf, IsThere, field_value}
 use Rattle.soy_tree.proofs.SameTypes.{both, same_name}
 use Rattle.soy_tree.proofs.MembersHave.{HasAny, has_members}
 

@@ -1,5 +1,5 @@
 -- Where a condition holds, narrowing is right.
-use Rattle.std.proofs.Common.{◌≡◌, Bool, true, false, not, ◌&&◌, List, [], ◌∷◌, ◌⊎◌}
+use Rattle.std.proofs.Common.{◌≡◌, Bool, true, false, not, [], ◌∷◌, ◌⊎◌}
 use Rattle.std.specs.Prelude.{if◌then◌else◌, bytes_eq}
 use mathlib.Core.Path.{refl, ap}
 use mathlib.Core.Logic.{inl, inr}

@@ -1,18 +1,18 @@
 -- Rows: what calls demand, and in which order.
 use Rattle.std.proofs.Common.{◌≡◌, ℕ, List, [], ◌∷◌, Bool, true, false}
-use Rattle.std.specs.Prelude.{codes, Option, Some, None, Ok}
+use Rattle.std.specs.Prelude.{codes, None, Ok}
 use mathlib.Core.Path.{refl}
 use Rattle.soy_base.specs.declared.code.Code.TheVariants as code
 use Rattle.soy_base.specs.declared.kind.Kind.TheVariants as kind
-use Rattle.soy_tree.specs.Types.{Name, SoyType, NullType, BoolType, IntType, StringType}
+use Rattle.soy_tree.specs.Types.{Name, SoyType, BoolType, IntType, StringType}
 use Rattle.soy_tree.specs.Expressions.{BoolLiteral}
 use Rattle.soy_tree.specs.Faults.{fails}
 use Rattle.soy_tree.specs.Trees.{Param, Template}
 use Rattle.soy_tree.specs.Nodes.{Arguments, Call, Plain, Block, Print, no_argument, argument, no_node, node}
 use Rattle.soy_tree.specs.TypeOf.{Scope}
 use Rattle.soy_tree.specs.Templates.{Declared}
-use Rattle.soy_tree.specs.Bodies.{Around, Checked, after_node}
-use Rattle.soy_tree.proofs.Rows.{at, a, b, n, var, int, text, union}
+use Rattle.soy_tree.specs.Bodies.{Checked, after_node}
+use Rattle.soy_tree.proofs.Rows.{at, a, b, n, var, int, text}
 
 abbrev param : Name → SoyType → Bool → Param
 param name t required = record { name = name; of = t; required = required; span = at 0 }

@@ -1,17 +1,17 @@
 -- Rows: the cuts of a message's text, and what is formed.
 use Rattle.std.proofs.Common.{◌≡◌, ℕ, zero, suc, List, [], ◌∷◌, true, false}
-use Rattle.std.specs.Prelude.{codes, pos, negsuc, Option, Some, None, Bool, ◌++◌, option_map}
+use Rattle.std.specs.Prelude.{codes, pos, negsuc, Option, Some, None, ◌++◌}
 use mathlib.Core.Path.{refl}
-use Rattle.soy_tree.specs.Types.{NullType, IntType, StringType, ListType}
+use Rattle.soy_tree.specs.Types.{NullType, IntType, ListType}
 use Rattle.soy_tree.specs.Ints.{largest}
 use Rattle.soy_tree.specs.Expressions.{IntLiteral}
 use Rattle.soy_tree.specs.Nodes.{Node, Nodes, MessageBody, TextNode, Print, Let, MessageNode, message, no_fallback}
 use Rattle.soy_tree.specs.Nodes.{Parts, Plural, Select, no_plural_case, plural_case, no_select_case, select_case}
 use Rattle.soy_tree.specs.Nodes.{no_node, node}
-use Rattle.soy_tree.specs.MessageText.{MessageItem, Character, Printed, Cut, TextCut, PrintCut, TagCut}
+use Rattle.soy_tree.specs.MessageText.{MessageItem, Printed, Cut, TextCut, PrintCut, TagCut}
 use Rattle.soy_tree.specs.MessageText.{characters, message_items, cuts_of}
 use Rattle.soy_tree.specs.Formed.{is_formed_node, is_formed_type, is_formed_expr}
-use Rattle.soy_tree.proofs.Rows.{at, a, b, n, var, int, union, alone}
+use Rattle.soy_tree.proofs.Rows.{at, a, var, int, union, alone}
 
 abbrev written : List ℕ → Nodes → Nodes
 written text ns = node (TextNode text (at 0)) ns

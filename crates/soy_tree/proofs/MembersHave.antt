@@ -115,7 +115,7 @@ is_null (ListValue vs) h = absurd h
 is_null (MapValue es) h = absurd h
 is_null (RecordValue es) h = absurd h
 
--- one more type in front
+-- one more type before the others
 pub or_any : {P : Type 0} (v : Value) (t : SoyType) (ts : List SoyType) → P ⊎ HasAny v ts → P ⊎ HasAny v (t ∷ ts)
 or_any v t ts (inl p) = inl p
 or_any v t ts (inr h) = inr (inr h)

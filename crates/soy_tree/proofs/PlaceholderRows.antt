@@ -1,14 +1,14 @@
 -- Rows: base names, and the names of placeholders and selectors.
 use Rattle.std.proofs.Common.{◌≡◌, ℕ, List, [], ◌∷◌, true, false}
-use Rattle.std.specs.Prelude.{codes, map, Some, None}
+use Rattle.std.specs.Prelude.{codes, Some, None}
 use Rattle.std.specs.Fmt.{digits}
 use mathlib.Core.Path.{refl}
 use Rattle.soy_tree.specs.Types.{Name}
-use Rattle.soy_tree.specs.Expressions.{Expr, Member, Index}
+use Rattle.soy_tree.specs.Expressions.{Member, Index}
 use Rattle.soy_tree.specs.Nodes.{MessageBody, Nodes, TextNode, Print, Parts, Plural, no_plural_case, no_node, node}
 use Rattle.soy_tree.specs.MessageText.{characters}
 use Rattle.soy_tree.specs.BaseNames.{base_of_expr, base_of_print, base_of_tag}
-use Rattle.soy_tree.specs.Placeholders.{Use, ExprContent, AsSelect, body_uses, name_of}
+use Rattle.soy_tree.specs.Placeholders.{Use, body_uses, name_of}
 use Rattle.soy_tree.proofs.Rows.{at, a, b, n, var, int}
 
 abbrev tag_base : List ℕ → List ℕ

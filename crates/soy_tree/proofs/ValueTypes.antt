@@ -23,7 +23,7 @@ use Rattle.soy_tree.specs.Has.{Has, HasSome, HasFields, IsInt, IsString, IsListO
 use Rattle.soy_tree.specs.Has.{EachEntry, IsThere, entry_value, field_value}
 use Rattle.soy_tree.specs.Faults.{TypeFault, followed_by, found, mistyped}
 use Rattle.soy_tree.specs.TypeOf.{Scope, variable_type, field_type, type_of, is_int, is_string, fitting, accessed_type}
-use Rattle.soy_tree.specs.TypeOf.{with_null_of, member_type, index_type, choice_type, binary_type, are_texts}
+use Rattle.soy_tree.specs.TypeOf.{with_null_of, member_type, index_type, binary_type, are_texts}
 use Rattle.soy_tree.specs.TypeOf.{is_divisor}
 use Rattle.soy_tree.specs.Formed.{is_formed_expr, is_formed_int}
 use Rattle.soy_tree.specs.Val.{Binding, Known, BlockOf, Env, binding, is_null_value, val, operand, member_value}

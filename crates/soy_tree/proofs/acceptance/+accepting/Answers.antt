@@ -1,27 +1,18 @@
-use Rattle.std.proofs.Common.{rules, ◌≡◌, ◌+◌, ◌&&◌, drop}
-use Rattle.soy_tree.specs.Accepts.{accepts_fields, has_field, each_member, accepts_member}
-use Rattle.soy_tree.specs.ViewTypes.{view_type, view_fields}
+use Rattle.std.proofs.Common.{rules}
+use Rattle.soy_tree.specs.ViewTypes.{view_fields}
 use Rattle.soy_tree.proofs.Views.{accepts_fields-drop}
 use Rattle.soy_tree.proofs.acceptance.+accepting.Goals as goal
 
 pub accepts_fields-returns-then-not-has_field : goal.accepts_fields-returns-then-not-has_field
 accepts_fields-returns-then-not-has_field t c =
-    let q : accepts_fields (view_fields (drop c.loop-field.field-index c.args.to.now)) (view_fields c.args.from.now)
-    ≡ (has_field c.field-item.result.name (each_member (accepts_member (view_type c.field-item.result.of)))
-    (view_fields c.args.from.now)
-    && accepts_fields (view_fields (drop (c.loop-field.field-index + 1) c.args.to.now))
-    (view_fields c.args.from.now)) =
+    let q =
     accepts_fields-drop c.args.to.now (view_fields c.args.from.now) c.loop-field.field-index c.field-item.result
     c.loop-field-test.true c.field-item.is in
     search (rules, q)
 
 pub accepts_fields-loop-field-preserved : goal.accepts_fields-loop-field-preserved
 accepts_fields-loop-field-preserved t c =
-    let q : accepts_fields (view_fields (drop c.loop-field.field-index c.args.to.now)) (view_fields c.args.from.now)
-    ≡ (has_field c.field-item.result.name (each_member (accepts_member (view_type c.field-item.result.of)))
-    (view_fields c.args.from.now)
-    && accepts_fields (view_fields (drop (c.loop-field.field-index + 1) c.args.to.now))
-    (view_fields c.args.from.now)) =
+    let q =
     accepts_fields-drop c.args.to.now (view_fields c.args.from.now) c.loop-field.field-index c.field-item.result
     c.loop-field-test.true c.field-item.is in
     search (rules, q)
