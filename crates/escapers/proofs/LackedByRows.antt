@@ -21,9 +21,9 @@ of_one test (d ∷ these) c each one =
 
 -- two texts that lack these make one that does
 pub lacks-append : (these prefix rest : List ℕ) → lacks these prefix ≡ true → lacks these rest ≡ true → lacks these (prefix ++ rest) ≡ true
-lacks-append these [] rest in_front in_rest = in_rest
-lacks-append these (c ∷ prefix) rest in_front in_rest =
-    let parts = and_parts _ _ in_front in
+lacks-append these [] rest in_prefix in_rest = in_rest
+lacks-append these (c ∷ prefix) rest in_prefix in_rest =
+    let parts = and_parts _ _ in_prefix in
     and_from _ _ parts.0 (lacks-append these prefix rest parts.1 in_rest)
 
 module _ (these : List ℕ) (rows : List (ℕ × List ℕ)) (have_rows : list_all (λ d. is_some (row_text rows d)) these ≡ true) where

@@ -95,8 +95,9 @@ pub(crate) fn push_uri_start(out: &mut String, text: &str) -> Result<(), OutOfMe
     }
 }
 
-/// Whether the text has an allowed scheme or none.
-fn may_start_uri(text: &str) -> bool
+/// Whether the text may be the start of a URI: it has no scheme, or that of `http:`, `https:`, `mailto:` or `ftp:`, in
+/// any ASCII case (RFC 3986, 3.1).
+pub fn may_start_uri(text: &str) -> bool
     ensures { result ≡ may_start_uri (chars text.now) }
 {
     has_allowed_scheme(text) || !has_scheme(text)

@@ -14,7 +14,7 @@ use Rattle.soy_top.specs.Asked.{Asked, Render, Check, Extract, Gen, Play, Previe
 use Rattle.soy_top.specs.Concludes.{MayEnd}
 use Rattle.soy_top.specs.Fetched.{AreContents, FetchesAll, IsNotHeld}
 use Rattle.soy_top.specs.FilesWanted.{FileWanted, asked_files, wanted_files, file_names, known_files, first_not_held, first_over_limit, contents}
-use Rattle.soy_top.specs.FirstForm.{Form, first_form, full_name}
+use Rattle.soy_top.specs.FirstForm.{FirstFile, first_form, full_name}
 use Rattle.soy_top.specs.FirstPage.{page_of}
 use Rattle.soy_top.specs.Line.{too_large_line}
 use Rattle.soy_top.specs.View.{view_contents}
@@ -36,7 +36,7 @@ named_not_usage : (b : Bool) (o : Option (List ℕ)) (line : List ℕ) → cond 
 named_not_usage true o line e = page_not_usage o e
 named_not_usage false o line e = cc
 
-form_not_usage : (template : Word) (json : List ℕ) (form : Option Form) → form_answer template json form ≡ Usage → ⊥
+form_not_usage : (template : Word) (json : List ℕ) (form : Option FirstFile) → form_answer template json form ≡ Usage → ⊥
 form_not_usage template json None e = cc
 form_not_usage template json (Some form) e = named_not_usage (bytes_eq template (full_name form)) (page_of form json) _ e
 

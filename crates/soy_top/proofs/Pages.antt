@@ -8,7 +8,7 @@ use Rattle.soy_io.specs.FileOf.{Files, file_of}
 use Rattle.soy_top.specs.Answer.{Answer, Usage, Read, Refused, Done, page_answer, form_answer, render_answer, contents_answer, asked_answer, limits_answer, answer}
 use Rattle.soy_top.specs.Asked.{Asked, Render, Check, Extract, Gen, Play, Preview, Format, has_file_count, render_asked, check_asked, extract_asked, gen_asked, play_asked, preview_asked, format_asked, number_of, asked_by_words}
 use Rattle.soy_top.specs.FilesWanted.{FileWanted, data_file, source_file, is_rendered, render_files, asked_files, first_not_held, first_over_limit, content, contents}
-use Rattle.soy_top.specs.FirstForm.{Form, first_form, full_name}
+use Rattle.soy_top.specs.FirstForm.{FirstFile, first_form, full_name}
 use Rattle.soy_top.specs.FirstPage.{page_of, first_page}
 use Rattle.soy_top.specs.IsPage.{IsPage}
 use Rattle.soy_top.specs.Line.{too_large_line}
@@ -111,7 +111,7 @@ named_page : (b : Bool) (o : Option (List ℕ)) (line text : List ℕ) → cond 
 named_page true o line text h = page_is o text h
 named_page false o line text h = cc
 
-form_page : (template : Word) (json file : List ℕ) (form : Option Form) (text : List ℕ) → first_form file ≡ form → form_answer template json form ≡ Done text → first_page file json ≡ Some text
+form_page : (template : Word) (json file : List ℕ) (form : Option FirstFile) (text : List ℕ) → first_form file ≡ form → form_answer template json form ≡ Done text → first_page file json ≡ Some text
 form_page template json file None text e h = cc
 form_page template json file (Some form) text e h =
     ap (option_and_then (λ form. page_of form json)) e ∙ named_page (bytes_eq template (full_name form)) (page_of form json) _ text h

@@ -11,7 +11,7 @@ use Rattle.std.proofs.lemmas.List.{take-append-drop, append-nil}
 use Rattle.std.proofs.lemmas.Map.Keys.{IsDistinct-push}
 use Rattle.soy_base.specs.Names.{is_name, is_dotted_name}
 use Rattle.soy_base.specs.Among.{is_among}
-use Rattle.soy_top.specs.FirstForm.{Form, Declared, is_empty, after_prefix, before_suffix, between, passing, namespace_of, template_of, param_of, parts_of, has_body_ends, is_last_line, is_template_end, body_read, declared, named_form, form_of_lines, is_file_byte, first_form}
+use Rattle.soy_top.specs.FirstForm.{FirstFile, Declared, is_empty, after_prefix, before_suffix, between, passing, namespace_of, template_of, param_of, parts_of, has_body_ends, is_last_line, is_template_end, body_read, declared, named_form, form_of_lines, is_file_byte, first_form}
 use Rattle.soy_top.specs.Spells.{IsBody, param_lines, params_of, Spells}
 use Rattle.soy_top.proofs.Delimiters.{both_hold, and_holds, list_all-both, after_mark, joined, joined-slice_split, WhereSome, WhereSome-is, WhereSome-and_then, WhereSome-map, WhereSome-if}
 use Rattle.soy_top.proofs.ReadForm.{is_line_byte, lines-bytes, body_of_parts}
@@ -253,5 +253,5 @@ file_read file =
     (λ t. subst (λ (text : List ℕ). WhereSome (Spells text) (form_of_lines (slice_split (λ c. c == 10) file))) (joined-slice_split 10 file) (lines_read (slice_split (λ c. c == 10) file) (lines-bytes file t)))
 
 -- what is read as a form spells it
-pub first_form-Spells : (file : List ℕ) (form : Form) → first_form file ≡ Some form → Spells file form
+pub first_form-Spells : (file : List ℕ) (form : FirstFile) → first_form file ≡ Some form → Spells file form
 first_form-Spells file form h = WhereSome-is (Spells file) (first_form file) form (file_read file) h

@@ -11,7 +11,7 @@ use Rattle.std.proofs.lemmas.Map.Keys.{IsDistinct-head, IsDistinct-tail}
 use Rattle.std.proofs.lemmas.Slice.Eq.{bytes_eq-Decides}
 use Rattle.soy_base.specs.Names.{is_name, is_dotted_name}
 use Rattle.soy_base.specs.Among.{is_among}
-use Rattle.soy_top.specs.FirstForm.{Form, Declared, is_empty, after_prefix, before_suffix, between, passing, namespace_of, template_of, param_of, has_body_ends, is_template_end, body_read, declared, form_after, named_form, form_of_lines, is_file_byte, first_form}
+use Rattle.soy_top.specs.FirstForm.{FirstFile, Declared, is_empty, after_prefix, before_suffix, between, passing, namespace_of, template_of, param_of, has_body_ends, is_template_end, body_read, declared, form_after, named_form, form_of_lines, is_file_byte, first_form}
 use Rattle.soy_top.specs.Spells.{param_lines, params_of, written, Spells}
 use Rattle.soy_top.proofs.Delimiters.{both_hold, and_holds, lacks, list_all-weaken, list_all-both, split-at}
 use Rattle.soy_top.proofs.ReadForm.{is_line_byte}
@@ -179,7 +179,7 @@ names_found : (o p : Option (List ℕ)) (q : Option Declared) (namespace templat
 names_found o p q namespace template found ho hp hq = rw (ho, hp, hq) refl
 
 -- an answer under a test that holds
-holds : (t : Bool) (o : Option Form) → t ≡ true → cond t o None ≡ o
+holds : (t : Bool) (o : Option FirstFile) → t ≡ true → cond t o None ≡ o
 holds t o h = rw h refl
 
 -- numbers that differ fail the test
@@ -201,7 +201,7 @@ ends_hold body some first last =
     and_holds (not (is_empty body)) (not (slice_index body 0 == 32) && not (slice_index body (length body - 1) == 32)) (not_empty_is body some)
     (and_holds (not (slice_index body 0 == 32)) (not (slice_index body (length body - 1) == 32)) (differs (slice_index body 0) 32 first) (differs (slice_index body (length body - 1)) 32 last))
 
-module _ (file : List ℕ) (form : Form) (s : Spells file form) where
+module _ (file : List ℕ) (form : FirstFile) (s : Spells file form) where
   -- the parameters that the lines declare have names
   own_names : list_all is_name (params_of s.lines) ≡ true
   own_names = sym (ap (list_all is_name) s.params) ∙ s.names
@@ -259,5 +259,5 @@ module _ (file : List ℕ) (form : Form) (s : Spells file form) where
       ∙ (holds (list_all is_file_byte (written form s.lines s.body s.end)) (form_of_lines (slice_split (λ c. c == 10) (written form s.lines s.body s.end))) written_bytes ∙ own_read)
 
 -- what spells a form is read as it
-pub Spells-first_form : (file : List ℕ) (form : Form) → Spells file form → first_form file ≡ Some form
+pub Spells-first_form : (file : List ℕ) (form : FirstFile) → Spells file form → first_form file ≡ Some form
 Spells-first_form file form s = own_file file form s

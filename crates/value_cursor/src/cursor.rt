@@ -9,17 +9,16 @@ ghost use Rattle.escapers.specs.Esc.{esc, escaped_character, is_by_characters};
 ghost use Rattle.escapers.specs.EscaperFor.{IsEscaperOf};
 ghost use Rattle.escapers.specs.JsValue.{js_value};
 ghost use Rattle.value_cursor.specs.BytesLeft.{bytes_from, bytes_left, source, Fits, IsPlan};
-ghost use Rattle.value_cursor.specs.Cleaned.{Ascends, Cleans};
+ghost use Rattle.value_cursor.specs.Cleaned.{MarksAscend, Cleans};
 ghost use Rattle.value_cursor.specs.EscapedForm.{escaped_form};
 ghost use Rattle.value_cursor.specs.Gives.{Gives};
 
 use crate::cleaning::Cleaning;
-use crate::filters::{is_css_value, may_start_uri};
 use crate::plan::Plan;
 use crate::progress::Progress;
 use bidi_text::estimate;
 use esc_table::Tail;
-use escapers::Escaper;
+use escapers::{Escaper, is_css_value, may_start_uri};
 use soy_base::{Dir, OutOfMemory, ValueClass};
 use std::alloc::Global;
 
@@ -139,6 +138,7 @@ impl Cursor {
             _ => Cursor::by_characters(how, text),
         }
     }
+
     /// The cursor of a text whose characters have forms of their own, and nothing else.
     fn by_characters(how: Escaper, text: &str) -> Cursor
         requires { IsTrue (is_by_characters how) }
@@ -176,7 +176,7 @@ impl Cursor {
     /// The cursor of a wrapped text.
     fn wrapped(cleaning: Cleaning, text: &str, context: Dir) -> Cursor
         requires cleans { Cleans cleaning (chars text.now) }
-        requires ascending { Ascends cleaning }
+        requires ascending { MarksAscend cleaning }
         ensures fits { Fits result text.now }
         ensures whole { bytes_left result text.now ≡ encode_utf8_all (wrapped_text (chars text.now) context) }
     {
