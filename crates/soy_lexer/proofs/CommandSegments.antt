@@ -9,7 +9,8 @@ use Rattle.soy_base.specs.declared.memory.Refusal.{Refusal}
 use Rattle.soy_base.specs.WhiteSpace.{is_template_space}
 use Rattle.soy_base.specs.Names.{begins_name, continues_name}
 use Rattle.soy_base.specs.ByteLength.{byte_len}
-use Rattle.soy_lexer.specs.CommandSegment.{command_segment, int_segment, largest_int, name_prefix, name_segment, number_after}
+use Rattle.soy_lexer.specs.CommandSegment.{command_segment, int_segment, largest_int, name_prefix, name_segment}
+use Rattle.soy_lexer.specs.CommandSegment.{number_after}
 use Rattle.soy_lexer.specs.CommandSegment.{one_of, opened_segment, symbol_segment, symbols_of_one, symbols_of_two}
 use Rattle.soy_lexer.specs.CommandSegment.{quoted_segment, value_segment}
 use Rattle.soy_lexer.specs.ClosingName.{closing_name}

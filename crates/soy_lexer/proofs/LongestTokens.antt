@@ -11,7 +11,8 @@ use Rattle.soy_base.specs.WhiteSpace.{is_template_space}
 use Rattle.soy_base.specs.Names.{begins_name, continues_name, is_name}
 use Rattle.soy_base.specs.Cuts.{is_nil, after_prefix, cut, prefix_while, after_while}
 use Rattle.soy_lexer.specs.CommandSegment.{command_segment, white_segment, fixed_segment, name_prefix, name_segment}
-use Rattle.soy_lexer.specs.CommandSegment.{variable_segment, digits_segment, int_segment, quoted_segment, string_segment}
+use Rattle.soy_lexer.specs.CommandSegment.{variable_segment, digits_segment, int_segment, quoted_segment}
+use Rattle.soy_lexer.specs.CommandSegment.{string_segment}
 use Rattle.soy_lexer.specs.CommandSegment.{value_segment, attribute_segment, one_of, symbols_of_one, symbols_of_two}
 use Rattle.soy_lexer.specs.CommandSegment.{largest_int, number_after}
 use Rattle.soy_lexer.specs.LongestToken.{is_int, is_symbol, StringRest, ValueRest, TokenForm, IsToken, GivesToken}

@@ -25,7 +25,8 @@ never_both : (p : Segment) (r : List ℕ) (n : ℕ) → Begins p r ≡ Fails n �
 never_both p r n e = cc
 
 -- the segments after an equal segment and an equal rest
-moved : (offset : ℕ) (mode : Mode) (p q : Segment) (r s : List ℕ) (ps : List Segment) (stop : Option ℕ) → p ≡ q → r ≡ s →
+moved : (offset : ℕ) (mode : Mode) (p q : Segment) (r s : List ℕ) (ps : List Segment) (stop : Option ℕ) → p ≡ q
+    → r ≡ s →
     Segments (offset + byte_len (source_text q)) (mode_after mode q) s ps stop
     → Segments (offset + byte_len (source_text p)) (mode_after mode p) r ps stop
 moved offset mode p q r s ps stop e f d =

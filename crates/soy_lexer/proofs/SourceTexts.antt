@@ -1,5 +1,5 @@
--- What a text begins with is what stands there: the characters of the segment, one at least, and then the rest. Where no
--- token begins, that is within the text.
+-- What a text begins with is what stands there: the characters of the segment, one at least, and then the rest. Where
+-- no token begins, that is within the text.
 use Rattle.std.proofs.Common.{IfSome, ◌≡◌, ℕ, ◌<◌, ◌≤◌, List, [], ◌∷◌, ◌++◌, length, Bool, true, false, nat_le, ◌==◌}
 use Rattle.std.proofs.Common.{if◌then◌else◌, Option, None, Some, option_map, option_and_then, codes, refl, sym, ◌∙◌, ap}
 use Rattle.std.proofs.Common.{subst, arith, eqb-true, append_assoc, length-append}
@@ -18,9 +18,11 @@ use Rattle.soy_lexer.specs.Segment.Segment.{TextCharacter, Skipped, Literal, Com
 use Rattle.soy_lexer.specs.Found.Found.{Begins, Fails}
 use Rattle.soy_lexer.specs.declared.mode.Mode.TheVariants.{Outside, Opened, Inside}
 use Rattle.soy_lexer.specs.Strings.{Quoted, quoted, quoted_escape, quoted_number, with_character, escaped, numbered}
-use Rattle.soy_lexer.specs.CommandSegment.{command_segment, opened_segment, white_segment, fixed_segment, name_prefix, name_segment}
+use Rattle.soy_lexer.specs.CommandSegment.{command_segment, opened_segment, white_segment, fixed_segment, name_prefix}
+use Rattle.soy_lexer.specs.CommandSegment.{name_segment}
 use Rattle.soy_lexer.specs.CommandSegment.{variable_segment, digits_segment, largest_int, number_after, int_segment}
-use Rattle.soy_lexer.specs.CommandSegment.{quoted_segment, string_segment, value_segment, attribute_segment, symbols_of_two}
+use Rattle.soy_lexer.specs.CommandSegment.{quoted_segment, string_segment, value_segment, attribute_segment}
+use Rattle.soy_lexer.specs.CommandSegment.{symbols_of_two}
 use Rattle.soy_lexer.specs.CommandSegment.{symbols_of_one, one_of, symbol_segment, close_segment}
 use Rattle.soy_lexer.specs.TextSegment.{text_segment, block_comment, closed_comment, line_comment, continues_line}
 use Rattle.soy_lexer.specs.TextSegment.{literal_segment, closed_literal, plain_segment, may_begin, segment_of}
@@ -68,7 +70,8 @@ abbrev pub IsCut : List ℕ → List ℕ → Option (List ℕ × List ℕ) → T
 IsCut delimiter text o = IfSome o (λ parts. text ≡ parts.0 ++ (delimiter ++ parts.1))
 
 -- a segment is where its characters are, unless one is U+0000, which then is within the text
-unless_parts : (text : List ℕ) (p : Segment) (rest : List ℕ) → text ≡ source_text p ++ rest → 0 < length (source_text p) →
+unless_parts : (text : List ℕ) (p : Segment) (rest : List ℕ) → text ≡ source_text p ++ rest
+    → 0 < length (source_text p) →
     (o : Option (List ℕ × List ℕ)) → IsCut (0 ∷ []) (source_text p) o → Stands text (unless_null o (Begins p rest))
 unless_parts text p rest e pos None h = (e, pos)
 unless_parts text p rest e pos (Some parts) h =
@@ -189,7 +192,8 @@ named_parts kind before text (Some name) h =
     (omega (arith, length-append before name.0, h.1))
 
 -- a token of a name
-name_segment_parts : (kind : TokenKind) (before text : List ℕ) → StandsIf (before ++ text) (name_segment kind before text)
+name_segment_parts : (kind : TokenKind) (before text : List ℕ)
+    → StandsIf (before ++ text) (name_segment kind before text)
 name_segment_parts kind before text = named_parts kind before text (name_prefix text) (name_parts text)
 
 -- a variable

@@ -65,7 +65,8 @@ int_segment (c ∷ cs) =
 
 abbrev pub quoted_segment : Option Quoted → Found
 quoted_segment None = Fails 0
-quoted_segment (Some string) = begins (CommandToken kind.Str (single_quote ∷ string.source_text) string.value) string.rest
+quoted_segment (Some string) =
+    begins (CommandToken kind.Str (single_quote ∷ string.source_text) string.value) string.rest
 
 abbrev pub string_segment : List ℕ → Option Found
 string_segment [] = None

@@ -1,5 +1,5 @@
--- The mode in which a reader is after a segment: whether it is outside of commands, with white space or the file's start
--- directly before the rest or not; in a command, directly after its `{`; or in a command, further on.
+-- The mode in which a reader is after a segment: whether it is outside of commands, with white space or the file's
+-- start directly before the rest or not; in a command, directly after its `{`; or in a command, further on.
 --
 -- After the `{` of `{a}` the mode is Opened, after `a` Inside, and after `}` Outside, with no white space before the
 -- rest.

@@ -1,5 +1,5 @@
--- A whole text as a sequence of segments, one directly after the other, up to its end or up to the first offset where no
--- token begins.
+-- A whole text as a sequence of segments, one directly after the other, up to its end or up to the first offset where
+-- no token begins.
 --
 -- `a{b}` has four segments up to its end; `a}b` has one, and no token begins at its offset 1.
 use Rattle.std.specs.Prelude.{◌≡◌, ℕ, ◌+◌, List, [], ◌∷◌, Option, None, Some}
@@ -10,8 +10,8 @@ use Rattle.soy_lexer.specs.declared.mode.Mode.{Mode}
 use Rattle.soy_lexer.specs.Found.Found.{Begins, Fails}
 use Rattle.soy_lexer.specs.TextSegment.{segment_of}
 
--- the text that stands at this offset of a file and in this mode has these segments, up to its end or up to an offset of
--- the file where no token begins
+-- the text that stands at this offset of a file and in this mode has these segments, up to its end or up to an offset
+-- of the file where no token begins
 pub data Segments : ℕ → Mode → List ℕ → List Segment → Option ℕ → Type 0 where
   Ended : (offset : ℕ) (mode : Mode) → Segments offset mode [] [] None
   Stopped : (offset : ℕ) (mode : Mode) (c : ℕ) (cs : List ℕ) (further : ℕ) →

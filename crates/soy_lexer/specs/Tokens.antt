@@ -1,5 +1,5 @@
--- The tokens of a whole text: those that its segments give in their order, with each text run between them as one token,
--- or as none where nothing is left of it. And the first offset where no token begins.
+-- The tokens of a whole text: those that its segments give in their order, with each text run between them as one
+-- token, or as none where nothing is left of it. And the first offset where no token begins.
 --
 -- `Hello // greet`, `world{sp}` and `<b>!</b>` as three lines give the text `Hello world`, the tokens `{`, `sp` and
 -- `}`, and the text `<b>!</b>`.
@@ -52,7 +52,8 @@ run_after offset run (CommandToken kind text value) = []
 abbrev pub tokens_of : ℕ → List RunCharacter → List Segment → List Token
 tokens_of offset run [] = run_token run
 tokens_of offset run (segment ∷ segments) =
-    segment_tokens offset run segment ++ tokens_of (offset + byte_len (source_text segment)) (run_after offset run segment)
+    segment_tokens offset run segment
+    ++ tokens_of (offset + byte_len (source_text segment)) (run_after offset run segment)
     segments
 
 -- these are the tokens of the text

@@ -158,7 +158,8 @@ fn variable_segment<'a>(
     named: &'a str,
 ) -> Result<FirstSegment<'a>, Refusal<usize>>
     requires { chars text.now ≡ dollar_sign ∷ chars named.now }
-    ensures { ReadsSegment (unwrap_or (name_segment kind.Variable (dollar_sign ∷ []) (chars named.now)) (Fails 0)) result }
+    ensures { ReadsSegment
+        (unwrap_or (name_segment kind.Variable (dollar_sign ∷ []) (chars named.now)) (Fails 0)) result }
 {
     match name_prefix(named) {
         Some((name, rest)) => {

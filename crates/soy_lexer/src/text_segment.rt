@@ -6,7 +6,8 @@ ghost use Rattle.soy_base.specs.Characters.{left_brace};
 ghost use Rattle.soy_base.specs.Cuts.{cut};
 ghost use Rattle.soy_lexer.specs.ReadsSegment.{ReadsSegment};
 ghost use Rattle.soy_lexer.specs.ReadsSegmentIf.{ReadsSegmentIf};
-ghost use Rattle.soy_lexer.specs.TextSegment.{block_comment, closed_comment, closed_literal, line_comment, literal_segment};
+ghost use Rattle.soy_lexer.specs.TextSegment.{block_comment, closed_comment, closed_literal, line_comment};
+ghost use Rattle.soy_lexer.specs.TextSegment.{literal_segment};
 ghost use Rattle.soy_lexer.specs.TextSegment.{may_begin, plain_segment, text_segment};
 
 use crate::begins::begins;

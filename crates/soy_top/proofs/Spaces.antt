@@ -19,11 +19,13 @@ scalars-spaced (c ∷ cs) h =
     and_holds (scalar (space_for c)) (scalars (map space_for cs)) (scalar_space c (separates_words c) parts.0) (scalars-spaced cs parts.1)
 
 -- a value with spaces for its separators is a text of just those characters
-pub chars-spaced : (value : List ℕ) → IsUtf8 value → chars (encode_utf8_all (map space_for (chars value))) ≡ map space_for (chars value)
+pub chars-spaced : (value : List ℕ) → IsUtf8 value
+    → chars (encode_utf8_all (map space_for (chars value))) ≡ map space_for (chars value)
 chars-spaced value utf8 = chars-encodes _ (scalars-spaced (chars value) (scalars-chars value utf8))
 
 -- a value without a separator is unchanged
-unspaced_next : (c : ℕ) (cs : List ℕ) (here later : Bool) → (here || later) ≡ false → (later ≡ false → map space_for cs ≡ cs) → cond here 32 c ∷ map space_for cs ≡ c ∷ cs
+unspaced_next : (c : ℕ) (cs : List ℕ) (here later : Bool) → (here || later) ≡ false
+    → (later ≡ false → map space_for cs ≡ cs) → cond here 32 c ∷ map space_for cs ≡ c ∷ cs
 unspaced_next c cs true later h rest = let e : true ≡ false = h in cc
 unspaced_next c cs false later h rest = ap (λ cs. c ∷ cs) (rest h)
 

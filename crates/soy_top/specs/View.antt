@@ -11,7 +11,8 @@ use Rattle.soy_top.specs.FilesWanted as files
 use Rattle.soy_top.specs.Words.{command_words}
 
 abbrev pub view_command : Command → Asked
-view_command (command.Render template json bundle files) = Render template.now json.now bundle.now (command_words files.now)
+view_command (command.Render template json bundle files) =
+    Render template.now json.now bundle.now (command_words files.now)
 view_command (command.Check bundle files) = Check bundle.now (command_words files.now)
 view_command (command.Extract files) = Extract (command_words files.now)
 view_command (command.Gen number) = Gen number

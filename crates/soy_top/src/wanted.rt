@@ -109,7 +109,8 @@ fn render_files<'a>(
     bundle: &'a str,
     files: &'a [String],
 ) -> Result<Vec<FileWanted<'a>>, OutOfMemory>
-    ensures { IfOk result (λ wanted. view_files wanted.items ≡ render_files json.now bundle.now (command_words files.now)) }
+    ensures { IfOk result (λ wanted.
+        view_files wanted.items ≡ render_files json.now bundle.now (command_words files.now)) }
 {
     let mut wanted = Vec::new(alloc);
     wanted.push(data_file(json))?;

@@ -42,7 +42,7 @@ abbrev pub IsPlan : Plan → Type 0
 IsPlan plan = IsTrue (is_by_characters plan.how) × MarksAscend plan.cleaning
 
 -- the cursor stands for the last bytes of this text's escaped form, as many as it counts
-pub record Fits (cursor : Cursor) (text : List ℕ) : Type 0 where
+pub record CursorFits (cursor : Cursor) (text : List ℕ) : Type 0 where
   pub plan : IsPlan cursor.plan
   pub boundary : IsCharBoundary (source cursor.plan text) cursor.progress.offset
   pub closing : length cursor.closing.now ≤ 16

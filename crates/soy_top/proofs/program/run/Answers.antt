@@ -1,7 +1,9 @@
 use Rattle.std.proofs.Common.{ap}
 use Rattle.soy_top.specs.Words.{command_words}
 use Rattle.soy_top.proofs.Answering.{names-at-usage}
-use Rattle.soy_top.proofs.Courses.{usage_only, usage_due, read_only, read_due, refused_only, refused_due, done_only, done_due, too_deep_only, too_deep_due, write_only, out_part, err_part, nothing_written, out_untouched, err_untouched}
+use Rattle.soy_top.proofs.Courses.{usage_only, usage_due, read_only, read_due, refused_only, refused_due, done_only}
+use Rattle.soy_top.proofs.Courses.{done_due, too_deep_only, too_deep_due, write_only, out_part, err_part}
+use Rattle.soy_top.proofs.Courses.{nothing_written, out_untouched, err_untouched}
 use Rattle.soy_top.proofs.program.run.Goals as goal
 
 pub returns-clause-usage_only : goal.returns-clause-usage_only
