@@ -58,7 +58,11 @@ impl Tail {
     {
         let count = self.pending.len().min(room.len());
         room[..count].copy_from_slice(&self.pending.as_slice()[..count]);
-        self.pending.drain(..count);
+        if count == self.pending.len() {
+            self.pending.clear();
+        } else {
+            self.pending.drain(..count);
+        }
         count
     }
 }
