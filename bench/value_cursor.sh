@@ -8,7 +8,7 @@ set -eu
 begin bench_value_cursor soy_base esc_table script_state escapers bidi_class bidi_text value_cursor <<'PROGRAM'
 #![tactic(auto)]
 
-ghost use Rattle.value_cursor.specs.BytesLeft.{Fits};
+ghost use Rattle.value_cursor.specs.BytesLeft.{CursorFits};
 
 use bidi_text::wrap;
 use escapers::{Escaper, escape, escaper_for};
@@ -59,7 +59,7 @@ fn copied_len(alloc: Global, text: &str) -> usize {
 
 /// The bytes of all calls of `fill`, at most so many.
 fn fill_all(cursor: &mut Cursor, text: &str, room: &mut [u8], calls: u32) -> usize
-    requires { Fits cursor.old text.now }
+    requires { CursorFits cursor.old text.now }
 {
     if calls == 0 {
         return 0;
