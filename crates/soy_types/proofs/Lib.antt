@@ -1,0 +1,4 @@
+pub mod JsonOf
+pub mod Views
+pub mod Results
+pub mod Joining

@@ -1,0 +1,40 @@
+use Rattle.std.proofs.lemmas.List.{drop_all}
+use Rattle.soy_types.proofs.Views.{view_record}
+use Rattle.soy_tree.specs.declared.value.Value as code_value
+use Rattle.std.proofs.Common.{sym}
+use Rattle.std.specs.Prelude.{Ok, Err}
+use Rattle.soy_tree.specs.ViewTrees.{view_params}
+use Rattle.soy_types.specs.Paths.{all_read}
+use Rattle.soy_types.specs.ReadData.{param_results}
+use Rattle.std.proofs.Common.{rules, ◌≡◌, ◌++◌, map, ap, ◌∙◌}
+use Rattle.serde_json.specs.View.{view}
+use Rattle.soy_tree.specs.Templates.{param_type}
+use Rattle.soy_tree.specs.Values.{RecordValue}
+use Rattle.soy_tree.specs.ViewTrees.{view_param}
+use Rattle.soy_tree.specs.ViewValues.{entries_of, view_entry, view_value}
+use Rattle.soy_types.specs.Paths.{onward}
+use Rattle.soy_types.specs.Read.{value_at}
+use Rattle.soy_types.proofs.Results.{ends, named_read, params_left, stops}
+use Rattle.soy_types.proofs.data.read_params.Goals as goal
+
+pub returns-in-Err : goal.returns-in-Err
+returns-in-Err c =
+    let p = c.param-item.result in
+    let d = view c.args.json.now in
+    let q = params_left c.args.params.now d c.loop-param.param-index p c.loop-param-test.true c.param-item.is in
+    let whole = c.loop-param.invariant ∙ ap (λ x. onward (λ rest. map view_entry c.loop-param.entries ++ rest) x) q in
+    let named =
+    named_read p.name c.text-name.result.now (value_at (param_type (view_param p))) d view_entry (Err c.in-Err.refusal)
+    c.text-name.ensures.characters c.text-name.ensures.bytes (c.in-Err.ensures _ c.read_param.ensures) in
+    stops view_entry view_value (λ es. RecordValue (entries_of es)) _ c.loop-param.entries _ _ c.in-Err.refusal whole
+    named
+
+pub returns : goal.returns
+returns c =
+    let nil = drop_all c.loop-param.param-index c.args.params.now c.loop-param-test.false in
+    let whole =
+    c.loop-param.invariant
+    ∙ ap (λ x. onward (λ rest. map view_entry c.loop-param.entries ++ rest)
+    (all_read (param_results (view_params x) (view c.args.json.now)))) nil in
+    ends view_entry (λ es. RecordValue (entries_of es)) _ c.loop-param.entries whole
+    ∙ ap Ok (sym (ap (λ es. view_value (code_value.Fields es)) c.done.ensures ∙ view_record c.loop-param.entries))

@@ -1,0 +1,4 @@
+pub mod Paths
+pub mod Read
+pub mod ReadData
+pub mod Reads

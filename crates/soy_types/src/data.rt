@@ -1,0 +1,119 @@
+//! The data of a page.
+
+ghost use Rattle.std.specs.Prelude.{◌≡◌, IfOk, Result, option_map, unwrap_or};
+ghost use Rattle.serde_json.specs.Data.{null};
+ghost use Rattle.serde_json.specs.Find.{get};
+ghost use Rattle.serde_json.specs.View.{view};
+ghost use Rattle.soy_tree.specs.Templates.{param_type};
+ghost use Rattle.soy_tree.specs.Members.{joined};
+ghost use Rattle.soy_tree.specs.Values as values;
+ghost use Rattle.soy_tree.specs.Types.{NullType};
+ghost use Rattle.soy_tree.specs.ViewTrees.{view_param, view_params};
+ghost use Rattle.soy_tree.specs.ViewTypes.{view_type};
+ghost use Rattle.soy_tree.specs.ViewValues.{view_value};
+ghost use Rattle.soy_types.specs.Paths.{Path};
+ghost use Rattle.soy_types.specs.Read.{value_at};
+ghost use Rattle.soy_types.specs.ReadData.{data_at, json_of, refused, values_at};
+ghost use Rattle.soy_types.specs.Reads.{Reads, ReadsData};
+
+use crate::DataFault;
+use crate::path::{Path, at_key, steps_of, unfit};
+use crate::reading::read_value;
+use serde_json::Value as Json;
+use soy_base::{Code, OutOfMemory, Refusal, Row, Seq};
+use soy_tree::{Param, SoyType, Value};
+use std::alloc::Global;
+use std::str;
+
+/// The values of parameters, read of bytes of JSON as a record; or why there are none.
+pub fn read_data(alloc: Global, bytes: &[u8], params: &[Param]) -> Result<Value, Refusal<DataFault>>
+    ensures { ReadsData (data_at (view_params params.now) bytes.now) result }
+{
+    match read_json(alloc, bytes)? {
+        Some(json) => fault_of(alloc, read_params(alloc, params, &json)),
+        None => Err(Refusal::Because(DataFault {
+            code: Code::NotJson,
+            path: Seq::new(Vec::new(alloc)),
+        })),
+    }
+}
+
+/// The JSON value of bytes, if they are UTF-8 and JSON.
+fn read_json(alloc: Global, bytes: &[u8]) -> Result<Option<Json>, OutOfMemory>
+    ensures { IfOk result (λ json. option_map view json ≡ json_of bytes.now) }
+{
+    let Ok(text) = str::from_utf8(bytes) else {
+        return Ok(None);
+    };
+    match Json::from_str(alloc, text) {
+        Ok(json) => Ok(Some(json)),
+        Err(error) => {
+            if error.is_memory() {
+                return Err(OutOfMemory);
+            }
+            Ok(None)
+        }
+    }
+}
+
+/// The refusal of what doesn't fit.
+fn fault_of(alloc: Global, read: Result<Value, Refusal<Path>>) -> Result<Value, Refusal<DataFault>>
+    ensures { (is : Result values.Value Path) → Reads view_value is read → ReadsData (refused is) result }
+{
+    match read {
+        Ok(value) => Ok(value),
+        Err(Refusal::Because(path)) => Err(Refusal::Because(DataFault {
+            code: Code::DataType,
+            path: steps_of(alloc, path)?,
+        })),
+        Err(Refusal::OutOfMemory) => Err(Refusal::OutOfMemory),
+    }
+}
+
+/// The values of parameters, as a record.
+fn read_params(alloc: Global, params: &[Param], json: &Json) -> Result<Value, Refusal<Path>>
+    ensures { Reads view_value (values_at (view_params params.now) (view json.now)) result }
+{
+    let mut entries = Row::empty(alloc);
+    for param in params {
+        let name = param.name.text();
+        match at_key(alloc, name, read_param(alloc, param, json, name)) {
+            Ok(entry) => entries.push(entry)?,
+            Err(refusal) => return Err(refusal),
+        }
+    }
+    Ok(Value::Fields(entries.done()))
+}
+
+/// The value of a parameter, which is null where it is missing.
+fn read_param(alloc: Global, param: &Param, json: &Json, name: &str) -> Result<Value, Refusal<Path>>
+    ensures { Reads view_value (value_at (param_type (view_param param.now)) (unwrap_or (get name.now (view json.now)) null)) result }
+{
+    match json.get(name) {
+        Some(member) => read_given(alloc, param, member),
+        None => read_given(alloc, param, &Json::Null),
+    }
+}
+
+/// The value of a parameter of which this is given.
+fn read_given(alloc: Global, param: &Param, json: &Json) -> Result<Value, Refusal<Path>>
+    ensures { Reads view_value (value_at (param_type (view_param param.now)) (view json.now)) result }
+{
+    if param.required {
+        read_value(alloc, &param.of, json)
+    } else {
+        read_optional(alloc, &param.of, json)
+    }
+}
+
+/// The value at a type that also takes null.
+fn read_optional(alloc: Global, of: &SoyType, json: &Json) -> Result<Value, Refusal<Path>>
+    ensures { Reads view_value (value_at (joined (view_type of.now) NullType) (view json.now)) result }
+{
+    match read_value(alloc, of, json) {
+        Ok(value) => Ok(value),
+        Err(Refusal::Because(_)) if json.is_null() => Ok(Value::Null),
+        Err(Refusal::Because(_)) => Err(unfit(alloc)),
+        Err(Refusal::OutOfMemory) => Err(Refusal::OutOfMemory),
+    }
+}

@@ -1,0 +1,14 @@
+//! Reading data at types.
+//!
+//! `read_data` gives the values of parameters that are read of JSON, exactly as `Read` says, or the
+//! code and the path of the first part that doesn't fit.
+//! Depends on soy_base, soy_tree and serde_json.
+#![tactic(auto)]
+
+mod data;
+mod fault;
+mod path;
+mod reading;
+
+pub use data::read_data;
+pub use fault::DataFault;
