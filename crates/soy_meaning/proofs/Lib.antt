@@ -1,0 +1,17 @@
+pub mod Members
+pub mod Moves
+pub mod Runs
+pub mod Holds
+pub mod HolePlaces
+pub mod SamePlacings
+pub mod Sound
+pub mod Complete
+pub mod PointsAndHolds
+pub mod AddsPlaces
+pub mod FinePaths
+pub mod Walks
+pub mod PageStates
+pub mod EscapedTexts
+pub mod KeptForms
+pub mod Pages
+pub mod PagePlaces

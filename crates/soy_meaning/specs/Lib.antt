@@ -1,0 +1,14 @@
+pub mod EscapedAt
+pub mod Machine
+pub mod Plan
+pub mod Segments
+pub mod States
+pub mod Points
+pub mod FourPoints
+pub mod Walk
+pub mod Holes
+pub mod PageMachine
+pub mod PlanOfParts
+pub mod PlanOfNodes
+pub mod Filled
+pub mod Rows
