@@ -1,5 +1,7 @@
 -- Where the four points hold, the walk meets no fault.
-use Rattle.std.proofs.Common.{◌≡◌, ℕ, zero, suc, ◌+◌, ◌≤◌, ◌<◌, Bool, true, false, List, [], ◌∷◌, ◌++◌, ◌⊎◌, inl, inr, Option, Some, None, Result, Ok, Err, if◌then◌else◌, length, refl, sym, ap, ◌∙◌, subst, arith, eq-eqb, le-ltb}
+use Rattle.std.proofs.Common.{◌≡◌, ℕ, zero, suc, ◌+◌, ◌≤◌, ◌<◌, Bool, true, false, List, [], ◌∷◌, ◌++◌, ◌⊎◌, inl, inr}
+use Rattle.std.proofs.Common.{Option, Some, None, Result, Ok, Err, if◌then◌else◌, length, refl, sym, ap, ◌∙◌, subst}
+use Rattle.std.proofs.Common.{arith, eq-eqb, le-ltb}
 use Rattle.std.proofs.lemmas.Bool.{eqb-false}
 use Rattle.std.specs.Prelude.{nat_lt, ◌==◌}
 use Rattle.soy_base.specs.declared.place.Place.TheVariants as place
@@ -18,9 +20,11 @@ use Rattle.soy_meaning.proofs.Sound.{Sound, good_mono, post_mono, sound}
 use Rattle.soy_meaning.specs.FourPoints.{OnePlacing, takes_classes}
 use Rattle.soy_meaning.specs.Machine.{ComparesEqual, Machine}
 use Rattle.soy_meaning.specs.Plan.{Either, Frame, Hole, Loop, Meet, Nothing, Nowhere, Plan, Site, StaticText, Then}
-use Rattle.soy_meaning.specs.Segments.{Reaches, StandsAfter}
+use Rattle.soy_meaning.specs.PathParts.{PathLeads, StandsAfter}
 use Rattle.soy_meaning.specs.States.{AtMost, HasNoRepeats, IsMember, joined_states}
-use Rattle.soy_meaning.specs.Walk.{WalkFault, Walked, after_turn, all_may_end, frame_end, is_same_placing, met_at, other_placing, place_of_hole, states_after_text, states_after_value, taken_place, turns, walk, within_limit}
+use Rattle.soy_meaning.specs.Walk.{WalkFault, Walked, after_turn, all_may_end, frame_end, is_same_placing, met_at}
+use Rattle.soy_meaning.specs.Walk.{other_placing, place_of_hole, states_after_text, states_after_value, taken_place}
+use Rattle.soy_meaning.specs.Walk.{turns, walk, within_limit}
 
 module _ {S : Type 0} (m : Machine S) (compares : ComparesEqual m) where
   none_other : (pl : Placing) (xs : List S) → ((s : S) → IsMember s xs → m.placing s ≡ pl) → other_placing m pl xs ≡ None
@@ -54,7 +58,7 @@ module _ {S : Type 0} (m : Machine S) (compares : ComparesEqual m) where
       let a : nat_lt 16 (length more) ≡ false = le-ltb 16 (length more) small in
       let r : (v : Walked S) × (again (record { states = more; places = head.places }) ≡ Ok v) = f refl in (r.0, rw (a, e) r.1)
 
-  turns_go : (at : Site) (p : Plan) (H : S → Type 0) → ((s t : S) → H s → Reaches m p s t → H t) → Holds m p H → AtMost 16 H
+  turns_go : (at : Site) (p : Plan) (H : S → Type 0) → ((s t : S) → H s → PathLeads m p s t → H t) → Holds m p H → AtMost 16 H
       → ((w : Walked S) → HasNoRepeats w.states → Holds m p (λ s. IsMember s w.states) → (v : Walked S) × (walk m p w ≡ Ok v))
       → (n : ℕ) (w : Walked S) → 17 ≤ n + length w.states → HasNoRepeats w.states → ((s : S) → IsMember s w.states → H s) → (v : Walked S) × (turns m (λ u. walk m p u) at n w ≡ Ok v)
   unfolding turns
@@ -65,7 +69,7 @@ module _ {S : Type 0} (m : Machine S) (compares : ComparesEqual m) where
       let more = joined_states m w.states r.0.states in
       let within : (s : S) → IsMember s more → H s = λ s h. elim (mem_join m compares s w.states r.0.states h) [
         | inl k ↦ inside s k
-        | inr k ↦ (let j : StandsAfter m p (λ u. IsMember u w.states) s = a.from s k in closed j.from s (inside j.from j.before) j.reaches)
+        | inr k ↦ (let j : StandsAfter m p (λ u. IsMember u w.states) s = a.from s k in closed j.from s (inside j.from j.before) j.path_leads)
       ] in
       let apart : HasNoRepeats more = distinct_join m compares w.states r.0.states d in
       let grows : length w.states ≤ length more = length_join m compares w.states r.0.states in
@@ -108,8 +112,8 @@ module _ {S : Type 0} (m : Machine S) (compares : ComparesEqual m) where
       (r.0, and_then_is (walk m p w) (λ v. within_limit m at v) r.0 (Ok r.0) r.1 (limited_goes at r.0 (g.1 r.0.states (a.distinct d) a.from)))
   complete (Loop at p) w d g =
       let H : S → Type 0 = StandsAfter m (Loop at p) (λ s. IsMember s w.states) in
-      turns_go at p H (λ s t h r. record { from = h.from; before = h.before; reaches = loop_more m at p h.from s t h.reaches r }) g.0 g.1 (λ u c k. complete p u c k) 17 w (omega arith) d
-      (λ s h. record { from = s; before = h; reaches = loop_stops m at p s })
+      turns_go at p H (λ s t h r. record { from = h.from; before = h.before; path_leads = loop_more m at p h.from s t h.path_leads r }) g.0 g.1 (λ u c k. complete p u c k) 17 w (omega arith) d
+      (λ s h. record { from = s; before = h; path_leads = loop_stops m at p s })
   complete (Frame kind at p) w d g =
       let start : Walked S = record { states = m.start kind ∷ []; places = w.places } in
       let one : (s : S) → IsMember s (m.start kind ∷ []) → s ≡ m.start kind = λ s h. elim h [ inl e ↦ e | inr k ↦ absurd k ] in

@@ -2,7 +2,7 @@
 use Rattle.std.specs.Prelude.{◌≡◌, IsTrue}
 use Rattle.soy_meaning.specs.Machine.{Machine}
 use Rattle.soy_meaning.specs.Plan.{Plan, Nothing, Nowhere, StaticText, Hole, Then, Either, Meet, Loop, Frame}
-use Rattle.soy_meaning.specs.Segments.{StandsAfter}
+use Rattle.soy_meaning.specs.PathParts.{StandsAfter}
 use Rattle.soy_meaning.specs.States.{AtMost}
 use Rattle.soy_meaning.specs.FourPoints.{Passes, OnePlacing, StartsAs}
 

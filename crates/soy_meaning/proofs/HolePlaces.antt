@@ -4,7 +4,7 @@ use Rattle.soy_base.specs.declared.place.Place.{Place}
 use Rattle.soy_base.specs.declared.place.Placing.TheVariants.{Takes}
 use Rattle.soy_meaning.specs.Machine.{Machine}
 use Rattle.soy_meaning.specs.Plan.{Plan, Hole, Then, Either, Meet, Loop, Frame}
-use Rattle.soy_meaning.specs.Segments.{StandsAfter}
+use Rattle.soy_meaning.specs.PathParts.{StandsAfter}
 use Rattle.soy_meaning.specs.FourPoints.{StartsAs}
 
 -- two lists of places, one after the other

@@ -1,5 +1,6 @@
 -- The escaped form of a value keeps its place.
-use Rattle.std.proofs.Common.{◌≡◌, ℕ, Bool, true, false, not, ◌&&◌, ◌||◌, eqb, List, [], ◌∷◌, ◌++◌, Option, Some, None, refl, ap, sym, subst, ◌∙◌, arith}
+use Rattle.std.proofs.Common.{◌≡◌, ℕ, Bool, true, false, not, ◌&&◌, ◌||◌, eqb, List, [], ◌∷◌, ◌++◌, Option, Some, None}
+use Rattle.std.proofs.Common.{refl, ap, sym, subst, ◌∙◌, arith}
 use Rattle.std.specs.Prelude.{Ok, codes, if◌then◌else◌, bytes_eq}
 use Rattle.std.specs.Char.{is_ascii_digit}
 use Rattle.std.specs.List.{list_all}
@@ -40,8 +41,10 @@ use Rattle.html_state.specs.declared.row.HtmlRow.TheVariants as row
 use Rattle.html_state.specs.declared.row.State.{State}
 use Rattle.html_state.proofs.KeptPlaces.{holds, safe_text}
 use Rattle.html_state.proofs.Pieces.{after_all-append}
-use Rattle.soy_meaning.specs.EscapedAt.{are_digits, escaped_by, escaped_where, is_int_text, is_text_of}
-use Rattle.soy_meaning.proofs.EscapedTexts.{html_no_tag, html_no_quote, js_no_tag, js_word_no_tag, js_literal_no_tag, css_no_tag, css_no_quote, css_value_no_tag, css_value_no_quote, component_no_quote, normal_text_no_quote, start_no_quote}
+use Rattle.soy_meaning.specs.EscapedAt.{are_some_digits, escaped_by, escaped_where, is_int_text, is_text_of}
+use Rattle.soy_meaning.proofs.EscapedTexts.{html_no_tag, html_no_quote, js_no_tag, js_word_no_tag, js_literal_no_tag}
+use Rattle.soy_meaning.proofs.EscapedTexts.{css_no_tag, css_no_quote, css_value_no_tag, css_value_no_quote}
+use Rattle.soy_meaning.proofs.EscapedTexts.{component_no_quote, normal_text_no_quote, start_no_quote}
 
 -- ---- wrapped texts
 
@@ -97,14 +100,14 @@ all_digits : (text : List ℕ) → list_all is_ascii_digit text ≡ true → lis
 all_digits [] are = refl
 all_digits (c ∷ text) are = let parts = and_parts _ _ are in and_from _ _ (digit_character c parts.0) (all_digits text parts.1)
 
-digits_word : (text : List ℕ) → are_digits text ≡ true → list_all is_word_character text ≡ true
+digits_word : (text : List ℕ) → are_some_digits text ≡ true → list_all is_word_character text ≡ true
 digits_word [] are = refl
 digits_word (c ∷ text) are = all_digits (c ∷ text) are
 
 minus_character : (c : ℕ) → eqb c minus_sign ≡ true → is_word_character c ≡ true
 minus_character c is = grind (arith, nat_tests)
 
-int_if : (test : Bool) (c : ℕ) (text : List ℕ) → eqb c minus_sign ≡ test → (if test then are_digits text else are_digits (c ∷ text)) ≡ true →
+int_if : (test : Bool) (c : ℕ) (text : List ℕ) → eqb c minus_sign ≡ test → (if test then are_some_digits text else are_some_digits (c ∷ text)) ≡ true →
     list_all is_word_character (c ∷ text) ≡ true
 int_if true c text same are = and_from _ _ (minus_character c same) (digits_word text are)
 int_if false c text same are = digits_word (c ∷ text) are

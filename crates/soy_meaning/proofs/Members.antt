@@ -1,7 +1,8 @@
 -- Members of lists without repeats.
-use Rattle.std.proofs.Common.{◌≡◌, ℕ, suc, ◌+◌, ◌≤◌, Bool, true, false, List, [], ◌∷◌, ◌++◌, ◌⊎◌, inl, inr, if◌then◌else◌, length, map, refl, sym, ap, ◌∙◌, subst, arith, length-append}
+use Rattle.std.proofs.Common.{◌≡◌, ℕ, suc, ◌+◌, ◌≤◌, Bool, true, false, List, [], ◌∷◌, ◌++◌, ◌⊎◌, inl, inr}
+use Rattle.std.proofs.Common.{if◌then◌else◌, length, map, refl, sym, ap, ◌∙◌, subst, arith, length-append}
 use Rattle.soy_meaning.specs.Machine.{ComparesEqual, Machine}
-use Rattle.soy_meaning.specs.Segments.{nothing}
+use Rattle.soy_meaning.specs.PathParts.{empty_path}
 use Rattle.soy_meaning.specs.States.{AtMost, HasNoRepeats, IsMember, has_state, joined_states, with_state}
 
 pub mem_left : {S : Type 0} (s : S) (xs ys : List S) → IsMember s xs → IsMember s (xs ++ ys)

@@ -1,10 +1,11 @@
 -- What one move of every state gives.
-use Rattle.std.proofs.Common.{◌≡◌, ℕ, Bool, true, false, List, [], ◌∷◌, ◌++◌, ◌⊎◌, inl, inr, Result, Ok, Err, length, map, refl, sym, ap, ◌∙◌, subst, arith}
+use Rattle.std.proofs.Common.{◌≡◌, ℕ, Bool, true, false, List, [], ◌∷◌, ◌++◌, ◌⊎◌, inl, inr, Result, Ok, Err, length}
+use Rattle.std.proofs.Common.{map, refl, sym, ap, ◌∙◌, subst, arith}
 use Rattle.soy_base.specs.declared.code.Code.{Code}
 use Rattle.soy_tree.specs.Faults.{and_then}
 use Rattle.soy_meaning.proofs.Members.{add_new, add_old, distinct_add, distinct_join, join_new, mem_add, mem_join}
 use Rattle.soy_meaning.specs.Machine.{ComparesEqual, Machine}
-use Rattle.soy_meaning.specs.Segments.{after_text, nothing}
+use Rattle.soy_meaning.specs.PathParts.{after_text, empty_path}
 use Rattle.soy_meaning.specs.States.{HasNoRepeats, IsMember, with_state}
 use Rattle.soy_meaning.specs.Walk.{moved_states, states_after_text, states_after_value}
 

@@ -1,5 +1,6 @@
 -- A page that fills a path goes on as the walk along the path, through values and frames.
-use Rattle.std.proofs.Common.{◌≡◌, ℕ, Bool, true, false, ◌&&◌, ◌==◌, eqb, List, [], ◌∷◌, ◌++◌, ◌⊎◌, inl, inr, Option, Some, None, Result, Ok, Err, if◌then◌else◌, refl, sym, ap, ◌∙◌, subst, append_assoc}
+use Rattle.std.proofs.Common.{◌≡◌, ℕ, Bool, true, false, ◌&&◌, ◌==◌, eqb, List, [], ◌∷◌, ◌++◌, ◌⊎◌, inl, inr, Option}
+use Rattle.std.proofs.Common.{Some, None, Result, Ok, Err, if◌then◌else◌, refl, sym, ap, ◌∙◌, subst, append_assoc}
 use Rattle.std.specs.Prelude.{IsTrue, unwrap_or}
 use Rattle.std.specs.Char.{is_ascii_alphanumeric}
 use Rattle.std.specs.List.{list_all}
@@ -19,12 +20,15 @@ use Rattle.soy_base.specs.declared.place.Placing.TheVariants.{Takes, Refuses}
 use Rattle.soy_base.specs.declared.place.ValueClass.{ValueClass}
 use Rattle.html_state.specs.AfterAll.{after_all}
 use Rattle.html_state.specs.AfterValue.{after_value}
-use Rattle.html_state.specs.Follows.{Follows, FollowsOn, FollowsRow, IsOutside, LeadsPage, PlacedAlike, FramesAttributes, FramesHtml}
+use Rattle.html_state.specs.Follows.{Follows, FollowsOn, FollowsRow, IsOutside, LeadsPage, PlacedAlike}
+use Rattle.html_state.specs.Follows.{FramesAttributes, FramesHtml}
 use Rattle.html_state.specs.KeepsPlace.{KeepsPlaceAt}
 use Rattle.html_state.specs.Kept.{prefix_with}
 use Rattle.html_state.specs.Leads.{marked}
 use Rattle.html_state.specs.MayEnd.{may_end, may_end_row}
-use Rattle.html_state.specs.Next.{begun_reference, ampersand_next, is_decided, name_end, name_next, next, numeric_next, pending, plain_next, reference_begun_next, reference_next, text_end, value_character_next}
+use Rattle.html_state.specs.Next.{begun_reference, ampersand_next, is_decided, name_end, name_next, next, numeric_next}
+use Rattle.html_state.specs.Next.{pending, plain_next, reference_begun_next, reference_next, text_end}
+use Rattle.html_state.specs.Next.{value_character_next}
 use Rattle.html_state.specs.Pieces.{Piece, Static, Value, after_piece, after_pieces, placing_after}
 use Rattle.html_state.specs.References.{name_begun, reference_names}
 use Rattle.html_state.specs.Start.{start}
@@ -43,11 +47,12 @@ use Rattle.html_state.proofs.PageSteps.{page_step, page_text_end, same_row}
 use Rattle.html_state.proofs.Pieces.{after_all-append}
 use Rattle.soy_tree.specs.Faults.{and_then}
 use Rattle.soy_meaning.specs.EscapedAt.{escaped_where, is_text_of}
-use Rattle.soy_meaning.specs.Filled.{Filled, done, with_text, with_value, with_frame, segments_of, form_after, filled_pieces, IsBlockKind, IsFrameOf, FillsHoles}
+use Rattle.soy_meaning.specs.Filled.{Filled, nothing_more, text_before, value_before, frame_before, parts_of_filled}
+use Rattle.soy_meaning.specs.Filled.{value_form, filled_pieces, IsBlockKind, IsFrameOf, FillsHoles}
 use Rattle.soy_meaning.specs.FourPoints.{FourPoints, StartsAs, takes_classes}
 use Rattle.soy_meaning.specs.PageMachine.{page_machine}
 use Rattle.soy_meaning.specs.PlanOfNodes.{kind_class}
-use Rattle.soy_meaning.specs.Segments.{Segment, TextSegment, HoleSegment, after_text, after_segments, StandsAfter}
+use Rattle.soy_meaning.specs.PathParts.{PathPart, StaticPart, HolePart, after_text, state_after_parts, StandsAfter}
 use Rattle.soy_meaning.specs.States.{IsMember}
 use Rattle.soy_meaning.proofs.FinePaths.{Fine, fine_runs, path_fine}
 use Rattle.soy_meaning.proofs.Holds.{Holds}
@@ -168,13 +173,13 @@ lost_hole t classes lost takes =
     let refused : takes_classes (Refuses code.Place) classes ≡ true = subst (λ r. takes_classes (row_placing r) classes ≡ true) (outside_row t.row lost) takes in
     let never : ⊥ = cc in never
 
-lost_rest : (l : List Segment) (t u : State) → IsLost t → Fine page_machine l t → after_segments page_machine l t ≡ Ok u → IsLost u
+lost_rest : (l : List PathPart) (t u : State) → IsLost t → Fine page_machine l t → state_after_parts page_machine l t ≡ Ok u → IsLost u
 lost_rest [] t u lost fine is = subst IsLost (ok_same t u is) lost
-lost_rest (TextSegment text ∷ l) t u lost fine is =
-    let p : (w : State) × (after_text page_machine text t ≡ Ok w) × (after_segments page_machine l w ≡ Ok u) = and_then_ok (after_text page_machine text t) (λ w. after_segments page_machine l w) u is in
+lost_rest (StaticPart text ∷ l) t u lost fine is =
+    let p : (w : State) × (after_text page_machine text t ≡ Ok w) × (state_after_parts page_machine l w ≡ Ok u) = and_then_ok (after_text page_machine text t) (λ w. state_after_parts page_machine l w) u is in
     let same : fine.0 ≡ p.0 = ok_same fine.0 p.0 (sym fine.1 ∙ p.1) in
     lost_rest l p.0 u (lost_text text t p.0 lost p.1) (subst (λ w. Fine page_machine l w) same fine.2) p.2
-lost_rest (HoleSegment classes ∷ l) t u lost fine is = absurd (lost_hole t classes lost fine.0)
+lost_rest (HolePart classes ∷ l) t u lost fine is = absurd (lost_hole t classes lost fine.0)
 
 all_take : (point : Place) (value : ValueClass) (classes : List ValueClass) → list_all (takes_class (Takes point)) classes ≡ true → IsMember value classes → takes_class (Takes point) value ≡ true
 all_take point value [] all one = absurd one
@@ -218,7 +223,7 @@ value_follows around page walk out follows keeps =
 
 -- the form of a value is that of the walk's placing
 form_is : (context : Dir) (o : Result Placing Code) (own walk : Placing) (value : ValueClass) (text out : List ℕ) → o ≡ Ok own → own ≡ walk → escaped_where walk value text context ≡ Some out →
-    form_after o value text context ≡ out
+    value_form o value text context ≡ out
 form_is context o own walk value text out is same form = rw (is, same, form) refl
 
 -- ---- frames
@@ -248,22 +253,22 @@ pub follows_itself : (state : State) → Follows None state state
 follows_itself state = (same_row state.row, refl)
 
 -- an accepted frame is fine from its start, and may end where it leads
-record FrameRuns (kind : Kind) (segments : List Segment) : Type 0 where
+record FrameRuns (kind : Kind) (parts : List PathPart) : Type 0 where
   pub last : State
-  pub fine : Fine page_machine segments (start kind)
-  pub leads : after_segments page_machine segments (start kind) ≡ Ok last
+  pub fine : Fine page_machine parts (start kind)
+  pub leads : state_after_parts page_machine parts (start kind) ≡ Ok last
   pub ends : may_end kind last ≡ true
 
-frame_runs : (kind : Kind) (segments : List Segment) → IsFrameOf kind segments → FrameRuns kind segments
-frame_runs kind segments frame =
+frame_runs : (kind : Kind) (parts : List PathPart) → IsFrameOf kind parts → FrameRuns kind parts
+frame_runs kind parts frame =
     let good : Holds page_machine frame.plan (StartsAs page_machine kind) = good_of_points page_machine frame.plan (StartsAs page_machine kind) frame.points.points frame.inner in
-    let fine : Fine page_machine segments (start kind) = path_fine page_machine frame.plan (StartsAs page_machine kind) good segments frame.path (start kind) refl in
-    let runs : (u : State) × (after_segments page_machine segments (start kind) ≡ Ok u) = fine_runs page_machine segments (start kind) fine in
+    let fine : Fine page_machine parts (start kind) = path_fine page_machine frame.plan (StartsAs page_machine kind) good parts frame.path (start kind) refl in
+    let runs : (u : State) × (state_after_parts page_machine parts (start kind) ≡ Ok u) = fine_runs page_machine parts (start kind) fine in
     record {
       last = runs.0;
       fine = fine;
       leads = runs.1;
-      ends = frame.points.ends runs.0 (record { from = start kind; before = refl; reaches = record { segments = segments; path = frame.path; reads = runs.1 } });
+      ends = frame.points.ends runs.0 (record { from = start kind; before = refl; path_leads = record { parts = parts; path = frame.path; reads = runs.1 } });
     }
 
 -- ---- what fills a path
@@ -295,13 +300,13 @@ module _ (context : Dir) where
   FollowsFilled f =
       (around : Option Tag) (kind : Kind) (so_far : List Piece) (own page walk last : State) → FillsHoles f →
       after_pieces (start kind) so_far ≡ Ok own → Follows None own walk → Follows around page walk → IsSettled walk →
-      Fine page_machine (segments_of f) walk → after_segments page_machine (segments_of f) walk ≡ Ok last →
+      Fine page_machine (parts_of_filled f) walk → state_after_parts page_machine (parts_of_filled f) walk ≡ Ok last →
       IsLost last ⊎ GoesOn around kind so_far (filled_pieces context f kind so_far) page last
 
   -- past what stands first
   go_on : (f : Filled) → FollowsFilled f → (around : Option Tag) (kind : Kind) (so_far first : List Piece) (own page walk last : State) → FillsHoles f →
       after_pieces (start kind) so_far ≡ Ok own → LeadsOn None first own walk → LeadsOn around first page walk → IsSettled walk →
-      Fine page_machine (segments_of f) walk → after_segments page_machine (segments_of f) walk ≡ Ok last →
+      Fine page_machine (parts_of_filled f) walk → state_after_parts page_machine (parts_of_filled f) walk ≡ Ok last →
       IsLost last ⊎ GoesOn around kind so_far (filled_pieces context f kind (so_far ++ first)) page last
   go_on f follows around kind so_far first own page walk last fills reads own_led page_led settled fine leads =
       elim (follows around kind (so_far ++ first) own_led.0 page_led.0 walk last fills (read_behind kind so_far first own own_led.0 reads own_led.1) own_led.2 page_led.2 settled fine leads) [
@@ -310,12 +315,12 @@ module _ (context : Dir) where
       ]
 
   -- a frame in a hole
-  frame_leads : (kind : Kind) (inner : Filled) → FollowsFilled inner → FillsHoles inner → IsFrameOf kind (segments_of inner) → IsBlockKind kind →
+  frame_leads : (kind : Kind) (inner : Filled) → FollowsFilled inner → FillsHoles inner → IsFrameOf kind (parts_of_filled inner) → IsBlockKind kind →
       (around : Option Tag) (page walk : State) → Follows around page walk → takes_class (placing walk) (kind_class kind) ≡ true → IsSettled walk →
       LeadsOn around (filled_pieces context inner kind []) page (after_value walk)
   frame_leads kind inner follows fills frame block around page walk page_follows takes settled =
       let g : FrameGoesOn around page walk kind = frame_goes_on around page walk kind block page_follows takes settled in
-      let runs : FrameRuns kind (segments_of inner) = frame_runs kind (segments_of inner) frame in
+      let runs : FrameRuns kind (parts_of_filled inner) = frame_runs kind (parts_of_filled inner) frame in
       elim (follows g.0 kind [] (start kind) page (start kind) runs.last fills refl (follows_itself (start kind)) g.1 (starts_settled kind) runs.fine runs.leads) [
         | inl lost ↦ absurd (may_not_end kind runs.last lost runs.ends)
         | inr on ↦ (
@@ -325,14 +330,14 @@ module _ (context : Dir) where
         )
       ]
 
-  value_form : (kind : Kind) (so_far : List Piece) (own walk : State) (classes : List ValueClass) (value : ValueClass) (text out : List ℕ) → after_pieces (start kind) so_far ≡ Ok own → Follows None own walk →
-      takes_classes (placing walk) classes ≡ true → escaped_where (placing walk) value text context ≡ Some out → form_after (placing_after kind so_far) value text context ≡ out
-  value_form kind so_far own walk classes value text out reads follows takes form =
+  form_of_walk : (kind : Kind) (so_far : List Piece) (own walk : State) (classes : List ValueClass) (value : ValueClass) (text out : List ℕ) → after_pieces (start kind) so_far ≡ Ok own → Follows None own walk →
+      takes_classes (placing walk) classes ≡ true → escaped_where (placing walk) value text context ≡ Some out → value_form (placing_after kind so_far) value text context ≡ out
+  form_of_walk kind so_far own walk classes value text out reads follows takes form =
       form_is context (placing_after kind so_far) (placing own) (placing walk) value text out (ap (after (λ state. Ok (placing state))) reads)
       (same_placing_alone (placing own) (placing walk) classes (page_place None own walk follows) takes) form
 
   pub pieces_follow : (f : Filled) → FollowsFilled f
-  pieces_follow done around kind so_far own page walk last fills reads own_follows page_follows settled fine leads =
+  pieces_follow nothing_more around kind so_far own page walk last fills reads own_follows page_follows settled fine leads =
       let same : walk ≡ last = ok_same walk last leads in
       inr (record {
         more = [];
@@ -341,24 +346,24 @@ module _ (context : Dir) where
         reads = (page, refl, subst (λ w. Follows around page w) same page_follows);
         settled = subst IsSettled same settled;
       })
-  pieces_follow (with_text text f) around kind so_far own page walk last fills reads own_follows page_follows settled fine leads =
-      let p : (w : State) × (after_text page_machine text walk ≡ Ok w) × (after_segments page_machine (segments_of f) w ≡ Ok last) = and_then_ok (after_text page_machine text walk) (λ w. after_segments page_machine (segments_of f) w) last leads in
-      let rest : Fine page_machine (segments_of f) p.0 = subst (λ w. Fine page_machine (segments_of f) w) (ok_same fine.0 p.0 (sym fine.1 ∙ p.1)) fine.2 in
+  pieces_follow (text_before text f) around kind so_far own page walk last fills reads own_follows page_follows settled fine leads =
+      let p : (w : State) × (after_text page_machine text walk ≡ Ok w) × (state_after_parts page_machine (parts_of_filled f) w ≡ Ok last) = and_then_ok (after_text page_machine text walk) (λ w. state_after_parts page_machine (parts_of_filled f) w) last leads in
+      let rest : Fine page_machine (parts_of_filled f) p.0 = subst (λ w. Fine page_machine (parts_of_filled f) w) (ok_same fine.0 p.0 (sym fine.1 ∙ p.1)) fine.2 in
       elim (text_follows None text own walk p.0 own_follows p.1) [
-        | inl lost ↦ inl (lost_rest (segments_of f) p.0 last lost rest p.2)
+        | inl lost ↦ inl (lost_rest (parts_of_filled f) p.0 last lost rest p.2)
         | inr o ↦ elim (text_follows around text page walk p.0 page_follows p.1) [
-          | inl lost ↦ inl (lost_rest (segments_of f) p.0 last lost rest p.2)
+          | inl lost ↦ inl (lost_rest (parts_of_filled f) p.0 last lost rest p.2)
           | inr q ↦ go_on f (pieces_follow f) around kind so_far (Static text ∷ []) own page p.0 last fills reads
               (o.0, one_piece own o.0 (Static text) o.1, o.2) (q.0, one_piece page q.0 (Static text) q.1, q.2) q.3 rest p.2
         ]
       ]
-  pieces_follow (with_value classes value text f) around kind so_far own page walk last fills reads own_follows page_follows settled fine leads =
+  pieces_follow (value_before classes value text f) around kind so_far own page walk last fills reads own_follows page_follows settled fine leads =
       let form : (out : List ℕ) × (escaped_where (placing walk) value text context ≡ Some out) × KeepsPlaceAt (placing walk) out = form_kept (placing walk) value text context (takes_one (placing walk) value classes fine.0 fills.0) fills.1 in
-      let is_out : form_after (placing_after kind so_far) value text context ≡ form.0 = value_form kind so_far own walk classes value text form.0 reads own_follows fine.0 form.1 in
-      go_on f (pieces_follow f) around kind so_far (Value (form_after (placing_after kind so_far) value text context) ∷ []) own page (after_value walk) last fills.2 reads
+      let is_out : value_form (placing_after kind so_far) value text context ≡ form.0 = form_of_walk kind so_far own walk classes value text form.0 reads own_follows fine.0 form.1 in
+      go_on f (pieces_follow f) around kind so_far (Value (value_form (placing_after kind so_far) value text context) ∷ []) own page (after_value walk) last fills.2 reads
       (subst (λ o. LeadsOn None (Value o ∷ []) own (after_value walk)) (sym is_out) (value_follows None own walk form.0 own_follows form.2))
       (subst (λ o. LeadsOn around (Value o ∷ []) page (after_value walk)) (sym is_out) (value_follows around page walk form.0 page_follows form.2)) settled fine.1 leads
-  pieces_follow (with_frame classes inner_kind inner f) around kind so_far own page walk last fills reads own_follows page_follows settled fine leads =
+  pieces_follow (frame_before classes inner_kind inner f) around kind so_far own page walk last fills reads own_follows page_follows settled fine leads =
       let takes : takes_class (placing walk) (kind_class inner_kind) ≡ true = takes_one (placing walk) (kind_class inner_kind) classes fine.0 fills.1 in
       go_on f (pieces_follow f) around kind so_far (filled_pieces context inner inner_kind []) own page (after_value walk) last fills.4 reads
       (frame_leads inner_kind inner (pieces_follow inner) fills.3 fills.2 fills.0 None own walk own_follows takes settled)
@@ -367,5 +372,5 @@ module _ (context : Dir) where
   -- ---- the laws
 
   pub frame_law : (around : Option Tag) (page walk : State) (kind : Kind) (f : Filled) → Follows around page walk → IsSettled walk → IsBlockKind kind → takes_class (placing walk) (kind_class kind) ≡ true →
-      IsFrameOf kind (segments_of f) → FillsHoles f → LeadsOn around (filled_pieces context f kind []) page (after_value walk)
+      IsFrameOf kind (parts_of_filled f) → FillsHoles f → LeadsOn around (filled_pieces context f kind []) page (after_value walk)
   frame_law around page walk kind f follows settled block takes frame fills = frame_leads kind f (pieces_follow f) fills frame block around page walk follows takes settled

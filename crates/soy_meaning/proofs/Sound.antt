@@ -1,5 +1,7 @@
 -- Where the walk meets no fault, the four points hold, and its states are those that stand.
-use Rattle.std.proofs.Common.{◌≡◌, ℕ, zero, suc, ◌+◌, ◌≤◌, ◌<◌, Bool, true, false, List, [], ◌∷◌, ◌++◌, ◌⊎◌, inl, inr, Option, Some, None, Result, Ok, Err, if◌then◌else◌, length, refl, sym, ap, ◌∙◌, subst, arith, eqb-true, ltb-false}
+use Rattle.std.proofs.Common.{◌≡◌, ℕ, zero, suc, ◌+◌, ◌≤◌, ◌<◌, Bool, true, false, List, [], ◌∷◌, ◌++◌, ◌⊎◌, inl, inr}
+use Rattle.std.proofs.Common.{Option, Some, None, Result, Ok, Err, if◌then◌else◌, length, refl, sym, ap, ◌∙◌, subst}
+use Rattle.std.proofs.Common.{arith, eqb-true, ltb-false}
 use Rattle.std.specs.Prelude.{nat_lt, ◌==◌}
 use Rattle.std.specs.List.{list_all}
 use Rattle.soy_base.specs.declared.code.Code.TheVariants as code
@@ -14,21 +16,26 @@ use Rattle.soy_tree.specs.Faults.{and_then}
 use Rattle.soy_meaning.proofs.Holds.{Holds}
 use Rattle.soy_meaning.proofs.Members.{distinct_join, few_from_list, join_new, join_old, join_same, mem_join}
 use Rattle.soy_meaning.proofs.Moves.{Maps, and_then_ok, follow_maps, ok_same, values_distinct, values_from, values_to}
-use Rattle.soy_meaning.proofs.Runs.{block_reached, block_reaches, first_reaches, hole_reached, hole_reaches, loop_goes, loop_reached, loop_stops, meet_reached, meet_reaches, nothing_reached, nowhere_reached, or_reached, second_reaches, static_reached, static_reaches, then_reached, then_reaches}
+use Rattle.soy_meaning.proofs.Runs.{block_reached, block_reaches, first_reaches, hole_reached, hole_reaches, loop_goes}
+use Rattle.soy_meaning.proofs.Runs.{loop_reached, loop_stops, meet_reached, meet_reaches, nothing_reached}
+use Rattle.soy_meaning.proofs.Runs.{nowhere_reached, or_reached, second_reaches, static_reached, static_reaches}
+use Rattle.soy_meaning.proofs.Runs.{then_reached, then_reaches}
 use Rattle.soy_meaning.proofs.SamePlacings.{same_placing}
 use Rattle.soy_meaning.specs.FourPoints.{OnePlacing, takes_classes}
 use Rattle.soy_meaning.specs.Machine.{ComparesEqual, Machine}
 use Rattle.soy_meaning.specs.Plan.{Either, Frame, Hole, Loop, Meet, Nothing, Nowhere, Plan, Site, StaticText, Then}
-use Rattle.soy_meaning.specs.Segments.{Reaches, StandsAfter, after_text, nothing}
+use Rattle.soy_meaning.specs.PathParts.{PathLeads, StandsAfter, after_text, empty_path}
 use Rattle.soy_meaning.specs.States.{AtMost, HasNoRepeats, IsMember, joined_states}
-use Rattle.soy_meaning.specs.Walk.{WalkFault, Walked, after_turn, agreed_place, all_may_end, fault_at, frame_end, is_same_placing, met_at, other_placing, place_of_hole, states_after_text, states_after_value, taken_place, turns, walk, within_limit}
+use Rattle.soy_meaning.specs.Walk.{WalkFault, Walked, after_turn, agreed_place, all_may_end, walk_fault, frame_end}
+use Rattle.soy_meaning.specs.Walk.{is_same_placing, met_at, other_placing, place_of_hole, states_after_text}
+use Rattle.soy_meaning.specs.Walk.{states_after_value, taken_place, turns, walk, within_limit}
 
 module _ {S : Type 0} (m : Machine S) where
   pub few_mono : (n : ℕ) (P Q : S → Type 0) → ((s : S) → P s → Q s) → AtMost n Q → AtMost n P
   few_mono n P Q inside few xs d all = few xs d (λ s h. inside s (all s h))
 
   pub post_mono : (p : Plan) (P Q : S → Type 0) → ((s : S) → P s → Q s) → (t : S) → StandsAfter m p P t → StandsAfter m p Q t
-  post_mono p P Q inside t r = record { from = r.from; before = inside r.from r.before; reaches = r.reaches }
+  post_mono p P Q inside t r = record { from = r.from; before = inside r.from r.before; path_leads = r.path_leads }
 
   -- fewer states, no more faults
   pub good_mono : (p : Plan) (P Q : S → Type 0) → ((s : S) → P s → Q s) → Holds m p Q → Holds m p P
@@ -59,14 +66,14 @@ pub record Sound {S : Type 0} (m : Machine S) (p : Plan) (xs ys : List S) : Type
 pub record Turned {S : Type 0} (m : Machine S) (at : Site) (p : Plan) (xs ys : List S) : Type 0 where
   pub good : Holds m p (λ s. IsMember s ys)
   pub keeps : (t : S) → IsMember t xs → IsMember t ys
-  pub closed : (s t : S) → IsMember s ys → Reaches m p s t → IsMember t ys
+  pub closed : (s t : S) → IsMember s ys → PathLeads m p s t → IsMember t ys
   pub from : (t : S) → IsMember t ys → StandsAfter m (Loop at p) (λ s. IsMember s xs) t
   pub small : length ys ≤ 16
   pub distinct : HasNoRepeats xs → HasNoRepeats ys
 
 module _ {S : Type 0} (m : Machine S) (compares : ComparesEqual m) where
-  in_post : (p : Plan) (xs : List S) (s t : S) → IsMember s xs → Reaches m p s t → StandsAfter m p (λ u. IsMember u xs) t
-  in_post p xs s t h r = record { from = s; before = h; reaches = r }
+  in_post : (p : Plan) (xs : List S) (s t : S) → IsMember s xs → PathLeads m p s t → StandsAfter m p (λ u. IsMember u xs) t
+  in_post p xs s t h r = record { from = s; before = h; path_leads = r }
 
   same_sound : (p : Plan) (xs ys zs : List S) → ys ≡ zs → Sound m p xs ys → Sound m p xs zs
   same_sound p xs ys zs e h = subst (λ (l : List S). Sound m p xs l) e h
@@ -74,15 +81,15 @@ module _ {S : Type 0} (m : Machine S) (compares : ComparesEqual m) where
   sound_nothing : (xs : List S) → Sound m Nothing xs xs
   sound_nothing xs = record {
     good = tt;
-    to = λ t h. subst (λ u. IsMember u xs) (nothing_reached m h.from t h.reaches) h.before;
-    from = λ t h. record { from = t; before = h; reaches = record { segments = []; path = nothing; reads = refl } };
+    to = λ t h. subst (λ u. IsMember u xs) (nothing_reached m h.from t h.path_leads) h.before;
+    from = λ t h. record { from = t; before = h; path_leads = record { parts = []; path = empty_path; reads = refl } };
     distinct = λ d. d;
   }
 
   sound_nowhere : (xs : List S) → Sound m Nowhere xs []
   sound_nowhere xs = record {
     good = tt;
-    to = λ t h. nowhere_reached m h.from t h.reaches;
+    to = λ t h. nowhere_reached m h.from t h.path_leads;
     from = λ t h. absurd h;
     distinct = λ d. tt;
   }
@@ -90,7 +97,7 @@ module _ {S : Type 0} (m : Machine S) (compares : ComparesEqual m) where
   sound_static : (at : Site) (text : List ℕ) (xs ys : List S) → Maps (after_text m text) xs ys → Sound m (StaticText at text) xs ys
   sound_static at text xs ys maps = record {
     good = λ s h. maps.each s h;
-    to = λ t h. maps.to h.from t h.before (static_reached m at text h.from t h.reaches);
+    to = λ t h. maps.to h.from t h.before (static_reached m at text h.from t h.path_leads);
     from = λ t h. (let b : (s : S) × IsMember s xs × (after_text m text s ≡ Ok t) = maps.from t h in in_post (StaticText at text) xs b.0 t b.1 (static_reaches m at text b.0 t b.2));
     distinct = λ d. maps.distinct;
   }
@@ -98,32 +105,32 @@ module _ {S : Type 0} (m : Machine S) (compares : ComparesEqual m) where
   sound_hole : (at : Site) (classes : List ValueClass) (xs : List S) → OnePlacing m classes (λ s. IsMember s xs) → Sound m (Hole at classes) xs (states_after_value m xs)
   sound_hole at classes xs one = record {
     good = one;
-    to = λ t h. subst (λ u. IsMember u (states_after_value m xs)) (hole_reached m at classes h.from t h.reaches) (values_to m compares h.from xs h.before);
+    to = λ t h. subst (λ u. IsMember u (states_after_value m xs)) (hole_reached m at classes h.from t h.path_leads) (values_to m compares h.from xs h.before);
     from = λ t h. (let b : (s : S) × IsMember s xs × (m.value s ≡ t) = values_from m compares t xs h in
-        in_post (Hole at classes) xs b.0 t b.1 (subst (λ u. Reaches m (Hole at classes) b.0 u) b.2 (hole_reaches m at classes b.0)));
+        in_post (Hole at classes) xs b.0 t b.1 (subst (λ u. PathLeads m (Hole at classes) b.0 u) b.2 (hole_reaches m at classes b.0)));
     distinct = λ d. values_distinct m compares xs;
   }
 
   sound_then : (p q : Plan) (xs ys zs : List S) → Sound m p xs ys → Sound m q ys zs → Sound m (Then p q) xs zs
   sound_then p q xs ys zs a b = record {
     good = (a.good, good_mono m q (StandsAfter m p (λ s. IsMember s xs)) (λ s. IsMember s ys) a.to b.good);
-    to = λ t h. (let r : (u : S) × Reaches m p h.from u × Reaches m q u t = then_reached m p q h.from t h.reaches in
+    to = λ t h. (let r : (u : S) × PathLeads m p h.from u × PathLeads m q u t = then_reached m p q h.from t h.path_leads in
         b.to t (in_post q ys r.0 t (a.to r.0 (in_post p xs h.from r.0 h.before r.1)) r.2));
     from = λ t h. (let k : StandsAfter m q (λ s. IsMember s ys) t = b.from t h in let j : StandsAfter m p (λ s. IsMember s xs) k.from = a.from k.from k.before in
-        in_post (Then p q) xs j.from t j.before (then_reaches m p q j.from k.from t j.reaches k.reaches));
+        in_post (Then p q) xs j.from t j.before (then_reaches m p q j.from k.from t j.path_leads k.path_leads));
     distinct = λ d. b.distinct (a.distinct d);
   }
 
   sound_or : (p q : Plan) (xs ys zs : List S) → Sound m p xs ys → Sound m q xs zs → Sound m (Either p q) xs (joined_states m ys zs)
   sound_or p q xs ys zs a b = record {
     good = (a.good, b.good);
-    to = λ t h. elim (or_reached m p q h.from t h.reaches) [
+    to = λ t h. elim (or_reached m p q h.from t h.path_leads) [
       | inl r ↦ join_old m compares t ys zs (a.to t (in_post p xs h.from t h.before r))
       | inr r ↦ join_new m compares t ys zs (b.to t (in_post q xs h.from t h.before r))
     ];
     from = λ t h. elim (mem_join m compares t ys zs h) [
-      | inl k ↦ (let j : StandsAfter m p (λ s. IsMember s xs) t = a.from t k in in_post (Either p q) xs j.from t j.before (first_reaches m p q j.from t j.reaches))
-      | inr k ↦ (let j : StandsAfter m q (λ s. IsMember s xs) t = b.from t k in in_post (Either p q) xs j.from t j.before (second_reaches m p q j.from t j.reaches))
+      | inl k ↦ (let j : StandsAfter m p (λ s. IsMember s xs) t = a.from t k in in_post (Either p q) xs j.from t j.before (first_reaches m p q j.from t j.path_leads))
+      | inr k ↦ (let j : StandsAfter m q (λ s. IsMember s xs) t = b.from t k in in_post (Either p q) xs j.from t j.before (second_reaches m p q j.from t j.path_leads))
     ];
     distinct = λ d. distinct_join m compares ys zs (a.distinct d);
   }
@@ -131,15 +138,15 @@ module _ {S : Type 0} (m : Machine S) (compares : ComparesEqual m) where
   sound_meet : (at : Site) (p : Plan) (xs ys : List S) → length ys ≤ 16 → Sound m p xs ys → Sound m (Meet at p) xs ys
   sound_meet at p xs ys small a = record {
     good = (a.good, few_from_list 16 ys (StandsAfter m p (λ s. IsMember s xs)) small a.to);
-    to = λ t h. a.to t (in_post p xs h.from t h.before (meet_reached m at p h.from t h.reaches));
-    from = λ t h. (let j : StandsAfter m p (λ s. IsMember s xs) t = a.from t h in in_post (Meet at p) xs j.from t j.before (meet_reaches m at p j.from t j.reaches));
+    to = λ t h. a.to t (in_post p xs h.from t h.before (meet_reached m at p h.from t h.path_leads));
+    from = λ t h. (let j : StandsAfter m p (λ s. IsMember s xs) t = a.from t h in in_post (Meet at p) xs j.from t j.before (meet_reaches m at p j.from t j.path_leads));
     distinct = a.distinct;
   }
 
   pub sound_loop : (at : Site) (p : Plan) (xs ys : List S) → Turned m at p xs ys → Sound m (Loop at p) xs ys
   sound_loop at p xs ys a =
       let to : (t : S) → StandsAfter m (Loop at p) (λ s. IsMember s xs) t → IsMember t ys =
-      λ t h. loop_reached m at p (λ s. IsMember s ys) a.closed h.from t (a.keeps h.from h.before) h.reaches in
+      λ t h. loop_reached m at p (λ s. IsMember s ys) a.closed h.from t (a.keeps h.from h.before) h.path_leads in
       record {
         good = (good_mono m p (StandsAfter m (Loop at p) (λ s. IsMember s xs)) (λ s. IsMember s ys) to a.good, few_from_list 16 ys (StandsAfter m (Loop at p) (λ s. IsMember s xs)) a.small to);
         to = to;
@@ -164,7 +171,7 @@ module _ {S : Type 0} (m : Machine S) (compares : ComparesEqual m) where
           good_mono m p start (λ s. IsMember s (m.start kind ∷ [])) (λ s h. inl h) a.good,
           (λ t h. all_end_each kind ys ends t (a.to t (post_mono m p start (λ s. IsMember s (m.start kind ∷ [])) (λ s k. inl k) t h))),
         );
-        to = λ t h. subst (λ u. IsMember u xs) (block_reached m kind at p h.from t h.reaches) h.before;
+        to = λ t h. subst (λ u. IsMember u xs) (block_reached m kind at p h.from t h.path_leads) h.before;
         from = λ t h. in_post (Frame kind at p) xs t t h (block_reaches m kind at p t);
         distinct = λ d. d;
       }
@@ -186,7 +193,7 @@ module _ {S : Type 0} (m : Machine S) (compares : ComparesEqual m) where
       let r : (is_same_placing (m.placing x) pl ≡ true) × (other_placing m pl xs ≡ None) = other_if (is_same_placing (m.placing x) pl) (m.placing x) (other_placing m pl xs) h in
       none_differs pl xs r.1 s k
 
-  taken_if : (b : Bool) (point : Place) (at : Site) (p : Place) → (if b then Ok point else Err (fault_at at code.Place)) ≡ Ok p → (b ≡ true) × (point ≡ p)
+  taken_if : (b : Bool) (point : Place) (at : Site) (p : Place) → (if b then Ok point else Err (walk_fault at code.Place)) ≡ Ok p → (b ≡ true) × (point ≡ p)
   taken_if true point at p h = (refl, ok_same point p h)
   taken_if false point at p h = let no : ⊥ = cc in absurd no
 
@@ -212,7 +219,7 @@ module _ {S : Type 0} (m : Machine S) (compares : ComparesEqual m) where
     takes = λ s j. (all_placed at classes xs p h s j).1;
   }
 
-  limited_if : (b : Bool) (at : Site) (w v : Walked S) → (if b then Err (fault_at at code.States) else Ok w) ≡ Ok v → (b ≡ false) × (w ≡ v)
+  limited_if : (b : Bool) (at : Site) (w v : Walked S) → (if b then Err (walk_fault at code.States) else Ok w) ≡ Ok v → (b ≡ false) × (w ≡ v)
   limited_if true at w v h = let no : ⊥ = cc in absurd no
   limited_if false at w v h = (refl, ok_same w v h)
 
@@ -220,12 +227,12 @@ module _ {S : Type 0} (m : Machine S) (compares : ComparesEqual m) where
   limited_ok at w v h =
       let r : (nat_lt 16 (length w.states) ≡ false) × (w ≡ v) = limited_if (nat_lt 16 (length w.states)) at w v h in (ltb-false 16 (length w.states) r.0, r.1)
 
-  pub ended_if : (b : Bool) (at : Site) (w v : Walked S) → (if b then Ok w else Err (fault_at at code.EndState)) ≡ Ok v → (b ≡ true) × (w ≡ v)
+  pub ended_if : (b : Bool) (at : Site) (w v : Walked S) → (if b then Ok w else Err (walk_fault at code.EndState)) ≡ Ok v → (b ≡ true) × (w ≡ v)
   ended_if true at w v h = (refl, ok_same w v h)
   ended_if false at w v h = let no : ⊥ = cc in absurd no
 
   pub turned_if : (b c : Bool) (at : Site) (stays v : Walked S) (again : Result (Walked S) WalkFault)
-      → (if b then Err (fault_at at code.States) else (if c then Ok stays else again)) ≡ Ok v → (b ≡ false) × (((c ≡ true) × (stays ≡ v)) ⊎ (again ≡ Ok v))
+      → (if b then Err (walk_fault at code.States) else (if c then Ok stays else again)) ≡ Ok v → (b ≡ false) × (((c ≡ true) × (stays ≡ v)) ⊎ (again ≡ Ok v))
   turned_if true c at stays v again h = let no : ⊥ = cc in absurd no
   turned_if false true at stays v again h = (refl, inl (refl, ok_same stays v h))
   turned_if false false at stays v again h = (refl, inr h)
@@ -247,8 +254,8 @@ module _ {S : Type 0} (m : Machine S) (compares : ComparesEqual m) where
     closed = b.closed;
     from = λ t h. (let j : StandsAfter m (Loop at p) (λ s. IsMember s (joined_states m xs us)) t = b.from t h in
         elim (mem_join m compares j.from xs us j.before) [
-          | inl k ↦ in_post (Loop at p) xs j.from t k j.reaches
-          | inr k ↦ (let i : StandsAfter m p (λ s. IsMember s xs) j.from = a.from j.from k in in_post (Loop at p) xs i.from t i.before (loop_goes m at p i.from j.from t i.reaches j.reaches))
+          | inl k ↦ in_post (Loop at p) xs j.from t k j.path_leads
+          | inr k ↦ (let i : StandsAfter m p (λ s. IsMember s xs) j.from = a.from j.from k in in_post (Loop at p) xs i.from t i.before (loop_goes m at p i.from j.from t i.path_leads j.path_leads))
         ]);
     small = b.small;
     distinct = λ d. b.distinct (distinct_join m compares xs us d);

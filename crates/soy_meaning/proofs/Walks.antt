@@ -1,5 +1,6 @@
 -- The walk meets no fault exactly where the four points hold, and then gives the places of the holes.
-use Rattle.std.proofs.Common.{◌≡◌, ℕ, List, [], ◌∷◌, ◌++◌, map, Option, Some, Result, Ok, length, get_or, refl, sym, ap, ◌∙◌, subst}
+use Rattle.std.proofs.Common.{◌≡◌, ℕ, List, [], ◌∷◌, ◌++◌, map, Option, Some, Result, Ok, length, get_or, refl, sym, ap}
+use Rattle.std.proofs.Common.{◌∙◌, subst}
 use Rattle.soy_base.specs.declared.kind.Kind.{Kind}
 use Rattle.soy_base.specs.declared.place.Place.{Place}
 use Rattle.soy_base.specs.declared.place.Placing.TheVariants.{Takes}
@@ -9,7 +10,7 @@ use Rattle.soy_meaning.specs.Holes.{hole_count, holes_before}
 use Rattle.soy_meaning.specs.Machine.{ComparesEqual, Machine}
 use Rattle.soy_meaning.specs.Plan.{Site, Plan, Frame, Nothing, Then, in_turn}
 use Rattle.soy_meaning.specs.Points.{Address, AtHole, StandsAt, point_at}
-use Rattle.soy_meaning.specs.Segments.{StandsAfter}
+use Rattle.soy_meaning.specs.PathParts.{StandsAfter}
 use Rattle.soy_meaning.specs.States.{HasNoRepeats, IsMember}
 use Rattle.soy_meaning.specs.Walk.{WalkFault, Walked, walk}
 use Rattle.soy_meaning.proofs.Holds.{Holds}

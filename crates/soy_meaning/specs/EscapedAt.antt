@@ -4,7 +4,8 @@
 -- wrapped text, which alone goes by the direction of the context. Where a place doesn't take a class, and where a block
 -- is printed, which gives pieces of its own, there is no form.
 -- Example: the string `<` becomes `<span dir="ltr">&lt;</span>` in text, and `\x3c` in a string of a script.
-use Rattle.std.specs.Prelude.{◌≡◌, ℕ, Bool, true, false, ◌==◌, ◌&&◌, List, [], ◌∷◌, Option, Some, None, IsTrue, if◌then◌else◌, codes}
+use Rattle.std.specs.Prelude.{◌≡◌, ℕ, Bool, true, false, ◌==◌, ◌&&◌, List, [], ◌∷◌, Option, Some, None, IsTrue}
+use Rattle.std.specs.Prelude.{if◌then◌else◌, codes}
 use Rattle.std.specs.Char.{is_ascii_digit}
 use Rattle.std.specs.List.{list_all}
 use Rattle.soy_base.specs.Among.{is_among}
@@ -36,14 +37,14 @@ escaped_where (Refuses code) value text context = None
 
 -- ---- which texts a value of a class has
 
-abbrev pub are_digits : List ℕ → Bool
-are_digits [] = false
-are_digits (c ∷ cs) = list_all is_ascii_digit (c ∷ cs)
+abbrev pub are_some_digits : List ℕ → Bool
+are_some_digits [] = false
+are_some_digits (c ∷ cs) = list_all is_ascii_digit (c ∷ cs)
 
 -- decimal digits, with or without a `-` before them
 abbrev pub is_int_text : List ℕ → Bool
 is_int_text [] = false
-is_int_text (c ∷ cs) = if c == minus_sign then are_digits cs else are_digits (c ∷ cs)
+is_int_text (c ∷ cs) = if c == minus_sign then are_some_digits cs else are_some_digits (c ∷ cs)
 
 -- a printed value of this class may have this text; a block has none
 abbrev pub is_text_of : ValueClass → List ℕ → Bool

@@ -1,7 +1,7 @@
 pub mod EscapedAt
 pub mod Machine
 pub mod Plan
-pub mod Segments
+pub mod PathParts
 pub mod States
 pub mod Points
 pub mod FourPoints

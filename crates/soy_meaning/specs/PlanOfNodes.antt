@@ -16,7 +16,11 @@ use Rattle.soy_tree.specs.Faults.{TypeFault}
 use Rattle.soy_tree.specs.TypeOf.{Scope, type_of}
 use Rattle.soy_tree.specs.Narrowing.{narrowed}
 use Rattle.soy_tree.specs.Expressions.{Expr}
-use Rattle.soy_tree.specs.Nodes.{Node, Nodes, Otherwise, Arms, Cases, Arguments, Given, Message, Fallback, MessageBody, PluralCases, SelectCases, TextNode, Print, If, Switch, For, Let, LetBlock, Call, MessageNode, no_node, node, no_otherwise, otherwise, no_arm, arm, no_case, case, no_argument, argument, Plain, Block, message, no_fallback, fallback, Parts, Plural, Select, no_plural_case, plural_case, no_select_case, select_case}
+use Rattle.soy_tree.specs.Nodes.{Node, Nodes, Otherwise, Arms, Cases, Arguments, Given, Message, Fallback, MessageBody}
+use Rattle.soy_tree.specs.Nodes.{PluralCases, SelectCases, TextNode, Print, If, Switch, For, Let, LetBlock, Call}
+use Rattle.soy_tree.specs.Nodes.{MessageNode, no_node, node, no_otherwise, otherwise, no_arm, arm, no_case, case}
+use Rattle.soy_tree.specs.Nodes.{no_argument, argument, Plain, Block, message, no_fallback, fallback, Parts, Plural}
+use Rattle.soy_tree.specs.Nodes.{Select, no_plural_case, plural_case, no_select_case, select_case}
 use Rattle.soy_tree.specs.MessageParts.{MsgParts}
 use Rattle.soy_tree.specs.Placeholders.{Use, body_uses}
 use Rattle.soy_tree.specs.Trees.{Template, Tree}
@@ -91,15 +95,21 @@ module _ (c : PlanContext) where
     pub node_plan : Node → Scope → Plan
     node_plan (TextNode text span) scope = text_plan (starts_at c.file span) text
     node_plan (Print e phname span) scope = Hole (starts_at c.file span) (printed_classes e scope)
-    node_plan (If arms other span) scope = arms_meet (starts_at c.file span) (arm_plans arms scope ++ (other_plan other scope ∷ []))
-    node_plan (Switch e cases other span) scope = arms_meet (starts_at c.file span) (case_plans cases scope ++ (other_plan other scope ∷ []))
-    node_plan (For name index e body span) scope = Loop (starts_at c.file span) (nodes_plan body (body_scope name index (type_of e scope) scope))
+    node_plan (If arms other span) scope =
+        arms_meet (starts_at c.file span) (arm_plans arms scope ++ (other_plan other scope ∷ []))
+    node_plan (Switch e cases other span) scope =
+        arms_meet (starts_at c.file span) (case_plans cases scope ++ (other_plan other scope ∷ []))
+    node_plan (For name index e body span) scope =
+        Loop (starts_at c.file span) (nodes_plan body (body_scope name index (type_of e scope) scope))
     node_plan (Let name e span) scope = Nothing
     node_plan (LetBlock name kind body span) scope = Frame kind (closes_at c.file span) (nodes_plan body scope)
-    node_plan (Call name all given span) scope = Then (Hole (starts_at c.file span) (called_classes (callee c.declared c.namespace name))) (argument_frames given scope)
+    node_plan (Call name all given span) scope =
+        Then (Hole (starts_at c.file span) (called_classes (callee c.declared c.namespace name)))
+        (argument_frames given scope)
     node_plan (MessageNode m other span) scope =
         arms_meet (starts_at c.file span)
-        (source_plan m scope (starts_at c.file span) ∷ (translation_plans m scope (starts_at c.file span) ++ fallback_plans other scope (starts_at c.file span)))
+        (source_plan m scope (starts_at c.file span)
+        ∷ (translation_plans m scope (starts_at c.file span) ++ fallback_plans other scope (starts_at c.file span)))
 
     pub nodes_plan : Nodes → Scope → Plan
     nodes_plan no_node scope = Nothing
@@ -119,7 +129,8 @@ module _ (c : PlanContext) where
 
     pub argument_frames : Arguments → Scope → Plan
     argument_frames no_argument scope = Nothing
-    argument_frames (argument name given span rest) scope = Then (given_frame given span scope) (argument_frames rest scope)
+    argument_frames (argument name given span rest) scope =
+        Then (given_frame given span scope) (argument_frames rest scope)
 
     pub given_frame : Given → Span → Scope → Plan
     given_frame (Plain e) span scope = Nothing
@@ -131,8 +142,10 @@ module _ (c : PlanContext) where
     -- the text of a message in the source; its cases and its default meet at the `{msg` command
     pub body_plan : MessageBody → Scope → Site → Plan
     body_plan (Parts ns) scope at = nodes_plan ns scope
-    body_plan (Plural e offset cases other) scope at = arms_meet at (plural_plans cases scope at ++ (body_plan other scope at ∷ []))
-    body_plan (Select e cases other) scope at = arms_meet at (select_plans cases scope at ++ (body_plan other scope at ∷ []))
+    body_plan (Plural e offset cases other) scope at =
+        arms_meet at (plural_plans cases scope at ++ (body_plan other scope at ∷ []))
+    body_plan (Select e cases other) scope at =
+        arms_meet at (select_plans cases scope at ++ (body_plan other scope at ∷ []))
 
     pub plural_plans : PluralCases → Scope → Site → List Plan
     plural_plans no_plural_case scope at = []
@@ -148,7 +161,14 @@ module _ (c : PlanContext) where
 -- ---- files
 
 abbrev pub declared_plan : (Message → Option MsgParts) → List Declared → Declared → Plan
-declared_plan translation all d = template_plan (record { file = d.file; namespace = d.namespace; declared = all; translation = translation }) d.template
+declared_plan translation all d =
+    let c : PlanContext = record {
+      file = d.file;
+      namespace = d.namespace;
+      declared = all;
+      translation = translation;
+    } in
+    template_plan c d.template
 
 -- the templates of all files, in source order
 abbrev pub trees_plan : (Message → Option MsgParts) → List Tree → Plan

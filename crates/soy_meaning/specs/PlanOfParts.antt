@@ -1,7 +1,7 @@
 -- The plan of a translation: all of it stands at its `{msg` command.
 --
--- A placeholder gives what it is in the source: a print, or the texts and prints of a tag, each text of its own. `#` is a
--- printed int. The arms of a plural or select meet, in their order. An empty text gives nothing.
+-- A placeholder gives what it is in the source: a print, or the texts and prints of a tag, each text of its own. `#` is
+-- a printed int. The arms of a plural or select meet, in their order. An empty text gives nothing.
 -- Example: in the translation `{START_BOLD}a`, with START_BOLD for `<b>`, the text `<b>` and the text `a` follow one
 -- another, so that a `&` at the end of the first is a fault.
 use Rattle.std.specs.Prelude.{ℕ, List, [], ◌∷◌, ◌++◌, Option, Some, None, Result, Ok, Err, if◌then◌else◌, bytes_eq}
@@ -15,7 +15,9 @@ use Rattle.soy_tree.specs.TypeOf.{Scope, type_of}
 use Rattle.soy_tree.specs.Expressions.{Expr}
 use Rattle.soy_tree.specs.MessageText.{Piece, Character, Printed, Cut, TextCut, PrintCut, TagCut}
 use Rattle.soy_tree.specs.Placeholders.{Role, AsPlaceholder, Use, name_of}
-use Rattle.soy_tree.specs.MessageParts.{MsgPart, MsgParts, ExactArms, NamedArms, SelectArms, TextPart, Placeholder, NumberPart, PluralPart, SelectPart, no_part, part, no_exact_arm, exact_arm, no_named_arm, named_arm, no_select_arm, select_arm}
+use Rattle.soy_tree.specs.MessageParts.{MsgPart, MsgParts, ExactArms, NamedArms, SelectArms, TextPart, Placeholder}
+use Rattle.soy_tree.specs.MessageParts.{NumberPart, PluralPart, SelectPart, no_part, part, no_exact_arm, exact_arm}
+use Rattle.soy_tree.specs.MessageParts.{no_named_arm, named_arm, no_select_arm, select_arm}
 use Rattle.soy_meaning.specs.Plan.{Site, Plan, Nothing, StaticText, Hole, Then, arms_meet}
 
 -- ---- the classes of what is printed

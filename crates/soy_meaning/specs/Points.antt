@@ -1,14 +1,14 @@
 -- The points of a plan, by their addresses, and which states stand at a point.
 --
 -- A point is a static text, a hole, or where arms or turns meet. An address leads to it through the plan, so that "all
--- paths to one hole" needs no numbers. A path leads to a point by the segments before it; none leads into a frame
+-- paths to one hole" needs no numbers. A path leads to a point by the parts before it; none leads into a frame
 -- within, which has points of its own.
 -- Example: in `Then p q` the address `Right Here` is that of q itself, to which the whole paths of p lead.
 use Rattle.std.specs.Prelude.{◌≡◌, ℕ, List, [], ◌++◌, Option, Some, None, Ok}
 use Rattle.soy_base.specs.declared.place.ValueClass.{ValueClass}
 use Rattle.soy_meaning.specs.Machine.{Machine}
 use Rattle.soy_meaning.specs.Plan.{Site, Plan, StaticText, Hole, Then, Either, Meet, Loop}
-use Rattle.soy_meaning.specs.Segments.{Segment, IsPath, after_segments}
+use Rattle.soy_meaning.specs.PathParts.{PathPart, IsPath, state_after_parts}
 
 pub data Address : Type 0 where
   Here : Address
@@ -34,25 +34,25 @@ point_at (Loop at p) Here = Some AtMeet
 point_at (Loop at p) (Inside x) = point_at p x
 point_at _ _ = None
 
--- the segments lead through a plan to a point of it
-pub data LeadsTo : Plan → List Segment → Address → Type 0 where
+-- the parts lead through a plan to a point of it
+pub data LeadsTo : Plan → List PathPart → Address → Type 0 where
   to_text : {at : Site} {text : List ℕ} → LeadsTo (StaticText at text) [] Here
   to_hole : {at : Site} {classes : List ValueClass} → LeadsTo (Hole at classes) [] Here
-  to_first : {p q : Plan} {a : List Segment} {x : Address} → LeadsTo p a x → LeadsTo (Then p q) a (Left x)
-  to_second : {p q : Plan} {a b : List Segment} {x : Address} → IsPath p a → LeadsTo q b x →
+  to_first : {p q : Plan} {a : List PathPart} {x : Address} → LeadsTo p a x → LeadsTo (Then p q) a (Left x)
+  to_second : {p q : Plan} {a b : List PathPart} {x : Address} → IsPath p a → LeadsTo q b x →
       LeadsTo (Then p q) (a ++ b) (Right x)
-  one_way : {p q : Plan} {a : List Segment} {x : Address} → LeadsTo p a x → LeadsTo (Either p q) a (Left x)
-  other_way : {p q : Plan} {a : List Segment} {x : Address} → LeadsTo q a x → LeadsTo (Either p q) a (Right x)
-  in_arms : {at : Site} {p : Plan} {a : List Segment} {x : Address} → LeadsTo p a x → LeadsTo (Meet at p) a (Inside x)
-  to_meet : {at : Site} {p : Plan} {a : List Segment} → IsPath p a → LeadsTo (Meet at p) a Here
-  to_head : {at : Site} {p : Plan} {a : List Segment} → IsPath (Loop at p) a → LeadsTo (Loop at p) a Here
-  in_body : {at : Site} {p : Plan} {a b : List Segment} {x : Address} → IsPath (Loop at p) a → LeadsTo p b x →
+  one_way : {p q : Plan} {a : List PathPart} {x : Address} → LeadsTo p a x → LeadsTo (Either p q) a (Left x)
+  other_way : {p q : Plan} {a : List PathPart} {x : Address} → LeadsTo q a x → LeadsTo (Either p q) a (Right x)
+  in_arms : {at : Site} {p : Plan} {a : List PathPart} {x : Address} → LeadsTo p a x → LeadsTo (Meet at p) a (Inside x)
+  to_meet : {at : Site} {p : Plan} {a : List PathPart} → IsPath p a → LeadsTo (Meet at p) a Here
+  to_head : {at : Site} {p : Plan} {a : List PathPart} → IsPath (Loop at p) a → LeadsTo (Loop at p) a Here
+  in_body : {at : Site} {p : Plan} {a b : List PathPart} {x : Address} → IsPath (Loop at p) a → LeadsTo p b x →
       LeadsTo (Loop at p) (a ++ b) (Inside x)
 
 -- a path leads to the point in this state
 pub record StandsAt {S : Type 0} (m : Machine S) (p : Plan) (P : S → Type 0) (x : Address) (t : S) : Type 0 where
   pub from : S
   pub before : P from
-  pub segments : List Segment
-  pub leads : LeadsTo p segments x
-  pub reads : after_segments m segments from ≡ Ok t
+  pub parts : List PathPart
+  pub leads : LeadsTo p parts x
+  pub reads : state_after_parts m parts from ≡ Ok t

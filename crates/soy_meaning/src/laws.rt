@@ -18,7 +18,7 @@ ghost use Rattle.html_state.specs.Pieces.{after_pieces, placing_after};
 ghost use Rattle.html_state.specs.StatePlacing.{placing};
 ghost use Rattle.html_state.specs.TakesClass.{takes_class};
 ghost use Rattle.soy_meaning.specs.EscapedAt.{escaped_where, is_text_of};
-ghost use Rattle.soy_meaning.specs.Filled.{Filled, FillsHoles, IsBlockKind, IsFrameOf, filled_pieces, segments_of};
+ghost use Rattle.soy_meaning.specs.Filled.{Filled, FillsHoles, IsBlockKind, IsFrameOf, filled_pieces, parts_of_filled};
 ghost use Rattle.soy_meaning.specs.FourPoints.{AcceptedPaths, StartsAs};
 ghost use Rattle.soy_meaning.specs.Holes.{hole_count, holes_before};
 ghost use Rattle.soy_meaning.specs.PageMachine.{page_machine};
@@ -28,10 +28,10 @@ ghost use Rattle.soy_meaning.specs.Points.{Address, AtHole, LeadsTo, StandsAt, p
 ghost use Rattle.soy_meaning.specs.Rows.{ampersand_in_translation, mixed_places, optional_attribute, second_turn};
 ghost use Rattle.soy_meaning.specs.Rows.{second_uri_value, seventeen_states, site_at, sixteen_states};
 ghost use Rattle.soy_meaning.specs.States.{HasNoRepeats};
-ghost use Rattle.soy_meaning.specs.Walk.{Walked, fault_at, mixed_at, walk};
+ghost use Rattle.soy_meaning.specs.Walk.{Walked, walk_fault, mixed_at, walk};
 
-/// The escaped form of a value at the place that a state gives, and then the mark that the value sets, lead to the state
-/// that the walk has after the hole, for each class of what isn't markup and each text of a value of the class.
+/// The escaped form of a value at the place that a state gives, and then the mark that the value sets, lead to the
+/// state that the walk has after the hole, for each class of what isn't markup and each text of a value of the class.
 pub fn law_hole()
     ensures { (state : State) (class : ValueClass) (text : List ℕ) (context : Dir) →
         IsTrue (takes_class (placing state) class) → IsTrue (is_text_of class text) →
@@ -59,7 +59,7 @@ pub fn law_walk()
 pub fn law_frame()
     ensures { (around : Option Tag) (page walk : State) (context : Dir) (kind : Kind) (f : Filled) →
         Follows around page walk → walk.reference ≡ reference.Decided → IsBlockKind kind →
-        IsTrue (takes_class (placing walk) (kind_class kind)) → IsFrameOf kind (segments_of f) → FillsHoles f →
+        IsTrue (takes_class (placing walk) (kind_class kind)) → IsFrameOf kind (parts_of_filled f) → FillsHoles f →
         (now : State) × (after_pieces page (filled_pieces context f kind []) ≡ Ok now)
         × Follows around now (after_value walk) }
 {}
@@ -70,17 +70,17 @@ pub fn law_places_are_static()
     ensures { (kind : Kind) (at : Site) (p : Plan) (w v : Walked State) → walk page_machine (Frame kind at p) w ≡ Ok v →
         (new : List Place) × (v.places ≡ w.places ++ new) × (length new ≡ hole_count p)
         × ((x : Address) (classes : List ValueClass) → point_at p x ≡ Some (AtHole classes) → (context : Dir)
-        (f : Filled) → LeadsTo p (segments_of f) x → FillsHoles f → (d : Place) →
+        (f : Filled) → LeadsTo p (parts_of_filled f) x → FillsHoles f → (d : Place) →
         placing_after kind (filled_pieces context f kind []) ≡ Ok (Takes (get_or new (holes_before p x) d))) }
 {}
 
 /// Rows that the checker computes: which fault the walk meets first, and where, or that it meets none.
 pub fn law_rows()
-    ensures second_uri_value { second_uri_value ≡ Err (fault_at (site_at 13) code.UriStart) }
+    ensures second_uri_value { second_uri_value ≡ Err (walk_fault (site_at 13) code.UriStart) }
     ensures second_turn { second_turn ≡ Err (mixed_at (site_at 23) (Takes place.UriStart) (Refuses code.UriStart)) }
     ensures mixed_places { mixed_places ≡ Err (mixed_at (site_at 21) (Takes place.UriStart) (Takes place.Tag)) }
     ensures optional_attribute { optional_attribute ≡ Ok (record { states = []; places = [] }) }
-    ensures ampersand_in_translation { ampersand_in_translation ≡ Err (fault_at (site_at 10) code.Ampersand) }
-    ensures sixteen_states { sixteen_states ≡ Err (fault_at (site_at 100) code.EndState) }
-    ensures seventeen_states { seventeen_states ≡ Err (fault_at (site_at 0) code.States) }
+    ensures ampersand_in_translation { ampersand_in_translation ≡ Err (walk_fault (site_at 10) code.Ampersand) }
+    ensures sixteen_states { sixteen_states ≡ Err (walk_fault (site_at 100) code.EndState) }
+    ensures seventeen_states { seventeen_states ≡ Err (walk_fault (site_at 0) code.States) }
 {}

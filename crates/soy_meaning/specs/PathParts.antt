@@ -12,20 +12,20 @@ use Rattle.soy_tree.specs.Faults.{and_then}
 use Rattle.soy_meaning.specs.Machine.{Machine}
 use Rattle.soy_meaning.specs.Plan.{Site, Plan, Nothing, Nowhere, StaticText, Hole, Then, Either, Meet, Loop, Frame}
 
-pub data Segment : Type 0 where
-  TextSegment : List ℕ → Segment
-  HoleSegment : List ValueClass → Segment
+pub data PathPart : Type 0 where
+  StaticPart : List ℕ → PathPart
+  HolePart : List ValueClass → PathPart
 
-pub data IsPath : Plan → List Segment → Type 0 where
-  nothing : IsPath Nothing []
-  static_text : {at : Site} {text : List ℕ} → IsPath (StaticText at text) (TextSegment text ∷ [])
-  hole : {at : Site} {classes : List ValueClass} → IsPath (Hole at classes) (HoleSegment classes ∷ [])
-  both : {p q : Plan} {a b : List Segment} → IsPath p a → IsPath q b → IsPath (Then p q) (a ++ b)
-  first : {p q : Plan} {a : List Segment} → IsPath p a → IsPath (Either p q) a
-  second : {p q : Plan} {a : List Segment} → IsPath q a → IsPath (Either p q) a
-  met : {at : Site} {p : Plan} {a : List Segment} → IsPath p a → IsPath (Meet at p) a
+pub data IsPath : Plan → List PathPart → Type 0 where
+  empty_path : IsPath Nothing []
+  static_text : {at : Site} {text : List ℕ} → IsPath (StaticText at text) (StaticPart text ∷ [])
+  hole : {at : Site} {classes : List ValueClass} → IsPath (Hole at classes) (HolePart classes ∷ [])
+  both : {p q : Plan} {a b : List PathPart} → IsPath p a → IsPath q b → IsPath (Then p q) (a ++ b)
+  first_way : {p q : Plan} {a : List PathPart} → IsPath p a → IsPath (Either p q) a
+  second_way : {p q : Plan} {a : List PathPart} → IsPath q a → IsPath (Either p q) a
+  met : {at : Site} {p : Plan} {a : List PathPart} → IsPath p a → IsPath (Meet at p) a
   no_turn : {at : Site} {p : Plan} → IsPath (Loop at p) []
-  turn : {at : Site} {p : Plan} {a b : List Segment} → IsPath p a → IsPath (Loop at p) b → IsPath (Loop at p) (a ++ b)
+  turn : {at : Site} {p : Plan} {a b : List PathPart} → IsPath p a → IsPath (Loop at p) b → IsPath (Loop at p) (a ++ b)
   passed_by : {kind : Kind} {at : Site} {p : Plan} → IsPath (Frame kind at p) []
 
 module _ {S : Type 0} (m : Machine S) where
@@ -34,19 +34,19 @@ module _ {S : Type 0} (m : Machine S) where
   after_text [] s = m.text_end s
   after_text (c ∷ cs) s = and_then (m.step s c) (λ t. after_text cs t)
 
-  abbrev pub after_segments : List Segment → S → Result S Code
-  after_segments [] s = Ok s
-  after_segments (TextSegment text ∷ l) s = and_then (after_text text s) (λ t. after_segments l t)
-  after_segments (HoleSegment classes ∷ l) s = after_segments l (m.value s)
+  abbrev pub state_after_parts : List PathPart → S → Result S Code
+  state_after_parts [] s = Ok s
+  state_after_parts (StaticPart text ∷ l) s = and_then (after_text text s) (λ t. state_after_parts l t)
+  state_after_parts (HolePart classes ∷ l) s = state_after_parts l (m.value s)
 
   -- some path leads from the one state to the other
-  pub record Reaches (p : Plan) (s t : S) : Type 0 where
-    pub segments : List Segment
-    pub path : IsPath p segments
-    pub reads : after_segments segments s ≡ Ok t
+  pub record PathLeads (p : Plan) (s t : S) : Type 0 where
+    pub parts : List PathPart
+    pub path : IsPath p parts
+    pub reads : state_after_parts parts s ≡ Ok t
 
   -- the states that stand after a plan, before which these stand
   pub record StandsAfter (p : Plan) (P : S → Type 0) (t : S) : Type 0 where
     pub from : S
     pub before : P from
-    pub reaches : Reaches p from t
+    pub path_leads : PathLeads p from t
