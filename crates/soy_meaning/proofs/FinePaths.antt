@@ -154,7 +154,7 @@ module _ {S : Type 0} (m : Machine S) where
   places_length (Loop at p) P l h = places_length p (StandsAfter m (Loop at p) P) l h
   places_length (Frame kind at p) P l h = places_length p (λ s. s ≡ m.start kind) l h
 
-  hole_within : (p : Plan) (x : Address) (classes : List ValueClass) → point_at p x ≡ Some (AtHole classes) → suc (holes_before p x) ≤ hole_count p
+  pub hole_within : (p : Plan) (x : Address) (classes : List ValueClass) → point_at p x ≡ Some (AtHole classes) → suc (holes_before p x) ≤ hole_count p
   hole_within (Hole at c) Here classes e = omega arith
   hole_within (Then p q) (Left x) classes e = omega (arith, hole_within p x classes e)
   hole_within (Then p q) (Right x) classes e = omega (arith, hole_within q x classes e)
@@ -165,10 +165,10 @@ module _ {S : Type 0} (m : Machine S) where
   hole_within (StaticText at text) Here classes e = absurd (no_class classes (ap class_at e))
   hole_within _ _ classes e = absurd (no_class classes (ap class_at e))
 
-  front_place : (X Y : List Place → Type 0) (l : List Place) (b : TwoLists X Y l) (i : ℕ) (d : Place) → suc i ≤ length b.front → get_or l i d ≡ get_or b.front i d
+  pub front_place : (X Y : List Place → Type 0) (l : List Place) (b : TwoLists X Y l) (i : ℕ) (d : Place) → suc i ≤ length b.front → get_or l i d ≡ get_or b.front i d
   front_place X Y l b i d h = ap (λ z. get_or z i d) b.joined ∙ get_or_append_left b.front b.back d i h
 
-  back_place : (X Y : List Place → Type 0) (l : List Place) (b : TwoLists X Y l) (n i : ℕ) (d : Place) → length b.front ≡ n → get_or l (n + i) d ≡ get_or b.back i d
+  pub back_place : (X Y : List Place → Type 0) (l : List Place) (b : TwoLists X Y l) (n i : ℕ) (d : Place) → length b.front ≡ n → get_or l (n + i) d ≡ get_or b.back i d
   back_place X Y l b n i d h = ap (λ z. get_or z (n + i) d) b.joined ∙ (ap (λ k. get_or (b.front ++ b.back) (k + i) d) (sym h) ∙ get_or-append-add b.front b.back i d)
 
   -- the place of a hole is that of each state which stands there

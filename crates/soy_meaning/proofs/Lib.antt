@@ -9,6 +9,7 @@ pub mod Complete
 pub mod PointsAndHolds
 pub mod AddsPlaces
 pub mod FinePaths
+pub mod InnerFrames
 pub mod Walks
 pub mod PageStates
 pub mod EscapedTexts

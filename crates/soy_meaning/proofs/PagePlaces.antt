@@ -1,5 +1,5 @@
 -- The places that the walk gives are those of the pieces.
-use Rattle.std.proofs.Common.{◌≡◌, ℕ, true, List, [], ◌++◌, ◌⊎◌, inl, inr, Option, Some, None, Result, Ok, length}
+use Rattle.std.proofs.Common.{◌≡◌, ℕ, ◌+◌, true, List, [], ◌++◌, ◌⊎◌, inl, inr, Option, Some, None, Result, Ok, length}
 use Rattle.std.proofs.Common.{get_or, refl, sym, ap, ◌∙◌, subst}
 use Rattle.soy_base.specs.declared.direction.Dir.{Dir}
 use Rattle.soy_base.specs.declared.kind.Kind.{Kind}
@@ -18,12 +18,14 @@ use Rattle.soy_meaning.specs.Filled.{Filled, parts_of_filled, filled_pieces, Fil
 use Rattle.soy_meaning.specs.FourPoints.{OnePlacing, PointHolds, StartsAs, takes_classes}
 use Rattle.soy_meaning.specs.Holes.{hole_count, holes_before}
 use Rattle.soy_meaning.specs.PageMachine.{page_machine}
-use Rattle.soy_meaning.specs.Plan.{Plan, Frame, Site}
-use Rattle.soy_meaning.specs.Points.{Address, AtHole, LeadsTo, Point, StandsAt, point_at}
+use Rattle.soy_meaning.specs.Plan.{Plan}
+use Rattle.soy_meaning.specs.Points.{Address, AtHole, LeadsTo, Point, StandsAt, frame_at, point_at}
 use Rattle.soy_meaning.specs.PathParts.{state_after_parts}
 use Rattle.soy_meaning.specs.Walk.{Walked, walk}
 use Rattle.soy_meaning.proofs.FinePaths.{Fine, fine_runs, leads_fine}
 use Rattle.soy_meaning.proofs.Holds.{Holds}
+use Rattle.soy_meaning.specs.States.{IsMember}
+use Rattle.soy_meaning.proofs.InnerFrames.{inner_holds}
 use Rattle.soy_meaning.proofs.PageStates.{page_compares}
 use Rattle.soy_meaning.proofs.Pages.{GoesOn, IsLost, follows_itself, lost_hole, pieces_follow, same_placing_alone}
 use Rattle.soy_meaning.proofs.Pages.{starts_settled}
@@ -34,22 +36,22 @@ use Rattle.soy_meaning.proofs.Walks.{walked_places}
 at_hole : (o : Option Point) (classes : List ValueClass) (X : State → Type 0) → o ≡ Some (AtHole classes) → PointHolds page_machine o X → OnePlacing page_machine classes X
 at_hole o classes X e holds = subst (λ z. PointHolds page_machine z X) e holds
 
-pub static_places : (kind : Kind) (at : Site) (p : Plan) (w v : Walked State) → walk page_machine (Frame kind at p) w ≡ Ok v →
+pub static_places : (p : Plan) (w v : Walked State) → walk page_machine p w ≡ Ok v →
     (new : List Place) × (v.places ≡ w.places ++ new) × (length new ≡ hole_count p)
-    × ((x : Address) (classes : List ValueClass) → point_at p x ≡ Some (AtHole classes) → (context : Dir) (f : Filled) → LeadsTo p (parts_of_filled f) x → FillsHoles f → (d : Place) →
-    placing_after kind (filled_pieces context f kind []) ≡ Ok (Takes (get_or new (holes_before p x) d)))
-static_places kind at p w v h =
-    let good : Holds page_machine p (StartsAs page_machine kind) = (sound page_machine page_compares (Frame kind at p) w v h).good.0 in
-    let found = walked_places page_machine page_compares kind at p w v h in (
+    × ((y : Address) (kind : Kind) (q : Plan) → frame_at p y ≡ Some (kind, q) → (x : Address) (classes : List ValueClass) → point_at q x ≡ Some (AtHole classes) → (context : Dir) (f : Filled) →
+    LeadsTo q (parts_of_filled f) x → FillsHoles f → (d : Place) → placing_after kind (filled_pieces context f kind []) ≡ Ok (Takes (get_or new (holes_before p y + holes_before q x) d)))
+static_places p w v h =
+    let found = walked_places page_machine page_compares p w v h in (
       found.0,
       found.1,
       found.2,
-      (λ x classes e context f leads fills d.
-          let fine : Fine page_machine (parts_of_filled f) (start kind) = leads_fine page_machine p (StartsAs page_machine kind) good (parts_of_filled f) x leads (start kind) refl in
+      (λ y kind q within x classes e context f leads fills d.
+          let good : Holds page_machine q (StartsAs page_machine kind) = inner_holds page_machine p (λ s. IsMember s w.states) (sound page_machine page_compares p w v h).good y (kind, q) within in
+          let fine : Fine page_machine (parts_of_filled f) (start kind) = leads_fine page_machine q (StartsAs page_machine kind) good (parts_of_filled f) x leads (start kind) refl in
           let runs : (t : State) × (state_after_parts page_machine (parts_of_filled f) (start kind) ≡ Ok t) = fine_runs page_machine (parts_of_filled f) (start kind) fine in
-          let here : StandsAt page_machine p (StartsAs page_machine kind) x runs.0 = record { from = start kind; before = refl; parts = parts_of_filled f; leads = leads; reads = runs.1 } in
-          let one : OnePlacing page_machine classes (StandsAt page_machine p (StartsAs page_machine kind) x) = at_hole (point_at p x) classes (StandsAt page_machine p (StartsAs page_machine kind) x) e (points_of_good page_machine p (StartsAs page_machine kind) good x) in
-          placed (filled_pieces context f kind []) kind runs.0 classes (Takes (get_or found.0 (holes_before p x) d)) (one.takes runs.0 here) (found.3 x classes e runs.0 here d)
+          let here : StandsAt page_machine q (StartsAs page_machine kind) x runs.0 = record { from = start kind; before = refl; parts = parts_of_filled f; leads = leads; reads = runs.1 } in
+          let one : OnePlacing page_machine classes (StandsAt page_machine q (StartsAs page_machine kind) x) = at_hole (point_at q x) classes (StandsAt page_machine q (StartsAs page_machine kind) x) e (points_of_good page_machine q (StartsAs page_machine kind) good x) in
+          placed (filled_pieces context f kind []) kind runs.0 classes (Takes (get_or found.0 (holes_before p y + holes_before q x) d)) (one.takes runs.0 here) (found.3 y kind q within x classes e runs.0 here d)
           (pieces_follow context f None kind [] (start kind) (start kind) (start kind) runs.0 fills refl (follows_itself (start kind)) (follows_itself (start kind)) (starts_settled kind) fine runs.1)),
     )
   where

@@ -15,7 +15,7 @@ hole_count (Loop at p) = hole_count p
 hole_count (Frame kind at p) = hole_count p
 hole_count _ = 0
 
--- how many holes stand before a point
+-- how many holes stand before a point, or before a frame
 abbrev pub holes_before : Plan → Address → ℕ
 holes_before (Then p q) (Left x) = holes_before p x
 holes_before (Then p q) (Right x) = hole_count p + holes_before q x
@@ -23,4 +23,5 @@ holes_before (Either p q) (Left x) = holes_before p x
 holes_before (Either p q) (Right x) = hole_count p + holes_before q x
 holes_before (Meet at p) (Inside x) = holes_before p x
 holes_before (Loop at p) (Inside x) = holes_before p x
+holes_before (Frame kind at p) (Inside x) = holes_before p x
 holes_before _ _ = 0

@@ -10,5 +10,6 @@ pub mod Holes
 pub mod PageMachine
 pub mod PlanOfParts
 pub mod PlanOfNodes
+pub mod AcceptedTrees
 pub mod Filled
 pub mod Rows

@@ -5,9 +5,10 @@
 -- within, which has points of its own.
 -- Example: in `Then p q` the address `Right Here` is that of q itself, to which the whole paths of p lead.
 use Rattle.std.specs.Prelude.{◌≡◌, ℕ, List, [], ◌++◌, Option, Some, None, Ok}
+use Rattle.soy_base.specs.declared.kind.Kind.{Kind}
 use Rattle.soy_base.specs.declared.place.ValueClass.{ValueClass}
 use Rattle.soy_meaning.specs.Machine.{Machine}
-use Rattle.soy_meaning.specs.Plan.{Site, Plan, StaticText, Hole, Then, Either, Meet, Loop}
+use Rattle.soy_meaning.specs.Plan.{Site, Plan, StaticText, Hole, Then, Either, Meet, Loop, Frame}
 use Rattle.soy_meaning.specs.PathParts.{PathPart, IsPath, state_after_parts}
 
 pub data Address : Type 0 where
@@ -33,6 +34,18 @@ point_at (Meet at p) (Inside x) = point_at p x
 point_at (Loop at p) Here = Some AtMeet
 point_at (Loop at p) (Inside x) = point_at p x
 point_at _ _ = None
+
+-- the frame at an address: its kind and its plan
+abbrev pub frame_at : Plan → Address → Option (Kind × Plan)
+frame_at (Frame kind at p) Here = Some (kind, p)
+frame_at (Frame kind at p) (Inside x) = frame_at p x
+frame_at (Then p q) (Left x) = frame_at p x
+frame_at (Then p q) (Right x) = frame_at q x
+frame_at (Either p q) (Left x) = frame_at p x
+frame_at (Either p q) (Right x) = frame_at q x
+frame_at (Meet at p) (Inside x) = frame_at p x
+frame_at (Loop at p) (Inside x) = frame_at p x
+frame_at _ _ = None
 
 -- the parts lead through a plan to a point of it
 pub data LeadsTo : Plan → List PathPart → Address → Type 0 where

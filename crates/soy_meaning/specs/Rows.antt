@@ -14,10 +14,9 @@ use Rattle.soy_tree.specs.Nodes.{Node, Nodes, Cases, Message, TextNode, Print, I
 use Rattle.soy_tree.specs.Nodes.{node, no_otherwise, no_arm, arm, no_case, case, message, no_fallback, Parts}
 use Rattle.soy_tree.specs.MessageParts.{MsgParts, TextPart, no_part, part}
 use Rattle.soy_tree.specs.Trees.{Param, Template, Tree}
-use Rattle.soy_meaning.specs.PageMachine.{page_machine}
+use Rattle.soy_meaning.specs.AcceptedTrees.{walk_trees}
 use Rattle.soy_meaning.specs.Plan.{Site}
-use Rattle.soy_meaning.specs.PlanOfNodes.{trees_plan}
-use Rattle.soy_meaning.specs.Walk.{Walked, WalkFault, walk, walked}
+use Rattle.soy_meaning.specs.Walk.{Walked, WalkFault}
 
 abbrev pub span_at : ℕ → Span
 span_at at = record { start = at; end = 100 }
@@ -50,7 +49,7 @@ walked_row translation params body =
       span = span_at 0;
     } in
     let tree : Tree = record { namespace = codes "t"; templates = template ∷ [] } in
-    walk page_machine (trees_plan (λ m. translation) (tree ∷ [])) (walked [] [])
+    walk_trees (λ m. translation) (tree ∷ [])
 
 abbrev pub row_params : List (Name × SoyType)
 row_params =
