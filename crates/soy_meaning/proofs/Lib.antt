@@ -16,3 +16,4 @@ pub mod EscapedTexts
 pub mod KeptForms
 pub mod Pages
 pub mod PagePlaces
+pub mod Outcomes

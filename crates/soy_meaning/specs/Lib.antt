@@ -13,3 +13,4 @@ pub mod PlanOfNodes
 pub mod AcceptedTrees
 pub mod Filled
 pub mod Rows
+pub mod Outcome

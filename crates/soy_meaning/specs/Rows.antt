@@ -10,7 +10,7 @@ use Rattle.soy_base.specs.Characters.{less_than}
 use Rattle.html_state.specs.declared.row.State.{State}
 use Rattle.soy_tree.specs.Types.{Name, SoyType, BoolType, IntType, ListType, StringType}
 use Rattle.soy_tree.specs.Expressions.{Expr, Variable, IntLiteral}
-use Rattle.soy_tree.specs.Nodes.{Node, Nodes, Cases, Message, TextNode, Print, If, Switch, For, MessageNode, no_node}
+use Rattle.soy_tree.specs.Nodes.{Node, Nodes, Cases, Message, TextNode, Print, If, Switch, For, LetBlock, MessageNode, no_node}
 use Rattle.soy_tree.specs.Nodes.{node, no_otherwise, no_arm, arm, no_case, case, message, no_fallback, Parts}
 use Rattle.soy_tree.specs.MessageParts.{MsgParts, TextPart, no_part, part}
 use Rattle.soy_tree.specs.Trees.{Param, Template, Tree}
@@ -87,6 +87,13 @@ second_turn = walked_row None row_params
     (text_node 0 (codes "<a href=\"")
     ∷ For (codes "s") None (variable 20 (codes "l")) (node (print_node 23 (codes "s")) no_node) (span_at 9)
     ∷ text_node 33 (codes "\">L</a>") ∷ [])
+
+-- `<a href="{let $c kind="html"}<i>x</i>{/let}{$a}">L</a>`
+abbrev pub block_in_attribute : Result (Walked State) WalkFault
+block_in_attribute = walked_row None row_params
+    (text_node 0 (codes "<a href=\"")
+    ∷ LetBlock (codes "c") kind.Html (node (text_node 30 (codes "<i>x</i>")) no_node) (span_at 9)
+    ∷ print_node 44 (codes "a") ∷ text_node 48 (codes "\">L</a>") ∷ [])
 
 -- `<p title="{msg desc="d"}a{/msg}">x</p>`, with the translation `a&b`
 abbrev pub ampersand_in_translation : Result (Walked State) WalkFault

@@ -1,6 +1,6 @@
 //! What the definitions come to, for the tokenizer of a page. Each law is a contract with an empty body.
 
-ghost use Rattle.std.specs.Prelude.{◌≡◌, ◌+◌, ◌++◌, [], ℕ, IsTrue, List, Option, Some, Ok, Err, length, get_or};
+ghost use Rattle.std.specs.Prelude.{◌≡◌, ◌+◌, ◌++◌, ◌∷◌, [], ℕ, IsTrue, List, Option, Some, Ok, Err, length, get_or};
 ghost use Rattle.soy_base.specs.declared.code.Code.TheVariants as code;
 ghost use Rattle.soy_base.specs.declared.direction.Dir.{Dir};
 ghost use Rattle.soy_base.specs.declared.kind.Kind.{Kind};
@@ -25,12 +25,13 @@ ghost use Rattle.soy_meaning.specs.EscapedAt.{escaped_where, is_text_of};
 ghost use Rattle.soy_meaning.specs.Filled.{Filled, FillsHoles, IsBlockKind, IsFrameOf, filled_pieces, parts_of_filled};
 ghost use Rattle.soy_meaning.specs.FourPoints.{StartsAs};
 ghost use Rattle.soy_meaning.specs.Holes.{hole_count, holes_before};
+ghost use Rattle.soy_meaning.specs.Outcome.{Outcome, followed_by, gathered, gives_nothing};
 ghost use Rattle.soy_meaning.specs.PageMachine.{page_machine};
 ghost use Rattle.soy_meaning.specs.Plan.{Plan};
 ghost use Rattle.soy_meaning.specs.PlanOfNodes.{kind_class};
 ghost use Rattle.soy_meaning.specs.Points.{Address, AtHole, LeadsTo, StandsAt, frame_at, point_at};
-ghost use Rattle.soy_meaning.specs.Rows.{ampersand_in_translation, mixed_places, optional_attribute, second_turn};
-ghost use Rattle.soy_meaning.specs.Rows.{second_uri_value, seventeen_states, site_at, sixteen_states};
+ghost use Rattle.soy_meaning.specs.Rows.{ampersand_in_translation, block_in_attribute, mixed_places, optional_attribute};
+ghost use Rattle.soy_meaning.specs.Rows.{second_turn, second_uri_value, seventeen_states, site_at, sixteen_states};
 ghost use Rattle.soy_meaning.specs.Walk.{Walked, mixed_at, walk, walk_fault, walked};
 
 /// The escaped form of a value at the place that a state gives, and then the mark that the value sets, lead to the
@@ -79,12 +80,23 @@ pub fn law_places_are_static()
         ≡ Ok (Takes (get_or new (holes_before p y + holes_before q x) d))) }
 {}
 
+/// Outcomes follow one another as lists do, and what is gathered from two that follow one another is gathered from the
+/// one and then from the other.
+pub fn law_outcomes()
+    ensures joined { (a b c : Outcome) → followed_by (followed_by a b) c ≡ followed_by a (followed_by b c) }
+    ensures nothing_first { (o : Outcome) → followed_by gives_nothing o ≡ o }
+    ensures nothing_last { (o : Outcome) → followed_by o gives_nothing ≡ o }
+    ensures gathered { (text : List ℕ) (o rest : Outcome) (following : List ℕ → Outcome) →
+        gathered text (followed_by o rest) following ≡ gathered text o (λ more. gathered more rest following) }
+{}
+
 /// Rows that the checker computes: which fault the walk meets first, and where, or that it meets none.
 pub fn law_rows()
     ensures second_uri_value { second_uri_value ≡ Err (walk_fault (site_at 13) code.UriStart) }
     ensures second_turn { second_turn ≡ Err (mixed_at (site_at 23) (Takes place.UriStart) (Refuses code.UriStart)) }
     ensures mixed_places { mixed_places ≡ Err (mixed_at (site_at 21) (Takes place.UriStart) (Takes place.Tag)) }
     ensures optional_attribute { optional_attribute ≡ Ok (walked [] []) }
+    ensures block_in_attribute { block_in_attribute ≡ Ok (walked [] (place.UriStart ∷ [])) }
     ensures ampersand_in_translation { ampersand_in_translation ≡ Err (walk_fault (site_at 10) code.Ampersand) }
     ensures sixteen_states { sixteen_states ≡ Err (walk_fault (site_at 100) code.EndState) }
     ensures seventeen_states { seventeen_states ≡ Err (walk_fault (site_at 0) code.States) }

@@ -15,6 +15,9 @@ returns-clause-mixed_places c = refl
 pub returns-clause-optional_attribute : goal.returns-clause-optional_attribute
 returns-clause-optional_attribute c = refl
 
+pub returns-clause-block_in_attribute : goal.returns-clause-block_in_attribute
+returns-clause-block_in_attribute c = refl
+
 pub returns-clause-ampersand_in_translation : goal.returns-clause-ampersand_in_translation
 returns-clause-ampersand_in_translation c = refl
 
