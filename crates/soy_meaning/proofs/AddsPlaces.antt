@@ -1,7 +1,7 @@
 -- The walk keeps the places that were there, and adds those of the plan's holes.
-use Rattle.std.proofs.Common.{◌≡◌, ℕ, zero, suc, ◌≤◌, Bool, true, false, List, [], ◌∷◌, ◌++◌, ◌⊎◌, inl, inr, Option}
-use Rattle.std.proofs.Common.{None, Result, Ok, Err, if◌then◌else◌, length, take, refl, sym, ap, ◌∙◌, subst}
-use Rattle.std.proofs.Common.{append_assoc, arith}
+use Rattle.std.proofs.Common.{◌≡◌, ℕ, zero, suc, ◌≤◌, true, false, List, [], ◌∷◌, ◌++◌, ◌⊎◌, inl, inr}
+use Rattle.std.proofs.Common.{Ok, length, take, refl, sym, ap, ◌∙◌, subst}
+use Rattle.std.proofs.Common.{append_assoc}
 use Rattle.std.proofs.lemmas.List.{append-nil, take_at}
 use Rattle.std.specs.Prelude.{nat_lt, ◌==◌}
 use Rattle.soy_base.specs.declared.place.Place.{Place}
@@ -11,7 +11,7 @@ use Rattle.soy_meaning.proofs.Moves.{and_then_ok, ok_same}
 use Rattle.soy_meaning.proofs.Sound.{Sound, all_placed, ended_if, limited_ok, post_mono, sound, turned_if}
 use Rattle.soy_meaning.specs.Machine.{ComparesEqual, Machine}
 use Rattle.soy_meaning.specs.Plan.{Either, Frame, Hole, Loop, Meet, Nothing, Nowhere, Plan, Site, StaticText, Then}
-use Rattle.soy_meaning.specs.PathParts.{StandsAfter, turn}
+use Rattle.soy_meaning.specs.PathParts.{StandsAfter}
 use Rattle.soy_meaning.specs.States.{IsMember, joined_states}
 use Rattle.soy_meaning.specs.Walk.{Walked, after_turn, all_may_end, frame_end, met_at, place_of_hole, states_after_text}
 use Rattle.soy_meaning.specs.Walk.{states_after_value, turns, walk, within_limit}

@@ -1,12 +1,12 @@
 -- What the escaped texts lack.
-use Rattle.std.proofs.Common.{◌≡◌, ℕ, ◌/◌, ◌%◌, Bool, true, false, not, ◌&&◌, eqb, List, [], ◌∷◌, ◌++◌, refl, ap, sym}
-use Rattle.std.proofs.Common.{subst, ⊎_elim, arith, encode_utf8}
+use Rattle.std.proofs.Common.{◌≡◌, ℕ, ◌/◌, ◌%◌, Bool, true, false, not, eqb, List, [], ◌∷◌, refl}
+use Rattle.std.proofs.Common.{arith, encode_utf8}
 use Rattle.std.specs.Prelude.{codes, if◌then◌else◌}
 use Rattle.std.specs.List.{list_all, flat_map}
-use Rattle.std.proofs.lemmas.Bool.{and_from, and_parts, cases_Bool, cond-false, cond-true, not-true}
+use Rattle.std.proofs.lemmas.Bool.{and_from, and_parts}
 use Rattle.std.proofs.lemmas.Bool.Decides.{nat_tests}
 use Rattle.soy_base.specs.Among.{is_one_of, lacks}
-use Rattle.soy_base.specs.Characters.{ampersand, double_quote, less_than, percent_sign, single_quote}
+use Rattle.soy_base.specs.Characters.{ampersand, double_quote, less_than, single_quote}
 use Rattle.esc_table.specs.EscapedText.{escaped_text}
 use Rattle.esc_table.specs.HtmlRows.{html_rows}
 use Rattle.escapers.specs.CssRows.{css_rows}
@@ -43,7 +43,8 @@ css_no_quote text = escaped_lacks quotes css_rows refl refl text
 
 -- ---- texts of characters that pass a test
 
-pub tested_lacks : (test : ℕ → Bool) (these text : List ℕ) → ((c : ℕ) → test c ≡ true → not (is_one_of these c) ≡ true) →
+pub tested_lacks : (test : ℕ → Bool) (these text : List ℕ)
+    → ((c : ℕ) → test c ≡ true → not (is_one_of these c) ≡ true) →
     list_all test text ≡ true → lacks these text ≡ true
 tested_lacks test these [] none are = refl
 tested_lacks test these (c ∷ text) none are =
@@ -53,7 +54,8 @@ tested_lacks test these (c ∷ text) none are =
 word_no_tag : (c : ℕ) → is_word_character c ≡ true → not (is_one_of (less_than ∷ []) c) ≡ true
 word_no_tag c is = grind (arith, nat_tests)
 
-pub js_word_no_tag : (text : List ℕ) → list_all is_word_character text ≡ true → lacks (less_than ∷ []) (js_word text) ≡ true
+pub js_word_no_tag : (text : List ℕ) → list_all is_word_character text ≡ true
+    → lacks (less_than ∷ []) (js_word text) ≡ true
 js_word_no_tag text are = lacks-append (less_than ∷ []) text (codes " ") (tested_lacks is_word_character (less_than ∷ []) text word_no_tag are) refl
 
 pub js_literal_no_tag : (text : List ℕ) → lacks (less_than ∷ []) (js_literal text) ≡ true
@@ -77,7 +79,8 @@ css_value_no_quote text = tested_lacks is_value_character quotes (css_value text
 
 -- ---- URIs
 
-flat_lacks : (these : List ℕ) (f : ℕ → List ℕ) → ((c : ℕ) → lacks these (f c) ≡ true) → (text : List ℕ) → lacks these (flat_map f text) ≡ true
+flat_lacks : (these : List ℕ) (f : ℕ → List ℕ) → ((c : ℕ) → lacks these (f c) ≡ true) → (text : List ℕ)
+    → lacks these (flat_map f text) ≡ true
 flat_lacks these f each [] = refl
 flat_lacks these f each (c ∷ text) = lacks-append these (f c) (flat_map f text) (each c) (flat_lacks these f each text)
 

@@ -1,5 +1,5 @@
 -- The four points, place by place, by recursion on the plan; P are the states before it.
-use Rattle.std.specs.Prelude.{◌≡◌, IsTrue}
+use Rattle.std.specs.Prelude.{IsTrue}
 use Rattle.soy_meaning.specs.Machine.{Machine}
 use Rattle.soy_meaning.specs.Plan.{Plan, Nothing, Nowhere, StaticText, Hole, Then, Either, Meet, Loop, Frame}
 use Rattle.soy_meaning.specs.PathParts.{StandsAfter}

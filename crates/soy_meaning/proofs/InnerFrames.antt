@@ -1,12 +1,13 @@
 -- What holds of a plan holds of each frame within, and the places of a frame's holes stand where the frame does.
-use Rattle.std.proofs.Common.{◌≡◌, ℕ, suc, ◌+◌, ◌≤◌, List, Option, Some, None, get_or, length, refl, sym, ap, ◌∙◌, subst, arith}
+use Rattle.std.proofs.Common.{◌≡◌, ℕ, suc, ◌+◌, ◌≤◌, List, Option, Some, None, get_or, length, ap, ◌∙◌}
+use Rattle.std.proofs.Common.{subst, arith}
 use Rattle.soy_base.specs.declared.kind.Kind.{Kind}
 use Rattle.soy_base.specs.declared.place.Place.{Place}
 use Rattle.soy_meaning.specs.FourPoints.{StartsAs}
 use Rattle.soy_meaning.specs.Holes.{hole_count, holes_before}
 use Rattle.soy_meaning.specs.Machine.{Machine}
 use Rattle.soy_meaning.specs.PathParts.{StandsAfter}
-use Rattle.soy_meaning.specs.Plan.{Plan, Nothing, Nowhere, StaticText, Hole, Then, Either, Meet, Loop, Frame}
+use Rattle.soy_meaning.specs.Plan.{Plan, Then, Either, Meet, Loop, Frame}
 use Rattle.soy_meaning.specs.Points.{Address, Here, Left, Right, Inside, frame_at}
 use Rattle.soy_meaning.proofs.FinePaths.{back_place, front_place, places_length}
 use Rattle.soy_meaning.proofs.HolePlaces.{HolePlaces, TwoLists}
@@ -18,7 +19,8 @@ some_same a b e = cc
 none_some : (a : Kind × Plan) → ◌≡◌ {A = Option (Kind × Plan)} None (Some a) → ⊥
 none_some a e = cc
 
-frame_within : (p : Plan) (y : Address) (found : Kind × Plan) → frame_at p y ≡ Some found → hole_count found.1 + holes_before p y ≤ hole_count p
+frame_within : (p : Plan) (y : Address) (found : Kind × Plan) → frame_at p y ≡ Some found
+    → hole_count found.1 + holes_before p y ≤ hole_count p
 frame_within (Frame kind at p) Here found e =
     let same : p ≡ found.1 = ap (λ (z : Kind × Plan). z.1) (some_same (kind, p) found e) in
     subst (λ q. hole_count q + 0 ≤ hole_count p) same (omega arith)

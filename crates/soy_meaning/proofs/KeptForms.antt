@@ -1,10 +1,10 @@
 -- The escaped form of a value keeps its place.
-use Rattle.std.proofs.Common.{◌≡◌, ℕ, Bool, true, false, not, ◌&&◌, ◌||◌, eqb, List, [], ◌∷◌, ◌++◌, Option, Some, None}
+use Rattle.std.proofs.Common.{◌≡◌, ℕ, Bool, true, false, not, ◌||◌, eqb, List, [], ◌∷◌, ◌++◌, Option, Some}
 use Rattle.std.proofs.Common.{refl, ap, sym, subst, ◌∙◌, arith}
 use Rattle.std.specs.Prelude.{Ok, codes, if◌then◌else◌, bytes_eq}
 use Rattle.std.specs.Char.{is_ascii_digit}
 use Rattle.std.specs.List.{list_all}
-use Rattle.std.proofs.lemmas.Bool.{and_from, and_parts, not-true}
+use Rattle.std.proofs.lemmas.Bool.{and_from, and_parts}
 use Rattle.std.proofs.lemmas.Bool.Decides.{nat_tests}
 use Rattle.std.proofs.lemmas.Slice.Eq.{bytes_eq-Decides}
 use Rattle.soy_base.specs.Among.{is_among, lacks}
@@ -49,7 +49,8 @@ use Rattle.soy_meaning.proofs.EscapedTexts.{component_no_quote, normal_text_no_q
 -- ---- wrapped texts
 
 -- the text between the tags, and the end tag
-span_inner : (text : List ℕ) → lacks (less_than ∷ []) text ≡ true → after_all (row_next false) row.Data (text ++ codes "</span>") ≡ Ok row.Data
+span_inner : (text : List ℕ) → lacks (less_than ∷ []) text ≡ true
+    → after_all (row_next false) row.Data (text ++ codes "</span>") ≡ Ok row.Data
 span_inner text none =
     after_all-append (row_next false) row.Data text (codes "</span>")
     ∙ ap (and_then (λ now. after_all (row_next false) now (codes "</span>"))) (safe_text text none)
@@ -59,7 +60,8 @@ span_leads : (direction : Dir) (rest : List ℕ) →
 span_leads dir.Ltr rest = refl
 span_leads dir.Rtl rest = refl
 
-wrapped_kept : (text : List ℕ) (context : Dir) → after_all (row_next false) row.Data (wrapped_text text context) ≡ Ok row.Data
+wrapped_kept : (text : List ℕ) (context : Dir)
+    → after_all (row_next false) row.Data (wrapped_text text context) ≡ Ok row.Data
 wrapped_kept text context =
     span_leads (estimated_direction text context) (escaped_text html_rows (cleaned_text text) ++ codes "</span>")
     ∙ span_inner (escaped_text html_rows (cleaned_text text)) (html_no_tag (cleaned_text text))
@@ -107,7 +109,8 @@ digits_word (c ∷ text) are = all_digits (c ∷ text) are
 minus_character : (c : ℕ) → eqb c minus_sign ≡ true → is_word_character c ≡ true
 minus_character c is = grind (arith, nat_tests)
 
-int_if : (test : Bool) (c : ℕ) (text : List ℕ) → eqb c minus_sign ≡ test → (if test then are_some_digits text else are_some_digits (c ∷ text)) ≡ true →
+int_if : (test : Bool) (c : ℕ) (text : List ℕ) → eqb c minus_sign ≡ test
+    → (if test then are_some_digits text else are_some_digits (c ∷ text)) ≡ true →
     list_all is_word_character (c ∷ text) ≡ true
 int_if true c text same are = and_from _ _ (minus_character c same) (digits_word text are)
 int_if false c text same are = digits_word (c ∷ text) are
@@ -117,7 +120,8 @@ int_word [] are = refl
 int_word (c ∷ text) are = int_if (eqb c minus_sign) c text refl are
 
 -- a text that is among words is a word
-among_word : (words : List (List ℕ)) (text : List ℕ) → list_all (list_all is_word_character) words ≡ true → is_among words text ≡ true → list_all is_word_character text ≡ true
+among_word : (words : List (List ℕ)) (text : List ℕ) → list_all (list_all is_word_character) words ≡ true
+    → is_among words text ≡ true → list_all is_word_character text ≡ true
 among_word [] text are one = let never : ⊥ = cc in absurd never
 among_word (word ∷ words) text are one = among_if (bytes_eq text word) word words text refl are one (among_word words text)
   where
@@ -130,12 +134,14 @@ among_word (word ∷ words) text are one = among_if (bytes_eq text word) word wo
         subst (λ t. list_all is_word_character t ≡ true) (sym ((bytes_eq-Decides text word).0 same)) parts.0
     among_if false word words text same are one rest = let parts = and_parts _ _ are in rest parts.1 one
 
-word_script : (value : ValueClass) (text : List ℕ) → list_all is_word_character text ≡ true → KeepsScript (js_value class.Int text)
+word_script : (value : ValueClass) (text : List ℕ) → list_all is_word_character text ≡ true
+    → KeepsScript (js_value class.Int text)
 word_script value text are = (js_word_no_tag text are, js_word_leads text are)
 
 -- ---- every placing
 
-pub form_kept : (placing : Placing) (value : ValueClass) (text : List ℕ) (context : Dir) → takes_class placing value ≡ true → is_text_of value text ≡ true →
+pub form_kept : (placing : Placing) (value : ValueClass) (text : List ℕ) (context : Dir)
+    → takes_class placing value ≡ true → is_text_of value text ≡ true →
     (out : List ℕ) × (escaped_where placing value text context ≡ Some out) × KeepsPlaceAt placing out
 form_kept (Takes point) class.Text text context takes is = text_kept point class.Text text context (js_literal_no_tag text, literal_leads text) takes
 form_kept (Takes point) class.Int text context takes is = text_kept point class.Int text context (word_script class.Int text (int_word text is)) takes
@@ -146,7 +152,8 @@ form_kept (Takes point) class.Html text context takes is = let never : ⊥ = cc 
 form_kept (Takes point) class.Attributes text context takes is = let never : ⊥ = cc in absurd never
 form_kept (Refuses code) value text context takes is = let never : ⊥ = cc in absurd never
 
-pub value_leads : (state : State) (value : ValueClass) (text : List ℕ) (context : Dir) → takes_class (placing state) value ≡ true → is_text_of value text ≡ true →
+pub value_leads : (state : State) (value : ValueClass) (text : List ℕ) (context : Dir)
+    → takes_class (placing state) value ≡ true → is_text_of value text ≡ true →
     (out : List ℕ) × (escaped_where (placing state) value text context ≡ Some out) × Leads state out
 value_leads state value text context takes is =
     let form : (out : List ℕ) × (escaped_where (placing state) value text context ≡ Some out) × KeepsPlaceAt (placing state) out = form_kept (placing state) value text context takes is in

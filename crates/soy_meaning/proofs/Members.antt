@@ -1,8 +1,7 @@
 -- Members of lists without repeats.
-use Rattle.std.proofs.Common.{◌≡◌, ℕ, suc, ◌+◌, ◌≤◌, Bool, true, false, List, [], ◌∷◌, ◌++◌, ◌⊎◌, inl, inr}
-use Rattle.std.proofs.Common.{if◌then◌else◌, length, map, refl, sym, ap, ◌∙◌, subst, arith, length-append}
+use Rattle.std.proofs.Common.{◌≡◌, ℕ, ◌+◌, ◌≤◌, Bool, true, false, List, [], ◌∷◌, ◌++◌, ◌⊎◌, inl, inr}
+use Rattle.std.proofs.Common.{if◌then◌else◌, length, refl, sym, ◌∙◌, subst, arith, length-append}
 use Rattle.soy_meaning.specs.Machine.{ComparesEqual, Machine}
-use Rattle.soy_meaning.specs.PathParts.{empty_path}
 use Rattle.soy_meaning.specs.States.{AtMost, HasNoRepeats, IsMember, has_state, joined_states, with_state}
 
 pub mem_left : {S : Type 0} (s : S) (xs ys : List S) → IsMember s xs → IsMember s (xs ++ ys)
@@ -14,7 +13,8 @@ pub mem_right : {S : Type 0} (s : S) (xs ys : List S) → IsMember s ys → IsMe
 mem_right s [] ys h = h
 mem_right s (x ∷ xs) ys h = inr (mem_right s xs ys h)
 
-split_more : {S : Type 0} (s x : S) (xs ys : List S) → IsMember s xs ⊎ IsMember s ys → IsMember s (x ∷ xs) ⊎ IsMember s ys
+split_more : {S : Type 0} (s x : S) (xs ys : List S) → IsMember s xs ⊎ IsMember s ys
+    → IsMember s (x ∷ xs) ⊎ IsMember s ys
 split_more s x xs ys (inl h) = inl (inr h)
 split_more s x xs ys (inr h) = inr h
 
@@ -39,7 +39,8 @@ length_without x [] h = absurd h
 length_without x (y ∷ ys) (inl e) = omega arith
 length_without x (y ∷ ys) (inr h) = omega (arith, length_without x ys h)
 
-mem_without : {S : Type 0} (x t : S) (ys : List S) (h : IsMember x ys) → (t ≡ x → ⊥) → IsMember t ys → IsMember t (without x ys h)
+mem_without : {S : Type 0} (x t : S) (ys : List S) (h : IsMember x ys) → (t ≡ x → ⊥) → IsMember t ys
+    → IsMember t (without x ys h)
 unfolding without
 mem_without x t [] h apart k = absurd h
 mem_without x t (y ∷ ys) (inl e) apart (inl k) = absurd (apart (k ∙ sym e))
@@ -48,7 +49,8 @@ mem_without x t (y ∷ ys) (inr h) apart (inl k) = inl k
 mem_without x t (y ∷ ys) (inr h) apart (inr k) = inr (mem_without x t ys h apart k)
 
 -- different members of a list are no more than it has
-pub pigeons : {S : Type 0} (xs ys : List S) → HasNoRepeats xs → ((t : S) → IsMember t xs → IsMember t ys) → length xs ≤ length ys
+pub pigeons : {S : Type 0} (xs ys : List S) → HasNoRepeats xs → ((t : S) → IsMember t xs → IsMember t ys)
+    → length xs ≤ length ys
 pigeons [] ys d inside = omega arith
 pigeons (x ∷ xs) ys d inside =
     let here : IsMember x ys = inside x (inl refl) in
@@ -56,7 +58,8 @@ pigeons (x ∷ xs) ys d inside =
     pigeons xs (without x ys here) d.1 (λ t k. mem_without x t ys here (λ e. d.0 (subst (λ u. IsMember u xs) e k)) (inside t (inr k))) in
     omega (arith, length_without x ys here, rest)
 
-pub few_from_list : {S : Type 0} (n : ℕ) (ys : List S) (P : S → Type 0) → length ys ≤ n → ((t : S) → P t → IsMember t ys) → AtMost n P
+pub few_from_list : {S : Type 0} (n : ℕ) (ys : List S) (P : S → Type 0) → length ys ≤ n
+    → ((t : S) → P t → IsMember t ys) → AtMost n P
 few_from_list n ys P small inside xs d all =
     let h : length xs ≤ length ys = pigeons xs ys d (λ t k. inside t (all t k)) in omega arith
 

@@ -1,22 +1,24 @@
 -- What one move of every state gives.
-use Rattle.std.proofs.Common.{◌≡◌, ℕ, Bool, true, false, List, [], ◌∷◌, ◌++◌, ◌⊎◌, inl, inr, Result, Ok, Err, length}
-use Rattle.std.proofs.Common.{map, refl, sym, ap, ◌∙◌, subst, arith}
+use Rattle.std.proofs.Common.{◌≡◌, ℕ, List, [], ◌∷◌, ◌⊎◌, inl, inr, Result, Ok, Err}
+use Rattle.std.proofs.Common.{map, refl, sym, ap, ◌∙◌, subst}
 use Rattle.soy_base.specs.declared.code.Code.{Code}
 use Rattle.soy_tree.specs.Faults.{and_then}
 use Rattle.soy_meaning.proofs.Members.{add_new, add_old, distinct_add, distinct_join, join_new, mem_add, mem_join}
 use Rattle.soy_meaning.specs.Machine.{ComparesEqual, Machine}
-use Rattle.soy_meaning.specs.PathParts.{after_text, empty_path}
+use Rattle.soy_meaning.specs.PathParts.{after_text}
 use Rattle.soy_meaning.specs.States.{HasNoRepeats, IsMember, with_state}
 use Rattle.soy_meaning.specs.Walk.{moved_states, states_after_text, states_after_value}
 
 pub ok_same : {A E : Type 0} (a b : A) → ◌≡◌ {A = Result A E} (Ok a) (Ok b) → a ≡ b
 ok_same a b h = cc
 
-pub and_then_ok : {A B E : Type 0} (r : Result A E) (f : A → Result B E) (b : B) → and_then r f ≡ Ok b → (a : A) × (r ≡ Ok a) × (f a ≡ Ok b)
+pub and_then_ok : {A B E : Type 0} (r : Result A E) (f : A → Result B E) (b : B) → and_then r f ≡ Ok b
+    → (a : A) × (r ≡ Ok a) × (f a ≡ Ok b)
 and_then_ok (Ok a) f b h = (a, refl, h)
 and_then_ok (Err e) f b h = let no : ⊥ = cc in absurd no
 
-pub and_then_is : {A B E : Type 0} (r : Result A E) (f : A → Result B E) (a : A) (s : Result B E) → r ≡ Ok a → f a ≡ s → and_then r f ≡ s
+pub and_then_is : {A B E : Type 0} (r : Result A E) (f : A → Result B E) (a : A) (s : Result B E) → r ≡ Ok a → f a ≡ s
+    → and_then r f ≡ s
 and_then_is r f a s e h = rw e h
 
 -- `ys` are the results of `f` on `xs`, and nothing else

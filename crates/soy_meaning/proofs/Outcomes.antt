@@ -1,8 +1,8 @@
 -- Outcomes follow one another as lists do.
-use Rattle.std.proofs.Common.{◌≡◌, ◌+◌, ℕ, List, [], ◌∷◌, ◌++◌, refl, sym, ap, ◌∙◌, arith, append_assoc}
+use Rattle.std.proofs.Common.{◌≡◌, ◌+◌, ℕ, List, [], ◌++◌, refl, sym, ap, arith, append_assoc}
 use Rattle.std.proofs.lemmas.List.{append-nil}
-use Rattle.html_state.specs.Pieces.{Piece, Static, Value}
-use Rattle.soy_meaning.specs.Outcome.{Choice, Outcome, Ends, Gives, RunEnd, Spent, StopsAt, Whole, and_spent}
+use Rattle.html_state.specs.Pieces.{Static, Value}
+use Rattle.soy_meaning.specs.Outcome.{Choice, Outcome, Ends, Gives, Spent, StopsAt, Whole, and_spent}
 use Rattle.soy_meaning.specs.Outcome.{followed_by, gathered, gives_nothing, none_spent, spent_first}
 
 spent_is : (c d v w : ℕ) (k l : List Choice) → c ≡ d → v ≡ w → k ≡ l →
@@ -30,7 +30,8 @@ pub first_twice : (a b : Spent) (o : Outcome) → spent_first a (spent_first b o
 first_twice a b (Ends c end) = ap (λ s. Ends s end) (sym (spent_joined a b c))
 first_twice a b (Gives c piece o) = ap (λ s. Gives s piece o) (sym (spent_joined a b c))
 
-pub first_followed : (a : Spent) (o rest : Outcome) → followed_by (spent_first a o) rest ≡ spent_first a (followed_by o rest)
+pub first_followed : (a : Spent) (o rest : Outcome)
+    → followed_by (spent_first a o) rest ≡ spent_first a (followed_by o rest)
 first_followed a (Ends b Whole) rest = sym (first_twice a b rest)
 first_followed a (Ends b (StopsAt call)) rest = refl
 first_followed a (Gives b piece o) rest = refl

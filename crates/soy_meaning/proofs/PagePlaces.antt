@@ -1,13 +1,12 @@
 -- The places that the walk gives are those of the pieces.
-use Rattle.std.proofs.Common.{◌≡◌, ℕ, ◌+◌, true, List, [], ◌++◌, ◌⊎◌, inl, inr, Option, Some, None, Result, Ok, length}
-use Rattle.std.proofs.Common.{get_or, refl, sym, ap, ◌∙◌, subst}
+use Rattle.std.proofs.Common.{◌≡◌, ◌+◌, true, List, [], ◌++◌, ◌⊎◌, inl, inr, Option, Some, None, Ok, length}
+use Rattle.std.proofs.Common.{get_or, refl, ap, ◌∙◌, subst}
 use Rattle.soy_base.specs.declared.direction.Dir.{Dir}
 use Rattle.soy_base.specs.declared.kind.Kind.{Kind}
 use Rattle.soy_base.specs.declared.place.Place.{Place}
 use Rattle.soy_base.specs.declared.place.Placing.{Placing}
 use Rattle.soy_base.specs.declared.place.Placing.TheVariants.{Takes}
 use Rattle.soy_base.specs.declared.place.ValueClass.{ValueClass}
-use Rattle.html_state.specs.Follows.{Follows}
 use Rattle.html_state.specs.Pieces.{Piece, placing_after}
 use Rattle.html_state.specs.Start.{start}
 use Rattle.html_state.specs.StatePlacing.{placing}
@@ -33,7 +32,8 @@ use Rattle.soy_meaning.proofs.PointsAndHolds.{points_of_good}
 use Rattle.soy_meaning.proofs.Sound.{sound}
 use Rattle.soy_meaning.proofs.Walks.{walked_places}
 
-at_hole : (o : Option Point) (classes : List ValueClass) (X : State → Type 0) → o ≡ Some (AtHole classes) → PointHolds page_machine o X → OnePlacing page_machine classes X
+at_hole : (o : Option Point) (classes : List ValueClass) (X : State → Type 0) → o ≡ Some (AtHole classes)
+    → PointHolds page_machine o X → OnePlacing page_machine classes X
 at_hole o classes X e holds = subst (λ z. PointHolds page_machine z X) e holds
 
 pub static_places : (p : Plan) (w v : Walked State) → walk page_machine p w ≡ Ok v →

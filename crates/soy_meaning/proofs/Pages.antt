@@ -1,7 +1,6 @@
 -- A page that fills a path goes on as the walk along the path, through values and frames.
-use Rattle.std.proofs.Common.{◌≡◌, ℕ, Bool, true, false, ◌&&◌, ◌==◌, eqb, List, [], ◌∷◌, ◌++◌, ◌⊎◌, inl, inr, Option}
+use Rattle.std.proofs.Common.{◌≡◌, ℕ, Bool, true, false, ◌&&◌, ◌==◌, List, [], ◌∷◌, ◌++◌, ◌⊎◌, inl, inr, Option}
 use Rattle.std.proofs.Common.{Some, None, Result, Ok, Err, if◌then◌else◌, refl, sym, ap, ◌∙◌, subst, append_assoc}
-use Rattle.std.specs.Prelude.{IsTrue, unwrap_or}
 use Rattle.std.specs.Char.{is_ascii_alphanumeric}
 use Rattle.std.specs.List.{list_all}
 use Rattle.std.proofs.lemmas.Bool.{and_parts}
@@ -20,15 +19,14 @@ use Rattle.soy_base.specs.declared.place.Placing.TheVariants.{Takes, Refuses}
 use Rattle.soy_base.specs.declared.place.ValueClass.{ValueClass}
 use Rattle.html_state.specs.AfterAll.{after_all}
 use Rattle.html_state.specs.AfterValue.{after_value}
-use Rattle.html_state.specs.Follows.{Follows, FollowsOn, FollowsRow, IsOutside, LeadsPage, PlacedAlike}
+use Rattle.html_state.specs.Follows.{Follows, FollowsOn, IsOutside, LeadsPage, PlacedAlike}
 use Rattle.html_state.specs.Follows.{FramesAttributes, FramesHtml}
 use Rattle.html_state.specs.KeepsPlace.{KeepsPlaceAt}
 use Rattle.html_state.specs.Kept.{prefix_with}
 use Rattle.html_state.specs.Leads.{marked}
 use Rattle.html_state.specs.MayEnd.{may_end, may_end_row}
-use Rattle.html_state.specs.Next.{begun_reference, ampersand_next, is_decided, name_end, name_next, next, numeric_next}
+use Rattle.html_state.specs.Next.{begun_reference, is_decided, name_end, name_next, next, numeric_next}
 use Rattle.html_state.specs.Next.{pending, plain_next, reference_begun_next, reference_next, text_end}
-use Rattle.html_state.specs.Next.{value_character_next}
 use Rattle.html_state.specs.Pieces.{Piece, Static, Value, after_piece, after_pieces, placing_after}
 use Rattle.html_state.specs.References.{name_begun, reference_names}
 use Rattle.html_state.specs.Start.{start}
@@ -45,14 +43,13 @@ use Rattle.html_state.proofs.PageFrames.{page_attributes, page_html, page_value}
 use Rattle.html_state.proofs.PagePlaces.{page_place}
 use Rattle.html_state.proofs.PageSteps.{page_step, page_text_end, same_row}
 use Rattle.html_state.proofs.Pieces.{after_all-append}
-use Rattle.soy_tree.specs.Faults.{and_then}
-use Rattle.soy_meaning.specs.EscapedAt.{escaped_where, is_text_of}
+use Rattle.soy_meaning.specs.EscapedAt.{escaped_where}
 use Rattle.soy_meaning.specs.Filled.{Filled, nothing_more, text_before, value_before, frame_before, parts_of_filled}
 use Rattle.soy_meaning.specs.Filled.{value_form, filled_pieces, IsBlockKind, IsFrameOf, FillsHoles}
-use Rattle.soy_meaning.specs.FourPoints.{FourPoints, StartsAs, takes_classes}
+use Rattle.soy_meaning.specs.FourPoints.{StartsAs, takes_classes}
 use Rattle.soy_meaning.specs.PageMachine.{page_machine}
 use Rattle.soy_meaning.specs.PlanOfNodes.{kind_class}
-use Rattle.soy_meaning.specs.PathParts.{PathPart, StaticPart, HolePart, after_text, state_after_parts, StandsAfter}
+use Rattle.soy_meaning.specs.PathParts.{PathPart, StaticPart, HolePart, after_text, state_after_parts}
 use Rattle.soy_meaning.specs.States.{IsMember}
 use Rattle.soy_meaning.proofs.FinePaths.{Fine, fine_runs, path_fine}
 use Rattle.soy_meaning.proofs.Holds.{Holds}
@@ -74,7 +71,8 @@ abbrev StaysOutside : Result State Code → Type 0
 StaysOutside (Ok now) = IsLost now
 StaysOutside (Err fault) = Unit {0}
 
-outside_if : (test : Bool) (one other : Result State Code) → StaysOutside one → StaysOutside other → StaysOutside (if test then one else other)
+outside_if : (test : Bool) (one other : Result State Code) → StaysOutside one → StaysOutside other
+    → StaysOutside (if test then one else other)
 outside_if true one other is is_other = is
 outside_if false one other is is_other = is_other
 
@@ -128,7 +126,8 @@ lost_step t u c lost is =
 
 -- ---- a static text
 
-settled_if : (now : Reference) (t u : State) → (if is_decided now then Ok t else Err code.Ampersand) ≡ Ok u → (now ≡ reference.Decided) × (t ≡ u)
+settled_if : (now : Reference) (t u : State) → (if is_decided now then Ok t else Err code.Ampersand) ≡ Ok u
+    → (now ≡ reference.Decided) × (t ≡ u)
 settled_if reference.Decided t u is = (refl, ok_same t u is)
 settled_if (reference.Begun prefix) t u is = let never : ⊥ = cc in absurd never
 settled_if reference.NoName t u is = let never : ⊥ = cc in absurd never
@@ -154,7 +153,8 @@ read_first : (around : Option Tag) (text : List ℕ) (o : Result State Code) (v 
     ReadsOn around (after text_end (after_all next v text)) u → ReadsOn around (after text_end (after (λ past. after_all next past text) o)) u
 read_first around text o v u is on = subst (λ z. ReadsOn around (after text_end (after (λ past. after_all next past text) z)) u) (sym is) on
 
-text_follows : (around : Option Tag) (text : List ℕ) (s t u : State) → Follows around s t → after_text page_machine text t ≡ Ok u →
+text_follows : (around : Option Tag) (text : List ℕ) (s t u : State) → Follows around s t
+    → after_text page_machine text t ≡ Ok u →
     ReadsOn around (after_piece s (Static text)) u
 text_follows around [] s t u follows is =
     let e : IsSettled t × (t ≡ u) = text_ends t u is in
@@ -173,7 +173,8 @@ lost_hole t classes lost takes =
     let refused : takes_classes (Refuses code.Place) classes ≡ true = subst (λ r. takes_classes (row_placing r) classes ≡ true) (outside_row t.row lost) takes in
     let never : ⊥ = cc in never
 
-lost_rest : (l : List PathPart) (t u : State) → IsLost t → Fine page_machine l t → state_after_parts page_machine l t ≡ Ok u → IsLost u
+lost_rest : (l : List PathPart) (t u : State) → IsLost t → Fine page_machine l t
+    → state_after_parts page_machine l t ≡ Ok u → IsLost u
 lost_rest [] t u lost fine is = subst IsLost (ok_same t u is) lost
 lost_rest (StaticPart text ∷ l) t u lost fine is =
     let p : (w : State) × (after_text page_machine text t ≡ Ok w) × (state_after_parts page_machine l w ≡ Ok u) = and_then_ok (after_text page_machine text t) (λ w. state_after_parts page_machine l w) u is in
@@ -181,17 +182,21 @@ lost_rest (StaticPart text ∷ l) t u lost fine is =
     lost_rest l p.0 u (lost_text text t p.0 lost p.1) (subst (λ w. Fine page_machine l w) same fine.2) p.2
 lost_rest (HolePart classes ∷ l) t u lost fine is = absurd (lost_hole t classes lost fine.0)
 
-all_take : (point : Place) (value : ValueClass) (classes : List ValueClass) → list_all (takes_class (Takes point)) classes ≡ true → IsMember value classes → takes_class (Takes point) value ≡ true
+all_take : (point : Place) (value : ValueClass) (classes : List ValueClass)
+    → list_all (takes_class (Takes point)) classes ≡ true → IsMember value classes
+    → takes_class (Takes point) value ≡ true
 all_take point value [] all one = absurd one
 all_take point value (first ∷ classes) all (inl same) = let parts = and_parts _ _ all in subst (λ v. takes_class (Takes point) v ≡ true) (sym same) parts.0
 all_take point value (first ∷ classes) all (inr later) = let parts = and_parts _ _ all in all_take point value classes parts.1 later
 
-pub takes_one : (placing : Placing) (value : ValueClass) (classes : List ValueClass) → takes_classes placing classes ≡ true → IsMember value classes → takes_class placing value ≡ true
+pub takes_one : (placing : Placing) (value : ValueClass) (classes : List ValueClass)
+    → takes_classes placing classes ≡ true → IsMember value classes → takes_class placing value ≡ true
 takes_one (Takes point) value classes all one = all_take point value classes all one
 takes_one (Refuses code) value classes all one = let never : ⊥ = cc in absurd never
 
 -- where nothing is around, the placings are the same
-pub same_placing_alone : (own walk : Placing) (classes : List ValueClass) → PlacedAlike None own walk → takes_classes walk classes ≡ true → own ≡ walk
+pub same_placing_alone : (own walk : Placing) (classes : List ValueClass) → PlacedAlike None own walk
+    → takes_classes walk classes ≡ true → own ≡ walk
 same_placing_alone own (Takes place.Text) classes alike all = alike
 same_placing_alone own (Takes place.Rcdata) classes alike all = alike
 same_placing_alone own (Takes place.Tag) classes alike all = alike
@@ -215,14 +220,16 @@ LeadsOn around pieces page after_hole = (now : State) × (after_pieces page piec
 one_piece : (page now : State) (item : Piece) → after_piece page item ≡ Ok now → after_pieces page (item ∷ []) ≡ Ok now
 one_piece page now item is = ap (after (λ past. Ok past)) is
 
-value_follows : (around : Option Tag) (page walk : State) (out : List ℕ) → Follows around page walk → KeepsPlaceAt (placing walk) out →
+value_follows : (around : Option Tag) (page walk : State) (out : List ℕ) → Follows around page walk
+    → KeepsPlaceAt (placing walk) out →
     LeadsOn around (Value out ∷ []) page (after_value walk)
 value_follows around page walk out follows keeps =
     let led : LeadsPage around page walk out = page_value around page walk out follows keeps in
     (marked page led.0, one_piece page (marked page led.0) (Value out) (ap (after (λ now. Ok (marked page now))) led.1), led.2)
 
 -- the form of a value is that of the walk's placing
-form_is : (context : Dir) (o : Result Placing Code) (own walk : Placing) (value : ValueClass) (text out : List ℕ) → o ≡ Ok own → own ≡ walk → escaped_where walk value text context ≡ Some out →
+form_is : (context : Dir) (o : Result Placing Code) (own walk : Placing) (value : ValueClass) (text out : List ℕ)
+    → o ≡ Ok own → own ≡ walk → escaped_where walk value text context ≡ Some out →
     value_form o value text context ≡ out
 form_is context o own walk value text out is same form = rw (is, same, form) refl
 
@@ -233,7 +240,8 @@ FrameGoesOn around page walk kind =
     (inside : Option Tag) × Follows inside page (start kind)
     × ((now ended : State) → Follows inside now ended → may_end kind ended ≡ true → IsSettled ended → Follows around now (after_value walk))
 
-frame_goes_on : (around : Option Tag) (page walk : State) (kind : Kind) → IsBlockKind kind → Follows around page walk → takes_class (placing walk) (kind_class kind) ≡ true → IsSettled walk →
+frame_goes_on : (around : Option Tag) (page walk : State) (kind : Kind) → IsBlockKind kind → Follows around page walk
+    → takes_class (placing walk) (kind_class kind) ≡ true → IsSettled walk →
     FrameGoesOn around page walk kind
 frame_goes_on around page walk kind.Html block follows takes settled = let f : FramesHtml around page walk = page_html around page walk follows takes settled in (None, f.0, f.1)
 frame_goes_on around page walk kind.Attributes block follows takes settled = let f : FramesAttributes around page walk = page_attributes around page walk follows takes settled in (Some f.0, f.1, f.2)
@@ -281,7 +289,8 @@ pub record GoesOn (around : Option Tag) (kind : Kind) (so_far whole : List Piece
   pub reads : LeadsOn around more page last
   pub settled : IsSettled last
 
-goes_on_behind : (around : Option Tag) (kind : Kind) (so_far first whole : List Piece) (page middle last : State) → after_pieces page first ≡ Ok middle →
+goes_on_behind : (around : Option Tag) (kind : Kind) (so_far first whole : List Piece) (page middle last : State)
+    → after_pieces page first ≡ Ok middle →
     GoesOn around kind (so_far ++ first) whole middle last → GoesOn around kind so_far whole page last
 goes_on_behind around kind so_far first whole page middle last is on = record {
   more = first ++ on.more;
@@ -291,7 +300,8 @@ goes_on_behind around kind so_far first whole page middle last is on = record {
   settled = on.settled;
 }
 
-read_behind : (kind : Kind) (so_far more : List Piece) (own now : State) → after_pieces (start kind) so_far ≡ Ok own → after_pieces own more ≡ Ok now → after_pieces (start kind) (so_far ++ more) ≡ Ok now
+read_behind : (kind : Kind) (so_far more : List Piece) (own now : State) → after_pieces (start kind) so_far ≡ Ok own
+    → after_pieces own more ≡ Ok now → after_pieces (start kind) (so_far ++ more) ≡ Ok now
 read_behind kind so_far more own now is led = after_all-append after_piece (start kind) so_far more ∙ (ap (after (λ past. after_pieces past more)) is ∙ led)
 
 module _ (context : Dir) where

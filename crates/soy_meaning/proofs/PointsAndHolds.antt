@@ -1,5 +1,5 @@
 -- The four points over paths are those place by place.
-use Rattle.std.proofs.Common.{◌≡◌, ℕ, true, List, [], ◌∷◌, ◌++◌, Option, Some, None, Result, Ok, refl, sym, ap, ◌∙◌}
+use Rattle.std.proofs.Common.{◌≡◌, ℕ, List, [], ◌++◌, Option, Some, None, Ok, refl}
 use Rattle.std.proofs.Common.{subst}
 use Rattle.soy_base.specs.declared.place.ValueClass.{ValueClass}
 use Rattle.soy_meaning.proofs.Holds.{Holds}

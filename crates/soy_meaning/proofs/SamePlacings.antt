@@ -1,5 +1,5 @@
 -- Placings that `==` holds for are equal.
-use Rattle.std.proofs.Common.{◌≡◌, Bool, true, false, refl, ap}
+use Rattle.std.proofs.Common.{◌≡◌, true, false, refl, ap}
 use Rattle.soy_base.specs.declared.code.Code.{Code}
 use Rattle.soy_base.specs.declared.code.Code.TheVariants as code
 use Rattle.soy_base.specs.contracts.code.CodePartialEq.TheImpl as code_eq

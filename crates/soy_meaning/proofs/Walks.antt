@@ -1,6 +1,7 @@
 -- The walk meets no fault exactly where the four points hold, and then gives the places of the holes.
-use Rattle.std.proofs.Common.{◌≡◌, ℕ, List, [], ◌∷◌, ◌++◌, map, Option, Some, Result, Ok, ◌+◌, length, get_or, refl, sym, ap}
-use Rattle.std.proofs.Common.{◌∙◌, subst}
+use Rattle.std.proofs.Common.{◌≡◌, List, [], ◌∷◌, ◌++◌, map, Option, Some, Ok, ◌+◌, length, get_or}
+use Rattle.std.proofs.Common.{sym, ap}
+use Rattle.std.proofs.Common.{◌∙◌}
 use Rattle.soy_base.specs.declared.kind.Kind.{Kind}
 use Rattle.soy_base.specs.declared.place.Place.{Place}
 use Rattle.soy_base.specs.declared.place.Placing.TheVariants.{Takes}
@@ -8,11 +9,11 @@ use Rattle.soy_base.specs.declared.place.ValueClass.{ValueClass}
 use Rattle.soy_meaning.specs.FourPoints.{AcceptedPaths, StartsAs}
 use Rattle.soy_meaning.specs.Holes.{hole_count, holes_before}
 use Rattle.soy_meaning.specs.Machine.{ComparesEqual, Machine}
-use Rattle.soy_meaning.specs.Plan.{Site, Plan, Frame, Nothing, Then, in_turn}
+use Rattle.soy_meaning.specs.Plan.{Site, Plan, Frame, in_turn}
 use Rattle.soy_meaning.specs.Points.{Address, AtHole, StandsAt, frame_at, point_at}
 use Rattle.soy_meaning.specs.PathParts.{StandsAfter}
-use Rattle.soy_meaning.specs.States.{HasNoRepeats, IsMember}
-use Rattle.soy_meaning.specs.Walk.{WalkFault, Walked, walk, walked}
+use Rattle.soy_meaning.specs.States.{IsMember}
+use Rattle.soy_meaning.specs.Walk.{Walked, walk, walked}
 use Rattle.soy_meaning.specs.AcceptedTrees.{AcceptedTrees, walk_trees}
 use Rattle.soy_meaning.specs.PageMachine.{page_machine}
 use Rattle.soy_meaning.specs.PlanOfNodes.{PlanContext, closes_at, declared_plan, nodes_plan, trees_plan}
@@ -37,7 +38,8 @@ module _ {S : Type 0} (m : Machine S) (compares : ComparesEqual m) where
   pub frame_holds : (kind : Kind) (at : Site) (p : Plan) (P : S → Type 0) → AcceptedPaths m (Frame kind at p) → Holds m (Frame kind at p) P
   frame_holds kind at p P g = (good_of_points m p (StartsAs m kind) g.0.points g.1, g.0.ends)
 
-  -- the place that the walk gives to a hole of a frame is the placing of each state which a path of the frame leads to it in
+  -- the place that the walk gives to a hole of a frame is the placing of each state which a path of the frame leads to
+  -- it in
   pub walked_places : (p : Plan) (w v : Walked S) → walk m p w ≡ Ok v
       → (new : List Place) × (v.places ≡ w.places ++ new) × (length new ≡ hole_count p)
       × ((y : Address) (kind : Kind) (q : Plan) → frame_at p y ≡ Some (kind, q) → (x : Address) (classes : List ValueClass) → point_at q x ≡ Some (AtHole classes)
@@ -62,6 +64,7 @@ trees_hold translation all (d ∷ ds) P g =
       trees_hold translation all ds (StandsAfter page_machine (declared_plan translation all d) P) g.1,
     )
 
-pub trees_walked : (translation : Message → Option MsgParts) (trees : List Tree) → AcceptedTrees translation trees → (v : Walked State) × (walk_trees translation trees ≡ Ok v)
+pub trees_walked : (translation : Message → Option MsgParts) (trees : List Tree) → AcceptedTrees translation trees
+    → (v : Walked State) × (walk_trees translation trees ≡ Ok v)
 trees_walked translation trees g =
     complete page_machine page_compares (trees_plan translation trees) (walked [] []) tt (trees_hold translation (declared trees) (declared trees) (λ s. IsMember s []) g)

@@ -4,7 +4,7 @@
 -- wrapped text, which alone goes by the direction of the context. Where a place doesn't take a class, and where a block
 -- is printed, which gives pieces of its own, there is no form.
 -- Example: the string `<` becomes `<span dir="ltr">&lt;</span>` in text, and `\x3c` in a string of a script.
-use Rattle.std.specs.Prelude.{◌≡◌, ℕ, Bool, true, false, ◌==◌, ◌&&◌, List, [], ◌∷◌, Option, Some, None, IsTrue}
+use Rattle.std.specs.Prelude.{ℕ, Bool, true, false, ◌==◌, List, [], ◌∷◌, Option, Some, None}
 use Rattle.std.specs.Prelude.{if◌then◌else◌, codes}
 use Rattle.std.specs.Char.{is_ascii_digit}
 use Rattle.std.specs.List.{list_all}

@@ -3,7 +3,7 @@
 -- What fills a path gives pieces. A value gives its escaped form at the place of the pieces of its own frame so far,
 -- and a frame gives its own pieces, which are made from the start of its kind.
 -- Example: `<p {$b}>`, filled with the frame `class="a"`, gives the static texts `<p `, `class="a"` and `>`.
-use Rattle.std.specs.Prelude.{◌≡◌, ℕ, List, [], ◌∷◌, ◌++◌, Option, Some, None, Result, Ok, Err, IsTrue, unwrap_or}
+use Rattle.std.specs.Prelude.{ℕ, List, [], ◌∷◌, ◌++◌, Result, Ok, Err, IsTrue, unwrap_or}
 use Rattle.soy_base.specs.declared.code.Code.{Code}
 use Rattle.soy_base.specs.declared.direction.Dir.{Dir}
 use Rattle.soy_base.specs.declared.kind.Kind.{Kind}
@@ -11,7 +11,6 @@ use Rattle.soy_base.specs.declared.kind.Kind.TheVariants as kind
 use Rattle.soy_base.specs.declared.place.Placing.{Placing}
 use Rattle.soy_base.specs.declared.place.ValueClass.{ValueClass}
 use Rattle.html_state.specs.Pieces.{Piece, Static, Value, placing_after}
-use Rattle.html_state.specs.declared.row.State.{State}
 use Rattle.soy_meaning.specs.EscapedAt.{escaped_where, is_text_of}
 use Rattle.soy_meaning.specs.FourPoints.{FourPoints, AcceptedPaths}
 use Rattle.soy_meaning.specs.PageMachine.{page_machine}

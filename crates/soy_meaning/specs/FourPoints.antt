@@ -14,7 +14,7 @@ use Rattle.soy_base.specs.declared.place.Placing.TheVariants.{Takes, Refuses}
 use Rattle.soy_base.specs.declared.place.ValueClass.{ValueClass}
 use Rattle.html_state.specs.TakesClass.{takes_class}
 use Rattle.soy_meaning.specs.Machine.{Machine}
-use Rattle.soy_meaning.specs.Plan.{Site, Plan, Then, Either, Meet, Loop, Frame}
+use Rattle.soy_meaning.specs.Plan.{Plan, Then, Either, Meet, Loop, Frame}
 use Rattle.soy_meaning.specs.Points.{Address, Point, AtText, AtHole, AtMeet, point_at, StandsAt}
 use Rattle.soy_meaning.specs.PathParts.{after_text, StandsAfter}
 use Rattle.soy_meaning.specs.States.{AtMost}

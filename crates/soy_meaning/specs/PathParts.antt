@@ -10,7 +10,7 @@ use Rattle.soy_base.specs.declared.kind.Kind.{Kind}
 use Rattle.soy_base.specs.declared.place.ValueClass.{ValueClass}
 use Rattle.soy_tree.specs.Faults.{and_then}
 use Rattle.soy_meaning.specs.Machine.{Machine}
-use Rattle.soy_meaning.specs.Plan.{Site, Plan, Nothing, Nowhere, StaticText, Hole, Then, Either, Meet, Loop, Frame}
+use Rattle.soy_meaning.specs.Plan.{Site, Plan, Nothing, StaticText, Hole, Then, Either, Meet, Loop, Frame}
 
 pub data PathPart : Type 0 where
   StaticPart : List ℕ → PathPart

@@ -5,7 +5,7 @@
 -- of which a path takes either. A meet is the end of a command's arms, and a loop is followed any number of times. A
 -- frame within a frame has its kind and the site of its closing command; it stands beside the paths of the outer one.
 -- Example: `{if $a}x{/if}` is `Meet at (Either (Either Nowhere (StaticText x ..)) Nothing)`.
-use Rattle.std.specs.Prelude.{ℕ, List, [], ◌∷◌, ◌++◌}
+use Rattle.std.specs.Prelude.{ℕ, List, [], ◌∷◌}
 use Rattle.soy_base.specs.declared.kind.Kind.{Kind}
 use Rattle.soy_base.specs.declared.place.ValueClass.{ValueClass}
 

@@ -15,7 +15,6 @@ use Rattle.soy_tree.specs.Types.{Name, SoyType, IntType, ListType}
 use Rattle.soy_tree.specs.Faults.{TypeFault}
 use Rattle.soy_tree.specs.TypeOf.{Scope, type_of}
 use Rattle.soy_tree.specs.Narrowing.{narrowed}
-use Rattle.soy_tree.specs.Expressions.{Expr}
 use Rattle.soy_tree.specs.Nodes.{Node, Nodes, Otherwise, Arms, Cases, Arguments, Given, Message, Fallback, MessageBody}
 use Rattle.soy_tree.specs.Nodes.{PluralCases, SelectCases, TextNode, Print, If, Switch, For, Let, LetBlock, Call}
 use Rattle.soy_tree.specs.Nodes.{MessageNode, no_node, node, no_otherwise, otherwise, no_arm, arm, no_case, case}

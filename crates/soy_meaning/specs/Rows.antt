@@ -2,7 +2,7 @@
 --
 -- A row is the body of a template of kind html, with the offsets in the body, whose closing command is at offset 100.
 -- Example: `<b` ends in the name of a tag, and is refused with 13 at the closing command.
-use Rattle.std.specs.Prelude.{ℕ, pos, ◌+◌, Bool, true, false, List, [], ◌∷◌, Option, Some, None, Result, Ok, Err, map}
+use Rattle.std.specs.Prelude.{ℕ, pos, ◌+◌, true, false, List, [], ◌∷◌, Option, Some, None, Result, map}
 use Rattle.std.specs.Prelude.{codes}
 use Rattle.soy_base.specs.declared.fault.Span.{Span}
 use Rattle.soy_base.specs.declared.kind.Kind.TheVariants as kind
@@ -10,7 +10,7 @@ use Rattle.soy_base.specs.Characters.{less_than}
 use Rattle.html_state.specs.declared.row.State.{State}
 use Rattle.soy_tree.specs.Types.{Name, SoyType, BoolType, IntType, ListType, StringType}
 use Rattle.soy_tree.specs.Expressions.{Expr, Variable, IntLiteral}
-use Rattle.soy_tree.specs.Nodes.{Node, Nodes, Cases, Message, TextNode, Print, If, Switch, For, LetBlock, MessageNode, no_node}
+use Rattle.soy_tree.specs.Nodes.{Node, Nodes, Cases, TextNode, Print, If, Switch, For, LetBlock, MessageNode, no_node}
 use Rattle.soy_tree.specs.Nodes.{node, no_otherwise, no_arm, arm, no_case, case, message, no_fallback, Parts}
 use Rattle.soy_tree.specs.MessageParts.{MsgParts, TextPart, no_part, part}
 use Rattle.soy_tree.specs.Trees.{Param, Template, Tree}
