@@ -5,9 +5,9 @@ use Rattle.std.proofs.Common.{append_assoc}
 use Rattle.std.proofs.lemmas.List.{append-nil, take_at}
 use Rattle.std.specs.Prelude.{nat_lt, ◌==◌}
 use Rattle.soy_base.specs.declared.place.Place.{Place}
-use Rattle.soy_tree.specs.Faults.{and_then}
+use Rattle.soy_tree.specs.Faults.{followed_by}
 use Rattle.soy_meaning.proofs.HolePlaces.{HolePlaces, TwoLists}
-use Rattle.soy_meaning.proofs.Moves.{and_then_ok, ok_same}
+use Rattle.soy_meaning.proofs.Moves.{followed_ok, ok_same}
 use Rattle.soy_meaning.proofs.Sound.{Sound, all_placed, ended_if, limited_ok, post_mono, sound, turned_if}
 use Rattle.soy_meaning.specs.Machine.{ComparesEqual, Machine}
 use Rattle.soy_meaning.specs.Plan.{Either, Frame, Hole, Loop, Meet, Nothing, Nowhere, Plan, Site, StaticText, Then}
@@ -55,7 +55,7 @@ module _ {S : Type 0} (m : Machine S) (compares : ComparesEqual m) where
   turns_add_places at p ih zero w v h = let no : ⊥ = cc in absurd no
   turns_add_places at p ih (suc n) w v h =
       let r : (u : Walked S) × (walk m p w ≡ Ok u) × (after_turn m (λ u. turns m (λ z. walk m p z) at n u) at w u (joined_states m w.states u.states) ≡ Ok v) =
-      and_then_ok (walk m p w) (λ u. after_turn m (λ z. turns m (λ y. walk m p y) at n z) at w u (joined_states m w.states u.states)) v h in
+      followed_ok (walk m p w) (λ u. after_turn m (λ z. turns m (λ y. walk m p y) at n z) at w u (joined_states m w.states u.states)) v h in
       let more = joined_states m w.states r.0.states in
       let c : (nat_lt 16 (length more) ≡ false) × ((((length more == length w.states) ≡ true) × (record { states = w.states; places = r.0.places } ≡ v)) ⊎ (turns m (λ z. walk m p z) at n (record { states = more; places = w.places }) ≡ Ok v)) =
       turned_if m compares (nat_lt 16 (length more)) (length more == length w.states) at (record { states = w.states; places = r.0.places }) v (turns m (λ z. walk m p z) at n (record { states = more; places = w.places })) r.2 in
@@ -68,17 +68,17 @@ module _ {S : Type 0} (m : Machine S) (compares : ComparesEqual m) where
   adds_places Nothing w v h = none Nothing w.states w.places v.places (ap (λ (z : Walked S). z.places) (ok_same w v h)) refl
   adds_places Nowhere w v h = none Nowhere w.states w.places v.places (ap (λ (z : Walked S). z.places) (ok_same (record { states = []; places = w.places }) v h)) refl
   adds_places (StaticText at text) w v h =
-      let r : (ts : List S) × (met_at at (states_after_text m text w.states) ≡ Ok ts) × (Ok (record { states = ts; places = w.places }) ≡ Ok v) = and_then_ok (met_at at (states_after_text m text w.states)) (λ ts. Ok (record { states = ts; places = w.places })) v h in
+      let r : (ts : List S) × (met_at at (states_after_text m text w.states) ≡ Ok ts) × (Ok (record { states = ts; places = w.places }) ≡ Ok v) = followed_ok (met_at at (states_after_text m text w.states)) (λ ts. Ok (record { states = ts; places = w.places })) v h in
       none (StaticText at text) w.states w.places v.places (ap (λ (z : Walked S). z.places) (ok_same (record { states = r.0; places = w.places }) v r.2)) refl
   adds_places (Hole at classes) w v h =
-      let r : (q : Place) × (place_of_hole m at classes w.states ≡ Ok q) × (Ok (record { states = states_after_value m w.states; places = w.places ++ (q ∷ []) }) ≡ Ok v) = and_then_ok (place_of_hole m at classes w.states) (λ q. Ok (record { states = states_after_value m w.states; places = w.places ++ (q ∷ []) })) v h in
+      let r : (q : Place) × (place_of_hole m at classes w.states ≡ Ok q) × (Ok (record { states = states_after_value m w.states; places = w.places ++ (q ∷ []) }) ≡ Ok v) = followed_ok (place_of_hole m at classes w.states) (λ q. Ok (record { states = states_after_value m w.states; places = w.places ++ (q ∷ []) })) v h in
       record {
         more = r.0 ∷ [];
         is = sym (ap (λ (z : Walked S). z.places) (ok_same (record { states = states_after_value m w.states; places = w.places ++ (r.0 ∷ []) }) v r.2));
         of_holes = (r.0, refl, (λ s k. (all_placed m compares at classes w.states r.0 r.1 s k).0));
       }
   adds_places (Then p q) w v h =
-      let r : (u : Walked S) × (walk m p w ≡ Ok u) × (walk m q u ≡ Ok v) = and_then_ok (walk m p w) (λ u. walk m q u) v h in
+      let r : (u : Walked S) × (walk m p w ≡ Ok u) × (walk m q u ≡ Ok v) = followed_ok (walk m p w) (λ u. walk m q u) v h in
       let a : AddsPlaces m p w.states w.places r.0.places = adds_places p w r.0 r.1 in
       let b : AddsPlaces m q r.0.states r.0.places v.places = adds_places q r.0 v r.2 in
       let s : Sound m p w.states r.0.states = sound m compares p w r.0 r.1 in
@@ -90,16 +90,16 @@ module _ {S : Type 0} (m : Machine S) (compares : ComparesEqual m) where
         backs = places_mono m q (StandsAfter m p (λ s. IsMember s w.states)) (λ s. IsMember s r.0.states) s.to b.more y;
       })
   adds_places (Either p q) w v h =
-      let r : (u : Walked S) × (walk m p w ≡ Ok u) × (and_then (walk m q (record { states = w.states; places = u.places })) (λ z. Ok (record { states = joined_states m u.states z.states; places = z.places })) ≡ Ok v) =
-      and_then_ok (walk m p w) (λ u. and_then (walk m q (record { states = w.states; places = u.places })) (λ z. Ok (record { states = joined_states m u.states z.states; places = z.places }))) v h in
+      let r : (u : Walked S) × (walk m p w ≡ Ok u) × (followed_by (walk m q (record { states = w.states; places = u.places })) (λ z. Ok (record { states = joined_states m u.states z.states; places = z.places })) ≡ Ok v) =
+      followed_ok (walk m p w) (λ u. followed_by (walk m q (record { states = w.states; places = u.places })) (λ z. Ok (record { states = joined_states m u.states z.states; places = z.places }))) v h in
       let c : (z : Walked S) × (walk m q (record { states = w.states; places = r.0.places }) ≡ Ok z) × (Ok (record { states = joined_states m r.0.states z.states; places = z.places }) ≡ Ok v) =
-      and_then_ok (walk m q (record { states = w.states; places = r.0.places })) (λ z. Ok (record { states = joined_states m r.0.states z.states; places = z.places })) v r.2 in
+      followed_ok (walk m q (record { states = w.states; places = r.0.places })) (λ z. Ok (record { states = joined_states m r.0.states z.states; places = z.places })) v r.2 in
       let a : AddsPlaces m p w.states w.places r.0.places = adds_places p w r.0 r.1 in
       let b : AddsPlaces m q w.states r.0.places c.0.places = adds_places q (record { states = w.states; places = r.0.places }) c.0 c.1 in
       let e : c.0.places ≡ v.places = ap (λ (z : Walked S). z.places) (ok_same (record { states = joined_states m r.0.states c.0.states; places = c.0.places }) v c.2) in
       subst (λ l. AddsPlaces m (Either p q) w.states w.places l) e (two p q (Either p q) w.states w.states w.places r.0.places c.0.places a b (λ x y. record { front = a.more; back = b.more; joined = refl; fronts = x; backs = y }))
   adds_places (Meet at p) w v h =
-      let r : (u : Walked S) × (walk m p w ≡ Ok u) × (within_limit m at u ≡ Ok v) = and_then_ok (walk m p w) (λ u. within_limit m at u) v h in
+      let r : (u : Walked S) × (walk m p w ≡ Ok u) × (within_limit m at u ≡ Ok v) = followed_ok (walk m p w) (λ u. within_limit m at u) v h in
       let c : (length r.0.states ≤ 16) × (r.0 ≡ v) = limited_ok m compares at r.0 v r.2 in
       let a : AddsPlaces m p w.states w.places r.0.places = adds_places p w r.0 r.1 in
       record { more = a.more; is = sym (ap (λ (z : Walked S). z.places) c.1) ∙ a.is; of_holes = a.of_holes }
@@ -109,7 +109,7 @@ module _ {S : Type 0} (m : Machine S) (compares : ComparesEqual m) where
       record { more = a.more; is = a.is; of_holes = places_mono m p (StandsAfter m (Loop at p) (λ s. IsMember s w.states)) (λ s. IsMember s v.states) s.to a.more a.of_holes }
   adds_places (Frame kind at p) w v h =
       let r : (u : Walked S) × (walk m p (record { states = m.start kind ∷ []; places = w.places }) ≡ Ok u) × (frame_end m kind at w.states u ≡ Ok v) =
-      and_then_ok (walk m p (record { states = m.start kind ∷ []; places = w.places })) (λ u. frame_end m kind at w.states u) v h in
+      followed_ok (walk m p (record { states = m.start kind ∷ []; places = w.places })) (λ u. frame_end m kind at w.states u) v h in
       let c : (all_may_end m kind r.0.states ≡ true) × (record { states = w.states; places = r.0.places } ≡ v) = ended_if m compares (all_may_end m kind r.0.states) at (record { states = w.states; places = r.0.places }) v r.2 in
       let a : AddsPlaces m p (m.start kind ∷ []) w.places r.0.places = adds_places p (record { states = m.start kind ∷ []; places = w.places }) r.0 r.1 in
       record { more = a.more; is = sym (ap (λ (z : Walked S). z.places) c.1) ∙ a.is; of_holes = places_mono m p (λ s. s ≡ m.start kind) (λ s. IsMember s (m.start kind ∷ [])) (λ s k. inl k) a.more a.of_holes }

@@ -10,10 +10,10 @@ use Rattle.soy_base.specs.declared.kind.Kind.{Kind}
 use Rattle.soy_base.specs.declared.place.ValueClass.{ValueClass}
 use Rattle.soy_base.specs.declared.place.Place.{Place}
 use Rattle.soy_base.specs.declared.place.Placing.{Placing}
-use Rattle.soy_tree.specs.Faults.{and_then}
+use Rattle.soy_tree.specs.Faults.{followed_by}
 use Rattle.soy_meaning.proofs.Holds.{Holds}
 use Rattle.soy_meaning.proofs.Members.{distinct_join, length_join, mem_join}
-use Rattle.soy_meaning.proofs.Moves.{and_then_is, follow_goes}
+use Rattle.soy_meaning.proofs.Moves.{followed_is, follow_goes}
 use Rattle.soy_meaning.proofs.Runs.{loop_more, loop_stops}
 use Rattle.soy_meaning.proofs.SamePlacings.{placing_itself}
 use Rattle.soy_meaning.proofs.Sound.{Sound, good_mono, post_mono, sound}
@@ -76,7 +76,7 @@ module _ {S : Type 0} (m : Machine S) (compares : ComparesEqual m) where
       let z : (v : Walked S) × (after_turn m (λ u. turns m (λ y. walk m p y) at n u) at w r.0 more ≡ Ok v) =
       turned_goes (length more == length w.states) (λ u. turns m (λ y. walk m p y) at n u) at w r.0 more (few more apart within) refl
       (λ e. turns_go at p H closed good few ih n (record { states = more; places = w.places }) (further (length more) (length w.states) n (eqb-false (length more) (length w.states) e) grows enough) apart within) in
-      (z.0, and_then_is (walk m p w) (λ u. after_turn m (λ y. turns m (λ x. walk m p x) at n y) at w u (joined_states m w.states u.states)) r.0 (Ok z.0) r.1 z.1)
+      (z.0, followed_is (walk m p w) (λ u. after_turn m (λ y. turns m (λ x. walk m p x) at n y) at w u (joined_states m w.states u.states)) r.0 (Ok z.0) r.1 z.1)
     where
       further : (a b n : ℕ) → (a ≡ b → ⊥) → b ≤ a → 17 ≤ suc n + b → 17 ≤ n + a
       further a b n apart le enough = omega arith
@@ -87,29 +87,29 @@ module _ {S : Type 0} (m : Machine S) (compares : ComparesEqual m) where
   complete (StaticText at text) w d g =
       let r : (ts : List S) × (states_after_text m text w.states ≡ Ok ts) = follow_goes m compares text w.states g in
       let v : Walked S = record { states = r.0; places = w.places } in
-      (v, and_then_is (met_at at (states_after_text m text w.states)) (λ ts. Ok (record { states = ts; places = w.places })) r.0 (Ok v) (ap (λ z. met_at at z) r.1) refl)
+      (v, followed_is (met_at at (states_after_text m text w.states)) (λ ts. Ok (record { states = ts; places = w.places })) r.0 (Ok v) (ap (λ z. met_at at z) r.1) refl)
   complete (Hole at classes) w d g =
       let r : (p : Place) × (place_of_hole m at classes w.states ≡ Ok p) = hole_goes at classes w.states g in
       let v : Walked S = record { states = states_after_value m w.states; places = w.places ++ (r.0 ∷ []) } in
-      (v, and_then_is (place_of_hole m at classes w.states) (λ q. Ok (record { states = states_after_value m w.states; places = w.places ++ (q ∷ []) })) r.0 (Ok v) r.1 refl)
+      (v, followed_is (place_of_hole m at classes w.states) (λ q. Ok (record { states = states_after_value m w.states; places = w.places ++ (q ∷ []) })) r.0 (Ok v) r.1 refl)
   complete (Then p q) w d g =
       let r : (v : Walked S) × (walk m p w ≡ Ok v) = complete p w d g.0 in
       let a : Sound m p w.states r.0.states = sound m compares p w r.0 r.1 in
       let z : (v : Walked S) × (walk m q r.0 ≡ Ok v) = complete q r.0 (a.distinct d) (good_mono m q (λ s. IsMember s r.0.states) (StandsAfter m p (λ s. IsMember s w.states)) a.from g.1) in
-      (z.0, and_then_is (walk m p w) (λ v. walk m q v) r.0 (Ok z.0) r.1 z.1)
+      (z.0, followed_is (walk m p w) (λ v. walk m q v) r.0 (Ok z.0) r.1 z.1)
   complete (Either p q) w d g =
       let r : (v : Walked S) × (walk m p w ≡ Ok v) = complete p w d g.0 in
       let w' : Walked S = record { states = w.states; places = r.0.places } in
       let z : (v : Walked S) × (walk m q w' ≡ Ok v) = complete q w' d g.1 in
       let v : Walked S = record { states = joined_states m r.0.states z.0.states; places = z.0.places } in (
         v,
-        and_then_is (walk m p w) (λ u. and_then (walk m q (record { states = w.states; places = u.places })) (λ x. Ok (record { states = joined_states m u.states x.states; places = x.places }))) r.0 (Ok v) r.1
-            (and_then_is (walk m q w') (λ x. Ok (record { states = joined_states m r.0.states x.states; places = x.places })) z.0 (Ok v) z.1 refl),
+        followed_is (walk m p w) (λ u. followed_by (walk m q (record { states = w.states; places = u.places })) (λ x. Ok (record { states = joined_states m u.states x.states; places = x.places }))) r.0 (Ok v) r.1
+            (followed_is (walk m q w') (λ x. Ok (record { states = joined_states m r.0.states x.states; places = x.places })) z.0 (Ok v) z.1 refl),
       )
   complete (Meet at p) w d g =
       let r : (v : Walked S) × (walk m p w ≡ Ok v) = complete p w d g.0 in
       let a : Sound m p w.states r.0.states = sound m compares p w r.0 r.1 in
-      (r.0, and_then_is (walk m p w) (λ v. within_limit m at v) r.0 (Ok r.0) r.1 (limited_goes at r.0 (g.1 r.0.states (a.distinct d) a.from)))
+      (r.0, followed_is (walk m p w) (λ v. within_limit m at v) r.0 (Ok r.0) r.1 (limited_goes at r.0 (g.1 r.0.states (a.distinct d) a.from)))
   complete (Loop at p) w d g =
       let H : S → Type 0 = StandsAfter m (Loop at p) (λ s. IsMember s w.states) in
       turns_go at p H (λ s t h r. record { from = h.from; before = h.before; path_leads = loop_more m at p h.from s t h.path_leads r }) g.0 g.1 (λ u c k. complete p u c k) 17 w (omega arith) d
@@ -121,4 +121,4 @@ module _ {S : Type 0} (m : Machine S) (compares : ComparesEqual m) where
       let a : Sound m p (m.start kind ∷ []) r.0.states = sound m compares p start r.0 r.1 in
       let ends : all_may_end m kind r.0.states ≡ true = all_end_goes kind r.0.states (λ t h. g.1 t (post_mono m p (λ s. IsMember s (m.start kind ∷ [])) (λ s. s ≡ m.start kind) one t (a.from t h))) in
       let v : Walked S = record { states = w.states; places = r.0.places } in
-      (v, and_then_is (walk m p start) (λ u. frame_end m kind at w.states u) r.0 (Ok v) r.1 (rw ends))
+      (v, followed_is (walk m p start) (λ u. frame_end m kind at w.states u) r.0 (Ok v) r.1 (rw ends))

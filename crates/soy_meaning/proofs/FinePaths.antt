@@ -10,7 +10,7 @@ use Rattle.soy_base.specs.declared.place.ValueClass.{ValueClass}
 use Rattle.soy_base.specs.declared.place.Place.{Place}
 use Rattle.soy_meaning.proofs.Holds.{Holds}
 use Rattle.soy_meaning.proofs.HolePlaces.{HolePlaces, TwoLists}
-use Rattle.soy_meaning.proofs.Moves.{and_then_is, and_then_ok, ok_same}
+use Rattle.soy_meaning.proofs.Moves.{followed_is, followed_ok, ok_same}
 use Rattle.soy_meaning.proofs.PointsAndHolds.{arms_lead, body_stands, hole_from, left_leads, one_leads, other_leads}
 use Rattle.soy_meaning.proofs.PointsAndHolds.{right_stands}
 use Rattle.soy_meaning.proofs.Runs.{loop_more, loop_stops}
@@ -45,13 +45,13 @@ module _ {S : Type 0} (m : Machine S) where
   pub fine_runs : (l : List PathPart) (s : S) → Fine m l s → (t : S) × (state_after_parts m l s ≡ Ok t)
   fine_runs [] s f = (s, refl)
   fine_runs (StaticPart text ∷ l) s f =
-      let r : (t : S) × (state_after_parts m l f.0 ≡ Ok t) = fine_runs l f.0 f.2 in (r.0, and_then_is (after_text m text s) (λ t. state_after_parts m l t) f.0 (Ok r.0) f.1 r.1)
+      let r : (t : S) × (state_after_parts m l f.0 ≡ Ok t) = fine_runs l f.0 f.2 in (r.0, followed_is (after_text m text s) (λ t. state_after_parts m l t) f.0 (Ok r.0) f.1 r.1)
   fine_runs (HolePart classes ∷ l) s f = fine_runs l (m.value s) f.1
 
   pub fine_join : (a b : List PathPart) (s t : S) → Fine m a s → state_after_parts m a s ≡ Ok t → Fine m b t → Fine m (a ++ b) s
   fine_join [] b s t f h g = subst (λ v. Fine m b v) (sym (ok_same s t h)) g
   fine_join (StaticPart text ∷ a) b s t f h g =
-      let p : (v : S) × (after_text m text s ≡ Ok v) × (state_after_parts m a v ≡ Ok t) = and_then_ok (after_text m text s) (λ v. state_after_parts m a v) t h in
+      let p : (v : S) × (after_text m text s ≡ Ok v) × (state_after_parts m a v ≡ Ok t) = followed_ok (after_text m text s) (λ v. state_after_parts m a v) t h in
       let same : f.0 ≡ p.0 = ok_same f.0 p.0 (sym f.1 ∙ p.1) in
       (p.0, p.1, fine_join a b p.0 t (subst (λ v. Fine m a v) same f.2) p.2 g)
   fine_join (HolePart classes ∷ a) b s t f h g = (f.0, fine_join a b (m.value s) t f.1 h g)

@@ -3,7 +3,7 @@ use Rattle.std.proofs.Common.{◌≡◌, ◌+◌, ℕ, List, [], ◌++◌, refl,
 use Rattle.std.proofs.lemmas.List.{append-nil}
 use Rattle.html_state.specs.Pieces.{Static, Value}
 use Rattle.soy_meaning.specs.Outcome.{Choice, Outcome, Ends, Gives, Spent, StopsAt, Whole, and_spent}
-use Rattle.soy_meaning.specs.Outcome.{followed_by, gathered, gives_nothing, none_spent, spent_first}
+use Rattle.soy_meaning.specs.Outcome.{continued_by, gathered, gives_nothing, none_spent, spent_first}
 
 spent_is : (c d v w : ℕ) (k l : List Choice) → c ≡ d → v ≡ w → k ≡ l →
     ◌≡◌ {A = Spent} (record { cost = c; work = v; choices = k }) (record { cost = d; work = w; choices = l })
@@ -31,17 +31,17 @@ first_twice a b (Ends c end) = ap (λ s. Ends s end) (sym (spent_joined a b c))
 first_twice a b (Gives c piece o) = ap (λ s. Gives s piece o) (sym (spent_joined a b c))
 
 pub first_followed : (a : Spent) (o rest : Outcome)
-    → followed_by (spent_first a o) rest ≡ spent_first a (followed_by o rest)
+    → continued_by (spent_first a o) rest ≡ spent_first a (continued_by o rest)
 first_followed a (Ends b Whole) rest = sym (first_twice a b rest)
 first_followed a (Ends b (StopsAt call)) rest = refl
 first_followed a (Gives b piece o) rest = refl
 
-pub followed_joined : (a b c : Outcome) → followed_by (followed_by a b) c ≡ followed_by a (followed_by b c)
+pub followed_joined : (a b c : Outcome) → continued_by (continued_by a b) c ≡ continued_by a (continued_by b c)
 followed_joined (Ends s Whole) b c = first_followed s b c
 followed_joined (Ends s (StopsAt call)) b c = refl
 followed_joined (Gives s piece a) b c = ap (Gives s piece) (followed_joined a b c)
 
-pub followed_nothing : (o : Outcome) → followed_by o gives_nothing ≡ o
+pub followed_nothing : (o : Outcome) → continued_by o gives_nothing ≡ o
 followed_nothing (Ends a Whole) = ap (λ s. Ends s Whole) (none_after a)
 followed_nothing (Ends a (StopsAt call)) = refl
 followed_nothing (Gives a piece o) = ap (Gives a piece) (followed_nothing o)
@@ -54,7 +54,7 @@ first_gathered text a (Gives b (Static more) o) next = sym (first_twice a b (gat
 first_gathered text a (Gives b (Value more) o) next = sym (first_twice a b (gathered (text ++ more) o next))
 
 pub gathered_followed : (text : List ℕ) (o rest : Outcome) (next : List ℕ → Outcome) →
-    gathered text (followed_by o rest) next ≡ gathered text o (λ more. gathered more rest next)
+    gathered text (continued_by o rest) next ≡ gathered text o (λ more. gathered more rest next)
 gathered_followed text (Ends a Whole) rest next = first_gathered text a rest next
 gathered_followed text (Ends a (StopsAt call)) rest next = refl
 gathered_followed text (Gives a (Static more) o) rest next = ap (spent_first a) (gathered_followed (text ++ more) o rest next)

@@ -54,7 +54,7 @@ use Rattle.soy_meaning.specs.States.{IsMember}
 use Rattle.soy_meaning.proofs.FinePaths.{Fine, fine_runs, path_fine}
 use Rattle.soy_meaning.proofs.Holds.{Holds}
 use Rattle.soy_meaning.proofs.KeptForms.{form_kept}
-use Rattle.soy_meaning.proofs.Moves.{ok_same, and_then_ok}
+use Rattle.soy_meaning.proofs.Moves.{ok_same, followed_ok}
 use Rattle.soy_meaning.proofs.PointsAndHolds.{good_of_points}
 
 -- the walk has left its tag
@@ -138,7 +138,7 @@ text_ends t u is = settled_if t.reference t u is
 lost_text : (text : List ℕ) (t u : State) → IsLost t → after_text page_machine text t ≡ Ok u → IsLost u
 lost_text [] t u lost is = subst IsLost (text_ends t u is).1 lost
 lost_text (c ∷ text) t u lost is =
-    let p : (w : State) × (next t c ≡ Ok w) × (after_text page_machine text w ≡ Ok u) = and_then_ok (next t c) (λ w. after_text page_machine text w) u is in
+    let p : (w : State) × (next t c ≡ Ok w) × (after_text page_machine text w ≡ Ok u) = followed_ok (next t c) (λ w. after_text page_machine text w) u is in
     lost_text text p.0 u (lost_step t p.0 c lost p.1) p.2
 
 step_follows : (around : Option Tag) (s t u : State) (c : ℕ) → Follows around s t → next t c ≡ Ok u →
@@ -160,7 +160,7 @@ text_follows around [] s t u follows is =
     let e : IsSettled t × (t ≡ u) = text_ends t u is in
     inr (s, page_text_end around s t follows (is ∙ ap Ok (sym e.1)), subst (λ z. Follows around s z) e.1 follows, subst IsSettled e.1 e.0)
 text_follows around (c ∷ text) s t u follows is =
-    let p : (w : State) × (next t c ≡ Ok w) × (after_text page_machine text w ≡ Ok u) = and_then_ok (next t c) (λ w. after_text page_machine text w) u is in
+    let p : (w : State) × (next t c ≡ Ok w) × (after_text page_machine text w ≡ Ok u) = followed_ok (next t c) (λ w. after_text page_machine text w) u is in
     elim (step_follows around s t p.0 c follows p.1) [
       | inl lost ↦ inl (lost_text text p.0 u lost p.2)
       | inr q ↦ read_first around text (next s c) q.0 u q.1 (text_follows around text q.0 p.0 u q.2 p.2)
@@ -177,7 +177,7 @@ lost_rest : (l : List PathPart) (t u : State) → IsLost t → Fine page_machine
     → state_after_parts page_machine l t ≡ Ok u → IsLost u
 lost_rest [] t u lost fine is = subst IsLost (ok_same t u is) lost
 lost_rest (StaticPart text ∷ l) t u lost fine is =
-    let p : (w : State) × (after_text page_machine text t ≡ Ok w) × (state_after_parts page_machine l w ≡ Ok u) = and_then_ok (after_text page_machine text t) (λ w. state_after_parts page_machine l w) u is in
+    let p : (w : State) × (after_text page_machine text t ≡ Ok w) × (state_after_parts page_machine l w ≡ Ok u) = followed_ok (after_text page_machine text t) (λ w. state_after_parts page_machine l w) u is in
     let same : fine.0 ≡ p.0 = ok_same fine.0 p.0 (sym fine.1 ∙ p.1) in
     lost_rest l p.0 u (lost_text text t p.0 lost p.1) (subst (λ w. Fine page_machine l w) same fine.2) p.2
 lost_rest (HolePart classes ∷ l) t u lost fine is = absurd (lost_hole t classes lost fine.0)
@@ -357,7 +357,7 @@ module _ (context : Dir) where
         settled = subst IsSettled same settled;
       })
   pieces_follow (text_before text f) around kind so_far own page walk last fills reads own_follows page_follows settled fine leads =
-      let p : (w : State) × (after_text page_machine text walk ≡ Ok w) × (state_after_parts page_machine (parts_of_filled f) w ≡ Ok last) = and_then_ok (after_text page_machine text walk) (λ w. state_after_parts page_machine (parts_of_filled f) w) last leads in
+      let p : (w : State) × (after_text page_machine text walk ≡ Ok w) × (state_after_parts page_machine (parts_of_filled f) w ≡ Ok last) = followed_ok (after_text page_machine text walk) (λ w. state_after_parts page_machine (parts_of_filled f) w) last leads in
       let rest : Fine page_machine (parts_of_filled f) p.0 = subst (λ w. Fine page_machine (parts_of_filled f) w) (ok_same fine.0 p.0 (sym fine.1 ∙ p.1)) fine.2 in
       elim (text_follows None text own walk p.0 own_follows p.1) [
         | inl lost ↦ inl (lost_rest (parts_of_filled f) p.0 last lost rest p.2)

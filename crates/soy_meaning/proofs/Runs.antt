@@ -2,7 +2,7 @@
 use Rattle.std.proofs.Common.{◌≡◌, ℕ, List, [], ◌∷◌, ◌++◌, ◌⊎◌, inl, inr, Ok, refl, sym, ◌∙◌, subst}
 use Rattle.soy_base.specs.declared.kind.Kind.{Kind}
 use Rattle.soy_base.specs.declared.place.ValueClass.{ValueClass}
-use Rattle.soy_meaning.proofs.Moves.{and_then_is, and_then_ok, ok_same}
+use Rattle.soy_meaning.proofs.Moves.{followed_is, followed_ok, ok_same}
 use Rattle.soy_meaning.specs.Machine.{Machine}
 use Rattle.soy_meaning.specs.Plan.{Either, Frame, Hole, Loop, Meet, Nothing, Nowhere, Plan, Site, StaticText, Then}
 use Rattle.soy_meaning.specs.PathParts.{HolePart, IsPath, PathLeads, PathPart, StaticPart, state_after_parts}
@@ -13,27 +13,27 @@ module _ {S : Type 0} (m : Machine S) where
   pub run_join : (a b : List PathPart) (s t u : S) → state_after_parts m a s ≡ Ok t → state_after_parts m b t ≡ Ok u → state_after_parts m (a ++ b) s ≡ Ok u
   run_join [] b s t u h k = subst (λ v. state_after_parts m b v ≡ Ok u) (sym (ok_same s t h)) k
   run_join (StaticPart text ∷ a) b s t u h k =
-      let p : (v : S) × (after_text m text s ≡ Ok v) × (state_after_parts m a v ≡ Ok t) = and_then_ok (after_text m text s) (λ v. state_after_parts m a v) t h in
-      and_then_is (after_text m text s) (λ v. state_after_parts m (a ++ b) v) p.0 (Ok u) p.1 (run_join a b p.0 t u p.2 k)
+      let p : (v : S) × (after_text m text s ≡ Ok v) × (state_after_parts m a v ≡ Ok t) = followed_ok (after_text m text s) (λ v. state_after_parts m a v) t h in
+      followed_is (after_text m text s) (λ v. state_after_parts m (a ++ b) v) p.0 (Ok u) p.1 (run_join a b p.0 t u p.2 k)
   run_join (HolePart classes ∷ a) b s t u h k = run_join a b (m.value s) t u h k
 
   pub run_cut : (a b : List PathPart) (s u : S) → state_after_parts m (a ++ b) s ≡ Ok u → (t : S) × (state_after_parts m a s ≡ Ok t) × (state_after_parts m b t ≡ Ok u)
   run_cut [] b s u h = (s, refl, h)
   run_cut (StaticPart text ∷ a) b s u h =
-      let p : (v : S) × (after_text m text s ≡ Ok v) × (state_after_parts m (a ++ b) v ≡ Ok u) = and_then_ok (after_text m text s) (λ v. state_after_parts m (a ++ b) v) u h in
+      let p : (v : S) × (after_text m text s ≡ Ok v) × (state_after_parts m (a ++ b) v ≡ Ok u) = followed_ok (after_text m text s) (λ v. state_after_parts m (a ++ b) v) u h in
       let r : (t : S) × (state_after_parts m a p.0 ≡ Ok t) × (state_after_parts m b t ≡ Ok u) = run_cut a b p.0 u p.2 in
-      (r.0, and_then_is (after_text m text s) (λ v. state_after_parts m a v) p.0 (Ok r.0) p.1 r.1, r.2)
+      (r.0, followed_is (after_text m text s) (λ v. state_after_parts m a v) p.0 (Ok r.0) p.1 r.1, r.2)
   run_cut (HolePart classes ∷ a) b s u h = run_cut a b (m.value s) u h
 
   at_static : (at : Site) (text : List ℕ) (l : List PathPart) (s t : S) → IsPath (StaticText at text) l → state_after_parts m l s ≡ Ok t → after_text m text s ≡ Ok t
   at_static at text l s t static_text h =
-      let p : (v : S) × (after_text m text s ≡ Ok v) × (Ok v ≡ Ok t) = and_then_ok (after_text m text s) (λ v. Ok v) t h in p.1 ∙ p.2
+      let p : (v : S) × (after_text m text s ≡ Ok v) × (Ok v ≡ Ok t) = followed_ok (after_text m text s) (λ v. Ok v) t h in p.1 ∙ p.2
 
   pub static_reached : (at : Site) (text : List ℕ) (s t : S) → PathLeads m (StaticText at text) s t → after_text m text s ≡ Ok t
   static_reached at text s t r = at_static at text r.parts s t r.path r.reads
 
   pub static_reaches : (at : Site) (text : List ℕ) (s t : S) → after_text m text s ≡ Ok t → PathLeads m (StaticText at text) s t
-  static_reaches at text s t h = record { parts = StaticPart text ∷ []; path = static_text; reads = and_then_is (after_text m text s) (λ v. Ok v) t (Ok t) h refl }
+  static_reaches at text s t h = record { parts = StaticPart text ∷ []; path = static_text; reads = followed_is (after_text m text s) (λ v. Ok v) t (Ok t) h refl }
 
   at_hole : (at : Site) (classes : List ValueClass) (l : List PathPart) (s t : S) → IsPath (Hole at classes) l → state_after_parts m l s ≡ Ok t → m.value s ≡ t
   at_hole at classes l s t hole h = ok_same (m.value s) t h

@@ -12,10 +12,10 @@ use Rattle.soy_base.specs.declared.place.ValueClass.{ValueClass}
 use Rattle.soy_base.specs.declared.code.Code.{Code}
 use Rattle.soy_base.specs.declared.place.Place.{Place}
 use Rattle.soy_base.specs.declared.place.Placing.{Placing}
-use Rattle.soy_tree.specs.Faults.{and_then}
+use Rattle.soy_tree.specs.Faults.{followed_by}
 use Rattle.soy_meaning.proofs.Holds.{Holds}
 use Rattle.soy_meaning.proofs.Members.{distinct_join, few_from_list, join_new, join_old, join_same, mem_join}
-use Rattle.soy_meaning.proofs.Moves.{Maps, and_then_ok, follow_maps, ok_same, values_distinct, values_from, values_to}
+use Rattle.soy_meaning.proofs.Moves.{Maps, followed_ok, follow_maps, ok_same, values_distinct, values_from, values_to}
 use Rattle.soy_meaning.proofs.Runs.{block_reached, block_reaches, first_reaches, hole_reached, hole_reaches, loop_goes}
 use Rattle.soy_meaning.proofs.Runs.{loop_reached, loop_stops, meet_reached, meet_reaches, nothing_reached}
 use Rattle.soy_meaning.proofs.Runs.{nowhere_reached, or_reached, second_reaches, static_reached, static_reaches}
@@ -266,7 +266,7 @@ module _ {S : Type 0} (m : Machine S) (compares : ComparesEqual m) where
   sound_turns at p ih zero w v h = let no : ⊥ = cc in absurd no
   sound_turns at p ih (suc n) w v h =
       let r : (u : Walked S) × (walk m p w ≡ Ok u) × (after_turn m (λ u. turns m (λ z. walk m p z) at n u) at w u (joined_states m w.states u.states) ≡ Ok v) =
-      and_then_ok (walk m p w) (λ u. after_turn m (λ z. turns m (λ y. walk m p y) at n z) at w u (joined_states m w.states u.states)) v h in
+      followed_ok (walk m p w) (λ u. after_turn m (λ z. turns m (λ y. walk m p y) at n z) at w u (joined_states m w.states u.states)) v h in
       let more = joined_states m w.states r.0.states in
       let c : (nat_lt 16 (length more) ≡ false) × ((((length more == length w.states) ≡ true) × (record { states = w.states; places = r.0.places } ≡ v)) ⊎ (turns m (λ z. walk m p z) at n (record { states = more; places = w.places }) ≡ Ok v)) =
       turned_if (nat_lt 16 (length more)) (length more == length w.states) at (record { states = w.states; places = r.0.places }) v (turns m (λ z. walk m p z) at n (record { states = more; places = w.places })) r.2 in
@@ -282,30 +282,30 @@ module _ {S : Type 0} (m : Machine S) (compares : ComparesEqual m) where
   sound Nothing w v h = to_answer Nothing w w v (ok_same w v h) (sound_nothing w.states)
   sound Nowhere w v h = to_answer Nowhere w (record { states = []; places = w.places }) v (ok_same (record { states = []; places = w.places }) v h) (sound_nowhere w.states)
   sound (StaticText at text) w v h =
-      let r : (ts : List S) × (met_at at (states_after_text m text w.states) ≡ Ok ts) × (Ok (record { states = ts; places = w.places }) ≡ Ok v) = and_then_ok (met_at at (states_after_text m text w.states)) (λ ts. Ok (record { states = ts; places = w.places })) v h in
+      let r : (ts : List S) × (met_at at (states_after_text m text w.states) ≡ Ok ts) × (Ok (record { states = ts; places = w.places }) ≡ Ok v) = followed_ok (met_at at (states_after_text m text w.states)) (λ ts. Ok (record { states = ts; places = w.places })) v h in
       to_answer (StaticText at text) w (record { states = r.0; places = w.places }) v (ok_same (record { states = r.0; places = w.places }) v r.2)
       (sound_static at text w.states r.0 (follow_maps m compares text w.states r.0 (met_at_ok at (states_after_text m text w.states) r.0 r.1)))
   sound (Hole at classes) w v h =
-      let r : (q : Place) × (place_of_hole m at classes w.states ≡ Ok q) × (Ok (record { states = states_after_value m w.states; places = w.places ++ (q ∷ []) }) ≡ Ok v) = and_then_ok (place_of_hole m at classes w.states) (λ q. Ok (record { states = states_after_value m w.states; places = w.places ++ (q ∷ []) })) v h in
+      let r : (q : Place) × (place_of_hole m at classes w.states ≡ Ok q) × (Ok (record { states = states_after_value m w.states; places = w.places ++ (q ∷ []) }) ≡ Ok v) = followed_ok (place_of_hole m at classes w.states) (λ q. Ok (record { states = states_after_value m w.states; places = w.places ++ (q ∷ []) })) v h in
       to_answer (Hole at classes) w (record { states = states_after_value m w.states; places = w.places ++ (r.0 ∷ []) }) v (ok_same (record { states = states_after_value m w.states; places = w.places ++ (r.0 ∷ []) }) v r.2)
       (sound_hole at classes w.states (one_placing at classes w.states r.0 r.1))
   sound (Then p q) w v h =
-      let r : (u : Walked S) × (walk m p w ≡ Ok u) × (walk m q u ≡ Ok v) = and_then_ok (walk m p w) (λ u. walk m q u) v h in
+      let r : (u : Walked S) × (walk m p w ≡ Ok u) × (walk m q u ≡ Ok v) = followed_ok (walk m p w) (λ u. walk m q u) v h in
       sound_then p q w.states r.0.states v.states (sound p w r.0 r.1) (sound q r.0 v r.2)
   sound (Either p q) w v h =
-      let r : (u : Walked S) × (walk m p w ≡ Ok u) × (and_then (walk m q (record { states = w.states; places = u.places })) (λ z. Ok (record { states = joined_states m u.states z.states; places = z.places })) ≡ Ok v) =
-      and_then_ok (walk m p w) (λ u. and_then (walk m q (record { states = w.states; places = u.places })) (λ z. Ok (record { states = joined_states m u.states z.states; places = z.places }))) v h in
+      let r : (u : Walked S) × (walk m p w ≡ Ok u) × (followed_by (walk m q (record { states = w.states; places = u.places })) (λ z. Ok (record { states = joined_states m u.states z.states; places = z.places })) ≡ Ok v) =
+      followed_ok (walk m p w) (λ u. followed_by (walk m q (record { states = w.states; places = u.places })) (λ z. Ok (record { states = joined_states m u.states z.states; places = z.places }))) v h in
       let c : (z : Walked S) × (walk m q (record { states = w.states; places = r.0.places }) ≡ Ok z) × (Ok (record { states = joined_states m r.0.states z.states; places = z.places }) ≡ Ok v) =
-      and_then_ok (walk m q (record { states = w.states; places = r.0.places })) (λ z. Ok (record { states = joined_states m r.0.states z.states; places = z.places })) v r.2 in
+      followed_ok (walk m q (record { states = w.states; places = r.0.places })) (λ z. Ok (record { states = joined_states m r.0.states z.states; places = z.places })) v r.2 in
       to_answer (Either p q) w (record { states = joined_states m r.0.states c.0.states; places = c.0.places }) v (ok_same (record { states = joined_states m r.0.states c.0.states; places = c.0.places }) v c.2)
       (sound_or p q w.states r.0.states c.0.states (sound p w r.0 r.1) (sound q (record { states = w.states; places = r.0.places }) c.0 c.1))
   sound (Meet at p) w v h =
-      let r : (u : Walked S) × (walk m p w ≡ Ok u) × (within_limit m at u ≡ Ok v) = and_then_ok (walk m p w) (λ u. within_limit m at u) v h in
+      let r : (u : Walked S) × (walk m p w ≡ Ok u) × (within_limit m at u ≡ Ok v) = followed_ok (walk m p w) (λ u. within_limit m at u) v h in
       let c : (length r.0.states ≤ 16) × (r.0 ≡ v) = limited_ok at r.0 v r.2 in
       to_answer (Meet at p) w r.0 v c.1 (sound_meet at p w.states r.0.states c.0 (sound p w r.0 r.1))
   sound (Loop at p) w v h = sound_loop at p w.states v.states (sound_turns at p (λ w v h. sound p w v h) 17 w v h)
   sound (Frame kind at p) w v h =
       let r : (u : Walked S) × (walk m p (record { states = m.start kind ∷ []; places = w.places }) ≡ Ok u) × (frame_end m kind at w.states u ≡ Ok v) =
-      and_then_ok (walk m p (record { states = m.start kind ∷ []; places = w.places })) (λ u. frame_end m kind at w.states u) v h in
+      followed_ok (walk m p (record { states = m.start kind ∷ []; places = w.places })) (λ u. frame_end m kind at w.states u) v h in
       let c : (all_may_end m kind r.0.states ≡ true) × (record { states = w.states; places = r.0.places } ≡ v) = ended_if (all_may_end m kind r.0.states) at (record { states = w.states; places = r.0.places }) v r.2 in
       to_answer (Frame kind at p) w (record { states = w.states; places = r.0.places }) v c.1 (sound_block kind at p w.states r.0.states c.0 (sound p (record { states = m.start kind ∷ []; places = w.places }) r.0 r.1))

@@ -49,10 +49,10 @@ spent_first a (Ends b end) = Ends (and_spent a b) end
 spent_first a (Gives b piece rest) = Gives (and_spent a b) piece rest
 
 -- the one, and where it ends whole the other
-abbrev pub followed_by : Outcome → Outcome → Outcome
-followed_by (Ends a Whole) rest = spent_first a rest
-followed_by (Ends a (StopsAt call)) rest = Ends a (StopsAt call)
-followed_by (Gives a piece o) rest = Gives a piece (followed_by o rest)
+abbrev pub continued_by : Outcome → Outcome → Outcome
+continued_by (Ends a Whole) rest = spent_first a rest
+continued_by (Ends a (StopsAt call)) rest = Ends a (StopsAt call)
+continued_by (Gives a piece o) rest = Gives a piece (continued_by o rest)
 
 -- the bytes of the pieces of an outcome, gathered into a text behind this one, and what is given that text; a stop is its
 -- end too

@@ -8,7 +8,7 @@ use Rattle.std.specs.Prelude.{◌≡◌, ℕ, List, [], ◌∷◌, ◌++◌, Res
 use Rattle.soy_base.specs.declared.code.Code.{Code}
 use Rattle.soy_base.specs.declared.kind.Kind.{Kind}
 use Rattle.soy_base.specs.declared.place.ValueClass.{ValueClass}
-use Rattle.soy_tree.specs.Faults.{and_then}
+use Rattle.soy_tree.specs.Faults.{followed_by}
 use Rattle.soy_meaning.specs.Machine.{Machine}
 use Rattle.soy_meaning.specs.Plan.{Site, Plan, Nothing, StaticText, Hole, Then, Either, Meet, Loop, Frame}
 
@@ -32,11 +32,11 @@ module _ {S : Type 0} (m : Machine S) where
   -- the state after a static text and its end, or the first fault
   abbrev pub after_text : List ℕ → S → Result S Code
   after_text [] s = m.text_end s
-  after_text (c ∷ cs) s = and_then (m.step s c) (λ t. after_text cs t)
+  after_text (c ∷ cs) s = followed_by (m.step s c) (λ t. after_text cs t)
 
   abbrev pub state_after_parts : List PathPart → S → Result S Code
   state_after_parts [] s = Ok s
-  state_after_parts (StaticPart text ∷ l) s = and_then (after_text text s) (λ t. state_after_parts l t)
+  state_after_parts (StaticPart text ∷ l) s = followed_by (after_text text s) (λ t. state_after_parts l t)
   state_after_parts (HolePart classes ∷ l) s = state_after_parts l (m.value s)
 
   -- some path leads from the one state to the other

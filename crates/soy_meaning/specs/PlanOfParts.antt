@@ -13,7 +13,7 @@ use Rattle.soy_tree.specs.Members.{members}
 use Rattle.soy_tree.specs.Faults.{TypeFault}
 use Rattle.soy_tree.specs.TypeOf.{Scope, type_of}
 use Rattle.soy_tree.specs.Expressions.{Expr}
-use Rattle.soy_tree.specs.MessageText.{Piece, Character, Printed, Cut, TextCut, PrintCut, TagCut}
+use Rattle.soy_tree.specs.MessageText.{MessageItem, Character, Printed, Cut, TextCut, PrintCut, TagCut}
 use Rattle.soy_tree.specs.Placeholders.{Role, AsPlaceholder, Use, name_of}
 use Rattle.soy_tree.specs.MessageParts.{MsgPart, MsgParts, ExactArms, NamedArms, SelectArms, TextPart, Placeholder}
 use Rattle.soy_tree.specs.MessageParts.{NumberPart, PluralPart, SelectPart, no_part, part, no_exact_arm, exact_arm}
@@ -62,7 +62,7 @@ placeholder_cut name all (u ∷ uses) =
     else placeholder_cut name all uses
 
 -- the texts and prints of a tag, behind this text
-abbrev pub tag_plan : Scope → Site → List ℕ → List Piece → Plan
+abbrev pub tag_plan : Scope → Site → List ℕ → List MessageItem → Plan
 tag_plan scope at text [] = text_plan at text
 tag_plan scope at text (Character c span ∷ rest) = tag_plan scope at (text ++ (c ∷ [])) rest
 tag_plan scope at text (Printed e phname span ∷ rest) =

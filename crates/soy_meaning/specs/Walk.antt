@@ -23,7 +23,7 @@ use Rattle.soy_base.specs.declared.place.Placing.TheVariants.{Takes, Refuses}
 use Rattle.soy_base.specs.contracts.place.PlacingPartialEq.TheImpl as placing_eq
 use Rattle.soy_base.specs.declared.place.ValueClass.{ValueClass}
 use Rattle.html_state.specs.TakesClass.{takes_class}
-use Rattle.soy_tree.specs.Faults.{and_then}
+use Rattle.soy_tree.specs.Faults.{followed_by}
 use Rattle.soy_meaning.specs.Machine.{Machine}
 use Rattle.soy_meaning.specs.Plan.{Site, Plan, Nothing, Nowhere, StaticText, Hole, Then, Either, Meet, Loop, Frame}
 use Rattle.soy_meaning.specs.States.{with_state, joined_states}
@@ -70,12 +70,12 @@ module _ {S : Type 0} (m : Machine S) where
   -- the states after one move of each, in their order, behind those that are done
   abbrev pub moved_states : (S → Result S Code) → List S → List S → Result (List S) Code
   moved_states move done [] = Ok done
-  moved_states move done (s ∷ ss) = and_then (move s) (λ t. moved_states move (with_state m done t) ss)
+  moved_states move done (s ∷ ss) = followed_by (move s) (λ t. moved_states move (with_state m done t) ss)
 
   -- the states after a static text and its end
   abbrev pub states_after_text : List ℕ → List S → Result (List S) Code
   states_after_text [] ss = moved_states m.text_end [] ss
-  states_after_text (c ∷ cs) ss = and_then (moved_states (λ s. m.step s c) [] ss) (λ ts. states_after_text cs ts)
+  states_after_text (c ∷ cs) ss = followed_by (moved_states (λ s. m.step s c) [] ss) (λ ts. states_after_text cs ts)
 
   -- the first placing that isn't this one
   abbrev pub other_placing : Placing → List S → Option Placing
@@ -116,22 +116,22 @@ module _ {S : Type 0} (m : Machine S) where
   unfoldable pub turns : (Walked S → Result (Walked S) WalkFault) → Site → ℕ → Walked S → Result (Walked S) WalkFault
   turns body at zero head = Err (walk_fault at code.States)
   turns body at (suc n) head =
-      and_then (body head) (λ w.
+      followed_by (body head) (λ w.
       after_turn (λ u. turns body at n u) at head w (joined_states m head.states w.states))
 
   abbrev pub walk : Plan → Walked S → Result (Walked S) WalkFault
   walk Nothing w = Ok w
   walk Nowhere w = Ok (walked [] w.places)
   walk (StaticText at text) w =
-      and_then (met_at at (states_after_text text w.states)) (λ states. Ok (walked states w.places))
+      followed_by (met_at at (states_after_text text w.states)) (λ states. Ok (walked states w.places))
   walk (Hole at classes) w =
-      and_then (place_of_hole at classes w.states) (λ point.
+      followed_by (place_of_hole at classes w.states) (λ point.
       Ok (walked (states_after_value w.states) (w.places ++ (point ∷ []))))
-  walk (Then p q) w = and_then (walk p w) (λ v. walk q v)
+  walk (Then p q) w = followed_by (walk p w) (λ v. walk q v)
   walk (Either p q) w =
-      and_then (walk p w) (λ v.
-      and_then (walk q (walked w.states v.places)) (λ u. Ok (walked (joined_states m v.states u.states) u.places)))
-  walk (Meet at p) w = and_then (walk p w) (λ v. within_limit at v)
+      followed_by (walk p w) (λ v.
+      followed_by (walk q (walked w.states v.places)) (λ u. Ok (walked (joined_states m v.states u.states) u.places)))
+  walk (Meet at p) w = followed_by (walk p w) (λ v. within_limit at v)
   walk (Loop at p) w = turns (λ v. walk p v) at 17 w
   walk (Frame kind at p) w =
-      and_then (walk p (walked (m.start kind ∷ []) w.places)) (λ v. frame_end kind at w.states v)
+      followed_by (walk p (walked (m.start kind ∷ []) w.places)) (λ v. frame_end kind at w.states v)

@@ -25,7 +25,7 @@ ghost use Rattle.soy_meaning.specs.EscapedAt.{escaped_where, is_text_of};
 ghost use Rattle.soy_meaning.specs.Filled.{Filled, FillsHoles, IsBlockKind, IsFrameOf, filled_pieces, parts_of_filled};
 ghost use Rattle.soy_meaning.specs.FourPoints.{StartsAs};
 ghost use Rattle.soy_meaning.specs.Holes.{hole_count, holes_before};
-ghost use Rattle.soy_meaning.specs.Outcome.{Outcome, followed_by, gathered, gives_nothing};
+ghost use Rattle.soy_meaning.specs.Outcome.{Outcome, continued_by, gathered, gives_nothing};
 ghost use Rattle.soy_meaning.specs.PageMachine.{page_machine};
 ghost use Rattle.soy_meaning.specs.Plan.{Plan};
 ghost use Rattle.soy_meaning.specs.PlanOfNodes.{kind_class};
@@ -83,11 +83,11 @@ pub fn law_places_are_static()
 /// Outcomes follow one another as lists do, and what is gathered from two that follow one another is gathered from the
 /// one and then from the other.
 pub fn law_outcomes()
-    ensures joined { (a b c : Outcome) → followed_by (followed_by a b) c ≡ followed_by a (followed_by b c) }
-    ensures nothing_first { (o : Outcome) → followed_by gives_nothing o ≡ o }
-    ensures nothing_last { (o : Outcome) → followed_by o gives_nothing ≡ o }
+    ensures joined { (a b c : Outcome) → continued_by (continued_by a b) c ≡ continued_by a (continued_by b c) }
+    ensures nothing_first { (o : Outcome) → continued_by gives_nothing o ≡ o }
+    ensures nothing_last { (o : Outcome) → continued_by o gives_nothing ≡ o }
     ensures gathered { (text : List ℕ) (o rest : Outcome) (following : List ℕ → Outcome) →
-        gathered text (followed_by o rest) following ≡ gathered text o (λ more. gathered more rest following) }
+        gathered text (continued_by o rest) following ≡ gathered text o (λ more. gathered more rest following) }
 {}
 
 /// Rows that the checker computes: which fault the walk meets first, and where, or that it meets none.
