@@ -18,7 +18,7 @@ use Rattle.soy_meaning.specs.Walk.{states_after_value, turns, walk, within_limit
 
 module _ {S : Type 0} (m : Machine S) where
   both_mono : (X Y X' Y' : List Place → Type 0) → ((l : List Place) → X l → X' l) → ((l : List Place) → Y l → Y' l) → (l : List Place) → TwoLists X Y l → TwoLists X' Y' l
-  both_mono X Y X' Y' f g l b = record { front = b.front; back = b.back; joined = b.joined; fronts = f b.front b.fronts; backs = g b.back b.backs }
+  both_mono X Y X' Y' f g l b = record { one = b.one; other = b.other; joined = b.joined; of_one = f b.one b.of_one; of_other = g b.other b.of_other }
 
   pub places_mono : (p : Plan) (P Q : S → Type 0) → ((s : S) → P s → Q s) → (l : List Place) → HolePlaces m p Q l → HolePlaces m p P l
   places_mono Nothing P Q inside l h = h
@@ -83,11 +83,11 @@ module _ {S : Type 0} (m : Machine S) (compares : ComparesEqual m) where
       let b : AddsPlaces m q r.0.states r.0.places v.places = adds_places q r.0 v r.2 in
       let s : Sound m p w.states r.0.states = sound m compares p w r.0 r.1 in
       two p q (Then p q) w.states r.0.states w.places r.0.places v.places a b (λ x y. record {
-        front = a.more;
-        back = b.more;
+        one = a.more;
+        other = b.more;
         joined = refl;
-        fronts = x;
-        backs = places_mono m q (StandsAfter m p (λ s. IsMember s w.states)) (λ s. IsMember s r.0.states) s.to b.more y;
+        of_one = x;
+        of_other = places_mono m q (StandsAfter m p (λ s. IsMember s w.states)) (λ s. IsMember s r.0.states) s.to b.more y;
       })
   adds_places (Either p q) w v h =
       let r : (u : Walked S) × (walk m p w ≡ Ok u) × (followed_by (walk m q (record { states = w.states; places = u.places })) (λ z. Ok (record { states = joined_states m u.states z.states; places = z.places })) ≡ Ok v) =
@@ -97,7 +97,7 @@ module _ {S : Type 0} (m : Machine S) (compares : ComparesEqual m) where
       let a : AddsPlaces m p w.states w.places r.0.places = adds_places p w r.0 r.1 in
       let b : AddsPlaces m q w.states r.0.places c.0.places = adds_places q (record { states = w.states; places = r.0.places }) c.0 c.1 in
       let e : c.0.places ≡ v.places = ap (λ (z : Walked S). z.places) (ok_same (record { states = joined_states m r.0.states c.0.states; places = c.0.places }) v c.2) in
-      subst (λ l. AddsPlaces m (Either p q) w.states w.places l) e (two p q (Either p q) w.states w.states w.places r.0.places c.0.places a b (λ x y. record { front = a.more; back = b.more; joined = refl; fronts = x; backs = y }))
+      subst (λ l. AddsPlaces m (Either p q) w.states w.places l) e (two p q (Either p q) w.states w.states w.places r.0.places c.0.places a b (λ x y. record { one = a.more; other = b.more; joined = refl; of_one = x; of_other = y }))
   adds_places (Meet at p) w v h =
       let r : (u : Walked S) × (walk m p w ≡ Ok u) × (within_limit m at u ≡ Ok v) = followed_ok (walk m p w) (λ u. within_limit m at u) v h in
       let c : (length r.0.states ≤ 16) × (r.0 ≡ v) = limited_ok m compares at r.0 v r.2 in
@@ -114,6 +114,6 @@ module _ {S : Type 0} (m : Machine S) (compares : ComparesEqual m) where
       let a : AddsPlaces m p (m.start kind ∷ []) w.places r.0.places = adds_places p (record { states = m.start kind ∷ []; places = w.places }) r.0 r.1 in
       record { more = a.more; is = sym (ap (λ (z : Walked S). z.places) c.1) ∙ a.is; of_holes = places_mono m p (λ s. s ≡ m.start kind) (λ s. IsMember s (m.start kind ∷ [])) (λ s k. inl k) a.more a.of_holes }
 
-  -- those that were there are a front
+  -- those that were there stand first
   pub places_kept : (p : Plan) (w v : Walked S) → walk m p w ≡ Ok v → take (length w.places) v.places ≡ w.places
   places_kept p w v h = let a : AddsPlaces m p w.states w.places v.places = adds_places p w v h in ap (λ l. take (length w.places) l) a.is ∙ take_at w.places a.more (length w.places) refl

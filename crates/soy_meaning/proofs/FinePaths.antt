@@ -148,8 +148,8 @@ module _ {S : Type 0} (m : Machine S) where
   places_length Nowhere P l h = ap length h
   places_length (StaticText at text) P l h = ap length h
   places_length (Hole at classes) P l h = ap length h.1
-  places_length (Then p q) P l h = omega (arith, ap length h.joined, length-append h.front h.back, places_length p P h.front h.fronts, places_length q (StandsAfter m p P) h.back h.backs)
-  places_length (Either p q) P l h = omega (arith, ap length h.joined, length-append h.front h.back, places_length p P h.front h.fronts, places_length q P h.back h.backs)
+  places_length (Then p q) P l h = omega (arith, ap length h.joined, length-append h.one h.other, places_length p P h.one h.of_one, places_length q (StandsAfter m p P) h.other h.of_other)
+  places_length (Either p q) P l h = omega (arith, ap length h.joined, length-append h.one h.other, places_length p P h.one h.of_one, places_length q P h.other h.of_other)
   places_length (Meet at p) P l h = places_length p P l h
   places_length (Loop at p) P l h = places_length p (StandsAfter m (Loop at p) P) l h
   places_length (Frame kind at p) P l h = places_length p (λ s. s ≡ m.start kind) l h
@@ -165,27 +165,27 @@ module _ {S : Type 0} (m : Machine S) where
   hole_within (StaticText at text) Here classes e = absurd (no_class classes (ap class_at e))
   hole_within _ _ classes e = absurd (no_class classes (ap class_at e))
 
-  pub front_place : (X Y : List Place → Type 0) (l : List Place) (b : TwoLists X Y l) (i : ℕ) (d : Place) → suc i ≤ length b.front → get_or l i d ≡ get_or b.front i d
-  front_place X Y l b i d h = ap (λ z. get_or z i d) b.joined ∙ get_or_append_left b.front b.back d i h
+  pub place_in_one : (X Y : List Place → Type 0) (l : List Place) (b : TwoLists X Y l) (i : ℕ) (d : Place) → suc i ≤ length b.one → get_or l i d ≡ get_or b.one i d
+  place_in_one X Y l b i d h = ap (λ z. get_or z i d) b.joined ∙ get_or_append_left b.one b.other d i h
 
-  pub back_place : (X Y : List Place → Type 0) (l : List Place) (b : TwoLists X Y l) (n i : ℕ) (d : Place) → length b.front ≡ n → get_or l (n + i) d ≡ get_or b.back i d
-  back_place X Y l b n i d h = ap (λ z. get_or z (n + i) d) b.joined ∙ (ap (λ k. get_or (b.front ++ b.back) (k + i) d) (sym h) ∙ get_or-append-add b.front b.back i d)
+  pub place_in_other : (X Y : List Place → Type 0) (l : List Place) (b : TwoLists X Y l) (n i : ℕ) (d : Place) → length b.one ≡ n → get_or l (n + i) d ≡ get_or b.other i d
+  place_in_other X Y l b n i d h = ap (λ z. get_or z (n + i) d) b.joined ∙ (ap (λ k. get_or (b.one ++ b.other) (k + i) d) (sym h) ∙ get_or-append-add b.one b.other i d)
 
   -- the place of a hole is that of each state which stands there
   pub hole_has_place : (p : Plan) (P : S → Type 0) (l : List Place) → HolePlaces m p P l → (x : Address) (classes : List ValueClass) → point_at p x ≡ Some (AtHole classes) → (t : S) → StandsAt m p P x t → (d : Place) → Takes (get_or l (holes_before p x) d) ≡ m.placing t
   hole_has_place (Hole at c) P l h Here classes e t k d = ap (λ z. Takes (get_or z 0 d)) h.1 ∙ sym (h.2 t (hole_from m at c P k.parts k.from t k.leads k.reads k.before))
   hole_has_place (Then p q) P l h (Left x) classes e t k d =
-      ap Takes (front_place (HolePlaces m p P) (HolePlaces m q (StandsAfter m p P)) l h (holes_before p x) d (omega (arith, hole_within p x classes e, places_length p P h.front h.fronts)))
-      ∙ hole_has_place p P h.front h.fronts x classes e t (record { from = k.from; before = k.before; parts = k.parts; leads = left_leads m p q k.parts x k.leads; reads = k.reads }) d
+      ap Takes (place_in_one (HolePlaces m p P) (HolePlaces m q (StandsAfter m p P)) l h (holes_before p x) d (omega (arith, hole_within p x classes e, places_length p P h.one h.of_one)))
+      ∙ hole_has_place p P h.one h.of_one x classes e t (record { from = k.from; before = k.before; parts = k.parts; leads = left_leads m p q k.parts x k.leads; reads = k.reads }) d
   hole_has_place (Then p q) P l h (Right x) classes e t k d =
-      ap Takes (back_place (HolePlaces m p P) (HolePlaces m q (StandsAfter m p P)) l h (hole_count p) (holes_before q x) d (places_length p P h.front h.fronts))
-      ∙ hole_has_place q (StandsAfter m p P) h.back h.backs x classes e t (right_stands m p q P x k.parts k.from t k.before k.leads k.reads) d
+      ap Takes (place_in_other (HolePlaces m p P) (HolePlaces m q (StandsAfter m p P)) l h (hole_count p) (holes_before q x) d (places_length p P h.one h.of_one))
+      ∙ hole_has_place q (StandsAfter m p P) h.other h.of_other x classes e t (right_stands m p q P x k.parts k.from t k.before k.leads k.reads) d
   hole_has_place (Either p q) P l h (Left x) classes e t k d =
-      ap Takes (front_place (HolePlaces m p P) (HolePlaces m q P) l h (holes_before p x) d (omega (arith, hole_within p x classes e, places_length p P h.front h.fronts)))
-      ∙ hole_has_place p P h.front h.fronts x classes e t (record { from = k.from; before = k.before; parts = k.parts; leads = one_leads m p q k.parts x k.leads; reads = k.reads }) d
+      ap Takes (place_in_one (HolePlaces m p P) (HolePlaces m q P) l h (holes_before p x) d (omega (arith, hole_within p x classes e, places_length p P h.one h.of_one)))
+      ∙ hole_has_place p P h.one h.of_one x classes e t (record { from = k.from; before = k.before; parts = k.parts; leads = one_leads m p q k.parts x k.leads; reads = k.reads }) d
   hole_has_place (Either p q) P l h (Right x) classes e t k d =
-      ap Takes (back_place (HolePlaces m p P) (HolePlaces m q P) l h (hole_count p) (holes_before q x) d (places_length p P h.front h.fronts))
-      ∙ hole_has_place q P h.back h.backs x classes e t (record { from = k.from; before = k.before; parts = k.parts; leads = other_leads m p q k.parts x k.leads; reads = k.reads }) d
+      ap Takes (place_in_other (HolePlaces m p P) (HolePlaces m q P) l h (hole_count p) (holes_before q x) d (places_length p P h.one h.of_one))
+      ∙ hole_has_place q P h.other h.of_other x classes e t (record { from = k.from; before = k.before; parts = k.parts; leads = other_leads m p q k.parts x k.leads; reads = k.reads }) d
   hole_has_place (Meet at p) P l h (Inside x) classes e t k d =
       hole_has_place p P l h x classes e t (record { from = k.from; before = k.before; parts = k.parts; leads = arms_lead m at p k.parts x k.leads; reads = k.reads }) d
   hole_has_place (Loop at p) P l h (Inside x) classes e t k d =

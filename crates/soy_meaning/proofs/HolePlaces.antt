@@ -9,11 +9,11 @@ use Rattle.soy_meaning.specs.FourPoints.{StartsAs}
 
 -- two lists of places, one after the other
 pub record TwoLists (X Y : List Place → Type 0) (places : List Place) : Type 0 where
-  pub front : List Place
-  pub back : List Place
-  pub joined : places ≡ front ++ back
-  pub fronts : X front
-  pub backs : Y back
+  pub one : List Place
+  pub other : List Place
+  pub joined : places ≡ one ++ other
+  pub of_one : X one
+  pub of_other : Y other
 
 module _ {S : Type 0} (m : Machine S) where
   abbrev pub HolePlaces : Plan → (S → Type 0) → List Place → Type 0

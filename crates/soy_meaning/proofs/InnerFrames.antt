@@ -9,7 +9,7 @@ use Rattle.soy_meaning.specs.Machine.{Machine}
 use Rattle.soy_meaning.specs.PathParts.{StandsAfter}
 use Rattle.soy_meaning.specs.Plan.{Plan, Then, Either, Meet, Loop, Frame}
 use Rattle.soy_meaning.specs.Points.{Address, Here, Left, Right, Inside, frame_at}
-use Rattle.soy_meaning.proofs.FinePaths.{back_place, front_place, places_length}
+use Rattle.soy_meaning.proofs.FinePaths.{place_in_other, place_in_one, places_length}
 use Rattle.soy_meaning.proofs.HolePlaces.{HolePlaces, TwoLists}
 use Rattle.soy_meaning.proofs.Holds.{Holds}
 
@@ -55,20 +55,20 @@ module _ {S : Type 0} (m : Machine S) where
     pub of_holes : HolePlaces m q (StartsAs m kind) inner
     pub each : (i : ℕ) (d : Place) → suc i ≤ hole_count q → get_or l (before + i) d ≡ get_or inner i d
 
-  in_front : (X Y : List Place → Type 0) (l : List Place) (b : TwoLists X Y l) (n : ℕ) (kind : Kind) (q : Plan) (before : ℕ) → length b.front ≡ n → hole_count q + before ≤ n →
-      PlacedWithin kind q b.front before → PlacedWithin kind q l before
-  in_front X Y l b n kind q before is fits placed = record {
+  within_one : (X Y : List Place → Type 0) (l : List Place) (b : TwoLists X Y l) (n : ℕ) (kind : Kind) (q : Plan) (before : ℕ) → length b.one ≡ n → hole_count q + before ≤ n →
+      PlacedWithin kind q b.one before → PlacedWithin kind q l before
+  within_one X Y l b n kind q before is fits placed = record {
     inner = placed.inner;
     of_holes = placed.of_holes;
-    each = λ i d low. front_place m X Y l b (before + i) d (omega (arith, is, fits, low)) ∙ placed.each i d low;
+    each = λ i d low. place_in_one m X Y l b (before + i) d (omega (arith, is, fits, low)) ∙ placed.each i d low;
   }
 
-  in_back : (X Y : List Place → Type 0) (l : List Place) (b : TwoLists X Y l) (n : ℕ) (kind : Kind) (q : Plan) (before : ℕ) → length b.front ≡ n →
-      PlacedWithin kind q b.back before → PlacedWithin kind q l (n + before)
-  in_back X Y l b n kind q before is placed = record {
+  within_other : (X Y : List Place → Type 0) (l : List Place) (b : TwoLists X Y l) (n : ℕ) (kind : Kind) (q : Plan) (before : ℕ) → length b.one ≡ n →
+      PlacedWithin kind q b.other before → PlacedWithin kind q l (n + before)
+  within_other X Y l b n kind q before is placed = record {
     inner = placed.inner;
     of_holes = placed.of_holes;
-    each = λ i d low. (let same : n + before + i ≡ n + (before + i) = omega arith in ap (λ k. get_or l k d) same ∙ (back_place m X Y l b n (before + i) d is ∙ placed.each i d low));
+    each = λ i d low. (let same : n + before + i ≡ n + (before + i) = omega arith in ap (λ k. get_or l k d) same ∙ (place_in_other m X Y l b n (before + i) d is ∙ placed.each i d low));
   }
 
   pub inner_places : (p : Plan) (P : S → Type 0) (l : List Place) → HolePlaces m p P l → (y : Address) (found : Kind × Plan) → frame_at p y ≡ Some found → PlacedWithin found.0 found.1 l (holes_before p y)
@@ -76,17 +76,17 @@ module _ {S : Type 0} (m : Machine S) where
       subst (λ (z : Kind × Plan). PlacedWithin z.0 z.1 l 0) (some_same (kind, p) found e) (record { inner = l; of_holes = h; each = λ i d low. (let same : 0 + i ≡ i = omega arith in ap (λ k. get_or l k d) same) })
   inner_places (Frame kind at p) P l h (Inside y) found e = inner_places p (StartsAs m kind) l h y found e
   inner_places (Then p q) P l h (Left y) found e =
-      in_front (HolePlaces m p P) (HolePlaces m q (StandsAfter m p P)) l h (hole_count p) found.0 found.1 (holes_before p y) (places_length m p P h.front h.fronts) (frame_within p y found e)
-      (inner_places p P h.front h.fronts y found e)
+      within_one (HolePlaces m p P) (HolePlaces m q (StandsAfter m p P)) l h (hole_count p) found.0 found.1 (holes_before p y) (places_length m p P h.one h.of_one) (frame_within p y found e)
+      (inner_places p P h.one h.of_one y found e)
   inner_places (Then p q) P l h (Right y) found e =
-      in_back (HolePlaces m p P) (HolePlaces m q (StandsAfter m p P)) l h (hole_count p) found.0 found.1 (holes_before q y) (places_length m p P h.front h.fronts)
-      (inner_places q (StandsAfter m p P) h.back h.backs y found e)
+      within_other (HolePlaces m p P) (HolePlaces m q (StandsAfter m p P)) l h (hole_count p) found.0 found.1 (holes_before q y) (places_length m p P h.one h.of_one)
+      (inner_places q (StandsAfter m p P) h.other h.of_other y found e)
   inner_places (Either p q) P l h (Left y) found e =
-      in_front (HolePlaces m p P) (HolePlaces m q P) l h (hole_count p) found.0 found.1 (holes_before p y) (places_length m p P h.front h.fronts) (frame_within p y found e)
-      (inner_places p P h.front h.fronts y found e)
+      within_one (HolePlaces m p P) (HolePlaces m q P) l h (hole_count p) found.0 found.1 (holes_before p y) (places_length m p P h.one h.of_one) (frame_within p y found e)
+      (inner_places p P h.one h.of_one y found e)
   inner_places (Either p q) P l h (Right y) found e =
-      in_back (HolePlaces m p P) (HolePlaces m q P) l h (hole_count p) found.0 found.1 (holes_before q y) (places_length m p P h.front h.fronts)
-      (inner_places q P h.back h.backs y found e)
+      within_other (HolePlaces m p P) (HolePlaces m q P) l h (hole_count p) found.0 found.1 (holes_before q y) (places_length m p P h.one h.of_one)
+      (inner_places q P h.other h.of_other y found e)
   inner_places (Meet at p) P l h (Inside y) found e = inner_places p P l h y found e
   inner_places (Loop at p) P l h (Inside y) found e = inner_places p (StandsAfter m (Loop at p) P) l h y found e
   inner_places (Frame kind at p) P l h (Left y) found e = absurd (none_some found e)
