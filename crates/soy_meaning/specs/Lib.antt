@@ -1,0 +1,16 @@
+pub mod EscapedAt
+pub mod Machine
+pub mod Plan
+pub mod PathParts
+pub mod States
+pub mod Points
+pub mod FourPoints
+pub mod Walk
+pub mod Holes
+pub mod PageMachine
+pub mod PlanOfParts
+pub mod PlanOfNodes
+pub mod AcceptedTrees
+pub mod Filled
+pub mod Rows
+pub mod Outcome

@@ -1,0 +1,103 @@
+//! What the definitions come to, for the tokenizer of a page. Each law is a contract with an empty body.
+
+ghost use Rattle.std.specs.Prelude.{◌≡◌, ◌+◌, ◌++◌, ◌∷◌, [], ℕ, IsTrue, List, Option, Some, Ok, Err, length, get_or};
+ghost use Rattle.soy_base.specs.declared.code.Code.TheVariants as code;
+ghost use Rattle.soy_base.specs.declared.direction.Dir.{Dir};
+ghost use Rattle.soy_base.specs.declared.kind.Kind.{Kind};
+ghost use Rattle.soy_base.specs.declared.place.Place.TheVariants as place;
+ghost use Rattle.soy_base.specs.declared.place.Place.{Place};
+ghost use Rattle.soy_base.specs.declared.place.Placing.TheVariants.{Refuses, Takes};
+ghost use Rattle.soy_base.specs.declared.place.ValueClass.{ValueClass};
+ghost use Rattle.html_state.specs.AfterValue.{after_value};
+ghost use Rattle.html_state.specs.Follows.{Follows};
+ghost use Rattle.html_state.specs.Leads.{Leads};
+ghost use Rattle.html_state.specs.Pieces.{after_pieces, placing_after};
+ghost use Rattle.html_state.specs.StatePlacing.{placing};
+ghost use Rattle.html_state.specs.TakesClass.{takes_class};
+ghost use Rattle.html_state.specs.declared.row.Reference.TheVariants as reference;
+ghost use Rattle.html_state.specs.declared.row.State.{State};
+ghost use Rattle.html_state.specs.declared.row.Tag.{Tag};
+ghost use Rattle.soy_tree.specs.MessageParts.{MsgParts};
+ghost use Rattle.soy_tree.specs.Nodes.{Message};
+ghost use Rattle.soy_tree.specs.Trees.{Tree};
+ghost use Rattle.soy_meaning.specs.AcceptedTrees.{AcceptedTrees, walk_trees};
+ghost use Rattle.soy_meaning.specs.EscapedAt.{escaped_where, is_text_of};
+ghost use Rattle.soy_meaning.specs.Filled.{Filled, FillsHoles, IsBlockKind, IsFrameOf, filled_pieces, parts_of_filled};
+ghost use Rattle.soy_meaning.specs.FourPoints.{StartsAs};
+ghost use Rattle.soy_meaning.specs.Holes.{hole_count, holes_before};
+ghost use Rattle.soy_meaning.specs.Outcome.{Outcome, continued_by, gathered, gives_nothing};
+ghost use Rattle.soy_meaning.specs.PageMachine.{page_machine};
+ghost use Rattle.soy_meaning.specs.Plan.{Plan};
+ghost use Rattle.soy_meaning.specs.PlanOfNodes.{kind_class};
+ghost use Rattle.soy_meaning.specs.Points.{Address, AtHole, LeadsTo, StandsAt, frame_at, point_at};
+ghost use Rattle.soy_meaning.specs.Rows.{ampersand_in_translation, block_in_attribute, mixed_places, optional_attribute};
+ghost use Rattle.soy_meaning.specs.Rows.{second_turn, second_uri_value, seventeen_states, site_at, sixteen_states};
+ghost use Rattle.soy_meaning.specs.Walk.{Walked, mixed_at, walk, walk_fault, walked};
+
+/// The escaped form of a value at the place that a state gives, and then the mark that the value sets, lead to the
+/// state that the walk has after the hole, for each class of what isn't markup and each text of a value of the class.
+pub fn law_hole()
+    ensures { (state : State) (class : ValueClass) (text : List ℕ) (context : Dir) →
+        IsTrue (takes_class (placing state) class) → IsTrue (is_text_of class text) →
+        (out : List ℕ) × (escaped_where (placing state) class text context ≡ Some out) × Leads state out }
+{}
+
+/// The walk over trees meets no fault exactly where what is demanded of all paths holds of each frame. Then the place
+/// that it gives to a hole of a frame is the placing of each state in which a path of the frame leads to the hole.
+pub fn law_walk()
+    ensures accepted { (translation : Message → Option MsgParts) (trees : List Tree) (v : Walked State) →
+        walk_trees translation trees ≡ Ok v → AcceptedTrees translation trees }
+    ensures walked { (translation : Message → Option MsgParts) (trees : List Tree) → AcceptedTrees translation trees →
+        (v : Walked State) × (walk_trees translation trees ≡ Ok v) }
+    ensures places { (p : Plan) (w v : Walked State) → walk page_machine p w ≡ Ok v →
+        (new : List Place) × (v.places ≡ w.places ++ new) × (length new ≡ hole_count p)
+        × ((y : Address) (kind : Kind) (q : Plan) → frame_at p y ≡ Some (kind, q) →
+        (x : Address) (classes : List ValueClass) → point_at q x ≡ Some (AtHole classes) →
+        (t : State) → StandsAt page_machine q (StartsAs page_machine kind) x t →
+        (d : Place) → placing t ≡ Takes (get_or new (holes_before p y + holes_before q x) d)) }
+{}
+
+/// A frame that stands in a hole, at any depth, keeps what ties the page's state to the walk's: where its hole takes it
+/// and its path is one of an accepted frame, the page that has read its pieces goes on as the walk past the hole. The
+/// tag around a block of attributes is known to the relation.
+pub fn law_frame()
+    ensures { (around : Option Tag) (page walk : State) (context : Dir) (kind : Kind) (f : Filled) →
+        Follows around page walk → walk.reference ≡ reference.Decided → IsBlockKind kind →
+        IsTrue (takes_class (placing walk) (kind_class kind)) → IsFrameOf kind (parts_of_filled f) → FillsHoles f →
+        (now : State) × (after_pieces page (filled_pieces context f kind []) ≡ Ok now)
+        × Follows around now (after_value walk) }
+{}
+
+/// Where the walk meets no fault, the place of a hole of a frame, by the frame's pieces so far with the characters of
+/// their values and of the frames in them, is the one that the walk gave.
+pub fn law_places_are_static()
+    ensures { (p : Plan) (w v : Walked State) → walk page_machine p w ≡ Ok v →
+        (new : List Place) × (v.places ≡ w.places ++ new) × (length new ≡ hole_count p)
+        × ((y : Address) (kind : Kind) (q : Plan) → frame_at p y ≡ Some (kind, q) →
+        (x : Address) (classes : List ValueClass) → point_at q x ≡ Some (AtHole classes) →
+        (context : Dir) (f : Filled) → LeadsTo q (parts_of_filled f) x → FillsHoles f →
+        (d : Place) → placing_after kind (filled_pieces context f kind [])
+        ≡ Ok (Takes (get_or new (holes_before p y + holes_before q x) d))) }
+{}
+
+/// Outcomes follow one another as lists do, and what is gathered from two that follow one another is gathered from the
+/// one and then from the other.
+pub fn law_outcomes()
+    ensures joined { (a b c : Outcome) → continued_by (continued_by a b) c ≡ continued_by a (continued_by b c) }
+    ensures nothing_first { (o : Outcome) → continued_by gives_nothing o ≡ o }
+    ensures nothing_last { (o : Outcome) → continued_by o gives_nothing ≡ o }
+    ensures gathered { (text : List ℕ) (o rest : Outcome) (following : List ℕ → Outcome) →
+        gathered text (continued_by o rest) following ≡ gathered text o (λ more. gathered more rest following) }
+{}
+
+/// Rows that the checker computes: which fault the walk meets first, and where, or that it meets none.
+pub fn law_rows()
+    ensures second_uri_value { second_uri_value ≡ Err (walk_fault (site_at 13) code.UriStart) }
+    ensures second_turn { second_turn ≡ Err (mixed_at (site_at 23) (Takes place.UriStart) (Refuses code.UriStart)) }
+    ensures mixed_places { mixed_places ≡ Err (mixed_at (site_at 21) (Takes place.UriStart) (Takes place.Tag)) }
+    ensures optional_attribute { optional_attribute ≡ Ok (walked [] []) }
+    ensures block_in_attribute { block_in_attribute ≡ Ok (walked [] (place.UriStart ∷ [])) }
+    ensures ampersand_in_translation { ampersand_in_translation ≡ Err (walk_fault (site_at 10) code.Ampersand) }
+    ensures sixteen_states { sixteen_states ≡ Err (walk_fault (site_at 100) code.EndState) }
+    ensures seventeen_states { seventeen_states ≡ Err (walk_fault (site_at 0) code.States) }
+{}

@@ -1,0 +1,11 @@
+//! What a template means and which are accepted: the paths of its static texts and holes, what is demanded of all of
+//! them, and the walk over all paths together.
+//!
+//! Nothing here runs: the definitions of specs/ are what the contracts of the crates above cite, and the law functions,
+//! each a contract with an empty body, say what they come to.
+//! Depends on soy_base, soy_tree, script_state, html_state, escapers, esc_table and bidi_text.
+#![tactic(auto)]
+
+mod laws;
+
+pub use laws::{law_frame, law_hole, law_outcomes, law_places_are_static, law_rows, law_walk};
