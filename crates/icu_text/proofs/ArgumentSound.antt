@@ -104,8 +104,8 @@ module _ (fs : List Frame) (n : ℕ) (out : List MsgPart) where
       let x = v.left in
       let m = x.left in
       let whole : tail ≡ (codes "offset:" ++ (o.white ++ (v.digits ++ x.white))) ++ x.tail =
-          l.whole ∙ (ap (λ t. codes "offset:" ++ t) (o.whole ∙ ap (λ t. o.white ++ t) (v.whole ∙ ap (λ t. v.digits ++ t) x.whole))
-          ∙ sym (joined_offset o.white v.digits x.white x.tail)) in
+      l.whole ∙ (ap (λ t. codes "offset:" ++ t) (o.whole ∙ ap (λ t. o.white ++ t) (v.whole ∙ ap (λ t. v.digits ++ t) x.whole))
+      ∙ sym (joined_offset o.white v.digits x.white x.tail)) in
       record {
         argument = PluralPart ordinal a.name v.value (exact_arms [] m.arms) (named_arms [] m.arms);
         rest = m.rest;

@@ -190,7 +190,7 @@ or_three : (a b c : Bool) → ((a || b) || c) ≡ (b || (a || c))
 or_three true b c = sym (or_true b)
 or_three false b c = refl
 
-kept_other : (c : Category) (row : List (Category × MsgParts)) (ps : MsgParts)
+pub kept_other : (c : Category) (row : List (Category × MsgParts)) (ps : MsgParts)
     → has_category category.Other (with_named row c ps) ≡ (is_same c category.Other || has_category category.Other row)
 kept_other category.Zero row ps = holds_or _ (has_category category.Zero row) (λ e. rw e refl) (λ e. rw e (any_named category.Other category.Zero ps row))
 kept_other category.One row ps = holds_or _ (has_category category.One row) (λ e. rw e refl) (λ e. rw e (any_named category.Other category.One ps row))
@@ -208,7 +208,7 @@ other_named row ((Named c, ps) ∷ arms) =
     ∙ (ap (λ t. t || list_any is_other arms) (kept_other c row ps)
     ∙ or_three (is_same c category.Other) (has_category category.Other row) (list_any is_other arms))
 
-kept_word : (w : List ℕ) (row : List (List ℕ × MsgParts)) (ps : MsgParts) (v : List ℕ)
+pub kept_word : (w : List ℕ) (row : List (List ℕ × MsgParts)) (ps : MsgParts) (v : List ℕ)
     → has_word v (with_select row w ps) ≡ (bytes_eq w v || has_word v row)
 kept_word w row ps v =
     holds_or _ (has_word w row)

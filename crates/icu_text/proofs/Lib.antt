@@ -9,3 +9,6 @@ pub mod PatternComplete
 pub mod PatternLeft
 pub mod ArgumentSound
 pub mod PatternSound
+pub mod StepsSound
+pub mod PatternCloses
+pub mod PatternExact

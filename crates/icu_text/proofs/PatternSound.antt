@@ -95,7 +95,7 @@ arm_left fs n out p text key tail k e =
     let a = x.left in
     let m = a.left in
     let inside : Reads InPlural n b.tail t.parts (right_brace ∷ (a.white ++ a.tail)) =
-        subst (λ l. Reads InPlural n b.tail t.parts (right_brace ∷ l)) a.whole (subst (λ l. Reads InPlural n b.tail t.parts l) x.whole t.reads) in
+    subst (λ l. Reads InPlural n b.tail t.parts (right_brace ∷ l)) a.whole (subst (λ l. Reads InPlural n b.tail t.parts l) x.whole t.reads) in
     record {
       arms = (key, t.parts) ∷ m.arms;
       rest = m.rest;
@@ -114,7 +114,7 @@ word_left fs n out s word tail k e =
     let a = x.left in
     let m = a.left in
     let inside : Reads InSelect n b.tail t.parts (right_brace ∷ (a.white ++ a.tail)) =
-        subst (λ l. Reads InSelect n b.tail t.parts (right_brace ∷ l)) a.whole (subst (λ l. Reads InSelect n b.tail t.parts l) x.whole t.reads) in
+    subst (λ l. Reads InSelect n b.tail t.parts (right_brace ∷ l)) a.whole (subst (λ l. Reads InSelect n b.tail t.parts l) x.whole t.reads) in
     record {
       arms = (word, t.parts) ∷ m.arms;
       rest = m.rest;
