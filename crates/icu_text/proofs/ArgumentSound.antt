@@ -8,7 +8,7 @@ use Rattle.soy_base.specs.Names.{is_name, begins_name, continues_name}
 use Rattle.soy_base.specs.WhiteSpace.{is_template_space}
 use Rattle.soy_tree.specs.MessageParts.{MsgPart, MsgParts, Placeholder, PluralPart, SelectPart}
 use Rattle.soy_tree.specs.IcuText as icu
-use Rattle.soy_tree.specs.IcuText.{IsArgument, IsSpacedName, IsSpacedWord, exact_arms, named_arms, select_arms, plural_word}
+use Rattle.soy_tree.specs.IcuText.{IsArgument, IsSpacedName, IsSpacedKeyword, exact_arms, named_arms, select_arms, plural_keyword}
 use Rattle.icu_text.specs.declared.state.Argument.{Argument}
 use Rattle.icu_text.specs.declared.state.ChoiceKind.{ChoiceKind}
 use Rattle.icu_text.specs.declared.state.ChoiceKind.TheVariants as choice
@@ -60,7 +60,7 @@ module _ (fs : List Frame) (n : ℕ) (out : List MsgPart) where
     word : List ℕ
     tail : List ℕ
     whole : text ≡ word ++ tail
-    is : IsSpacedWord word (kind_word kind)
+    is : IsSpacedKeyword word (kind_word kind)
     left : OpenedTail a kind tail
 
   is_choice : (a : Argument) (text : List ℕ) → Behind comma (ChoiceLeft fs n out a) text → IsChoice a text
@@ -89,7 +89,7 @@ module _ (fs : List Frame) (n : ℕ) (out : List MsgPart) where
         left = o.left;
       }
 
-  plural_head : (a : Argument) (ordinal : Bool) (text word tail : List ℕ) → IsSpacedName text a.name → IsSpacedWord word (plural_word ordinal)
+  plural_head : (a : Argument) (ordinal : Bool) (text word tail : List ℕ) → IsSpacedName text a.name → IsSpacedKeyword word (plural_keyword ordinal)
       → KeyTail fs n out true (new_plural ordinal a) tail → IsHead n (TextLeft fs (suc n) out) a.before (text ++ (word ++ tail))
   plural_head a ordinal text word tail s w (inl m) = record {
     argument = PluralPart ordinal a.name 0 (exact_arms [] m.arms) (named_arms [] m.arms);
@@ -116,7 +116,7 @@ module _ (fs : List Frame) (n : ℕ) (out : List MsgPart) where
             (λ i. plural_before (with_offset (new_plural ordinal a) v.value) m.arms i ++ plural_is a ordinal v.value m.arms i ∷ []) m.follows;
       }
 
-  select_head : (a : Argument) (text word tail : List ℕ) → IsSpacedName text a.name → IsSpacedWord word (codes "select")
+  select_head : (a : Argument) (text word tail : List ℕ) → IsSpacedName text a.name → IsSpacedKeyword word (codes "select")
       → WordsLeft fs n out (new_select a) tail → IsHead n (TextLeft fs (suc n) out) a.before (text ++ (word ++ tail))
   select_head a text word tail s w m = record {
     argument = SelectPart a.name (select_arms [] m.arms);
@@ -126,7 +126,7 @@ module _ (fs : List Frame) (n : ℕ) (out : List MsgPart) where
         (λ i. select_before (new_select a) m.arms i ++ select_is_part a m.arms i ∷ []) m.follows;
   }
 
-  choice_head : (a : Argument) (text : List ℕ) (kind : ChoiceKind) (word tail : List ℕ) → IsSpacedName text a.name → IsSpacedWord word (kind_word kind)
+  choice_head : (a : Argument) (text : List ℕ) (kind : ChoiceKind) (word tail : List ℕ) → IsSpacedName text a.name → IsSpacedKeyword word (kind_word kind)
       → OpenedTail a kind tail → IsHead n (TextLeft fs (suc n) out) a.before (text ++ (word ++ tail))
   choice_head a text choice.Plural word tail s w h = plural_head a false text word tail s w h
   choice_head a text choice.Ordinal word tail s w h = plural_head a true text word tail s w h

@@ -6,7 +6,7 @@ use Rattle.soy_base.specs.Characters.{comma}
 use Rattle.soy_base.specs.Names.{is_name, begins_name, continues_name}
 use Rattle.soy_base.specs.WhiteSpace.{is_template_space}
 use Rattle.soy_tree.specs.MessageParts.{MsgPart}
-use Rattle.soy_tree.specs.IcuText.{IsSpacedName, IsSpacedWord}
+use Rattle.soy_tree.specs.IcuText.{IsSpacedName, IsSpacedKeyword}
 use Rattle.icu_text.specs.declared.state.Argument.{Argument}
 use Rattle.icu_text.specs.declared.state.ChoiceKind.{ChoiceKind}
 use Rattle.icu_text.specs.declared.state.ChoiceKind.TheVariants as choice
@@ -93,7 +93,7 @@ pub joined_word : (a b c d tail : List ℕ) → (a ++ (b ++ (c ++ comma ∷ d)))
 joined_word a b c d tail =
     append_assoc a (b ++ (c ++ comma ∷ d)) tail ∙ ap (λ l. a ++ l) (joined_three b c (comma ∷ d) tail)
 
-pub choice_on : (kind : ChoiceKind) (text : List ℕ) → IsSpacedWord text (kind_word kind) → (tail : List ℕ) (fs : List Frame) (a : Argument)
+pub choice_on : (kind : ChoiceKind) (text : List ℕ) → IsSpacedKeyword text (kind_word kind) → (tail : List ℕ) (fs : List Frame) (a : Argument)
     → parsed (text ++ tail) (at fs (expected.NameEnd a)) ≡ parsed tail (at fs (opened a kind))
 choice_on kind text s tail fs a =
     ap (λ l. parsed (l ++ tail) (at fs (expected.NameEnd a))) s.whole

@@ -9,7 +9,7 @@ use Rattle.soy_base.specs.Characters.{single_quote, left_brace, right_brace, num
 use Rattle.soy_base.specs.WhiteSpace.{is_template_space}
 use Rattle.soy_tree.specs.MessageParts.{MsgPart, MsgParts, TextPart, Placeholder, NumberPart, PluralPart, SelectPart, no_part, part}
 use Rattle.soy_tree.specs.ViewMessageParts.{parts_of}
-use Rattle.soy_tree.specs.IcuText.{Standing, Outside, InPlural, InSelect, is_quotable, begins_quotable, is_plain, Reads, stop, plain, two, single, quoted, number, argument, IsArgument, placeholder, plural, select, PluralArms, no_more, plural_arm, WordArms, no_more_words, word_arm, IsSpacedWord, plural_word, IsOffset, none, given, IsKey, exact, negative, named, Key, is_other, exact_arms, named_arms, select_arms, IsPattern}
+use Rattle.soy_tree.specs.IcuText.{PatternMode, AtTop, InPlural, InSelect, is_quotable, begins_quotable, is_plain, Reads, stop, plain, two, single, quoted, number, argument, IsArgument, placeholder, plural, select, PluralArms, no_more, plural_arm, WordArms, no_more_words, word_arm, IsSpacedKeyword, plural_keyword, IsOffset, none, given, IsKey, exact, negative, named, Key, is_other, exact_arms, named_arms, select_arms, IsPattern}
 use Rattle.icu_text.specs.declared.state.ArmKey.{ArmKey}
 use Rattle.icu_text.specs.declared.state.Argument.{Argument}
 use Rattle.icu_text.specs.declared.state.ChoiceKind.TheVariants as choice
@@ -20,7 +20,7 @@ use Rattle.icu_text.specs.declared.state.Frame.TheVariants as frame
 use Rattle.icu_text.specs.declared.state.Expected.TheVariants as expected
 use Rattle.icu_text.specs.declared.state.PatternState.{PatternState}
 use Rattle.icu_text.specs.FirstArms.{has_category, has_word}
-use Rattle.icu_text.specs.PatternSteps.{standing, with_arm, with_word, with_offset, new_plural, new_select, plural_part, select_part}
+use Rattle.icu_text.specs.PatternSteps.{pattern_mode, with_arm, with_word, with_offset, new_plural, new_select, plural_part, select_part}
 use Rattle.icu_text.specs.PatternReading.{pattern_start}
 use Rattle.icu_text.proofs.CharacterTests.{white_fails}
 use Rattle.icu_text.proofs.PatternRunning.{at, in_text, parsed, parsed_from, step, stays, through}
@@ -35,7 +35,7 @@ no_text (placeholder text rest name s) = tt
 no_text (plural text word offset inside rest name ordinal by arms s w o a h) = tt
 no_text (select text word inside rest name arms s w a h) = tt
 
-pub reads_joined : {at : Standing} {n : ℕ} {text rest : List ℕ} {ps : MsgParts} → Reads at n text ps rest → IsJoined true ps
+pub reads_joined : {at : PatternMode} {n : ℕ} {text rest : List ℕ} {ps : MsgParts} → Reads at n text ps rest → IsJoined true ps
 reads_joined (stop rest) = tt
 reads_joined (plain c text rest ps qs h r e) = joined_more (c ∷ []) ps qs e (reads_joined r)
 reads_joined (two text rest ps qs r e) = joined_more (single_quote ∷ []) ps qs e (reads_joined r)
@@ -44,7 +44,7 @@ reads_joined (quoted text chars after rest ps qs h q r e) = joined_more chars ps
 reads_joined (number text rest ps r) = joined_part NumberPart ps tt (reads_joined r)
 reads_joined (argument text after rest p ps a r) = joined_part p ps (no_text a) (reads_joined r)
 
-number_sign_on : (fs : List Frame) → standing fs ≡ InPlural → (text : List ℕ) (l : List MsgPart × List ℕ)
+number_sign_on : (fs : List Frame) → pattern_mode fs ≡ InPlural → (text : List ℕ) (l : List MsgPart × List ℕ)
     → parsed (number_sign ∷ text) (in_text fs l) ≡ parsed text (in_text fs (all_parts l ++ NumberPart ∷ [], []))
 number_sign_on [] e text l = absurd (cc e)
 number_sign_on (frame.Plural plural' key ∷ fs) e text l = refl
@@ -54,7 +54,7 @@ brace_on : (fs : List Frame) → length fs ≤ 63 → (text : List ℕ) (l : Lis
     → parsed (left_brace ∷ text) (in_text fs l) ≡ parsed text (at fs (expected.Name (all_parts l)))
 brace_on fs h text l = rw (le-leb (length fs) 63 h) refl
 
-plural_choice_on : (ordinal : Bool) (text : List ℕ) → IsSpacedWord text (plural_word ordinal) → (tail : List ℕ) (fs : List Frame) (a : Argument)
+plural_choice_on : (ordinal : Bool) (text : List ℕ) → IsSpacedKeyword text (plural_keyword ordinal) → (tail : List ℕ) (fs : List Frame) (a : Argument)
     → parsed (text ++ tail) (at fs (expected.NameEnd a)) ≡ parsed tail (at fs (expected.Key (new_plural ordinal a) true))
 plural_choice_on false text s tail fs a = choice_on choice.Plural text s tail fs a
 plural_choice_on true text s tail fs a = choice_on choice.Ordinal text s tail fs a
@@ -111,7 +111,7 @@ offset_on _ _ (given white digits after n w h v) inside no_digit fs ordinal a en
     ∙ (offset_end_on after v inside no_digit fs (new_plural ordinal a) n ∙ e false))
 
 mutual
-  pub reads_on : {at : Standing} {n : ℕ} {text rest : List ℕ} {ps : MsgParts} → Reads at n text ps rest → (fs : List Frame) → standing fs ≡ at → n + length fs ≡ 64
+  pub reads_on : {at : PatternMode} {n : ℕ} {text rest : List ℕ} {ps : MsgParts} → Reads at n text ps rest → (fs : List Frame) → pattern_mode fs ≡ at → n + length fs ≡ 64
       → (l : List MsgPart × List ℕ) → parsed text (in_text fs l) ≡ parsed rest (in_text fs (with_parts l ps))
   reads_on (stop rest) fs e d l = refl
   reads_on (plain c text rest ps qs h r w) fs e d l =

@@ -6,7 +6,7 @@ use Rattle.soy_base.specs.Characters.{single_quote}
 use Rattle.soy_tree.specs.MessageParts.{MsgPart, MsgParts, no_part}
 use Rattle.soy_tree.specs.ViewMessageParts.{parts_of}
 use Rattle.soy_tree.specs.IcuText as icu
-use Rattle.soy_tree.specs.IcuText.{Outside, Reads, with_text, IsPattern}
+use Rattle.soy_tree.specs.IcuText.{AtTop, Reads, with_text, IsPattern}
 use Rattle.icu_text.specs.declared.parse.Outcome.{Outcome}
 use Rattle.icu_text.specs.declared.parse.Outcome.TheVariants.{Done, Refused}
 use Rattle.icu_text.specs.declared.state.Frame.{Frame}
@@ -115,7 +115,7 @@ sound (c ∷ cs) out fs x n d f e = stepped cs out (sound cs out) fs x n c d f e
 pub parsed_pattern : (text : List ℕ) (out : List MsgPart) → parsed text pattern_start ≡ Some out → IsPattern text (parts_of out)
 parsed_pattern text out e =
     let l : TextLeft [] 64 out ([], []) text = sound text out [] (expected.Text [] [] quoting.Unquoted) 64 (omega arith) tt e in
-    subst (λ q. Reads Outside 64 text q []) (sym l.ends.1) (subst (λ r. Reads Outside 64 text l.parts r) l.ends.0 l.reads)
+    subst (λ q. Reads AtTop 64 text q []) (sym l.ends.1) (subst (λ r. Reads AtTop 64 text l.parts r) l.ends.0 l.reads)
 
 -- what was read begins a pattern, and what begins one is read
 

@@ -12,7 +12,7 @@ use Rattle.soy_tree.specs.Ints.{largest}
 use Rattle.soy_tree.specs.Formed.{is_word_character}
 use Rattle.soy_tree.specs.MessageParts.{MsgPart, MsgParts, Placeholder}
 use Rattle.soy_tree.specs.ViewMessageParts.{parts_of}
-use Rattle.soy_tree.specs.IcuText.{Standing, Reads, with_text, Quoted, IsNumber, Key, IsArgument, PluralArms, WordArms}
+use Rattle.soy_tree.specs.IcuText.{PatternMode, Reads, with_text, Quoted, IsNumber, Key, IsArgument, PluralArms, WordArms}
 use Rattle.icu_text.specs.declared.state.ArmKey.{ArmKey}
 use Rattle.icu_text.specs.declared.state.ArmKey.TheVariants as arm_key
 use Rattle.icu_text.specs.declared.state.Argument.{Argument}
@@ -26,7 +26,7 @@ use Rattle.icu_text.specs.declared.state.Quoting.TheVariants as quoting
 use Rattle.icu_text.specs.declared.state.Expected.{Expected}
 use Rattle.icu_text.specs.declared.state.Expected.TheVariants as expected
 use Rattle.icu_text.specs.FirstArms.{has_category, has_word}
-use Rattle.icu_text.specs.PatternSteps.{standing, with_arm, with_word, with_offset, new_plural, new_select, plural_part, select_part, signed}
+use Rattle.icu_text.specs.PatternSteps.{pattern_mode, with_arm, with_word, with_offset, new_plural, new_select, plural_part, select_part, signed}
 use Rattle.icu_text.proofs.KeptArms.{with_arms, with_words}
 use Rattle.icu_text.proofs.ReadParts.{after_parts}
 use Rattle.icu_text.proofs.Heads.{kind_word}
@@ -75,7 +75,7 @@ pub record Numbered (A : ℕ → List ℕ → Type 0) (text : List ℕ) : Type 0
 
 -- a text from here on, and what ends it
 
-pub record IsText (at : Standing) (n : ℕ) (Ends : MsgParts → List ℕ → Type 0) (l : List MsgPart × List ℕ) (text : List ℕ) : Type 0 where
+pub record IsText (at : PatternMode) (n : ℕ) (Ends : MsgParts → List ℕ → Type 0) (l : List MsgPart × List ℕ) (text : List ℕ) : Type 0 where
   pub parts : MsgParts
   pub rest : List ℕ
   pub reads : Reads at n text parts rest
@@ -117,13 +117,13 @@ pub record IsQuoted (A : List ℕ → List ℕ → Type 0) (text : List ℕ) : T
 abbrev pub Ends : List Frame → ℕ → List MsgPart → MsgParts → List ℕ → Type 0
 Ends [] n out ps rest = (rest ≡ []) × (parts_of out ≡ ps)
 Ends (frame.Plural plural key ∷ fs) n out ps rest =
-    Behind right_brace (After (IsArms n (IsText (standing fs) (suc n) (Ends fs (suc n) out)) (with_arm plural key ps))) rest
+    Behind right_brace (After (IsArms n (IsText (pattern_mode fs) (suc n) (Ends fs (suc n) out)) (with_arm plural key ps))) rest
 Ends (frame.Select select word ∷ fs) n out ps rest =
-    Behind right_brace (After (IsWords n (IsText (standing fs) (suc n) (Ends fs (suc n) out)) (with_word select word ps))) rest
+    Behind right_brace (After (IsWords n (IsText (pattern_mode fs) (suc n) (Ends fs (suc n) out)) (with_word select word ps))) rest
 
 module _ (fs : List Frame) (n : ℕ) (out : List MsgPart) where
   abbrev pub TextLeft : List MsgPart × List ℕ → List ℕ → Type 0
-  TextLeft = IsText (standing fs) n (Ends fs n out)
+  TextLeft = IsText (pattern_mode fs) n (Ends fs n out)
 
   abbrev pub QuotedLeft : List MsgPart × List ℕ → List ℕ → Type 0
   QuotedLeft l = IsQuoted (λ chars. TextLeft (l.0, l.1 ++ chars))

@@ -15,7 +15,7 @@ use Rattle.soy_tree.specs.Formed.{is_word_character}
 use Rattle.soy_tree.specs.MessageParts.{MsgPart, MsgParts, Placeholder, NumberPart, PluralPart, SelectPart, no_part, part}
 use Rattle.soy_tree.specs.ViewMessageParts.{parts_of}
 use Rattle.soy_tree.specs.IcuText as icu
-use Rattle.soy_tree.specs.IcuText.{Standing, Outside, InPlural, InSelect, is_quotable, is_plain, Reads, with_text, IsArgument, IsSpacedName, IsSpacedWord, IsNumber, Key, Exact, Named, IsKey, IsWord, IsPattern, plural_word, IsOffset}
+use Rattle.soy_tree.specs.IcuText.{PatternMode, AtTop, InPlural, InSelect, is_quotable, is_plain, Reads, with_text, IsArgument, IsSpacedName, IsSpacedKeyword, IsNumber, Key, Exact, Named, IsKey, IsWord, IsPattern, plural_keyword, IsOffset}
 use Rattle.icu_text.specs.declared.state.ArmKey.{ArmKey}
 use Rattle.icu_text.specs.declared.state.ArmKey.TheVariants as arm_key
 use Rattle.icu_text.specs.declared.state.Argument.{Argument}
@@ -30,7 +30,7 @@ use Rattle.icu_text.specs.declared.state.Expected.{Expected}
 use Rattle.icu_text.specs.declared.state.Expected.TheVariants as expected
 use Rattle.icu_text.specs.declared.state.PatternState.{PatternState}
 use Rattle.icu_text.specs.FirstArms.{has_category, has_word}
-use Rattle.icu_text.specs.PatternSteps.{standing, finished, with_arm, with_word, with_offset, new_plural, new_select, plural_part, select_part, signed, plain_next, apostrophe_next, quoted_next, quoted_apostrophe_next, brace_next, close_next, number_sign_next, whole_pattern}
+use Rattle.icu_text.specs.PatternSteps.{pattern_mode, finished, with_arm, with_word, with_offset, new_plural, new_select, plural_part, select_part, signed, plain_next, apostrophe_next, quoted_next, quoted_apostrophe_next, brace_next, close_next, number_sign_next, whole_pattern}
 use Rattle.icu_text.proofs.CharacterTests.{equal_or, holds_or, and_left, and_right, and_both, all_append}
 use Rattle.icu_text.proofs.PatternRunning.{at, in_text, parsed, parsed_from}
 use Rattle.icu_text.proofs.KeptArms.{arm_key_of, with_arms, with_words, plural_is, plural_before, plural_other, select_is_part, select_before, select_other}
@@ -54,7 +54,7 @@ unspaced {text = text} h = record { white = []; tail = text; whole = refl; is_wh
 
 -- a text, by what it begins with
 
-pub more_text : {at : Standing} {n : ℕ} {E : MsgParts → List ℕ → Type 0} (l : List MsgPart × List ℕ) (chars text after : List ℕ)
+pub more_text : {at : PatternMode} {n : ℕ} {E : MsgParts → List ℕ → Type 0} (l : List MsgPart × List ℕ) (chars text after : List ℕ)
     → ((ps : MsgParts) (rest : List ℕ) → Reads at n after ps rest → Reads at n text (with_text chars ps) rest)
     → IsText at n E (l.0, l.1 ++ chars) after → IsText at n E l text
 more_text {E = E} l chars text after reads t = record {
@@ -73,7 +73,7 @@ number_text {E = E} l text t = record {
   ends = subst (λ ps. E ps t.rest) (finished_then l.0 l.1 NumberPart t.parts tt) t.ends;
 }
 
-pub head_text : {at : Standing} {n : ℕ} {E : MsgParts → List ℕ → Type 0} (l : List MsgPart × List ℕ) (text : List ℕ)
+pub head_text : {at : PatternMode} {n : ℕ} {E : MsgParts → List ℕ → Type 0} (l : List MsgPart × List ℕ) (text : List ℕ)
     → IsHead n (IsText at (suc n) E) (finished l.0 l.1) text → IsText at (suc n) E l (left_brace ∷ text)
 head_text {E = E} l text h =
     let t = h.follows in

@@ -3,14 +3,14 @@ use Rattle.std.proofs.Common.{◌≡◌, ◌≢◌, ℕ, ◌==◌, ◌&&◌, ◌
 use Rattle.std.proofs.lemmas.Bool.Decides.{nat_tests}
 use Rattle.soy_base.specs.Characters.{single_quote, left_brace, right_brace, number_sign}
 use Rattle.soy_tree.specs.MessageParts.{MsgPart}
-use Rattle.soy_tree.specs.IcuText.{Standing, Outside, InPlural, InSelect, is_quotable, begins_quotable, begins_with_quote, is_plain, Quoted, unclosed, closed, doubled, character}
+use Rattle.soy_tree.specs.IcuText.{PatternMode, AtTop, InPlural, InSelect, is_quotable, begins_quotable, begins_with_quote, is_plain, Quoted, unclosed, closed, doubled, character}
 use Rattle.icu_text.specs.declared.state.Frame.{Frame}
 use Rattle.icu_text.specs.declared.state.Frame.TheVariants as frame
 use Rattle.icu_text.specs.declared.state.Quoting.{Quoting}
 use Rattle.icu_text.specs.declared.state.Quoting.TheVariants as quoting
 use Rattle.icu_text.specs.declared.state.Expected.TheVariants as expected
 use Rattle.icu_text.specs.declared.state.PatternState.{PatternState}
-use Rattle.icu_text.specs.PatternSteps.{standing, plain_next, add_next, text_next, whole_pattern}
+use Rattle.icu_text.specs.PatternSteps.{pattern_mode, plain_next, add_next, text_next, whole_pattern}
 use Rattle.icu_text.proofs.CharacterTests.{equal_or, not_that}
 use Rattle.icu_text.proofs.PatternRunning.{at, in_text, parsed, parsed_from}
 
@@ -19,7 +19,7 @@ quoting_in fs l q = at fs (expected.Text l.0 l.1 q)
 
 -- a plain character is added
 abbrev Adds : List Frame → List MsgPart → List ℕ → ℕ → Type 0
-Adds fs ps t c = is_plain (standing fs) c ≡ true → plain_next fs ps t c ≡ add_next fs ps t quoting.Unquoted c
+Adds fs ps t c = is_plain (pattern_mode fs) c ≡ true → plain_next fs ps t c ≡ add_next fs ps t quoting.Unquoted c
 
 pub plain_adds : (fs : List Frame) (ps : List MsgPart) (t : List ℕ) (c : ℕ) → Adds fs ps t c
 plain_adds [] ps t c =
@@ -44,22 +44,22 @@ lone_end : (fs : List Frame) (l : List MsgPart × List ℕ)
 lone_end [] l = refl
 lone_end (f ∷ fs) l = refl
 
-pub lone_on : (text : List ℕ) (fs : List Frame) (l : List MsgPart × List ℕ) → begins_with_quote text ≡ false → begins_quotable (standing fs) text ≡ false
+pub lone_on : (text : List ℕ) (fs : List Frame) (l : List MsgPart × List ℕ) → begins_with_quote text ≡ false → begins_quotable (pattern_mode fs) text ≡ false
     → parsed text (quoting_in fs l quoting.Apostrophe) ≡ parsed text (in_text fs (l.0, l.1 ++ single_quote ∷ []))
 lone_on [] fs l e f = lone_end fs l
 lone_on (c ∷ cs) fs l e f = rw (e, f) refl
 
 -- and one that does
-quotable_quote : (at : Standing) → is_quotable at 39 ≡ false
-quotable_quote Outside = refl
+quotable_quote : (at : PatternMode) → is_quotable at 39 ≡ false
+quotable_quote AtTop = refl
 quotable_quote InPlural = refl
 quotable_quote InSelect = refl
 
-pub quote_on : (text : List ℕ) (fs : List Frame) (l : List MsgPart × List ℕ) → begins_quotable (standing fs) text ≡ true
+pub quote_on : (text : List ℕ) (fs : List Frame) (l : List MsgPart × List ℕ) → begins_quotable (pattern_mode fs) text ≡ true
     → parsed text (quoting_in fs l quoting.Apostrophe) ≡ parsed text (quoting_in fs l quoting.Quoted)
 quote_on [] fs l h = absurd (cc h)
 quote_on (c ∷ cs) fs l h =
-    let no : (c == 39) ≡ false = not_that (is_quotable (standing fs)) 39 (quotable_quote (standing fs)) c h in rw (no, h) refl
+    let no : (c == 39) ≡ false = not_that (is_quotable (pattern_mode fs)) 39 (quotable_quote (pattern_mode fs)) c h in rw (no, h) refl
 
 quoted_end : (fs : List Frame) (l : List MsgPart × List ℕ) → whole_pattern (quoting_in fs l quoting.Quoted) ≡ whole_pattern (in_text fs l)
 quoted_end [] l = refl

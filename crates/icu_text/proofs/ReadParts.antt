@@ -2,7 +2,7 @@
 use Rattle.std.proofs.Common.{◌≡◌, ℕ, Bool, true, false, List, [], ◌∷◌, ◌++◌, refl, sym, ◌∙◌, ap, append_assoc, append-nil}
 use Rattle.soy_tree.specs.MessageParts.{MsgPart, MsgParts, TextPart, Placeholder, NumberPart, PluralPart, SelectPart, no_part, part}
 use Rattle.soy_tree.specs.ViewMessageParts.{parts_of}
-use Rattle.soy_tree.specs.IcuText.{Standing, Reads, with_text}
+use Rattle.soy_tree.specs.IcuText.{PatternMode, Reads, with_text}
 use Rattle.icu_text.specs.PatternSteps.{finished}
 
 -- parts and the text after them, once these parts were read too

@@ -32,7 +32,7 @@ use Rattle.icu_text.specs.declared.state.Expected.TheVariants as expected
 use Rattle.icu_text.specs.declared.state.PatternState.{PatternState}
 use Rattle.icu_text.specs.FirstArms.{has_category, has_word}
 use Rattle.icu_text.specs.PatternSteps as steps
-use Rattle.icu_text.specs.PatternSteps.{standing, finished, with_arm, with_word, with_offset, opened, may_be_ordinal, letter_next, number_or, more_digits, plural_part, select_part, signed}
+use Rattle.icu_text.specs.PatternSteps.{pattern_mode, finished, with_arm, with_word, with_offset, opened, may_be_ordinal, letter_next, number_or, more_digits, plural_part, select_part, signed}
 use Rattle.icu_text.proofs.CharacterTests.{equal_or, holds_or, and_both}
 use Rattle.icu_text.proofs.PatternRunning.{at, in_text, parsed, parsed_from}
 use Rattle.icu_text.proofs.ReadParts.{finished_end}
@@ -147,7 +147,7 @@ module _ (cs : List ℕ) (out : List MsgPart)
 
   -- text
 
-  add_left : (fs : List Frame) (n : ℕ) (ps : List MsgPart) (t : List ℕ) (c : ℕ) → n + length fs ≡ 64 → is_plain (standing fs) c ≡ true
+  add_left : (fs : List Frame) (n : ℕ) (ps : List MsgPart) (t : List ℕ) (c : ℕ) → n + length fs ≡ 64 → is_plain (pattern_mode fs) c ≡ true
       → Parsed (steps.add_next fs ps t quoting.Unquoted c) → TextLeft fs n out (ps, t) (c ∷ cs)
   add_left fs n ps t c d h e =
       more_text (ps, t) (c ∷ []) (c ∷ cs) cs (λ qs rest r. icu.plain c cs rest qs (with_text (c ∷ []) qs) h r refl)
@@ -188,7 +188,7 @@ module _ (cs : List ℕ) (out : List MsgPart)
       number_text (ps, t) cs (hyp (frame.Plural p key ∷ fs) (expected.Text (finished ps t ++ NumberPart ∷ []) [] quoting.Unquoted) n d tt e)
   number_left (frame.Select s word ∷ fs) n ps t d e = add_left (frame.Select s word ∷ fs) n ps t number_sign d refl e
 
-  plain_by : (fs : List Frame) (c : ℕ) → (c == 39) ≡ false → (c == 123) ≡ false → (c == 125) ≡ false → (c == 35) ≡ false → is_plain (standing fs) c ≡ true
+  plain_by : (fs : List Frame) (c : ℕ) → (c == 39) ≡ false → (c == 123) ≡ false → (c == 125) ≡ false → (c == 35) ≡ false → is_plain (pattern_mode fs) c ≡ true
   plain_by [] c a b d e = rw (a, b) refl
   plain_by (frame.Plural p key ∷ fs) c a b d e = rw (a, b, d, e) refl
   plain_by (frame.Select s word ∷ fs) c a b d e = rw (a, b, d) refl
@@ -203,7 +203,7 @@ module _ (cs : List ℕ) (out : List MsgPart)
       (λ g. equal_or P c 35 (number_left fs n ps t d)
       (λ f. λ e. add_left fs n ps t c d (plain_by fs c a b g f) (rw (a, b, g, f) at e)))))
 
-  quotes_left : (fs : List Frame) (n : ℕ) (ps : List MsgPart) (t : List ℕ) (c : ℕ) → (c == 39) ≡ false → is_quotable (standing fs) c ≡ true
+  quotes_left : (fs : List Frame) (n : ℕ) (ps : List MsgPart) (t : List ℕ) (c : ℕ) → (c == 39) ≡ false → is_quotable (pattern_mode fs) c ≡ true
       → QuotedLeft fs n out (ps, t ++ c ∷ []) cs → TextLeft fs n out (ps, t) (single_quote ∷ (c ∷ cs))
   quotes_left fs n ps t c a q l =
       more_text (ps, t) (c ∷ l.chars) (single_quote ∷ (c ∷ cs)) l.after
@@ -217,12 +217,12 @@ module _ (cs : List ℕ) (out : List MsgPart)
       equal_or P c 39
       (λ e. more_text (ps, t) (single_quote ∷ []) (single_quote ∷ (single_quote ∷ cs)) cs
       (λ qs rest r. icu.two cs rest qs (with_text (single_quote ∷ []) qs) r refl) (hyp fs (expected.Text ps (t ++ single_quote ∷ []) quoting.Unquoted) n d tt e))
-      (λ a. λ e. holds_or _ (is_quotable (standing fs) c)
+      (λ a. λ e. holds_or _ (is_quotable (pattern_mode fs) c)
       (λ q. quotes_left fs n ps t c a q (hyp fs (expected.Text ps (t ++ c ∷ []) quoting.Quoted) n d tt (rw (a, q) at e)))
       (λ q. more_text (ps, t) (single_quote ∷ []) (single_quote ∷ (c ∷ cs)) (c ∷ cs)
       (λ qs rest r. icu.single (c ∷ cs) rest qs (with_text (single_quote ∷ []) qs) a q r refl) (plain_left fs n ps (t ++ single_quote ∷ []) c d
       (subst (λ b. Parsed (if b then steps.add_next fs ps t quoting.Quoted c else steps.plain_next fs ps (t ++ single_quote ∷ []) c)) q
-      (subst (λ b. Parsed (if b then steps.add_next fs ps t quoting.Unquoted single_quote else (if is_quotable (standing fs) c then steps.add_next fs ps t quoting.Quoted c
+      (subst (λ b. Parsed (if b then steps.add_next fs ps t quoting.Unquoted single_quote else (if is_quotable (pattern_mode fs) c then steps.add_next fs ps t quoting.Quoted c
       else steps.plain_next fs ps (t ++ single_quote ∷ []) c))) a e)))))
 
   pub quoted_left : (fs : List Frame) (n : ℕ) (ps : List MsgPart) (t : List ℕ) (c : ℕ) → n + length fs ≡ 64 → Parsed (steps.quoted_next fs ps t c)

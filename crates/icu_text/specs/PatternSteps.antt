@@ -11,7 +11,7 @@ use Rattle.soy_base.specs.WhiteSpace.{is_template_space}
 use Rattle.soy_base.specs.Names.{begins_name, continues_name}
 use Rattle.soy_tree.specs.Ints.{largest}
 use Rattle.soy_tree.specs.Formed.{is_word_character}
-use Rattle.soy_tree.specs.IcuText.{Standing, Outside, InPlural, InSelect, is_quotable}
+use Rattle.soy_tree.specs.IcuText.{PatternMode, AtTop, InPlural, InSelect, is_quotable}
 use Rattle.soy_tree.specs.MessageParts.{MsgPart, MsgParts, TextPart, Placeholder, NumberPart, PluralPart, SelectPart}
 use Rattle.soy_tree.specs.ViewMessageParts.{parts_of, exact_arms_of, named_arms_of, select_arms_of}
 use Rattle.icu_text.specs.declared.state.ArmKey.{ArmKey}
@@ -42,10 +42,10 @@ step_of None = step.End
 -- text
 
 -- where a text stands whose innermost frame is the first
-abbrev pub standing : List Frame → Standing
-standing [] = Outside
-standing (frame.Plural plural key ∷ fs) = InPlural
-standing (frame.Select select word ∷ fs) = InSelect
+abbrev pub pattern_mode : List Frame → PatternMode
+pattern_mode [] = AtTop
+pattern_mode (frame.Plural plural key ∷ fs) = InPlural
+pattern_mode (frame.Select select word ∷ fs) = InSelect
 
 -- parts, and the text after them as a part, if it has characters
 abbrev pub finished : List MsgPart → List ℕ → List MsgPart
@@ -89,7 +89,7 @@ plain_next fs ps t c =
 abbrev pub apostrophe_next : List Frame → List MsgPart → List ℕ → ℕ → Option PatternState
 apostrophe_next fs ps t c =
     if c == single_quote then add_next fs ps t quoting.Unquoted single_quote
-    else (if is_quotable (standing fs) c then add_next fs ps t quoting.Quoted c
+    else (if is_quotable (pattern_mode fs) c then add_next fs ps t quoting.Quoted c
     else plain_next fs ps (t ++ single_quote ∷ []) c)
 
 abbrev pub quoted_next : List Frame → List MsgPart → List ℕ → ℕ → Option PatternState

@@ -3,7 +3,7 @@
 ghost use Rattle.std.specs.Prelude.{◌≡◌, [], ◌∷◌, ◌++◌, IfOk, ◌==◌};
 ghost use Rattle.soy_tree.specs.IcuText.{is_quotable};
 ghost use Rattle.icu_text.specs.PatternSteps.{add_next, brace_next, close_next, finished, number_sign_next, plain_next};
-ghost use Rattle.icu_text.specs.PatternSteps.{apostrophe_next, quoted_apostrophe_next, quoted_next, standing, step_of};
+ghost use Rattle.icu_text.specs.PatternSteps.{apostrophe_next, quoted_apostrophe_next, quoted_next, pattern_mode, step_of};
 ghost use Rattle.icu_text.specs.PatternSteps.{text_after, text_at_end, text_next};
 ghost use Rattle.icu_text.specs.declared.state.Quoting.TheVariants as quoting;
 
@@ -128,7 +128,7 @@ fn at_quoted_apostrophe(
 
 /// Whether an apostrophe quotes where the character follows it.
 fn is_quotable(frames: &Stack<Frame>, c: char) -> bool
-    ensures { result ≡ is_quotable (standing frames.now) c }
+    ensures { result ≡ is_quotable (pattern_mode frames.now) c }
 {
     match frames.top() {
         None => c == '{' || c == '}',
