@@ -1,0 +1,10 @@
+pub mod ExprRunning
+pub mod Levels
+pub mod ExprComplete
+pub mod ExprSound
+pub mod ExprExact
+pub mod ExprMachine
+pub mod ExprReads
+pub mod ViewExprs
+pub mod ExprForms
+pub mod ExprSpans

@@ -1,0 +1,13 @@
+pub mod Terminals
+pub mod Depths
+pub mod Operands
+pub mod SpellsExpr
+pub mod BeginsExpr
+pub mod Offsets
+pub mod ParsesExpr
+pub mod Frames
+pub mod ExprSteps
+pub mod ExprRuns
+pub mod ExprReading
+pub mod AreNamed
+pub mod SpansInOrder
