@@ -1,7 +1,6 @@
 -- The machine against the grammar: there is a state after tokens exactly where some expression begins with them, it has
 -- read a whole expression exactly where they spell one, and its depths are those at the tokens.
 use Rattle.std.proofs.Common.{◌≡◌, ℕ, suc, List, [], ◌∷◌, ◌++◌, length, take, map, Option, Some, None, refl, sym, ◌∙◌, ap, subst}
-use Rattle.std.proofs.Math.Seq.{take-append_seam}
 use Rattle.soy_lexer.specs.declared.token.Token.{Token}
 use Rattle.expr_parser.specs.declared.frame.Frame.{Frame}
 use Rattle.expr_parser.specs.declared.operand.Operand.{Operand}
@@ -14,13 +13,8 @@ use Rattle.expr_parser.specs.ExprSteps.{expr_next, step_of, whole_expr, whole_at
 use Rattle.expr_parser.specs.Frames.{raised}
 use Rattle.expr_parser.specs.SpellsExpr.{SpellsExpr}
 use Rattle.expr_parser.proofs.ExprExact.{run-Completes, Completes-run, whole_expr-SpellsExpr, SpellsExpr-whole_expr}
+use Rattle.expr_parser.proofs.Prefixes.{same_prefix}
 use Rattle.expr_parser.proofs.ExprRunning.{depths_append}
-
--- lists that go on, as long as each other, with the same whole are the same
-same_prefix : (ds es fs gs : List ℕ) → length ds ≡ length es → ds ++ fs ≡ es ++ gs → ds ≡ es
-same_prefix ds es fs gs long whole =
-    sym (take-append_seam ds fs) ∙ (ap (λ n. take n (ds ++ fs)) long ∙
-    (ap (λ l. take (length es) l) whole ∙ take-append_seam es gs))
 
 -- inside no frame depths are unchanged
 depths_plain : (ds : List ℕ) → map (raised []) ds ≡ ds

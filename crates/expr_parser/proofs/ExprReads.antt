@@ -20,21 +20,13 @@ use Rattle.expr_parser.specs.ParsesExpr.{NoneGoesOn, IsExpr, RefusesExpr}
 use Rattle.expr_parser.proofs.ExprExact.{whole_expr-SpellsExpr, SpellsExpr-whole_expr}
 use Rattle.expr_parser.proofs.ExprMachine.{BeginsExpr-run, run-BeginsExpr, next_is, same_state, spelled_depths}
 use Rattle.expr_parser.proofs.ExprRunning.{run_append, depths_append}
+use Rattle.expr_parser.proofs.Prefixes.{within_append, end_last}
 use Rattle.expr_parser.proofs.Levels.{within-true, within-false}
 
 -- what an outcome says of the tokens
 abbrev pub Answers : ℕ → List Token → Outcome → Type 0
 Answers blocks tokens (Done x count) = IsExpr blocks tokens x.expr count
 Answers blocks tokens (Refused why offset) = RefusesExpr blocks tokens why offset
-
-within_append : (blocks : ℕ) (ds es : List ℕ) → AreWithin blocks ds → AreWithin blocks es → AreWithin blocks (ds ++ es)
-within_append blocks [] es a b = b
-within_append blocks (d ∷ ds) es a b = (a.0, within_append blocks ds es a.1 b)
-
--- where a last token ends, tokens end
-end_last : (offset : ℕ) (us : List Token) (t : Token) → end_after offset (us ++ t ∷ []) ≡ t.span.end
-end_last offset [] t = refl
-end_last offset (u ∷ us) t = end_last u.span.end us t
 
 -- the tokens that were read, and one more
 one_more : (us : List Token) (t : Token) (s : ExprState) → expr_run us expr_start ≡ Some s →

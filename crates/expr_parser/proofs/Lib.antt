@@ -1,3 +1,4 @@
+pub mod Prefixes
 pub mod ExprRunning
 pub mod Levels
 pub mod ExprComplete
@@ -8,3 +9,9 @@ pub mod ExprReads
 pub mod ViewExprs
 pub mod ExprForms
 pub mod ExprSpans
+pub mod TypeRunning
+pub mod TypeComplete
+pub mod TypeSound
+pub mod TypeExact
+pub mod TypeMachine
+pub mod TypeReads

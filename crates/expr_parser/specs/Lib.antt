@@ -11,3 +11,11 @@ pub mod ExprRuns
 pub mod ExprReading
 pub mod AreNamed
 pub mod SpansInOrder
+pub mod TypeTerminals
+pub mod TypeOperands
+pub mod SpellsType
+pub mod BeginsType
+pub mod ParsesType
+pub mod TypeSteps
+pub mod TypeRuns
+pub mod TypeReading

@@ -13,11 +13,16 @@ mod operand;
 mod parse;
 mod state;
 mod terminal;
+mod type_frame;
+mod type_state;
+mod type_terminal;
 
 pub use laws::{law_expr_machine, law_expr_spans, law_formed_expr, law_one_expr};
 pub use operand::Operand;
-pub use parse::parse_expr;
+pub use parse::{parse_expr, parse_type};
 pub use state::{ExprState, ExprStep};
+pub use type_frame::TypeOperand;
+pub use type_state::{TypeState, TypeStep};
 
 #[cfg(test)]
 mod tests;
