@@ -119,7 +119,7 @@ pub record Around (ts : List Token) (t : Token) (us : List Token) : Type 0 where
   pub itself : IsNamed t.kind t.text
   pub after : AreNamed us
 
-around : (ts : List Token) (t : Token) (us : List Token) → AreNamed (ts ++ (t ∷ us)) → Around ts t us
+pub around : (ts : List Token) (t : Token) (us : List Token) → AreNamed (ts ++ (t ∷ us)) → Around ts t us
 around [] t us h = record { before = tt; itself = h.0; after = h.1 }
 around (u ∷ ts) t us h =
     let a = around ts t us h.1 in record { before = (h.0, a.before); itself = a.itself; after = a.after }

@@ -15,3 +15,8 @@ pub mod TypeSound
 pub mod TypeExact
 pub mod TypeMachine
 pub mod TypeReads
+pub mod TokenNames
+pub mod Longest
+pub mod ExprAnswers
+pub mod TypeAnswers
+pub mod TypeForms

@@ -2,7 +2,7 @@
 use Rattle.std.proofs.Common.{◌≡◌, ℕ, ◌+◌, ◌≤◌, List, [], ◌∷◌, ◌++◌, length, take, Option, Some, None, refl, sym, ◌∙◌, ap}
 use Rattle.std.proofs.Math.Seq.{take-append_seam}
 use Rattle.soy_lexer.specs.declared.token.Token.{Token}
-use Rattle.expr_parser.specs.Depths.{AreWithin}
+use Rattle.expr_parser.specs.Depths.{depth_limit, AreWithin}
 use Rattle.expr_parser.specs.Offsets.{end_after}
 
 -- prefixes of one list that are as long as each other are the same
@@ -15,6 +15,15 @@ same_prefix xs ys us vs long whole =
 pub within_append : (blocks : ℕ) (ds es : List ℕ) → AreWithin blocks ds → AreWithin blocks es → AreWithin blocks (ds ++ es)
 within_append blocks [] es a b = b
 within_append blocks (d ∷ ds) es a b = (a.0, within_append blocks ds es a.1 b)
+
+-- and the first and the last of depths that are within the limit
+pub within_prefix : (blocks : ℕ) (ds es : List ℕ) → AreWithin blocks (ds ++ es) → AreWithin blocks ds
+within_prefix blocks [] es h = tt
+within_prefix blocks (d ∷ ds) es h = (h.0, within_prefix blocks ds es h.1)
+
+pub within_last : (blocks : ℕ) (ds : List ℕ) (d : ℕ) → AreWithin blocks (ds ++ d ∷ []) → blocks + d ≤ depth_limit
+within_last blocks [] d h = h.0
+within_last blocks (e ∷ ds) d h = within_last blocks ds d h.1
 
 -- where a last token ends, tokens end
 pub end_last : (offset : ℕ) (us : List Token) (t : Token) → end_after offset (us ++ t ∷ []) ≡ t.span.end
