@@ -1,5 +1,6 @@
 -- Tokens have one answer.
-use Rattle.std.proofs.Common.{◌≡◌, ℕ, ◌+◌, ◌<◌, ◌≤◌, List, [], ◌∷◌, ◌++◌, length, Option, Some, None, Result, Ok, Err, refl, sym, ◌∙◌, ap, subst, arith, length-append}
+use Rattle.std.proofs.Common.{◌≡◌, ℕ, ◌+◌, ◌<◌, ◌≤◌, List, [], ◌∷◌, ◌++◌, length, Option, Some, None, Result, Ok, Err}
+use Rattle.std.proofs.Common.{refl, sym, ◌∙◌, ap, subst, arith, length-append}
 use Rattle.soy_base.specs.declared.code.Code.{Code}
 use Rattle.soy_base.specs.declared.code.Code.TheVariants as code
 use Rattle.soy_base.specs.declared.fault.Fault.{Fault}
@@ -16,7 +17,8 @@ use Rattle.expr_parser.specs.Offsets.{offset_after}
 use Rattle.expr_parser.specs.ParsesExpr.{NoneGoesOn, IsExpr, IsNoExpr, IsTooDeepExpr, RefusesExpr, ParsesExpr}
 use Rattle.expr_parser.specs.SpellsExpr.{SpellsExpr}
 use Rattle.expr_parser.proofs.ExprExact.{SpellsExpr-whole_expr}
-use Rattle.expr_parser.proofs.ExprMachine.{BeginsExpr-run, run-BeginsExpr, depths_length, spelled_depths, spelled_same, begun_same}
+use Rattle.expr_parser.proofs.ExprMachine.{BeginsExpr-run, run-BeginsExpr, depths_length, spelled_depths}
+use Rattle.expr_parser.proofs.ExprMachine.{spelled_same, begun_same}
 use Rattle.expr_parser.proofs.ExprRunning.{run_append, depths_append}
 use Rattle.expr_parser.proofs.Longest.{Ends, same_longest, same_bad, longest_good}
 use Rattle.expr_parser.proofs.Prefixes.{same_prefix, within_prefix, within_last}
@@ -40,7 +42,8 @@ record IsBefore (ts us : List Token) : Type 0 where
 before : (ts us : List Token) (s : ExprState) → expr_run (ts ++ us) expr_start ≡ Some s → IsBefore ts us
 before ts us s e = over (expr_run ts expr_start) refl (sym (run_append ts us expr_start) ∙ e)
   where
-    over : (to : Option ExprState) → expr_run ts expr_start ≡ to → expr_run_from (expr_run us) to ≡ Some s → IsBefore ts us
+    over : (to : Option ExprState) → expr_run ts expr_start ≡ to → expr_run_from (expr_run us) to ≡ Some s →
+        IsBefore ts us
     over None r h = absurd (cc h)
     over (Some m) r h = record { state = m; is = r }
 
@@ -143,18 +146,22 @@ module _ (blocks : ℕ) (tokens : List Token) where
       (record { depths = a.good.depths; begins = a.good.begins }) a.stops
       (record { depths = b.good.depths; begins = b.good.begins }) b.stops
 
-  never_both : {ps rs qs ss : List Token} {t : Token} → IsLongest blocks tokens ps rs → IsFirstBad blocks tokens qs t ss → ⊥
+  never_both : {ps rs qs ss : List Token} {t : Token} → IsLongest blocks tokens ps rs →
+      IsFirstBad blocks tokens qs t ss → ⊥
   never_both {ps} {rs} {qs} {ss} {t} a b =
-      longest_good Begun begun_shorter (Good blocks) (good_shorter blocks) ps rs qs ss t (sym a.whole ∙ b.whole) a.good a.stops
+      longest_good Begun begun_shorter (Good blocks) (good_shorter blocks) ps rs qs ss t
+      (sym a.whole ∙ b.whole) a.good a.stops
       b.begun b.bad
 
-  one_bad : {ps rs qs ss : List Token} {t u : Token} → IsFirstBad blocks tokens ps t rs → IsFirstBad blocks tokens qs u ss →
+  one_bad : {ps rs qs ss : List Token} {t u : Token} → IsFirstBad blocks tokens ps t rs →
+      IsFirstBad blocks tokens qs u ss →
       t ≡ u
   one_bad {ps} {rs} {qs} {ss} {t} {u} a b =
       (same_bad (Good blocks) (good_shorter blocks) ps qs rs ss t u (sym a.whole ∙ b.whole) a.good a.bad b.good b.bad).1
 
   -- two faults are the same
-  refused_same : (c d : Code) (m n : ℕ) → RefusesExpr blocks tokens c m → RefusesExpr blocks tokens d n → (c ≡ d) × (m ≡ n)
+  refused_same : (c d : Code) (m n : ℕ) → RefusesExpr blocks tokens c m → RefusesExpr blocks tokens d n → (c ≡ d) ×
+      (m ≡ n)
   refused_same code.Syntax code.Syntax m n p q =
       let e = one_longest (longest_none p) (longest_none q) in
       (refl, sym p.offset_is ∙ (ap (λ l. offset_after l p.rest) e.0 ∙ (ap (offset_after q.prefix) e.1 ∙ q.offset_is)))
@@ -167,7 +174,8 @@ module _ (blocks : ℕ) (tokens : List Token) where
   refused_same _ d m n p q = absurd p
 
   -- no fault beside an expression
-  never_refused : (d : Code) (n : ℕ) {e : Expr} {count : ℕ} → IsExpr blocks tokens e count → RefusesExpr blocks tokens d n → ⊥
+  never_refused : (d : Code) (n : ℕ) {e : Expr} {count : ℕ} → IsExpr blocks tokens e count →
+      RefusesExpr blocks tokens d n → ⊥
   never_refused code.Syntax n p q =
       let e = one_longest (longest_expr p) (longest_none q) in
       q.incomplete p.depths p.operand (subst (λ l. SpellsExpr 9 l p.depths p.operand) e.0 p.spells)
@@ -179,7 +187,7 @@ module _ (blocks : ℕ) (tokens : List Token) where
   expr_same p q =
       let e = one_longest (longest_expr p) (longest_expr q) in
       let o = spelled_same q.prefix p.depths q.depths p.operand q.operand
-          (subst (λ l. SpellsExpr 9 l p.depths p.operand) e.0 p.spells) q.spells in
+      (subst (λ l. SpellsExpr 9 l p.depths p.operand) e.0 p.spells) q.spells in
       (sym p.expr_is ∙ (ap (λ x. x.expr) o ∙ q.expr_is), sym p.count_is ∙ (ap length e.0 ∙ q.count_is))
 
 -- results are the same whose parts are
@@ -201,8 +209,10 @@ pub one_answer : (file blocks : ℕ) (tokens : List Token) (a b : Result (Expr �
     ParsesExpr file blocks tokens a → ParsesExpr file blocks tokens b →
     (a ≡ Err refusal.OutOfMemory → ⊥) → (b ≡ Err refusal.OutOfMemory → ⊥) → a ≡ b
 one_answer file blocks tokens (Ok x) (Ok y) p q m n = ok_same x.0 y.0 x.1 y.1 (expr_same blocks tokens p q)
-one_answer file blocks tokens (Ok x) (Err (refusal.Because g)) p q m n = absurd (never_refused blocks tokens g.code g.at p q.1)
-one_answer file blocks tokens (Err (refusal.Because f)) (Ok y) p q m n = absurd (never_refused blocks tokens f.code f.at q p.1)
+one_answer file blocks tokens (Ok x) (Err (refusal.Because g)) p q m n =
+    absurd (never_refused blocks tokens g.code g.at p q.1)
+one_answer file blocks tokens (Err (refusal.Because f)) (Ok y) p q m n =
+    absurd (never_refused blocks tokens f.code f.at q p.1)
 one_answer file blocks tokens (Err (refusal.Because f)) (Err (refusal.Because g)) p q m n =
     fault_same f g (refused_same blocks tokens f.code g.code f.at g.at p.1 q.1) (p.0 ∙ sym q.0)
 one_answer file blocks tokens (Err refusal.OutOfMemory) b p q m n = absurd (m refl)

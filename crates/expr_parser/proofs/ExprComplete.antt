@@ -1,5 +1,6 @@
 -- What the grammar has is read, with its depths.
-use Rattle.std.proofs.Common.{◌≡◌, ℕ, ◌-◌, ◌≤◌, Bool, List, [], ◌∷◌, ◌++◌, Option, Some, None, refl, sym, ◌∙◌, ap, arith}
+use Rattle.std.proofs.Common.{◌≡◌, ℕ, ◌-◌, ◌≤◌, Bool, List, [], ◌∷◌, ◌++◌, Option, Some, None, refl, sym, ◌∙◌, ap}
+use Rattle.std.proofs.Common.{arith}
 use Rattle.std.specs.Prelude.{max}
 use Rattle.soy_lexer.specs.declared.token.Token.{Token}
 use Rattle.soy_lexer.specs.declared.token.TokenKind.TheVariants as kind
@@ -22,11 +23,14 @@ use Rattle.expr_parser.specs.Depths.{deeper}
 use Rattle.expr_parser.specs.Operands.{atom, combined, coalesced, conditional, member, indexed, in_parens, level_of}
 use Rattle.expr_parser.specs.Terminals.{terminal_of}
 use Rattle.expr_parser.specs.Frames.{reduced, raised, branch, closed, level, pending_branch}
-use Rattle.expr_parser.specs.ExprSteps.{at, has, opens, expr_next, operand_next, name_next, operator_next, infix_next, coalesce_next, question_next, colon_next, paren_next, bracket_next, expr_depth}
+use Rattle.expr_parser.specs.ExprSteps.{at, has, opens, expr_next, operand_next, name_next, operator_next, infix_next}
+use Rattle.expr_parser.specs.ExprSteps.{coalesce_next, question_next, colon_next, paren_next, bracket_next}
+use Rattle.expr_parser.specs.ExprSteps.{expr_depth}
 use Rattle.expr_parser.specs.Depths.{beside}
 use Rattle.expr_parser.specs.SpellsExpr.{SpellsExpr, atom_of, infix_of}
 use Rattle.expr_parser.proofs.ExprRunning.{map_append, Goes, step_goes, then_goes, inside_goes}
-use Rattle.expr_parser.proofs.Levels.{Accepts, above_one, above_infix, above_eight, accepts_less, accepts_one, stops, closes}
+use Rattle.expr_parser.proofs.Levels.{Accepts, above_one, above_infix, above_eight, accepts_less, accepts_one, stops}
+use Rattle.expr_parser.proofs.Levels.{closes}
 
 abbrev pub nested : List Frame → Operand → Nested
 nested fs x = record { frames = fs; operand = x }

@@ -1,6 +1,7 @@
 -- Tokens are read exactly as far as some expression begins with them, and a whole expression exactly where they spell
 -- one.
-use Rattle.std.proofs.Common.{◌≡◌, ℕ, ◌≤◌, List, [], ◌∷◌, ◌++◌, Option, Some, None, refl, sym, ◌∙◌, ap, arith, append_assoc, append-nil}
+use Rattle.std.proofs.Common.{◌≡◌, ℕ, ◌≤◌, List, [], ◌∷◌, ◌++◌, Option, Some, None, refl, sym, ◌∙◌, ap, arith}
+use Rattle.std.proofs.Common.{append_assoc, append-nil}
 use Rattle.std.specs.Prelude.{codes}
 use Rattle.soy_base.specs.declared.fault.Span.{Span}
 use Rattle.soy_lexer.specs.declared.token.Token.{Token}
@@ -13,7 +14,8 @@ use Rattle.expr_parser.specs.declared.operand.Operand.{Operand}
 use Rattle.expr_parser.specs.declared.state.Expected.{Expected}
 use Rattle.expr_parser.specs.declared.state.Expected.TheVariants as expected
 use Rattle.expr_parser.specs.declared.state.ExprState.{ExprState}
-use Rattle.expr_parser.specs.Operands.{atom, negated, inverted, combined, coalesced, conditional, member, indexed, in_parens, level_of}
+use Rattle.expr_parser.specs.Operands.{atom, negated, inverted, combined, coalesced, conditional, member, indexed}
+use Rattle.expr_parser.specs.Operands.{in_parens, level_of}
 use Rattle.expr_parser.specs.Terminals.{terminal_of}
 use Rattle.expr_parser.specs.Frames.{reduced}
 use Rattle.expr_parser.specs.ExprSteps.{whole_expr, whole_at, alone, whole}
@@ -21,7 +23,10 @@ use Rattle.expr_parser.specs.SpellsExpr.{SpellsExpr}
 use Rattle.expr_parser.specs.ExprRuns.{expr_run, expr_run_from, expr_start}
 use Rattle.expr_parser.proofs.Levels.{Accepts, accepts_one}
 use Rattle.expr_parser.proofs.ExprComplete.{after_at, complete}
-use Rattle.expr_parser.proofs.ExprSound.{Opened, Spelled, Holds, Holds_at, Rests, run_holds, rests, widened, one_on, two_on, four_on, negated_spells, inverted_spells, combined_spells, coalesced_spells, conditional_spells, parens_spells, indexed_spells, member_spells, atom_spells}
+use Rattle.expr_parser.proofs.ExprSound.{Opened, Spelled, Holds, Holds_at, Rests, run_holds, rests, widened, one_on}
+use Rattle.expr_parser.proofs.ExprSound.{two_on, four_on, negated_spells, inverted_spells, combined_spells}
+use Rattle.expr_parser.proofs.ExprSound.{coalesced_spells, conditional_spells, parens_spells, indexed_spells}
+use Rattle.expr_parser.proofs.ExprSound.{member_spells, atom_spells}
 use Rattle.expr_parser.proofs.ExprRunning.{run_append, Goes}
 
 -- tokens that close what is opening

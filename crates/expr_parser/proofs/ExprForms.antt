@@ -1,5 +1,6 @@
 -- What tokens spell is formed.
-use Rattle.std.proofs.Common.{◌≡◌, ℕ, ◌+◌, ◌-◌, ◌*◌, Bool, true, false, List, [], ◌∷◌, ◌++◌, Option, Some, None, refl, ap, subst}
+use Rattle.std.proofs.Common.{◌≡◌, ℕ, ◌+◌, ◌-◌, ◌*◌, Bool, true, false, List, [], ◌∷◌, ◌++◌, Option, Some, None, refl}
+use Rattle.std.proofs.Common.{ap, subst}
 use Rattle.std.specs.Prelude.{nat_le, ◌&&◌, if◌then◌else◌, codes, encode_utf8_all}
 use Rattle.std.specs.Char.{is_ascii_digit}
 use Rattle.std.specs.Str.{bytes_eq}
@@ -19,8 +20,10 @@ use Rattle.expr_parser.specs.declared.terminal.Terminal.TheVariants as terminal
 use Rattle.expr_parser.specs.AreNamed.{IsNamed, AreNamed}
 use Rattle.expr_parser.specs.Operands.{expr_of, joined, level_of}
 use Rattle.expr_parser.specs.SpellsExpr.{SpellsExpr, atom_of}
-use Rattle.expr_parser.specs.Terminals.{terminal_of, kind_terminal, int_terminal, word_terminal, symbol_terminal, int_after}
-use Rattle.expr_parser.proofs.ViewExprs.{view-Null, view-Bool, view-Int, view-Str, view-Var, view-Member, view-Index, view-Neg, view-Not, view-Binary, view-Coalesce, view-Cond}
+use Rattle.expr_parser.specs.Terminals.{terminal_of, kind_terminal, int_terminal, word_terminal, symbol_terminal}
+use Rattle.expr_parser.specs.Terminals.{int_after}
+use Rattle.expr_parser.proofs.ViewExprs.{view-Null, view-Bool, view-Int, view-Str, view-Var, view-Member, view-Index}
+use Rattle.expr_parser.proofs.ViewExprs.{view-Neg, view-Not, view-Binary, view-Coalesce, view-Cond}
 
 -- an int is a literal, and a variable a name
 abbrev Sound : List ℕ → Terminal → Type 0

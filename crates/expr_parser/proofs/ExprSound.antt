@@ -1,5 +1,6 @@
 -- What was read is what the grammar has, as far as it goes; and some expression goes on from there.
-use Rattle.std.proofs.Common.{◌≡◌, ℕ, ◌-◌, ◌≤◌, Bool, true, false, List, [], ◌∷◌, ◌++◌, Option, Some, None, refl, ◌∙◌, ap, arith, append_assoc, append-nil}
+use Rattle.std.proofs.Common.{◌≡◌, ℕ, ◌-◌, ◌≤◌, Bool, true, false, List, [], ◌∷◌, ◌++◌, Option, Some, None, refl, ◌∙◌}
+use Rattle.std.proofs.Common.{ap, arith, append_assoc, append-nil}
 use Rattle.std.specs.Prelude.{max, nat_le, if◌then◌else◌}
 use Rattle.soy_lexer.specs.declared.token.Token.{Token}
 use Rattle.soy_lexer.specs.declared.token.TokenKind.{TokenKind}
@@ -20,14 +21,17 @@ use Rattle.expr_parser.specs.declared.operand.Operand.{Operand}
 use Rattle.expr_parser.specs.declared.state.Expected.{Expected}
 use Rattle.expr_parser.specs.declared.state.Expected.TheVariants as expected
 use Rattle.expr_parser.specs.declared.state.ExprState.{ExprState}
-use Rattle.expr_parser.specs.Operands.{atom, negated, inverted, combined, coalesced, conditional, member, indexed, in_parens, level_of}
+use Rattle.expr_parser.specs.Operands.{atom, negated, inverted, combined, coalesced, conditional, member, indexed}
+use Rattle.expr_parser.specs.Operands.{in_parens, level_of}
 use Rattle.expr_parser.specs.Terminals.{terminal_of}
 use Rattle.expr_parser.specs.Frames.{reduced, closed, level}
-use Rattle.expr_parser.specs.ExprSteps.{at, expr_next, operand_next, name_next, operator_next, infix_next, coalesce_next, question_next, colon_next, paren_next, bracket_next}
+use Rattle.expr_parser.specs.ExprSteps.{at, expr_next, operand_next, name_next, operator_next, infix_next}
+use Rattle.expr_parser.specs.ExprSteps.{coalesce_next, question_next, colon_next, paren_next, bracket_next}
 use Rattle.expr_parser.specs.Depths.{beside}
 use Rattle.expr_parser.specs.SpellsExpr.{SpellsExpr, atom_of, infix_of}
 use Rattle.expr_parser.specs.ExprRuns.{expr_run, expr_run_from}
-use Rattle.expr_parser.proofs.Levels.{Accepts, Above, accepts_one, accepts_two, accepts_infix, accepts_nine, level_least, level_most, within-true, within-false}
+use Rattle.expr_parser.proofs.Levels.{Accepts, Above, accepts_one, accepts_two, accepts_infix, accepts_nine}
+use Rattle.expr_parser.proofs.Levels.{level_least, level_most, within-true, within-false}
 use Rattle.expr_parser.proofs.ExprComplete.{nested}
 
 -- an expression of a level is one of a wider level

@@ -16,7 +16,9 @@ use Rattle.expr_parser.specs.Operands.{expr_of, joined, made, level_of}
 use Rattle.expr_parser.specs.SpansInOrder.{AreWithinSpan, SpansAscend, SpansInOrder}
 use Rattle.expr_parser.specs.SpellsExpr.{SpellsExpr, atom_of}
 use Rattle.expr_parser.specs.Terminals.{terminal_of}
-use Rattle.expr_parser.proofs.ViewExprs.{span_of-made, view-Null, view-Bool, view-Int, view-Str, view-Var, view-Member, view-Index, view-Neg, view-Not, view-Binary, view-Coalesce, view-Cond}
+use Rattle.expr_parser.proofs.ViewExprs.{span_of-made, view-Null, view-Bool, view-Int, view-Str, view-Var}
+use Rattle.expr_parser.proofs.ViewExprs.{view-Member, view-Index, view-Neg, view-Not, view-Binary, view-Coalesce}
+use Rattle.expr_parser.proofs.ViewExprs.{view-Cond}
 
 -- tokens in order around one of them
 pub record Around (from to : ℕ) (ts : List Token) (t : Token) (us : List Token) : Type 0 where

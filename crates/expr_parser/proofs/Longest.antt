@@ -1,5 +1,7 @@
--- A list has one longest prefix that can go on, or one first element with which its prefix isn't good any more, and never both.
-use Rattle.std.proofs.Common.{◌≡◌, ℕ, ◌+◌, suc, List, [], ◌∷◌, ◌++◌, length, refl, sym, ◌∙◌, ap, subst, arith, append_assoc, length-append}
+-- A list has one longest prefix that can go on, or one first element with which its prefix isn't good any more, and
+-- never both.
+use Rattle.std.proofs.Common.{◌≡◌, ℕ, ◌+◌, suc, List, [], ◌∷◌, ◌++◌, length, refl, sym, ◌∙◌, ap, subst, arith}
+use Rattle.std.proofs.Common.{append_assoc, length-append}
 use Rattle.soy_lexer.specs.declared.token.Token.{Token}
 use Rattle.expr_parser.proofs.Prefixes.{same_prefix, same_last}
 
@@ -66,9 +68,11 @@ module _ (Good : List Token → List Token → Type 0)
       (order (qs ++ (v ∷ [])) ss ps (u ∷ rs) (append_assoc qs (v ∷ []) ss ∙ sym whole))
     where
       over : Order (ps ++ (u ∷ [])) rs qs (v ∷ ss) → Order (qs ++ (v ∷ [])) ss ps (u ∷ rs) → (ps ≡ qs) × (u ≡ v)
-      over (Order.same a r) o = absurd (bad (subst (Good (ps ++ (u ∷ []))) (sym r) (subst (λ l. Good l (v ∷ ss)) (sym a) h)))
+      over (Order.same a r) o = absurd (bad (subst (Good (ps ++ (u ∷ []))) (sym r)
+          (subst (λ l. Good l (v ∷ ss)) (sym a) h)))
       over (Order.less t more a r) o = absurd (not_bad qs (v ∷ ss) (ps ++ (u ∷ [])) rs bad h t more a r)
-      over o (Order.same a r) = absurd (worse (subst (Good (qs ++ (v ∷ []))) (sym r) (subst (λ l. Good l (u ∷ rs)) (sym a) g)))
+      over o (Order.same a r) = absurd (worse (subst (Good (qs ++ (v ∷ []))) (sym r)
+          (subst (λ l. Good l (u ∷ rs)) (sym a) g)))
       over o (Order.less t more a r) = absurd (not_bad ps (u ∷ rs) (qs ++ (v ∷ [])) ss worse g t more a r)
       over (Order.greater t more a r) (Order.greater w others b k) =
           let long = ap length a in
@@ -88,7 +92,8 @@ module _ (Good : List Token → List Token → Type 0)
 module _ (Begun : List Token → Type 0) (begun_shorter : (ts us : List Token) → Begun (ts ++ us) → Begun ts)
     (Good : List Token → List Token → Type 0)
     (good_shorter : (ts us rest : List Token) → Good (ts ++ us) rest → Good ts (us ++ rest)) where
-  pub longest_good : (ps rs qs ss : List Token) (t : Token) → ps ++ rs ≡ qs ++ (t ∷ ss) → Good ps rs → Ends Begun ps rs →
+  pub longest_good : (ps rs qs ss : List Token) (t : Token) → ps ++ rs ≡ qs ++ (t ∷ ss) → Good ps rs →
+      Ends Begun ps rs →
       Begun (qs ++ (t ∷ [])) → (Good (qs ++ (t ∷ [])) ss → ⊥) → ⊥
   longest_good ps rs qs ss t whole g ends b bad =
       over (order ps rs (qs ++ (t ∷ [])) ss (whole ∙ sym (append_assoc qs (t ∷ []) ss)))

@@ -1,5 +1,6 @@
 -- Lists that go on.
-use Rattle.std.proofs.Common.{◌≡◌, ℕ, ◌+◌, ◌≤◌, List, [], ◌∷◌, ◌++◌, length, take, Option, Some, None, refl, sym, ◌∙◌, ap}
+use Rattle.std.proofs.Common.{◌≡◌, ℕ, ◌+◌, ◌≤◌, List, [], ◌∷◌, ◌++◌, length, take, Option, Some, None, refl, sym, ◌∙◌}
+use Rattle.std.proofs.Common.{ap}
 use Rattle.std.proofs.Math.Seq.{take-append_seam}
 use Rattle.soy_lexer.specs.declared.token.Token.{Token}
 use Rattle.expr_parser.specs.Depths.{depth_limit, AreWithin}
@@ -12,7 +13,8 @@ same_prefix xs ys us vs long whole =
     ∙ (ap (λ n. take n (xs ++ us)) long ∙ (ap (λ l. take (length ys) l) whole ∙ take-append_seam ys vs))
 
 -- depths that are within the limit, and further ones
-pub within_append : (blocks : ℕ) (ds es : List ℕ) → AreWithin blocks ds → AreWithin blocks es → AreWithin blocks (ds ++ es)
+pub within_append : (blocks : ℕ) (ds es : List ℕ) → AreWithin blocks ds → AreWithin blocks es → AreWithin blocks
+    (ds ++ es)
 within_append blocks [] es a b = b
 within_append blocks (d ∷ ds) es a b = (a.0, within_append blocks ds es a.1 b)
 

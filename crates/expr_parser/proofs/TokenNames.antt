@@ -1,5 +1,7 @@
 -- The words and variables among the tokens of a text are names.
-use Rattle.std.proofs.Common.{◌≡◌, ℕ, ◌+◌, ◌==◌, ◌&&◌, nat_le, if◌then◌else◌, Bool, true, false, List, [], ◌∷◌, ◌++◌, Option, Some, None, IfSome, option_map, unwrap_or, refl, sym, ◌∙◌, ap, subst, codes}
+use Rattle.std.proofs.Common.{◌≡◌, ℕ, zero, suc, ◌+◌, ◌==◌, ◌&&◌, nat_le, if◌then◌else◌, Bool, true, false, List, []}
+use Rattle.std.proofs.Common.{◌∷◌, ◌++◌, Option, Some, None, IfSome, option_map, unwrap_or, refl, sym, ◌∙◌, ap, subst}
+use Rattle.std.proofs.Common.{codes}
 use Rattle.std.specs.Char.{is_ascii_digit}
 use Rattle.std.specs.List.{list_all}
 use Rattle.std.specs.Option.{option_or}
@@ -7,20 +9,23 @@ use Rattle.soy_base.specs.ByteLength.{byte_len}
 use Rattle.soy_base.specs.WhiteSpace.{is_template_space}
 use Rattle.soy_base.specs.Names.{begins_name, continues_name, is_name}
 use Rattle.soy_base.specs.Cuts.{after_prefix, cut, prefix_while, after_while}
-use Rattle.soy_lexer.specs.CommandPiece.{white_piece, fixed_piece, name_prefix, name_piece, variable_piece, number_after, largest_int}
-use Rattle.soy_lexer.specs.CommandPiece.{digits_piece, int_piece, quoted_piece, string_piece, value_piece, attribute_piece}
-use Rattle.soy_lexer.specs.CommandPiece.{symbols_of_one, symbols_of_two, one_of, symbol_piece, command_piece, close_piece, opened_piece}
+use Rattle.soy_lexer.specs.CommandPiece.{white_piece, fixed_piece, name_prefix, name_piece, variable_piece}
+use Rattle.soy_lexer.specs.CommandPiece.{number_after, largest_int}
+use Rattle.soy_lexer.specs.CommandPiece.{digits_piece, int_piece, quoted_piece, string_piece, value_piece}
+use Rattle.soy_lexer.specs.CommandPiece.{attribute_piece}
+use Rattle.soy_lexer.specs.CommandPiece.{symbols_of_one, symbols_of_two, one_of, symbol_piece, command_piece}
+use Rattle.soy_lexer.specs.CommandPiece.{close_piece, opened_piece}
 use Rattle.soy_lexer.specs.Found.{Found, begins, unless_null}
 use Rattle.soy_lexer.specs.Found.Found.{Begins, Fails}
+use Rattle.soy_lexer.specs.ModeAfter.{mode_after, mode_after_token, mode_after_skipped}
 use Rattle.soy_lexer.specs.Lines.{RunCharacter, Line, lines_of}
 use Rattle.soy_lexer.specs.Piece.{Piece, source_text}
 use Rattle.soy_lexer.specs.Piece.Piece.{TextCharacter, Skipped, Literal, CommandToken}
 use Rattle.soy_lexer.specs.Pieces.{Pieces}
 use Rattle.soy_lexer.specs.Strings.{Quoted, quoted}
-use Rattle.soy_lexer.specs.TextPiece.{closed_comment, block_comment, line_comment, closed_literal, literal_piece, may_begin, plain_piece, text_piece, continues_line, piece_of}
+use Rattle.soy_lexer.specs.TextPiece.{closed_comment, block_comment, line_comment, closed_literal, literal_piece}
+use Rattle.soy_lexer.specs.TextPiece.{may_begin, plain_piece, text_piece, continues_line, piece_of}
 use Rattle.soy_lexer.specs.Tokens.{Tokens, token_of_lines, run_token, piece_tokens, run_after, tokens_of}
-use Rattle.soy_lexer.specs.declared.mode.Mode.{Mode}
-use Rattle.soy_lexer.specs.declared.mode.Mode.TheVariants.{Outside, Opened, Inside}
 use Rattle.soy_lexer.specs.declared.token.Token.{Token}
 use Rattle.soy_lexer.specs.declared.token.TokenKind.{TokenKind}
 use Rattle.soy_lexer.specs.declared.token.TokenKind.TheVariants as kind
@@ -192,7 +197,8 @@ line_named : (white : Bool) (text : List ℕ) → NamedIf (line_comment white te
 line_named false text = tt
 line_named true text = over (after_prefix (codes "//") text)
   where
-    over : (o : Option (List ℕ)) → NamedIf (option_map (λ inner. begins (Skipped (codes "//" ++ prefix_while continues_line inner))
+    over : (o : Option (List ℕ)) → NamedIf (option_map (λ inner. begins
+        (Skipped (codes "//" ++ prefix_while continues_line inner))
         (after_while continues_line inner)) o)
     over None = tt
     over (Some inner) =
@@ -213,31 +219,68 @@ plain_named : (text : List ℕ) → Named (plain_piece text)
 plain_named [] = tt
 plain_named (c ∷ cs) = over (c == 123) (may_begin cs) (c == 125)
   where
-    over : (t u v : Bool) → Named (if t then (if u then begins (CommandToken kind.Begin (c ∷ []) (c ∷ [])) cs else Fails 0)
+    over : (t u v : Bool) → Named (if t then (if u then begins
+        (CommandToken kind.Begin (c ∷ []) (c ∷ [])) cs else Fails 0)
         else if v then Fails 0 else begins (TextCharacter c) cs)
     over true true v = begins_named (CommandToken kind.Begin (c ∷ []) (c ∷ [])) cs tt
     over true false v = tt
     over false u true = tt
     over false u false = begins_named (TextCharacter c) cs tt
 
-piece_named : (mode : Mode) (text : List ℕ) → Named (piece_of mode text)
-piece_named (Outside white) text =
+text_named_piece : (white : Bool) (text : List ℕ) → Named (text_piece white text)
+text_named_piece white text =
     unwrap_named _ (plain_piece text)
     (or_named (block_comment text) _ (comment_named text)
     (or_named (line_comment white text) _ (line_named white text) (literal_named text))) (plain_named text)
-piece_named Opened text = unwrap_named (close_piece text) (command_piece text) (close_named text) (command_named text)
-piece_named Inside text = command_named text
+
+opened_named : (text : List ℕ) → Named (opened_piece text)
+opened_named text = unwrap_named (close_piece text) (command_piece text) (close_named text) (command_named text)
+
+-- the pieces in each mode: that type is soy_lexer's own, so its values are had by what leads to them, and a mode
+-- after text that is skipped by going on
+
+abbrev again : {A : Type 0} → (A → A) → ℕ → A → A
+again f zero a = a
+again f (suc n) a = again f n (f a)
+
+inside_named : (n : ℕ) (text : List ℕ) → Named (piece_of (again mode_after_skipped n (mode_after_token kind.Word)) text)
+inside_named zero text = command_named text
+inside_named (suc n) text = inside_named n text
+
+outside_named : (n : ℕ) (text : List ℕ) → Named (piece_of (again mode_after_skipped n (mode_after_token kind.End)) text)
+outside_named zero text = text_named_piece false text
+outside_named (suc n) text = outside_named n text
+
+after_opened_named : (n : ℕ) (text : List ℕ) → Named (piece_of
+    (again mode_after_skipped n (mode_after_token kind.Begin)) text)
+after_opened_named zero text = opened_named text
+after_opened_named (suc n) text = inside_named n text
+
+after_token_named : (k : TokenKind) (n : ℕ) (text : List ℕ) →
+    Named (piece_of (again mode_after_skipped n (mode_after_token k)) text)
+after_token_named kind.Begin n text = after_opened_named n text
+after_token_named kind.End n text = outside_named n text
+after_token_named kind.SlashEnd n text = outside_named n text
+after_token_named _ n text = inside_named n text
 
 abbrev AllNamed : List Piece → Type 0
 AllNamed [] = Unit {0}
 AllNamed (piece ∷ pieces) = PieceNamed piece × AllNamed pieces
 
-pieces_named : (offset : ℕ) (mode : Mode) (text : List ℕ) (pieces : List Piece) (stop : Option ℕ) →
-    Pieces offset mode text pieces stop → AllNamed pieces
-pieces_named _ _ _ _ _ (Pieces.Ended offset mode) = tt
-pieces_named _ _ _ _ _ (Pieces.Stopped offset mode c cs further e) = tt
-pieces_named _ _ _ _ _ (Pieces.Goes offset mode c cs piece rest pieces stop e more) =
-    (subst Named e (piece_named mode (c ∷ cs)), pieces_named _ _ rest pieces stop more)
+pieces_named : (offset : ℕ) (mode : _) (text : List ℕ) (pieces : List Piece) (stop : Option ℕ) →
+    Pieces offset mode text pieces stop →
+    ((n : ℕ) (more : List ℕ) → Named (piece_of (again mode_after_skipped n mode) more)) → AllNamed pieces
+pieces_named _ _ _ _ _ (Pieces.Ended offset mode) good = tt
+pieces_named _ _ _ _ _ (Pieces.Stopped offset mode c cs further e) good = tt
+pieces_named _ _ _ _ _ (Pieces.Goes offset mode c cs piece rest pieces stop e more) good =
+    (subst Named e (good zero (c ∷ cs)), pieces_named _ _ rest pieces stop more (next piece))
+  where
+    next : (p : Piece) (n : ℕ) (text : List ℕ) → Named (piece_of (again mode_after_skipped n (mode_after mode p)) text)
+    next (TextCharacter d) zero text = text_named_piece (is_template_space d) text
+    next (TextCharacter d) (suc n) text = outside_named n text
+    next (Skipped skipped) n text = good (suc n) text
+    next (Literal literal) n text = outside_named n text
+    next (CommandToken k t value) n text = after_token_named k n text
 
 -- the tokens of pieces
 
@@ -267,7 +310,13 @@ tokens_named offset run (piece ∷ pieces) h =
 -- **The words and variables among the tokens of a text are names.**
 pub text_named : (text : List ℕ) (tokens : List Token) → Tokens text tokens → AreNamed tokens
 text_named text tokens t =
-    subst AreNamed (sym t.tokens_are) (tokens_named 0 [] t.pieces (pieces_named 0 (Outside true) text t.pieces None t.whole))
+    subst AreNamed (sym t.tokens_are) (tokens_named 0 [] t.pieces (pieces_named 0 _ text t.pieces None t.whole start))
+  where
+    -- a file starts as text goes on after a space
+    start : (n : ℕ) (more : List ℕ) →
+        Named (piece_of (again mode_after_skipped n (mode_after (mode_after_token kind.End) (TextCharacter 32))) more)
+    start zero more = text_named_piece true more
+    start (suc n) more = outside_named n more
 
 -- and so are those among a part of them
 pub part_named : (ts us vs : List Token) → AreNamed (ts ++ (us ++ vs)) → AreNamed us

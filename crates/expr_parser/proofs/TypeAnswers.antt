@@ -1,5 +1,6 @@
 -- Tokens have one answer as a type.
-use Rattle.std.proofs.Common.{◌≡◌, ℕ, ◌+◌, ◌<◌, ◌≤◌, Bool, true, false, List, [], ◌∷◌, ◌++◌, length, Option, Some, None, Result, Ok, Err, refl, sym, ◌∙◌, ap, subst, arith, append_assoc, length-append}
+use Rattle.std.proofs.Common.{◌≡◌, ℕ, ◌+◌, ◌<◌, ◌≤◌, Bool, true, false, List, [], ◌∷◌, ◌++◌, length, Option, Some}
+use Rattle.std.proofs.Common.{None, Result, Ok, Err, refl, sym, ◌∙◌, ap, subst, arith, append_assoc, length-append}
 use Rattle.soy_base.specs.declared.code.Code.{Code}
 use Rattle.soy_base.specs.declared.code.Code.TheVariants as code
 use Rattle.soy_base.specs.declared.fault.Fault.{Fault}
@@ -12,7 +13,8 @@ use Rattle.expr_parser.specs.declared.type_state.TypeState.{TypeState}
 use Rattle.expr_parser.specs.BeginsType.{BeginsType}
 use Rattle.expr_parser.specs.Depths.{depth_limit, AreWithin}
 use Rattle.expr_parser.specs.Offsets.{offset_after}
-use Rattle.expr_parser.specs.ParsesType.{NoTypeGoesOn, NamesTypeIf, NameTypes, IsType, IsNoType, BeginsFault, IsTooDeepType, IsUnknownType, RefusesType, ParsesType}
+use Rattle.expr_parser.specs.ParsesType.{NoTypeGoesOn, NamesTypeIf, NameTypes, IsType, IsNoType, BeginsFault}
+use Rattle.expr_parser.specs.ParsesType.{IsTooDeepType, IsUnknownType, RefusesType, ParsesType}
 use Rattle.expr_parser.specs.SpellsType.{SpellsType}
 use Rattle.expr_parser.specs.TypeRuns.{type_run, type_run_from, type_depths, type_words, type_start}
 use Rattle.expr_parser.specs.TypeTerminals.{is_type_name}
@@ -20,7 +22,8 @@ use Rattle.expr_parser.proofs.ExprAnswers.{ok_same, fault_same}
 use Rattle.expr_parser.proofs.Longest.{Ends, same_longest, same_bad, longest_good}
 use Rattle.expr_parser.proofs.Prefixes.{same_prefix, same_last, within_prefix, within_last}
 use Rattle.expr_parser.proofs.TypeExact.{SpellsType-whole_type}
-use Rattle.expr_parser.proofs.TypeMachine.{BeginsType-run, run-BeginsType, depths_length, words_length, spelled_depths, spelled_words, spelled_same, begun_depths, begun_words}
+use Rattle.expr_parser.proofs.TypeMachine.{BeginsType-run, run-BeginsType, depths_length, words_length}
+use Rattle.expr_parser.proofs.TypeMachine.{spelled_depths, spelled_words, spelled_same, begun_depths, begun_words}
 use Rattle.expr_parser.proofs.TypeRunning.{run_append, depths_append, words_append}
 
 -- some type begins with the tokens
@@ -60,7 +63,8 @@ record IsBefore (ts us : List Token) : Type 0 where
 before : (ts us : List Token) (s : TypeState) → type_run (ts ++ us) type_start ≡ Some s → IsBefore ts us
 before ts us s e = over (type_run ts type_start) refl (sym (run_append ts us type_start) ∙ e)
   where
-    over : (to : Option TypeState) → type_run ts type_start ≡ to → type_run_from (type_run us) to ≡ Some s → IsBefore ts us
+    over : (to : Option TypeState) → type_run ts type_start ≡ to → type_run_from (type_run us) to ≡ Some s →
+        IsBefore ts us
     over None r h = absurd (cc h)
     over (Some m) r h = record { state = m; is = r }
 
@@ -82,11 +86,13 @@ good_shorter blocks ts us rest g =
           (subst (AreWithin blocks) (i.depths_are ∙ depths_append ts us type_start m.state m.is) g.within);
       known = names_prefix ts us (type_words ts type_start) (type_words us m.state) rest
           (words_length ts type_start m.state m.is)
-          (subst (λ ws. NameTypes (ts ++ us) ws rest) (i.words_are ∙ words_append ts us type_start m.state m.is) g.known);
+          (subst (λ ws. NameTypes (ts ++ us) ws rest) (i.words_are
+          ∙ words_append ts us type_start m.state m.is) g.known);
     }
 
 -- what is spelled begins
-spelled_begins : (ts : List Token) (ds : List ℕ) (ws : List Bool) (x : TypeOperand) → SpellsType ts ds ws x → BeginsType ts ds ws
+spelled_begins : (ts : List Token) (ds : List ℕ) (ws : List Bool) (x : TypeOperand) → SpellsType ts ds ws x →
+    BeginsType ts ds ws
 spelled_begins ts ds ws x s =
     let i = SpellsType-whole_type ts ds ws x s in
     subst (λ l. BeginsType ts ds l) (sym (spelled_words ts ds ws x s))
@@ -134,43 +140,50 @@ module _ (blocks : ℕ) (tokens : List Token) where
   -- the tokens before the fault are good
   before_fault : {offset : ℕ} (i : BeginsFault blocks tokens offset) → Good blocks i.prefix (i.token ∷ i.rest)
   before_fault i =
-      let r = BeginsType-run (i.prefix ++ (i.token ∷ [])) (i.depths ++ (i.depth ∷ [])) (i.words ++ (i.word ∷ [])) i.begins in
+      let r = BeginsType-run (i.prefix ++ (i.token ∷ [])) (i.depths ++ (i.depth ∷ []))
+      (i.words ++ (i.word ∷ [])) i.begins in
       let m = before i.prefix (i.token ∷ []) r.state r.is in
       let long = i.begins.one_depth_each in
       let short = i.begins.one_word_each in
       let more = depths_length i.prefix type_start m.state m.is in
       let others = words_length i.prefix type_start m.state m.is in
-      let even : length i.depths ≡ length (type_depths i.prefix type_start) = omega (arith, more, simp length-append at long) in
-      let level : length i.words ≡ length (type_words i.prefix type_start) = omega (arith, others, simp length-append at short) in
+      let even : length i.depths ≡ length (type_depths i.prefix type_start) =
+      omega (arith, more, simp length-append at long) in
+      let level : length i.words ≡ length (type_words i.prefix type_start) =
+      omega (arith, others, simp length-append at short) in
       record {
         depths = type_depths i.prefix type_start;
         words = type_words i.prefix type_start;
         begins = run-BeginsType i.prefix m.state m.is;
         within = subst (AreWithin blocks)
-            (same_prefix i.depths (type_depths i.prefix type_start) (i.depth ∷ []) (type_depths (i.token ∷ []) m.state) even
+            (same_prefix i.depths (type_depths i.prefix type_start) (i.depth ∷ [])
+            (type_depths (i.token ∷ []) m.state) even
             (r.depths_are ∙ depths_append i.prefix (i.token ∷ []) type_start m.state m.is)) i.within;
         known = subst (λ ws. NameTypes i.prefix ws (i.token ∷ i.rest))
-            (same_prefix i.words (type_words i.prefix type_start) (i.word ∷ []) (type_words (i.token ∷ []) m.state) level
+            (same_prefix i.words (type_words i.prefix type_start) (i.word ∷ [])
+            (type_words (i.token ∷ []) m.state) level
             (r.words_are ∙ words_append i.prefix (i.token ∷ []) type_start m.state m.is)) i.known;
       }
 
   bad_deep : {offset : ℕ} (i : BeginsFault blocks tokens offset) → depth_limit < blocks + i.depth →
       Good blocks (i.prefix ++ (i.token ∷ [])) i.rest → ⊥
   bad_deep i deep g =
-      let e = begun_depths (i.prefix ++ (i.token ∷ [])) g.depths (i.depths ++ (i.depth ∷ [])) g.words (i.words ++ (i.word ∷ []))
-          g.begins i.begins in
+      let e = begun_depths (i.prefix ++ (i.token ∷ [])) g.depths (i.depths ++ (i.depth ∷ [])) g.words
+      (i.words ++ (i.word ∷ []))
+      g.begins i.begins in
       let w = within_last blocks i.depths i.depth (subst (AreWithin blocks) e g.within) in
       omega (arith, w, deep)
 
   bad_name : {offset : ℕ} (i : BeginsFault blocks tokens offset) → i.word ≡ true → is_type_name i.token i.rest ≡ false →
       Good blocks (i.prefix ++ (i.token ∷ [])) i.rest → ⊥
   bad_name i stands unknown g =
-      let e = begun_words (i.prefix ++ (i.token ∷ [])) g.depths (i.depths ++ (i.depth ∷ [])) g.words (i.words ++ (i.word ∷ []))
-          g.begins i.begins in
+      let e = begun_words (i.prefix ++ (i.token ∷ [])) g.depths (i.depths ++ (i.depth ∷ [])) g.words
+      (i.words ++ (i.word ∷ []))
+      g.begins i.begins in
       let short = i.begins.one_word_each in
       let level : length i.words ≡ length i.prefix = omega (arith, simp length-append at short) in
       let n = names_last i.prefix i.token i.words i.word i.rest level
-          (subst (λ ws. NameTypes (i.prefix ++ (i.token ∷ [])) ws i.rest) e g.known) in
+      (subst (λ ws. NameTypes (i.prefix ++ (i.token ∷ [])) ws i.rest) e g.known) in
       clash (subst (λ w. NamesTypeIf w i.token i.rest) stands n) unknown
     where
       clash : {b : Bool} → b ≡ true → b ≡ false → ⊥
@@ -209,12 +222,15 @@ module _ (blocks : ℕ) (tokens : List Token) where
       (record { depths = a.good.depths; words = a.good.words; begins = a.good.begins }) a.stops
       (record { depths = b.good.depths; words = b.good.words; begins = b.good.begins }) b.stops
 
-  never_both : {ps rs qs ss : List Token} {t : Token} → IsLongest blocks tokens ps rs → IsFirstBad blocks tokens qs t ss → ⊥
+  never_both : {ps rs qs ss : List Token} {t : Token} → IsLongest blocks tokens ps rs →
+      IsFirstBad blocks tokens qs t ss → ⊥
   never_both {ps} {rs} {qs} {ss} {t} a b =
-      longest_good Begun begun_shorter (Good blocks) (good_shorter blocks) ps rs qs ss t (sym a.whole ∙ b.whole) a.good a.stops
+      longest_good Begun begun_shorter (Good blocks) (good_shorter blocks) ps rs qs ss t
+      (sym a.whole ∙ b.whole) a.good a.stops
       b.begun b.bad
 
-  one_bad : {ps rs qs ss : List Token} {t u : Token} → IsFirstBad blocks tokens ps t rs → IsFirstBad blocks tokens qs u ss →
+  one_bad : {ps rs qs ss : List Token} {t u : Token} → IsFirstBad blocks tokens ps t rs →
+      IsFirstBad blocks tokens qs u ss →
       (ps ≡ qs) × (t ≡ u)
   one_bad {ps} {rs} {qs} {ss} {t} {u} a b =
       same_bad (Good blocks) (good_shorter blocks) ps qs rs ss t u (sym a.whole ∙ b.whole) a.good a.bad b.good b.bad
@@ -226,9 +242,9 @@ module _ (blocks : ℕ) (tokens : List Token) where
       let f = p.fault in
       let g = q.fault in
       let same = begun_depths (g.prefix ++ (g.token ∷ [])) (f.depths ++ (f.depth ∷ [])) (g.depths ++ (g.depth ∷ []))
-          (f.words ++ (f.word ∷ [])) (g.words ++ (g.word ∷ []))
-          (subst (λ l. BeginsType l (f.depths ++ (f.depth ∷ [])) (f.words ++ (f.word ∷ [])))
-          (ap (λ l. l ++ (f.token ∷ [])) e.0 ∙ ap (λ t. g.prefix ++ (t ∷ [])) e.1) f.begins) g.begins in
+      (f.words ++ (f.word ∷ [])) (g.words ++ (g.word ∷ []))
+      (subst (λ l. BeginsType l (f.depths ++ (f.depth ∷ [])) (f.words ++ (f.word ∷ [])))
+      (ap (λ l. l ++ (f.token ∷ [])) e.0 ∙ ap (λ t. g.prefix ++ (t ∷ [])) e.1) f.begins) g.begins in
       let depth = same_last f.depths g.depths f.depth g.depth same in
       let deep = p.deep in
       let shallow = q.shallow.0 in
@@ -239,7 +255,8 @@ module _ (blocks : ℕ) (tokens : List Token) where
   start_same a b p q = sym p ∙ (ap (λ t. t.span.start) (one_bad a b).1 ∙ q)
 
   -- two faults are the same
-  refused_same : (c d : Code) (m n : ℕ) → RefusesType blocks tokens c m → RefusesType blocks tokens d n → (c ≡ d) × (m ≡ n)
+  refused_same : (c d : Code) (m n : ℕ) → RefusesType blocks tokens c m → RefusesType blocks tokens d n → (c ≡ d) ×
+      (m ≡ n)
   refused_same code.Syntax code.Syntax m n p q =
       let e = one_longest (longest_none p) (longest_none q) in
       (refl, sym p.offset_is ∙ (ap (λ l. offset_after l p.rest) e.0 ∙ (ap (offset_after q.prefix) e.1 ∙ q.offset_is)))
@@ -259,7 +276,8 @@ module _ (blocks : ℕ) (tokens : List Token) where
   refused_same _ d m n p q = absurd p
 
   -- no fault beside a type
-  never_refused : (d : Code) (n : ℕ) {of : SoyType} {count : ℕ} → IsType blocks tokens of count → RefusesType blocks tokens d n → ⊥
+  never_refused : (d : Code) (n : ℕ) {of : SoyType} {count : ℕ} → IsType blocks tokens of count →
+      RefusesType blocks tokens d n → ⊥
   never_refused code.Syntax n p q =
       let e = one_longest (longest_type p) (longest_none q) in
       q.incomplete p.depths p.words p.operand (subst (λ l. SpellsType l p.depths p.words p.operand) e.0 p.spells)
@@ -272,7 +290,7 @@ module _ (blocks : ℕ) (tokens : List Token) where
   type_same p q =
       let e = one_longest (longest_type p) (longest_type q) in
       let o = spelled_same q.prefix p.depths q.depths p.words q.words p.operand q.operand
-          (subst (λ l. SpellsType l p.depths p.words p.operand) e.0 p.spells) q.spells in
+      (subst (λ l. SpellsType l p.depths p.words p.operand) e.0 p.spells) q.spells in
       (sym p.type_is ∙ (ap (λ x. x.of) o ∙ q.type_is), sym p.count_is ∙ (ap length e.0 ∙ q.count_is))
 
 -- **Two answers for the same tokens are the same, but where memory ran out.**

@@ -12,8 +12,10 @@ use Rattle.soy_tree.specs.declared.soy_type.SoyType.TheOpen.{SoyType-F}
 use Rattle.soy_tree.specs.declared.soy_type.SoyType.TheVariants as soy
 use Rattle.soy_tree.specs.Formed.{is_union, is_formed_type, are_formed_members, are_formed_fields}
 use Rattle.soy_tree.specs.Members.{members_of}
-use Rattle.soy_tree.specs.Types.{Name, SoyType, NullType, BoolType, IntType, StringType, HtmlType, AttributesType, ListType, MapType, RecordType, UnionType}
-use Rattle.soy_tree.specs.ViewTypes.{view_type, view_field, view_members, view_fields, type_layer, field_layer, fields_of}
+use Rattle.soy_tree.specs.Types.{Name, SoyType, NullType, BoolType, IntType, StringType, HtmlType, AttributesType}
+use Rattle.soy_tree.specs.Types.{ListType, MapType, RecordType, UnionType}
+use Rattle.soy_tree.specs.ViewTypes.{view_type, view_field, view_members, view_fields, type_layer, field_layer}
+use Rattle.soy_tree.specs.ViewTypes.{fields_of}
 use Rattle.expr_parser.specs.declared.type_frame.TypeOperand.{TypeOperand}
 use Rattle.expr_parser.specs.declared.type_terminal.TypeName.{TypeName}
 use Rattle.expr_parser.specs.declared.type_terminal.TypeName.TheVariants as name
@@ -28,10 +30,12 @@ use Rattle.expr_parser.proofs.ExprForms.{Around, around}
 -- what the types of the code stand for, layer by layer
 
 view_layer : (t : code.SoyType) (o : SoyType-F code.SoyType code_field.Field) → code.out-SoyType t ≡ o →
-    view_type t ≡ type_layer (code.map-SoyType code.SoyType code_field.Field SoyType (Name × SoyType) view_type view_field o)
+    view_type t ≡ type_layer (code.map-SoyType code.SoyType code_field.Field SoyType
+    (Name × SoyType) view_type view_field o)
 view_layer t o e =
     code.fold_out-SoyType SoyType (Name × SoyType) type_layer field_layer t
-    ∙ ap (λ p. type_layer (code.map-SoyType code.SoyType code_field.Field SoyType (Name × SoyType) view_type view_field p)) e
+    ∙ ap (λ p. type_layer (code.map-SoyType code.SoyType code_field.Field SoyType
+    (Name × SoyType) view_type view_field p)) e
 
 view-List : (t : code.SoyType) → view_type (soy.List t) ≡ ListType (view_type t)
 view-List t = view_layer (soy.List t) (SoyType-F.List t) (soy.outs-List t)
@@ -53,7 +57,8 @@ record IsFormedMember (t : code.SoyType) : Type 0 where
   pub alone : is_union (view_type t) ≡ false
   pub formed : is_formed_type (view_type t) ≡ true
 
-formed_as : (t : code.SoyType) (v : SoyType) → view_type t ≡ v → is_union v ≡ false → is_formed_type v ≡ true → IsFormedMember t
+formed_as : (t : code.SoyType) (v : SoyType) → view_type t ≡ v → is_union v ≡ false → is_formed_type v ≡ true →
+    IsFormedMember t
 formed_as t v e alone formed = record { alone = ap is_union e ∙ alone; formed = ap is_formed_type e ∙ formed }
 
 formed_null : IsFormedMember soy.Null
@@ -65,7 +70,8 @@ formed_name name.Int = formed_as soy.Int IntType (view_layer soy.Int SoyType-F.I
 formed_name name.Str = formed_as soy.Str StringType (view_layer soy.Str SoyType-F.Str soy.outs-Str) refl refl
 formed_name name.Html = formed_as soy.Html HtmlType (view_layer soy.Html SoyType-F.Html soy.outs-Html) refl refl
 formed_name name.Attributes =
-    formed_as soy.Attributes AttributesType (view_layer soy.Attributes SoyType-F.Attributes soy.outs-Attributes) refl refl
+    formed_as soy.Attributes AttributesType
+    (view_layer soy.Attributes SoyType-F.Attributes soy.outs-Attributes) refl refl
 formed_name _ = formed_null
 
 -- a word is a name
@@ -97,18 +103,22 @@ token_sound kind.Word name text i = i
 token_sound kind.Symbol name text i = (symbol_sound name text).sound
 token_sound _ name text i = tt
 
-word_named : (t : Token) (n : TypeName) → type_terminal_of t ≡ terminal.Word n → IsNamed t.kind t.text → is_name t.text ≡ true
+word_named : (t : Token) (n : TypeName) → type_terminal_of t ≡ terminal.Word n → IsNamed t.kind t.text →
+    is_name t.text ≡ true
 word_named t n e i = subst (IsWordName t.text) e (token_sound t.kind t.text (encode_utf8_all t.text) i)
 
 -- lists of members and of fields that go on
 
-members_append : (ts : List code.SoyType) (t : code.SoyType) → are_formed_members (view_members ts) ≡ true → IsFormedMember t →
+members_append : (ts : List code.SoyType) (t : code.SoyType) → are_formed_members (view_members ts) ≡ true →
+    IsFormedMember t →
     are_formed_members (view_members (ts ++ t ∷ [])) ≡ true
 members_append [] t h m = rw (m.alone, m.formed) refl
-members_append (u ∷ ts) t h m = over (not (is_union (view_type u))) (is_formed_type (view_type u)) (members_append ts t) h
+members_append (u ∷ ts) t h m = over (not (is_union (view_type u))) (is_formed_type (view_type u))
+    (members_append ts t) h
   where
     over : (a b : Bool) → (are_formed_members (view_members ts) ≡ true → IsFormedMember t →
-        are_formed_members (view_members (ts ++ t ∷ [])) ≡ true) → (a && b && are_formed_members (view_members ts)) ≡ true →
+        are_formed_members (view_members (ts ++ t ∷ [])) ≡ true) →
+        (a && b && are_formed_members (view_members ts)) ≡ true →
         (a && b && are_formed_members (view_members (ts ++ t ∷ []))) ≡ true
     over true true inside h = inside h m
     over true false inside h = absurd (cc h)
@@ -124,7 +134,8 @@ field_formed n t fields named formed h =
     all_three : (a b c : Bool) → a ≡ true → b ≡ true → c ≡ true → (a && b && c) ≡ true
     all_three a b c p q r = rw (p, q, r) refl
 
-fields_append : (fields : List code_field.Field) (n : List ℕ) (t : code.SoyType) → are_formed_fields (view_fields fields) ≡ true →
+fields_append : (fields : List code_field.Field) (n : List ℕ) (t : code.SoyType) → are_formed_fields
+    (view_fields fields) ≡ true →
     is_name n ≡ true → is_formed_type (view_type t) ≡ true →
     are_formed_fields (view_fields (fields ++ field n t ∷ [])) ≡ true
 fields_append [] n t h named formed = field_formed n t [] named formed refl
@@ -140,7 +151,8 @@ fields_append (f ∷ fields) n t h named formed =
     over false b inside h = absurd (cc h)
 
 mutual
-  formed_member : (ts : List Token) (ds : List ℕ) (ws : List Bool) (x : TypeOperand) → AreNamed ts → SpellsMember ts ds ws x →
+  formed_member : (ts : List Token) (ds : List ℕ) (ws : List Bool) (x : TypeOperand) → AreNamed ts →
+      SpellsMember ts ds ws x →
       IsFormedMember x.of
   formed_member _ _ _ _ h (SpellsMember.name_ t n e) = formed_name n
   formed_member _ _ _ _ h (SpellsMember.list_ t less greater ts ds ws x a b c s) =
@@ -154,7 +166,8 @@ mutual
       formed_as (soy.Fields fields) (RecordType (view_fields fields)) (view-Fields fields) refl
       (formed_fields ts ds ws fields height i.before s)
 
-  formed_fields : (ts : List Token) (ds : List ℕ) (ws : List Bool) (fields : List code_field.Field) (height : ℕ) → AreNamed ts →
+  formed_fields : (ts : List Token) (ds : List ℕ) (ws : List Bool) (fields : List code_field.Field) (height : ℕ) →
+      AreNamed ts →
       SpellsFields ts ds ws fields height → are_formed_fields (view_fields fields) ≡ true
   formed_fields _ _ _ _ _ h (SpellsFields.one_ key colon n ts ds ws x a b s) =
       field_formed key.text x.of [] (word_named key n a h.0) (formed_type ts ds ws x h.1.1 s) refl
@@ -164,18 +177,23 @@ mutual
       fields_append fields key.text x.of (formed_fields ts ds ws fields height i.before s) (word_named key n b k.0)
       (formed_type us es vs x k.1.1 r)
 
-  formed_members : (ts : List Token) (ds : List ℕ) (ws : List Bool) (members : List code.SoyType) (height : ℕ) → AreNamed ts →
+  formed_members : (ts : List Token) (ds : List ℕ) (ws : List Bool) (members : List code.SoyType) (height : ℕ) →
+      AreNamed ts →
       SpellsMembers ts ds ws members height → are_formed_members (view_members members) ≡ true
-  formed_members _ _ _ _ _ h (SpellsMembers.first_ ts ds ws x s) = members_append [] x.of refl (formed_member ts ds ws x h s)
+  formed_members _ _ _ _ _ h (SpellsMembers.first_ ts ds ws x s) =
+      members_append [] x.of refl (formed_member ts ds ws x h s)
   formed_members _ _ _ _ _ h (SpellsMembers.next_ bar ts us ds es ws vs members height x a s r) =
       let i = around ts bar us h in
-      members_append members x.of (formed_members ts ds ws members height i.before s) (formed_member us es vs x i.after r)
+      members_append members x.of (formed_members ts ds ws members height i.before s)
+      (formed_member us es vs x i.after r)
 
   -- **The type that tokens spell whose words are names is formed.**
-  pub formed_type : (ts : List Token) (ds : List ℕ) (ws : List Bool) (x : TypeOperand) → AreNamed ts → SpellsType ts ds ws x →
+  pub formed_type : (ts : List Token) (ds : List ℕ) (ws : List Bool) (x : TypeOperand) → AreNamed ts →
+      SpellsType ts ds ws x →
       is_formed_type (view_type x.of) ≡ true
   formed_type _ _ _ _ h (SpellsType.alone_ ts ds ws x s) = (formed_member ts ds ws x h s).formed
   formed_type _ _ _ _ h (SpellsType.union_ bar ts us ds es ws vs members height x a s r) =
       let i = around ts bar us h in
       ap is_formed_type (view-Union (members ++ x.of ∷ []))
-      ∙ members_append members x.of (formed_members ts ds ws members height i.before s) (formed_member us es vs x i.after r)
+      ∙ members_append members x.of (formed_members ts ds ws members height i.before s)
+      (formed_member us es vs x i.after r)

@@ -1,5 +1,6 @@
 -- What is read of tokens is the longest prefix with which some type begins.
-use Rattle.std.proofs.Common.{◌≡◌, ℕ, suc, ◌+◌, ◌<◌, ◌≤◌, Bool, true, false, length, List, [], ◌∷◌, ◌++◌, Option, Some, None, refl, sym, ◌∙◌, ap, subst, arith, append_assoc, length-append}
+use Rattle.std.proofs.Common.{◌≡◌, ℕ, suc, ◌+◌, ◌<◌, ◌≤◌, Bool, true, false, length, List, [], ◌∷◌, ◌++◌, Option}
+use Rattle.std.proofs.Common.{Some, None, refl, sym, ◌∙◌, ap, subst, arith, append_assoc, length-append}
 use Rattle.std.specs.Prelude.{nat_le, if◌then◌else◌}
 use Rattle.soy_base.specs.declared.code.Code.{Code}
 use Rattle.soy_base.specs.declared.code.Code.TheVariants as code
@@ -17,12 +18,16 @@ use Rattle.expr_parser.specs.declared.type_terminal.TypeTerminal.TheVariants as 
 use Rattle.expr_parser.specs.BeginsType.{BeginsType}
 use Rattle.expr_parser.specs.Depths.{depth_limit, is_within, AreWithin}
 use Rattle.expr_parser.specs.Offsets.{end_after, offset_after}
-use Rattle.expr_parser.specs.ParsesType.{NoTypeGoesOn, NamesTypeIf, NameTypes, IsType, IsNoType, BeginsFault, IsTooDeepType, IsUnknownType, RefusesType}
+use Rattle.expr_parser.specs.ParsesType.{NoTypeGoesOn, NamesTypeIf, NameTypes, IsType, IsNoType, BeginsFault}
+use Rattle.expr_parser.specs.ParsesType.{IsTooDeepType, IsUnknownType, RefusesType}
 use Rattle.expr_parser.specs.SpellsType.{SpellsType}
 use Rattle.expr_parser.specs.TypeReading.{type_answer, unless_unknown, read_type_on, reading_type}
-use Rattle.expr_parser.specs.TypeRuns.{type_run, type_run_from, type_depths, type_depths_from, type_words, type_words_from, is_after_name, type_start}
-use Rattle.expr_parser.specs.TypeSteps.{type_next, type_step_of, whole_type, type_depth, unknown_name, unknown_at, unknown_type}
-use Rattle.expr_parser.specs.TypeTerminals.{type_terminal_of, is_less, begins_with_less, names_type, word_names_type, is_type_name}
+use Rattle.expr_parser.specs.TypeRuns.{type_run, type_run_from, type_depths, type_depths_from, type_words}
+use Rattle.expr_parser.specs.TypeRuns.{type_words_from, is_after_name, type_start}
+use Rattle.expr_parser.specs.TypeSteps.{type_next, type_step_of, whole_type, type_depth, unknown_name, unknown_at}
+use Rattle.expr_parser.specs.TypeSteps.{unknown_type}
+use Rattle.expr_parser.specs.TypeTerminals.{type_terminal_of, is_less, begins_with_less, names_type, word_names_type}
+use Rattle.expr_parser.specs.TypeTerminals.{is_type_name}
 use Rattle.expr_parser.proofs.Levels.{within-true, within-false}
 use Rattle.expr_parser.proofs.Prefixes.{within_append, end_last, same_last}
 use Rattle.expr_parser.proofs.TypeExact.{whole_type-SpellsType, SpellsType-whole_type}
@@ -36,7 +41,8 @@ Answers blocks tokens (Done x count) = IsType blocks tokens x.of count
 Answers blocks tokens (Refused why offset) = RefusesType blocks tokens why offset
 
 -- words that name types, and one more token after them
-names_append : (us : List Token) (ws : List Bool) (t : Token) (w : Bool) (ts : List Token) → length ws ≡ length us → NameTypes us ws (t ∷ ts) →
+names_append : (us : List Token) (ws : List Bool) (t : Token) (w : Bool) (ts : List Token) → length ws ≡ length us →
+    NameTypes us ws (t ∷ ts) →
     NamesTypeIf w t ts → NameTypes (us ++ t ∷ []) (ws ++ w ∷ []) ts
 names_append [] [] t w ts long known one = (one, tt)
 names_append [] (v ∷ ws) t w ts long known one = absurd (cc long)
@@ -49,9 +55,11 @@ abbrev IfNamed : ExpectedInType → Token → Type 0
 IfNamed (expected.AfterName n offset) t = (type_terminal_of t ≡ terminal.Word n) × (t.span.start ≡ offset)
 IfNamed _ t = Unit {0}
 
-named_last : (p : ExpectedInType) (fs : List TypeFrame) (us : List Token) (t : Token) → Holds_at p fs (us ++ t ∷ []) → IfNamed p t
+named_last : (p : ExpectedInType) (fs : List TypeFrame) (us : List Token) (t : Token) → Holds_at p fs (us ++ t ∷ []) →
+    IfNamed p t
 named_last expected.Type fs us t h = tt
-named_last (expected.AfterName n offset) fs us t h = let e = same_last us h.prefix t h.token h.whole in rw e (h.is_name, h.offset_is)
+named_last (expected.AfterName n offset) fs us t h = let e = same_last us h.prefix t h.token h.whole in rw e
+    (h.is_name, h.offset_is)
 named_last (expected.Delimiter x) fs us t h = tt
 named_last expected.Key fs us t h = tt
 named_last expected.KeyComma fs us t h = tt
@@ -59,7 +67,8 @@ named_last (expected.FieldName fields n) fs us t h = tt
 named_last (expected.FieldColon fields n name) fs us t h = tt
 
 -- whether it names a type
-named_known : (p : ExpectedInType) (t : Token) (ts : List Token) → IfNamed p t → unknown_at p (begins_with_less ts) ≡ None →
+named_known : (p : ExpectedInType) (t : Token) (ts : List Token) → IfNamed p t → unknown_at p
+    (begins_with_less ts) ≡ None →
     NamesTypeIf (is_after_name p) t ts
 named_known (expected.AfterName n offset) t ts i e =
     ap (λ m. word_names_type m (begins_with_less ts)) i.0 ∙ over (names_type n (begins_with_less ts)) e
@@ -80,7 +89,8 @@ record IsUnknown (p : ExpectedInType) (t : Token) (ts : List Token) (offset : �
   pub unknown : is_type_name t ts ≡ false
   pub at : t.span.start ≡ offset
 
-named_unknown : (p : ExpectedInType) (t : Token) (ts : List Token) (offset : ℕ) → IfNamed p t → unknown_at p (begins_with_less ts) ≡ Some offset →
+named_unknown : (p : ExpectedInType) (t : Token) (ts : List Token) (offset : ℕ) → IfNamed p t → unknown_at p
+    (begins_with_less ts) ≡ Some offset →
     IsUnknown p t ts offset
 named_unknown (expected.AfterName n at) t ts offset i e = record {
   stands = refl;
@@ -91,6 +101,7 @@ named_unknown (expected.AfterName n at) t ts offset i e = record {
     false_if : (b : Bool) → (if b then None else Some at) ≡ Some offset → b ≡ false
     false_if true e = absurd (cc e)
     false_if false e = refl
+
     same : (b : Bool) → (if b then None else Some at) ≡ Some offset → at ≡ offset
     same true e = absurd (cc e)
     same false e = ap unwrap e
@@ -121,8 +132,10 @@ none_goes_on us t s r e ds ws b =
     clash h = cc
 
 -- where reading stops
-stopped : (blocks offset : ℕ) (us rest : List Token) (s : TypeState) (o : Option TypeOperand) → type_run us type_start ≡ Some s →
-    whole_type s ≡ o → NoTypeGoesOn us rest → AreWithin blocks (type_depths us type_start) → NameTypes us (type_words us type_start) rest →
+stopped : (blocks offset : ℕ) (us rest : List Token) (s : TypeState) (o : Option TypeOperand) →
+    type_run us type_start ≡ Some s →
+    whole_type s ≡ o → NoTypeGoesOn us rest → AreWithin blocks (type_depths us type_start) → NameTypes us
+    (type_words us type_start) rest →
     offset_after us rest ≡ offset → Answers blocks (us ++ rest) (type_answer (length us) offset o)
 stopped blocks offset us rest s (Some x) r f ends within known at = record {
   prefix = us;
@@ -159,7 +172,8 @@ stopped blocks offset us rest s None r f ends within known at = record {
 -- what is known of the tokens that were read, before it is asked whether the last of them names a type
 record Known (blocks : ℕ) (us ts : List Token) (s : TypeState) : Type 0 where
   pub known : unknown_type s (begins_with_less ts) ≡ None → NameTypes us (type_words us type_start) ts
-  pub unknown : (offset : ℕ) → unknown_type s (begins_with_less ts) ≡ Some offset → IsUnknownType blocks (us ++ ts) offset
+  pub unknown : (offset : ℕ) → unknown_type s (begins_with_less ts) ≡ Some offset → IsUnknownType blocks
+      (us ++ ts) offset
 
 -- one token, and then the rest
 
@@ -168,7 +182,8 @@ moved : (blocks : ℕ) (ts xs ys : List Token) (n k e f : ℕ) (m : TypeState) �
 moved blocks ts xs ys n k e f m p q r a = rw (← p, ← q, ← r) a
 
 module _ (blocks : ℕ) (ts us : List Token) (s : TypeState) (t : Token) (r : type_run us type_start ≡ Some s)
-    (within : AreWithin blocks (type_depths us type_start)) (names : NameTypes us (type_words us type_start) (t ∷ ts)) where
+    (within : AreWithin blocks (type_depths us type_start)) (names : NameTypes us (type_words us type_start)
+    (t ∷ ts)) where
   read_to : (m : TypeState) → type_next s t ≡ Some m → type_run (us ++ t ∷ []) type_start ≡ Some m
   read_to m e = one_more us t s r ∙ ap (type_run_from (type_run [])) e
 
@@ -185,10 +200,12 @@ module _ (blocks : ℕ) (ts us : List Token) (s : TypeState) (t : Token) (r : ty
   within_to : (m : TypeState) → type_next s t ≡ Some m → blocks + type_depth m ≤ depth_limit →
       AreWithin blocks (type_depths (us ++ t ∷ []) type_start)
   within_to m e small =
-      subst (AreWithin blocks) (sym (depths_to m e)) (within_append blocks (type_depths us type_start) (type_depth m ∷ []) within (small, tt))
+      subst (AreWithin blocks) (sym (depths_to m e)) (within_append blocks (type_depths us type_start)
+      (type_depth m ∷ []) within (small, tt))
 
   -- the tokens up to this one, as a fault at it has them
-  fault_at : (offset : ℕ) (m : TypeState) → type_next s t ≡ Some m → t.span.start ≡ offset → BeginsFault blocks (us ++ t ∷ ts) offset
+  fault_at : (offset : ℕ) (m : TypeState) → type_next s t ≡ Some m → t.span.start ≡ offset → BeginsFault blocks
+      (us ++ t ∷ ts) offset
   fault_at offset m e at = record {
     prefix = us;
     token = t;
@@ -199,7 +216,8 @@ module _ (blocks : ℕ) (ts us : List Token) (s : TypeState) (t : Token) (r : ty
     word = is_after_name m.expected;
     whole = refl;
     begins = subst (λ ws. BeginsType (us ++ t ∷ []) (type_depths us type_start ++ type_depth m ∷ []) ws) (words_to m e)
-        (subst (λ ds. BeginsType (us ++ t ∷ []) ds (type_words (us ++ t ∷ []) type_start)) (depths_to m e) (run-BeginsType (us ++ t ∷ []) m (read_to m e)));
+        (subst (λ ds. BeginsType (us ++ t ∷ []) ds (type_words (us ++ t ∷ []) type_start)) (depths_to m e)
+        (run-BeginsType (us ++ t ∷ []) m (read_to m e)));
     within = within;
     known = names;
     offset_is = at;
@@ -207,24 +225,34 @@ module _ (blocks : ℕ) (ts us : List Token) (s : TypeState) (t : Token) (r : ty
 
   -- the word that stands last as a type
   last_word : (m : TypeState) → type_next s t ≡ Some m → IfNamed m.expected t
-  last_word m e = named_last m.expected m.frames us t (run_holds (us ++ t ∷ []) [] type_start m Opened.none (read_to m e))
+  last_word m e = named_last m.expected m.frames us t (run_holds (us ++ t ∷ []) [] type_start m Opened.none
+      (read_to m e))
 
-  known_to : (m : TypeState) → type_next s t ≡ Some m → blocks + type_depth m ≤ depth_limit → Known blocks (us ++ t ∷ []) ts m
+  known_to : (m : TypeState) → type_next s t ≡ Some m → blocks + type_depth m ≤ depth_limit → Known blocks
+      (us ++ t ∷ []) ts m
   unfolding fault_at
   known_to m e small = record {
     known = λ none. subst (λ ws. NameTypes (us ++ t ∷ []) ws ts) (sym (words_to m e))
-        (names_append us (type_words us type_start) t (is_after_name m.expected) ts (words_length us type_start s r) names
+        (names_append us (type_words us type_start) t (is_after_name m.expected) ts
+        (words_length us type_start s r) names
         (named_known m.expected t ts (last_word m e) none));
     unknown = λ offset some.
         let u = named_unknown m.expected t ts offset (last_word m e) some in
-        rw (append_assoc us (t ∷ []) ts) (record { fault = fault_at offset m e u.at; shallow = (small, tt); stands = u.stands; unknown = u.unknown });
+        rw (append_assoc us (t ∷ []) ts) (record {
+          fault = fault_at offset m e u.at;
+          shallow =
+              (small, tt);
+          stands = u.stands;
+          unknown = u.unknown;
+        });
   }
 
   on : (m : TypeState) → type_next s t ≡ Some m → (b : Bool) → is_within blocks (type_depth m) ≡ b →
       (AreWithin blocks (type_depths (us ++ t ∷ []) type_start) → Known blocks (us ++ t ∷ []) ts m →
-      Answers blocks ((us ++ t ∷ []) ++ ts) (reading_type blocks (length (us ++ t ∷ [])) (end_after 0 (us ++ t ∷ [])) ts m)) →
+      Answers blocks ((us ++ t ∷ []) ++ ts) (reading_type blocks (length (us ++ t ∷ []))
+      (end_after 0 (us ++ t ∷ [])) ts m)) →
       Answers blocks (us ++ t ∷ ts)
-          (if b then reading_type blocks (length us + 1) t.span.end ts m else Refused code.Nesting t.span.start)
+      (if b then reading_type blocks (length us + 1) t.span.end ts m else Refused code.Nesting t.span.start)
   unfolding fault_at
   on m e true within_limit inside =
       let small = within-true (blocks + type_depth m) depth_limit within_limit in
@@ -232,15 +260,23 @@ module _ (blocks : ℕ) (ts us : List Token) (s : TypeState) (t : Token) (r : ty
       (end_after 0 (us ++ t ∷ [])) t.span.end m
       (append_assoc us (t ∷ []) ts) (length-append us (t ∷ [])) (end_last 0 us t)
       (inside (within_to m e small) (known_to m e small))
-  on m e false large inside = record { fault = fault_at t.span.start m e refl; deep = within-false (blocks + type_depth m) depth_limit large }
+  on m e false large inside = record {
+    fault = fault_at t.span.start m e refl;
+    deep = within-false
+        (blocks + type_depth m) depth_limit large;
+  }
 
   over : (to : Option TypeState) → type_next s t ≡ to →
-      ((m : TypeState) → type_run (us ++ t ∷ []) type_start ≡ Some m → AreWithin blocks (type_depths (us ++ t ∷ []) type_start) →
+      ((m : TypeState) → type_run (us ++ t ∷ []) type_start ≡ Some m → AreWithin blocks
+      (type_depths (us ++ t ∷ []) type_start) →
       Known blocks (us ++ t ∷ []) ts m →
-      Answers blocks ((us ++ t ∷ []) ++ ts) (reading_type blocks (length (us ++ t ∷ [])) (end_after 0 (us ++ t ∷ [])) ts m)) →
+      Answers blocks ((us ++ t ∷ []) ++ ts) (reading_type blocks (length (us ++ t ∷ []))
+      (end_after 0 (us ++ t ∷ [])) ts m)) →
       Answers blocks (us ++ t ∷ ts)
-          (read_type_on blocks (length us) t (reading_type blocks (length us + 1) t.span.end ts) (type_step_of to (whole_type s)))
-  over None e inside = stopped blocks t.span.start us (t ∷ ts) s (whole_type s) r refl (none_goes_on us t s r e) within names refl
+      (read_type_on blocks (length us) t (reading_type blocks (length us + 1) t.span.end ts)
+      (type_step_of to (whole_type s)))
+  over None e inside = stopped blocks t.span.start us (t ∷ ts) s (whole_type s) r refl
+      (none_goes_on us t s r e) within names refl
   over (Some m) e inside = on m e (is_within blocks (type_depth m)) refl (inside m (read_to m e))
 
 -- where the word that was read last names no type, and where it does
@@ -254,12 +290,14 @@ asked blocks ts us s k out inside = over (unknown_type s (begins_with_less ts)) 
     over None e = inside (k.known e)
 
 means : (blocks : ℕ) (ts us : List Token) (s : TypeState) → type_run us type_start ≡ Some s →
-    AreWithin blocks (type_depths us type_start) → Known blocks us ts s → Answers blocks (us ++ ts) (reading_type blocks (length us) (end_after 0 us) ts s)
+    AreWithin blocks (type_depths us type_start) → Known blocks us ts s → Answers blocks (us ++ ts)
+    (reading_type blocks (length us) (end_after 0 us) ts s)
 means blocks [] us s r within k =
     asked blocks [] us s k (type_answer (length us) (end_after 0 us) (whole_type s))
     (λ names. stopped blocks (end_after 0 us) us [] s (whole_type s) r refl tt within names refl)
 means blocks (t ∷ ts) us s r within k =
-    asked blocks (t ∷ ts) us s k (read_type_on blocks (length us) t (reading_type blocks (length us + 1) t.span.end ts) (type_step_of (type_next s t) (whole_type s)))
+    asked blocks (t ∷ ts) us s k (read_type_on blocks (length us) t
+    (reading_type blocks (length us + 1) t.span.end ts) (type_step_of (type_next s t) (whole_type s)))
     (λ names. over blocks ts us s t r within names (type_next s t) refl (means blocks ts (us ++ t ∷ [])))
 
 start_known : (blocks : ℕ) (ts : List Token) → Known blocks [] ts type_start
@@ -270,5 +308,6 @@ pub reading_type-Answers : (blocks : ℕ) (ts : List Token) → Answers blocks t
 reading_type-Answers blocks ts = means blocks ts [] type_start refl tt (start_known blocks ts)
 
 -- the same of an outcome that is known to be what is read
-pub read_type-Answers : (blocks : ℕ) (ts : List Token) (o : TypeOutcome) → o ≡ reading_type blocks 0 0 ts type_start → Answers blocks ts o
+pub read_type-Answers : (blocks : ℕ) (ts : List Token) (o : TypeOutcome) → o ≡ reading_type blocks 0 0 ts type_start →
+    Answers blocks ts o
 read_type-Answers blocks ts o e = rw e (reading_type-Answers blocks ts)

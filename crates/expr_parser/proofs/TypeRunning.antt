@@ -1,11 +1,13 @@
 -- Reading lists of tokens of types one after the other, with the depths at them and their words.
-use Rattle.std.proofs.Common.{◌≡◌, ℕ, Bool, List, [], ◌∷◌, ◌++◌, map, length, reverse, Option, Some, None, refl, sym, ◌∙◌, ap, arith}
+use Rattle.std.proofs.Common.{◌≡◌, ℕ, Bool, List, [], ◌∷◌, ◌++◌, map, length, reverse, Option, Some, None, refl, sym}
+use Rattle.std.proofs.Common.{◌∙◌, ap, arith}
 use Rattle.std.proofs.lemmas.List.{reverse-append}
 use Rattle.soy_lexer.specs.declared.token.Token.{Token}
 use Rattle.expr_parser.specs.declared.type_frame.TypeFrame.{TypeFrame}
 use Rattle.expr_parser.specs.declared.type_state.TypeState.{TypeState}
 use Rattle.expr_parser.specs.Depths.{deeper, beside}
-use Rattle.expr_parser.specs.TypeRuns.{type_run, type_run_from, type_depths, type_depths_from, type_words, type_words_from, is_after_name}
+use Rattle.expr_parser.specs.TypeRuns.{type_run, type_run_from, type_depths, type_depths_from, type_words}
+use Rattle.expr_parser.specs.TypeRuns.{type_words_from, is_after_name}
 use Rattle.expr_parser.specs.TypeSteps.{type_next, type_depth, type_raised, type_branch}
 use Rattle.expr_parser.proofs.ExprRunning.{map_append}
 
@@ -15,11 +17,13 @@ pub raise_beside : (f : TypeFrame) (fs : List TypeFrame) (ds : List ℕ) →
 raise_beside f fs [] = refl
 raise_beside f fs (d ∷ ds) = ap (λ l. type_raised fs (deeper (type_branch f) d) ∷ l) (raise_beside f fs ds)
 
-pub run_append : (ts us : List Token) (s : TypeState) → type_run (ts ++ us) s ≡ type_run_from (type_run us) (type_run ts s)
+pub run_append : (ts us : List Token) (s : TypeState) → type_run (ts ++ us) s ≡ type_run_from (type_run us)
+    (type_run ts s)
 run_append [] us s = refl
 run_append (t ∷ ts) us s = over (type_next s t) (run_append ts us)
   where
-    over : (to : Option TypeState) → ((s' : TypeState) → type_run (ts ++ us) s' ≡ type_run_from (type_run us) (type_run ts s')) →
+    over : (to : Option TypeState) → ((s' : TypeState) → type_run (ts ++ us) s' ≡ type_run_from (type_run us)
+        (type_run ts s')) →
         type_run_from (type_run (ts ++ us)) to ≡ type_run_from (type_run us) (type_run_from (type_run ts) to)
     over None inside = refl
     over (Some s') inside = inside s'
@@ -55,7 +59,8 @@ words_append (t ∷ ts) us s s' e = over (type_next s t) e (λ m. words_append t
     over (Some m) e inside = ap (λ l. is_after_name m.expected ∷ l) (inside m e)
 
 -- from one state tokens lead to another, with these depths at them inside the frames and these words among them
-pub record Goes (fs : List TypeFrame) (s : TypeState) (ts : List Token) (ds : List ℕ) (ws : List Bool) (s' : TypeState) : Type 0 where
+pub record Goes (fs : List TypeFrame) (s : TypeState) (ts : List Token) (ds : List ℕ) (ws : List Bool)
+    (s' : TypeState) : Type 0 where
   pub runs : type_run ts s ≡ Some s'
   pub deep : type_depths ts s ≡ map (type_raised fs) ds
   pub words : type_words ts s ≡ ws
@@ -77,7 +82,8 @@ then_goes {fs} {s} {m} {s'} {ts} {us} {ds} {es} {ws} {vs} a b = record {
   words = words_append ts us s m a.runs ∙ (ap (λ l. l ++ type_words us m) a.words ∙ ap (λ l. ws ++ l) b.words);
 }
 
-pub inside_goes : (f : TypeFrame) (fs : List TypeFrame) {s s' : TypeState} {ts : List Token} {ds : List ℕ} {ws : List Bool} →
+pub inside_goes : (f : TypeFrame) (fs : List TypeFrame) {s s' : TypeState} {ts : List Token} {ds : List ℕ}
+    {ws : List Bool} →
     Goes (f ∷ fs) s ts ds ws s' → Goes fs s ts (beside (type_branch f) ds) ws s'
 inside_goes f fs {ds = ds} a = record { runs = a.runs; deep = a.deep ∙ raise_beside f fs ds; words = a.words }
 

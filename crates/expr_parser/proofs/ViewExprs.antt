@@ -7,7 +7,8 @@ use Rattle.soy_tree.specs.declared.expr.ExprNode as code_node
 use Rattle.soy_tree.specs.declared.expr.ExprNode.{ExprNode}
 use Rattle.soy_tree.specs.declared.expr.ExprNode.TheOpen.{ExprNode-F}
 use Rattle.soy_tree.specs.declared.expr.ExprNode.TheVariants as node
-use Rattle.soy_tree.specs.Expressions.{Expr, NullLiteral, BoolLiteral, IntLiteral, StringLiteral, Variable, Member, Index, Minus, Not, Binary, Coalesce, Conditional, span_of}
+use Rattle.soy_tree.specs.Expressions.{Expr, NullLiteral, BoolLiteral, IntLiteral, StringLiteral, Variable, Member}
+use Rattle.soy_tree.specs.Expressions.{Index, Minus, Not, Binary, Coalesce, Conditional, span_of}
 use Rattle.soy_tree.specs.ViewExpressions.{view_expr, view_expr_node, expr_node_layer, expr_layer}
 use Rattle.expr_parser.specs.Operands.{expr_of}
 

@@ -1,5 +1,5 @@
--- Which tokens some type begins with, the depths at them, and which of them are words that stand as types. Neither limits
--- the depth nor asks whether a word names a type.
+-- Which tokens some type begins with, the depths at them, and which of them are words that stand as types. Neither
+-- limits the depth nor asks whether a word names a type.
 -- Example: some type begins with `list <`, and with `lisp |`, and none with `list >`.
 use Rattle.std.specs.Prelude.{◌≡◌, ℕ, Bool, List, ◌++◌, length}
 use Rattle.soy_lexer.specs.declared.token.Token.{Token}

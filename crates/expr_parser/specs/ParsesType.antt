@@ -1,6 +1,7 @@
--- What `parse_type` answers for tokens: of the longest prefix with which some type begins, the type that it spells and the
--- number of its tokens; or the first token that no type has there, that lies too deep, or that names no type.
--- Example: `list<int> x` gives a list of ints and 4; `list|int` is refused at `list`, and `map<int, T>` at its third token.
+-- What `parse_type` answers for tokens: of the longest prefix with which some type begins, the type that it spells
+-- and the number of its tokens; or the first token that no type has there, that lies too deep, or that names no type.
+-- Example: `list<int> x` gives a list of ints and 4; `list|int` is refused at `list`, and `map<int, T>` at its third
+-- token.
 use Rattle.std.specs.Prelude.{◌≡◌, ℕ, ◌+◌, ◌<◌, Bool, true, false, List, [], ◌∷◌, ◌++◌, length, Result, Ok, Err}
 use Rattle.soy_base.specs.declared.code.Code.{Code}
 use Rattle.soy_base.specs.declared.code.Code.TheVariants as code
@@ -60,7 +61,8 @@ pub record IsNoType (blocks : ℕ) (tokens : List Token) (offset : ℕ) : Type 0
   pub known : NameTypes prefix words rest
   pub offset_is : offset_after prefix rest ≡ offset
 
--- refusals 5 and 8: some type begins with these tokens, and before the last of them none lies too deep or is an unknown name
+-- refusals 5 and 8: some type begins with these tokens, and before the last of them none lies too deep or is an
+-- unknown name
 pub record BeginsFault (blocks : ℕ) (tokens : List Token) (offset : ℕ) : Type 0 where
   pub prefix : List Token
   pub token : Token
@@ -96,5 +98,6 @@ RefusesType blocks tokens _ offset = ⊥
 
 abbrev pub ParsesType : ℕ → ℕ → List Token → Result (SoyType × ℕ) (Refusal Fault) → Type 0
 ParsesType file blocks tokens (Ok t) = IsType blocks tokens t.0 t.1
-ParsesType file blocks tokens (Err (refusal.Because fault)) = (fault.file ≡ file) × RefusesType blocks tokens fault.code fault.at
+ParsesType file blocks tokens (Err (refusal.Because fault)) =
+    (fault.file ≡ file) × RefusesType blocks tokens fault.code fault.at
 ParsesType file blocks tokens (Err refusal.OutOfMemory) = Unit {0}

@@ -16,7 +16,8 @@ use Rattle.expr_parser.specs.declared.terminal.Terminal.{Terminal}
 use Rattle.expr_parser.specs.declared.terminal.Terminal.TheVariants as terminal
 use Rattle.expr_parser.specs.declared.operand.Operand.{Operand}
 use Rattle.expr_parser.specs.Depths.{beside}
-use Rattle.expr_parser.specs.Operands.{atom, negated, inverted, combined, coalesced, conditional, member, indexed, in_parens, level_of}
+use Rattle.expr_parser.specs.Operands.{atom, negated, inverted, combined, coalesced, conditional, member, indexed}
+use Rattle.expr_parser.specs.Operands.{in_parens, level_of}
 use Rattle.expr_parser.specs.Terminals.{terminal_of}
 
 -- the atom that a token is

@@ -1,7 +1,8 @@
 -- What a token is to an expression: a Word is a literal, `not`, `and` or `or`; an Int is one up to 9007199254740991; a
 -- Symbol is an operator or a delimiter.
 -- Example: the Symbol `%` is the infix operator `Rem`, and the Word `list` is nothing to an expression.
-use Rattle.std.specs.Prelude.{ℕ, ◌+◌, ◌-◌, ◌*◌, nat_le, ℤ, pos, true, false, ◌&&◌, List, [], ◌∷◌, codes, encode_utf8_all, Option, Some, None, if◌then◌else◌}
+use Rattle.std.specs.Prelude.{ℕ, ◌+◌, ◌-◌, ◌*◌, nat_le, ℤ, pos, true, false, ◌&&◌, List, [], ◌∷◌, codes}
+use Rattle.std.specs.Prelude.{encode_utf8_all, Option, Some, None, if◌then◌else◌}
 use Rattle.std.specs.Char.{is_ascii_digit}
 use Rattle.std.specs.Str.{bytes_eq}
 use Rattle.soy_lexer.specs.declared.token.Token.{Token}

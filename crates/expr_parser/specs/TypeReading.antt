@@ -1,5 +1,5 @@
--- How `parse_type` reads: token by token, until one has no step, lies too deep or shows that the word before it names no
--- type, or the tokens run out.
+-- How `parse_type` reads: token by token, until one has no step, lies too deep or shows that the word before it names
+-- no type, or the tokens run out.
 use Rattle.std.specs.Prelude.{ℕ, ◌+◌, false, List, [], ◌∷◌, Option, Some, None, if◌then◌else◌}
 use Rattle.soy_base.specs.declared.code.Code.TheVariants as code
 use Rattle.soy_lexer.specs.declared.token.Token.{Token}

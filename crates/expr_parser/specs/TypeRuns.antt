@@ -1,6 +1,7 @@
 -- What the machine of types makes of a list of tokens: the state after them, and for each of them the depth at it and
 -- whether it is a word that stands as a type.
--- Example: after `list <` a type is expected inside the list; the depths are 1 and 1, and the first token is such a word.
+-- Example: after `list <` a type is expected inside the list; the depths are 1 and 1, and the first token is such a
+-- word.
 use Rattle.std.specs.Prelude.{ℕ, Bool, true, false, List, [], ◌∷◌, Option, Some, None}
 use Rattle.soy_lexer.specs.declared.token.Token.{Token}
 use Rattle.expr_parser.specs.declared.type_state.ExpectedInType.{ExpectedInType}

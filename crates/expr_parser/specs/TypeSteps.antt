@@ -104,7 +104,8 @@ key_comma_next frames _ = None
 
 -- inside a record
 abbrev pub field_name_next : List TypeFrame → List Field → ℕ → Token → TypeTerminal → Option TypeState
-field_name_next frames fields h token (terminal.Word n) = Some (type_at frames (expected.FieldColon fields h token.text))
+field_name_next frames fields h token (terminal.Word n) = Some
+    (type_at frames (expected.FieldColon fields h token.text))
 field_name_next frames fields h token _ = None
 
 abbrev pub field_colon_next : List TypeFrame → List Field → ℕ → List ℕ → TypeTerminal → Option TypeState

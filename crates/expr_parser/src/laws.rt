@@ -33,9 +33,11 @@ ghost use Rattle.expr_parser.specs.declared.type_state.TypeState.{TypeState};
 /// A list of tokens has one answer as an expression and one as a type, but where memory runs out.
 pub fn law_one_answer()
     ensures one_expr_answer { (file blocks : ℕ) (tokens : List Token) (a b : Result (Expr × ℕ) (Refusal Fault)) →
-        ParsesExpr file blocks tokens a → ParsesExpr file blocks tokens b → a ≢ Err OutOfMemory → b ≢ Err OutOfMemory → a ≡ b }
+        ParsesExpr file blocks tokens a → ParsesExpr file blocks tokens b → a ≢ Err OutOfMemory →
+        b ≢ Err OutOfMemory → a ≡ b }
     ensures one_type_answer { (file blocks : ℕ) (tokens : List Token) (a b : Result (SoyType × ℕ) (Refusal Fault)) →
-        ParsesType file blocks tokens a → ParsesType file blocks tokens b → a ≢ Err OutOfMemory → b ≢ Err OutOfMemory → a ≡ b }
+        ParsesType file blocks tokens a → ParsesType file blocks tokens b → a ≢ Err OutOfMemory →
+        b ≢ Err OutOfMemory → a ≡ b }
 {}
 
 /// A list of tokens spells one expression at most, and has one depth at each token.
@@ -78,12 +80,13 @@ pub fn law_type_machine()
         BeginsType tokens (type_depths tokens type_start) (type_words tokens type_start) }
     ensures whole { (tokens : List Token) (s : TypeState) (x : TypeOperand) → type_run tokens type_start ≡ Some s →
         whole_type s ≡ Some x → SpellsType tokens (type_depths tokens type_start) (type_words tokens type_start) x }
-    ensures spelled { (tokens : List Token) (ds : List ℕ) (ws : List Bool) (x : TypeOperand) → SpellsType tokens ds ws x →
+    ensures spelled { (tokens : List Token) (ds : List ℕ) (ws : List Bool) (x : TypeOperand) →
+        SpellsType tokens ds ws x →
         (s : TypeState) × (type_run tokens type_start ≡ Some s) × (whole_type s ≡ Some x) }
 {}
 
-/// What tokens spell whose words and variables are names is formed: each int literal is from 0 to 9007199254740991, each
-/// name is one, and no member of a union is a union. The tokens of a text are such, and so is each part of them.
+/// What tokens spell whose words and variables are names is formed: each int literal is from 0 to 9007199254740991,
+/// each name is one, and no member of a union is a union. The tokens of a text are such, and so is each part of them.
 pub fn law_formed()
     ensures formed_expr { (tokens : List Token) (ds : List ℕ) (x : Operand) → AreNamed tokens →
         SpellsExpr 9 tokens ds x → is_formed_expr (view_expr x.expr) ≡ true }

@@ -17,8 +17,10 @@ mod type_frame;
 mod type_state;
 mod type_terminal;
 
-pub use laws::{law_expr_machine, law_expr_spans, law_formed, law_one_answer, law_one_expr, law_one_type};
-pub use laws::law_type_machine;
+pub use laws::{
+    law_expr_machine, law_expr_spans, law_formed, law_one_answer, law_one_expr, law_one_type,
+    law_type_machine,
+};
 pub use operand::Operand;
 pub use parse::{parse_expr, parse_type};
 pub use state::{ExprState, ExprStep};

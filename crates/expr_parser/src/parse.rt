@@ -11,10 +11,10 @@ ghost use Rattle.expr_parser.specs.TypeRuns.{type_start};
 
 use crate::operand::Operand;
 use crate::state::{ExprState, ExprStep};
-use soy_base::{Code, Fault, OutOfMemory, Refusal};
 use crate::type_frame::TypeOperand;
 use crate::type_state::{TypeState, TypeStep};
 use crate::type_terminal::TypeTerminal;
+use soy_base::{Code, Fault, OutOfMemory, Refusal};
 use soy_lexer::Token;
 use soy_tree::{Expr, SoyType};
 use std::alloc::Global;
@@ -133,7 +133,12 @@ fn read_type(alloc: Global, tokens: &[Token], blocks: u32) -> Result<TypeOutcome
 /// the number of block commands that are open around it. Otherwise 4 at the first token with which no type goes on, or
 /// at the end of the last token; 5 at the first token whose depth is over 64; or 8 at the first word that stands as a
 /// type and names none.
-pub fn parse_type(alloc: Global, tokens: &[Token], file: u32, depth: u32) -> Result<(SoyType, usize), Refusal<Fault>>
+pub fn parse_type(
+    alloc: Global,
+    tokens: &[Token],
+    file: u32,
+    depth: u32,
+) -> Result<(SoyType, usize), Refusal<Fault>>
     ensures { ParsesType file depth tokens.now result }
 {
     match read_type(alloc, tokens, depth)? {

@@ -292,8 +292,16 @@ const TYPES: &[(&str, &str, usize)] = &[
     ("{map<string, int>}", "map<int>", 6),
     ("{map<string, [a: int]>}", "map<[a:int;]>", 10),
     ("{[a: int]}", "[a:int;]", 5),
-    ("{[a: int, list: list<bool>]}", "[a:int;list:list<bool>;]", 12),
-    ("{[a: int|null, a: string]|null}", "{[a:{int;null;};a:string;];null;}", 13),
+    (
+        "{[a: int, list: list<bool>]}",
+        "[a:int;list:list<bool>;]",
+        12,
+    ),
+    (
+        "{[a: int|null, a: string]|null}",
+        "{[a:{int;null;};a:string;];null;}",
+        13,
+    ),
     ("{[a: [b: int|bool]]}", "[a:[b:{int;bool;};];]", 11),
     ("{html|html}", "{html;html;}", 3),
     ("{int }", "int", 1),

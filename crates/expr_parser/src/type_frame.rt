@@ -93,7 +93,10 @@ impl TypeOperand {
 }
 
 /// What is left where a union that is open takes the type as its last member.
-pub(crate) fn settled(frames: Stack<TypeFrame>, operand: TypeOperand) -> Result<TypeNested, OutOfMemory>
+pub(crate) fn settled(
+    frames: Stack<TypeFrame>,
+    operand: TypeOperand,
+) -> Result<TypeNested, OutOfMemory>
     ensures { IfOk result (λ r. r ≡ settled frames operand) }
 {
     let mut frames = frames;

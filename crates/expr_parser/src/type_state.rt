@@ -10,7 +10,9 @@ ghost use Rattle.expr_parser.specs.TypeOperands.{named, field};
 ghost use Rattle.expr_parser.specs.TypeTerminals.{type_terminal_of};
 
 use crate::operand::deeper;
-use crate::type_frame::{TypeBracket, TypeFrame, TypeNested, TypeOperand, settled, type_raised, with_member};
+use crate::type_frame::{
+    TypeBracket, TypeFrame, TypeNested, TypeOperand, settled, type_raised, with_member,
+};
 use crate::type_terminal::{TypeName, TypeTerminal};
 use soy_base::{OutOfMemory, Row, Stack, Text};
 use soy_lexer::Token;
@@ -70,11 +72,20 @@ impl TypeState {
         match expected {
             ExpectedInType::Type => at_type(alloc, frames, token),
             ExpectedInType::AfterName(name, _) => after_name(alloc, frames, name, token),
-            ExpectedInType::Delimiter(operand) => at_delimiter(alloc, frames, operand, TypeTerminal::of(token)),
+            ExpectedInType::Delimiter(operand) => at_delimiter(
+                alloc,
+                frames,
+                operand,
+                TypeTerminal::of(token),
+            ),
             ExpectedInType::Key => Ok(at_key(frames, token)),
             ExpectedInType::KeyComma => at_key_comma(frames, token),
-            ExpectedInType::FieldName(fields, height) => at_field_name(alloc, frames, fields, height, token),
-            ExpectedInType::FieldColon(fields, height, name) => at_field_colon(frames, fields, height, name, token),
+            ExpectedInType::FieldName(fields, height) => at_field_name(
+                alloc, frames, fields, height, token,
+            ),
+            ExpectedInType::FieldColon(fields, height, name) => at_field_colon(
+                frames, fields, height, name, token,
+            ),
         }
     }
 
@@ -84,9 +95,11 @@ impl TypeState {
     {
         let height = match &self.expected {
             ExpectedInType::Type => 0,
-            ExpectedInType::AfterName(_, _) | ExpectedInType::Key | ExpectedInType::KeyComma => deeper(0, 0),
+            ExpectedInType::AfterName(_, _) | ExpectedInType::Key | ExpectedInType::KeyComma =>
+                deeper(0, 0),
             ExpectedInType::Delimiter(operand) => operand.height,
-            ExpectedInType::FieldName(_, height) | ExpectedInType::FieldColon(_, height, _) => deeper(*height, 0),
+            ExpectedInType::FieldName(_, height) | ExpectedInType::FieldColon(_, height, _) =>
+                deeper(*height, 0),
         };
         type_raised(&self.frames, height)
     }
@@ -113,7 +126,10 @@ impl TypeState {
     {
         let TypeState { frames, expected } = self;
         match expected {
-            ExpectedInType::AfterName(name, _) => Ok(settled_type(settled(frames, TypeOperand::named(name))?)),
+            ExpectedInType::AfterName(name, _) => Ok(settled_type(settled(
+                frames,
+                TypeOperand::named(name),
+            )?)),
             ExpectedInType::Delimiter(operand) => Ok(settled_type(settled(frames, operand)?)),
             _ => Ok(None),
         }
@@ -155,9 +171,8 @@ fn settled_type(nested: TypeNested) -> Option<TypeOperand>
 
 /// A token where a type is expected.
 fn at_type(alloc: Global, frames: Stack<TypeFrame>, token: &Token) -> Result<TypeStep, OutOfMemory>
-    ensures {
-        IfOk result (λ to. to ≡ type_step_of (type_expected_next frames token.now (type_terminal_of token.now)) None)
-    }
+    ensures { IfOk result (λ to. to ≡ type_step_of (type_expected_next frames token.now
+        (type_terminal_of token.now)) None) }
 {
     let expected = match TypeTerminal::of(token) {
         TypeTerminal::Word(name) => ExpectedInType::AfterName(name, token.span.start),
@@ -174,10 +189,8 @@ fn after_name(
     name: TypeName,
     token: &Token,
 ) -> Result<TypeStep, OutOfMemory>
-    ensures {
-        IfOk result (λ to. to ≡ type_step_of (after_name_next frames name (type_terminal_of token.now))
-            (settled_type (settled frames (named name))))
-    }
+    ensures { IfOk result (λ to. to ≡ type_step_of (after_name_next frames name (type_terminal_of token.now))
+        (settled_type (settled frames (named name)))) }
 {
     match TypeTerminal::of(token) {
         TypeTerminal::Less => less(frames, name),
@@ -187,9 +200,8 @@ fn after_name(
 
 /// A `<` after a name.
 fn less(frames: Stack<TypeFrame>, name: TypeName) -> Result<TypeStep, OutOfMemory>
-    ensures {
-        IfOk result (λ to. to ≡ type_step_of (less_next frames name) (settled_type (settled frames (named name))))
-    }
+    ensures { IfOk result (λ to. to ≡ type_step_of (less_next frames name)
+        (settled_type (settled frames (named name)))) }
 {
     match name {
         TypeName::List => opens_type(frames, TypeFrame::Bracket(TypeBracket::List)),
@@ -208,10 +220,8 @@ fn at_delimiter(
     operand: TypeOperand,
     terminal: TypeTerminal,
 ) -> Result<TypeStep, OutOfMemory>
-    ensures {
-        IfOk result (λ to. to ≡ type_step_of (delimiter_next frames operand terminal)
-            (settled_type (settled frames operand)))
-    }
+    ensures { IfOk result (λ to. to ≡ type_step_of (delimiter_next frames operand terminal)
+        (settled_type (settled frames operand))) }
 {
     match terminal {
         TypeTerminal::Bar => Ok(TypeStep::Next(TypeState {
@@ -227,14 +237,18 @@ fn at_delimiter(
 
 /// A `>`.
 fn greater(alloc: Global, nested: TypeNested) -> Result<TypeStep, OutOfMemory>
-    ensures {
-        IfOk result (λ to. to ≡ type_step_of (greater_next nested.frames nested.operand) (settled_type nested))
-    }
+    ensures { IfOk result (λ to. to ≡ type_step_of (greater_next nested.frames nested.operand) (settled_type nested)) }
 {
     let mut frames = nested.frames;
     match frames.pop() {
-        Some(TypeFrame::Bracket(TypeBracket::List)) => Ok(has_type(frames, nested.operand.listed(alloc)?)),
-        Some(TypeFrame::Bracket(TypeBracket::Map)) => Ok(has_type(frames, nested.operand.mapped(alloc)?)),
+        Some(TypeFrame::Bracket(TypeBracket::List)) => Ok(has_type(
+            frames,
+            nested.operand.listed(alloc)?,
+        )),
+        Some(TypeFrame::Bracket(TypeBracket::Map)) => Ok(has_type(
+            frames,
+            nested.operand.mapped(alloc)?,
+        )),
         Some(TypeFrame::Bracket(TypeBracket::Field(_, _, _))) => Ok(TypeStep::End(None)),
         Some(TypeFrame::Union(_, _)) => Ok(TypeStep::End(None)),
         None => Ok(TypeStep::End(Some(nested.operand))),
@@ -243,15 +257,16 @@ fn greater(alloc: Global, nested: TypeNested) -> Result<TypeStep, OutOfMemory>
 
 /// A comma after the type of a field, or of what a type stands in.
 fn comma(nested: TypeNested) -> Result<TypeStep, OutOfMemory>
-    ensures {
-        IfOk result (λ to. to ≡ type_step_of (comma_next nested.frames nested.operand) (settled_type nested))
-    }
+    ensures { IfOk result (λ to. to ≡ type_step_of (comma_next nested.frames nested.operand) (settled_type nested)) }
 {
     let mut frames = nested.frames;
     match frames.pop() {
         Some(TypeFrame::Bracket(TypeBracket::Field(fields, height, name))) => {
             let height = height.max(nested.operand.height);
-            let expected = ExpectedInType::FieldName(with_field(fields, name, nested.operand.of)?, height);
+            let expected = ExpectedInType::FieldName(
+                with_field(fields, name, nested.operand.of)?,
+                height,
+            );
             Ok(TypeStep::Next(TypeState { frames, expected }))
         }
         Some(TypeFrame::Bracket(TypeBracket::List)) => Ok(TypeStep::End(None)),
@@ -263,9 +278,7 @@ fn comma(nested: TypeNested) -> Result<TypeStep, OutOfMemory>
 
 /// A `]`.
 fn close_bracket(nested: TypeNested) -> Result<TypeStep, OutOfMemory>
-    ensures {
-        IfOk result (λ to. to ≡ type_step_of (close_next nested.frames nested.operand) (settled_type nested))
-    }
+    ensures { IfOk result (λ to. to ≡ type_step_of (close_next nested.frames nested.operand) (settled_type nested)) }
 {
     let mut frames = nested.frames;
     match frames.pop() {
@@ -321,10 +334,8 @@ fn at_field_name(
     height: u32,
     token: &Token,
 ) -> Result<TypeStep, OutOfMemory>
-    ensures {
-        IfOk result (λ to. to ≡
-            type_step_of (field_name_next frames fields height token.now (type_terminal_of token.now)) None)
-    }
+    ensures { IfOk result (λ to. to ≡
+        type_step_of (field_name_next frames fields height token.now (type_terminal_of token.now)) None) }
 {
     match TypeTerminal::of(token) {
         TypeTerminal::Word(_) => Ok(TypeStep::Next(TypeState {
@@ -343,13 +354,14 @@ fn at_field_colon(
     name: Text,
     token: &Token,
 ) -> Result<TypeStep, OutOfMemory>
-    ensures {
-        IfOk result (λ to. to ≡
-            type_step_of (field_colon_next frames fields height name (type_terminal_of token.now)) None)
-    }
+    ensures { IfOk result (λ to. to ≡
+        type_step_of (field_colon_next frames fields height name (type_terminal_of token.now)) None) }
 {
     match TypeTerminal::of(token) {
-        TypeTerminal::Colon => opens_type(frames, TypeFrame::Bracket(TypeBracket::Field(fields, height, name))),
+        TypeTerminal::Colon => opens_type(
+            frames,
+            TypeFrame::Bracket(TypeBracket::Field(fields, height, name)),
+        ),
         _ => Ok(TypeStep::End(None)),
     }
 }

@@ -4,7 +4,7 @@ use Rattle.expr_parser.proofs.laws.law_type_machine.Goals as goal
 
 pub returns-clause-runs : goal.returns-clause-runs
 returns-clause-runs c = λ ts ds ws b.
-    let i = BeginsType-run ts ds ws b in (i.state, (i.is, i.depths_are, i.words_are))
+    let i = BeginsType-run ts ds ws b in (i.state, i.is, i.depths_are, i.words_are)
 
 pub returns-clause-begins : goal.returns-clause-begins
 returns-clause-begins c = run-BeginsType
