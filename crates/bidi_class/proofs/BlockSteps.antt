@@ -4,7 +4,8 @@ use Rattle.std.proofs.lemmas.Bool.Decides.{nat_tests}
 use Rattle.ucd_category.specs.declared.GeneralCategory.{GeneralCategory}
 use Rattle.ucd_category.specs.GeneralCategory.{general_category}
 use Rattle.bidi_class.specs.declared.class.Class.{Class}
-use Rattle.bidi_class.specs.declared.class.Class.TheVariants.{L, R, AL, EN, ES, ET, AN, CS, BN, B, WS, ON, LRE, LRO, RLE, RLO, PDF, LRI, RLI, FSI, PDI}
+use Rattle.bidi_class.specs.declared.class.Class.TheVariants.{L, R, AL, EN, ES, ET, AN, CS, BN, B, WS, ON, LRE, LRO}
+use Rattle.bidi_class.specs.declared.class.Class.TheVariants.{RLE, RLO, PDF, LRI, RLI, FSI, PDI}
 use Rattle.bidi_class.specs.Class.{bidi_class, class_rows}
 use Rattle.bidi_class.specs.CategoryClass.{unless_mark, category_class}
 use Rattle.bidi_class.proofs.Runs.{first_class-class_by_runs}

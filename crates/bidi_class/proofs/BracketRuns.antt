@@ -1,5 +1,6 @@
 -- The brackets in a run of code points.
-use Rattle.std.proofs.Common.{◌≡◌, ℕ, ◌-◌, ◌≤◌, ◌==◌, Bool, true, false, ◌&&◌, ◌||◌, nat_lt, List, [], ◌∷◌, if◌then◌else◌, Option, Some, None, refl, arith}
+use Rattle.std.proofs.Common.{◌≡◌, ℕ, ◌-◌, ◌≤◌, ◌==◌, Bool, true, false, ◌&&◌, ◌||◌, nat_lt, List, [], ◌∷◌}
+use Rattle.std.proofs.Common.{if◌then◌else◌, Option, Some, None, refl, arith}
 use Rattle.std.proofs.lemmas.Bool.{cond_both, ltb-true, ltb-false}
 use Rattle.std.proofs.lemmas.Bool.Decides.{nat_tests}
 use Rattle.bidi_class.specs.declared.brackets.Bracket.{Bracket}
@@ -24,13 +25,15 @@ is_other : (low high c other : ℕ) → low ≤ c → c ≤ high → is_outside 
 is_other low high c other above below h = grind (arith, nat_tests)
 
 -- a choice in which two tests fail where another holds
-passed : {V : Type 0} (outside first second : Bool) (x y z w : V) → (outside ≡ true → first ≡ false) → (outside ≡ true → second ≡ false) → z ≡ w
+passed : {V : Type 0} (outside first second : Bool) (x y z w : V) → (outside ≡ true → first ≡ false)
+    → (outside ≡ true → second ≡ false) → z ≡ w
     → (if first then x else (if second then y else z)) ≡ (if outside then w else (if first then x else (if second then y else w)))
 passed true first second x y z w not_first not_second e = grind arith
 passed false first second x y z w not_first not_second e = grind arith
 
 -- a run's characters are those brackets that they are by all pairs
-pub first_bracket-in_run : (low high : ℕ) (pairs : List (ℕ × ℕ)) (c : ℕ) → low ≤ c → c ≤ high → first_bracket pairs c ≡ bracket_in_run low high pairs c
+pub first_bracket-in_run : (low high : ℕ) (pairs : List (ℕ × ℕ)) (c : ℕ) → low ≤ c → c ≤ high
+    → first_bracket pairs c ≡ bracket_in_run low high pairs c
 first_bracket-in_run low high [] c above below = refl
 first_bracket-in_run low high (pair ∷ pairs) c above below =
     passed (is_outside low high pair.0 && is_outside low high pair.1) (c == pair.0) (c == pair.1)
@@ -44,7 +47,8 @@ abbrev pub bracket_by_runs : List (ℕ × ℕ) → ℕ → List ℕ → ℕ → 
 bracket_by_runs pairs low [] c = first_bracket pairs c
 bracket_by_runs pairs low (end ∷ ends) c = if nat_lt c end then bracket_in_run low (end - 1) pairs c else bracket_by_runs pairs end ends c
 
-pub first_bracket-by_runs : (pairs : List (ℕ × ℕ)) (low : ℕ) (ends : List ℕ) (c : ℕ) → low ≤ c → first_bracket pairs c ≡ bracket_by_runs pairs low ends c
+pub first_bracket-by_runs : (pairs : List (ℕ × ℕ)) (low : ℕ) (ends : List ℕ) (c : ℕ) → low ≤ c
+    → first_bracket pairs c ≡ bracket_by_runs pairs low ends c
 first_bracket-by_runs pairs low [] c above = refl
 first_bracket-by_runs pairs low (end ∷ ends) c above =
     cond_both (nat_lt c end) (bracket_in_run low (end - 1) pairs c) (bracket_by_runs pairs end ends c) (λ b. first_bracket pairs c ≡ b)

@@ -1,5 +1,6 @@
 -- The brackets of the blocks, by steps.
-use Rattle.std.proofs.Common.{◌≡◌, ℕ, ◌+◌, ◌*◌, ◌%◌, ◌<◌, ◌≤◌, ◌==◌, nat_lt, List, [], ◌∷◌, if◌then◌else◌, Option, Some, zero, suc, arith, inl, inr, ◌∙◌}
+use Rattle.std.proofs.Common.{◌≡◌, ℕ, ◌+◌, ◌*◌, ◌%◌, ◌<◌, ◌≤◌, ◌==◌, nat_lt, List, [], ◌∷◌, if◌then◌else◌, Option, Some}
+use Rattle.std.proofs.Common.{zero, suc, arith, inl, inr, ◌∙◌}
 use Rattle.std.proofs.lemmas.Bool.{cases_lt}
 use Rattle.std.proofs.lemmas.Bool.Decides.{nat_tests}
 use Rattle.bidi_class.specs.declared.brackets.Bracket.{Bracket}
@@ -32,7 +33,8 @@ skipped : (low c : ℕ) (rest : Option Bracket) → low + 2 ≤ c → by_pair lo
 skipped low c rest later = grind (arith, nat_tests)
 
 -- in a row of pairs past U+232A an even number opens, by the next one
-pub alternating-even : (n low c : ℕ) → 0x232A < low → low % 2 ≡ 0 → low ≤ c → c < low + 2 * n → c % 2 ≡ 0 → first_bracket (alternating_pairs low n) c ≡ Some (Opens (c + 1))
+pub alternating-even : (n low c : ℕ) → 0x232A < low → low % 2 ≡ 0 → low ≤ c → c < low + 2 * n → c % 2 ≡ 0
+    → first_bracket (alternating_pairs low n) c ≡ Some (Opens (c + 1))
 unfolding alternating_pairs
 alternating-even zero low c past even above below h = absurd (omega arith)
 alternating-even (suc n) low c past even above below h =
@@ -44,7 +46,8 @@ alternating-even (suc n) low c past even above below h =
     ]
 
 -- in a row of pairs past U+232A an odd number closes
-pub alternating-odd : (n low c : ℕ) → 0x232A < low → low % 2 ≡ 0 → low ≤ c → c < low + 2 * n → c % 2 ≡ 1 → first_bracket (alternating_pairs low n) c ≡ Some (Closes c)
+pub alternating-odd : (n low c : ℕ) → 0x232A < low → low % 2 ≡ 0 → low ≤ c → c < low + 2 * n → c % 2 ≡ 1
+    → first_bracket (alternating_pairs low n) c ≡ Some (Closes c)
 unfolding alternating_pairs
 alternating-odd zero low c past even above below h = absurd (omega arith)
 alternating-odd (suc n) low c past even above below h =
@@ -89,7 +92,8 @@ symbols c above = first_bracket-by_runs bracket_pairs 0x2045 (ends symbol_steps)
 pub ruleset symbol_brackets = (nat_tests, symbols, alternating-even, alternating-odd)
 
 -- ASCII, and what lies between the blocks and past them
-pub below_symbols : (c : ℕ) → bracket c ≡ bracket_by_steps ((0x2045, (0x0028, 0x0029) ∷ (0x005B, 0x005D) ∷ (0x007B, 0x007D) ∷ []) ∷ []) c
+pub below_symbols : (c : ℕ)
+    → bracket c ≡ bracket_by_steps ((0x2045, (0x0028, 0x0029) ∷ (0x005B, 0x005D) ∷ (0x007B, 0x007D) ∷ []) ∷ []) c
 unfolding bracket
 below_symbols c = first_bracket-by_runs bracket_pairs 0 (0x2045 ∷ []) c (omega arith)
 

@@ -1,20 +1,26 @@
 -- What makes two characters of a text a pair, and how many PDIs an initiator is paired with.
-use Rattle.std.proofs.Common.{◌≡◌, ℕ, ◌+◌, ◌-◌, ◌<◌, ◌≤◌, Bool, true, false, ◌&&◌, ◌||◌, nat_lt, nat_le, inl, inr, zero, suc, List, length, take, drop, slice_index, slice_range, refl, sym, ap, subst, ◌∙◌, ⊎_elim, arith}
+use Rattle.std.proofs.Common.{◌≡◌, ℕ, ◌+◌, ◌-◌, ◌<◌, ◌≤◌, Bool, true, false, ◌&&◌, ◌||◌, nat_lt, nat_le, inl, inr, zero}
+use Rattle.std.proofs.Common.{suc, List, length, take, drop, slice_index, slice_range, refl, sym, ap, subst, ◌∙◌}
+use Rattle.std.proofs.Common.{⊎_elim, arith}
 use Rattle.std.specs.List.{list_any, list_all, range_with_len}
-use Rattle.std.proofs.lemmas.Bool.{and_parts, and_from, or_cases, or_left, or_right, lt-ltb, ltb-true, eqb-true, le-leb, leb-true, both_ways, cases_lt}
+use Rattle.std.proofs.lemmas.Bool.{and_parts, and_from, or_cases, or_left, or_right, lt-ltb, ltb-true, eqb-true, le-leb}
+use Rattle.std.proofs.lemmas.Bool.{leb-true, both_ways, cases_lt}
 use Rattle.std.proofs.lemmas.List.{drop-take, get_or-drop, get_or_past, length-drop, length-take-le, take-take}
 use Rattle.std.proofs.lemmas.List.Sums.{count_by_more_yes, count_by_more_no}
 use Rattle.bidi_class.specs.declared.class.Class.{Class}
 use Rattle.bidi_class.specs.declared.class.Class.TheVariants.{PDI}
 use Rattle.bidi_class.specs.Class.{begins_isolate, bidi_class}
-use Rattle.bidi_class.specs.Pairs.{ends_isolate, is_initiator, is_closing, initiators, closings, is_even, is_led, is_pair}
+use Rattle.bidi_class.specs.Pairs.{ends_isolate, is_initiator, is_closing, initiators, closings, is_even, is_led}
+use Rattle.bidi_class.specs.Pairs.{is_pair}
 
 -- each number of a range passes, or some number does
-pub list_all-range : (p : ℕ → Bool) (a n : ℕ) → ((k : ℕ) → a ≤ k → k < a + n → p k ≡ true) → list_all p (range_with_len a n) ≡ true
+pub list_all-range : (p : ℕ → Bool) (a n : ℕ) → ((k : ℕ) → a ≤ k → k < a + n → p k ≡ true)
+    → list_all p (range_with_len a n) ≡ true
 list_all-range p a zero all = refl
 list_all-range p a (suc n) all = and_from _ _ (all a (omega arith) (omega arith)) (list_all-range p (a + 1) n (λ k low high. all k (omega arith) (omega arith)))
 
-pub range-list_all : (p : ℕ → Bool) (a n k : ℕ) → list_all p (range_with_len a n) ≡ true → a ≤ k → k < a + n → p k ≡ true
+pub range-list_all : (p : ℕ → Bool) (a n k : ℕ) → list_all p (range_with_len a n) ≡ true → a ≤ k → k < a + n
+    → p k ≡ true
 range-list_all p a zero k h low high = absurd (omega arith)
 range-list_all p a (suc n) k h low high =
     let parts = and_parts (p a) (list_all p (range_with_len (a + 1) n)) h in
@@ -23,7 +29,8 @@ range-list_all p a (suc n) k h low high =
       | inr here ↦ let same : a ≡ k = omega arith in subst (λ m. p m ≡ true) same parts.0
     ]
 
-pub list_any-range : (p : ℕ → Bool) (a n k : ℕ) → a ≤ k → k < a + n → p k ≡ true → list_any p (range_with_len a n) ≡ true
+pub list_any-range : (p : ℕ → Bool) (a n k : ℕ) → a ≤ k → k < a + n → p k ≡ true
+    → list_any p (range_with_len a n) ≡ true
 list_any-range p a zero k low high h = absurd (omega arith)
 list_any-range p a (suc n) k low high h =
     elim (cases_lt a k) [
@@ -31,7 +38,8 @@ list_any-range p a (suc n) k low high h =
       | inr here ↦ let same : k ≡ a = omega arith in or_left _ _ (subst (λ m. p m ≡ true) same h)
     ]
 
-pub range-list_any : (p : ℕ → Bool) (a n : ℕ) → list_any p (range_with_len a n) ≡ true → (k : ℕ) × (k < a + n) × (p k ≡ true)
+pub range-list_any : (p : ℕ → Bool) (a n : ℕ) → list_any p (range_with_len a n) ≡ true
+    → (k : ℕ) × (k < a + n) × (p k ≡ true)
 range-list_any p a zero h = absurd (both_ways false refl h)
 range-list_any p a (suc n) h =
     elim (or_cases (p a) (list_any p (range_with_len (a + 1) n)) h) [
@@ -40,7 +48,8 @@ range-list_any p a (suc n) h =
     ]
 
 -- each prefix holds as many initiators as PDIs at least
-pub led_from : (cs : List ℕ) → ((n : ℕ) → n ≤ length cs → closings (take n cs) ≤ initiators (take n cs)) → is_led cs ≡ true
+pub led_from : (cs : List ℕ) → ((n : ℕ) → n ≤ length cs → closings (take n cs) ≤ initiators (take n cs))
+    → is_led cs ≡ true
 led_from cs led = list_all-range _ 0 (length cs + 1) (λ k low high. le-leb _ _ (led k (omega arith)))
 
 pub from_led : (cs : List ℕ) (n : ℕ) → is_led cs ≡ true → n ≤ length cs → closings (take n cs) ≤ initiators (take n cs)
@@ -70,13 +79,15 @@ is_pair-from text first second pair =
     and_from _ _ (and_from _ _ (and_from _ _ (lt-ltb first second pair.ordered) pair.opening) pair.closing) (and_from _ _ pair.even pair.led)
 
 -- the text between two offsets, from the first and up to the second
-pub between_from : (text : List ℕ) (first second n : ℕ) → second ≡ suc first + n → slice_range text (first + 1) second ≡ take n (drop (suc first) text)
+pub between_from : (text : List ℕ) (first second n : ℕ) → second ≡ suc first + n
+    → slice_range text (first + 1) second ≡ take n (drop (suc first) text)
 between_from text first second n at =
     let count : second - (first + 1) ≡ n = omega arith in
     let next : first + 1 ≡ suc first = omega arith in
     ap (λ k. take k (drop (first + 1) text)) count ∙ ap (λ k. take n (drop k text)) next
 
-pub between_until : (text : List ℕ) (first second : ℕ) → first < second → slice_range text (first + 1) second ≡ drop (suc first) (take second text)
+pub between_until : (text : List ℕ) (first second : ℕ) → first < second
+    → slice_range text (first + 1) second ≡ drop (suc first) (take second text)
 between_until text first second ordered =
     let n : ℕ = second - suc first in
     let at : second ≡ suc first + n = omega arith in
@@ -103,7 +114,8 @@ closing_within text index closing =
     (cases_lt index (length text))
 
 -- the nearer of two PDIs that are paired with an initiator leaves no initiator open for the other
-no_later : (text : List ℕ) (first second other : ℕ) → IsPair text first second → IsPair text first other → second < other → ⊥
+no_later : (text : List ℕ) (first second other : ℕ) → IsPair text first second → IsPair text first other
+    → second < other → ⊥
 no_later text first second other pair later before =
     let rest : List ℕ = drop (suc first) text in
     let n : ℕ = second - suc first in
@@ -127,7 +139,8 @@ no_later text first second other pair later before =
     subst (λ cs. closings cs ≤ initiators cs) (take-take (n + 1) m rest short) (from_led (take m rest) (n + 1) led (omega (arith, m_long, short))) in
     omega (arith, even, one_more, no_more, prefix)
 
-pub one_closing : (text : List ℕ) (first second other : ℕ) → is_pair text first second ≡ true → is_pair text first other ≡ true → second ≡ other
+pub one_closing : (text : List ℕ) (first second other : ℕ) → is_pair text first second ≡ true
+    → is_pair text first other ≡ true → second ≡ other
 one_closing text first second other pair later =
     let one = is_pair-parts text first second pair in
     let two = is_pair-parts text first other later in

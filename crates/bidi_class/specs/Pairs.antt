@@ -4,9 +4,10 @@
 -- as many initiators as PDIs, and each prefix of that text holds at least as many initiators as PDIs. In other words,
 -- a PDI matches the nearest initiator before it that is still open.
 --
--- In RLI, `a`, LRI, `b`, PDI, PDI, PDI the pairs are the characters 2 and 4, and 0 and 5, counted from 0. The last PDI is
--- in no pair.
-use Rattle.std.specs.Prelude.{ℕ, ◌+◌, Bool, true, false, ◌==◌, ◌&&◌, ◌||◌, nat_lt, nat_le, List, take, length, slice_index, slice_range, count_by}
+-- In RLI, `a`, LRI, `b`, PDI, PDI, PDI the pairs are the characters 2 and 4, and 0 and 5, counted from 0. The last PDI
+-- is in no pair.
+use Rattle.std.specs.Prelude.{ℕ, ◌+◌, Bool, true, false, ◌==◌, ◌&&◌, ◌||◌, nat_lt, nat_le, List, take, length}
+use Rattle.std.specs.Prelude.{slice_index, slice_range, count_by}
 use Rattle.std.specs.List.{list_any, list_all, range_with_len}
 use Rattle.bidi_class.specs.declared.class.Class.{Class}
 use Rattle.bidi_class.specs.declared.class.Class.TheVariants.{PDI}

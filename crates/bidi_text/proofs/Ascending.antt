@@ -1,5 +1,6 @@
 -- The bytes of what is left out of a text ascend.
-use Rattle.std.proofs.Common.{◌≡◌, ℕ, ◌+◌, ◌<◌, true, false, zero, suc, inl, inr, List, [], ◌∷◌, ◌++◌, length, slice_index, sym, subst, encode_utf8_all, arith}
+use Rattle.std.proofs.Common.{◌≡◌, ℕ, ◌+◌, ◌<◌, true, false, zero, suc, inl, inr, List, [], ◌∷◌, ◌++◌, length}
+use Rattle.std.proofs.Common.{slice_index, sym, subst, encode_utf8_all, arith}
 use Rattle.std.specs.List.Sorted.{IsStrictlyIncreasing}
 use Rattle.std.proofs.lemmas.Bool.{cases_Bool}
 use Rattle.std.proofs.lemmas.Str.{length-encode, len_utf8_bounds}
@@ -8,7 +9,8 @@ use Rattle.bidi_text.proofs.CleanedSoFar.{HeadFrom, left_out, left_out-cons, lef
 use Rattle.bidi_text.proofs.LoneBytes.{prefix_byte-snoc}
 
 -- a smaller number before numbers that ascend
-increasing-cons : (n low : ℕ) (ns : List ℕ) → n < low → HeadFrom low ns → IsStrictlyIncreasing ns → IsStrictlyIncreasing (n ∷ ns)
+increasing-cons : (n low : ℕ) (ns : List ℕ) → n < low → HeadFrom low ns → IsStrictlyIncreasing ns
+    → IsStrictlyIncreasing (n ∷ ns)
 increasing-cons n low [] below from rise k h = absurd (omega arith)
 increasing-cons n low (m ∷ ns) below from rise zero h = omega arith
 increasing-cons n low (m ∷ ns) below from rise (suc k) h =

@@ -1,5 +1,7 @@
 -- What was cleaned of a text so far, and what is left to clean.
-use Rattle.std.proofs.Common.{◌≡◌, ℕ, ◌+◌, ◌≤◌, Bool, true, false, List, [], ◌∷◌, ◌++◌, length, refl, sym, ap, subst, ◌∙◌, if◌then◌else◌, append-nil, append_assoc, length-append, encode_utf8, encode_utf8_all, inl, inr, arith}
+use Rattle.std.proofs.Common.{◌≡◌, ℕ, ◌+◌, ◌≤◌, Bool, true, false, List, [], ◌∷◌, ◌++◌, length, refl, sym, ap, subst}
+use Rattle.std.proofs.Common.{◌∙◌, if◌then◌else◌, append-nil, append_assoc, length-append, encode_utf8, encode_utf8_all}
+use Rattle.std.proofs.Common.{inl, inr, arith}
 use Rattle.std.specs.List.{flat_map, enumerate_from}
 use Rattle.std.specs.Str.{IsUtf8, chars}
 use Rattle.std.proofs.lemmas.Bool.{cases_Bool}
@@ -22,14 +24,16 @@ HeadFrom low [] = Unit {0}
 HeadFrom low (n ∷ ns) = low ≤ n
 
 -- the same by one more character
-pub left_out-cons : (prefix : List ℕ) (c : ℕ) (cs : List ℕ) (flag : Bool) → is_dropped (prefix ++ (c ∷ cs)) (length prefix, c) ≡ flag
+pub left_out-cons : (prefix : List ℕ) (c : ℕ) (cs : List ℕ) (flag : Bool)
+    → is_dropped (prefix ++ (c ∷ cs)) (length prefix, c) ≡ flag
     → left_out prefix (c ∷ cs) ≡ (if flag then length (encode_utf8_all prefix) ∷ [] else []) ++ left_out (prefix ++ c ∷ []) cs
 left_out-cons prefix c cs flag is =
     ap (λ l. l ++ flat_map (dropped_byte (prefix ++ (c ∷ cs))) (enumerate_from (length prefix + 1) cs)) (dropped_byte_is prefix c cs flag is)
     ∙ ap (λ n. (if flag then length (encode_utf8_all prefix) ∷ [] else []) ++ flat_map (dropped_byte (prefix ++ (c ∷ cs))) (enumerate_from n cs)) (sym (length-append prefix (c ∷ [])))
     ∙ ap (λ t. (if flag then length (encode_utf8_all prefix) ∷ [] else []) ++ flat_map (dropped_byte t) (enumerate_from (length (prefix ++ c ∷ [])) cs)) (sym (append_assoc prefix (c ∷ []) cs))
 
-pub left_clean-cons : (prefix : List ℕ) (c : ℕ) (cs : List ℕ) (flag : Bool) → is_dropped (prefix ++ (c ∷ cs)) (length prefix, c) ≡ flag
+pub left_clean-cons : (prefix : List ℕ) (c : ℕ) (cs : List ℕ) (flag : Bool)
+    → is_dropped (prefix ++ (c ∷ cs)) (length prefix, c) ≡ flag
     → left_clean prefix (c ∷ cs) ≡ (if flag then [] else spaced c ∷ []) ++ left_clean (prefix ++ c ∷ []) cs
 left_clean-cons prefix c cs flag is =
     ap (λ t. (if t then [] else spaced c ∷ []) ++ flat_map (cleaned_character (prefix ++ (c ∷ cs))) (enumerate_from (length prefix + 1) cs)) is
@@ -62,7 +66,8 @@ pub record CleanedSoFar (offsets : List ℕ) (cleaned : List ℕ) (at : ℕ) (re
   pub bounded : at + length rest ≡ length text
 
 -- what follows the same prefix is the same
-same_after : (flag : Bool) (n : ℕ) (xs ys : List ℕ) → (if flag then n ∷ [] else []) ++ xs ≡ (if flag then n ∷ [] else []) ++ ys → xs ≡ ys
+same_after : (flag : Bool) (n : ℕ) (xs ys : List ℕ)
+    → (if flag then n ∷ [] else []) ++ xs ≡ (if flag then n ∷ [] else []) ++ ys → xs ≡ ys
 same_after true n xs ys e = cc
 same_after false n xs ys e = e
 
@@ -121,7 +126,8 @@ module _ {offsets cleaned : List ℕ} {at next c : ℕ} {bytes rest text : List 
       ]
 
 -- all is cleaned where nothing is left
-pub cleaned_end : {offsets cleaned : List ℕ} {at : ℕ} {rest text : List ℕ} → CleanedSoFar offsets cleaned at rest text → length rest ≡ 0 → cleaned ≡ cleaned_text (chars text)
+pub cleaned_end : {offsets cleaned : List ℕ} {at : ℕ} {rest text : List ℕ} → CleanedSoFar offsets cleaned at rest text
+    → length rest ≡ 0 → cleaned ≡ cleaned_text (chars text)
 cleaned_end {offsets} {cleaned} {at} {rest} {text} so_far none =
     let no_chars : chars rest ≡ [] = ap chars (nil_from_length rest none) ∙ chars-nil in
     sym (append-nil cleaned) ∙ ap (λ cs. cleaned ++ left_clean so_far.prefix cs) (sym no_chars) ∙ so_far.cleans

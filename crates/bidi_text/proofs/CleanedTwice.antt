@@ -1,6 +1,9 @@
 -- A cleaned text has no lone isolate control, so cleaning it changes nothing.
-use Rattle.std.proofs.Common.{◌≡◌, ℕ, ◌+◌, ◌-◌, ◌<◌, min, true, false, ◌&&◌, not, nat_lt, zero, suc, inl, inr, List, [], ◌∷◌, ◌++◌, length, map, slice_index, refl, sym, ap, subst, ◌∙◌, append_assoc, length-append, arith}
-use Rattle.std.proofs.lemmas.Bool.{cond-true, cond-false, cases_Bool, cases_lt, both_ways, lt-ltb, le-ltb, ne_eqb, not-false}
+use Rattle.std.proofs.Common.{◌≡◌, ℕ, ◌+◌, ◌-◌, ◌<◌, min, true, false, ◌&&◌, not, nat_lt, zero, suc, inl, inr, List, []}
+use Rattle.std.proofs.Common.{◌∷◌, ◌++◌, length, map, slice_index, refl, sym, ap, subst, ◌∙◌, append_assoc}
+use Rattle.std.proofs.Common.{length-append, arith}
+use Rattle.std.proofs.lemmas.Bool.{cond-true, cond-false, cases_Bool, cases_lt, both_ways, lt-ltb, le-ltb, ne_eqb}
+use Rattle.std.proofs.lemmas.Bool.{not-false}
 use Rattle.std.proofs.lemmas.List.{nil_from_length}
 use Rattle.bidi_class.specs.declared.class.Class.{Class}
 use Rattle.bidi_class.specs.declared.class.Class.TheVariants.{B, S}
@@ -10,7 +13,11 @@ use Rattle.bidi_text.specs.Clean.{cleaned_text, dropped_bytes, is_dropped, is_is
 use Rattle.bidi_text.proofs.CleanedSoFar.{left_clean, left_clean-cons, left_out, left_out-cons}
 use Rattle.bidi_text.proofs.Isolates.{first, lone_closings, lone_initiators}
 use Rattle.bidi_text.proofs.Isolates.First.{BeginsLone, BeginsMatched, EndsOne, StaysOut}
-use Rattle.bidi_text.proofs.LoneBytes.{dropped_begins, dropped_bytes-lone_bytes, dropped_ends, dropped_stays, length-lone_closing_bytes, length-lone_initiator_bytes, lone_closing_bytes, lone_closings-begins, lone_closings-ends, lone_closings-stays, lone_initiator_bytes, lone_initiators-begins, lone_initiators-ends, lone_initiators-stays}
+use Rattle.bidi_text.proofs.LoneBytes.{dropped_begins, dropped_bytes-lone_bytes, dropped_ends, dropped_stays}
+use Rattle.bidi_text.proofs.LoneBytes.{length-lone_closing_bytes, length-lone_initiator_bytes, lone_closing_bytes}
+use Rattle.bidi_text.proofs.LoneBytes.{lone_closings-begins, lone_closings-ends, lone_closings-stays}
+use Rattle.bidi_text.proofs.LoneBytes.{lone_initiator_bytes, lone_initiators-begins, lone_initiators-ends}
+use Rattle.bidi_text.proofs.LoneBytes.{lone_initiators-stays}
 
 -- a class that begins or ends an isolate is no separator
 begins_apart : (k : Class) → begins_isolate k ≡ true → is_separator k ≡ false
@@ -44,7 +51,8 @@ unfolding bidi_class
 space_separates = refl
 
 -- a character with its separators made spaces does what it did to isolates
-spaced-stays : (c : ℕ) → is_initiator c ≡ false → is_closing c ≡ false → (is_initiator (spaced c) ≡ false) × (is_closing (spaced c) ≡ false)
+spaced-stays : (c : ℕ) → is_initiator c ≡ false → is_closing c ≡ false
+    → (is_initiator (spaced c) ≡ false) × (is_closing (spaced c) ≡ false)
 spaced-stays c b e =
     elim (cases_Bool (is_separator (bidi_class c))) [
       | inl separates ↦ let space : spaced c ≡ 32 = cond-true _ _ _ separates in (ap is_initiator space ∙ space_begins, ap is_closing space ∙ space_ends)
@@ -59,7 +67,8 @@ spaced-spaced c =
       | inr other ↦ let same : spaced c ≡ c = cond-false _ _ _ other in ap spaced same
     ]
 
--- what is cleaned from a character on: its lone PDIs are those that close initiators before it, and no initiator is lone
+-- what is cleaned from a character on: its lone PDIs are those that close initiators before it, and no initiator is
+-- lone
 pub record Paired (begun : ℕ) (cs cleaned : List ℕ) : Type 0 where
   pub closings_are : lone_closings cleaned ≡ min begun (lone_closings cs)
   pub initiators_are : lone_initiators cleaned ≡ 0
@@ -156,7 +165,8 @@ pub cleaned_text-cleaned_text : (text : List ℕ) → cleaned_text (cleaned_text
 cleaned_text-cleaned_text text = left_clean-kept [] (cleaned_text text) (dropped_bytes-cleaned text) ∙ map-spaced [] text
 
 -- where nothing is left out, each isolate control is in a pair
-controls_paired : (prefix cs : List ℕ) (n : ℕ) → left_out prefix cs ≡ [] → n < length cs → is_isolate_control (slice_index cs n) ≡ true → is_in_pair (prefix ++ cs) (length prefix + n) ≡ true
+controls_paired : (prefix cs : List ℕ) (n : ℕ) → left_out prefix cs ≡ [] → n < length cs
+    → is_isolate_control (slice_index cs n) ≡ true → is_in_pair (prefix ++ cs) (length prefix + n) ≡ true
 controls_paired prefix [] n none within control = absurd (omega arith)
 controls_paired prefix (c ∷ cs) zero none within control =
     let text : List ℕ = prefix ++ (c ∷ cs) in
@@ -170,7 +180,8 @@ controls_paired prefix (c ∷ cs) (suc n) none within control =
     subst (λ k. is_in_pair (prefix ++ (c ∷ cs)) k ≡ true) at (subst (λ t. is_in_pair t (length (prefix ++ c ∷ []) + n) ≡ true) (append_assoc prefix (c ∷ []) cs) later)
 
 -- each isolate control of a cleaned text is in a pair
-pub cleaned_text-paired : (text : List ℕ) (index : ℕ) → index < length (cleaned_text text) → is_isolate_control (slice_index (cleaned_text text) index) ≡ true → is_in_pair (cleaned_text text) index ≡ true
+pub cleaned_text-paired : (text : List ℕ) (index : ℕ) → index < length (cleaned_text text)
+    → is_isolate_control (slice_index (cleaned_text text) index) ≡ true → is_in_pair (cleaned_text text) index ≡ true
 cleaned_text-paired text index within control =
     let at : 0 + index ≡ index = omega arith in
     subst (λ n. is_in_pair (cleaned_text text) n ≡ true) at (controls_paired [] (cleaned_text text) index (dropped_bytes-cleaned text) within control)

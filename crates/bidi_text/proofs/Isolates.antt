@@ -1,5 +1,6 @@
 -- Counts of isolate controls that match nothing in a text, and where a match is.
-use Rattle.std.proofs.Common.{◌≡◌, ℕ, ◌+◌, ◌-◌, ◌<◌, ◌≤◌, true, false, ◌==◌, ◌⊎◌, inl, inr, zero, suc, List, [], ◌∷◌, length, take, drop, slice_index, refl, ap, ◌∙◌, if◌then◌else◌, cond, arith}
+use Rattle.std.proofs.Common.{◌≡◌, ℕ, ◌+◌, ◌-◌, ◌<◌, ◌≤◌, true, false, ◌==◌, ◌⊎◌, inl, inr, zero, suc, List, [], ◌∷◌}
+use Rattle.std.proofs.Common.{length, take, drop, slice_index, refl, ap, ◌∙◌, if◌then◌else◌, cond, arith}
 use Rattle.std.proofs.lemmas.Bool.{cond-true, cond-false, cases_lt, ne_eqb, eq-eqb, both_ways}
 use Rattle.std.proofs.lemmas.List.Sums.{sum_by-cons, count_by_more_yes, count_by_more_no}
 use Rattle.bidi_class.specs.declared.class.Class.{Class}
@@ -13,7 +14,9 @@ pub data Role (c : ℕ) : Type 0 where
   Ends : is_initiator c ≡ false → is_closing c ≡ true → Role c
   Stays : is_initiator c ≡ false → is_closing c ≡ false → Role c
 
-class_role : (k : Class) → ((begins_isolate k ≡ true) × (ends_isolate k ≡ false)) ⊎ (((begins_isolate k ≡ false) × (ends_isolate k ≡ true)) ⊎ ((begins_isolate k ≡ false) × (ends_isolate k ≡ false)))
+class_role : (k : Class)
+    → ((begins_isolate k ≡ true) × (ends_isolate k ≡ false)) ⊎
+    (((begins_isolate k ≡ false) × (ends_isolate k ≡ true)) ⊎ ((begins_isolate k ≡ false) × (ends_isolate k ≡ false)))
 class_role LRI = inl (refl, refl)
 class_role RLI = inl (refl, refl)
 class_role FSI = inl (refl, refl)
@@ -113,7 +116,8 @@ closings-take-le (c ∷ cs) (suc n) =
     ]
 
 -- where no prefix holds more by more than some number, no more are lone
-pub lone_closings-le : (cs : List ℕ) (d : ℕ) → ((n : ℕ) → n ≤ length cs → closings (take n cs) ≤ initiators (take n cs) + d) → lone_closings cs ≤ d
+pub lone_closings-le : (cs : List ℕ) (d : ℕ)
+    → ((n : ℕ) → n ≤ length cs → closings (take n cs) ≤ initiators (take n cs) + d) → lone_closings cs ≤ d
 lone_closings-le [] d led = omega arith
 lone_closings-le (c ∷ cs) d led =
     elim (first c cs) [
@@ -141,7 +145,8 @@ pub record ClosesAt (cs : List ℕ) (d index : ℕ) : Type 0 where
   pub led : (n : ℕ) → n ≤ index → closings (take n cs) ≤ initiators (take n cs) + d
 
 -- the same with one more character before the text
-closes_later : (c : ℕ) (cs : List ℕ) (d d' index begun ended lone_ends lone_begins : ℕ) → Counts c cs begun ended lone_ends lone_begins → d' + ended ≡ d + begun
+closes_later : (c : ℕ) (cs : List ℕ) (d d' index begun ended lone_ends lone_begins : ℕ)
+    → Counts c cs begun ended lone_ends lone_begins → d' + ended ≡ d + begun
     → ClosesAt cs d' index → ClosesAt (c ∷ cs) d (suc index)
 closes_later c cs d d' index begun ended lone_ends lone_begins counts same at = record {
   within = omega (arith, at.within);

@@ -1,7 +1,11 @@
 -- Where the isolate controls of a text begin that match nothing in it.
-use Rattle.std.proofs.Common.{◌≡◌, ℕ, ◌+◌, ◌-◌, ◌<◌, Bool, true, false, ◌==◌, ◌&&◌, not, nat_lt, inl, inr, zero, suc, List, [], ◌∷◌, ◌++◌, length, take, drop, slice_index, refl, sym, ap, subst, ◌∙◌, if◌then◌else◌, cond, append-nil, append_assoc, length-append, encode_utf8, encode_utf8_all, arith}
+use Rattle.std.proofs.Common.{◌≡◌, ℕ, ◌+◌, ◌-◌, ◌<◌, Bool, true, false, ◌==◌, ◌&&◌, not, nat_lt, inl, inr, zero, suc}
+use Rattle.std.proofs.Common.{List, [], ◌∷◌, ◌++◌, length, take, drop, slice_index, refl, sym, ap, subst, ◌∙◌}
+use Rattle.std.proofs.Common.{if◌then◌else◌, cond, append-nil, append_assoc, length-append, encode_utf8}
+use Rattle.std.proofs.Common.{encode_utf8_all, arith}
 use Rattle.std.specs.List.{flat_map, enumerate_from}
-use Rattle.std.proofs.lemmas.Bool.{cond-true, cond-false, cases_lt, ne_eqb, eq-eqb, both_ways, lt-ltb, le-ltb, or_left, or_right, or_from}
+use Rattle.std.proofs.lemmas.Bool.{cond-true, cond-false, cases_lt, ne_eqb, eq-eqb, both_ways, lt-ltb, le-ltb, or_left}
+use Rattle.std.proofs.lemmas.Bool.{or_right, or_from}
 use Rattle.std.proofs.lemmas.List.{drop-drop, length-drop, nil_from_length}
 use Rattle.std.proofs.lemmas.Str.{encodes-append}
 use Rattle.std.proofs.lemmas.List.Sums.{sum_by-append}
@@ -32,10 +36,12 @@ lone_initiator_bytes at (c ∷ cs) =
 pub lone_closings-begins : (c : ℕ) (cs : List ℕ) → is_initiator c ≡ true → lone_closings (c ∷ cs) ≡ lone_closings cs - 1
 lone_closings-begins c cs b = cond-true _ _ _ b
 
-pub lone_closings-ends : (c : ℕ) (cs : List ℕ) → is_initiator c ≡ false → is_closing c ≡ true → lone_closings (c ∷ cs) ≡ lone_closings cs + 1
+pub lone_closings-ends : (c : ℕ) (cs : List ℕ) → is_initiator c ≡ false → is_closing c ≡ true
+    → lone_closings (c ∷ cs) ≡ lone_closings cs + 1
 lone_closings-ends c cs b e = cond-false _ _ _ b ∙ cond-true _ _ _ e
 
-pub lone_closings-stays : (c : ℕ) (cs : List ℕ) → is_initiator c ≡ false → is_closing c ≡ false → lone_closings (c ∷ cs) ≡ lone_closings cs
+pub lone_closings-stays : (c : ℕ) (cs : List ℕ) → is_initiator c ≡ false → is_closing c ≡ false
+    → lone_closings (c ∷ cs) ≡ lone_closings cs
 lone_closings-stays c cs b e = cond-false _ _ _ b ∙ cond-false _ _ _ e
 
 -- there are as many such bytes as lone PDIs
@@ -66,7 +72,8 @@ length-lone_initiator_bytes at (c ∷ cs) =
     ]
 
 -- a character at the end that closes nothing leaves the lone PDIs as they are
-lone_closings-snoc : (prefix : List ℕ) (c : ℕ) → is_closing c ≡ false → lone_closings (prefix ++ c ∷ []) ≡ lone_closings prefix
+lone_closings-snoc : (prefix : List ℕ) (c : ℕ) → is_closing c ≡ false
+    → lone_closings (prefix ++ c ∷ []) ≡ lone_closings prefix
 lone_closings-snoc [] c e = elim (role c) [ Begins b h ↦ lone_closings-begins c [] b | Ends b h ↦ absurd (both_ways _ e h) | Stays b h ↦ lone_closings-stays c [] b h ]
 lone_closings-snoc (f ∷ prefix) c e =
     let rest = lone_closings-snoc prefix c e in
@@ -77,7 +84,8 @@ lone_closings-snoc (f ∷ prefix) c e =
     ]
 
 -- a PDI at the end is lone where no initiator is
-lone_closings-snoc_ends : (prefix : List ℕ) (c : ℕ) → is_initiator c ≡ false → is_closing c ≡ true → lone_closings (prefix ++ c ∷ []) ≡ lone_closings prefix + (1 - lone_initiators prefix)
+lone_closings-snoc_ends : (prefix : List ℕ) (c : ℕ) → is_initiator c ≡ false → is_closing c ≡ true
+    → lone_closings (prefix ++ c ∷ []) ≡ lone_closings prefix + (1 - lone_initiators prefix)
 lone_closings-snoc_ends [] c b e = lone_closings-ends c [] b e
 lone_closings-snoc_ends (f ∷ prefix) c b e =
     let rest = lone_closings-snoc_ends prefix c b e in
@@ -95,25 +103,29 @@ initiators-snoc prefix c = sum_by-append (λ (x : ℕ). cond (is_initiator x) 1 
 closings-snoc : (prefix : List ℕ) (c : ℕ) → closings (prefix ++ c ∷ []) ≡ closings prefix + closings (c ∷ [])
 closings-snoc prefix c = sum_by-append (λ (x : ℕ). cond (is_closing x) 1 0) prefix (c ∷ [])
 
-pub lone_initiators-begins : (prefix : List ℕ) (c : ℕ) → is_initiator c ≡ true → is_closing c ≡ false → lone_initiators (prefix ++ c ∷ []) ≡ lone_initiators prefix + 1
+pub lone_initiators-begins : (prefix : List ℕ) (c : ℕ) → is_initiator c ≡ true → is_closing c ≡ false
+    → lone_initiators (prefix ++ c ∷ []) ≡ lone_initiators prefix + 1
 lone_initiators-begins prefix c b e =
     let one : initiators (c ∷ []) ≡ 1 = ap (λ t. 0 + cond t 1 0) b in
     let none : closings (c ∷ []) ≡ 0 = ap (λ t. 0 + cond t 1 0) e in
     omega (arith, initiators-closings (prefix ++ c ∷ []), initiators-closings prefix, initiators-snoc prefix c, closings-snoc prefix c, lone_closings-snoc prefix c e)
 
-pub lone_initiators-ends : (prefix : List ℕ) (c : ℕ) → is_initiator c ≡ false → is_closing c ≡ true → lone_initiators (prefix ++ c ∷ []) ≡ lone_initiators prefix - 1
+pub lone_initiators-ends : (prefix : List ℕ) (c : ℕ) → is_initiator c ≡ false → is_closing c ≡ true
+    → lone_initiators (prefix ++ c ∷ []) ≡ lone_initiators prefix - 1
 lone_initiators-ends prefix c b e =
     let none : initiators (c ∷ []) ≡ 0 = ap (λ t. 0 + cond t 1 0) b in
     let one : closings (c ∷ []) ≡ 1 = ap (λ t. 0 + cond t 1 0) e in
     omega (arith, initiators-closings (prefix ++ c ∷ []), initiators-closings prefix, initiators-snoc prefix c, closings-snoc prefix c, lone_closings-snoc_ends prefix c b e)
 
-pub lone_initiators-stays : (prefix : List ℕ) (c : ℕ) → is_initiator c ≡ false → is_closing c ≡ false → lone_initiators (prefix ++ c ∷ []) ≡ lone_initiators prefix
+pub lone_initiators-stays : (prefix : List ℕ) (c : ℕ) → is_initiator c ≡ false → is_closing c ≡ false
+    → lone_initiators (prefix ++ c ∷ []) ≡ lone_initiators prefix
 lone_initiators-stays prefix c b e =
     let none : initiators (c ∷ []) ≡ 0 = ap (λ t. 0 + cond t 1 0) b in
     let no_end : closings (c ∷ []) ≡ 0 = ap (λ t. 0 + cond t 1 0) e in
     omega (arith, initiators-closings (prefix ++ c ∷ []), initiators-closings prefix, initiators-snoc prefix c, closings-snoc prefix c, lone_closings-snoc prefix c e)
 
--- what is left out of a text from a character on: the PDIs that are lone and find no initiator open before, and the lone initiators
+-- what is left out of a text from a character on: the PDIs that are lone and find no initiator open before, and the
+-- lone initiators
 abbrev pub lone_bytes : ℕ → ℕ → List ℕ → List ℕ
 lone_bytes begun at cs = drop begun (lone_closing_bytes at cs) ++ lone_initiator_bytes at cs
 
@@ -127,14 +139,16 @@ after_seam [] c cs = refl
 after_seam (f ∷ prefix) c cs = after_seam prefix c cs
 
 -- whether the character after a prefix is left out
-pub dropped_begins : (prefix : List ℕ) (c : ℕ) (cs : List ℕ) → is_initiator c ≡ true → is_dropped (prefix ++ (c ∷ cs)) (length prefix, c) ≡ not (nat_lt 0 (lone_closings cs))
+pub dropped_begins : (prefix : List ℕ) (c : ℕ) (cs : List ℕ) → is_initiator c ≡ true
+    → is_dropped (prefix ++ (c ∷ cs)) (length prefix, c) ≡ not (nat_lt 0 (lone_closings cs))
 dropped_begins prefix c cs b =
     let text : List ℕ = prefix ++ (c ∷ cs) in
     let opening : is_initiator (slice_index text (length prefix)) ≡ true = subst (λ x. is_initiator x ≡ true) (sym (at_seam prefix c cs)) b in
     ap (λ t. t && not (is_in_pair text (length prefix))) (or_left (is_initiator c) (is_closing c) b)
     ∙ ap not (is_in_pair-initiator text (length prefix) opening) ∙ ap (λ rest. not (nat_lt 0 (lone_closings rest))) (after_seam prefix c cs)
 
-pub dropped_ends : (prefix : List ℕ) (c : ℕ) (cs : List ℕ) → is_initiator c ≡ false → is_closing c ≡ true → is_dropped (prefix ++ (c ∷ cs)) (length prefix, c) ≡ not (nat_lt 0 (lone_initiators prefix))
+pub dropped_ends : (prefix : List ℕ) (c : ℕ) (cs : List ℕ) → is_initiator c ≡ false → is_closing c ≡ true
+    → is_dropped (prefix ++ (c ∷ cs)) (length prefix, c) ≡ not (nat_lt 0 (lone_initiators prefix))
 dropped_ends prefix c cs b e =
     let text : List ℕ = prefix ++ (c ∷ cs) in
     let closing : is_closing (slice_index text (length prefix)) ≡ true = subst (λ x. is_closing x ≡ true) (sym (at_seam prefix c cs)) e in
@@ -142,7 +156,8 @@ dropped_ends prefix c cs b e =
     ap (λ t. t && not (is_in_pair text (length prefix))) (or_right (is_initiator c) (is_closing c) e)
     ∙ ap not (is_in_pair-closing text (length prefix) within closing) ∙ ap (λ before. not (nat_lt 0 (lone_initiators before))) (take-append_seam prefix (c ∷ cs))
 
-pub dropped_stays : (prefix : List ℕ) (c : ℕ) (cs : List ℕ) → is_initiator c ≡ false → is_closing c ≡ false → is_dropped (prefix ++ (c ∷ cs)) (length prefix, c) ≡ false
+pub dropped_stays : (prefix : List ℕ) (c : ℕ) (cs : List ℕ) → is_initiator c ≡ false → is_closing c ≡ false
+    → is_dropped (prefix ++ (c ∷ cs)) (length prefix, c) ≡ false
 dropped_stays prefix c cs b e = ap (λ t. t && not (is_in_pair (prefix ++ (c ∷ cs)) (length prefix))) (or_from (is_initiator c) (is_closing c) b e)
 
 -- no list is left of none
@@ -205,20 +220,24 @@ lone_bytes-stays begun at c cs b e =
     ap (λ l. drop begun l ++ lone_initiator_bytes next cs) (sym first_ends) ∙ ap (λ l. drop begun (lone_closing_bytes at (c ∷ cs)) ++ l) (sym first_begins)
 
 -- the byte of a character after a prefix, if it is left out
-pub dropped_byte_is : (prefix : List ℕ) (c : ℕ) (cs : List ℕ) (flag : Bool) → is_dropped (prefix ++ (c ∷ cs)) (length prefix, c) ≡ flag
+pub dropped_byte_is : (prefix : List ℕ) (c : ℕ) (cs : List ℕ) (flag : Bool)
+    → is_dropped (prefix ++ (c ∷ cs)) (length prefix, c) ≡ flag
     → dropped_byte (prefix ++ (c ∷ cs)) (length prefix, c) ≡ (if flag then length (encode_utf8_all prefix) ∷ [] else [])
 dropped_byte_is prefix c cs flag is =
     ap (λ t. if t then length (encode_utf8_all (take (length prefix) (prefix ++ (c ∷ cs)))) ∷ [] else []) is
     ∙ ap (λ before. if flag then length (encode_utf8_all before) ∷ [] else []) (take-append_seam prefix (c ∷ cs))
 
 -- the byte after one more character
-pub prefix_byte-snoc : (prefix : List ℕ) (c : ℕ) → length (encode_utf8_all (prefix ++ c ∷ [])) ≡ length (encode_utf8_all prefix) + length (encode_utf8 c)
+pub prefix_byte-snoc : (prefix : List ℕ) (c : ℕ)
+    → length (encode_utf8_all (prefix ++ c ∷ [])) ≡ length (encode_utf8_all prefix) + length (encode_utf8 c)
 prefix_byte-snoc prefix c =
     ap length (encodes-append prefix (c ∷ [])) ∙ length-append (encode_utf8_all prefix) (encode_utf8_all (c ∷ []))
     ∙ ap (λ l. length (encode_utf8_all prefix) + length l) (append-nil (encode_utf8 c))
 
 -- what is left out from the character after a prefix on
-pub dropped-lone_bytes : (prefix cs : List ℕ) → flat_map (dropped_byte (prefix ++ cs)) (enumerate_from (length prefix) cs) ≡ lone_bytes (lone_initiators prefix) (length (encode_utf8_all prefix)) cs
+pub dropped-lone_bytes : (prefix cs : List ℕ)
+    → flat_map (dropped_byte (prefix ++ cs)) (enumerate_from (length prefix) cs) ≡ lone_bytes (lone_initiators prefix)
+    (length (encode_utf8_all prefix)) cs
 dropped-lone_bytes prefix [] = sym (append-nil (drop (lone_initiators prefix) []) ∙ drop-nil (lone_initiators prefix))
 dropped-lone_bytes prefix (c ∷ cs) =
     let text : List ℕ = prefix ++ (c ∷ cs) in

@@ -1,5 +1,7 @@
 -- What `marks` has found so far, and what it will find.
-use Rattle.std.proofs.Common.{◌≡◌, ℕ, ◌+◌, ◌-◌, ◌<◌, ◌≤◌, zero, suc, List, [], ◌∷◌, ◌++◌, length, take, drop, refl, sym, ap, ◌∙◌, append-nil, append_assoc, length-append, encode_utf8, true, false, not, nat_lt, if◌then◌else◌, inl, inr, arith}
+use Rattle.std.proofs.Common.{◌≡◌, ℕ, ◌+◌, ◌-◌, ◌<◌, ◌≤◌, zero, suc, List, [], ◌∷◌, ◌++◌, length, take, drop, refl, sym}
+use Rattle.std.proofs.Common.{ap, ◌∙◌, append-nil, append_assoc, length-append, encode_utf8, true, false, not, nat_lt}
+use Rattle.std.proofs.Common.{if◌then◌else◌, inl, inr, arith}
 use Rattle.std.proofs.lemmas.Bool.{cond-true, cond-false, cases_lt, lt-ltb, le-ltb}
 use Rattle.std.proofs.lemmas.List.{take-append-le, nil_from_length}
 use Rattle.std.proofs.lemmas.Str.{IsUtf8-past_char, chars_past_char, chars-nil}
@@ -8,7 +10,8 @@ use Rattle.std.specs.Str.{IsUtf8, chars}
 use Rattle.bidi_class.specs.Pairs.{is_initiator, is_closing}
 use Rattle.bidi_text.specs.Clean.{dropped_bytes}
 use Rattle.bidi_text.proofs.Isolates.{lone_closings}
-use Rattle.bidi_text.proofs.LoneBytes.{drop-nil, lone_bytes, lone_bytes-begins, lone_bytes-ends, lone_bytes-stays, dropped_bytes-lone_bytes}
+use Rattle.bidi_text.proofs.LoneBytes.{drop-nil, lone_bytes, lone_bytes-begins, lone_bytes-ends, lone_bytes-stays}
+use Rattle.bidi_text.proofs.LoneBytes.{dropped_bytes-lone_bytes}
 
 -- the lone PDIs found, the open initiators that the rest closes none of, and what the rest leaves out
 abbrev pub settled : List ℕ → List ℕ → ℕ → List ℕ → List ℕ
@@ -20,7 +23,9 @@ take-nil zero = refl
 take-nil (suc n) = refl
 
 -- which of the open initiators stay open, with one more that stays open where the rest closes none
-kept_with_one : (begun : List ℕ) (at closed : ℕ) → take ((length begun + 1) - closed) (begun ++ at ∷ []) ≡ take (length begun - (closed - 1)) begun ++ (if not (nat_lt 0 closed) then at ∷ [] else [])
+kept_with_one : (begun : List ℕ) (at closed : ℕ)
+    → take ((length begun + 1) - closed) (begun ++ at ∷ []) ≡ take (length begun - (closed - 1)) begun ++
+    (if not (nat_lt 0 closed) then at ∷ [] else [])
 kept_with_one begun at closed =
     elim (cases_lt 0 closed) [
       | inl some ↦
@@ -39,7 +44,8 @@ kept_with_one begun at closed =
     ]
 
 -- one more initiator
-settled-begins : (lone begun : List ℕ) (at c : ℕ) (cs : List ℕ) → is_initiator c ≡ true → settled lone (begun ++ at ∷ []) (at + length (encode_utf8 c)) cs ≡ settled lone begun at (c ∷ cs)
+settled-begins : (lone begun : List ℕ) (at c : ℕ) (cs : List ℕ) → is_initiator c ≡ true
+    → settled lone (begun ++ at ∷ []) (at + length (encode_utf8 c)) cs ≡ settled lone begun at (c ∷ cs)
 settled-begins lone begun at c cs b =
     let next : ℕ = at + length (encode_utf8 c) in
     let more : length (begun ++ at ∷ []) ≡ length begun + 1 = length-append begun (at ∷ []) in
@@ -113,11 +119,13 @@ pub record ReadsOne (c at next : ℕ) (bytes rest : List ℕ) : Type 0 where
 reads_utf8 : {c at next : ℕ} {bytes rest : List ℕ} → IsUtf8 bytes → ReadsOne c at next bytes rest → IsUtf8 rest
 reads_utf8 {c} {at} {next} {bytes} {rest} utf8 reads = IsUtf8-past_char bytes rest c utf8 reads.split
 
-reads_bounded : {c at next : ℕ} {bytes rest : List ℕ} (size : ℕ) → ReadsOne c at next bytes rest → at + length bytes ≡ size → next + length rest ≡ size
+reads_bounded : {c at next : ℕ} {bytes rest : List ℕ} (size : ℕ) → ReadsOne c at next bytes rest
+    → at + length bytes ≡ size → next + length rest ≡ size
 reads_bounded {c} {at} {next} {bytes} {rest} size reads bounded = omega (arith, reads.past, ap length reads.split, length-append (encode_utf8 c) rest)
 
 -- an invariant of what is settled goes on
-settled_next : (lone begun lone' begun' : List ℕ) (c at next : ℕ) (bytes rest text : List ℕ) → IsUtf8 bytes → ReadsOne c at next bytes rest
+settled_next : (lone begun lone' begun' : List ℕ) (c at next : ℕ) (bytes rest text : List ℕ) → IsUtf8 bytes
+    → ReadsOne c at next bytes rest
     → settled lone' begun' (at + length (encode_utf8 c)) (chars rest) ≡ settled lone begun at (c ∷ chars rest)
     → settled lone begun at (chars bytes) ≡ dropped_bytes (chars text) → settled lone' begun' next (chars rest) ≡ dropped_bytes (chars text)
 settled_next lone begun lone' begun' c at next bytes rest text utf8 reads step finds =
@@ -200,7 +208,8 @@ module _ {offsets : List ℕ} {closings at next c : ℕ} {bytes rest text : List
   }
 
 -- all is found where nothing is left
-pub marking_end : {offsets : List ℕ} {closings at : ℕ} {rest text : List ℕ} → Marking offsets closings at rest text → length rest ≡ 0 → offsets ≡ dropped_bytes (chars text)
+pub marking_end : {offsets : List ℕ} {closings at : ℕ} {rest text : List ℕ} → Marking offsets closings at rest text
+    → length rest ≡ 0 → offsets ≡ dropped_bytes (chars text)
 marking_end {offsets} {closings} {at} {rest} {text} marking none =
     let no_chars : chars rest ≡ [] = ap chars (nil_from_length rest none) ∙ chars-nil in
     let n : ℕ = length marking.begun in

@@ -1,14 +1,19 @@
--- A index of a text is in a pair exactly where an initiator has a lone PDI after it, or a PDI a lone initiator before it.
-use Rattle.std.proofs.Common.{◌≡◌, ℕ, ◌+◌, ◌-◌, ◌<◌, ◌≤◌, true, ◌||◌, nat_lt, inl, inr, suc, List, length, take, drop, slice_index, slice_range, refl, sym, ap, subst, ◌∙◌, arith}
+-- A index of a text is in a pair exactly where an initiator has a lone PDI after it, or a PDI a lone initiator before
+-- it.
+use Rattle.std.proofs.Common.{◌≡◌, ℕ, ◌+◌, ◌-◌, ◌<◌, ◌≤◌, true, ◌||◌, nat_lt, inl, inr, suc, List, length, take, drop}
+use Rattle.std.proofs.Common.{slice_index, slice_range, refl, sym, ap, subst, ◌∙◌, arith}
 use Rattle.std.proofs.lemmas.Bool.{or_cases, or_left, or_right, lt-ltb, ltb-true, eqb-true, eq-eqb, both_ways}
 use Rattle.std.proofs.lemmas.List.{get_or-drop, get_or-take, length-drop, length-take-le, take-take}
 use Rattle.bidi_class.specs.Pairs.{is_initiator, is_closing, initiators, closings, is_even, is_led, is_pair, is_in_pair}
-use Rattle.bidi_class.proofs.PairParts.{IsPair, between_from, between_until, from_led, is_pair-from, is_pair-parts, led_from, list_any-range, range-list_any}
-use Rattle.bidi_text.proofs.Isolates.{lone_closings, lone_initiators, closes_at, ClosesAt, lone_closings-gt, opens_at, OpensAt, lone_initiators-gt, closing_only}
+use Rattle.bidi_class.proofs.PairParts.{IsPair, between_from, between_until, from_led, is_pair-from, is_pair-parts}
+use Rattle.bidi_class.proofs.PairParts.{led_from, list_any-range, range-list_any}
+use Rattle.bidi_text.proofs.Isolates.{lone_closings, lone_initiators, closes_at, ClosesAt, lone_closings-gt, opens_at}
+use Rattle.bidi_text.proofs.Isolates.{OpensAt, lone_initiators-gt, closing_only}
 use Rattle.bidi_text.proofs.Flags.{same_test}
 
 -- an initiator with a lone PDI after it is in a pair
-closed_in_pair : (text : List ℕ) (index : ℕ) → is_initiator (slice_index text index) ≡ true → 0 < lone_closings (drop (suc index) text) → is_in_pair text index ≡ true
+closed_in_pair : (text : List ℕ) (index : ℕ) → is_initiator (slice_index text index) ≡ true
+    → 0 < lone_closings (drop (suc index) text) → is_in_pair text index ≡ true
 closed_in_pair text index opening some =
     let rest : List ℕ = drop (suc index) text in
     let there = closes_at rest 0 some in
@@ -31,7 +36,8 @@ closed_in_pair text index opening some =
     (or_left _ _ (is_pair-from text index second pair))
 
 -- and one in a pair has such a PDI
-in_pair_closed : (text : List ℕ) (index : ℕ) → is_initiator (slice_index text index) ≡ true → is_in_pair text index ≡ true → 0 < lone_closings (drop (suc index) text)
+in_pair_closed : (text : List ℕ) (index : ℕ) → is_initiator (slice_index text index) ≡ true
+    → is_in_pair text index ≡ true → 0 < lone_closings (drop (suc index) text)
 in_pair_closed text index opening h =
     let found = range-list_any (λ other. is_pair text index other || is_pair text other index) 0 (length text) h in
     let second : ℕ = found.0 in
@@ -61,7 +67,8 @@ in_pair_closed text index opening h =
         })
 
 -- a PDI with a lone initiator before it is in a pair
-opened_in_pair : (text : List ℕ) (index : ℕ) → index < length text → is_closing (slice_index text index) ≡ true → 0 < lone_initiators (take index text) → is_in_pair text index ≡ true
+opened_in_pair : (text : List ℕ) (index : ℕ) → index < length text → is_closing (slice_index text index) ≡ true
+    → 0 < lone_initiators (take index text) → is_in_pair text index ≡ true
 opened_in_pair text index within closing some =
     let prefix : List ℕ = take index text in
     let there = opens_at prefix some in
@@ -81,7 +88,8 @@ opened_in_pair text index within closing some =
     (or_right _ _ (is_pair-from text first index pair))
 
 -- and one in a pair has such an initiator
-in_pair_opened : (text : List ℕ) (index : ℕ) → index < length text → is_closing (slice_index text index) ≡ true → is_in_pair text index ≡ true → 0 < lone_initiators (take index text)
+in_pair_opened : (text : List ℕ) (index : ℕ) → index < length text → is_closing (slice_index text index) ≡ true
+    → is_in_pair text index ≡ true → 0 < lone_initiators (take index text)
 in_pair_opened text index within closing h =
     let found = range-list_any (λ other. is_pair text index other || is_pair text other index) 0 (length text) h in
     let first : ℕ = found.0 in
@@ -105,13 +113,15 @@ in_pair_opened text index within closing h =
         })
 
 -- an initiator is in a pair exactly where a lone PDI follows it
-pub is_in_pair-initiator : (text : List ℕ) (index : ℕ) → is_initiator (slice_index text index) ≡ true → is_in_pair text index ≡ nat_lt 0 (lone_closings (drop (suc index) text))
+pub is_in_pair-initiator : (text : List ℕ) (index : ℕ) → is_initiator (slice_index text index) ≡ true
+    → is_in_pair text index ≡ nat_lt 0 (lone_closings (drop (suc index) text))
 is_in_pair-initiator text index opening =
     same_test _ _ (λ h. lt-ltb 0 (lone_closings (drop (suc index) text)) (in_pair_closed text index opening h))
     (λ h. closed_in_pair text index opening (ltb-true 0 (lone_closings (drop (suc index) text)) h))
 
 -- a PDI is in a pair exactly where a lone initiator comes before it
-pub is_in_pair-closing : (text : List ℕ) (index : ℕ) → index < length text → is_closing (slice_index text index) ≡ true → is_in_pair text index ≡ nat_lt 0 (lone_initiators (take index text))
+pub is_in_pair-closing : (text : List ℕ) (index : ℕ) → index < length text → is_closing (slice_index text index) ≡ true
+    → is_in_pair text index ≡ nat_lt 0 (lone_initiators (take index text))
 is_in_pair-closing text index within closing =
     same_test _ _ (λ h. lt-ltb 0 (lone_initiators (take index text)) (in_pair_opened text index within closing h))
     (λ h. opened_in_pair text index within closing (ltb-true 0 (lone_initiators (take index text)) h))

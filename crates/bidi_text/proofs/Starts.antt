@@ -2,7 +2,8 @@
 use Rattle.std.proofs.Common.{◌≡◌, ℕ, true, nat_eq, List, ◌++◌, length, drop, encode_utf8_all, refl, sym, ap, ◌∙◌}
 use Rattle.std.specs.List.{starts_with}
 use Rattle.std.specs.Str.{IsUtf8, IsAscii, chars}
-use Rattle.std.proofs.lemmas.Str.{chars-append, chars-IsAscii, encodes-append, encodes-IsAscii, encodes-chars, IsUtf8-from_ascii}
+use Rattle.std.proofs.lemmas.Str.{chars-append, chars-IsAscii, encodes-append, encodes-IsAscii, encodes-chars}
+use Rattle.std.proofs.lemmas.Str.{IsUtf8-from_ascii}
 use Rattle.std.proofs.lemmas.Slice.Eq.{starts_is}
 use Rattle.std.proofs.lemmas.Bool.Decides.{Decides-eqb}
 use Rattle.bidi_text.proofs.Flags.{same_test}
@@ -14,7 +15,8 @@ begins_with text word h = (starts_is Decides-eqb text word (starts_with nat_eq t
 begins : (text word rest : List ℕ) → text ≡ word ++ rest → starts_with nat_eq text word ≡ true
 begins text word rest h = (starts_is Decides-eqb text word (starts_with nat_eq text word) refl).1 rest h
 
-pub starts_with-chars : (text word : List ℕ) → IsUtf8 text → IsAscii word → starts_with nat_eq text word ≡ starts_with nat_eq (chars text) word
+pub starts_with-chars : (text word : List ℕ) → IsUtf8 text → IsAscii word
+    → starts_with nat_eq text word ≡ starts_with nat_eq (chars text) word
 starts_with-chars text word utf8 ascii =
     same_test _ _
     (λ h. begins (chars text) word (chars (drop (length word) text))

@@ -16,7 +16,8 @@ unfolding chars
 ends_span = refl
 
 -- five parts added to nothing, one after the other
-pub five_added : (a b c d e t t1 t2 t3 t4 t5 : List ℕ) → t ≡ [] → t1 ≡ t ++ a → t2 ≡ t1 ++ b → t3 ≡ t2 ++ c → t4 ≡ t3 ++ d → t5 ≡ t4 ++ e
+pub five_added : (a b c d e t t1 t2 t3 t4 t5 : List ℕ) → t ≡ [] → t1 ≡ t ++ a → t2 ≡ t1 ++ b → t3 ≡ t2 ++ c
+    → t4 ≡ t3 ++ d → t5 ≡ t4 ++ e
     → t5 ≡ a ++ (b ++ (c ++ (d ++ e)))
 five_added a b c d e t t1 t2 t3 t4 t5 h h1 h2 h3 h4 h5 =
     h5 ∙ ap (λ l. l ++ e) (h4 ∙ ap (λ l. l ++ d) (h3 ∙ ap (λ l. l ++ c) (h2 ∙ ap (λ l. l ++ b) (h1 ∙ ap (λ l. l ++ a) h))))

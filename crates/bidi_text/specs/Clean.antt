@@ -2,7 +2,8 @@
 -- and S, which would end a paragraph or a segment, made spaces.
 --
 -- Of `a`, tab, U+2067, `b`, U+2069, U+2069 the cleaned text is `a`, space, U+2067, `b`, U+2069.
-use Rattle.std.specs.Prelude.{ℕ, Bool, true, false, ◌&&◌, ◌||◌, not, List, [], ◌∷◌, take, length, if◌then◌else◌, encode_utf8_all}
+use Rattle.std.specs.Prelude.{ℕ, Bool, true, false, ◌&&◌, ◌||◌, not, List, [], ◌∷◌, take, length, if◌then◌else◌}
+use Rattle.std.specs.Prelude.{encode_utf8_all}
 use Rattle.std.specs.List.{flat_map, enumerate_from}
 use Rattle.soy_base.specs.Characters.{space}
 use Rattle.bidi_class.specs.declared.class.Class.{Class}

@@ -11,9 +11,10 @@
 -- the first kind are more than 2 times the total; else left to right where the total is above 0 or a word is weak;
 -- else its direction is that of its context.
 --
--- With a word of U+05D0 and a word `b` a text is right to left, since 5 times 1 is more than 2 times 2; with a third word
--- `c` it is left to right. The text `!` has the direction of its context.
-use Rattle.std.specs.Prelude.{ℕ, ◌*◌, Bool, true, false, ◌||◌, nat_lt, nat_eq, List, [], ◌∷◌, ◌++◌, if◌then◌else◌, Option, map, find, count_by, codes}
+-- With a word of U+05D0 and a word `b` a text is right to left, since 5 times 1 is more than 2 times 2; with a third
+-- word `c` it is left to right. The text `!` has the direction of its context.
+use Rattle.std.specs.Prelude.{ℕ, ◌*◌, Bool, true, false, ◌||◌, nat_lt, nat_eq, List, [], ◌∷◌, ◌++◌, if◌then◌else◌}
+use Rattle.std.specs.Prelude.{Option, map, find, count_by, codes}
 use Rattle.std.specs.List.{list_any, starts_with}
 use Rattle.std.specs.Option.{option_map_or}
 use Rattle.std.specs.Char.{is_whitespace, is_ascii_digit}

@@ -16,8 +16,8 @@ pub fn marks(alloc: Global, text: &str) -> Result<Marks, OutOfMemory>
     ensures offsets { IfOk result (λ found. found.places ≡ dropped_bytes (chars text.now)) }
     ensures ascending { IfOk result (λ found. IsStrictlyIncreasing found.places) }
 {
-    // First the PDIs that match nothing, then the initiators that are still open. No PDI that matches nothing can follow
-    // an open initiator, so the offsets ascend.
+    // First the PDIs that match nothing, then the initiators that are still open. No PDI that matches nothing can
+    // follow an open initiator, so the offsets ascend.
     let mut offsets = Vec::new(alloc);
     let mut closings = 0;
     for (offset, c) in text.char_indices() {

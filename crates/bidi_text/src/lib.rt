@@ -1,8 +1,9 @@
 //! The direction of a value's text, the text cleaned of stray isolate controls, and the text wrapped for HTML.
 //!
 //! `estimate` counts words and answers `estimated_direction` of the text and the context's direction. `marks` answers
-//! `dropped_bytes`: the byte offsets of the isolate controls that are in no pair. `wrap` answers `wrapped_text`: a `span`
-//! with the estimated direction around the cleaned and escaped text. `marks` and `wrap` may also be out of memory.
+//! `dropped_bytes`: the byte offsets of the isolate controls that are in no pair. `wrap` answers `wrapped_text`: a
+//! `span` with the estimated direction around the cleaned and escaped text. `marks` and `wrap` may also be out of
+//! memory.
 //!
 //! Depends on `bidi_class` for the classes of characters and the pairs of isolate controls, on `esc_table` for the rows
 //! of HTML, and on `soy_base`.

@@ -3,7 +3,8 @@ ghost use Rattle.std.specs.Prelude.{◌≡◌, ℕ, ◌+◌, ◌*◌, ◌^◌, �
 ghost use Rattle.std.specs.List.{list_any, starts_with};
 ghost use Rattle.std.specs.Char.{is_ascii_digit};
 ghost use Rattle.std.specs.Str.{chars};
-ghost use Rattle.bidi_text.specs.Estimate.{counts_in_total, counts_right_to_left, direction_by, estimated_direction, first_strong, is_address, is_weak, word_kind};
+ghost use Rattle.bidi_text.specs.Estimate.{counts_in_total, counts_right_to_left, direction_by, estimated_direction};
+ghost use Rattle.bidi_text.specs.Estimate.{first_strong, is_address, is_weak, word_kind};
 
 use bidi_class::{Class, class_of};
 use soy_base::Dir;

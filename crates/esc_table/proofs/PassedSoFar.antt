@@ -1,16 +1,19 @@
 -- What is passed of a text so far: a prefix in which no character has a row.
-use Rattle.std.proofs.Common.{◌≡◌, ℕ, ◌-◌, ◌<◌, Bool, true, List, [], ◌∷◌, ◌++◌, ◌∙◌, refl, sym, ap, length, take, drop, encode_utf8, append-nil, append_assoc, length-append, arith}
+use Rattle.std.proofs.Common.{◌≡◌, ℕ, ◌-◌, ◌<◌, Bool, true, List, [], ◌∷◌, ◌++◌, ◌∙◌, refl, sym, ap, length, take, drop}
+use Rattle.std.proofs.Common.{encode_utf8, append-nil, append_assoc, length-append, arith}
 use Rattle.std.specs.Prelude.{take_while}
 use Rattle.std.specs.List.{list_all}
 use Rattle.std.specs.Str.{all_scalars, chars, IsUtf8, IsCharBoundary}
 use Rattle.std.proofs.Math.Seq.{drop-append_seam, take-append_seam}
 use Rattle.std.proofs.lemmas.Bool.{and_from, and_parts, cond-true}
 use Rattle.std.proofs.lemmas.List.Sums.{take_while-cons}
-use Rattle.std.proofs.lemmas.Str.{IsCharBoundary-at_seam, IsUtf8-append, IsUtf8-encode, chars-append, chars-nil, chars_past_char, length-encode, len_utf8_bounds, scalars-chars}
+use Rattle.std.proofs.lemmas.Str.{IsCharBoundary-at_seam, IsUtf8-append, IsUtf8-encode, chars-append, chars-nil}
+use Rattle.std.proofs.lemmas.Str.{chars_past_char, length-encode, len_utf8_bounds, scalars-chars}
 use Rattle.esc_table.specs.PlainPrefix.{has_no_row, plain_prefix}
 
 -- elements that pass a test come before those that the test takes of the rest
-pub take_while_past : (test : ℕ → Bool) (cs rest : List ℕ) → list_all test cs ≡ true → take_while test (cs ++ rest) ≡ cs ++ take_while test rest
+pub take_while_past : (test : ℕ → Bool) (cs rest : List ℕ) → list_all test cs ≡ true
+    → take_while test (cs ++ rest) ≡ cs ++ take_while test rest
 take_while_past test [] rest all = refl
 take_while_past test (c ∷ cs) rest all =
     let parts = and_parts _ _ all in
@@ -25,7 +28,8 @@ pub record PassedSoFar (rows : List (ℕ × List ℕ)) (text rest : List ℕ) : 
   pub plain : plain_prefix rows (chars text) ≡ chars prefix ++ plain_prefix rows (chars rest)
 
 -- the first character of a text
-first_character : (text rest : List ℕ) (c : ℕ) → IsUtf8 text → text ≡ encode_utf8 c ++ rest → IsUtf8 (encode_utf8 c) × (chars (encode_utf8 c) ≡ c ∷ [])
+first_character : (text rest : List ℕ) (c : ℕ) → IsUtf8 text → text ≡ encode_utf8 c ++ rest
+    → IsUtf8 (encode_utf8 c) × (chars (encode_utf8 c) ≡ c ∷ [])
 first_character text rest c utf8 split =
     let are : all_scalars (c ∷ chars rest) ≡ true =
     ap all_scalars (sym (chars_past_char text rest c utf8 split)) ∙ scalars-chars text utf8 in
@@ -33,7 +37,8 @@ first_character text rest c utf8 split =
     (is, chars_past_char (encode_utf8 c) [] c is (sym (append-nil (encode_utf8 c))) ∙ ap (λ l. c ∷ l) chars-nil)
 
 -- a text is longer than what follows its first character
-pub past_character_shorter : (rest run others after : List ℕ) (c : ℕ) → rest ≡ run ++ others → others ≡ encode_utf8 c ++ after → length after < length rest
+pub past_character_shorter : (rest run others after : List ℕ) (c : ℕ) → rest ≡ run ++ others
+    → others ≡ encode_utf8 c ++ after → length after < length rest
 past_character_shorter rest run others after c split next =
     omega (arith, ap length split, ap length next, length-append run others, length-append (encode_utf8 c) after, length-encode c, (len_utf8_bounds c).0)
 

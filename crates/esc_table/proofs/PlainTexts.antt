@@ -1,6 +1,8 @@
 -- Texts of bytes that aren't flagged have no character with a row, and stand for themselves; where a byte is flagged a
 -- text may be cut.
-use Rattle.std.proofs.Common.{eqb, ◌≡◌, ℕ, ◌<◌, ◌≤◌, List, [], ◌∷◌, ◌++◌, ◌∙◌, Bool, true, false, not, None, Some, Option, zero, suc, ◌+◌, ◌-◌, drop, unwrap_or, refl, sym, ap, All, length, encode_utf8, encode_utf8_all, length-append, ⊎_elim, arith}
+use Rattle.std.proofs.Common.{eqb, ◌≡◌, ℕ, ◌<◌, ◌≤◌, List, [], ◌∷◌, ◌++◌, ◌∙◌, Bool, true, false, not, None, Some}
+use Rattle.std.proofs.Common.{Option, zero, suc, ◌+◌, ◌-◌, drop, unwrap_or, refl, sym, ap, All, length, encode_utf8}
+use Rattle.std.proofs.Common.{encode_utf8_all, length-append, ⊎_elim, arith}
 use Rattle.std.specs.Prelude.{is_none}
 use Rattle.std.specs.Str.{chars, IsUtf8, IsCharBoundary}
 use Rattle.std.specs.List.{list_all, slice_index_or, slice_range}
@@ -50,7 +52,8 @@ module _ (rows : List (ℕ × List ℕ)) (flags : List Bool) (leads : LeadBytes 
   plain_text text utf8 unflagged = plain_characters (chars text) (rw (encodes-chars text utf8) unflagged)
 
 -- a text without such characters stands for itself
-pub plain_escaped : (rows : List (ℕ × List ℕ)) (cs : List ℕ) → list_all (has_no_row rows) cs ≡ true → escaped_text rows cs ≡ cs
+pub plain_escaped : (rows : List (ℕ × List ℕ)) (cs : List ℕ) → list_all (has_no_row rows) cs ≡ true
+    → escaped_text rows cs ≡ cs
 plain_escaped rows [] none = refl
 plain_escaped rows (c ∷ cs) none =
     let parts = and_parts _ _ none in
@@ -66,7 +69,8 @@ none_true (flag ∷ flags) zero all is = both_ways flag (not-true flag (and_part
 none_true (flag ∷ flags) (suc i) all is = none_true flags i (and_parts _ _ all).1 is
 
 -- a byte that is flagged begins a character
-pub flag_begins : (rows : List (ℕ × List ℕ)) (flags : List Bool) → LeadBytes rows flags → (byte : ℕ) → is_flagged flags byte ≡ true → 128 ≤ byte → 192 ≤ byte
+pub flag_begins : (rows : List (ℕ × List ℕ)) (flags : List Bool) → LeadBytes rows flags → (byte : ℕ)
+    → is_flagged flags byte ≡ true → 128 ≤ byte → 192 ≤ byte
 flag_begins rows flags leads byte is high =
     ⊎_elim
     (λ (low : byte < 192).
@@ -78,6 +82,7 @@ flag_begins rows flags leads byte is high =
     (cases_lt byte 192)
 
 -- so a text may be cut where one stands
-pub flag_cuts : (rows : List (ℕ × List ℕ)) (flags : List Bool) → LeadBytes rows flags → (text : List ℕ) (at : ℕ) → at < length text
+pub flag_cuts : (rows : List (ℕ × List ℕ)) (flags : List Bool) → LeadBytes rows flags → (text : List ℕ) (at : ℕ)
+    → at < length text
     → is_flagged flags (slice_index_or text at 0) ≡ true → IsCharBoundary text at
 flag_cuts rows flags leads text at within is = (omega (arith, within), λ _ high. flag_begins rows flags leads (slice_index_or text at 0) is high)

@@ -1,5 +1,6 @@
 -- What a search among rows in ascending order finds.
-use Rattle.std.proofs.Common.{◌≡◌, ℕ, zero, suc, ◌<◌, ◌≤◌, ◌≢◌, List, [], ◌∷◌, length, get_or, None, Some, Ok, Err, IsTrue, Bool, true, false, ◌&&◌, nat_lt, refl, sym, ap, arith}
+use Rattle.std.proofs.Common.{◌≡◌, ℕ, zero, suc, ◌<◌, ◌≤◌, ◌≢◌, List, [], ◌∷◌, length, get_or, None, Some, Ok, Err}
+use Rattle.std.proofs.Common.{IsTrue, Bool, true, false, ◌&&◌, nat_lt, refl, sym, ap, arith}
 use Rattle.std.specs.Str.{chars}
 use Rattle.std.specs.List.Sorted.{IsBinarySearchResult, IsNonDecreasingBy}
 use Rattle.std.specs.Ordering.{nat_cmp, ordering_index}
@@ -17,13 +18,15 @@ abbrev pub NoneBefore : Row → List Row → ℕ → ℕ → Type 0
 NoneBefore d rows c i = (j : ℕ) → j < i → (get_or rows j d).from ≢ c
 
 -- a character that no row has has no text
-pub row_text_absent : (d : Row) (rows : List Row) (c : ℕ) → NoneBefore d rows c (length rows) → row_text (row_pairs rows) c ≡ None
+pub row_text_absent : (d : Row) (rows : List Row) (c : ℕ) → NoneBefore d rows c (length rows)
+    → row_text (row_pairs rows) c ≡ None
 row_text_absent d [] c none = refl
 row_text_absent d (row ∷ rows) c none =
     grind (arith, nat_tests, none 0 (omega arith), row_text_absent d rows c (λ j lt. none (suc j) (omega arith)))
 
 -- the first row that has the character gives the text
-pub row_text_present : (d : Row) (rows : List Row) (c i : ℕ) → i < length rows → (get_or rows i d).from ≡ c → NoneBefore d rows c i →
+pub row_text_present : (d : Row) (rows : List Row) (c i : ℕ) → i < length rows → (get_or rows i d).from ≡ c
+    → NoneBefore d rows c i →
     row_text (row_pairs rows) c ≡ Some (chars (get_or rows i d).to.now)
 row_text_present d [] c i lt same none = absurd (omega (arith, lt))
 row_text_present d (row ∷ rows) c zero lt same none = grind (arith, nat_tests, same)
@@ -45,7 +48,8 @@ next_above row next rows ascends =
     let above = first_holds (nat_lt row.from next.from) (is_ascending (row_pairs (next ∷ rows))) ascends in
     grind (arith, nat_tests, above)
 
-rest_ascends : (row next : Row) (rows : List Row) → Ascends (row_pairs (row ∷ next ∷ rows)) → Ascends (row_pairs (next ∷ rows))
+rest_ascends : (row next : Row) (rows : List Row) → Ascends (row_pairs (row ∷ next ∷ rows))
+    → Ascends (row_pairs (next ∷ rows))
 rest_ascends row next rows ascends =
     second_holds (nat_lt row.from next.from) (is_ascending (row_pairs (next ∷ rows))) ascends
 

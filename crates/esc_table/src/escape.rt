@@ -20,8 +20,10 @@ pub fn escape_into<const N: usize>(
     out: &mut String,
 ) -> Result<(), OutOfMemory>
     requires { N ≤ 256 }
-    ensures ok { OnOk result (chars (string_bytes out.new) ≡ chars (string_bytes out.old) ++ escaped_text table.now (chars text.now)) }
-    ensures bytes { OnOk result (string_bytes out.new ≡ string_bytes out.old ++ encode_utf8_all (escaped_text table.now (chars text.now))) }
+    ensures ok { OnOk result
+        (chars (string_bytes out.new) ≡ chars (string_bytes out.old) ++ escaped_text table.now (chars text.now)) }
+    ensures bytes { OnOk result
+        (string_bytes out.new ≡ string_bytes out.old ++ encode_utf8_all (escaped_text table.now (chars text.now))) }
     ensures err { OnErr result (string_bytes out.new ≡ string_bytes out.old) }
 {
     let old_len = out.len();
@@ -43,7 +45,8 @@ fn push_escaped<const N: usize>(
     out: &mut String,
 ) -> Result<(), AllocError>
     requires { N ≤ 256 }
-    ensures ok { OnOk result (chars (string_bytes out.new) ≡ chars (string_bytes out.old) ++ escaped_text table.now (chars text.now)) }
+    ensures ok { OnOk result
+        (chars (string_bytes out.new) ≡ chars (string_bytes out.old) ++ escaped_text table.now (chars text.now)) }
     ensures grown { (more : List ℕ) × (chars (string_bytes out.new) ≡ chars (string_bytes out.old) ++ more) }
 {
     let mut rest = text;
@@ -62,7 +65,9 @@ fn push_first<'a, const N: usize>(
     out: &mut String,
 ) -> Result<&'a str, AllocError>
     requires { N ≤ 256 }
-    ensures ok { IfOk result (λ rest. chars (string_bytes out.new) ++ escaped_text table.now (chars rest.now) ≡ chars (string_bytes out.old) ++ escaped_text table.now (chars text.now)) }
+    ensures ok { IfOk result (λ rest.
+        chars (string_bytes out.new) ++ escaped_text table.now (chars rest.now)
+        ≡ chars (string_bytes out.old) ++ escaped_text table.now (chars text.now)) }
     ensures utf8 { IfOk result (λ rest. IsUtf8 rest.now) }
     ensures shorter { IfOk result (λ rest. length rest.now ≤ length text.now - 1) }
     ensures grown { (more : List ℕ) × (chars (string_bytes out.new) ≡ chars (string_bytes out.old) ++ more) }
@@ -84,7 +89,8 @@ fn push_escaped_character<const N: usize>(
     out: &mut String,
 ) -> Result<(), AllocError>
     requires { N ≤ 256 }
-    ensures ok { OnOk result (chars (string_bytes out.new) ≡ chars (string_bytes out.old) ++ escaped_character table.now c) }
+    ensures ok { OnOk result
+        (chars (string_bytes out.new) ≡ chars (string_bytes out.old) ++ escaped_character table.now c) }
     ensures err { OnErr result (string_bytes out.new ≡ string_bytes out.old) }
 {
     match table.find(c) {

@@ -2,10 +2,10 @@
 //! itself.
 //!
 //! A `Table` is seen by contracts as its rows, each a character and the list of the characters of its text. What
-//! `escape_into` appends is exactly `escaped_text` of the rows and the text's characters, and out of memory its target is
-//! unchanged. `html` is the table that makes a text safe in HTML; other crates make more with `Table::new`. `Tail` holds
-//! the bytes of one character, and gives them into rooms of any size. `laws` says what escaped texts do to the state of
-//! whatever reads them.
+//! `escape_into` appends is exactly `escaped_text` of the rows and the text's characters, and out of memory its target
+//! is unchanged. `html` is the table that makes a text safe in HTML; other crates make more with `Table::new`. `Tail`
+//! holds the bytes of one character, and gives them into rooms of any size. `laws` says what escaped texts do to the
+//! state of whatever reads them.
 //!
 //! Depends on no other crate of the workspace.
 #![tactic(auto)]

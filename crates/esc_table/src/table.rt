@@ -1,5 +1,6 @@
 //! Tables of rows, and how a text is searched for the characters that have one.
-ghost use Rattle.std.specs.Prelude.{◌≡◌, ℕ, ◌≤◌, ◌<◌, [], ◌++◌, length, take, true, false, option_map, IsTrue, IfSome, MatchOption, All, encode_utf8};
+ghost use Rattle.std.specs.Prelude.{◌≡◌, ℕ, ◌≤◌, ◌<◌, [], ◌++◌, length, take, true, false, option_map, IsTrue, IfSome};
+ghost use Rattle.std.specs.Prelude.{MatchOption, All, encode_utf8};
 ghost use Rattle.std.specs.List.{list_all, slice_index_or};
 ghost use Rattle.std.specs.Str.{chars, IsUtf8};
 ghost use Rattle.esc_table.specs.Ascends.{Ascends};
@@ -45,7 +46,8 @@ impl<const N: usize> Model for Table<N> {
 
     ghost view = { λ table. row_pairs table.rows.now };
 
-    ghost invariant = { λ table. (length table.rows.now ≡ N) × Ascends (row_pairs table.rows.now) × LeadBytes (row_pairs table.rows.now) table.lead_bytes.now };
+    ghost invariant = { λ table. (length table.rows.now ≡ N) × Ascends (row_pairs table.rows.now)
+        × LeadBytes (row_pairs table.rows.now) table.lead_bytes.now };
 }
 
 impl<const N: usize> Table<N> {
@@ -100,7 +102,8 @@ impl<const N: usize> Table<N> {
     fn past_plain_character<'a>(&self, text: &'a str) -> Option<&'a str>
         requires { N ≤ 256 }
         ensures { MatchOption result (plain_prefix self.now (chars text.now) ≡ [])
-            (λ rest. (c : ℕ) × (has_no_row self.now c ≡ true) × (text.now ≡ encode_utf8 c ++ rest.now) × IsUtf8 rest.now) }
+            (λ rest. (c : ℕ) × (has_no_row self.now c ≡ true) × (text.now ≡ encode_utf8 c ++ rest.now)
+            × IsUtf8 rest.now) }
     {
         let mut characters = text.chars();
         match characters.next() {

@@ -1,5 +1,6 @@
 //! The bytes of one character on their way into rooms.
-ghost use Rattle.std.specs.Prelude.{◌≡◌, ◌+◌, ◌≤◌, [], ◌++◌, length, take, drop, min, IfSome, option_map, unwrap_or, encode_utf8};
+ghost use Rattle.std.specs.Prelude.{◌≡◌, ◌+◌, ◌≤◌, [], ◌++◌, length, take, drop, min, IfSome, option_map, unwrap_or};
+ghost use Rattle.std.specs.Prelude.{encode_utf8};
 
 use arrayvec::ArrayVec;
 use std::marker::Model;
@@ -51,12 +52,17 @@ impl Tail {
     /// Moves the first pending bytes to the beginning of the room, as many as it takes, and gives their number.
     pub fn take(&mut self, room: &mut [u8]) -> usize
         ensures count { result ≡ min (length self.old) (length room.old) }
-        ensures given { room.new ≡ take (min (length self.old) (length room.old)) self.old ++ drop (min (length self.old) (length room.old)) room.old }
+        ensures given { room.new ≡ take (min (length self.old) (length room.old)) self.old
+            ++ drop (min (length self.old) (length room.old)) room.old }
         ensures rest { self.new ≡ drop (min (length self.old) (length room.old)) self.old }
     {
         let count = self.pending.len().min(room.len());
         room[..count].copy_from_slice(&self.pending.as_slice()[..count]);
-        self.pending.drain(..count);
+        if count == self.pending.len() {
+            self.pending.clear();
+        } else {
+            self.pending.drain(..count);
+        }
         count
     }
 }

@@ -1,9 +1,11 @@
 -- A text of letters and digits of ASCII is left as it is.
-use Rattle.std.proofs.Common.{◌≡◌, ℕ, ◌≤◌, Bool, true, false, not, ◌&&◌, eqb, List, [], ◌∷◌, ◌++◌, None, Some, refl, sym, ap, ◌∙◌, ⊎_elim, unwrap_or, encode_utf8, encode_utf8_all, arith}
+use Rattle.std.proofs.Common.{◌≡◌, ℕ, ◌≤◌, Bool, true, false, not, ◌&&◌, eqb, List, [], ◌∷◌, ◌++◌, None, Some, refl}
+use Rattle.std.proofs.Common.{sym, ap, ◌∙◌, ⊎_elim, unwrap_or, encode_utf8, encode_utf8_all, arith}
 use Rattle.std.specs.Char.{is_ascii_alphanumeric}
 use Rattle.std.specs.List.{flat_map, list_all}
 use Rattle.std.specs.Str.{chars, IsUtf8}
-use Rattle.std.proofs.lemmas.Bool.{and_from, and_parts, both_ways, cases_Bool, cases_lt, cond-false, cond-true, eqb-true, not-true}
+use Rattle.std.proofs.lemmas.Bool.{and_from, and_parts, both_ways, cases_Bool, cases_lt, cond-false, cond-true}
+use Rattle.std.proofs.lemmas.Bool.{eqb-true, not-true}
 use Rattle.std.proofs.lemmas.Bool.Decides.{nat_tests}
 use Rattle.std.proofs.lemmas.Str.{encode_ascii, encodes-chars}
 use lib.Utf8.{encode}
@@ -39,7 +41,8 @@ alphanumeric_characters bs utf8 = ap is_alphanumeric (sym (encodes-chars bs utf8
 abbrev pub has_no_alphanumeric_row : List (ℕ × List ℕ) → Bool
 has_no_alphanumeric_row rows = list_all (λ row. not (is_ascii_alphanumeric row.0)) rows
 
-pub alphanumeric_row : (rows : List (ℕ × List ℕ)) (c : ℕ) → has_no_alphanumeric_row rows ≡ true → is_ascii_alphanumeric c ≡ true → row_text rows c ≡ None
+pub alphanumeric_row : (rows : List (ℕ × List ℕ)) (c : ℕ) → has_no_alphanumeric_row rows ≡ true
+    → is_ascii_alphanumeric c ≡ true → row_text rows c ≡ None
 alphanumeric_row [] c none is = refl
 alphanumeric_row (row ∷ rows) c none is =
     let parts = and_parts _ _ none in
@@ -49,14 +52,16 @@ alphanumeric_row (row ∷ rows) c none is =
     (cases_Bool (eqb row.0 c))
 
 -- so the rows leave such a text as it is
-pub alphanumeric_escaped : (rows : List (ℕ × List ℕ)) (text : List ℕ) → has_no_alphanumeric_row rows ≡ true → is_alphanumeric text ≡ true → escaped_text rows text ≡ text
+pub alphanumeric_escaped : (rows : List (ℕ × List ℕ)) (text : List ℕ) → has_no_alphanumeric_row rows ≡ true
+    → is_alphanumeric text ≡ true → escaped_text rows text ≡ text
 alphanumeric_escaped rows [] none are = refl
 alphanumeric_escaped rows (c ∷ text) none are =
     let parts = and_parts _ _ are in
     ap (λ o. unwrap_or o (c ∷ []) ++ escaped_text rows text) (alphanumeric_row rows c none parts.0) ∙ ap (λ l. c ∷ l) (alphanumeric_escaped rows text none parts.1)
 
 -- and where such characters stand for themselves, so does the text
-pub alphanumeric_stands : (test : ℕ → Bool) (text : List ℕ) → ((c : ℕ) → is_ascii_alphanumeric c ≡ true → test c ≡ true) → is_alphanumeric text ≡ true → flat_map (stands_for test) text ≡ text
+pub alphanumeric_stands : (test : ℕ → Bool) (text : List ℕ) → ((c : ℕ) → is_ascii_alphanumeric c ≡ true → test c ≡ true)
+    → is_alphanumeric text ≡ true → flat_map (stands_for test) text ≡ text
 alphanumeric_stands test [] passes are = refl
 alphanumeric_stands test (c ∷ text) passes are =
     let parts = and_parts _ _ are in
@@ -64,7 +69,8 @@ alphanumeric_stands test (c ∷ text) passes are =
     ∙ ap (λ l. c ∷ l) (alphanumeric_stands test text passes parts.1)
 
 -- and each passes a test that such characters pass
-pub alphanumeric_all : (test : ℕ → Bool) (text : List ℕ) → ((c : ℕ) → is_ascii_alphanumeric c ≡ true → test c ≡ true) → is_alphanumeric text ≡ true → list_all test text ≡ true
+pub alphanumeric_all : (test : ℕ → Bool) (text : List ℕ) → ((c : ℕ) → is_ascii_alphanumeric c ≡ true → test c ≡ true)
+    → is_alphanumeric text ≡ true → list_all test text ≡ true
 alphanumeric_all test [] passes are = refl
 alphanumeric_all test (c ∷ text) passes are =
     let parts = and_parts _ _ are in

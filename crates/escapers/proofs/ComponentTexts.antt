@@ -1,5 +1,6 @@
 -- A text as a part of a URI: what it has, and how it is read back.
-use Rattle.std.proofs.Common.{◌≡◌, ℕ, ◌+◌, ◌*◌, ◌/◌, ◌%◌, ◌<◌, true, false, eqb, List, [], ◌∷◌, ◌++◌, refl, sym, ap, ◌∙◌, subst, ⊎_elim, encode_utf8, encode_utf8_all, arith}
+use Rattle.std.proofs.Common.{◌≡◌, ℕ, ◌+◌, ◌*◌, ◌/◌, ◌%◌, ◌<◌, true, false, eqb, List, [], ◌∷◌, ◌++◌, refl, sym, ap}
+use Rattle.std.proofs.Common.{◌∙◌, subst, ⊎_elim, encode_utf8, encode_utf8_all, arith}
 use Rattle.std.specs.Char.{IsScalar}
 use Rattle.std.specs.List.{AllByRecursion, flat_map}
 use Rattle.std.specs.Str.{chars, all_scalars}
@@ -39,7 +40,8 @@ digit_number-upper_digit n small = grind (arith, nat_tests)
 -- ---- what it has
 
 -- encoded bytes before such a text make such a text
-bytes_written : (bs rest : List ℕ) → AllByRecursion IsByte bs → IsComponentText rest → IsComponentText (flat_map encoded_byte bs ++ rest)
+bytes_written : (bs rest : List ℕ) → AllByRecursion IsByte bs → IsComponentText rest
+    → IsComponentText (flat_map encoded_byte bs ++ rest)
 bytes_written [] rest are more = more
 bytes_written (b ∷ bs) rest are more =
     let small : b < 256 = are.0 in
@@ -65,7 +67,8 @@ byte_decoded b rest small =
     let value : 16 * digit_number (upper_digit (b / 16)) + digit_number (upper_digit (b % 16)) ≡ b = rw (high, low) (omega arith) in
     ap (λ d. d ∷ decoded_bytes rest) value
 
-bytes_decoded : (bs rest : List ℕ) → AllByRecursion IsByte bs → decoded_bytes (flat_map encoded_byte bs ++ rest) ≡ bs ++ decoded_bytes rest
+bytes_decoded : (bs rest : List ℕ) → AllByRecursion IsByte bs
+    → decoded_bytes (flat_map encoded_byte bs ++ rest) ≡ bs ++ decoded_bytes rest
 bytes_decoded [] rest are = refl
 bytes_decoded (b ∷ bs) rest are =
     byte_decoded b (flat_map encoded_byte bs ++ rest) are.0 ∙ ap (λ l. b ∷ l) (bytes_decoded bs rest are.1)
@@ -82,7 +85,8 @@ unreserved_is : (c : ℕ) → is_unreserved c ≡ true → (c < 128) × (eqb c p
 unreserved_is c passes = grind (arith, nat_tests)
 
 -- what stands for a character is read as its bytes
-character_decoded : (c : ℕ) (rest : List ℕ) → IsScalar c → decoded_bytes (component_character c ++ rest) ≡ encode_utf8 c ++ decoded_bytes rest
+character_decoded : (c : ℕ) (rest : List ℕ) → IsScalar c
+    → decoded_bytes (component_character c ++ rest) ≡ encode_utf8 c ++ decoded_bytes rest
 character_decoded c rest is =
     ⊎_elim
     (λ passes.
@@ -94,7 +98,8 @@ character_decoded c rest is =
     ∙ bytes_decoded (encode_utf8 c) rest (scalar_bytes c is))
     (cases_Bool (is_unreserved c))
 
-component_decoded : (text : List ℕ) → all_scalars text ≡ true → decoded_bytes (uri_component text) ≡ encode_utf8_all text
+component_decoded : (text : List ℕ) → all_scalars text ≡ true
+    → decoded_bytes (uri_component text) ≡ encode_utf8_all text
 component_decoded [] are = refl
 component_decoded (c ∷ text) are =
     let both = and_parts _ _ are in

@@ -1,5 +1,6 @@
 -- Each `&` of a text escaped by the rows of HTML begins a reference.
-use Rattle.std.proofs.Common.{◌≡◌, ℕ, Bool, true, false, not, ◌&&◌, ◌||◌, eqb, List, [], ◌∷◌, ◌++◌, None, refl, ap, ◌∙◌, subst, arith}
+use Rattle.std.proofs.Common.{◌≡◌, ℕ, Bool, true, false, not, ◌&&◌, ◌||◌, eqb, List, [], ◌∷◌, ◌++◌, None, refl, ap, ◌∙◌}
+use Rattle.std.proofs.Common.{subst, arith}
 use Rattle.std.proofs.lemmas.Bool.{and_parts}
 use Rattle.std.proofs.lemmas.Bool.Decides.{nat_tests}
 use Rattle.esc_table.specs.EscapedText.{escaped_text}
@@ -33,11 +34,13 @@ html_holds =
     (λ _ h. h, (λ _ h. h, (λ _ h. h, (λ _ h. h, (λ _ h. h, (λ _ h. h, (λ _ h. h, tt))))))) plain_kept refl
 
 -- a reference begins at an `&` in the text
-from_ampersand : (before after : List ℕ) → has_references (before ++ ampersand ∷ after) ≡ true → begins_reference (ampersand ∷ after) ≡ true
+from_ampersand : (before after : List ℕ) → has_references (before ++ ampersand ∷ after) ≡ true
+    → begins_reference (ampersand ∷ after) ≡ true
 from_ampersand [] after holds = (and_parts _ _ holds).0
 from_ampersand (c ∷ before) after holds = from_ampersand before after (and_parts _ _ holds).1
 
 -- and does in every escaped text
-pub html_references_begin : (text before after : List ℕ) → escaped_text html_rows text ≡ before ++ ampersand ∷ after → begins_reference (ampersand ∷ after) ≡ true
+pub html_references_begin : (text before after : List ℕ) → escaped_text html_rows text ≡ before ++ ampersand ∷ after
+    → begins_reference (ampersand ∷ after) ≡ true
 html_references_begin text before after cut =
     from_ampersand before after (subst (λ l. has_references l ≡ true) cut (html_holds text))

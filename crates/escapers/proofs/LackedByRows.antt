@@ -1,5 +1,6 @@
 -- Characters that have rows, and are in no row's text, are in no text escaped by the rows.
-use Rattle.std.proofs.Common.{◌≡◌, ℕ, Bool, true, false, not, ◌&&◌, eqb, List, [], ◌∷◌, ◌++◌, None, refl, ap, ◌∙◌, ⊎_elim}
+use Rattle.std.proofs.Common.{◌≡◌, ℕ, Bool, true, false, not, ◌&&◌, eqb, List, [], ◌∷◌, ◌++◌, None, refl, ap, ◌∙◌}
+use Rattle.std.proofs.Common.{⊎_elim}
 use Rattle.std.specs.Prelude.{is_some}
 use Rattle.std.specs.List.{AllByRecursion, list_all}
 use Rattle.std.proofs.lemmas.Bool.{and_from, and_parts, both_ways, eqb-true, false_from_ne_true, or_cases}
@@ -10,7 +11,8 @@ use Rattle.soy_base.specs.Among.{is_one_of}
 use Rattle.escapers.proofs.KeptByRows.{Keeps, escaped_keeps}
 
 -- a test that holds of each of these holds of any one of them
-pub of_one : (test : ℕ → Bool) (these : List ℕ) (c : ℕ) → list_all test these ≡ true → is_one_of these c ≡ true → test c ≡ true
+pub of_one : (test : ℕ → Bool) (these : List ℕ) (c : ℕ) → list_all test these ≡ true → is_one_of these c ≡ true
+    → test c ≡ true
 of_one test [] c each one = absurd (both_ways false refl one)
 of_one test (d ∷ these) c each one =
     let parts = and_parts _ _ each in
@@ -20,10 +22,11 @@ of_one test (d ∷ these) c each one =
     (or_cases (eqb c d) (is_one_of these c) one)
 
 -- two texts that lack these make one that does
-pub lacks-append : (these prefix rest : List ℕ) → lacks these prefix ≡ true → lacks these rest ≡ true → lacks these (prefix ++ rest) ≡ true
-lacks-append these [] rest in_front in_rest = in_rest
-lacks-append these (c ∷ prefix) rest in_front in_rest =
-    let parts = and_parts _ _ in_front in
+pub lacks-append : (these prefix rest : List ℕ) → lacks these prefix ≡ true → lacks these rest ≡ true
+    → lacks these (prefix ++ rest) ≡ true
+lacks-append these [] rest in_prefix in_rest = in_rest
+lacks-append these (c ∷ prefix) rest in_prefix in_rest =
+    let parts = and_parts _ _ in_prefix in
     and_from _ _ parts.0 (lacks-append these prefix rest parts.1 in_rest)
 
 module _ (these : List ℕ) (rows : List (ℕ × List ℕ)) (have_rows : list_all (λ d. is_some (row_text rows d)) these ≡ true) where

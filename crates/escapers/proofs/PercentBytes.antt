@@ -1,5 +1,6 @@
 -- How the bytes of a text are percent-encoded, character by character.
-use Rattle.std.proofs.Common.{◌≡◌, ℕ, ◌/◌, ◌%◌, ◌<◌, ◌≤◌, Bool, true, false, not, List, [], ◌∷◌, ◌++◌, if◌then◌else◌, sym, ap, ◌∙◌, ⊎_elim, encode_utf8, encode_utf8_all, arith}
+use Rattle.std.proofs.Common.{◌≡◌, ℕ, ◌/◌, ◌%◌, ◌<◌, ◌≤◌, Bool, true, false, not, List, [], ◌∷◌, ◌++◌, if◌then◌else◌}
+use Rattle.std.proofs.Common.{sym, ap, ◌∙◌, ⊎_elim, encode_utf8, encode_utf8_all, arith}
 use Rattle.std.specs.Char.{IsScalar}
 use Rattle.std.specs.Fmt.{digit_glyph}
 use Rattle.std.specs.List.{AllByRecursion, flat_map}
@@ -12,7 +13,8 @@ use Rattle.percent_encoding.specs.declared.ascii_set.AsciiSet.{AsciiSet}
 use Rattle.percent_encoding.specs.AsciiSet.{contains, should_percent_encode}
 use Rattle.percent_encoding.specs.Percent.{percent_encode, percent_encode_byte}
 use Rattle.percent_encoding.proofs.AsciiSetLemmas.{kept_from_outside, escaped_from_inside}
-use Rattle.percent_encoding.proofs.PercentLemmas.{percent_encode-nil, percent_encode-append, percent_encode_escaped, percent_encode_kept, IsAscii-percent_encode}
+use Rattle.percent_encoding.proofs.PercentLemmas.{percent_encode-nil, percent_encode-append, percent_encode_escaped}
+use Rattle.percent_encoding.proofs.PercentLemmas.{percent_encode_kept, IsAscii-percent_encode}
 use Rattle.soy_base.specs.Characters.{percent_sign}
 use Rattle.escapers.specs.PercentEncoded.{encoded_byte, percent_encoded}
 
@@ -42,7 +44,8 @@ unfolding should_percent_encode
 high_encoded set b high = grind (arith, nat_tests)
 
 -- and so are all bytes of a character above ASCII
-pub all_encoded : (set : AsciiSet) (bs : List ℕ) → AllByRecursion IsHighByte bs → percent_encode set bs ≡ flat_map encoded_byte bs
+pub all_encoded : (set : AsciiSet) (bs : List ℕ) → AllByRecursion IsHighByte bs
+    → percent_encode set bs ≡ flat_map encoded_byte bs
 all_encoded set [] are = percent_encode-nil set
 all_encoded set (b ∷ bs) are =
     percent_encode_escaped set b bs (high_encoded set b are.0.0)

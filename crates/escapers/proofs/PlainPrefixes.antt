@@ -1,5 +1,6 @@
 -- The prefix whose characters stand for themselves, by the tables and by the sets of URIs.
-use Rattle.std.proofs.Common.{◌≡◌, ℕ, Bool, true, false, not, ◌&&◌, eqb, List, [], ◌∷◌, Some, refl, sym, ap, subst, ◌∙◌, ⊎_elim, unwrap_or, if◌then◌else◌}
+use Rattle.std.proofs.Common.{◌≡◌, ℕ, Bool, true, false, not, ◌&&◌, eqb, List, [], ◌∷◌, Some, refl, sym, ap, subst, ◌∙◌}
+use Rattle.std.proofs.Common.{⊎_elim, unwrap_or, if◌then◌else◌}
 use Rattle.std.specs.Prelude.{is_none, take_while}
 use Rattle.std.specs.Char.{is_ascii_alphanumeric}
 use Rattle.std.specs.List.{list_all}
@@ -50,7 +51,8 @@ abbrev has_no_own : List (ℕ × List ℕ) → Bool
 has_no_own rows = list_all (λ row. not (bytes_eq row.1 (row.0 ∷ []))) rows
 
 -- so a character stands for itself exactly where it has no row
-row_itself : (rows : List (ℕ × List ℕ)) (c : ℕ) → has_no_own rows ≡ true → has_no_row rows c ≡ bytes_eq (row_or_character rows c) (c ∷ [])
+row_itself : (rows : List (ℕ × List ℕ)) (c : ℕ) → has_no_own rows ≡ true
+    → has_no_row rows c ≡ bytes_eq (row_or_character rows c) (c ∷ [])
 row_itself [] c none = sym (itself (c ∷ []))
 row_itself (row ∷ rows) c none =
     let parts = and_parts _ _ none in
@@ -96,10 +98,12 @@ whole_plain cs = whole_prefix (stands_for_itself escaper.Plain) cs (all_themselv
 
 -- ---- letters and digits stand for themselves by each escaper by characters
 
-by_row : (rows : List (ℕ × List ℕ)) (c : ℕ) → has_no_alphanumeric_row rows ≡ true → is_ascii_alphanumeric c ≡ true → bytes_eq (row_or_character rows c) (c ∷ []) ≡ true
+by_row : (rows : List (ℕ × List ℕ)) (c : ℕ) → has_no_alphanumeric_row rows ≡ true → is_ascii_alphanumeric c ≡ true
+    → bytes_eq (row_or_character rows c) (c ∷ []) ≡ true
 by_row rows c none is = ap (λ o. bytes_eq (unwrap_or o (c ∷ [])) (c ∷ [])) (alphanumeric_row rows c none is) ∙ itself (c ∷ [])
 
-alphanumeric_itself : (how : Escaper) (c : ℕ) → is_by_characters how ≡ true → is_ascii_alphanumeric c ≡ true → stands_for_itself how c ≡ true
+alphanumeric_itself : (how : Escaper) (c : ℕ) → is_by_characters how ≡ true → is_ascii_alphanumeric c ≡ true
+    → stands_for_itself how c ≡ true
 alphanumeric_itself escaper.Html c by is = by_row html_rows c refl is
 alphanumeric_itself escaper.UriNormal c by is = sym (normal_itself c) ∙ or_left _ _ (or_left _ _ is)
 alphanumeric_itself escaper.UriComponent c by is = sym (unreserved_itself c) ∙ or_left _ _ is
@@ -112,11 +116,13 @@ alphanumeric_itself escaper.JsValue c by is = itself (c ∷ [])
 alphanumeric_itself escaper.CssValue c by is = itself (c ∷ [])
 alphanumeric_itself escaper.AsIs c by is = itself (c ∷ [])
 
-alphanumeric_all_themselves : (how : Escaper) → is_by_characters how ≡ true → (cs : List ℕ) → list_all is_ascii_alphanumeric cs ≡ true → list_all (stands_for_itself how) cs ≡ true
+alphanumeric_all_themselves : (how : Escaper) → is_by_characters how ≡ true → (cs : List ℕ)
+    → list_all is_ascii_alphanumeric cs ≡ true → list_all (stands_for_itself how) cs ≡ true
 alphanumeric_all_themselves how by [] are = refl
 alphanumeric_all_themselves how by (c ∷ cs) are =
     let parts = and_parts _ _ are in
     ap (λ b. b && list_all (stands_for_itself how) cs) (alphanumeric_itself how c by parts.0) ∙ alphanumeric_all_themselves how by cs parts.1
 
-pub alphanumeric_prefix : (how : Escaper) → is_by_characters how ≡ true → (cs : List ℕ) → list_all is_ascii_alphanumeric cs ≡ true → cs ≡ plain_prefix how cs
+pub alphanumeric_prefix : (how : Escaper) → is_by_characters how ≡ true → (cs : List ℕ)
+    → list_all is_ascii_alphanumeric cs ≡ true → cs ≡ plain_prefix how cs
 alphanumeric_prefix how by cs are = whole_prefix (stands_for_itself how) cs (alphanumeric_all_themselves how by cs are)

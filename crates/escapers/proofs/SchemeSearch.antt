@@ -23,7 +23,8 @@ not_either true b = refl
 not_either false b = refl
 
 -- what stands before the first `:` decides
-pub before_colon : (prefix back : List ℕ) → lacks (colon ∷ []) prefix ≡ true → has_scheme (prefix ++ colon ∷ back) ≡ not (list_any ends_scheme prefix)
+pub before_colon : (prefix back : List ℕ) → lacks (colon ∷ []) prefix ≡ true
+    → has_scheme (prefix ++ colon ∷ back) ≡ not (list_any ends_scheme prefix)
 before_colon [] back none = refl
 before_colon (c ∷ prefix) back none =
     ap (λ t. t || (not (ends_scheme c) && has_scheme (prefix ++ colon ∷ back))) (not_colon c prefix none)

@@ -1,5 +1,6 @@
 -- The prefix of a text in any ASCII case, by bytes and by characters.
-use Rattle.std.proofs.Common.{◌≡◌, ℕ, ◌<◌, ◌≤◌, Bool, true, false, ◌&&◌, eqb, List, [], ◌∷◌, ◌++◌, length, take, map, refl, sym, ap, ◌∙◌, ⊎_elim, encode_utf8, encode_utf8_all, IsTrue, ◌↔◌, arith}
+use Rattle.std.proofs.Common.{◌≡◌, ℕ, ◌<◌, ◌≤◌, Bool, true, false, ◌&&◌, eqb, List, [], ◌∷◌, ◌++◌, length, take, map}
+use Rattle.std.proofs.Common.{refl, sym, ap, ◌∙◌, ⊎_elim, encode_utf8, encode_utf8_all, IsTrue, ◌↔◌, arith}
 use Rattle.std.specs.Bool.{Decides}
 use Rattle.std.specs.Char.{to_ascii_lowercase}
 use Rattle.std.specs.List.{list_all}
@@ -19,12 +20,14 @@ high_other : (c d : ℕ) → c < 128 → 128 ≤ d → eqb (to_ascii_lowercase d
 high_other c d low high = grind (arith, nat_tests)
 
 -- a character above ASCII begins with a byte above ASCII
-high_first : (c d : ℕ) (prefix rest : List ℕ) → c < 128 → 128 ≤ d → begins_in_any_case (c ∷ prefix) (encode_utf8 d ++ rest) ≡ false
+high_first : (c d : ℕ) (prefix rest : List ℕ) → c < 128 → 128 ≤ d
+    → begins_in_any_case (c ∷ prefix) (encode_utf8 d ++ rest) ≡ false
 unfolding encode
 high_first c d prefix rest low high = grind (arith, nat_tests)
 
 -- bytes begin as their characters do
-begins_bytes : (prefix cs : List ℕ) → list_all is_scheme_character prefix ≡ true → begins_in_any_case prefix (encode_utf8_all cs) ≡ begins_in_any_case prefix cs
+begins_bytes : (prefix cs : List ℕ) → list_all is_scheme_character prefix ≡ true
+    → begins_in_any_case prefix (encode_utf8_all cs) ≡ begins_in_any_case prefix cs
 begins_bytes [] cs are = refl
 begins_bytes (c ∷ prefix) [] are = refl
 begins_bytes (c ∷ prefix) (d ∷ cs) are =

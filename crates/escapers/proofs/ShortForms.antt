@@ -1,5 +1,6 @@
 -- What stands for a character by rows whose texts are short: its bytes, and how many they are.
-use Rattle.std.proofs.Common.{◌≡◌, ℕ, ◌≤◌, true, eqb, List, [], ◌∷◌, length, Option, None, Some, sym, ap, subst, ◌∙◌, ⊎_elim, unwrap_or, option_map, Bor, encode_utf8, encode_utf8_all, append-nil, arith}
+use Rattle.std.proofs.Common.{◌≡◌, ℕ, ◌≤◌, true, eqb, List, [], ◌∷◌, length, Option, None, Some, sym, ap, subst, ◌∙◌}
+use Rattle.std.proofs.Common.{⊎_elim, unwrap_or, option_map, Bor, encode_utf8, encode_utf8_all, append-nil, arith}
 use Rattle.std.specs.Prelude.{IfSome, nat_lt}
 use Rattle.std.specs.Str.{chars, IsUtf8}
 use Rattle.std.proofs.lemmas.Bool.{and_parts, cases_Bool, cond-true, cond-false}
@@ -12,7 +13,8 @@ use Rattle.esc_table.specs.RowText.{row_text}
 use Rattle.escapers.specs.ShortRows.{are_short}
 
 -- a row's text is short
-short_row : (rows : List (ℕ × List ℕ)) (c : ℕ) → are_short rows ≡ true → IfSome (row_text rows c) (λ to. byte_len to ≤ 16)
+short_row : (rows : List (ℕ × List ℕ)) (c : ℕ) → are_short rows ≡ true
+    → IfSome (row_text rows c) (λ to. byte_len to ≤ 16)
 short_row [] c short = tt
 short_row (row ∷ rows) c short =
     let parts = and_parts (nat_lt (byte_len row.1) 17) (are_short rows) short in
@@ -39,5 +41,6 @@ found_bytes rows c None is utf8 = sym (ap (λ o. encode_utf8_all (unwrap_or o (c
 found_bytes rows c (Some text) is utf8 = sym (ap (λ o. encode_utf8_all (unwrap_or o (c ∷ []))) (sym is) ∙ encodes-chars text.now utf8)
 
 -- and its length is the number of those bytes
-pub found_len : (rows : List (ℕ × List ℕ)) (c : ℕ) (text : List ℕ) → Some (chars text) ≡ row_text rows c → IsUtf8 text → length text ≡ byte_len (row_or_character rows c)
+pub found_len : (rows : List (ℕ × List ℕ)) (c : ℕ) (text : List ℕ) → Some (chars text) ≡ row_text rows c → IsUtf8 text
+    → length text ≡ byte_len (row_or_character rows c)
 found_len rows c text is utf8 = sym (ap (λ o. byte_len (unwrap_or o (c ∷ []))) (sym is) ∙ byte_len-chars text utf8)

@@ -1,14 +1,17 @@
 -- A text as the start of a URI keeps its scheme, or has none still, once it is escaped.
-use Rattle.std.proofs.Common.{◌≡◌, ℕ, ◌/◌, ◌%◌, Bool, true, false, not, ◌&&◌, ◌||◌, eqb, List, [], ◌∷◌, ◌++◌, refl, sym, ap, ◌∙◌, subst, inl, inr, ⊎_elim, if◌then◌else◌, codes, encode_utf8, arith}
+use Rattle.std.proofs.Common.{◌≡◌, ℕ, ◌/◌, ◌%◌, Bool, true, false, not, ◌&&◌, ◌||◌, eqb, List, [], ◌∷◌, ◌++◌, refl, sym}
+use Rattle.std.proofs.Common.{ap, ◌∙◌, subst, inl, inr, ⊎_elim, if◌then◌else◌, codes, encode_utf8, arith}
 use Rattle.std.specs.Char.{to_ascii_lowercase}
 use Rattle.std.specs.List.{flat_map, list_all, list_any}
-use Rattle.std.proofs.lemmas.Bool.{and_from, and_parts, cases_Bool, cond-true, cond-false, eqb-true, not-true, or_cases, or_left, or_right}
+use Rattle.std.proofs.lemmas.Bool.{and_from, and_parts, cases_Bool, cond-true, cond-false, eqb-true, not-true, or_cases}
+use Rattle.std.proofs.lemmas.Bool.{or_left, or_right}
 use Rattle.std.proofs.lemmas.Bool.Decides.{nat_tests}
 use Rattle.escapers.specs.IsUriStartText.{IsUriStartText}
 use Rattle.escapers.specs.PercentEncoded.{upper_digit, encoded_byte, percent_encoded}
 use Rattle.soy_base.specs.Characters.{ampersand, colon}
 use Rattle.escapers.specs.UriNormal.{is_normal, normal_character, uri_normal}
-use Rattle.escapers.specs.UriStart.{allowed_schemes, begins_in_any_case, ends_scheme, has_allowed_scheme, has_scheme, invalid_uri, is_scheme_character, may_start_uri, uri_start}
+use Rattle.escapers.specs.UriStart.{allowed_schemes, begins_in_any_case, ends_scheme, has_allowed_scheme, has_scheme}
+use Rattle.escapers.specs.UriStart.{invalid_uri, is_scheme_character, may_start_uri, uri_start}
 
 -- ---- a text without a scheme
 
@@ -62,11 +65,13 @@ has_scheme-uri_normal (c ∷ text) =
 -- ---- a text with an allowed scheme
 
 -- a character of a scheme, in either case, stands for itself
-scheme_normal : (c d : ℕ) → is_scheme_character d ≡ true → to_ascii_lowercase c ≡ d → (eqb c ampersand ≡ false) × (is_normal c ≡ true)
+scheme_normal : (c d : ℕ) → is_scheme_character d ≡ true → to_ascii_lowercase c ≡ d
+    → (eqb c ampersand ≡ false) × (is_normal c ≡ true)
 scheme_normal c d scheme lower = grind (arith, nat_tests)
 
 -- so a scheme at the prefix stays there
-begins_normal : (prefix text : List ℕ) → list_all is_scheme_character prefix ≡ true → begins_in_any_case prefix text ≡ true → begins_in_any_case prefix (uri_normal text) ≡ true
+begins_normal : (prefix text : List ℕ) → list_all is_scheme_character prefix ≡ true
+    → begins_in_any_case prefix text ≡ true → begins_in_any_case prefix (uri_normal text) ≡ true
 begins_normal [] text are begins = refl
 begins_normal (d ∷ prefix) [] are begins = begins
 begins_normal (d ∷ prefix) (c ∷ text) are begins =
@@ -78,7 +83,8 @@ begins_normal (d ∷ prefix) (c ∷ text) are begins =
     ∙ and_from _ _ parts.0 (begins_normal prefix text scheme.1 parts.1)
 
 -- whichever of the schemes it is
-any_normal : (schemes : List (List ℕ)) (text : List ℕ) → list_all (list_all is_scheme_character) schemes ≡ true → list_any (λ scheme. begins_in_any_case scheme text) schemes ≡ true
+any_normal : (schemes : List (List ℕ)) (text : List ℕ) → list_all (list_all is_scheme_character) schemes ≡ true
+    → list_any (λ scheme. begins_in_any_case scheme text) schemes ≡ true
     → list_any (λ scheme. begins_in_any_case scheme (uri_normal text)) schemes ≡ true
 any_normal [] text are one = one
 any_normal (scheme ∷ schemes) text are one =

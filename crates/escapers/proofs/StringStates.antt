@@ -20,7 +20,8 @@ use Rattle.script_state.specs.declared.css_state.CssState.{CssState}
 use Rattle.script_state.specs.declared.css_state.CssState.TheVariants as css
 
 -- a character without a row is none that has one
-apart : (rows : List (ℕ × List ℕ)) (c d : ℕ) → is_some (row_text rows d) ≡ true → row_text rows c ≡ None → eqb c d ≡ false
+apart : (rows : List (ℕ × List ℕ)) (c d : ℕ) → is_some (row_text rows d) ≡ true → row_text rows c ≡ None
+    → eqb c d ≡ false
 apart rows c d some none =
     false_from_ne_true (eqb c d) (λ same. both_ways (is_some (row_text rows d)) (subst (λ e. is_some (row_text rows e) ≡ false) (eqb-true c d same) (ap is_some none)) some)
 

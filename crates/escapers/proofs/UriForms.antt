@@ -1,5 +1,7 @@
 -- The forms of characters in URIs: their bytes, how many they are, and which characters stand for themselves.
-use Rattle.std.proofs.Common.{◌≡◌, ℕ, ◌+◌, ◌*◌, ◌/◌, ◌%◌, ◌<◌, ◌≤◌, true, false, eqb, List, [], ◌∷◌, ◌++◌, length, refl, sym, ap, ◌∙◌, ⊎_elim, codes, if◌then◌else◌, encode_utf8, encode_utf8_all, append-nil, get_or, take, length-take, arith}
+use Rattle.std.proofs.Common.{◌≡◌, ℕ, ◌+◌, ◌*◌, ◌/◌, ◌%◌, ◌<◌, ◌≤◌, true, false, eqb, List, [], ◌∷◌, ◌++◌, length, refl}
+use Rattle.std.proofs.Common.{sym, ap, ◌∙◌, ⊎_elim, codes, if◌then◌else◌, encode_utf8, encode_utf8_all, append-nil}
+use Rattle.std.proofs.Common.{get_or, take, length-take, arith}
 use Rattle.std.specs.Char.{IsScalar, len_utf8}
 use Rattle.std.specs.List.{AllByRecursion, flat_map}
 use Rattle.std.specs.Str.{bytes_eq}

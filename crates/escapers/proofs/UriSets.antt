@@ -38,7 +38,8 @@ outside_uri = record {
 }
 
 -- where there is no `&`, the others stand for what they do
-pub normal_without : (cs : List ℕ) → lacks (ampersand ∷ []) cs ≡ true → flat_map (stands_for is_normal) cs ≡ uri_normal cs
+pub normal_without : (cs : List ℕ) → lacks (ampersand ∷ []) cs ≡ true
+    → flat_map (stands_for is_normal) cs ≡ uri_normal cs
 normal_without [] none = refl
 normal_without (c ∷ cs) none =
     let parts = and_parts _ _ none in

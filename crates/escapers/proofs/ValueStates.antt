@@ -1,5 +1,6 @@
 -- Whole values of a script and of a style lead back to where no literal, comment or escape is open.
-use Rattle.std.proofs.Common.{◌≡◌, ℕ, true, false, List, [], ◌∷◌, ◌++◌, Some, refl, sym, subst, ◌∙◌, ⊎_elim, codes, arith}
+use Rattle.std.proofs.Common.{◌≡◌, ℕ, true, false, List, [], ◌∷◌, ◌++◌, Some, refl, sym, subst, ◌∙◌, ⊎_elim, codes}
+use Rattle.std.proofs.Common.{arith}
 use Rattle.std.specs.List.{list_all}
 use Rattle.std.proofs.lemmas.Bool.{and_parts, both_ways, cases_Bool, cond-true, cond-false}
 use Rattle.std.proofs.lemmas.Bool.Decides.{nat_tests}
@@ -25,13 +26,15 @@ literal_leads text =
 word_character : (c : ℕ) → is_word_character c ≡ true → js_next js.Code c ≡ Some js.Code
 word_character c is = grind (arith, nat_tests)
 
-word_leads : (text rest : List ℕ) → list_all is_word_character text ≡ true → state_after js_next js.Code (text ++ rest) ≡ state_after js_next js.Code rest
+word_leads : (text rest : List ℕ) → list_all is_word_character text ≡ true
+    → state_after js_next js.Code (text ++ rest) ≡ state_after js_next js.Code rest
 word_leads [] rest are = refl
 word_leads (c ∷ text) rest are =
     let parts = and_parts _ _ are in
     state_after-cons js_next js.Code js.Code c (text ++ rest) (word_character c parts.0) ∙ word_leads text rest parts.1
 
-pub js_word_leads : (text : List ℕ) → list_all is_word_character text ≡ true → state_after js_next js.Code (js_word text) ≡ Some js.Code
+pub js_word_leads : (text : List ℕ) → list_all is_word_character text ≡ true
+    → state_after js_next js.Code (js_word text) ≡ Some js.Code
 js_word_leads text are = word_leads text (codes " ") are
 
 -- a character of a style's value
@@ -41,7 +44,8 @@ ready_character c is = grind (arith, nat_tests)
 code_character : (c : ℕ) → is_value_character c ≡ true → css_next css.Code c ≡ Some css.Code
 code_character c is = grind (arith, nat_tests)
 
-code_leads : (text : List ℕ) → list_all is_value_character text ≡ true → state_after css_next css.Code text ≡ Some css.Code
+code_leads : (text : List ℕ) → list_all is_value_character text ≡ true
+    → state_after css_next css.Code text ≡ Some css.Code
 code_leads [] are = refl
 code_leads (c ∷ text) are =
     let parts = and_parts _ _ are in

@@ -1,9 +1,9 @@
 -- The escaped form of a value's text by an escaper, in characters.
 --
--- An escaper by characters gives a form for each character, and the text's form is theirs, joined. UriStart and CssValue
--- first test the whole text. What an escaper makes of a text depends on the value's class for JsValue alone. Wrap and
--- AsIs give no text here: a wrapped text has an element with its direction around it, and what is printed as it is has
--- texts of its own.
+-- An escaper by characters gives a form for each character, and the text's form is theirs, joined. UriStart and
+-- CssValue first test the whole text. What an escaper makes of a text depends on the value's class for JsValue alone.
+-- Wrap and AsIs give no text here: a wrapped text has an element with its direction around it, and what is printed as
+-- it is has texts of its own.
 --
 -- By Html the text `<i>` becomes `&lt;i&gt;`, and by Plain it stays.
 use Rattle.std.specs.Prelude.{ℕ, List, [], ◌∷◌, Bool, true, false, Option, None, Some}

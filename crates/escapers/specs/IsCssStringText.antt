@@ -1,8 +1,8 @@
 -- A text that stays within a string of a style, whichever quote the string has, and within the style's element.
 --
--- Read by the table of styles from inside the string, it ends inside it, with no fault and no escape open. For a reader of
--- HTML it has no `<` and no U+0000, and for one that doesn't know escapes no quote and no line break (CSS Syntax Level 3,
--- "Consume a string token"; WHATWG HTML, "Tokenization").
+-- Read by the table of styles from inside the string, it ends inside it, with no fault and no escape open. For a reader
+-- of HTML it has no `<` and no U+0000, and for one that doesn't know escapes no quote and no line break (CSS Syntax
+-- Level 3, "Consume a string token"; WHATWG HTML, "Tokenization").
 --
 -- `a\22 b` is such a text; `a"b` ends a string, and `a\` leaves an escape open.
 use Rattle.std.specs.Prelude.{◌≡◌, ℕ, List, ◌∷◌, Some, IsTrue, codes}

@@ -1,8 +1,9 @@
--- A text that stays within a string literal of a script, whichever quote the literal has, and within the script's element.
+-- A text that stays within a string literal of a script, whichever quote the literal has, and within the script's
+-- element.
 --
--- Read by the table of scripts from inside the literal, it ends inside it, with no fault and no escape open. For a reader
--- of HTML it has no `<`, and for one that doesn't know escapes no quote, no backtick and no line break (ECMA-262, "String
--- Literals" and "Line Terminators"; WHATWG HTML, "Restrictions for contents of script elements").
+-- Read by the table of scripts from inside the literal, it ends inside it, with no fault and no escape open. For a
+-- reader of HTML it has no `<`, and for one that doesn't know escapes no quote, no backtick and no line break
+-- (ECMA-262, "String Literals" and "Line Terminators"; WHATWG HTML, "Restrictions for contents of script elements").
 --
 -- `it\x27s` is such a text; `it's` ends a literal, and `it\` leaves an escape open.
 use Rattle.std.specs.Prelude.{◌≡◌, ℕ, List, ◌∷◌, Some, IsTrue, codes}

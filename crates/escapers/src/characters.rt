@@ -80,7 +80,7 @@ pub fn plain_prefix(how: Escaper, text: &str) -> (&str, &str)
     ensures prefix_utf8 { IsUtf8 result.0.now }
     ensures rest_utf8 { IsUtf8 result.1.now }
 {
-    if is_alphanumeric(text) {
+    if begins_alphanumeric(text) && is_alphanumeric(text) {
         return (text, "");
     }
     match how {
@@ -93,4 +93,11 @@ pub fn plain_prefix(how: Escaper, text: &str) -> (&str, &str)
         Escaper::Wrap | Escaper::UriStart | Escaper::JsValue | Escaper::CssValue | Escaper::AsIs =>
             unreachable!(),
     }
+}
+
+/// Whether the text begins with letters and digits of ASCII: a cheap look before the whole is tested.
+fn begins_alphanumeric(text: &str) -> bool {
+    text.bytes()
+        .take(8)
+        .all(|byte| byte.is_ascii_alphanumeric())
 }

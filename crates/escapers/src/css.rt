@@ -35,8 +35,8 @@ pub(crate) fn push_css_value(out: &mut String, text: &str) -> Result<(), OutOfMe
     }
 }
 
-/// Whether the text is one value by its characters.
-fn is_css_value(text: &str) -> bool
+/// Whether the text passes as a value of a style: it isn't empty, and has letters, digits and `.%#_-` of ASCII alone.
+pub fn is_css_value(text: &str) -> bool
     ensures { result ≡ is_css_value (chars text.now) }
 {
     !text.is_empty() && has_value_characters(text)

@@ -29,7 +29,8 @@ pub fn escape(
     requires not_as_is { how ≢ Escaper.AsIs }
     requires of_class { IsEscaperOf how class }
     ensures escaped { IfOk result (λ out. esc how class (chars text.now) ≡ Some (chars (string_bytes out))) }
-    ensures bytes { IfOk result (λ out. option_map encode_utf8_all (esc how class (chars text.now)) ≡ Some (string_bytes out)) }
+    ensures bytes { IfOk result (λ out.
+        option_map encode_utf8_all (esc how class (chars text.now)) ≡ Some (string_bytes out)) }
 {
     let mut out = String::new(alloc);
     push(alloc, &mut out, how, class, text)?;

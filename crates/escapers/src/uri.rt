@@ -10,7 +10,8 @@ ghost use Rattle.soy_base.specs.Cuts.{prefix_while};
 ghost use Rattle.escapers.specs.PercentEncoded.{percent_encoded};
 ghost use Rattle.escapers.specs.UriComponent.{component_character, is_unreserved, uri_component};
 ghost use Rattle.escapers.specs.UriNormal.{is_normal, normal_character, uri_normal};
-ghost use Rattle.escapers.specs.UriStart.{begins_in_any_case, ends_scheme, has_allowed_scheme, has_scheme, is_scheme_character, may_start_uri, uri_start};
+ghost use Rattle.escapers.specs.UriStart.{begins_in_any_case, ends_scheme, has_allowed_scheme, has_scheme};
+ghost use Rattle.escapers.specs.UriStart.{is_scheme_character, may_start_uri, uri_start};
 
 use crate::alphanumeric::is_alphanumeric;
 use esc_table::Tail;
@@ -95,8 +96,9 @@ pub(crate) fn push_uri_start(out: &mut String, text: &str) -> Result<(), OutOfMe
     }
 }
 
-/// Whether the text has an allowed scheme or none.
-fn may_start_uri(text: &str) -> bool
+/// Whether the text may be the start of a URI: it has no scheme, or that of `http:`, `https:`, `mailto:` or `ftp:`, in
+/// any ASCII case (RFC 3986, 3.1).
+pub fn may_start_uri(text: &str) -> bool
     ensures { result ≡ may_start_uri (chars text.now) }
 {
     has_allowed_scheme(text) || !has_scheme(text)

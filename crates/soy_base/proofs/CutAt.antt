@@ -1,11 +1,14 @@
 -- Texts cut at one character, and split at each.
-use Rattle.std.proofs.Common.{◌≡◌, ℕ, ◌<◌, Some, None, true, false, not, cond, eqb, ◌==◌, ◌||◌, ◌&&◌, Bool, List, [], ◌∷◌, ◌++◌, Option, option_map, MatchOption, Bor, length, take, drop, refl, sym, ap, ◌∙◌, arith, length-drop, length-append, take-append-drop}
+use Rattle.std.proofs.Common.{◌≡◌, ℕ, ◌<◌, Some, None, true, false, not, cond, eqb, ◌==◌, ◌||◌, ◌&&◌, Bool, List, []}
+use Rattle.std.proofs.Common.{◌∷◌, ◌++◌, Option, option_map, MatchOption, Bor, length, take, drop, refl, sym, ap, ◌∙◌}
+use Rattle.std.proofs.Common.{arith, length-drop, length-append, take-append-drop}
 use Rattle.std.specs.List.{slice_split, onto_first}
 use Rattle.std.specs.Option.{option_or}
 use Rattle.std.specs.Str.{chars, IsUtf8, NoCharPasses, NonePass}
 use Rattle.std.specs.Str.Pattern.{FindsChar}
 use Rattle.std.proofs.lemmas.Bool.Decides.{nat_tests, same_from_decides, Decides-eqb}
-use Rattle.std.proofs.lemmas.Str.{chars-append, chars_past_char, chars_from_encodes, IsCharBoundary-before_ascii, IsUtf8-take, IsUtf8-drop, IsUtf8-past_char}
+use Rattle.std.proofs.lemmas.Str.{chars-append, chars_past_char, chars_from_encodes, IsCharBoundary-before_ascii}
+use Rattle.std.proofs.lemmas.Str.{IsUtf8-take, IsUtf8-drop, IsUtf8-past_char}
 use Rattle.std.proofs.lemmas.Str.Pattern.{IsSplitOnceResult, drop_at_char}
 use Rattle.soy_base.specs.Among.{lacks}
 use Rattle.soy_base.specs.Cuts.{cut}
@@ -28,7 +31,8 @@ cut-lacks d (c ∷ cs) h =
     rw (other_than d c parts.0, cut-lacks d cs parts.1) refl
 
 -- a text is cut at the first such character
-pub cut-at : (d : ℕ) (text rest : List ℕ) → lacks (d ∷ []) text ≡ true → cut (d ∷ []) (text ++ (d ∷ rest)) ≡ Some (text, rest)
+pub cut-at : (d : ℕ) (text rest : List ℕ) → lacks (d ∷ []) text ≡ true
+    → cut (d ∷ []) (text ++ (d ∷ rest)) ≡ Some (text, rest)
 cut-at d [] rest h = rw (same_as d) refl
 cut-at d (c ∷ cs) rest h =
     let parts = both_hold (not ((c == d) || false)) (lacks (d ∷ []) cs) h in
@@ -39,7 +43,8 @@ abbrev pub parts_of_cut : ℕ → List ℕ → Option (List ℕ × List ℕ) →
 parts_of_cut d text None = text ∷ []
 parts_of_cut d text (Some halves) = halves.0 ∷ slice_split (λ c. c == d) halves.1
 
-onto_first-parts : (d c : ℕ) (cs : List ℕ) (r : Option (List ℕ × List ℕ)) → onto_first c (parts_of_cut d cs r) ≡ parts_of_cut d (c ∷ cs) (option_map (λ halves. (c ∷ halves.0, halves.1)) r)
+onto_first-parts : (d c : ℕ) (cs : List ℕ) (r : Option (List ℕ × List ℕ))
+    → onto_first c (parts_of_cut d cs r) ≡ parts_of_cut d (c ∷ cs) (option_map (λ halves. (c ∷ halves.0, halves.1)) r)
 onto_first-parts d c cs None = refl
 onto_first-parts d c cs (Some halves) = refl
 
@@ -47,7 +52,9 @@ abbrev cut_by : ℕ → List ℕ → Bool → Option (List ℕ × List ℕ) → 
 cut_by c cs here later =
     option_or (option_map (λ rest. ([], rest)) (cond here (Some cs) None)) (option_map (λ parts. (c ∷ parts.0, parts.1)) later)
 
-parts_cons : (d c : ℕ) (cs : List ℕ) (t : Bool) → slice_split (λ c. c == d) cs ≡ parts_of_cut d cs (cut (d ∷ []) cs) → cond t ([] ∷ slice_split (λ c. c == d) cs) (onto_first c (slice_split (λ c. c == d) cs)) ≡ parts_of_cut d (c ∷ cs) (cut_by c cs t (cut (d ∷ []) cs))
+parts_cons : (d c : ℕ) (cs : List ℕ) (t : Bool) → slice_split (λ c. c == d) cs ≡ parts_of_cut d cs (cut (d ∷ []) cs)
+    → cond t ([] ∷ slice_split (λ c. c == d) cs) (onto_first c (slice_split (λ c. c == d) cs)) ≡ parts_of_cut d
+    (c ∷ cs) (cut_by c cs t (cut (d ∷ []) cs))
 parts_cons d c cs true h = refl
 parts_cons d c cs false h = ap (onto_first c) h ∙ onto_first-parts d c cs (cut (d ∷ []) cs)
 
@@ -109,7 +116,8 @@ Around d text r =
     (λ parts. (lacks (d ∷ []) (chars parts.0.now) ≡ true) × (chars text ≡ chars parts.0.now ++ d ∷ chars parts.1.now) × IsUtf8 parts.1.now)
 
 -- what `split_once` gives is such a cut
-pub split_once-around : (d : ℕ) (text : List ℕ) (r : Option (Bor (List ℕ) × Bor (List ℕ))) → d < 128 → IsUtf8 text → IsSplitOnceResult d text r → Around d text r
+pub split_once-around : (d : ℕ) (text : List ℕ) (r : Option (Bor (List ℕ) × Bor (List ℕ))) → d < 128 → IsUtf8 text
+    → IsSplitOnceResult d text r → Around d text r
 split_once-around d text None ascii utf8 none = lacks_text d text utf8 none
 split_once-around d text (Some parts) ascii utf8 (i, j, found, is_prefix, is_back, _, _, _) = (
   prefix_lacks d ascii text parts.0.now parts.1.now i j utf8 found is_prefix is_back,
@@ -118,7 +126,8 @@ split_once-around d text (Some parts) ascii utf8 (i, j, found, is_prefix, is_bac
 )
 
 -- it is the cut of the characters
-pub around-cut : (d : ℕ) (text : List ℕ) (r : Option (Bor (List ℕ) × Bor (List ℕ))) → Around d text r → option_map (λ parts. (chars parts.0.now, chars parts.1.now)) r ≡ cut (d ∷ []) (chars text)
+pub around-cut : (d : ℕ) (text : List ℕ) (r : Option (Bor (List ℕ) × Bor (List ℕ))) → Around d text r
+    → option_map (λ parts. (chars parts.0.now, chars parts.1.now)) r ≡ cut (d ∷ []) (chars text)
 around-cut d text None h = sym (cut-lacks d (chars text) h)
 around-cut d text (Some parts) h =
     sym (ap (cut (d ∷ [])) h.1 ∙ cut-at d (chars parts.0.now) (chars parts.1.now) h.0)

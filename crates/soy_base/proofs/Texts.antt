@@ -1,11 +1,15 @@
 -- Texts as bytes and as characters: where a text is cut, its characters are, and how many bytes they take.
-use Rattle.std.proofs.Common.{◌≡◌, ◌≢◌, ℕ, ◌+◌, ◌-◌, ◌<◌, ◌≤◌, Bool, true, false, not, List, [], ◌∷◌, ◌++◌, Option, Some, None, ◌==◌, option_map, MatchOption, IfSome, length, take, drop, Bor, refl, sym, ap, subst, ◌∙◌, arith, encode_utf8, encode_utf8_all, length-append}
+use Rattle.std.proofs.Common.{◌≡◌, ◌≢◌, ℕ, ◌+◌, ◌-◌, ◌<◌, ◌≤◌, Bool, true, false, not, List, [], ◌∷◌, ◌++◌, Option}
+use Rattle.std.proofs.Common.{Some, None, ◌==◌, option_map, MatchOption, IfSome, length, take, drop, Bor, refl, sym, ap}
+use Rattle.std.proofs.Common.{subst, ◌∙◌, arith, encode_utf8, encode_utf8_all, length-append}
 use Rattle.std.specs.Option.{option_or}
 use Rattle.std.specs.Str.{bytes_eq, chars, IsUtf8, IsCharBoundary, NoCharPasses, NonePass}
 use Rattle.std.specs.Str.Pattern.{FindsTextPrefix, StripsPrefix, FindsText, SplitsAroundMatch, HasPassingCharAt}
 use Rattle.std.proofs.lemmas.Bool.Decides.{nat_tests, same_from_decides}
 use Rattle.std.proofs.lemmas.Slice.Eq.{bytes_eq-Decides}
-use Rattle.std.proofs.lemmas.Str.{chars-append, chars-nil, encodes-chars, encodes-append, chars_past_char, chars_from_encodes, length-encode, len_utf8_bounds, chars-IsAscii, IsUtf8-append, IsUtf8-take, IsUtf8-drop, IsCharBoundary-at_seam}
+use Rattle.std.proofs.lemmas.Str.{chars-append, chars-nil, encodes-chars, encodes-append, chars_past_char}
+use Rattle.std.proofs.lemmas.Str.{chars_from_encodes, length-encode, len_utf8_bounds, chars-IsAscii, IsUtf8-append}
+use Rattle.std.proofs.lemmas.Str.{IsUtf8-take, IsUtf8-drop, IsCharBoundary-at_seam}
 use Rattle.std.proofs.lemmas.Str.Ascii.{IsAscii-cons, IsAscii-nil}
 use Rattle.std.proofs.lemmas.Str.Pattern.{split_text_parts}
 use Rattle.std.proofs.lemmas.List.{take-append-drop}
@@ -34,7 +38,8 @@ pub some_characters : (text : List ℕ) → IsUtf8 text → 0 < length text → 
 some_characters text utf8 some = some_encoded (chars text) text (encodes-chars text utf8) some
 
 -- the first character that `next` of `chars` gives
-pub next-first : (text before rest after : List ℕ) (c : ℕ) → IsUtf8 text → before ≡ text → before ≡ encode_utf8 c ++ rest → after ≡ rest → chars text ≡ c ∷ chars after
+pub next-first : (text before rest after : List ℕ) (c : ℕ) → IsUtf8 text → before ≡ text
+    → before ≡ encode_utf8 c ++ rest → after ≡ rest → chars text ≡ c ∷ chars after
 next-first text before rest after c utf8 same split left =
     chars_past_char text rest c utf8 (sym same ∙ split) ∙ ap (λ l. c ∷ chars l) (sym left)
 
@@ -58,11 +63,13 @@ after_prefix-whole [] text rest h = cc
 after_prefix-whole (f ∷ fs) [] rest h = cc
 after_prefix-whole (f ∷ fs) (c ∷ cs) rest h = grind (arith, nat_tests, after_prefix-whole fs cs rest)
 
-pub after_prefix-none : (prefix text : List ℕ) → ((rest : List ℕ) → text ≢ prefix ++ rest) → after_prefix prefix text ≡ None
+pub after_prefix-none : (prefix text : List ℕ) → ((rest : List ℕ) → text ≢ prefix ++ rest)
+    → after_prefix prefix text ≡ None
 after_prefix-none prefix text h = none_of (after_prefix prefix text) (λ rest e. h rest (after_prefix-whole prefix text rest e))
 
 -- a text without the delimiter isn't cut
-pub cut-none : (delimiter text : List ℕ) → ((prefix back : List ℕ) → text ≢ prefix ++ (delimiter ++ back)) → cut delimiter text ≡ None
+pub cut-none : (delimiter text : List ℕ) → ((prefix back : List ℕ) → text ≢ prefix ++ (delimiter ++ back))
+    → cut delimiter text ≡ None
 cut-none delimiter [] h = refl
 cut-none delimiter (c ∷ cs) h =
     let here : after_prefix delimiter (c ∷ cs) ≡ None = after_prefix-none delimiter (c ∷ cs) (h []) in
@@ -70,7 +77,9 @@ cut-none delimiter (c ∷ cs) h =
     rw (here, later) refl
 
 -- a text is cut at the first delimiter in it
-pub cut-first : (delimiter prefix back : List ℕ) → 0 < length delimiter → ((a rest : List ℕ) → length a < length prefix → prefix ++ (delimiter ++ back) ≢ a ++ (delimiter ++ rest)) → cut delimiter (prefix ++ (delimiter ++ back)) ≡ Some (prefix, back)
+pub cut-first : (delimiter prefix back : List ℕ) → 0 < length delimiter
+    → ((a rest : List ℕ) → length a < length prefix → prefix ++ (delimiter ++ back) ≢ a ++ (delimiter ++ rest))
+    → cut delimiter (prefix ++ (delimiter ++ back)) ≡ Some (prefix, back)
 cut-first [] [] back some h = absurd (omega (arith, some))
 cut-first (m ∷ ms) [] back some h = rw (after_prefix-append (m ∷ ms) back) refl
 cut-first delimiter (c ∷ cs) back some h =
@@ -79,7 +88,8 @@ cut-first delimiter (c ∷ cs) back some h =
     rw (here, later) refl
 
 -- the parts of a cut with the delimiter between them are the text
-pub cut-whole : (delimiter text : List ℕ) → IfSome (cut delimiter text) (λ parts. text ≡ parts.0 ++ (delimiter ++ parts.1))
+pub cut-whole : (delimiter text : List ℕ)
+    → IfSome (cut delimiter text) (λ parts. text ≡ parts.0 ++ (delimiter ++ parts.1))
 cut-whole delimiter [] = tt
 cut-whole delimiter (c ∷ cs) = whole_by (after_prefix delimiter (c ∷ cs)) (cut delimiter cs) (λ rest e. after_prefix-whole delimiter (c ∷ cs) rest e) (cut-whole delimiter cs)
   where
@@ -90,7 +100,8 @@ cut-whole delimiter (c ∷ cs) = whole_by (after_prefix delimiter (c ∷ cs)) (c
     whole_by None (Some parts) h k = ap (λ l. c ∷ l) k
 
 -- of two prefixes of one text the shorter one takes fewer bytes
-shorter_prefix : (a b x y : List ℕ) → a ++ x ≡ b ++ y → length a < length b → length (encode_utf8_all a) < length (encode_utf8_all b)
+shorter_prefix : (a b x y : List ℕ) → a ++ x ≡ b ++ y → length a < length b
+    → length (encode_utf8_all a) < length (encode_utf8_all b)
 shorter_prefix a [] x y e l = absurd (omega (arith, l))
 shorter_prefix [] (d ∷ ds) x y e l = omega (arith, length-append (encode_utf8 d) (encode_utf8_all ds), length-encode d, len_utf8_bounds d)
 shorter_prefix (c ∷ cs) (d ∷ ds) x y e l =
@@ -99,7 +110,9 @@ shorter_prefix (c ∷ cs) (d ∷ ds) x y e l =
     omega (arith, fewer, ap (λ c. length (encode_utf8 c)) same, length-append (encode_utf8 c) (encode_utf8_all cs), length-append (encode_utf8 d) (encode_utf8_all ds))
 
 -- the bytes of a prefix, a delimiter and a back
-spelled_cut : (text delimiter prefix back : List ℕ) → IsUtf8 text → IsUtf8 delimiter → chars text ≡ prefix ++ (chars delimiter ++ back) → text ≡ encode_utf8_all prefix ++ (delimiter ++ encode_utf8_all back)
+spelled_cut : (text delimiter prefix back : List ℕ) → IsUtf8 text → IsUtf8 delimiter
+    → chars text ≡ prefix ++ (chars delimiter ++ back)
+    → text ≡ encode_utf8_all prefix ++ (delimiter ++ encode_utf8_all back)
 spelled_cut text delimiter prefix back utf8 utf8_delimiter e =
     sym (encodes-chars text utf8) ∙ ap encode_utf8_all e ∙ encodes-append prefix (chars delimiter ++ back)
     ∙ ap (λ l. encode_utf8_all prefix ++ l) (encodes-append (chars delimiter) back ∙ ap (λ l. l ++ encode_utf8_all back) (encodes-chars delimiter utf8_delimiter))
@@ -148,7 +161,9 @@ module _ (passes : ℕ → Bool) where
       (grind (arith, nat_tests, h.0, later.0), grind (arith, nat_tests, h.0, later.1))
 
 -- what `strip_prefix` gives is what follows the prefix
-pub strip_prefix-after_prefix : (prefix text : List ℕ) (r : Option (Bor (List ℕ))) → IsUtf8 prefix → IsUtf8 text → MatchOption r (FindsTextPrefix prefix text None) (λ x. StripsPrefix (FindsTextPrefix prefix) text x.now) → option_map (λ x. chars x.now) r ≡ after_prefix (chars prefix) (chars text)
+pub strip_prefix-after_prefix : (prefix text : List ℕ) (r : Option (Bor (List ℕ))) → IsUtf8 prefix → IsUtf8 text
+    → MatchOption r (FindsTextPrefix prefix text None) (λ x. StripsPrefix (FindsTextPrefix prefix) text x.now)
+    → option_map (λ x. chars x.now) r ≡ after_prefix (chars prefix) (chars text)
 strip_prefix-after_prefix prefix text None utf8_prefix utf8 h =
     sym (after_prefix-none (chars prefix) (chars text) (λ rest e. h (encode_utf8_all rest) (spelled_cut text prefix [] rest utf8 utf8_prefix e)))
 strip_prefix-after_prefix prefix text (Some x) utf8_prefix utf8 h =
@@ -219,7 +234,8 @@ empty_nil (b ∷ bs) utf8 =
     no ∙ some_not_nil (chars (b ∷ bs)) (some_characters (b ∷ bs) utf8 (omega arith))
 
 -- so a test of its bytes is one of its characters
-pub no_bytes : (bytes seen : List ℕ) (result : Bool) → IsUtf8 bytes → seen ≡ bytes → result ≡ (length seen == 0) → result ≡ is_nil (chars bytes)
+pub no_bytes : (bytes seen : List ℕ) (result : Bool) → IsUtf8 bytes → seen ≡ bytes → result ≡ (length seen == 0)
+    → result ≡ is_nil (chars bytes)
 no_bytes bytes seen result utf8 e r = r ∙ (ap (λ l. length l == 0) e ∙ empty_nil bytes utf8)
 
 -- texts of the same characters are the same

@@ -5,7 +5,11 @@
 -- Example: a file that is too long is refused with 2 and TooLarge.
 use Rattle.std.specs.Prelude.{ℕ, List, codes}
 use Rattle.soy_base.specs.declared.code.Code.{Code}
-use Rattle.soy_base.specs.declared.code.Code.TheVariants.{NotUtf8, TooLarge, Lex, Syntax, Nesting, Twice, Unknown, Mistyped, Argument, Place, Mixed, EndState, InName, States, Ampersand, Reference, Script, UriStart, Kind, Bundle, Icu, Rule, Placeholder, Selector, IdClash, NotJson, DataType, Entry, NotYet, TooDeep, Step, TooLong}
+use Rattle.soy_base.specs.declared.code.Code.TheVariants.{NotUtf8, TooLarge, Lex, Syntax, Nesting, Twice, Unknown}
+use Rattle.soy_base.specs.declared.code.Code.TheVariants.{Mistyped, Argument, Place, Mixed, EndState, InName, States}
+use Rattle.soy_base.specs.declared.code.Code.TheVariants.{Ampersand, Reference, Script, UriStart, Kind, Bundle, Icu}
+use Rattle.soy_base.specs.declared.code.Code.TheVariants.{Rule, Placeholder, Selector, IdClash, NotJson, DataType}
+use Rattle.soy_base.specs.declared.code.Code.TheVariants.{Entry, NotYet, TooDeep, Step, TooLong}
 
 -- the number of a code
 abbrev pub code_number : Code → ℕ

@@ -1,6 +1,7 @@
 -- Where a text is cut: after a prefix, around the first delimiter in it, and where its characters stop passing a test.
 --
--- Example: `a*/b*/` cut around `*/` is `a` and `b*/`; the longest prefix of letters of `ab1.` is `ab`, and `1.` follows.
+-- Example: `a*/b*/` cut around `*/` is `a` and `b*/`; the longest prefix of letters of `ab1.` is `ab`, and `1.`
+-- follows.
 use Rattle.std.specs.Prelude.{◌≡◌, ℕ, List, [], ◌∷◌, Bool, true, false, ◌==◌, if◌then◌else◌}
 use Rattle.std.specs.Prelude.{Option, None, Some, option_map}
 use Rattle.std.specs.Option.{option_or}

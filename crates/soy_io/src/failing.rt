@@ -77,7 +77,8 @@ impl MemoryLibrary {
     /// The library of these files, whose n-th fetch, counted from 1, fails where n is in `fails`;
     /// of two files of one name the first is held.
     pub fn new(files: Vec<NamedFile>, fails: Vec<u64>) -> MemoryLibrary
-        ensures { result ≡ record { files = files.items; made = record { fails = fails.items; calls = 0; faults = 0 } } }
+        ensures { result
+            ≡ record { files = files.items; made = record { fails = fails.items; calls = 0; faults = 0 } } }
     {
         MemoryLibrary {
             files,
@@ -135,7 +136,8 @@ impl MemorySink {
     /// counted from 1, fails where n is in `fails`.
     pub fn new(alloc: Global, most: usize, fails: Vec<u64>) -> MemorySink
         requires { 0 < most }
-        ensures { result ≡ record { taken = []; most = most; made = record { fails = fails.items; calls = 0; faults = 0 } } }
+        ensures { result
+            ≡ record { taken = []; most = most; made = record { fails = fails.items; calls = 0; faults = 0 } } }
     {
         MemorySink {
             taken: Vec::new(alloc),

@@ -1,4 +1,4 @@
--- Chunks that come to a run, and whose characters are pieces one after the other.
+-- Chunks that come to a run, and whose characters are segments one after the other.
 use Rattle.std.proofs.Common.{◌≡◌, ℕ, ◌+◌, List, [], ◌∷◌, ◌++◌, Bool, true, false, ◌&&◌, IsTrue, refl, sym, subst, ◌∙◌}
 use Rattle.std.proofs.Common.{arith, append-nil, append_assoc}
 use Rattle.std.specs.List.{list_all}

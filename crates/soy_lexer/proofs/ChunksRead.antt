@@ -1,4 +1,4 @@
--- A chunk in the reading of a text: its characters are pieces one after the other, all of a run.
+-- A chunk in the reading of a text: its characters are segments one after the other, all of a run.
 use Rattle.std.proofs.Common.{◌≡◌, ℕ, ◌+◌, ◌<◌, ◌≤◌, ◌==◌, List, [], ◌∷◌, ◌++◌, Bool, true, false, Option, IsTrue}
 use Rattle.std.proofs.Common.{length, refl, sym, ap, subst, ◌∙◌, arith, append-nil, append_assoc, length-append}
 use Rattle.std.specs.List.{list_all}
@@ -7,29 +7,29 @@ use Rattle.std.proofs.lemmas.Bool.Decides.{nat_tests}
 use Rattle.soy_base.specs.Cuts.{is_nil, prefix_while}
 use Rattle.soy_base.specs.WhiteSpace.{is_template_space}
 use Rattle.soy_base.specs.ByteLength.{byte_len}
-use Rattle.soy_lexer.specs.Lexed.{TakesPiece}
+use Rattle.soy_lexer.specs.Lexed.{TakesSegment}
 use Rattle.soy_lexer.specs.Lines.{RunCharacter}
-use Rattle.soy_lexer.specs.Piece.{Piece, source_text}
+use Rattle.soy_lexer.specs.Segment.{Segment, source_text}
 use Rattle.soy_lexer.specs.ModeAfter.{mode_after}
 use Rattle.soy_lexer.specs.declared.mode.Mode.{Mode}
 use Rattle.soy_lexer.specs.Found.Found.{Begins}
-use Rattle.soy_lexer.specs.Piece.Piece.{TextCharacter}
+use Rattle.soy_lexer.specs.Segment.Segment.{TextCharacter}
 use Rattle.soy_lexer.specs.declared.mode.Mode.TheVariants.{Outside, Opened, Inside}
-use Rattle.soy_lexer.specs.Pieces.{Pieces}
-use Rattle.soy_lexer.specs.Pieces.Pieces.{Goes}
-use Rattle.soy_lexer.specs.TextPiece.{piece_of}
+use Rattle.soy_lexer.specs.Segments.{Segments}
+use Rattle.soy_lexer.specs.Segments.Segments.{Goes}
+use Rattle.soy_lexer.specs.TextSegment.{segment_of}
 use Rattle.soy_lexer.specs.Chunks.{is_chunk_character, chunk, after_chunk, mode_after_chunk, run_characters}
 use Rattle.soy_lexer.specs.Chunks.{TakesCharacters}
 use Rattle.soy_lexer.specs.declared.lexer.Lexer.{Lexer}
 use Rattle.soy_lexer.specs.declared.token.Token.{Token}
-use Rattle.soy_lexer.proofs.CommandPieces.{while-whole}
+use Rattle.soy_lexer.proofs.CommandSegments.{while-whole}
 use Rattle.soy_lexer.proofs.Reading.{GoesOn, Whole, next, offset_after, smaller}
 use Rattle.soy_base.proofs.Texts.{byte_len-append}
 use Rattle.soy_lexer.proofs.ChunksAdded.{first_of_chunk, chunk_white}
 
--- a text that begins with a character of a chunk begins with that as a piece
+-- a text that begins with a character of a chunk begins with that as a segment
 chunk_begins : (white : Bool) (c : ℕ) (cs : List ℕ) → IsTrue (is_chunk_character c)
-    → piece_of (Outside white) (c ∷ cs) ≡ Begins (TextCharacter c) cs
+    → segment_of (Outside white) (c ∷ cs) ≡ Begins (TextCharacter c) cs
 chunk_begins white c cs h = by_white white
   where
     no_slash : (47 == c) ≡ false
@@ -47,7 +47,7 @@ chunk_begins white c cs h = by_white white
     no_null : (0 == c) ≡ false
     no_null = grind (arith, nat_tests, h)
 
-    by_white : (white : Bool) → piece_of (Outside white) (c ∷ cs) ≡ Begins (TextCharacter c) cs
+    by_white : (white : Bool) → segment_of (Outside white) (c ∷ cs) ≡ Begins (TextCharacter c) cs
     by_white true = rw (no_slash, no_brace, no_opening, no_closing, no_null) refl
     by_white false = rw (no_slash, no_brace, no_opening, no_closing, no_null) refl
 
@@ -89,10 +89,10 @@ stays_outside [] = refl
 stays_outside (c ∷ cs) = refl
 
 module _ (text : List ℕ) (tokens : List Token) where
-  -- what the pieces to come make of the whole
+  -- what the segments to come make of the whole
   abbrev Makes : ℕ → List RunCharacter → Mode → List ℕ → Type 0
   Makes offset run mode rest =
-      (ps : List Piece) (stop : Option ℕ) → Pieces offset mode rest ps stop → Whole text tokens offset run ps stop
+      (ps : List Segment) (stop : Option ℕ) → Segments offset mode rest ps stop → Whole text tokens offset run ps stop
 
   -- no characters
   none_made : (mode : Mode) (rest : List ℕ) (offset : ℕ) (run : List RunCharacter) → Makes offset run mode rest
@@ -107,11 +107,11 @@ module _ (text : List ℕ) (tokens : List Token) where
       Makes (offset + len_utf8 c) (run ++ record { offset = offset; character = c } ∷ []) (Outside false) rest
   one_made c white rest offset run is makes ps stop d =
       let one : offset + byte_len (c ∷ []) ≡ offset + len_utf8 c = omega arith in
-      let before : Pieces (offset + byte_len (c ∷ [])) (Outside (is_template_space c)) rest ps stop = rw
+      let before : Segments (offset + byte_len (c ∷ [])) (Outside (is_template_space c)) rest ps stop = rw
       (one, chunk_white c is) d in
       let w = makes (TextCharacter c ∷ ps) stop
       (Goes offset (Outside white) c rest (TextCharacter c) rest ps stop (chunk_begins white c rest is) before) in
-      rw (← one) (record { pieces = w.pieces; whole = w.whole; tokens_are = w.tokens_are })
+      rw (← one) (record { segments = w.segments; whole = w.whole; tokens_are = w.tokens_are })
 
   -- a chunk
   chunk_made : (w : List ℕ) → IsTrue (list_all is_chunk_character w)
@@ -130,8 +130,8 @@ module _ (text : List ℕ) (tokens : List Token) where
       subst (λ l. Whole text tokens (offset + byte_len (c ∷ cs)) l ps stop)
       (append_assoc run (here ∷ []) (run_characters (offset + len_utf8 c) cs))
       (subst (λ n. Whole text tokens n ((run ++ here ∷ []) ++ run_characters (offset + len_utf8 c) cs) ps stop) same
-      (more ps stop (subst (λ n. Pieces n (mode_after_chunk (Outside false) cs) rest ps stop) (sym same)
-      (subst (λ s. Pieces (offset + byte_len (c ∷ cs)) s rest ps stop) (sym (stays_outside cs)) d))))
+      (more ps stop (subst (λ n. Segments n (mode_after_chunk (Outside false) cs) rest ps stop) (sym same)
+      (subst (λ s. Segments (offset + byte_len (c ∷ cs)) s rest ps stop) (sym (stays_outside cs)) d))))
 
   -- the chunk at the start of the rest
   prefix_made : (mode : Mode) (rest : List ℕ) (offset : ℕ) (run : List RunCharacter) → Makes offset run mode rest →
@@ -140,7 +140,7 @@ module _ (text : List ℕ) (tokens : List Token) where
   prefix_made (Outside white) rest offset run makes =
       chunk_made (chunk (Outside white) rest) (all_chunk (Outside white) rest) white (after_chunk (Outside white) rest)
       offset run
-      (λ ps stop d. makes ps stop (subst (λ l. Pieces offset (Outside white) l ps stop)
+      (λ ps stop d. makes ps stop (subst (λ l. Segments offset (Outside white) l ps stop)
       (sym (chunk_whole (Outside white) rest)) d))
   prefix_made Opened rest offset run makes = none_made Opened rest offset run makes
   prefix_made Inside rest offset run makes = none_made Inside rest offset run makes
@@ -158,9 +158,9 @@ chunk_next text rest mode lexer lexer' offset old takes = record {
   goes = prefix_made text old.tokens mode rest offset old.run old.goes;
 }
 
--- a piece and then a chunk
+-- a segment and then a chunk
 module _ (text rest : List ℕ) (mode : Mode) (lexer : Lexer) (offset : ℕ) (old : GoesOn text rest mode lexer offset)
-    (p : Piece) (rest' : List ℕ) (begins : piece_of mode rest ≡ Begins p rest') (mode' : Mode) where
+    (p : Segment) (rest' : List ℕ) (begins : segment_of mode rest ≡ Begins p rest') (mode' : Mode) where
   -- end within the text
   pub chunk_within : byte_len text ≡ ((offset + byte_len (source_text p)) + byte_len (chunk mode' rest')) + byte_len
       (after_chunk mode' rest')
@@ -172,7 +172,7 @@ module _ (text rest : List ℕ) (mode : Mode) (lexer : Lexer) (offset : ℕ) (ol
 
   -- and the reading goes on after both
   pub both_next : (lexer' lexer'' : Lexer) → is_nil rest ≡ false → mode' ≡ mode_after mode p
-      → TakesPiece lexer lexer' offset p →
+      → TakesSegment lexer lexer' offset p →
       TakesCharacters lexer' lexer'' (run_characters (offset + byte_len (source_text p)) (chunk mode' rest')) →
       GoesOn text (after_chunk mode' rest') (mode_after_chunk mode' (chunk mode' rest')) lexer''
       ((offset + byte_len (source_text p)) + byte_len (chunk mode' rest'))

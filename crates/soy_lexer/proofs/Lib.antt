@@ -1,14 +1,14 @@
-pub mod OnePieces
+pub mod OneSegments
 pub mod SourceTexts
-pub mod SomePieces
+pub mod SomeSegments
 pub mod Running
 pub mod Represented
-pub mod TextPieces
+pub mod TextSegments
 pub mod ChunksAdded
 pub mod Reading
 pub mod ChunksRead
 pub mod Ordered
 pub mod Chunks
-pub mod CommandPieces
+pub mod CommandSegments
 pub mod StringReading
 mod LongestTokens

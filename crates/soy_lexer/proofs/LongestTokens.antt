@@ -10,23 +10,24 @@ use Rattle.std.proofs.lemmas.Bool.Decides.{nat_tests}
 use Rattle.soy_base.specs.WhiteSpace.{is_template_space}
 use Rattle.soy_base.specs.Names.{begins_name, continues_name, is_name}
 use Rattle.soy_base.specs.Cuts.{is_nil, after_prefix, cut, prefix_while, after_while}
-use Rattle.soy_lexer.specs.CommandPiece.{command_piece, white_piece, fixed_piece, name_prefix, name_piece}
-use Rattle.soy_lexer.specs.CommandPiece.{variable_piece, digits_piece, int_piece, quoted_piece, string_piece}
-use Rattle.soy_lexer.specs.CommandPiece.{value_piece, attribute_piece, one_of, symbols_of_one, symbols_of_two}
-use Rattle.soy_lexer.specs.CommandPiece.{largest_int, number_after}
+use Rattle.soy_lexer.specs.CommandSegment.{command_segment, white_segment, fixed_segment, name_prefix, name_segment}
+use Rattle.soy_lexer.specs.CommandSegment.{variable_segment, digits_segment, int_segment, quoted_segment}
+use Rattle.soy_lexer.specs.CommandSegment.{string_segment}
+use Rattle.soy_lexer.specs.CommandSegment.{value_segment, attribute_segment, one_of, symbols_of_one, symbols_of_two}
+use Rattle.soy_lexer.specs.CommandSegment.{largest_int, number_after}
 use Rattle.soy_lexer.specs.LongestToken.{is_int, is_symbol, StringRest, ValueRest, TokenForm, IsToken, GivesToken}
 use Rattle.soy_lexer.specs.LongestToken.{Reaches}
 use Rattle.soy_lexer.specs.LongestToken.StringRest.{Ends, Plain, Escape, Number}
 use Rattle.soy_lexer.specs.Found.{Found, begins, unless_null}
-use Rattle.soy_lexer.specs.Piece.{source_text}
+use Rattle.soy_lexer.specs.Segment.{source_text}
 use Rattle.soy_lexer.specs.Found.Found.{Begins, Fails}
-use Rattle.soy_lexer.specs.Piece.Piece.{CommandToken, Skipped, TextCharacter, Literal}
+use Rattle.soy_lexer.specs.Segment.Segment.{CommandToken, Skipped, TextCharacter, Literal}
 use Rattle.soy_lexer.specs.Strings.{Quoted, quoted, quoted_escape, quoted_number, escaped, numbered, with_character}
 use Rattle.soy_lexer.specs.declared.token.TokenKind.{TokenKind}
 use Rattle.soy_lexer.specs.declared.token.TokenKind.TheVariants as kind
-use Rattle.soy_lexer.proofs.CommandPieces.{begins_named, begins_int, begins_variable, digits_int, name_at, name_after}
-use Rattle.soy_lexer.proofs.CommandPieces.{some_parts, no_null-cons}
-use Rattle.soy_lexer.proofs.SourceTexts.{Stands, piece_stands}
+use Rattle.soy_lexer.proofs.CommandSegments.{begins_named, begins_int, begins_variable, digits_int, name_at, name_after}
+use Rattle.soy_lexer.proofs.CommandSegments.{some_parts, no_null-cons}
+use Rattle.soy_lexer.proofs.SourceTexts.{Stands, segment_stands}
 use Rattle.soy_lexer.specs.declared.mode.Mode.TheVariants.{Inside}
 use Rattle.soy_base.proofs.Texts.{cut-first}
 
@@ -63,7 +64,7 @@ abbrev Formed : Found → Type 0
 Formed (Begins (CommandToken k source_text value) rest) = IsToken k source_text
 Formed _ = Unit {0}
 
--- a piece of this form is a token where it begins
+-- a segment of this form is a token where it begins
 begins_token : (k : TokenKind) (source_text value rest : List ℕ) → TokenForm k source_text
     → Formed (begins (CommandToken k source_text value) rest)
 begins_token k source_text value rest form = token_by (cut (0 ∷ []) source_text) refl
@@ -86,7 +87,7 @@ unwrap_token : (a : Option Found) → FormedIf a → Formed (unwrap_or a (Fails 
 unwrap_token None h = tt
 unwrap_token (Some found) h = h
 
-fixed_token : (k : TokenKind) (prefix text : List ℕ) → TokenForm k prefix → FormedIf (fixed_piece k prefix text)
+fixed_token : (k : TokenKind) (prefix text : List ℕ) → TokenForm k prefix → FormedIf (fixed_segment k prefix text)
 fixed_token k prefix text form = fixed_by (after_prefix prefix text)
   where
     fixed_by : (o : Option (List ℕ)) → FormedIf (option_map (λ rest. begins (CommandToken k prefix prefix) rest) o)
@@ -112,7 +113,7 @@ name_named (c ∷ cs) = named_by (begins_name c) refl
     named_by false e = rw e tt
 
 name_token : (k : TokenKind) (before text : List ℕ)
-    → ((name : List ℕ) → is_name name ≡ true → TokenForm k (before ++ name)) → FormedIf (name_piece k before text)
+    → ((name : List ℕ) → is_name name ≡ true → TokenForm k (before ++ name)) → FormedIf (name_segment k before text)
 name_token k before text form = name_by (name_prefix text) (name_named text)
   where
     name_by : (o : Option (List ℕ × List ℕ)) → IfSome o (λ name. is_name name.0 ≡ true)
@@ -120,7 +121,7 @@ name_token k before text form = name_by (name_prefix text) (name_named text)
     name_by None h = tt
     name_by (Some name) h = begins_token k (before ++ name.0) name.0 name.1 (form name.0 h)
 
-white_token : (text : List ℕ) → FormedIf (white_piece text)
+white_token : (text : List ℕ) → FormedIf (white_segment text)
 white_token [] = tt
 white_token (c ∷ cs) = white_by (is_template_space c)
   where
@@ -132,15 +133,15 @@ white_token (c ∷ cs) = white_by (is_template_space c)
     white_by true = skipped_by (cut (0 ∷ []) (c ∷ []))
     white_by false = tt
 
-variable_token : (text : List ℕ) → FormedIf (variable_piece text)
+variable_token : (text : List ℕ) → FormedIf (variable_segment text)
 variable_token [] = tt
 variable_token (c ∷ cs) = variable_by (c == 36)
   where
-    variable_by : (t : Bool) → FormedIf (if t then name_piece kind.Variable (36 ∷ []) cs else None)
+    variable_by : (t : Bool) → FormedIf (if t then name_segment kind.Variable (36 ∷ []) cs else None)
     variable_by true = name_token kind.Variable (36 ∷ []) cs (λ name h. (refl, h))
     variable_by false = tt
 
-int_token : (text : List ℕ) → FormedIf (int_piece text)
+int_token : (text : List ℕ) → FormedIf (int_segment text)
 int_token [] = tt
 int_token (c ∷ cs) = int_by (c == 48) refl
   where
@@ -154,7 +155,7 @@ int_token (c ∷ cs) = int_by (c == 48) refl
     within_by false e digit h = tt
 
     digit_by : (t : Bool) → (c == 48) ≡ false → is_ascii_digit c ≡ t
-        → FormedIf (if t then Some (digits_piece (c ∷ prefix_while is_ascii_digit cs) (after_while is_ascii_digit cs))
+        → FormedIf (if t then Some (digits_segment (c ∷ prefix_while is_ascii_digit cs) (after_while is_ascii_digit cs))
         else None)
     digit_by true e digit =
         within_by (nat_le (number_after 0 (c ∷ prefix_while is_ascii_digit cs)) largest_int) e digit refl
@@ -162,7 +163,7 @@ int_token (c ∷ cs) = int_by (c == 48) refl
 
     int_by : (t : Bool) → (c == 48) ≡ t
         → FormedIf (if t then Some (begins (CommandToken kind.Int (c ∷ []) (c ∷ [])) cs) else if is_ascii_digit c
-        then Some (digits_piece (c ∷ prefix_while is_ascii_digit cs) (after_while is_ascii_digit cs)) else None)
+        then Some (digits_segment (c ∷ prefix_while is_ascii_digit cs) (after_while is_ascii_digit cs)) else None)
     int_by true e = begins_token kind.Int (c ∷ []) (c ∷ []) cs (rw e refl)
     int_by false e = digit_by (is_ascii_digit c) e refl
 
@@ -218,15 +219,15 @@ mutual
       then_rest (92 ∷ 117 ∷ a ∷ b ∷ c ∷ d ∷ []) (numbered a b c d) (quoted cs)
       (λ e is ds rest. Number a b c d e ds is rest) (quoted_rest cs)
 
-string_token : (text : List ℕ) → FormedIf (string_piece text)
+string_token : (text : List ℕ) → FormedIf (string_segment text)
 string_token [] = tt
 string_token (c ∷ cs) = string_by (c == 39)
   where
-    quoted_token : (o : Option Quoted) → IfSome o (λ q. StringRest q.source_text) → Formed (quoted_piece o)
+    quoted_token : (o : Option Quoted) → IfSome o (λ q. StringRest q.source_text) → Formed (quoted_segment o)
     quoted_token None h = tt
     quoted_token (Some q) h = begins_token kind.Str (39 ∷ q.source_text) q.value q.rest (refl, h)
 
-    string_by : (t : Bool) → FormedIf (if t then Some (quoted_piece (quoted cs)) else None)
+    string_by : (t : Bool) → FormedIf (if t then Some (quoted_segment (quoted cs)) else None)
     string_by true = quoted_token (quoted cs) (quoted_rest cs)
     string_by false = tt
 
@@ -245,18 +246,18 @@ cut_lacks delimiter (c ∷ cs) = lacks_by (delimiter == c) (cut (delimiter ∷ [
     lacks_by false None e h = tt
     lacks_by false (Some parts) e h = let apart : (c == delimiter) ≡ false = grind (arith, nat_tests, e) in rw apart h
 
-attribute_token : (text : List ℕ) → FormedIf (attribute_piece text)
+attribute_token : (text : List ℕ) → FormedIf (attribute_segment text)
 attribute_token [] = tt
 attribute_token (c ∷ cs) = attribute_by (c == 34)
   where
     value_token : (o : Option (List ℕ × List ℕ)) → IfSome o (λ parts. list_all (λ c. not (c == 34)) parts.0 ≡ true)
-        → Formed (value_piece o)
+        → Formed (value_segment o)
     value_token None h = tt
     value_token (Some parts) h =
         begins_token kind.Attribute (34 ∷ (parts.0 ++ 34 ∷ [])) parts.0 parts.1
         (refl, record { value = parts.0; is = refl; has_none = h })
 
-    attribute_by : (t : Bool) → FormedIf (if t then Some (value_piece (cut (34 ∷ []) cs)) else None)
+    attribute_by : (t : Bool) → FormedIf (if t then Some (value_segment (cut (34 ∷ []) cs)) else None)
     attribute_by true = value_token (cut (34 ∷ []) cs) (cut_lacks 34 cs)
     attribute_by false = tt
 
@@ -265,20 +266,20 @@ symbol_token : (symbols : List (List ℕ)) (text : List ℕ) → list_all is_sym
 symbol_token [] text h = tt
 symbol_token (symbol ∷ symbols) text h =
     let parts = both_hold (is_symbol symbol) (list_all is_symbol symbols) h in
-    or_token (fixed_piece kind.Symbol symbol text) (one_of symbols text) (fixed_token kind.Symbol symbol text parts.0)
+    or_token (fixed_segment kind.Symbol symbol text) (one_of symbols text) (fixed_token kind.Symbol symbol text parts.0)
     (symbol_token symbols text parts.1)
 
-command_formed : (text : List ℕ) → Formed (command_piece text)
+command_formed : (text : List ℕ) → Formed (command_segment text)
 command_formed text =
     unwrap_token _ (
-    or_token (white_piece text) _ (white_token text) (
-    or_token (fixed_piece kind.End (125 ∷ []) text) _ (fixed_token kind.End (125 ∷ []) text refl) (
-    or_token (fixed_piece kind.SlashEnd (47 ∷ 125 ∷ []) text) _ (fixed_token kind.SlashEnd (47 ∷ 125 ∷ []) text refl) (
-    or_token (name_piece kind.Word [] text) _ (name_token kind.Word [] text (λ name h. h)) (
-    or_token (variable_piece text) _ (variable_token text) (
-    or_token (int_piece text) _ (int_token text) (
-    or_token (string_piece text) _ (string_token text) (
-    or_token (attribute_piece text) _ (attribute_token text) (
+    or_token (white_segment text) _ (white_token text) (
+    or_token (fixed_segment kind.End (125 ∷ []) text) _ (fixed_token kind.End (125 ∷ []) text refl) (
+    or_token (fixed_segment kind.SlashEnd (47 ∷ 125 ∷ []) text) _ (fixed_token kind.SlashEnd (47 ∷ 125 ∷ []) text refl) (
+    or_token (name_segment kind.Word [] text) _ (name_token kind.Word [] text (λ name h. h)) (
+    or_token (variable_segment text) _ (variable_token text) (
+    or_token (int_segment text) _ (int_token text) (
+    or_token (string_segment text) _ (string_token text) (
+    or_token (attribute_segment text) _ (attribute_token text) (
     or_token (one_of symbols_of_two text) (one_of symbols_of_one text) (symbol_token symbols_of_two text refl)
     (symbol_token symbols_of_one text refl))))))))))
 
@@ -289,8 +290,8 @@ token_by text (Begins (Skipped skipped) rest) stands formed = tt
 token_by text (Begins (Literal literal) rest) stands formed = tt
 token_by text (Fails further) stands formed = tt
 
-pub command_token : (text : List ℕ) → GivesToken text (command_piece text)
-command_token text = token_by text (command_piece text) (piece_stands Inside text) (command_formed text)
+pub command_token : (text : List ℕ) → GivesToken text (command_segment text)
+command_token text = token_by text (command_segment text) (segment_stands Inside text) (command_formed text)
 
 -- more text makes the longest prefix that passes a test no shorter
 while_longer : (predicate : ℕ → Bool) (prefix more : List ℕ) → list_all predicate prefix ≡ true
@@ -312,7 +313,7 @@ name_parts : (c : ℕ) (cs more : List ℕ) → begins_name c ≡ true
 name_parts c cs more named = rw named refl
 
 word_reaches : (prefix more : List ℕ) → is_name prefix ≡ true
-    → Reaches prefix (prefix ++ more) (command_piece (prefix ++ more))
+    → Reaches prefix (prefix ++ more) (command_segment (prefix ++ more))
 word_reaches [] more h = cc
 word_reaches (c ∷ cs) more h =
     let both = both_hold (begins_name c) (list_all continues_name cs) h in
@@ -326,7 +327,7 @@ word_reaches (c ∷ cs) more h =
     (omega (arith, while_longer continues_name cs more both.1))
 
 variable_reaches : (c : ℕ) (prefix more : List ℕ) → c ≡ 36 → is_name prefix ≡ true
-    → Reaches (c ∷ prefix) (c ∷ (prefix ++ more)) (command_piece (c ∷ (prefix ++ more)))
+    → Reaches (c ∷ prefix) (c ∷ (prefix ++ more)) (command_segment (c ∷ (prefix ++ more)))
 variable_reaches c [] more is h = cc
 variable_reaches c (d ∷ ds) more is h =
     let both = both_hold (begins_name d) (list_all continues_name ds) h in
@@ -339,7 +340,7 @@ variable_reaches c (d ∷ ds) more is h =
     (omega (arith, while_longer continues_name ds more both.1))
 
 int_reaches : (prefix more : List ℕ) → is_int prefix ≡ true
-    → Reaches prefix (prefix ++ more) (command_piece (prefix ++ more))
+    → Reaches prefix (prefix ++ more) (command_segment (prefix ++ more))
 int_reaches [] more h = cc
 int_reaches (c ∷ cs) more h = int_by (c == 48) refl h
   where
@@ -354,7 +355,7 @@ int_reaches (c ∷ cs) more h = int_by (c == 48) refl h
 
     int_by : (t : Bool) → (c == 48) ≡ t
         → (if t then is_nil cs else (list_all is_ascii_digit (c ∷ cs) && nat_le (number_after 0 (c ∷ cs)) largest_int))
-        ≡ true → Reaches (c ∷ cs) (c ∷ (cs ++ more)) (command_piece (c ∷ (cs ++ more)))
+        ≡ true → Reaches (c ∷ cs) (c ∷ (cs ++ more)) (command_segment (c ∷ (cs ++ more)))
     int_by true e h =
         let is : c ≡ 48 = grind (arith, nat_tests, e) in
         let alone : cs ≡ [] = nothing_by cs h in
@@ -409,12 +410,12 @@ rest_reads _ more (Number a b c d e cs is rest) =
 
 string_reaches : (c : ℕ) (prefix more : List ℕ) → c ≡ 39 → StringRest prefix
     → list_all (λ c. not (c == 0)) (c ∷ prefix) ≡ true
-    → Reaches (c ∷ prefix) (c ∷ (prefix ++ more)) (command_piece (c ∷ (prefix ++ more)))
+    → Reaches (c ∷ prefix) (c ∷ (prefix ++ more)) (command_segment (c ∷ (prefix ++ more)))
 string_reaches c prefix more is rest plain =
     let reads = rest_reads prefix more rest in
     let no_null : cut (0 ∷ []) (39 ∷ prefix)
     ≡ None = cut-no_null (39 ∷ prefix) (subst (λ d. list_all (λ c. not (c == 0)) (d ∷ prefix) ≡ true) is plain) in
-    let found : command_piece (c ∷ (prefix ++ more)) ≡ Begins (CommandToken kind.Str (39 ∷ prefix) reads.0) more = rw
+    let found : command_segment (c ∷ (prefix ++ more)) ≡ Begins (CommandToken kind.Str (39 ∷ prefix) reads.0) more = rw
     (is, reads.1, no_null) refl in
     reaches_by (c ∷ prefix) (c ∷ (prefix ++ more)) kind.Str (39 ∷ prefix) reads.0 more _ found (omega arith)
 
@@ -432,7 +433,7 @@ no_earlier delimiter (c ∷ cs) back (d ∷ ds) rest h l e =
 
 attribute_reaches : (c : ℕ) (prefix more : List ℕ) → c ≡ 34 → ValueRest prefix
     → list_all (λ c. not (c == 0)) (c ∷ prefix) ≡ true
-    → Reaches (c ∷ prefix) (c ∷ (prefix ++ more)) (command_piece (c ∷ (prefix ++ more)))
+    → Reaches (c ∷ prefix) (c ∷ (prefix ++ more)) (command_segment (c ∷ (prefix ++ more)))
 attribute_reaches c prefix more is rest plain =
     let whole : prefix ++ more ≡ rest.value ++ (34 ∷ more) = ap (λ l. l ++ more) rest.is
     ∙ append_assoc rest.value (34 ∷ []) more in
@@ -442,7 +443,7 @@ attribute_reaches c prefix more is rest plain =
     let no_null : cut (0 ∷ []) (34 ∷ (rest.value ++ 34 ∷ [])) ≡ None = cut-no_null (34 ∷ (rest.value ++ 34 ∷ []))
     (subst (λ l. list_all (λ c. not (c == 0)) l ≡ true) (ap (λ d. d ∷ prefix) is ∙ ap (λ l. 34 ∷ l) rest.is) plain)
     in
-    let found : command_piece (c ∷ (prefix ++ more))
+    let found : command_segment (c ∷ (prefix ++ more))
     ≡ Begins (CommandToken kind.Attribute (34 ∷ (rest.value ++ 34 ∷ [])) rest.value) more = rw (is, parted, no_null)
     refl in
     reaches_by (c ∷ prefix) (c ∷ (prefix ++ more)) kind.Attribute (34 ∷ (rest.value ++ 34 ∷ [])) rest.value more _ found
@@ -472,14 +473,14 @@ one_of_each P (symbol ∷ symbols) text each h = each_by (bytes_eq text symbol) 
     each_by false e h later = later h
 
 abbrev SymbolReaches : List ℕ → Type 0
-SymbolReaches prefix = (more : List ℕ) → Reaches prefix (prefix ++ more) (command_piece (prefix ++ more))
+SymbolReaches prefix = (more : List ℕ) → Reaches prefix (prefix ++ more) (command_segment (prefix ++ more))
 
 question_reaches : SymbolReaches (63 ∷ [])
 question_reaches [] = omega arith
 question_reaches (d ∷ ds) = question_by (46 == d) (91 == d) (58 == d) (63 == d) refl refl refl refl
   where
     question_by : (t u v w : Bool) → (46 == d) ≡ t → (91 == d) ≡ u → (58 == d) ≡ v → (63 == d) ≡ w
-        → Reaches (63 ∷ []) (63 ∷ d ∷ ds) (command_piece (63 ∷ d ∷ ds))
+        → Reaches (63 ∷ []) (63 ∷ d ∷ ds) (command_segment (63 ∷ d ∷ ds))
     question_by true u v w e f g h = rw e (omega arith)
     question_by false true v w e f g h = rw (e, f) (omega arith)
     question_by false false true w e f g h = rw (e, f, g) (omega arith)
@@ -490,7 +491,7 @@ equals_reaches : SymbolReaches (61 ∷ [])
 equals_reaches [] = omega arith
 equals_reaches (d ∷ ds) = equals_by (61 == d) refl
   where
-    equals_by : (t : Bool) → (61 == d) ≡ t → Reaches (61 ∷ []) (61 ∷ d ∷ ds) (command_piece (61 ∷ d ∷ ds))
+    equals_by : (t : Bool) → (61 == d) ≡ t → Reaches (61 ∷ []) (61 ∷ d ∷ ds) (command_segment (61 ∷ d ∷ ds))
     equals_by true e = rw e (omega arith)
     equals_by false e = rw e (omega arith)
 
@@ -498,7 +499,7 @@ less_reaches : SymbolReaches (60 ∷ [])
 less_reaches [] = omega arith
 less_reaches (d ∷ ds) = less_by (61 == d) refl
   where
-    less_by : (t : Bool) → (61 == d) ≡ t → Reaches (60 ∷ []) (60 ∷ d ∷ ds) (command_piece (60 ∷ d ∷ ds))
+    less_by : (t : Bool) → (61 == d) ≡ t → Reaches (60 ∷ []) (60 ∷ d ∷ ds) (command_segment (60 ∷ d ∷ ds))
     less_by true e = rw e (omega arith)
     less_by false e = rw e (omega arith)
 
@@ -506,7 +507,7 @@ greater_reaches : SymbolReaches (62 ∷ [])
 greater_reaches [] = omega arith
 greater_reaches (d ∷ ds) = greater_by (61 == d) refl
   where
-    greater_by : (t : Bool) → (61 == d) ≡ t → Reaches (62 ∷ []) (62 ∷ d ∷ ds) (command_piece (62 ∷ d ∷ ds))
+    greater_by : (t : Bool) → (61 == d) ≡ t → Reaches (62 ∷ []) (62 ∷ d ∷ ds) (command_segment (62 ∷ d ∷ ds))
     greater_by true e = rw e (omega arith)
     greater_by false e = rw e (omega arith)
 
@@ -517,7 +518,7 @@ symbol_reaches prefix h =
     one_of_each SymbolReaches (symbols_of_two ++ symbols_of_one) prefix each h
 
 pub token_reaches : (k : TokenKind) (prefix more : List ℕ) → IsToken k prefix
-    → Reaches prefix (prefix ++ more) (command_piece (prefix ++ more))
+    → Reaches prefix (prefix ++ more) (command_segment (prefix ++ more))
 token_reaches kind.Text prefix more token = elim token.form [ ]
 token_reaches kind.Begin prefix more token = elim token.form [ ]
 token_reaches kind.BeginClose prefix more token = elim token.form [ ]

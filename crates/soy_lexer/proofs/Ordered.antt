@@ -12,19 +12,19 @@ use Rattle.soy_lexer.specs.IsRunOf.{AllFilled}
 use Rattle.soy_lexer.specs.InOrder.{InOrder}
 use Rattle.soy_lexer.specs.Lines.{RunCharacter, Line, without_start, without_end, trimmed, trimmed_after}
 use Rattle.soy_lexer.specs.Lines.{has_characters, lines_of, end_offset, last_end_offset}
-use Rattle.soy_lexer.specs.Piece.{Piece, source_text}
+use Rattle.soy_lexer.specs.Segment.{Segment, source_text}
 use Rattle.soy_lexer.specs.ModeAfter.{mode_after}
 use Rattle.soy_lexer.specs.declared.mode.Mode.{Mode}
-use Rattle.soy_lexer.specs.Piece.Piece.{TextCharacter, Skipped, Literal, CommandToken}
+use Rattle.soy_lexer.specs.Segment.Segment.{TextCharacter, Skipped, Literal, CommandToken}
 use Rattle.soy_lexer.specs.declared.mode.Mode.TheVariants.{Outside}
-use Rattle.soy_lexer.specs.Pieces.{Pieces}
-use Rattle.soy_lexer.specs.Pieces.Pieces.{Ended, Stopped, Goes}
-use Rattle.soy_lexer.specs.Tokens.{Tokens, token, token_of_lines, run_token, literal_start, piece_tokens, run_after}
+use Rattle.soy_lexer.specs.Segments.{Segments}
+use Rattle.soy_lexer.specs.Segments.Segments.{Ended, Stopped, Goes}
+use Rattle.soy_lexer.specs.Tokens.{Tokens, token, token_of_lines, run_token, literal_start, segment_tokens, run_after}
 use Rattle.soy_lexer.specs.Tokens.{tokens_of}
 use Rattle.soy_lexer.specs.declared.token.Token.{Token}
 use Rattle.soy_lexer.specs.declared.token.TokenKind.TheVariants as kind
 use Rattle.soy_lexer.proofs.Running.{end_offset-append}
-use Rattle.soy_lexer.proofs.SomePieces.{begins_stands}
+use Rattle.soy_lexer.proofs.SomeSegments.{begins_stands}
 use Rattle.soy_base.proofs.Texts.{byte_len-append}
 
 -- characters in the order of their offsets
@@ -238,53 +238,53 @@ literal_between : (offset : ℕ) (text : List ℕ) → (offset ≤ literal_start
 literal_between offset [] = (omega arith, omega arith)
 literal_between offset (c ∷ cs) = (omega arith, omega arith)
 
--- the tokens that a piece gives, before those that others give
-piece_in_order : (from offset end : ℕ) (run : List RunCharacter) (p : Piece) (others : List Token)
+-- the tokens that a segment gives, before those that others give
+segment_in_order : (from offset end : ℕ) (run : List RunCharacter) (p : Segment) (others : List Token)
     → 0 < byte_len (source_text p) → Ascends from offset run →
     ((from : ℕ) → Ascends from (offset + byte_len (source_text p)) (run_after offset run p) → InOrder from end others) →
-    InOrder from end (piece_tokens offset run p ++ others)
-piece_in_order from offset end run (TextCharacter c) others some a next =
+    InOrder from end (segment_tokens offset run p ++ others)
+segment_in_order from offset end run (TextCharacter c) others some a next =
     next from (subst (λ n. Ascends from n (run ++ record { offset = offset; character = c } ∷ []))
     (ap (λ n. offset + n) (sym (add-zero (len_utf8 c)))) (one_more from offset offset c run (omega arith) a))
-piece_in_order from offset end run (Skipped text) others some a next =
+segment_in_order from offset end run (Skipped text) others some a next =
     next from (to_later from offset (offset + byte_len text) run (omega arith) a)
-piece_in_order from offset end run (Literal text) others some a next =
+segment_in_order from offset end run (Literal text) others some a next =
     let start = literal_between offset text in
     let size = byte_len-literal text in
     let t : Token = token kind.Text (literal_start offset text) (offset + byte_len (source_text (Literal text))) text in
     subst (λ l. InOrder from end l) (sym (append_assoc (run_token run) (t ∷ []) others))
     (run_in_order from offset end run (t ∷ others) a
     (start.0, omega (arith, start.1, size), next (offset + byte_len (source_text (Literal text))) (omega arith)))
-piece_in_order from offset end run (CommandToken kind text value) others some a next =
+segment_in_order from offset end run (CommandToken kind text value) others some a next =
     let t : Token = token kind offset (offset + byte_len text) value in
     subst (λ l. InOrder from end l) (sym (append_assoc (run_token run) (t ∷ []) others))
     (run_in_order from offset end run (t ∷ others) a
     (omega arith, omega (arith, some), next (offset + byte_len text) (omega arith)))
 
--- the tokens of pieces, after those of a run
-pieces_in_order : (offset : ℕ) (mode : Mode) (text : List ℕ) (ps : List Piece) (stop : Option ℕ) (from : ℕ)
+-- the tokens of segments, after those of a run
+segments_in_order : (offset : ℕ) (mode : Mode) (text : List ℕ) (ps : List Segment) (stop : Option ℕ) (from : ℕ)
     (run : List RunCharacter) →
-    Pieces offset mode text ps stop → stop ≡ None → Ascends from offset run
+    Segments offset mode text ps stop → stop ≡ None → Ascends from offset run
     → InOrder from (offset + byte_len text) (tokens_of offset run ps)
-pieces_in_order _ _ _ _ _ from run (Ended offset mode) none a =
+segments_in_order _ _ _ _ _ from run (Ended offset mode) none a =
     subst (λ l. InOrder from (offset + 0) l) (append-nil (run_token run))
     (run_in_order from offset (offset + 0) run [] a (omega arith))
-pieces_in_order _ _ _ _ _ from run (Stopped offset mode c cs further fails) none a = absurd (cc)
-pieces_in_order _ _ _ _ _ from run (Goes offset mode c cs p rest ps stop begins d) none a =
+segments_in_order _ _ _ _ _ from run (Stopped offset mode c cs further fails) none a = absurd (cc)
+segments_in_order _ _ _ _ _ from run (Goes offset mode c cs p rest ps stop begins d) none a =
     let stands = begins_stands mode (c ∷ cs) p rest begins in
     let both : (offset + byte_len (source_text p)) + byte_len rest
     ≡ offset + byte_len (c ∷ cs) = omega (arith, ap byte_len stands.0, byte_len-append (source_text p) rest) in
-    piece_in_order from offset (offset + byte_len (c ∷ cs)) run p
+    segment_in_order from offset (offset + byte_len (c ∷ cs)) run p
     (tokens_of (offset + byte_len (source_text p)) (run_after offset run p) ps)
     (byte_len_some (source_text p) stands.1) a
     (λ later b. subst (λ n. InOrder later n (tokens_of (offset + byte_len (source_text p)) (run_after offset run p) ps))
     both
-    (pieces_in_order (offset + byte_len (source_text p)) (mode_after mode p) rest ps stop later (run_after offset run p)
+    (segments_in_order (offset + byte_len (source_text p)) (mode_after mode p) rest ps stop later (run_after offset run p)
     d none b))
 
 -- the tokens of a text stand in its order
 pub tokens_in_order : (text : List ℕ) (tokens : List Token) → Tokens text tokens → InOrder 0 (byte_len text) tokens
 tokens_in_order text tokens are =
     subst (λ l. InOrder 0 (byte_len text) l) (sym are.tokens_are)
-    (subst (λ n. InOrder 0 n (tokens_of 0 [] are.pieces)) (zero-add (byte_len text))
-    (pieces_in_order 0 (Outside true) text are.pieces None 0 [] are.whole refl (omega arith)))
+    (subst (λ n. InOrder 0 n (tokens_of 0 [] are.segments)) (zero-add (byte_len text))
+    (segments_in_order 0 (Outside true) text are.segments None 0 [] are.whole refl (omega arith)))

@@ -1,5 +1,5 @@
--- What a text begins with is what stands there: the characters of the piece, one at least, and then the rest. Where no
--- token begins, that is within the text.
+-- What a text begins with is what stands there: the characters of the segment, one at least, and then the rest. Where
+-- no token begins, that is within the text.
 use Rattle.std.proofs.Common.{IfSome, ◌≡◌, ℕ, ◌<◌, ◌≤◌, List, [], ◌∷◌, ◌++◌, length, Bool, true, false, nat_le, ◌==◌}
 use Rattle.std.proofs.Common.{if◌then◌else◌, Option, None, Some, option_map, option_and_then, codes, refl, sym, ◌∙◌, ap}
 use Rattle.std.proofs.Common.{subst, arith, eqb-true, append_assoc, length-append}
@@ -11,22 +11,24 @@ use Rattle.soy_base.specs.WhiteSpace.{is_template_space}
 use Rattle.soy_base.specs.Names.{begins_name, continues_name}
 use Rattle.soy_base.specs.Characters.{dollar_sign, single_quote, double_quote, backslash, left_brace, right_brace}
 use Rattle.soy_base.specs.Cuts.{after_prefix, cut, prefix_while, after_while}
-use Rattle.soy_lexer.specs.Piece.{Piece, source_text}
+use Rattle.soy_lexer.specs.Segment.{Segment, source_text}
 use Rattle.soy_lexer.specs.Found.{Found, begins, unless_null}
 use Rattle.soy_lexer.specs.declared.mode.Mode.{Mode}
-use Rattle.soy_lexer.specs.Piece.Piece.{TextCharacter, Skipped, Literal, CommandToken}
+use Rattle.soy_lexer.specs.Segment.Segment.{TextCharacter, Skipped, Literal, CommandToken}
 use Rattle.soy_lexer.specs.Found.Found.{Begins, Fails}
 use Rattle.soy_lexer.specs.declared.mode.Mode.TheVariants.{Outside, Opened, Inside}
 use Rattle.soy_lexer.specs.Strings.{Quoted, quoted, quoted_escape, quoted_number, with_character, escaped, numbered}
-use Rattle.soy_lexer.specs.CommandPiece.{command_piece, opened_piece, white_piece, fixed_piece, name_prefix, name_piece}
-use Rattle.soy_lexer.specs.CommandPiece.{variable_piece, digits_piece, largest_int, number_after, int_piece}
-use Rattle.soy_lexer.specs.CommandPiece.{quoted_piece, string_piece, value_piece, attribute_piece, symbols_of_two}
-use Rattle.soy_lexer.specs.CommandPiece.{symbols_of_one, one_of, symbol_piece, close_piece}
-use Rattle.soy_lexer.specs.TextPiece.{text_piece, block_comment, closed_comment, line_comment, continues_line}
-use Rattle.soy_lexer.specs.TextPiece.{literal_piece, closed_literal, plain_piece, may_begin, piece_of}
+use Rattle.soy_lexer.specs.CommandSegment.{command_segment, opened_segment, white_segment, fixed_segment, name_prefix}
+use Rattle.soy_lexer.specs.CommandSegment.{name_segment}
+use Rattle.soy_lexer.specs.CommandSegment.{variable_segment, digits_segment, largest_int, number_after, int_segment}
+use Rattle.soy_lexer.specs.CommandSegment.{quoted_segment, string_segment, value_segment, attribute_segment}
+use Rattle.soy_lexer.specs.CommandSegment.{symbols_of_two}
+use Rattle.soy_lexer.specs.CommandSegment.{symbols_of_one, one_of, symbol_segment, close_segment}
+use Rattle.soy_lexer.specs.TextSegment.{text_segment, block_comment, closed_comment, line_comment, continues_line}
+use Rattle.soy_lexer.specs.TextSegment.{literal_segment, closed_literal, plain_segment, may_begin, segment_of}
 use Rattle.soy_lexer.specs.declared.token.TokenKind.{TokenKind}
 use Rattle.soy_lexer.specs.declared.token.TokenKind.TheVariants as kind
-use Rattle.soy_lexer.proofs.CommandPieces.{while-whole}
+use Rattle.soy_lexer.proofs.CommandSegments.{while-whole}
 use Rattle.soy_base.proofs.Texts.{cut-whole, after_prefix-whole, byte_len-append}
 
 -- what is found is what the text begins with
@@ -67,8 +69,9 @@ after_parts prefix text f each (Some inner) e = each inner (after_prefix-whole p
 abbrev pub IsCut : List ℕ → List ℕ → Option (List ℕ × List ℕ) → Type 0
 IsCut delimiter text o = IfSome o (λ parts. text ≡ parts.0 ++ (delimiter ++ parts.1))
 
--- a piece is where its characters are, unless one is U+0000, which then is within the text
-unless_parts : (text : List ℕ) (p : Piece) (rest : List ℕ) → text ≡ source_text p ++ rest → 0 < length (source_text p) →
+-- a segment is where its characters are, unless one is U+0000, which then is within the text
+unless_parts : (text : List ℕ) (p : Segment) (rest : List ℕ) → text ≡ source_text p ++ rest
+    → 0 < length (source_text p) →
     (o : Option (List ℕ × List ℕ)) → IsCut (0 ∷ []) (source_text p) o → Stands text (unless_null o (Begins p rest))
 unless_parts text p rest e pos None h = (e, pos)
 unless_parts text p rest e pos (Some parts) h =
@@ -81,8 +84,8 @@ unless_parts text p rest e pos (Some parts) h =
           (0 ∷ parts.1),
     )
 
--- a piece with its source text and its rest
-begins_parts : (text : List ℕ) (p : Piece) (rest : List ℕ) → text ≡ source_text p ++ rest → 0 < length (source_text p)
+-- a segment with its source text and its rest
+begins_parts : (text : List ℕ) (p : Segment) (rest : List ℕ) → text ≡ source_text p ++ rest → 0 < length (source_text p)
     → Stands text (begins p rest)
 begins_parts text p rest e pos =
     unless_parts text p rest e pos (cut (0 ∷ []) (source_text p)) (cut-whole (0 ∷ []) (source_text p))
@@ -126,14 +129,14 @@ literal_ends text inner e (Some parts) h =
     (omega arith)
 
 -- a literal
-literal_parts : (text : List ℕ) → StandsIf text (literal_piece text)
+literal_parts : (text : List ℕ) → StandsIf text (literal_segment text)
 literal_parts text =
     after_parts (codes "{literal}") text (λ inner. closed_literal (cut (codes "{/literal}") inner))
     (λ inner e. literal_ends text inner e (cut (codes "{/literal}") inner) (cut-whole (codes "{/literal}") inner))
     (after_prefix (codes "{literal}") text) refl
 
 -- a `{` or a character of a run
-plain_parts : (text : List ℕ) → Stands text (plain_piece text)
+plain_parts : (text : List ℕ) → Stands text (plain_segment text)
 plain_parts [] = omega arith
 plain_parts (c ∷ cs) =
     if_ways (Stands (c ∷ cs)) (c == left_brace) _ _
@@ -143,25 +146,25 @@ plain_parts (c ∷ cs) =
     (begins_parts (c ∷ cs) (TextCharacter c) cs refl (omega arith)))
 
 -- whatever text begins with
-text_parts : (white : Bool) (text : List ℕ) → Stands text (text_piece white text)
+text_parts : (white : Bool) (text : List ℕ) → Stands text (text_segment white text)
 text_parts white text =
-    or_else text (option_or (block_comment text) (option_or (line_comment white text) (literal_piece text)))
-    (plain_piece text)
-    (or_ways text (block_comment text) (option_or (line_comment white text) (literal_piece text)) (block_parts text)
-    (or_ways text (line_comment white text) (literal_piece text) (line_parts white text) (literal_parts text)))
+    or_else text (option_or (block_comment text) (option_or (line_comment white text) (literal_segment text)))
+    (plain_segment text)
+    (or_ways text (block_comment text) (option_or (line_comment white text) (literal_segment text)) (block_parts text)
+    (or_ways text (line_comment white text) (literal_segment text) (line_parts white text) (literal_parts text)))
     (plain_parts text)
 
 -- commands
 
 -- white space in a command
-white_parts : (text : List ℕ) → StandsIf text (white_piece text)
+white_parts : (text : List ℕ) → StandsIf text (white_segment text)
 white_parts [] = tt
 white_parts (c ∷ cs) =
     if_ways (StandsIf (c ∷ cs)) (is_template_space c) _ _
     (λ _. begins_parts (c ∷ cs) (Skipped (c ∷ [])) cs refl (omega arith)) tt
 
 -- a token of these characters
-fixed_parts : (kind : TokenKind) (c : ℕ) (cs text : List ℕ) → StandsIf text (fixed_piece kind (c ∷ cs) text)
+fixed_parts : (kind : TokenKind) (c : ℕ) (cs text : List ℕ) → StandsIf text (fixed_segment kind (c ∷ cs) text)
 fixed_parts kind c cs text =
     after_parts (c ∷ cs) text (λ rest. begins (CommandToken kind (c ∷ cs) (c ∷ cs)) rest)
     (λ rest e. begins_parts text (CommandToken kind (c ∷ cs) (c ∷ cs)) rest e (omega arith))
@@ -189,26 +192,27 @@ named_parts kind before text (Some name) h =
     (omega (arith, length-append before name.0, h.1))
 
 -- a token of a name
-name_piece_parts : (kind : TokenKind) (before text : List ℕ) → StandsIf (before ++ text) (name_piece kind before text)
-name_piece_parts kind before text = named_parts kind before text (name_prefix text) (name_parts text)
+name_segment_parts : (kind : TokenKind) (before text : List ℕ)
+    → StandsIf (before ++ text) (name_segment kind before text)
+name_segment_parts kind before text = named_parts kind before text (name_prefix text) (name_parts text)
 
 -- a variable
-variable_parts : (text : List ℕ) → StandsIf text (variable_piece text)
+variable_parts : (text : List ℕ) → StandsIf text (variable_segment text)
 variable_parts [] = tt
 variable_parts (c ∷ cs) =
     if_ways (StandsIf (c ∷ cs)) (c == dollar_sign) _ _
-    (λ e. subst (λ d. StandsIf (d ∷ cs) (name_piece kind.Variable (dollar_sign ∷ []) cs))
-    (sym (eqb-true c dollar_sign e)) (name_piece_parts kind.Variable (dollar_sign ∷ []) cs)) tt
+    (λ e. subst (λ d. StandsIf (d ∷ cs) (name_segment kind.Variable (dollar_sign ∷ []) cs))
+    (sym (eqb-true c dollar_sign e)) (name_segment_parts kind.Variable (dollar_sign ∷ []) cs)) tt
 
 -- an int of these digits
 digits_parts : (text digits rest : List ℕ) → text ≡ digits ++ rest → 0 < length digits
-    → Stands text (digits_piece digits rest)
+    → Stands text (digits_segment digits rest)
 digits_parts text digits rest e pos =
     if_ways (Stands text) (nat_le (number_after 0 digits) largest_int) _ _
     (λ _. begins_parts text (CommandToken kind.Int digits digits) rest e pos) (omega arith)
 
 -- an int
-int_parts : (text : List ℕ) → StandsIf text (int_piece text)
+int_parts : (text : List ℕ) → StandsIf text (int_segment text)
 int_parts [] = tt
 int_parts (c ∷ cs) =
     if_ways (StandsIf (c ∷ cs)) (c == 48) _ _
@@ -268,23 +272,23 @@ mutual
       then_parts (backslash ∷ 117 ∷ a ∷ b ∷ c ∷ d ∷ []) cs (numbered a b c d) (quoted cs) (quoted_parts cs)
 
 -- a string with its first quote
-string_ends : (cs : List ℕ) (o : Option Quoted) → IsQuoted cs o → Stands (single_quote ∷ cs) (quoted_piece o)
+string_ends : (cs : List ℕ) (o : Option Quoted) → IsQuoted cs o → Stands (single_quote ∷ cs) (quoted_segment o)
 string_ends cs None h = omega arith
 string_ends cs (Some string) h =
     begins_parts (single_quote ∷ cs) (CommandToken kind.Str (single_quote ∷ string.source_text) string.value)
     string.rest (ap (λ xs. single_quote ∷ xs) h) (omega arith)
 
 -- a string
-string_parts : (text : List ℕ) → StandsIf text (string_piece text)
+string_parts : (text : List ℕ) → StandsIf text (string_segment text)
 string_parts [] = tt
 string_parts (c ∷ cs) =
     if_ways (StandsIf (c ∷ cs)) (c == single_quote) _ _
-    (λ e. subst (λ d. Stands (d ∷ cs) (quoted_piece (quoted cs))) (sym (eqb-true c single_quote e))
+    (λ e. subst (λ d. Stands (d ∷ cs) (quoted_segment (quoted cs))) (sym (eqb-true c single_quote e))
     (string_ends cs (quoted cs) (quoted_parts cs))) tt
 
 -- a value after its first quote
 value_ends : (cs : List ℕ) (o : Option (List ℕ × List ℕ)) → IsCut (double_quote ∷ []) cs o
-    → Stands (double_quote ∷ cs) (value_piece o)
+    → Stands (double_quote ∷ cs) (value_segment o)
 value_ends cs None h = omega arith
 value_ends cs (Some parts) h =
     begins_parts (double_quote ∷ cs)
@@ -292,11 +296,11 @@ value_ends cs (Some parts) h =
     (ap (λ xs. double_quote ∷ xs) (h ∙ sym (append_assoc parts.0 (double_quote ∷ []) parts.1))) (omega arith)
 
 -- a value
-attribute_parts : (text : List ℕ) → StandsIf text (attribute_piece text)
+attribute_parts : (text : List ℕ) → StandsIf text (attribute_segment text)
 attribute_parts [] = tt
 attribute_parts (c ∷ cs) =
     if_ways (StandsIf (c ∷ cs)) (c == double_quote) _ _
-    (λ e. subst (λ d. Stands (d ∷ cs) (value_piece (cut (double_quote ∷ []) cs))) (sym (eqb-true c double_quote e))
+    (λ e. subst (λ d. Stands (d ∷ cs) (value_segment (cut (double_quote ∷ []) cs))) (sym (eqb-true c double_quote e))
     (value_ends cs (cut (double_quote ∷ []) cs) (cut-whole (double_quote ∷ []) cs))) tt
 
 -- each symbol has a character
@@ -310,40 +314,40 @@ one_of_parts : (symbols : List (List ℕ)) (text : List ℕ) → AllSourceText s
 one_of_parts [] text h = tt
 one_of_parts ([] ∷ symbols) text h = absurd h
 one_of_parts ((c ∷ cs) ∷ symbols) text h =
-    or_ways text (fixed_piece kind.Symbol (c ∷ cs) text) (one_of symbols text) (fixed_parts kind.Symbol c cs text)
+    or_ways text (fixed_segment kind.Symbol (c ∷ cs) text) (one_of symbols text) (fixed_parts kind.Symbol c cs text)
     (one_of_parts symbols text h)
 
 -- a symbol
-symbol_parts : (text : List ℕ) → StandsIf text (symbol_piece text)
+symbol_parts : (text : List ℕ) → StandsIf text (symbol_segment text)
 symbol_parts text =
     or_ways text (one_of symbols_of_two text) (one_of symbols_of_one text) (one_of_parts symbols_of_two text tt)
     (one_of_parts symbols_of_one text tt)
 
 -- whatever a text in a command begins with
-command_parts : (text : List ℕ) → Stands text (command_piece text)
+command_parts : (text : List ℕ) → Stands text (command_segment text)
 command_parts text =
     or_else text _ (Fails 0)
-    (or_ways text (white_piece text) _ (white_parts text)
-    (or_ways text (fixed_piece kind.End (codes "}") text) _ (fixed_parts kind.End 125 [] text)
-    (or_ways text (fixed_piece kind.SlashEnd (codes "/}") text) _ (fixed_parts kind.SlashEnd 47 (125 ∷ []) text)
-    (or_ways text (name_piece kind.Word [] text) _ (name_piece_parts kind.Word [] text)
-    (or_ways text (variable_piece text) _ (variable_parts text)
-    (or_ways text (int_piece text) _ (int_parts text)
-    (or_ways text (string_piece text) _ (string_parts text)
-    (or_ways text (attribute_piece text) (symbol_piece text) (attribute_parts text) (symbol_parts text)))))))))
+    (or_ways text (white_segment text) _ (white_parts text)
+    (or_ways text (fixed_segment kind.End (codes "}") text) _ (fixed_parts kind.End 125 [] text)
+    (or_ways text (fixed_segment kind.SlashEnd (codes "/}") text) _ (fixed_parts kind.SlashEnd 47 (125 ∷ []) text)
+    (or_ways text (name_segment kind.Word [] text) _ (name_segment_parts kind.Word [] text)
+    (or_ways text (variable_segment text) _ (variable_parts text)
+    (or_ways text (int_segment text) _ (int_parts text)
+    (or_ways text (string_segment text) _ (string_parts text)
+    (or_ways text (attribute_segment text) (symbol_segment text) (attribute_parts text) (symbol_parts text)))))))))
     (omega arith)
 
 -- a slash with a name
-close_parts : (text : List ℕ) → StandsIf text (close_piece text)
+close_parts : (text : List ℕ) → StandsIf text (close_segment text)
 close_parts [] = tt
-close_parts (c ∷ cs) = if_ways (StandsIf (c ∷ cs)) (c == 47) _ _ (λ _. name_piece_parts kind.BeginClose (c ∷ []) cs) tt
+close_parts (c ∷ cs) = if_ways (StandsIf (c ∷ cs)) (c == 47) _ _ (λ _. name_segment_parts kind.BeginClose (c ∷ []) cs) tt
 
 -- whatever follows the `{` of a command
-opened_parts : (text : List ℕ) → Stands text (opened_piece text)
-opened_parts text = or_else text (close_piece text) (command_piece text) (close_parts text) (command_parts text)
+opened_parts : (text : List ℕ) → Stands text (opened_segment text)
+opened_parts text = or_else text (close_segment text) (command_segment text) (close_parts text) (command_parts text)
 
 -- in each mode a text begins with what stands there
-pub piece_stands : (mode : Mode) (text : List ℕ) → Stands text (piece_of mode text)
-piece_stands (Outside white) text = text_parts white text
-piece_stands Opened text = opened_parts text
-piece_stands Inside text = command_parts text
+pub segment_stands : (mode : Mode) (text : List ℕ) → Stands text (segment_of mode text)
+segment_stands (Outside white) text = text_parts white text
+segment_stands Opened text = opened_parts text
+segment_stands Inside text = command_parts text

@@ -1,9 +1,9 @@
--- The characters in which pieces stand, one piece after the other.
+-- The characters in which segments stand, one segment after the other.
 --
--- The pieces of `a{b}` stand in `a`, `{`, `b` and `}`.
+-- The segments of `a{b}` stand in `a`, `{`, `b` and `}`.
 use Rattle.std.specs.Prelude.{ℕ, List, [], ◌∷◌, ◌++◌}
-use Rattle.soy_lexer.specs.Piece.{Piece, source_text}
+use Rattle.soy_lexer.specs.Segment.{Segment, source_text}
 
-abbrev pub all_source_text : List Piece → List ℕ
+abbrev pub all_source_text : List Segment → List ℕ
 all_source_text [] = []
-all_source_text (piece ∷ pieces) = source_text piece ++ all_source_text pieces
+all_source_text (segment ∷ segments) = source_text segment ++ all_source_text segments

@@ -3,7 +3,7 @@
 -- "/if}" has the name "if", and "}" follows it.
 use Rattle.std.specs.Prelude.{ℕ, List, [], ◌∷◌, ◌==◌, if◌then◌else◌, Option, None}
 use Rattle.soy_base.specs.Characters.{slash}
-use Rattle.soy_lexer.specs.CommandPiece.{name_prefix}
+use Rattle.soy_lexer.specs.CommandSegment.{name_prefix}
 
 abbrev pub closing_name : List ℕ → Option (List ℕ × List ℕ)
 closing_name [] = None

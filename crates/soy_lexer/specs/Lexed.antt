@@ -6,8 +6,8 @@ use Rattle.soy_base.specs.declared.memory.Refusal.{Refusal}
 use Rattle.soy_base.specs.declared.memory.Refusal.TheVariants.{Because, OutOfMemory}
 use Rattle.soy_lexer.specs.IsRunOf.{IsRunOf}
 use Rattle.soy_lexer.specs.Lines.{RunCharacter}
-use Rattle.soy_lexer.specs.Piece.{Piece}
-use Rattle.soy_lexer.specs.Tokens.{Tokens, FirstFault, piece_tokens, run_after, run_token}
+use Rattle.soy_lexer.specs.Segment.{Segment}
+use Rattle.soy_lexer.specs.Tokens.{Tokens, FirstFault, segment_tokens, run_after, run_token}
 use Rattle.soy_lexer.specs.declared.lexer.Lexer.{Lexer}
 use Rattle.soy_lexer.specs.declared.token.Token.{Token}
 
@@ -21,11 +21,11 @@ pub record HasRead (lexer : Lexer) (tokens : List Token) (run : List RunCharacte
   pub tokens_are : lexer.tokens.items ≡ tokens
   pub run_is : IsRunOf lexer.run run
 
--- it takes a piece that stands at this offset
-abbrev pub TakesPiece : Lexer → Lexer → ℕ → Piece → Type 0
-TakesPiece old new offset piece =
+-- it takes a segment that stands at this offset
+abbrev pub TakesSegment : Lexer → Lexer → ℕ → Segment → Type 0
+TakesSegment old new offset segment =
     (tokens : List Token) (run : List RunCharacter) → HasRead old tokens run
-    → HasRead new (tokens ++ piece_tokens offset run piece) (run_after offset run piece)
+    → HasRead new (tokens ++ segment_tokens offset run segment) (run_after offset run segment)
 
 -- it ends its run, whose token it takes if anything is left of it
 abbrev pub EndsRun : Lexer → Lexer → Type 0

@@ -10,9 +10,9 @@ use Rattle.std.specs.Str.{bytes_eq}
 use Rattle.soy_base.specs.Names.{is_name}
 use Rattle.soy_base.specs.Cuts.{is_nil, prefix_while}
 use Rattle.soy_base.specs.Characters.{dollar_sign, single_quote, double_quote, backslash, null}
-use Rattle.soy_lexer.specs.CommandPiece.{largest_int, number_after, symbols_of_one, symbols_of_two}
+use Rattle.soy_lexer.specs.CommandSegment.{largest_int, number_after, symbols_of_one, symbols_of_two}
 use Rattle.soy_lexer.specs.Found.{Found}
-use Rattle.soy_lexer.specs.Piece.Piece.{CommandToken}
+use Rattle.soy_lexer.specs.Segment.Segment.{CommandToken}
 use Rattle.soy_lexer.specs.Found.Found.{Begins, Fails}
 use Rattle.soy_lexer.specs.Strings.{escaped, numbered}
 use Rattle.soy_lexer.specs.declared.token.TokenKind.{TokenKind}

@@ -1,4 +1,4 @@
-//! The pieces of commands.
+//! The segments of commands.
 
 ghost use Rattle.std.specs.Prelude.{◌≡◌, ℕ, List, [], ◌∷◌, ◌++◌, IsTrue, nat_le, is_some, unwrap_or, option_map};
 ghost use Rattle.std.specs.Prelude.{MatchOption, codes, true};
@@ -8,18 +8,18 @@ ghost use Rattle.soy_base.specs.Names.{begins_name};
 ghost use Rattle.soy_base.specs.Characters.{slash, dollar_sign, double_quote};
 ghost use Rattle.soy_base.specs.WhiteSpace.{is_template_space};
 ghost use Rattle.soy_lexer.specs.ClosingName.{closing_name};
-ghost use Rattle.soy_lexer.specs.CommandPiece.{command_piece, fixed_piece, int_piece, largest_int, name_prefix};
-ghost use Rattle.soy_lexer.specs.CommandPiece.{name_piece, number_after, one_of, opened_piece, symbol_piece};
-ghost use Rattle.soy_lexer.specs.CommandPiece.{symbols_of_one, symbols_of_two, value_piece};
+ghost use Rattle.soy_lexer.specs.CommandSegment.{command_segment, fixed_segment, int_segment, largest_int, name_prefix};
+ghost use Rattle.soy_lexer.specs.CommandSegment.{name_segment, number_after, one_of, opened_segment, symbol_segment};
+ghost use Rattle.soy_lexer.specs.CommandSegment.{symbols_of_one, symbols_of_two, value_segment};
 ghost use Rattle.soy_base.specs.Cuts.{cut};
 ghost use Rattle.soy_lexer.specs.Found.Found.{Begins, Fails};
-ghost use Rattle.soy_lexer.specs.Piece.Piece.{CommandToken};
-ghost use Rattle.soy_lexer.specs.ReadsPiece.{ReadsPiece};
+ghost use Rattle.soy_lexer.specs.Segment.Segment.{CommandToken};
+ghost use Rattle.soy_lexer.specs.ReadsSegment.{ReadsSegment};
 ghost use Rattle.soy_lexer.specs.declared.token.TokenKind.TheVariants as kind;
 
 use crate::begins::begins;
-use crate::source_piece::{FirstPiece, SourcePiece};
-use crate::string::string_piece;
+use crate::source_segment::{FirstSegment, SourceSegment};
+use crate::string::string_segment;
 use crate::text::text_of;
 use crate::token::TokenKind;
 use soy_base::{
@@ -30,19 +30,19 @@ use std::alloc::Global;
 /// The greatest int that is a token.
 const LARGEST_INT: u64 = 9007199254740991;
 
-/// The piece with which a text in a command begins, directly after its `{`.
-pub(crate) fn opened_piece<'a>(
+/// The segment with which a text in a command begins, directly after its `{`.
+pub(crate) fn opened_segment<'a>(
     alloc: Global,
     text: &'a str,
-) -> Result<FirstPiece<'a>, Refusal<usize>>
-    ensures { ReadsPiece (opened_piece (chars text.now)) result }
+) -> Result<FirstSegment<'a>, Refusal<usize>>
+    ensures { ReadsSegment (opened_segment (chars text.now)) result }
 {
     match closing_name(text) {
         Some((name, rest)) => {
             let source_text = before(text, rest);
             command_token(alloc, TokenKind::BeginClose, source_text, name, rest)
         }
-        None => command_piece(alloc, text),
+        None => command_segment(alloc, text),
     }
 }
 
@@ -56,44 +56,44 @@ fn closing_name(text: &str) -> Option<(&str, &str)>
     }
 }
 
-/// The piece with which a text in a command begins.
-pub(crate) fn command_piece<'a>(
+/// The segment with which a text in a command begins.
+pub(crate) fn command_segment<'a>(
     alloc: Global,
     text: &'a str,
-) -> Result<FirstPiece<'a>, Refusal<usize>>
-    ensures { ReadsPiece (command_piece (chars text.now)) result }
+) -> Result<FirstSegment<'a>, Refusal<usize>>
+    ensures { ReadsSegment (command_segment (chars text.now)) result }
 {
     match first(text) {
-        Some((c, rest)) => piece_by_first(alloc, text, c, rest),
+        Some((c, rest)) => segment_by_first(alloc, text, c, rest),
         None => Err(Refusal::Because(0)),
     }
 }
 
-/// The piece with which a text in a command begins, by its first character `c`.
-fn piece_by_first<'a>(
+/// The segment with which a text in a command begins, by its first character `c`.
+fn segment_by_first<'a>(
     alloc: Global,
     text: &'a str,
     c: char,
     rest: &'a str,
-) -> Result<FirstPiece<'a>, Refusal<usize>>
+) -> Result<FirstSegment<'a>, Refusal<usize>>
     requires { chars text.now ≡ c ∷ chars rest.now }
-    ensures { ReadsPiece (command_piece (chars text.now)) result }
+    ensures { ReadsSegment (command_segment (chars text.now)) result }
 {
     if is_template_space(c) {
-        let piece = SourcePiece::Skipped(before(text, rest));
-        Ok(FirstPiece { piece, rest })
+        let segment = SourceSegment::Skipped(before(text, rest));
+        Ok(FirstSegment { segment, rest })
     } else if begins_name(c) {
-        word_piece(alloc, text)
+        word_segment(alloc, text)
     } else if c.is_ascii_digit() {
-        int_piece(alloc, text, c, rest)
+        int_segment(alloc, text, c, rest)
     } else {
         match c {
             '}' => command_token_to(alloc, TokenKind::End, text, rest),
-            '/' => slash_piece(alloc, text, rest),
-            '$' => variable_piece(alloc, text, rest),
-            '\'' => string_piece(alloc, text, rest),
-            '"' => attribute_piece(alloc, text, rest),
-            _ => symbol_piece(alloc, text, c, rest),
+            '/' => slash_segment(alloc, text, rest),
+            '$' => variable_segment(alloc, text, rest),
+            '\'' => string_segment(alloc, text, rest),
+            '"' => attribute_segment(alloc, text, rest),
+            _ => symbol_segment(alloc, text, c, rest),
         }
     }
 }
@@ -105,13 +105,13 @@ fn command_token<'a>(
     source_text: &'a str,
     value: &str,
     rest: &'a str,
-) -> Result<FirstPiece<'a>, Refusal<usize>>
-    ensures { ReadsPiece
+) -> Result<FirstSegment<'a>, Refusal<usize>>
+    ensures { ReadsSegment
         (Begins (CommandToken kind (chars source_text.now) (chars value.now)) (chars rest.now)) result }
 {
     let value = text_of(alloc, value)?;
-    let piece = SourcePiece::CommandToken(kind, source_text, value);
-    Ok(FirstPiece { piece, rest })
+    let segment = SourceSegment::CommandToken(kind, source_text, value);
+    Ok(FirstSegment { segment, rest })
 }
 
 /// A token that goes up to the rest of its text, and whose text is its source text.
@@ -120,10 +120,10 @@ fn command_token_to<'a>(
     kind: TokenKind,
     text: &'a str,
     rest: &'a str,
-) -> Result<FirstPiece<'a>, Refusal<usize>>
+) -> Result<FirstSegment<'a>, Refusal<usize>>
     requires { (prefix : List ℕ) × (chars text.now ≡ prefix ++ chars rest.now) }
     ensures { (prefix : List ℕ) × (chars text.now ≡ prefix ++ chars rest.now)
-        × ReadsPiece (Begins (CommandToken kind prefix prefix) (chars rest.now)) result }
+        × ReadsSegment (Begins (CommandToken kind prefix prefix) (chars rest.now)) result }
 {
     let source_text = before(text, rest);
     command_token(alloc, kind, source_text, source_text, rest)
@@ -142,8 +142,8 @@ fn name_prefix(text: &str) -> Option<(&str, &str)>
 }
 
 /// A name.
-fn word_piece<'a>(alloc: Global, text: &'a str) -> Result<FirstPiece<'a>, Refusal<usize>>
-    ensures { ReadsPiece (unwrap_or (name_piece kind.Word [] (chars text.now)) (Fails 0)) result }
+fn word_segment<'a>(alloc: Global, text: &'a str) -> Result<FirstSegment<'a>, Refusal<usize>>
+    ensures { ReadsSegment (unwrap_or (name_segment kind.Word [] (chars text.now)) (Fails 0)) result }
 {
     match name_prefix(text) {
         Some((name, rest)) => command_token(alloc, TokenKind::Word, name, name, rest),
@@ -152,13 +152,14 @@ fn word_piece<'a>(alloc: Global, text: &'a str) -> Result<FirstPiece<'a>, Refusa
 }
 
 /// A variable; the second text is the first without its `$`.
-fn variable_piece<'a>(
+fn variable_segment<'a>(
     alloc: Global,
     text: &'a str,
     named: &'a str,
-) -> Result<FirstPiece<'a>, Refusal<usize>>
+) -> Result<FirstSegment<'a>, Refusal<usize>>
     requires { chars text.now ≡ dollar_sign ∷ chars named.now }
-    ensures { ReadsPiece (unwrap_or (name_piece kind.Variable (dollar_sign ∷ []) (chars named.now)) (Fails 0)) result }
+    ensures { ReadsSegment
+        (unwrap_or (name_segment kind.Variable (dollar_sign ∷ []) (chars named.now)) (Fails 0)) result }
 {
     match name_prefix(named) {
         Some((name, rest)) => {
@@ -170,15 +171,15 @@ fn variable_piece<'a>(
 }
 
 /// An int; `c` is the first digit, and the second text follows it.
-fn int_piece<'a>(
+fn int_segment<'a>(
     alloc: Global,
     text: &'a str,
     c: char,
     rest: &'a str,
-) -> Result<FirstPiece<'a>, Refusal<usize>>
+) -> Result<FirstSegment<'a>, Refusal<usize>>
     requires text { chars text.now ≡ c ∷ chars rest.now }
     requires digit { IsTrue (is_ascii_digit c) }
-    ensures { ReadsPiece (unwrap_or (int_piece (chars text.now)) (Fails 0)) result }
+    ensures { ReadsSegment (unwrap_or (int_segment (chars text.now)) (Fails 0)) result }
 {
     if c == '0' {
         return command_token_to(alloc, TokenKind::Int, text, rest);
@@ -206,20 +207,20 @@ fn is_within_limit(digits: &str) -> bool
 }
 
 /// A value in double quotes; the second text is the first without its quote.
-fn attribute_piece<'a>(
+fn attribute_segment<'a>(
     alloc: Global,
     text: &'a str,
     inner: &'a str,
-) -> Result<FirstPiece<'a>, Refusal<usize>>
+) -> Result<FirstSegment<'a>, Refusal<usize>>
     requires { chars text.now ≡ double_quote ∷ chars inner.now }
-    ensures { ReadsPiece (value_piece (cut (double_quote ∷ []) (chars inner.now))) result }
+    ensures { ReadsSegment (value_segment (cut (double_quote ∷ []) (chars inner.now))) result }
 {
     match cut(inner, "\"") {
         Some((value, rest)) => {
             let source_text = before(text, rest);
             let value = text_of(alloc, value)?;
             begins(
-                SourcePiece::CommandToken(TokenKind::Attribute, source_text, value),
+                SourceSegment::CommandToken(TokenKind::Attribute, source_text, value),
                 source_text,
                 rest,
             )
@@ -229,13 +230,13 @@ fn attribute_piece<'a>(
 }
 
 /// The `/}` of a command; the second text is the first without its slash.
-fn slash_piece<'a>(
+fn slash_segment<'a>(
     alloc: Global,
     text: &'a str,
     after: &'a str,
-) -> Result<FirstPiece<'a>, Refusal<usize>>
+) -> Result<FirstSegment<'a>, Refusal<usize>>
     requires { chars text.now ≡ slash ∷ chars after.now }
-    ensures { ReadsPiece (unwrap_or (fixed_piece kind.SlashEnd (codes "/}") (chars text.now)) (Fails 0)) result }
+    ensures { ReadsSegment (unwrap_or (fixed_segment kind.SlashEnd (codes "/}") (chars text.now)) (Fails 0)) result }
 {
     match first(after) {
         Some(('}', rest)) => command_token_to(alloc, TokenKind::SlashEnd, text, rest),
@@ -244,14 +245,14 @@ fn slash_piece<'a>(
 }
 
 /// A symbol, the longest that begins with `c`.
-fn symbol_piece<'a>(
+fn symbol_segment<'a>(
     alloc: Global,
     text: &'a str,
     c: char,
     after: &'a str,
-) -> Result<FirstPiece<'a>, Refusal<usize>>
+) -> Result<FirstSegment<'a>, Refusal<usize>>
     requires { chars text.now ≡ c ∷ chars after.now }
-    ensures { ReadsPiece (unwrap_or (symbol_piece (chars text.now)) (Fails 0)) result }
+    ensures { ReadsSegment (unwrap_or (symbol_segment (chars text.now)) (Fails 0)) result }
 {
     match after_symbol_of_two(c, after) {
         Some(rest) => command_token_to(alloc, TokenKind::Symbol, text, rest),

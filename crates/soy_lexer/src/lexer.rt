@@ -1,40 +1,40 @@
-//! The lexer: the pieces of a text one after the other, and the tokens that they make.
+//! The lexer: the segments of a text one after the other, and the tokens that they make.
 
 ghost use Rattle.std.specs.Prelude.{◌≡◌, ℕ, ◌+◌, ◌<◌, ◌≤◌, ◌^◌, List, [], ◌∷◌, ◌++◌, OnOk, IfOk, IsTrue, length};
 ghost use Rattle.std.specs.List.{list_all};
 ghost use Rattle.std.specs.Str.{chars};
 ghost use Rattle.soy_base.specs.ByteLength.{byte_len};
 ghost use Rattle.soy_lexer.specs.InOrder.{InOrder};
-ghost use Rattle.soy_lexer.specs.Lexed.{Lexed, HasRead, TakesPiece, TakesToken, EndsRun};
+ghost use Rattle.soy_lexer.specs.Lexed.{Lexed, HasRead, TakesSegment, TakesToken, EndsRun};
 ghost use Rattle.soy_lexer.specs.Lexes.{Lexes, largest_file};
 ghost use Rattle.soy_lexer.specs.Lines.{RunCharacter};
 ghost use Rattle.soy_lexer.specs.ModeAfter.{mode_after};
-ghost use Rattle.soy_lexer.specs.Piece.{source_text};
-ghost use Rattle.soy_lexer.specs.ReadsPiece.{ReadsPiece, view_piece};
-ghost use Rattle.soy_lexer.specs.TextPiece.{piece_of};
+ghost use Rattle.soy_lexer.specs.Segment.{source_text};
+ghost use Rattle.soy_lexer.specs.ReadsSegment.{ReadsSegment, view_segment};
+ghost use Rattle.soy_lexer.specs.TextSegment.{segment_of};
 ghost use Rattle.soy_lexer.specs.Tokens.{literal_start, run_token};
 ghost use Rattle.soy_lexer.specs.Chunks.{TakesCharacters, is_chunk_character, run_characters};
 ghost use Rattle.soy_lexer.specs.declared.token.Token.{Token};
 
-use crate::command::{command_piece, opened_piece};
+use crate::command::{command_segment, opened_segment};
 use crate::mode::Mode;
 use crate::run::Run;
-use crate::source_piece::{FirstPiece, SourcePiece};
+use crate::source_segment::{FirstSegment, SourceSegment};
 use crate::text::text_of;
-use crate::text_piece::text_piece;
+use crate::text_segment::text_segment;
 use crate::token::{Token, TokenKind};
 use soy_base::{Code, Fault, OutOfMemory, Refusal, Span, Text, byte_len, is_empty};
 use std::alloc::Global;
 use std::mem::replace;
 
-/// The piece with which a text in this mode begins.
-fn piece<'a>(alloc: Global, mode: Mode, text: &'a str) -> Result<FirstPiece<'a>, Refusal<usize>>
-    ensures { ReadsPiece (piece_of mode (chars text.now)) result }
+/// The segment with which a text in this mode begins.
+fn segment<'a>(alloc: Global, mode: Mode, text: &'a str) -> Result<FirstSegment<'a>, Refusal<usize>>
+    ensures { ReadsSegment (segment_of mode (chars text.now)) result }
 {
     match mode {
-        Mode::Outside(white) => text_piece(alloc, white, text),
-        Mode::Opened => opened_piece(alloc, text),
-        Mode::Inside => command_piece(alloc, text),
+        Mode::Outside(white) => text_segment(alloc, white, text),
+        Mode::Opened => opened_segment(alloc, text),
+        Mode::Inside => command_segment(alloc, text),
     }
 }
 
@@ -70,21 +70,21 @@ impl Lexer {
         }
     }
 
-    /// Takes a piece that stands between two offsets.
-    fn take(&mut self, piece: SourcePiece, offset: u64, end: u64) -> Result<(), OutOfMemory>
+    /// Takes a segment that stands between two offsets.
+    fn take(&mut self, segment: SourceSegment, offset: u64, end: u64) -> Result<(), OutOfMemory>
         requires offset { offset + 9 < 2 ^ 64 }
-        requires end { end ≡ offset + byte_len (source_text (view_piece piece)) }
-        ensures { OnOk result (TakesPiece self.old self.new offset (view_piece piece.entry)) }
+        requires end { end ≡ offset + byte_len (source_text (view_segment segment)) }
+        ensures { OnOk result (TakesSegment self.old self.new offset (view_segment segment.entry)) }
     {
-        match piece {
-            SourcePiece::TextCharacter(c) => self.run.add(c, offset),
-            SourcePiece::Skipped(_) => Ok(()),
-            SourcePiece::Literal(literal) => {
+        match segment {
+            SourceSegment::TextCharacter(c) => self.run.add(c, offset),
+            SourceSegment::Skipped(_) => Ok(()),
+            SourceSegment::Literal(literal) => {
                 let start = literal_start(offset, literal);
                 let text = text_of(self.alloc, literal)?;
                 self.push(TokenKind::Text, Span { start, end }, text)
             }
-            SourcePiece::CommandToken(kind, _, text) => self.push(
+            SourceSegment::CommandToken(kind, _, text) => self.push(
                 kind,
                 Span { start: offset, end },
                 text,
@@ -143,17 +143,17 @@ fn lexed(alloc: Global, text: &str) -> Result<Vec<Token>, Refusal<u64>>
     let mut offset = 0;
     let mut rest = text;
     while !is_empty(rest) {
-        let read = match piece(alloc, mode, rest) {
+        let read = match segment(alloc, mode, rest) {
             Ok(read) => read,
             Err(Refusal::Because(further)) => {
                 return Err(Refusal::Because((offset + further) as u64));
             }
             Err(Refusal::OutOfMemory) => return Err(Refusal::OutOfMemory),
         };
-        mode = mode.after(&read.piece);
+        mode = mode.after(&read.segment);
         rest = read.rest;
         let end = length - byte_len(rest);
-        lexer.take(read.piece, offset as u64, end as u64)?;
+        lexer.take(read.segment, offset as u64, end as u64)?;
         let (chunk, others) = mode.chunk(rest);
         lexer.take_chunk(chunk, end as u64)?;
         mode = mode.after_chunk(chunk);

@@ -3,10 +3,10 @@
 ghost use Rattle.std.specs.Prelude.{◌≡◌};
 ghost use Rattle.std.specs.Str.{chars, IsUtf8};
 ghost use Rattle.soy_lexer.specs.ModeAfter.{mode_after, mode_after_skipped, mode_after_token};
-ghost use Rattle.soy_lexer.specs.ReadsPiece.{view_piece};
+ghost use Rattle.soy_lexer.specs.ReadsSegment.{view_segment};
 ghost use Rattle.soy_lexer.specs.Chunks.{after_chunk, mode_after_chunk, chunk};
 
-use crate::source_piece::SourcePiece;
+use crate::source_segment::SourceSegment;
 use crate::text::split_chunk;
 use crate::token::TokenKind;
 use soy_base::{is_empty, is_template_space};
@@ -23,15 +23,15 @@ pub(crate) enum Mode {
 }
 
 impl Mode {
-    /// The mode after a piece.
-    pub(crate) fn after(self, piece: &SourcePiece) -> Mode
-        ensures { result ≡ mode_after self (view_piece piece.now) }
+    /// The mode after a segment.
+    pub(crate) fn after(self, segment: &SourceSegment) -> Mode
+        ensures { result ≡ mode_after self (view_segment segment.now) }
     {
-        match piece {
-            SourcePiece::TextCharacter(c) => Mode::Outside(is_template_space(*c)),
-            SourcePiece::Skipped(_) => self.after_skipped(),
-            SourcePiece::Literal(_) => Mode::Outside(false),
-            SourcePiece::CommandToken(kind, _, _) => Mode::after_token(*kind),
+        match segment {
+            SourceSegment::TextCharacter(c) => Mode::Outside(is_template_space(*c)),
+            SourceSegment::Skipped(_) => self.after_skipped(),
+            SourceSegment::Literal(_) => Mode::Outside(false),
+            SourceSegment::CommandToken(kind, _, _) => Mode::after_token(*kind),
         }
     }
 

@@ -5,13 +5,13 @@ ghost use Rattle.std.specs.Char.{digit_value, is_ascii_hexdigit};
 ghost use Rattle.std.specs.Str.{chars};
 ghost use Rattle.std.specs.String.{string_bytes};
 ghost use Rattle.soy_base.specs.Characters.{single_quote};
-ghost use Rattle.soy_lexer.specs.CommandPiece.{quoted_piece};
-ghost use Rattle.soy_lexer.specs.ReadsPiece.{ReadsPiece};
+ghost use Rattle.soy_lexer.specs.CommandSegment.{quoted_segment};
+ghost use Rattle.soy_lexer.specs.ReadsSegment.{ReadsSegment};
 ghost use Rattle.soy_lexer.specs.StringSteps.{IsNextItem, ReadsEscape, value_and_rest};
 ghost use Rattle.soy_lexer.specs.Strings.{escaped, numbered, quoted, quoted_escape, quoted_number};
 
 use crate::begins::begins;
-use crate::source_piece::{FirstPiece, SourcePiece};
+use crate::source_segment::{FirstSegment, SourceSegment};
 use crate::token::TokenKind;
 use soy_base::{OutOfMemory, Refusal, Text, before, first, push_char};
 use std::alloc::Global;
@@ -27,19 +27,23 @@ pub(crate) enum NextItem<'a> {
 }
 
 /// A string; the second text is the first without its first quote.
-pub(crate) fn string_piece<'a>(
+pub(crate) fn string_segment<'a>(
     alloc: Global,
     text: &'a str,
     inner: &'a str,
-) -> Result<FirstPiece<'a>, Refusal<usize>>
+) -> Result<FirstSegment<'a>, Refusal<usize>>
     requires { chars text.now ≡ single_quote ∷ chars inner.now }
-    ensures { ReadsPiece (quoted_piece (quoted (chars inner.now))) result }
+    ensures { ReadsSegment (quoted_segment (quoted (chars inner.now))) result }
 {
     match characters(alloc, inner)? {
         Some((value, rest)) => {
             let source_text = before(text, rest);
-            let piece = SourcePiece::CommandToken(TokenKind::Str, source_text, Text::new(value));
-            begins(piece, source_text, rest)
+            let segment = SourceSegment::CommandToken(
+                TokenKind::Str,
+                source_text,
+                Text::new(value),
+            );
+            begins(segment, source_text, rest)
         }
         None => Err(Refusal::Because(0)),
     }

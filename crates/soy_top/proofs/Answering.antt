@@ -1,5 +1,6 @@
 -- What is known of the answer from what the words ask for and from what was fetched.
-use Rattle.std.proofs.Common.{◌≡◌, ℕ, Bool, true, false, cond, List, [], ◌∷◌, Option, Some, None, Err, Vec, length, refl, sym, ap, subst, ◌∙◌, codes, inl, inr, ◌⊎◌}
+use Rattle.std.proofs.Common.{◌≡◌, ℕ, Bool, true, false, cond, List, [], ◌∷◌, Option, Some, None, Err, Vec, length}
+use Rattle.std.proofs.Common.{refl, sym, ap, subst, ◌∙◌, codes, inl, inr, ◌⊎◌}
 use Rattle.std.specs.Prelude.{IfSome, option_map}
 use Rattle.std.specs.Option.{option_map_or}
 use Rattle.std.specs.declared.alloc.Global.{Global}
@@ -9,19 +10,22 @@ use Rattle.soy_io.specs.Rose.{Rose}
 use Rattle.soy_top.specs.declared.ending.Ending.{Ending}
 use Rattle.soy_top.specs.declared.ending.Ending.TheVariants as ending
 use Rattle.soy_top.specs.Accepts.{Refuses}
-use Rattle.soy_top.specs.Answer.{Answer, Usage, Read, Refused, not_yet, page_answer, form_answer, render_answer, contents_answer, limits_answer, asked_answer, answer, known_answer}
+use Rattle.soy_top.specs.Answer.{Answer, Usage, Read, Refused, not_yet, page_answer, form_answer, render_answer}
+use Rattle.soy_top.specs.Answer.{contents_answer, limits_answer, asked_answer, answer, known_answer}
 use Rattle.soy_top.specs.Asked.{Asked, Render, Check, Extract, Gen, Play, Preview, Format, asked_by_words}
 use Rattle.soy_top.specs.Concludes.{MayEnd}
 use Rattle.soy_top.specs.Fetched.{AreContents, FetchesAll, IsNotHeld}
-use Rattle.soy_top.specs.FilesWanted.{FileWanted, asked_files, wanted_files, file_names, known_files, first_not_held, first_over_limit, contents}
-use Rattle.soy_top.specs.FirstForm.{Form, first_form, full_name}
+use Rattle.soy_top.specs.FilesWanted.{FileWanted, asked_files, wanted_files, file_names, known_files, first_not_held}
+use Rattle.soy_top.specs.FilesWanted.{first_over_limit, contents}
+use Rattle.soy_top.specs.FirstForm.{FirstFile, first_form, full_name}
 use Rattle.soy_top.specs.FirstPage.{page_of}
 use Rattle.soy_top.specs.Line.{too_large_line}
 use Rattle.soy_top.specs.View.{view_contents}
 use Rattle.soy_top.specs.Words.{Word}
 
 -- contents other than of two files are of no render that the program does
-pub other_contents : (template : Word) (fetched : List (Vec ℕ Global)) (e : Ending) → (length fetched ≡ 2 → ⊥) → Refuses (not_yet (codes "render")) e → Refuses (render_answer template (view_contents fetched)) e
+pub other_contents : (template : Word) (fetched : List (Vec ℕ Global)) (e : Ending) → (length fetched ≡ 2 → ⊥)
+    → Refuses (not_yet (codes "render")) e → Refuses (render_answer template (view_contents fetched)) e
 other_contents template [] e never h = h
 other_contents template (json ∷ []) e never h = h
 other_contents template (json ∷ file ∷ []) e never h = absurd (never refl)
@@ -36,7 +40,8 @@ named_not_usage : (b : Bool) (o : Option (List ℕ)) (line : List ℕ) → cond 
 named_not_usage true o line e = page_not_usage o e
 named_not_usage false o line e = cc
 
-form_not_usage : (template : Word) (json : List ℕ) (form : Option Form) → form_answer template json form ≡ Usage → ⊥
+form_not_usage : (template : Word) (json : List ℕ) (form : Option FirstFile) → form_answer template json form ≡ Usage
+    → ⊥
 form_not_usage template json None e = cc
 form_not_usage template json (Some form) e = named_not_usage (bytes_eq template (full_name form)) (page_of form json) _ e
 
@@ -55,7 +60,8 @@ contents_not_usage (Play script first second files) fetched e = cc
 contents_not_usage (Preview template json bundle files) fetched e = cc
 contents_not_usage (Format file) fetched e = cc
 
-limits_not_usage : (over : Option Word) (a : Answer) → (a ≡ Usage → ⊥) → option_map_or (λ file. Refused (too_large_line file)) over a ≡ Usage → ⊥
+limits_not_usage : (over : Option Word) (a : Answer) → (a ≡ Usage → ⊥)
+    → option_map_or (λ file. Refused (too_large_line file)) over a ≡ Usage → ⊥
 limits_not_usage None a never e = never e
 limits_not_usage (Some file) a never e = cc
 
@@ -67,19 +73,22 @@ asked_not_usage : (files : Files) (asked : Asked) → asked_answer files asked �
 asked_not_usage files asked e =
     held_not_usage (first_not_held files (asked_files asked)) _ (λ e. limits_not_usage (first_over_limit files (asked_files asked)) _ (λ e. contents_not_usage asked (contents files (asked_files asked)) e) e) e
 
-no_files_by : (files : Files) (asked : Option Asked) → option_map_or (asked_answer files) asked Usage ≡ Usage → file_names (option_map_or asked_files asked []) ≡ []
+no_files_by : (files : Files) (asked : Option Asked) → option_map_or (asked_answer files) asked Usage ≡ Usage
+    → file_names (option_map_or asked_files asked []) ≡ []
 no_files_by files None e = refl
 no_files_by files (Some asked) e = absurd (asked_not_usage files asked e)
 
 some_is : (a b : Answer) → Some a ≡ Some b → a ≡ b
 some_is a b e = cc
 
-usage_names : (known : Option Files) (words : List Word) → option_map (λ files. answer files words) known ≡ Some Usage → file_names (wanted_files words) ≡ []
+usage_names : (known : Option Files) (words : List Word) → option_map (λ files. answer files words) known ≡ Some Usage
+    → file_names (wanted_files words) ≡ []
 usage_names None words e = cc
 usage_names (Some files) words e = no_files_by files (asked_by_words words) (some_is _ _ e)
 
 -- words whose answer is the usage text want no files
-pub names-at-usage : (held : Option Files) (words : List Word) → known_answer held words ≡ Some Usage → file_names (wanted_files words) ≡ []
+pub names-at-usage : (held : Option Files) (words : List Word) → known_answer held words ≡ Some Usage
+    → file_names (wanted_files words) ≡ []
 names-at-usage held words e = usage_names (known_files held (wanted_files words)) words e
 
 none_wanted : (words : List Word) → asked_by_words words ≡ None → wanted_files words ≡ []
@@ -88,50 +97,65 @@ none_wanted words none = ap (λ o. option_map_or asked_files o []) none
 answer_to_none : (files : Files) (words : List Word) → asked_by_words words ≡ None → answer files words ≡ Usage
 answer_to_none files words none = ap (λ o. option_map_or (asked_answer files) o Usage) none
 
-without_files : (held : Option Files) (words : List Word) (wanted : List FileWanted) → wanted ≡ [] → asked_by_words words ≡ None → option_map (λ files. answer files words) (known_files held wanted) ≡ Some Usage
+without_files : (held : Option Files) (words : List Word) (wanted : List FileWanted) → wanted ≡ []
+    → asked_by_words words ≡ None → option_map (λ files. answer files words) (known_files held wanted) ≡ Some Usage
 without_files (Some files) words wanted empty none = ap Some (answer_to_none files words none)
 without_files None words [] empty none = ap Some (answer_to_none [] words none)
 without_files None words (w ∷ ws) empty none = cc
 
 -- words that ask for nothing are answered by the usage text
-pub answer-none : (held : Option Files) (words : List Word) → None ≡ asked_by_words words → known_answer held words ≡ Some Usage
+pub answer-none : (held : Option Files) (words : List Word) → None ≡ asked_by_words words
+    → known_answer held words ≡ Some Usage
 answer-none held words none = without_files held words (wanted_files words) (none_wanted words (sym none)) (sym none)
 
 -- what is asked by the words, with the files that it wants
-answer_to_asked : (files : Files) (words : List Word) (asked : Asked) → asked_by_words words ≡ Some asked → answer files words ≡ asked_answer files asked
+answer_to_asked : (files : Files) (words : List Word) (asked : Asked) → asked_by_words words ≡ Some asked
+    → answer files words ≡ asked_answer files asked
 answer_to_asked files words asked is = ap (λ o. option_map_or (asked_answer files) o Usage) is
 
-pub wanted-asked : (words : List Word) (asked : Asked) → Some asked ≡ asked_by_words words → wanted_files words ≡ asked_files asked
+pub wanted-asked : (words : List Word) (asked : Asked) → Some asked ≡ asked_by_words words
+    → wanted_files words ≡ asked_files asked
 wanted-asked words asked is = ap (λ o. option_map_or asked_files o []) (sym is)
 
-answer_by_contents : (files : Files) (asked : Asked) (fetched : List (List ℕ)) → AreContents files (asked_files asked) fetched → asked_answer files asked ≡ contents_answer asked fetched
+answer_by_contents : (files : Files) (asked : Asked) (fetched : List (List ℕ))
+    → AreContents files (asked_files asked) fetched → asked_answer files asked ≡ contents_answer asked fetched
 answer_by_contents files asked fetched are =
     ap (λ o. option_map_or Read o (limits_answer files asked (asked_files asked))) are.all_held
     ∙ (ap (λ o. option_map_or (λ file. Refused (too_large_line file)) o (contents_answer asked (contents files (asked_files asked)))) are.all_within
     ∙ ap (contents_answer asked) (sym are.same))
 
-answer_over : (files : Files) (asked : Asked) (name : Word) → first_not_held files (asked_files asked) ≡ None → first_over_limit files (asked_files asked) ≡ Some name → asked_answer files asked ≡ Refused (too_large_line name)
+answer_over : (files : Files) (asked : Asked) (name : Word) → first_not_held files (asked_files asked) ≡ None
+    → first_over_limit files (asked_files asked) ≡ Some name → asked_answer files asked ≡ Refused (too_large_line name)
 answer_over files asked name held over =
     ap (λ o. option_map_or Read o (limits_answer files asked (asked_files asked))) held ∙ ap (λ o. option_map_or (λ file. Refused (too_large_line file)) o (contents_answer asked (contents files (asked_files asked)))) over
 
-answer_missing : (files : Files) (asked : Asked) (name : Word) → first_not_held files (asked_files asked) ≡ Some name → asked_answer files asked ≡ Read name
+answer_missing : (files : Files) (asked : Asked) (name : Word) → first_not_held files (asked_files asked) ≡ Some name
+    → asked_answer files asked ≡ Read name
 answer_missing files asked name missing = ap (λ o. option_map_or Read o (limits_answer files asked (asked_files asked))) missing
 
 -- what the fetches say of the answer
-contents_by : (known : Option Files) (words : List Word) (asked : Asked) (fetched : List (List ℕ)) → asked_by_words words ≡ Some asked → IfSome known (λ files. AreContents files (asked_files asked) fetched) → IfSome (option_map (λ files. answer files words) known) (λ a. a ≡ contents_answer asked fetched)
+contents_by : (known : Option Files) (words : List Word) (asked : Asked) (fetched : List (List ℕ))
+    → asked_by_words words ≡ Some asked → IfSome known (λ files. AreContents files (asked_files asked) fetched)
+    → IfSome (option_map (λ files. answer files words) known) (λ a. a ≡ contents_answer asked fetched)
 contents_by None words asked fetched is are = tt
 contents_by (Some files) words asked fetched is are = answer_to_asked files words asked is ∙ answer_by_contents files asked fetched are
 
 -- where all was fetched, the answer is that by the contents
-pub answer-contents : (held : Option Files) (words : List Word) (asked : Asked) (fetched : List (List ℕ)) → Some asked ≡ asked_by_words words → IfSome (known_files held (asked_files asked)) (λ files. AreContents files (asked_files asked) fetched) → IfSome (known_answer held words) (λ a. a ≡ contents_answer asked fetched)
+pub answer-contents : (held : Option Files) (words : List Word) (asked : Asked) (fetched : List (List ℕ))
+    → Some asked ≡ asked_by_words words
+    → IfSome (known_files held (asked_files asked)) (λ files. AreContents files (asked_files asked) fetched)
+    → IfSome (known_answer held words) (λ a. a ≡ contents_answer asked fetched)
 answer-contents held words asked fetched is are =
     subst (λ wanted. IfSome (option_map (λ files. answer files words) (known_files held wanted)) (λ a. a ≡ contents_answer asked fetched)) (sym (wanted-asked words asked is)) (contents_by (known_files held (asked_files asked)) words asked fetched (sym is) are)
 
-read_by : (known : Option Files) (words : List Word) (asked : Asked) (name : Word) → asked_by_words words ≡ Some asked → IsNotHeld known (asked_files asked) name → option_map (λ files. answer files words) known ≡ Some (Read name)
+read_by : (known : Option Files) (words : List Word) (asked : Asked) (name : Word) → asked_by_words words ≡ Some asked
+    → IsNotHeld known (asked_files asked) name → option_map (λ files. answer files words) known ≡ Some (Read name)
 read_by None words asked name is missing = absurd missing
 read_by (Some files) words asked name is missing = ap Some (answer_to_asked files words asked is ∙ answer_missing files asked name missing)
 
-read_or_rose : (P : Type 0) (known : Option Files) (words : List Word) (asked : Asked) (name : Word) → asked_by_words words ≡ Some asked → P ⊎ IsNotHeld known (asked_files asked) name → P ⊎ (option_map (λ files. answer files words) known ≡ Some (Read name))
+read_or_rose : (P : Type 0) (known : Option Files) (words : List Word) (asked : Asked) (name : Word)
+    → asked_by_words words ≡ Some asked → P ⊎ IsNotHeld known (asked_files asked) name
+    → P ⊎ (option_map (λ files. answer files words) known ≡ Some (Read name))
 read_or_rose P known words asked name is (inl rose) = inl rose
 read_or_rose P known words asked name is (inr missing) = inr (read_by known words asked name is missing)
 
@@ -140,7 +164,9 @@ over_by None words asked name is over = tt
 over_by (Some files) words asked name is over = answer_to_asked files words asked is ∙ answer_over files asked name over.0 over.1
 
 -- a run to whose end its fetches led, over the files that its words want
-ends_by : (known : Option Files) (words : List Word) (asked : Asked) (faults : ℕ × ℕ) (e : Ending) → asked_by_words words ≡ Some asked → FetchesAll known (asked_files asked) faults (Err e) → MayEnd (option_map (λ files. answer files words) known) (file_names (asked_files asked)) faults e
+ends_by : (known : Option Files) (words : List Word) (asked : Asked) (faults : ℕ × ℕ) (e : Ending)
+    → asked_by_words words ≡ Some asked → FetchesAll known (asked_files asked) faults (Err e)
+    → MayEnd (option_map (λ files. answer files words) known) (file_names (asked_files asked)) faults e
 ends_by known words asked faults ending.Usage is h = absurd h
 ends_by known words asked faults (ending.Read line) is h =
     (h.0, h.1, read_or_rose (Rose faults.0 faults.1) known words asked h.0 is h.2, h.3)
@@ -148,7 +174,10 @@ ends_by known words asked faults (ending.Refused line) is h =
     (too_large_line h.0, over_by known words asked h.0 is h.1, h.2)
 ends_by known words asked faults ending.Memory is h = tt
 
-pub may_end-fetches : (held : Option Files) (words : List Word) (asked : Asked) (faults : ℕ × ℕ) (e : Ending) → Some asked ≡ asked_by_words words → FetchesAll (known_files held (asked_files asked)) (asked_files asked) faults (Err e) → MayEnd (known_answer held words) (file_names (wanted_files words)) faults e
+pub may_end-fetches : (held : Option Files) (words : List Word) (asked : Asked) (faults : ℕ × ℕ) (e : Ending)
+    → Some asked ≡ asked_by_words words
+    → FetchesAll (known_files held (asked_files asked)) (asked_files asked) faults (Err e)
+    → MayEnd (known_answer held words) (file_names (wanted_files words)) faults e
 may_end-fetches held words asked faults e is h =
     subst (λ wanted. MayEnd (option_map (λ files. answer files words) (known_files held wanted)) (file_names wanted) faults e) (sym (wanted-asked words asked is)) (ends_by (known_files held (asked_files asked)) words asked faults e (sym is) h)
 
@@ -157,11 +186,13 @@ if_same None a b h e = tt
 if_same (Some x) a b h e = h ∙ e
 
 -- what was accepted is the answer
-pub answer-same : (answer : Option Answer) (a b : Answer) → IfSome answer (λ x. x ≡ a) → a ≡ b → IfSome answer (λ x. x ≡ b)
+pub answer-same : (answer : Option Answer) (a b : Answer) → IfSome answer (λ x. x ≡ a) → a ≡ b
+    → IfSome answer (λ x. x ≡ b)
 answer-same answer a b h e = if_same answer a b h e
 
 -- a refusal of what was fetched is one to which the run may come
-pub may_end-refusal : (answer : Option Answer) (names : List Word) (faults : ℕ × ℕ) (a : Answer) (e : Ending) → IfSome answer (λ x. x ≡ a) → Refuses a e → MayEnd answer names faults e
+pub may_end-refusal : (answer : Option Answer) (names : List Word) (faults : ℕ × ℕ) (a : Answer) (e : Ending)
+    → IfSome answer (λ x. x ≡ a) → Refuses a e → MayEnd answer names faults e
 may_end-refusal answer names faults a ending.Usage is refuses = absurd refuses
 may_end-refusal answer names faults a (ending.Read text) is refuses = absurd refuses
 may_end-refusal answer names faults a (ending.Refused text) is refuses =
@@ -169,10 +200,16 @@ may_end-refusal answer names faults a (ending.Refused text) is refuses =
 may_end-refusal answer names faults a ending.Memory is refuses = tt
 
 -- the same, where the files that are wanted and their contents go by other names
-pub may_end-fetched : (held : Option Files) (words : List Word) (asked : Asked) (wanted : List FileWanted) (faults : ℕ × ℕ) (e : Ending) → Some asked ≡ asked_by_words words → wanted ≡ asked_files asked → FetchesAll (known_files held wanted) wanted faults (Err e) → MayEnd (known_answer held words) (file_names (wanted_files words)) faults e
+pub may_end-fetched : (held : Option Files) (words : List Word) (asked : Asked) (wanted : List FileWanted)
+    (faults : ℕ × ℕ) (e : Ending) → Some asked ≡ asked_by_words words → wanted ≡ asked_files asked
+    → FetchesAll (known_files held wanted) wanted faults (Err e)
+    → MayEnd (known_answer held words) (file_names (wanted_files words)) faults e
 may_end-fetched held words asked wanted faults e is same h =
     may_end-fetches held words asked faults e is (subst (λ w. FetchesAll (known_files held w) w faults (Err e)) same h)
 
-pub answer-fetched : (held : Option Files) (words : List Word) (asked : Asked) (wanted : List FileWanted) (fetched shown : List (List ℕ)) → Some asked ≡ asked_by_words words → wanted ≡ asked_files asked → IfSome (known_files held wanted) (λ files. AreContents files wanted fetched) → fetched ≡ shown → IfSome (known_answer held words) (λ a. a ≡ contents_answer asked shown)
+pub answer-fetched : (held : Option Files) (words : List Word) (asked : Asked) (wanted : List FileWanted)
+    (fetched shown : List (List ℕ)) → Some asked ≡ asked_by_words words → wanted ≡ asked_files asked
+    → IfSome (known_files held wanted) (λ files. AreContents files wanted fetched) → fetched ≡ shown
+    → IfSome (known_answer held words) (λ a. a ≡ contents_answer asked shown)
 answer-fetched held words asked wanted fetched shown is same are as_shown =
     subst (λ cs. IfSome (known_answer held words) (λ a. a ≡ contents_answer asked cs)) as_shown (answer-contents held words asked fetched is (subst (λ w. IfSome (known_files held w) (λ files. AreContents files w fetched)) same are))

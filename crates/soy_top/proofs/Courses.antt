@@ -1,5 +1,6 @@
 -- What the course of a run says of each status, of what the two sinks took and of what is unchanged.
-use Rattle.std.proofs.Common.{◌≡◌, ℕ, List, [], ◌∷◌, length, Option, Some, None, inl, inr, ◌⊎◌, refl, sym, ap, subst, ◌∙◌, arith}
+use Rattle.std.proofs.Common.{◌≡◌, ℕ, List, [], ◌∷◌, length, Option, Some, None, inl, inr, ◌⊎◌, refl, sym, ap, subst}
+use Rattle.std.proofs.Common.{◌∙◌, arith}
 use Rattle.std.specs.Prelude.{IfSome, Contains}
 use Rattle.std.proofs.Math.Seq.{take-length}
 use Rattle.soy_io.proofs.AddedParts.{added-nil}
@@ -15,7 +16,8 @@ use Rattle.soy_top.specs.Answer.{Answer, Usage, Read, Refused, Done, TooDeep, ou
 use Rattle.soy_top.specs.Change.{Change, Took, TookPrefix, Failed}
 use Rattle.soy_top.specs.Course.{Run, Course, Said, Says, Stops, WritesTo, TextIsDue}
 use Rattle.soy_top.specs.Due.{IsDue, UsageDue, ReadDue, RefusedDue, DoneDue, TooDeepDue}
-use Rattle.soy_top.specs.Ending.{UsageSaid, ReadSaid, RefusalSaid, TextWritten, TooDeepSaid, SinkFailed, OutPart, ErrPart, OnNoOutput, OnNothingWritten}
+use Rattle.soy_top.specs.Ending.{UsageSaid, ReadSaid, RefusalSaid, TextWritten, TooDeepSaid, SinkFailed, OutPart}
+use Rattle.soy_top.specs.Ending.{ErrPart, OnNoOutput, OnNothingWritten}
 use Rattle.soy_top.specs.Line.{ended, read_line, usage_text}
 use Rattle.soy_top.specs.Output.{End, Whole, AtCall, OnEmpty, OnNoText, ended_answer, output_answer}
 use Rattle.soy_top.specs.Words.{Word}
@@ -33,7 +35,8 @@ for_any None P h = tt
 for_any (Some a) P h = h a
 
 -- a fact of one answer is one of the answer that there is, if it is that one
-for_one : (answer : Option Answer) (b : Answer) (P : Answer → Type 0) → IfSome answer (λ a. a ≡ b) → P b → IfSome answer P
+for_one : (answer : Option Answer) (b : Answer) (P : Answer → Type 0) → IfSome answer (λ a. a ≡ b) → P b
+    → IfSome answer P
 for_one None b P is h = tt
 for_one (Some a) b P is h = subst P (sym is) h
 
@@ -72,11 +75,13 @@ written_by_stop status.Refused h = absurd h
 written_by_stop status.Done h = tt
 written_by_stop status.TooDeep h = tt
 
-says_written : (wanted : Status) (text : List ℕ) (sink : Change) (result : Status) → IsWritten wanted → Says wanted text sink result → IsWritten result
+says_written : (wanted : Status) (text : List ℕ) (sink : Change) (result : Status) → IsWritten wanted
+    → Says wanted text sink result → IsWritten result
 says_written wanted text sink result w (inl h) = subst IsWritten (sym h.0) w
 says_written wanted text sink result w (inr h) = written_by_stop result (stops_status text sink result h)
 
-writes_status : (text : List ℕ) (end : End) (out err : Change) (SameErr : Type 0) (result : Status) → WritesTo text end out err SameErr result → IsWritten result
+writes_status : (text : List ℕ) (end : End) (out err : Change) (SameErr : Type 0) (result : Status)
+    → WritesTo text end out err SameErr result → IsWritten result
 writes_status text Whole out err SameErr result h = says_written status.Done text out result tt h.0
 writes_status text (AtCall line) out err SameErr result (inl h) = written_by_stop result (stops_status text out result h.0)
 writes_status text (AtCall line) out err SameErr result (inr h) = says_written status.TooDeep (ended line) err result tt h.1
@@ -89,7 +94,8 @@ stops_prefix text sink result (inr h) = h.1
 took_prefix : (text : List ℕ) (sink : Change) → Took sink text → TookPrefix sink text
 took_prefix text sink took = (length text, took ∙ ap (added sink.taken_before) (sym (take-length text)))
 
-says_prefix : (wanted : Status) (text : List ℕ) (sink : Change) (result : Status) → Says wanted text sink result → TookPrefix sink text
+says_prefix : (wanted : Status) (text : List ℕ) (sink : Change) (result : Status) → Says wanted text sink result
+    → TookPrefix sink text
 says_prefix wanted text sink result (inl h) = took_prefix text sink h.1
 says_prefix wanted text sink result (inr h) = stops_prefix text sink result h
 
@@ -98,16 +104,19 @@ none_prefix : (sink : Change) (text : List ℕ) → sink.taken_after ≡ sink.ta
 none_prefix sink text same = (0, same ∙ added-nil sink.taken_before)
 
 -- what was said is due, or its sink failed, or memory ran out
-stops_due : (due : Status) (F : Type 0) (text : List ℕ) (sink : Change) (result : Status) → (Failed sink → F) → Stops text sink result → IsDue due F result
+stops_due : (due : Status) (F : Type 0) (text : List ℕ) (sink : Change) (result : Status) → (Failed sink → F)
+    → Stops text sink result → IsDue due F result
 stops_due due F text sink result fails (inl h) = inr (inl (h.0, fails h.1))
 stops_due due F text sink result fails (inr h) = inr (inr h.0)
 
-says_due : (due wanted : Status) (F : Type 0) (text : List ℕ) (sink : Change) (result : Status) → (Failed sink → F) → wanted ≡ due → Says wanted text sink result → IsDue due F result
+says_due : (due wanted : Status) (F : Type 0) (text : List ℕ) (sink : Change) (result : Status) → (Failed sink → F)
+    → wanted ≡ due → Says wanted text sink result → IsDue due F result
 says_due due wanted F text sink result fails is (inl h) = inl (h.0 ∙ is)
 says_due due wanted F text sink result fails is (inr h) = stops_due due F text sink result fails h
 
 -- a text that was said whole, with a status that no put stops with
-said_whole : (wanted shown : Status) (text : List ℕ) (sink : Change) (result : Status) → Says wanted text sink result → result ≡ shown → (IsStopped shown → ⊥) → (wanted ≡ shown) × Took sink text
+said_whole : (wanted shown : Status) (text : List ℕ) (sink : Change) (result : Status) → Says wanted text sink result
+    → result ≡ shown → (IsStopped shown → ⊥) → (wanted ≡ shown) × Took sink text
 said_whole wanted shown text sink result (inl h) is never = (sym h.0 ∙ is, h.1)
 said_whole wanted shown text sink result (inr h) is never = absurd (never (subst IsStopped is (stops_status text sink result h)))
 
@@ -126,7 +135,8 @@ no_output_of_end : (P : Type 0) (text : List ℕ) (end : End) → OnNoText text 
 no_output_of_end P text Whole h = tt
 no_output_of_end P text (AtCall line) h = h
 
-text_of_end : (sink : Change) (text : List ℕ) (end : End) → TookPrefix sink text → TookPrefix sink (out_text (ended_answer text end))
+text_of_end : (sink : Change) (text : List ℕ) (end : End) → TookPrefix sink text
+    → TookPrefix sink (out_text (ended_answer text end))
 text_of_end sink text Whole h = h
 text_of_end sink text (AtCall line) h = h
 
@@ -148,12 +158,15 @@ something_written_of P status.Memory h = tt
 something_written_of P status.Write h = tt
 something_written_of P status.TooDeep h = tt
 
-writes_prefix : (text : List ℕ) (end : End) (out err : Change) (SameErr : Type 0) (result : Status) → WritesTo text end out err SameErr result → TookPrefix out text
+writes_prefix : (text : List ℕ) (end : End) (out err : Change) (SameErr : Type 0) (result : Status)
+    → WritesTo text end out err SameErr result → TookPrefix out text
 writes_prefix text Whole out err SameErr result h = says_prefix status.Done text out result h.0
 writes_prefix text (AtCall line) out err SameErr result (inl h) = stops_prefix text out result h.0
 writes_prefix text (AtCall line) out err SameErr result (inr h) = took_prefix text out h.0
 
-writes_err_prefix : (text : List ℕ) (end : End) (out err : Change) (SameErr : Type 0) (result : Status) → (SameErr → err.taken_after ≡ err.taken_before) → WritesTo text end out err SameErr result → TookPrefix err (err_text (ended_answer text end))
+writes_err_prefix : (text : List ℕ) (end : End) (out err : Change) (SameErr : Type 0) (result : Status)
+    → (SameErr → err.taken_after ≡ err.taken_before) → WritesTo text end out err SameErr result
+    → TookPrefix err (err_text (ended_answer text end))
 writes_err_prefix text Whole out err SameErr result keeps h = none_prefix err [] (keeps h.1)
 writes_err_prefix text (AtCall line) out err SameErr result keeps (inl h) = none_prefix err (ended line) (keeps h.1)
 writes_err_prefix text (AtCall line) out err SameErr result keeps (inr h) = says_prefix status.TooDeep (ended line) err result h.1
@@ -170,16 +183,21 @@ no_refused_end : (line text : List ℕ) (end : End) → Refused line ≡ ended_a
 no_refused_end line text Whole e = cc
 no_refused_end line text (AtCall call) e = cc
 
-done_of_end : (shown text : List ℕ) (end : End) (out err : Change) (SameErr : Type 0) (result : Status) → Done shown ≡ ended_answer text end → WritesTo text end out err SameErr result → IsDue status.Done (Failed out) result × SameErr
+done_of_end : (shown text : List ℕ) (end : End) (out err : Change) (SameErr : Type 0) (result : Status)
+    → Done shown ≡ ended_answer text end → WritesTo text end out err SameErr result
+    → IsDue status.Done (Failed out) result × SameErr
 done_of_end shown text Whole out err SameErr result e h = (says_due status.Done status.Done (Failed out) text out result (λ f. f) refl h.0, h.1)
 done_of_end shown text (AtCall line) out err SameErr result e h = cc
 
-too_deep_of_call : (text line : List ℕ) (out err : Change) (SameErr : Type 0) (result : Status) → WritesTo text (AtCall line) out err SameErr result → IsDue status.TooDeep (Failed out ⊎ Failed err) result
+too_deep_of_call : (text line : List ℕ) (out err : Change) (SameErr : Type 0) (result : Status)
+    → WritesTo text (AtCall line) out err SameErr result → IsDue status.TooDeep (Failed out ⊎ Failed err) result
 too_deep_of_call text line out err SameErr result (inl h) = stops_due status.TooDeep (Failed out ⊎ Failed err) text out result (λ f. inl f) h.0
 too_deep_of_call text line out err SameErr result (inr h) =
     says_due status.TooDeep status.TooDeep (Failed out ⊎ Failed err) (ended line) err result (λ f. inr f) refl h.1
 
-too_deep_of_end : (shown line text : List ℕ) (end : End) (out err : Change) (SameErr : Type 0) (result : Status) → TooDeep shown line ≡ ended_answer text end → WritesTo text end out err SameErr result → IsDue status.TooDeep (Failed out ⊎ Failed err) result
+too_deep_of_end : (shown line text : List ℕ) (end : End) (out err : Change) (SameErr : Type 0) (result : Status)
+    → TooDeep shown line ≡ ended_answer text end → WritesTo text end out err SameErr result
+    → IsDue status.TooDeep (Failed out ⊎ Failed err) result
 too_deep_of_end shown line text Whole out err SameErr result e h = cc
 too_deep_of_end shown line text (AtCall call) out err SameErr result e h = too_deep_of_call text call out err SameErr result h
 
@@ -189,7 +207,9 @@ not_done e = cc
 not_too_deep : status.Done ≡ status.TooDeep → ⊥
 not_too_deep e = cc
 
-written_of_end : (answer : Option Answer) (text : List ℕ) (end : End) (out err : Change) (SameErr : Type 0) (result : Status) → IfSome answer (λ a. a ≡ ended_answer text end) → WritesTo text end out err SameErr result → result ≡ status.Done → TextWritten answer out
+written_of_end : (answer : Option Answer) (text : List ℕ) (end : End) (out err : Change) (SameErr : Type 0)
+    (result : Status) → IfSome answer (λ a. a ≡ ended_answer text end) → WritesTo text end out err SameErr result
+    → result ≡ status.Done → TextWritten answer out
 written_of_end answer text Whole out err SameErr result is h e =
     for_one answer (Done text) _ is (text, refl, (said_whole status.Done status.Done text out result h.0 e (λ s. s)).1)
 written_of_end answer text (AtCall line) out err SameErr result is (inl h) e =
@@ -198,7 +218,9 @@ written_of_end answer text (AtCall line) out err SameErr result is (inr h) e =
     let whole = said_whole status.TooDeep status.Done (ended line) err result h.1 e (λ s. s) in
     absurd (not_done whole.0)
 
-too_deep_said_of_end : (answer : Option Answer) (text : List ℕ) (end : End) (out err : Change) (SameErr : Type 0) (result : Status) → IfSome answer (λ a. a ≡ ended_answer text end) → WritesTo text end out err SameErr result → result ≡ status.TooDeep → TooDeepSaid answer out err
+too_deep_said_of_end : (answer : Option Answer) (text : List ℕ) (end : End) (out err : Change) (SameErr : Type 0)
+    (result : Status) → IfSome answer (λ a. a ≡ ended_answer text end) → WritesTo text end out err SameErr result
+    → result ≡ status.TooDeep → TooDeepSaid answer out err
 too_deep_said_of_end answer text Whole out err SameErr result is h e =
     absurd (not_too_deep (said_whole status.Done status.TooDeep text out result h.0 e (λ s. s)).0)
 too_deep_said_of_end answer text (AtCall line) out err SameErr result is (inl h) e =
@@ -216,15 +238,19 @@ IsNotWrite status.Refused = Unit {0}
 IsNotWrite status.Done = Unit {0}
 IsNotWrite status.TooDeep = Unit {0}
 
-stops_failed : (text : List ℕ) (sink : Change) (result : Status) → Stops text sink result → result ≡ status.Write → Failed sink
+stops_failed : (text : List ℕ) (sink : Change) (result : Status) → Stops text sink result → result ≡ status.Write
+    → Failed sink
 stops_failed text sink result (inl h) e = h.1
 stops_failed text sink result (inr h) e = absurd (subst IsNotWrite (sym h.0 ∙ e) tt)
 
-says_failed : (wanted : Status) (text : List ℕ) (sink : Change) (result : Status) → IsNotWrite wanted → Says wanted text sink result → result ≡ status.Write → Failed sink
+says_failed : (wanted : Status) (text : List ℕ) (sink : Change) (result : Status) → IsNotWrite wanted
+    → Says wanted text sink result → result ≡ status.Write → Failed sink
 says_failed wanted text sink result w (inl h) e = absurd (subst IsNotWrite (sym h.0 ∙ e) w)
 says_failed wanted text sink result w (inr h) e = stops_failed text sink result h e
 
-failed_of_end : (answer : Option Answer) (text : List ℕ) (end : End) (out err : Change) (SameOut SameErr : Type 0) (result : Status) → IfSome answer (λ a. a ≡ ended_answer text end) → WritesTo text end out err SameErr result → result ≡ status.Write → SinkFailed answer out err SameOut SameErr
+failed_of_end : (answer : Option Answer) (text : List ℕ) (end : End) (out err : Change) (SameOut SameErr : Type 0)
+    (result : Status) → IfSome answer (λ a. a ≡ ended_answer text end) → WritesTo text end out err SameErr result
+    → result ≡ status.Write → SinkFailed answer out err SameOut SameErr
 failed_of_end answer text Whole out err SameOut SameErr result is h e =
     inl (says_failed status.Done text out result tt h.0 e, h.1)
 failed_of_end answer text (AtCall line) out err SameOut SameErr result is (inl h) e = inl (stops_failed text out result h.0 e, h.1)
@@ -266,7 +292,8 @@ RefusedText answer text status.TooDeep = ⊥
 RefusedText answer text status.Write = ⊥
 RefusedText answer text status.Memory = ⊥
 
-usage_text_due : (run : Run) (wanted : Status) (text : List ℕ) → TextIsDue run wanted text → UsageText run.answer text wanted
+usage_text_due : (run : Run) (wanted : Status) (text : List ℕ) → TextIsDue run wanted text
+    → UsageText run.answer text wanted
 usage_text_due run wanted text (inl u) = subst (UsageText run.answer text) (sym u.0) (u.1, u.2)
 usage_text_due run wanted text (inr (inl r)) = subst (UsageText run.answer text) (sym r.1) tt
 usage_text_due run wanted text (inr (inr f)) = subst (UsageText run.answer text) (sym f.1) tt
@@ -276,7 +303,8 @@ read_text_due run wanted text (inl u) = subst (ReadText run text) (sym u.0) tt
 read_text_due run wanted text (inr (inl r)) = subst (ReadText run text) (sym r.1) (r.0, r.2, r.3, r.4)
 read_text_due run wanted text (inr (inr f)) = subst (ReadText run text) (sym f.1) tt
 
-refused_text_due : (run : Run) (wanted : Status) (text : List ℕ) → TextIsDue run wanted text → RefusedText run.answer text wanted
+refused_text_due : (run : Run) (wanted : Status) (text : List ℕ) → TextIsDue run wanted text
+    → RefusedText run.answer text wanted
 refused_text_due run wanted text (inl u) = subst (RefusedText run.answer text) (sym u.0) tt
 refused_text_due run wanted text (inr (inl r)) = subst (RefusedText run.answer text) (sym r.1) tt
 refused_text_due run wanted text (inr (inr f)) = subst (RefusedText run.answer text) (sym f.1) (f.0, f.2, f.3)
@@ -495,7 +523,8 @@ module _ (run : Run) (SameOut SameErr : Type 0) where
     err_part (inr (inr stopped)) = for_any run.answer IsErrPart (λ a. inl (none_prefix run.err (err_text a) (err_keeps stopped.same_err)))
 
 -- a run that comes to an ending says it
-pub course-ending : (run : Run) (SameOut SameErr : Type 0) (e : Ending) → MayEnd run.answer run.names run.file_faults e → Concludes e run.err SameErr run.result → SameOut → Course run SameOut SameErr
+pub course-ending : (run : Run) (SameOut SameErr : Type 0) (e : Ending) → MayEnd run.answer run.names run.file_faults e
+    → Concludes e run.err SameErr run.result → SameOut → Course run SameOut SameErr
 course-ending run SameOut SameErr ending.Usage may said same =
     inl (record { wanted = status.Usage; text = usage_text; due = inl (refl, may, refl); says = said; same_out = same })
 course-ending run SameOut SameErr (ending.Read text) may said same =

@@ -1,5 +1,7 @@
 -- What is read of the lines of a file spells them, and what is read of a file spells its form.
-use Rattle.std.proofs.Common.{◌≡◌, ◌≢◌, ℕ, ◌==◌, Bool, true, false, not, cond, ◌&&◌, List, [], ◌∷◌, ◌++◌, Option, Some, None, length, take, drop, ◌-◌, ◌⊎◌, inl, inr, refl, sym, ap, ◌∙◌, subst, arith, append_assoc, nat_eq, codes}
+use Rattle.std.proofs.Common.{◌≡◌, ◌≢◌, ℕ, ◌==◌, Bool, true, false, not, cond, ◌&&◌, List, [], ◌∷◌, ◌++◌, Option, Some}
+use Rattle.std.proofs.Common.{None, length, take, drop, ◌-◌, ◌⊎◌, inl, inr, refl, sym, ap, ◌∙◌, subst, arith}
+use Rattle.std.proofs.Common.{append_assoc, nat_eq, codes}
 use Rattle.std.specs.Prelude.{slice_index}
 use Rattle.std.specs.List.{slice_split, list_all, starts_with, ends_with, IsDistinct}
 use Rattle.std.specs.Option.{option_and_then, option_map_or}
@@ -11,9 +13,13 @@ use Rattle.std.proofs.lemmas.List.{take-append-drop, append-nil}
 use Rattle.std.proofs.lemmas.Map.Keys.{IsDistinct-push}
 use Rattle.soy_base.specs.Names.{is_name, is_dotted_name}
 use Rattle.soy_base.specs.Among.{is_among}
-use Rattle.soy_top.specs.FirstForm.{Form, Declared, is_empty, after_prefix, before_suffix, between, passing, namespace_of, template_of, param_of, parts_of, has_body_ends, is_last_line, is_template_end, body_read, declared, named_form, form_of_lines, is_file_byte, first_form}
+use Rattle.soy_top.specs.FirstForm.{FirstFile, Declared, is_empty, after_prefix, before_suffix, between, passing}
+use Rattle.soy_top.specs.FirstForm.{namespace_of, template_of, param_of, parts_of, has_body_ends, is_last_line}
+use Rattle.soy_top.specs.FirstForm.{is_template_end, body_read, declared, named_form, form_of_lines, is_file_byte}
+use Rattle.soy_top.specs.FirstForm.{first_form}
 use Rattle.soy_top.specs.Spells.{IsBody, param_lines, params_of, Spells}
-use Rattle.soy_top.proofs.Delimiters.{both_hold, and_holds, list_all-both, after_mark, joined, joined-slice_split, WhereSome, WhereSome-is, WhereSome-and_then, WhereSome-map, WhereSome-if}
+use Rattle.soy_top.proofs.Delimiters.{both_hold, and_holds, list_all-both, after_mark, joined, joined-slice_split}
+use Rattle.soy_top.proofs.Delimiters.{WhereSome, WhereSome-is, WhereSome-and_then, WhereSome-map, WhereSome-if}
 use Rattle.soy_top.proofs.ReadForm.{is_line_byte, lines-bytes, body_of_parts}
 
 -- what follows a prefix, by the text
@@ -35,12 +41,14 @@ record IsNamed (prefix suffix : List ℕ) (test : List ℕ → Bool) (line name 
   pub passes : test name ≡ true
 
 -- the same with a prefix before it
-in_prefix : (prefix suffix rest : List ℕ) (o : Option (List ℕ)) → WhereSome (λ name. rest ≡ name ++ suffix) o → WhereSome (λ name. prefix ++ rest ≡ prefix ++ (name ++ suffix)) o
+in_prefix : (prefix suffix rest : List ℕ) (o : Option (List ℕ)) → WhereSome (λ name. rest ≡ name ++ suffix) o
+    → WhereSome (λ name. prefix ++ rest ≡ prefix ++ (name ++ suffix)) o
 in_prefix prefix suffix rest None h = tt
 in_prefix prefix suffix rest (Some name) h = ap (λ t. prefix ++ t) h
 
 -- what is read as a name between a prefix and a suffix stands there
-name_read : (prefix suffix : List ℕ) (test : List ℕ → Bool) (line : List ℕ) → WhereSome (IsNamed prefix suffix test line) (option_and_then (passing test) (between prefix suffix line))
+name_read : (prefix suffix : List ℕ) (test : List ℕ → Bool) (line : List ℕ)
+    → WhereSome (IsNamed prefix suffix test line) (option_and_then (passing test) (between prefix suffix line))
 name_read prefix suffix test line =
     WhereSome-and_then (λ name. line ≡ prefix ++ (name ++ suffix)) (IsNamed prefix suffix test line) (passing test) (between prefix suffix line)
     (WhereSome-and_then (λ rest. line ≡ prefix ++ rest) (λ name. line ≡ prefix ++ (name ++ suffix)) (before_suffix suffix) (after_prefix prefix line) (prefix_read prefix line)
@@ -95,7 +103,8 @@ record Middle (params : List (List ℕ)) (marked : List ℕ) (found : Declared) 
   pub bytes : list_all is_line_byte found.body ≡ true
 
 -- an empty line before the others
-past_empty : (params : List (List ℕ)) (marked : List ℕ) (found : Declared) → Middle params marked found → Middle params (10 ∷ marked) found
+past_empty : (params : List (List ℕ)) (marked : List ℕ) (found : Declared) → Middle params marked found
+    → Middle params (10 ∷ marked) found
 past_empty params marked found m = record {
   lines = None ∷ m.lines;
   end = m.end;
@@ -109,11 +118,15 @@ past_empty params marked found m = record {
 }
 
 -- a declaration with its line break, before more lines
-pub param_spelled : (name rest more : List ℕ) → (codes "{@param " ++ (name ++ codes ": string}")) ++ (10 ∷ (rest ++ more)) ≡ ((codes "{@param " ++ (name ++ codes ": string}\n")) ++ rest) ++ more
+pub param_spelled : (name rest more : List ℕ)
+    → (codes "{@param " ++ (name ++ codes ": string}")) ++ (10 ∷ (rest ++ more)) ≡
+    ((codes "{@param " ++ (name ++ codes ": string}\n")) ++ rest) ++ more
 param_spelled name rest more = simp append_assoc
 
 -- a declaration before the other lines
-past_param : (params : List (List ℕ)) (name line marked : List ℕ) (found : Declared) → line ≡ codes "{@param " ++ (name ++ codes ": string}") → Middle (params ++ name ∷ []) marked found → Middle params (10 ∷ (line ++ marked)) found
+past_param : (params : List (List ℕ)) (name line marked : List ℕ) (found : Declared)
+    → line ≡ codes "{@param " ++ (name ++ codes ": string}") → Middle (params ++ name ∷ []) marked found
+    → Middle params (10 ∷ (line ++ marked)) found
 past_param params name line marked found e m = record {
   lines = Some name ∷ m.lines;
   end = m.end;
@@ -127,12 +140,15 @@ past_param params name line marked found e m = record {
 }
 
 -- what holds of an answer that a test refuses
-else_none : {A : Type 0} (Q : A → Type 0) (b : Bool) (o : Option A) → (b ≡ false → WhereSome Q o) → WhereSome Q (cond b None o)
+else_none : {A : Type 0} (Q : A → Type 0) (b : Bool) (o : Option A) → (b ≡ false → WhereSome Q o)
+    → WhereSome Q (cond b None o)
 else_none Q true o h = tt
 else_none Q false o h = h refl
 
 -- what is read from the body line on
-body_line : (params : List (List ℕ)) (line : List ℕ) (lines : List (List ℕ)) → list_all is_name params ≡ true → IsDistinct bytes_eq params → list_all is_line_byte line ≡ true → WhereSome (Middle params (after_mark 10 (line ∷ lines))) (body_read params line lines)
+body_line : (params : List (List ℕ)) (line : List ℕ) (lines : List (List ℕ)) → list_all is_name params ≡ true
+    → IsDistinct bytes_eq params → list_all is_line_byte line ≡ true
+    → WhereSome (Middle params (after_mark 10 (line ∷ lines))) (body_read params line lines)
 body_line params line lines names distinct l =
     WhereSome-if (Middle params (after_mark 10 (line ∷ lines))) (has_body_ends line && is_template_end lines) (Some (record { params = params; body = line }))
     (λ t. let p = both_hold (has_body_ends line) (is_template_end lines) t in
@@ -154,12 +170,15 @@ abbrev Reads : List (List ℕ) → Type 0
 Reads lines = (params : List (List ℕ)) → list_all is_name params ≡ true → IsDistinct bytes_eq params → WhereSome (Middle params (after_mark 10 lines)) (declared params lines)
 
 -- what is read past an empty line
-empty_line : (params : List (List ℕ)) (marked : List ℕ) (o : Option Declared) → WhereSome (Middle params marked) o → WhereSome (Middle params (10 ∷ marked)) o
+empty_line : (params : List (List ℕ)) (marked : List ℕ) (o : Option Declared) → WhereSome (Middle params marked) o
+    → WhereSome (Middle params (10 ∷ marked)) o
 empty_line params marked None h = tt
 empty_line params marked (Some found) h = past_empty params marked found h
 
 -- what is read past a declaration
-param_line_read : (params : List (List ℕ)) (name line marked : List ℕ) (o : Option Declared) → line ≡ codes "{@param " ++ (name ++ codes ": string}") → WhereSome (Middle (params ++ name ∷ []) marked) o → WhereSome (Middle params (10 ∷ (line ++ marked))) o
+param_line_read : (params : List (List ℕ)) (name line marked : List ℕ) (o : Option Declared)
+    → line ≡ codes "{@param " ++ (name ++ codes ": string}") → WhereSome (Middle (params ++ name ∷ []) marked) o
+    → WhereSome (Middle params (10 ∷ (line ++ marked))) o
 param_line_read params name line marked None e h = tt
 param_line_read params name line marked (Some found) e h = past_param params name line marked found e h
 
@@ -202,14 +221,19 @@ apart_test : (a b : ℕ) → not (a == b) ≡ true → a ≢ b
 apart_test a b h e = let t : (a == b) ≡ true = (Decides-eqb a b).1 e in let f : false ≡ true = sym (ap not t) ∙ h in cc
 
 -- what the test of a body's ends tells
-ends_apart : (body : List ℕ) → has_body_ends body ≡ true → (body ≢ []) × (slice_index body 0 ≢ 32) × (slice_index body (length body - 1) ≢ 32)
+ends_apart : (body : List ℕ) → has_body_ends body ≡ true
+    → (body ≢ []) × (slice_index body 0 ≢ 32) × (slice_index body (length body - 1) ≢ 32)
 ends_apart body h =
     let p = both_hold (not (is_empty body)) (not (slice_index body 0 == 32) && not (slice_index body (length body - 1) == 32)) h in
     let q = both_hold (not (slice_index body 0 == 32)) (not (slice_index body (length body - 1) == 32)) p.1 in
     ((λ e. apart_test (length body) 0 p.0 (ap length e)), apart_test (slice_index body 0) 32 q.0, apart_test (slice_index body (length body - 1)) 32 q.1)
 
 -- the form, by what is read of its lines
-named_read : (first second : List ℕ) (lines : List (List ℕ)) (o p : Option (List ℕ)) (q : Option Declared) → WhereSome (IsNamed (codes "{namespace ") (codes "}") is_dotted_name first) o → WhereSome (IsNamed (codes "{template ") (codes "}") is_name second) p → WhereSome (Middle [] (after_mark 10 lines)) q → WhereSome (Spells (joined 10 (first ∷ second ∷ lines))) (named_form o p q)
+named_read : (first second : List ℕ) (lines : List (List ℕ)) (o p : Option (List ℕ)) (q : Option Declared)
+    → WhereSome (IsNamed (codes "{namespace ") (codes "}") is_dotted_name first) o
+    → WhereSome (IsNamed (codes "{template ") (codes "}") is_name second) p
+    → WhereSome (Middle [] (after_mark 10 lines)) q
+    → WhereSome (Spells (joined 10 (first ∷ second ∷ lines))) (named_form o p q)
 named_read first second lines None p q a b m = tt
 named_read first second lines (Some namespace) None q a b m = tt
 named_read first second lines (Some namespace) (Some template) None a b m = tt
@@ -238,7 +262,8 @@ unfolding IsDistinct
 none_distinct = tt
 
 -- what is read of lines spells the form
-lines_read : (lines : List (List ℕ)) → list_all (list_all is_line_byte) lines ≡ true → WhereSome (Spells (joined 10 lines)) (form_of_lines lines)
+lines_read : (lines : List (List ℕ)) → list_all (list_all is_line_byte) lines ≡ true
+    → WhereSome (Spells (joined 10 lines)) (form_of_lines lines)
 lines_read [] l = tt
 lines_read (first ∷ []) l = tt
 lines_read (first ∷ second ∷ lines) l =
@@ -253,5 +278,5 @@ file_read file =
     (λ t. subst (λ (text : List ℕ). WhereSome (Spells text) (form_of_lines (slice_split (λ c. c == 10) file))) (joined-slice_split 10 file) (lines_read (slice_split (λ c. c == 10) file) (lines-bytes file t)))
 
 -- what is read as a form spells it
-pub first_form-Spells : (file : List ℕ) (form : Form) → first_form file ≡ Some form → Spells file form
+pub first_form-Spells : (file : List ℕ) (form : FirstFile) → first_form file ≡ Some form → Spells file form
 first_form-Spells file form h = WhereSome-is (Spells file) (first_form file) form (file_read file) h

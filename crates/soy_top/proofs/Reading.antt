@@ -16,6 +16,7 @@ unfolding data_of
 data_of-not_utf8 bytes h = not_data_by bytes (is_utf8 bytes) refl h
 
 -- of UTF-8 they are what is read
-pub data_of-utf8 : (bytes text : List ℕ) (r : Option Data) → text ≡ bytes → IsUtf8 bytes → read text ≡ r → r ≡ data_of bytes
+pub data_of-utf8 : (bytes text : List ℕ) (r : Option Data) → text ≡ bytes → IsUtf8 bytes → read text ≡ r
+    → r ≡ data_of bytes
 unfolding data_of
 data_of-utf8 bytes text r same utf8 h = rw (is_utf8-from_IsUtf8 bytes utf8) (sym h ∙ ap read same)

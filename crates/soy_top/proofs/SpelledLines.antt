@@ -1,5 +1,7 @@
 -- What spells a form is read as that form.
-use Rattle.std.proofs.Common.{◌≡◌, ◌≢◌, ℕ, ◌==◌, ◌-◌, Bool, true, false, not, cond, ◌&&◌, ◌||◌, List, [], ◌∷◌, ◌++◌, Option, Some, None, option_map, length, take, drop, ◌⊎◌, inl, inr, refl, sym, ap, ◌∙◌, subst, arith, append_assoc, nat_eq, codes}
+use Rattle.std.proofs.Common.{◌≡◌, ◌≢◌, ℕ, ◌==◌, ◌-◌, Bool, true, false, not, cond, ◌&&◌, ◌||◌, List, [], ◌∷◌, ◌++◌}
+use Rattle.std.proofs.Common.{Option, Some, None, option_map, length, take, drop, ◌⊎◌, inl, inr, refl, sym, ap, ◌∙◌}
+use Rattle.std.proofs.Common.{subst, arith, append_assoc, nat_eq, codes}
 use Rattle.std.specs.Prelude.{slice_index}
 use Rattle.std.specs.List.{slice_split, list_all, starts_with, IsDistinct, AllByRecursion}
 use Rattle.std.specs.Option.{option_and_then, option_map_or}
@@ -11,12 +13,15 @@ use Rattle.std.proofs.lemmas.Map.Keys.{IsDistinct-head, IsDistinct-tail}
 use Rattle.std.proofs.lemmas.Slice.Eq.{bytes_eq-Decides}
 use Rattle.soy_base.specs.Names.{is_name, is_dotted_name}
 use Rattle.soy_base.specs.Among.{is_among}
-use Rattle.soy_top.specs.FirstForm.{Form, Declared, is_empty, after_prefix, before_suffix, between, passing, namespace_of, template_of, param_of, has_body_ends, is_template_end, body_read, declared, form_after, named_form, form_of_lines, is_file_byte, first_form}
+use Rattle.soy_top.specs.FirstForm.{FirstFile, Declared, is_empty, after_prefix, before_suffix, between, passing}
+use Rattle.soy_top.specs.FirstForm.{namespace_of, template_of, param_of, has_body_ends, is_template_end, body_read}
+use Rattle.soy_top.specs.FirstForm.{declared, form_after, named_form, form_of_lines, is_file_byte, first_form}
 use Rattle.soy_top.specs.Spells.{param_lines, params_of, written, Spells}
 use Rattle.soy_top.proofs.Delimiters.{both_hold, and_holds, lacks, list_all-weaken, list_all-both, split-at}
 use Rattle.soy_top.proofs.ReadForm.{is_line_byte}
 use Rattle.soy_top.proofs.ReadLines.{param_spelled, file_spelled}
-use Rattle.soy_top.proofs.SpelledForm.{name_parts, dotted_name_parts, name-line, parts_of-IsBody, body-line, body_no_param}
+use Rattle.soy_top.proofs.SpelledForm.{name_parts, dotted_name_parts, name-line, parts_of-IsBody, body-line}
+use Rattle.soy_top.proofs.SpelledForm.{body_no_param}
 
 -- a text is equal to itself
 same_bytes : (text : List ℕ) → bytes_eq text text ≡ true
@@ -32,7 +37,8 @@ after_prefix-append prefix suffix =
     prefix_at (take (length prefix) (prefix ++ suffix)) prefix (drop (length prefix) (prefix ++ suffix)) (take-append_seam prefix suffix) ∙ ap Some (drop-append_seam prefix suffix)
 
 -- what stands before a suffix, by its length
-back_at : (n : ℕ) (text suffix : List ℕ) → n ≡ length text → cond (bytes_eq suffix (drop n (text ++ suffix))) (Some (take n (text ++ suffix))) None ≡ Some text
+back_at : (n : ℕ) (text suffix : List ℕ) → n ≡ length text
+    → cond (bytes_eq suffix (drop n (text ++ suffix))) (Some (take n (text ++ suffix))) None ≡ Some text
 back_at n text suffix e = rw e (rw (drop-append_seam text suffix, take-append_seam text suffix) (rw (same_bytes suffix) refl))
 
 -- what stands before a suffix
@@ -45,13 +51,15 @@ passing-is : (test : List ℕ → Bool) (text : List ℕ) → test text ≡ true
 passing-is test text h = rw h refl
 
 -- a name is read from between its prefix and suffix
-name_found : (prefix suffix : List ℕ) (test : List ℕ → Bool) (name : List ℕ) → test name ≡ true → option_and_then (passing test) (between prefix suffix (prefix ++ (name ++ suffix))) ≡ Some name
+name_found : (prefix suffix : List ℕ) (test : List ℕ → Bool) (name : List ℕ) → test name ≡ true
+    → option_and_then (passing test) (between prefix suffix (prefix ++ (name ++ suffix))) ≡ Some name
 name_found prefix suffix test name h =
     ap (λ rest. option_and_then (passing test) (option_and_then (before_suffix suffix) rest)) (after_prefix-append prefix (name ++ suffix))
     ∙ (ap (option_and_then (passing test)) (before_suffix-append name suffix) ∙ passing-is test name h)
 
 -- what holds of each name holds of the one in the middle
-all_at : (P : List ℕ → Type 0) (names : List (List ℕ)) (name : List ℕ) (more : List (List ℕ)) → AllByRecursion P (names ++ (name ∷ more)) → P name
+all_at : (P : List ℕ → Type 0) (names : List (List ℕ)) (name : List ℕ) (more : List (List ℕ))
+    → AllByRecursion P (names ++ (name ∷ more)) → P name
 all_at P [] name more h = h.0
 all_at P (n ∷ ns) name more h = all_at P ns name more h.1
 
@@ -68,18 +76,21 @@ or_none : (a b : Bool) → a ≡ false → b ≡ false → (a || b) ≡ false
 or_none a b h k = rw (h, k) refl
 
 -- of distinct names none stands before itself
-new_name : (params : List (List ℕ)) (name : List ℕ) (more : List (List ℕ)) → IsDistinct bytes_eq (params ++ (name ∷ more)) → is_among params name ≡ false
+new_name : (params : List (List ℕ)) (name : List ℕ) (more : List (List ℕ))
+    → IsDistinct bytes_eq (params ++ (name ∷ more)) → is_among params name ≡ false
 new_name [] name more h = refl
 new_name (param ∷ params) name more h =
     or_none (bytes_eq name param) (is_among params name) (apart name param (all_at (λ other. bytes_eq param other ≡ false) params name more (IsDistinct-head bytes_eq param (params ++ (name ∷ more)) h)))
     (new_name params name more (IsDistinct-tail bytes_eq param (params ++ (name ∷ more)) h))
 
 -- the body line is taken for no other line
-body_step : {A B : Type 0} (t : Bool) (a : Option A) (o : Option B) (f : B → Option A) (u v : Bool) (d : A) → t ≡ false → o ≡ None → u ≡ true → v ≡ true → cond t a (option_map_or f o (cond (u && v) (Some d) None)) ≡ Some d
+body_step : {A B : Type 0} (t : Bool) (a : Option A) (o : Option B) (f : B → Option A) (u v : Bool) (d : A) → t ≡ false
+    → o ≡ None → u ≡ true → v ≡ true → cond t a (option_map_or f o (cond (u && v) (Some d) None)) ≡ Some d
 body_step t a o f u v d ht ho hu hv = rw (ht, ho, hu, hv) refl
 
 -- a declaration is taken for no empty line
-param_step : {A : Type 0} (t : Bool) (a : Option A) (o : Option (List ℕ)) (name : List ℕ) (f : List ℕ → Option A) (b : Option A) → t ≡ false → o ≡ Some name → cond t a (option_map_or f o b) ≡ f name
+param_step : {A : Type 0} (t : Bool) (a : Option A) (o : Option (List ℕ)) (name : List ℕ) (f : List ℕ → Option A)
+    (b : Option A) → t ≡ false → o ≡ Some name → cond t a (option_map_or f o b) ≡ f name
 param_step t a o name f b ht ho = rw (ht, ho) refl
 
 -- an answer that a test does not refuse
@@ -99,7 +110,8 @@ not_true_empty true u h = let e : false ≡ true = h in cc
 not_true_empty false u h = refl
 
 -- the end of the template is read as such
-ends_found : (end : List ℕ) → (end ≡ []) ⊎ (end ≡ codes "\n") → is_template_end (slice_split (λ c. c == 10) (codes "{/template}" ++ end)) ≡ true
+ends_found : (end : List ℕ) → (end ≡ []) ⊎ (end ≡ codes "\n")
+    → is_template_end (slice_split (λ c. c == 10) (codes "{/template}" ++ end)) ≡ true
 ends_found end (inl e) = rw e refl
 ends_found end (inr e) = rw e refl
 
@@ -162,7 +174,8 @@ module _ (body end : List ℕ) (bytes : list_all is_line_byte body ≡ true) (bo
       ∙ ap (λ found. Some (record { params = found; body = body })) seam))
 
 -- declarations and empty lines may stand in a file
-param_bytes : (lines : List (Option (List ℕ))) → list_all is_name (params_of lines) ≡ true → list_all is_file_byte (param_lines lines) ≡ true
+param_bytes : (lines : List (Option (List ℕ))) → list_all is_name (params_of lines) ≡ true
+    → list_all is_file_byte (param_lines lines) ≡ true
 param_bytes [] h = refl
 param_bytes (None ∷ lines) h = param_bytes lines h
 param_bytes (Some name ∷ lines) h =
@@ -170,16 +183,19 @@ param_bytes (Some name ∷ lines) h =
     list_all-both is_file_byte (codes "{@param " ++ (name ++ codes ": string}\n")) (param_lines lines) (list_all-both is_file_byte name (codes ": string}\n") (file_bytes name (line_bytes name p.0)) refl) (param_bytes lines p.1)
 
 -- so may the end of the template
-end_bytes : (end : List ℕ) → (end ≡ []) ⊎ (end ≡ codes "\n") → list_all is_file_byte (codes "\n{/template}" ++ end) ≡ true
+end_bytes : (end : List ℕ) → (end ≡ []) ⊎ (end ≡ codes "\n")
+    → list_all is_file_byte (codes "\n{/template}" ++ end) ≡ true
 end_bytes end (inl e) = rw e refl
 end_bytes end (inr e) = rw e refl
 
 -- the form, where each part of it was read
-names_found : (o p : Option (List ℕ)) (q : Option Declared) (namespace template : List ℕ) (found : Declared) → o ≡ Some namespace → p ≡ Some template → q ≡ Some found → named_form o p q ≡ form_after namespace template (Some found)
+names_found : (o p : Option (List ℕ)) (q : Option Declared) (namespace template : List ℕ) (found : Declared)
+    → o ≡ Some namespace → p ≡ Some template → q ≡ Some found
+    → named_form o p q ≡ form_after namespace template (Some found)
 names_found o p q namespace template found ho hp hq = rw (ho, hp, hq) refl
 
 -- an answer under a test that holds
-holds : (t : Bool) (o : Option Form) → t ≡ true → cond t o None ≡ o
+holds : (t : Bool) (o : Option FirstFile) → t ≡ true → cond t o None ≡ o
 holds t o h = rw h refl
 
 -- numbers that differ fail the test
@@ -196,12 +212,13 @@ not_empty_is [] h = absurd (h refl)
 not_empty_is (c ∷ cs) h = ap not (not_empty c cs)
 
 -- the test of a body's ends, by what it tells
-ends_hold : (body : List ℕ) → body ≢ [] → slice_index body 0 ≢ 32 → slice_index body (length body - 1) ≢ 32 → has_body_ends body ≡ true
+ends_hold : (body : List ℕ) → body ≢ [] → slice_index body 0 ≢ 32 → slice_index body (length body - 1) ≢ 32
+    → has_body_ends body ≡ true
 ends_hold body some first last =
     and_holds (not (is_empty body)) (not (slice_index body 0 == 32) && not (slice_index body (length body - 1) == 32)) (not_empty_is body some)
     (and_holds (not (slice_index body 0 == 32)) (not (slice_index body (length body - 1) == 32)) (differs (slice_index body 0) 32 first) (differs (slice_index body (length body - 1)) 32 last))
 
-module _ (file : List ℕ) (form : Form) (s : Spells file form) where
+module _ (file : List ℕ) (form : FirstFile) (s : Spells file form) where
   -- the parameters that the lines declare have names
   own_names : list_all is_name (params_of s.lines) ≡ true
   own_names = sym (ap (list_all is_name) s.params) ∙ s.names
@@ -259,5 +276,5 @@ module _ (file : List ℕ) (form : Form) (s : Spells file form) where
       ∙ (holds (list_all is_file_byte (written form s.lines s.body s.end)) (form_of_lines (slice_split (λ c. c == 10) (written form s.lines s.body s.end))) written_bytes ∙ own_read)
 
 -- what spells a form is read as it
-pub Spells-first_form : (file : List ℕ) (form : Form) → Spells file form → first_form file ≡ Some form
+pub Spells-first_form : (file : List ℕ) (form : FirstFile) → Spells file form → first_form file ≡ Some form
 Spells-first_form file form s = own_file file form s

@@ -1,5 +1,6 @@
 -- What a sink took of a text that is put piece by piece.
-use Rattle.std.proofs.Common.{◌≡◌, ℕ, ◌+◌, ◌<◌, ◌≤◌, List, [], ◌++◌, Option, length, take, drop, get_or, add-one, refl, sym, ap, ◌∙◌, arith, min, append_assoc}
+use Rattle.std.proofs.Common.{◌≡◌, ℕ, ◌+◌, ◌<◌, ◌≤◌, List, [], ◌++◌, Option, length, take, drop, get_or, add-one, refl}
+use Rattle.std.proofs.Common.{sym, ap, ◌∙◌, arith, min, append_assoc}
 use Rattle.std.proofs.lemmas.List.{take-append-le, take_min}
 use Rattle.std.proofs.Math.Seq.{take-append-add}
 use Rattle.std.proofs.Math.Seq.{drop-cons}
@@ -25,7 +26,8 @@ pub put_none : (before : Option (List ℕ)) (text : List ℕ) → PutSoFar befor
 put_none before text = record { done = []; split = refl; taken = added-nil before }
 
 -- one more piece was taken
-pub put_more : (before now then : Option (List ℕ)) (text rest piece others : List ℕ) → PutSoFar before now text rest → rest ≡ piece ++ others → then ≡ added now piece → PutSoFar before then text others
+pub put_more : (before now then : Option (List ℕ)) (text rest piece others : List ℕ) → PutSoFar before now text rest
+    → rest ≡ piece ++ others → then ≡ added now piece → PutSoFar before then text others
 put_more before now then text rest piece others far same took = record {
   done = far.done ++ piece;
   split = far.split ∙ (ap (λ t. far.done ++ t) same ∙ sym (append_assoc far.done piece others));
@@ -33,32 +35,40 @@ put_more before now then text rest piece others far same took = record {
 }
 
 -- the rest was taken
-pub put_rest : (before now then : Option (List ℕ)) (text rest : List ℕ) → PutSoFar before now text rest → then ≡ added now rest → then ≡ added before text
+pub put_rest : (before now then : Option (List ℕ)) (text rest : List ℕ) → PutSoFar before now text rest
+    → then ≡ added now rest → then ≡ added before text
 put_rest before now then text rest far took =
     took ∙ (ap (λ t. added t rest) far.taken ∙ (added-added before far.done rest ∙ ap (added before) (sym far.split)))
 
 -- a prefix of the rest was taken
-pub put_part : (before now then : Option (List ℕ)) (text rest : List ℕ) → PutSoFar before now text rest → PrefixTaken now then rest → PrefixTaken before then text
+pub put_part : (before now then : Option (List ℕ)) (text rest : List ℕ) → PutSoFar before now text rest
+    → PrefixTaken now then rest → PrefixTaken before then text
 put_part before now then text rest far part =
     (length far.done + part.0, part.1 ∙ (ap (λ t. added t (take part.0 rest)) far.taken ∙ (added-added before far.done (take part.0 rest) ∙ ap (added before) (sym (ap (take (length far.done + part.0)) far.split ∙ take-append-add far.done rest part.0)))))
 
 -- a prefix of a prefix was taken
-pub prefix_of_prefix : (now then : Option (List ℕ)) (rest piece others : List ℕ) (n : ℕ) → rest ≡ piece ++ others → n ≤ length piece → then ≡ added now (take n piece) → PrefixTaken now then rest
+pub prefix_of_prefix : (now then : Option (List ℕ)) (rest piece others : List ℕ) (n : ℕ) → rest ≡ piece ++ others
+    → n ≤ length piece → then ≡ added now (take n piece) → PrefixTaken now then rest
 prefix_of_prefix now then rest piece others n same within took =
     (n, took ∙ ap (added now) (sym (ap (take n) same ∙ take-append-le n piece others within)))
 
 -- the body from one part on is that part and the body from the next on
-pub body_bytes-drop : (value : Data) (parts : List Part) (i : ℕ) (d : Part) → i < length parts → body_bytes value (view_parts (drop i parts)) ≡ part_bytes value (view_part (get_or parts i d)) ++ body_bytes value (view_parts (drop (i + 1) parts))
+pub body_bytes-drop : (value : Data) (parts : List Part) (i : ℕ) (d : Part) → i < length parts
+    → body_bytes value (view_parts (drop i parts)) ≡ part_bytes value
+    (view_part (get_or parts i d)) ++ body_bytes value (view_parts (drop (i + 1) parts))
 body_bytes-drop value parts i d within =
     ap (λ rest. body_bytes value (view_parts rest)) (drop-cons parts i d within) ∙ ap (λ k. part_bytes value (view_part (get_or parts i d)) ++ body_bytes value (view_parts (drop k parts))) (sym (add-one i))
 
 -- the same where the parts are shown under another name
-pub body_bytes-step : (value : Data) (parts shown : List Part) (i : ℕ) (d : Part) → shown ≡ parts → i < length shown → body_bytes value (view_parts (drop i parts)) ≡ part_bytes value (view_part (get_or shown i d)) ++ body_bytes value (view_parts (drop (i + 1) parts))
+pub body_bytes-step : (value : Data) (parts shown : List Part) (i : ℕ) (d : Part) → shown ≡ parts → i < length shown
+    → body_bytes value (view_parts (drop i parts)) ≡ part_bytes value
+    (view_part (get_or shown i d)) ++ body_bytes value (view_parts (drop (i + 1) parts))
 body_bytes-step value parts shown i d same within =
     ap (λ items. body_bytes value (view_parts (drop i items))) (sym same) ∙ (body_bytes-drop value shown i d within ∙ ap (λ items. part_bytes value (view_part (get_or shown i d)) ++ body_bytes value (view_parts (drop (i + 1) items))) same)
 
 -- a prefix of the next part is a prefix of what is left
-pub part_of_part : (now then : Option (List ℕ)) (rest piece others : List ℕ) → rest ≡ piece ++ others → PrefixTaken now then piece → PrefixTaken now then rest
+pub part_of_part : (now then : Option (List ℕ)) (rest piece others : List ℕ) → rest ≡ piece ++ others
+    → PrefixTaken now then piece → PrefixTaken now then rest
 part_of_part now then rest piece others same part =
     let n : ℕ = min part.0 (length piece) in
     (n, part.1 ∙ ap (added now) (sym (take_min part.0 piece) ∙ (sym (take-append-le n piece others (omega arith)) ∙ ap (take n) (sym same))))

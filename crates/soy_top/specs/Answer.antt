@@ -13,10 +13,10 @@ use Rattle.soy_io.specs.FileOf.{Files}
 use Rattle.soy_top.specs.Asked.{Asked, Render, Check, Extract, Gen, Play, Preview, Format, asked_by_words}
 use Rattle.soy_top.specs.FilesWanted.{FileWanted, asked_files, wanted_files, known_files, first_not_held}
 use Rattle.soy_top.specs.FilesWanted.{first_over_limit, contents}
-use Rattle.soy_top.specs.FirstForm.{Form, first_form, full_name}
+use Rattle.soy_top.specs.FirstForm.{FirstFile, first_form, full_name}
 use Rattle.soy_top.specs.FirstPage.{page_of}
 use Rattle.soy_top.specs.Line.{not_yet_line, too_large_line, entry_line, read_line, usage_text, ended}
-use Rattle.soy_top.specs.Words.{Word, words_of}
+use Rattle.soy_top.specs.Words.{Word, command_words}
 
 pub data Answer : Type 0 where
   -- the usage text
@@ -40,12 +40,12 @@ page_answer None = not_yet (codes "render")
 page_answer (Some text) = Done text
 
 -- the answer by the template's name, the data and a form that was read
-abbrev pub named_answer : Word → List ℕ → Form → Answer
+abbrev pub named_answer : Word → List ℕ → FirstFile → Answer
 named_answer template json form =
     if bytes_eq template (full_name form) then page_answer (page_of form json) else Refused (entry_line template)
 
 -- the answer by the file, if it is of the first form
-abbrev pub form_answer : Word → List ℕ → Option Form → Answer
+abbrev pub form_answer : Word → List ℕ → Option FirstFile → Answer
 form_answer template json None = not_yet (codes "render")
 form_answer template json (Some form) = named_answer template json form
 
@@ -89,7 +89,7 @@ known_answer held words = option_map (λ files. answer files words) (known_files
 
 -- the same for the words of a call
 abbrev pub answered : {A : Type 0} → Option Files → List (String A) → Option Answer
-answered held words = known_answer held (words_of words)
+answered held words = known_answer held (command_words words)
 
 -- the text for the output
 abbrev pub out_text : Answer → List ℕ

@@ -9,7 +9,7 @@ use Rattle.std.specs.Option.{option_map_or}
 use Rattle.std.specs.Str.{bytes_eq}
 use Rattle.soy_io.specs.FileOf.{Files, file_of}
 use Rattle.soy_top.specs.Asked.{Asked, Render, Check, Extract, Gen, Play, Preview, Format, asked_by_words}
-use Rattle.soy_top.specs.Words.{Word, words_of}
+use Rattle.soy_top.specs.Words.{Word, command_words}
 
 pub record FileWanted : Type 0 where
   pub name : Word
@@ -59,7 +59,7 @@ file_names wanted = map (λ file. file.name) wanted
 
 -- the names of the files that the words of a call want
 abbrev pub wanted_names : {A : Type 0} → List (String A) → List Word
-wanted_names words = file_names (wanted_files (words_of words))
+wanted_names words = file_names (wanted_files (command_words words))
 
 -- the files that are known: those that a library is known to hold, and none where none are wanted
 abbrev pub known_files : Option Files → List FileWanted → Option Files

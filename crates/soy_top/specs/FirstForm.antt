@@ -26,7 +26,7 @@ pub data Part : Type 0 where
   Static : List ℕ → Part
   Print : List ℕ → Part
 
-pub record Form : Type 0 where
+pub record FirstFile : Type 0 where
   pub namespace : List ℕ
   pub template : List ℕ
   pub params : List (List ℕ)
@@ -154,19 +154,19 @@ declared params (line ∷ lines) =
     (param_of line) (body_read params line lines)
 
 -- the form of a template of this name, by what was read before its end
-abbrev pub form_after : List ℕ → List ℕ → Option Declared → Option Form
+abbrev pub form_after : List ℕ → List ℕ → Option Declared → Option FirstFile
 form_after namespace template read =
     option_and_then (λ found.
     option_map (λ body. record { namespace = namespace; template = template; params = found.params; body = body })
     (parts_of found.params found.body)) read
 
 -- the form of a template by its names, if both are there
-abbrev pub named_form : Option (List ℕ) → Option (List ℕ) → Option Declared → Option Form
+abbrev pub named_form : Option (List ℕ) → Option (List ℕ) → Option Declared → Option FirstFile
 named_form None template read = None
 named_form (Some namespace) None read = None
 named_form (Some namespace) (Some template) read = form_after namespace template read
 
-abbrev pub form_of_lines : List (List ℕ) → Option Form
+abbrev pub form_of_lines : List (List ℕ) → Option FirstFile
 form_of_lines [] = None
 form_of_lines (first ∷ []) = None
 form_of_lines (first ∷ second ∷ lines) = named_form (namespace_of first) (template_of second) (declared [] lines)
@@ -176,9 +176,9 @@ abbrev pub is_file_byte : ℕ → Bool
 is_file_byte b = (b == 10) || (nat_le 32 b && nat_le b 126)
 
 -- the form of a file, if it is of the first form
-abbrev pub first_form : List ℕ → Option Form
+abbrev pub first_form : List ℕ → Option FirstFile
 first_form file = if list_all is_file_byte file then form_of_lines (slice_split (λ c. c == 10) file) else None
 
 -- the full name of a form's template
-abbrev pub full_name : Form → List ℕ
+abbrev pub full_name : FirstFile → List ℕ
 full_name form = form.namespace ++ (46 ∷ form.template)

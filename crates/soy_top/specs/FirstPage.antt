@@ -14,14 +14,14 @@ use Rattle.serde_json.specs.Data.{Data}
 use Rattle.esc_table.specs.EscapedText.{escaped_text}
 use Rattle.esc_table.specs.HtmlRows.{html_rows}
 use Rattle.soy_top.specs.Data.{data_of, value_of, has_values}
-use Rattle.soy_top.specs.FirstForm.{Part, Static, Print, Form, first_form}
+use Rattle.soy_top.specs.FirstForm.{Part, Static, Print, FirstFile, first_form}
 
 -- whether a character below 128 ends a paragraph or separates segments: classes B and S of UAX #9
-abbrev pub is_separator : ℕ → Bool
-is_separator c = (c == 9) || ((c == 10) || ((c == 11) || ((c == 13) || (nat_le 28 c && nat_le c 31))))
+abbrev pub separates_words : ℕ → Bool
+separates_words c = (c == 9) || ((c == 10) || ((c == 11) || ((c == 13) || (nat_le 28 c && nat_le c 31))))
 
 abbrev pub space_for : ℕ → ℕ
-space_for c = if is_separator c then 32 else c
+space_for c = if separates_words c then 32 else c
 
 -- a value in its span
 abbrev pub wrapped_value : List ℕ → List ℕ
@@ -37,11 +37,11 @@ abbrev pub body_bytes : Data → List Part → List ℕ
 body_bytes json parts = flat_map (part_bytes json) parts
 
 -- the page of a form with data that were read, if each of its parameters has a value
-abbrev pub page_with : Form → Data → Option (List ℕ)
+abbrev pub page_with : FirstFile → Data → Option (List ℕ)
 page_with form json = if has_values form.params json then Some (body_bytes json form.body) else None
 
 -- the page of a form with the bytes of its data
-abbrev pub page_of : Form → List ℕ → Option (List ℕ)
+abbrev pub page_of : FirstFile → List ℕ → Option (List ℕ)
 page_of form json = option_and_then (page_with form) (data_of json)
 
 abbrev pub first_page : List ℕ → List ℕ → Option (List ℕ)

@@ -21,7 +21,7 @@ use Rattle.std.specs.List.{list_all, IsDistinct}
 use Rattle.std.specs.Str.{bytes_eq}
 use Rattle.soy_base.specs.Names.{is_name, is_dotted_name}
 use Rattle.soy_base.specs.Among.{is_among}
-use Rattle.soy_top.specs.FirstForm.{Part, Print, Form, is_plain, tag_names, static_part}
+use Rattle.soy_top.specs.FirstForm.{Part, Print, FirstFile, is_plain, tag_names, static_part}
 
 -- a printing character that is no part of a tag or a print
 pub record IsPlain (c : ℕ) : Type 0 where
@@ -71,12 +71,12 @@ params_of (None ∷ lines) = params_of lines
 params_of (Some name ∷ lines) = name ∷ params_of lines
 
 -- the file of a template, by the lines before its body, its body and what ends the file
-abbrev pub written : Form → List (Option (List ℕ)) → List ℕ → List ℕ → List ℕ
+abbrev pub written : FirstFile → List (Option (List ℕ)) → List ℕ → List ℕ → List ℕ
 written form lines body end =
     codes "{namespace " ++ (form.namespace ++ (codes "}\n{template " ++ (form.template ++ (codes "}\n"
     ++ (param_lines lines ++ (body ++ (codes "\n{/template}" ++ end)))))))
 
-pub record Spells (file : List ℕ) (form : Form) : Type 0 where
+pub record Spells (file : List ℕ) (form : FirstFile) : Type 0 where
   pub lines : List (Option (List ℕ))
   pub body : List ℕ
   pub end : List ℕ

@@ -4,7 +4,7 @@
 use Rattle.std.specs.Prelude.{List, map}
 use Rattle.soy_top.specs.declared.first_form.Part.{Part}
 use Rattle.soy_top.specs.declared.first_form.Part.TheVariants as part
-use Rattle.soy_top.specs.declared.first_form.Form.{Form}
+use Rattle.soy_top.specs.declared.first_form.FirstFile.{FirstFile}
 use Rattle.soy_top.specs.declared.first_form.Declared.{Declared}
 use Rattle.soy_top.specs.FirstForm as form
 
@@ -18,7 +18,7 @@ view_parts parts = map view_part parts
 abbrev pub view_declared : Declared → form.Declared
 view_declared read = record { params = read.params; body = read.body.now }
 
-abbrev pub view_form : Form → form.Form
+abbrev pub view_form : FirstFile → form.FirstFile
 view_form read =
     record {
       namespace = read.namespace.now;

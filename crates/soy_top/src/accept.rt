@@ -13,7 +13,7 @@ ghost use Rattle.soy_top.specs.ViewForm.{view_form};
 use crate::command::Command;
 use crate::data::{has_values, read_data};
 use crate::ending::Ending;
-use crate::first_form::{Form, read_form};
+use crate::first_form::{FirstFile, read_form};
 use crate::line::{entry_line, not_yet_line};
 use crate::output::Output;
 use crate::page::Page;
@@ -84,7 +84,7 @@ fn accept_form<'a>(
     alloc: Global,
     template: &str,
     json: &[u8],
-    form: Form<'a>,
+    form: FirstFile<'a>,
 ) -> Result<Page<'a>, Ending>
     ensures { AcceptsPage (named_answer template.now json.now (view_form form.entry)) result }
 {
@@ -95,7 +95,7 @@ fn accept_form<'a>(
 }
 
 /// The page of a form with its data.
-fn accept_data<'a>(alloc: Global, json: &[u8], form: Form<'a>) -> Result<Page<'a>, Ending>
+fn accept_data<'a>(alloc: Global, json: &[u8], form: FirstFile<'a>) -> Result<Page<'a>, Ending>
     ensures { AcceptsPage (page_answer (page_of (view_form form.entry) json.now)) result }
 {
     match read_data(alloc, json)? {
@@ -105,12 +105,12 @@ fn accept_data<'a>(alloc: Global, json: &[u8], form: Form<'a>) -> Result<Page<'a
 }
 
 /// The page of a form with data that were read.
-fn accept_values<'a>(alloc: Global, json: Value, form: Form<'a>) -> Result<Page<'a>, Ending>
+fn accept_values<'a>(alloc: Global, json: Value, form: FirstFile<'a>) -> Result<Page<'a>, Ending>
     ensures { AcceptsPage (page_answer (page_with (view_form form.entry) (view json))) result }
 {
     if !has_values(&form.params, &json) {
         return Err(not_yet(alloc, "render"));
     }
-    let Form { body, .. } = form;
+    let FirstFile { body, .. } = form;
     Ok(Page { body, json })
 }

@@ -7,7 +7,7 @@ ghost use Rattle.soy_top.specs.Asked.{asked_by_words, render_asked, check_asked,
 ghost use Rattle.soy_top.specs.Asked.{play_asked, preview_asked, format_asked, are_digits, number_of};
 ghost use Rattle.soy_top.specs.Asked.{has_file_count};
 ghost use Rattle.soy_top.specs.View.{view_command};
-ghost use Rattle.soy_top.specs.Words.{words_of};
+ghost use Rattle.soy_top.specs.Words.{command_words};
 
 /// A command with its words. `files` are 1 to 64 names of files.
 #[derive(Clone, Copy, Debug)]
@@ -48,7 +48,7 @@ pub(crate) enum Command<'a> {
 /// The command of these words, and none exactly where they are no command with its counts and its
 /// number.
 pub(crate) fn command_of(words: &[String]) -> Option<Command<'_>>
-    ensures { option_map view_command result ≡ asked_by_words (words_of words.now) }
+    ensures { option_map view_command result ≡ asked_by_words (command_words words.now) }
 {
     let (command, words) = words.split_first()?;
     match command.as_str() {
@@ -65,14 +65,14 @@ pub(crate) fn command_of(words: &[String]) -> Option<Command<'_>>
 
 /// Whether there are as many files as a command takes.
 fn has_file_count(files: &[String]) -> bool
-    ensures { result ≡ has_file_count (words_of files.now) }
+    ensures { result ≡ has_file_count (command_words files.now) }
 {
     0 < files.len() && files.len() <= 64
 }
 
 /// The words after `render`.
 fn render_of(words: &[String]) -> Option<Command<'_>>
-    ensures { option_map view_command result ≡ render_asked (words_of words.now) }
+    ensures { option_map view_command result ≡ render_asked (command_words words.now) }
 {
     match words {
         [template, data_file, bundle, files @ ..] if has_file_count(files) => {
@@ -89,7 +89,7 @@ fn render_of(words: &[String]) -> Option<Command<'_>>
 
 /// The words after `check`.
 fn check_of(words: &[String]) -> Option<Command<'_>>
-    ensures { option_map view_command result ≡ check_asked (words_of words.now) }
+    ensures { option_map view_command result ≡ check_asked (command_words words.now) }
 {
     match words {
         [bundle, files @ ..] if has_file_count(files) => Some(Command::Check {
@@ -102,7 +102,7 @@ fn check_of(words: &[String]) -> Option<Command<'_>>
 
 /// The words after `extract`.
 fn extract_of(files: &[String]) -> Option<Command<'_>>
-    ensures { option_map view_command result ≡ extract_asked (words_of files.now) }
+    ensures { option_map view_command result ≡ extract_asked (command_words files.now) }
 {
     if has_file_count(files) {
         return Some(Command::Extract { files });
@@ -136,7 +136,7 @@ fn number_of(word: &str) -> Option<u32>
 
 /// The words after `gen`.
 fn gen_of(words: &[String]) -> Option<Command<'_>>
-    ensures { option_map view_command result ≡ gen_asked (words_of words.now) }
+    ensures { option_map view_command result ≡ gen_asked (command_words words.now) }
 {
     match words {
         [number] => {
@@ -149,7 +149,7 @@ fn gen_of(words: &[String]) -> Option<Command<'_>>
 
 /// The words after `play`.
 fn play_of(words: &[String]) -> Option<Command<'_>>
-    ensures { option_map view_command result ≡ play_asked (words_of words.now) }
+    ensures { option_map view_command result ≡ play_asked (command_words words.now) }
 {
     match words {
         [script, first, second, files @ ..] if has_file_count(files) => Some(Command::Play {
@@ -164,7 +164,7 @@ fn play_of(words: &[String]) -> Option<Command<'_>>
 
 /// The words after `preview`.
 fn preview_of(words: &[String]) -> Option<Command<'_>>
-    ensures { option_map view_command result ≡ preview_asked (words_of words.now) }
+    ensures { option_map view_command result ≡ preview_asked (command_words words.now) }
 {
     match words {
         [template, data_file, bundle, files @ ..] if has_file_count(files) => {
@@ -181,7 +181,7 @@ fn preview_of(words: &[String]) -> Option<Command<'_>>
 
 /// The words after `format`.
 fn format_of(words: &[String]) -> Option<Command<'_>>
-    ensures { option_map view_command result ≡ format_asked (words_of words.now) }
+    ensures { option_map view_command result ≡ format_asked (command_words words.now) }
 {
     match words {
         [file] => Some(Command::Format {

@@ -28,7 +28,7 @@ pub(crate) enum Part<'a> {
 
 /// A file of the first form.
 #[derive(Debug, Drop)]
-pub(crate) struct Form<'a> {
+pub(crate) struct FirstFile<'a> {
     pub(crate) namespace: &'a str,
     pub(crate) template: &'a str,
     pub(crate) params: Params<'a>,
@@ -247,7 +247,7 @@ fn body_read<'a>(params: Params<'a>, line: &'a str, lines: Option<&str>) -> Opti
 }
 
 /// The form of a text, if it is of the first form but for its bytes.
-fn form_of_text<'a>(alloc: Global, text: &'a str) -> Result<Option<Form<'a>>, OutOfMemory>
+fn form_of_text<'a>(alloc: Global, text: &'a str) -> Result<Option<FirstFile<'a>>, OutOfMemory>
     ensures { IfOk result (λ form. option_map view_form form ≡ form_of_lines (slice_split (λ c. c == 10) text.now)) }
 {
     let (first, others) = first_part(text, '\n');
@@ -267,7 +267,7 @@ fn form_after<'a>(
     namespace: &'a str,
     template: &'a str,
     lines: Option<&'a str>,
-) -> Result<Option<Form<'a>>, OutOfMemory>
+) -> Result<Option<FirstFile<'a>>, OutOfMemory>
     ensures { IfOk result (λ form. option_map view_form form ≡
         form_after namespace.now template.now (declared [] (byte_parts_left 10 lines.entry))) }
 {
@@ -276,7 +276,7 @@ fn form_after<'a>(
     };
     let Declared { params, body } = read;
     match parts_of(alloc, &params, body)? {
-        Some(body) => Ok(Some(Form {
+        Some(body) => Ok(Some(FirstFile {
             namespace,
             template,
             params,
@@ -296,7 +296,10 @@ fn are_file_bytes(bytes: &[u8]) -> bool
 }
 
 /// The form of a file, if it is of the first form.
-pub(crate) fn read_form<'a>(alloc: Global, file: &'a [u8]) -> Result<Option<Form<'a>>, OutOfMemory>
+pub(crate) fn read_form<'a>(
+    alloc: Global,
+    file: &'a [u8],
+) -> Result<Option<FirstFile<'a>>, OutOfMemory>
     ensures { IfOk result (λ form. option_map view_form form ≡ first_form file.now) }
 {
     if !are_file_bytes(file) {
@@ -308,7 +311,7 @@ pub(crate) fn read_form<'a>(alloc: Global, file: &'a [u8]) -> Result<Option<Form
     }
 }
 
-impl Form<'_> {
+impl FirstFile<'_> {
     /// Whether the template's full name is this one: the namespace, a dot and its name.
     pub(crate) fn is_named(&self, name: &str) -> bool
         ensures { result ≡ bytes_eq name.now (full_name (view_form self.now)) }

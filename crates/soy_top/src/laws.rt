@@ -4,7 +4,7 @@
 ghost use Rattle.std.specs.Prelude.{◌≡◌, ℕ, List, Some};
 ghost use Rattle.soy_io.specs.FileOf.{Files};
 ghost use Rattle.soy_top.specs.Answer.{Done, answer};
-ghost use Rattle.soy_top.specs.FirstForm.{Form, first_form};
+ghost use Rattle.soy_top.specs.FirstForm.{FirstFile, first_form};
 ghost use Rattle.soy_top.specs.IsPage.{IsPage};
 ghost use Rattle.soy_top.specs.Spells.{Spells};
 ghost use Rattle.soy_top.specs.Words.{Word};
@@ -17,6 +17,6 @@ pub fn law_answer_is_page()
 
 /// What is read as a form spells that form, and what spells a form is read as that form.
 pub fn law_first_form()
-    ensures found { (file : List ℕ) (form : Form) → first_form file ≡ Some form → Spells file form }
-    ensures spelled { (file : List ℕ) (form : Form) → Spells file form → first_form file ≡ Some form }
+    ensures found { (file : List ℕ) (form : FirstFile) → first_form file ≡ Some form → Spells file form }
+    ensures spelled { (file : List ℕ) (form : FirstFile) → Spells file form → first_form file ≡ Some form }
 {}

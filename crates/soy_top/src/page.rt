@@ -10,7 +10,7 @@ ghost use Rattle.esc_table.specs.HtmlRows.{html_rows};
 ghost use Rattle.soy_io.specs.PutRose.{PutRose};
 ghost use Rattle.soy_top.specs.Data.{value_of};
 ghost use Rattle.soy_top.specs.Change.{change, Took, TookPrefix};
-ghost use Rattle.soy_top.specs.FirstPage.{is_separator, space_for, wrapped_value, part_bytes};
+ghost use Rattle.soy_top.specs.FirstPage.{separates_words, space_for, wrapped_value, part_bytes};
 ghost use Rattle.soy_top.specs.ViewForm.{view_part};
 ghost use Rattle.soy_top.specs.ViewOutput.{IsEnd, page_bytes, view_page};
 
@@ -34,24 +34,24 @@ pub(crate) struct Page<'a> {
 }
 
 /// Whether a character below 128 ends a paragraph or separates segments.
-fn is_separator(c: char) -> bool
-    ensures { result ≡ is_separator c }
+fn separates_words(c: char) -> bool
+    ensures { result ≡ separates_words c }
 {
     matches!(c, '\t' | '\n' | '\u{b}' | '\r' | '\u{1c}'..='\u{1f}')
 }
 
 /// Whether a value has a separator.
 fn has_separator(value: &str) -> bool
-    ensures { result ≡ list_any is_separator (chars value.now) }
+    ensures { result ≡ list_any separates_words (chars value.now) }
 {
-    value.chars().any(is_separator)
+    value.chars().any(separates_words)
 }
 
 /// A space instead of a separator.
 fn space_for(c: char) -> char
     ensures { result ≡ space_for c }
 {
-    if is_separator(c) { ' ' } else { c }
+    if separates_words(c) { ' ' } else { c }
 }
 
 /// A value with its separators made spaces.

@@ -10,7 +10,7 @@ ghost use Rattle.soy_top.specs.Due.{UsageDue, ReadDue, RefusedDue, DoneDue, TooD
 ghost use Rattle.soy_top.specs.Ending.{UsageSaid, ReadSaid, RefusalSaid, TextWritten, TooDeepSaid, SinkFailed};
 ghost use Rattle.soy_top.specs.Ending.{OutPart, ErrPart, OnNoOutput, OnNothingWritten};
 ghost use Rattle.soy_top.specs.FilesWanted.{wanted_files, wanted_names};
-ghost use Rattle.soy_top.specs.Words.{Word, words_of};
+ghost use Rattle.soy_top.specs.Words.{Word, command_words};
 
 use crate::accept::accept;
 use crate::command::command_of;
@@ -40,7 +40,7 @@ fn perform<L: Library, K: Sink, E: Sink>(
     ensures same_out { IfErr result (λ ending. out.new ≡ out.old) }
     ensures same_err { IfErr result (λ ending. err.new ≡ err.old) }
     ensures held { L.held files.new ≡ L.held files.old }
-    ensures files_untouched { wanted_files (words_of words.now) ≡ [] → files.new ≡ files.old }
+    ensures files_untouched { wanted_files (command_words words.now) ≡ [] → files.new ≡ files.old }
     ensures file_faults_later { L.faults files.old ≤ L.faults files.new }
     ensures out_faults_later { K.faults out.old ≤ K.faults out.new }
     ensures err_faults_later { E.faults err.old ≤ E.faults err.new }
@@ -66,7 +66,7 @@ fn perform_and_conclude<L: Library, K: Sink, E: Sink>(
         (L.faults files.old, L.faults files.new) (change K.Sink out.old out.new) (change E.Sink err.old err.new)
         result) (out.new ≡ out.old) (err.new ≡ err.old) }
     ensures held { L.held files.new ≡ L.held files.old }
-    ensures files_untouched { wanted_files (words_of words.now) ≡ [] → files.new ≡ files.old }
+    ensures files_untouched { wanted_files (command_words words.now) ≡ [] → files.new ≡ files.old }
     ensures file_faults_later { L.faults files.old ≤ L.faults files.new }
     ensures out_faults_later { K.faults out.old ≤ K.faults out.new }
     ensures err_faults_later { E.faults err.old ≤ E.faults err.new }
@@ -141,7 +141,7 @@ pub fn run<L: Library, K: Sink, E: Sink>(
         OnNoOutput answer (out.new ≡ out.old)) }
     ensures err_untouched { (text : List ℕ) → answered (L.held files.old) words.now ≡ Some (Done text) →
         (err.new ≡ err.old) ⊎ Rose (L.faults files.old) (L.faults files.new) }
-    ensures files_untouched { wanted_files (words_of words.now) ≡ [] → files.new ≡ files.old }
+    ensures files_untouched { wanted_files (command_words words.now) ≡ [] → files.new ≡ files.old }
     ensures held { L.held files.new ≡ L.held files.old }
 
     // No count of faults falls.

@@ -24,7 +24,7 @@ type Row = (
 );
 
 /// The words of a line, with one space between two of them, and none in an empty line.
-fn words_of(alloc: Global, line: &str) -> Option<Vec<String>> {
+fn split_words(alloc: Global, line: &str) -> Option<Vec<String>> {
     let mut words = Vec::new(alloc);
     if line.is_empty() {
         return Some(words);
@@ -75,7 +75,7 @@ fn run_plain(alloc: Global, words: &[String], files: Vec<NamedFile>) -> Option<E
 
 /// A run of a line of words over t.soy and d.json.
 fn run_line(alloc: Global, line: &str, file: &[u8], json: &[u8]) -> Option<Ended> {
-    let words = words_of(alloc, line)?;
+    let words = split_words(alloc, line)?;
     let files = files_of(alloc, file, json)?;
     run_plain(alloc, words.as_slice(), files)
 }
@@ -255,7 +255,7 @@ fn a_text_that_is_there(rt: HostRuntime) {
 
 /// The words of a command and so many times the word t.soy.
 fn with_files(alloc: Global, command: &str, count: usize) -> Option<Vec<String>> {
-    let mut words = words_of(alloc, command)?;
+    let mut words = split_words(alloc, command)?;
     for _ in 0..count {
         words.push(String::from_str(alloc, "t.soy").ok()?).ok()?;
     }

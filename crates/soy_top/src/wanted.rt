@@ -5,7 +5,7 @@ ghost use Rattle.soy_top.specs.Asked.{Render};
 ghost use Rattle.soy_top.specs.FilesWanted.{asked_files, bundle_files, data_file, is_rendered, is_source_language};
 ghost use Rattle.soy_top.specs.FilesWanted.{render_files, source_file};
 ghost use Rattle.soy_top.specs.View.{view_command, view_file, view_files};
-ghost use Rattle.soy_top.specs.Words.{words_of};
+ghost use Rattle.soy_top.specs.Words.{command_words};
 
 use crate::command::Command;
 use soy_base::OutOfMemory;
@@ -53,7 +53,7 @@ fn is_source_language(bundle: &str) -> bool
 
 /// Whether the program does a `render` of these.
 fn is_rendered(bundle: &str, files: &[String]) -> bool
-    ensures { result ≡ is_rendered bundle.now (words_of files.now) }
+    ensures { result ≡ is_rendered bundle.now (command_words files.now) }
 {
     match files {
         [_] => is_source_language(bundle),
@@ -93,7 +93,7 @@ fn wanted_of_render<'a>(
     files: &'a [String],
 ) -> Result<Vec<FileWanted<'a>>, OutOfMemory>
     ensures { IfOk result (λ wanted.
-        view_files wanted.items ≡ asked_files (Render [] json.now bundle.now (words_of files.now))) }
+        view_files wanted.items ≡ asked_files (Render [] json.now bundle.now (command_words files.now))) }
 {
     if is_rendered(bundle, files) {
         render_files(alloc, json, bundle, files)
@@ -109,7 +109,8 @@ fn render_files<'a>(
     bundle: &'a str,
     files: &'a [String],
 ) -> Result<Vec<FileWanted<'a>>, OutOfMemory>
-    ensures { IfOk result (λ wanted. view_files wanted.items ≡ render_files json.now bundle.now (words_of files.now)) }
+    ensures { IfOk result (λ wanted.
+        view_files wanted.items ≡ render_files json.now bundle.now (command_words files.now)) }
 {
     let mut wanted = Vec::new(alloc);
     wanted.push(data_file(json))?;

@@ -1,5 +1,6 @@
 -- Forms with an opening and a closing, in bytes.
-use Rattle.std.proofs.Common.{◌≡◌, ℕ, List, [], ◌∷◌, ◌++◌, None, codes, encode_utf8_all, refl, sym, ap, ◌∙◌, append_assoc}
+use Rattle.std.proofs.Common.{◌≡◌, ℕ, List, [], ◌∷◌, ◌++◌, None, codes, encode_utf8_all, refl, sym, ap, ◌∙◌}
+use Rattle.std.proofs.Common.{append_assoc}
 use Rattle.std.specs.List.{flat_map}
 use Rattle.std.specs.Option.{option_map_or}
 use Rattle.std.specs.Str.{chars}
@@ -30,18 +31,22 @@ unfolding encode
 encoded_space = refl
 
 -- a body by an escaper by characters alone, of the text itself
-pub own_bytes : (plan : Plan) (how : Escaper) (text : List ℕ) → plan.how ≡ how → plan.cleaning ≡ cleaning.Nothing → plan.instead ≡ None → bytes_from plan (source plan text) 0 ≡ encode_utf8_all (flat_map (escaped_character how) (chars text))
+pub own_bytes : (plan : Plan) (how : Escaper) (text : List ℕ) → plan.how ≡ how → plan.cleaning ≡ cleaning.Nothing
+    → plan.instead ≡ None
+    → bytes_from plan (source plan text) 0 ≡ encode_utf8_all (flat_map (escaped_character how) (chars text))
 own_bytes plan how text is nothing own =
     ap (λ other. bytes_from plan (option_map_or (λ o. o.now) other text) 0) own ∙ escaped_bytes plan how is nothing text
 
-pub literal_bytes : (plan : Plan) (text : List ℕ) → plan.how ≡ escaper.JsString → plan.cleaning ≡ cleaning.Nothing → plan.instead ≡ None
+pub literal_bytes : (plan : Plan) (text : List ℕ) → plan.how ≡ escaper.JsString → plan.cleaning ≡ cleaning.Nothing
+    → plan.instead ≡ None
     → (39 ∷ bytes_from plan (source plan text) 0) ++ 39 ∷ [] ≡ encode_utf8_all (js_literal (chars text))
 literal_bytes plan text is nothing own =
     ap (λ l. (39 ∷ l) ++ 39 ∷ []) (own_bytes plan escaper.JsString text is nothing own)
     ∙ sym (encodes_three (codes "'") (escaped_text js_rows (chars text)) (codes "'")
     ∙ ap (λ l. (l ++ encode_utf8_all (escaped_text js_rows (chars text))) ++ l) encoded_quote)
 
-pub word_bytes : (plan : Plan) (text : List ℕ) → plan.how ≡ escaper.Plain → plan.cleaning ≡ cleaning.Nothing → plan.instead ≡ None
+pub word_bytes : (plan : Plan) (text : List ℕ) → plan.how ≡ escaper.Plain → plan.cleaning ≡ cleaning.Nothing
+    → plan.instead ≡ None
     → (32 ∷ bytes_from plan (source plan text) 0) ++ 32 ∷ [] ≡ encode_utf8_all (js_word (chars text))
 word_bytes plan text is nothing own =
     ap (λ l. (32 ∷ l) ++ 32 ∷ []) (own_bytes plan escaper.Plain text is nothing own ∙ ap encode_utf8_all (plain_text (chars text)))
@@ -61,7 +66,8 @@ other_value class.Attributes text other = refl
 abbrev pub opening_bytes : Dir → List ℕ
 opening_bytes direction = encode_utf8_all (codes "<span dir=\"" ++ (direction_word direction ++ codes "\">"))
 
-pub wrapped_bytes : (direction : Dir) (body : List ℕ) → encode_utf8_all (codes "<span dir=\"" ++ (direction_word direction ++ (codes "\">" ++ (body ++ codes "</span>"))))
+pub wrapped_bytes : (direction : Dir) (body : List ℕ)
+    → encode_utf8_all (codes "<span dir=\"" ++ (direction_word direction ++ (codes "\">" ++ (body ++ codes "</span>"))))
     ≡ (opening_bytes direction ++ encode_utf8_all body) ++ encode_utf8_all (codes "</span>")
 wrapped_bytes direction body =
     ap encode_utf8_all (ap (λ l. codes "<span dir=\"" ++ l) (sym (append_assoc (direction_word direction) (codes "\">") (body ++ codes "</span>")))

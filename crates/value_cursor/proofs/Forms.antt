@@ -1,12 +1,16 @@
 -- The forms of the characters from an offset on, in characters and in bytes.
-use Rattle.std.proofs.Common.{◌≡◌, ℕ, ◌+◌, ◌-◌, ◌≤◌, Bool, true, List, [], ◌∷◌, ◌++◌, length, drop, encode_utf8, encode_utf8_all, refl, sym, ap, subst, ◌∙◌, append_assoc, length-append, length-drop, arith}
+use Rattle.std.proofs.Common.{◌≡◌, ℕ, ◌+◌, ◌-◌, ◌≤◌, Bool, true, List, [], ◌∷◌, ◌++◌, length, drop, encode_utf8}
+use Rattle.std.proofs.Common.{encode_utf8_all, refl, sym, ap, subst, ◌∙◌, append_assoc, length-append, length-drop}
+use Rattle.std.proofs.Common.{arith}
 use Rattle.std.specs.Char.{len_utf8}
 use Rattle.std.specs.List.{flat_map, list_all}
 use Rattle.std.specs.Option.{option_map_or}
 use Rattle.std.specs.Str.{chars, IsUtf8, IsCharBoundary}
 use Rattle.std.proofs.lemmas.Bool.{and_parts}
 use Rattle.std.proofs.lemmas.List.{drop-drop, drop_all, drop_at}
-use Rattle.std.proofs.lemmas.Str.{chars-append, chars-nil, chars_past_char, drop_past_char, encodes-append, encodes-chars, length-encode, len_utf8_bounds, IsCharBoundary-from_drop, IsUtf8-drop, IsUtf8-past_char}
+use Rattle.std.proofs.lemmas.Str.{chars-append, chars-nil, chars_past_char, drop_past_char, encodes-append}
+use Rattle.std.proofs.lemmas.Str.{encodes-chars, length-encode, len_utf8_bounds, IsCharBoundary-from_drop, IsUtf8-drop}
+use Rattle.std.proofs.lemmas.Str.{IsUtf8-past_char}
 use Rattle.soy_base.specs.ByteLength.{byte_len}
 use Rattle.soy_base.proofs.Texts.{byte_len-chars}
 use Rattle.escapers.specs.declared.escaper.Escaper.{Escaper}
@@ -23,7 +27,8 @@ byte_len-encodes [] = refl
 byte_len-encodes (c ∷ cs) = omega (arith, byte_len-encodes cs, length-encode c, length-append (encode_utf8 c) (encode_utf8_all cs))
 
 -- the forms of characters, and of those after them
-pub forms-append : (plan : Plan) (offset : ℕ) (cs ds : List ℕ) → forms plan offset (cs ++ ds) ≡ forms plan offset cs ++ forms plan (offset + byte_len cs) ds
+pub forms-append : (plan : Plan) (offset : ℕ) (cs ds : List ℕ)
+    → forms plan offset (cs ++ ds) ≡ forms plan offset cs ++ forms plan (offset + byte_len cs) ds
 forms-append plan offset [] ds = ap (λ n. forms plan n ds) (omega arith)
 forms-append plan offset (c ∷ cs) ds =
     let further : offset + len_utf8 c + byte_len cs ≡ offset + byte_len (c ∷ cs) = omega arith in
@@ -31,7 +36,8 @@ forms-append plan offset (c ∷ cs) ds =
     ∙ sym (append_assoc (form plan offset c) (forms plan (offset + len_utf8 c) cs) (forms plan (offset + byte_len (c ∷ cs)) ds))
 
 -- characters whose forms are themselves
-pub forms_themselves : (plan : Plan) (test : ℕ → Bool) → ((offset c : ℕ) → test c ≡ true → form plan offset c ≡ c ∷ []) → (cs : List ℕ) → list_all test cs ≡ true → (offset : ℕ) → forms plan offset cs ≡ cs
+pub forms_themselves : (plan : Plan) (test : ℕ → Bool) → ((offset c : ℕ) → test c ≡ true → form plan offset c ≡ c ∷ [])
+    → (cs : List ℕ) → list_all test cs ≡ true → (offset : ℕ) → forms plan offset cs ≡ cs
 forms_themselves plan test own [] all offset = refl
 forms_themselves plan test own (c ∷ cs) all offset =
     let parts = and_parts _ _ all in
@@ -93,7 +99,8 @@ module _ (plan : Plan) (source rest : List ℕ) (offset : ℕ) (utf8 : IsUtf8 so
   no_character none = omega (arith, ap length (sym (encodes-chars rest utf8_rest) ∙ ap encode_utf8_all none), size_rest)
 
 -- nothing stands behind the source
-pub bytes_end : (plan : Plan) (source : List ℕ) (offset : ℕ) → length source ≤ offset → bytes_from plan source offset ≡ []
+pub bytes_end : (plan : Plan) (source : List ℕ) (offset : ℕ) → length source ≤ offset
+    → bytes_from plan source offset ≡ []
 bytes_end plan source offset end =
     ap (λ l. encode_utf8_all (forms plan offset (chars l))) (drop_all offset source end) ∙ ap (λ l. encode_utf8_all (forms plan offset l)) chars-nil
 
@@ -102,14 +109,16 @@ pub some_bytes : (c : ℕ) → 1 ≤ len_utf8 c
 some_bytes c = (len_utf8_bounds c).0
 
 -- by an escaper by characters alone
-pub escaped_forms : (plan : Plan) (how : Escaper) → plan.how ≡ how → plan.cleaning ≡ cleaning.Nothing → (offset : ℕ) (cs : List ℕ) → forms plan offset cs ≡ flat_map (escaped_character how) cs
+pub escaped_forms : (plan : Plan) (how : Escaper) → plan.how ≡ how → plan.cleaning ≡ cleaning.Nothing
+    → (offset : ℕ) (cs : List ℕ) → forms plan offset cs ≡ flat_map (escaped_character how) cs
 escaped_forms plan how is nothing offset [] = refl
 escaped_forms plan how is nothing offset (c ∷ cs) =
     ap (λ what. option_map_or (escaped_character plan.how) (cleaned what offset c) [] ++ forms plan (offset + len_utf8 c) cs) nothing
     ∙ ap (λ h. escaped_character h c ++ forms plan (offset + len_utf8 c) cs) is
     ∙ ap (λ l. escaped_character how c ++ l) (escaped_forms plan how is nothing (offset + len_utf8 c) cs)
 
-pub escaped_bytes : (plan : Plan) (how : Escaper) → plan.how ≡ how → plan.cleaning ≡ cleaning.Nothing → (source : List ℕ) → bytes_from plan source 0 ≡ encode_utf8_all (flat_map (escaped_character how) (chars source))
+pub escaped_bytes : (plan : Plan) (how : Escaper) → plan.how ≡ how → plan.cleaning ≡ cleaning.Nothing
+    → (source : List ℕ) → bytes_from plan source 0 ≡ encode_utf8_all (flat_map (escaped_character how) (chars source))
 escaped_bytes plan how is nothing source = ap encode_utf8_all (escaped_forms plan how is nothing 0 (chars source))
 
 -- by Plain the text itself
@@ -118,7 +127,9 @@ plain_text [] = refl
 plain_text (c ∷ cs) = ap (λ l. c ∷ l) (plain_text cs)
 
 -- a text of three parts in bytes
-pub encodes_three : (opening body closing : List ℕ) → encode_utf8_all (opening ++ (body ++ closing)) ≡ (encode_utf8_all opening ++ encode_utf8_all body) ++ encode_utf8_all closing
+pub encodes_three : (opening body closing : List ℕ)
+    → encode_utf8_all (opening ++ (body ++ closing)) ≡
+    (encode_utf8_all opening ++ encode_utf8_all body) ++ encode_utf8_all closing
 encodes_three opening body closing =
     encodes-append opening (body ++ closing) ∙ ap (λ l. encode_utf8_all opening ++ l) (encodes-append body closing)
     ∙ sym (append_assoc (encode_utf8_all opening) (encode_utf8_all body) (encode_utf8_all closing))

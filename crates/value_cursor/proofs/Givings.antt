@@ -1,11 +1,14 @@
 -- What is given to rooms, step by step.
-use Rattle.std.proofs.Common.{◌≡◌, ℕ, suc, inl, inr, ◌+◌, ◌-◌, ◌≤◌, ◌<◌, List, [], ◌∷◌, ◌++◌, length, take, drop, min, refl, sym, ap, subst, ◌∙◌, append-nil, append_assoc, length-append, length-drop, take-append-drop, arith}
+use Rattle.std.proofs.Common.{◌≡◌, ℕ, suc, inl, inr, ◌+◌, ◌-◌, ◌≤◌, ◌<◌, List, [], ◌∷◌, ◌++◌, length, take, drop, min}
+use Rattle.std.proofs.Common.{refl, sym, ap, subst, ◌∙◌, append-nil, append_assoc, length-append, length-drop}
+use Rattle.std.proofs.Common.{take-append-drop, arith}
 use Rattle.std.proofs.lemmas.Bool.{cases_lt}
 use Rattle.std.proofs.lemmas.List.{drop_all, take_rest, take_at, drop_at, drop-drop, length-take-le}
 use Rattle.value_cursor.specs.Gives.{Gives}
 
 -- a prefix is given
-pub gives_prefix : (given after room room_after : List ℕ) (count : ℕ) → length given ≡ count → count ≤ length room → room_after ≡ given ++ drop count room
+pub gives_prefix : (given after room room_after : List ℕ) (count : ℕ) → length given ≡ count → count ≤ length room
+    → room_after ≡ given ++ drop count room
     → Gives (given ++ after) after room room_after count
 gives_prefix given after room room_after count size within is = record {
   within = within;
@@ -15,7 +18,8 @@ gives_prefix given after room room_after count size within is = record {
 }
 
 -- the first pending bytes are given
-pub gives_pending : (pending pending_after after room room_after : List ℕ) (count : ℕ) → count ≡ min (length pending) (length room)
+pub gives_pending : (pending pending_after after room room_after : List ℕ) (count : ℕ)
+    → count ≡ min (length pending) (length room)
     → room_after ≡ take (min (length pending) (length room)) pending ++ drop (min (length pending) (length room)) room
     → pending_after ≡ drop (min (length pending) (length room)) pending
     → Gives (pending ++ after) (pending_after ++ after) room room_after count
@@ -41,34 +45,42 @@ gives_pending_behind pending pending_after after room room_after before count is
     (gives_pending pending pending_after after (take (length room - before) (drop before room)) room_after count is given rest)
 
 -- nothing stands behind the end of a room
-pub room_end : (room part : List ℕ) (n : ℕ) → take n room ++ (part ++ drop (length room - n) (drop n room)) ≡ take n room ++ part
+pub room_end : (room part : List ℕ) (n : ℕ)
+    → take n room ++ (part ++ drop (length room - n) (drop n room)) ≡ take n room ++ part
 room_end room part n =
     ap (λ l. take n room ++ l) (ap (λ l. part ++ l) (drop_all (length room - n) (drop n room) (omega (arith, length-drop n room))) ∙ append-nil part)
 
 -- a part up to the end is what stands behind
-pub gives_behind : {left left_after part : List ℕ} {count : ℕ} (room : List ℕ) (before : ℕ) → Gives left left_after (take (length room - before) (drop before room)) part count → Gives left left_after (drop before room) part count
+pub gives_behind : {left left_after part : List ℕ} {count : ℕ} (room : List ℕ) (before : ℕ)
+    → Gives left left_after (take (length room - before) (drop before room)) part count
+    → Gives left left_after (drop before room) part count
 gives_behind {left} {left_after} {part} {count} room before gives =
     subst (λ behind. Gives left left_after behind part count) (take_rest room before) gives
 
-pub behind_size : (room : List ℕ) (before : ℕ) → length (take (length room - before) (drop before room)) ≡ length room - before
+pub behind_size : (room : List ℕ) (before : ℕ)
+    → length (take (length room - before) (drop before room)) ≡ length room - before
 behind_size room before = omega (arith, ap length (take_rest room before), length-drop before room)
 
 -- nothing is pending where room is left
-pub all_given : (pending pending_after room : List ℕ) (count : ℕ) → count ≡ min (length pending) (length room) → pending_after ≡ drop (min (length pending) (length room)) pending → count < length room → pending_after ≡ []
+pub all_given : (pending pending_after room : List ℕ) (count : ℕ) → count ≡ min (length pending) (length room)
+    → pending_after ≡ drop (min (length pending) (length room)) pending → count < length room → pending_after ≡ []
 all_given pending pending_after room count is rest less =
     rest ∙ drop_all (min (length pending) (length room)) pending (omega (arith, is, less))
 
 -- what is left is the same by another name
-pub gives_same : {left left_after room room_after : List ℕ} {count : ℕ} (other : List ℕ) → Gives left left_after room room_after count → other ≡ left → Gives other left_after room room_after count
+pub gives_same : {left left_after room room_after : List ℕ} {count : ℕ} (other : List ℕ)
+    → Gives left left_after room room_after count → other ≡ left → Gives other left_after room room_after count
 gives_same other gives same =
     record { within = gives.within; size = gives.size; given = gives.given ∙ sym same; behind = gives.behind }
 
-pub gives_after : {left left_after room room_after : List ℕ} {count : ℕ} (other : List ℕ) → Gives left left_after room room_after count → other ≡ left_after → Gives left other room room_after count
+pub gives_after : {left left_after room room_after : List ℕ} {count : ℕ} (other : List ℕ)
+    → Gives left left_after room room_after count → other ≡ left_after → Gives left other room room_after count
 gives_after {left} {left_after} {room} {room_after} {count} other gives same =
     record { within = gives.within; size = gives.size; given = ap (λ l. take count room_after ++ l) same ∙ gives.given; behind = gives.behind }
 
 -- what comes after all that is left changes nothing
-pub gives_before : {left left_after room room_after : List ℕ} {count : ℕ} (more : List ℕ) → Gives left left_after room room_after count → Gives (left ++ more) (left_after ++ more) room room_after count
+pub gives_before : {left left_after room room_after : List ℕ} {count : ℕ} (more : List ℕ)
+    → Gives left left_after room room_after count → Gives (left ++ more) (left_after ++ more) room room_after count
 gives_before {left} {left_after} {room} {room_after} {count} more gives = record {
   within = gives.within;
   size = gives.size;
@@ -103,7 +115,8 @@ gives_then {left} {between} {left_after} {room} {room_between} {part} {room_afte
         ap (λ k. take k (x ∷ (xs ++ ys))) more ∙ ap (λ l. x ∷ l) (take_past xs ys (length xs) m refl)
 
 -- the same where a call begins with the room's rest
-pub behind_given : {left left_after room room_after : List ℕ} {count : ℕ} → Gives left left_after room room_after count → count ≤ length room_after
+pub behind_given : {left left_after room room_after : List ℕ} {count : ℕ} → Gives left left_after room room_after count
+    → count ≤ length room_after
 behind_given gives = omega (arith, gives.within, gives.size)
 
 -- what is given in all

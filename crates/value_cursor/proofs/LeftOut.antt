@@ -1,5 +1,7 @@
 -- Which isolate controls of a wrapped text are left out, by their offsets.
-use Rattle.std.proofs.Common.{◌≡◌, ℕ, zero, suc, ◌+◌, ◌<◌, Bool, true, false, not, ◌==◌, ◌&&◌, ◌||◌, if◌then◌else◌, nat_lt, List, [], ◌∷◌, ◌++◌, length, take, slice_index, encode_utf8_all, refl, sym, ap, subst, ◌∙◌, append_assoc, append-nil, length-append, arith}
+use Rattle.std.proofs.Common.{◌≡◌, ℕ, zero, suc, ◌+◌, ◌<◌, Bool, true, false, not, ◌==◌, ◌&&◌, ◌||◌, if◌then◌else◌}
+use Rattle.std.proofs.Common.{nat_lt, List, [], ◌∷◌, ◌++◌, length, take, slice_index, encode_utf8_all, refl, sym, ap}
+use Rattle.std.proofs.Common.{subst, ◌∙◌, append_assoc, append-nil, length-append, arith}
 use Rattle.std.specs.Char.{len_utf8}
 use Rattle.std.specs.List.{list_any, flat_map, enumerate_from, range_with_len}
 use Rattle.std.proofs.lemmas.Bool.{and_left, and_right, eq-eqb, ne_eqb, or_parts, or_from}
@@ -16,7 +18,8 @@ use Rattle.value_cursor.specs.declared.cleaning.Cleaning.TheVariants as cleaning
 use Rattle.value_cursor.proofs.Forms.{byte_len-encodes}
 
 -- the offset of the character after a prefix
-offset_after : (prefix : List ℕ) (c : ℕ) (rest : List ℕ) → length (encode_utf8_all (take (length prefix) (prefix ++ (c ∷ rest)))) ≡ byte_len prefix
+offset_after : (prefix : List ℕ) (c : ℕ) (rest : List ℕ)
+    → length (encode_utf8_all (take (length prefix) (prefix ++ (c ∷ rest)))) ≡ byte_len prefix
 offset_after prefix c rest =
     ap (λ l. length (encode_utf8_all l)) (take_at prefix (c ∷ rest) (length prefix) refl) ∙ sym (byte_len-encodes prefix)
 
@@ -28,11 +31,13 @@ byte_len-snoc (d ∷ prefix) c = omega (arith, byte_len-snoc prefix c)
 abbrev is_at : ℕ → ℕ → Bool
 is_at offset place = place == offset
 
-one_other : (flag : Bool) (place offset : ℕ) → (place ≡ offset → ⊥) → list_any (is_at offset) (if flag then place ∷ [] else []) ≡ false
+one_other : (flag : Bool) (place offset : ℕ) → (place ≡ offset → ⊥)
+    → list_any (is_at offset) (if flag then place ∷ [] else []) ≡ false
 one_other true place offset other = or_from _ _ (ne_eqb place offset other) refl
 one_other false place offset other = refl
 
-one_same : (flag : Bool) (place offset : ℕ) → place ≡ offset → list_any (is_at offset) (if flag then place ∷ [] else []) ≡ flag
+one_same : (flag : Bool) (place offset : ℕ) → place ≡ offset
+    → list_any (is_at offset) (if flag then place ∷ [] else []) ≡ flag
 one_same true place offset same = ap (λ b. b || false) (eq-eqb place offset same)
 one_same false place offset same = refl
 
@@ -40,7 +45,8 @@ one_same false place offset same = refl
 abbrev left_out_of : List ℕ → List ℕ → List ℕ → List ℕ
 left_out_of text prefix cs = flat_map (dropped_byte text) (enumerate_from (length prefix) cs)
 
-other_first : (text prefix : List ℕ) (c : ℕ) (cs : List ℕ) (offset : ℕ) → text ≡ prefix ++ (c ∷ cs) → (byte_len prefix ≡ offset → ⊥)
+other_first : (text prefix : List ℕ) (c : ℕ) (cs : List ℕ) (offset : ℕ) → text ≡ prefix ++ (c ∷ cs)
+    → (byte_len prefix ≡ offset → ⊥)
     → list_any (is_at offset) (left_out_of text (prefix ++ c ∷ []) cs) ≡ false → list_any (is_at offset) (left_out_of text prefix (c ∷ cs)) ≡ false
 other_first text prefix c cs offset whole other rest =
     let place : length (encode_utf8_all (take (length prefix) text)) ≡ byte_len prefix =
@@ -53,7 +59,8 @@ other_first text prefix c cs offset whole other rest =
     (ap (λ l. list_any (is_at offset) (flat_map (dropped_byte text) l)) next ∙ rest)
 
 -- no offset behind a prefix is one before its end
-later_offsets : (text prefix cs : List ℕ) (offset : ℕ) → text ≡ prefix ++ cs → offset < byte_len prefix → list_any (is_at offset) (left_out_of text prefix cs) ≡ false
+later_offsets : (text prefix cs : List ℕ) (offset : ℕ) → text ≡ prefix ++ cs → offset < byte_len prefix
+    → list_any (is_at offset) (left_out_of text prefix cs) ≡ false
 later_offsets text prefix [] offset whole before = refl
 later_offsets text prefix (c ∷ cs) offset whole before =
     other_first text prefix c cs offset whole (λ e. omega (arith, before, e))
@@ -104,7 +111,8 @@ among_offsets text prefix (d ∷ before) c after whole =
     byte_len-append (x ∷ xs) ys = omega (arith, byte_len-append xs ys)
 
 -- without an initiator no two characters are a pair
-no_initiator_at : (text : List ℕ) → list_any is_initiator text ≡ false → (index : ℕ) → is_initiator (slice_index text index) ≡ false
+no_initiator_at : (text : List ℕ) → list_any is_initiator text ≡ false → (index : ℕ)
+    → is_initiator (slice_index text index) ≡ false
 unfolding classes.bidi_class
 no_initiator_at [] none index = refl
 no_initiator_at (c ∷ cs) none zero = (or_parts _ _ none).0
@@ -123,7 +131,8 @@ no_pairs text none index =
     none_in_range (λ other. is_pair text index other || is_pair text other index) (λ other. or_from _ _ (no_pair text none index other) (no_pair text none other index)) 0 (length text)
 
 -- what is left out of a wrapped text is what is dropped of it
-pub left_out_is_dropped : (what : Cleaning) (text before : List ℕ) (c : ℕ) (after : List ℕ) → Cleans what text → text ≡ before ++ (c ∷ after)
+pub left_out_is_dropped : (what : Cleaning) (text before : List ℕ) (c : ℕ) (after : List ℕ) → Cleans what text
+    → text ≡ before ++ (c ∷ after)
     → (is_isolate_control c && is_left_out what (byte_len before)) ≡ is_dropped text (length before, c)
 left_out_is_dropped cleaning.Nothing text before c after cleans whole = let e : false ≡ true = cleans in cc
 left_out_is_dropped cleaning.Unpaired text before c after cleans whole =

@@ -8,6 +8,4 @@ mod Marked
 mod PlainRuns
 mod Rooms
 mod RunSoFar
-mod SchemeSearch
-mod Schemes
 mod Wrapped

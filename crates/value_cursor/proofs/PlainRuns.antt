@@ -1,12 +1,15 @@
 -- Runs of characters that stand for themselves, escaped alone or cleaned too.
-use Rattle.std.proofs.Common.{◌≡◌, ℕ, ◌-◌, ◌≤◌, Bool, true, not, ◌&&◌, List, [], ◌∷◌, ◌++◌, length, take, drop, encode_utf8_all, Some, refl, sym, ap, subst, ◌∙◌, append_assoc, length-append, inl, inr, arith}
+use Rattle.std.proofs.Common.{◌≡◌, ℕ, ◌-◌, ◌≤◌, Bool, true, not, ◌&&◌, List, [], ◌∷◌, ◌++◌, length, take, drop}
+use Rattle.std.proofs.Common.{encode_utf8_all, Some, refl, sym, ap, subst, ◌∙◌, append_assoc, length-append, inl, inr}
+use Rattle.std.proofs.Common.{arith}
 use Rattle.std.specs.List.{list_all}
 use Rattle.std.specs.Option.{option_map_or}
 use Rattle.std.specs.Str.{chars, IsUtf8, IsCharBoundary}
 use Rattle.std.proofs.lemmas.Bool.{and_from, and_left, and_parts, cases_Bool, cond-false, cond-true, not-true}
 use Rattle.std.proofs.lemmas.List.{take_at, drop_at}
 use Rattle.std.proofs.lemmas.Slice.Eq.{bytes_eq-Decides}
-use Rattle.std.proofs.lemmas.Str.{chars_from_encodes, encodes-append, encodes-chars, IsCharBoundary-at_seam, IsUtf8-append, IsUtf8-take}
+use Rattle.std.proofs.lemmas.Str.{chars_from_encodes, encodes-append, encodes-chars, IsCharBoundary-at_seam}
+use Rattle.std.proofs.lemmas.Str.{IsUtf8-append, IsUtf8-take}
 use Rattle.bidi_class.specs.Class.{bidi_class}
 use Rattle.bidi_text.specs.Clean.{is_isolate_control, is_separator}
 use Rattle.soy_base.specs.Cuts.{after_while, prefix_while}
@@ -51,7 +54,8 @@ prefix_all test (c ∷ cs) =
     ]
 
 -- and another test that all pass
-prefix_both : (first test : ℕ → Bool) (cs : List ℕ) → list_all first cs ≡ true → list_all (λ c. first c && test c) (prefix_while test cs) ≡ true
+prefix_both : (first test : ℕ → Bool) (cs : List ℕ) → list_all first cs ≡ true
+    → list_all (λ c. first c && test c) (prefix_while test cs) ≡ true
 prefix_both first test [] all = refl
 prefix_both first test (c ∷ cs) all =
     let parts = and_parts _ _ all in
@@ -74,7 +78,8 @@ prefix_and_after test (c ∷ cs) =
     ]
 
 -- what is only escaped
-pub escaped_run : (plan : Plan) (run cs : List ℕ) → plan.cleaning ≡ cleaning.Nothing → run ≡ plain_prefix plan.how cs → (offset : ℕ) → forms plan offset run ≡ run
+pub escaped_run : (plan : Plan) (run cs : List ℕ) → plan.cleaning ≡ cleaning.Nothing → run ≡ plain_prefix plan.how cs
+    → (offset : ℕ) → forms plan offset run ≡ run
 escaped_run plan run cs nothing is =
     forms_themselves plan (stands_for_itself plan.how)
     (λ offset c own. ap (λ what. option_map_or (escaped_character plan.how) (cleaned what offset c) []) nothing ∙ own_form plan.how c own)

@@ -1,5 +1,6 @@
 -- The forms of a wrapped text are those of the cleaned text's characters, escaped by the rows of HTML.
-use Rattle.std.proofs.Common.{◌≡◌, ℕ, ◌+◌, Bool, true, false, ◌&&◌, if◌then◌else◌, List, [], ◌∷◌, ◌++◌, None, Some, length, refl, sym, ap, ◌∙◌, append_assoc, append-nil, length-append, arith}
+use Rattle.std.proofs.Common.{◌≡◌, ℕ, ◌+◌, Bool, true, false, ◌&&◌, if◌then◌else◌, List, [], ◌∷◌, ◌++◌, None, Some}
+use Rattle.std.proofs.Common.{length, refl, sym, ap, ◌∙◌, append_assoc, append-nil, length-append, arith}
 use Rattle.std.specs.Char.{len_utf8}
 use Rattle.std.specs.List.{flat_map, enumerate_from}
 use Rattle.std.specs.Option.{option_map_or}
@@ -18,13 +19,16 @@ use Rattle.value_cursor.specs.declared.plan.Plan.{Plan}
 use Rattle.value_cursor.proofs.LeftOut.{left_out_is_dropped}
 
 -- a text that is wrapped is cleaned
-cleaned_is : (what : Cleaning) (text : List ℕ) (offset c : ℕ) → Cleans what text → cleaned what offset c ≡ (if is_isolate_control c && is_left_out what offset then None else Some (spaced c))
+cleaned_is : (what : Cleaning) (text : List ℕ) (offset c : ℕ) → Cleans what text
+    → cleaned what offset c ≡ (if is_isolate_control c && is_left_out what offset then None else Some (spaced c))
 cleaned_is cleaning.Nothing text offset c cleans = let e : false ≡ true = cleans in cc
 cleaned_is cleaning.Unpaired text offset c cleans = refl
 cleaned_is (cleaning.Marked marks) text offset c cleans = refl
 
 -- a character's form, by whether it is left out
-form_by : (flag : Bool) (c : ℕ) → option_map_or (row_or_character html_rows) (if flag then None else Some (spaced c)) [] ≡ flat_map (row_or_character html_rows) (if flag then [] else spaced c ∷ [])
+form_by : (flag : Bool) (c : ℕ)
+    → option_map_or (row_or_character html_rows) (if flag then None else Some (spaced c)) [] ≡ flat_map
+    (row_or_character html_rows) (if flag then [] else spaced c ∷ [])
 form_by true c = refl
 form_by false c = sym (append-nil (row_or_character html_rows (spaced c)))
 

@@ -8,7 +8,7 @@ use Rattle.std.specs.Char.{len_utf8}
 use Rattle.std.specs.Option.{option_map_or}
 use Rattle.std.specs.Str.{chars, IsCharBoundary}
 use Rattle.escapers.specs.Esc.{escaped_character, is_by_characters}
-use Rattle.value_cursor.specs.Cleaned.{Ascends, cleaned}
+use Rattle.value_cursor.specs.Cleaned.{MarksAscend, cleaned}
 use Rattle.value_cursor.specs.declared.cursor.Cursor.{Cursor}
 use Rattle.value_cursor.specs.declared.plan.Plan.{Plan}
 use Rattle.value_cursor.specs.declared.progress.Progress.{Progress}
@@ -39,10 +39,10 @@ bytes_left cursor text = bytes_after cursor.plan (source cursor.plan text) curso
 
 -- the escaper gives each character a form, and the offsets of what is left out ascend
 abbrev pub IsPlan : Plan → Type 0
-IsPlan plan = IsTrue (is_by_characters plan.how) × Ascends plan.cleaning
+IsPlan plan = IsTrue (is_by_characters plan.how) × MarksAscend plan.cleaning
 
 -- the cursor stands for the last bytes of this text's escaped form, as many as it counts
-pub record Fits (cursor : Cursor) (text : List ℕ) : Type 0 where
+pub record CursorFits (cursor : Cursor) (text : List ℕ) : Type 0 where
   pub plan : IsPlan cursor.plan
   pub boundary : IsCharBoundary (source cursor.plan text) cursor.progress.offset
   pub closing : length cursor.closing.now ≤ 16

@@ -29,9 +29,9 @@ cleaned cleaning.Unpaired offset c = cleaned_or_none true c
 cleaned (cleaning.Marked marks) offset c = cleaned_or_none (is_left_out (cleaning.Marked marks) offset) c
 
 -- the marked offsets ascend
-abbrev pub Ascends : Cleaning → Type 0
-Ascends (cleaning.Marked marks) = IsStrictlyIncreasing marks.places
-Ascends _ = Unit {0}
+abbrev pub MarksAscend : Cleaning → Type 0
+MarksAscend (cleaning.Marked marks) = IsStrictlyIncreasing marks.places
+MarksAscend _ = Unit {0}
 
 -- it is what is cleaned of this text where it is wrapped
 abbrev pub Cleans : Cleaning → List ℕ → Type 0

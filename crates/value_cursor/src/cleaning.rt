@@ -5,7 +5,7 @@ ghost use Rattle.std.specs.Str.{chars};
 ghost use Rattle.bidi_class.specs.Class.{bidi_class};
 ghost use Rattle.bidi_class.specs.Pairs.{is_initiator};
 ghost use Rattle.bidi_text.specs.Clean.{is_isolate_control, is_separator};
-ghost use Rattle.value_cursor.specs.Cleaned.{Ascends, cleaned, is_left_out, Cleans};
+ghost use Rattle.value_cursor.specs.Cleaned.{MarksAscend, cleaned, is_left_out, Cleans};
 
 use bidi_class::{Class, class_of, is_initiator};
 use bidi_text::{Marks, marks};
@@ -27,7 +27,7 @@ impl Cleaning {
     /// What is cleaned of a text that is wrapped. Takes memory only where the text has an isolate initiator.
     pub(crate) fn of(alloc: Global, text: &str) -> Result<Cleaning, OutOfMemory>
         ensures cleans { IfOk result (λ cleaning. Cleans cleaning (chars text.now)) }
-        ensures ascending { IfOk result Ascends }
+        ensures ascending { IfOk result MarksAscend }
         ensures memory { OnErr result (IsTrue (list_any is_initiator (chars text.now))) }
     {
         if !has_initiator(text) {
@@ -39,7 +39,7 @@ impl Cleaning {
 
     /// What becomes of the character at an offset of the text; none where it is left out.
     pub(crate) fn cleaned(&self, offset: usize, c: char) -> Option<char>
-        requires { Ascends self.now }
+        requires { MarksAscend self.now }
         ensures { result ≡ cleaned self.now offset c }
     {
         match self {
@@ -55,7 +55,7 @@ impl Cleaning {
 
     /// Whether an isolate control at this offset is left out.
     fn leaves_out(&self, offset: usize) -> bool
-        requires { Ascends self.now }
+        requires { MarksAscend self.now }
         ensures { result ≡ is_left_out self.now offset }
     {
         match self {

@@ -8,18 +8,17 @@ ghost use Rattle.bidi_text.specs.Wrap.{wrapped_text};
 ghost use Rattle.escapers.specs.Esc.{esc, escaped_character, is_by_characters};
 ghost use Rattle.escapers.specs.EscaperFor.{IsEscaperOf};
 ghost use Rattle.escapers.specs.JsValue.{js_value};
-ghost use Rattle.value_cursor.specs.BytesLeft.{bytes_from, bytes_left, source, Fits, IsPlan};
-ghost use Rattle.value_cursor.specs.Cleaned.{Ascends, Cleans};
+ghost use Rattle.value_cursor.specs.BytesLeft.{bytes_from, bytes_left, source, CursorFits, IsPlan};
+ghost use Rattle.value_cursor.specs.Cleaned.{MarksAscend, Cleans};
 ghost use Rattle.value_cursor.specs.EscapedForm.{escaped_form};
 ghost use Rattle.value_cursor.specs.Gives.{Gives};
 
 use crate::cleaning::Cleaning;
-use crate::filters::{is_css_value, may_start_uri};
 use crate::plan::Plan;
 use crate::progress::Progress;
 use bidi_text::estimate;
 use esc_table::Tail;
-use escapers::Escaper;
+use escapers::{Escaper, is_css_value, may_start_uri};
 use soy_base::{Dir, OutOfMemory, ValueClass};
 use std::alloc::Global;
 
@@ -49,7 +48,7 @@ impl Cursor {
     ) -> Result<Cursor, OutOfMemory>
         requires not_as_is { how ≢ Escaper.AsIs }
         requires of_class { IsEscaperOf how class }
-        ensures fits { IfOk result (λ cursor. Fits cursor text.now) }
+        ensures fits { IfOk result (λ cursor. CursorFits cursor text.now) }
         ensures whole { IfOk result (λ cursor.
             option_map encode_utf8_all (escaped_form how class (chars text.now) context)
             ≡ Some (bytes_left cursor text.now)) }
@@ -67,18 +66,18 @@ impl Cursor {
 
     /// How many bytes are left.
     pub fn left(&self) -> u128
-        ensures { (text : List ℕ) → Fits self.now text → result ≡ length (bytes_left self.now text) }
+        ensures { (text : List ℕ) → CursorFits self.now text → result ≡ length (bytes_left self.now text) }
     {
         self.left
     }
 
     /// Gives the next bytes to the beginning of the room, as many as are left or as it takes, and answers their number.
     pub fn fill(&mut self, text: &str, room: &mut [u8]) -> usize
-        requires { Fits self.old text.now }
+        requires { CursorFits self.old text.now }
         ensures count { result ≡ min (length (bytes_left self.old text.now)) (length room.old) }
         ensures given { room.new ≡ take result (bytes_left self.old text.now) ++ drop result room.old }
         ensures rest { bytes_left self.new text.now ≡ drop result (bytes_left self.old text.now) }
-        ensures fits { Fits self.new text.now }
+        ensures fits { CursorFits self.new text.now }
     {
         let filled = self.advance(text, room);
         self.left -= filled as u128;
@@ -87,7 +86,7 @@ impl Cursor {
 
     /// Gives the next bytes to the beginning of the room, but doesn't count them.
     fn advance(&mut self, text: &str, room: &mut [u8]) -> usize
-        requires { Fits self.old text.now }
+        requires { CursorFits self.old text.now }
         ensures gives { Gives (bytes_left self.old text.now) (bytes_left self.new text.now) room.old room.new result }
         ensures all { result < length room.old → bytes_left self.new text.now ≡ [] }
         ensures plan { self.new.plan ≡ self.old.plan }
@@ -123,7 +122,7 @@ impl Cursor {
     fn escaped(how: Escaper, class: ValueClass, text: &str) -> Cursor
         requires not_wrapped { how ≢ Escaper.Wrap }
         requires not_as_is { how ≢ Escaper.AsIs }
-        ensures fits { Fits result text.now }
+        ensures fits { CursorFits result text.now }
         ensures whole { option_map encode_utf8_all (esc how class (chars text.now))
             ≡ Some (bytes_left result text.now) }
     {
@@ -139,10 +138,11 @@ impl Cursor {
             _ => Cursor::by_characters(how, text),
         }
     }
+
     /// The cursor of a text whose characters have forms of their own, and nothing else.
     fn by_characters(how: Escaper, text: &str) -> Cursor
         requires { IsTrue (is_by_characters how) }
-        ensures fits { Fits result text.now }
+        ensures fits { CursorFits result text.now }
         ensures whole { bytes_left result text.now
             ≡ encode_utf8_all (flat_map (escaped_character how) (chars text.now)) }
     {
@@ -151,7 +151,7 @@ impl Cursor {
 
     /// The cursor of a text that another one stands instead of.
     fn replaced(other: &'static str, text: &str) -> Cursor
-        ensures fits { Fits result text.now }
+        ensures fits { CursorFits result text.now }
         ensures whole { bytes_left result text.now ≡ other.now }
     {
         let plan = Plan {
@@ -164,7 +164,7 @@ impl Cursor {
 
     /// The cursor of a value of a script.
     fn js_value(class: ValueClass, text: &str) -> Cursor
-        ensures fits { Fits result text.now }
+        ensures fits { CursorFits result text.now }
         ensures whole { bytes_left result text.now ≡ encode_utf8_all (js_value class (chars text.now)) }
     {
         match class {
@@ -176,8 +176,8 @@ impl Cursor {
     /// The cursor of a wrapped text.
     fn wrapped(cleaning: Cleaning, text: &str, context: Dir) -> Cursor
         requires cleans { Cleans cleaning (chars text.now) }
-        requires ascending { Ascends cleaning }
-        ensures fits { Fits result text.now }
+        requires ascending { MarksAscend cleaning }
+        ensures fits { CursorFits result text.now }
         ensures whole { bytes_left result text.now ≡ encode_utf8_all (wrapped_text (chars text.now) context) }
     {
         let opening = match estimate(text, context) {
@@ -197,7 +197,7 @@ impl Cursor {
         requires plan { IsPlan plan }
         requires opening { length opening.now ≤ 16 }
         requires closing { length closing.now ≤ 16 }
-        ensures fits { Fits result text.now }
+        ensures fits { CursorFits result text.now }
         ensures whole { bytes_left result text.now
             ≡ (opening.now ++ bytes_from plan (source plan text.now) 0) ++ closing.now }
     {

@@ -11,7 +11,6 @@
 
 mod cleaning;
 mod cursor;
-mod filters;
 mod laws;
 mod plan;
 mod progress;

@@ -1,5 +1,5 @@
 //! Escaped forms given into rooms of many sizes.
-ghost use Rattle.value_cursor.specs.BytesLeft.{Fits};
+ghost use Rattle.value_cursor.specs.BytesLeft.{CursorFits};
 
 use super::*;
 use escapers::{Escaper, escaper_for};
@@ -148,7 +148,7 @@ const SIZES: &[usize] = &[1, 2, 3, 7, 4096];
 
 // Whether a cursor gives just these bytes, room by room, and says before each how many are left.
 fn gives_just(cursor: &mut Cursor, text: &str, want: &[u8], room: &mut [u8]) -> bool
-    requires { Fits cursor.old text.now }
+    requires { CursorFits cursor.old text.now }
 {
     if cursor.left() != want.len() as u128 {
         return false;

@@ -1,8 +1,8 @@
 //! Tokens of commands, by the forms of the language: what a text in a command begins with, and where
 //! no token begins.
 
-use crate::command::{command_piece, opened_piece};
-use crate::source_piece::{FirstPiece, SourcePiece};
+use crate::command::{command_segment, opened_segment};
+use crate::source_segment::{FirstSegment, SourceSegment};
 use crate::token::TokenKind;
 use soy_base::Refusal;
 
@@ -185,9 +185,9 @@ const WHITE: &[(&str, &str, &str)] = &[
     ("\r\n", "\r", "\n"),
 ];
 
-fn begins(read: &FirstPiece, row: &Row) -> bool {
-    match &read.piece {
-        SourcePiece::CommandToken(kind, source_text, value) => {
+fn begins(read: &FirstSegment, row: &Row) -> bool {
+    match &read.segment {
+        SourceSegment::CommandToken(kind, source_text, value) => {
             *kind == row.1
                 && *source_text == row.2
                 && value.text() == row.3
@@ -197,9 +197,9 @@ fn begins(read: &FirstPiece, row: &Row) -> bool {
     }
 }
 
-fn skips(read: &FirstPiece, white: &str, rest: &str) -> bool {
-    match &read.piece {
-        SourcePiece::Skipped(text) => *text == white && read.rest == rest,
+fn skips(read: &FirstSegment, white: &str, rest: &str) -> bool {
+    match &read.segment {
+        SourceSegment::Skipped(text) => *text == white && read.rest == rest,
         _ => false,
     }
 }
@@ -208,12 +208,12 @@ fn skips(read: &FirstPiece, white: &str, rest: &str) -> bool {
 fn commands_have_their_tokens(rt: HostRuntime) -> Result<(), Refusal<usize>> {
     for rows in [NAMES, INTS, SYMBOLS, STRINGS, VALUES] {
         for row in rows {
-            let read = command_piece(rt.alloc(), row.0)?;
+            let read = command_segment(rt.alloc(), row.0)?;
             assert!(rt; begins(&read, row), "at {:?}", row.0);
         }
     }
     for row in OPENED {
-        let read = opened_piece(rt.alloc(), row.0)?;
+        let read = opened_segment(rt.alloc(), row.0)?;
         assert!(rt; begins(&read, row), "at {:?}", row.0);
     }
     Ok(())
@@ -222,9 +222,9 @@ fn commands_have_their_tokens(rt: HostRuntime) -> Result<(), Refusal<usize>> {
 #[test]
 fn white_space_is_skipped(rt: HostRuntime) -> Result<(), Refusal<usize>> {
     for (text, white, rest) in WHITE {
-        let read = command_piece(rt.alloc(), text)?;
+        let read = command_segment(rt.alloc(), text)?;
         assert!(rt; skips(&read, white, rest), "at {text:?}");
-        let read = opened_piece(rt.alloc(), text)?;
+        let read = opened_segment(rt.alloc(), text)?;
         assert!(rt; skips(&read, white, rest), "opened, at {text:?}");
     }
     Ok(())
@@ -233,11 +233,11 @@ fn white_space_is_skipped(rt: HostRuntime) -> Result<(), Refusal<usize>> {
 #[test]
 fn other_texts_begin_no_token(rt: HostRuntime) {
     for (text, offset) in FAULTS {
-        let read = command_piece(rt.alloc(), text);
+        let read = command_segment(rt.alloc(), text);
         assert_eq!(rt; read.err(), Some(Refusal::Because(*offset)), "at {text:?}");
     }
     for (text, offset) in OPENED_FAULTS {
-        let read = opened_piece(rt.alloc(), text);
+        let read = opened_segment(rt.alloc(), text);
         assert_eq!(rt;
             read.err(),
             Some(Refusal::Because(*offset)),

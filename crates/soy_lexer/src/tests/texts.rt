@@ -196,7 +196,7 @@ const FAULTS: &[(&str, &str)] = &[
     ("{a}}", "Lex in 3 at 3"),
     ("é}", "Lex in 3 at 2"),
     ("a } b { c", "Lex in 3 at 2"),
-    // U+0000, in each kind of piece.
+    // U+0000, in each kind of segment.
     ("\0", "Lex in 3 at 0"),
     ("a\0b", "Lex in 3 at 1"),
     (" //a\0\n", "Lex in 3 at 4"),
@@ -259,10 +259,10 @@ fn the_end_cuts_commands_off(rt: HostRuntime) -> Result<(), Fail> {
     check(&rt, rt.alloc(), CUT_OFF)
 }
 
-fn repeated(alloc: Global, piece: &str, count: u32) -> Result<String, AllocError> {
+fn repeated(alloc: Global, segment: &str, count: u32) -> Result<String, AllocError> {
     let mut text = String::new(alloc);
     for _ in 0..count {
-        text.push_str(piece)?;
+        text.push_str(segment)?;
     }
     Ok(text)
 }

@@ -1,7 +1,7 @@
 //! Libraries and sinks that fail, or that are refused memory.
 ghost use Rattle.std.specs.Prelude.{◌<◌, None};
 
-use super::{Ended, files_of, taken_by, words_of};
+use super::{Ended, files_of, split_words, taken_by};
 use crate::{Status, run};
 use soy_io::{
     Fetch, FetchFault, Library, MemoryLibrary, MemorySink, PlainLibrary, PlainSink, PutFault, Sink,
@@ -28,7 +28,7 @@ fn only(alloc: Global, call: u64) -> Option<Vec<u64>> {
 fn with_failing_out(alloc: Global, file: &[u8], most: usize, put: u64) -> Option<Ended>
     requires { 0 < most }
 {
-    let words = words_of(alloc, "render t.m d.json - t.soy")?;
+    let words = split_words(alloc, "render t.m d.json - t.soy")?;
     let mut files = PlainLibrary::new(files_of(alloc, file, JSON)?);
     let mut out = MemorySink::new(alloc, most, only(alloc, put)?);
     let mut err = PlainSink::new(alloc);
@@ -72,7 +72,7 @@ fn an_output_that_fails(rt: HostRuntime) {
 
 /// A run that says a refusal on a standard error that fails at its first put.
 fn with_failing_err(alloc: Global) -> Option<Ended> {
-    let words = words_of(alloc, "render t.zz d.json - t.soy")?;
+    let words = split_words(alloc, "render t.zz d.json - t.soy")?;
     let mut files = PlainLibrary::new(files_of(alloc, FILE, JSON)?);
     let mut out = PlainSink::new(alloc);
     let mut err = MemorySink::new(alloc, 9, only(alloc, 1)?);
@@ -82,7 +82,7 @@ fn with_failing_err(alloc: Global) -> Option<Ended> {
 
 /// A run in which one fetch fails.
 fn with_failing_fetch(alloc: Global, fetch: u64) -> Option<Ended> {
-    let words = words_of(alloc, "render t.m d.json - t.soy")?;
+    let words = split_words(alloc, "render t.m d.json - t.soy")?;
     let mut files = MemoryLibrary::new(files_of(alloc, FILE, JSON)?, only(alloc, fetch)?);
     let mut out = PlainSink::new(alloc);
     let mut err = PlainSink::new(alloc);
@@ -169,7 +169,7 @@ impl Library for ScarceLibrary {
 
 /// The status with an output that is refused memory after so many puts, and how many bytes it took.
 fn with_scarce_out(alloc: Global, left: u64) -> Option<(Status, usize)> {
-    let words = words_of(alloc, "render t.m d.json - t.soy")?;
+    let words = split_words(alloc, "render t.m d.json - t.soy")?;
     let mut files = PlainLibrary::new(files_of(alloc, FILE, JSON)?);
     let mut out = ScarceSink::new(left, 4096);
     let mut err = PlainSink::new(alloc);
@@ -180,7 +180,7 @@ fn with_scarce_out(alloc: Global, left: u64) -> Option<(Status, usize)> {
 /// The status with a standard error that is refused memory after so many puts of at most four bytes,
 /// and how many bytes it took of a line of fifteen.
 fn with_scarce_err(alloc: Global, left: u64) -> Option<(Status, usize)> {
-    let words = words_of(alloc, "render t.zz d.json - t.soy")?;
+    let words = split_words(alloc, "render t.zz d.json - t.soy")?;
     let mut files = PlainLibrary::new(files_of(alloc, FILE, JSON)?);
     let mut out = PlainSink::new(alloc);
     let mut err = ScarceSink::new(left, 4);
@@ -190,7 +190,7 @@ fn with_scarce_err(alloc: Global, left: u64) -> Option<(Status, usize)> {
 
 /// A run with a library that is refused memory after so many fetches.
 fn with_scarce_files(alloc: Global, left: u64) -> Option<Ended> {
-    let words = words_of(alloc, "render t.m d.json - t.soy")?;
+    let words = split_words(alloc, "render t.m d.json - t.soy")?;
     let mut files = ScarceLibrary { left };
     let mut out = PlainSink::new(alloc);
     let mut err = PlainSink::new(alloc);

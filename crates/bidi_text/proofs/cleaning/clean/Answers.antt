@@ -6,7 +6,8 @@ use Rattle.std.proofs.lemmas.Str.{chars-nil}
 use Rattle.bidi_text.proofs.CleanedSoFar.{cleaned_dropped, cleaned_end, cleaned_kept, cleaned_start}
 use Rattle.bidi_text.proofs.Marking.{ReadsOne}
 use Rattle.bidi_text.proofs.cleaning.clean.Goals as goal
-use Rattle.bidi_text.proofs.cleaning.clean.Goals.{in_default-via-in-Some-split_first+else-first-offset, in_default-via-in_default}
+use Rattle.bidi_text.proofs.cleaning.clean.Goals.{in_default-via-in-Some-split_first+else-first-offset}
+use Rattle.bidi_text.proofs.cleaning.clean.Goals.{in_default-via-in_default}
 
 -- the text is read from its start
 pub loop-offset-init : goal.loop-offset-init
@@ -31,7 +32,8 @@ loop-offset-preserved-then-first-offset c =
     (c.in-Some-split_first.ensures.cases.0 ∙ ap (λ n. n ∷ c.in-Some-split_first.later.now) (c.if-first-offset.true ∙ step.0))
 
 -- a list that begins with a number is no other one
-other_head : (offsets later rest : List ℕ) (first at offset : ℕ) → offsets ≡ first ∷ later → (first ≡ offset → ⊥) → offset ≡ at → offsets ≡ at ∷ rest → ⊥
+other_head : (offsets later rest : List ℕ) (first at offset : ℕ) → offsets ≡ first ∷ later → (first ≡ offset → ⊥)
+    → offset ≡ at → offsets ≡ at ∷ rest → ⊥
 other_head offsets later rest first at offset split other same is = other (cc)
 
 -- the character is kept

@@ -1,4 +1,5 @@
-use Rattle.std.proofs.Common.{◌≡◌, ◌⊎◌, inl, inr, ◌-◌, [], ◌∷◌, ◌++◌, length, take, vec_len, true, false, ap, sym, subst, refl, ◌∙◌, arith}
+use Rattle.std.proofs.Common.{◌≡◌, ◌⊎◌, inl, inr, ◌-◌, [], ◌∷◌, ◌++◌, length, take, vec_len, true, false, ap, sym}
+use Rattle.std.proofs.Common.{subst, refl, ◌∙◌, arith}
 use Rattle.std.specs.List.Sorted.{IsStrictlyIncreasing}
 use Rattle.std.specs.Str.{chars}
 use Rattle.std.specs.Str.Iter.{char_indices_offset, char_indices_rest}
@@ -7,7 +8,8 @@ use Rattle.bidi_class.specs.declared.class.Class.TheVariants.{LRI, RLI, FSI, PDI
 use Rattle.bidi_class.specs.Class.{begins_isolate}
 use Rattle.bidi_class.specs.Pairs.{ends_isolate}
 use Rattle.bidi_text.proofs.Ascending.{increasing-dropped_bytes}
-use Rattle.bidi_text.proofs.Marking.{ReadsOne, marking_begins, marking_closes, marking_end, marking_lone, marking_start, marking_stays}
+use Rattle.bidi_text.proofs.Marking.{ReadsOne, marking_begins, marking_closes, marking_end, marking_lone, marking_start}
+use Rattle.bidi_text.proofs.Marking.{marking_stays}
 use Rattle.bidi_text.proofs.controls.marks.Goals as goal
 
 -- the initiators' classes begin isolates
@@ -15,7 +17,8 @@ begins : (k : Class) → (k ≡ LRI) ⊎ ((k ≡ RLI) ⊎ (k ≡ FSI)) → begin
 begins k h = elim h [ inl lri ↦ ap begins_isolate lri | inr others ↦ elim others [ inl rli ↦ ap begins_isolate rli | inr fsi ↦ ap begins_isolate fsi ] ]
 
 -- no other class but that of PDI does anything to an isolate
-neither : (k : Class) → (k ≡ LRI → ⊥) → (k ≡ RLI → ⊥) → (k ≡ FSI → ⊥) → (k ≡ PDI → ⊥) → (begins_isolate k ≡ false) × (ends_isolate k ≡ false)
+neither : (k : Class) → (k ≡ LRI → ⊥) → (k ≡ RLI → ⊥) → (k ≡ FSI → ⊥) → (k ≡ PDI → ⊥)
+    → (begins_isolate k ≡ false) × (ends_isolate k ≡ false)
 neither LRI lri rli fsi pdi = absurd (lri refl)
 neither RLI lri rli fsi pdi = absurd (rli refl)
 neither FSI lri rli fsi pdi = absurd (fsi refl)

@@ -2,7 +2,8 @@ use Rattle.std.proofs.Common.{◌∙◌, sym, ap}
 use Rattle.std.specs.Str.{chars}
 use Rattle.esc_table.specs.PlainPrefix.{plain_prefix as rowless_prefix}
 use Rattle.escapers.specs.PlainPrefix.{plain_prefix}
-use Rattle.escapers.proofs.PlainPrefixes.{alphanumeric_prefix, component_prefix, css_prefix, html_prefix, js_prefix, normal_prefix, whole_plain}
+use Rattle.escapers.proofs.PlainPrefixes.{alphanumeric_prefix, component_prefix, css_prefix, html_prefix, js_prefix}
+use Rattle.escapers.proofs.PlainPrefixes.{normal_prefix, whole_plain}
 use Rattle.escapers.proofs.characters.plain_prefix.Goals as goal
 
 pub returns-then-is_alphanumeric-clause-prefix : goal.returns-then-is_alphanumeric-clause-prefix

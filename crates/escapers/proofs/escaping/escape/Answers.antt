@@ -7,7 +7,8 @@ use Rattle.escapers.specs.Esc.{esc}
 use Rattle.escapers.proofs.escaping.escape.Goals as goal
 
 -- what is pushed to an empty text is the whole
-from_empty : (start new : List ℕ) (given : Option (List ℕ)) → start ≡ [] → IsSomeAnd given (λ more. new ≡ start ++ more) → given ≡ Some new
+from_empty : (start new : List ℕ) (given : Option (List ℕ)) → start ≡ [] → IsSomeAnd given (λ more. new ≡ start ++ more)
+    → given ≡ Some new
 from_empty start new None empty never = absurd never
 from_empty start new (Some more) empty added = ap Some (sym (added ∙ ap (λ l. l ++ more) empty))
 

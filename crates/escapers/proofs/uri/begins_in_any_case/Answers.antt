@@ -11,7 +11,8 @@ first_bytes : (bs : List ℕ) (n : ℕ) → slice_range bs 0 n ≡ take n bs
 first_bytes bs n = grind arith
 
 -- a text that is shorter begins otherwise
-shorter : (prefix bs : List ℕ) → length bs < length prefix → IsTrue false ↔ (map to_ascii_lowercase (take (length prefix) bs) ≡ map to_ascii_lowercase prefix)
+shorter : (prefix bs : List ℕ) → length bs < length prefix
+    → IsTrue false ↔ (map to_ascii_lowercase (take (length prefix) bs) ≡ map to_ascii_lowercase prefix)
 shorter prefix bs short =
     (λ never. absurd (false≢true never), λ same. absurd (omega (arith, ap length same, length-map prefix to_ascii_lowercase, length-map (take (length prefix) bs) to_ascii_lowercase, length-take (length prefix) bs)))
 

@@ -1,5 +1,6 @@
 use Rattle.std.proofs.Common.{arith}
-use Rattle.soy_base.proofs.Lines.{breaks_within-zero, breaks_within-more, breaks_within-≤, characters_before-zero, characters_before-more, characters_before-≤}
+use Rattle.soy_base.proofs.Lines.{breaks_within-zero, breaks_within-more, breaks_within-≤, characters_before-zero}
+use Rattle.soy_base.proofs.Lines.{characters_before-more, characters_before-≤}
 use Rattle.std.proofs.lemmas.List.{length-take}
 use Rattle.std.proofs.lemmas.Grind.{common_steps}
 use Rattle.soy_base.proofs.position.line_of.Goals as goal

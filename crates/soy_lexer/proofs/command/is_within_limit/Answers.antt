@@ -3,8 +3,8 @@ use Rattle.std.specs.Str.{chars}
 use Rattle.std.specs.Str.Iter.{chars_rest}
 use Rattle.std.proofs.lemmas.List.{nil_from_length}
 use Rattle.std.proofs.lemmas.Str.{chars_past_char, chars-nil, IsUtf8-past_char}
-use Rattle.soy_lexer.specs.CommandPiece.{number_after}
-use Rattle.soy_lexer.proofs.CommandPieces.{over_limit, within_limit}
+use Rattle.soy_lexer.specs.CommandSegment.{number_after}
+use Rattle.soy_lexer.proofs.CommandSegments.{over_limit, within_limit}
 use Rattle.soy_lexer.proofs.command.is_within_limit.Goals as goal
 
 pub returns-then-number-gt-LARGEST_INT : goal.returns-then-number-gt-LARGEST_INT

@@ -1,7 +1,7 @@
 use Rattle.std.proofs.Common.{◌≡◌, ◌≤◌}
 use Rattle.std.specs.Str.{chars, IsUtf8}
 use Rattle.std.specs.Str.Iter.{chars_rest}
-use Rattle.soy_lexer.specs.CommandPiece.{largest_int, number_after}
+use Rattle.soy_lexer.specs.CommandSegment.{largest_int, number_after}
 use Rattle.soy_lexer.proofs.command.is_within_limit.Given as goal
 
 abbrev pub invariant-loop-digit : goal.invariant-loop-digit

@@ -1,8 +1,8 @@
 use Rattle.std.proofs.Common.{◌≡◌, ◌+◌, ◌-◌, sym, ap, ◌∙◌, arith}
 use Rattle.std.specs.Str.{chars}
 use Rattle.soy_base.specs.ByteLength.{byte_len}
-use Rattle.soy_lexer.specs.Piece.{source_text}
-use Rattle.soy_lexer.specs.ReadsPiece.{view_piece}
+use Rattle.soy_lexer.specs.Segment.{source_text}
+use Rattle.soy_lexer.specs.ReadsSegment.{view_segment}
 use Rattle.soy_lexer.specs.Chunks.{chunk}
 use Rattle.soy_lexer.proofs.Reading.{fails_within, ended, stopped, offset_after}
 use Rattle.soy_lexer.proofs.ChunksRead.{all_chunk, chunk_within, chunk_smaller, both_next}
@@ -27,14 +27,14 @@ pub overflow_sub-end : goal.overflow_sub-end
 overflow_sub-end c =
     let after = offset_after (chars c.args.text.now) (chars c.loop-rest.rest.now) c.loop-rest.mode c.loop-rest.lexer
     c.loop-rest.offset c.loop-rest.invariant.goes_on
-    (view_piece c.in-Ok.read.piece) (chars c.in-Ok.read.rest.now) c.in-Ok.ensures in
+    (view_segment c.in-Ok.read.segment) (chars c.in-Ok.read.rest.now) c.in-Ok.ensures in
     omega (arith, after, c.byte_len.ensures, c.byte_len-length.ensures)
 
 pub take-requires-clause-end : goal.take-requires-clause-end
 take-requires-clause-end c =
     let after = offset_after (chars c.args.text.now) (chars c.loop-rest.rest.now) c.loop-rest.mode c.loop-rest.lexer
     c.loop-rest.offset c.loop-rest.invariant.goes_on
-    (view_piece c.in-Ok.read.piece) (chars c.in-Ok.read.rest.now) c.in-Ok.ensures in
+    (view_segment c.in-Ok.read.segment) (chars c.in-Ok.read.rest.now) c.in-Ok.ensures in
     omega (arith, after, c.byte_len.ensures, c.byte_len-length.ensures)
 
 pub take_chunk-requires-clause-chunk : goal.take_chunk-requires-clause-chunk
@@ -45,10 +45,10 @@ pub take_chunk-requires-clause-offset : goal.take_chunk-requires-clause-offset
 take_chunk-requires-clause-offset c =
     let within = chunk_within (chars c.args.text.now) (chars c.loop-rest.rest.now) c.loop-rest.mode c.loop-rest.lexer
     c.loop-rest.offset c.loop-rest.invariant.goes_on
-    (view_piece c.in-Ok.read.piece) (chars c.in-Ok.read.rest.now) c.in-Ok.ensures c.after-mode.result in
+    (view_segment c.in-Ok.read.segment) (chars c.in-Ok.read.rest.now) c.in-Ok.ensures c.after-mode.result in
     let after = offset_after (chars c.args.text.now) (chars c.loop-rest.rest.now) c.loop-rest.mode c.loop-rest.lexer
     c.loop-rest.offset c.loop-rest.invariant.goes_on
-    (view_piece c.in-Ok.read.piece) (chars c.in-Ok.read.rest.now) c.in-Ok.ensures in
+    (view_segment c.in-Ok.read.segment) (chars c.in-Ok.read.rest.now) c.in-Ok.ensures in
     omega (
       arith,
       within,
@@ -63,29 +63,29 @@ pub overflow_sub-offset : goal.overflow_sub-offset
 overflow_sub-offset c =
     let within = chunk_within (chars c.args.text.now) (chars c.loop-rest.rest.now) c.loop-rest.mode c.loop-rest.lexer
     c.loop-rest.offset c.loop-rest.invariant.goes_on
-    (view_piece c.in-Ok.read.piece) (chars c.in-Ok.read.rest.now) c.in-Ok.ensures c.after-mode.result in
+    (view_segment c.in-Ok.read.segment) (chars c.in-Ok.read.rest.now) c.in-Ok.ensures c.after-mode.result in
     omega (arith, within, ap byte_len c.chunk.ensures.rest, c.byte_len-in-loop-rest.ensures, c.byte_len-length.ensures)
 
 pub loop-rest-smaller : goal.loop-rest-smaller
 loop-rest-smaller c =
     rw c.chunk.ensures.rest (chunk_smaller (chars c.args.text.now) (chars c.loop-rest.rest.now) c.loop-rest.mode
     c.loop-rest.lexer c.loop-rest.offset c.loop-rest.invariant.goes_on
-    (view_piece c.in-Ok.read.piece) (chars c.in-Ok.read.rest.now) c.in-Ok.ensures c.after-mode.result)
+    (view_segment c.in-Ok.read.segment) (chars c.in-Ok.read.rest.now) c.in-Ok.ensures c.after-mode.result)
 
 pub loop-rest-preserved : goal.loop-rest-preserved
 loop-rest-preserved c =
     let mode = c.after-mode.result in
-    let piece = view_piece c.in-Ok.read.piece in
+    let segment = view_segment c.in-Ok.read.segment in
     let rest = chars c.in-Ok.read.rest.now in
     let within = chunk_within (chars c.args.text.now) (chars c.loop-rest.rest.now) c.loop-rest.mode c.loop-rest.lexer
     c.loop-rest.offset c.loop-rest.invariant.goes_on
-    (view_piece c.in-Ok.read.piece) (chars c.in-Ok.read.rest.now) c.in-Ok.ensures c.after-mode.result in
+    (view_segment c.in-Ok.read.segment) (chars c.in-Ok.read.rest.now) c.in-Ok.ensures c.after-mode.result in
     let after = offset_after (chars c.args.text.now) (chars c.loop-rest.rest.now) c.loop-rest.mode c.loop-rest.lexer
     c.loop-rest.offset c.loop-rest.invariant.goes_on
-    piece rest c.in-Ok.ensures in
-    let start : c.byte_len-length.result - c.byte_len.result ≡ c.loop-rest.offset + byte_len (source_text piece) =
+    segment rest c.in-Ok.ensures in
+    let start : c.byte_len-length.result - c.byte_len.result ≡ c.loop-rest.offset + byte_len (source_text segment) =
     omega (arith, after, c.byte_len.ensures, c.byte_len-length.ensures) in
-    let offset : (c.loop-rest.offset + byte_len (source_text piece)) + byte_len (chunk mode rest)
+    let offset : (c.loop-rest.offset + byte_len (source_text segment)) + byte_len (chunk mode rest)
     ≡ c.byte_len-length.result - c.byte_len-in-loop-rest.result =
     omega (arith, within, ap byte_len c.chunk.ensures.rest, c.byte_len-in-loop-rest.ensures, c.byte_len-length.ensures)
     in
@@ -94,7 +94,7 @@ loop-rest-preserved c =
       goes_on = rw (c.after_chunk-mode.ensures, c.chunk.ensures.prefix, c.chunk.ensures.rest, ← offset)
           (both_next (chars c.args.text.now) (chars c.loop-rest.rest.now) c.loop-rest.mode c.loop-rest.lexer
           c.loop-rest.offset c.loop-rest.invariant.goes_on
-          (view_piece c.in-Ok.read.piece) (chars c.in-Ok.read.rest.now) c.in-Ok.ensures c.after-mode.result
+          (view_segment c.in-Ok.read.segment) (chars c.in-Ok.read.rest.now) c.in-Ok.ensures c.after-mode.result
           c.take.new.self c.take_chunk.new.self
           (sym c.is_empty.ensures ∙ c.loop-rest-test.true) c.after-mode.ensures c.in_ok-take.ensures
           (rw (← c.chunk.ensures.prefix, ← start) c.in_ok-take_chunk.ensures));

@@ -1,14 +1,16 @@
 use Rattle.std.proofs.Common.{ap}
-use Rattle.soy_top.specs.Words.{words_of}
+use Rattle.soy_top.specs.Words.{command_words}
 use Rattle.soy_top.proofs.Answering.{names-at-usage}
-use Rattle.soy_top.proofs.Courses.{usage_only, usage_due, read_only, read_due, refused_only, refused_due, done_only, done_due, too_deep_only, too_deep_due, write_only, out_part, err_part, nothing_written, out_untouched, err_untouched}
+use Rattle.soy_top.proofs.Courses.{usage_only, usage_due, read_only, read_due, refused_only, refused_due, done_only}
+use Rattle.soy_top.proofs.Courses.{done_due, too_deep_only, too_deep_due, write_only, out_part, err_part}
+use Rattle.soy_top.proofs.Courses.{nothing_written, out_untouched, err_untouched}
 use Rattle.soy_top.proofs.program.run.Goals as goal
 
 pub returns-clause-usage_only : goal.returns-clause-usage_only
 returns-clause-usage_only g c = usage_only _ _ _ c.perform_and_conclude.ensures.course
 
 pub returns-clause-usage_due : goal.returns-clause-usage_due
-returns-clause-usage_due g c = λ known. usage_due _ _ _ (names-at-usage _ (words_of c.args.words.now) known) c.perform_and_conclude.ensures.course known
+returns-clause-usage_due g c = λ known. usage_due _ _ _ (names-at-usage _ (command_words c.args.words.now) known) c.perform_and_conclude.ensures.course known
 
 pub returns-clause-read_only : goal.returns-clause-read_only
 returns-clause-read_only g c = read_only _ _ _ c.perform_and_conclude.ensures.course

@@ -1,7 +1,8 @@
 use Rattle.std.proofs.Common.{◌∙◌, ap}
 use Rattle.std.specs.Str.{chars}
 use Rattle.std.proofs.lemmas.Str.{IsUtf8-nil}
-use Rattle.esc_table.proofs.PassedSoFar.{character_passed, cut_at, none_passed, past_character_shorter, prefix_cut, run_passed, whole_prefix}
+use Rattle.esc_table.proofs.PassedSoFar.{character_passed, cut_at, none_passed, past_character_shorter, prefix_cut}
+use Rattle.esc_table.proofs.PassedSoFar.{run_passed, whole_prefix}
 use Rattle.esc_table.proofs.table.Table.plain_prefix.Goals as goal
 
 pub loop-rest-init : goal.loop-rest-init

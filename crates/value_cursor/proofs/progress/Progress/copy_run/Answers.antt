@@ -1,4 +1,5 @@
-use Rattle.std.proofs.Common.{◌≡◌, ◌+◌, ◌≤◌, ◌∙◌, ◌++◌, List, ℕ, ap, append_assoc, drop, length, length-append, refl, sym, arith}
+use Rattle.std.proofs.Common.{◌≡◌, ◌+◌, ◌≤◌, ◌∙◌, ◌++◌, List, ℕ, ap, append_assoc, drop, length, length-append, refl}
+use Rattle.std.proofs.Common.{sym, arith}
 use Rattle.std.proofs.lemmas.Str.{IsUtf8-append}
 use Rattle.value_cursor.specs.BytesLeft.{bytes_from}
 use Rattle.value_cursor.proofs.Forms.{run_boundary, run_bytes}

@@ -1,9 +1,0 @@
-use Rattle.std.specs.Str.{chars}
-use Rattle.soy_lexer.specs.declared.token.TokenKind.TheVariants as kind
-use Rattle.soy_lexer.proofs.CommandPieces.{name_at}
-use Rattle.soy_lexer.proofs.command.word_piece.Goals as goal
-
-pub returns-in-Some : goal.returns-in-Some
-returns-in-Some c =
-    rw (name_at kind.Word (chars c.args.text.now) (chars c.in-Some.name.now) (chars c.in-Some.rest.now)
-    c.in-Some.ensures) c.command_token.ensures
