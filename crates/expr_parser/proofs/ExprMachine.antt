@@ -1,6 +1,6 @@
 -- The machine against the grammar: there is a state after tokens exactly where some expression begins with them, it has
 -- read a whole expression exactly where they spell one, and its depths are those at the tokens.
-use Rattle.std.proofs.Common.{◌≡◌, ℕ, suc, List, [], ◌∷◌, ◌++◌, length, take, map, Option, Some, None, refl, sym, ◌∙◌}
+use Rattle.std.proofs.Common.{◌≡◌, ℕ, suc, List, [], ◌∷◌, ◌++◌, length, map, Option, Some, None, refl, sym, ◌∙◌}
 use Rattle.std.proofs.Common.{ap, subst}
 use Rattle.soy_lexer.specs.declared.token.Token.{Token}
 use Rattle.expr_parser.specs.declared.frame.Frame.{Frame}

@@ -1,9 +1,9 @@
 -- A list has one longest prefix that can go on, or one first element with which its prefix isn't good any more, and
 -- never both.
-use Rattle.std.proofs.Common.{◌≡◌, ℕ, ◌+◌, suc, List, [], ◌∷◌, ◌++◌, length, refl, sym, ◌∙◌, ap, subst, arith}
+use Rattle.std.proofs.Common.{◌≡◌, List, [], ◌∷◌, ◌++◌, length, refl, sym, ◌∙◌, ap, subst, arith}
 use Rattle.std.proofs.Common.{append_assoc, length-append}
 use Rattle.soy_lexer.specs.declared.token.Token.{Token}
-use Rattle.expr_parser.proofs.Prefixes.{same_prefix, same_last}
+use Rattle.expr_parser.proofs.Prefixes.{same_prefix}
 
 -- of two ways to cut a list, how their prefixes compare
 data Order (ps rs qs ss : List Token) : Type 0 where

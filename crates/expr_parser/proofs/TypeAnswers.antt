@@ -1,5 +1,5 @@
 -- Tokens have one answer as a type.
-use Rattle.std.proofs.Common.{◌≡◌, ℕ, ◌+◌, ◌<◌, ◌≤◌, Bool, true, false, List, [], ◌∷◌, ◌++◌, length, Option, Some}
+use Rattle.std.proofs.Common.{◌≡◌, ℕ, ◌+◌, ◌<◌, Bool, true, false, List, [], ◌∷◌, ◌++◌, length, Option, Some}
 use Rattle.std.proofs.Common.{None, Result, Ok, Err, refl, sym, ◌∙◌, ap, subst, arith, append_assoc, length-append}
 use Rattle.soy_base.specs.declared.code.Code.{Code}
 use Rattle.soy_base.specs.declared.code.Code.TheVariants as code
@@ -72,7 +72,11 @@ begun_shorter : (ts us : List Token) → Begun (ts ++ us) → Begun ts
 begun_shorter ts us b =
     let i = BeginsType-run (ts ++ us) b.depths b.words b.begins in
     let m = before ts us i.state i.is in
-    record { depths = type_depths ts type_start; words = type_words ts type_start; begins = run-BeginsType ts m.state m.is }
+    record {
+      depths = type_depths ts type_start;
+      words = type_words ts type_start;
+      begins = run-BeginsType ts m.state m.is;
+    }
 
 good_shorter : (blocks : ℕ) (ts us rest : List Token) → Good blocks (ts ++ us) rest → Good blocks ts (us ++ rest)
 good_shorter blocks ts us rest g =

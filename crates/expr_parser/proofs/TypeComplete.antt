@@ -1,5 +1,5 @@
 -- What the grammar of types has is read, with its depths and its words.
-use Rattle.std.proofs.Common.{◌≡◌, ℕ, ◌+◌, Bool, true, false, List, [], ◌∷◌, ◌++◌, map, Option, Some, None, refl, sym}
+use Rattle.std.proofs.Common.{◌≡◌, ℕ, Bool, true, false, List, [], ◌∷◌, ◌++◌, Some, refl}
 use Rattle.std.proofs.Common.{◌∙◌, ap, subst, arith}
 use Rattle.std.specs.Prelude.{max}
 use Rattle.soy_lexer.specs.declared.token.Token.{Token}
@@ -21,10 +21,10 @@ use Rattle.expr_parser.specs.declared.type_terminal.TypeTerminal.TheVariants as 
 use Rattle.expr_parser.specs.Depths.{deeper, beside}
 use Rattle.expr_parser.specs.SpellsType.{SpellsMember, SpellsFields, SpellsMembers, SpellsType}
 use Rattle.expr_parser.specs.TypeOperands.{named, listed, mapped, recorded, united, field}
-use Rattle.expr_parser.specs.TypeSteps.{type_at, nested_type, has_type, opens_type, settled, with_member}
+use Rattle.expr_parser.specs.TypeSteps.{type_at, nested_type, has_type, settled, with_member}
 use Rattle.expr_parser.specs.TypeSteps.{union_of_one, greater_next, comma_next, close_next, delimiter_next}
-use Rattle.expr_parser.specs.TypeSteps.{type_expected_next, less_next, after_name_next, key_next, key_comma_next}
-use Rattle.expr_parser.specs.TypeSteps.{field_name_next, field_colon_next, type_next_at, type_next, type_height_at}
+use Rattle.expr_parser.specs.TypeSteps.{type_expected_next, after_name_next, key_next, key_comma_next}
+use Rattle.expr_parser.specs.TypeSteps.{field_name_next, field_colon_next, type_next_at, type_next}
 use Rattle.expr_parser.specs.TypeSteps.{whole_type_at, settled_type, type_branch, type_raised}
 use Rattle.expr_parser.specs.TypeTerminals.{type_terminal_of, is_less}
 use Rattle.expr_parser.proofs.ExprRunning.{map_append}

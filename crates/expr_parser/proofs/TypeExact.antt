@@ -1,5 +1,5 @@
 -- Tokens are read exactly as far as some type begins with them, and a whole type exactly where they spell one.
-use Rattle.std.proofs.Common.{◌≡◌, ℕ, Bool, true, false, List, [], ◌∷◌, ◌++◌, Option, Some, None, refl, sym, ◌∙◌, ap}
+use Rattle.std.proofs.Common.{◌≡◌, ℕ, Bool, List, [], ◌∷◌, ◌++◌, Option, Some, None, refl, sym, ◌∙◌, ap}
 use Rattle.std.proofs.Common.{append_assoc, append-nil}
 use Rattle.std.specs.Prelude.{max, codes, encode_utf8_all}
 use Rattle.soy_base.specs.declared.fault.Span.{Span}
@@ -9,7 +9,6 @@ use Rattle.soy_tree.specs.declared.soy_type.Field.{Field}
 use Rattle.expr_parser.specs.declared.type_frame.TypeBracket.TheVariants as bracket
 use Rattle.expr_parser.specs.declared.type_frame.TypeFrame.{TypeFrame}
 use Rattle.expr_parser.specs.declared.type_frame.TypeFrame.TheVariants as frame
-use Rattle.expr_parser.specs.declared.type_frame.TypeNested.{TypeNested}
 use Rattle.expr_parser.specs.declared.type_frame.TypeOperand.{TypeOperand}
 use Rattle.expr_parser.specs.declared.type_state.ExpectedInType.{ExpectedInType}
 use Rattle.expr_parser.specs.declared.type_state.ExpectedInType.TheVariants as expected
@@ -24,8 +23,8 @@ use Rattle.expr_parser.specs.TypeSteps.{type_at, settled, settled_type, alone_ty
 use Rattle.expr_parser.specs.TypeTerminals.{type_terminal_of, type_name}
 use Rattle.expr_parser.proofs.TypeComplete.{NoUnion, complete, ends_whole}
 use Rattle.expr_parser.proofs.TypeRunning.{run_append, Goes}
-use Rattle.expr_parser.proofs.TypeSound.{SpelledMember, SpelledType, Leads, Opened, Stands, Named, AtKey, AtComma}
-use Rattle.expr_parser.proofs.TypeSound.{AtField, AtColon, Holds_at, Settles, two_on, name_spelled, list_spelled}
+use Rattle.expr_parser.proofs.TypeSound.{SpelledMember, SpelledType, Opened, Stands, AtKey}
+use Rattle.expr_parser.proofs.TypeSound.{AtField, Holds_at, two_on, name_spelled, list_spelled}
 use Rattle.expr_parser.proofs.TypeSound.{map_spelled, record_spelled, alone_spelled, union_spelled, with_field}
 use Rattle.expr_parser.proofs.TypeSound.{field_whole, settles, named_stands, run_holds}
 

@@ -1,5 +1,5 @@
 -- The type that tokens spell is formed.
-use Rattle.std.proofs.Common.{◌≡◌, ℕ, Bool, true, false, not, ◌&&◌, List, [], ◌∷◌, ◌++◌, map, refl, sym, ◌∙◌, ap, subst}
+use Rattle.std.proofs.Common.{◌≡◌, ℕ, Bool, true, false, not, ◌&&◌, List, [], ◌∷◌, ◌++◌, map, refl, ◌∙◌, ap, subst}
 use Rattle.std.specs.Prelude.{codes, encode_utf8_all, if◌then◌else◌}
 use Rattle.std.specs.Str.{bytes_eq}
 use Rattle.soy_base.specs.Names.{is_name}
@@ -11,7 +11,6 @@ use Rattle.soy_tree.specs.declared.soy_type.SoyType as code
 use Rattle.soy_tree.specs.declared.soy_type.SoyType.TheOpen.{SoyType-F}
 use Rattle.soy_tree.specs.declared.soy_type.SoyType.TheVariants as soy
 use Rattle.soy_tree.specs.Formed.{is_union, is_formed_type, are_formed_members, are_formed_fields}
-use Rattle.soy_tree.specs.Members.{members_of}
 use Rattle.soy_tree.specs.Types.{Name, SoyType, NullType, BoolType, IntType, StringType, HtmlType, AttributesType}
 use Rattle.soy_tree.specs.Types.{ListType, MapType, RecordType, UnionType}
 use Rattle.soy_tree.specs.ViewTypes.{view_type, view_field, view_members, view_fields, type_layer, field_layer}
@@ -25,7 +24,7 @@ use Rattle.expr_parser.specs.AreNamed.{IsNamed, AreNamed}
 use Rattle.expr_parser.specs.SpellsType.{SpellsMember, SpellsFields, SpellsMembers, SpellsType}
 use Rattle.expr_parser.specs.TypeOperands.{type_of_name, field}
 use Rattle.expr_parser.specs.TypeTerminals.{type_terminal, type_terminal_of, type_symbol}
-use Rattle.expr_parser.proofs.ExprForms.{Around, around}
+use Rattle.expr_parser.proofs.ExprForms.{around}
 
 -- what the types of the code stand for, layer by layer
 

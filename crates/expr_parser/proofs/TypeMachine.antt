@@ -1,6 +1,6 @@
 -- The machine of types against the grammar: there is a state after tokens exactly where some type begins with them,
 -- it has read a whole type exactly where they spell one, and its depths and words are those at the tokens.
-use Rattle.std.proofs.Common.{◌≡◌, ℕ, suc, ◌+◌, Bool, List, [], ◌∷◌, ◌++◌, length, map, Option, Some, None, refl, sym}
+use Rattle.std.proofs.Common.{◌≡◌, ℕ, suc, Bool, List, [], ◌∷◌, ◌++◌, length, map, Option, Some, None, refl, sym}
 use Rattle.std.proofs.Common.{◌∙◌, ap, subst}
 use Rattle.soy_lexer.specs.declared.token.Token.{Token}
 use Rattle.expr_parser.specs.declared.type_frame.TypeOperand.{TypeOperand}
@@ -11,9 +11,9 @@ use Rattle.expr_parser.specs.TypeRuns.{type_run, type_run_from, type_depths, typ
 use Rattle.expr_parser.specs.TypeRuns.{type_words_from, type_start}
 use Rattle.expr_parser.specs.TypeSteps.{type_next, type_raised, whole_type}
 use Rattle.expr_parser.proofs.Prefixes.{same_prefix}
-use Rattle.expr_parser.proofs.TypeExact.{Completes, HasRun, IsFinished, run-Completes, Completes-run}
+use Rattle.expr_parser.proofs.TypeExact.{run-Completes, Completes-run}
 use Rattle.expr_parser.proofs.TypeExact.{whole_type-SpellsType, SpellsType-whole_type}
-use Rattle.expr_parser.proofs.TypeRunning.{run_append, depths_append, words_append}
+use Rattle.expr_parser.proofs.TypeRunning.{depths_append, words_append}
 
 -- inside no frame depths are unchanged
 depths_plain : (ds : List ℕ) → map (type_raised []) ds ≡ ds
@@ -104,7 +104,13 @@ pub record IsRead (ts : List Token) (ds : List ℕ) (ws : List Bool) : Type 0 wh
 pub BeginsType-run : (ts : List Token) (ds : List ℕ) (ws : List Bool) → BeginsType ts ds ws → IsRead ts ds ws
 BeginsType-run ts ds ws b =
     let r = Completes-run ts
-    (record { more = b.more; depths = ds ++ b.other_depths; words = ws ++ b.other_words; operand = b.operand; spells = b.spells }) in
+    (record {
+      more = b.more;
+      depths = ds ++ b.other_depths;
+      words = ws ++ b.other_words;
+      operand = b.operand;
+      spells = b.spells;
+    }) in
     record {
       state = r.state;
       is = r.is;

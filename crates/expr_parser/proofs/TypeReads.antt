@@ -1,8 +1,7 @@
 -- What is read of tokens is the longest prefix with which some type begins.
-use Rattle.std.proofs.Common.{◌≡◌, ℕ, suc, ◌+◌, ◌<◌, ◌≤◌, Bool, true, false, length, List, [], ◌∷◌, ◌++◌, Option}
+use Rattle.std.proofs.Common.{◌≡◌, ℕ, ◌+◌, ◌≤◌, Bool, true, false, length, List, [], ◌∷◌, ◌++◌, Option}
 use Rattle.std.proofs.Common.{Some, None, refl, sym, ◌∙◌, ap, subst, arith, append_assoc, length-append}
-use Rattle.std.specs.Prelude.{nat_le, if◌then◌else◌}
-use Rattle.soy_base.specs.declared.code.Code.{Code}
+use Rattle.std.specs.Prelude.{if◌then◌else◌}
 use Rattle.soy_base.specs.declared.code.Code.TheVariants as code
 use Rattle.soy_lexer.specs.declared.token.Token.{Token}
 use Rattle.expr_parser.specs.declared.parse.TypeOutcome.{TypeOutcome}
@@ -12,25 +11,22 @@ use Rattle.expr_parser.specs.declared.type_frame.TypeOperand.{TypeOperand}
 use Rattle.expr_parser.specs.declared.type_state.ExpectedInType.{ExpectedInType}
 use Rattle.expr_parser.specs.declared.type_state.ExpectedInType.TheVariants as expected
 use Rattle.expr_parser.specs.declared.type_state.TypeState.{TypeState}
-use Rattle.expr_parser.specs.declared.type_terminal.TypeName.{TypeName}
-use Rattle.expr_parser.specs.declared.type_terminal.TypeTerminal.{TypeTerminal}
 use Rattle.expr_parser.specs.declared.type_terminal.TypeTerminal.TheVariants as terminal
 use Rattle.expr_parser.specs.BeginsType.{BeginsType}
 use Rattle.expr_parser.specs.Depths.{depth_limit, is_within, AreWithin}
 use Rattle.expr_parser.specs.Offsets.{end_after, offset_after}
-use Rattle.expr_parser.specs.ParsesType.{NoTypeGoesOn, NamesTypeIf, NameTypes, IsType, IsNoType, BeginsFault}
-use Rattle.expr_parser.specs.ParsesType.{IsTooDeepType, IsUnknownType, RefusesType}
-use Rattle.expr_parser.specs.SpellsType.{SpellsType}
+use Rattle.expr_parser.specs.ParsesType.{NoTypeGoesOn, NamesTypeIf, NameTypes, IsType, BeginsFault}
+use Rattle.expr_parser.specs.ParsesType.{IsUnknownType, RefusesType}
 use Rattle.expr_parser.specs.TypeReading.{type_answer, unless_unknown, read_type_on, reading_type}
 use Rattle.expr_parser.specs.TypeRuns.{type_run, type_run_from, type_depths, type_depths_from, type_words}
 use Rattle.expr_parser.specs.TypeRuns.{type_words_from, is_after_name, type_start}
-use Rattle.expr_parser.specs.TypeSteps.{type_next, type_step_of, whole_type, type_depth, unknown_name, unknown_at}
+use Rattle.expr_parser.specs.TypeSteps.{type_next, type_step_of, whole_type, type_depth, unknown_at}
 use Rattle.expr_parser.specs.TypeSteps.{unknown_type}
-use Rattle.expr_parser.specs.TypeTerminals.{type_terminal_of, is_less, begins_with_less, names_type, word_names_type}
+use Rattle.expr_parser.specs.TypeTerminals.{type_terminal_of, begins_with_less, names_type, word_names_type}
 use Rattle.expr_parser.specs.TypeTerminals.{is_type_name}
 use Rattle.expr_parser.proofs.Levels.{within-true, within-false}
 use Rattle.expr_parser.proofs.Prefixes.{within_append, end_last, same_last}
-use Rattle.expr_parser.proofs.TypeExact.{whole_type-SpellsType, SpellsType-whole_type}
+use Rattle.expr_parser.proofs.TypeExact.{SpellsType-whole_type}
 use Rattle.expr_parser.proofs.TypeMachine.{BeginsType-run, run-BeginsType, same_state, whole-spelled, words_length}
 use Rattle.expr_parser.proofs.TypeRunning.{run_append, depths_append, words_append}
 use Rattle.expr_parser.proofs.TypeSound.{Holds_at, Opened, run_holds}

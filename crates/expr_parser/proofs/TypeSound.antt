@@ -1,11 +1,10 @@
 -- What was read is what the grammar of types has, as far as it goes.
-use Rattle.std.proofs.Common.{◌≡◌, ℕ, ◌+◌, Bool, true, false, List, [], ◌∷◌, ◌++◌, map, Option, Some, None, refl, sym}
+use Rattle.std.proofs.Common.{◌≡◌, ℕ, Bool, true, false, List, [], ◌∷◌, ◌++◌, Option, Some, None, refl}
 use Rattle.std.proofs.Common.{◌∙◌, ap, append_assoc, append-nil}
 use Rattle.std.specs.Prelude.{max}
 use Rattle.soy_lexer.specs.declared.token.Token.{Token}
 use Rattle.soy_tree.specs.declared.soy_type.Field.{Field}
 use Rattle.soy_tree.specs.declared.soy_type.SoyType.{SoyType}
-use Rattle.expr_parser.specs.declared.type_frame.TypeBracket.{TypeBracket}
 use Rattle.expr_parser.specs.declared.type_frame.TypeBracket.TheVariants as bracket
 use Rattle.expr_parser.specs.declared.type_frame.TypeFrame.{TypeFrame}
 use Rattle.expr_parser.specs.declared.type_frame.TypeFrame.TheVariants as frame
@@ -18,13 +17,13 @@ use Rattle.expr_parser.specs.declared.type_terminal.TypeName.{TypeName}
 use Rattle.expr_parser.specs.declared.type_terminal.TypeName.TheVariants as name
 use Rattle.expr_parser.specs.declared.type_terminal.TypeTerminal.{TypeTerminal}
 use Rattle.expr_parser.specs.declared.type_terminal.TypeTerminal.TheVariants as terminal
-use Rattle.expr_parser.specs.Depths.{deeper, beside}
+use Rattle.expr_parser.specs.Depths.{beside}
 use Rattle.expr_parser.specs.SpellsType.{SpellsMember, SpellsFields, SpellsMembers, SpellsType}
 use Rattle.expr_parser.specs.TypeOperands.{named, listed, mapped, recorded, united, field}
-use Rattle.expr_parser.specs.TypeRuns.{type_run, type_run_from, type_start}
-use Rattle.expr_parser.specs.TypeSteps.{type_at, nested_type, settled, with_member, greater_next, comma_next}
+use Rattle.expr_parser.specs.TypeRuns.{type_run, type_run_from}
+use Rattle.expr_parser.specs.TypeSteps.{type_at, settled, with_member, greater_next, comma_next}
 use Rattle.expr_parser.specs.TypeSteps.{close_next, delimiter_next, type_expected_next, less_next, after_name_next}
-use Rattle.expr_parser.specs.TypeSteps.{key_next, key_comma_next, field_name_next, field_colon_next, type_next_at}
+use Rattle.expr_parser.specs.TypeSteps.{key_next, key_comma_next, field_name_next, field_colon_next}
 use Rattle.expr_parser.specs.TypeSteps.{type_next}
 use Rattle.expr_parser.specs.TypeTerminals.{type_terminal_of}
 use Rattle.expr_parser.proofs.TypeComplete.{NoUnion, max_none}
@@ -248,7 +247,8 @@ with_field _ _ _ (Leads.some opening comma ts fields h o l m) key colon n vs x k
   spelled = record {
     depths = l.depths ++ beside h (0 ∷ (0 ∷ (0 ∷ s.depths)));
     words = l.words ++ (false ∷ (false ∷ (false ∷ s.words)));
-    spells = SpellsFields.more_ comma key colon n ts vs l.depths s.depths l.words s.words fields h x m k c l.spells s.spells;
+    spells =
+        SpellsFields.more_ comma key colon n ts vs l.depths s.depths l.words s.words fields h x m k c l.spells s.spells;
   };
 }
 

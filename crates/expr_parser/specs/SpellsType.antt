@@ -13,7 +13,7 @@ use Rattle.expr_parser.specs.declared.type_frame.TypeOperand.{TypeOperand}
 use Rattle.expr_parser.specs.declared.type_terminal.TypeName.{TypeName}
 use Rattle.expr_parser.specs.declared.type_terminal.TypeName.TheVariants as name
 use Rattle.expr_parser.specs.declared.type_terminal.TypeTerminal.TheVariants as terminal
-use Rattle.expr_parser.specs.Depths.{deeper, beside}
+use Rattle.expr_parser.specs.Depths.{beside}
 use Rattle.expr_parser.specs.TypeOperands.{named, listed, mapped, recorded, united, field}
 use Rattle.expr_parser.specs.TypeTerminals.{type_terminal_of}
 

@@ -1,9 +1,8 @@
 -- The machine of types: what a token does to what was read. It has no step at a token with which no type goes on.
 -- Example: after `list<int` a `|` opens a union inside the list, and a `>` closes the list.
-use Rattle.std.specs.Prelude.{ℕ, max, Bool, true, false, List, [], ◌∷◌, ◌++◌, Option, Some, None, if◌then◌else◌}
+use Rattle.std.specs.Prelude.{ℕ, max, Bool, List, [], ◌∷◌, ◌++◌, Option, Some, None, if◌then◌else◌}
 use Rattle.soy_lexer.specs.declared.token.Token.{Token}
 use Rattle.soy_tree.specs.declared.soy_type.Field.{Field}
-use Rattle.soy_tree.specs.declared.soy_type.SoyType.{SoyType}
 use Rattle.expr_parser.specs.declared.type_frame.TypeBracket.{TypeBracket}
 use Rattle.expr_parser.specs.declared.type_frame.TypeBracket.TheVariants as bracket
 use Rattle.expr_parser.specs.declared.type_frame.TypeFrame.{TypeFrame}
@@ -21,7 +20,7 @@ use Rattle.expr_parser.specs.declared.type_terminal.TypeTerminal.{TypeTerminal}
 use Rattle.expr_parser.specs.declared.type_terminal.TypeTerminal.TheVariants as terminal
 use Rattle.expr_parser.specs.Depths.{deeper}
 use Rattle.expr_parser.specs.TypeOperands.{named, listed, mapped, recorded, united, field}
-use Rattle.expr_parser.specs.TypeTerminals.{type_terminal_of, is_less, names_type}
+use Rattle.expr_parser.specs.TypeTerminals.{type_terminal_of, names_type}
 
 abbrev pub type_at : List TypeFrame → ExpectedInType → TypeState
 type_at frames expected = record { frames = frames; expected = expected }
