@@ -1,0 +1,10 @@
+use Rattle.std.proofs.Common.{◌≡◌, reverse}
+use Rattle.expr_parser.specs.Frames.{raised}
+use Rattle.expr_parser.proofs.frame.raised.Given as goal
+
+abbrev pub invariant-loop-frame : goal.invariant-loop-frame
+invariant-loop-frame l = record {
+  can_next : (goal.iterator-loop-frame).can_next l.frame-iterator;
+  is_finite : (goal.iterator-loop-frame).is_finite l.frame-iterator;
+  same : raised (reverse l.frame-iterator.iter.rest.now) l.height ≡ raised l.frames l.fn.height;
+}

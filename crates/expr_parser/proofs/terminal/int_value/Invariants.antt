@@ -1,0 +1,11 @@
+use Rattle.std.proofs.Common.{◌≡◌, ◌≤◌, drop}
+use Rattle.soy_tree.specs.Ints.{largest}
+use Rattle.expr_parser.specs.Terminals.{int_after}
+use Rattle.expr_parser.proofs.terminal.int_value.Given as goal
+
+-- the digits that are left, after those that were read, write the same int
+abbrev pub invariant-loop-digit : goal.invariant-loop-digit
+invariant-loop-digit l = record {
+  within : l.value ≤ largest;
+  same : int_after l.value (drop l.digit-index l.digits) ≡ int_after 0 l.digits;
+}

@@ -1,0 +1,383 @@
+//! Rows of the grammar of expressions and types, over the tokens of the lexer.
+
+use crate::{parse_expr, parse_type};
+use soy_base::{Code, Fault, OutOfMemory, Refusal, push_text};
+use soy_lexer::lex;
+use soy_tree::{BinaryOp, Expr, ExprNode, Field, SoyType};
+use std::alloc::Global;
+
+/// The operator as it is written.
+fn written(op: BinaryOp) -> &'static str {
+    match op {
+        BinaryOp::Mul => " * ",
+        BinaryOp::Rem => " % ",
+        BinaryOp::Add => " + ",
+        BinaryOp::Sub => " - ",
+        BinaryOp::Lt => " < ",
+        BinaryOp::Gt => " > ",
+        BinaryOp::Le => " <= ",
+        BinaryOp::Ge => " >= ",
+        BinaryOp::Eq => " == ",
+        BinaryOp::Ne => " != ",
+        BinaryOp::And => " and ",
+        BinaryOp::Or => " or ",
+    }
+}
+
+/// Writes an expression with parentheses around each of its operators.
+fn write(out: &mut String, expr: &Expr) -> Result<(), OutOfMemory> {
+    match &expr.node {
+        ExprNode::Null => push_text(out, "null"),
+        ExprNode::Bool(_) => push_text(out, "bool"),
+        ExprNode::Int(_) => push_text(out, "int"),
+        ExprNode::Str(text) => push_text(out, text.text()),
+        ExprNode::Var(name) => push_text(out, name.text()),
+        ExprNode::Member(of, name, takes_null) => {
+            write(out, of.get())?;
+            push_text(out, if *takes_null { "?." } else { "." })?;
+            push_text(out, name.text())
+        }
+        ExprNode::Index(of, index, takes_null) => {
+            write(out, of.get())?;
+            push_text(out, if *takes_null { "?[" } else { "[" })?;
+            write(out, index.get())?;
+            push_text(out, "]")
+        }
+        ExprNode::Neg(of) => {
+            push_text(out, "(-")?;
+            write(out, of.get())?;
+            push_text(out, ")")
+        }
+        ExprNode::Not(of) => {
+            push_text(out, "(not ")?;
+            write(out, of.get())?;
+            push_text(out, ")")
+        }
+        ExprNode::Binary(op, left, right) => {
+            push_text(out, "(")?;
+            write(out, left.get())?;
+            push_text(out, written(*op))?;
+            write(out, right.get())?;
+            push_text(out, ")")
+        }
+        ExprNode::Coalesce(left, right) => {
+            push_text(out, "(")?;
+            write(out, left.get())?;
+            push_text(out, " ?: ")?;
+            write(out, right.get())?;
+            push_text(out, ")")
+        }
+        ExprNode::Cond(condition, yes, no) => {
+            push_text(out, "(")?;
+            write(out, condition.get())?;
+            push_text(out, " ? ")?;
+            write(out, yes.get())?;
+            push_text(out, " : ")?;
+            write(out, no.get())?;
+            push_text(out, ")")
+        }
+    }
+}
+
+/// The expression at the head of a command, with parentheses around each of its operators, and the number of its
+/// tokens; or the code and offset of its fault.
+fn read(alloc: Global, text: &str, depth: u32) -> Result<(String, usize), (Code, u64)> {
+    let tokens = match lex(alloc, text, 0) {
+        Ok(tokens) => tokens,
+        Err(_) => return Err((Code::Lex, 0)),
+    };
+    if tokens.is_empty() {
+        return Err((Code::Lex, 0));
+    }
+    match parse_expr(alloc, &tokens.as_slice()[1..], 0, depth) {
+        Ok((expr, count)) => {
+            let mut out = String::new(alloc);
+            match write(&mut out, &expr) {
+                Ok(()) => Ok((out, count)),
+                Err(_) => Err((Code::NotYet, 0)),
+            }
+        }
+        Err(Refusal::Because(Fault { code, file: _, at })) => Err((code, at)),
+        Err(Refusal::OutOfMemory) => Err((Code::NotYet, 0)),
+    }
+}
+
+/// A command, its expression, and the number of the expression's tokens.
+const EXPRESSIONS: &[(&str, &str, usize)] = &[
+    ("{1}", "int", 1),
+    ("{$a}", "a", 1),
+    ("{'text'}", "text", 1),
+    ("{null}", "null", 1),
+    ("{1 + 2 * 3}", "(int + (int * int))", 5),
+    ("{1 * 2 + 3}", "((int * int) + int)", 5),
+    ("{1 - 2 - 3}", "((int - int) - int)", 5),
+    ("{$a % $b * $c}", "((a % b) * c)", 5),
+    ("{$a < $b + 1}", "(a < (b + int))", 5),
+    ("{$a == $b < $c}", "(a == (b < c))", 5),
+    ("{$a and $b == $c}", "(a and (b == c))", 5),
+    ("{$a or $b and $c}", "(a or (b and c))", 5),
+    ("{$a and $b or $c}", "((a and b) or c)", 5),
+    ("{$a or $b or $c}", "((a or b) or c)", 5),
+    ("{not $a == $b}", "((not a) == b)", 4),
+    ("{not not $a}", "(not (not a))", 3),
+    ("{- -1}", "(-(-int))", 3),
+    ("{1 - -1}", "(int - (-int))", 4),
+    ("{-$a.b}", "(-a.b)", 4),
+    ("{-$a * $b}", "((-a) * b)", 4),
+    ("{$a.b[1]?.c?[$d]}", "a.b[int]?.c?[d]", 11),
+    ("{$a.null.or}", "a.null.or", 5),
+    ("{$a[$b + 1]}", "a[(b + int)]", 6),
+    ("{(1 + 2) * 3}", "((int + int) * int)", 7),
+    ("{((1)).x}", "int.x", 7),
+    ("{$a ?: $b ?: $c}", "(a ?: (b ?: c))", 5),
+    ("{$a ?? $b or $c}", "(a ?: (b or c))", 5),
+    ("{$a or $b ?: $c}", "((a or b) ?: c)", 5),
+    ("{$a ? $b : $c}", "(a ? b : c)", 5),
+    ("{$a ? $b : $c ? $d : $e}", "(a ? b : (c ? d : e))", 9),
+    ("{$a ? $b ? $c : $d : $e}", "(a ? (b ? c : d) : e)", 9),
+    ("{$a ? $b : $c ?: $d}", "(a ? b : (c ?: d))", 7),
+    ("{$a ?: $b ? $c : $d}", "(a ?: (b ? c : d))", 7),
+    ("{$a ? $b ?: $c : $d}", "(a ? (b ?: c) : d)", 7),
+    ("{1 }", "int", 1),
+    ("{1, 2}", "int", 1),
+    ("{1 : 2}", "int", 1),
+    ("{1) + 2}", "int", 1),
+    ("{$a $b}", "a", 1),
+    ("{$a] + 2}", "a", 1),
+    ("{$a |}", "a", 1),
+];
+
+#[test]
+fn expressions_group_by_level(rt: HostRuntime) {
+    for (text, shape, count) in EXPRESSIONS {
+        match read(rt.alloc(), text, 0) {
+            Ok((out, tokens)) => {
+                assert_eq!(rt; out.as_str(), *shape, "{text}");
+                assert_eq!(rt; tokens, *count, "{text}");
+            }
+            Err(_) => assert!(rt; false, "{text}"),
+        }
+    }
+}
+
+/// A command that has no expression at its head, the block commands that are open around it, and its fault.
+const FAULTS: &[(&str, u32, Code, u64)] = &[
+    ("{1 + }", 0, Code::Syntax, 5),
+    ("{1 + * 2}", 0, Code::Syntax, 5),
+    ("{$x +}", 0, Code::Syntax, 5),
+    ("{}", 0, Code::Syntax, 1),
+    ("{/}", 0, Code::Syntax, 1),
+    ("{print}", 0, Code::Syntax, 1),
+    ("{(1}", 0, Code::Syntax, 3),
+    ("{(1]}", 0, Code::Syntax, 3),
+    ("{$a[1)}", 0, Code::Syntax, 5),
+    ("{$a ? $b}", 0, Code::Syntax, 8),
+    ("{$a ? $b ) : $c}", 0, Code::Syntax, 9),
+    ("{(1 : 2)}", 0, Code::Syntax, 4),
+    ("{$a.1}", 0, Code::Syntax, 4),
+    ("{$a.$b}", 0, Code::Syntax, 4),
+    ("{1 +", 0, Code::Syntax, 4),
+    ("{(1", 0, Code::Syntax, 3),
+    ("{", 0, Code::Syntax, 0),
+    ("{\"text\"}", 0, Code::Syntax, 1),
+    ("{1}", 64, Code::Nesting, 1),
+    ("{1 + 2}", 63, Code::Nesting, 3),
+    ("{-1}", 63, Code::Nesting, 2),
+    ("{$a.b}", 63, Code::Nesting, 3),
+    ("{(1)}", 63, Code::Nesting, 2),
+    ("{1 + 2 + 3}", 62, Code::Nesting, 7),
+    ("{1 + 2 * 3}", 62, Code::Nesting, 7),
+    ("{1 + (2 * 3)}", 61, Code::Nesting, 8),
+    ("{$a ? $b : $c.d}", 62, Code::Nesting, 13),
+    ("{)}", 64, Code::Syntax, 1),
+];
+
+#[test]
+fn faults_are_at_the_first_token(rt: HostRuntime) {
+    for (text, depth, code, offset) in FAULTS {
+        match read(rt.alloc(), text, *depth) {
+            Ok(_) => assert!(rt; false, "{text}"),
+            Err((found, at)) => {
+                assert_eq!(rt; found.number(), code.number(), "{text}");
+                assert_eq!(rt; at, *offset, "{text}");
+            }
+        }
+    }
+}
+
+/// Writes a type, with braces around each union.
+#[cycle(writing_types)]
+fn write_type(out: &mut String, of: &SoyType) -> Result<(), OutOfMemory> {
+    match of {
+        SoyType::Null => push_text(out, "null"),
+        SoyType::Bool => push_text(out, "bool"),
+        SoyType::Int => push_text(out, "int"),
+        SoyType::Str => push_text(out, "string"),
+        SoyType::Html => push_text(out, "html"),
+        SoyType::Attributes => push_text(out, "attributes"),
+        SoyType::List(item) => {
+            push_text(out, "list<")?;
+            write_type(out, item.get())?;
+            push_text(out, ">")
+        }
+        SoyType::Map(item) => {
+            push_text(out, "map<")?;
+            write_type(out, item.get())?;
+            push_text(out, ">")
+        }
+        SoyType::Fields(fields) => write_fields(out, fields.items()),
+        SoyType::Union(members) => write_members(out, members.items()),
+    }
+}
+
+/// Writes the fields of a record.
+#[cycle(writing_types)]
+fn write_fields(out: &mut String, fields: &[Field]) -> Result<(), OutOfMemory> {
+    push_text(out, "[")?;
+    for field in fields {
+        push_text(out, field.name.text())?;
+        push_text(out, ":")?;
+        write_type(out, &field.of)?;
+        push_text(out, ";")?;
+    }
+    push_text(out, "]")
+}
+
+/// Writes the members of a union.
+#[cycle(writing_types)]
+fn write_members(out: &mut String, members: &[SoyType]) -> Result<(), OutOfMemory> {
+    push_text(out, "{")?;
+    for member in members {
+        write_type(out, member)?;
+        push_text(out, ";")?;
+    }
+    push_text(out, "}")
+}
+
+/// The type at the head of a command, and the number of its tokens; or the code and offset of its fault.
+fn read_type(alloc: Global, text: &str, depth: u32) -> Result<(String, usize), (Code, u64)> {
+    let tokens = match lex(alloc, text, 0) {
+        Ok(tokens) => tokens,
+        Err(_) => return Err((Code::Lex, 0)),
+    };
+    if tokens.is_empty() {
+        return Err((Code::Lex, 0));
+    }
+    match parse_type(alloc, &tokens.as_slice()[1..], 0, depth) {
+        Ok((of, count)) => {
+            let mut out = String::new(alloc);
+            match write_type(&mut out, &of) {
+                Ok(()) => Ok((out, count)),
+                Err(_) => Err((Code::NotYet, 0)),
+            }
+        }
+        Err(Refusal::Because(Fault { code, file: _, at })) => Err((code, at)),
+        Err(Refusal::OutOfMemory) => Err((Code::NotYet, 0)),
+    }
+}
+
+/// A command, its type, and the number of the type's tokens.
+const TYPES: &[(&str, &str, usize)] = &[
+    ("{null}", "null", 1),
+    ("{bool}", "bool", 1),
+    ("{int}", "int", 1),
+    ("{string}", "string", 1),
+    ("{html}", "html", 1),
+    ("{attributes}", "attributes", 1),
+    ("{int|null}", "{int;null;}", 3),
+    ("{int|string|int}", "{int;string;int;}", 5),
+    ("{list<int>}", "list<int>", 4),
+    ("{list<list<int>>}", "list<list<int>>", 7),
+    ("{list<int|null>|null}", "{list<{int;null;}>;null;}", 8),
+    ("{map<string, int>}", "map<int>", 6),
+    ("{map<string, [a: int]>}", "map<[a:int;]>", 10),
+    ("{[a: int]}", "[a:int;]", 5),
+    (
+        "{[a: int, list: list<bool>]}",
+        "[a:int;list:list<bool>;]",
+        12,
+    ),
+    (
+        "{[a: int|null, a: string]|null}",
+        "{[a:{int;null;};a:string;];null;}",
+        13,
+    ),
+    ("{[a: [b: int|bool]]}", "[a:[b:{int;bool;};];]", 11),
+    ("{html|html}", "{html;html;}", 3),
+    ("{int }", "int", 1),
+    ("{int<}", "int", 1),
+    ("{int, bool}", "int", 1),
+    ("{int] | bool}", "int", 1),
+    ("{int>|bool}", "int", 1),
+    ("{int bool}", "int", 1),
+    ("{int /}", "int", 1),
+    ("{bool", "bool", 1),
+];
+
+#[test]
+fn types_keep_their_members(rt: HostRuntime) {
+    for (text, shape, count) in TYPES {
+        match read_type(rt.alloc(), text, 0) {
+            Ok((out, tokens)) => {
+                assert_eq!(rt; out.as_str(), *shape, "{text}");
+                assert_eq!(rt; tokens, *count, "{text}");
+            }
+            Err(_) => assert!(rt; false, "{text}"),
+        }
+    }
+}
+
+/// A command that has no type at its head, the block commands that are open around it, and its fault.
+const TYPE_FAULTS: &[(&str, u32, Code, u64)] = &[
+    ("{}", 0, Code::Syntax, 1),
+    ("{$a}", 0, Code::Syntax, 1),
+    ("{|int}", 0, Code::Syntax, 1),
+    ("{int|}", 0, Code::Syntax, 5),
+    ("{int|", 0, Code::Syntax, 5),
+    ("{", 0, Code::Syntax, 0),
+    ("{list<>}", 0, Code::Syntax, 6),
+    ("{list<int}", 0, Code::Syntax, 9),
+    ("{list<int", 0, Code::Syntax, 9),
+    ("{list<int, bool>}", 0, Code::Syntax, 9),
+    ("{map<int, T>}", 0, Code::Syntax, 5),
+    ("{map<string>}", 0, Code::Syntax, 11),
+    ("{map<string, int]}", 0, Code::Syntax, 16),
+    ("{[]}", 0, Code::Syntax, 2),
+    ("{[a]}", 0, Code::Syntax, 3),
+    ("{[a: int", 0, Code::Syntax, 8),
+    ("{[a: int>}", 0, Code::Syntax, 8),
+    ("{[a: int,]}", 0, Code::Syntax, 9),
+    ("{uri}", 0, Code::Mistyped, 1),
+    ("{uri", 0, Code::Mistyped, 1),
+    ("{int|uri|}", 0, Code::Mistyped, 5),
+    ("{[uri: uri]}", 0, Code::Mistyped, 7),
+    ("{list}", 0, Code::Mistyped, 1),
+    ("{list", 0, Code::Mistyped, 1),
+    ("{list|int}", 0, Code::Mistyped, 1),
+    ("{map|$a}", 0, Code::Mistyped, 1),
+    ("{list<map>}", 0, Code::Mistyped, 6),
+    ("{uri<int>}", 0, Code::Mistyped, 1),
+    ("{List<int>}", 0, Code::Mistyped, 1),
+    ("{int}", 64, Code::Nesting, 1),
+    ("{uri}", 64, Code::Nesting, 1),
+    ("{)}", 64, Code::Syntax, 1),
+    ("{int|bool}", 63, Code::Nesting, 4),
+    ("{list<int>}", 63, Code::Nesting, 6),
+    ("{list<uri>}", 63, Code::Nesting, 6),
+    ("{list<list<int>>|int}", 61, Code::Nesting, 16),
+    ("{[a: int]}", 63, Code::Nesting, 5),
+    ("{[a: int, b: bool|int]}", 62, Code::Nesting, 17),
+];
+
+#[test]
+fn type_faults_are_at_the_first_token(rt: HostRuntime) {
+    for (text, depth, code, offset) in TYPE_FAULTS {
+        match read_type(rt.alloc(), text, *depth) {
+            Ok(_) => assert!(rt; false, "{text}"),
+            Err((found, at)) => {
+                assert_eq!(rt; found.number(), code.number(), "{text}");
+                assert_eq!(rt; at, *offset, "{text}");
+            }
+        }
+    }
+}
