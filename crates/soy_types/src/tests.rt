@@ -19,6 +19,8 @@ enum Of {
     Ints,
     /// `list<int>|null`
     IntsOrNull,
+    /// `null|list<int>`
+    NullOrInts,
     /// `map<string, int>`
     Counts,
     /// `[y: int, x: int|null]`
@@ -80,6 +82,7 @@ fn type_of(alloc: Global, of: Of) -> Result<SoyType, OutOfMemory> {
         Of::Html => Ok(SoyType::Html),
         Of::Ints => ints(alloc),
         Of::IntsOrNull => pair(alloc, ints(alloc)?, SoyType::Null),
+        Of::NullOrInts => pair(alloc, SoyType::Null, ints(alloc)?),
         Of::Counts => counts(alloc),
         Of::Record => record(alloc),
         Of::MapOrRecord => pair(alloc, counts(alloc)?, one_field(alloc)?),
@@ -247,6 +250,7 @@ const ROWS: &[(Of, bool, &str, &str)] = &[
     (Of::MapOrRecord, true, "{\"a\":{\"y\":1}}", "{a=map{y=1 } }"),
     (Of::RecordOrMap, true, "{\"a\":{\"y\":1}}", "{a={y=1 } }"),
     (Of::RecordOrMap, true, "{\"a\":{\"x\":1}}", "{a=map{x=1 } }"),
+    (Of::NullOrInts, true, "{\"a\":[null]}", "DataType/a"),
     (Of::IntsOrNull, true, "{\"a\":[1,null]}", "DataType/a"),
     (Of::IntsOrNull, true, "{\"a\":null}", "{a=null }"),
     // a parameter that isn't required, and one that is missing
