@@ -13,7 +13,7 @@ use Rattle.serde_json.specs.Find.{get}
 use Rattle.soy_types.specs.Reads.{Reads}
 use Rattle.soy_types.proofs.Views.{view_list, view_map, view_array, view_object}
 use Rattle.std.specs.Str.{chars}
-use Rattle.serde_json.specs.Data.{Data, Items, item, Members, null, array, object}
+use Rattle.serde_json.specs.Data.{Data, Items, item, null, array, object}
 use Rattle.serde_json.specs.View.{view, items_view, members_view}
 use Rattle.serde_json.specs.declared.value.Value as json
 use Rattle.soy_base.specs.declared.path.PathStep.TheVariants as path_step
@@ -22,9 +22,8 @@ use Rattle.soy_tree.specs.declared.soy_type.SoyType as code_type
 use Rattle.soy_tree.specs.declared.tree.Param as code_param
 use Rattle.soy_tree.specs.Types.{Name, SoyType, ListType, MapType}
 use Rattle.soy_tree.specs.Values.{Value, ListValue, MapValue}
-use Rattle.soy_tree.specs.Trees.{Param}
 use Rattle.soy_tree.specs.Templates.{param_type}
-use Rattle.soy_tree.specs.ViewTypes.{view_fields, view_type, type_layer, field_layer}
+use Rattle.soy_tree.specs.ViewTypes.{view_fields, view_type}
 use Rattle.soy_tree.specs.ViewTrees.{view_param, view_params}
 use Rattle.soy_tree.proofs.Views.{fields-drop}
 use Rattle.soy_types.specs.Paths.{Path, onward, below, headed, all_read}

@@ -2,3 +2,4 @@ pub mod Paths
 pub mod Read
 pub mod ReadData
 pub mod Reads
+pub mod Stands

@@ -1,6 +1,6 @@
 -- What is read, or the path to where nothing fits.
--- Results of parts are taken together from the first to the last, and the first failure counts; its path begins with the
--- step to the part. Of several ways to read the first that fits counts, and where none does the path is empty.
+-- Results of parts are taken together from the first to the last, and the first failure counts; its path begins with
+-- the step to the part. Of several ways to read the first that fits counts, and where none does the path is empty.
 -- Example: where the item 2 under the key `a` fits nothing, the path is `a`, 2.
 use Rattle.std.specs.Prelude.{List, [], ◌∷◌, Result, Ok, Err}
 use Rattle.soy_base.specs.declared.path.PathStep.{PathStep}

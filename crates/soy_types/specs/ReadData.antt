@@ -1,10 +1,10 @@
 -- The data of a page: what is read of bytes at the types of parameters.
--- The JSON value of bytes is the written reading of `serde_json`, in which of two members of one name the value of the last
--- stays. Each parameter is read at its type in the order of declaration, as a field of a record; data that are no object
--- have no members. Bytes that are no JSON are refused with 27 and an empty path, and data in which a parameter has no value
--- of its type with 28 and the path to it.
+-- The JSON value of bytes is the written reading of `serde_json`, in which of two members of one name the value of the
+-- last stays. Each parameter is read at its type in the order of declaration, as a field of a record; data that are no
+-- object have no members. Bytes that are no JSON are refused with 27 and an empty path, and data in which a parameter
+-- has no value of its type with 28 and the path to it.
 -- Example: `{"a":[1,null]}` for `{@param a: list<int>}` is refused with 28 and the path `a`, 1.
-use Rattle.std.specs.Prelude.{◌≡◌, ℕ, List, [], ◌∷◌, Option, Some, None, Result, Ok, Err, if◌then◌else◌}
+use Rattle.std.specs.Prelude.{ℕ, List, [], ◌∷◌, Option, Some, None, Result, Ok, Err, if◌then◌else◌}
 use Rattle.std.specs.Str.{is_utf8}
 use Rattle.serde_json.specs.Data.{Data}
 use Rattle.serde_json.specs.Read.{read}

@@ -87,7 +87,8 @@ fn read_params(alloc: Global, params: &[Param], json: &Json) -> Result<Value, Re
 
 /// The value of a parameter, which is null where it is missing.
 fn read_param(alloc: Global, param: &Param, json: &Json, name: &str) -> Result<Value, Refusal<Path>>
-    ensures { Reads view_value (value_at (param_type (view_param param.now)) (unwrap_or (get name.now (view json.now)) null)) result }
+    ensures { Reads view_value (value_at (param_type (view_param param.now))
+        (unwrap_or (get name.now (view json.now)) null)) result }
 {
     match json.get(name) {
         Some(member) => read_given(alloc, param, member),

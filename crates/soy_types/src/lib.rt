@@ -7,8 +7,13 @@
 
 mod data;
 mod fault;
+mod laws;
 mod path;
 mod reading;
 
 pub use data::read_data;
 pub use fault::DataFault;
+pub use laws::law_read;
+
+#[cfg(test)]
+mod tests;

@@ -6,7 +6,7 @@ use Rattle.std.specs.Prelude.{Ok, Err}
 use Rattle.soy_tree.specs.ViewTrees.{view_params}
 use Rattle.soy_types.specs.Paths.{all_read}
 use Rattle.soy_types.specs.ReadData.{param_results}
-use Rattle.std.proofs.Common.{rules, ◌≡◌, ◌++◌, map, ap, ◌∙◌}
+use Rattle.std.proofs.Common.{◌++◌, map, ap, ◌∙◌}
 use Rattle.serde_json.specs.View.{view}
 use Rattle.soy_tree.specs.Templates.{param_type}
 use Rattle.soy_tree.specs.Values.{RecordValue}

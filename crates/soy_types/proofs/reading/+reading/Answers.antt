@@ -1,7 +1,6 @@
 use Rattle.std.proofs.Common.{rules, ◌≡◌, ◌++◌, map, ap, ◌∙◌}
-use Rattle.serde_json.specs.Data.{array, object}
-use Rattle.serde_json.specs.View.{items_view, members_view, view}
-use Rattle.soy_tree.specs.Types.{ListType, MapType}
+use Rattle.serde_json.specs.declared.value.Value as json
+use Rattle.serde_json.specs.View.{items_view, view}
 use Rattle.soy_tree.specs.Values.{ListValue, MapValue, RecordValue}
 use Rattle.soy_tree.specs.ViewTypes.{view_type}
 use Rattle.soy_tree.specs.ViewValues.{entries_of, items_of, view_entry, view_value}
@@ -96,12 +95,13 @@ read_fields-returns t c =
 
 pub read_value-returns-in-List-Array : goal.read_value-returns-in-List-Array
 read_value-returns-in-List-Array t c =
+    let is : c.args.json.now ≡ json.Array c.in-List-Array.items = search rules in
     list_read c.args.of.now c.in-List-Array.of c.get.result.now c.args.json.now c.in-List-Array.items
-    c.as_slice.result.now
-    c.read_items.result c.in-List-Array.is-0 c.get.ensures c.in-List-Array.is-1 c.as_slice.ensures.value
+    c.as_slice.result.now c.read_items.result c.in-List-Array.is-0 c.get.ensures is c.as_slice.ensures.value
     c.read_items.ensures
 
 pub read_value-returns-in-Map-Object : goal.read_value-returns-in-Map-Object
 read_value-returns-in-Map-Object t c =
+    let is : c.args.json.now ≡ json.Object c.in-Map-Object.members = search rules in
     map_read c.args.of.now c.in-Map-Object.of c.get-in-Map-Object.result.now c.args.json.now c.in-Map-Object.members
-    c.read_entries.result c.in-Map-Object.is-0 c.get-in-Map-Object.ensures c.in-Map-Object.is-1 c.read_entries.ensures
+    c.read_entries.result c.in-Map-Object.is-0 c.get-in-Map-Object.ensures is c.read_entries.ensures

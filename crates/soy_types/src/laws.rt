@@ -1,0 +1,21 @@
+//! Laws of the definitions, each a function that does nothing and whose contract is the law.
+
+ghost use Rattle.std.specs.Prelude.{◌≡◌, ℕ, Bool, Ok, Err, None};
+ghost use Rattle.serde_json.specs.Data.{Data};
+ghost use Rattle.soy_tree.specs.Types.{SoyType};
+ghost use Rattle.soy_tree.specs.Values.{Value};
+ghost use Rattle.soy_tree.specs.Has.{Has};
+ghost use Rattle.soy_tree.specs.Declarations.{type_fault};
+ghost use Rattle.soy_types.specs.Paths.{Path};
+ghost use Rattle.soy_types.specs.Read.{value_at};
+ghost use Rattle.soy_types.specs.Stands.{StandsFor};
+
+/// The value that is read of a JSON value is one that it stands for, and of a type that may be declared it is of that
+/// type; and nothing is read only where the JSON value stands for no value of the type.
+pub fn law_read()
+    ensures stands { (t : SoyType) (d : Data) (v : Value) → value_at t d ≡ Ok v → StandsFor v d }
+    ensures of_type { (t : SoyType) (d : Data) (v : Value) (at : ℕ) (alone : Bool) → type_fault t at alone ≡ None
+        → value_at t d ≡ Ok v → Has v t }
+    ensures complete { (t : SoyType) (d : Data) (v : Value) (path : Path) → StandsFor v d → Has v t
+        → value_at t d ≡ Err path → ⊥ }
+{}
