@@ -1,8 +1,12 @@
 //! What the definitions come to, for the tokenizer of a page. Each law is a contract with an empty body.
 
 ghost use Rattle.std.specs.Prelude.{◌≡◌, ◌+◌, ◌++◌, ◌∷◌, [], ℕ, IsTrue, List, Option, Some, Ok, Err, length, get_or};
+ghost use Rattle.std.specs.Prelude.{replicate};
+ghost use Rattle.std.specs.Prelude.{pos, codes};
 ghost use Rattle.soy_base.specs.declared.code.Code.TheVariants as code;
+ghost use Rattle.soy_base.specs.declared.direction.Dir.TheVariants as dir;
 ghost use Rattle.soy_base.specs.declared.direction.Dir.{Dir};
+ghost use Rattle.bidi_text.specs.Wrap.{wrapped_text};
 ghost use Rattle.soy_base.specs.declared.kind.Kind.{Kind};
 ghost use Rattle.soy_base.specs.declared.place.Place.TheVariants as place;
 ghost use Rattle.soy_base.specs.declared.place.Place.{Place};
@@ -11,7 +15,7 @@ ghost use Rattle.soy_base.specs.declared.place.ValueClass.{ValueClass};
 ghost use Rattle.html_state.specs.AfterValue.{after_value};
 ghost use Rattle.html_state.specs.Follows.{Follows};
 ghost use Rattle.html_state.specs.Leads.{Leads};
-ghost use Rattle.html_state.specs.Pieces.{after_pieces, placing_after};
+ghost use Rattle.html_state.specs.Pieces.{Static, Value, after_pieces, placing_after};
 ghost use Rattle.html_state.specs.StatePlacing.{placing};
 ghost use Rattle.html_state.specs.TakesClass.{takes_class};
 ghost use Rattle.html_state.specs.declared.row.Reference.TheVariants as reference;
@@ -25,13 +29,17 @@ ghost use Rattle.soy_meaning.specs.EscapedAt.{escaped_where, is_text_of};
 ghost use Rattle.soy_meaning.specs.Filled.{Filled, FillsHoles, IsBlockKind, IsFrameOf, filled_pieces, parts_of_filled};
 ghost use Rattle.soy_meaning.specs.FourPoints.{StartsAs};
 ghost use Rattle.soy_meaning.specs.Holes.{hole_count, holes_before};
+ghost use Rattle.soy_meaning.specs.Outcome as run_end;
 ghost use Rattle.soy_meaning.specs.Outcome.{Outcome, continued_by, gathered, gives_nothing};
 ghost use Rattle.soy_meaning.specs.PageMachine.{page_machine};
 ghost use Rattle.soy_meaning.specs.Plan.{Plan};
 ghost use Rattle.soy_meaning.specs.PlanOfNodes.{kind_class};
 ghost use Rattle.soy_meaning.specs.Points.{Address, AtHole, LeadsTo, StandsAt, frame_at, point_at};
-ghost use Rattle.soy_meaning.specs.Rows.{ampersand_in_translation, block_in_attribute, mixed_places, optional_attribute};
+ghost use Rattle.soy_meaning.specs.Rows.{ampersand_in_translation, block_in_attribute, mixed_places};
+ghost use Rattle.soy_meaning.specs.Rows.{optional_attribute};
 ghost use Rattle.soy_meaning.specs.Rows.{second_turn, second_uri_value, seventeen_states, site_at, sixteen_states};
+ghost use Rattle.soy_meaning.specs.RunRows.{attributes_block, block_pieces, block_twice, calls, input_pieces};
+ghost use Rattle.soy_meaning.specs.RunRows.{plural_translation, source_plural};
 ghost use Rattle.soy_meaning.specs.Walk.{Walked, mixed_at, walk, walk_fault, walked};
 
 /// The escaped form of a value at the place that a state gives, and then the mark that the value sets, lead to the
@@ -100,4 +108,21 @@ pub fn law_rows()
     ensures ampersand_in_translation { ampersand_in_translation ≡ Err (walk_fault (site_at 10) code.Ampersand) }
     ensures sixteen_states { sixteen_states ≡ Err (walk_fault (site_at 100) code.EndState) }
     ensures seventeen_states { seventeen_states ≡ Err (walk_fault (site_at 0) code.States) }
+{}
+
+/// Rows that the checker computes: the pieces and the end that small templates give under data.
+pub fn law_run_rows()
+    ensures block_twice { block_twice ≡ (block_pieces ++ block_pieces, run_end.WholeRun) }
+    ensures attributes_block { attributes_block ≡ (input_pieces, run_end.WholeRun) }
+    ensures calls_to_limit { calls (pos 100) ≡ (replicate 100 (Static (codes "a")), run_end.WholeRun) }
+    ensures calls_past_limit { calls (pos 101) ≡ (replicate 101 (Static (codes "a")), run_end.StopsAt (site_at 12)) }
+    ensures source_plural { source_plural (pos 1) ≡ (Static (codes "only") ∷ [], run_end.WholeRun) }
+    ensures source_default { source_plural (pos 3)
+        ≡ (Value (wrapped_text (codes "3") dir.Ltr) ∷ Static (codes " in all") ∷ [], run_end.WholeRun) }
+    ensures plural_translation { plural_translation (pos 1) ≡ (Static (codes "only") ∷ [], run_end.WholeRun) }
+    ensures plural_number { plural_translation (pos 2)
+        ≡ (
+          Static (codes "and ") ∷ Value (wrapped_text (codes "1") dir.Ltr) ∷ Static (codes " more") ∷ [],
+          run_end.WholeRun,
+        ) }
 {}
