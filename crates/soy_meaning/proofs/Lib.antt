@@ -17,3 +17,4 @@ pub mod KeptForms
 pub mod Pages
 pub mod PagePlaces
 pub mod Outcomes
+pub mod ValueTexts

@@ -54,7 +54,8 @@ read_outcome so_far (RunEnds spent end) = so_far
 read_outcome so_far (GivesPiece spent piece o) = read_outcome (read_piece so_far piece) o
 
 abbrev pub piece_means : Piece → Means
-piece_means piece so_far next = GivesPiece (record { cost = 0; work = 1; choices = [] }) piece (next (read_piece so_far piece))
+piece_means piece so_far next =
+    GivesPiece (record { cost = 0; work = 1; choices = [] }) piece (next (read_piece so_far piece))
 
 -- an empty text gives no piece
 abbrev pub text_means : List ℕ → Means

@@ -28,7 +28,8 @@ use Rattle.soy_tree.specs.Bodies.{param_of}
 use Rattle.soy_meaning.specs.Branch.{int_of, parts_means, word_of}
 use Rattle.soy_meaning.specs.Giving.{BoundBlock, Means, RunEnv, StateSoFar, block_bound, called_means, printed_means}
 use Rattle.soy_meaning.specs.Giving.{text_means, with_choice, with_cost}
-use Rattle.soy_meaning.specs.Outcome.{ArmTaken, RunEnds, FallbackTranslation, Outcome, OwnTranslation, SourceText, StopsAt}
+use Rattle.soy_meaning.specs.Outcome.{ArmTaken, RunEnds, FallbackTranslation, Outcome, OwnTranslation, SourceText}
+use Rattle.soy_meaning.specs.Outcome.{StopsAt}
 use Rattle.soy_meaning.specs.Outcome.{TextTaken, Turns, gives_nothing, none_spent}
 use Rattle.soy_meaning.specs.Plan.{Site}
 use Rattle.soy_meaning.specs.PlanOfNodes.{starts_at, uses_of}

@@ -15,7 +15,8 @@ ghost use Rattle.soy_base.specs.declared.place.ValueClass.{ValueClass};
 ghost use Rattle.html_state.specs.AfterValue.{after_value};
 ghost use Rattle.html_state.specs.Follows.{Follows};
 ghost use Rattle.html_state.specs.Leads.{Leads};
-ghost use Rattle.html_state.specs.Pieces.{Static, Value, after_pieces, placing_after};
+ghost use Rattle.html_state.specs.Pieces as page;
+ghost use Rattle.html_state.specs.Pieces.{after_pieces, placing_after};
 ghost use Rattle.html_state.specs.StatePlacing.{placing};
 ghost use Rattle.html_state.specs.TakesClass.{takes_class};
 ghost use Rattle.html_state.specs.declared.row.Reference.TheVariants as reference;
@@ -24,6 +25,9 @@ ghost use Rattle.html_state.specs.declared.row.Tag.{Tag};
 ghost use Rattle.soy_tree.specs.MessageParts.{MsgParts};
 ghost use Rattle.soy_tree.specs.Nodes.{Message};
 ghost use Rattle.soy_tree.specs.Trees.{Tree};
+ghost use Rattle.soy_tree.specs.Val.{value_text};
+ghost use Rattle.soy_tree.specs.Values.{Value};
+ghost use Rattle.soy_meaning.specs.Giving.{value_class};
 ghost use Rattle.soy_meaning.specs.AcceptedTrees.{AcceptedTrees, walk_trees};
 ghost use Rattle.soy_meaning.specs.EscapedAt.{escaped_where, is_text_of};
 ghost use Rattle.soy_meaning.specs.Filled.{Filled, FillsHoles, IsBlockKind, IsFrameOf, filled_pieces, parts_of_filled};
@@ -48,6 +52,11 @@ pub fn law_hole()
     ensures { (state : State) (class : ValueClass) (text : List ℕ) (context : Dir) →
         IsTrue (takes_class (placing state) class) → IsTrue (is_text_of class text) →
         (out : List ℕ) × (escaped_where (placing state) class text context ≡ Some out) × Leads state out }
+{}
+
+/// The text of a value is one that its class has, so that what `law_hole` says holds of each printed value.
+pub fn law_value_texts()
+    ensures { (v : Value) → IsTrue (is_text_of (value_class v) (value_text v)) }
 {}
 
 /// The walk over trees meets no fault exactly where what is demanded of all paths holds of each frame. Then the place
@@ -114,15 +123,15 @@ pub fn law_rows()
 pub fn law_run_rows()
     ensures block_twice { block_twice ≡ (block_pieces ++ block_pieces, run_end.WholeRun) }
     ensures attributes_block { attributes_block ≡ (input_pieces, run_end.WholeRun) }
-    ensures calls_to_limit { calls (pos 100) ≡ (replicate 100 (Static (codes "a")), run_end.WholeRun) }
-    ensures calls_past_limit { calls (pos 101) ≡ (replicate 101 (Static (codes "a")), run_end.StopsAt (site_at 12)) }
-    ensures source_plural { source_plural (pos 1) ≡ (Static (codes "only") ∷ [], run_end.WholeRun) }
+    ensures calls_to_limit { calls (pos 100) ≡ (replicate 100 (page.Static (codes "a")), run_end.WholeRun) }
+    ensures calls_past_limit { calls (pos 101) ≡ (replicate 101 (page.Static (codes "a")), run_end.StopsAt (site_at 12)) }
+    ensures source_plural { source_plural (pos 1) ≡ (page.Static (codes "only") ∷ [], run_end.WholeRun) }
     ensures source_default { source_plural (pos 3)
-        ≡ (Value (wrapped_text (codes "3") dir.Ltr) ∷ Static (codes " in all") ∷ [], run_end.WholeRun) }
-    ensures plural_translation { plural_translation (pos 1) ≡ (Static (codes "only") ∷ [], run_end.WholeRun) }
+        ≡ (page.Value (wrapped_text (codes "3") dir.Ltr) ∷ page.Static (codes " in all") ∷ [], run_end.WholeRun) }
+    ensures plural_translation { plural_translation (pos 1) ≡ (page.Static (codes "only") ∷ [], run_end.WholeRun) }
     ensures plural_number { plural_translation (pos 2)
         ≡ (
-          Static (codes "and ") ∷ Value (wrapped_text (codes "1") dir.Ltr) ∷ Static (codes " more") ∷ [],
+          page.Static (codes "and ") ∷ page.Value (wrapped_text (codes "1") dir.Ltr) ∷ page.Static (codes " more") ∷ [],
           run_end.WholeRun,
         ) }
 {}
