@@ -10,6 +10,8 @@ pub mod PointsAndHolds
 pub mod AddsPlaces
 pub mod FinePaths
 pub mod InnerFrames
+pub mod FewStates
+pub mod BuiltPlans
 pub mod Walks
 pub mod PageStates
 pub mod EscapedTexts

@@ -37,8 +37,10 @@ ghost use Rattle.soy_meaning.specs.Outcome as run_end;
 ghost use Rattle.soy_meaning.specs.Outcome.{Outcome, continued_by, gathered, gives_nothing};
 ghost use Rattle.soy_meaning.specs.PageMachine.{page_machine};
 ghost use Rattle.soy_meaning.specs.Plan.{Plan};
-ghost use Rattle.soy_meaning.specs.PlanOfNodes.{kind_class};
-ghost use Rattle.soy_meaning.specs.Points.{Address, AtHole, LeadsTo, StandsAt, frame_at, point_at};
+ghost use Rattle.soy_meaning.specs.PlanOfNodes.{kind_class, trees_plan};
+ghost use Rattle.soy_meaning.specs.PathParts.{StandsAfter};
+ghost use Rattle.soy_meaning.specs.States.{AtMost};
+ghost use Rattle.soy_meaning.specs.Points.{Address, AtHole, LeadsTo, Point, StandsAt, frame_at, point_at};
 ghost use Rattle.soy_meaning.specs.Rows.{ampersand_in_translation, block_in_attribute, mixed_places};
 ghost use Rattle.soy_meaning.specs.Rows.{optional_attribute};
 ghost use Rattle.soy_meaning.specs.Rows.{second_turn, second_uri_value, seventeen_states, site_at, sixteen_states};
@@ -72,6 +74,18 @@ pub fn law_walk()
         (x : Address) (classes : List ValueClass) → point_at q x ≡ Some (AtHole classes) →
         (t : State) → StandsAt page_machine q (StartsAs page_machine kind) x t →
         (d : Place) → placing t ≡ Takes (get_or new (holes_before p y + holes_before q x) d)) }
+{}
+
+/// The demands are made where arms and turns meet, and hold everywhere: at each point of an accepted frame, and at its
+/// end, at most 16 different states stand.
+pub fn law_few_states()
+    ensures points { (translation : Message → Option MsgParts) (trees : List Tree) → AcceptedTrees translation trees →
+        (y : Address) (kind : Kind) (q : Plan) → frame_at (trees_plan translation trees) y ≡ Some (kind, q) →
+        (x : Address) (point : Point) → point_at q x ≡ Some point →
+        AtMost 16 (StandsAt page_machine q (StartsAs page_machine kind) x) }
+    ensures ends { (translation : Message → Option MsgParts) (trees : List Tree) → AcceptedTrees translation trees →
+        (y : Address) (kind : Kind) (q : Plan) → frame_at (trees_plan translation trees) y ≡ Some (kind, q) →
+        AtMost 16 (StandsAfter page_machine q (StartsAs page_machine kind)) }
 {}
 
 /// A frame that stands in a hole, at any depth, keeps what ties the page's state to the walk's: where its hole takes it
