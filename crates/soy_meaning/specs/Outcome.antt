@@ -75,3 +75,8 @@ end_of_outcome (GivesPiece a piece o) = end_of_outcome o
 abbrev pub choices_of_outcome : Outcome → List Choice
 choices_of_outcome (RunEnds a end) = a.choices
 choices_of_outcome (GivesPiece a piece o) = a.choices ++ choices_of_outcome o
+
+-- the cost up to and with each piece, from the one before it, and the cost of what is valued after the last
+abbrev pub costs_of_outcome : Outcome → List ℕ
+costs_of_outcome (RunEnds a end) = a.cost ∷ []
+costs_of_outcome (GivesPiece a piece o) = a.cost ∷ costs_of_outcome o

@@ -60,10 +60,8 @@ row_outcome translation body env =
       direction = dir.Ltr;
     }) d env
 
--- the pieces of a row, and its end
-abbrev pub row_run : Option MsgParts → List Node → RunEnv → List Piece × RunEnd
-row_run translation body env =
-    (pieces_of_outcome (row_outcome translation body env), end_of_outcome (row_outcome translation body env))
+abbrev pub pieces_and_end : Outcome → List Piece × RunEnd
+pieces_and_end o = (pieces_of_outcome o, end_of_outcome o)
 
 abbrev pub text_env : List ℕ → List ℕ → RunEnv
 text_env name text = (name, Known (StringValue text)) ∷ []
@@ -74,8 +72,8 @@ number_env n = (codes "n", Known (IntValue n)) ∷ []
 -- ---- blocks
 
 -- `{let $b kind="html"}<i>{$x}</i>{/let}{$b}{$b}`, with x `q`
-abbrev pub block_twice : List Piece × RunEnd
-block_twice = row_run None
+abbrev pub block_twice : Outcome
+block_twice = row_outcome None
     (LetBlock (codes "b") kind.Html
     (all_nodes (text_node 0 (codes "<i>") ∷ print_node 0 (codes "x") ∷ text_node 0 (codes "</i>") ∷ [])) (span_at 0)
     ∷ print_node 0 (codes "b") ∷ print_node 0 (codes "b") ∷ []) (text_env (codes "x") (codes "q"))
@@ -84,8 +82,8 @@ abbrev pub block_pieces : List Piece
 block_pieces = Static (codes "<i>") ∷ Value (wrapped_text (codes "q") dir.Ltr) ∷ Static (codes "</i>") ∷ []
 
 -- `{let $b kind="attributes"}class="{$k}" disabled{/let}<input {$b}>`, with k `a"b`
-abbrev pub attributes_block : List Piece × RunEnd
-attributes_block = row_run None
+abbrev pub attributes_block : Outcome
+attributes_block = row_outcome None
     (LetBlock (codes "b") kind.Attributes
     (all_nodes (text_node 0 (codes "class=\"") ∷ print_node 0 (codes "k") ∷ text_node 0 (codes "\" disabled") ∷ []))
     (span_at 0)
@@ -100,9 +98,9 @@ input_pieces =
 -- ---- calls
 
 -- `{if $n > 0}a{call m}{param n: $n - 1 /}{/call}{/if}`, whose call is at offset 12
-abbrev pub calls : ℤ → List Piece × RunEnd
+abbrev pub calls : ℤ → Outcome
 calls n =
-    row_run None
+    row_outcome None
     (If (arm (Binary op.Gt (variable 4 (codes "n")) (IntLiteral (pos 0) (span_at 9)) (span_at 4))
     (node (text_node 11 (codes "a")) (node (Call (codes "m") false (argument (codes "n")
     (Plain (Binary op.Sub (variable 30 (codes "n")) (IntLiteral (pos 1) (span_at 35)) (span_at 30))) (span_at 20)
@@ -118,8 +116,8 @@ plural_message =
     (Parts (all_nodes (print_node 0 (codes "n") ∷ text_node 0 (codes " in all") ∷ [])))) (span_at 0))
     no_fallback (span_at 0)
 
-abbrev pub source_plural : ℤ → List Piece × RunEnd
-source_plural n = row_run None (plural_message ∷ []) (number_env n)
+abbrev pub source_plural : ℤ → Outcome
+source_plural n = row_outcome None (plural_message ∷ []) (number_env n)
 
 -- `{N, plural, offset:1 =1 {only} one {and # more} other {all}}`
 abbrev pub plural_parts : MsgParts
@@ -128,5 +126,5 @@ plural_parts =
     (named_arm category.One (part (TextPart (codes "and ")) (part NumberPart (part (TextPart (codes " more")) no_part)))
     (named_arm category.Other (part (TextPart (codes "all")) no_part) no_named_arm))) no_part
 
-abbrev pub plural_translation : ℤ → List Piece × RunEnd
-plural_translation n = row_run (Some plural_parts) (plural_message ∷ []) (number_env n)
+abbrev pub plural_translation : ℤ → Outcome
+plural_translation n = row_outcome (Some plural_parts) (plural_message ∷ []) (number_env n)

@@ -1,6 +1,6 @@
 //! What the definitions come to, for the tokenizer of a page. Each law is a contract with an empty body.
 
-ghost use Rattle.std.specs.Prelude.{◌≡◌, ◌+◌, ◌++◌, ◌∷◌, [], ℕ, IsTrue, List, Option, Some, Ok, Err, length, get_or};
+ghost use Rattle.std.specs.Prelude.{◌≡◌, ◌+◌, ◌++◌, ◌∷◌, [], ℕ, IsTrue, List, Option, Some, None, Ok, Err, length, get_or};
 ghost use Rattle.std.specs.Prelude.{replicate};
 ghost use Rattle.std.specs.Prelude.{pos, codes};
 ghost use Rattle.soy_base.specs.declared.code.Code.TheVariants as code;
@@ -33,8 +33,9 @@ ghost use Rattle.soy_meaning.specs.EscapedAt.{escaped_where, is_text_of};
 ghost use Rattle.soy_meaning.specs.Filled.{Filled, FillsHoles, IsBlockKind, IsFrameOf, filled_pieces, parts_of_filled};
 ghost use Rattle.soy_meaning.specs.FourPoints.{StartsAs};
 ghost use Rattle.soy_meaning.specs.Holes.{hole_count, holes_before};
-ghost use Rattle.soy_meaning.specs.Outcome as run_end;
-ghost use Rattle.soy_meaning.specs.Outcome.{Outcome, continued_by, gathered, gives_nothing};
+ghost use Rattle.soy_meaning.specs.Outcome as outcome;
+ghost use Rattle.soy_meaning.specs.Outcome.{Outcome, choices_of_outcome, continued_by, costs_of_outcome, gathered};
+ghost use Rattle.soy_meaning.specs.Outcome.{gives_nothing};
 ghost use Rattle.soy_meaning.specs.PageMachine.{page_machine};
 ghost use Rattle.soy_meaning.specs.Plan.{Plan};
 ghost use Rattle.soy_meaning.specs.PlanOfNodes.{kind_class, trees_plan};
@@ -45,6 +46,7 @@ ghost use Rattle.soy_meaning.specs.Rows.{ampersand_in_translation, block_in_attr
 ghost use Rattle.soy_meaning.specs.Rows.{optional_attribute};
 ghost use Rattle.soy_meaning.specs.Rows.{second_turn, second_uri_value, seventeen_states, site_at, sixteen_states};
 ghost use Rattle.soy_meaning.specs.RunRows.{attributes_block, block_pieces, block_twice, calls, input_pieces};
+ghost use Rattle.soy_meaning.specs.RunRows.{pieces_and_end};
 ghost use Rattle.soy_meaning.specs.RunRows.{plural_translation, source_plural};
 ghost use Rattle.soy_meaning.specs.Walk.{Walked, mixed_at, walk, walk_fault, walked};
 
@@ -133,19 +135,33 @@ pub fn law_rows()
     ensures seventeen_states { seventeen_states ≡ Err (walk_fault (site_at 0) code.States) }
 {}
 
-/// Rows that the checker computes: the pieces and the end that small templates give under data.
+/// Rows that the checker computes: the pieces and the end that small templates give under data, the costs before each
+/// piece and the end, and the choices.
 pub fn law_run_rows()
-    ensures block_twice { block_twice ≡ (block_pieces ++ block_pieces, run_end.WholeRun) }
-    ensures attributes_block { attributes_block ≡ (input_pieces, run_end.WholeRun) }
-    ensures calls_to_limit { calls (pos 100) ≡ (replicate 100 (page.Static (codes "a")), run_end.WholeRun) }
-    ensures calls_past_limit { calls (pos 101) ≡ (replicate 101 (page.Static (codes "a")), run_end.StopsAt (site_at 12)) }
-    ensures source_plural { source_plural (pos 1) ≡ (page.Static (codes "only") ∷ [], run_end.WholeRun) }
-    ensures source_default { source_plural (pos 3)
-        ≡ (page.Value (wrapped_text (codes "3") dir.Ltr) ∷ page.Static (codes " in all") ∷ [], run_end.WholeRun) }
-    ensures plural_translation { plural_translation (pos 1) ≡ (page.Static (codes "only") ∷ [], run_end.WholeRun) }
-    ensures plural_number { plural_translation (pos 2)
+    ensures block_twice { pieces_and_end block_twice ≡ (block_pieces ++ block_pieces, outcome.WholeRun) }
+    ensures block_costs { costs_of_outcome block_twice ≡ 1 ∷ 1 ∷ 0 ∷ 1 ∷ 1 ∷ 0 ∷ 0 ∷ [] }
+    ensures attributes_block { pieces_and_end attributes_block ≡ (input_pieces, outcome.WholeRun) }
+    ensures calls_to_limit { pieces_and_end (calls (pos 100))
+        ≡ (replicate 100 (page.Static (codes "a")), outcome.WholeRun) }
+    ensures calls_past_limit { pieces_and_end (calls (pos 101))
+        ≡ (replicate 101 (page.Static (codes "a")), outcome.StopsAt (site_at 12)) }
+    ensures call_costs { costs_of_outcome (calls (pos 1)) ≡ 3 ∷ 6 ∷ [] }
+    ensures call_choices { choices_of_outcome (calls (pos 1))
+        ≡ outcome.ArmTaken (Some 0) ∷ outcome.ArmTaken None ∷ [] }
+    ensures source_plural { pieces_and_end (source_plural (pos 1))
+        ≡ (page.Static (codes "only") ∷ [], outcome.WholeRun) }
+    ensures source_default { pieces_and_end (source_plural (pos 3))
+        ≡ (page.Value (wrapped_text (codes "3") dir.Ltr) ∷ page.Static (codes " in all") ∷ [], outcome.WholeRun) }
+    ensures source_choices { choices_of_outcome (source_plural (pos 3))
+        ≡ outcome.TextTaken outcome.SourceText ∷ outcome.ArmTaken (Some 1) ∷ [] }
+    ensures plural_translation { pieces_and_end (plural_translation (pos 1))
+        ≡ (page.Static (codes "only") ∷ [], outcome.WholeRun) }
+    ensures plural_number { pieces_and_end (plural_translation (pos 2))
         ≡ (
           page.Static (codes "and ") ∷ page.Value (wrapped_text (codes "1") dir.Ltr) ∷ page.Static (codes " more") ∷ [],
-          run_end.WholeRun,
+          outcome.WholeRun,
         ) }
+    ensures plural_costs { costs_of_outcome (plural_translation (pos 2)) ≡ 1 ∷ 0 ∷ 0 ∷ 0 ∷ [] }
+    ensures plural_choices { choices_of_outcome (plural_translation (pos 2))
+        ≡ outcome.TextTaken outcome.OwnTranslation ∷ outcome.ArmTaken (Some 1) ∷ [] }
 {}
