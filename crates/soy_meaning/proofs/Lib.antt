@@ -10,6 +10,8 @@ pub mod PointsAndHolds
 pub mod AddsPlaces
 pub mod FinePaths
 pub mod InnerFrames
+pub mod FewStates
+pub mod BuiltPlans
 pub mod Walks
 pub mod PageStates
 pub mod EscapedTexts
@@ -17,3 +19,4 @@ pub mod KeptForms
 pub mod Pages
 pub mod PagePlaces
 pub mod Outcomes
+pub mod ValueTexts

@@ -2,7 +2,7 @@
 use Rattle.std.proofs.Common.{◌≡◌, ◌+◌, ℕ, List, [], ◌++◌, refl, sym, ap, arith, append_assoc}
 use Rattle.std.proofs.lemmas.List.{append-nil}
 use Rattle.html_state.specs.Pieces.{Static, Value}
-use Rattle.soy_meaning.specs.Outcome.{Choice, Outcome, Ends, Gives, Spent, StopsAt, Whole, and_spent}
+use Rattle.soy_meaning.specs.Outcome.{Choice, Outcome, RunEnds, GivesPiece, Spent, StopsAt, WholeRun, and_spent}
 use Rattle.soy_meaning.specs.Outcome.{continued_by, gathered, gives_nothing, none_spent, spent_first}
 
 spent_is : (c d v w : ℕ) (k l : List Choice) → c ≡ d → v ≡ w → k ≡ l →
@@ -23,39 +23,39 @@ spent_joined a b c =
     (append_assoc a.choices b.choices c.choices)
 
 pub first_none : (o : Outcome) → spent_first none_spent o ≡ o
-first_none (Ends a end) = ap (λ s. Ends s end) (spent_none a)
-first_none (Gives a piece o) = ap (λ s. Gives s piece o) (spent_none a)
+first_none (RunEnds a end) = ap (λ s. RunEnds s end) (spent_none a)
+first_none (GivesPiece a piece o) = ap (λ s. GivesPiece s piece o) (spent_none a)
 
 pub first_twice : (a b : Spent) (o : Outcome) → spent_first a (spent_first b o) ≡ spent_first (and_spent a b) o
-first_twice a b (Ends c end) = ap (λ s. Ends s end) (sym (spent_joined a b c))
-first_twice a b (Gives c piece o) = ap (λ s. Gives s piece o) (sym (spent_joined a b c))
+first_twice a b (RunEnds c end) = ap (λ s. RunEnds s end) (sym (spent_joined a b c))
+first_twice a b (GivesPiece c piece o) = ap (λ s. GivesPiece s piece o) (sym (spent_joined a b c))
 
 pub first_followed : (a : Spent) (o rest : Outcome)
     → continued_by (spent_first a o) rest ≡ spent_first a (continued_by o rest)
-first_followed a (Ends b Whole) rest = sym (first_twice a b rest)
-first_followed a (Ends b (StopsAt call)) rest = refl
-first_followed a (Gives b piece o) rest = refl
+first_followed a (RunEnds b WholeRun) rest = sym (first_twice a b rest)
+first_followed a (RunEnds b (StopsAt call)) rest = refl
+first_followed a (GivesPiece b piece o) rest = refl
 
 pub followed_joined : (a b c : Outcome) → continued_by (continued_by a b) c ≡ continued_by a (continued_by b c)
-followed_joined (Ends s Whole) b c = first_followed s b c
-followed_joined (Ends s (StopsAt call)) b c = refl
-followed_joined (Gives s piece a) b c = ap (Gives s piece) (followed_joined a b c)
+followed_joined (RunEnds s WholeRun) b c = first_followed s b c
+followed_joined (RunEnds s (StopsAt call)) b c = refl
+followed_joined (GivesPiece s piece a) b c = ap (GivesPiece s piece) (followed_joined a b c)
 
 pub followed_nothing : (o : Outcome) → continued_by o gives_nothing ≡ o
-followed_nothing (Ends a Whole) = ap (λ s. Ends s Whole) (none_after a)
-followed_nothing (Ends a (StopsAt call)) = refl
-followed_nothing (Gives a piece o) = ap (Gives a piece) (followed_nothing o)
+followed_nothing (RunEnds a WholeRun) = ap (λ s. RunEnds s WholeRun) (none_after a)
+followed_nothing (RunEnds a (StopsAt call)) = refl
+followed_nothing (GivesPiece a piece o) = ap (GivesPiece a piece) (followed_nothing o)
 
 pub first_gathered : (text : List ℕ) (a : Spent) (o : Outcome) (next : List ℕ → Outcome) →
     gathered text (spent_first a o) next ≡ spent_first a (gathered text o next)
-first_gathered text a (Ends b Whole) next = sym (first_twice a b (next text))
-first_gathered text a (Ends b (StopsAt call)) next = refl
-first_gathered text a (Gives b (Static more) o) next = sym (first_twice a b (gathered (text ++ more) o next))
-first_gathered text a (Gives b (Value more) o) next = sym (first_twice a b (gathered (text ++ more) o next))
+first_gathered text a (RunEnds b WholeRun) next = sym (first_twice a b (next text))
+first_gathered text a (RunEnds b (StopsAt call)) next = refl
+first_gathered text a (GivesPiece b (Static more) o) next = sym (first_twice a b (gathered (text ++ more) o next))
+first_gathered text a (GivesPiece b (Value more) o) next = sym (first_twice a b (gathered (text ++ more) o next))
 
 pub gathered_followed : (text : List ℕ) (o rest : Outcome) (next : List ℕ → Outcome) →
     gathered text (continued_by o rest) next ≡ gathered text o (λ more. gathered more rest next)
-gathered_followed text (Ends a Whole) rest next = first_gathered text a rest next
-gathered_followed text (Ends a (StopsAt call)) rest next = refl
-gathered_followed text (Gives a (Static more) o) rest next = ap (spent_first a) (gathered_followed (text ++ more) o rest next)
-gathered_followed text (Gives a (Value more) o) rest next = ap (spent_first a) (gathered_followed (text ++ more) o rest next)
+gathered_followed text (RunEnds a WholeRun) rest next = first_gathered text a rest next
+gathered_followed text (RunEnds a (StopsAt call)) rest next = refl
+gathered_followed text (GivesPiece a (Static more) o) rest next = ap (spent_first a) (gathered_followed (text ++ more) o rest next)
+gathered_followed text (GivesPiece a (Value more) o) rest next = ap (spent_first a) (gathered_followed (text ++ more) o rest next)

@@ -44,7 +44,7 @@ use Rattle.html_state.proofs.PagePlaces.{page_place}
 use Rattle.html_state.proofs.PageSteps.{page_step, page_text_end, same_row}
 use Rattle.html_state.proofs.Pieces.{after_all-append}
 use Rattle.soy_meaning.specs.EscapedAt.{escaped_where}
-use Rattle.soy_meaning.specs.Filled.{Filled, nothing_more, text_before, value_before, frame_before, parts_of_filled}
+use Rattle.soy_meaning.specs.Filled.{Filled, filled_end, text_before, value_before, frame_before, parts_of_filled}
 use Rattle.soy_meaning.specs.Filled.{value_form, filled_pieces, IsBlockKind, IsFrameOf, FillsHoles}
 use Rattle.soy_meaning.specs.FourPoints.{StartsAs, takes_classes}
 use Rattle.soy_meaning.specs.PageMachine.{page_machine}
@@ -347,7 +347,7 @@ module _ (context : Dir) where
       (same_placing_alone (placing own) (placing walk) classes (page_place None own walk follows) takes) form
 
   pub pieces_follow : (f : Filled) → FollowsFilled f
-  pieces_follow nothing_more around kind so_far own page walk last fills reads own_follows page_follows settled fine leads =
+  pieces_follow filled_end around kind so_far own page walk last fills reads own_follows page_follows settled fine leads =
       let same : walk ≡ last = ok_same walk last leads in
       inr (record {
         more = [];

@@ -31,7 +31,7 @@ module _ {S : Type 0} (m : Machine S) where
   fits_mono (Some AtMeet) X Y inside g = few_mono m 16 X Y inside g
 
   -- what stands at a point of a part stands there in the whole, and the other way
-  text_from : (at : Site) (text : List ℕ) (P : S → Type 0) (a : List PathPart) (s t : S) → LeadsTo (StaticText at text) a Here → state_after_parts m a s ≡ Ok t → P s → P t
+  pub text_from : (at : Site) (text : List ℕ) (P : S → Type 0) (a : List PathPart) (s t : S) → LeadsTo (StaticText at text) a Here → state_after_parts m a s ≡ Ok t → P s → P t
   text_from at text P a s t to_text h k = subst P (ok_same s t h) k
 
   pub hole_from : (at : Site) (classes : List ValueClass) (P : S → Type 0) (a : List PathPart) (s t : S) → LeadsTo (Hole at classes) a Here → state_after_parts m a s ≡ Ok t → P s → P t
@@ -63,10 +63,10 @@ module _ {S : Type 0} (m : Machine S) where
   pub arms_lead : (at : Site) (p : Plan) (a : List PathPart) (x : Address) → LeadsTo (Meet at p) a (Inside x) → LeadsTo p a x
   arms_lead at p a x (in_arms l) = l
 
-  meet_path : (at : Site) (p : Plan) (a : List PathPart) → LeadsTo (Meet at p) a Here → IsPath p a
+  pub meet_path : (at : Site) (p : Plan) (a : List PathPart) → LeadsTo (Meet at p) a Here → IsPath p a
   meet_path at p a (to_meet y) = y
 
-  head_path : (at : Site) (p : Plan) (a : List PathPart) → LeadsTo (Loop at p) a Here → IsPath (Loop at p) a
+  pub head_path : (at : Site) (p : Plan) (a : List PathPart) → LeadsTo (Loop at p) a Here → IsPath (Loop at p) a
   head_path at p a (to_head y) = y
 
   pub body_stands : (at : Site) (p : Plan) (P : S → Type 0) (x : Address) (a : List PathPart) (s t : S) → P s → LeadsTo (Loop at p) a (Inside x) → state_after_parts m a s ≡ Ok t → StandsAt m p (StandsAfter m (Loop at p) P) x t

@@ -10,9 +10,9 @@ use Rattle.soy_meaning.specs.FourPoints.{AcceptedPaths, StartsAs}
 use Rattle.soy_meaning.specs.Holes.{hole_count, holes_before}
 use Rattle.soy_meaning.specs.Machine.{ComparesEqual, Machine}
 use Rattle.soy_meaning.specs.Plan.{Site, Plan, Frame, in_turn}
-use Rattle.soy_meaning.specs.Points.{Address, AtHole, StandsAt, frame_at, point_at}
+use Rattle.soy_meaning.specs.Points.{Address, AtHole, Point, StandsAt, frame_at, point_at}
 use Rattle.soy_meaning.specs.PathParts.{StandsAfter}
-use Rattle.soy_meaning.specs.States.{IsMember}
+use Rattle.soy_meaning.specs.States.{AtMost, IsMember}
 use Rattle.soy_meaning.specs.Walk.{Walked, walk, walked}
 use Rattle.soy_meaning.specs.AcceptedTrees.{AcceptedTrees, walk_trees}
 use Rattle.soy_meaning.specs.PageMachine.{page_machine}
@@ -22,7 +22,9 @@ use Rattle.soy_tree.specs.MessageParts.{MsgParts}
 use Rattle.soy_tree.specs.Nodes.{Message}
 use Rattle.soy_tree.specs.Templates.{Declared, declared, param_scope}
 use Rattle.soy_tree.specs.Trees.{Tree}
-use Rattle.soy_meaning.proofs.InnerFrames.{PlacedWithin, inner_places}
+use Rattle.soy_meaning.proofs.BuiltPlans.{trees_built}
+use Rattle.soy_meaning.proofs.FewStates.{built_at, few_after, few_at, start_few}
+use Rattle.soy_meaning.proofs.InnerFrames.{inner_holds, PlacedWithin, inner_places}
 use Rattle.soy_meaning.proofs.PageStates.{page_compares}
 use Rattle.soy_meaning.proofs.Holds.{Holds}
 use Rattle.soy_meaning.proofs.Sound.{sound}
@@ -68,3 +70,23 @@ pub trees_walked : (translation : Message → Option MsgParts) (trees : List Tre
     → (v : Walked State) × (walk_trees translation trees ≡ Ok v)
 trees_walked translation trees g =
     complete page_machine page_compares (trees_plan translation trees) (walked [] []) tt (trees_hold translation (declared trees) (declared trees) (λ s. IsMember s []) g)
+
+-- ---- at most 16 states at each point
+
+pub few_states : (translation : Message → Option MsgParts) (trees : List Tree) → AcceptedTrees translation trees →
+    (y : Address) (kind : Kind) (q : Plan) → frame_at (trees_plan translation trees) y ≡ Some (kind, q) →
+    (x : Address) (pt : Point) → point_at q x ≡ Some pt → AtMost 16 (StandsAt page_machine q (StartsAs page_machine kind) x)
+few_states translation trees g y kind q within x pt e =
+    let whole : Holds page_machine (trees_plan translation trees) (λ s. IsMember s []) = trees_hold translation (declared trees) (declared trees) (λ s. IsMember s []) g in
+    let inner : Holds page_machine q (StartsAs page_machine kind) = inner_holds page_machine (trees_plan translation trees) (λ s. IsMember s []) whole y (kind, q) within in
+    few_at page_machine q (built_at (trees_plan translation trees) (trees_built translation (declared trees) (declared trees)) y (kind, q) within)
+    (StartsAs page_machine kind) inner (start_few page_machine kind) x pt e
+
+pub few_ends : (translation : Message → Option MsgParts) (trees : List Tree) → AcceptedTrees translation trees →
+    (y : Address) (kind : Kind) (q : Plan) → frame_at (trees_plan translation trees) y ≡ Some (kind, q) →
+    AtMost 16 (StandsAfter page_machine q (StartsAs page_machine kind))
+few_ends translation trees g y kind q within =
+    let whole : Holds page_machine (trees_plan translation trees) (λ s. IsMember s []) = trees_hold translation (declared trees) (declared trees) (λ s. IsMember s []) g in
+    let inner : Holds page_machine q (StartsAs page_machine kind) = inner_holds page_machine (trees_plan translation trees) (λ s. IsMember s []) whole y (kind, q) within in
+    few_after page_machine q (built_at (trees_plan translation trees) (trees_built translation (declared trees) (declared trees)) y (kind, q) within)
+    (StartsAs page_machine kind) inner (start_few page_machine kind)

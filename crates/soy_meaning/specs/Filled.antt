@@ -20,7 +20,7 @@ use Rattle.soy_meaning.specs.PathParts.{PathPart, StaticPart, HolePart, IsPath}
 use Rattle.soy_meaning.specs.States.{IsMember}
 
 pub data Filled : Type 0 where
-  nothing_more : Filled
+  filled_end : Filled
   text_before : List ℕ → Filled → Filled
   -- the classes of the hole, and the class and the text of the value
   value_before : List ValueClass → ValueClass → List ℕ → Filled → Filled
@@ -28,7 +28,7 @@ pub data Filled : Type 0 where
   frame_before : List ValueClass → Kind → Filled → Filled → Filled
 
 abbrev pub parts_of_filled : Filled → List PathPart
-parts_of_filled nothing_more = []
+parts_of_filled filled_end = []
 parts_of_filled (text_before text f) = StaticPart text ∷ parts_of_filled f
 parts_of_filled (value_before classes value text f) = HolePart classes ∷ parts_of_filled f
 parts_of_filled (frame_before classes kind inner f) = HolePart classes ∷ parts_of_filled f
@@ -40,7 +40,7 @@ value_form (Err code) value text context = []
 
 -- the pieces of a frame of a kind, after those so far
 abbrev pub filled_pieces : Dir → Filled → Kind → List Piece → List Piece
-filled_pieces context nothing_more kind so_far = so_far
+filled_pieces context filled_end kind so_far = so_far
 filled_pieces context (text_before text f) kind so_far = filled_pieces context f kind (so_far ++ (Static text ∷ []))
 filled_pieces context (value_before classes value text f) kind so_far =
     filled_pieces context f kind (so_far ++ (Value (value_form (placing_after kind so_far) value text context) ∷ []))
@@ -60,7 +60,7 @@ pub record IsFrameOf (kind : Kind) (parts : List PathPart) : Type 0 where
 
 -- each value is one of its hole's classes, and each frame is of a block kind among them and accepted
 abbrev pub FillsHoles : Filled → Type 0
-FillsHoles nothing_more = Unit {0}
+FillsHoles filled_end = Unit {0}
 FillsHoles (text_before text f) = FillsHoles f
 FillsHoles (value_before classes value text f) = IsMember value classes × IsTrue (is_text_of value text) × FillsHoles f
 FillsHoles (frame_before classes kind inner f) =

@@ -14,3 +14,7 @@ pub mod AcceptedTrees
 pub mod Filled
 pub mod Rows
 pub mod Outcome
+pub mod Giving
+pub mod Branch
+pub mod Pieces
+pub mod RunRows

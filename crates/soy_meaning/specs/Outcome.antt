@@ -1,16 +1,16 @@
 -- What a run gives: its pieces, each with what was spent before it, and its end.
 --
--- The cost is the number of nodes of expressions that were valued since the piece before, and the choices are those made
--- since then: which arm, how many turns, which text of a message. The work is a number of steps, on which a proof that a
--- run ends may lean. A run ends whole, or stops at a call that would nest too deep, after which nothing is valued.
--- Example: `{if $x}a{/if}b` with `$x` true gives `a` with the cost 1 and the choice of the first arm, and then `b` with
--- the cost 0.
+-- The cost is the number of nodes of expressions that were valued since the piece before, and the choices are those
+-- made since then: which arm, how many turns, which text of a message. The work is a number of steps, on which a proof
+-- that a run ends may lean. A run ends whole, or stops at a call that would nest too deep, after which nothing is
+-- valued. Example: `{if $x}a{/if}b` with `$x` true gives `a` with the cost 1 and the choice of the first arm, and then
+-- `b` with the cost 0.
 use Rattle.std.specs.Prelude.{ℕ, ◌+◌, List, [], ◌∷◌, ◌++◌, Option}
 use Rattle.html_state.specs.Pieces.{Piece, Static, Value}
 use Rattle.soy_meaning.specs.Plan.{Site}
 
 pub data RunEnd : Type 0 where
-  Whole : RunEnd
+  WholeRun : RunEnd
   StopsAt : Site → RunEnd
 
 pub data MessageText : Type 0 where
@@ -30,8 +30,8 @@ pub record Spent : Type 0 where
   pub choices : List Choice
 
 pub data Outcome : Type 0 where
-  Ends : Spent → RunEnd → Outcome
-  Gives : Spent → Piece → Outcome → Outcome
+  RunEnds : Spent → RunEnd → Outcome
+  GivesPiece : Spent → Piece → Outcome → Outcome
 
 abbrev pub none_spent : Spent
 none_spent = record { cost = 0; work = 0; choices = [] }
@@ -41,37 +41,42 @@ abbrev pub and_spent : Spent → Spent → Spent
 and_spent a b = record { cost = a.cost + b.cost; work = a.work + b.work; choices = a.choices ++ b.choices }
 
 abbrev pub gives_nothing : Outcome
-gives_nothing = Ends none_spent Whole
+gives_nothing = RunEnds none_spent WholeRun
 
 -- with more spent at first
 abbrev pub spent_first : Spent → Outcome → Outcome
-spent_first a (Ends b end) = Ends (and_spent a b) end
-spent_first a (Gives b piece rest) = Gives (and_spent a b) piece rest
+spent_first a (RunEnds b end) = RunEnds (and_spent a b) end
+spent_first a (GivesPiece b piece rest) = GivesPiece (and_spent a b) piece rest
 
 -- the one, and where it ends whole the other
 abbrev pub continued_by : Outcome → Outcome → Outcome
-continued_by (Ends a Whole) rest = spent_first a rest
-continued_by (Ends a (StopsAt call)) rest = Ends a (StopsAt call)
-continued_by (Gives a piece o) rest = Gives a piece (continued_by o rest)
+continued_by (RunEnds a WholeRun) rest = spent_first a rest
+continued_by (RunEnds a (StopsAt call)) rest = RunEnds a (StopsAt call)
+continued_by (GivesPiece a piece o) rest = GivesPiece a piece (continued_by o rest)
 
--- the bytes of the pieces of an outcome, gathered into a text behind this one, and what is given that text; a stop is its
--- end too
+-- the bytes of the pieces of an outcome, gathered into a text behind this one, and what is given that text; a stop is
+-- its end too
 abbrev pub gathered : List ℕ → Outcome → (List ℕ → Outcome) → Outcome
-gathered text (Ends a Whole) next = spent_first a (next text)
-gathered text (Ends a (StopsAt call)) next = Ends a (StopsAt call)
-gathered text (Gives a (Static more) o) next = spent_first a (gathered (text ++ more) o next)
-gathered text (Gives a (Value more) o) next = spent_first a (gathered (text ++ more) o next)
+gathered text (RunEnds a WholeRun) next = spent_first a (next text)
+gathered text (RunEnds a (StopsAt call)) next = RunEnds a (StopsAt call)
+gathered text (GivesPiece a (Static more) o) next = spent_first a (gathered (text ++ more) o next)
+gathered text (GivesPiece a (Value more) o) next = spent_first a (gathered (text ++ more) o next)
 
 -- ---- what an outcome is made of
 
 abbrev pub pieces_of_outcome : Outcome → List Piece
-pieces_of_outcome (Ends a end) = []
-pieces_of_outcome (Gives a piece o) = piece ∷ pieces_of_outcome o
+pieces_of_outcome (RunEnds a end) = []
+pieces_of_outcome (GivesPiece a piece o) = piece ∷ pieces_of_outcome o
 
 abbrev pub end_of_outcome : Outcome → RunEnd
-end_of_outcome (Ends a end) = end
-end_of_outcome (Gives a piece o) = end_of_outcome o
+end_of_outcome (RunEnds a end) = end
+end_of_outcome (GivesPiece a piece o) = end_of_outcome o
 
 abbrev pub choices_of_outcome : Outcome → List Choice
-choices_of_outcome (Ends a end) = a.choices
-choices_of_outcome (Gives a piece o) = a.choices ++ choices_of_outcome o
+choices_of_outcome (RunEnds a end) = a.choices
+choices_of_outcome (GivesPiece a piece o) = a.choices ++ choices_of_outcome o
+
+-- the cost up to and with each piece, from the one before it, and the cost of what is valued after the last
+abbrev pub costs_of_outcome : Outcome → List ℕ
+costs_of_outcome (RunEnds a end) = a.cost ∷ []
+costs_of_outcome (GivesPiece a piece o) = a.cost ∷ costs_of_outcome o

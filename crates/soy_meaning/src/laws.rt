@@ -1,8 +1,12 @@
 //! What the definitions come to, for the tokenizer of a page. Each law is a contract with an empty body.
 
-ghost use Rattle.std.specs.Prelude.{◌≡◌, ◌+◌, ◌++◌, ◌∷◌, [], ℕ, IsTrue, List, Option, Some, Ok, Err, length, get_or};
+ghost use Rattle.std.specs.Prelude.{◌≡◌, ◌+◌, ◌++◌, ◌∷◌, [], ℕ, IsTrue, List, Option, Some, None, Ok, Err, length, get_or};
+ghost use Rattle.std.specs.Prelude.{replicate};
+ghost use Rattle.std.specs.Prelude.{pos, codes};
 ghost use Rattle.soy_base.specs.declared.code.Code.TheVariants as code;
+ghost use Rattle.soy_base.specs.declared.direction.Dir.TheVariants as dir;
 ghost use Rattle.soy_base.specs.declared.direction.Dir.{Dir};
+ghost use Rattle.bidi_text.specs.Wrap.{wrapped_text};
 ghost use Rattle.soy_base.specs.declared.kind.Kind.{Kind};
 ghost use Rattle.soy_base.specs.declared.place.Place.TheVariants as place;
 ghost use Rattle.soy_base.specs.declared.place.Place.{Place};
@@ -11,6 +15,7 @@ ghost use Rattle.soy_base.specs.declared.place.ValueClass.{ValueClass};
 ghost use Rattle.html_state.specs.AfterValue.{after_value};
 ghost use Rattle.html_state.specs.Follows.{Follows};
 ghost use Rattle.html_state.specs.Leads.{Leads};
+ghost use Rattle.html_state.specs.Pieces as page;
 ghost use Rattle.html_state.specs.Pieces.{after_pieces, placing_after};
 ghost use Rattle.html_state.specs.StatePlacing.{placing};
 ghost use Rattle.html_state.specs.TakesClass.{takes_class};
@@ -20,18 +25,29 @@ ghost use Rattle.html_state.specs.declared.row.Tag.{Tag};
 ghost use Rattle.soy_tree.specs.MessageParts.{MsgParts};
 ghost use Rattle.soy_tree.specs.Nodes.{Message};
 ghost use Rattle.soy_tree.specs.Trees.{Tree};
+ghost use Rattle.soy_tree.specs.Val.{value_text};
+ghost use Rattle.soy_tree.specs.Values.{Value};
+ghost use Rattle.soy_meaning.specs.Giving.{value_class};
 ghost use Rattle.soy_meaning.specs.AcceptedTrees.{AcceptedTrees, walk_trees};
 ghost use Rattle.soy_meaning.specs.EscapedAt.{escaped_where, is_text_of};
 ghost use Rattle.soy_meaning.specs.Filled.{Filled, FillsHoles, IsBlockKind, IsFrameOf, filled_pieces, parts_of_filled};
 ghost use Rattle.soy_meaning.specs.FourPoints.{StartsAs};
 ghost use Rattle.soy_meaning.specs.Holes.{hole_count, holes_before};
-ghost use Rattle.soy_meaning.specs.Outcome.{Outcome, continued_by, gathered, gives_nothing};
+ghost use Rattle.soy_meaning.specs.Outcome as outcome;
+ghost use Rattle.soy_meaning.specs.Outcome.{Outcome, choices_of_outcome, continued_by, costs_of_outcome, gathered};
+ghost use Rattle.soy_meaning.specs.Outcome.{gives_nothing};
 ghost use Rattle.soy_meaning.specs.PageMachine.{page_machine};
 ghost use Rattle.soy_meaning.specs.Plan.{Plan};
-ghost use Rattle.soy_meaning.specs.PlanOfNodes.{kind_class};
-ghost use Rattle.soy_meaning.specs.Points.{Address, AtHole, LeadsTo, StandsAt, frame_at, point_at};
-ghost use Rattle.soy_meaning.specs.Rows.{ampersand_in_translation, block_in_attribute, mixed_places, optional_attribute};
+ghost use Rattle.soy_meaning.specs.PlanOfNodes.{kind_class, trees_plan};
+ghost use Rattle.soy_meaning.specs.PathParts.{StandsAfter};
+ghost use Rattle.soy_meaning.specs.States.{AtMost};
+ghost use Rattle.soy_meaning.specs.Points.{Address, AtHole, LeadsTo, Point, StandsAt, frame_at, point_at};
+ghost use Rattle.soy_meaning.specs.Rows.{ampersand_in_translation, block_in_attribute, mixed_places};
+ghost use Rattle.soy_meaning.specs.Rows.{optional_attribute};
 ghost use Rattle.soy_meaning.specs.Rows.{second_turn, second_uri_value, seventeen_states, site_at, sixteen_states};
+ghost use Rattle.soy_meaning.specs.RunRows.{attributes_block, block_pieces, block_twice, calls, input_pieces};
+ghost use Rattle.soy_meaning.specs.RunRows.{pieces_and_end};
+ghost use Rattle.soy_meaning.specs.RunRows.{plural_translation, source_plural};
 ghost use Rattle.soy_meaning.specs.Walk.{Walked, mixed_at, walk, walk_fault, walked};
 
 /// The escaped form of a value at the place that a state gives, and then the mark that the value sets, lead to the
@@ -40,6 +56,11 @@ pub fn law_hole()
     ensures { (state : State) (class : ValueClass) (text : List ℕ) (context : Dir) →
         IsTrue (takes_class (placing state) class) → IsTrue (is_text_of class text) →
         (out : List ℕ) × (escaped_where (placing state) class text context ≡ Some out) × Leads state out }
+{}
+
+/// The text of a value is one that its class has, so that what `law_hole` says holds of each printed value.
+pub fn law_value_texts()
+    ensures { (v : Value) → IsTrue (is_text_of (value_class v) (value_text v)) }
 {}
 
 /// The walk over trees meets no fault exactly where what is demanded of all paths holds of each frame. Then the place
@@ -55,6 +76,18 @@ pub fn law_walk()
         (x : Address) (classes : List ValueClass) → point_at q x ≡ Some (AtHole classes) →
         (t : State) → StandsAt page_machine q (StartsAs page_machine kind) x t →
         (d : Place) → placing t ≡ Takes (get_or new (holes_before p y + holes_before q x) d)) }
+{}
+
+/// The demands are made where arms and turns meet, and hold everywhere: at each point of an accepted frame, and at its
+/// end, at most 16 different states stand.
+pub fn law_few_states()
+    ensures points { (translation : Message → Option MsgParts) (trees : List Tree) → AcceptedTrees translation trees →
+        (y : Address) (kind : Kind) (q : Plan) → frame_at (trees_plan translation trees) y ≡ Some (kind, q) →
+        (x : Address) (point : Point) → point_at q x ≡ Some point →
+        AtMost 16 (StandsAt page_machine q (StartsAs page_machine kind) x) }
+    ensures ends { (translation : Message → Option MsgParts) (trees : List Tree) → AcceptedTrees translation trees →
+        (y : Address) (kind : Kind) (q : Plan) → frame_at (trees_plan translation trees) y ≡ Some (kind, q) →
+        AtMost 16 (StandsAfter page_machine q (StartsAs page_machine kind)) }
 {}
 
 /// A frame that stands in a hole, at any depth, keeps what ties the page's state to the walk's: where its hole takes it
@@ -100,4 +133,35 @@ pub fn law_rows()
     ensures ampersand_in_translation { ampersand_in_translation ≡ Err (walk_fault (site_at 10) code.Ampersand) }
     ensures sixteen_states { sixteen_states ≡ Err (walk_fault (site_at 100) code.EndState) }
     ensures seventeen_states { seventeen_states ≡ Err (walk_fault (site_at 0) code.States) }
+{}
+
+/// Rows that the checker computes: the pieces and the end that small templates give under data, the costs before each
+/// piece and the end, and the choices.
+pub fn law_run_rows()
+    ensures block_twice { pieces_and_end block_twice ≡ (block_pieces ++ block_pieces, outcome.WholeRun) }
+    ensures block_costs { costs_of_outcome block_twice ≡ 1 ∷ 1 ∷ 0 ∷ 1 ∷ 1 ∷ 0 ∷ 0 ∷ [] }
+    ensures attributes_block { pieces_and_end attributes_block ≡ (input_pieces, outcome.WholeRun) }
+    ensures calls_to_limit { pieces_and_end (calls (pos 100))
+        ≡ (replicate 100 (page.Static (codes "a")), outcome.WholeRun) }
+    ensures calls_past_limit { pieces_and_end (calls (pos 101))
+        ≡ (replicate 101 (page.Static (codes "a")), outcome.StopsAt (site_at 12)) }
+    ensures call_costs { costs_of_outcome (calls (pos 1)) ≡ 3 ∷ 6 ∷ [] }
+    ensures call_choices { choices_of_outcome (calls (pos 1))
+        ≡ outcome.ArmTaken (Some 0) ∷ outcome.ArmTaken None ∷ [] }
+    ensures source_plural { pieces_and_end (source_plural (pos 1))
+        ≡ (page.Static (codes "only") ∷ [], outcome.WholeRun) }
+    ensures source_default { pieces_and_end (source_plural (pos 3))
+        ≡ (page.Value (wrapped_text (codes "3") dir.Ltr) ∷ page.Static (codes " in all") ∷ [], outcome.WholeRun) }
+    ensures source_choices { choices_of_outcome (source_plural (pos 3))
+        ≡ outcome.TextTaken outcome.SourceText ∷ outcome.ArmTaken (Some 1) ∷ [] }
+    ensures plural_translation { pieces_and_end (plural_translation (pos 1))
+        ≡ (page.Static (codes "only") ∷ [], outcome.WholeRun) }
+    ensures plural_number { pieces_and_end (plural_translation (pos 2))
+        ≡ (
+          page.Static (codes "and ") ∷ page.Value (wrapped_text (codes "1") dir.Ltr) ∷ page.Static (codes " more") ∷ [],
+          outcome.WholeRun,
+        ) }
+    ensures plural_costs { costs_of_outcome (plural_translation (pos 2)) ≡ 1 ∷ 0 ∷ 0 ∷ 0 ∷ [] }
+    ensures plural_choices { choices_of_outcome (plural_translation (pos 2))
+        ≡ outcome.TextTaken outcome.OwnTranslation ∷ outcome.ArmTaken (Some 1) ∷ [] }
 {}

@@ -1,0 +1,60 @@
+use Rattle.std.proofs.Common.{refl}
+use Rattle.std.specs.Fmt.{digits}
+use Rattle.soy_meaning.specs.Pieces.{called_within}
+use Rattle.soy_meaning.proofs.laws.law_run_rows.Goals as goal
+
+pub returns-clause-block_twice : goal.returns-clause-block_twice
+unfolding called_within
+returns-clause-block_twice c = refl
+
+pub returns-clause-block_costs : goal.returns-clause-block_costs
+unfolding called_within
+returns-clause-block_costs c = refl
+
+pub returns-clause-attributes_block : goal.returns-clause-attributes_block
+unfolding called_within
+returns-clause-attributes_block c = refl
+
+pub returns-clause-calls_to_limit : goal.returns-clause-calls_to_limit
+unfolding called_within
+returns-clause-calls_to_limit c = refl
+
+pub returns-clause-calls_past_limit : goal.returns-clause-calls_past_limit
+unfolding called_within
+returns-clause-calls_past_limit c = refl
+
+pub returns-clause-call_costs : goal.returns-clause-call_costs
+unfolding called_within
+returns-clause-call_costs c = refl
+
+pub returns-clause-call_choices : goal.returns-clause-call_choices
+unfolding called_within
+returns-clause-call_choices c = refl
+
+pub returns-clause-source_plural : goal.returns-clause-source_plural
+unfolding called_within
+returns-clause-source_plural c = refl
+
+pub returns-clause-source_default : goal.returns-clause-source_default
+unfolding called_within digits
+returns-clause-source_default c = refl
+
+pub returns-clause-source_choices : goal.returns-clause-source_choices
+unfolding called_within
+returns-clause-source_choices c = refl
+
+pub returns-clause-plural_translation : goal.returns-clause-plural_translation
+unfolding called_within
+returns-clause-plural_translation c = refl
+
+pub returns-clause-plural_number : goal.returns-clause-plural_number
+unfolding called_within digits
+returns-clause-plural_number c = refl
+
+pub returns-clause-plural_costs : goal.returns-clause-plural_costs
+unfolding called_within
+returns-clause-plural_costs c = refl
+
+pub returns-clause-plural_choices : goal.returns-clause-plural_choices
+unfolding called_within
+returns-clause-plural_choices c = refl

@@ -1,0 +1,130 @@
+-- Worked rows: what small templates give under data, which the checker computes.
+--
+-- Each row is one template of kind html, `m` of the namespace `t`, with its body, the translation that each message
+-- has, and the variables. Example: the body `{let $b kind="html"}<i>{$x}</i>{/let}{$b}{$b}` with x `q` gives the pieces
+-- of the block twice.
+use Rattle.std.specs.Prelude.{ℕ, ℤ, pos, Bool, false, ◌==◌, List, [], ◌∷◌, Option, Some, None}
+use Rattle.std.specs.Prelude.{if◌then◌else◌, codes}
+use Rattle.soy_base.specs.declared.direction.Dir.TheVariants as dir
+use Rattle.soy_base.specs.declared.kind.Kind.TheVariants as kind
+use Rattle.plural_rules.specs.declared.category.Category.{Category}
+use Rattle.plural_rules.specs.declared.category.Category.TheVariants as category
+use Rattle.bidi_text.specs.Wrap.{wrapped_text}
+use Rattle.html_state.specs.Pieces.{Piece, Static, Value}
+use Rattle.soy_tree.specs.declared.expr.BinaryOp.TheVariants as op
+use Rattle.soy_tree.specs.Types.{IntType}
+use Rattle.soy_tree.specs.Values.{IntValue, StringValue}
+use Rattle.soy_tree.specs.Val.{Known}
+use Rattle.soy_tree.specs.Expressions.{Binary, IntLiteral}
+use Rattle.soy_tree.specs.Nodes.{Node, If, LetBlock, Call, MessageNode, no_node, node, no_otherwise, no_arm, arm}
+use Rattle.soy_tree.specs.Nodes.{no_argument, argument, Plain, message, no_fallback, Parts, Plural, no_plural_case}
+use Rattle.soy_tree.specs.Nodes.{plural_case}
+use Rattle.soy_tree.specs.MessageParts.{MsgParts, NumberPart, PluralPart, TextPart, no_exact_arm, exact_arm}
+use Rattle.soy_tree.specs.MessageParts.{no_named_arm}
+use Rattle.soy_tree.specs.MessageParts.{named_arm, no_part, part}
+use Rattle.soy_tree.specs.Templates.{Declared}
+use Rattle.soy_meaning.specs.Giving.{RunEnv}
+use Rattle.soy_meaning.specs.Outcome.{Outcome, RunEnd, end_of_outcome, pieces_of_outcome}
+use Rattle.soy_meaning.specs.Pieces.{template_run}
+use Rattle.soy_meaning.specs.Rows.{all_nodes, print_node, row_param, span_at, text_node, variable}
+
+abbrev pub row_template : List Node → Declared
+row_template body = record {
+  file = 0;
+  namespace = codes "t";
+  template = record {
+    name = codes "m";
+    kind = kind.Html;
+    private = false;
+    params = row_param (codes "n", IntType) ∷ [];
+    body = all_nodes body;
+    span = span_at 0;
+  };
+}
+
+-- the rule one of English: the number 1
+abbrev pub one_or_other : Bool → ℤ → Category
+one_or_other ordinal (pos n) = if n == 1 then category.One else category.Other
+one_or_other ordinal n = category.Other
+
+abbrev pub row_outcome : Option MsgParts → List Node → RunEnv → Outcome
+row_outcome translation body env =
+    let d : Declared = row_template body in
+    template_run (record {
+      file = 0;
+      namespace = [];
+      params = [];
+      declared = d ∷ [];
+      translation = λ m. translation;
+      category = one_or_other;
+      direction = dir.Ltr;
+    }) d env
+
+abbrev pub pieces_and_end : Outcome → List Piece × RunEnd
+pieces_and_end o = (pieces_of_outcome o, end_of_outcome o)
+
+abbrev pub text_env : List ℕ → List ℕ → RunEnv
+text_env name text = (name, Known (StringValue text)) ∷ []
+
+abbrev pub number_env : ℤ → RunEnv
+number_env n = (codes "n", Known (IntValue n)) ∷ []
+
+-- ---- blocks
+
+-- `{let $b kind="html"}<i>{$x}</i>{/let}{$b}{$b}`, with x `q`
+abbrev pub block_twice : Outcome
+block_twice = row_outcome None
+    (LetBlock (codes "b") kind.Html
+    (all_nodes (text_node 0 (codes "<i>") ∷ print_node 0 (codes "x") ∷ text_node 0 (codes "</i>") ∷ [])) (span_at 0)
+    ∷ print_node 0 (codes "b") ∷ print_node 0 (codes "b") ∷ []) (text_env (codes "x") (codes "q"))
+
+abbrev pub block_pieces : List Piece
+block_pieces = Static (codes "<i>") ∷ Value (wrapped_text (codes "q") dir.Ltr) ∷ Static (codes "</i>") ∷ []
+
+-- `{let $b kind="attributes"}class="{$k}" disabled{/let}<input {$b}>`, with k `a"b`
+abbrev pub attributes_block : Outcome
+attributes_block = row_outcome None
+    (LetBlock (codes "b") kind.Attributes
+    (all_nodes (text_node 0 (codes "class=\"") ∷ print_node 0 (codes "k") ∷ text_node 0 (codes "\" disabled") ∷ []))
+    (span_at 0)
+    ∷ text_node 0 (codes "<input ") ∷ print_node 0 (codes "b") ∷ text_node 0 (codes ">") ∷ [])
+    (text_env (codes "k") (codes "a\"b"))
+
+abbrev pub input_pieces : List Piece
+input_pieces =
+    Static (codes "<input ") ∷ Static (codes "class=\"") ∷ Value (codes "a&quot;b") ∷ Static (codes "\" disabled")
+    ∷ Static (codes ">") ∷ []
+
+-- ---- calls
+
+-- `{if $n > 0}a{call m}{param n: $n - 1 /}{/call}{/if}`, whose call is at offset 12
+abbrev pub calls : ℤ → Outcome
+calls n =
+    row_outcome None
+    (If (arm (Binary op.Gt (variable 4 (codes "n")) (IntLiteral (pos 0) (span_at 9)) (span_at 4))
+    (node (text_node 11 (codes "a")) (node (Call (codes "m") false (argument (codes "n")
+    (Plain (Binary op.Sub (variable 30 (codes "n")) (IntLiteral (pos 1) (span_at 35)) (span_at 30))) (span_at 20)
+    no_argument) (span_at 12)) no_node)) no_arm) no_otherwise (span_at 0) ∷ []) (number_env n)
+
+-- ---- messages
+
+-- `{msg desc="d"}{plural $n offset="1"}{case 1}only{default}{$n} in all{/plural}{/msg}`
+abbrev pub plural_message : Node
+plural_message =
+    MessageNode (message (codes "d") [] (Plural (variable 0 (codes "n")) 1
+    (plural_case (pos 1) (Parts (all_nodes (text_node 0 (codes "only") ∷ []))) no_plural_case)
+    (Parts (all_nodes (print_node 0 (codes "n") ∷ text_node 0 (codes " in all") ∷ [])))) (span_at 0))
+    no_fallback (span_at 0)
+
+abbrev pub source_plural : ℤ → Outcome
+source_plural n = row_outcome None (plural_message ∷ []) (number_env n)
+
+-- `{N, plural, offset:1 =1 {only} one {and # more} other {all}}`
+abbrev pub plural_parts : MsgParts
+plural_parts =
+    part (PluralPart false (codes "N") 1 (exact_arm (pos 1) (part (TextPart (codes "only")) no_part) no_exact_arm)
+    (named_arm category.One (part (TextPart (codes "and ")) (part NumberPart (part (TextPart (codes " more")) no_part)))
+    (named_arm category.Other (part (TextPart (codes "all")) no_part) no_named_arm))) no_part
+
+abbrev pub plural_translation : ℤ → Outcome
+plural_translation n = row_outcome (Some plural_parts) (plural_message ∷ []) (number_env n)
