@@ -110,7 +110,7 @@ or_assoc true true c = refl
 or_assoc true false c = refl
 or_assoc false b c = refl
 
-any_exact : (m n : ℤ) (ps : MsgParts) (row : List (ℤ × MsgParts))
+pub any_exact : (m n : ℤ) (ps : MsgParts) (row : List (ℤ × MsgParts))
     → is_int_among m (map (λ arm. arm.0) (row ++ (n, ps) ∷ [])) ≡ (is_same_int m n || is_int_among m (map (λ arm. arm.0) row))
 any_exact m n ps [] = refl
 any_exact m n ps (a ∷ row) =
@@ -121,7 +121,7 @@ any_named : (d c : Category) (ps : MsgParts) (row : List (Category × MsgParts))
 any_named d c ps [] = refl
 any_named d c ps (a ∷ row) = ap (λ t. is_same d a.0 || t) (any_named d c ps row) ∙ or_assoc (is_same d a.0) (is_same d c) (has_category d row)
 
-any_select : (v w : List ℕ) (ps : MsgParts) (row : List (List ℕ × MsgParts))
+pub any_select : (v w : List ℕ) (ps : MsgParts) (row : List (List ℕ × MsgParts))
     → has_word v (row ++ (w, ps) ∷ []) ≡ (bytes_eq w v || has_word v row)
 any_select v w ps [] = refl
 any_select v w ps (a ∷ row) = ap (λ t. bytes_eq a.0 v || t) (any_select v w ps row) ∙ or_assoc (bytes_eq a.0 v) (bytes_eq w v) (has_word v row)
