@@ -1,5 +1,6 @@
 -- A set that takes the key of each arm has the keys of the arms.
-use Rattle.std.proofs.Common.{◌≡◌, ℕ, ℤ, ◌||◌, not, Bool, true, false, cond, List, [], ◌∷◌, ◌++◌, map, refl, sym, ◌∙◌, ap, arith, bytes_eq}
+use Rattle.std.proofs.Common.{◌≡◌, ℕ, ℤ, ◌||◌, not, Bool, true, false, cond, List, [], ◌∷◌, ◌++◌, map, refl, sym, ◌∙◌}
+use Rattle.std.proofs.Common.{ap, arith, bytes_eq}
 use Rattle.std.specs.Prelude.{String, pos, negsuc, bytes_eq}
 use Rattle.std.specs.Ordering.{int_cmp}
 use Rattle.std.specs.Str.{chars}
@@ -29,19 +30,23 @@ or_of false b = refl
 
 -- what an insertion leaves of a set
 pub numbers_more : (old new : BTreeSet ℤ) (arms : List (ℤ × MsgParts)) (n : ℤ) (ps : MsgParts) → HasNumbers old arms
-    → ((q : ℤ) → set.contains int_cmp new q ≡ cond (is_at (int_cmp n) q) true (set.contains int_cmp old q)) → HasNumbers new (arms ++ (n, ps) ∷ [])
+    → ((q : ℤ) → set.contains int_cmp new q ≡ cond (is_at (int_cmp n) q) true (set.contains int_cmp old q))
+        → HasNumbers new (arms ++ (n, ps) ∷ [])
 numbers_more old new arms n ps has more q =
     more q
     ∙ (or_of (is_at (int_cmp n) q) (set.contains int_cmp old q)
     ∙ ((λ i. int_at n q i || has q i) ∙ sym (any_exact q n ps arms)))
 
-word_at : {Z : Type 0} (k q : String Z) → is_at (string_cmp k) q ≡ bytes_eq (chars (string_bytes k)) (chars (string_bytes q))
+word_at : {Z : Type 0} (k q : String Z)
+    → is_at (string_cmp k) q ≡ bytes_eq (chars (string_bytes k)) (chars (string_bytes q))
 word_at k q =
     is_eq-slice_cmp (string_bytes k) (string_bytes q)
     ∙ bytes_eq-chars (string_bytes k) (string_bytes q) (IsUtf8-string_bytes k) (IsUtf8-string_bytes q)
 
-pub words_more : {Z : Type 0} (old new : BTreeSet (String Z)) (arms : List (List ℕ × MsgParts)) (k : String Z) (ps : MsgParts) → HasWords old arms
-    → ((q : String Z) → set.contains string_cmp new q ≡ cond (is_at (string_cmp k) q) true (set.contains string_cmp old q))
+pub words_more : {Z : Type 0} (old new : BTreeSet (String Z)) (arms : List (List ℕ × MsgParts)) (k : String Z)
+    (ps : MsgParts) → HasWords old arms
+    → ((q : String Z) → set.contains string_cmp new q ≡ cond (is_at (string_cmp k) q) true
+        (set.contains string_cmp old q))
     → HasWords new (arms ++ (chars (string_bytes k), ps) ∷ [])
 words_more old new arms k ps has more q =
     more q
@@ -53,7 +58,9 @@ not_true true e = absurd (cc e)
 not_true false e = refl
 
 -- a word that was added wasn't there
-pub word_absent : {Z : Type 0} (words : BTreeSet (String Z)) (arms : List (List ℕ × MsgParts)) (k : String Z) (word : List ℕ) (added : Bool) → HasWords words arms
-    → added ≡ not (set.contains string_cmp words k) → added ≡ true → chars (string_bytes k) ≡ word → has_word word arms ≡ false
+pub word_absent : {Z : Type 0} (words : BTreeSet (String Z)) (arms : List (List ℕ × MsgParts)) (k : String Z)
+    (word : List ℕ) (added : Bool) → HasWords words arms
+    → added ≡ not (set.contains string_cmp words k) → added ≡ true → chars (string_bytes k) ≡ word
+        → has_word word arms ≡ false
 word_absent words arms k word added has is new e =
     ap (λ w. has_word w arms) (sym e) ∙ (sym (has k) ∙ not_true (set.contains string_cmp words k) (sym is ∙ new))

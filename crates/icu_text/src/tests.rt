@@ -194,7 +194,7 @@ const PATTERNS: &[(&str, &str)] = &[
         "{N plural 9007199254740991 =9007199254740991() other()}",
     ),
     ("{N,plural,other{'}'#'{'}}", "{N plural 0 other([}]#[{])}"),
-    ("{N,plural,other{'a'#}}", "{N plural 0 other(['a']#)}"),
+    ("{N,plural,other{'a' #}}", "{N plural 0 other(['a' ]#)}"),
     (
         "{S,select,a-1{x}other{y}a-1{z}_{}other{w}}",
         "{S select a-1([x]) other([y]) _()}",

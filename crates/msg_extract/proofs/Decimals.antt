@@ -6,7 +6,8 @@ use Rattle.msg_extract.proofs.JoinedTests.{holds_or, and_both}
 
 -- where each digit passes a test, so do all characters of a number
 module _ (test : ℕ → Bool) (passes : (n : ℕ) → test (digit_glyph false (n % 10)) ≡ true) where
-  onto_pass : (k n : ℕ) (more : List ℕ) → IsTrue (list_all test more) → IsTrue (list_all test (digits_onto k 10 false n more))
+  onto_pass : (k n : ℕ) (more : List ℕ) → IsTrue (list_all test more)
+      → IsTrue (list_all test (digits_onto k 10 false n more))
   onto_pass zero n more h = h
   onto_pass (suc k) n more h =
       let all : IsTrue (list_all test (digit_glyph false (n % 10) ∷ more)) =

@@ -1,14 +1,20 @@
 -- The cuts of a formed message: texts are apart, and what has a name has one that is a name.
-use Rattle.std.proofs.Common.{◌≡◌, ℕ, ◌==◌, ◌&&◌, ◌||◌, not, Bool, true, false, List, [], ◌∷◌, ◌++◌, Option, Some, None, option_map, refl, ◌∙◌, ap, subst, append_assoc, IsTrue}
+use Rattle.std.proofs.Common.{◌≡◌, ℕ, ◌==◌, ◌&&◌, ◌||◌, not, Bool, true, false, List, [], ◌∷◌, ◌++◌, Option, Some, None}
+use Rattle.std.proofs.Common.{option_map, refl, ◌∙◌, ap, subst, append_assoc, IsTrue}
 use Rattle.std.specs.Char.{is_ascii_alphabetic}
 use Rattle.std.proofs.lemmas.Bool.{eqb-true}
 use Rattle.soy_base.specs.Characters.{less_than, greater_than, slash}
 use Rattle.soy_base.specs.Names.{is_name}
 use Rattle.soy_base.specs.declared.fault.Span.{Span}
 use Rattle.soy_tree.specs.Types.{Name}
-use Rattle.soy_tree.specs.Expressions.{Expr, NullLiteral, BoolLiteral, IntLiteral, StringLiteral, Variable, Member, Index, Minus, Not, Binary, Coalesce, Conditional}
-use Rattle.soy_tree.specs.Nodes.{Node, Nodes, TextNode, Print, If, Switch, For, Let, LetBlock, Call, MessageNode, no_node, node}
-use Rattle.soy_tree.specs.MessageText.{MessageItem, Character, Printed, Cut, TextCut, PrintCut, TagCut, characters, node_message_items, joined_items, message_items, begins_with_letter, goes_on_as_tag, text_cut, quote_after, ends_tag, cuts_after_text, cuts_in_tag, cuts_of}
+use Rattle.soy_tree.specs.Expressions.{Expr, NullLiteral, BoolLiteral, IntLiteral, StringLiteral, Variable, Member}
+use Rattle.soy_tree.specs.Expressions.{Index, Minus, Not, Binary, Coalesce, Conditional}
+use Rattle.soy_tree.specs.Nodes.{Node, Nodes, TextNode, Print, If, Switch, For, Let, LetBlock, Call, MessageNode}
+use Rattle.soy_tree.specs.Nodes.{no_node, node}
+use Rattle.soy_tree.specs.MessageText.{MessageItem, Character, Printed, Cut, TextCut, PrintCut, TagCut, characters}
+use Rattle.soy_tree.specs.MessageText.{node_message_items, joined_items, message_items, begins_with_letter}
+use Rattle.soy_tree.specs.MessageText.{goes_on_as_tag, text_cut, quote_after, ends_tag, cuts_after_text, cuts_in_tag}
+use Rattle.soy_tree.specs.MessageText.{cuts_of}
 use Rattle.soy_tree.specs.BaseNames.{base_of_expr, base_of_print}
 use Rattle.soy_tree.specs.Formed.{is_formed_expr, if_there, is_formed_node, are_formed_nodes, is_text, begins_with_text}
 use Rattle.msg_extract.proofs.JoinedTests.{holds_or, and_left, and_right}
@@ -34,7 +40,8 @@ expr_base (Binary op a b span) h = refl
 expr_base (Coalesce a b span) h = refl
 expr_base (Conditional c a b span) h = refl
 
-print_base : (e : Expr) (phname : Option Name) → (is_formed_expr e && if_there is_name phname) ≡ true → IsTrue (is_name (base_of_print e phname))
+print_base : (e : Expr) (phname : Option Name) → (is_formed_expr e && if_there is_name phname) ≡ true
+    → IsTrue (is_name (base_of_print e phname))
 print_base e None h = expr_base e (and_left (is_formed_expr e) true h)
 print_base e (Some phname) h = base_name phname (and_right (is_formed_expr e) (is_name phname) h)
 
@@ -111,7 +118,8 @@ after_text : (text : List MessageItem) (cuts : List Cut) → AreCuts false cuts 
 after_text [] cuts h = weaker cuts h
 after_text (i ∷ text) cuts h = h
 
-mapped : (P Q : List Cut → Type 0) (f : List Cut → List Cut) → ((cuts : List Cut) → P cuts → Q (f cuts)) → (o : Option (List Cut)) → Holds P o → Holds Q (option_map f o)
+mapped : (P Q : List Cut → Type 0) (f : List Cut → List Cut) → ((cuts : List Cut) → P cuts → Q (f cuts))
+    → (o : Option (List Cut)) → Holds P o → Holds Q (option_map f o)
 mapped P Q f step None h = tt
 mapped P Q f step (Some cuts) h = step cuts h
 
@@ -120,9 +128,11 @@ ends_tag_is : (quote : Option ℕ) (c : ℕ) → ends_tag quote c ≡ true → c
 ends_tag_is None c h = eqb-true c 62 h
 ends_tag_is (Some quote) c h = absurd (cc h)
 
-tag_prefix : (t : List MessageItem) (c : ℕ) (span : Span) (rest : List MessageItem) → c ≡ greater_than → goes_on_as_tag (t ++ Character c span ∷ rest) ≡ true
+tag_prefix : (t : List MessageItem) (c : ℕ) (span : Span) (rest : List MessageItem) → c ≡ greater_than
+    → goes_on_as_tag (t ++ Character c span ∷ rest) ≡ true
     → goes_on_as_tag (t ++ Character c span ∷ []) ≡ true
-tag_prefix [] c span rest e h = absurd (cc (subst (λ d. (is_ascii_alphabetic d || d == slash && begins_with_letter rest) ≡ true) e h))
+tag_prefix [] c span rest e h =
+    absurd (cc (subst (λ d. (is_ascii_alphabetic d || d == slash && begins_with_letter rest) ≡ true) e h))
 tag_prefix (Printed x m s ∷ t) c span rest e h = h
 tag_prefix (Character d s ∷ []) c span rest e h = h
 tag_prefix (Character d s ∷ (Character a b ∷ t)) c span rest e h = h
@@ -137,22 +147,27 @@ mutual
   after_cuts [] text h = last_text text
   after_cuts (Printed e phname span ∷ rest) text h =
       mapped (AreCuts true) (AreCuts true) (λ cuts. text_cut text ++ PrintCut e phname span ∷ cuts)
-      (λ cuts k. after_text text (PrintCut e phname span ∷ cuts) (h.0, k)) (cuts_after_text rest []) (after_cuts rest [] h.1)
+      (λ cuts k. after_text text (PrintCut e phname span ∷ cuts) (h.0, k)) (cuts_after_text rest [])
+          (after_cuts rest [] h.1)
   after_cuts (Character c span ∷ rest) text h =
       holds_or _ (c == less_than && goes_on_as_tag rest)
-      (λ k. rw k (mapped (AreCuts false) (AreCuts true) (λ cuts. text_cut text ++ cuts) (λ cuts q. after_text text cuts q) (cuts_in_tag rest None (Character c span ∷ []))
+      (λ k. rw k (mapped (AreCuts false) (AreCuts true) (λ cuts. text_cut text ++ cuts)
+          (λ cuts q. after_text text cuts q) (cuts_in_tag rest None (Character c span ∷ []))
       (in_cuts rest None (Character c span) [] (and_right (c == less_than) (goes_on_as_tag rest) k) h)))
       (λ k. rw k (after_cuts rest (text ++ Character c span ∷ []) h))
 
-  in_cuts : (items : List MessageItem) (quote : Option ℕ) (first : MessageItem) (t : List MessageItem) → goes_on_as_tag (t ++ items) ≡ true → AreItems items
+  in_cuts : (items : List MessageItem) (quote : Option ℕ) (first : MessageItem) (t : List MessageItem)
+      → goes_on_as_tag (t ++ items) ≡ true → AreItems items
       → Holds (AreCuts false) (cuts_in_tag items quote (first ∷ t))
   in_cuts [] quote first t g h = tt
   in_cuts (Printed e phname span ∷ rest) quote first t g h =
-      in_cuts rest quote first (t ++ Printed e phname span ∷ []) (ap goes_on_as_tag (append_assoc t (Printed e phname span ∷ []) rest) ∙ g) h.1
+      in_cuts rest quote first (t ++ Printed e phname span ∷ [])
+          (ap goes_on_as_tag (append_assoc t (Printed e phname span ∷ []) rest) ∙ g) h.1
   in_cuts (Character c span ∷ rest) quote first t g h =
       holds_or _ (ends_tag quote c)
       (λ k. rw k (mapped (AreCuts true) (AreCuts false) (λ cuts. TagCut (first ∷ (t ++ Character c span ∷ [])) ∷ cuts)
-      (λ cuts q. (tag_prefix t c span rest (ends_tag_is quote c k) g, q)) (cuts_after_text rest []) (after_cuts rest [] h)))
+      (λ cuts q. (tag_prefix t c span rest (ends_tag_is quote c k) g, q)) (cuts_after_text rest [])
+          (after_cuts rest [] h)))
       (λ k. rw k (in_cuts rest (quote_after quote c) first (t ++ Character c span ∷ [])
       (ap goes_on_as_tag (append_assoc t (Character c span ∷ []) rest) ∙ g) h))
 
