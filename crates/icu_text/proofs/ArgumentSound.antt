@@ -1,13 +1,12 @@
 -- What may follow a `{`, put together to an argument.
-use Rattle.std.proofs.Common.{◌≡◌, ◌⊎◌, inl, inr, ℕ, suc, ◌+◌, ◌&&◌, Bool, true, false, List, [], ◌∷◌, ◌++◌, refl, sym}
-use Rattle.std.proofs.Common.{◌∙◌, ap, subst, append_assoc, append-nil, IsTrue}
+use Rattle.std.proofs.Common.{◌≡◌, inl, inr, ℕ, suc, Bool, true, false, List, [], ◌∷◌, ◌++◌, refl, sym}
+use Rattle.std.proofs.Common.{◌∙◌, ap, subst, append_assoc}
 use Rattle.std.specs.Prelude.{codes}
 use Rattle.std.specs.List.{list_all}
-use Rattle.plural_rules.specs.declared.category.Category.TheVariants as category
 use Rattle.soy_base.specs.Characters.{right_brace, comma}
-use Rattle.soy_base.specs.Names.{is_name, begins_name, continues_name}
+use Rattle.soy_base.specs.Names.{begins_name, continues_name}
 use Rattle.soy_base.specs.WhiteSpace.{is_template_space}
-use Rattle.soy_tree.specs.MessageParts.{MsgPart, MsgParts, Placeholder, PluralPart, SelectPart}
+use Rattle.soy_tree.specs.MessageParts.{MsgPart, Placeholder, PluralPart, SelectPart}
 use Rattle.soy_tree.specs.IcuText as icu
 use Rattle.soy_tree.specs.IcuText.{IsArgument, IsSpacedName, IsSpacedKeyword, exact_arms, named_arms, select_arms}
 use Rattle.soy_tree.specs.IcuText.{plural_keyword}
@@ -17,11 +16,11 @@ use Rattle.icu_text.specs.declared.state.ChoiceKind.TheVariants as choice
 use Rattle.icu_text.specs.declared.state.Frame.{Frame}
 use Rattle.icu_text.specs.PatternSteps.{with_offset, new_plural, new_select}
 use Rattle.icu_text.proofs.CharacterTests.{and_both}
-use Rattle.icu_text.proofs.KeptArms.{with_arms, with_words, plural_is, plural_before, plural_other, select_is_part}
+use Rattle.icu_text.proofs.KeptArms.{plural_is, plural_before, plural_other, select_is_part}
 use Rattle.icu_text.proofs.KeptArms.{select_before, select_other}
 use Rattle.icu_text.proofs.Heads.{kind_word, joined_word}
 use Rattle.icu_text.proofs.PatternComplete.{joined_offset}
-use Rattle.icu_text.proofs.PatternLeft.{After, Behind, Passed, IsHead, TextLeft, ArmsLeft, WordsLeft, KeyTail}
+use Rattle.icu_text.proofs.PatternLeft.{After, Behind, Passed, IsHead, TextLeft, WordsLeft, KeyTail}
 use Rattle.icu_text.proofs.PatternLeft.{OpenedLeft, ChoiceLeft, NameTail}
 
 -- white space before an argument

@@ -1,5 +1,5 @@
 -- A set that takes the key of each arm has the keys of the arms.
-use Rattle.std.proofs.Common.{◌≡◌, ℕ, ℤ, ◌||◌, not, Bool, true, false, cond, List, [], ◌∷◌, ◌++◌, map, refl, sym, ◌∙◌}
+use Rattle.std.proofs.Common.{◌≡◌, ℕ, ℤ, ◌||◌, not, Bool, true, false, cond, List, [], ◌∷◌, ◌++◌, refl, sym, ◌∙◌}
 use Rattle.std.proofs.Common.{ap, arith, bytes_eq}
 use Rattle.std.specs.Prelude.{String, pos, negsuc, bytes_eq}
 use Rattle.std.specs.Ordering.{int_cmp}
@@ -14,8 +14,7 @@ use Rattle.std.proofs.lemmas.Str.{IsUtf8-string_bytes}
 use Rattle.soy_base.proofs.Texts.{bytes_eq-chars}
 use Rattle.soy_tree.specs.Val.{is_same_int}
 use Rattle.soy_tree.specs.MessageParts.{MsgParts}
-use Rattle.soy_tree.specs.IcuText.{is_int_among}
-use Rattle.icu_text.specs.FirstArms.{HasNumbers, HasWords, has_word, with_exact, with_select}
+use Rattle.icu_text.specs.FirstArms.{HasNumbers, HasWords, has_word}
 use Rattle.icu_text.proofs.KeptArms.{any_exact, any_select}
 
 int_at : (k q : ℤ) → is_at (int_cmp k) q ≡ is_same_int q k

@@ -1,5 +1,5 @@
 -- The name of an argument and the word of a choice, along the machine.
-use Rattle.std.proofs.Common.{◌≡◌, ℕ, ◌==◌, ◌&&◌, Bool, true, false, List, [], ◌∷◌, ◌++◌, Some, refl, sym, ◌∙◌, ap}
+use Rattle.std.proofs.Common.{◌≡◌, ℕ, true, false, List, [], ◌∷◌, ◌++◌, refl, sym, ◌∙◌, ap}
 use Rattle.std.proofs.Common.{append_assoc, append-nil, IsTrue}
 use Rattle.std.specs.Prelude.{codes}
 use Rattle.std.specs.List.{list_all}
@@ -13,10 +13,9 @@ use Rattle.icu_text.specs.declared.state.ChoiceKind.{ChoiceKind}
 use Rattle.icu_text.specs.declared.state.ChoiceKind.TheVariants as choice
 use Rattle.icu_text.specs.declared.state.Frame.{Frame}
 use Rattle.icu_text.specs.declared.state.Expected.TheVariants as expected
-use Rattle.icu_text.specs.declared.state.PatternState.{PatternState}
-use Rattle.icu_text.specs.PatternSteps.{pattern_next, opened, may_be_ordinal}
+use Rattle.icu_text.specs.PatternSteps.{opened, may_be_ordinal}
 use Rattle.icu_text.proofs.CharacterTests.{and_left, and_right, not_white, white_fails}
-use Rattle.icu_text.proofs.PatternRunning.{at, parsed, parsed_from, step, stays, through}
+use Rattle.icu_text.proofs.PatternRunning.{at, parsed, stays, through}
 
 pub joined_three : (a b c d : List ℕ) → (a ++ (b ++ c)) ++ d ≡ a ++ (b ++ (c ++ d))
 joined_three a b c d = append_assoc a (b ++ c) d ∙ ap (λ l. a ++ l) (append_assoc b c d)

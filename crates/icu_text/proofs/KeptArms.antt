@@ -1,6 +1,6 @@
 -- Arms that are read one by one: the first of each key is kept, as the grammar says.
 use Rattle.std.proofs.Common.{◌≡◌, ℕ, ℤ, ◌||◌, Bool, true, false, List, [], ◌∷◌, ◌++◌, map, refl, sym, ◌∙◌, ap}
-use Rattle.std.proofs.Common.{if◌then◌else◌, bytes_eq, subst}
+use Rattle.std.proofs.Common.{bytes_eq, subst}
 use Rattle.std.specs.Prelude.{codes}
 use Rattle.std.specs.List.{list_any}
 use Rattle.std.proofs.lemmas.Slice.Eq.{bytes_eq-Decides}
@@ -8,7 +8,7 @@ use Rattle.plural_rules.specs.declared.category.Category.{Category}
 use Rattle.plural_rules.specs.declared.category.Category.TheVariants as category
 use Rattle.plural_rules.specs.Category.{is_same}
 use Rattle.soy_tree.specs.Val.{is_same_int}
-use Rattle.soy_tree.specs.MessageParts.{MsgPart, MsgParts, ExactArms, NamedArms, SelectArms, PluralPart, SelectPart}
+use Rattle.soy_tree.specs.MessageParts.{MsgParts, ExactArms, NamedArms, SelectArms, PluralPart, SelectPart}
 use Rattle.soy_tree.specs.MessageParts.{no_exact_arm, exact_arm, no_named_arm, named_arm, no_select_arm, select_arm}
 use Rattle.soy_tree.specs.ViewMessageParts.{exact_arms_of, named_arms_of, select_arms_of}
 use Rattle.soy_tree.specs.IcuText.{Key, Exact, Named, is_int_among, exact_arms, named_arms, select_arms, is_other}

@@ -1,19 +1,18 @@
 -- Keys, words and offsets, along the machine.
-use Rattle.std.proofs.Common.{◌≡◌, ◌≢◌, ℕ, ◌+◌, ◌-◌, ◌*◌, ◌≤◌, nat_le, ◌==◌, Bool, true, false, List, [], ◌∷◌, ◌++◌}
-use Rattle.std.proofs.Common.{Option, Some, refl, sym, ◌∙◌, ap, subst, append_assoc, append-nil, IsTrue, arith}
-use Rattle.std.specs.Prelude.{codes, pos, neg_ℤ}
+use Rattle.std.proofs.Common.{◌≡◌, ℕ, ◌+◌, ◌-◌, ◌*◌, ◌≤◌, nat_le, ◌==◌, Bool, true, false, List, [], ◌∷◌, ◌++◌}
+use Rattle.std.proofs.Common.{Some, refl, sym, ◌∙◌, ap, subst, append_assoc, append-nil, IsTrue, arith}
+use Rattle.std.specs.Prelude.{codes}
 use Rattle.std.specs.Char.{is_ascii_digit, digit_value}
 use Rattle.std.specs.List.{list_all}
 use Rattle.std.specs.Str.Parse.{digits_value_after}
 use Rattle.std.proofs.lemmas.Bool.{le-leb}
 use Rattle.std.proofs.lemmas.Bool.Decides.{nat_tests}
 use Rattle.plural_rules.specs.declared.category.Category.TheVariants as category
-use Rattle.soy_base.specs.Characters.{left_brace, equals_sign, minus_sign}
+use Rattle.soy_base.specs.Characters.{left_brace, minus_sign}
 use Rattle.soy_base.specs.WhiteSpace.{is_template_space}
 use Rattle.soy_tree.specs.Ints.{largest}
 use Rattle.soy_tree.specs.Formed.{is_word_character}
-use Rattle.soy_tree.specs.MessageParts.{MsgPart}
-use Rattle.soy_tree.specs.IcuText.{IsNumber, IsKey, IsWord, Key, Exact, Named, exact, negative, named, keyword}
+use Rattle.soy_tree.specs.IcuText.{IsNumber, IsKey, IsWord, Key, exact, negative, named}
 use Rattle.icu_text.specs.declared.state.ArmKey.{ArmKey}
 use Rattle.icu_text.specs.declared.state.ArmKey.TheVariants as arm_key
 use Rattle.icu_text.specs.declared.state.OpenPlural.{OpenPlural}
@@ -25,7 +24,7 @@ use Rattle.icu_text.specs.declared.state.Expected.TheVariants as expected
 use Rattle.icu_text.specs.declared.state.PatternState.{PatternState}
 use Rattle.icu_text.specs.PatternSteps.{pattern_next, more_digits, number_or, signed}
 use Rattle.icu_text.proofs.CharacterTests.{and_left, and_right, not_that, not_white, white_fails}
-use Rattle.icu_text.proofs.PatternRunning.{at, in_text, parsed, parsed_from, step, stays, through}
+use Rattle.icu_text.proofs.PatternRunning.{at, in_text, parsed, step, stays, through}
 use Rattle.icu_text.proofs.KeptArms.{arm_key_of}
 
 -- digits

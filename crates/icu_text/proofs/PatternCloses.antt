@@ -1,10 +1,10 @@
 -- Wherever the machine stands, some characters lead to the end of a pattern.
-use Rattle.std.proofs.Common.{◌≡◌, ℕ, ◌==◌, ◌||◌, Bool, true, false, List, [], ◌∷◌, ◌++◌, Option, Some, refl, sym, ◌∙◌}
-use Rattle.std.proofs.Common.{ap, arith}
+use Rattle.std.proofs.Common.{◌≡◌, ℕ, ◌==◌, Bool, true, false, List, [], ◌∷◌, ◌++◌, Some, refl, ◌∙◌}
+use Rattle.std.proofs.Common.{arith}
 use Rattle.std.specs.Prelude.{codes}
 use Rattle.std.proofs.lemmas.Bool.Decides.{nat_tests}
 use Rattle.plural_rules.specs.declared.category.Category.TheVariants as category
-use Rattle.soy_tree.specs.MessageParts.{MsgPart, MsgParts, Placeholder, no_part}
+use Rattle.soy_tree.specs.MessageParts.{MsgPart, Placeholder, no_part}
 use Rattle.soy_tree.specs.ViewMessageParts.{parts_of}
 use Rattle.icu_text.specs.declared.state.ArmKey.{ArmKey}
 use Rattle.icu_text.specs.declared.state.ArmKey.TheVariants as arm_key
@@ -20,9 +20,9 @@ use Rattle.icu_text.specs.declared.state.Expected.{Expected}
 use Rattle.icu_text.specs.declared.state.Expected.TheVariants as expected
 use Rattle.icu_text.specs.declared.state.PatternState.{PatternState}
 use Rattle.icu_text.specs.FirstArms.{has_category, has_word, with_named, with_select}
-use Rattle.icu_text.specs.PatternSteps.{finished, with_arm, with_word, with_offset, opened, plural_part, select_part}
+use Rattle.icu_text.specs.PatternSteps.{with_arm, with_word, with_offset, opened, plural_part, select_part}
 use Rattle.icu_text.specs.PatternSteps.{new_select, signed}
-use Rattle.icu_text.proofs.PatternRunning.{at, in_text, parsed, parsed_from}
+use Rattle.icu_text.proofs.PatternRunning.{at, in_text, parsed}
 use Rattle.icu_text.proofs.ReadParts.{all_parts}
 use Rattle.icu_text.proofs.KeptArms.{kept_other, kept_word}
 

@@ -1,22 +1,21 @@
 -- What is a pattern is read by the machine, to its parts.
-use Rattle.std.proofs.Common.{◌≡◌, ℕ, suc, ◌+◌, ◌≤◌, ◌==◌, Bool, true, false, List, [], ◌∷◌, ◌++◌, length, Option, Some}
+use Rattle.std.proofs.Common.{◌≡◌, ℕ, ◌+◌, ◌≤◌, Bool, true, false, List, [], ◌∷◌, ◌++◌, length, Option, Some}
 use Rattle.std.proofs.Common.{None, refl, sym, ◌∙◌, ap, subst, append_assoc, IsTrue, arith}
-use Rattle.std.specs.Prelude.{codes, bytes_eq}
+use Rattle.std.specs.Prelude.{codes}
 use Rattle.std.specs.Char.{is_ascii_digit}
-use Rattle.std.specs.List.{list_all, list_any}
+use Rattle.std.specs.List.{list_all}
 use Rattle.std.proofs.lemmas.Bool.{le-leb}
 use Rattle.plural_rules.specs.declared.category.Category.TheVariants as category
 use Rattle.soy_base.specs.Characters.{single_quote, left_brace, right_brace, number_sign, comma}
 use Rattle.soy_base.specs.WhiteSpace.{is_template_space}
-use Rattle.soy_tree.specs.MessageParts.{MsgPart, MsgParts, TextPart, Placeholder, NumberPart, PluralPart, SelectPart}
-use Rattle.soy_tree.specs.MessageParts.{no_part, part}
+use Rattle.soy_tree.specs.MessageParts.{MsgPart, MsgParts, NumberPart}
+use Rattle.soy_tree.specs.MessageParts.{no_part}
 use Rattle.soy_tree.specs.ViewMessageParts.{parts_of}
 use Rattle.soy_tree.specs.IcuText.{PatternMode, AtTop, InPlural, InSelect, is_quotable, begins_quotable, is_plain}
 use Rattle.soy_tree.specs.IcuText.{Reads, stop, plain, two, single, quoted, number, argument, IsArgument, placeholder}
 use Rattle.soy_tree.specs.IcuText.{plural, select, PluralArms, no_more, plural_arm, WordArms, no_more_words, word_arm}
 use Rattle.soy_tree.specs.IcuText.{IsSpacedKeyword, plural_keyword, IsOffset, none, given, IsKey, exact, negative}
 use Rattle.soy_tree.specs.IcuText.{named, Key, is_other, exact_arms, named_arms, select_arms, IsPattern}
-use Rattle.icu_text.specs.declared.state.ArmKey.{ArmKey}
 use Rattle.icu_text.specs.declared.state.Argument.{Argument}
 use Rattle.icu_text.specs.declared.state.ChoiceKind.TheVariants as choice
 use Rattle.icu_text.specs.declared.state.OpenPlural.{OpenPlural}
@@ -24,13 +23,12 @@ use Rattle.icu_text.specs.declared.state.OpenSelect.{OpenSelect}
 use Rattle.icu_text.specs.declared.state.Frame.{Frame}
 use Rattle.icu_text.specs.declared.state.Frame.TheVariants as frame
 use Rattle.icu_text.specs.declared.state.Expected.TheVariants as expected
-use Rattle.icu_text.specs.declared.state.PatternState.{PatternState}
 use Rattle.icu_text.specs.FirstArms.{has_category, has_word}
 use Rattle.icu_text.specs.PatternSteps.{pattern_mode, with_arm, with_word, with_offset, new_plural, new_select}
 use Rattle.icu_text.specs.PatternSteps.{plural_part, select_part}
 use Rattle.icu_text.specs.PatternReading.{pattern_start}
 use Rattle.icu_text.proofs.CharacterTests.{white_fails}
-use Rattle.icu_text.proofs.PatternRunning.{at, in_text, parsed, parsed_from, step, stays, through}
+use Rattle.icu_text.proofs.PatternRunning.{at, in_text, parsed, step, stays, through}
 use Rattle.icu_text.proofs.KeptArms.{arm_key_of, with_arms, with_words, plural_is, plural_before, plural_other}
 use Rattle.icu_text.proofs.KeptArms.{select_is_part, select_before, select_other}
 use Rattle.icu_text.proofs.ReadParts.{with_parts, with_part, with_more, IsNoText, IsJoined, joined_more, joined_part}

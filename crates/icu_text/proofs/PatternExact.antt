@@ -1,7 +1,6 @@
 -- The machine reads exactly the patterns, and goes on exactly as far as some pattern does.
 use Rattle.std.proofs.Common.{◌≡◌, ℕ, ◌+◌, ◌-◌, ◌≤◌, List, [], ◌∷◌, ◌++◌, length, Option, Some, None, refl, sym, ◌∙◌}
 use Rattle.std.proofs.Common.{ap, subst, append_assoc, append-nil, arith}
-use Rattle.std.specs.Char.{len_utf8}
 use Rattle.soy_base.specs.ByteLength.{byte_len}
 use Rattle.soy_base.specs.Characters.{single_quote}
 use Rattle.soy_tree.specs.MessageParts.{MsgPart, MsgParts, no_part}
@@ -20,9 +19,9 @@ use Rattle.icu_text.specs.ParsesMessage.{IsNoPattern}
 use Rattle.icu_text.specs.PatternSteps.{finished, pattern_next, next_at, whole_at, whole_pattern}
 use Rattle.icu_text.specs.PatternReading.{pattern_start, pattern_run, pattern_run_from, answer, read_on, reading}
 use Rattle.icu_text.proofs.PatternRunning.{at, parsed, parsed_from, run_parsed, IsRun, parsed_run}
-use Rattle.icu_text.proofs.ReadParts.{after_parts, all_parts, with_parts, finished_end}
+use Rattle.icu_text.proofs.ReadParts.{finished_end}
 use Rattle.icu_text.proofs.PatternComplete.{pattern_parsed}
-use Rattle.icu_text.proofs.PatternLeft.{QuotedLeft, TextLeft, Left, braces, Fits}
+use Rattle.icu_text.proofs.PatternLeft.{TextLeft, Left, braces, Fits}
 use Rattle.icu_text.proofs.PatternSound.{more_text}
 use Rattle.icu_text.proofs.StepsSound as step
 use Rattle.icu_text.proofs.PatternCloses.{closes}

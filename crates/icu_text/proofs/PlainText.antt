@@ -1,8 +1,8 @@
 -- Characters of a text, quoted or not, along the machine.
-use Rattle.std.proofs.Common.{◌≡◌, ◌≢◌, ℕ, ◌==◌, ◌&&◌, ◌||◌, not, Bool, true, false, List, [], ◌∷◌, ◌++◌, Some, refl}
+use Rattle.std.proofs.Common.{◌≡◌, ℕ, ◌==◌, true, false, List, [], ◌∷◌, ◌++◌, refl}
 use Rattle.std.proofs.Common.{sym, ◌∙◌, ap, append_assoc, append-nil, arith}
 use Rattle.std.proofs.lemmas.Bool.Decides.{nat_tests}
-use Rattle.soy_base.specs.Characters.{single_quote, left_brace, right_brace, number_sign}
+use Rattle.soy_base.specs.Characters.{single_quote}
 use Rattle.soy_tree.specs.MessageParts.{MsgPart}
 use Rattle.soy_tree.specs.IcuText.{PatternMode, AtTop, InPlural, InSelect, is_quotable, begins_quotable}
 use Rattle.soy_tree.specs.IcuText.{begins_with_quote, is_plain, Quoted, unclosed, closed, doubled, character}
@@ -12,9 +12,9 @@ use Rattle.icu_text.specs.declared.state.Quoting.{Quoting}
 use Rattle.icu_text.specs.declared.state.Quoting.TheVariants as quoting
 use Rattle.icu_text.specs.declared.state.Expected.TheVariants as expected
 use Rattle.icu_text.specs.declared.state.PatternState.{PatternState}
-use Rattle.icu_text.specs.PatternSteps.{pattern_mode, plain_next, add_next, text_next, whole_pattern}
+use Rattle.icu_text.specs.PatternSteps.{pattern_mode, plain_next, add_next, whole_pattern}
 use Rattle.icu_text.proofs.CharacterTests.{equal_or, not_that}
-use Rattle.icu_text.proofs.PatternRunning.{at, in_text, parsed, parsed_from}
+use Rattle.icu_text.proofs.PatternRunning.{at, in_text, parsed}
 
 abbrev pub quoting_in : List Frame → List MsgPart × List ℕ → Quoting → PatternState
 quoting_in fs l q = at fs (expected.Text l.0 l.1 q)

@@ -1,7 +1,7 @@
 -- What follows a character may follow where it stands, step by step.
-use Rattle.std.proofs.Common.{◌≡◌, ◌≢◌, ◌⊎◌, inl, inr, ℕ, zero, suc, ◌+◌, ◌-◌, ◌*◌, ◌≤◌, nat_le, ◌==◌, ◌&&◌, ◌||◌, not}
+use Rattle.std.proofs.Common.{◌≡◌, ◌≢◌, ◌⊎◌, inl, inr, ℕ, zero, suc, ◌+◌, ◌-◌, ◌*◌, ◌≤◌, nat_le, ◌==◌}
 use Rattle.std.proofs.Common.{Bool, true, false, List, [], ◌∷◌, ◌++◌, length, Option, Some, None, refl, sym, ◌∙◌, ap}
-use Rattle.std.proofs.Common.{subst, append_assoc, append-nil, IsTrue, arith, if◌then◌else◌}
+use Rattle.std.proofs.Common.{subst, append_assoc, append-nil, arith, if◌then◌else◌}
 use Rattle.std.specs.Prelude.{codes, pos, neg_ℤ}
 use Rattle.std.specs.Char.{is_ascii_digit, digit_value}
 use Rattle.std.specs.List.{list_all}
@@ -16,7 +16,7 @@ use Rattle.soy_base.specs.Names.{begins_name, continues_name}
 use Rattle.soy_base.specs.WhiteSpace.{is_template_space}
 use Rattle.soy_tree.specs.Ints.{largest}
 use Rattle.soy_tree.specs.Formed.{is_word_character}
-use Rattle.soy_tree.specs.MessageParts.{MsgPart, MsgParts, Placeholder, NumberPart, no_part}
+use Rattle.soy_tree.specs.MessageParts.{MsgPart, Placeholder, NumberPart, no_part}
 use Rattle.soy_tree.specs.ViewMessageParts.{parts_of}
 use Rattle.soy_tree.specs.IcuText as icu
 use Rattle.soy_tree.specs.IcuText.{is_quotable, is_plain, with_text, Exact, Named, keyword, IsNumber, IsWord}
@@ -39,10 +39,10 @@ use Rattle.icu_text.specs.PatternSteps.{pattern_mode, finished, with_arm, with_w
 use Rattle.icu_text.specs.PatternSteps.{may_be_ordinal, letter_next, number_or, more_digits, plural_part, select_part}
 use Rattle.icu_text.specs.PatternSteps.{signed}
 use Rattle.icu_text.proofs.CharacterTests.{equal_or, holds_or, and_both}
-use Rattle.icu_text.proofs.PatternRunning.{at, in_text, parsed, parsed_from}
+use Rattle.icu_text.proofs.PatternRunning.{at, parsed, parsed_from}
 use Rattle.icu_text.proofs.ReadParts.{finished_end}
 use Rattle.icu_text.proofs.Keys.{more_is, digit_is}
-use Rattle.icu_text.proofs.PatternLeft.{After, Behind, Lettered, Passed, Digits, Numbered, IsKind, IsQuoted, TextLeft}
+use Rattle.icu_text.proofs.PatternLeft.{After, Behind, Lettered, Passed, Digits, Numbered, IsKind, TextLeft}
 use Rattle.icu_text.proofs.PatternLeft.{QuotedLeft, ArmsLeft, WordsLeft, KeyEndLeft, WordEndLeft, OffsetLeft, KeyTail}
 use Rattle.icu_text.proofs.PatternLeft.{KeyLeft, OpenedLeft, KindEndLeft, KindMore, ChoiceLeft, NameTail, NumberLeft}
 use Rattle.icu_text.proofs.PatternLeft.{Left, braces, Fits}

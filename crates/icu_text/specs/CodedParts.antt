@@ -1,6 +1,6 @@
 -- Codes of message parts, by which proofs tell two of them apart: each part is a tree of numbers that gives it back.
 -- Example: the number of a plural is the tree of the one number 2.
-use Rattle.std.specs.Prelude.{◌≡◌, ℕ, zero, suc, ℤ, pos, negsuc, Bool, true, false, List, [], ◌∷◌}
+use Rattle.std.specs.Prelude.{◌≡◌, ℕ, ℤ, pos, negsuc, Bool, true, false, List, [], ◌∷◌}
 use Rattle.std.specs.Coded.{Coded, coded_list, coded×, coded_ℕ, coded_ℤ}
 use mathlib.Core.Path.{refl, sym, ◌∙◌, ap}
 use base.Stored.{Gv, gnil, gnum, gcons, num}
