@@ -101,7 +101,7 @@ module _ (fs : List Frame) (n : ℕ) (out : List MsgPart) where
   plural_head : (a : Argument) (ordinal : Bool) (text word tail : List ℕ) → IsSpacedName text a.name
       → IsSpacedKeyword word (plural_keyword ordinal)
       → KeyTail fs n out true (new_plural ordinal a) tail
-          → IsHead n (TextLeft fs (suc n) out) a.before (text ++ (word ++ tail))
+      → IsHead n (TextLeft fs (suc n) out) a.before (text ++ (word ++ tail))
   plural_head a ordinal text word tail s w (inl m) = record {
     argument = PluralPart ordinal a.name 0 (exact_arms [] m.arms) (named_arms [] m.arms);
     rest = m.rest;
@@ -117,7 +117,7 @@ module _ (fs : List Frame) (n : ℕ) (out : List MsgPart) where
       let m = x.left in
       let whole : tail ≡ (codes "offset:" ++ (o.white ++ (v.digits ++ x.white))) ++ x.tail =
       l.whole ∙ (ap (λ t. codes "offset:" ++ t)
-          (o.whole ∙ ap (λ t. o.white ++ t) (v.whole ∙ ap (λ t. v.digits ++ t) x.whole))
+      (o.whole ∙ ap (λ t. o.white ++ t) (v.whole ∙ ap (λ t. v.digits ++ t) x.whole))
       ∙ sym (joined_offset o.white v.digits x.white x.tail)) in
       record {
         argument = PluralPart ordinal a.name v.value (exact_arms [] m.arms) (named_arms [] m.arms);
@@ -126,12 +126,12 @@ module _ (fs : List Frame) (n : ℕ) (out : List MsgPart) where
             (PluralPart ordinal a.name v.value (exact_arms [] m.arms) (named_arms [] m.arms)) (right_brace ∷ m.rest))
             (sym whole)
             (icu.plural text word (codes "offset:" ++ (o.white ++ (v.digits ++ x.white))) x.tail (right_brace ∷ m.rest)
-                a.name ordinal v.value m.arms s w
+            a.name ordinal v.value m.arms s w
             (icu.given o.white v.digits x.white v.value o.is_white v.is x.is_white) m.reads
-                (sym (plural_other a ordinal v.value m.arms) ∙ m.other));
+            (sym (plural_other a ordinal v.value m.arms) ∙ m.other));
         follows = subst (λ q. TextLeft fs (suc n) out (q, []) m.rest)
             (λ i. plural_before (with_offset (new_plural ordinal a) v.value) m.arms i ++ plural_is a ordinal v.value
-                m.arms i ∷ []) m.follows;
+            m.arms i ∷ []) m.follows;
       }
 
   select_head : (a : Argument) (text word tail : List ℕ) → IsSpacedName text a.name
@@ -165,11 +165,11 @@ module _ (fs : List Frame) (n : ℕ) (out : List MsgPart) where
   head_made a text tail s (inr b) =
       let k = is_choice a tail b in
       subst (λ l. IsHead n (TextLeft fs (suc n) out) a.before (text ++ l)) (sym k.whole)
-          (choice_head a text k.kind k.word k.tail s k.is k.left)
+      (choice_head a text k.kind k.word k.tail s k.is k.left)
 
   pub head_left : (before : List MsgPart) (c : ℕ) (text : List ℕ) → begins_name c ≡ true
       → Passed continues_name (c ∷ []) (λ name. After (NameTail fs n out (record { before = before; name = name })))
-          text
+      text
       → IsHead n (TextLeft fs (suc n) out) before (c ∷ text)
   head_left before c text b p =
       let e = p.left in

@@ -30,7 +30,7 @@ or_of false b = refl
 -- what an insertion leaves of a set
 pub numbers_more : (old new : BTreeSet ℤ) (arms : List (ℤ × MsgParts)) (n : ℤ) (ps : MsgParts) → HasNumbers old arms
     → ((q : ℤ) → set.contains int_cmp new q ≡ cond (is_at (int_cmp n) q) true (set.contains int_cmp old q))
-        → HasNumbers new (arms ++ (n, ps) ∷ [])
+    → HasNumbers new (arms ++ (n, ps) ∷ [])
 numbers_more old new arms n ps has more q =
     more q
     ∙ (or_of (is_at (int_cmp n) q) (set.contains int_cmp old q)
@@ -45,7 +45,7 @@ word_at k q =
 pub words_more : {Z : Type 0} (old new : BTreeSet (String Z)) (arms : List (List ℕ × MsgParts)) (k : String Z)
     (ps : MsgParts) → HasWords old arms
     → ((q : String Z) → set.contains string_cmp new q ≡ cond (is_at (string_cmp k) q) true
-        (set.contains string_cmp old q))
+    (set.contains string_cmp old q))
     → HasWords new (arms ++ (chars (string_bytes k), ps) ∷ [])
 words_more old new arms k ps has more q =
     more q
@@ -60,6 +60,6 @@ not_true false e = refl
 pub word_absent : {Z : Type 0} (words : BTreeSet (String Z)) (arms : List (List ℕ × MsgParts)) (k : String Z)
     (word : List ℕ) (added : Bool) → HasWords words arms
     → added ≡ not (set.contains string_cmp words k) → added ≡ true → chars (string_bytes k) ≡ word
-        → has_word word arms ≡ false
+    → has_word word arms ≡ false
 word_absent words arms k word added has is new e =
     ap (λ w. has_word w arms) (sym e) ∙ (sym (has k) ∙ not_true (set.contains string_cmp words k) (sym is ∙ new))

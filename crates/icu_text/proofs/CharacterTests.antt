@@ -23,7 +23,7 @@ pub white_has : (P : ℕ → Type 0) → P 32 → P 9 → P 10 → P 13 → (c :
 white_has P space tab feed carriage c h =
     equal_or P c 32 space
     (λ a. equal_or P c 9 tab (λ b. equal_or P c 10 feed
-        (λ d. equal_or P c 13 carriage (λ e. absurd (cc (rw (a, b, d, e) at h))))))
+    (λ d. equal_or P c 13 carriage (λ e. absurd (cc (rw (a, b, d, e) at h))))))
 
 -- a test that white space fails
 pub white_fails : (test : ℕ → Bool) → test 32 ≡ false → test 9 ≡ false → test 10 ≡ false → test 13 ≡ false → (c : ℕ)
@@ -34,7 +34,7 @@ pub not_white : (test : ℕ → Bool) → test 32 ≡ false → test 9 ≡ false
     → test c ≡ true → is_template_space c ≡ false
 not_white test a b d e c h =
     holds_or (is_template_space c ≡ false) (is_template_space c) (λ w. absurd (cc (white_fails test a b d e c w, h)))
-        (λ w. w)
+    (λ w. w)
 
 -- a test that this character fails
 pub not_that : (test : ℕ → Bool) (k : ℕ) → test k ≡ false → (c : ℕ) → test c ≡ true → (c == k) ≡ false
@@ -57,4 +57,4 @@ pub all_append : (test : ℕ → Bool) (a b : List ℕ) → IsTrue (list_all tes
 all_append test [] b f g = g
 all_append test (c ∷ cs) b f g =
     and_both (test c) (list_all test (cs ++ b)) (and_left (test c) (list_all test cs) f)
-        (all_append test cs b (and_right (test c) (list_all test cs) f) g)
+    (all_append test cs b (and_right (test c) (list_all test cs) f) g)

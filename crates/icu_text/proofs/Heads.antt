@@ -23,13 +23,13 @@ joined_three a b c d = append_assoc a (b ++ c) d ∙ ap (λ l. a ++ l) (append_a
 name_more : (more : List ℕ) → IsTrue (list_all continues_name more)
     → (tail : List ℕ) (fs : List Frame) (before : List MsgPart) (name : List ℕ)
     → parsed (more ++ tail) (at fs (expected.NameCharacter before name)) ≡ parsed tail
-        (at fs (expected.NameCharacter before (name ++ more)))
+    (at fs (expected.NameCharacter before (name ++ more)))
 name_more [] h tail fs before name =
     ap (λ n. parsed tail (at fs (expected.NameCharacter before n))) (sym (append-nil name))
 name_more (c ∷ more) h tail fs before name =
     let continues : continues_name c ≡ true = and_left (continues_name c) (list_all continues_name more) h in
     rw continues (name_more more (and_right (continues_name c) (list_all continues_name more) h) tail fs before
-        (name ++ c ∷ [])
+    (name ++ c ∷ [])
     ∙ ap (λ n. parsed tail (at fs (expected.NameCharacter before n))) (append_assoc name (c ∷ []) more))
 
 name_on : (name : List ℕ) → IsTrue (is_name name) → (tail : List ℕ) (fs : List Frame) (before : List MsgPart)
@@ -39,13 +39,13 @@ name_on (c ∷ cs) h tail fs before =
     let begins : begins_name c ≡ true = and_left (begins_name c) (list_all continues_name cs) h in
     let no_white : is_template_space c ≡ false = not_white begins_name refl refl refl refl c begins in
     rw (no_white, begins) (name_more cs (and_right (begins_name c) (list_all continues_name cs) h) tail fs before
-        (c ∷ []))
+    (c ∷ []))
 
 name_end_on : (white : List ℕ) → IsTrue (list_all is_template_space white) → (d : ℕ) (tail : List ℕ)
     → continues_name d ≡ false
     → (fs : List Frame) (a : Argument)
     → parsed (white ++ d ∷ tail) (at fs (expected.NameCharacter a.before a.name)) ≡ parsed (d ∷ tail)
-        (at fs (expected.NameEnd a))
+    (at fs (expected.NameEnd a))
 name_end_on white h d tail ends fs a =
     through (at fs (expected.NameCharacter a.before a.name)) (at fs (expected.NameEnd a))
     (λ c w. let no : continues_name c ≡ false = white_fails continues_name refl refl refl refl c w in rw (no, w) refl)
@@ -54,7 +54,7 @@ name_end_on white h d tail ends fs a =
 pub spaced_name_on : (text name : List ℕ) → IsSpacedName text name → (d : ℕ) (tail : List ℕ) → continues_name d ≡ false
     → (fs : List Frame) (before : List MsgPart)
     → parsed (text ++ d ∷ tail) (at fs (expected.Name before)) ≡ parsed (d ∷ tail)
-        (at fs (expected.NameEnd (record { before = before; name = name })))
+    (at fs (expected.NameEnd (record { before = before; name = name })))
 spaced_name_on text name s d tail ends fs before =
     ap (λ l. parsed (l ++ d ∷ tail) (at fs (expected.Name before))) s.whole
     ∙ (ap (λ l. parsed l (at fs (expected.Name before))) (joined_three s.before name s.after (d ∷ tail))
@@ -69,7 +69,7 @@ kind_word choice.Select = codes "select"
 
 kind_on : (kind : ChoiceKind) (tail : List ℕ) (fs : List Frame) (a : Argument)
     → parsed (kind_word kind ++ tail) (at fs (expected.Choice a)) ≡ parsed tail
-        (at fs (expected.ChoiceLetter a kind []))
+    (at fs (expected.ChoiceLetter a kind []))
 kind_on choice.Plural tail fs a = refl
 kind_on choice.Ordinal tail fs a = refl
 kind_on choice.Select tail fs a = refl
@@ -81,7 +81,7 @@ no_ordinal choice.Select c w = white_fails (may_be_ordinal choice.Select) refl r
 
 comma_on : (kind : ChoiceKind) (tail : List ℕ) (fs : List Frame) (a : Argument)
     → parsed (comma ∷ tail) (at fs (expected.ChoiceLetter a kind [])) ≡ parsed (comma ∷ tail)
-        (at fs (expected.ChoiceEnd a kind))
+    (at fs (expected.ChoiceEnd a kind))
 comma_on choice.Plural tail fs a = refl
 comma_on choice.Ordinal tail fs a = refl
 comma_on choice.Select tail fs a = refl
@@ -113,7 +113,7 @@ choice_on kind text s tail fs a =
     ap (λ l. parsed (l ++ tail) (at fs (expected.NameEnd a))) s.whole
     ∙ (ap (λ l. parsed l (at fs (expected.Choice a))) (joined_word s.before (kind_word kind) s.after s.last tail)
     ∙ (stays (at fs (expected.Choice a)) (λ c w. rw w refl) s.before
-        (kind_word kind ++ (s.after ++ comma ∷ (s.last ++ tail))) s.white_before
+    (kind_word kind ++ (s.after ++ comma ∷ (s.last ++ tail))) s.white_before
     ∙ (kind_on kind (s.after ++ comma ∷ (s.last ++ tail)) fs a
     ∙ (kind_end_on kind s.after s.white_after (s.last ++ tail) fs a
     ∙ last_on kind s.last s.white_last tail fs a))))

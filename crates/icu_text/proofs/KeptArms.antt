@@ -51,7 +51,7 @@ more_select row (arm ∷ arms) = more_select (with_select row arm.0 arm.1) arms
 
 with_arms_is : (plural : OpenPlural) (arms : List (Key × MsgParts))
     → with_arms plural arms ≡ record plural
-        { exact = more_exact plural.exact arms; named = more_named plural.named arms }
+    { exact = more_exact plural.exact arms; named = more_named plural.named arms }
 with_arms_is plural [] = refl
 with_arms_is plural ((Exact n, ps) ∷ arms) = with_arms_is (with_arm plural (arm_key.Exact n) ps) arms
 with_arms_is plural ((Named c, ps) ∷ arms) = with_arms_is (with_arm plural (arm_key.Named c) ps) arms
@@ -116,7 +116,7 @@ or_assoc false b c = refl
 
 pub any_exact : (m n : ℤ) (ps : MsgParts) (row : List (ℤ × MsgParts))
     → is_int_among m (map (λ arm. arm.0) (row ++ (n, ps) ∷ [])) ≡
-        (is_same_int m n || is_int_among m (map (λ arm. arm.0) row))
+    (is_same_int m n || is_int_among m (map (λ arm. arm.0) row))
 any_exact m n ps [] = refl
 any_exact m n ps (a ∷ row) =
     ap (λ t. is_same_int m a.0 || t) (any_exact m n ps row)
@@ -146,8 +146,8 @@ bytes_swap a b =
     holds_or _ (bytes_eq a b)
     (λ e. e ∙ sym (subst (λ c. bytes_eq b c ≡ true) (sym (bytes_same a b e)) (same_bytes b)))
     (λ e. holds_or _ (bytes_eq b a)
-        (λ f. absurd (cc (e, subst (λ c. bytes_eq a c ≡ true) (sym (bytes_same b a f)) (same_bytes a))))
-        (λ f. e ∙ sym f))
+    (λ f. absurd (cc (e, subst (λ c. bytes_eq a c ≡ true) (sym (bytes_same b a f)) (same_bytes a))))
+    (λ f. e ∙ sym f))
 
 -- the arms are those that the grammar keeps
 
@@ -161,7 +161,7 @@ exact_is row before ((Exact n, ps) ∷ arms) same =
     (λ e. rw (e, same n ∙ e) (exact_is row before arms same))
     (λ e. rw (e, same n ∙ e)
     (exact_is (row ++ (n, ps) ∷ []) (n ∷ before) arms
-        (λ m. ap (λ t. is_same_int m n || t) (same m) ∙ sym (any_exact m n ps row))
+    (λ m. ap (λ t. is_same_int m n || t) (same m) ∙ sym (any_exact m n ps row))
     ∙ exact_more row n ps (exact_arms (n ∷ before) arms)))
 
 named_is : (row : List (Category × MsgParts)) (before : List Category) (arms : List (Key × MsgParts))
@@ -174,7 +174,7 @@ named_is row before ((Named c, ps) ∷ arms) same =
     (λ e. rw (e, same c ∙ e) (named_is row before arms same))
     (λ e. rw (e, same c ∙ e)
     (named_is (row ++ (c, ps) ∷ []) (c ∷ before) arms
-        (λ d. ap (λ t. is_same d c || t) (same d) ∙ sym (any_named d c ps row))
+    (λ d. ap (λ t. is_same d c || t) (same d) ∙ sym (any_named d c ps row))
     ∙ named_more row c ps (named_arms (c ∷ before) arms)))
 
 select_is : (row : List (List ℕ × MsgParts)) (before : List (List ℕ)) (arms : List (List ℕ × MsgParts))
@@ -186,8 +186,8 @@ select_is row before (arm ∷ arms) same =
     (λ e. rw (e, same arm.0 ∙ e) (select_is row before arms same))
     (λ e. rw (e, same arm.0 ∙ e)
     (select_is (row ++ (arm.0, arm.1) ∷ []) (arm.0 ∷ before) arms
-        (λ v. ap (λ t. t || list_any (bytes_eq v) before) (bytes_swap v arm.0) ∙
-        (ap (λ t. bytes_eq arm.0 v || t) (same v) ∙ sym (any_select v arm.0 arm.1 row)))
+    (λ v. ap (λ t. t || list_any (bytes_eq v) before) (bytes_swap v arm.0) ∙
+    (ap (λ t. bytes_eq arm.0 v || t) (same v) ∙ sym (any_select v arm.0 arm.1 row)))
     ∙ select_more row arm.0 arm.1 (select_arms (arm.0 ∷ before) arms)))
 
 -- whether an arm for other is among them
@@ -249,7 +249,7 @@ other_select v row (arm ∷ arms) =
 
 pub plural_is : (a : Argument) (ordinal : Bool) (by : ℕ) (arms : List (Key × MsgParts))
     → plural_part (with_arms (with_offset (new_plural ordinal a) by) arms) ≡ PluralPart ordinal a.name by
-        (exact_arms [] arms) (named_arms [] arms)
+    (exact_arms [] arms) (named_arms [] arms)
 plural_is a ordinal by arms =
     ap plural_part (with_arms_is (with_offset (new_plural ordinal a) by) arms)
     ∙ (λ i. PluralPart ordinal a.name by (exact_is [] [] arms (λ m. refl) i) (named_is [] [] arms (λ d. refl) i))
@@ -260,10 +260,10 @@ plural_before plural arms = ap (λ (p : OpenPlural). p.before) (with_arms_is plu
 
 pub plural_other : (a : Argument) (ordinal : Bool) (by : ℕ) (arms : List (Key × MsgParts))
     → has_category category.Other
-        (with_arms (with_offset (new_plural ordinal a) by) arms).named ≡ list_any is_other arms
+    (with_arms (with_offset (new_plural ordinal a) by) arms).named ≡ list_any is_other arms
 plural_other a ordinal by arms =
     ap (λ (p : OpenPlural). has_category category.Other p.named)
-        (with_arms_is (with_offset (new_plural ordinal a) by) arms) ∙ other_named [] arms
+    (with_arms_is (with_offset (new_plural ordinal a) by) arms) ∙ other_named [] arms
 
 pub select_is_part : (a : Argument) (arms : List (List ℕ × MsgParts))
     → select_part (with_words (new_select a) arms) ≡ SelectPart a.name (select_arms [] arms)
@@ -276,7 +276,7 @@ select_before select arms = ap (λ (s : OpenSelect). s.before) (with_words_is se
 
 pub select_other : (a : Argument) (arms : List (List ℕ × MsgParts))
     → has_word (codes "other") (with_words (new_select a) arms).arms ≡ list_any
-        (λ arm. bytes_eq arm.0 (codes "other")) arms
+    (λ arm. bytes_eq arm.0 (codes "other")) arms
 select_other a arms =
     ap (λ (s : OpenSelect). has_word (codes "other") s.arms) (with_words_is (new_select a) arms) ∙ other_select
-        (codes "other") [] arms
+    (codes "other") [] arms

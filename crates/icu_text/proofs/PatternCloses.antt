@@ -50,13 +50,13 @@ module _ (fs : List Frame) (inside : (l : List MsgPart × List ℕ) → Closes (
   key_closes p starts =
       let q : OpenPlural = with_arm p (arm_key.Named category.Other) no_part in
       led (in_text fs (q.before ++ plural_part q ∷ [], [])) (codes "other{}}") (λ more. rw (other_there p) refl)
-          (inside (q.before ++ plural_part q ∷ [], []))
+      (inside (q.before ++ plural_part q ∷ [], []))
 
   word_closes : (s : OpenSelect) → Closes (at fs (expected.Word s))
   word_closes s =
       let q : OpenSelect = with_word s (codes "other") no_part in
       led (in_text fs (q.before ++ select_part q ∷ [], [])) (codes "other{}}") (λ more. rw (word_there s) refl)
-          (inside (q.before ++ select_part q ∷ [], []))
+      (inside (q.before ++ select_part q ∷ [], []))
 
   arm_closes : (p : OpenPlural) (key : ArmKey) → Closes (at fs (expected.KeyLetter p key []))
   arm_closes p key = led (at fs (expected.Key (with_arm p key no_part) false)) (codes "{}") (λ more. refl)
@@ -70,7 +70,7 @@ module _ (fs : List Frame) (inside : (l : List MsgPart × List ℕ) → Closes (
   o_closes : (p : OpenPlural) (starts : Bool) → Closes (at fs (expected.KeyAfterO p starts))
   o_closes p starts =
       led (at fs (expected.KeyLetter p (arm_key.Named category.Other) [])) (codes "ther") (λ more. refl)
-          (arm_closes p (arm_key.Named category.Other))
+      (arm_closes p (arm_key.Named category.Other))
 
   offset_closes : (p : OpenPlural) (v : ℕ) → Closes (at fs (expected.OffsetDigit p v))
   offset_closes p v = led (at fs (expected.KeyAfterO (with_offset p v) false)) (codes "o") (λ more. refl)
@@ -78,19 +78,19 @@ module _ (fs : List Frame) (inside : (l : List MsgPart × List ℕ) → Closes (
 
   key_letters : (letters : List ℕ) (p : OpenPlural) (key : ArmKey) (more : List ℕ)
       → parsed (letters ++ more) (at fs (expected.KeyLetter p key letters)) ≡ parsed more
-          (at fs (expected.KeyLetter p key []))
+      (at fs (expected.KeyLetter p key []))
   key_letters [] p key more = refl
   key_letters (l ∷ ls) p key more = rw (same l) (key_letters ls p key more)
 
   offset_letters : (letters : List ℕ) (p : OpenPlural) (more : List ℕ)
       → parsed (letters ++ more) (at fs (expected.OffsetLetter p letters)) ≡ parsed more
-          (at fs (expected.OffsetLetter p []))
+      (at fs (expected.OffsetLetter p []))
   offset_letters [] p more = refl
   offset_letters (l ∷ ls) p more = rw (same l) (offset_letters ls p more)
 
   choice_letters : (letters : List ℕ) (a : Argument) (kind : ChoiceKind) (more : List ℕ)
       → parsed (letters ++ more) (at fs (expected.ChoiceLetter a kind letters)) ≡ parsed more
-          (at fs (expected.ChoiceLetter a kind []))
+      (at fs (expected.ChoiceLetter a kind []))
   choice_letters [] a kind more = refl
   choice_letters (l ∷ ls) a kind more = rw (same l) (choice_letters ls a kind more)
 
@@ -115,13 +115,13 @@ module _ (fs : List Frame) (inside : (l : List MsgPart × List ℕ) → Closes (
       led (in_text fs (ps, t ++ codes "x")) (codes "x") (λ more. refl) (inside (ps, t ++ codes "x"))
   expected_closes (expected.Name before) =
       led (in_text fs (before ++ Placeholder (codes "x") ∷ [], [])) (codes "x}") (λ more. refl)
-          (inside (before ++ Placeholder (codes "x") ∷ [], []))
+      (inside (before ++ Placeholder (codes "x") ∷ [], []))
   expected_closes (expected.NameCharacter before name) =
       led (in_text fs (before ++ Placeholder name ∷ [], [])) (codes "}") (λ more. refl)
-          (inside (before ++ Placeholder name ∷ [], []))
+      (inside (before ++ Placeholder name ∷ [], []))
   expected_closes (expected.NameEnd a) =
       led (in_text fs (a.before ++ Placeholder a.name ∷ [], [])) (codes "}") (λ more. refl)
-          (inside (a.before ++ Placeholder a.name ∷ [], []))
+      (inside (a.before ++ Placeholder a.name ∷ [], []))
   expected_closes (expected.Choice a) =
       led (at fs (opened a choice.Select)) (codes "select,") (λ more. refl) (opened_closes a choice.Select)
   expected_closes (expected.ChoiceLetter a kind letters) =
@@ -135,7 +135,7 @@ module _ (fs : List Frame) (inside : (l : List MsgPart × List ℕ) → Closes (
       led (at fs (expected.KeyLetter p key [])) letters (key_letters letters p key) (arm_closes p key)
   expected_closes (expected.OffsetLetter p letters) =
       led (at fs (expected.OffsetLetter p [])) letters (offset_letters letters p)
-          (led (at fs (expected.OffsetDigit p 0)) (codes "0") (λ more. refl) (offset_closes p 0))
+      (led (at fs (expected.OffsetDigit p 0)) (codes "0") (λ more. refl) (offset_closes p 0))
   expected_closes (expected.OffsetDigit p v) = offset_closes p v
   expected_closes (expected.ExactKey p) =
       led (at fs (expected.KeyDigit p false 0)) (codes "0") (λ more. refl) (digit_closes p false 0)

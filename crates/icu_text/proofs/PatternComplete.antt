@@ -65,7 +65,7 @@ brace_on fs h text l = rw (le-leb (length fs) 63 h) refl
 plural_choice_on : (ordinal : Bool) (text : List ℕ) → IsSpacedKeyword text (plural_keyword ordinal)
     → (tail : List ℕ) (fs : List Frame) (a : Argument)
     → parsed (text ++ tail) (at fs (expected.NameEnd a)) ≡ parsed tail
-        (at fs (expected.Key (new_plural ordinal a) true))
+    (at fs (expected.Key (new_plural ordinal a) true))
 plural_choice_on false text s tail fs a = choice_on choice.Plural text s tail fs a
 plural_choice_on true text s tail fs a = choice_on choice.Ordinal text s tail fs a
 
@@ -73,7 +73,7 @@ plural_choice_on true text s tail fs a = choice_on choice.Ordinal text s tail fs
 name_then : (text name word tail : List ℕ) → Rattle.soy_tree.specs.IcuText.IsSpacedName text name → (more : List ℕ)
     → word ≡ comma ∷ more → (fs : List Frame) (before : List MsgPart)
     → parsed (text ++ (word ++ tail)) (at fs (expected.Name before)) ≡ parsed (word ++ tail)
-        (at fs (expected.NameEnd (record { before = before; name = name })))
+    (at fs (expected.NameEnd (record { before = before; name = name })))
 name_then text name word tail s more e fs before =
     rw e (spaced_name_on text name s comma (more ++ tail) refl fs before)
 
@@ -100,14 +100,14 @@ arms_no_digit (plural_arm text white inside after' text' rest key ps arms k w r 
 
 offset_left : (inside : List ℕ) → begins_digit inside ≡ false → (fs : List Frame) (plural' : OpenPlural) (n : ℕ)
     → parsed inside (at fs (expected.OffsetDigit plural' n)) ≡ parsed inside
-        (at fs (expected.Key (with_offset plural' n) false))
+    (at fs (expected.Key (with_offset plural' n) false))
 offset_left [] h fs plural' n = refl
 offset_left (c ∷ cs) h fs plural' n = rw h refl
 
 offset_end_on : (white : List ℕ) → IsTrue (list_all is_template_space white) → (inside : List ℕ)
     → begins_digit inside ≡ false → (fs : List Frame) (plural' : OpenPlural) (n : ℕ)
     → parsed (white ++ inside) (at fs (expected.OffsetDigit plural' n)) ≡ parsed inside
-        (at fs (expected.Key (with_offset plural' n) false))
+    (at fs (expected.Key (with_offset plural' n) false))
 offset_end_on white h inside no_digit fs plural' n =
     through (at fs (expected.OffsetDigit plural' n)) (at fs (expected.Key (with_offset plural' n) false))
     (λ c w. let no : is_ascii_digit c ≡ false = white_fails is_ascii_digit refl refl refl refl c w in rw (no, w) refl)
@@ -124,7 +124,7 @@ joined_offset white digits after inside =
 offset_on : (offset : List ℕ) (by : ℕ) → IsOffset offset by → (inside : List ℕ) → begins_digit inside ≡ false
     → (fs : List Frame) (ordinal : Bool) (a : Argument)
     → (end : Option (List MsgPart))
-        → ((starts : Bool) → parsed inside (at fs (expected.Key (with_offset (new_plural ordinal a) by) starts)) ≡ end)
+    → ((starts : Bool) → parsed inside (at fs (expected.Key (with_offset (new_plural ordinal a) by) starts)) ≡ end)
     → parsed (offset ++ inside) (at fs (expected.Key (new_plural ordinal a) true)) ≡ end
 offset_on _ _ none inside no_digit fs ordinal a end e = e true
 offset_on _ _ (given white digits after n w h v) inside no_digit fs ordinal a end e =
@@ -139,21 +139,21 @@ mutual
   reads_on (stop rest) fs e d l = refl
   reads_on (plain c text rest ps qs h r w) fs e d l =
       step c text (in_text fs l) (in_text fs (l.0, l.1 ++ c ∷ []))
-          (plain_adds fs l.0 l.1 c (subst (λ s. is_plain s c ≡ true) (sym e) h))
+      (plain_adds fs l.0 l.1 c (subst (λ s. is_plain s c ≡ true) (sym e) h))
       ∙ (reads_on r fs e d (l.0, l.1 ++ c ∷ []) ∙ ap (λ m. parsed rest (in_text fs m))
-          (with_more l (c ∷ []) ps ∙ ap (with_parts l) (sym w)))
+      (with_more l (c ∷ []) ps ∙ ap (with_parts l) (sym w)))
   reads_on (two text rest ps qs r w) fs e d l =
       reads_on r fs e d (l.0, l.1 ++ single_quote ∷ [])
       ∙ ap (λ m. parsed rest (in_text fs m)) (with_more l (single_quote ∷ []) ps ∙ ap (with_parts l) (sym w))
   reads_on (single text rest ps qs h g r w) fs e d l =
       lone_on text fs l h (subst (λ s. begins_quotable s text ≡ false) (sym e) g)
       ∙ (reads_on r fs e d (l.0, l.1 ++ single_quote ∷ []) ∙ ap (λ m. parsed rest (in_text fs m))
-          (with_more l (single_quote ∷ []) ps ∙ ap (with_parts l) (sym w)))
+      (with_more l (single_quote ∷ []) ps ∙ ap (with_parts l) (sym w)))
   reads_on (quoted text chars after rest ps qs h q r w) fs e d l =
       quote_on text fs l (subst (λ s. begins_quotable s text ≡ true) (sym e) h)
       ∙ (quoted_on text chars after q fs l
       ∙ (reads_on r fs e d (l.0, l.1 ++ chars) ∙ ap (λ m. parsed rest (in_text fs m))
-          (with_more l chars ps ∙ ap (with_parts l) (sym w))))
+      (with_more l chars ps ∙ ap (with_parts l) (sym w))))
   reads_on (number text rest ps r) fs e d l =
       number_sign_on fs e text l ∙ reads_on r fs e d (all_parts l ++ NumberPart ∷ [], [])
   reads_on (argument {n = n} text after rest p ps a r) fs e d l =
@@ -162,7 +162,7 @@ mutual
       brace_on fs few text l
       ∙ (argument_on a after refl fs inside (all_parts l)
       ∙ (reads_on r fs e d (all_parts l ++ p ∷ [], []) ∙ ap (λ m. parsed rest (in_text fs m))
-          (with_part l p ps (no_text a))))
+      (with_part l p ps (no_text a))))
 
   pub argument_on : {n : ℕ} {text rest : List ℕ} {p : MsgPart} → IsArgument n text p rest → (after : List ℕ)
       → rest ≡ right_brace ∷ after
@@ -177,9 +177,9 @@ mutual
       ∙ (plural_choice_on ordinal word w (offset ++ inside) fs a
       ∙ (offset_on offset by o inside (arms_no_digit m after e) fs ordinal a _
       (λ starts. arms_on m after e fs d (with_offset (new_plural ordinal a) by) (plural_other a ordinal by arms ∙ h)
-          starts)
+      starts)
       ∙ (λ i. parsed after (in_text fs
-          (plural_before (with_offset (new_plural ordinal a) by) arms i ++ plural_is a ordinal by arms i ∷ [], [])))))
+      (plural_before (with_offset (new_plural ordinal a) by) arms i ++ plural_is a ordinal by arms i ∷ [], [])))))
   argument_on (select text word inside rest name arms s w m h) after e fs d before =
       let a : Argument = record { before = before; name = name } in
       name_then text name word inside s _ w.whole fs before
@@ -190,9 +190,9 @@ mutual
   pub arms_on : {n : ℕ} {text rest : List ℕ} {arms : List (Key × MsgParts)} → PluralArms n text arms rest
       → (after : List ℕ) → rest ≡ right_brace ∷ after
       → (fs : List Frame) → n + length fs ≡ 63 → (plural' : OpenPlural)
-          → has_category category.Other (with_arms plural' arms).named ≡ true → (starts : Bool)
+      → has_category category.Other (with_arms plural' arms).named ≡ true → (starts : Bool)
       → parsed text (at fs (expected.Key plural' starts)) ≡ parsed after
-          (in_text fs ((with_arms plural' arms).before ++ plural_part (with_arms plural' arms) ∷ [], []))
+      (in_text fs ((with_arms plural' arms).before ++ plural_part (with_arms plural' arms) ∷ [], []))
   arms_on (no_more rest) after e fs d plural' h starts =
       ap (λ l. parsed l (at fs (expected.Key plural' starts))) e ∙ rw h refl
   arms_on {n = n} (plural_arm text white inside more text' rest key ps arms k w r v m) after e fs d plural' h starts =
@@ -200,16 +200,16 @@ mutual
       key_on text key k white w inside fs plural' starts
       ∙ (reads_on r (frame.Plural plural' (arm_key_of key) ∷ fs) refl deeper ([], [])
       ∙ (ap (λ qs. parsed (more ++ text') (at fs (expected.Key (with_arm plural' (arm_key_of key) qs) false)))
-          (read_is ps (reads_joined r))
+      (read_is ps (reads_joined r))
       ∙ (stays (at fs (expected.Key (with_arm plural' (arm_key_of key) ps) false)) (λ c f. rw f refl) more text' v
       ∙ arms_on m after e fs d (with_arm plural' (arm_key_of key) ps) h false)))
 
   pub words_on : {n : ℕ} {text rest : List ℕ} {arms : List (List ℕ × MsgParts)} → WordArms n text arms rest
       → (after : List ℕ) → rest ≡ right_brace ∷ after
       → (fs : List Frame) → n + length fs ≡ 63 → (select' : OpenSelect)
-          → has_word (codes "other") (with_words select' arms).arms ≡ true
+      → has_word (codes "other") (with_words select' arms).arms ≡ true
       → parsed text (at fs (expected.Word select')) ≡ parsed after
-          (in_text fs ((with_words select' arms).before ++ select_part (with_words select' arms) ∷ [], []))
+      (in_text fs ((with_words select' arms).before ++ select_part (with_words select' arms) ∷ [], []))
   words_on (no_more_words rest) after e fs d select' h =
       ap (λ l. parsed l (at fs (expected.Word select'))) e ∙ rw h refl
   words_on {n = n} (word_arm word white inside more text rest ps arms k w r v m) after e fs d select' h =
@@ -217,7 +217,7 @@ mutual
       word_on word k white w inside fs select'
       ∙ (reads_on r (frame.Select select' word ∷ fs) refl deeper ([], [])
       ∙ (ap (λ qs. parsed (more ++ text) (at fs (expected.Word (with_word select' word qs))))
-          (read_is ps (reads_joined r))
+      (read_is ps (reads_joined r))
       ∙ (stays (at fs (expected.Word (with_word select' word ps))) (λ c f. rw f refl) more text v
       ∙ words_on m after e fs d (with_word select' word ps) h)))
 

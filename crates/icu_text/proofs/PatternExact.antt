@@ -47,7 +47,7 @@ ended : (fs : List Frame) (out : List MsgPart) (x : Expected) (n : ℕ) → whol
 ended [] out (expected.Text ps t quoting.Unquoted) n e = end_text n out ps t e
 ended [] out (expected.Text ps t quoting.Apostrophe) n e =
     more_text (ps, t) (single_quote ∷ []) (single_quote ∷ []) []
-        (λ qs rest r. icu.single [] rest qs (with_text (single_quote ∷ []) qs) refl refl r refl)
+    (λ qs rest r. icu.single [] rest qs (with_text (single_quote ∷ []) qs) refl refl r refl)
     (end_text n out ps (t ++ single_quote ∷ []) e)
 ended [] out (expected.Text ps t quoting.Quoted) n e = record {
   chars = [];
@@ -84,7 +84,7 @@ ended fs out (expected.WordEnd s word) n e = none_some _ e
 
 module _ (cs : List ℕ) (out : List MsgPart)
     (hyp : (fs : List Frame) (x : Expected) (n : ℕ) → n + length fs ≡ braces x → Fits x → parsed cs (at fs x) ≡ Some out
-        → Left fs n out x cs) where
+    → Left fs n out x cs) where
   stepped : (fs : List Frame) (x : Expected) (n c : ℕ) → n + length fs ≡ braces x → Fits x
       → parsed_from (parsed cs) (next_at x fs c) ≡ Some out
       → Left fs n out x (c ∷ cs)
@@ -122,7 +122,7 @@ pub parsed_pattern : (text : List ℕ) (out : List MsgPart) → parsed text patt
     → IsPattern text (parts_of out)
 parsed_pattern text out e =
     let l : TextLeft [] 64 out ([], []) text = sound text out [] (expected.Text [] [] quoting.Unquoted) 64
-        (omega arith) tt e in
+    (omega arith) tt e in
     subst (λ q. Reads AtTop 64 text q []) (sym l.ends.1) (subst (λ r. Reads AtTop 64 text l.parts r) l.ends.0 l.reads)
 
 -- what was read begins a pattern, and what begins one is read

@@ -124,10 +124,10 @@ abbrev pub Ends : List Frame → ℕ → List MsgPart → MsgParts → List ℕ 
 Ends [] n out ps rest = (rest ≡ []) × (parts_of out ≡ ps)
 Ends (frame.Plural plural key ∷ fs) n out ps rest =
     Behind right_brace (After (IsArms n (IsText (pattern_mode fs) (suc n) (Ends fs (suc n) out))
-        (with_arm plural key ps))) rest
+    (with_arm plural key ps))) rest
 Ends (frame.Select select word ∷ fs) n out ps rest =
     Behind right_brace (After (IsWords n (IsText (pattern_mode fs) (suc n) (Ends fs (suc n) out))
-        (with_word select word ps))) rest
+    (with_word select word ps))) rest
 
 module _ (fs : List Frame) (n : ℕ) (out : List MsgPart) where
   abbrev pub TextLeft : List MsgPart × List ℕ → List ℕ → Type 0

@@ -46,7 +46,7 @@ stays s next (c ∷ white) text h =
 pub through : (s to : PatternState) → ((c : ℕ) → is_template_space c ≡ true → pattern_next s c ≡ Some to)
     → ((c : ℕ) → is_template_space c ≡ true → pattern_next to c ≡ Some to) → (white text : List ℕ)
     → IsTrue (list_all is_template_space white) → parsed text s ≡ parsed text to
-        → parsed (white ++ text) s ≡ parsed text to
+    → parsed (white ++ text) s ≡ parsed text to
 through s to first next [] text h e = e
 through s to first next (c ∷ white) text h e =
     step c (white ++ text) s to (first c (and_left (is_template_space c) (list_all is_template_space white) h))

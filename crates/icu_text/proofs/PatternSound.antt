@@ -83,14 +83,14 @@ arm_left fs n out p text key tail k e =
     let m = a.left in
     let inside : Reads InPlural n b.tail t.parts (right_brace ∷ (a.white ++ a.tail)) =
     subst (λ l. Reads InPlural n b.tail t.parts (right_brace ∷ l)) a.whole
-        (subst (λ l. Reads InPlural n b.tail t.parts l) x.whole t.reads) in
+    (subst (λ l. Reads InPlural n b.tail t.parts l) x.whole t.reads) in
     record {
       arms = (key, t.parts) ∷ m.arms;
       rest = m.rest;
       reads = subst (λ l. icu.PluralArms n (text ++ l) ((key, t.parts) ∷ m.arms) (right_brace ∷ m.rest))
           (sym (e.whole ∙ ap (λ l. e.white ++ l) b.whole))
           (icu.plural_arm text e.white b.tail a.white a.tail (right_brace ∷ m.rest) key t.parts m.arms k e.is_white
-              inside a.is_white m.reads);
+          inside a.is_white m.reads);
       other = m.other;
       follows = m.follows;
     }
@@ -105,14 +105,14 @@ word_left fs n out s word tail k e =
     let m = a.left in
     let inside : Reads InSelect n b.tail t.parts (right_brace ∷ (a.white ++ a.tail)) =
     subst (λ l. Reads InSelect n b.tail t.parts (right_brace ∷ l)) a.whole
-        (subst (λ l. Reads InSelect n b.tail t.parts l) x.whole t.reads) in
+    (subst (λ l. Reads InSelect n b.tail t.parts l) x.whole t.reads) in
     record {
       arms = (word, t.parts) ∷ m.arms;
       rest = m.rest;
       reads = subst (λ l. icu.WordArms n (word ++ l) ((word, t.parts) ∷ m.arms) (right_brace ∷ m.rest))
           (sym (e.whole ∙ ap (λ l. e.white ++ l) b.whole))
           (icu.word_arm word e.white b.tail a.white a.tail (right_brace ∷ m.rest) t.parts m.arms k e.is_white inside
-              a.is_white m.reads);
+          a.is_white m.reads);
       other = m.other;
       follows = m.follows;
     }

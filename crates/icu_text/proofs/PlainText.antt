@@ -34,7 +34,7 @@ plain_adds (frame.Plural plural key ∷ fs) ps t c =
     (λ a. equal_or (Adds (frame.Plural plural key ∷ fs) ps t) c 123 (λ e. absurd (cc e))
     (λ b. equal_or (Adds (frame.Plural plural key ∷ fs) ps t) c 125 (λ e. absurd (cc e))
     (λ d. equal_or (Adds (frame.Plural plural key ∷ fs) ps t) c 35 (λ e. absurd (cc e))
-        (λ f. λ e. rw (a, b, d, f) refl))))
+    (λ f. λ e. rw (a, b, d, f) refl))))
 plain_adds (frame.Select select word ∷ fs) ps t c =
     equal_or (Adds (frame.Select select word ∷ fs) ps t) c 39 (λ e. absurd (cc e))
     (λ a. equal_or (Adds (frame.Select select word ∷ fs) ps t) c 123 (λ e. absurd (cc e))
@@ -65,7 +65,7 @@ pub quote_on : (text : List ℕ) (fs : List Frame) (l : List MsgPart × List ℕ
 quote_on [] fs l h = absurd (cc h)
 quote_on (c ∷ cs) fs l h =
     let no : (c == 39) ≡ false = not_that (is_quotable (pattern_mode fs)) 39
-        (quotable_quote (pattern_mode fs)) c h in rw (no, h) refl
+    (quotable_quote (pattern_mode fs)) c h in rw (no, h) refl
 
 quoted_end : (fs : List Frame) (l : List MsgPart × List ℕ)
     → whole_pattern (quoting_in fs l quoting.Quoted) ≡ whole_pattern (in_text fs l)
@@ -94,4 +94,4 @@ quoted_on _ _ _ (doubled text chars rest q) fs l =
 quoted_on _ _ _ (character c text chars rest other q) fs l =
     let no : (c == 39) ≡ false = grind (arith, nat_tests, other) in
     rw no (quoted_on text chars rest q fs (l.0, l.1 ++ c ∷ []) ∙ ap (λ t. parsed rest (in_text fs (l.0, t)))
-        (append_assoc l.1 (c ∷ []) chars))
+    (append_assoc l.1 (c ∷ []) chars))

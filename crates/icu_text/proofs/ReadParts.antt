@@ -139,7 +139,7 @@ read_are l (part (TextPart []) ps) h = absurd h
 read_are l (part (TextPart (d ∷ ds)) ps) h =
     read_are (l.0, l.1 ++ d ∷ ds) ps (joined_weakly ps h)
     ∙ (ap (after_parts l.0) (texts_join l.1 (d ∷ ds) ps) ∙ ap (λ q. after_parts l.0 (with_text l.1 q))
-        (text_alone d ds ps h))
+    (text_alone d ds ps h))
 read_are l (part (Placeholder name) ps) h =
     read_are (finished l.0 l.1 ++ Placeholder name ∷ [], []) ps h ∙ finished_then l.0 l.1 (Placeholder name) ps tt
 read_are l (part NumberPart ps) h =

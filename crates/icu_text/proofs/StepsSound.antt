@@ -147,20 +147,20 @@ exact_left fs n out p text a = by a.left
         (Numbered (NumberLeft fs n out p true)) a.tail → ArmsLeft fs n out p (equals_sign ∷ text)
     by (inl v) =
         subst (λ t. ArmsLeft fs n out p (equals_sign ∷ t))
-            (append_assoc a.white v.digits v.tail ∙ sym (a.whole ∙ ap (λ t. a.white ++ t) v.whole))
+        (append_assoc a.white v.digits v.tail ∙ sym (a.whole ∙ ap (λ t. a.white ++ t) v.whole))
         (arm_left fs n out p (equals_sign ∷ (a.white ++ v.digits)) (Exact (pos v.value)) v.tail
-            (icu.exact a.white v.digits v.value a.is_white v.is) v.left)
+        (icu.exact a.white v.digits v.value a.is_white v.is) v.left)
     by (inr b) =
         let v = b.left in
         subst (λ t. ArmsLeft fs n out p (equals_sign ∷ t))
         (append_assoc a.white (minus_sign ∷ v.digits) v.tail ∙ sym
-            (a.whole ∙ ap (λ t. a.white ++ t) (b.whole ∙ ap (λ t. minus_sign ∷ t) v.whole)))
+        (a.whole ∙ ap (λ t. a.white ++ t) (b.whole ∙ ap (λ t. minus_sign ∷ t) v.whole)))
         (arm_left fs n out p (equals_sign ∷ (a.white ++ minus_sign ∷ v.digits)) (Exact (neg_ℤ (pos v.value))) v.tail
         (icu.negative a.white v.digits v.value a.is_white v.is) v.left)
 
 module _ (cs : List ℕ) (out : List MsgPart)
     (hyp : (fs : List Frame) (x : Expected) (n : ℕ) → n + length fs ≡ braces x → Fits x → parsed cs (at fs x) ≡ Some out
-        → Left fs n out x cs) where
+    → Left fs n out x cs) where
   abbrev Parsed : Option PatternState → Type 0
   Parsed to = parsed_from (parsed cs) to ≡ Some out
 
@@ -178,7 +178,7 @@ module _ (cs : List ℕ) (out : List MsgPart)
       → TextLeft fs n out (ps, t) (left_brace ∷ cs)
   brace_left fs n ps t d e =
       holds_or _ (nat_le (length fs) 63) (λ h. few n d (leb-true (length fs) 63 h) (rw h at e))
-          (λ h. none_some _ (rw h at e))
+      (λ h. none_some _ (rw h at e))
     where
       few : (n : ℕ) → n + length fs ≡ 64 → length fs ≤ 63 → parsed cs (at fs (expected.Name (finished ps t))) ≡ Some out
           → TextLeft fs n out (ps, t) (left_brace ∷ cs)
@@ -210,7 +210,7 @@ module _ (cs : List ℕ) (out : List MsgPart)
   number_left [] n ps t d e = add_left [] n ps t number_sign d refl e
   number_left (frame.Plural p key ∷ fs) n ps t d e =
       number_text (ps, t) cs (hyp (frame.Plural p key ∷ fs)
-          (expected.Text (finished ps t ++ NumberPart ∷ []) [] quoting.Unquoted) n d tt e)
+      (expected.Text (finished ps t ++ NumberPart ∷ []) [] quoting.Unquoted) n d tt e)
   number_left (frame.Select s word ∷ fs) n ps t d e = add_left (frame.Select s word ∷ fs) n ps t number_sign d refl e
 
   plain_by : (fs : List Frame) (c : ℕ) → (c == 39) ≡ false → (c == 123) ≡ false → (c == 125) ≡ false → (c == 35) ≡ false
@@ -236,7 +236,7 @@ module _ (cs : List ℕ) (out : List MsgPart)
   quotes_left fs n ps t c a q l =
       more_text (ps, t) (c ∷ l.chars) (single_quote ∷ (c ∷ cs)) l.after
       (λ qs rest r. icu.quoted (c ∷ cs) (c ∷ l.chars) l.after rest qs (with_text (c ∷ l.chars) qs) q
-          (icu.character c cs l.chars l.after (other_than c 39 a) l.quoted) r refl)
+      (icu.character c cs l.chars l.after (other_than c 39 a) l.quoted) r refl)
       (subst (λ u. TextLeft fs n out (ps, u) l.after) (append_assoc t (c ∷ []) l.chars) l.left)
 
   pub apostrophe_left : (fs : List Frame) (n : ℕ) (ps : List MsgPart) (t : List ℕ) (c : ℕ) → n + length fs ≡ 64
@@ -244,21 +244,21 @@ module _ (cs : List ℕ) (out : List MsgPart)
       → TextLeft fs n out (ps, t) (single_quote ∷ (c ∷ cs))
   apostrophe_left fs n ps t c d =
       let P : ℕ → Type 0 = λ k. Parsed (steps.apostrophe_next fs ps t k)
-          → TextLeft fs n out (ps, t) (single_quote ∷ (k ∷ cs)) in
+      → TextLeft fs n out (ps, t) (single_quote ∷ (k ∷ cs)) in
       equal_or P c 39
       (λ e. more_text (ps, t) (single_quote ∷ []) (single_quote ∷ (single_quote ∷ cs)) cs
       (λ qs rest r. icu.two cs rest qs (with_text (single_quote ∷ []) qs) r refl)
-          (hyp fs (expected.Text ps (t ++ single_quote ∷ []) quoting.Unquoted) n d tt e))
+      (hyp fs (expected.Text ps (t ++ single_quote ∷ []) quoting.Unquoted) n d tt e))
       (λ a. λ e. holds_or _ (is_quotable (pattern_mode fs) c)
       (λ q. quotes_left fs n ps t c a q
-          (hyp fs (expected.Text ps (t ++ c ∷ []) quoting.Quoted) n d tt (rw (a, q) at e)))
+      (hyp fs (expected.Text ps (t ++ c ∷ []) quoting.Quoted) n d tt (rw (a, q) at e)))
       (λ q. more_text (ps, t) (single_quote ∷ []) (single_quote ∷ (c ∷ cs)) (c ∷ cs)
       (λ qs rest r. icu.single (c ∷ cs) rest qs (with_text (single_quote ∷ []) qs) a q r refl)
-          (plain_left fs n ps (t ++ single_quote ∷ []) c d
+      (plain_left fs n ps (t ++ single_quote ∷ []) c d
       (subst (λ b. Parsed (if b then steps.add_next fs ps t quoting.Quoted c else steps.plain_next fs ps
-          (t ++ single_quote ∷ []) c)) q
+      (t ++ single_quote ∷ []) c)) q
       (subst (λ b. Parsed (if b then steps.add_next fs ps t quoting.Unquoted single_quote else
-          (if is_quotable (pattern_mode fs) c then steps.add_next fs ps t quoting.Quoted c
+      (if is_quotable (pattern_mode fs) c then steps.add_next fs ps t quoting.Quoted c
       else steps.plain_next fs ps (t ++ single_quote ∷ []) c))) a e)))))
 
   pub quoted_left : (fs : List Frame) (n : ℕ) (ps : List MsgPart) (t : List ℕ) (c : ℕ) → n + length fs ≡ 64
@@ -268,7 +268,7 @@ module _ (cs : List ℕ) (out : List MsgPart)
       let P : ℕ → Type 0 = λ k. Parsed (steps.quoted_next fs ps t k) → QuotedLeft fs n out (ps, t) (k ∷ cs) in
       equal_or P c 39 (λ e. hyp fs (expected.Text ps t quoting.QuotedApostrophe) n d tt e)
       (λ a. λ e. let l : QuotedLeft fs n out (ps, t ++ c ∷ []) cs = hyp fs
-          (expected.Text ps (t ++ c ∷ []) quoting.Quoted) n d tt (rw a at e) in
+      (expected.Text ps (t ++ c ∷ []) quoting.Quoted) n d tt (rw a at e) in
       record {
         chars = c ∷ l.chars;
         after = l.after;
@@ -280,10 +280,10 @@ module _ (cs : List ℕ) (out : List MsgPart)
       → Parsed (steps.quoted_apostrophe_next fs ps t c) → QuotedLeft fs n out (ps, t) (single_quote ∷ (c ∷ cs))
   quoted_apostrophe_left fs n ps t c d =
       let P : ℕ → Type 0 = λ k. Parsed (steps.quoted_apostrophe_next fs ps t k)
-          → QuotedLeft fs n out (ps, t) (single_quote ∷ (k ∷ cs)) in
+      → QuotedLeft fs n out (ps, t) (single_quote ∷ (k ∷ cs)) in
       equal_or P c 39
       (λ e. let l : QuotedLeft fs n out (ps, t ++ single_quote ∷ []) cs = hyp fs
-          (expected.Text ps (t ++ single_quote ∷ []) quoting.Quoted) n d tt e in
+      (expected.Text ps (t ++ single_quote ∷ []) quoting.Quoted) n d tt e in
       record {
         chars = single_quote ∷ l.chars;
         after = l.after;
@@ -296,7 +296,7 @@ module _ (cs : List ℕ) (out : List MsgPart)
         quoted = icu.closed (c ∷ cs) a;
         left = subst (λ u. TextLeft fs n out (ps, u) (c ∷ cs)) (sym (append-nil t)) (plain_left fs n ps t c d
             (subst (λ b. Parsed (if b then steps.add_next fs ps t quoting.Quoted single_quote else steps.plain_next fs
-                ps t c)) a e));
+            ps t c)) a e));
       })
 
   -- a letter of a word
@@ -317,8 +317,8 @@ module _ (cs : List ℕ) (out : List MsgPart)
   name_left fs n before c d e =
       holds_or _ (is_template_space c) (λ w. head_after c w (hyp fs (expected.Name before) n d tt (rw w at e)))
       (λ w. holds_or _ (begins_name c)
-          (λ b. head_left fs n out before c cs b
-          (hyp fs (expected.NameCharacter before (c ∷ [])) n d tt (rw (w, b) at e)))
+      (λ b. head_left fs n out before c cs b
+      (hyp fs (expected.NameCharacter before (c ∷ [])) n d tt (rw (w, b) at e)))
       (λ b. none_some _ (rw (w, b) at e)))
 
   pub name_end_left : (fs : List Frame) (n : ℕ) (a : Argument) (c : ℕ) → n + length fs ≡ 63
@@ -328,32 +328,32 @@ module _ (cs : List ℕ) (out : List MsgPart)
       let P : ℕ → Type 0 = λ k. Parsed (steps.name_end_next fs a k) → After (NameTail fs n out a) (k ∷ cs) in
       equal_or P c 44 (λ e. unspaced (inr (behind comma (hyp fs (expected.Choice a) n d tt e))))
       (λ k. equal_or P c 125 (λ e. unspaced
-          (inl (behind right_brace (hyp fs (expected.Text (a.before ++ Placeholder a.name ∷ []) [] quoting.Unquoted)
-          (suc n) (omega (arith, d)) tt e))))
+      (inl (behind right_brace (hyp fs (expected.Text (a.before ++ Placeholder a.name ∷ []) [] quoting.Unquoted)
+      (suc n) (omega (arith, d)) tt e))))
       (λ g. λ e. holds_or _ (is_template_space c) (λ w. spaced c w (hyp fs (expected.NameEnd a) n d tt (rw w at e)))
-          (λ w. none_some _ (rw (w, k, g) at e))))
+      (λ w. none_some _ (rw (w, k, g) at e))))
 
   pub name_character_left : (fs : List Frame) (n : ℕ) (before : List MsgPart) (name : List ℕ) (c : ℕ)
       → n + length fs ≡ 63
       → Parsed (steps.name_character_next fs before name c)
-          → Left fs n out (expected.NameCharacter before name) (c ∷ cs)
+      → Left fs n out (expected.NameCharacter before name) (c ∷ cs)
   name_character_left fs n before name c d e =
       holds_or _ (continues_name c)
       (λ k. more_passed continues_name name c cs k
-          (hyp fs (expected.NameCharacter before (name ++ c ∷ [])) n d tt (rw k at e)))
+      (hyp fs (expected.NameCharacter before (name ++ c ∷ [])) n d tt (rw k at e)))
       (λ k. no_more_passed continues_name name (c ∷ cs)
-          (name_end_left fs n (record { before = before; name = name }) c d (rw k at e)))
+      (name_end_left fs n (record { before = before; name = name }) c d (rw k at e)))
 
   pub choice_left : (fs : List Frame) (n : ℕ) (a : Argument) (c : ℕ) → n + length fs ≡ 63
       → Parsed (steps.choice_next fs a c) → ChoiceLeft fs n out a (c ∷ cs)
   choice_left fs n a c d =
       let P : ℕ → Type 0 = λ k. Parsed (steps.choice_next fs a k) → ChoiceLeft fs n out a (k ∷ cs) in
       equal_or P c 112 (λ e. unspaced
-          (plural_kind (hyp fs (expected.ChoiceLetter a choice.Plural (codes "lural")) n d tt e)))
+      (plural_kind (hyp fs (expected.ChoiceLetter a choice.Plural (codes "lural")) n d tt e)))
       (λ p. equal_or P c 115 (λ e. unspaced
-          (select_kind (hyp fs (expected.ChoiceLetter a choice.Select (codes "elect")) n d tt e)))
+      (select_kind (hyp fs (expected.ChoiceLetter a choice.Select (codes "elect")) n d tt e)))
       (λ s. λ e. holds_or _ (is_template_space c) (λ w. spaced c w (hyp fs (expected.Choice a) n d tt (rw w at e)))
-          (λ w. none_some _ (rw (w, p, s) at e))))
+      (λ w. none_some _ (rw (w, p, s) at e))))
     where
       plural_kind : Lettered (codes "lural") (KindMore fs n out a choice.Plural) cs
           → IsKind (KindEndLeft fs n out a) (112 ∷ cs)
@@ -369,8 +369,13 @@ module _ (cs : List ℕ) (out : List MsgPart)
         where
           by : KindMore fs n out a choice.Select l.tail → IsKind (KindEndLeft fs n out a) (115 ∷ cs)
           by (inl k) = record { kind = choice.Select; tail = l.tail; whole = ap (λ t. 115 ∷ t) l.whole; left = k }
-          by (inr o) = record { kind = choice.Ordinal; tail = o.tail; whole = ap (λ t. 115 ∷ t)
-              (l.whole ∙ ap (λ t. codes "elect" ++ t) o.whole); left = o.left }
+          by (inr o) = record {
+            kind = choice.Ordinal;
+            tail = o.tail;
+            whole = ap (λ t. 115 ∷ t)
+                (l.whole ∙ ap (λ t. codes "elect" ++ t) o.whole);
+            left = o.left;
+          }
 
   pub kind_end_left : (fs : List Frame) (n : ℕ) (a : Argument) (kind : ChoiceKind) (c : ℕ) → n + length fs ≡ 63
       → Parsed (steps.choice_end_next fs a kind c)
@@ -379,7 +384,7 @@ module _ (cs : List ℕ) (out : List MsgPart)
       let P : ℕ → Type 0 = λ k. Parsed (steps.choice_end_next fs a kind k) → KindEndLeft fs n out a kind (k ∷ cs) in
       equal_or P c 44 (λ e. unspaced (behind comma (opens kind e)))
       (λ k. λ e. holds_or _ (is_template_space c)
-          (λ w. spaced c w (hyp fs (expected.ChoiceEnd a kind) n d tt (rw w at e))) (λ w. none_some _ (rw (w, k) at e)))
+      (λ w. spaced c w (hyp fs (expected.ChoiceEnd a kind) n d tt (rw w at e))) (λ w. none_some _ (rw (w, k) at e)))
     where
       opens : (kind : ChoiceKind) → parsed cs (at fs (opened a kind)) ≡ Some out → OpenedLeft fs n out a kind cs
       opens choice.Plural e = hyp fs (opened a choice.Plural) n d tt e
@@ -392,9 +397,9 @@ module _ (cs : List ℕ) (out : List MsgPart)
   kind_letters_end fs n a choice.Ordinal c d e = no_letters (inl (kind_end_left fs n a choice.Ordinal c d e))
   kind_letters_end fs n a choice.Select c d e =
       let P : ℕ → Type 0 = λ k. Parsed (steps.choice_letter_next fs a choice.Select [] k)
-          → Lettered [] (KindMore fs n out a choice.Select) (k ∷ cs) in
+      → Lettered [] (KindMore fs n out a choice.Select) (k ∷ cs) in
       equal_or P c 111 (λ e. no_letters
-          (inr (ordinal (hyp fs (expected.ChoiceLetter a choice.Ordinal (codes "rdinal")) n d tt e))))
+      (inr (ordinal (hyp fs (expected.ChoiceLetter a choice.Ordinal (codes "rdinal")) n d tt e))))
       (λ k. λ e. no_letters (inl (kind_end_left fs n a choice.Select c d (rw k at e)))) e
     where
       ordinal : Lettered (codes "rdinal") (KindMore fs n out a choice.Ordinal) cs
@@ -412,7 +417,7 @@ module _ (cs : List ℕ) (out : List MsgPart)
   choice_letter_left fs n a kind [] c d e = kind_letters_end fs n a kind c d e
   choice_letter_left fs n a kind (l ∷ ls) c d e =
       letter_left (KindMore fs n out a kind) fs (expected.ChoiceLetter a kind ls) l c ls
-          (hyp fs (expected.ChoiceLetter a kind ls) n d tt) e
+      (hyp fs (expected.ChoiceLetter a kind ls) n d tt) e
 
   -- keys
 
@@ -425,13 +430,13 @@ module _ (cs : List ℕ) (out : List MsgPart)
       (λ a. equal_or P c 125 ends
       (λ b. equal_or P c 111 (λ e. unspaced (hyp fs (expected.KeyAfterO p starts) n d tt e))
       (λ f. equal_or P c 122 (λ e. named category.Zero 122 (codes "ero") refl
-          (hyp fs (expected.KeyLetter p (arm_key.Named category.Zero) (codes "ero")) n d tt e))
+      (hyp fs (expected.KeyLetter p (arm_key.Named category.Zero) (codes "ero")) n d tt e))
       (λ g. equal_or P c 116 (λ e. named category.Two 116 (codes "wo") refl
-          (hyp fs (expected.KeyLetter p (arm_key.Named category.Two) (codes "wo")) n d tt e))
+      (hyp fs (expected.KeyLetter p (arm_key.Named category.Two) (codes "wo")) n d tt e))
       (λ h. equal_or P c 102 (λ e. named category.Few 102 (codes "ew") refl
-          (hyp fs (expected.KeyLetter p (arm_key.Named category.Few) (codes "ew")) n d tt e))
+      (hyp fs (expected.KeyLetter p (arm_key.Named category.Few) (codes "ew")) n d tt e))
       (λ i. equal_or P c 109 (λ e. named category.Many 109 (codes "any") refl
-          (hyp fs (expected.KeyLetter p (arm_key.Named category.Many) (codes "any")) n d tt e))
+      (hyp fs (expected.KeyLetter p (arm_key.Named category.Many) (codes "any")) n d tt e))
       (λ j. λ e. holds_or _ (is_template_space c) (λ w. spaced c w (hyp fs (expected.Key p starts) n d tt (rw w at e)))
       (λ w. none_some _ (rw (w, a, b, f, g, h, i, j) at e)))))))))
     where
@@ -460,12 +465,12 @@ module _ (cs : List ℕ) (out : List MsgPart)
       → KeyTail fs n out starts p (111 ∷ (c ∷ cs))
   key_after_o_left fs n p starts c d =
       let P : ℕ → Type 0 = λ k. Parsed (steps.key_after_o_next fs p starts k)
-          → KeyTail fs n out starts p (111 ∷ (k ∷ cs)) in
+      → KeyTail fs n out starts p (111 ∷ (k ∷ cs)) in
       equal_or P c 110 (λ e. arms_tail fs n out starts p _
-          (keyword_left fs n out p category.One (codes "on") (codes "e") cs refl
+      (keyword_left fs n out p category.One (codes "on") (codes "e") cs refl
       (hyp fs (expected.KeyLetter p (arm_key.Named category.One) (codes "e")) n d tt e)))
       (λ a. equal_or P c 116 (λ e. arms_tail fs n out starts p _
-          (keyword_left fs n out p category.Other (codes "ot") (codes "her") cs refl
+      (keyword_left fs n out p category.Other (codes "ot") (codes "her") cs refl
       (hyp fs (expected.KeyLetter p (arm_key.Named category.Other) (codes "her")) n d tt e)))
       (λ b. equal_or P c 102 (offset starts) (λ f. λ e. none_some _ (rw (a, b, f) at e))))
     where
@@ -474,7 +479,7 @@ module _ (cs : List ℕ) (out : List MsgPart)
       offset false e = none_some _ e
       offset true e =
           let l : Lettered (codes "fset:") (OffsetLeft fs n out p) cs = hyp fs
-              (expected.OffsetLetter p (codes "fset:")) n d tt e in
+          (expected.OffsetLetter p (codes "fset:")) n d tt e in
           inr (record { tail = l.tail; whole = ap (λ t. 111 ∷ (102 ∷ t)) l.whole; left = l.left })
 
   key_end_left : (fs : List Frame) (n : ℕ) (p : OpenPlural) (key : ArmKey) (c : ℕ) → n + length fs ≡ 63
@@ -483,11 +488,11 @@ module _ (cs : List ℕ) (out : List MsgPart)
   key_end_left fs n p key c d =
       let P : ℕ → Type 0 = λ k. Parsed (steps.key_end_next fs p key k) → KeyEndLeft fs n out p key (k ∷ cs) in
       equal_or P c 123 (λ e. unspaced
-          (behind left_brace (hyp (frame.Plural p key ∷ fs) (expected.Text [] [] quoting.Unquoted) n (omega (arith, d))
-          tt e)))
+      (behind left_brace (hyp (frame.Plural p key ∷ fs) (expected.Text [] [] quoting.Unquoted) n (omega (arith, d))
+      tt e)))
       (λ k. λ e. holds_or _ (is_template_space c)
       (λ w. let l : Lettered [] (KeyEndLeft fs n out p key) cs = hyp fs (expected.KeyLetter p key []) n d tt (rw w at e)
-          in spaced c w (all_letters l))
+      in spaced c w (all_letters l))
       (λ w. none_some _ (rw (w, k) at e)))
 
   pub key_letter_left : (fs : List Frame) (n : ℕ) (p : OpenPlural) (key : ArmKey) (letters : List ℕ) (c : ℕ)
@@ -496,21 +501,21 @@ module _ (cs : List ℕ) (out : List MsgPart)
   key_letter_left fs n p key [] c d e = no_letters (key_end_left fs n p key c d e)
   key_letter_left fs n p key (l ∷ ls) c d e =
       letter_left (KeyEndLeft fs n out p key) fs (expected.KeyLetter p key ls) l c ls
-          (hyp fs (expected.KeyLetter p key ls) n d tt) e
+      (hyp fs (expected.KeyLetter p key ls) n d tt) e
 
   pub offset_letter_left : (fs : List Frame) (n : ℕ) (p : OpenPlural) (letters : List ℕ) (c : ℕ) → n + length fs ≡ 63
       → Parsed (steps.offset_letter_next fs p letters c) → Lettered letters (OffsetLeft fs n out p) (c ∷ cs)
   offset_letter_left fs n p [] c d e =
       holds_or _ (is_template_space c)
       (λ w. let l : Lettered [] (OffsetLeft fs n out p) cs = hyp fs (expected.OffsetLetter p []) n d tt (rw w at e) in
-          no_letters (spaced c w (all_letters l)))
+      no_letters (spaced c w (all_letters l)))
       (λ w. holds_or _ (is_ascii_digit c)
       (λ g. no_letters (unspaced (numbered c cs g
-          (hyp fs (expected.OffsetDigit p (c - 48)) n d (first_fits c g) (rw (w, g) at e)))))
+      (hyp fs (expected.OffsetDigit p (c - 48)) n d (first_fits c g) (rw (w, g) at e)))))
       (λ g. none_some _ (rw (w, g) at e)))
   offset_letter_left fs n p (l ∷ ls) c d e =
       letter_left (OffsetLeft fs n out p) fs (expected.OffsetLetter p ls) l c ls
-          (hyp fs (expected.OffsetLetter p ls) n d tt) e
+      (hyp fs (expected.OffsetLetter p ls) n d tt) e
 
   pub offset_digit_left : (fs : List Frame) (n : ℕ) (p : OpenPlural) (v : ℕ) (c : ℕ) → n + length fs ≡ 63 → v ≤ largest
       → Parsed (steps.offset_digit_next fs p v c) → Left fs n out (expected.OffsetDigit p v) (c ∷ cs)
@@ -518,7 +523,7 @@ module _ (cs : List ℕ) (out : List MsgPart)
       holds_or _ (is_ascii_digit c)
       (λ g. holds_or _ (nat_le (more_digits v c) largest)
       (λ h. more_digit v c cs g (hyp fs (expected.OffsetDigit p (more_digits v c)) n d
-          (leb-true (more_digits v c) largest h) (rw (g, h) at e)))
+      (leb-true (more_digits v c) largest h) (rw (g, h) at e)))
       (λ h. none_some _ (rw (g, h) at e)))
       (λ g. no_more_digits v (c ∷ cs) f (key_left fs n (with_offset p v) false c d (rw g at e)))
 
@@ -527,7 +532,7 @@ module _ (cs : List ℕ) (out : List MsgPart)
       → Numbered (NumberLeft fs n out p minus) (c ∷ cs)
   first_digit_left fs n p minus c d e =
       holds_or _ (is_ascii_digit c) (λ g. numbered c cs g
-          (hyp fs (expected.KeyDigit p minus (c - 48)) n d (first_fits c g) (rw g at e)))
+      (hyp fs (expected.KeyDigit p minus (c - 48)) n d (first_fits c g) (rw g at e)))
       (λ g. none_some _ (rw g at e))
 
   pub negative_left : (fs : List Frame) (n : ℕ) (p : OpenPlural) (c : ℕ) → n + length fs ≡ 63
@@ -551,7 +556,7 @@ module _ (cs : List ℕ) (out : List MsgPart)
       holds_or _ (is_ascii_digit c)
       (λ g. holds_or _ (nat_le (more_digits v c) largest)
       (λ h. more_digit v c cs g (hyp fs (expected.KeyDigit p minus (more_digits v c)) n d
-          (leb-true (more_digits v c) largest h) (rw (g, h) at e)))
+      (leb-true (more_digits v c) largest h) (rw (g, h) at e)))
       (λ h. none_some _ (rw (g, h) at e)))
       (λ g. no_more_digits v (c ∷ cs) f (key_end_left fs n p (arm_key.Exact (signed minus v)) c d (rw g at e)))
 
@@ -563,17 +568,17 @@ module _ (cs : List ℕ) (out : List MsgPart)
   word_end_left fs n s word c d =
       let P : ℕ → Type 0 = λ k. Parsed (steps.word_end_next fs s word k) → WordEndLeft fs n out s word (k ∷ cs) in
       equal_or P c 123 (λ e. unspaced
-          (behind left_brace (hyp (frame.Select s word ∷ fs) (expected.Text [] [] quoting.Unquoted) n (omega (arith, d))
-          tt e)))
+      (behind left_brace (hyp (frame.Select s word ∷ fs) (expected.Text [] [] quoting.Unquoted) n (omega (arith, d))
+      tt e)))
       (λ k. λ e. holds_or _ (is_template_space c)
-          (λ w. spaced c w (hyp fs (expected.WordEnd s word) n d tt (rw w at e))) (λ w. none_some _ (rw (w, k) at e)))
+      (λ w. spaced c w (hyp fs (expected.WordEnd s word) n d tt (rw w at e))) (λ w. none_some _ (rw (w, k) at e)))
 
   pub word_character_left : (fs : List Frame) (n : ℕ) (s : OpenSelect) (word : List ℕ) (c : ℕ) → n + length fs ≡ 63
       → Parsed (steps.word_character_next fs s word c) → Left fs n out (expected.WordCharacter s word) (c ∷ cs)
   word_character_left fs n s word c d e =
       holds_or _ (is_word_character c)
       (λ k. more_passed is_word_character word c cs k
-          (hyp fs (expected.WordCharacter s (word ++ c ∷ [])) n d tt (rw k at e)))
+      (hyp fs (expected.WordCharacter s (word ++ c ∷ [])) n d tt (rw k at e)))
       (λ k. no_more_passed is_word_character word (c ∷ cs) (word_end_left fs n s word c d (rw k at e)))
 
   words_made : (fs : List Frame) (n : ℕ) (s : OpenSelect) (c : ℕ) → is_word_character c ≡ true
@@ -582,8 +587,11 @@ module _ (cs : List ℕ) (out : List MsgPart)
   words_made fs n s c k p =
       subst (λ t. WordsLeft fs n out s (c ∷ t)) (sym p.whole)
       (word_left fs n out s (c ∷ p.more) p.tail
-      (record { characters = and_both (is_word_character c) (list_all is_word_character p.more) k p.passes; some = λ e.
-          cc e }) p.left)
+      (record {
+        characters = and_both (is_word_character c) (list_all is_word_character p.more) k p.passes;
+        some = λ e.
+            cc e;
+      }) p.left)
 
   pub word_step_left : (fs : List Frame) (n : ℕ) (s : OpenSelect) (c : ℕ) → n + length fs ≡ 63
       → Parsed (steps.word_next fs s c)

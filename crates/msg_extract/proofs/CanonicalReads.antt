@@ -49,9 +49,9 @@ module _ (uses : List Use) where
       → Reads mode (suc n) (written_name name ++ rest) (part (Placeholder name) ps) end
   name_reads mode n name h rest end ps r =
       subst (λ t. Reads mode (suc n) (left_brace ∷ t) (part (Placeholder name) ps) end)
-          (sym (append_assoc name (right_brace ∷ []) rest))
+      (sym (append_assoc name (right_brace ∷ []) rest))
       (icu.argument (name ++ right_brace ∷ rest) rest end (Placeholder name) ps
-          (icu.placeholder name (right_brace ∷ rest) name (spaced_name name h)) r)
+      (icu.placeholder name (right_brace ∷ rest) name (spaced_name name h)) r)
 
   cuts_no_quote : (flag : Bool) (cuts : List Cut) → AreCuts false cuts → (rest : List ℕ)
       → begins_with_quote rest ≡ false
@@ -75,23 +75,23 @@ module _ (uses : List Use) where
   cuts_reads mode n (TextCut items ∷ cuts) h rest q =
       subst (λ t. Reads mode (suc n) t (cut_parts uses (TextCut items ∷ cuts)) rest)
       (sym (append_assoc (written_text (in_plural mode) (text_of_items items)) (written_cuts uses (in_plural mode) cuts)
-          rest))
+      rest))
       (text_reads mode (suc n) (written_cuts uses (in_plural mode) cuts ++ rest) (cut_parts uses cuts) rest
-          (cuts_no_quote (in_plural mode) cuts h rest q)
+      (cuts_no_quote (in_plural mode) cuts h rest q)
       (cuts_reads mode n cuts (cuts_weaker false cuts h) rest q) (text_of_items items))
   cuts_reads mode n (PrintCut e phname span ∷ cuts) h rest q =
       let name : Name = name_of uses (base_of_print e phname) (ExprContent e) in
       subst (λ t. Reads mode (suc n) t (cut_parts uses (PrintCut e phname span ∷ cuts)) rest)
       (sym (append_assoc (written_name name) (written_cuts uses (in_plural mode) cuts) rest))
       (name_reads mode n name (name_is uses (base_of_print e phname) (ExprContent e) h.0)
-          (written_cuts uses (in_plural mode) cuts ++ rest) rest (cut_parts uses cuts)
+      (written_cuts uses (in_plural mode) cuts ++ rest) rest (cut_parts uses cuts)
       (cuts_reads mode n cuts h.1 rest q))
   cuts_reads mode n (TagCut tag ∷ cuts) h rest q =
       let name : Name = name_of uses (base_of_tag tag) (TagContent tag) in
       subst (λ t. Reads mode (suc n) t (cut_parts uses (TagCut tag ∷ cuts)) rest)
       (sym (append_assoc (written_name name) (written_cuts uses (in_plural mode) cuts) rest))
       (name_reads mode n name (name_is uses (base_of_tag tag) (TagContent tag) (base_tag tag h.0))
-          (written_cuts uses (in_plural mode) cuts ++ rest) rest (cut_parts uses cuts)
+      (written_cuts uses (in_plural mode) cuts ++ rest) rest (cut_parts uses cuts)
       (cuts_reads mode n cuts h.1 rest q))
 
   found_reads : (mode : PatternMode) (n : ℕ) (found : Option (List Cut)) → Holds (AreCuts true) found → (rest : List ℕ)
@@ -128,8 +128,11 @@ offset_is (suc n) h = rw (none n) (icu.given [] (decimal (suc n)) (space ∷ [])
 
 word_is : (word : List ℕ) → is_case_word word ≡ true → IsWord word
 word_is [] h = absurd (cc h)
-word_is (c ∷ cs) h = record { characters = and_left (list_all is_word_character (c ∷ cs))
-    (not (bytes_eq (c ∷ cs) (codes "other"))) h; some = λ e. cc e }
+word_is (c ∷ cs) h = record {
+  characters = and_left (list_all is_word_character (c ∷ cs))
+      (not (bytes_eq (c ∷ cs) (codes "other"))) h;
+  some = λ e. cc e;
+}
 
 other_last : (arms : List (Key × MsgParts)) (ps : MsgParts)
     → list_any is_other (arms ++ (Named category.Other, ps) ∷ []) ≡ true
@@ -153,12 +156,26 @@ other_word_last (arm ∷ arms) ps = last (bytes_eq arm.0 (codes "other"))
     last false b e = e
 
 plural_spaced : IsSpacedKeyword (codes ", plural, ") (codes "plural")
-plural_spaced = record { before = codes " "; after = []; last = codes " "; white_before = refl; white_after = refl;
-    white_last = refl; whole = refl }
+plural_spaced = record {
+  before = codes " ";
+  after = [];
+  last = codes " ";
+  white_before = refl;
+  white_after = refl;
+  white_last = refl;
+  whole = refl;
+}
 
 select_spaced : IsSpacedKeyword (codes ", select, ") (codes "select")
-select_spaced = record { before = codes " "; after = []; last = codes " "; white_before = refl; white_after = refl;
-    white_last = refl; whole = refl }
+select_spaced = record {
+  before = codes " ";
+  after = [];
+  last = codes " ";
+  white_before = refl;
+  white_after = refl;
+  white_last = refl;
+  whole = refl;
+}
 
 -- a case's text, and what follows it
 case_then : (key text rest : List ℕ)
@@ -193,35 +210,35 @@ module _ (uses : List Use) where
     body_reads mode zero body f h rest q = absurd (omega (arith, h))
     body_reads mode (suc n) (Parts ns) f h rest q =
         found_reads uses mode n (cuts_of (message_items ns))
-            (text_cuts ns (and_left (are_formed_nodes ns) (is_message_text ns) f)) rest q
+        (text_cuts ns (and_left (are_formed_nodes ns) (is_message_text ns) f)) rest q
     body_reads mode (suc n) (Plural e offset cases other) f h rest q =
         let b = below (plural_nesting cases) (nesting other) n h in
         let name : Name = name_of uses (base_of_expr e) (ExprContent e) in
         let parts = four_parts (is_formed_expr e) (nat_le offset largest) (are_formed_plural_cases cases)
-            (is_formed_body other) f in
+        (is_formed_body other) f in
         let within : offset ≤ largest = leb-true offset largest parts.1 in
         let arms =
-            plural_reads n cases other parts.2 b.0 (λ end p. body_reads InPlural n other parts.3 b.1 end p) rest in
+        plural_reads n cases other parts.2 b.0 (λ end p. body_reads InPlural n other parts.3 b.1 end p) rest in
         let inside : List ℕ = written_plural_cases uses cases ++
-            (written_case (codes "other") (written_body uses true other) ++ right_brace ∷ []) in
+        (written_case (codes "other") (written_body uses true other) ++ right_brace ∷ []) in
         subst (λ t. Reads mode (suc n) (left_brace ∷ t) (body_parts uses (Plural e offset cases other)) rest)
         (sym (append_assoc name (codes ", plural, " ++ (written_offset offset ++ inside)) rest
         ∙ ap (λ t. name ++ (codes ", plural, " ++ t)) (append_assoc (written_offset offset) inside rest)))
         (icu.argument _ rest rest _ no_part
         (icu.plural name (codes ", plural, ") (written_offset offset) (inside ++ rest) (right_brace ∷ rest) name false
-            offset
+        offset
         (plural_case_parts uses cases ++ (Named category.Other, body_parts uses other) ∷ [])
         (spaced_name name (name_is uses (base_of_expr e) (ExprContent e) (expr_base e parts.0))) plural_spaced
-            (offset_is offset within) arms
+        (offset_is offset within) arms
         (other_last (plural_case_parts uses cases) (body_parts uses other))) (icu.stop rest))
     body_reads mode (suc n) (Select e cases other) f h rest q =
         let b = below (select_nesting cases) (nesting other) n h in
         let name : Name = name_of uses (base_of_expr e) (ExprContent e) in
         let parts = three_parts (is_formed_expr e) (are_formed_select_cases cases) (is_formed_body other) f in
         let arms =
-            select_reads n cases other parts.1 b.0 (λ end p. body_reads InSelect n other parts.2 b.1 end p) rest in
+        select_reads n cases other parts.1 b.0 (λ end p. body_reads InSelect n other parts.2 b.1 end p) rest in
         let inside : List ℕ = written_select_cases uses cases ++
-            (written_case (codes "other") (written_body uses false other) ++ right_brace ∷ []) in
+        (written_case (codes "other") (written_body uses false other) ++ right_brace ∷ []) in
         subst (λ t. Reads mode (suc n) (left_brace ∷ t) (body_parts uses (Select e cases other)) rest)
         (sym (append_assoc name (codes ", select, " ++ inside) rest))
         (icu.argument _ rest rest _ no_part
@@ -233,18 +250,18 @@ module _ (uses : List Use) where
     plural_reads : (n : ℕ) (cases : PluralCases) (other : MessageBody) → are_formed_plural_cases cases ≡ true
         → plural_nesting cases < n
         → ((end : List ℕ) → begins_with_quote end ≡ false → Reads InPlural n (written_body uses true other ++ end)
-            (body_parts uses other) end)
+        (body_parts uses other) end)
         → (rest : List ℕ)
         → PluralArms n ((written_plural_cases uses cases ++
-            (written_case (codes "other") (written_body uses true other) ++ right_brace ∷ [])) ++ rest)
+        (written_case (codes "other") (written_body uses true other) ++ right_brace ∷ [])) ++ rest)
         (plural_case_parts uses cases ++ (Named category.Other, body_parts uses other) ∷ []) (right_brace ∷ rest)
     plural_reads n no_plural_case other f h k rest =
         subst (λ t. PluralArms n t ((Named category.Other, body_parts uses other) ∷ []) (right_brace ∷ rest))
         (sym (append_assoc (written_case (codes "other") (written_body uses true other)) (right_brace ∷ []) rest
         ∙ case_then (codes "other") (written_body uses true other) (right_brace ∷ rest)))
         (icu.plural_arm (codes "other") (space ∷ [])
-            (written_body uses true other ++ right_brace ∷ (right_brace ∷ rest)) [] (right_brace ∷ rest)
-            (right_brace ∷ rest)
+        (written_body uses true other ++ right_brace ∷ (right_brace ∷ rest)) [] (right_brace ∷ rest)
+        (right_brace ∷ rest)
         (Named category.Other) (body_parts uses other) [] (icu.named category.Other) refl
         (k (right_brace ∷ (right_brace ∷ rest)) refl) refl (icu.no_more (right_brace ∷ rest)))
     plural_reads n (plural_case m body cases) other f h k rest =
@@ -255,12 +272,12 @@ module _ (uses : List Use) where
         let last : List ℕ = written_case (codes "other") (written_body uses true other) ++ right_brace ∷ [] in
         let tail : List ℕ = (written_plural_cases uses cases ++ last) ++ rest in
         subst (λ t. PluralArms n t ((Exact m, body_parts uses body) ∷
-            (plural_case_parts uses cases ++ (Named category.Other, body_parts uses other) ∷ [])) (right_brace ∷ rest))
+        (plural_case_parts uses cases ++ (Named category.Other, body_parts uses other) ∷ [])) (right_brace ∷ rest))
         (sym (ap (λ t. t ++ rest) (append_assoc (written_case key text) (space ∷ written_plural_cases uses cases) last)
         ∙ (append_assoc (written_case key text) (space ∷ (written_plural_cases uses cases ++ last)) rest ∙ case_then key
-            text (space ∷ tail))))
+        text (space ∷ tail))))
         (icu.plural_arm key (space ∷ []) (text ++ right_brace ∷ (space ∷ tail)) (space ∷ []) tail (right_brace ∷ rest)
-            (Exact m) (body_parts uses body)
+        (Exact m) (body_parts uses body)
         (plural_case_parts uses cases ++ (Named category.Other, body_parts uses other) ∷ []) (int_key m parts.0) refl
         (body_reads InPlural n body parts.1 b.0 (right_brace ∷ (space ∷ tail)) refl) refl
         (plural_reads n cases other parts.2 b.1 k rest))
@@ -268,17 +285,17 @@ module _ (uses : List Use) where
     select_reads : (n : ℕ) (cases : SelectCases) (other : MessageBody) → are_formed_select_cases cases ≡ true
         → select_nesting cases < n
         → ((end : List ℕ) → begins_with_quote end ≡ false → Reads InSelect n (written_body uses false other ++ end)
-            (body_parts uses other) end)
+        (body_parts uses other) end)
         → (rest : List ℕ)
         → WordArms n ((written_select_cases uses cases ++
-            (written_case (codes "other") (written_body uses false other) ++ right_brace ∷ [])) ++ rest)
+        (written_case (codes "other") (written_body uses false other) ++ right_brace ∷ [])) ++ rest)
         (select_case_parts uses cases ++ (codes "other", body_parts uses other) ∷ []) (right_brace ∷ rest)
     select_reads n no_select_case other f h k rest =
         subst (λ t. WordArms n t ((codes "other", body_parts uses other) ∷ []) (right_brace ∷ rest))
         (sym (append_assoc (written_case (codes "other") (written_body uses false other)) (right_brace ∷ []) rest
         ∙ case_then (codes "other") (written_body uses false other) (right_brace ∷ rest)))
         (icu.word_arm (codes "other") (space ∷ []) (written_body uses false other ++ right_brace ∷ (right_brace ∷ rest))
-            [] (right_brace ∷ rest) (right_brace ∷ rest)
+        [] (right_brace ∷ rest) (right_brace ∷ rest)
         (body_parts uses other) [] (record { characters = refl; some = λ e. cc e }) refl
         (k (right_brace ∷ (right_brace ∷ rest)) refl) refl (icu.no_more_words (right_brace ∷ rest)))
     select_reads n (select_case word body cases) other f h k rest =
@@ -288,12 +305,12 @@ module _ (uses : List Use) where
         let last : List ℕ = written_case (codes "other") (written_body uses false other) ++ right_brace ∷ [] in
         let tail : List ℕ = (written_select_cases uses cases ++ last) ++ rest in
         subst (λ t. WordArms n t ((word, body_parts uses body) ∷
-            (select_case_parts uses cases ++ (codes "other", body_parts uses other) ∷ [])) (right_brace ∷ rest))
+        (select_case_parts uses cases ++ (codes "other", body_parts uses other) ∷ [])) (right_brace ∷ rest))
         (sym (ap (λ t. t ++ rest) (append_assoc (written_case word text) (space ∷ written_select_cases uses cases) last)
         ∙ (append_assoc (written_case word text) (space ∷ (written_select_cases uses cases ++ last)) rest ∙ case_then
-            word text (space ∷ tail))))
+        word text (space ∷ tail))))
         (icu.word_arm word (space ∷ []) (text ++ right_brace ∷ (space ∷ tail)) (space ∷ []) tail (right_brace ∷ rest)
-            (body_parts uses body)
+        (body_parts uses body)
         (select_case_parts uses cases ++ (codes "other", body_parts uses other) ∷ []) (word_is word parts.0) refl
         (body_reads InSelect n body parts.1 b.0 (right_brace ∷ (space ∷ tail)) refl) refl
         (select_reads n cases other parts.2 b.1 k rest))
@@ -302,4 +319,4 @@ pub canonical_reads : (body : MessageBody) → is_formed_body body ≡ true → 
     → IsPattern (canonical_text body) (source_parts body)
 canonical_reads body f h =
     subst (λ t. Reads AtTop 64 t (source_parts body) []) (append-nil (canonical_text body))
-        (body_reads (body_uses body) AtTop 64 body f (omega (arith, h)) [] refl)
+    (body_reads (body_uses body) AtTop 64 body f (omega (arith, h)) [] refl)

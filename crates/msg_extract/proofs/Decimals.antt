@@ -11,7 +11,7 @@ module _ (test : ℕ → Bool) (passes : (n : ℕ) → test (digit_glyph false (
   onto_pass zero n more h = h
   onto_pass (suc k) n more h =
       let all : IsTrue (list_all test (digit_glyph false (n % 10) ∷ more)) =
-          and_both (test (digit_glyph false (n % 10))) (list_all test more) (passes n) h in
+      and_both (test (digit_glyph false (n % 10))) (list_all test more) (passes n) h in
       holds_or _ (n / 10 == 0) (λ e. rw e all)
       (λ e. rw e (onto_pass k (n / 10) (digit_glyph false (n % 10) ∷ more) all))
 

@@ -148,11 +148,11 @@ mutual
   after_cuts (Printed e phname span ∷ rest) text h =
       mapped (AreCuts true) (AreCuts true) (λ cuts. text_cut text ++ PrintCut e phname span ∷ cuts)
       (λ cuts k. after_text text (PrintCut e phname span ∷ cuts) (h.0, k)) (cuts_after_text rest [])
-          (after_cuts rest [] h.1)
+      (after_cuts rest [] h.1)
   after_cuts (Character c span ∷ rest) text h =
       holds_or _ (c == less_than && goes_on_as_tag rest)
       (λ k. rw k (mapped (AreCuts false) (AreCuts true) (λ cuts. text_cut text ++ cuts)
-          (λ cuts q. after_text text cuts q) (cuts_in_tag rest None (Character c span ∷ []))
+      (λ cuts q. after_text text cuts q) (cuts_in_tag rest None (Character c span ∷ []))
       (in_cuts rest None (Character c span) [] (and_right (c == less_than) (goes_on_as_tag rest) k) h)))
       (λ k. rw k (after_cuts rest (text ++ Character c span ∷ []) h))
 
@@ -162,12 +162,12 @@ mutual
   in_cuts [] quote first t g h = tt
   in_cuts (Printed e phname span ∷ rest) quote first t g h =
       in_cuts rest quote first (t ++ Printed e phname span ∷ [])
-          (ap goes_on_as_tag (append_assoc t (Printed e phname span ∷ []) rest) ∙ g) h.1
+      (ap goes_on_as_tag (append_assoc t (Printed e phname span ∷ []) rest) ∙ g) h.1
   in_cuts (Character c span ∷ rest) quote first t g h =
       holds_or _ (ends_tag quote c)
       (λ k. rw k (mapped (AreCuts true) (AreCuts false) (λ cuts. TagCut (first ∷ (t ++ Character c span ∷ [])) ∷ cuts)
       (λ cuts q. (tag_prefix t c span rest (ends_tag_is quote c k) g, q)) (cuts_after_text rest [])
-          (after_cuts rest [] h)))
+      (after_cuts rest [] h)))
       (λ k. rw k (in_cuts rest (quote_after quote c) first (t ++ Character c span ∷ [])
       (ap goes_on_as_tag (append_assoc t (Character c span ∷ []) rest) ∙ g) h))
 

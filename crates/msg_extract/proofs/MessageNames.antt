@@ -60,14 +60,14 @@ name_more : (name more : List ℕ) → IsTrue (is_name name) → IsTrue (list_al
 name_more [] more h m = absurd (cc h)
 name_more (c ∷ cs) more h m =
     and_both (begins_name c) (list_all continues_name (cs ++ more))
-        (and_left (begins_name c) (list_all continues_name cs) h)
+    (and_left (begins_name c) (list_all continues_name cs) h)
     (all_append continues_name cs more (and_right (begins_name c) (list_all continues_name cs) h) m)
 
 name_continues : (name : List ℕ) → IsTrue (is_name name) → IsTrue (list_all continues_name name)
 name_continues [] h = refl
 name_continues (c ∷ cs) h =
     and_both (continues_name c) (list_all continues_name cs)
-        (begins_continues c (and_left (begins_name c) (list_all continues_name cs) h))
+    (begins_continues c (and_left (begins_name c) (list_all continues_name cs) h))
     (and_right (begins_name c) (list_all continues_name cs) h)
 
 -- base names
@@ -77,20 +77,20 @@ upper_all : (after : Bool) (cs : List ℕ) → IsTrue (list_all continues_name c
 upper_all after [] h = refl
 upper_all after (c ∷ cs) h =
     let rest : IsTrue (list_all continues_name (upper_name (is_ascii_lowercase c || is_ascii_digit c) cs)) =
-        upper_all (is_ascii_lowercase c || is_ascii_digit c) cs
-            (and_right (continues_name c) (list_all continues_name cs) h) in
+    upper_all (is_ascii_lowercase c || is_ascii_digit c) cs
+    (and_right (continues_name c) (list_all continues_name cs) h) in
     let all : IsTrue
-        (list_all continues_name (to_ascii_uppercase c ∷ upper_name (is_ascii_lowercase c || is_ascii_digit c) cs)) =
-        and_both (continues_name (to_ascii_uppercase c))
-            (list_all continues_name (upper_name (is_ascii_lowercase c || is_ascii_digit c) cs))
-        (upper_continues c (and_left (continues_name c) (list_all continues_name cs) h)) rest in
+    (list_all continues_name (to_ascii_uppercase c ∷ upper_name (is_ascii_lowercase c || is_ascii_digit c) cs)) =
+    and_both (continues_name (to_ascii_uppercase c))
+    (list_all continues_name (upper_name (is_ascii_lowercase c || is_ascii_digit c) cs))
+    (upper_continues c (and_left (continues_name c) (list_all continues_name cs) h)) rest in
     holds_or _ (after && is_ascii_uppercase c) (λ e. rw e all) (λ e. rw e all)
 
 pub base_name : (name : List ℕ) → IsTrue (is_name name) → IsTrue (is_name (base_of_name name))
 base_name [] h = absurd (cc h)
 base_name (c ∷ cs) h =
     and_both (begins_name (to_ascii_uppercase c))
-        (list_all continues_name (upper_name (is_ascii_lowercase c || is_ascii_digit c) cs))
+    (list_all continues_name (upper_name (is_ascii_lowercase c || is_ascii_digit c) cs))
     (upper_begins c (and_left (begins_name c) (list_all continues_name cs) h))
     (upper_all (is_ascii_lowercase c || is_ascii_digit c) cs (and_right (begins_name c) (list_all continues_name cs) h))
 
@@ -111,7 +111,7 @@ own_shown tag (row ∷ rows) h m =
     holds_or _ (bytes_eq row.0 tag)
     (λ e. rw e (and_left (is_name row.1) (list_all (λ (r : List ℕ × List ℕ). is_name r.1) rows) h))
     (λ e. rw e (own_shown tag rows (and_right (is_name row.1) (list_all (λ (r : List ℕ × List ℕ). is_name r.1) rows) h)
-        m))
+    m))
 
 are_names : AreNames own_names
 are_names = refl
@@ -120,7 +120,7 @@ letter_name : (c : ℕ) (cs : List ℕ) → is_ascii_alphabetic c ≡ true
     → IsTrue (is_name (map upper_character (map to_ascii_lowercase (c ∷ cs))))
 letter_name c cs h =
     and_both (begins_name (upper_character (to_ascii_lowercase c)))
-        (list_all continues_name (map upper_character (map to_ascii_lowercase cs)))
+    (list_all continues_name (map upper_character (map to_ascii_lowercase cs)))
     (letter_begins c h) (shown_map (map to_ascii_lowercase cs))
 
 or_false : (a : Bool) → (a || false) ≡ true → a ≡ true
@@ -129,12 +129,12 @@ or_false false h = h
 
 shown_letter : (items : List MessageItem) → begins_with_letter items ≡ true
     → IsTrue (is_name (shown_name (map to_ascii_lowercase (leading_name items))
-        (own_name (map to_ascii_lowercase (leading_name items)) own_names)))
+    (own_name (map to_ascii_lowercase (leading_name items)) own_names)))
 shown_letter [] h = absurd (cc h)
 shown_letter (Printed e phname span ∷ rest) h = absurd (cc h)
 shown_letter (Character d span ∷ rest) h =
     rw (letter_stays d h) (own_shown (map to_ascii_lowercase (d ∷ leading_name rest)) own_names are_names
-        (letter_name d (leading_name rest) h))
+    (letter_name d (leading_name rest) h))
 
 -- the items of a tag, whose name begins with a letter
 abbrev pub IsTag : List MessageItem → Type 0
@@ -148,15 +148,15 @@ base_tag (first ∷ (Printed e phname span ∷ rest)) h = absurd (cc h)
 base_tag (first ∷ (Character c span ∷ rest)) h =
     holds_or _ (c == slash)
     (λ e. let no_letter : is_ascii_alphabetic c ≡ false = subst (λ d. is_ascii_alphabetic d ≡ false)
-        (sym (eqb-true c 47 e)) refl in
+    (sym (eqb-true c 47 e)) refl in
     let letter : begins_with_letter rest ≡ true = rw (e, no_letter) at h in
     rw e (name_continues (shown_name (map to_ascii_lowercase (leading_name rest))
-        (own_name (map to_ascii_lowercase (leading_name rest)) own_names)) (shown_letter rest letter)))
+    (own_name (map to_ascii_lowercase (leading_name rest)) own_names)) (shown_letter rest letter)))
     (λ e. let letter : is_ascii_alphabetic c ≡ true = or_false (is_ascii_alphabetic c) (rw e at h) in
     rw e (chosen (list_any (bytes_eq (map to_ascii_lowercase (leading_name (Character c span ∷ rest)))) lone_tags ||
-        is_closed_tag (first ∷ (Character c span ∷ rest)))
+    is_closed_tag (first ∷ (Character c span ∷ rest)))
     (shown_name (map to_ascii_lowercase (leading_name (Character c span ∷ rest)))
-        (own_name (map to_ascii_lowercase (leading_name (Character c span ∷ rest))) own_names))
+    (own_name (map to_ascii_lowercase (leading_name (Character c span ∷ rest))) own_names))
     (shown_letter (Character c span ∷ rest) letter)))
   where
     chosen : (t : Bool) (shown : List ℕ) → IsTrue (is_name shown)
@@ -175,9 +175,9 @@ numbered_named base h uses n [] = refl
 numbered_named base h uses n (content ∷ contents) =
     let free : ℕ = free_number (length uses) base n uses in
     and_both (is_name (numbered_name base free))
-        (list_all (λ (row : Content × Name). is_name row.1) (numbered base uses (free + 1) contents))
+    (list_all (λ (row : Content × Name). is_name row.1) (numbered base uses (free + 1) contents))
     (name_more base (underscore ∷ decimal free) h (decimal_continues free))
-        (numbered_named base h uses (free + 1) contents)
+    (numbered_named base h uses (free + 1) contents)
 
 named_named : (base : Name) → IsTrue (is_name base) → (uses : List Use) (contents : List Content)
     → AreNamed (named_contents base uses contents)
@@ -192,10 +192,10 @@ content_named content base h (row ∷ rows) r =
     holds_or _ (Rattle.soy_tree.specs.Placeholders.is_same_content row.0 content)
     (λ e. rw e (and_left (is_name row.1) (list_all (λ (q : Content × Name). is_name q.1) rows) r))
     (λ e. rw e (content_named content base h rows
-        (and_right (is_name row.1) (list_all (λ (q : Content × Name). is_name q.1) rows) r)))
+    (and_right (is_name row.1) (list_all (λ (q : Content × Name). is_name q.1) rows) r)))
 
 pub name_is : (uses : List Use) (base : Name) (content : Content) → IsTrue (is_name base)
     → IsTrue (is_name (name_of uses base content))
 name_is uses base content h =
     content_named content base h (named_contents base uses (contents_after [] base uses))
-        (named_named base h uses (contents_after [] base uses))
+    (named_named base h uses (contents_after [] base uses))

@@ -52,7 +52,7 @@ quotable_quote InSelect = refl
 not_quote : (mode : PatternMode) (c : ℕ) → is_quotable mode c ≡ true → (c == single_quote) ≡ false
 not_quote mode c h =
     holds_or _ (c == single_quote)
-        (λ e. absurd (cc (subst (λ d. is_quotable mode d ≡ true) (eqb-true c 39 e) h, quotable_quote mode))) (λ e. e)
+    (λ e. absurd (cc (subst (λ d. is_quotable mode d ≡ true) (eqb-true c 39 e) h, quotable_quote mode))) (λ e. e)
 
 pub texts_join : (text more : List ℕ) (ps : MsgParts) → with_text (text ++ more) ps ≡ with_text text (with_text more ps)
 texts_join [] more ps = refl
@@ -111,7 +111,7 @@ module _ (mode : PatternMode) (n : ℕ) (rest : List ℕ) (ps : MsgParts) (end :
   special_reads c cs h r =
       let all = more c cs (run cs) (other_than c 39 (not_quote mode c h)) r in
       icu.quoted (c ∷ run cs) all.chars all.after end all.left (with_text (c ∷ cs) ps) h all.quoted all.reads
-          (sym all.whole)
+      (sym all.whole)
 
   plain_reads : (c : ℕ) (cs : List ℕ) → is_quotable mode c ≡ false → (c == single_quote) ≡ false
       → Reads mode n (written cs) (with_text cs ps) end
@@ -125,13 +125,13 @@ module _ (mode : PatternMode) (n : ℕ) (rest : List ℕ) (ps : MsgParts) (end :
     text_reads (c ∷ cs) =
         holds_or _ (is_quotable mode c)
         (λ h. let s : is_special (in_plural mode) c ≡ true = special_is mode c ∙ h in rw s
-            (special_reads c cs h (run_reads cs)))
+        (special_reads c cs h (run_reads cs)))
         (λ h. let s : is_special (in_plural mode) c ≡ false = special_is mode c ∙ h in
         holds_or _ (c == single_quote)
         (λ q. rw (s, q) (subst (λ d. Reads mode n (single_quote ∷ (single_quote ∷ written cs)) (with_text (d ∷ cs) ps)
-            end) (sym (eqb-true c 39 q))
+        end) (sym (eqb-true c 39 q))
         (icu.two (written cs) end (with_text cs ps) (with_text (single_quote ∷ cs) ps) (text_reads cs)
-            (texts_join (single_quote ∷ []) cs ps))))
+        (texts_join (single_quote ∷ []) cs ps))))
         (λ q. rw (s, q) (plain_reads c cs h q (text_reads cs))))
 
     run_reads : (text : List ℕ) → Run mode n (run text) (with_text text ps) end
@@ -144,7 +144,7 @@ module _ (mode : PatternMode) (n : ℕ) (rest : List ℕ) (ps : MsgParts) (end :
         (λ h. let s : is_special (in_plural mode) c ≡ false = special_is mode c ∙ h in
         holds_or _ (c == single_quote)
         (λ q. rw (s, q) (subst (λ d. Run mode n (single_quote ∷ (single_quote ∷ run cs)) (with_text (d ∷ cs) ps) end)
-            (sym (eqb-true c 39 q)) (twice cs (run cs) (run_reads cs))))
+        (sym (eqb-true c 39 q)) (twice cs (run cs) (run_reads cs))))
         (λ q. rw (s, q) (record {
           chars = [];
           after = c ∷ written cs;
