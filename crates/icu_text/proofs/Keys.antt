@@ -66,7 +66,8 @@ module _ (to : ℕ → Expected) (fs : List Frame)
     number_on s first (c ∷ ds) v h tail =
         let digit : is_ascii_digit c ≡ true = and_left (is_ascii_digit c) (list_all is_ascii_digit ds) h.digits in
         let starts : 0 * 10 + digit_value c ≡ c - 48 = ap (λ d. 0 * 10 + d) (digit_is c digit) ∙ omega arith in
-        let value : digits_value_after 10 (c - 48) ds ≡ v = ap (λ n. digits_value_after 10 n ds) (sym starts) ∙ h.value in
+        let value : digits_value_after 10 (c - 48) ds ≡ v =
+        ap (λ n. digits_value_after 10 n ds) (sym starts) ∙ h.value in
         let within : digits_value_after 10 (c - 48) ds ≤ largest = subst (λ n. n ≤ largest) (sym value) h.within in
         step c (ds ++ tail) s (at fs (to (c - 48))) (first c digit)
         ∙ (number_more ds (and_right (is_ascii_digit c) (list_all is_ascii_digit ds) h.digits) (c - 48) within tail ∙ ap
