@@ -1,6 +1,7 @@
 pub mod CharacterTests
 pub mod PatternRunning
 pub mod KeptArms
+pub mod ArmSets
 pub mod ReadParts
 pub mod PlainText
 pub mod Heads

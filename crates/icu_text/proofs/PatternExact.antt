@@ -1,6 +1,6 @@
 -- The machine reads exactly the patterns, and goes on exactly as far as some pattern does.
-use Rattle.std.proofs.Common.{◌≡◌, ℕ, ◌+◌, ◌-◌, ◌≤◌, List, [], ◌∷◌, ◌++◌, length, Option, Some, None, refl, sym, ◌∙◌, ap, subst, append_assoc, append-nil, arith}
-use Rattle.std.specs.Char.{len_utf8}
+use Rattle.std.proofs.Common.{◌≡◌, ℕ, ◌+◌, ◌-◌, ◌≤◌, List, [], ◌∷◌, ◌++◌, length, Option, Some, None, refl, sym, ◌∙◌}
+use Rattle.std.proofs.Common.{ap, subst, append_assoc, append-nil, arith}
 use Rattle.soy_base.specs.ByteLength.{byte_len}
 use Rattle.soy_base.specs.Characters.{single_quote}
 use Rattle.soy_tree.specs.MessageParts.{MsgPart, MsgParts, no_part}
@@ -19,9 +19,9 @@ use Rattle.icu_text.specs.ParsesMessage.{IsNoPattern}
 use Rattle.icu_text.specs.PatternSteps.{finished, pattern_next, next_at, whole_at, whole_pattern}
 use Rattle.icu_text.specs.PatternReading.{pattern_start, pattern_run, pattern_run_from, answer, read_on, reading}
 use Rattle.icu_text.proofs.PatternRunning.{at, parsed, parsed_from, run_parsed, IsRun, parsed_run}
-use Rattle.icu_text.proofs.ReadParts.{after_parts, all_parts, with_parts, finished_end}
+use Rattle.icu_text.proofs.ReadParts.{finished_end}
 use Rattle.icu_text.proofs.PatternComplete.{pattern_parsed}
-use Rattle.icu_text.proofs.PatternLeft.{QuotedLeft, TextLeft, Left, braces, Fits}
+use Rattle.icu_text.proofs.PatternLeft.{TextLeft, Left, braces, Fits}
 use Rattle.icu_text.proofs.PatternSound.{more_text}
 use Rattle.icu_text.proofs.StepsSound as step
 use Rattle.icu_text.proofs.PatternCloses.{closes}
@@ -46,7 +46,8 @@ end_text n out ps t e = record {
 ended : (fs : List Frame) (out : List MsgPart) (x : Expected) (n : ℕ) → whole_at x fs ≡ Some out → Left fs n out x []
 ended [] out (expected.Text ps t quoting.Unquoted) n e = end_text n out ps t e
 ended [] out (expected.Text ps t quoting.Apostrophe) n e =
-    more_text (ps, t) (single_quote ∷ []) (single_quote ∷ []) [] (λ qs rest r. icu.single [] rest qs (with_text (single_quote ∷ []) qs) refl refl r refl)
+    more_text (ps, t) (single_quote ∷ []) (single_quote ∷ []) []
+    (λ qs rest r. icu.single [] rest qs (with_text (single_quote ∷ []) qs) refl refl r refl)
     (end_text n out ps (t ++ single_quote ∷ []) e)
 ended [] out (expected.Text ps t quoting.Quoted) n e = record {
   chars = [];
@@ -82,18 +83,22 @@ ended fs out (expected.WordEnd s word) n e = none_some _ e
 -- what is read on may follow
 
 module _ (cs : List ℕ) (out : List MsgPart)
-    (hyp : (fs : List Frame) (x : Expected) (n : ℕ) → n + length fs ≡ braces x → Fits x → parsed cs (at fs x) ≡ Some out → Left fs n out x cs) where
-  stepped : (fs : List Frame) (x : Expected) (n c : ℕ) → n + length fs ≡ braces x → Fits x → parsed_from (parsed cs) (next_at x fs c) ≡ Some out
+    (hyp : (fs : List Frame) (x : Expected) (n : ℕ) → n + length fs ≡ braces x → Fits x → parsed cs (at fs x) ≡ Some out
+    → Left fs n out x cs) where
+  stepped : (fs : List Frame) (x : Expected) (n c : ℕ) → n + length fs ≡ braces x → Fits x
+      → parsed_from (parsed cs) (next_at x fs c) ≡ Some out
       → Left fs n out x (c ∷ cs)
   stepped fs (expected.Text ps t quoting.Unquoted) n c d f e = step.plain_step_left cs out hyp fs n ps t c d e
   stepped fs (expected.Text ps t quoting.Apostrophe) n c d f e = step.apostrophe_left cs out hyp fs n ps t c d e
   stepped fs (expected.Text ps t quoting.Quoted) n c d f e = step.quoted_left cs out hyp fs n ps t c d e
-  stepped fs (expected.Text ps t quoting.QuotedApostrophe) n c d f e = step.quoted_apostrophe_left cs out hyp fs n ps t c d e
+  stepped fs (expected.Text ps t quoting.QuotedApostrophe) n c d f e =
+      step.quoted_apostrophe_left cs out hyp fs n ps t c d e
   stepped fs (expected.Name before) n c d f e = step.name_left cs out hyp fs n before c d e
   stepped fs (expected.NameCharacter before name) n c d f e = step.name_character_left cs out hyp fs n before name c d e
   stepped fs (expected.NameEnd a) n c d f e = step.name_end_left cs out hyp fs n a c d e
   stepped fs (expected.Choice a) n c d f e = step.choice_left cs out hyp fs n a c d e
-  stepped fs (expected.ChoiceLetter a kind letters) n c d f e = step.choice_letter_left cs out hyp fs n a kind letters c d e
+  stepped fs (expected.ChoiceLetter a kind letters) n c d f e =
+      step.choice_letter_left cs out hyp fs n a kind letters c d e
   stepped fs (expected.ChoiceEnd a kind) n c d f e = step.kind_end_left cs out hyp fs n a kind c d e
   stepped fs (expected.Key p starts) n c d f e = step.key_left cs out hyp fs n p starts c d e
   stepped fs (expected.KeyAfterO p starts) n c d f e = step.key_after_o_left cs out hyp fs n p starts c d e
@@ -107,14 +112,17 @@ module _ (cs : List ℕ) (out : List MsgPart)
   stepped fs (expected.WordCharacter s word) n c d f e = step.word_character_left cs out hyp fs n s word c d e
   stepped fs (expected.WordEnd s word) n c d f e = step.word_end_left cs out hyp fs n s word c d e
 
-sound : (text : List ℕ) (out : List MsgPart) (fs : List Frame) (x : Expected) (n : ℕ) → n + length fs ≡ braces x → Fits x → parsed text (at fs x) ≡ Some out → Left fs n out x text
+sound : (text : List ℕ) (out : List MsgPart) (fs : List Frame) (x : Expected) (n : ℕ) → n + length fs ≡ braces x
+    → Fits x → parsed text (at fs x) ≡ Some out → Left fs n out x text
 sound [] out fs x n d f e = ended fs out x n e
 sound (c ∷ cs) out fs x n d f e = stepped cs out (sound cs out) fs x n c d f e
 
 -- so what is read to an end is a pattern
-pub parsed_pattern : (text : List ℕ) (out : List MsgPart) → parsed text pattern_start ≡ Some out → IsPattern text (parts_of out)
+pub parsed_pattern : (text : List ℕ) (out : List MsgPart) → parsed text pattern_start ≡ Some out
+    → IsPattern text (parts_of out)
 parsed_pattern text out e =
-    let l : TextLeft [] 64 out ([], []) text = sound text out [] (expected.Text [] [] quoting.Unquoted) 64 (omega arith) tt e in
+    let l : TextLeft [] 64 out ([], []) text = sound text out [] (expected.Text [] [] quoting.Unquoted) 64
+    (omega arith) tt e in
     subst (λ q. Reads AtTop 64 text q []) (sym l.ends.1) (subst (λ r. Reads AtTop 64 text l.parts r) l.ends.0 l.reads)
 
 -- what was read begins a pattern, and what begins one is read
@@ -131,7 +139,8 @@ run_begins text s e =
 begins_run : (text : List ℕ) → BeginsPattern text → IsRun text pattern_start
 begins_run text b = parsed_run text b.more pattern_start _ (pattern_parsed (text ++ b.more) b.parts b.is)
 
-run_then : (us vs : List ℕ) (s to : PatternState) → pattern_run us s ≡ Some to → pattern_run (us ++ vs) s ≡ pattern_run vs to
+run_then : (us vs : List ℕ) (s to : PatternState) → pattern_run us s ≡ Some to
+    → pattern_run (us ++ vs) s ≡ pattern_run vs to
 run_then [] vs s to e = ap (pattern_run vs) (ap unwrap e)
   where
     unwrap : Option PatternState → PatternState
@@ -147,7 +156,8 @@ run_then (c ∷ us) vs s to e = over (pattern_next s c) e (λ m. run_then us vs 
 
 bytes_append : (us vs : List ℕ) → byte_len (us ++ vs) ≡ byte_len us + byte_len vs
 bytes_append [] vs = omega arith
-bytes_append (c ∷ us) vs = let more : byte_len (us ++ vs) ≡ byte_len us + byte_len vs = bytes_append us vs in omega (arith, more)
+bytes_append (c ∷ us) vs =
+    let more : byte_len (us ++ vs) ≡ byte_len us + byte_len vs = bytes_append us vs in omega (arith, more)
 
 -- what is read of a text, and what it says
 
@@ -155,13 +165,15 @@ abbrev pub Answers : List ℕ → Outcome → Type 0
 Answers text (Done ps) = IsPattern text (parts_of ps)
 Answers text (Refused left) = (left ≤ byte_len text) × IsNoPattern text (byte_len text - left)
 
-refused : (us ts : List ℕ) (s : PatternState) → pattern_run us pattern_start ≡ Some s → parsed ts s ≡ None → Rattle.icu_text.specs.ParsesMessage.NoneGoesOn us ts
+refused : (us ts : List ℕ) (s : PatternState) → pattern_run us pattern_start ≡ Some s → parsed ts s ≡ None
+    → Rattle.icu_text.specs.ParsesMessage.NoneGoesOn us ts
     → Answers (us ++ ts) (Refused (byte_len ts))
 refused us ts s r none longest =
     let bytes : byte_len (us ++ ts) ≡ byte_len us + byte_len ts = bytes_append us ts in (
       omega (arith, bytes),
       record {
-        none = λ ps p. none_some _ (sym none ∙ (sym (run_parsed us ts pattern_start s r) ∙ pattern_parsed (us ++ ts) ps p));
+        none = λ ps p. none_some _ (sym none ∙
+            (sym (run_parsed us ts pattern_start s r) ∙ pattern_parsed (us ++ ts) ps p));
         prefix = us;
         rest = ts;
         whole = refl;
@@ -177,7 +189,8 @@ means [] us s r = over (whole_pattern s) refl
     over : (ps : Option (List MsgPart)) → whole_pattern s ≡ ps → Answers (us ++ []) (answer 0 ps)
     over None e = refused us [] s r e tt
     over (Some ps) e = parsed_pattern (us ++ []) ps (run_parsed us [] pattern_start s r ∙ e)
-means (t ∷ ts) us s r = over (pattern_next s t) refl (λ m f. means ts (us ++ t ∷ []) m (run_then us (t ∷ []) pattern_start s r ∙ ap (pattern_run_from (λ n. Some n)) f))
+means (t ∷ ts) us s r = over (pattern_next s t) refl
+    (λ m f. means ts (us ++ t ∷ []) m (run_then us (t ∷ []) pattern_start s r ∙ ap (pattern_run_from (λ n. Some n)) f))
   where
     stuck : pattern_next s t ≡ None → BeginsPattern (us ++ t ∷ []) → ⊥
     stuck e b =

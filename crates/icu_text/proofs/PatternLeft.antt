@@ -12,7 +12,8 @@ use Rattle.soy_tree.specs.Ints.{largest}
 use Rattle.soy_tree.specs.Formed.{is_word_character}
 use Rattle.soy_tree.specs.MessageParts.{MsgPart, MsgParts, Placeholder}
 use Rattle.soy_tree.specs.ViewMessageParts.{parts_of}
-use Rattle.soy_tree.specs.IcuText.{PatternMode, Reads, with_text, Quoted, IsNumber, Key, IsArgument, PluralArms, WordArms}
+use Rattle.soy_tree.specs.IcuText.{PatternMode, Reads, with_text, Quoted, IsNumber, Key, IsArgument, PluralArms}
+use Rattle.soy_tree.specs.IcuText.{WordArms}
 use Rattle.icu_text.specs.declared.state.ArmKey.{ArmKey}
 use Rattle.icu_text.specs.declared.state.ArmKey.TheVariants as arm_key
 use Rattle.icu_text.specs.declared.state.Argument.{Argument}
@@ -26,7 +27,8 @@ use Rattle.icu_text.specs.declared.state.Quoting.TheVariants as quoting
 use Rattle.icu_text.specs.declared.state.Expected.{Expected}
 use Rattle.icu_text.specs.declared.state.Expected.TheVariants as expected
 use Rattle.icu_text.specs.FirstArms.{has_category, has_word}
-use Rattle.icu_text.specs.PatternSteps.{pattern_mode, with_arm, with_word, with_offset, new_plural, new_select, plural_part, select_part, signed}
+use Rattle.icu_text.specs.PatternSteps.{pattern_mode, with_arm, with_word, with_offset, new_plural, new_select}
+use Rattle.icu_text.specs.PatternSteps.{plural_part, select_part, signed}
 use Rattle.icu_text.proofs.KeptArms.{with_arms, with_words}
 use Rattle.icu_text.proofs.ReadParts.{after_parts}
 use Rattle.icu_text.proofs.Heads.{kind_word}
@@ -75,27 +77,31 @@ pub record Numbered (A : ℕ → List ℕ → Type 0) (text : List ℕ) : Type 0
 
 -- a text from here on, and what ends it
 
-pub record IsText (at : PatternMode) (n : ℕ) (Ends : MsgParts → List ℕ → Type 0) (l : List MsgPart × List ℕ) (text : List ℕ) : Type 0 where
+pub record IsText (at : PatternMode) (n : ℕ) (Ends : MsgParts → List ℕ → Type 0) (l : List MsgPart × List ℕ)
+    (text : List ℕ) : Type 0 where
   pub parts : MsgParts
   pub rest : List ℕ
   pub reads : Reads at n text parts rest
   pub ends : Ends (after_parts l.0 (with_text l.1 parts)) rest
 
-pub record IsArms (n : ℕ) (Then : List MsgPart × List ℕ → List ℕ → Type 0) (plural : OpenPlural) (text : List ℕ) : Type 0 where
+pub record IsArms (n : ℕ) (Then : List MsgPart × List ℕ → List ℕ → Type 0) (plural : OpenPlural)
+    (text : List ℕ) : Type 0 where
   pub arms : List (Key × MsgParts)
   pub rest : List ℕ
   pub reads : PluralArms n text arms (right_brace ∷ rest)
   pub other : has_category category.Other (with_arms plural arms).named ≡ true
   pub follows : Then ((with_arms plural arms).before ++ plural_part (with_arms plural arms) ∷ [], []) rest
 
-pub record IsWords (n : ℕ) (Then : List MsgPart × List ℕ → List ℕ → Type 0) (select : OpenSelect) (text : List ℕ) : Type 0 where
+pub record IsWords (n : ℕ) (Then : List MsgPart × List ℕ → List ℕ → Type 0) (select : OpenSelect)
+    (text : List ℕ) : Type 0 where
   pub arms : List (List ℕ × MsgParts)
   pub rest : List ℕ
   pub reads : WordArms n text arms (right_brace ∷ rest)
   pub other : has_word (codes "other") (with_words select arms).arms ≡ true
   pub follows : Then ((with_words select arms).before ++ select_part (with_words select arms) ∷ [], []) rest
 
-pub record IsHead (n : ℕ) (Then : List MsgPart × List ℕ → List ℕ → Type 0) (before : List MsgPart) (text : List ℕ) : Type 0 where
+pub record IsHead (n : ℕ) (Then : List MsgPart × List ℕ → List ℕ → Type 0) (before : List MsgPart)
+    (text : List ℕ) : Type 0 where
   pub argument : MsgPart
   pub rest : List ℕ
   pub is : IsArgument n text argument (right_brace ∷ rest)
@@ -117,9 +123,11 @@ pub record IsQuoted (A : List ℕ → List ℕ → Type 0) (text : List ℕ) : T
 abbrev pub Ends : List Frame → ℕ → List MsgPart → MsgParts → List ℕ → Type 0
 Ends [] n out ps rest = (rest ≡ []) × (parts_of out ≡ ps)
 Ends (frame.Plural plural key ∷ fs) n out ps rest =
-    Behind right_brace (After (IsArms n (IsText (pattern_mode fs) (suc n) (Ends fs (suc n) out)) (with_arm plural key ps))) rest
+    Behind right_brace (After (IsArms n (IsText (pattern_mode fs) (suc n) (Ends fs (suc n) out))
+    (with_arm plural key ps))) rest
 Ends (frame.Select select word ∷ fs) n out ps rest =
-    Behind right_brace (After (IsWords n (IsText (pattern_mode fs) (suc n) (Ends fs (suc n) out)) (with_word select word ps))) rest
+    Behind right_brace (After (IsWords n (IsText (pattern_mode fs) (suc n) (Ends fs (suc n) out))
+    (with_word select word ps))) rest
 
 module _ (fs : List Frame) (n : ℕ) (out : List MsgPart) where
   abbrev pub TextLeft : List MsgPart × List ℕ → List ℕ → Type 0
@@ -170,7 +178,9 @@ module _ (fs : List Frame) (n : ℕ) (out : List MsgPart) where
   ChoiceLeft a = After (IsKind (KindEndLeft a))
 
   abbrev pub NameTail : Argument → List ℕ → Type 0
-  NameTail a text = Behind right_brace (TextLeft fs (suc n) out (a.before ++ Placeholder a.name ∷ [], [])) text ⊎ Behind comma (ChoiceLeft a) text
+  NameTail a text =
+      Behind right_brace (TextLeft fs (suc n) out (a.before ++ Placeholder a.name ∷ [], [])) text
+      ⊎ Behind comma (ChoiceLeft a) text
 
   abbrev pub NumberLeft : OpenPlural → Bool → ℕ → List ℕ → Type 0
   NumberLeft plural minus v = KeyEndLeft plural (arm_key.Exact (signed minus v))
@@ -181,7 +191,8 @@ module _ (fs : List Frame) (n : ℕ) (out : List MsgPart) where
   Left (expected.Text ps t quoting.Quoted) text = QuotedLeft fs n out (ps, t) text
   Left (expected.Text ps t quoting.QuotedApostrophe) text = QuotedLeft fs n out (ps, t) (single_quote ∷ text)
   Left (expected.Name before) text = IsHead n (TextLeft fs (suc n) out) before text
-  Left (expected.NameCharacter before name) text = Passed continues_name name (λ whole. After (NameTail (record { before = before; name = whole }))) text
+  Left (expected.NameCharacter before name) text =
+      Passed continues_name name (λ whole. After (NameTail (record { before = before; name = whole }))) text
   Left (expected.NameEnd a) text = After (NameTail a) text
   Left (expected.Choice a) text = ChoiceLeft a text
   Left (expected.ChoiceLetter a kind letters) text = Lettered letters (KindMore a kind) text
@@ -191,7 +202,8 @@ module _ (fs : List Frame) (n : ℕ) (out : List MsgPart) where
   Left (expected.KeyLetter plural key letters) text = Lettered letters (KeyEndLeft plural key) text
   Left (expected.OffsetLetter plural letters) text = Lettered letters (OffsetLeft plural) text
   Left (expected.OffsetDigit plural v) text = Digits v (λ w. After (ArmsLeft (with_offset plural w))) text
-  Left (expected.ExactKey plural) text = After (λ t. Numbered (NumberLeft plural false) t ⊎ Behind minus_sign (Numbered (NumberLeft plural true)) t) text
+  Left (expected.ExactKey plural) text =
+      After (λ t. Numbered (NumberLeft plural false) t ⊎ Behind minus_sign (Numbered (NumberLeft plural true)) t) text
   Left (expected.NegativeKey plural) text = Numbered (NumberLeft plural true) text
   Left (expected.KeyDigit plural minus v) text = Digits v (NumberLeft plural minus) text
   Left (expected.Word select) text = After (WordsLeft select) text

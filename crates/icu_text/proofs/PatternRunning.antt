@@ -1,5 +1,5 @@
 -- The machine along a text: one character, white space, and a text after another.
-use Rattle.std.proofs.Common.{◌≡◌, ℕ, Bool, true, List, [], ◌∷◌, ◌++◌, Option, Some, None, refl, sym, ◌∙◌, ap, IsTrue}
+use Rattle.std.proofs.Common.{◌≡◌, ℕ, true, List, [], ◌∷◌, ◌++◌, Option, Some, None, refl, ◌∙◌, ap, IsTrue}
 use Rattle.std.specs.List.{list_all}
 use Rattle.soy_base.specs.WhiteSpace.{is_template_space}
 use Rattle.soy_tree.specs.MessageParts.{MsgPart}
@@ -29,11 +29,13 @@ parsed [] s = whole_pattern s
 parsed (c ∷ cs) s = parsed_from (parsed cs) (pattern_next s c)
 
 -- a character leads on
-pub step : (c : ℕ) (text : List ℕ) (s to : PatternState) → pattern_next s c ≡ Some to → parsed (c ∷ text) s ≡ parsed text to
+pub step : (c : ℕ) (text : List ℕ) (s to : PatternState) → pattern_next s c ≡ Some to
+    → parsed (c ∷ text) s ≡ parsed text to
 step c text s to e = ap (parsed_from (parsed text)) e
 
 -- white space that changes nothing
-pub stays : (s : PatternState) → ((c : ℕ) → is_template_space c ≡ true → pattern_next s c ≡ Some s) → (white text : List ℕ)
+pub stays : (s : PatternState) → ((c : ℕ) → is_template_space c ≡ true → pattern_next s c ≡ Some s)
+    → (white text : List ℕ)
     → IsTrue (list_all is_template_space white) → parsed (white ++ text) s ≡ parsed text s
 stays s next [] text h = refl
 stays s next (c ∷ white) text h =
@@ -43,14 +45,16 @@ stays s next (c ∷ white) text h =
 -- white space that leads on, where what follows it goes on alike
 pub through : (s to : PatternState) → ((c : ℕ) → is_template_space c ≡ true → pattern_next s c ≡ Some to)
     → ((c : ℕ) → is_template_space c ≡ true → pattern_next to c ≡ Some to) → (white text : List ℕ)
-    → IsTrue (list_all is_template_space white) → parsed text s ≡ parsed text to → parsed (white ++ text) s ≡ parsed text to
+    → IsTrue (list_all is_template_space white) → parsed text s ≡ parsed text to
+    → parsed (white ++ text) s ≡ parsed text to
 through s to first next [] text h e = e
 through s to first next (c ∷ white) text h e =
     step c (white ++ text) s to (first c (and_left (is_template_space c) (list_all is_template_space white) h))
     ∙ stays to next white text (and_right (is_template_space c) (list_all is_template_space white) h)
 
 -- a text after another
-pub run_parsed : (ts us : List ℕ) (s to : PatternState) → pattern_run ts s ≡ Some to → parsed (ts ++ us) s ≡ parsed us to
+pub run_parsed : (ts us : List ℕ) (s to : PatternState) → pattern_run ts s ≡ Some to
+    → parsed (ts ++ us) s ≡ parsed us to
 run_parsed [] us s to e = ap (parsed us) (same e)
   where
     unwrap : Option PatternState → PatternState
@@ -79,4 +83,5 @@ parsed_run (c ∷ ts) us s ps e = over (pattern_next s c) refl e (λ m. parsed_r
     over : (next : Option PatternState) → pattern_next s c ≡ next → parsed_from (parsed (ts ++ us)) next ≡ Some ps
         → ((m : PatternState) → parsed (ts ++ us) m ≡ Some ps → IsRun ts m) → IsRun (c ∷ ts) s
     over None f e inside = absurd (cc e)
-    over (Some m) f e inside = let r = inside m e in record { state = r.state; is = ap (pattern_run_from (pattern_run ts)) f ∙ r.is }
+    over (Some m) f e inside =
+        let r = inside m e in record { state = r.state; is = ap (pattern_run_from (pattern_run ts)) f ∙ r.is }

@@ -1,12 +1,14 @@
 -- Codes of message parts, by which proofs tell two of them apart: each part is a tree of numbers that gives it back.
 -- Example: the number of a plural is the tree of the one number 2.
-use Rattle.std.specs.Prelude.{◌≡◌, ℕ, zero, suc, ℤ, pos, negsuc, Bool, true, false, List, [], ◌∷◌}
+use Rattle.std.specs.Prelude.{◌≡◌, ℕ, ℤ, pos, negsuc, Bool, true, false, List, [], ◌∷◌}
 use Rattle.std.specs.Coded.{Coded, coded_list, coded×, coded_ℕ, coded_ℤ}
 use mathlib.Core.Path.{refl, sym, ◌∙◌, ap}
 use base.Stored.{Gv, gnil, gnum, gcons, num}
 use Rattle.plural_rules.specs.declared.category.Category.{Category}
 use Rattle.plural_rules.specs.declared.category.Category.TheVariants as category
-use Rattle.soy_tree.specs.MessageParts.{MsgPart, MsgParts, ExactArms, NamedArms, SelectArms, TextPart, Placeholder, NumberPart, PluralPart, SelectPart, no_part, part, no_exact_arm, exact_arm, no_named_arm, named_arm, no_select_arm, select_arm}
+use Rattle.soy_tree.specs.MessageParts.{MsgPart, MsgParts, ExactArms, NamedArms, SelectArms, TextPart, Placeholder}
+use Rattle.soy_tree.specs.MessageParts.{NumberPart, PluralPart, SelectPart, no_part, part, no_exact_arm, exact_arm}
+use Rattle.soy_tree.specs.MessageParts.{no_named_arm, named_arm, no_select_arm, select_arm}
 
 abbrev tree_of_text : List ℕ → Gv
 tree_of_text [] = gnil
@@ -77,7 +79,8 @@ abbrev mutual
   tree_of_part (TextPart text) = gcons gnil (tree_of_text text)
   tree_of_part (Placeholder name) = gcons (gnum 0) (tree_of_text name)
   tree_of_part (PluralPart ordinal name offset exact named) =
-      gcons (gcons gnil gnil) (gcons (tree_of_bool ordinal) (gcons (tree_of_text name) (gcons (gnum offset) (gcons (tree_of_exact exact) (tree_of_named named)))))
+      gcons (gcons gnil gnil) (gcons (tree_of_bool ordinal) (gcons (tree_of_text name)
+      (gcons (gnum offset) (gcons (tree_of_exact exact) (tree_of_named named)))))
   tree_of_part (SelectPart name arms) = gcons (gcons gnil (gnum 0)) (gcons (tree_of_text name) (tree_of_select arms))
 
   tree_of_parts : MsgParts → Gv
@@ -154,7 +157,8 @@ abbrev pub coded_parts : Coded MsgParts
 coded_parts = record { code = tree_of_parts; inj = λ p q e. sym (parts_back p) ∙ (ap parts_of_tree e ∙ parts_back q) }
 
 abbrev pub coded_category : Coded Category
-coded_category = record { code = tree_of_category; inj = λ p q e. sym (category_back p) ∙ (ap category_of_tree e ∙ category_back q) }
+coded_category =
+    record { code = tree_of_category; inj = λ p q e. sym (category_back p) ∙ (ap category_of_tree e ∙ category_back q) }
 
 abbrev pub coded_exact : Coded (List (ℤ × MsgParts))
 coded_exact = coded_list (coded× coded_ℤ coded_parts)

@@ -1,7 +1,12 @@
 -- The arms that a plural or select keeps: the first of each key, in order.
 -- Example: of `=1 {a} =01 {b} other {c}` the arm for 1 holds `a`, and the one for other `c`.
-use Rattle.std.specs.Prelude.{ℕ, ℤ, Bool, List, [], ◌∷◌, ◌++◌, map, if◌then◌else◌, bytes_eq}
+use Rattle.std.specs.Prelude.{◌≡◌, ℕ, ℤ, Bool, String, List, [], ◌∷◌, ◌++◌, map, if◌then◌else◌, bytes_eq}
 use Rattle.std.specs.List.{list_any}
+use Rattle.std.specs.Ordering.{int_cmp}
+use Rattle.std.specs.Str.{chars}
+use Rattle.std.specs.String.{string_bytes, string_cmp}
+use Rattle.std.specs.BTreeSet as set
+use Rattle.std.specs.BTreeSet.{BTreeSet}
 use Rattle.plural_rules.specs.declared.category.Category.{Category}
 use Rattle.plural_rules.specs.Category.{is_same}
 use Rattle.soy_tree.specs.MessageParts.{MsgParts}
@@ -22,3 +27,11 @@ with_named arms category ps = if has_category category arms then arms else arms 
 
 abbrev pub with_select : List (List ℕ × MsgParts) → List ℕ → MsgParts → List (List ℕ × MsgParts)
 with_select arms word ps = if has_word word arms then arms else arms ++ (word, ps) ∷ []
+
+-- a set has the numbers of arms, or their words
+abbrev pub HasNumbers : BTreeSet ℤ → List (ℤ × MsgParts) → Type 0
+HasNumbers numbers arms = (n : ℤ) → set.contains int_cmp numbers n ≡ is_int_among n (map (λ arm. arm.0) arms)
+
+abbrev pub HasWords : {Z : Type 0} → BTreeSet (String Z) → List (List ℕ × MsgParts) → Type 0
+HasWords {Z = Z} words arms =
+    (word : String Z) → set.contains string_cmp words word ≡ has_word (chars (string_bytes word)) arms

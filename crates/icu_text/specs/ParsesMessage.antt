@@ -1,6 +1,6 @@
--- What `parse_message` answers for a text: the parts of the pattern that it is; or, where it is none, the length in bytes
--- of its longest prefix with which some pattern begins.
--- Example: `a {N}` has the parts `a ` and the argument N, and `a {N!}` is refused with 4.
+-- What `parse_message` answers for a text: the parts of the pattern that it is; or, where it is none, the length in
+-- bytes of its longest prefix with which some pattern begins. Example: `a {N}` has the parts `a ` and the argument N,
+-- and `a {N!}` is refused with 4.
 use Rattle.std.specs.Prelude.{◌≡◌, ℕ, List, [], ◌∷◌, ◌++◌, Result, Ok, Err}
 use Rattle.soy_base.specs.ByteLength.{byte_len}
 use Rattle.soy_base.specs.declared.memory.Refusal.{Refusal}

@@ -2,11 +2,12 @@
 -- goes on.
 -- Example: after `{N, plural, ` a `=` asks for a number, an `o` for the rest of `one`, `other` or `offset:`, and a `}`
 -- has no step.
-use Rattle.std.specs.Prelude.{ℕ, ◌+◌, ◌-◌, ◌*◌, ℤ, pos, neg_ℤ, Bool, true, false, ◌&&◌, ◌==◌, nat_le, List, [], ◌∷◌, ◌++◌, length, Option, Some, None, if◌then◌else◌, codes}
+use Rattle.std.specs.Prelude.{ℕ, ◌+◌, ◌-◌, ◌*◌, ℤ, pos, neg_ℤ, Bool, true, false, ◌&&◌, ◌==◌, nat_le, List, [], ◌∷◌}
+use Rattle.std.specs.Prelude.{◌++◌, length, Option, Some, None, if◌then◌else◌, codes}
 use Rattle.std.specs.Char.{is_ascii_digit}
-use Rattle.plural_rules.specs.declared.category.Category.{Category}
 use Rattle.plural_rules.specs.declared.category.Category.TheVariants as category
-use Rattle.soy_base.specs.Characters.{single_quote, left_brace, right_brace, number_sign, comma, equals_sign, minus_sign}
+use Rattle.soy_base.specs.Characters.{single_quote, left_brace, right_brace, number_sign, comma, equals_sign}
+use Rattle.soy_base.specs.Characters.{minus_sign}
 use Rattle.soy_base.specs.WhiteSpace.{is_template_space}
 use Rattle.soy_base.specs.Names.{begins_name, continues_name}
 use Rattle.soy_tree.specs.Ints.{largest}
@@ -71,11 +72,14 @@ with_word select word ps = record select { arms = with_select select.arms word p
 
 abbrev pub close_next : List Frame → List MsgPart → List ℕ → Option PatternState
 close_next [] ps t = add_next [] ps t quoting.Unquoted right_brace
-close_next (frame.Plural plural key ∷ fs) ps t = on fs (expected.Key (with_arm plural key (parts_of (finished ps t))) false)
-close_next (frame.Select select word ∷ fs) ps t = on fs (expected.Word (with_word select word (parts_of (finished ps t))))
+close_next (frame.Plural plural key ∷ fs) ps t =
+    on fs (expected.Key (with_arm plural key (parts_of (finished ps t))) false)
+close_next (frame.Select select word ∷ fs) ps t =
+    on fs (expected.Word (with_word select word (parts_of (finished ps t))))
 
 abbrev pub number_sign_next : List Frame → List MsgPart → List ℕ → Option PatternState
-number_sign_next (frame.Plural plural key ∷ fs) ps t = text_after (frame.Plural plural key ∷ fs) (finished ps t ++ NumberPart ∷ [])
+number_sign_next (frame.Plural plural key ∷ fs) ps t =
+    text_after (frame.Plural plural key ∷ fs) (finished ps t ++ NumberPart ∷ [])
 number_sign_next fs ps t = add_next fs ps t quoting.Unquoted number_sign
 
 abbrev pub plain_next : List Frame → List MsgPart → List ℕ → ℕ → Option PatternState
@@ -136,7 +140,8 @@ choice_next fs a c =
     else None))
 
 abbrev pub new_plural : Bool → Argument → OpenPlural
-new_plural ordinal a = record { before = a.before; ordinal = ordinal; name = a.name; offset = 0; exact = []; named = [] }
+new_plural ordinal a =
+    record { before = a.before; ordinal = ordinal; name = a.name; offset = 0; exact = []; named = [] }
 
 abbrev pub new_select : Argument → OpenSelect
 new_select a = record { before = a.before; name = a.name; arms = [] }
@@ -169,10 +174,12 @@ choice_letter_next fs a kind (l ∷ ls) c = letter_next fs (expected.ChoiceLette
 -- plurals
 
 abbrev pub plural_part : OpenPlural → MsgPart
-plural_part plural = PluralPart plural.ordinal plural.name plural.offset (exact_arms_of plural.exact) (named_arms_of plural.named)
+plural_part plural =
+    PluralPart plural.ordinal plural.name plural.offset (exact_arms_of plural.exact) (named_arms_of plural.named)
 
 abbrev pub plural_end : List Frame → OpenPlural → Option PatternState
-plural_end fs plural = if has_category category.Other plural.named then text_after fs (plural.before ++ plural_part plural ∷ []) else None
+plural_end fs plural =
+    if has_category category.Other plural.named then text_after fs (plural.before ++ plural_part plural ∷ []) else None
 
 abbrev pub keyword_next : List Frame → OpenPlural → ℕ → Option PatternState
 keyword_next fs plural c =
@@ -254,7 +261,8 @@ abbrev pub select_part : OpenSelect → MsgPart
 select_part select = SelectPart select.name (select_arms_of select.arms)
 
 abbrev pub select_end : List Frame → OpenSelect → Option PatternState
-select_end fs select = if has_word (codes "other") select.arms then text_after fs (select.before ++ select_part select ∷ []) else None
+select_end fs select =
+    if has_word (codes "other") select.arms then text_after fs (select.before ++ select_part select ∷ []) else None
 
 abbrev pub word_next : List Frame → OpenSelect → ℕ → Option PatternState
 word_next fs select c =

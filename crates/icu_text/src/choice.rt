@@ -1,7 +1,8 @@
 //! The name of an argument, and the word of a plural or select after it.
 
 ghost use Rattle.std.specs.Prelude.{◌≡◌, IfOk};
-ghost use Rattle.icu_text.specs.PatternSteps.{choice_end_next, choice_letter_next, choice_next, letter_next, may_be_ordinal};
+ghost use Rattle.icu_text.specs.PatternSteps.{choice_end_next, choice_letter_next, choice_next, letter_next};
+ghost use Rattle.icu_text.specs.PatternSteps.{may_be_ordinal};
 ghost use Rattle.icu_text.specs.PatternSteps.{name_character_next, name_end_next, name_next, opened, step_of};
 ghost use Rattle.icu_text.specs.PatternSteps.{new_plural, new_select};
 

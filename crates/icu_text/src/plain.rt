@@ -3,7 +3,8 @@
 ghost use Rattle.std.specs.Prelude.{◌≡◌, [], ◌∷◌, ◌++◌, IfOk, ◌==◌};
 ghost use Rattle.soy_tree.specs.IcuText.{is_quotable};
 ghost use Rattle.icu_text.specs.PatternSteps.{add_next, brace_next, close_next, finished, number_sign_next, plain_next};
-ghost use Rattle.icu_text.specs.PatternSteps.{apostrophe_next, quoted_apostrophe_next, quoted_next, pattern_mode, step_of};
+ghost use Rattle.icu_text.specs.PatternSteps.{apostrophe_next, quoted_apostrophe_next, quoted_next, pattern_mode};
+ghost use Rattle.icu_text.specs.PatternSteps.{step_of};
 ghost use Rattle.icu_text.specs.PatternSteps.{text_after, text_at_end, text_next};
 ghost use Rattle.icu_text.specs.declared.state.Quoting.TheVariants as quoting;
 
@@ -63,7 +64,7 @@ fn at_plain(
     match c {
         '\'' => Ok(on(frames, Expected::Text(parts, text, Quoting::Apostrophe))),
         '{' => Ok(at_brace(frames, finished(parts, text)?)),
-        '}' => at_close(frames, parts, text),
+        '}' => at_close(alloc, frames, parts, text),
         '#' => at_number_sign(alloc, frames, parts, text),
         _ => add(frames, parts, text, Quoting::Unquoted, c),
     }
@@ -172,6 +173,7 @@ fn at_brace(frames: Stack<Frame>, parts: Parts) -> PatternStep
 
 /// A `}`, which ends an arm, or is text outside all braces.
 fn at_close(
+    alloc: Global,
     frames: Stack<Frame>,
     parts: Parts,
     text: Characters,
@@ -186,7 +188,7 @@ fn at_close(
             Ok(on(frames, Expected::Key(plural, false)))
         }
         Some(Frame::Select(select, word)) => {
-            let select = select.with_word(word, finished(parts, text)?)?;
+            let select = select.with_word(alloc, word, finished(parts, text)?)?;
             Ok(on(frames, Expected::Word(select)))
         }
     }

@@ -39,12 +39,17 @@ impl OpenPlural {
     pub fn with_arm(self, key: ArmKey, parts: Parts) -> Result<OpenPlural, OutOfMemory>
         ensures { IfOk result (λ p. p ≡ with_arm self key (parts_of parts)) }
     {
-        let mut plural = self;
         match key {
-            ArmKey::Exact(is) => plural.exact.add(is, parts)?,
-            ArmKey::Named(category) => plural.named.add(category, parts)?,
+            ArmKey::Exact(is) => Ok(OpenPlural {
+                exact: self.exact.with(is, parts)?,
+                ..self
+            }),
+            ArmKey::Named(category) => {
+                let mut plural = self;
+                plural.named.add(category, parts)?;
+                Ok(plural)
+            }
         }
-        Ok(plural)
     }
 
     /// With this offset.

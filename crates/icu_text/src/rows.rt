@@ -1,8 +1,7 @@
 //! Parts and arms that are being read, which contracts see as the plain data that they stand for.
 
-ghost use Rattle.std.specs.Prelude.{◌≡◌, [], ◌∷◌, ◌++◌, OnOk, map};
+ghost use Rattle.std.specs.Prelude.{◌≡◌, [], ◌∷◌, ◌++◌, OnOk, IfOk, map};
 ghost use Rattle.std.specs.Str.{chars};
-ghost use Rattle.soy_tree.specs.IcuText.{is_int_among};
 ghost use Rattle.soy_tree.specs.ViewMessageParts.{parts_of, view_part, view_parts, view_exact, view_named};
 ghost use Rattle.soy_tree.specs.ViewMessageParts.{view_select_arm, exact_arms_of, named_arms_of, select_arms_of};
 ghost use Rattle.icu_text.specs.FirstArms.{has_category, has_word, with_exact, with_named, with_select};
@@ -11,6 +10,7 @@ use plural_rules::Category;
 use soy_base::{OutOfMemory, Row, Seq, Text, push_char};
 use soy_tree::{ExactArm, MsgPart, NamedArm, SelectArm};
 use std::alloc::Global;
+use std::collections::BTreeSet;
 use std::marker::Model;
 
 /// Characters that are being read, which contracts see as the list of them.
@@ -103,6 +103,8 @@ impl Parts {
 #[derive(Drop)]
 pub struct ExactArms {
     items: Row<ExactArm>,
+    /// The numbers of the arms.
+    numbers: BTreeSet<i64>,
 }
 
 impl Model for ExactArms {
@@ -110,12 +112,15 @@ impl Model for ExactArms {
     ghost use Rattle.soy_tree.specs.MessageParts.{MsgParts};
     ghost use Rattle.soy_tree.specs.ViewMessageParts.{view_exact};
     ghost use Rattle.icu_text.specs.CodedParts.{coded_exact};
+    ghost use Rattle.icu_text.specs.FirstArms.{HasNumbers};
 
     ghost Value = { List (ℤ × MsgParts) };
 
     ghost coded = { coded_exact };
 
     ghost view = { λ a. map view_exact a.items };
+
+    ghost invariant = { λ a. HasNumbers a.numbers (map view_exact a.items) };
 }
 
 impl ExactArms {
@@ -125,27 +130,25 @@ impl ExactArms {
     {
         ExactArms {
             items: Row::empty(alloc),
+            numbers: BTreeSet::new(alloc),
         }
     }
 
-    /// Whether there is an arm for the number.
-    fn has(&self, is: i64) -> bool
-        ensures { result ≡ is_int_among is (map (λ arm. arm.0) self.now) }
+    /// With an arm more, if none is there for its number.
+    pub fn with(self, is: i64, parts: Parts) -> Result<ExactArms, OutOfMemory>
+        ensures { IfOk result (λ arms. arms ≡ with_exact self is (parts_of parts)) }
     {
-        has_number(self.items.items(), is)
-    }
-
-    /// Adds an arm, if none is there for its number.
-    pub fn add(&mut self, is: i64, parts: Parts) -> Result<(), OutOfMemory>
-        ensures { OnOk result (self.new ≡ with_exact self.old is (parts_of parts)) }
-    {
-        if self.has(is) {
-            return Ok(());
+        let ExactArms { items, numbers } = self;
+        let mut items = items;
+        let mut numbers = numbers;
+        if !numbers.insert(is)? {
+            return Ok(ExactArms { items, numbers });
         }
-        self.items.push(ExactArm {
+        items.push(ExactArm {
             is,
             parts: parts.done(),
-        })
+        })?;
+        Ok(ExactArms { items, numbers })
     }
 
     /// The arms, as a list.
@@ -218,6 +221,8 @@ impl NamedArms {
 #[derive(Drop)]
 pub struct SelectArms {
     items: Row<SelectArm>,
+    /// The words of the arms.
+    words: BTreeSet<String>,
 }
 
 impl Model for SelectArms {
@@ -225,12 +230,15 @@ impl Model for SelectArms {
     ghost use Rattle.soy_tree.specs.MessageParts.{MsgParts};
     ghost use Rattle.soy_tree.specs.ViewMessageParts.{view_select_arm};
     ghost use Rattle.icu_text.specs.CodedParts.{coded_select};
+    ghost use Rattle.icu_text.specs.FirstArms.{HasWords};
 
     ghost Value = { List (List ℕ × MsgParts) };
 
     ghost coded = { coded_select };
 
     ghost view = { λ a. map view_select_arm a.items };
+
+    ghost invariant = { λ a. HasWords a.words (map view_select_arm a.items) };
 }
 
 impl SelectArms {
@@ -240,6 +248,7 @@ impl SelectArms {
     {
         SelectArms {
             items: Row::empty(alloc),
+            words: BTreeSet::new(alloc),
         }
     }
 
@@ -250,16 +259,20 @@ impl SelectArms {
         has_word(self.items.items(), word)
     }
 
-    /// Adds an arm, if none is there for its word.
-    pub fn add(&mut self, word: Text, parts: Parts) -> Result<(), OutOfMemory>
-        ensures { OnOk result (self.new ≡ with_select self.old word (parts_of parts)) }
+    /// With an arm more, if none is there for its word.
+    pub fn with(self, alloc: Global, word: Text, parts: Parts) -> Result<SelectArms, OutOfMemory>
+        ensures { IfOk result (λ arms. arms ≡ with_select self word (parts_of parts)) }
     {
-        if self.has(word.text()) {
-            return Ok(());
+        let SelectArms { items, words } = self;
+        let mut words = words;
+        let key = String::from_str(alloc, word.text())?;
+        if !words.insert(key)? {
+            return Ok(SelectArms { items, words });
         }
-        self.items.push(SelectArm {
-            is: word,
-            parts: parts.done(),
+        let longer = with_arm(items, word, parts)?;
+        Ok(SelectArms {
+            items: longer,
+            words,
         })
     }
 
@@ -269,18 +282,6 @@ impl SelectArms {
     {
         self.items.done()
     }
-}
-
-/// Whether there is an arm for the number.
-fn has_number(arms: &[ExactArm], is: i64) -> bool
-    ensures { result ≡ is_int_among is (map (λ arm. arm.0) (map view_exact arms.now)) }
-{
-    for arm in arms {
-        if is == arm.is {
-            return true;
-        }
-    }
-    false
 }
 
 /// Whether there is an arm for the category.
@@ -305,4 +306,16 @@ fn has_word(arms: &[SelectArm], word: &str) -> bool
         }
     }
     false
+}
+
+/// The arms, and one more at the end.
+fn with_arm(items: Row<SelectArm>, is: Text, parts: Parts) -> Result<Row<SelectArm>, OutOfMemory>
+    ensures { IfOk result (λ arms. map view_select_arm arms ≡ map view_select_arm items ++ (is, parts_of parts) ∷ []) }
+{
+    let mut items = items;
+    items.push(SelectArm {
+        is,
+        parts: parts.done(),
+    })?;
+    Ok(items)
 }

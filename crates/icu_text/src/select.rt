@@ -34,12 +34,18 @@ impl OpenSelect {
     }
 
     /// With an arm more, if none is there for its word.
-    pub fn with_word(self, word: Text, parts: Parts) -> Result<OpenSelect, OutOfMemory>
+    pub fn with_word(
+        self,
+        alloc: Global,
+        word: Text,
+        parts: Parts,
+    ) -> Result<OpenSelect, OutOfMemory>
         ensures { IfOk result (λ s. s ≡ with_word self word (parts_of parts)) }
     {
-        let mut select = self;
-        select.arms.add(word, parts)?;
-        Ok(select)
+        Ok(OpenSelect {
+            arms: self.arms.with(alloc, word, parts)?,
+            ..self
+        })
     }
 }
 

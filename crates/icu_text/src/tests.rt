@@ -29,6 +29,11 @@ fn write_number(
     push_text(out, text.as_str())
 }
 
+fn write_offset(alloc: Global, out: &mut String, offset: u64) -> Result<(), OutOfMemory> {
+    let text = format!(in alloc; " {offset}")?;
+    push_text(out, text.as_str())
+}
+
 /// Writes parts: text in brackets, arms in parentheses.
 #[cycle(writing)]
 fn write_parts(alloc: Global, out: &mut String, parts: &[MsgPart]) -> Result<(), OutOfMemory> {
@@ -63,7 +68,7 @@ fn write_part(alloc: Global, out: &mut String, part: &MsgPart) -> Result<(), Out
                     " plural"
                 },
             )?;
-            write_number(alloc, out, " ", plural.offset as i64)?;
+            write_offset(alloc, out, plural.offset)?;
             write_exact(alloc, out, plural.exact.items())?;
             write_named(alloc, out, plural.named.items())?;
             push_text(out, "}")
@@ -189,7 +194,7 @@ const PATTERNS: &[(&str, &str)] = &[
         "{N plural 9007199254740991 =9007199254740991() other()}",
     ),
     ("{N,plural,other{'}'#'{'}}", "{N plural 0 other([}]#[{])}"),
-    ("{N,plural,other{'a'#}}", "{N plural 0 other(['a']#)}"),
+    ("{N,plural,other{'a' #}}", "{N plural 0 other(['a' ]#)}"),
     (
         "{S,select,a-1{x}other{y}a-1{z}_{}other{w}}",
         "{S select a-1([x]) other([y]) _()}",

@@ -4,4 +4,5 @@ use Rattle.icu_text.specs.FirstArms.{has_category}
 use Rattle.icu_text.proofs.rows.has_category.Given as goal
 
 abbrev pub invariant-loop-arm : goal.invariant-loop-arm
-invariant-loop-arm l = has_category l.category (map view_named (drop l.arm-index l.arms)) ≡ has_category l.category (map view_named l.arms)
+invariant-loop-arm l =
+    has_category l.category (map view_named (drop l.arm-index l.arms)) ≡ has_category l.category (map view_named l.arms)

@@ -1,0 +1,5 @@
+use Rattle.msg_extract.proofs.CanonicalReads.{canonical_reads}
+use Rattle.msg_extract.proofs.laws.law_canonical_text.Goals as goal
+
+pub returns : goal.returns
+returns c = canonical_reads
