@@ -1,0 +1,6 @@
+mod AsciiTexts
+mod Nearest
+mod PartRows
+mod Seen
+mod TextOrder
+mod ValueOrBlock
