@@ -3,7 +3,7 @@ use Rattle.std.proofs.Common.{◌≡◌, true, false}
 use mathlib.Core.Path.{refl}
 use Rattle.soy_tree.specs.Types.{NullType, BoolType, IntType, StringType, HtmlType, AttributesType, ListType, MapType}
 use Rattle.soy_tree.specs.Accepts.{accepts}
-use Rattle.soy_tree.proofs.Rows.{a, b, union, none, one_field, two_fields}
+use Rattle.soy_tree.proofs.Rows.{a, b, union, alone, none, one_field, two_fields}
 
 -- each member of the other's union is accepted by one of its own
 union_of_one_more : accepts (union IntType NullType) IntType ≡ true
@@ -23,6 +23,10 @@ every_type_accepts_no_members = refl
 
 no_members_accept_nothing : accepts none NullType ≡ false
 no_members_accept_nothing = refl
+
+-- the members of a union in a union are members
+union_in_a_union : accepts (union IntType NullType) (alone (union NullType IntType)) ≡ true
+union_in_a_union = refl
 
 -- null, bool, int, string, html and attributes accept only an equal member
 html_accepts_html : accepts HtmlType HtmlType ≡ true

@@ -32,7 +32,8 @@ loop_variables_inside = refl
 index_inside : checked (node (loop (printed n 20)) no_node) list_b ≡ Ok list_b
 index_inside = refl
 
-loop_variable_in_its_list : checked (node (For a (Some n) (var a 15) no_node (at 0)) no_node) list_b ≡ fails code.Unknown 15 a []
+loop_variable_in_its_list : checked (node (For a (Some n) (var a 15) no_node (at 0)) no_node) list_b
+    ≡ fails code.Unknown 15 a []
 loop_variable_in_its_list = refl
 
 loop_variable_after_its_loop : checked (node (loop no_node) (printed a 30)) list_b ≡ fails code.Unknown 30 a []

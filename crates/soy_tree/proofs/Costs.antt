@@ -3,7 +3,8 @@ use Rattle.std.proofs.Common.{ℕ, ◌+◌, ◌<◌, ◌≤◌, Bool, true, fals
 use Rattle.std.specs.Prelude.{if◌then◌else◌}
 use Rattle.soy_tree.specs.declared.expr.BinaryOp.{BinaryOp}
 use Rattle.soy_tree.specs.declared.expr.BinaryOp.TheVariants as op
-use Rattle.soy_tree.specs.Expressions.{Expr, NullLiteral, BoolLiteral, IntLiteral, StringLiteral, Variable, Member, Index, Minus, Not, Binary, Coalesce, Conditional}
+use Rattle.soy_tree.specs.Expressions.{Expr, NullLiteral, BoolLiteral, IntLiteral, StringLiteral, Variable, Member}
+use Rattle.soy_tree.specs.Expressions.{Index, Minus, Not, Binary, Coalesce, Conditional}
 use Rattle.soy_tree.specs.Val.{Env, val, is_truthy, is_null}
 use Rattle.soy_tree.specs.Cost.{cost, right_cost, node_count}
 
@@ -35,12 +36,29 @@ cost-within (Member e name takes_null span) env = omega (arith, cost-within e en
 cost-within (Index e i takes_null span) env = omega (arith, cost-within e env, cost-within i env)
 cost-within (Minus e span) env = omega (arith, cost-within e env)
 cost-within (Not e span) env = omega (arith, cost-within e env)
-cost-within (Binary op a b span) env = omega (arith, cost-within a env, right_cost-within op (is_truthy (val a env)) (cost b env) (node_count b) (cost-within b env))
-cost-within (Coalesce a b span) env = omega (arith, cost-within a env, if_within (is_null (val a env)) (cost b env) 0 (node_count b) (cost-within b env) (omega arith))
+cost-within (Binary op a b span) env =
+    omega (
+      arith,
+      cost-within a env,
+      right_cost-within op (is_truthy (val a env)) (cost b env) (node_count b)
+          (cost-within b env),
+    )
+cost-within (Coalesce a b span) env =
+    omega (
+      arith,
+      cost-within a env,
+      if_within (is_null (val a env)) (cost b env) 0 (node_count b) (cost-within b env)
+          (omega arith),
+    )
 cost-within (Conditional c a b span) env =
     let p : cost a env ≤ node_count a + node_count b = omega (arith, cost-within a env) in
     let q : cost b env ≤ node_count a + node_count b = omega (arith, cost-within b env) in
-    omega (arith, cost-within c env, if_within (is_truthy (val c env)) (cost a env) (cost b env) (node_count a + node_count b) p q)
+    omega (
+      arith,
+      cost-within c env,
+      if_within (is_truthy (val c env)) (cost a env) (cost b env)
+          (node_count a + node_count b) p q,
+    )
 
 pub cost-positive : {A : Type 0} (e : Expr) (env : Env A) → 0 < cost e env
 cost-positive (NullLiteral span) env = omega arith

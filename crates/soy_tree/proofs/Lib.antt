@@ -4,10 +4,16 @@ pub mod SameTypes
 pub mod MembersHave
 pub mod Costs
 pub mod Accepting
+pub mod AcceptsHas
 pub mod ValueTypes
+pub mod Branches
 pub mod TemplateNumbers
 mod Rows
 mod AcceptRows
 mod TypeRows
 mod ValueRows
 mod BodyRows
+mod DeclarationRows
+mod CallRows
+mod PlaceholderRows
+mod FormedRows

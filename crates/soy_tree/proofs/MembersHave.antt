@@ -4,9 +4,12 @@ use Rattle.std.specs.Prelude.{if◌then◌else◌}
 use Rattle.std.specs.List.{list_any}
 use mathlib.Core.Path.{refl}
 use mathlib.Core.Logic.{inl, inr}
-use Rattle.soy_tree.specs.Types.{SoyType, Members, NullType, BoolType, IntType, StringType, HtmlType, AttributesType, ListType, MapType, RecordType, UnionType, no_member, member, FieldTypes, no_field, field}
+use Rattle.soy_tree.specs.Types.{SoyType, Members, NullType, BoolType, IntType, StringType, HtmlType, AttributesType}
+use Rattle.soy_tree.specs.Types.{ListType, MapType, RecordType, UnionType, no_member, member, FieldTypes, no_field}
+use Rattle.soy_tree.specs.Types.{field}
 use Rattle.soy_tree.specs.Values.{Value, NullValue, BoolValue, IntValue, StringValue, ListValue, MapValue, RecordValue}
-use Rattle.soy_tree.specs.Members.{members_of, members, union_members, union_of, is_some_type, type_without_null, is_same_type, with_member, with_members, joined}
+use Rattle.soy_tree.specs.Members.{members_of, members, union_members, union_of, is_some_type, type_without_null}
+use Rattle.soy_tree.specs.Members.{is_same_type, with_member, with_members, joined}
 use Rattle.soy_tree.specs.Has.{Has, HasSome, HasFields, IsNull}
 use Rattle.soy_tree.proofs.SameTypes.{same_type}
 use Rattle.soy_tree.proofs.Members.{kept_append}
@@ -25,7 +28,8 @@ pub append_right : (v : Value) (ts us : List SoyType) → HasAny v us → HasAny
 append_right v [] us h = h
 append_right v (t ∷ ts) us h = inr (append_right v ts us h)
 
-pub parted_after : (v : Value) (t : SoyType) (ts us : List SoyType) → HasAny v ts ⊎ HasAny v us → HasAny v (t ∷ ts) ⊎ HasAny v us
+pub parted_after : (v : Value) (t : SoyType) (ts us : List SoyType) → HasAny v ts ⊎ HasAny v us
+    → HasAny v (t ∷ ts) ⊎ HasAny v us
 parted_after v t ts us (inl h) = inl (inr h)
 parted_after v t ts us (inr h) = inr h
 
@@ -88,7 +92,8 @@ mutual
 
   pub any_some : (v : Value) (ts : Members) → HasAny v (union_members ts) → HasSome v ts
   any_some v no_member h = absurd h
-  any_some v (member t ts) h = mapped (λ g. members_have v t g) (λ g. any_some v ts g) (parted v (members t) (union_members ts) h)
+  any_some v (member t ts) h =
+      mapped (λ g. members_have v t g) (λ g. any_some v ts g) (parted v (members t) (union_members ts) h)
 
 pub union_has : (v : Value) (ts : List SoyType) → HasAny v ts → Has v (union_of ts)
 union_has v [] h = absurd h
@@ -110,7 +115,7 @@ is_null (ListValue vs) h = absurd h
 is_null (MapValue es) h = absurd h
 is_null (RecordValue es) h = absurd h
 
--- one more type in front
+-- one more type before the others
 pub or_any : {P : Type 0} (v : Value) (t : SoyType) (ts : List SoyType) → P ⊎ HasAny v ts → P ⊎ HasAny v (t ∷ ts)
 or_any v t ts (inl p) = inl p
 or_any v t ts (inr h) = inr (inr h)
@@ -140,7 +145,8 @@ filtered v (UnionType us ∷ ts) (inl h) = inr (inl h)
 filtered v (UnionType us ∷ ts) (inr h) = or_any v (UnionType us) (filter is_some_type ts) (filtered v ts h)
 
 -- and nothing else is taken away
-pub kept_if : (b : Bool) (v : Value) (t : SoyType) (ts us : List SoyType) → (HasAny v us → HasAny v ts) → HasAny v (if b then t ∷ us else us) → HasAny v (t ∷ ts)
+pub kept_if : (b : Bool) (v : Value) (t : SoyType) (ts us : List SoyType) → (HasAny v us → HasAny v ts)
+    → HasAny v (if b then t ∷ us else us) → HasAny v (t ∷ ts)
 kept_if true v t ts us more (inl h) = inl h
 kept_if true v t ts us more (inr h) = inr (more h)
 kept_if false v t ts us more h = inr (more h)
@@ -186,7 +192,9 @@ mutual
   pub nulls_gone : (ts : Members) → HasAny NullValue (filter is_some_type (union_members ts)) → ⊥
   nulls_gone no_member h = h
   nulls_gone (member t ts) h =
-      neither (λ p. null_gone t p) (λ q. nulls_gone ts q) (parted NullValue (filter is_some_type (members t)) (filter is_some_type (union_members ts)) (rw (kept_append (members t) (union_members ts)) at h))
+      neither (λ p. null_gone t p) (λ q. nulls_gone ts q)
+      (parted NullValue (filter is_some_type (members t)) (filter is_some_type (union_members ts))
+      (rw (kept_append (members t) (union_members ts)) at h))
 
 pub null_not_narrowed : (t : SoyType) → Has NullValue (type_without_null t) → ⊥
 null_not_narrowed t h = null_gone t (has_union NullValue (filter is_some_type (members t)) h)
@@ -196,19 +204,24 @@ append_last v [] t h = inl h
 append_last v (u ∷ ts) t h = inr (append_last v ts t h)
 
 -- one of the types is the same as that of the value
-pub same_if : (b : Bool) (v : Value) (t u : SoyType) (us : List SoyType) → is_same_type t u ≡ b → (b || list_any (is_same_type t) us) ≡ true → (list_any (is_same_type t) us ≡ true → HasAny v us) → Has v t → HasAny v (u ∷ us)
+pub same_if : (b : Bool) (v : Value) (t u : SoyType) (us : List SoyType) → is_same_type t u ≡ b
+    → (b || list_any (is_same_type t) us) ≡ true → (list_any (is_same_type t) us ≡ true → HasAny v us) → Has v t
+    → HasAny v (u ∷ us)
 same_if true v t u us is e more h = let q : t ≡ u = same_type t u is in inl (rw q at h)
 same_if false v t u us is e more h = inr (more e)
 
-pub same_any : (v : Value) (t : SoyType) (us : List SoyType) → list_any (is_same_type t) us ≡ true → Has v t → HasAny v us
+pub same_any : (v : Value) (t : SoyType) (us : List SoyType) → list_any (is_same_type t) us ≡ true → Has v t
+    → HasAny v us
 same_any v t [] e h = let no : ⊥ = cc in absurd no
 same_any v t (u ∷ us) e h = same_if (is_same_type t u) v t u us refl e (λ d. same_any v t us d h) h
 
-pub old_if : (b : Bool) (v : Value) (ts : List SoyType) (t : SoyType) → HasAny v ts → HasAny v (if b then ts else ts ++ t ∷ [])
+pub old_if : (b : Bool) (v : Value) (ts : List SoyType) (t : SoyType) → HasAny v ts
+    → HasAny v (if b then ts else ts ++ t ∷ [])
 old_if true v ts t h = h
 old_if false v ts t h = append_left v ts (t ∷ []) h
 
-pub new_if : (b : Bool) (v : Value) (ts : List SoyType) (t : SoyType) → list_any (is_same_type t) ts ≡ b → Has v t → HasAny v (if b then ts else ts ++ t ∷ [])
+pub new_if : (b : Bool) (v : Value) (ts : List SoyType) (t : SoyType) → list_any (is_same_type t) ts ≡ b → Has v t
+    → HasAny v (if b then ts else ts ++ t ∷ [])
 new_if true v ts t e h = same_any v t ts e h
 new_if false v ts t e h = append_last v ts t h
 
@@ -218,12 +231,38 @@ joined_old v ts (u ∷ us) h = joined_old v (with_member ts u) us (old_if (list_
 
 pub joined_new : (v : Value) (ts us : List SoyType) → HasAny v us → HasAny v (with_members ts us)
 joined_new v ts [] h = absurd h
-joined_new v ts (u ∷ us) (inl h) = joined_old v (with_member ts u) us (new_if (list_any (is_same_type u) ts) v ts u refl h)
+joined_new v ts (u ∷ us) (inl h) =
+    joined_old v (with_member ts u) us (new_if (list_any (is_same_type u) ts) v ts u refl h)
 joined_new v ts (u ∷ us) (inr h) = joined_new v (with_member ts u) us h
+
+-- and a value of one of the joined types was of one of the two lists
+pub was_if : (b : Bool) (v : Value) (ts : List SoyType) (t : SoyType)
+    → HasAny v (if b then ts else ts ++ t ∷ []) → HasAny v ts ⊎ Has v t
+was_if true v ts t h = inl h
+was_if false v ts t h = mapped (λ p. p) (λ q. only v t q) (parted v ts (t ∷ []) h)
+
+pub new_last : {P : Type 0} (v : Value) (u : SoyType) (us : List SoyType)
+    → (P ⊎ Has v u) ⊎ HasAny v us → P ⊎ HasAny v (u ∷ us)
+new_last v u us (inl (inl p)) = inl p
+new_last v u us (inl (inr h)) = inr (inl h)
+new_last v u us (inr h) = inr (inr h)
+
+pub joined_was : (v : Value) (ts us : List SoyType) → HasAny v (with_members ts us) → HasAny v ts ⊎ HasAny v us
+joined_was v ts [] h = inl h
+joined_was v ts (u ∷ us) h =
+    new_last v u us
+    (mapped (λ p. was_if (list_any (is_same_type u) ts) v ts u p) (λ q. q) (joined_was v (with_member ts u) us h))
 
 -- a value of either type is of the joined type
 pub joined_left : (v : Value) (t u : SoyType) → Has v t → Has v (joined t u)
-joined_left v t u h = union_has v (with_members (members t) (members u)) (joined_old v (members t) (members u) (has_members v t h))
+joined_left v t u h =
+    union_has v (with_members (members t) (members u)) (joined_old v (members t) (members u) (has_members v t h))
 
 pub joined_right : (v : Value) (t u : SoyType) → Has v u → Has v (joined t u)
-joined_right v t u h = union_has v (with_members (members t) (members u)) (joined_new v (members t) (members u) (has_members v u h))
+joined_right v t u h =
+    union_has v (with_members (members t) (members u)) (joined_new v (members t) (members u) (has_members v u h))
+
+pub joined_back : (v : Value) (t u : SoyType) → Has v (joined t u) → Has v t ⊎ Has v u
+joined_back v t u h =
+    mapped (λ p. members_have v t p) (λ q. members_have v u q)
+    (joined_was v (members t) (members u) (has_union v (with_members (members t) (members u)) h))

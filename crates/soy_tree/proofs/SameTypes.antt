@@ -3,7 +3,9 @@ use Rattle.std.proofs.Common.{◌≡◌, ℕ, Bool, true, false, ◌&&◌, List}
 use mathlib.Core.Path.{refl, ap}
 use Rattle.std.specs.Prelude.{bytes_eq}
 use Rattle.std.proofs.lemmas.Slice.Eq.{bytes_eq-Decides}
-use Rattle.soy_tree.specs.Types.{SoyType, Members, FieldTypes, NullType, BoolType, IntType, StringType, HtmlType, AttributesType, ListType, MapType, RecordType, UnionType, no_member, member, no_field, field}
+use Rattle.soy_tree.specs.Types.{SoyType, Members, FieldTypes, NullType, BoolType, IntType, StringType, HtmlType}
+use Rattle.soy_tree.specs.Types.{AttributesType, ListType, MapType, RecordType, UnionType, no_member, member, no_field}
+use Rattle.soy_tree.specs.Types.{field}
 use Rattle.soy_tree.specs.Members.{is_same_type, are_same_members, are_same_fields}
 
 -- a conjunction that holds, in its two parts
@@ -39,7 +41,8 @@ mutual
   pub same_fields : (fs gs : FieldTypes) → are_same_fields fs gs ≡ true → fs ≡ gs
   same_fields no_field no_field e = refl
   same_fields (field x t fs) (field y u gs) e =
-      let here : (bytes_eq x y && is_same_type t u) ≡ true = (both (bytes_eq x y && is_same_type t u) (are_same_fields fs gs) e).0 in
+      let here : (bytes_eq x y && is_same_type t u) ≡ true =
+      (both (bytes_eq x y && is_same_type t u) (are_same_fields fs gs) e).0 in
       let n : x ≡ y = same_name x y (both (bytes_eq x y) (is_same_type t u) here).0 in
       let p : t ≡ u = same_type t u (both (bytes_eq x y) (is_same_type t u) here).1 in
       let q : fs ≡ gs = same_fields fs gs (both (bytes_eq x y && is_same_type t u) (are_same_fields fs gs) e).1 in

@@ -4,8 +4,10 @@ use Rattle.std.specs.Prelude.{pos, negsuc, codes}
 use mathlib.Core.Path.{refl}
 use Rattle.soy_tree.specs.declared.expr.BinaryOp.{BinaryOp}
 use Rattle.soy_tree.specs.declared.expr.BinaryOp.TheVariants as op
-use Rattle.soy_tree.specs.Values.{Value, NullValue, BoolValue, IntValue, StringValue, ListValue, MapValue, no_item, item, no_entry, entry}
-use Rattle.soy_tree.specs.Expressions.{Expr, NullLiteral, BoolLiteral, Member, Index, Minus, Not, Binary, Coalesce, Conditional}
+use Rattle.soy_tree.specs.Values.{Value, NullValue, BoolValue, IntValue, StringValue, ListValue, MapValue, no_item}
+use Rattle.soy_tree.specs.Values.{item, no_entry, entry}
+use Rattle.soy_tree.specs.Expressions.{Expr, NullLiteral, BoolLiteral, Member, Index, Minus, Not, Binary, Coalesce}
+use Rattle.soy_tree.specs.Expressions.{Conditional}
 use Rattle.soy_tree.specs.Val.{Binding, Known, BlockOf, Env, val}
 use Rattle.soy_tree.specs.Cost.{cost}
 use Rattle.soy_tree.proofs.Rows.{at, a, b, var, int, text}
@@ -34,13 +36,16 @@ remainder : operated op.Rem (int 7 0) (int 3 5) ≡ Known (IntValue (pos 1))
 remainder = refl
 
 -- $a + 1 with $a 9007199254740991
-largest_int : valued (Binary op.Add (var a 0) (int 1 5) (at 0)) (IntValue (pos 9007199254740991)) ≡ Known (IntValue (pos 9007199254740991))
+largest_int : valued (Binary op.Add (var a 0) (int 1 5) (at 0)) (IntValue (pos 9007199254740991))
+    ≡ Known (IntValue (pos 9007199254740991))
 largest_int = refl
 
-least_int : valued (Binary op.Sub (Minus (var a 1) (at 0)) (int 1 5) (at 0)) (IntValue (pos 9007199254740991)) ≡ Known (IntValue (negsuc 9007199254740990))
+least_int : valued (Binary op.Sub (Minus (var a 1) (at 0)) (int 1 5) (at 0)) (IntValue (pos 9007199254740991))
+    ≡ Known (IntValue (negsuc 9007199254740990))
 least_int = refl
 
-product_beyond : valued (Binary op.Mul (var a 0) (Minus (var a 6) (at 5)) (at 0)) (IntValue (pos 9007199254740991)) ≡ Known (IntValue (negsuc 9007199254740990))
+product_beyond : valued (Binary op.Mul (var a 0) (Minus (var a 6) (at 5)) (at 0)) (IntValue (pos 9007199254740991))
+    ≡ Known (IntValue (negsuc 9007199254740990))
 product_beyond = refl
 
 text_of_null : operated op.Add (text b 0) (NullLiteral (at 5)) ≡ Known (StringValue (codes "bnull"))
@@ -83,16 +88,20 @@ null_gives_the_other : valued (Coalesce (var a 0) (int 1 0) (at 0)) NullValue �
 null_gives_the_other = refl
 
 -- accesses
-item_there : valued (Index (var a 0) (int 0 0) false (at 0)) (ListValue (item (IntValue (pos 5)) no_item)) ≡ Known (IntValue (pos 5))
+item_there : valued (Index (var a 0) (int 0 0) false (at 0)) (ListValue (item (IntValue (pos 5)) no_item))
+    ≡ Known (IntValue (pos 5))
 item_there = refl
 
-item_past_the_end : valued (Index (var a 0) (int 1 0) false (at 0)) (ListValue (item (IntValue (pos 5)) no_item)) ≡ Known NullValue
+item_past_the_end : valued (Index (var a 0) (int 1 0) false (at 0)) (ListValue (item (IntValue (pos 5)) no_item))
+    ≡ Known NullValue
 item_past_the_end = refl
 
-item_before_the_start : valued (Index (var a 0) (Minus (int 1 0) (at 0)) false (at 0)) (ListValue (item (IntValue (pos 5)) no_item)) ≡ Known NullValue
+item_before_the_start : valued (Index (var a 0) (Minus (int 1 0) (at 0)) false (at 0))
+    (ListValue (item (IntValue (pos 5)) no_item)) ≡ Known NullValue
 item_before_the_start = refl
 
-first_entry_counts : valued (Index (var a 0) (text b 0) false (at 0)) (MapValue (entry b (IntValue (pos 1)) (entry b (IntValue (pos 2)) no_entry))) ≡ Known (IntValue (pos 1))
+first_entry_counts : valued (Index (var a 0) (text b 0) false (at 0))
+    (MapValue (entry b (IntValue (pos 1)) (entry b (IntValue (pos 2)) no_entry))) ≡ Known (IntValue (pos 1))
 first_entry_counts = refl
 
 member_of_null : valued (Member (var a 0) b true (at 0)) NullValue ≡ Known NullValue

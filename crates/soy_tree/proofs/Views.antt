@@ -10,11 +10,17 @@ pub view_field-is : (f : code_field.Field) → view_field f ≡ (f.name, view_ty
 view_field-is f = code_field.fold_out-Field SoyType (Name × SoyType) type_layer field_layer f
 
 -- the field at an index stands before those from the next index on
-pub fields-drop : (fs : List code_field.Field) (i : ℕ) (f : code_field.Field) → i < length fs → f ≡ slice_index_or fs i f → view_fields (drop i fs) ≡ field f.name (view_type f.of) (view_fields (drop (i + 1) fs))
+pub fields-drop : (fs : List code_field.Field) (i : ℕ) (f : code_field.Field) → i < length fs
+    → f ≡ slice_index_or fs i f → view_fields (drop i fs)
+    ≡ field f.name (view_type f.of) (view_fields (drop (i + 1) fs))
 fields-drop [] i f below is = absurd (omega arith)
 fields-drop (x ∷ fs) zero f below is = rw is (rw (view_field-is x) refl)
-fields-drop (x ∷ fs) (suc i) f below is = let e : suc i + 1 ≡ suc (i + 1) = omega arith in rw e (fields-drop fs i f (omega arith) is)
+fields-drop (x ∷ fs) (suc i) f below is = let e : suc i + 1 ≡ suc (i + 1) =
+    omega arith in rw e (fields-drop fs i f (omega arith) is)
 
 -- the fields that a record has to accept from an index on: the field there, and those after it
-pub accepts_fields-drop : (fs : List code_field.Field) (from : FieldTypes) (i : ℕ) (f : code_field.Field) → i < length fs → f ≡ slice_index_or fs i f → accepts_fields (view_fields (drop i fs)) from ≡ (has_field f.name (each_member (accepts_member (view_type f.of))) from && accepts_fields (view_fields (drop (i + 1) fs)) from)
+pub accepts_fields-drop : (fs : List code_field.Field) (from : FieldTypes) (i : ℕ) (f : code_field.Field)
+    → i < length fs → f ≡ slice_index_or fs i f → accepts_fields (view_fields (drop i fs)) from
+    ≡ (has_field f.name (each_member (accepts_member (view_type f.of))) from
+    && accepts_fields (view_fields (drop (i + 1) fs)) from)
 accepts_fields-drop fs from i f below is = rw (fields-drop fs i f below is) refl

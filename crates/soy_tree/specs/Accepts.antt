@@ -1,21 +1,19 @@
 -- Which type accepts which.
--- A type accepts another where each member of the other's union is accepted by one of its own members; a type that is no
--- union is the one member of itself. A member null, bool, int, string, html or attributes accepts only an equal member. A
--- list or map accepts one whose items it accepts, and a record accepts a record that has each of its fields with an
--- accepted type.
+-- A type accepts another where each member of the other's union is accepted by one of its own members; a type that is
+-- no union is the one member of itself. A member null, bool, int, string, html or attributes accepts only an equal
+-- member. A list or map accepts one whose items it accepts, and a record accepts a record that has each of its fields
+-- with an accepted type.
 -- Example: `[a: int|null]` accepts `[b: string, a: int]`, and not `[b: string]`.
 use Rattle.std.specs.Prelude.{Bool, true, false, ◌&&◌, ◌||◌, if◌then◌else◌, bytes_eq}
-use Rattle.soy_tree.specs.Types.{Name, SoyType, Members, FieldTypes, NullType, BoolType, IntType, StringType, HtmlType, AttributesType, ListType, MapType, RecordType, UnionType, no_member, member, no_field, field}
-
--- whether each member of the union passes
-abbrev pub all_members : (SoyType → Bool) → Members → Bool
-all_members test no_member = true
-all_members test (member t ts) = test t && all_members test ts
+use Rattle.std.specs.List.{list_all}
+use Rattle.soy_tree.specs.Members.{members}
+use Rattle.soy_tree.specs.Types.{Name, SoyType, Members, FieldTypes, NullType, BoolType, IntType, StringType, HtmlType}
+use Rattle.soy_tree.specs.Types.{AttributesType, ListType, MapType, RecordType, UnionType, no_member, member, no_field}
+use Rattle.soy_tree.specs.Types.{field}
 
 -- whether each member of the type passes
 abbrev pub each_member : (SoyType → Bool) → SoyType → Bool
-each_member test (UnionType ts) = all_members test ts
-each_member test t = test t
+each_member test t = list_all test (members t)
 
 -- whether there is a field of this name, and the type of the first such field passes
 abbrev pub has_field : Name → (SoyType → Bool) → FieldTypes → Bool
@@ -43,7 +41,8 @@ abbrev mutual
 
   pub accepts_fields : FieldTypes → FieldTypes → Bool
   accepts_fields no_field from = true
-  accepts_fields (field name to fields) from = has_field name (each_member (accepts_member to)) from && accepts_fields fields from
+  accepts_fields (field name to fields) from =
+      has_field name (each_member (accepts_member to)) from && accepts_fields fields from
 
 abbrev pub accepts : SoyType → SoyType → Bool
 accepts to from = each_member (accepts_member to) from

@@ -4,7 +4,8 @@
 use Rattle.std.specs.Prelude.{ℕ, ◌+◌, Bool, if◌then◌else◌}
 use Rattle.soy_tree.specs.declared.expr.BinaryOp.{BinaryOp}
 use Rattle.soy_tree.specs.declared.expr.BinaryOp.TheVariants as op
-use Rattle.soy_tree.specs.Expressions.{Expr, NullLiteral, BoolLiteral, IntLiteral, StringLiteral, Variable, Member, Index, Minus, Not, Binary, Coalesce, Conditional}
+use Rattle.soy_tree.specs.Expressions.{Expr, NullLiteral, BoolLiteral, IntLiteral, StringLiteral, Variable, Member}
+use Rattle.soy_tree.specs.Expressions.{Index, Minus, Not, Binary, Coalesce, Conditional}
 use Rattle.soy_tree.specs.Val.{Env, val, is_truthy, is_null}
 
 -- what the right operand costs, by the truth of the left one

@@ -1,7 +1,8 @@
 -- What the checker demands of the trees of all files: the first fault, if there is one.
--- There are two passes over all files, declarations and bodies, and the first fault of the first pass that has one counts.
--- Example: where the first file's body has an unknown variable and the second file declares a parameter twice, the fault is
--- the 6 of the second file.
+-- There are two passes over all files, declarations and bodies, and the first fault of the first pass that has one
+-- counts.
+-- Example: where the first file's body has an unknown variable and the second file declares a parameter twice, the
+-- fault is the 6 of the second file.
 use Rattle.std.specs.Prelude.{ℕ, List, [], ◌∷◌, Option, Some, None, Ok, Err, option_map}
 use Rattle.std.specs.Option.{option_or}
 use Rattle.soy_tree.specs.Types.{Name}
@@ -21,7 +22,8 @@ in_file file fault = record { file = file; fault = fault }
 
 abbrev pub declarations_fault : List Declared → List Name → Option CheckFault
 declarations_fault [] before = None
-declarations_fault (d ∷ ds) before = option_or (option_map (in_file d.file) (declaration_fault d before)) (declarations_fault ds (full_name d ∷ before))
+declarations_fault (d ∷ ds) before =
+    option_or (option_map (in_file d.file) (declaration_fault d before)) (declarations_fault ds (full_name d ∷ before))
 
 abbrev pub fault_of : Checked → Option TypeFault
 fault_of (Ok scope) = None

@@ -13,9 +13,9 @@ pub record TypeFault : Type 0 where
   pub left : List ℕ
   pub right : List ℕ
 
-abbrev pub and_then : {A B E : Type 0} → Result A E → (A → Result B E) → Result B E
-and_then (Ok a) next = next a
-and_then (Err e) next = Err e
+abbrev pub followed_by : {A B E : Type 0} → Result A E → (A → Result B E) → Result B E
+followed_by (Ok a) next = next a
+followed_by (Err e) next = Err e
 
 abbrev pub fails : {A : Type 0} → Code → ℕ → List ℕ → List ℕ → Result A TypeFault
 fails code at left right = Err (record { code = code; at = at; left = left; right = right })

@@ -1,6 +1,6 @@
 -- When a scope fits an environment.
--- Both name the same variables in the same order, and each variable is bound to a value of its type, or to a block where its
--- type has an html or attributes member.
+-- Both name the same variables in the same order, and each variable is bound to a value of its type, or to a block
+-- where its type has an html or attributes member.
 -- Example: `$a: int|null` fits an environment in which `$a` is bound to null.
 use Rattle.std.specs.Prelude.{◌≡◌, true, [], ◌∷◌}
 use Rattle.soy_tree.specs.Types.{SoyType}

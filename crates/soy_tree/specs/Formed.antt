@@ -4,16 +4,23 @@
 -- A message holds text, prints and whole tags, or one plural or select, and so does each of its cases; the words of its
 -- selects are words other than `other`; it nests at most 63 plurals and selects.
 -- Example: a message whose text is `<b` isn't formed, since the tag has no end.
-use Rattle.std.specs.Prelude.{ℕ, ◌+◌, ℤ, pos, negsuc, Bool, true, false, not, ◌&&◌, ◌||◌, ◌==◌, nat_le, max, List, [], ◌∷◌, Option, Some, None, is_some, IsTrue, bytes_eq, codes}
+use Rattle.std.specs.Prelude.{ℕ, ◌+◌, ℤ, pos, negsuc, Bool, true, false, not, ◌&&◌, ◌||◌, ◌==◌, nat_le, max, List, []}
+use Rattle.std.specs.Prelude.{◌∷◌, Option, Some, None, is_some, IsTrue, bytes_eq, codes}
 use Rattle.std.specs.List.{list_all}
 use Rattle.std.specs.Char.{is_ascii_alphabetic, is_ascii_digit}
 use Rattle.soy_base.specs.Characters.{underscore, minus_sign}
 use Rattle.soy_base.specs.Names.{is_name, is_dotted_name}
-use Rattle.soy_tree.specs.Types.{SoyType, Members, FieldTypes, ListType, MapType, RecordType, UnionType, no_member, member, no_field, field}
+use Rattle.soy_tree.specs.Types.{SoyType, Members, FieldTypes, ListType, MapType, RecordType, UnionType, no_member}
+use Rattle.soy_tree.specs.Types.{member, no_field, field}
 use Rattle.soy_tree.specs.Ints.{largest}
-use Rattle.soy_tree.specs.Expressions.{Expr, IntLiteral, Variable, Member, Index, Minus, Not, Binary, Coalesce, Conditional}
-use Rattle.soy_tree.specs.Nodes.{Node, Nodes, Otherwise, Arms, Cases, Arguments, Given, Message, Fallback, MessageBody, PluralCases, SelectCases, TextNode, Print, If, Switch, For, Let, LetBlock, Call, MessageNode, no_node, node, no_otherwise, otherwise, no_arm, arm, no_case, case, no_argument, argument, Plain, Block, message, no_fallback, fallback, Parts, Plural, Select, no_plural_case, plural_case, no_select_case, select_case}
-use Rattle.soy_tree.specs.MessageText.{pieces_of, cuts_of}
+use Rattle.soy_tree.specs.Expressions.{Expr, IntLiteral, Variable, Member, Index, Minus, Not, Binary, Coalesce}
+use Rattle.soy_tree.specs.Expressions.{Conditional}
+use Rattle.soy_tree.specs.Nodes.{Node, Nodes, Otherwise, Arms, Cases, Arguments, Given, Message, Fallback, MessageBody}
+use Rattle.soy_tree.specs.Nodes.{PluralCases, SelectCases, TextNode, Print, If, Switch, For, Let, LetBlock, Call}
+use Rattle.soy_tree.specs.Nodes.{MessageNode, no_node, node, no_otherwise, otherwise, no_arm, arm, no_case, case}
+use Rattle.soy_tree.specs.Nodes.{no_argument, argument, Plain, Block, message, no_fallback, fallback, Parts, Plural}
+use Rattle.soy_tree.specs.Nodes.{Select, no_plural_case, plural_case, no_select_case, select_case}
+use Rattle.soy_tree.specs.MessageText.{message_items, cuts_of}
 use Rattle.soy_tree.specs.Trees.{Param, Template, Tree}
 
 abbrev pub is_formed_int : ℤ → Bool
@@ -74,7 +81,7 @@ begins_with_text (node n ns) = is_text n
 
 -- whether the nodes are texts, prints and whole tags
 abbrev pub is_message_text : Nodes → Bool
-is_message_text ns = is_some (cuts_of (pieces_of ns))
+is_message_text ns = is_some (cuts_of (message_items ns))
 
 abbrev mutual
   -- how many plurals and selects a message nests
@@ -97,7 +104,8 @@ abbrev mutual
   is_formed_node (Print e phname span) = is_formed_expr e && if_there is_name phname
   is_formed_node (If arms other span) = are_formed_arms arms && is_formed_otherwise other
   is_formed_node (Switch e cases other span) = is_formed_expr e && are_formed_cases cases && is_formed_otherwise other
-  is_formed_node (For name index e body span) = is_name name && if_there is_name index && is_formed_expr e && are_formed_nodes body
+  is_formed_node (For name index e body span) =
+      is_name name && if_there is_name index && is_formed_expr e && are_formed_nodes body
   is_formed_node (Let name e span) = is_name name && is_formed_expr e
   is_formed_node (LetBlock name kind body span) = is_name name && are_formed_nodes body
   is_formed_node (Call name all given span) = is_dotted_name name && are_formed_arguments given
@@ -117,11 +125,13 @@ abbrev mutual
 
   pub are_formed_cases : Cases → Bool
   are_formed_cases no_case = true
-  are_formed_cases (case values body cases) = list_all is_formed_expr values && are_formed_nodes body && are_formed_cases cases
+  are_formed_cases (case values body cases) =
+      list_all is_formed_expr values && are_formed_nodes body && are_formed_cases cases
 
   pub are_formed_arguments : Arguments → Bool
   are_formed_arguments no_argument = true
-  are_formed_arguments (argument name given span rest) = is_name name && is_formed_given given && are_formed_arguments rest
+  are_formed_arguments (argument name given span rest) =
+      is_name name && is_formed_given given && are_formed_arguments rest
 
   pub is_formed_given : Given → Bool
   is_formed_given (Plain e) = is_formed_expr e
@@ -136,16 +146,19 @@ abbrev mutual
 
   pub is_formed_body : MessageBody → Bool
   is_formed_body (Parts ns) = are_formed_nodes ns && is_message_text ns
-  is_formed_body (Plural e offset cases other) = is_formed_expr e && nat_le offset largest && are_formed_plural_cases cases && is_formed_body other
+  is_formed_body (Plural e offset cases other) =
+      is_formed_expr e && nat_le offset largest && are_formed_plural_cases cases && is_formed_body other
   is_formed_body (Select e cases other) = is_formed_expr e && are_formed_select_cases cases && is_formed_body other
 
   pub are_formed_plural_cases : PluralCases → Bool
   are_formed_plural_cases no_plural_case = true
-  are_formed_plural_cases (plural_case n body cases) = is_formed_int n && is_formed_body body && are_formed_plural_cases cases
+  are_formed_plural_cases (plural_case n body cases) =
+      is_formed_int n && is_formed_body body && are_formed_plural_cases cases
 
   pub are_formed_select_cases : SelectCases → Bool
   are_formed_select_cases no_select_case = true
-  are_formed_select_cases (select_case word body cases) = is_case_word word && is_formed_body body && are_formed_select_cases cases
+  are_formed_select_cases (select_case word body cases) =
+      is_case_word word && is_formed_body body && are_formed_select_cases cases
 
 abbrev pub is_formed_param : Param → Bool
 is_formed_param p = is_name p.name && is_formed_type p.of

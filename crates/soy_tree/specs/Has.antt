@@ -1,12 +1,15 @@
 -- Which value is of which type.
 -- Null has the type null, and true and false have bool; no value has html or attributes. An int is within the range of
--- ints. A string is a list of characters, which are Unicode scalar values. A list has items of its type, a map entries of its type. A record
--- has for each field an entry of its name, the first of them of the field's type, and perhaps more entries. A union holds
--- where one member does.
+-- ints. Every string has the type string: its characters are numbers here, and Unicode scalar values wherever a text of
+-- the code stands for it. A list has items of its type, a map entries of its type. A record has for each field an entry
+-- of its name, the first of them of the field's type, and perhaps more entries. A union holds where one member does.
 -- Example: the record with `a` 1 and `b` null has the type `[b: int|null]`.
 use Rattle.std.specs.Prelude.{ℤ, pos, negsuc, ◌≤◌, ◌<◌, ◌⊎◌, Option, Some, None, if◌then◌else◌, bytes_eq}
-use Rattle.soy_tree.specs.Types.{Name, SoyType, Members, FieldTypes, NullType, BoolType, IntType, StringType, HtmlType, AttributesType, ListType, MapType, RecordType, UnionType, no_member, member, no_field, field}
-use Rattle.soy_tree.specs.Values.{Value, Items, Entries, NullValue, BoolValue, IntValue, StringValue, ListValue, MapValue, RecordValue, no_item, item, no_entry, entry}
+use Rattle.soy_tree.specs.Types.{Name, SoyType, Members, FieldTypes, NullType, BoolType, IntType, StringType, HtmlType}
+use Rattle.soy_tree.specs.Types.{AttributesType, ListType, MapType, RecordType, UnionType, no_member, member, no_field}
+use Rattle.soy_tree.specs.Types.{field}
+use Rattle.soy_tree.specs.Values.{Value, Items, Entries, NullValue, BoolValue, IntValue, StringValue, ListValue}
+use Rattle.soy_tree.specs.Values.{MapValue, RecordValue, no_item, item, no_entry, entry}
 use Rattle.soy_tree.specs.Ints.{largest}
 
 abbrev pub IsWithinRange : ℤ → Type 0

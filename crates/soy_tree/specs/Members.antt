@@ -1,11 +1,13 @@
 -- The members of types, types without null, and types that are joined.
--- A type that is no union is the one member of itself, and a union of one member is that member. (The grammar has no union
--- in a union; the members of such a one are members.) Two types are joined into
--- the union of the left one's members and then those of the right one that aren't yet among them.
+-- A type that is no union is the one member of itself, and a union of one member is that member. (The grammar has no
+-- union in a union; the members of such a one are members.) Two types are joined into the union of the left one's
+-- members and then those of the right one that aren't yet among them.
 -- Example: `int|null` without null is `int`; `int|null` joined with `string|null` is `int|null|string`.
 use Rattle.std.specs.Prelude.{Bool, true, false, not, ◌&&◌, List, [], ◌∷◌, ◌++◌, filter, if◌then◌else◌, bytes_eq}
 use Rattle.std.specs.List.{list_any, list_all}
-use Rattle.soy_tree.specs.Types.{SoyType, Members, FieldTypes, NullType, BoolType, IntType, StringType, HtmlType, AttributesType, ListType, MapType, RecordType, UnionType, no_member, member, no_field, field}
+use Rattle.soy_tree.specs.Types.{SoyType, Members, FieldTypes, NullType, BoolType, IntType, StringType, HtmlType}
+use Rattle.soy_tree.specs.Types.{AttributesType, ListType, MapType, RecordType, UnionType, no_member, member, no_field}
+use Rattle.soy_tree.specs.Types.{field}
 
 abbrev mutual
   pub members : SoyType → List SoyType

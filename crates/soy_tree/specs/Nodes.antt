@@ -1,5 +1,6 @@
 -- Nodes of a template's body and the messages among them, as plain data, each with the span in which it stands.
--- A command that may lack its last part (the else of an if, the default of a switch, the fallback of a message) says so.
+-- A command that may lack its last part (the else of an if, the default of a switch, the fallback of a message) says
+-- so.
 -- Example: `{if $a}x{/if}` is `If (arm (Variable a ..) (node (TextNode x ..) no_node) no_arm) no_otherwise ..`.
 use Rattle.std.specs.Prelude.{ℕ, ℤ, Bool, List, Option}
 use Rattle.soy_base.specs.declared.fault.Span.{Span}
@@ -18,7 +19,7 @@ mutual
     For : Name → Option Name → Expr → Nodes → Span → Node
     Let : Name → Expr → Span → Node
     LetBlock : Name → Kind → Nodes → Span → Node
-    -- the callee's name as written, whether `data="all"` is there, the params
+    -- the callee's name without a leading dot, whether `data="all"` is there, the params
     Call : Name → Bool → Arguments → Span → Node
     MessageNode : Message → Fallback → Span → Node
 

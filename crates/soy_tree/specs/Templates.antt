@@ -2,7 +2,8 @@
 -- A template's full name is its namespace, a `.` and its name. In a call a name without an inner dot means the caller's
 -- namespace, and one with an inner dot is a full name. A private template is seen from its own namespace alone.
 -- Example: in the namespace `a.b` the call of `c` means `a.b.c`.
-use Rattle.std.specs.Prelude.{ℕ, ◌+◌, Bool, not, ◌||◌, ◌==◌, List, [], ◌∷◌, ◌++◌, Option, Some, None, map, if◌then◌else◌, bytes_eq}
+use Rattle.std.specs.Prelude.{ℕ, ◌+◌, Bool, not, ◌||◌, ◌==◌, List, [], ◌∷◌, ◌++◌, Option, Some, None, map}
+use Rattle.std.specs.Prelude.{if◌then◌else◌, bytes_eq}
 use Rattle.std.specs.List.{list_any}
 use Rattle.soy_base.specs.Characters.{full_stop}
 use Rattle.soy_base.specs.declared.kind.Kind.{Kind}
@@ -20,7 +21,8 @@ pub record Declared : Type 0 where
 
 abbrev pub declared_in : ℕ → Name → List Template → List Declared
 declared_in file namespace [] = []
-declared_in file namespace (t ∷ ts) = record { file = file; namespace = namespace; template = t } ∷ declared_in file namespace ts
+declared_in file namespace (t ∷ ts) =
+    record { file = file; namespace = namespace; template = t } ∷ declared_in file namespace ts
 
 -- the templates of all files in order, files being counted from a number on
 abbrev pub declared_from : ℕ → List Tree → List Declared

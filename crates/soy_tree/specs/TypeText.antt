@@ -2,7 +2,9 @@
 -- A list is `list<T>`, a map `map<string, T>`, a record `[a: T, b: U]`, a union `T|U`.
 -- Example: a list of records that may be null is `list<[a: int]|null>`.
 use Rattle.std.specs.Prelude.{ℕ, List, [], ◌++◌, codes}
-use Rattle.soy_tree.specs.Types.{SoyType, Members, FieldTypes, NullType, BoolType, IntType, StringType, HtmlType, AttributesType, ListType, MapType, RecordType, UnionType, no_member, member, no_field, field}
+use Rattle.soy_tree.specs.Types.{SoyType, Members, FieldTypes, NullType, BoolType, IntType, StringType, HtmlType}
+use Rattle.soy_tree.specs.Types.{AttributesType, ListType, MapType, RecordType, UnionType, no_member, member, no_field}
+use Rattle.soy_tree.specs.Types.{field}
 
 abbrev mutual
   pub type_text : SoyType → List ℕ
@@ -31,4 +33,5 @@ abbrev mutual
 
   pub more_fields_text : FieldTypes → List ℕ
   more_fields_text no_field = []
-  more_fields_text (field name t fields) = codes ", " ++ (name ++ (codes ": " ++ (type_text t ++ more_fields_text fields)))
+  more_fields_text (field name t fields) =
+      codes ", " ++ (name ++ (codes ": " ++ (type_text t ++ more_fields_text fields)))

@@ -1,6 +1,6 @@
 -- Types of values, as plain data.
--- A type is null, bool, int, string, html, attributes, a list or map of a type, a record, or a union of its members in the
--- order in which they are written. The union of no members is the type that no value has.
+-- A type is null, bool, int, string, html, attributes, a list or map of a type, a record, or a union of its members in
+-- the order in which they are written. The union of no members is the type that no value has.
 -- Example: `list<[a: int]>|null` is a union of two members, a list of records with one field, and null.
 use Rattle.std.specs.Prelude.{ℕ, List}
 

@@ -1,16 +1,21 @@
 -- The value of a typed expression under an environment, its truth, and its text.
--- A variable is bound to a value, or to a block of kind html or attributes. A block is truthy and isn't null; an expression
--- whose type has an html or attributes member is a variable. Where an expression has no type, the value says nothing.
+-- A variable is bound to a value, or to a block of kind html or attributes. A block is truthy and isn't null; an
+-- expression whose type has an html or attributes member is a variable. Where an expression has no type, the value says
+-- nothing.
 -- Example: `-7 % 3` is -1, and `$n + 1` with `$n` 9007199254740991 is 9007199254740991.
-use Rattle.std.specs.Prelude.{ℕ, zero, suc, ℤ, pos, negsuc, ◌+ℤ◌, ◌-ℤ◌, ◌*ℤ◌, neg_ℤ, int_lt, int_rem, Bool, true, false, not, ◌&&◌, ◌||◌, ◌==◌, nat_lt, List, [], ◌∷◌, ◌++◌, if◌then◌else◌, unwrap_or, bytes_eq, codes}
+use Rattle.std.specs.Prelude.{ℕ, zero, suc, ℤ, pos, negsuc, ◌+ℤ◌, ◌-ℤ◌, ◌*ℤ◌, neg_ℤ, int_lt, int_rem, Bool, true, false}
+use Rattle.std.specs.Prelude.{not, ◌&&◌, ◌||◌, ◌==◌, nat_lt, List, [], ◌∷◌, ◌++◌, if◌then◌else◌, unwrap_or, bytes_eq}
+use Rattle.std.specs.Prelude.{codes}
 use Rattle.std.specs.Fmt.{signed_decimal}
 use Rattle.soy_tree.specs.declared.expr.BinaryOp.{BinaryOp}
 use Rattle.soy_tree.specs.declared.expr.BinaryOp.TheVariants as op
 use Rattle.soy_tree.specs.Types.{Name}
-use Rattle.soy_tree.specs.Values.{Value, Items, NullValue, BoolValue, IntValue, StringValue, ListValue, MapValue, no_item, item}
+use Rattle.soy_tree.specs.Values.{Value, Items, NullValue, BoolValue, IntValue, StringValue, ListValue, MapValue}
+use Rattle.soy_tree.specs.Values.{no_item, item}
 use Rattle.soy_tree.specs.Ints.{nearest}
 use Rattle.soy_tree.specs.Has.{entry_value, field_value}
-use Rattle.soy_tree.specs.Expressions.{Expr, NullLiteral, BoolLiteral, IntLiteral, StringLiteral, Variable, Member, Index, Minus, Not, Binary, Coalesce, Conditional}
+use Rattle.soy_tree.specs.Expressions.{Expr, NullLiteral, BoolLiteral, IntLiteral, StringLiteral, Variable, Member}
+use Rattle.soy_tree.specs.Expressions.{Index, Minus, Not, Binary, Coalesce, Conditional}
 
 -- what a variable is bound to: a value, or a block, of which an expression knows nothing
 pub data Binding (A : Type 0) : Type 0 where

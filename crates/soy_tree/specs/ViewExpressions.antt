@@ -4,7 +4,8 @@ use Rattle.soy_base.specs.declared.fault.Span.{Span}
 use Rattle.soy_tree.specs.declared.expr.Expr as code
 use Rattle.soy_tree.specs.declared.expr.ExprNode as code_node
 use Rattle.soy_tree.specs.declared.expr.ExprNode.TheOpen.{ExprNode-F, Expr-F}
-use Rattle.soy_tree.specs.Expressions.{Expr, NullLiteral, BoolLiteral, IntLiteral, StringLiteral, Variable, Member, Index, Minus, Not, Binary, Coalesce, Conditional}
+use Rattle.soy_tree.specs.Expressions.{Expr, NullLiteral, BoolLiteral, IntLiteral, StringLiteral, Variable, Member}
+use Rattle.soy_tree.specs.Expressions.{Index, Minus, Not, Binary, Coalesce, Conditional}
 
 abbrev pub expr_node_layer : ExprNode-F (Span → Expr) Expr → Span → Expr
 expr_node_layer ExprNode-F.Null span = NullLiteral span

@@ -11,10 +11,15 @@ use Rattle.soy_tree.specs.declared.node.Message as code_message
 use Rattle.soy_tree.specs.declared.node.MessageBody as code_body
 use Rattle.soy_tree.specs.declared.node.PluralCase as code_plural_case
 use Rattle.soy_tree.specs.declared.node.SelectCase as code_select_case
-use Rattle.soy_tree.specs.declared.node.Form.TheOpen.{Form-F, Given-F, MessageBody-F, Argument-F, Arm-F, Case-F, Message-F, Node-F, PluralCase-F, SelectCase-F}
+use Rattle.soy_tree.specs.declared.node.Form.TheOpen.{Form-F, Given-F, MessageBody-F, Argument-F, Arm-F, Case-F}
+use Rattle.soy_tree.specs.declared.node.Form.TheOpen.{Message-F, Node-F, PluralCase-F, SelectCase-F}
 use Rattle.soy_tree.specs.Types.{Name}
 use Rattle.soy_tree.specs.Expressions.{Expr}
-use Rattle.soy_tree.specs.Nodes.{Node, Nodes, Otherwise, Arms, Cases, Arguments, Given, Message, Fallback, MessageBody, PluralCases, SelectCases, TextNode, Print, If, Switch, For, Let, LetBlock, Call, MessageNode, no_node, node, no_otherwise, otherwise, no_arm, arm, no_case, case, no_argument, argument, Plain, Block, message, no_fallback, fallback, Parts, Plural, Select, no_plural_case, plural_case, no_select_case, select_case}
+use Rattle.soy_tree.specs.Nodes.{Node, Nodes, Otherwise, Arms, Cases, Arguments, Given, Message, Fallback, MessageBody}
+use Rattle.soy_tree.specs.Nodes.{PluralCases, SelectCases, TextNode, Print, If, Switch, For, Let, LetBlock, Call}
+use Rattle.soy_tree.specs.Nodes.{MessageNode, no_node, node, no_otherwise, otherwise, no_arm, arm, no_case, case}
+use Rattle.soy_tree.specs.Nodes.{no_argument, argument, Plain, Block, message, no_fallback, fallback, Parts, Plural}
+use Rattle.soy_tree.specs.Nodes.{Select, no_plural_case, plural_case, no_select_case, select_case}
 use Rattle.soy_tree.specs.ViewExpressions.{view_expr, view_exprs}
 
 abbrev pub nodes_of : List Node → Nodes
@@ -50,10 +55,12 @@ select_cases_of [] = no_select_case
 select_cases_of (c ∷ cs) = select_case c.0 c.1 (select_cases_of cs)
 
 -- what is inside is already seen as plain data
-abbrev pub Seen : ((A B C D E F G H I J : Type 0) → Type 0) → Type 0
-Seen Layer = Layer (Span → Node) Given MessageBody (Name × Given × Span) (Expr × Nodes) (List Expr × Nodes) Message Node (ℤ × MessageBody) (List ℕ × MessageBody)
+abbrev pub NodeLayer : ((A B C D E F G H I J : Type 0) → Type 0) → Type 0
+NodeLayer Layer =
+    Layer (Span → Node) Given MessageBody (Name × Given × Span) (Expr × Nodes) (List Expr × Nodes) Message Node
+    (ℤ × MessageBody) (List ℕ × MessageBody)
 
-abbrev pub form_layer : Seen Form-F → Span → Node
+abbrev pub form_layer : NodeLayer Form-F → Span → Node
 form_layer (Form-F.Text text) span = TextNode text span
 form_layer (Form-F.Print e phname) span = Print (view_expr e) phname span
 form_layer (Form-F.If arms other) span = If (arms_of arms) (otherwise_of other) span
@@ -64,65 +71,95 @@ form_layer (Form-F.LetBlock x kind body) span = LetBlock x kind (nodes_of body) 
 form_layer (Form-F.Call name all given) span = Call name all (arguments_of given) span
 form_layer (Form-F.Message m other) span = MessageNode m (fallback_of other) span
 
-abbrev pub given_layer : Seen Given-F → Given
+abbrev pub given_layer : NodeLayer Given-F → Given
 given_layer (Given-F.Plain e) = Plain (view_expr e)
 given_layer (Given-F.Block kind body) = Block kind (nodes_of body)
 
-abbrev pub body_layer : Seen MessageBody-F → MessageBody
+abbrev pub body_layer : NodeLayer MessageBody-F → MessageBody
 body_layer (MessageBody-F.Parts ns) = Parts (nodes_of ns)
 body_layer (MessageBody-F.Plural e offset cases other) = Plural (view_expr e) offset (plural_cases_of cases) other
 body_layer (MessageBody-F.Select e cases other) = Select (view_expr e) (select_cases_of cases) other
 
-abbrev pub argument_layer : Seen Argument-F → Name × Given × Span
+abbrev pub argument_layer : NodeLayer Argument-F → Name × Given × Span
 argument_layer a = (a.name, a.given, a.span)
 
-abbrev pub arm_layer : Seen Arm-F → Expr × Nodes
+abbrev pub arm_layer : NodeLayer Arm-F → Expr × Nodes
 arm_layer a = (view_expr a.when, nodes_of a.body)
 
-abbrev pub case_layer : Seen Case-F → List Expr × Nodes
+abbrev pub case_layer : NodeLayer Case-F → List Expr × Nodes
 case_layer c = (view_exprs c.values, nodes_of c.body)
 
-abbrev pub message_layer : Seen Message-F → Message
+abbrev pub message_layer : NodeLayer Message-F → Message
 message_layer m = message m.desc m.meaning m.body m.span
 
-abbrev pub node_layer : Seen Node-F → Node
+abbrev pub node_layer : NodeLayer Node-F → Node
 node_layer n = n.form n.span
 
-abbrev pub plural_case_layer : Seen PluralCase-F → ℤ × MessageBody
+abbrev pub plural_case_layer : NodeLayer PluralCase-F → ℤ × MessageBody
 plural_case_layer c = (c.is, c.body)
 
-abbrev pub select_case_layer : Seen SelectCase-F → List ℕ × MessageBody
+abbrev pub select_case_layer : NodeLayer SelectCase-F → List ℕ × MessageBody
 select_case_layer c = (c.is, c.body)
 
 abbrev pub view_node : code.Node → Node
-view_node = code.fold-Node (Span → Node) Given MessageBody (Name × Given × Span) (Expr × Nodes) (List Expr × Nodes) Message Node (ℤ × MessageBody) (List ℕ × MessageBody) form_layer given_layer body_layer argument_layer arm_layer case_layer message_layer node_layer plural_case_layer select_case_layer
+view_node =
+    code.fold-Node (Span → Node) Given MessageBody (Name × Given × Span) (Expr × Nodes) (List Expr × Nodes) Message
+    Node (ℤ × MessageBody) (List ℕ × MessageBody) form_layer given_layer body_layer argument_layer arm_layer case_layer
+    message_layer node_layer plural_case_layer select_case_layer
 
 abbrev pub view_form : code_form.Form → Span → Node
-view_form = code_form.fold-Form (Span → Node) Given MessageBody (Name × Given × Span) (Expr × Nodes) (List Expr × Nodes) Message Node (ℤ × MessageBody) (List ℕ × MessageBody) form_layer given_layer body_layer argument_layer arm_layer case_layer message_layer node_layer plural_case_layer select_case_layer
+view_form =
+    code_form.fold-Form (Span → Node) Given MessageBody (Name × Given × Span) (Expr × Nodes) (List Expr × Nodes)
+    Message Node (ℤ × MessageBody) (List ℕ × MessageBody) form_layer given_layer body_layer argument_layer arm_layer
+    case_layer message_layer node_layer plural_case_layer select_case_layer
 
 abbrev pub view_arm : code_arm.Arm → Expr × Nodes
-view_arm = code_arm.fold-Arm (Span → Node) Given MessageBody (Name × Given × Span) (Expr × Nodes) (List Expr × Nodes) Message Node (ℤ × MessageBody) (List ℕ × MessageBody) form_layer given_layer body_layer argument_layer arm_layer case_layer message_layer node_layer plural_case_layer select_case_layer
+view_arm =
+    code_arm.fold-Arm (Span → Node) Given MessageBody (Name × Given × Span) (Expr × Nodes) (List Expr × Nodes) Message
+    Node (ℤ × MessageBody) (List ℕ × MessageBody) form_layer given_layer body_layer argument_layer arm_layer case_layer
+    message_layer node_layer plural_case_layer select_case_layer
 
 abbrev pub view_case : code_case.Case → List Expr × Nodes
-view_case = code_case.fold-Case (Span → Node) Given MessageBody (Name × Given × Span) (Expr × Nodes) (List Expr × Nodes) Message Node (ℤ × MessageBody) (List ℕ × MessageBody) form_layer given_layer body_layer argument_layer arm_layer case_layer message_layer node_layer plural_case_layer select_case_layer
+view_case =
+    code_case.fold-Case (Span → Node) Given MessageBody (Name × Given × Span) (Expr × Nodes) (List Expr × Nodes)
+    Message Node (ℤ × MessageBody) (List ℕ × MessageBody) form_layer given_layer body_layer argument_layer arm_layer
+    case_layer message_layer node_layer plural_case_layer select_case_layer
 
 abbrev pub view_argument : code_argument.Argument → Name × Given × Span
-view_argument = code_argument.fold-Argument (Span → Node) Given MessageBody (Name × Given × Span) (Expr × Nodes) (List Expr × Nodes) Message Node (ℤ × MessageBody) (List ℕ × MessageBody) form_layer given_layer body_layer argument_layer arm_layer case_layer message_layer node_layer plural_case_layer select_case_layer
+view_argument =
+    code_argument.fold-Argument (Span → Node) Given MessageBody (Name × Given × Span) (Expr × Nodes)
+    (List Expr × Nodes) Message Node (ℤ × MessageBody) (List ℕ × MessageBody) form_layer given_layer body_layer
+    argument_layer arm_layer case_layer message_layer node_layer plural_case_layer select_case_layer
 
 abbrev pub view_given : code_given.Given → Given
-view_given = code_given.fold-Given (Span → Node) Given MessageBody (Name × Given × Span) (Expr × Nodes) (List Expr × Nodes) Message Node (ℤ × MessageBody) (List ℕ × MessageBody) form_layer given_layer body_layer argument_layer arm_layer case_layer message_layer node_layer plural_case_layer select_case_layer
+view_given =
+    code_given.fold-Given (Span → Node) Given MessageBody (Name × Given × Span) (Expr × Nodes) (List Expr × Nodes)
+    Message Node (ℤ × MessageBody) (List ℕ × MessageBody) form_layer given_layer body_layer argument_layer arm_layer
+    case_layer message_layer node_layer plural_case_layer select_case_layer
 
 abbrev pub view_message : code_message.Message → Message
-view_message = code_message.fold-Message (Span → Node) Given MessageBody (Name × Given × Span) (Expr × Nodes) (List Expr × Nodes) Message Node (ℤ × MessageBody) (List ℕ × MessageBody) form_layer given_layer body_layer argument_layer arm_layer case_layer message_layer node_layer plural_case_layer select_case_layer
+view_message =
+    code_message.fold-Message (Span → Node) Given MessageBody (Name × Given × Span) (Expr × Nodes) (List Expr × Nodes)
+    Message Node (ℤ × MessageBody) (List ℕ × MessageBody) form_layer given_layer body_layer argument_layer arm_layer
+    case_layer message_layer node_layer plural_case_layer select_case_layer
 
 abbrev pub view_body : code_body.MessageBody → MessageBody
-view_body = code_body.fold-MessageBody (Span → Node) Given MessageBody (Name × Given × Span) (Expr × Nodes) (List Expr × Nodes) Message Node (ℤ × MessageBody) (List ℕ × MessageBody) form_layer given_layer body_layer argument_layer arm_layer case_layer message_layer node_layer plural_case_layer select_case_layer
+view_body =
+    code_body.fold-MessageBody (Span → Node) Given MessageBody (Name × Given × Span) (Expr × Nodes) (List Expr × Nodes)
+    Message Node (ℤ × MessageBody) (List ℕ × MessageBody) form_layer given_layer body_layer argument_layer arm_layer
+    case_layer message_layer node_layer plural_case_layer select_case_layer
 
 abbrev pub view_plural_case : code_plural_case.PluralCase → ℤ × MessageBody
-view_plural_case = code_plural_case.fold-PluralCase (Span → Node) Given MessageBody (Name × Given × Span) (Expr × Nodes) (List Expr × Nodes) Message Node (ℤ × MessageBody) (List ℕ × MessageBody) form_layer given_layer body_layer argument_layer arm_layer case_layer message_layer node_layer plural_case_layer select_case_layer
+view_plural_case =
+    code_plural_case.fold-PluralCase (Span → Node) Given MessageBody (Name × Given × Span) (Expr × Nodes)
+    (List Expr × Nodes) Message Node (ℤ × MessageBody) (List ℕ × MessageBody) form_layer given_layer body_layer
+    argument_layer arm_layer case_layer message_layer node_layer plural_case_layer select_case_layer
 
 abbrev pub view_select_case : code_select_case.SelectCase → List ℕ × MessageBody
-view_select_case = code_select_case.fold-SelectCase (Span → Node) Given MessageBody (Name × Given × Span) (Expr × Nodes) (List Expr × Nodes) Message Node (ℤ × MessageBody) (List ℕ × MessageBody) form_layer given_layer body_layer argument_layer arm_layer case_layer message_layer node_layer plural_case_layer select_case_layer
+view_select_case =
+    code_select_case.fold-SelectCase (Span → Node) Given MessageBody (Name × Given × Span) (Expr × Nodes)
+    (List Expr × Nodes) Message Node (ℤ × MessageBody) (List ℕ × MessageBody) form_layer given_layer body_layer
+    argument_layer arm_layer case_layer message_layer node_layer plural_case_layer select_case_layer
 
 abbrev pub view_nodes : List code.Node → Nodes
 view_nodes ns = nodes_of (map view_node ns)

@@ -14,7 +14,16 @@ abbrev pub view_params : List code_param.Param → List Param
 view_params = map view_param
 
 abbrev pub view_template : code_template.Template → Template
-view_template t = record { name = t.name; kind = t.kind; private = t.private; params = view_params t.params; body = view_nodes t.body; span = t.span }
+view_template t =
+    record {
+      name = t.name;
+      kind = t.kind;
+      private = t.private;
+      params = view_params t.params;
+      body = view_nodes
+          t.body;
+      span = t.span;
+    }
 
 abbrev pub view_tree : code.Tree → Tree
 view_tree t = record { namespace = t.namespace; templates = map view_template t.templates }

@@ -3,7 +3,8 @@ use Rattle.std.specs.Prelude.{List, [], ◌∷◌, map}
 use Rattle.soy_tree.specs.declared.soy_type.SoyType as code
 use Rattle.soy_tree.specs.declared.soy_type.Field as code_field
 use Rattle.soy_tree.specs.declared.soy_type.SoyType.TheOpen.{SoyType-F, Field-F}
-use Rattle.soy_tree.specs.Types.{Name, SoyType, Members, FieldTypes, NullType, BoolType, IntType, StringType, HtmlType, AttributesType, ListType, MapType, RecordType, UnionType, no_field, field}
+use Rattle.soy_tree.specs.Types.{Name, SoyType, Members, FieldTypes, NullType, BoolType, IntType, StringType, HtmlType}
+use Rattle.soy_tree.specs.Types.{AttributesType, ListType, MapType, RecordType, UnionType, no_field, field}
 use Rattle.soy_tree.specs.Members.{members_of}
 
 abbrev pub fields_of : List (Name × SoyType) → FieldTypes

@@ -4,7 +4,8 @@ use Rattle.soy_tree.specs.declared.value.Value as code
 use Rattle.soy_tree.specs.declared.value.Entry as code_entry
 use Rattle.soy_tree.specs.declared.value.Value.TheOpen.{Value-F, Entry-F}
 use Rattle.soy_tree.specs.Types.{Name}
-use Rattle.soy_tree.specs.Values.{Value, Items, Entries, NullValue, BoolValue, IntValue, StringValue, ListValue, MapValue, RecordValue, no_item, item, no_entry, entry}
+use Rattle.soy_tree.specs.Values.{Value, Items, Entries, NullValue, BoolValue, IntValue, StringValue, ListValue}
+use Rattle.soy_tree.specs.Values.{MapValue, RecordValue, no_item, item, no_entry, entry}
 
 abbrev pub items_of : List Value → Items
 items_of [] = no_item

@@ -1,7 +1,9 @@
 //! Which type accepts which.
 
 ghost use Rattle.std.specs.Prelude.{◌≡◌};
-ghost use Rattle.soy_tree.specs.Accepts.{accepts, accepts_member, accepts_fields, some_accepts, all_members, has_field, each_member};
+ghost use Rattle.std.specs.List.{list_all};
+ghost use Rattle.soy_tree.specs.Members.{union_members};
+ghost use Rattle.soy_tree.specs.Accepts.{accepts, accepts_member, accepts_fields, some_accepts, has_field, each_member};
 ghost use Rattle.soy_tree.specs.ViewTypes.{view_type, view_members, view_fields};
 
 use crate::{Field, SoyType};
@@ -9,6 +11,7 @@ use soy_base::Text;
 
 /// Whether a type accepts another.
 #[cycle(accepting)]
+#[tactic(auto, using(crate::proofs::Accepting::and_true))]
 pub fn accepts(to: &SoyType, from: &SoyType) -> bool
     ensures { result ≡ accepts (view_type to.now) (view_type from.now) }
 {
@@ -18,13 +21,14 @@ pub fn accepts(to: &SoyType, from: &SoyType) -> bool
     }
 }
 
-/// Whether a type accepts each of these members.
+/// Whether a type accepts each of these types.
 #[cycle(accepting)]
+#[tactic(auto, using(crate::proofs::Accepting::all_append))]
 fn accepts_all(to: &SoyType, members: &[SoyType]) -> bool
-    ensures { result ≡ all_members (accepts_member (view_type to.now)) (view_members members.now) }
+    ensures { result ≡ list_all (accepts_member (view_type to.now)) (union_members (view_members members.now)) }
 {
     for member in members {
-        if !accepts_member(to, member) {
+        if !accepts(to, member) {
             return false;
         }
     }

@@ -1,24 +1,29 @@
 //! Laws of the definitions, each a function that does nothing and whose contract is the law.
 
 ghost use Rattle.std.specs.Prelude.{◌≡◌, Ok, true, ◌<◌, ◌≤◌, ◌⊎◌};
-ghost use Rattle.std.specs.List.{list_any};
-ghost use Rattle.soy_tree.specs.Types.{SoyType, Members, UnionType};
+ghost use Rattle.std.specs.List.{list_any, list_all};
+ghost use Rattle.soy_tree.specs.Types.{SoyType};
 ghost use Rattle.soy_tree.specs.Values.{Value, NullValue};
 ghost use Rattle.soy_tree.specs.Expressions.{Expr};
 ghost use Rattle.soy_tree.specs.Members.{members, type_without_null, joined};
-ghost use Rattle.soy_tree.specs.Accepts.{accepts, accepts_member, all_members};
+ghost use Rattle.soy_tree.specs.Accepts.{accepts, accepts_member};
 ghost use Rattle.soy_tree.specs.Has.{Has};
 ghost use Rattle.soy_tree.specs.Fits.{Fits, IsOf};
 ghost use Rattle.soy_tree.specs.Formed.{is_formed_expr};
 ghost use Rattle.soy_tree.specs.TypeOf.{Scope, type_of};
-ghost use Rattle.soy_tree.specs.Val.{Env, val};
+ghost use Rattle.soy_tree.specs.Narrowing.{narrowed};
+ghost use Rattle.soy_tree.specs.Val.{Env, is_truthy, val};
 ghost use Rattle.soy_tree.specs.Cost.{cost, node_count};
 
-/// A type accepts a union where it accepts each of its members, and a member where one of its own members does.
+/// A type accepts another where each member of the other is accepted by one of its own members.
 pub fn law_accepts_by_members()
-    ensures each { (to : SoyType) (ts : Members) → accepts to (UnionType ts) ≡ all_members (accepts_member to) ts }
-    ensures one { (to from : SoyType) → accepts_member to from
-        ≡ list_any (λ t. accepts_member t from) (members to) }
+    ensures { (to from : SoyType) → accepts to from
+        ≡ list_all (λ u. list_any (λ t. accepts_member t u) (members to)) (members from) }
+{}
+
+/// A value of a type is of each type that accepts it.
+pub fn law_accepted_value()
+    ensures { (v : Value) (to from : SoyType) → accepts to from ≡ true → Has v from → Has v to }
 {}
 
 /// The type without null is without null, and has every other value of the type and no more.
@@ -28,16 +33,23 @@ pub fn law_narrow()
     ensures nothing_else { (v : Value) (t : SoyType) → Has v (type_without_null t) → Has v t }
 {}
 
-/// A value of either type is of the joined type.
+/// The values of the joined type are those of either type.
 pub fn law_joined()
     ensures left { (v : Value) (t u : SoyType) → Has v t → Has v (joined t u) }
     ensures right { (v : Value) (t u : SoyType) → Has v u → Has v (joined t u) }
+    ensures no_other { (v : Value) (t u : SoyType) → Has v (joined t u) → Has v t ⊎ Has v u }
 {}
 
-/// The value of an expression is of the type that the rules give, or a block where that has an html or attributes member.
+/// The value of an expression is of the type that the rules give, or a block where that has html or attributes.
 pub fn law_value_type<A>()
     ensures { (e : Expr) (scope : Scope) (env : Env A) (t : SoyType) → is_formed_expr e ≡ true
         → Fits scope env → type_of e scope ≡ Ok t → IsOf (val e env) t }
+{}
+
+/// Where a condition holds, an environment that fits the scope fits that of the branch too.
+pub fn law_branch<A>()
+    ensures { (when : Expr) (scope : Scope) (env : Env A) → is_truthy (val when env) ≡ true
+        → Fits scope env → Fits (narrowed when scope) env }
 {}
 
 /// An expression values at least one node, and no more than it has.

@@ -23,7 +23,10 @@ pub use bundle::{
     Bundle, ExactArm, MsgPart, NamedArm, PluralPart, SelectArm, SelectPart, Translation,
 };
 pub use expr::{BinaryOp, Expr, ExprNode};
-pub use laws::{law_accepts_by_members, law_cost, law_joined, law_narrow, law_value_type};
+pub use laws::{
+    law_accepted_value, law_accepts_by_members, law_branch, law_cost, law_joined, law_narrow,
+    law_value_type,
+};
 pub use narrowing::narrow;
 pub use node::{
     Argument, Arm, Case, Form, Given, Message, MessageBody, Node, PluralCase, SelectCase,

@@ -3,4 +3,5 @@ use Rattle.soy_tree.specs.Typed.{params_at, templates_of}
 use Rattle.soy_tree.proofs.typed.params_in.Given as goal
 
 abbrev pub invariant-loop-tree : goal.invariant-loop-tree
-invariant-loop-tree l = params_at l.template (templates_of l.trees) ≡ params_at l.left (templates_of (drop l.tree-index l.trees))
+invariant-loop-tree l =
+    params_at l.template (templates_of l.trees) ≡ params_at l.left (templates_of (drop l.tree-index l.trees))
