@@ -1,6 +1,11 @@
 mod AsciiTexts
+mod Forgetting
 mod Nearest
 mod PartRows
+mod Refusals
+mod SameLists
 mod Seen
 mod TextOrder
+mod TypeSearch
+mod TypeTexts
 mod ValueOrBlock

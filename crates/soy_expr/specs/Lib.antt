@@ -1,7 +1,14 @@
 pub mod Ascii
 pub mod Evaluates
+pub mod ForgottenBlocks
+pub mod HasValueType
+pub mod MemberKinds
 pub mod Parts
+pub mod Rules
+pub mod TypeTextRest
 pub mod ViewEnv
 pub mod ViewEvaluated
 pub mod ViewOperand
-pub mod HasValueType
+pub mod ViewScope
+pub mod ViewTypeFault
+pub mod ViewTyping

@@ -7,6 +7,7 @@
 #![tactic(auto)]
 
 mod access;
+mod access_type;
 mod arithmetic;
 mod ascii;
 mod calls;
@@ -14,13 +15,29 @@ mod comparison;
 mod env;
 mod evaluated;
 mod evaluation;
+mod joining;
+mod laws;
+mod member_kind;
 mod operand;
+mod operator_type;
 mod operators;
+mod rule;
+mod scope;
+mod type_fault;
+mod type_text;
+mod typing;
 mod variables;
 
 pub use calls::{eval, test};
 pub use env::{Binding, Bound, Env, Unnamed};
 pub use evaluated::{Evaluated, Made};
 pub use evaluation::evaluate;
+pub use laws::law_forgotten;
 pub use operand::Operand;
+pub use scope::Scope;
+pub use type_fault::TypeFault;
+pub use typing::type_of;
 pub use variables::Variables;
+
+#[cfg(test)]
+mod tests;
