@@ -21,7 +21,6 @@ mod member_kind;
 mod operand;
 mod operator_type;
 mod operators;
-mod rule;
 mod scope;
 mod type_fault;
 mod type_text;

@@ -41,17 +41,12 @@ fn push_type(out: &mut String, of: &SoyType) -> Result<(), OutOfMemory>
             Ok(())
         }
         SoyType::Map(of) => {
-            push_ascii(out, "map<string, ")?;
+            push_map_start(out)?;
             push_type(out, of.get())?;
             push_ascii(out, ">")?;
             Ok(())
         }
-        SoyType::Fields(fields) => {
-            push_ascii(out, "[")?;
-            push_fields(out, fields.items())?;
-            push_ascii(out, "]")?;
-            Ok(())
-        }
+        SoyType::Fields(fields) => push_record(out, fields.items()),
         SoyType::Union(members) => push_members(out, members.items()),
     }
 }
@@ -69,18 +64,27 @@ fn push_members(out: &mut String, members: &[SoyType]) -> Result<(), OutOfMemory
     Ok(())
 }
 
-/// Adds the texts of the fields, with `, ` between them.
+/// Adds the texts of the fields in brackets, with `, ` between them.
 #[cycle(pushing_types)]
 #[tactic(auto, using(crate::proofs::TypeTexts::append_assoc, crate::proofs::TypeTexts::fields_step, crate::proofs::TypeTexts::fields_over))]
-fn push_fields(out: &mut String, fields: &[Field]) -> Result<(), OutOfMemory>
-    ensures { OnOk result (Appends out.old out.new (fields_text (view_fields fields.now))) }
+fn push_record(out: &mut String, fields: &[Field]) -> Result<(), OutOfMemory>
+    ensures { OnOk result (Appends out.old out.new (codes "[" ++ (fields_text (view_fields fields.now) ++ codes "]"))) }
 {
+    push_ascii(out, "[")?;
     for (number, field) in fields.iter().enumerate() {
         push_separator(out, number, ", ")?;
         push_name(out, &field.name)?;
         push_type(out, &field.of)?;
     }
+    push_ascii(out, "]")?;
     Ok(())
+}
+
+/// Adds what stands before the item type of a map.
+fn push_map_start(out: &mut String) -> Result<(), OutOfMemory>
+    ensures { OnOk result (Appends out.old out.new (codes "map<string, ")) }
+{
+    push_ascii(out, "map<string, ")
 }
 
 /// Adds what stands before the item of a number.

@@ -10,6 +10,6 @@ abbrev pub invariant-push_members-loop-number : goal.invariant-push_members-loop
 invariant-push_members-loop-number l =
     chars (string_bytes l.out) ++ members_left l.number (view_members (drop l.number l.members)) ≡ chars (string_bytes l.initial.out) ++ members_text (view_members l.members)
 
-abbrev pub invariant-push_fields-loop-number : goal.invariant-push_fields-loop-number
-invariant-push_fields-loop-number l =
+abbrev pub invariant-push_record-loop-number : goal.invariant-push_record-loop-number
+invariant-push_record-loop-number l =
     chars (string_bytes l.out) ++ fields_left l.number (view_fields (drop l.number l.fields)) ≡ chars (string_bytes l.initial.out) ++ fields_text (view_fields l.fields)
