@@ -4,8 +4,9 @@ mod Nearest
 mod PartRows
 mod Refusals
 mod SameLists
-mod Seen
+mod Shallows
 mod TextOrder
+mod TextsLeft
 mod TypeSearch
 mod TypeTexts
 mod ValueOrBlock

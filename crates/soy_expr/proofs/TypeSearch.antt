@@ -1,5 +1,6 @@
 -- Members that are searched for, and members that are added.
-use Rattle.std.proofs.Common.{◌≡◌, ℕ, ◌+◌, ◌<◌, drop, length, slice_index_or, Bool, true, false, not, ◌&&◌, ◌||◌, List, [], ◌∷◌, ◌++◌}
+use Rattle.std.proofs.Common.{◌≡◌, ℕ, ◌+◌, ◌<◌, drop, length, slice_index_or, Bool, true, false, not, ◌&&◌, ◌||◌, List}
+use Rattle.std.proofs.Common.{[], ◌∷◌, ◌++◌}
 use Rattle.std.specs.List.{list_any, list_all}
 use mathlib.Core.Path.{refl, ap, ◌∙◌}
 use Rattle.soy_tree.specs.Types.{SoyType, Members}
@@ -28,7 +29,9 @@ both_or_neither false b = refl
 
 all_simple : (ts : List SoyType) → not (list_any (is_of_kind kind.Other) ts) ≡ list_all is_simple_member ts
 all_simple [] = refl
-all_simple (t ∷ ts) = both_or_neither (is_simple_member t) (list_any (is_of_kind kind.Other) ts) ∙ ap (λ b. is_simple_member t && b) (all_simple ts)
+all_simple (t ∷ ts) =
+    both_or_neither (is_simple_member t) (list_any (is_of_kind kind.Other) ts)
+    ∙ ap (λ b. is_simple_member t && b) (all_simple ts)
 
 pub none_other : (t : SoyType) → not (list_any (is_of_kind kind.Other) (members t)) ≡ is_simple t
 none_other t = all_simple (members t)
@@ -38,7 +41,10 @@ with_append ts [] vs = refl
 with_append ts (u ∷ us) vs = with_append (with_member ts u) us vs
 
 -- the members of the type at an index go before those of the types after it
-pub with_step : (ts : List SoyType) (types : List code.SoyType) (n : ℕ) (t : code.SoyType) → n < length types → t ≡ slice_index_or types n t → with_members ts (union_members (view_members (drop n types))) ≡ with_members (with_members ts (members (view_type t))) (union_members (view_members (drop (n + 1) types)))
+pub with_step : (ts : List SoyType) (types : List code.SoyType) (n : ℕ) (t : code.SoyType) → n < length types
+    → t ≡ slice_index_or types n t
+    → with_members ts (union_members (view_members (drop n types))) ≡ with_members
+    (with_members ts (members (view_type t))) (union_members (view_members (drop (n + 1) types)))
 with_step ts types n t below is =
     ap (λ (ms : Members). with_members ts (union_members ms)) (members_drop types n t below is)
     ∙ with_append ts (members (view_type t)) (union_members (view_members (drop (n + 1) types)))

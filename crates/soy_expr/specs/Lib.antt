@@ -5,10 +5,10 @@ pub mod HasValueType
 pub mod MemberKinds
 pub mod Parts
 pub mod Rules
-pub mod TypeTextRest
+pub mod Separators
 pub mod ViewEnv
 pub mod ViewEvaluated
-pub mod ViewOperand
 pub mod ViewScope
+pub mod ViewShallow
 pub mod ViewTypeFault
 pub mod ViewTyping

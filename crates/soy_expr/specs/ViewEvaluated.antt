@@ -20,10 +20,10 @@ view_evaluated (evaluated.Part v path) = Known (view_value v.now)
 view_evaluated evaluated.Block = BlockOf tt
 
 -- whether the path of a part names that part
-abbrev pub IsNamed : {P : Type 0} → (P → Value → Type 0) → Evaluated P → Type 0
-IsNamed Names (evaluated.Part v path) = Names path (view_value v.now)
-IsNamed Names _ = Unit {0}
+abbrev pub NamesPart : {P : Type 0} → (P → Value → Type 0) → Evaluated P → Type 0
+NamesPart Names (evaluated.Part v path) = Names path (view_value v.now)
+NamesPart Names _ = Unit {0}
 
 -- whether this is what a variable or an expression stands for, and its path names it
 abbrev pub IsBinding : {P : Type 0} → (P → Value → Type 0) → Binding (Unit {0}) → Evaluated P → Type 0
-IsBinding Names b v = (view_evaluated v ≡ b) × IsNamed Names v
+IsBinding Names b v = (view_evaluated v ≡ b) × NamesPart Names v

@@ -19,11 +19,11 @@ Keeps fault (refusal.Because f) = fault ≡ view_type_fault f
 Keeps fault refusal.OutOfMemory = Unit {0}
 
 -- whether a refusal is that of this answer
-abbrev pub Refuses : TypeOrFault → Refusal code.TypeFault → Type 0
-Refuses wanted (refusal.Because f) = wanted ≡ Err (view_type_fault f)
-Refuses wanted refusal.OutOfMemory = Unit {0}
+abbrev pub FirstRefusal : TypeOrFault → Refusal code.TypeFault → Type 0
+FirstRefusal wanted (refusal.Because f) = wanted ≡ Err (view_type_fault f)
+FirstRefusal wanted refusal.OutOfMemory = Unit {0}
 
 -- whether an answer, whose types are viewed so, is this one
 abbrev pub Types : {A : Type 0} → (A → SoyType) → TypeOrFault → Result A (Refusal code.TypeFault) → Type 0
 Types view wanted (Ok t) = wanted ≡ Ok (view t)
-Types view wanted (Err refusal) = Refuses wanted refusal
+Types view wanted (Err refusal) = FirstRefusal wanted refusal

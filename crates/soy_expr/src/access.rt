@@ -6,10 +6,10 @@ ghost use Rattle.soy_tree.specs.Val.{Known, index_value, member_value, operand};
 ghost use Rattle.soy_tree.specs.Values.{IntValue, ListValue, MapValue, NullValue, RecordValue};
 ghost use Rattle.soy_tree.specs.ViewValues.{view_entries, view_items, view_value};
 ghost use Rattle.soy_expr.specs.Parts.{IsChild, found_value};
-ghost use Rattle.soy_expr.specs.ViewEvaluated.{IsBinding, IsNamed, view_evaluated};
-ghost use Rattle.soy_expr.specs.ViewOperand.{view_operand};
+ghost use Rattle.soy_expr.specs.ViewEvaluated.{IsBinding, NamesPart, view_evaluated};
+ghost use Rattle.soy_expr.specs.ViewShallow.{view_shallow};
 
-use crate::{Evaluated, Made, Operand, Variables};
+use crate::{Evaluated, Made, Shallow, Variables};
 use soy_base::{OutOfMemory, Text};
 use soy_tree::{Entry, Value};
 
@@ -19,8 +19,9 @@ pub(crate) fn member<'a, V: Variables>(
     of: Evaluated<'a, V::Path>,
     name: &Text,
 ) -> Result<Evaluated<'a, V::Path>, OutOfMemory>
-    requires { IsNamed (V.Names variables.now) of }
-    ensures { IfOk result (IsBinding (V.Names variables.now) (Known (member_value name.now (operand (view_evaluated of.entry))))) }
+    requires { NamesPart (V.Names variables.now) of }
+    ensures { IfOk result (IsBinding (V.Names variables.now)
+        (Known (member_value name.now (operand (view_evaluated of.entry))))) }
 {
     let Evaluated::Part(whole, path) = of else {
         return Ok(Evaluated::Made(Made::Null));
@@ -32,10 +33,11 @@ pub(crate) fn member<'a, V: Variables>(
 pub(crate) fn item<'a, V: Variables>(
     variables: &V,
     of: Evaluated<'a, V::Path>,
-    index: Operand,
+    index: Shallow,
 ) -> Result<Evaluated<'a, V::Path>, OutOfMemory>
-    requires { IsNamed (V.Names variables.now) of }
-    ensures { IfOk result (IsBinding (V.Names variables.now) (Known (index_value (operand (view_evaluated of.entry)) (view_operand index.entry)))) }
+    requires { NamesPart (V.Names variables.now) of }
+    ensures { IfOk result (IsBinding (V.Names variables.now)
+        (Known (index_value (operand (view_evaluated of.entry)) (view_shallow index.entry)))) }
 {
     let Evaluated::Part(whole, path) = of else {
         return Ok(Evaluated::Made(Made::Null));
@@ -77,8 +79,8 @@ fn field<'a>(whole: &'a Value, name: &Text) -> Option<(usize, &'a Value)>
 }
 
 /// The item of a number in a list, or the entry of a key in a map.
-fn item_or_entry<'a>(whole: &'a Value, index: Operand) -> Option<(usize, &'a Value)>
-    ensures value { found_value result ≡ index_value (view_value whole.now) (view_operand index.entry) }
+fn item_or_entry<'a>(whole: &'a Value, index: Shallow) -> Option<(usize, &'a Value)>
+    ensures value { found_value result ≡ index_value (view_value whole.now) (view_shallow index.entry) }
     ensures child { IsChild (view_value whole.now) result }
 {
     match whole {
@@ -92,29 +94,29 @@ fn item_or_entry<'a>(whole: &'a Value, index: Operand) -> Option<(usize, &'a Val
     }
 }
 
-fn item_at<'a>(items: &'a [Value], index: Operand) -> Option<(usize, &'a Value)>
-    ensures value { found_value result ≡ index_value (ListValue (view_items items.now)) (view_operand index.entry) }
+fn item_at<'a>(items: &'a [Value], index: Shallow) -> Option<(usize, &'a Value)>
+    ensures value { found_value result ≡ index_value (ListValue (view_items items.now)) (view_shallow index.entry) }
     ensures child { IsChild (ListValue (view_items items.now)) result }
 {
     match index {
-        Operand::Null => None,
-        Operand::Bool(_) => None,
-        Operand::Int(number) => nth_item(items, number),
-        Operand::Str(_) => None,
-        Operand::Compound => None,
+        Shallow::Null => None,
+        Shallow::Bool(_) => None,
+        Shallow::Int(number) => nth_item(items, number),
+        Shallow::Str(_) => None,
+        Shallow::Compound => None,
     }
 }
 
-fn entry_at<'a>(entries: &'a [Entry], index: Operand) -> Option<(usize, &'a Value)>
-    ensures value { found_value result ≡ index_value (MapValue (view_entries entries.now)) (view_operand index.entry) }
+fn entry_at<'a>(entries: &'a [Entry], index: Shallow) -> Option<(usize, &'a Value)>
+    ensures value { found_value result ≡ index_value (MapValue (view_entries entries.now)) (view_shallow index.entry) }
     ensures child { IsChild (MapValue (view_entries entries.now)) result }
 {
     match index {
-        Operand::Null => None,
-        Operand::Bool(_) => None,
-        Operand::Int(_) => None,
-        Operand::Str(key) => first_entry(entries, key),
-        Operand::Compound => None,
+        Shallow::Null => None,
+        Shallow::Bool(_) => None,
+        Shallow::Int(_) => None,
+        Shallow::Str(key) => first_entry(entries, key),
+        Shallow::Compound => None,
     }
 }
 

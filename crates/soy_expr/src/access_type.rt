@@ -54,7 +54,8 @@ fn member_or_null(
 
 /// The type, with null where the access takes it.
 fn with_null(alloc: Global, of: &SoyType, takes: bool) -> Result<SoyType, OutOfMemory>
-    ensures { IfOk result (λ t. view_type t ≡ (if takes then joined (view_type of.now) NullType else view_type of.now)) }
+    ensures { IfOk result (λ t. view_type t
+        ≡ (if takes then joined (view_type of.now) NullType else view_type of.now)) }
 {
     if takes {
         joined(alloc, of, &SoyType::Null)
@@ -137,7 +138,8 @@ fn item_or_null(
     left: &SoyType,
     index: &SoyType,
 ) -> Result<SoyType, Refusal<TypeFault>>
-    ensures { Types view_type (fitting fits (joined (view_type item.now) NullType) span (view_type left.now) (view_type index.now)) result }
+    ensures { Types view_type (fitting fits (joined (view_type item.now) NullType) span
+        (view_type left.now) (view_type index.now)) result }
 {
     if !fits {
         return Err(both_mistyped(alloc, span, left, index));

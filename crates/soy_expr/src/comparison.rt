@@ -3,31 +3,31 @@
 ghost use Rattle.std.specs.Prelude.{◌≡◌};
 ghost use Rattle.std.specs.Str.{chars};
 ghost use Rattle.soy_tree.specs.Val.{is_less, is_same_value, is_text_before};
-ghost use Rattle.soy_expr.specs.ViewOperand.{view_operand};
+ghost use Rattle.soy_expr.specs.ViewShallow.{view_shallow};
 
-use crate::Operand;
+use crate::Shallow;
 use soy_base::first;
 
 /// Whether two operands are of one type and equal.
-pub(crate) fn is_same(left: Operand, right: Operand) -> bool
-    ensures { result ≡ is_same_value (view_operand left.entry) (view_operand right.entry) }
+pub(crate) fn is_same(left: Shallow, right: Shallow) -> bool
+    ensures { result ≡ is_same_value (view_shallow left.entry) (view_shallow right.entry) }
 {
     match (left, right) {
-        (Operand::Null, Operand::Null) => true,
-        (Operand::Bool(left), Operand::Bool(right)) => left == right,
-        (Operand::Int(left), Operand::Int(right)) => left == right,
-        (Operand::Str(left), Operand::Str(right)) => left.is(right.text()),
+        (Shallow::Null, Shallow::Null) => true,
+        (Shallow::Bool(left), Shallow::Bool(right)) => left == right,
+        (Shallow::Int(left), Shallow::Int(right)) => left == right,
+        (Shallow::Str(left), Shallow::Str(right)) => left.is(right.text()),
         _ => false,
     }
 }
 
 /// Whether the first is less than the second.
-pub(crate) fn is_less(left: Operand, right: Operand) -> bool
-    ensures { result ≡ is_less (view_operand left.entry) (view_operand right.entry) }
+pub(crate) fn is_less(left: Shallow, right: Shallow) -> bool
+    ensures { result ≡ is_less (view_shallow left.entry) (view_shallow right.entry) }
 {
     match (left, right) {
-        (Operand::Int(left), Operand::Int(right)) => left < right,
-        (Operand::Str(left), Operand::Str(right)) => is_text_before(left.text(), right.text()),
+        (Shallow::Int(left), Shallow::Int(right)) => left < right,
+        (Shallow::Str(left), Shallow::Str(right)) => is_text_before(left.text(), right.text()),
         _ => false,
     }
 }

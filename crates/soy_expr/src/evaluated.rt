@@ -4,9 +4,9 @@ ghost use Rattle.std.specs.Prelude.{◌≡◌};
 ghost use Rattle.soy_tree.specs.Val.{is_null, is_truthy, operand};
 ghost use Rattle.soy_tree.specs.ViewValues.{view_value};
 ghost use Rattle.soy_expr.specs.ViewEvaluated.{view_evaluated, view_made};
-ghost use Rattle.soy_expr.specs.ViewOperand.{seen_value, view_operand};
+ghost use Rattle.soy_expr.specs.ViewShallow.{shallow_value, view_shallow};
 
-use crate::Operand;
+use crate::Shallow;
 use soy_base::Text;
 use soy_tree::Value;
 
@@ -44,13 +44,13 @@ pub enum Evaluated<'a, P> {
 
 impl<'a, P> Evaluated<'a, P> {
     /// What an operator sees of it.
-    pub fn operand(&self) -> Operand<'_>
-        ensures { view_operand result ≡ seen_value (operand (view_evaluated self.now)) }
+    pub fn shallow(&self) -> Shallow<'_>
+        ensures { view_shallow result ≡ shallow_value (operand (view_evaluated self.now)) }
     {
         match self {
-            Evaluated::Made(made) => Operand::of_made(made),
-            Evaluated::Part(value, _) => Operand::of_value(value),
-            Evaluated::Block => Operand::Bool(true),
+            Evaluated::Made(made) => Shallow::of_made(made),
+            Evaluated::Part(value, _) => Shallow::of_value(value),
+            Evaluated::Block => Shallow::Bool(true),
         }
     }
 
@@ -58,13 +58,13 @@ impl<'a, P> Evaluated<'a, P> {
     pub fn is_truthy(&self) -> bool
         ensures { result ≡ is_truthy (view_evaluated self.now) }
     {
-        self.operand().is_true()
+        self.shallow().is_true()
     }
 
     /// Whether it is null.
     pub fn is_null(&self) -> bool
         ensures { result ≡ is_null (view_evaluated self.now) }
     {
-        self.operand().is_null()
+        self.shallow().is_null()
     }
 }

@@ -37,11 +37,11 @@ pub fn evaluate<'a, V: Variables, L: Ledger>(
         ExprNode::Index(of, index, _) => {
             let of = evaluate(alloc, of.get(), variables, steps)?;
             let index = evaluate(alloc, index.get(), variables, steps)?;
-            item(variables, of, index.operand())
+            item(variables, of, index.shallow())
         }
         ExprNode::Neg(of) => {
             let of = evaluate(alloc, of.get(), variables, steps)?;
-            Ok(Evaluated::Made(negated(of.operand())))
+            Ok(Evaluated::Made(negated(of.shallow())))
         }
         ExprNode::Not(of) => {
             let of = evaluate(alloc, of.get(), variables, steps)?;
@@ -72,7 +72,7 @@ pub fn evaluate<'a, V: Variables, L: Ledger>(
 
 /// The value of an operator by that of its left operand; `and` and `or` value the right one only where it is needed.
 #[cycle(evaluating)]
-#[tactic(auto, using(crate::proofs::Seen::unsettled_cost))]
+#[tactic(auto, using(crate::proofs::Shallows::unsettled_cost))]
 fn evaluate_right<'a, V: Variables, L: Ledger>(
     alloc: Global,
     op: BinaryOp,
@@ -81,7 +81,8 @@ fn evaluate_right<'a, V: Variables, L: Ledger>(
     variables: &'a V,
     steps: &mut Steps<L>,
 ) -> Result<Evaluated<'a, V::Path>, OutOfMemory>
-    ensures { EvaluatesRight (V.Names variables.now) (V.env variables.now) op (view_evaluated left.entry) (view_expr right.now) steps.old steps.new result }
+    ensures { EvaluatesRight (V.Names variables.now) (V.env variables.now) op (view_evaluated left.entry)
+        (view_expr right.now) steps.old steps.new result }
 {
     if is_settled(op, left.is_truthy()) {
         return Ok(Evaluated::Made(Made::Bool(left.is_truthy())));

@@ -11,11 +11,7 @@ use soy_tree::{Field, SoyType};
 use std::alloc::Global;
 
 /// The left type joined with the right one.
-pub(crate) fn joined(
-    alloc: Global,
-    left: &SoyType,
-    right: &SoyType,
-) -> Result<SoyType, OutOfMemory>
+pub(crate) fn joined(alloc: Global, left: &SoyType, right: &SoyType) -> Result<SoyType, OutOfMemory>
     ensures { IfOk result (λ t. view_type t ≡ joined (view_type left.now) (view_type right.now)) }
 {
     let mut kept = Vec::new(alloc);
@@ -27,7 +23,8 @@ pub(crate) fn joined(
 /// Adds the members of a type.
 #[cycle(adding)]
 fn add_members(alloc: Global, kept: &mut Vec<SoyType>, of: &SoyType) -> Result<(), OutOfMemory>
-    ensures { OnOk result (map view_type kept.new.items ≡ map view_type kept.old.items ++ members (view_type of.now)) }
+    ensures { OnOk result (map view_type kept.new.items
+        ≡ map view_type kept.old.items ++ members (view_type of.now)) }
 {
     match of {
         SoyType::Union(members) => add_all_members(alloc, kept, members.items()),
@@ -83,7 +80,8 @@ fn add_all_new_members(
 
 /// Adds a type that isn't yet there.
 fn add_new(alloc: Global, kept: &mut Vec<SoyType>, of: &SoyType) -> Result<(), OutOfMemory>
-    ensures { OnOk result (map view_type kept.new.items ≡ with_member (map view_type kept.old.items) (view_type of.now)) }
+    ensures { OnOk result (map view_type kept.new.items
+        ≡ with_member (map view_type kept.old.items) (view_type of.now)) }
 {
     if is_among(of, kept.as_slice()) {
         return Ok(());

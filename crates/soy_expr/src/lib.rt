@@ -1,9 +1,9 @@
 //! The type and the value of an expression.
 //!
-//! `type_of` gives the type that the rules give, or refuses with their first fault. `eval` and `test` give the value and
-//! the truth of an expression under an environment, and count the nodes that are valued. `evaluate`, which they are made
-//! of, takes variables from whatever finds them by name, and answers a reference with the part of the value that it
-//! names, uncopied. Depends on soy_base and soy_tree.
+//! `type_of` gives the type that the rules give, or refuses with their first fault. `eval` and `test` give the value
+//! and the truth of an expression under an environment, and count the nodes that are valued. `evaluate`, which they are
+//! made of, takes variables from whatever finds them by name, and answers a reference with the part of the value that
+//! it names, uncopied. Depends on soy_base and soy_tree.
 #![tactic(auto)]
 
 mod access;
@@ -18,10 +18,10 @@ mod evaluation;
 mod joining;
 mod laws;
 mod member_kind;
-mod operand;
 mod operator_type;
 mod operators;
 mod scope;
+mod shallow;
 mod type_fault;
 mod type_text;
 mod typing;
@@ -32,8 +32,8 @@ pub use env::{Binding, Bound, Env, Unnamed};
 pub use evaluated::{Evaluated, Made};
 pub use evaluation::evaluate;
 pub use laws::law_forgotten;
-pub use operand::Operand;
 pub use scope::Scope;
+pub use shallow::Shallow;
 pub use type_fault::TypeFault;
 pub use typing::type_of;
 pub use variables::Variables;

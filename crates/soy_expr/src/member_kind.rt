@@ -2,7 +2,8 @@
 
 ghost use Rattle.std.specs.Prelude.{◌≡◌};
 ghost use Rattle.std.specs.List.{list_any};
-ghost use Rattle.soy_tree.specs.Members.{has_block, has_null, is_block_member, is_null_type, is_simple, is_simple_member};
+ghost use Rattle.soy_tree.specs.Members.{has_block, has_null, is_block_member, is_null_type, is_simple};
+ghost use Rattle.soy_tree.specs.Members.{is_simple_member};
 ghost use Rattle.soy_tree.specs.Members.{members, union_members};
 ghost use Rattle.soy_tree.specs.TypeOf.{is_int, is_string};
 ghost use Rattle.soy_tree.specs.ViewTypes.{view_members, view_type};
@@ -10,7 +11,8 @@ ghost use Rattle.soy_expr.specs.MemberKinds.{is_of_kind};
 
 use soy_tree::SoyType;
 
-/// The members that a type is searched for: null, html or attributes, or one that is none of null, bool, int and string.
+/// The members that a type is searched for: null, html or attributes, or one that is none of null, bool, int and
+/// string.
 #[derive(Clone, Copy, Debug)]
 pub(crate) enum MemberKind {
     Null,

@@ -45,17 +45,59 @@ pub(crate) fn binary_type(
         (view_type left.now) (view_type right.now)) result }
 {
     match op {
-        BinaryOp::Mul => fitting(alloc, are_ints(left, right), SoyType::Int, span, left, right),
+        BinaryOp::Mul => fitting(
+            alloc,
+            are_ints(left, right),
+            SoyType::Int,
+            span,
+            left,
+            right,
+        ),
         BinaryOp::Rem => {
             let fits = is_int(left) && is_divisor(operands.1);
             fitting(alloc, fits, SoyType::Int, span, left, right)
         }
         BinaryOp::Add => sum_type(alloc, span, left, right),
-        BinaryOp::Sub => fitting(alloc, are_ints(left, right), SoyType::Int, span, left, right),
-        BinaryOp::Lt => fitting(alloc, are_ordered(left, right), SoyType::Bool, span, left, right),
-        BinaryOp::Gt => fitting(alloc, are_ordered(left, right), SoyType::Bool, span, left, right),
-        BinaryOp::Le => fitting(alloc, are_ordered(left, right), SoyType::Bool, span, left, right),
-        BinaryOp::Ge => fitting(alloc, are_ordered(left, right), SoyType::Bool, span, left, right),
+        BinaryOp::Sub => fitting(
+            alloc,
+            are_ints(left, right),
+            SoyType::Int,
+            span,
+            left,
+            right,
+        ),
+        BinaryOp::Lt => fitting(
+            alloc,
+            are_ordered(left, right),
+            SoyType::Bool,
+            span,
+            left,
+            right,
+        ),
+        BinaryOp::Gt => fitting(
+            alloc,
+            are_ordered(left, right),
+            SoyType::Bool,
+            span,
+            left,
+            right,
+        ),
+        BinaryOp::Le => fitting(
+            alloc,
+            are_ordered(left, right),
+            SoyType::Bool,
+            span,
+            left,
+            right,
+        ),
+        BinaryOp::Ge => fitting(
+            alloc,
+            are_ordered(left, right),
+            SoyType::Bool,
+            span,
+            left,
+            right,
+        ),
         BinaryOp::Eq => {
             let fits = are_compared(operands.0, operands.1, left, right);
             fitting(alloc, fits, SoyType::Bool, span, left, right)
@@ -98,7 +140,14 @@ fn sum_type(
     if are_ints(left, right) {
         return Ok(SoyType::Int);
     }
-    fitting(alloc, are_texts(left, right), SoyType::Str, span, left, right)
+    fitting(
+        alloc,
+        are_texts(left, right),
+        SoyType::Str,
+        span,
+        left,
+        right,
+    )
 }
 
 fn are_ints(left: &SoyType, right: &SoyType) -> bool
@@ -173,7 +222,8 @@ pub(crate) fn choice_type(
     left: &SoyType,
     right: &SoyType,
 ) -> Result<SoyType, Refusal<TypeFault>>
-    ensures { Types view_type (choice_type span (view_type when.now) (view_type left.now) (view_type right.now)) result }
+    ensures { Types view_type
+        (choice_type span (view_type when.now) (view_type left.now) (view_type right.now)) result }
 {
     if has_block(when) {
         return Err(mistyped(alloc, span, when));

@@ -5,24 +5,20 @@ ghost use Rattle.std.specs.Fmt.{signed_decimal};
 ghost use Rattle.soy_base.specs.Appends.{Appends};
 ghost use Rattle.soy_tree.specs.Val.{binary_value, negated, operand, sum_or_text, value_text};
 ghost use Rattle.soy_expr.specs.ViewEvaluated.{view_evaluated, view_made};
-ghost use Rattle.soy_expr.specs.ViewOperand.{view_operand};
+ghost use Rattle.soy_expr.specs.ViewShallow.{view_shallow};
 
 use crate::arithmetic::{difference, negation, product, remainder, sum};
 use crate::ascii::push_ascii;
 use crate::comparison::{is_less, is_same};
-use crate::{Evaluated, Made, Operand};
+use crate::{Evaluated, Made, Shallow};
 use soy_base::{OutOfMemory, Text, push_text};
 use soy_tree::BinaryOp;
 use std::alloc::Global;
 
 /// The value of an operator of two operands.
-fn binary(
-    alloc: Global,
-    op: BinaryOp,
-    left: Operand,
-    right: Operand,
-) -> Result<Made, OutOfMemory>
-    ensures { IfOk result (λ m. view_made m ≡ binary_value op (view_operand left.entry) (view_operand right.entry)) }
+fn binary(alloc: Global, op: BinaryOp, left: Shallow, right: Shallow) -> Result<Made, OutOfMemory>
+    ensures { IfOk result (λ m. view_made m
+        ≡ binary_value op (view_shallow left.entry) (view_shallow right.entry)) }
 {
     match op {
         BinaryOp::Mul => Ok(product_of(left, right)),
@@ -41,68 +37,69 @@ fn binary(
 }
 
 /// The value of an operator of what two operands were evaluated to.
-#[tactic(auto, using(crate::proofs::Seen::seen_binary))]
+#[tactic(auto, using(crate::proofs::Shallows::shallow_binary))]
 pub(crate) fn combined<P>(
     alloc: Global,
     op: BinaryOp,
     left: &Evaluated<'_, P>,
     right: &Evaluated<'_, P>,
 ) -> Result<Made, OutOfMemory>
-    ensures { IfOk result (λ m. view_made m ≡ binary_value op (operand (view_evaluated left.now)) (operand (view_evaluated right.now))) }
+    ensures { IfOk result (λ m. view_made m
+        ≡ binary_value op (operand (view_evaluated left.now)) (operand (view_evaluated right.now))) }
 {
-    binary(alloc, op, left.operand(), right.operand())
+    binary(alloc, op, left.shallow(), right.shallow())
 }
 
 /// The int with the other sign.
-pub(crate) fn negated(operand: Operand) -> Made
-    ensures { view_made result ≡ negated (view_operand operand.entry) }
+pub(crate) fn negated(operand: Shallow) -> Made
+    ensures { view_made result ≡ negated (view_shallow operand.entry) }
 {
     match operand {
-        Operand::Int(number) => Made::Int(negation(number)),
+        Shallow::Int(number) => Made::Int(negation(number)),
         _ => Made::Null,
     }
 }
 
-fn product_of(left: Operand, right: Operand) -> Made
-    ensures { view_made result ≡ binary_value BinaryOp.Mul (view_operand left.entry) (view_operand right.entry) }
+fn product_of(left: Shallow, right: Shallow) -> Made
+    ensures { view_made result ≡ binary_value BinaryOp.Mul (view_shallow left.entry) (view_shallow right.entry) }
 {
     match (left, right) {
-        (Operand::Int(left), Operand::Int(right)) => Made::Int(product(left, right)),
+        (Shallow::Int(left), Shallow::Int(right)) => Made::Int(product(left, right)),
         _ => Made::Null,
     }
 }
 
-fn remainder_of(left: Operand, right: Operand) -> Made
-    ensures { view_made result ≡ binary_value BinaryOp.Rem (view_operand left.entry) (view_operand right.entry) }
+fn remainder_of(left: Shallow, right: Shallow) -> Made
+    ensures { view_made result ≡ binary_value BinaryOp.Rem (view_shallow left.entry) (view_shallow right.entry) }
 {
     match (left, right) {
-        (Operand::Int(left), Operand::Int(right)) => Made::Int(remainder(left, right)),
+        (Shallow::Int(left), Shallow::Int(right)) => Made::Int(remainder(left, right)),
         _ => Made::Null,
     }
 }
 
-fn difference_of(left: Operand, right: Operand) -> Made
-    ensures { view_made result ≡ binary_value BinaryOp.Sub (view_operand left.entry) (view_operand right.entry) }
+fn difference_of(left: Shallow, right: Shallow) -> Made
+    ensures { view_made result ≡ binary_value BinaryOp.Sub (view_shallow left.entry) (view_shallow right.entry) }
 {
     match (left, right) {
-        (Operand::Int(left), Operand::Int(right)) => Made::Int(difference(left, right)),
+        (Shallow::Int(left), Shallow::Int(right)) => Made::Int(difference(left, right)),
         _ => Made::Null,
     }
 }
 
 /// The sum of two ints, and else the texts joined.
-fn sum_of(alloc: Global, left: Operand, right: Operand) -> Result<Made, OutOfMemory>
-    ensures { IfOk result (λ m. view_made m ≡ sum_or_text (view_operand left.entry) (view_operand right.entry)) }
+fn sum_of(alloc: Global, left: Shallow, right: Shallow) -> Result<Made, OutOfMemory>
+    ensures { IfOk result (λ m. view_made m ≡ sum_or_text (view_shallow left.entry) (view_shallow right.entry)) }
 {
     match (left, right) {
-        (Operand::Int(left), Operand::Int(right)) => Ok(Made::Int(sum(left, right))),
+        (Shallow::Int(left), Shallow::Int(right)) => Ok(Made::Int(sum(left, right))),
         _ => Ok(Made::Str(joined_text(alloc, left, right)?)),
     }
 }
 
 /// The texts of two operands, joined.
-fn joined_text(alloc: Global, left: Operand, right: Operand) -> Result<Text, OutOfMemory>
-    ensures { IfOk result (λ t. t ≡ value_text (view_operand left.entry) ++ value_text (view_operand right.entry)) }
+fn joined_text(alloc: Global, left: Shallow, right: Shallow) -> Result<Text, OutOfMemory>
+    ensures { IfOk result (λ t. t ≡ value_text (view_shallow left.entry) ++ value_text (view_shallow right.entry)) }
 {
     let mut joined = String::new(alloc);
     push_operand(alloc, &mut joined, left)?;
@@ -111,16 +108,16 @@ fn joined_text(alloc: Global, left: Operand, right: Operand) -> Result<Text, Out
 }
 
 /// Adds the text of an operand.
-fn push_operand(alloc: Global, out: &mut String, operand: Operand) -> Result<(), OutOfMemory>
-    ensures { OnOk result (Appends out.old out.new (value_text (view_operand operand.entry))) }
+fn push_operand(alloc: Global, out: &mut String, operand: Shallow) -> Result<(), OutOfMemory>
+    ensures { OnOk result (Appends out.old out.new (value_text (view_shallow operand.entry))) }
 {
     match operand {
-        Operand::Null => push_ascii(out, "null"),
-        Operand::Bool(true) => push_ascii(out, "true"),
-        Operand::Bool(false) => push_ascii(out, "false"),
-        Operand::Int(number) => push_int(alloc, out, number),
-        Operand::Str(text) => push_text(out, text.text()),
-        Operand::Compound => Ok(()),
+        Shallow::Null => push_ascii(out, "null"),
+        Shallow::Bool(true) => push_ascii(out, "true"),
+        Shallow::Bool(false) => push_ascii(out, "false"),
+        Shallow::Int(number) => push_int(alloc, out, number),
+        Shallow::Str(text) => push_text(out, text.text()),
+        Shallow::Compound => Ok(()),
     }
 }
 

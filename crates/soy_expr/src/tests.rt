@@ -65,7 +65,7 @@ enum Literal {
     Str(&'static str),
 }
 
-fn literal(alloc: Global, of: Literal) -> Result<Expr, OutOfMemory> {
+fn literal_expr(alloc: Global, of: Literal) -> Result<Expr, OutOfMemory> {
     Ok(match of {
         Literal::Null => expr(ExprNode::Null, 0),
         Literal::Bool(is) => expr(ExprNode::Bool(is), 0),
@@ -77,13 +77,33 @@ fn literal(alloc: Global, of: Literal) -> Result<Expr, OutOfMemory> {
 /// The left operand, the operator, the right operand, and the text of the value.
 const OPERATORS: &[(Literal, BinaryOp, Literal, &str)] = &[
     (Literal::Int(-7), BinaryOp::Rem, Literal::Int(3), "-1"),
-    (Literal::Int(LARGEST), BinaryOp::Add, Literal::Int(1), "9007199254740991"),
-    (Literal::Int(-LARGEST), BinaryOp::Sub, Literal::Int(1), "-9007199254740991"),
-    (Literal::Int(94_906_266), BinaryOp::Mul, Literal::Int(-94_906_266), "-9007199254740991"),
+    (
+        Literal::Int(LARGEST),
+        BinaryOp::Add,
+        Literal::Int(1),
+        "9007199254740991",
+    ),
+    (
+        Literal::Int(-LARGEST),
+        BinaryOp::Sub,
+        Literal::Int(1),
+        "-9007199254740991",
+    ),
+    (
+        Literal::Int(94_906_266),
+        BinaryOp::Mul,
+        Literal::Int(-94_906_266),
+        "-9007199254740991",
+    ),
     (Literal::Int(1), BinaryOp::Add, Literal::Str("1"), "11"),
     (Literal::Str("é"), BinaryOp::Add, Literal::Null, "énull"),
     (Literal::Str(""), BinaryOp::Add, Literal::Bool(true), "true"),
-    (Literal::Str("\u{ffff}"), BinaryOp::Lt, Literal::Str("\u{10000}"), "true"),
+    (
+        Literal::Str("\u{ffff}"),
+        BinaryOp::Lt,
+        Literal::Str("\u{10000}"),
+        "true",
+    ),
     (Literal::Str("ab"), BinaryOp::Le, Literal::Str("a"), "false"),
     (Literal::Int(10), BinaryOp::Gt, Literal::Int(2), "true"),
     (Literal::Int(1), BinaryOp::Eq, Literal::Bool(true), "false"),
@@ -99,8 +119,8 @@ fn operator_text(
     op: BinaryOp,
     right: Literal,
 ) -> Result<Text, OutOfMemory> {
-    let left = literal(alloc, left)?;
-    let right = literal(alloc, right)?;
+    let left = literal_expr(alloc, left)?;
+    let right = literal_expr(alloc, right)?;
     let whole = binary(alloc, op, left, right)?;
     value_text::<Brand>(alloc, whole, &no_variables(alloc), Blank::new(1))
 }
@@ -148,7 +168,7 @@ fn variables(alloc: Global) -> Result<Env, OutOfMemory> {
 
 fn at(alloc: Global, name: &str, index: Literal) -> Result<Expr, OutOfMemory> {
     let of = Boxed::new(alloc, variable(alloc, name, 0)?)?;
-    let index = Boxed::new(alloc, literal(alloc, index)?)?;
+    let index = Boxed::new(alloc, literal_expr(alloc, index)?)?;
     Ok(expr(ExprNode::Index(of, index, false), 0))
 }
 
@@ -209,13 +229,25 @@ fn a_value_and_the_truth_of_a_block(rt: HostRuntime) {
 /// The left variable, the operator, the right variable, and the fault's number with the name or the types it keeps.
 const FAULTS: &[(&str, BinaryOp, &str, u32, &str, &str)] = &[
     ("i", BinaryOp::Add, "b", 8, "int", "bool"),
-    ("l", BinaryOp::Eq, "i", 8, "list<[x: int|null, y: map<string, string>]>", "int"),
+    (
+        "l",
+        BinaryOp::Eq,
+        "i",
+        8,
+        "list<[x: int|null, y: map<string, string>]>",
+        "int",
+    ),
     ("i", BinaryOp::Rem, "i", 8, "int", "int"),
     ("z", BinaryOp::Add, "b", 7, "z", ""),
     ("i", BinaryOp::And, "l", 0, "", ""),
 ];
 
-fn declared(alloc: Global, vars: &mut Vec<Field>, name: &str, of: SoyType) -> Result<(), OutOfMemory> {
+fn declared(
+    alloc: Global,
+    vars: &mut Vec<Field>,
+    name: &str,
+    of: SoyType,
+) -> Result<(), OutOfMemory> {
     let name = text_of(alloc, name)?;
     Ok(vars.push(Field { name, of })?)
 }

@@ -37,7 +37,12 @@ pub(crate) fn unknown(alloc: Global, span: Span, name: &Text) -> Refusal<TypeFau
 
 /// The refusal of a type rule that was asked of one type.
 pub(crate) fn mistyped(alloc: Global, span: Span, left: &SoyType) -> Refusal<TypeFault>
-    ensures { Keeps (record { code = code.Mistyped; at = span.start; left = type_text (view_type left.now); right = [] }) result }
+    ensures { Keeps (record {
+      code = code.Mistyped;
+      at = span.start;
+      left = type_text (view_type left.now);
+      right = [];
+    }) result }
 {
     match text_of(alloc, left) {
         Ok(left) => Refusal::Because(TypeFault {
@@ -57,7 +62,12 @@ pub(crate) fn both_mistyped(
     left: &SoyType,
     right: &SoyType,
 ) -> Refusal<TypeFault>
-    ensures { Keeps (record { code = code.Mistyped; at = span.start; left = type_text (view_type left.now); right = type_text (view_type right.now) }) result }
+    ensures { Keeps (record {
+      code = code.Mistyped;
+      at = span.start;
+      left = type_text (view_type left.now);
+      right = type_text (view_type right.now);
+    }) result }
 {
     let Ok(left) = text_of(alloc, left) else {
         return Refusal::OutOfMemory;

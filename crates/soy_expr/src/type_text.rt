@@ -5,7 +5,7 @@ ghost use Rattle.soy_base.specs.Appends.{Appends};
 ghost use Rattle.soy_tree.specs.TypeText.{fields_text, members_text, type_text};
 ghost use Rattle.soy_tree.specs.ViewTypes.{view_fields, view_members, view_type};
 ghost use Rattle.soy_expr.specs.Ascii.{is_ascii};
-ghost use Rattle.soy_expr.specs.TypeTextRest.{separator_before};
+ghost use Rattle.soy_expr.specs.Separators.{separator_before};
 
 use crate::ascii::push_ascii;
 use soy_base::{OutOfMemory, Text, push_text};
@@ -68,7 +68,8 @@ fn push_members(out: &mut String, members: &[SoyType]) -> Result<(), OutOfMemory
 #[cycle(pushing_types)]
 #[tactic(auto, using(crate::proofs::TypeTexts::append_assoc, crate::proofs::TypeTexts::fields_step, crate::proofs::TypeTexts::fields_over))]
 fn push_record(out: &mut String, fields: &[Field]) -> Result<(), OutOfMemory>
-    ensures { OnOk result (Appends out.old out.new (codes "[" ++ (fields_text (view_fields fields.now) ++ codes "]"))) }
+    ensures { OnOk result (Appends out.old out.new
+        (codes "[" ++ (fields_text (view_fields fields.now) ++ codes "]"))) }
 {
     push_ascii(out, "[")?;
     for (number, field) in fields.iter().enumerate() {

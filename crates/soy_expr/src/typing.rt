@@ -49,11 +49,7 @@ impl<'a> Typing<'a> {
 }
 
 /// The type of an expression in a scope; where it has none, its first fault.
-pub fn type_of(
-    alloc: Global,
-    expr: &Expr,
-    scope: &Scope,
-) -> Result<SoyType, Refusal<TypeFault>>
+pub fn type_of(alloc: Global, expr: &Expr, scope: &Scope) -> Result<SoyType, Refusal<TypeFault>>
     ensures { Types view_type (type_of (view_expr expr.now) (view_scope scope.now)) result }
 {
     let typing = type_in(alloc, expr, scope.vars.items())?;
@@ -107,7 +103,8 @@ fn member_typing<'a>(
     takes_null: bool,
     vars: &'a [Field],
 ) -> Result<Typing<'a>, Refusal<TypeFault>>
-    ensures { Types view_typing (type_of (Member (view_expr of.now) name.now takes_null span) (view_vars vars.now)) result }
+    ensures { Types view_typing
+        (type_of (Member (view_expr of.now) name.now takes_null span) (view_vars vars.now)) result }
 {
     let of = type_in(alloc, of, vars)?;
     member_type(alloc, span, of, name, takes_null)
@@ -124,7 +121,9 @@ fn index_typing<'a>(
     takes_null: bool,
     vars: &'a [Field],
 ) -> Result<Typing<'a>, Refusal<TypeFault>>
-    ensures { Types view_typing (type_of (Index (view_expr of.now) (view_expr index.now) takes_null span) (view_vars vars.now)) result }
+    ensures { Types view_typing
+        (type_of (Index (view_expr of.now) (view_expr index.now) takes_null span)
+        (view_vars vars.now)) result }
 {
     let of = type_in(alloc, of, vars)?;
     let index = type_in(alloc, index, vars)?;
@@ -154,7 +153,8 @@ fn not_typing<'a>(
     of: &Expr,
     vars: &'a [Field],
 ) -> Result<Typing<'a>, Refusal<TypeFault>>
-    ensures { Types view_typing (followed_by (type_of (view_expr of.now) (view_vars vars.now)) (λ t. Ok BoolType)) result }
+    ensures { Types view_typing
+        (followed_by (type_of (view_expr of.now) (view_vars vars.now)) (λ t. Ok BoolType)) result }
 {
     type_in(alloc, of, vars)?;
     Ok(Typing::Made(SoyType::Bool))
@@ -171,11 +171,19 @@ fn binary_typing<'a>(
     right: &Expr,
     vars: &'a [Field],
 ) -> Result<Typing<'a>, Refusal<TypeFault>>
-    ensures { Types view_typing (type_of (Binary op (view_expr left.now) (view_expr right.now) span) (view_vars vars.now)) result }
+    ensures { Types view_typing
+        (type_of (Binary op (view_expr left.now) (view_expr right.now) span) (view_vars vars.now)) result }
 {
     let of_left = type_in(alloc, left, vars)?;
     let of_right = type_in(alloc, right, vars)?;
-    let of = binary_type(alloc, op, (left, right), span, of_left.get(), of_right.get())?;
+    let of = binary_type(
+        alloc,
+        op,
+        (left, right),
+        span,
+        of_left.get(),
+        of_right.get(),
+    )?;
     Ok(Typing::Made(of))
 }
 
@@ -189,7 +197,8 @@ fn coalesce_typing<'a>(
     right: &Expr,
     vars: &'a [Field],
 ) -> Result<Typing<'a>, Refusal<TypeFault>>
-    ensures { Types view_typing (type_of (Coalesce (view_expr left.now) (view_expr right.now) span) (view_vars vars.now)) result }
+    ensures { Types view_typing
+        (type_of (Coalesce (view_expr left.now) (view_expr right.now) span) (view_vars vars.now)) result }
 {
     let left = type_in(alloc, left, vars)?;
     let right = type_in(alloc, right, vars)?;
@@ -207,7 +216,9 @@ fn choice_typing<'a>(
     right: &Expr,
     vars: &'a [Field],
 ) -> Result<Typing<'a>, Refusal<TypeFault>>
-    ensures { Types view_typing (type_of (Conditional (view_expr when.now) (view_expr left.now) (view_expr right.now) span) (view_vars vars.now)) result }
+    ensures { Types view_typing
+        (type_of (Conditional (view_expr when.now) (view_expr left.now) (view_expr right.now) span)
+        (view_vars vars.now)) result }
 {
     let when = type_in(alloc, when, vars)?;
     let left = type_in(alloc, left, vars)?;

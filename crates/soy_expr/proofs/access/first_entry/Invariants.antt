@@ -4,4 +4,5 @@ use Rattle.soy_tree.specs.ViewValues.{view_entries}
 use Rattle.soy_expr.proofs.access.first_entry.Given as goal
 
 abbrev pub invariant-loop-number : goal.invariant-loop-number
-invariant-loop-number l = entry_value l.name (view_entries l.entries) ≡ entry_value l.name (view_entries (drop l.number l.entries))
+invariant-loop-number l =
+    entry_value l.name (view_entries l.entries) ≡ entry_value l.name (view_entries (drop l.number l.entries))

@@ -7,10 +7,10 @@ use Rattle.soy_tree.specs.declared.expr.BinaryOp.TheVariants as op
 use Rattle.soy_tree.specs.Values.{Value, NullValue, BoolValue, IntValue, StringValue, ListValue, MapValue, RecordValue}
 use Rattle.soy_tree.specs.Val.{binary_value, int_result, sum_or_text, value_text, is_less, is_same_value, truth}
 use Rattle.soy_tree.specs.Cost.{right_cost}
-use Rattle.soy_expr.specs.ViewOperand.{seen_value}
+use Rattle.soy_expr.specs.ViewShallow.{shallow_value}
 use Rattle.soy_expr.specs.Evaluates.{is_settled}
 
-int_seen : (f : ℤ → ℤ → ℤ) (v w : Value) → int_result f (seen_value v) (seen_value w) ≡ int_result f v w
+int_seen : (f : ℤ → ℤ → ℤ) (v w : Value) → int_result f (shallow_value v) (shallow_value w) ≡ int_result f v w
 int_seen f (IntValue m) (IntValue n) = refl
 int_seen f (IntValue m) NullValue = refl
 int_seen f (IntValue m) (BoolValue b) = refl
@@ -25,7 +25,7 @@ int_seen f (ListValue vs) w = refl
 int_seen f (MapValue es) w = refl
 int_seen f (RecordValue es) w = refl
 
-text_seen : (v : Value) → value_text (seen_value v) ≡ value_text v
+text_seen : (v : Value) → value_text (shallow_value v) ≡ value_text v
 text_seen NullValue = refl
 text_seen (BoolValue b) = refl
 text_seen (IntValue n) = refl
@@ -34,7 +34,7 @@ text_seen (ListValue vs) = refl
 text_seen (MapValue es) = refl
 text_seen (RecordValue es) = refl
 
-sum_seen : (v w : Value) → sum_or_text (seen_value v) (seen_value w) ≡ sum_or_text v w
+sum_seen : (v w : Value) → sum_or_text (shallow_value v) (shallow_value w) ≡ sum_or_text v w
 sum_seen (IntValue m) (IntValue n) = refl
 sum_seen (IntValue m) NullValue = refl
 sum_seen (IntValue m) (BoolValue b) = refl
@@ -49,7 +49,7 @@ sum_seen (ListValue vs) w = rw (text_seen w) refl
 sum_seen (MapValue es) w = rw (text_seen w) refl
 sum_seen (RecordValue es) w = rw (text_seen w) refl
 
-less_seen : (v w : Value) → is_less (seen_value v) (seen_value w) ≡ is_less v w
+less_seen : (v w : Value) → is_less (shallow_value v) (shallow_value w) ≡ is_less v w
 less_seen (IntValue m) (IntValue n) = refl
 less_seen (IntValue m) NullValue = refl
 less_seen (IntValue m) (BoolValue b) = refl
@@ -70,7 +70,7 @@ less_seen (ListValue vs) w = refl
 less_seen (MapValue es) w = refl
 less_seen (RecordValue es) w = refl
 
-same_seen : (v w : Value) → is_same_value (seen_value v) (seen_value w) ≡ is_same_value v w
+same_seen : (v w : Value) → is_same_value (shallow_value v) (shallow_value w) ≡ is_same_value v w
 same_seen NullValue NullValue = refl
 same_seen NullValue (BoolValue b) = refl
 same_seen NullValue (IntValue n) = refl
@@ -103,7 +103,7 @@ same_seen (ListValue vs) w = refl
 same_seen (MapValue es) w = refl
 same_seen (RecordValue es) w = refl
 
-truth_seen : (v : Value) → truth (seen_value v) ≡ truth v
+truth_seen : (v : Value) → truth (shallow_value v) ≡ truth v
 truth_seen NullValue = refl
 truth_seen (BoolValue b) = refl
 truth_seen (IntValue n) = refl
@@ -112,19 +112,19 @@ truth_seen (ListValue vs) = refl
 truth_seen (MapValue es) = refl
 truth_seen (RecordValue es) = refl
 
-pub seen_binary : (o : BinaryOp) (v w : Value) → binary_value o (seen_value v) (seen_value w) ≡ binary_value o v w
-seen_binary op.Mul v w = int_seen (λ m n. m *ℤ n) v w
-seen_binary op.Rem v w = int_seen int_rem v w
-seen_binary op.Add v w = sum_seen v w
-seen_binary op.Sub v w = int_seen (λ m n. m -ℤ n) v w
-seen_binary op.Lt v w = ap BoolValue (less_seen v w)
-seen_binary op.Gt v w = ap BoolValue (less_seen w v)
-seen_binary op.Le v w = ap (λ (b : Bool). BoolValue (not b)) (less_seen w v)
-seen_binary op.Ge v w = ap (λ (b : Bool). BoolValue (not b)) (less_seen v w)
-seen_binary op.Eq v w = ap BoolValue (same_seen v w)
-seen_binary op.Ne v w = ap (λ (b : Bool). BoolValue (not b)) (same_seen v w)
-seen_binary op.And v w = rw (truth_seen v, truth_seen w) refl
-seen_binary op.Or v w = rw (truth_seen v, truth_seen w) refl
+pub shallow_binary : (o : BinaryOp) (v w : Value) → binary_value o (shallow_value v) (shallow_value w) ≡ binary_value o v w
+shallow_binary op.Mul v w = int_seen (λ m n. m *ℤ n) v w
+shallow_binary op.Rem v w = int_seen int_rem v w
+shallow_binary op.Add v w = sum_seen v w
+shallow_binary op.Sub v w = int_seen (λ m n. m -ℤ n) v w
+shallow_binary op.Lt v w = ap BoolValue (less_seen v w)
+shallow_binary op.Gt v w = ap BoolValue (less_seen w v)
+shallow_binary op.Le v w = ap (λ (b : Bool). BoolValue (not b)) (less_seen w v)
+shallow_binary op.Ge v w = ap (λ (b : Bool). BoolValue (not b)) (less_seen v w)
+shallow_binary op.Eq v w = ap BoolValue (same_seen v w)
+shallow_binary op.Ne v w = ap (λ (b : Bool). BoolValue (not b)) (same_seen v w)
+shallow_binary op.And v w = rw (truth_seen v, truth_seen w) refl
+shallow_binary op.Or v w = rw (truth_seen v, truth_seen w) refl
 
 -- the right operand is valued unless the left one settles the operator
 pub unsettled_cost : (o : BinaryOp) (left : Bool) (n : ℕ) → is_settled o left ≡ false → right_cost o left n ≡ n
