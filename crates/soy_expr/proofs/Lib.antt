@@ -1,0 +1,12 @@
+mod AsciiTexts
+mod Forgetting
+mod Nearest
+mod PartRows
+mod Refusals
+mod SameLists
+mod Shallows
+mod TextOrder
+mod TextsLeft
+mod TypeSearch
+mod TypeTexts
+mod ValueOrBlock

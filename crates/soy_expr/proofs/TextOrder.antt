@@ -1,0 +1,9 @@
+-- The order of texts by code points.
+use Rattle.std.proofs.Common.{◌≡◌, ℕ, Bool, true, false, List, [], ◌∷◌, ◌∙◌}
+use mathlib.Core.Path.{refl, ap}
+use Rattle.soy_tree.specs.Val.{is_text_before}
+
+-- no text stands before the empty one
+pub before_nothing : (cs ds : List ℕ) → ds ≡ [] → is_text_before cs ds ≡ false
+before_nothing [] ds e = rw e refl
+before_nothing (c ∷ cs) ds e = rw e refl

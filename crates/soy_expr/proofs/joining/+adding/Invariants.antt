@@ -1,0 +1,10 @@
+use Rattle.std.proofs.Common.{◌≡◌, ◌++◌, drop, map}
+use Rattle.soy_tree.specs.Members.{union_members}
+use Rattle.soy_tree.specs.ViewTypes.{view_type, view_members}
+use Rattle.soy_expr.proofs.joining.+adding.Given as goal
+
+abbrev pub invariant-add_all_members-loop-of : goal.invariant-add_all_members-loop-of
+invariant-add_all_members-loop-of l =
+    map view_type l.kept.items
+    ++ union_members (view_members (drop l.of-index l.types)) ≡ map view_type l.initial.kept.items
+    ++ union_members (view_members l.types)

@@ -1,0 +1,14 @@
+pub mod Ascii
+pub mod Evaluates
+pub mod ForgottenBlocks
+pub mod HasValueType
+pub mod MemberKinds
+pub mod Parts
+pub mod Rules
+pub mod Separators
+pub mod ViewEnv
+pub mod ViewEvaluated
+pub mod ViewScope
+pub mod ViewShallow
+pub mod ViewTypeFault
+pub mod ViewTyping

@@ -1,0 +1,103 @@
+//! The value of an expression.
+
+ghost use Rattle.std.specs.Prelude.{◌≡◌};
+ghost use Rattle.soy_tree.specs.ViewExpressions.{view_expr};
+ghost use Rattle.soy_expr.specs.Evaluates.{Evaluates, EvaluatesRight, is_settled};
+ghost use Rattle.soy_expr.specs.ViewEvaluated.{view_evaluated};
+
+use crate::access::{item, member};
+use crate::operators::{combined, negated};
+use crate::{Evaluated, Made, Variables};
+use soy_base::{OutOfMemory, Steps};
+use soy_tree::{BinaryOp, Expr, ExprNode};
+use std::alloc::Global;
+use std::sync::ledger::Ledger;
+
+/// The value of an expression, with the path to the part that a reference names. Each node that is valued is a step.
+#[cycle(evaluating)]
+pub fn evaluate<'a, V: Variables, L: Ledger>(
+    alloc: Global,
+    expr: &Expr,
+    variables: &'a V,
+    steps: &mut Steps<L>,
+) -> Result<Evaluated<'a, V::Path>, OutOfMemory>
+    ensures { Evaluates (V.Names variables.now) (V.env variables.now) (view_expr expr.now) steps.old steps.new result }
+{
+    steps.count();
+    match &expr.node {
+        ExprNode::Null => Ok(Evaluated::Made(Made::Null)),
+        ExprNode::Bool(is) => Ok(Evaluated::Made(Made::Bool(*is))),
+        ExprNode::Int(number) => Ok(Evaluated::Made(Made::Int(*number))),
+        ExprNode::Str(text) => Ok(Evaluated::Made(Made::Str(text.copy(alloc)?))),
+        ExprNode::Var(name) => variables.find(name),
+        ExprNode::Member(of, name, _) => {
+            let of = evaluate(alloc, of.get(), variables, steps)?;
+            member(variables, of, name)
+        }
+        ExprNode::Index(of, index, _) => {
+            let of = evaluate(alloc, of.get(), variables, steps)?;
+            let index = evaluate(alloc, index.get(), variables, steps)?;
+            item(variables, of, index.shallow())
+        }
+        ExprNode::Neg(of) => {
+            let of = evaluate(alloc, of.get(), variables, steps)?;
+            Ok(Evaluated::Made(negated(of.shallow())))
+        }
+        ExprNode::Not(of) => {
+            let of = evaluate(alloc, of.get(), variables, steps)?;
+            Ok(Evaluated::Made(Made::Bool(!of.is_truthy())))
+        }
+        ExprNode::Binary(op, left, right) => {
+            let left = evaluate(alloc, left.get(), variables, steps)?;
+            evaluate_right(alloc, *op, left, right.get(), variables, steps)
+        }
+        ExprNode::Coalesce(left, right) => {
+            let left = evaluate(alloc, left.get(), variables, steps)?;
+            if left.is_null() {
+                evaluate(alloc, right.get(), variables, steps)
+            } else {
+                Ok(left)
+            }
+        }
+        ExprNode::Cond(when, left, right) => {
+            let when = evaluate(alloc, when.get(), variables, steps)?;
+            if when.is_truthy() {
+                evaluate(alloc, left.get(), variables, steps)
+            } else {
+                evaluate(alloc, right.get(), variables, steps)
+            }
+        }
+    }
+}
+
+/// The value of an operator by that of its left operand; `and` and `or` value the right one only where it is needed.
+#[cycle(evaluating)]
+#[tactic(auto, using(crate::proofs::Shallows::unsettled_cost))]
+fn evaluate_right<'a, V: Variables, L: Ledger>(
+    alloc: Global,
+    op: BinaryOp,
+    left: Evaluated<'a, V::Path>,
+    right: &Expr,
+    variables: &'a V,
+    steps: &mut Steps<L>,
+) -> Result<Evaluated<'a, V::Path>, OutOfMemory>
+    ensures { EvaluatesRight (V.Names variables.now) (V.env variables.now) op (view_evaluated left.entry)
+        (view_expr right.now) steps.old steps.new result }
+{
+    if is_settled(op, left.is_truthy()) {
+        return Ok(Evaluated::Made(Made::Bool(left.is_truthy())));
+    }
+    let right = evaluate(alloc, right, variables, steps)?;
+    Ok(Evaluated::Made(combined(alloc, op, &left, &right)?))
+}
+
+/// Whether the truth of the left operand settles that of the operator.
+fn is_settled(op: BinaryOp, left: bool) -> bool
+    ensures { result ≡ is_settled op left }
+{
+    match op {
+        BinaryOp::And => !left,
+        BinaryOp::Or => left,
+        _ => false,
+    }
+}

@@ -1,0 +1,42 @@
+//! The type and the value of an expression.
+//!
+//! `type_of` gives the type that the rules give, or refuses with their first fault. `eval` and `test` give the value
+//! and the truth of an expression under an environment, and count the nodes that are valued. `evaluate`, which they are
+//! made of, takes variables from whatever finds them by name, and answers a reference with the part of the value that
+//! it names, uncopied. Depends on soy_base and soy_tree.
+#![tactic(auto)]
+
+mod access;
+mod access_type;
+mod arithmetic;
+mod ascii;
+mod calls;
+mod comparison;
+mod env;
+mod evaluated;
+mod evaluation;
+mod joining;
+mod laws;
+mod member_kind;
+mod operator_type;
+mod operators;
+mod scope;
+mod shallow;
+mod type_fault;
+mod type_text;
+mod typing;
+mod variables;
+
+pub use calls::{eval, test};
+pub use env::{Binding, Bound, Env, Unnamed};
+pub use evaluated::{Evaluated, Made};
+pub use evaluation::evaluate;
+pub use laws::law_forgotten;
+pub use scope::Scope;
+pub use shallow::Shallow;
+pub use type_fault::TypeFault;
+pub use typing::type_of;
+pub use variables::Variables;
+
+#[cfg(test)]
+mod tests;
