@@ -1,0 +1,2 @@
+pub mod CommandRunning
+pub mod CommandsComplete
