@@ -1,0 +1,3 @@
+pub mod CommandRunning
+pub mod CommandsComplete
+pub mod CommandsSound
