@@ -1,0 +1,6 @@
+pub mod CommandRunning
+pub mod CommandsComplete
+pub mod CommandsSound
+pub mod ClosingText
+pub mod MessageItems
+pub mod CommandsEnd
