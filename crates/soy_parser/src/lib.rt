@@ -9,6 +9,7 @@
 mod attributes;
 mod block;
 mod command;
+mod commands;
 mod head;
 mod spot;
 mod terminal;
