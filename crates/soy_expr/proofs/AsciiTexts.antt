@@ -1,5 +1,5 @@
 -- The characters of ASCII texts.
-use Rattle.std.proofs.Common.{◌≡◌, ℕ, ◌<◌, Bool, true, false, ◌&&◌, nat_lt, List, [], ◌∷◌}
+use Rattle.std.proofs.Common.{◌≡◌, ℕ, Bool, true, false, ◌&&◌, nat_lt, List, [], ◌∷◌}
 use mathlib.Core.Path.{refl}
 use borrow.Author.Tests.{ltb-true}
 use Rattle.std.specs.Str.{IsAscii, chars}

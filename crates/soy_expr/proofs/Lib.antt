@@ -1,5 +1,6 @@
 mod AsciiTexts
 mod Forgetting
+mod IntRow
 mod Nearest
 mod PartRows
 mod Refusals

@@ -1,12 +1,11 @@
 -- Results that are cut to a range.
-use Rattle.std.proofs.Common.{◌≡◌, ℕ, zero, suc, ◌+◌, ◌<◌, ◌≤◌, arith}
-use Rattle.std.specs.Prelude.{ℤ, pos, negsuc, ◌-ℤ◌, neg_ℤ, int_rem, min}
+use Rattle.std.proofs.Common.{◌≡◌, ℕ, suc, arith}
+use Rattle.std.specs.Prelude.{ℤ, pos, negsuc, ◌-ℤ◌, neg_ℤ, int_rem}
 use Rattle.std.specs.Int.{saturate_to_bits}
-use Rattle.std.specs.Int.RustNames.{FitsSigned}
 use Rattle.std.proofs.Math.Nat.{mod-zero}
 use Rattle.std.proofs.lemmas.Int.{ints}
-use mathlib.Core.Path.{refl, sym, ap}
-use Rattle.soy_tree.specs.Ints.{nearest, largest}
+use mathlib.Core.Path.{ap}
+use Rattle.soy_tree.specs.Ints.{nearest}
 
 pub nearest_saturated : (z : ℤ) → nearest (saturate_to_bits 63 z) ≡ nearest z
 nearest_saturated (pos n) = ap pos (omega arith)

@@ -2,11 +2,11 @@
 use Rattle.std.proofs.Common.{◌≡◌, ℕ, zero, suc, ◌+◌, ◌<◌, Bool, true, false, List, [], ◌∷◌, Option, Some, None}
 use Rattle.std.proofs.Common.{slice_get, slice_index_or, length, drop, arith}
 use Rattle.std.specs.Prelude.{if◌then◌else◌, bytes_eq}
-use mathlib.Core.Path.{refl, sym, ap}
+use mathlib.Core.Path.{refl, ap}
 use Rattle.soy_tree.specs.declared.value.Value as code
 use Rattle.soy_tree.specs.declared.value.Entry as code_entry
 use Rattle.soy_tree.specs.Types.{Name}
-use Rattle.soy_tree.specs.Values.{Value, NullValue, entry}
+use Rattle.soy_tree.specs.Values.{Value, NullValue}
 use Rattle.soy_tree.specs.Has.{entry_value}
 use Rattle.soy_tree.specs.Val.{item_value}
 use Rattle.soy_tree.specs.ViewValues.{view_value, view_entry, view_items, view_entries, value_layer, entry_layer}

@@ -1,5 +1,5 @@
 -- Lists of members and of fields that are compared item by item.
-use Rattle.std.proofs.Common.{◌≡◌, ℕ, zero, suc, ◌+◌, ◌<◌, ◌≤◌, Bool, true, false, ◌&&◌, List, [], ◌∷◌, Option, Some}
+use Rattle.std.proofs.Common.{◌≡◌, ℕ, zero, suc, ◌+◌, ◌<◌, ◌≤◌, Bool, true, false, ◌&&◌, List, [], ◌∷◌, Some}
 use Rattle.std.proofs.Common.{None, drop, length, slice_get, slice_index_or, arith}
 use Rattle.std.specs.Prelude.{bytes_eq}
 use mathlib.Core.Path.{refl, sym, ap, ◌∙◌}

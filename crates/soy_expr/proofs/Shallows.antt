@@ -1,7 +1,7 @@
 -- An operator gives the same of what it sees of its operands as of them.
-use Rattle.std.proofs.Common.{◌≡◌, ℕ, ◌+◌, Bool, true, false, not, ◌&&◌, ◌||◌}
+use Rattle.std.proofs.Common.{◌≡◌, ℕ, Bool, true, false, not}
 use Rattle.std.specs.Prelude.{ℤ, ◌*ℤ◌, ◌-ℤ◌, int_rem}
-use mathlib.Core.Path.{refl, ap, ◌∙◌}
+use mathlib.Core.Path.{refl, ap}
 use Rattle.soy_tree.specs.declared.expr.BinaryOp.{BinaryOp}
 use Rattle.soy_tree.specs.declared.expr.BinaryOp.TheVariants as op
 use Rattle.soy_tree.specs.Values.{Value, NullValue, BoolValue, IntValue, StringValue, ListValue, MapValue, RecordValue}

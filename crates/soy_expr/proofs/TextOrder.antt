@@ -1,6 +1,6 @@
 -- The order of texts by code points.
-use Rattle.std.proofs.Common.{◌≡◌, ℕ, Bool, true, false, List, [], ◌∷◌, ◌∙◌}
-use mathlib.Core.Path.{refl, ap}
+use Rattle.std.proofs.Common.{◌≡◌, ℕ, false, List, [], ◌∷◌}
+use mathlib.Core.Path.{refl}
 use Rattle.soy_tree.specs.Val.{is_text_before}
 
 -- no text stands before the empty one

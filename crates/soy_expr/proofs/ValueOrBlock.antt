@@ -1,5 +1,5 @@
 -- An expression whose type has no html or attributes member has a value.
-use Rattle.std.proofs.Common.{◌≡◌, true, false}
+use Rattle.std.proofs.Common.{◌≡◌, true}
 use Rattle.std.specs.Prelude.{Ok}
 use mathlib.Core.Path.{sym, subst}
 use Rattle.soy_tree.specs.Types.{SoyType}

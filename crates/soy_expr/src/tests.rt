@@ -1,5 +1,8 @@
 //! Tests of what no clause says: rows of operators, accesses and faults, with ample memory.
-ghost use Rattle.std.specs.Prelude.{◌≡◌, ◌<◌};
+ghost use Rattle.std.specs.Prelude.{◌≡◌, ◌<◌, pos, []};
+ghost use Rattle.soy_tree.specs.Expressions.{IntLiteral};
+ghost use Rattle.soy_tree.specs.ViewExpressions.{view_expr};
+ghost use Rattle.soy_expr.specs.ViewEnv.{view_env};
 
 use crate::{Binding, Bound, Env, Evaluated, Made, Scope, eval, evaluate, test, type_of};
 use soy_base::{Boxed, OutOfMemory, Refusal, Seq, Span, Steps, Text};
@@ -50,7 +53,9 @@ fn value_text<L: Ledger>(
     }
 }
 
-fn no_variables(alloc: Global) -> Env {
+fn no_variables(alloc: Global) -> Env
+    ensures { view_env result ≡ [] }
+{
     Env {
         vars: Seq::new(Vec::new(alloc)),
     }
@@ -202,6 +207,16 @@ fn accesses_to_parts(rt: HostRuntime) {
     assert_eq!(rt; text.text(), "5nullnullfalsenull");
 }
 
+/// The literal 7.
+fn seven() -> Expr
+    ensures { view_expr result ≡ IntLiteral (pos 7) (record { start = 0; end = 0 }) }
+{
+    Expr {
+        node: ExprNode::Int(7),
+        span: Span { start: 0, end: 0 },
+    }
+}
+
 fn calls<L: Ledger>(alloc: Global, blank: Blank) -> Result<(Value, bool), OutOfMemory>
     requires name { blank.name ≡ L.name }
     requires parts { blank.parts ≡ L.parts }
@@ -212,7 +227,7 @@ fn calls<L: Ledger>(alloc: Global, blank: Blank) -> Result<(Value, bool), OutOfM
     let block = variable(alloc, "h", 0)?;
     let truth = test(alloc, &block, &env, &mut steps)?;
     let none = no_variables(alloc);
-    let value = eval(alloc, &expr(ExprNode::Int(7), 0), &none, &mut steps)?;
+    let value = eval(alloc, &seven(), &none, &mut steps)?;
     Ok((value, truth))
 }
 

@@ -1,5 +1,3 @@
-use Rattle.std.proofs.Common.{◌≡◌, ap, sym, ◌∙◌}
-use Rattle.soy_expr.specs.ViewEvaluated.{view_evaluated}
 use Rattle.soy_expr.proofs.ValueOrBlock.{not_a_block}
 use Rattle.soy_expr.proofs.calls.eval.Goals as goal
 
