@@ -1,6 +1,0 @@
-pub mod CodedParts
-pub mod FirstArms
-pub mod PatternSteps
-pub mod PatternReading
-pub mod BeginsPattern
-pub mod ParsesMessage
