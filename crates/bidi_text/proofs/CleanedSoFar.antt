@@ -26,28 +26,37 @@ HeadFrom low (n ∷ ns) = low ≤ n
 -- the same by one more character
 pub left_out-cons : (prefix : List ℕ) (c : ℕ) (cs : List ℕ) (flag : Bool)
     → is_dropped (prefix ++ (c ∷ cs)) (length prefix, c) ≡ flag
-    → left_out prefix (c ∷ cs) ≡ (if flag then length (encode_utf8_all prefix) ∷ [] else []) ++ left_out (prefix ++ c ∷ []) cs
+    → left_out prefix (c ∷ cs) ≡ (if flag then length (encode_utf8_all prefix) ∷ [] else []) ++ left_out
+        (prefix ++ c ∷ []) cs
 left_out-cons prefix c cs flag is =
-    ap (λ l. l ++ flat_map (dropped_byte (prefix ++ (c ∷ cs))) (enumerate_from (length prefix + 1) cs)) (dropped_byte_is prefix c cs flag is)
-    ∙ ap (λ n. (if flag then length (encode_utf8_all prefix) ∷ [] else []) ++ flat_map (dropped_byte (prefix ++ (c ∷ cs))) (enumerate_from n cs)) (sym (length-append prefix (c ∷ [])))
-    ∙ ap (λ t. (if flag then length (encode_utf8_all prefix) ∷ [] else []) ++ flat_map (dropped_byte t) (enumerate_from (length (prefix ++ c ∷ [])) cs)) (sym (append_assoc prefix (c ∷ []) cs))
+    ap (λ l. l ++ flat_map (dropped_byte (prefix ++ (c ∷ cs))) (enumerate_from (length prefix + 1) cs))
+        (dropped_byte_is prefix c cs flag is)
+    ∙ ap (λ n. (if flag then length (encode_utf8_all prefix) ∷ [] else []) ++ flat_map
+        (dropped_byte (prefix ++ (c ∷ cs))) (enumerate_from n cs)) (sym (length-append prefix (c ∷ [])))
+    ∙ ap (λ t. (if flag then length (encode_utf8_all prefix) ∷ [] else []) ++ flat_map (dropped_byte t)
+        (enumerate_from (length (prefix ++ c ∷ [])) cs)) (sym (append_assoc prefix (c ∷ []) cs))
 
 pub left_clean-cons : (prefix : List ℕ) (c : ℕ) (cs : List ℕ) (flag : Bool)
     → is_dropped (prefix ++ (c ∷ cs)) (length prefix, c) ≡ flag
     → left_clean prefix (c ∷ cs) ≡ (if flag then [] else spaced c ∷ []) ++ left_clean (prefix ++ c ∷ []) cs
 left_clean-cons prefix c cs flag is =
-    ap (λ t. (if t then [] else spaced c ∷ []) ++ flat_map (cleaned_character (prefix ++ (c ∷ cs))) (enumerate_from (length prefix + 1) cs)) is
-    ∙ ap (λ n. (if flag then [] else spaced c ∷ []) ++ flat_map (cleaned_character (prefix ++ (c ∷ cs))) (enumerate_from n cs)) (sym (length-append prefix (c ∷ [])))
-    ∙ ap (λ t. (if flag then [] else spaced c ∷ []) ++ flat_map (cleaned_character t) (enumerate_from (length (prefix ++ c ∷ [])) cs)) (sym (append_assoc prefix (c ∷ []) cs))
+    ap (λ t. (if t then [] else spaced c ∷ []) ++ flat_map (cleaned_character (prefix ++ (c ∷ cs)))
+        (enumerate_from (length prefix + 1) cs)) is
+    ∙ ap (λ n. (if flag then [] else spaced c ∷ []) ++ flat_map (cleaned_character (prefix ++ (c ∷ cs)))
+        (enumerate_from n cs)) (sym (length-append prefix (c ∷ [])))
+    ∙ ap (λ t. (if flag then [] else spaced c ∷ []) ++ flat_map (cleaned_character t)
+        (enumerate_from (length (prefix ++ c ∷ [])) cs)) (sym (append_assoc prefix (c ∷ []) cs))
 
 -- nothing is left out before the character that comes next
 pub left_out_from : (prefix cs : List ℕ) → HeadFrom (length (encode_utf8_all prefix)) (left_out prefix cs)
 left_out_from prefix [] = tt
 left_out_from prefix (c ∷ cs) =
     elim (cases_Bool (is_dropped (prefix ++ (c ∷ cs)) (length prefix, c))) [
-      | inl out ↦ subst (HeadFrom (length (encode_utf8_all prefix))) (sym (left_out-cons prefix c cs true out)) (omega arith)
+      | inl out ↦ subst (HeadFrom (length (encode_utf8_all prefix))) (sym (left_out-cons prefix c cs true out))
+          (omega arith)
       | inr kept ↦ subst (HeadFrom (length (encode_utf8_all prefix))) (sym (left_out-cons prefix c cs false kept))
-          (weaker (length (encode_utf8_all prefix)) (length (encode_utf8_all (prefix ++ c ∷ []))) (left_out (prefix ++ c ∷ []) cs)
+          (weaker (length (encode_utf8_all prefix)) (length (encode_utf8_all (prefix ++ c ∷ [])))
+              (left_out (prefix ++ c ∷ []) cs)
           (omega (arith, prefix_byte-snoc prefix c)) (left_out_from (prefix ++ c ∷ []) cs))
     ]
   where
@@ -73,15 +82,19 @@ same_after false n xs ys e = e
 
 -- nothing is cleaned before the text
 pub cleaned_start : (text : List ℕ) → IsUtf8 text → CleanedSoFar (dropped_bytes (chars text)) [] 0 text text
-cleaned_start text utf8 = record { prefix = []; whole = refl; begins = refl; leaves_out = refl; cleans = refl; utf8 = utf8; bounded = omega arith }
+cleaned_start text utf8 = record { prefix = []; whole = refl; begins = refl; leaves_out = refl; cleans = refl;
+    utf8 = utf8; bounded = omega arith }
 
-module _ {offsets cleaned : List ℕ} {at next c : ℕ} {bytes rest text : List ℕ} (so_far : CleanedSoFar offsets cleaned at bytes text) (reads : ReadsOne c at next bytes rest) where
+module _ {offsets cleaned : List ℕ} {at next c : ℕ} {bytes rest text : List ℕ}
+    (so_far : CleanedSoFar offsets cleaned at bytes text) (reads : ReadsOne c at next bytes rest) where
   read : chars bytes ≡ c ∷ chars rest
   read = chars_past_char bytes rest c so_far.utf8 reads.split
 
   -- the character is left out, or kept, and the invariant goes on
-  goes_on : (flag : Bool) (later cleaned' : List ℕ) → is_dropped (so_far.prefix ++ (c ∷ chars rest)) (length so_far.prefix, c) ≡ flag
-      → offsets ≡ (if flag then at ∷ [] else []) ++ later → cleaned' ≡ cleaned ++ (if flag then [] else spaced c ∷ []) → CleanedSoFar later cleaned' next rest text
+  goes_on : (flag : Bool) (later cleaned' : List ℕ) → is_dropped (so_far.prefix ++ (c ∷ chars rest))
+      (length so_far.prefix, c) ≡ flag
+      → offsets ≡ (if flag then at ∷ [] else []) ++ later → cleaned' ≡ cleaned ++ (if flag then [] else spaced c ∷ [])
+          → CleanedSoFar later cleaned' next rest text
   goes_on flag later cleaned' is left grows =
       let prefix : List ℕ = so_far.prefix ++ c ∷ [] in
       let byte : at ≡ length (encode_utf8_all so_far.prefix) = so_far.begins in
@@ -91,11 +104,14 @@ module _ {offsets cleaned : List ℕ} {at next c : ℕ} {bytes rest text : List 
       ∙ ap (λ n. (if flag then n ∷ [] else []) ++ left_out prefix (chars rest)) (sym byte) in
       record {
         prefix = prefix;
-        whole = so_far.whole ∙ ap (λ cs. so_far.prefix ++ cs) read ∙ sym (append_assoc so_far.prefix (c ∷ []) (chars rest));
+        whole = so_far.whole ∙ ap (λ cs. so_far.prefix ++ cs) read
+            ∙ sym (append_assoc so_far.prefix (c ∷ []) (chars rest));
         begins = omega (arith, reads.past, so_far.begins, prefix_byte-snoc so_far.prefix c);
         leaves_out = same_after flag at later (left_out prefix (chars rest)) (sym left ∙ out);
-        cleans = ap (λ l. l ++ left_clean prefix (chars rest)) grows ∙ append_assoc cleaned shown (left_clean prefix (chars rest))
-            ∙ ap (λ l. cleaned ++ l) (sym (left_clean-cons so_far.prefix c (chars rest) flag is)) ∙ ap (λ cs. cleaned ++ left_clean so_far.prefix cs) (sym read) ∙ so_far.cleans;
+        cleans = ap (λ l. l ++ left_clean prefix (chars rest)) grows
+            ∙ append_assoc cleaned shown (left_clean prefix (chars rest))
+            ∙ ap (λ l. cleaned ++ l) (sym (left_clean-cons so_far.prefix c (chars rest) flag is))
+                ∙ ap (λ cs. cleaned ++ left_clean so_far.prefix cs) (sym read) ∙ so_far.cleans;
         utf8 = IsUtf8-past_char bytes rest c so_far.utf8 reads.split;
         bounded = omega (arith, reads.past, so_far.bounded, ap length reads.split, length-append (encode_utf8 c) rest);
       }
@@ -108,13 +124,17 @@ module _ {offsets cleaned : List ℕ} {at next c : ℕ} {bytes rest text : List 
         | inr kept ↦
             let prefix : List ℕ = so_far.prefix ++ c ∷ [] in
             let same : left_out prefix (chars rest) ≡ at ∷ later =
-            sym (so_far.leaves_out ∙ ap (left_out so_far.prefix) read ∙ left_out-cons so_far.prefix c (chars rest) false kept) ∙ left in
-            let late : length (encode_utf8_all prefix) ≤ at = subst (HeadFrom (length (encode_utf8_all prefix))) same (left_out_from prefix (chars rest)) in
-            absurd (omega (arith, late, so_far.begins, prefix_byte-snoc so_far.prefix c, length-encode c, (len_utf8_bounds c).0))
+            sym (so_far.leaves_out ∙ ap (left_out so_far.prefix) read ∙ left_out-cons so_far.prefix c (chars rest)
+                false kept) ∙ left in
+            let late : length (encode_utf8_all prefix) ≤ at = subst (HeadFrom (length (encode_utf8_all prefix))) same
+                (left_out_from prefix (chars rest)) in
+            absurd (omega (arith, late, so_far.begins, prefix_byte-snoc so_far.prefix c, length-encode c,
+                (len_utf8_bounds c).0))
       ]
 
   -- it is not
-  pub cleaned_kept : (cleaned' : List ℕ) → ((later : List ℕ) → offsets ≡ at ∷ later → ⊥) → cleaned' ≡ cleaned ++ spaced c ∷ [] → CleanedSoFar offsets cleaned' next rest text
+  pub cleaned_kept : (cleaned' : List ℕ) → ((later : List ℕ) → offsets ≡ at ∷ later → ⊥)
+      → cleaned' ≡ cleaned ++ spaced c ∷ [] → CleanedSoFar offsets cleaned' next rest text
   cleaned_kept cleaned' other grows =
       elim (cases_Bool (is_dropped (so_far.prefix ++ (c ∷ chars rest)) (length so_far.prefix, c))) [
         | inl out ↦

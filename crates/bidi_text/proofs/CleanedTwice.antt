@@ -55,15 +55,18 @@ spaced-stays : (c : ℕ) → is_initiator c ≡ false → is_closing c ≡ false
     → (is_initiator (spaced c) ≡ false) × (is_closing (spaced c) ≡ false)
 spaced-stays c b e =
     elim (cases_Bool (is_separator (bidi_class c))) [
-      | inl separates ↦ let space : spaced c ≡ 32 = cond-true _ _ _ separates in (ap is_initiator space ∙ space_begins, ap is_closing space ∙ space_ends)
-      | inr other ↦ let same : spaced c ≡ c = cond-false _ _ _ other in (ap is_initiator same ∙ b, ap is_closing same ∙ e)
+      | inl separates ↦ let space : spaced c ≡ 32 = cond-true _ _ _ separates in
+          (ap is_initiator space ∙ space_begins, ap is_closing space ∙ space_ends)
+      | inr other ↦ let same : spaced c ≡ c = cond-false _ _ _ other in
+          (ap is_initiator same ∙ b, ap is_closing same ∙ e)
     ]
 
 -- spaces stay spaces
 pub spaced-spaced : (c : ℕ) → spaced (spaced c) ≡ spaced c
 spaced-spaced c =
     elim (cases_Bool (is_separator (bidi_class c))) [
-      | inl separates ↦ let space : spaced c ≡ 32 = cond-true _ _ _ separates in ap spaced space ∙ cond-false _ _ _ space_separates ∙ sym space
+      | inl separates ↦ let space : spaced c ≡ 32 = cond-true _ _ _ separates in ap spaced space
+          ∙ cond-false _ _ _ space_separates ∙ sym space
       | inr other ↦ let same : spaced c ≡ c = cond-false _ _ _ other in ap spaced same
     ]
 
@@ -81,40 +84,55 @@ left_clean-Paired prefix (c ∷ cs) =
     let rest : Paired (lone_initiators (prefix ++ c ∷ [])) cs later = left_clean-Paired (prefix ++ c ∷ []) cs in
     elim (first c cs) [
       | BeginsLone b e none counts ↦
-          let out : is_dropped (prefix ++ (c ∷ cs)) (length prefix, c) ≡ true = dropped_begins prefix c cs b ∙ ap not (le-ltb 0 (lone_closings cs) (omega arith)) in
+          let out : is_dropped (prefix ++ (c ∷ cs)) (length prefix, c) ≡ true = dropped_begins prefix c cs b
+              ∙ ap not (le-ltb 0 (lone_closings cs) (omega arith)) in
           let same : left_clean prefix (c ∷ cs) ≡ later = left_clean-cons prefix c cs true out in
-          subst (Paired begun (c ∷ cs)) (sym same) (record { closings_are = omega (arith, rest.closings_are); initiators_are = rest.initiators_are })
+          subst (Paired begun (c ∷ cs)) (sym same)
+              (record { closings_are = omega (arith, rest.closings_are); initiators_are = rest.initiators_are })
       | BeginsMatched b e some counts ↦
-          let kept : is_dropped (prefix ++ (c ∷ cs)) (length prefix, c) ≡ false = dropped_begins prefix c cs b ∙ ap not (lt-ltb 0 (lone_closings cs) some) in
-          let same : left_clean prefix (c ∷ cs) ≡ c ∷ later = left_clean-cons prefix c cs false kept ∙ ap (λ k. k ∷ later) (spaced-begins c b) in
-          let more : lone_closings later ≡ min (begun + 1) (lone_closings cs) = rest.closings_are ∙ ap (λ n. min n (lone_closings cs)) (lone_initiators-begins prefix c b e) in
+          let kept : is_dropped (prefix ++ (c ∷ cs)) (length prefix, c) ≡ false = dropped_begins prefix c cs b
+              ∙ ap not (lt-ltb 0 (lone_closings cs) some) in
+          let same : left_clean prefix (c ∷ cs) ≡ c ∷ later = left_clean-cons prefix c cs false kept
+              ∙ ap (λ k. k ∷ later) (spaced-begins c b) in
+          let more : lone_closings later ≡ min (begun + 1) (lone_closings cs) = rest.closings_are
+              ∙ ap (λ n. min n (lone_closings cs)) (lone_initiators-begins prefix c b e) in
           subst (Paired begun (c ∷ cs)) (sym same) (record {
             closings_are = omega (arith, lone_closings-begins c later b, more);
-            initiators_are = cond-true _ _ _ b ∙ cond-false _ _ _ (ne_eqb (lone_closings later) 0 (λ none. absurd (omega (arith, more)))) ∙ rest.initiators_are;
+            initiators_are = cond-true _ _ _ b
+                ∙ cond-false _ _ _ (ne_eqb (lone_closings later) 0 (λ none. absurd (omega (arith, more))))
+                ∙ rest.initiators_are;
           })
       | EndsOne b e counts ↦
-          let is : is_dropped (prefix ++ (c ∷ cs)) (length prefix, c) ≡ not (nat_lt 0 begun) = dropped_ends prefix c cs b e in
-          let more : lone_closings later ≡ min (begun - 1) (lone_closings cs) = rest.closings_are ∙ ap (λ n. min n (lone_closings cs)) (lone_initiators-ends prefix c b e) in
+          let is : is_dropped (prefix ++ (c ∷ cs)) (length prefix, c) ≡ not (nat_lt 0 begun) =
+              dropped_ends prefix c cs b e in
+          let more : lone_closings later ≡ min (begun - 1) (lone_closings cs) = rest.closings_are
+              ∙ ap (λ n. min n (lone_closings cs)) (lone_initiators-ends prefix c b e) in
           elim (cases_lt 0 begun) [
             | inl some ↦
-                let kept : is_dropped (prefix ++ (c ∷ cs)) (length prefix, c) ≡ false = is ∙ ap not (lt-ltb 0 begun some) in
-                let same : left_clean prefix (c ∷ cs) ≡ c ∷ later = left_clean-cons prefix c cs false kept ∙ ap (λ k. k ∷ later) (spaced-ends c e) in
+                let kept : is_dropped (prefix ++ (c ∷ cs)) (length prefix, c) ≡ false =
+                    is ∙ ap not (lt-ltb 0 begun some) in
+                let same : left_clean prefix (c ∷ cs) ≡ c ∷ later = left_clean-cons prefix c cs false kept
+                    ∙ ap (λ k. k ∷ later) (spaced-ends c e) in
                 subst (Paired begun (c ∷ cs)) (sym same) (record {
                   closings_are = omega (arith, lone_closings-ends c later b e, more);
                   initiators_are = cond-false _ _ _ b ∙ rest.initiators_are;
                 })
             | inr none ↦
-                let out : is_dropped (prefix ++ (c ∷ cs)) (length prefix, c) ≡ true = is ∙ ap not (le-ltb 0 begun none) in
+                let out : is_dropped (prefix ++ (c ∷ cs)) (length prefix, c) ≡ true =
+                    is ∙ ap not (le-ltb 0 begun none) in
                 let same : left_clean prefix (c ∷ cs) ≡ later = left_clean-cons prefix c cs true out in
-                subst (Paired begun (c ∷ cs)) (sym same) (record { closings_are = omega (arith, more); initiators_are = rest.initiators_are })
+                subst (Paired begun (c ∷ cs)) (sym same)
+                    (record { closings_are = omega (arith, more); initiators_are = rest.initiators_are })
           ]
       | StaysOut b e counts ↦
           let kept : is_dropped (prefix ++ (c ∷ cs)) (length prefix, c) ≡ false = dropped_stays prefix c cs b e in
           let same : left_clean prefix (c ∷ cs) ≡ spaced c ∷ later = left_clean-cons prefix c cs false kept in
           let roles = spaced-stays c b e in
-          let more : lone_closings later ≡ min begun (lone_closings cs) = rest.closings_are ∙ ap (λ n. min n (lone_closings cs)) (lone_initiators-stays prefix c b e) in
+          let more : lone_closings later ≡ min begun (lone_closings cs) = rest.closings_are
+              ∙ ap (λ n. min n (lone_closings cs)) (lone_initiators-stays prefix c b e) in
           subst (Paired begun (c ∷ cs)) (sym same) (record {
-            closings_are = lone_closings-stays (spaced c) later roles.0 roles.1 ∙ more ∙ ap (min begun) (sym (lone_closings-stays c cs b e));
+            closings_are = lone_closings-stays (spaced c) later roles.0 roles.1 ∙ more
+                ∙ ap (min begun) (sym (lone_closings-stays c cs b e));
             initiators_are = cond-false _ _ _ roles.0 ∙ rest.initiators_are;
           })
     ]
@@ -127,7 +145,8 @@ dropped_bytes-cleaned text =
     nil_from_length _ (length-lone_closing_bytes 0 (cleaned_text text) ∙ omega (arith, paired.closings_are)) in
     let no_initiators : lone_initiator_bytes 0 (cleaned_text text) ≡ [] =
     nil_from_length _ (length-lone_initiator_bytes 0 (cleaned_text text) ∙ paired.initiators_are) in
-    dropped_bytes-lone_bytes (cleaned_text text) ∙ ap (λ l. l ++ lone_initiator_bytes 0 (cleaned_text text)) no_closings ∙ no_initiators
+    dropped_bytes-lone_bytes (cleaned_text text) ∙ ap (λ l. l ++ lone_initiator_bytes 0 (cleaned_text text))
+        no_closings ∙ no_initiators
 
 -- where nothing is left out from a character on, that character is kept
 kept_from : (prefix : List ℕ) (c : ℕ) (cs : List ℕ) → left_out prefix (c ∷ cs) ≡ []
@@ -153,7 +172,8 @@ map-spaced : (prefix cs : List ℕ) → map spaced (left_clean prefix cs) ≡ le
 map-spaced prefix [] = refl
 map-spaced prefix (c ∷ cs) =
     elim (cases_Bool (is_dropped (prefix ++ (c ∷ cs)) (length prefix, c))) [
-      | inl out ↦ let same = left_clean-cons prefix c cs true out in ap (map spaced) same ∙ map-spaced (prefix ++ c ∷ []) cs ∙ sym same
+      | inl out ↦ let same = left_clean-cons prefix c cs true out in ap (map spaced) same
+          ∙ map-spaced (prefix ++ c ∷ []) cs ∙ sym same
       | inr kept ↦
           let same = left_clean-cons prefix c cs false kept in
           ap (map spaced) same ∙ ap (λ k. k ∷ map spaced (left_clean (prefix ++ c ∷ []) cs)) (spaced-spaced c)
@@ -162,7 +182,8 @@ map-spaced prefix (c ∷ cs) =
 
 -- cleaning a cleaned text changes nothing
 pub cleaned_text-cleaned_text : (text : List ℕ) → cleaned_text (cleaned_text text) ≡ cleaned_text text
-cleaned_text-cleaned_text text = left_clean-kept [] (cleaned_text text) (dropped_bytes-cleaned text) ∙ map-spaced [] text
+cleaned_text-cleaned_text text = left_clean-kept [] (cleaned_text text) (dropped_bytes-cleaned text)
+    ∙ map-spaced [] text
 
 -- where nothing is left out, each isolate control is in a pair
 controls_paired : (prefix cs : List ℕ) (n : ℕ) → left_out prefix cs ≡ [] → n < length cs
@@ -177,11 +198,13 @@ controls_paired prefix (c ∷ cs) zero none within control =
 controls_paired prefix (c ∷ cs) (suc n) none within control =
     let later = controls_paired (prefix ++ c ∷ []) cs n (kept_from prefix c cs none).1 (omega arith) control in
     let at : length (prefix ++ c ∷ []) + n ≡ length prefix + suc n = omega (arith, length-append prefix (c ∷ [])) in
-    subst (λ k. is_in_pair (prefix ++ (c ∷ cs)) k ≡ true) at (subst (λ t. is_in_pair t (length (prefix ++ c ∷ []) + n) ≡ true) (append_assoc prefix (c ∷ []) cs) later)
+    subst (λ k. is_in_pair (prefix ++ (c ∷ cs)) k ≡ true) at
+        (subst (λ t. is_in_pair t (length (prefix ++ c ∷ []) + n) ≡ true) (append_assoc prefix (c ∷ []) cs) later)
 
 -- each isolate control of a cleaned text is in a pair
 pub cleaned_text-paired : (text : List ℕ) (index : ℕ) → index < length (cleaned_text text)
     → is_isolate_control (slice_index (cleaned_text text) index) ≡ true → is_in_pair (cleaned_text text) index ≡ true
 cleaned_text-paired text index within control =
     let at : 0 + index ≡ index = omega arith in
-    subst (λ n. is_in_pair (cleaned_text text) n ≡ true) at (controls_paired [] (cleaned_text text) index (dropped_bytes-cleaned text) within control)
+    subst (λ n. is_in_pair (cleaned_text text) n ≡ true) at
+        (controls_paired [] (cleaned_text text) index (dropped_bytes-cleaned text) within control)

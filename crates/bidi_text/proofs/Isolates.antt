@@ -25,17 +25,20 @@ class_role _ = inr (inr (refl, refl))
 
 -- no character both begins and ends one
 pub role : (c : ℕ) → Role c
-role c = elim (class_role (bidi_class c)) [ inl h ↦ Begins h.0 h.1 | inr rest ↦ elim rest [ inl h ↦ Ends h.0 h.1 | inr h ↦ Stays h.0 h.1 ] ]
+role c = elim (class_role (bidi_class c)) [ inl h ↦ Begins h.0 h.1 | inr rest ↦
+    elim rest [ inl h ↦ Ends h.0 h.1 | inr h ↦ Stays h.0 h.1 ] ]
 
 -- how many PDIs match nothing in the text
 abbrev pub lone_closings : List ℕ → ℕ
 lone_closings [] = 0
-lone_closings (c ∷ cs) = if is_initiator c then lone_closings cs - 1 else if is_closing c then lone_closings cs + 1 else lone_closings cs
+lone_closings (c ∷ cs) = if is_initiator c then lone_closings cs - 1 else if is_closing c then lone_closings cs + 1
+    else lone_closings cs
 
 -- how many initiators match nothing in the text
 abbrev pub lone_initiators : List ℕ → ℕ
 lone_initiators [] = 0
-lone_initiators (c ∷ cs) = if is_initiator c then (if lone_closings cs == 0 then lone_initiators cs + 1 else lone_initiators cs) else lone_initiators cs
+lone_initiators (c ∷ cs) = if is_initiator c then (if lone_closings cs == 0 then lone_initiators cs + 1
+    else lone_initiators cs) else lone_initiators cs
 
 -- the first character's part in a count
 initiators-cons : (c : ℕ) (cs : List ℕ) → initiators (c ∷ cs) ≡ (if is_initiator c then 1 else 0) + initiators cs
@@ -53,10 +56,14 @@ pub record Counts (c : ℕ) (cs : List ℕ) (begun ended lone_ends lone_begins :
 
 -- the first character of a text: an initiator that matches a PDI of the rest or none, a PDI, or another
 pub data First (c : ℕ) (cs : List ℕ) : Type 0 where
-  BeginsLone : is_initiator c ≡ true → is_closing c ≡ false → lone_closings cs ≡ 0 → Counts c cs 1 0 0 (lone_initiators cs + 1) → First c cs
-  BeginsMatched : is_initiator c ≡ true → is_closing c ≡ false → 0 < lone_closings cs → Counts c cs 1 0 (lone_closings cs - 1) (lone_initiators cs) → First c cs
-  EndsOne : is_initiator c ≡ false → is_closing c ≡ true → Counts c cs 0 1 (lone_closings cs + 1) (lone_initiators cs) → First c cs
-  StaysOut : is_initiator c ≡ false → is_closing c ≡ false → Counts c cs 0 0 (lone_closings cs) (lone_initiators cs) → First c cs
+  BeginsLone : is_initiator c ≡ true → is_closing c ≡ false → lone_closings cs ≡ 0
+      → Counts c cs 1 0 0 (lone_initiators cs + 1) → First c cs
+  BeginsMatched : is_initiator c ≡ true → is_closing c ≡ false → 0 < lone_closings cs
+      → Counts c cs 1 0 (lone_closings cs - 1) (lone_initiators cs) → First c cs
+  EndsOne : is_initiator c ≡ false → is_closing c ≡ true → Counts c cs 0 1 (lone_closings cs + 1) (lone_initiators cs)
+      → First c cs
+  StaysOut : is_initiator c ≡ false → is_closing c ≡ false → Counts c cs 0 0 (lone_closings cs) (lone_initiators cs)
+      → First c cs
 
 pub first : (c : ℕ) (cs : List ℕ) → First c cs
 first c cs =
@@ -66,7 +73,8 @@ first c cs =
           initiators_are = λ ds. initiators-cons c ds ∙ ap (λ n. n + initiators ds) (cond-true _ 1 0 b);
           closings_are = λ ds. closings-cons c ds ∙ ap (λ n. n + closings ds) (cond-false _ 1 0 e);
           lone_closings_are = cond-true _ _ _ b;
-          lone_initiators_are = cond-true _ _ _ b ∙ cond-false _ _ _ (ne_eqb (lone_closings cs) 0 (λ none. absurd (omega arith)));
+          lone_initiators_are = cond-true _ _ _ b
+              ∙ cond-false _ _ _ (ne_eqb (lone_closings cs) 0 (λ none. absurd (omega arith)));
         })
         | inr none ↦ BeginsLone b e (omega arith) (record {
           initiators_are = λ ds. initiators-cons c ds ∙ ap (λ n. n + initiators ds) (cond-true _ 1 0 b);
@@ -110,7 +118,8 @@ closings-take-le (c ∷ cs) (suc n) =
     let rest = closings-take-le cs n in
     elim (first c cs) [
       | BeginsLone b e none counts ↦ omega (arith, counts.initiators_are (take n cs), counts.closings_are (take n cs))
-      | BeginsMatched b e some counts ↦ omega (arith, counts.initiators_are (take n cs), counts.closings_are (take n cs))
+      | BeginsMatched b e some counts ↦
+          omega (arith, counts.initiators_are (take n cs), counts.closings_are (take n cs))
       | EndsOne b e counts ↦ omega (arith, counts.initiators_are (take n cs), counts.closings_are (take n cs))
       | StaysOut b e counts ↦ omega (arith, counts.initiators_are (take n cs), counts.closings_are (take n cs))
     ]
@@ -124,16 +133,19 @@ lone_closings-le (c ∷ cs) d led =
       | BeginsLone b e none counts ↦ omega arith
       | BeginsMatched b e some counts ↦
           let rest : lone_closings cs ≤ d + 1 = lone_closings-le cs (d + 1) (λ n h.
-          omega (arith, led (suc n) (omega arith), counts.initiators_are (take n cs), counts.closings_are (take n cs))) in
+          omega (arith, led (suc n) (omega arith), counts.initiators_are (take n cs), counts.closings_are
+              (take n cs))) in
           omega arith
       | EndsOne b e counts ↦
           let some : 1 ≤ d = omega (arith, led 1 (omega arith), counts.initiators_are [], counts.closings_are []) in
           let rest : lone_closings cs ≤ d - 1 = lone_closings-le cs (d - 1) (λ n h.
-          omega (arith, led (suc n) (omega arith), counts.initiators_are (take n cs), counts.closings_are (take n cs))) in
+          omega (arith, led (suc n) (omega arith), counts.initiators_are (take n cs), counts.closings_are
+              (take n cs))) in
           omega arith
       | StaysOut b e counts ↦
           let rest : lone_closings cs ≤ d = lone_closings-le cs d (λ n h.
-          omega (arith, led (suc n) (omega arith), counts.initiators_are (take n cs), counts.closings_are (take n cs))) in
+          omega (arith, led (suc n) (omega arith), counts.initiators_are (take n cs), counts.closings_are
+              (take n cs))) in
           omega arith
     ]
 
@@ -157,7 +169,8 @@ closes_later c cs d d' index begun ended lone_ends lone_begins counts same at = 
   where
     led_later : (n : ℕ) → n ≤ suc index → closings (take n (c ∷ cs)) ≤ initiators (take n (c ∷ cs)) + d
     led_later zero h = omega arith
-    led_later (suc n) h = omega (arith, at.led n (omega arith), counts.closings_are (take n cs), counts.initiators_are (take n cs))
+    led_later (suc n) h =
+        omega (arith, at.led n (omega arith), counts.closings_are (take n cs), counts.initiators_are (take n cs))
 
 -- where more PDIs than that are lone there is such a index
 pub closes_at : (cs : List ℕ) (d : ℕ) → d < lone_closings cs → (index : ℕ) × ClosesAt cs d index
@@ -166,12 +179,16 @@ closes_at (c ∷ cs) d more =
     elim (first c cs) [
       | BeginsLone b e none counts ↦ absurd (omega arith)
       | BeginsMatched b e some counts ↦
-          let there = closes_at cs (d + 1) (omega arith) in (suc there.0, closes_later c cs d (d + 1) there.0 _ _ _ _ counts (omega arith) there.1)
+          let there = closes_at cs (d + 1) (omega arith) in
+              (suc there.0, closes_later c cs d (d + 1) there.0 _ _ _ _ counts (omega arith) there.1)
       | EndsOne b e counts ↦ elim (cases_lt 0 d) [
-        | inl some ↦ let there = closes_at cs (d - 1) (omega arith) in (suc there.0, closes_later c cs d (d - 1) there.0 _ _ _ _ counts (omega arith) there.1)
-        | inr none ↦ (0, record { within = omega arith; closing = e; balanced = omega arith; led = λ n h. rw (zero_from_le n h) (omega arith) })
+        | inl some ↦ let there = closes_at cs (d - 1) (omega arith) in
+            (suc there.0, closes_later c cs d (d - 1) there.0 _ _ _ _ counts (omega arith) there.1)
+        | inr none ↦ (0, record { within = omega arith; closing = e; balanced = omega arith;
+            led = λ n h. rw (zero_from_le n h) (omega arith) })
       ]
-      | StaysOut b e counts ↦ let there = closes_at cs d (omega arith) in (suc there.0, closes_later c cs d d there.0 _ _ _ _ counts (omega arith) there.1)
+      | StaysOut b e counts ↦ let there = closes_at cs d (omega arith) in
+          (suc there.0, closes_later c cs d d there.0 _ _ _ _ counts (omega arith) there.1)
     ]
   where
     zero_from_le : (n : ℕ) → n ≤ 0 → n ≡ 0
@@ -197,7 +214,8 @@ pub record OpensAt (cs : List ℕ) (index : ℕ) : Type 0 where
   pub within : index < length cs
   pub opening : is_initiator (slice_index cs index) ≡ true
   pub even : initiators (drop (suc index) cs) ≡ closings (drop (suc index) cs)
-  pub led : (n : ℕ) → n ≤ length (drop (suc index) cs) → closings (take n (drop (suc index) cs)) ≤ initiators (take n (drop (suc index) cs))
+  pub led : (n : ℕ) → n ≤ length (drop (suc index) cs) → closings (take n (drop (suc index) cs)) ≤ initiators
+      (take n (drop (suc index) cs))
 
 -- where an initiator is lone there is such a index
 pub opens_at : (cs : List ℕ) → 0 < lone_initiators cs → (index : ℕ) × OpensAt cs index
@@ -205,7 +223,8 @@ opens_at [] some = absurd (omega arith)
 opens_at (c ∷ cs) some =
     elim (cases_lt 0 (lone_initiators cs)) [
       | inl later ↦ let there = opens_at cs later in
-          (suc there.0, record { within = omega (arith, there.1.within); opening = there.1.opening; even = there.1.even; led = there.1.led })
+          (suc there.0, record { within = omega (arith, there.1.within); opening = there.1.opening;
+              even = there.1.even; led = there.1.led })
       | inr none ↦ elim (first c cs) [
         | BeginsLone b e matched counts ↦ (
           0,
@@ -235,7 +254,8 @@ lone_initiators-gt (c ∷ cs) zero at =
     ]
 lone_initiators-gt (c ∷ cs) (suc index) at =
     let rest : 0 < lone_initiators cs =
-    lone_initiators-gt cs index (record { within = omega (arith, at.within); opening = at.opening; even = at.even; led = at.led }) in
+    lone_initiators-gt cs index (record { within = omega (arith, at.within); opening = at.opening; even = at.even;
+        led = at.led }) in
     elim (first c cs) [
       | BeginsLone b e matched counts ↦ omega arith
       | BeginsMatched b e matched counts ↦ omega arith

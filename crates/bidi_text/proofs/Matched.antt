@@ -27,12 +27,15 @@ closed_in_pair text index opening some =
       ordered = omega arith;
       opening = opening;
       closing = subst (λ c. is_closing c ≡ true) (get_or-drop (suc index) text n 0) closes.closing;
-      even = subst (λ cs. is_even cs ≡ true) (sym inside) (eq-eqb (initiators (take n rest)) (closings (take n rest)) (omega (arith, closes.balanced)));
+      even = subst (λ cs. is_even cs ≡ true) (sym inside)
+          (eq-eqb (initiators (take n rest)) (closings (take n rest)) (omega (arith, closes.balanced)));
       led = subst (λ cs. is_led cs ≡ true) (sym inside) (led_from (take n rest) (λ k h.
           let short : k ≤ n = omega arith in
-          subst (λ cs. closings cs ≤ initiators cs) (sym (take-take k n rest short)) (omega (arith, closes.led k short))));
+          subst (λ cs. closings cs ≤ initiators cs) (sym (take-take k n rest short))
+              (omega (arith, closes.led k short))));
     } in
-    list_any-range (λ other. is_pair text index other || is_pair text other index) 0 (length text) second (omega arith) (omega arith)
+    list_any-range (λ other. is_pair text index other || is_pair text other index) 0 (length text) second
+        (omega arith) (omega arith)
     (or_left _ _ (is_pair-from text index second pair))
 
 -- and one in a pair has such a PDI
@@ -43,10 +46,12 @@ in_pair_closed text index opening h =
     let second : ℕ = found.0 in
     elim (or_cases (is_pair text index second) (is_pair text second index) found.2) [
       | inl after ↦ closed_by second found.1 (is_pair-parts text index second after)
-      | inr before ↦ absurd (both_ways _ (closing_only (slice_index text index) (is_pair-parts text second index before).closing) opening)
+      | inr before ↦ absurd
+          (both_ways _ (closing_only (slice_index text index) (is_pair-parts text second index before).closing) opening)
     ]
   where
-    closed_by : (second : ℕ) → second < 0 + length text → IsPair text index second → 0 < lone_closings (drop (suc index) text)
+    closed_by : (second : ℕ) → second < 0 + length text → IsPair text index second
+        → 0 < lone_closings (drop (suc index) text)
     closed_by second within pair =
         let rest : List ℕ = drop (suc index) text in
         let n : ℕ = second - suc index in
@@ -58,11 +63,14 @@ in_pair_closed text index opening h =
         let inside_length : length (take n rest) ≡ n = length-take-le n rest (omega arith) in
         lone_closings-gt rest 0 n (record {
           within = long;
-          closing = subst (λ c. is_closing c ≡ true) (ap (λ k. slice_index text k) at ∙ sym (get_or-drop (suc index) text n 0)) pair.closing;
+          closing = subst (λ c. is_closing c ≡ true) (ap (λ k. slice_index text k) at
+              ∙ sym (get_or-drop (suc index) text n 0)) pair.closing;
           balanced = omega (arith, eqb-true (initiators (take n rest)) (closings (take n rest)) even);
           led = λ k h.
-              let prefix : closings (take k (take n rest)) ≤ initiators (take k (take n rest)) = from_led (take n rest) k led (omega arith) in
-              let same : closings (take k rest) ≤ initiators (take k rest) = subst (λ cs. closings cs ≤ initiators cs) (take-take k n rest h) prefix in
+              let prefix : closings (take k (take n rest)) ≤ initiators (take k (take n rest)) =
+                  from_led (take n rest) k led (omega arith) in
+              let same : closings (take k rest) ≤ initiators (take k rest) = subst (λ cs. closings cs ≤ initiators cs)
+                  (take-take k n rest h) prefix in
               omega arith;
         })
 
@@ -81,10 +89,12 @@ opened_in_pair text index within closing some =
       ordered = before;
       opening = subst (λ c. is_initiator c ≡ true) (get_or-take index text first 0 before) opens.opening;
       closing = closing;
-      even = subst (λ cs. is_even cs ≡ true) (sym inside) (eq-eqb (initiators (drop (suc first) prefix)) (closings (drop (suc first) prefix)) opens.even);
+      even = subst (λ cs. is_even cs ≡ true) (sym inside)
+          (eq-eqb (initiators (drop (suc first) prefix)) (closings (drop (suc first) prefix)) opens.even);
       led = subst (λ cs. is_led cs ≡ true) (sym inside) (led_from (drop (suc first) prefix) opens.led);
     } in
-    list_any-range (λ other. is_pair text index other || is_pair text other index) 0 (length text) first (omega arith) (omega arith)
+    list_any-range (λ other. is_pair text index other || is_pair text other index) 0 (length text) first (omega arith)
+        (omega arith)
     (or_right _ _ (is_pair-from text first index pair))
 
 -- and one in a pair has such an initiator
@@ -94,7 +104,8 @@ in_pair_opened text index within closing h =
     let found = range-list_any (λ other. is_pair text index other || is_pair text other index) 0 (length text) h in
     let first : ℕ = found.0 in
     elim (or_cases (is_pair text index first) (is_pair text first index) found.2) [
-      | inl after ↦ absurd (both_ways _ (closing_only (slice_index text index) closing) (is_pair-parts text index first after).opening)
+      | inl after ↦ absurd (both_ways _ (closing_only (slice_index text index) closing)
+          (is_pair-parts text index first after).opening)
       | inr before ↦ opened_by first (is_pair-parts text first index before)
     ]
   where
@@ -102,7 +113,8 @@ in_pair_opened text index within closing h =
     opened_by first pair =
         let prefix : List ℕ = take index text in
         let prefix_length : length prefix ≡ index = length-take-le index text (omega arith) in
-        let inside : slice_range text (first + 1) index ≡ drop (suc first) prefix = between_until text first index pair.ordered in
+        let inside : slice_range text (first + 1) index ≡ drop (suc first) prefix =
+            between_until text first index pair.ordered in
         let even : is_even (drop (suc first) prefix) ≡ true = subst (λ cs. is_even cs ≡ true) inside pair.even in
         let led : is_led (drop (suc first) prefix) ≡ true = subst (λ cs. is_led cs ≡ true) inside pair.led in
         lone_initiators-gt prefix first (record {

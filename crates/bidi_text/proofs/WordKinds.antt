@@ -22,7 +22,8 @@ strong_cases _ = inr (inr (refl, refl))
 -- one more character before a word
 left_to_right_step : (k : Class) (later : Option Class) (rest : Bool)
     → (option_map_or is_right_to_left later false ≡ false → rest ≡ is_some later)
-    → option_map_or is_right_to_left (cond (is_strong k) (Some k) later) false ≡ false → (is_left_to_right k || rest) ≡ is_some (cond (is_strong k) (Some k) later)
+    → option_map_or is_right_to_left (cond (is_strong k) (Some k) later) false ≡ false → (is_left_to_right k || rest)
+        ≡ is_some (cond (is_strong k) (Some k) later)
 left_to_right_step k later rest same h =
     elim (strong_cases k) [
       | inl rtl ↦ grind (arith, rtl.0, rtl.1, h)
@@ -38,7 +39,8 @@ pub left_to_right-is_some : (word : List ℕ)
     → option_map_or is_right_to_left (find is_strong (map bidi_class word)) false ≡ false
     → list_any (λ c. is_left_to_right (bidi_class c)) word ≡ is_some (find is_strong (map bidi_class word))
 left_to_right-is_some [] h = refl
-left_to_right-is_some (c ∷ cs) h = left_to_right_step (bidi_class c) (find is_strong (map bidi_class cs)) _ (left_to_right-is_some cs) h
+left_to_right-is_some (c ∷ cs) h = left_to_right_step (bidi_class c) (find is_strong (map bidi_class cs)) _
+    (left_to_right-is_some cs) h
 
 -- the rules of the kinds, each where the rules before it fail
 pub kind-right_to_left : (word : List ℕ) → option_map_or is_right_to_left (first_strong word) false ≡ true
@@ -55,18 +57,21 @@ pub kind-left_to_right : (word : List ℕ) → option_map_or is_right_to_left (f
     → is_address word ≡ false → is_some (first_strong word) ≡ true
     → word_kind word ≡ LeftToRight
 unfolding word_kind first_strong
-kind-left_to_right word rtl address strong = let ltr = left_to_right-is_some word rtl in grind (arith, rtl, address, strong, ltr)
+kind-left_to_right word rtl address strong = let ltr = left_to_right-is_some word rtl in
+    grind (arith, rtl, address, strong, ltr)
 
 pub kind-digit : (word : List ℕ) → option_map_or is_right_to_left (first_strong word) false ≡ false
     → is_address word ≡ false → is_some (first_strong word) ≡ false
     → list_any is_ascii_digit word ≡ true → word_kind word ≡ Weak
 unfolding word_kind first_strong
-kind-digit word rtl address strong digit = let ltr = left_to_right-is_some word rtl in grind (arith, rtl, address, strong, ltr, digit)
+kind-digit word rtl address strong digit = let ltr = left_to_right-is_some word rtl in
+    grind (arith, rtl, address, strong, ltr, digit)
 
 pub kind-neutral : (word : List ℕ) → option_map_or is_right_to_left (first_strong word) false ≡ false
     → is_address word ≡ false → is_some (first_strong word) ≡ false
     → list_any is_ascii_digit word ≡ false → word_kind word ≡ Neutral
 unfolding word_kind first_strong
-kind-neutral word rtl address strong digit = let ltr = left_to_right-is_some word rtl in grind (arith, rtl, address, strong, ltr, digit)
+kind-neutral word rtl address strong digit = let ltr = left_to_right-is_some word rtl in
+    grind (arith, rtl, address, strong, ltr, digit)
 
 pub ruleset kinds = (kind-right_to_left, kind-address, kind-left_to_right, kind-digit, kind-neutral)

@@ -40,7 +40,8 @@ first_character text rest c utf8 split =
 pub past_character_shorter : (rest run others after : List ℕ) (c : ℕ) → rest ≡ run ++ others
     → others ≡ encode_utf8 c ++ after → length after < length rest
 past_character_shorter rest run others after c split next =
-    omega (arith, ap length split, ap length next, length-append run others, length-append (encode_utf8 c) after, length-encode c, (len_utf8_bounds c).0)
+    omega (arith, ap length split, ap length next, length-append run others, length-append (encode_utf8 c) after,
+        length-encode c, (len_utf8_bounds c).0)
 
 -- at the start nothing is passed
 pub none_passed : (rows : List (ℕ × List ℕ)) (text : List ℕ) → IsUtf8 text → IsUtf8 [] → PassedSoFar rows text text
@@ -54,7 +55,8 @@ none_passed rows text utf8 empty = record {
 
 module _ (rows : List (ℕ × List ℕ)) (text rest : List ℕ) (so_far : PassedSoFar rows text rest) where
   -- a run without rows is passed too
-  pub run_passed : (run others : List ℕ) → IsUtf8 run → IsUtf8 others → rest ≡ run ++ others → list_all (has_no_row rows) (chars run) ≡ true → PassedSoFar rows text others
+  pub run_passed : (run others : List ℕ) → IsUtf8 run → IsUtf8 others → rest ≡ run ++ others
+      → list_all (has_no_row rows) (chars run) ≡ true → PassedSoFar rows text others
   run_passed run others utf8_run utf8_others split plain = record {
     prefix = so_far.prefix ++ run;
     split = so_far.split ∙ ap (λ l. so_far.prefix ++ l) split ∙ sym (append_assoc so_far.prefix run others);
@@ -68,25 +70,30 @@ module _ (rows : List (ℕ × List ℕ)) (text rest : List ℕ) (so_far : Passed
   }
 
   -- so is one character without a row
-  pub character_passed : (c : ℕ) (after : List ℕ) → IsUtf8 after → rest ≡ encode_utf8 c ++ after → has_no_row rows c ≡ true → PassedSoFar rows text after
+  pub character_passed : (c : ℕ) (after : List ℕ) → IsUtf8 after → rest ≡ encode_utf8 c ++ after
+      → has_no_row rows c ≡ true → PassedSoFar rows text after
   character_passed c after utf8 split plain =
       let first = first_character rest after c so_far.utf8_rest split in
-      run_passed (encode_utf8 c) after first.0 utf8 split (ap (list_all (has_no_row rows)) first.1 ∙ and_from _ _ plain refl)
+      run_passed (encode_utf8 c) after first.0 utf8 split (ap (list_all (has_no_row rows)) first.1
+          ∙ and_from _ _ plain refl)
 
   -- where nothing of the rest stands for itself, the text is cut there
   pub cut_at : IsCharBoundary text (length text - length rest)
   cut_at =
-      let at : length text - length rest ≡ length so_far.prefix = omega (arith, ap length so_far.split, length-append so_far.prefix rest) in
+      let at : length text - length rest ≡ length so_far.prefix =
+          omega (arith, ap length so_far.split, length-append so_far.prefix rest) in
       rw at (IsCharBoundary-at_seam text so_far.prefix rest so_far.split so_far.utf8_rest)
 
   pub prefix_cut : take (length text - length rest) text ≡ so_far.prefix
   prefix_cut =
-      let at : length text - length rest ≡ length so_far.prefix = omega (arith, ap length so_far.split, length-append so_far.prefix rest) in
+      let at : length text - length rest ≡ length so_far.prefix =
+          omega (arith, ap length so_far.split, length-append so_far.prefix rest) in
       rw (at, so_far.split) (take-append_seam so_far.prefix rest)
 
   pub rest_cut : drop (length text - length rest) text ≡ rest
   rest_cut =
-      let at : length text - length rest ≡ length so_far.prefix = omega (arith, ap length so_far.split, length-append so_far.prefix rest) in
+      let at : length text - length rest ≡ length so_far.prefix =
+          omega (arith, ap length so_far.split, length-append so_far.prefix rest) in
       rw (at, so_far.split) (drop-append_seam so_far.prefix rest)
 
   pub whole_prefix : plain_prefix rows (chars rest) ≡ [] → chars so_far.prefix ≡ plain_prefix rows (chars text)

@@ -22,12 +22,14 @@ Unflagged flags bytes = All (λ byte. is_flagged flags byte ≡ false) bytes
 
 -- a character whose first byte isn't flagged has no row
 pub unflagged_none : (rows : List (ℕ × List ℕ)) (flags : List Bool) (c : ℕ) →
-    list_all (λ row. is_flagged flags (lead_byte row.0)) rows ≡ true → is_flagged flags (lead_byte c) ≡ false → row_text rows c ≡ None
+    list_all (λ row. is_flagged flags (lead_byte row.0)) rows ≡ true → is_flagged flags (lead_byte c) ≡ false
+        → row_text rows c ≡ None
 unflagged_none [] flags c all is = refl
 unflagged_none (row ∷ rows) flags c all is =
     let parts = and_parts _ _ all in
     ⊎_elim
-    (λ same. absurd (both_ways (is_flagged flags (lead_byte c)) is (ap (λ d. is_flagged flags (lead_byte d)) (sym (eqb-true row.0 c same)) ∙ parts.0)))
+    (λ same. absurd (both_ways (is_flagged flags (lead_byte c)) is
+        (ap (λ d. is_flagged flags (lead_byte d)) (sym (eqb-true row.0 c same)) ∙ parts.0)))
     (λ other. cond-false (eqb row.0 c) (Some row.1) (row_text rows c) other ∙ unflagged_none rows flags c parts.1 is)
     (cases_Bool (eqb row.0 c))
 
@@ -43,9 +45,11 @@ module _ (rows : List (ℕ × List ℕ)) (flags : List Bool) (leads : LeadBytes 
       let bytes : List ℕ = encode_utf8 c in
       let others : List ℕ = encode_utf8_all cs in
       let here : is_flagged flags (lead_byte c) ≡ false =
-      ap (is_flagged flags) (sym (get_or_append_left bytes others 0 0 (begins c))) ∙ unflagged 0 0 (omega (arith, begins c, length-append bytes others)) in
+      ap (is_flagged flags) (sym (get_or_append_left bytes others 0 0 (begins c)))
+          ∙ unflagged 0 0 (omega (arith, begins c, length-append bytes others)) in
       let rest : Unflagged flags others =
-      rw (← drop-append_seam bytes others) (All-drop (λ byte. is_flagged flags byte ≡ false) (length bytes) (bytes ++ others) unflagged) in
+      rw (← drop-append_seam bytes others) (All-drop (λ byte. is_flagged flags byte ≡ false) (length bytes)
+          (bytes ++ others) unflagged) in
       and_from _ _ (ap is_none (unflagged_none rows flags c (and_parts _ _ leads).0 here)) (plain_characters cs rest)
 
   pub plain_text : (text : List ℕ) → IsUtf8 text → Unflagged flags text → list_all (has_no_row rows) (chars text) ≡ true
@@ -58,7 +62,8 @@ plain_escaped rows [] none = refl
 plain_escaped rows (c ∷ cs) none =
     let parts = and_parts _ _ none in
     itself (row_text rows c) parts.0 ∙ ap (λ l. c ∷ l) (plain_escaped rows cs parts.1) where
-      itself : (row : Option (List ℕ)) → is_none row ≡ true → unwrap_or row (c ∷ []) ++ escaped_text rows cs ≡ c ∷ escaped_text rows cs
+      itself : (row : Option (List ℕ)) → is_none row ≡ true → unwrap_or row (c ∷ []) ++ escaped_text rows cs
+          ≡ c ∷ escaped_text rows cs
       itself None is = refl
       itself (Some to) is = cc
 
@@ -76,7 +81,8 @@ flag_begins rows flags leads byte is high =
     (λ (low : byte < 192).
     let at : 128 + (byte - 128) ≡ byte = omega (arith, high) in
     let here : slice_index_or (slice_range flags 0x80 0xC0) (byte - 128) false ≡ true =
-    get_or-take 64 (drop 128 flags) (byte - 128) false (omega (arith, low, high)) ∙ get_or-drop 128 flags (byte - 128) false ∙ ap (λ i. slice_index_or flags i false) at ∙ is in
+    get_or-take 64 (drop 128 flags) (byte - 128) false (omega (arith, low, high)) ∙ get_or-drop 128 flags (byte - 128)
+        false ∙ ap (λ i. slice_index_or flags i false) at ∙ is in
     absurd (none_true (slice_range flags 0x80 0xC0) (byte - 128) (and_parts _ _ leads).1 here))
     (λ above. above)
     (cases_lt byte 192)
@@ -85,4 +91,5 @@ flag_begins rows flags leads byte is high =
 pub flag_cuts : (rows : List (ℕ × List ℕ)) (flags : List Bool) → LeadBytes rows flags → (text : List ℕ) (at : ℕ)
     → at < length text
     → is_flagged flags (slice_index_or text at 0) ≡ true → IsCharBoundary text at
-flag_cuts rows flags leads text at within is = (omega (arith, within), λ _ high. flag_begins rows flags leads (slice_index_or text at 0) is high)
+flag_cuts rows flags leads text at within is =
+    (omega (arith, within), λ _ high. flag_begins rows flags leads (slice_index_or text at 0) is high)

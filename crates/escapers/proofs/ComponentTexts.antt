@@ -45,7 +45,9 @@ bytes_written : (bs rest : List ℕ) → AllByRecursion IsByte bs → IsComponen
 bytes_written [] rest are more = more
 bytes_written (b ∷ bs) rest are more =
     let small : b < 256 = are.0 in
-    encoded (upper_digit (b / 16)) (upper_digit (b % 16)) (flat_map encoded_byte bs ++ rest) (digit_is_upper (b / 16) (omega arith)) (digit_is_upper (b % 16) (omega arith)) (bytes_written bs rest are.1 more)
+    encoded (upper_digit (b / 16)) (upper_digit (b % 16)) (flat_map encoded_byte bs ++ rest)
+        (digit_is_upper (b / 16) (omega arith)) (digit_is_upper (b % 16) (omega arith))
+        (bytes_written bs rest are.1 more)
 
 pub component_written : (text : List ℕ) → all_scalars text ≡ true → IsComponentText (uri_component text)
 component_written [] are = empty
@@ -53,8 +55,12 @@ component_written (c ∷ text) are =
     let both = and_parts _ _ are in
     let more = component_written text both.1 in
     ⊎_elim
-    (λ passes. subst (λ l. IsComponentText (l ++ uri_component text)) (sym (cond-true (is_unreserved c) (c ∷ []) (percent_encoded c) passes)) (unreserved c (uri_component text) passes more))
-    (λ fails. subst (λ l. IsComponentText (l ++ uri_component text)) (sym (cond-false (is_unreserved c) (c ∷ []) (percent_encoded c) fails)) (bytes_written (encode_utf8 c) (uri_component text) (scalar_bytes c both.0) more))
+    (λ passes. subst (λ l. IsComponentText (l ++ uri_component text))
+        (sym (cond-true (is_unreserved c) (c ∷ []) (percent_encoded c) passes))
+        (unreserved c (uri_component text) passes more))
+    (λ fails. subst (λ l. IsComponentText (l ++ uri_component text))
+        (sym (cond-false (is_unreserved c) (c ∷ []) (percent_encoded c) fails))
+        (bytes_written (encode_utf8 c) (uri_component text) (scalar_bytes c both.0) more))
     (cases_Bool (is_unreserved c))
 
 -- ---- how it is read back
@@ -64,7 +70,8 @@ byte_decoded : (b : ℕ) (rest : List ℕ) → b < 256 → decoded_bytes (encode
 byte_decoded b rest small =
     let high = digit_number-upper_digit (b / 16) (omega arith) in
     let low = digit_number-upper_digit (b % 16) (omega arith) in
-    let value : 16 * digit_number (upper_digit (b / 16)) + digit_number (upper_digit (b % 16)) ≡ b = rw (high, low) (omega arith) in
+    let value : 16 * digit_number (upper_digit (b / 16)) + digit_number (upper_digit (b % 16)) ≡ b =
+        rw (high, low) (omega arith) in
     ap (λ d. d ∷ decoded_bytes rest) value
 
 bytes_decoded : (bs rest : List ℕ) → AllByRecursion IsByte bs
@@ -78,7 +85,8 @@ other_decoded : (c : ℕ) (rest : List ℕ) → eqb c percent_sign ≡ false →
 other_decoded c [] other = refl
 other_decoded c (d ∷ []) other = refl
 other_decoded c (d ∷ e ∷ rest) other =
-    cond-false (eqb c percent_sign) ((16 * digit_number d + digit_number e) ∷ decoded_bytes rest) (c ∷ decoded_bytes (d ∷ e ∷ rest)) other
+    cond-false (eqb c percent_sign) ((16 * digit_number d + digit_number e) ∷ decoded_bytes rest)
+        (c ∷ decoded_bytes (d ∷ e ∷ rest)) other
 
 -- an unreserved character is of ASCII, and no `%`
 unreserved_is : (c : ℕ) → is_unreserved c ≡ true → (c < 128) × (eqb c percent_sign ≡ false)

@@ -29,21 +29,25 @@ lacks-append these (c ∷ prefix) rest in_prefix in_rest =
     let parts = and_parts _ _ in_prefix in
     and_from _ _ parts.0 (lacks-append these prefix rest parts.1 in_rest)
 
-module _ (these : List ℕ) (rows : List (ℕ × List ℕ)) (have_rows : list_all (λ d. is_some (row_text rows d)) these ≡ true) where
+module _ (these : List ℕ) (rows : List (ℕ × List ℕ)) (have_rows : list_all (λ d. is_some (row_text rows d)) these
+    ≡ true) where
   -- a character without a row is none of these
   plain : (c : ℕ) → row_text rows c ≡ None → is_one_of these c ≡ false
   plain c none =
-      false_from_ne_true (is_one_of these c) (λ one. both_ways (is_some (row_text rows c)) (ap is_some none) (of_one (λ d. is_some (row_text rows d)) these c have_rows one))
+      false_from_ne_true (is_one_of these c) (λ one. both_ways (is_some (row_text rows c)) (ap is_some none)
+          (of_one (λ d. is_some (row_text rows d)) these c have_rows one))
 
   -- a row's text that lacks these may be put before a text
-  each_row : (some : List (ℕ × List ℕ)) → list_all (λ row. lacks these row.1) some ≡ true → AllByRecursion (λ row. Keeps (λ text. lacks these text ≡ true) row.1) some
+  each_row : (some : List (ℕ × List ℕ)) → list_all (λ row. lacks these row.1) some ≡ true
+      → AllByRecursion (λ row. Keeps (λ text. lacks these text ≡ true) row.1) some
   each_row [] lacking = tt
   each_row (row ∷ some) lacking =
       let parts = and_parts _ _ lacking in
       (λ rest in_rest. lacks-append these row.1 rest parts.0 in_rest, each_row some parts.1)
 
   -- so no escaped text has them
-  pub escaped_lacks : list_all (λ row. lacks these row.1) rows ≡ true → (text : List ℕ) → lacks these (escaped_text rows text) ≡ true
+  pub escaped_lacks : list_all (λ row. lacks these row.1) rows ≡ true → (text : List ℕ)
+      → lacks these (escaped_text rows text) ≡ true
   escaped_lacks lacking =
       escaped_keeps (λ text. lacks these text ≡ true) rows (each_row rows lacking)
       (λ c none rest in_rest. ap (λ t. not t && lacks these rest) (plain c none) ∙ in_rest) refl

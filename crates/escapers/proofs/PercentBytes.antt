@@ -24,7 +24,8 @@ IsHighByte b = (128 ≤ b) × (b < 256)
 
 -- a scalar value is below the end of Unicode
 pub scalar_below : (c : ℕ) → IsScalar c → c < 1114112
-scalar_below c is = ⊎_elim (λ (h : c < 55296). omega arith) (λ (h : (57344 ≤ c) × (c < 1114112)). h.1) (scalar_cases c is)
+scalar_below c is = ⊎_elim (λ (h : c < 55296). omega arith) (λ (h : (57344 ≤ c) × (c < 1114112)). h.1)
+    (scalar_cases c is)
 
 -- each byte of a character above ASCII is above it
 pub high_bytes : (c : ℕ) → 128 ≤ c → c < 1114112 → AllByRecursion IsHighByte (encode_utf8 c)
@@ -88,7 +89,8 @@ module _ (set : AsciiSet) (test : ℕ → Bool) (outside : IsOutside set test) w
       (cases_lt c 128)
 
   -- a whole text
-  text_encoded : (cs : List ℕ) → all_scalars cs ≡ true → percent_encode set (encode_utf8_all cs) ≡ flat_map (stands_for test) cs
+  text_encoded : (cs : List ℕ) → all_scalars cs ≡ true → percent_encode set (encode_utf8_all cs)
+      ≡ flat_map (stands_for test) cs
   text_encoded [] are = percent_encode-nil set
   text_encoded (c ∷ cs) are =
       let both = and_parts _ _ are in
@@ -103,4 +105,5 @@ module _ (set : AsciiSet) (test : ℕ → Bool) (outside : IsOutside set test) w
       ap chars is ∙ chars-append old (percent_encode set text) utf8_old
       ∙ ap (λ l. chars old ++ l)
       (chars-IsAscii (percent_encode set text) (IsAscii-percent_encode set text)
-      ∙ ap (percent_encode set) (sym (encodes-chars text utf8_text)) ∙ text_encoded (chars text) (scalars-chars text utf8_text))
+      ∙ ap (percent_encode set) (sym (encodes-chars text utf8_text))
+          ∙ text_encoded (chars text) (scalars-chars text utf8_text))

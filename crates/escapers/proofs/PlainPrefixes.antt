@@ -29,7 +29,8 @@ use Rattle.escapers.proofs.UriForms.{itself, normal_itself, unreserved_itself}
 same_prefix : (p q : ℕ → Bool) → ((c : ℕ) → p c ≡ q c) → (cs : List ℕ) → prefix_while p cs ≡ prefix_while q cs
 same_prefix p q same [] = refl
 same_prefix p q same (c ∷ cs) =
-    ap (λ b. if b then c ∷ prefix_while p cs else []) (same c) ∙ ap (λ l. if q c then c ∷ l else []) (same_prefix p q same cs)
+    ap (λ b. if b then c ∷ prefix_while p cs else []) (same c) ∙ ap (λ l. if q c then c ∷ l else [])
+        (same_prefix p q same cs)
 
 -- it is that of the library
 take_while-prefix : (test : ℕ → Bool) (cs : List ℕ) → take_while test cs ≡ prefix_while test cs
@@ -60,9 +61,11 @@ row_itself (row ∷ rows) c none =
     (λ same.
     let here : row_text (row ∷ rows) c ≡ Some row.1 = cond-true (eqb row.0 c) (Some row.1) (row_text rows c) same in
     ap is_none here
-    ∙ sym (ap (λ o. bytes_eq (unwrap_or o (c ∷ [])) (c ∷ [])) here ∙ subst (λ d. bytes_eq row.1 (d ∷ []) ≡ false) (eqb-true row.0 c same) (not-true _ parts.0)))
+    ∙ sym (ap (λ o. bytes_eq (unwrap_or o (c ∷ [])) (c ∷ [])) here ∙ subst (λ d. bytes_eq row.1 (d ∷ []) ≡ false)
+        (eqb-true row.0 c same) (not-true _ parts.0)))
     (λ other.
-    let later : row_text (row ∷ rows) c ≡ row_text rows c = cond-false (eqb row.0 c) (Some row.1) (row_text rows c) other in
+    let later : row_text (row ∷ rows) c ≡ row_text rows c = cond-false (eqb row.0 c) (Some row.1) (row_text rows c)
+        other in
     ap is_none later ∙ row_itself rows c parts.1 ∙ sym (ap (λ o. bytes_eq (unwrap_or o (c ∷ [])) (c ∷ [])) later))
     (cases_Bool (eqb row.0 c))
 
@@ -70,7 +73,9 @@ row_itself (row ∷ rows) c none =
 by_rows : (rows : List (ℕ × List ℕ)) → has_no_own rows ≡ true → (cs : List ℕ) →
     rowless_prefix rows cs ≡ prefix_while (λ c. bytes_eq (row_or_character rows c) (c ∷ [])) cs
 by_rows rows none cs =
-    take_while-prefix (has_no_row rows) cs ∙ same_prefix (has_no_row rows) (λ c. bytes_eq (row_or_character rows c) (c ∷ [])) (λ c. row_itself rows c none) cs
+    take_while-prefix (has_no_row rows) cs
+        ∙ same_prefix (has_no_row rows) (λ c. bytes_eq (row_or_character rows c) (c ∷ []))
+        (λ c. row_itself rows c none) cs
 
 pub html_prefix : (cs : List ℕ) → rowless_prefix html_rows cs ≡ plain_prefix escaper.Html cs
 html_prefix = by_rows html_rows refl
@@ -91,7 +96,8 @@ normal_prefix = same_prefix is_normal (stands_for_itself escaper.UriNormal) norm
 
 all_themselves : (cs : List ℕ) → list_all (stands_for_itself escaper.Plain) cs ≡ true
 all_themselves [] = refl
-all_themselves (c ∷ cs) = ap (λ b. b && list_all (stands_for_itself escaper.Plain) cs) (itself (c ∷ [])) ∙ all_themselves cs
+all_themselves (c ∷ cs) = ap (λ b. b && list_all (stands_for_itself escaper.Plain) cs) (itself (c ∷ []))
+    ∙ all_themselves cs
 
 pub whole_plain : (cs : List ℕ) → cs ≡ plain_prefix escaper.Plain cs
 whole_plain cs = whole_prefix (stands_for_itself escaper.Plain) cs (all_themselves cs)
@@ -100,7 +106,8 @@ whole_plain cs = whole_prefix (stands_for_itself escaper.Plain) cs (all_themselv
 
 by_row : (rows : List (ℕ × List ℕ)) (c : ℕ) → has_no_alphanumeric_row rows ≡ true → is_ascii_alphanumeric c ≡ true
     → bytes_eq (row_or_character rows c) (c ∷ []) ≡ true
-by_row rows c none is = ap (λ o. bytes_eq (unwrap_or o (c ∷ [])) (c ∷ [])) (alphanumeric_row rows c none is) ∙ itself (c ∷ [])
+by_row rows c none is = ap (λ o. bytes_eq (unwrap_or o (c ∷ [])) (c ∷ [])) (alphanumeric_row rows c none is)
+    ∙ itself (c ∷ [])
 
 alphanumeric_itself : (how : Escaper) (c : ℕ) → is_by_characters how ≡ true → is_ascii_alphanumeric c ≡ true
     → stands_for_itself how c ≡ true
@@ -121,7 +128,8 @@ alphanumeric_all_themselves : (how : Escaper) → is_by_characters how ≡ true 
 alphanumeric_all_themselves how by [] are = refl
 alphanumeric_all_themselves how by (c ∷ cs) are =
     let parts = and_parts _ _ are in
-    ap (λ b. b && list_all (stands_for_itself how) cs) (alphanumeric_itself how c by parts.0) ∙ alphanumeric_all_themselves how by cs parts.1
+    ap (λ b. b && list_all (stands_for_itself how) cs) (alphanumeric_itself how c by parts.0)
+        ∙ alphanumeric_all_themselves how by cs parts.1
 
 pub alphanumeric_prefix : (how : Escaper) → is_by_characters how ≡ true → (cs : List ℕ)
     → list_all is_ascii_alphanumeric cs ≡ true → cs ≡ plain_prefix how cs

@@ -21,24 +21,30 @@ short_row (row ∷ rows) c short =
     ⊎_elim
     (λ same.
     let few : byte_len row.1 ≤ 16 = grind (arith, nat_tests, parts.0) in
-    subst (λ o. IfSome o (λ to. byte_len to ≤ 16)) (sym (cond-true (eqb row.0 c) (Some row.1) (row_text rows c) same)) few)
-    (λ other. subst (λ o. IfSome o (λ to. byte_len to ≤ 16)) (sym (cond-false (eqb row.0 c) (Some row.1) (row_text rows c) other)) (short_row rows c parts.1))
+    subst (λ o. IfSome o (λ to. byte_len to ≤ 16)) (sym (cond-true (eqb row.0 c) (Some row.1) (row_text rows c) same))
+        few)
+    (λ other. subst (λ o. IfSome o (λ to. byte_len to ≤ 16))
+        (sym (cond-false (eqb row.0 c) (Some row.1) (row_text rows c) other)) (short_row rows c parts.1))
     (cases_Bool (eqb row.0 c))
 
 -- the text that is found in a table has at most 16 bytes
 pub found_short : (rows : List (ℕ × List ℕ)) (c : ℕ) (found : Option (Bor (List ℕ))) → are_short rows ≡ true →
-    option_map (λ text. chars text.now) found ≡ row_text rows c → IfSome found (λ text. IsUtf8 text.now) → IfSome found (λ text. length text.now ≤ 16)
+    option_map (λ text. chars text.now) found ≡ row_text rows c → IfSome found (λ text. IsUtf8 text.now)
+        → IfSome found (λ text. length text.now ≤ 16)
 found_short rows c None short is utf8 = tt
 found_short rows c (Some text) short is utf8 =
-    let few : byte_len (chars text.now) ≤ 16 = subst (λ o. IfSome o (λ to. byte_len to ≤ 16)) (sym is) (short_row rows c short) in
+    let few : byte_len (chars text.now) ≤ 16 = subst (λ o. IfSome o (λ to. byte_len to ≤ 16)) (sym is)
+        (short_row rows c short) in
     omega (arith, few, byte_len-chars text.now utf8)
 
 -- and is the bytes of what stands for the character
 pub found_bytes : (rows : List (ℕ × List ℕ)) (c : ℕ) (found : Option (Bor (List ℕ))) →
     option_map (λ text. chars text.now) found ≡ row_text rows c → IfSome found (λ text. IsUtf8 text.now) →
     unwrap_or (option_map (λ text. text.now) found) (encode_utf8 c) ≡ encode_utf8_all (row_or_character rows c)
-found_bytes rows c None is utf8 = sym (ap (λ o. encode_utf8_all (unwrap_or o (c ∷ []))) (sym is) ∙ append-nil (encode_utf8 c))
-found_bytes rows c (Some text) is utf8 = sym (ap (λ o. encode_utf8_all (unwrap_or o (c ∷ []))) (sym is) ∙ encodes-chars text.now utf8)
+found_bytes rows c None is utf8 =
+    sym (ap (λ o. encode_utf8_all (unwrap_or o (c ∷ []))) (sym is) ∙ append-nil (encode_utf8 c))
+found_bytes rows c (Some text) is utf8 =
+    sym (ap (λ o. encode_utf8_all (unwrap_or o (c ∷ []))) (sym is) ∙ encodes-chars text.now utf8)
 
 -- and its length is the number of those bytes
 pub found_len : (rows : List (ℕ × List ℕ)) (c : ℕ) (text : List ℕ) → Some (chars text) ≡ row_text rows c → IsUtf8 text

@@ -32,7 +32,8 @@ past_bytes : (bs rest : List ℕ) → has_scheme (flat_map encoded_byte bs ++ re
 past_bytes [] rest = refl
 past_bytes (b ∷ bs) rest =
     let after = flat_map encoded_byte bs ++ rest in
-    past_inert (upper_digit (b / 16)) (upper_digit (b % 16) ∷ after) (digit_inert (b / 16)) ∙ past_inert (upper_digit (b % 16)) after (digit_inert (b % 16))
+    past_inert (upper_digit (b / 16)) (upper_digit (b % 16) ∷ after) (digit_inert (b / 16))
+        ∙ past_inert (upper_digit (b % 16)) after (digit_inert (b % 16))
     ∙ past_bytes bs rest
 
 -- and so is a character that is encoded
@@ -43,11 +44,13 @@ other_inert c not_ampersand not_normal = grind (arith, nat_tests)
 module _ (c : ℕ) (text : List ℕ) (same : has_scheme (uri_normal text) ≡ has_scheme text) where
   at_ampersand : eqb c ampersand ≡ true → has_scheme (normal_character c ++ uri_normal text) ≡ has_scheme (c ∷ text)
   at_ampersand is =
-      ap (λ l. has_scheme (l ++ uri_normal text)) (cond-true (eqb c ampersand) _ _ is) ∙ sym (ap (λ d. has_scheme (d ∷ text)) (eqb-true c ampersand is))
+      ap (λ l. has_scheme (l ++ uri_normal text)) (cond-true (eqb c ampersand) _ _ is)
+          ∙ sym (ap (λ d. has_scheme (d ∷ text)) (eqb-true c ampersand is))
 
   at_other : eqb c ampersand ≡ false → has_scheme (normal_character c ++ uri_normal text) ≡ has_scheme (c ∷ text)
   at_other other =
-      ap (λ l. has_scheme (l ++ uri_normal text)) (cond-false (eqb c ampersand) (codes "&amp;") (if is_normal c then c ∷ [] else percent_encoded c) other)
+      ap (λ l. has_scheme (l ++ uri_normal text))
+          (cond-false (eqb c ampersand) (codes "&amp;") (if is_normal c then c ∷ [] else percent_encoded c) other)
       ∙ ⊎_elim
       (λ normal.
       ap (λ l. has_scheme (l ++ uri_normal text)) (cond-true (is_normal c) (c ∷ []) (percent_encoded c) normal)
@@ -60,7 +63,8 @@ module _ (c : ℕ) (text : List ℕ) (same : has_scheme (uri_normal text) ≡ ha
 pub has_scheme-uri_normal : (text : List ℕ) → has_scheme (uri_normal text) ≡ has_scheme text
 has_scheme-uri_normal [] = refl
 has_scheme-uri_normal (c ∷ text) =
-    ⊎_elim (at_ampersand c text (has_scheme-uri_normal text)) (at_other c text (has_scheme-uri_normal text)) (cases_Bool (eqb c ampersand))
+    ⊎_elim (at_ampersand c text (has_scheme-uri_normal text)) (at_other c text (has_scheme-uri_normal text))
+        (cases_Bool (eqb c ampersand))
 
 -- ---- a text with an allowed scheme
 
@@ -78,7 +82,8 @@ begins_normal (d ∷ prefix) (c ∷ text) are begins =
     let scheme = and_parts _ _ are in
     let parts = and_parts _ _ begins in
     let facts = scheme_normal c d scheme.0 (eqb-true (to_ascii_lowercase c) d parts.0) in
-    let stays : normal_character c ≡ c ∷ [] = cond-false (eqb c ampersand) _ _ facts.0 ∙ cond-true (is_normal c) _ (percent_encoded c) facts.1 in
+    let stays : normal_character c ≡ c ∷ [] = cond-false (eqb c ampersand) _ _ facts.0
+        ∙ cond-true (is_normal c) _ (percent_encoded c) facts.1 in
     ap (λ l. begins_in_any_case (d ∷ prefix) (l ++ uri_normal text)) stays
     ∙ and_from _ _ parts.0 (begins_normal prefix text scheme.1 parts.1)
 
@@ -106,6 +111,8 @@ passed text may =
 pub start_text : (text : List ℕ) → IsUriStartText (uri_start text)
 start_text text =
     ⊎_elim
-    (λ may. subst IsUriStartText (sym (cond-true (may_start_uri text) (uri_normal text) invalid_uri may)) (passed text may))
-    (λ may_not. subst IsUriStartText (sym (cond-false (may_start_uri text) (uri_normal text) invalid_uri may_not)) (inl refl))
+    (λ may. subst IsUriStartText (sym (cond-true (may_start_uri text) (uri_normal text) invalid_uri may))
+        (passed text may))
+    (λ may_not. subst IsUriStartText (sym (cond-false (may_start_uri text) (uri_normal text) invalid_uri may_not))
+        (inl refl))
     (cases_Bool (may_start_uri text))

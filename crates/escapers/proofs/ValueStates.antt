@@ -62,7 +62,8 @@ pub css_value_is : (text : List ℕ) → is_css_value (css_value text) ≡ true
 css_value_is text =
     ⊎_elim
     (λ is. subst (λ l. is_css_value l ≡ true) (sym (cond-true (is_css_value text) text (codes "zSoyz") is)) is)
-    (λ is_not. subst (λ l. is_css_value l ≡ true) (sym (cond-false (is_css_value text) text (codes "zSoyz") is_not)) refl)
+    (λ is_not. subst (λ l. is_css_value l ≡ true) (sym (cond-false (is_css_value text) text (codes "zSoyz") is_not))
+        refl)
     (cases_Bool (is_css_value text))
 
 pub css_value_leads : (text : List ℕ) → state_after css_next css.Ready (css_value text) ≡ Some css.Code

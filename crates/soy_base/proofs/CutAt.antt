@@ -50,7 +50,8 @@ onto_first-parts d c cs (Some halves) = refl
 
 abbrev cut_by : ℕ → List ℕ → Bool → Option (List ℕ × List ℕ) → Option (List ℕ × List ℕ)
 cut_by c cs here later =
-    option_or (option_map (λ rest. ([], rest)) (cond here (Some cs) None)) (option_map (λ parts. (c ∷ parts.0, parts.1)) later)
+    option_or (option_map (λ rest. ([], rest)) (cond here (Some cs) None))
+        (option_map (λ parts. (c ∷ parts.0, parts.1)) later)
 
 parts_cons : (d c : ℕ) (cs : List ℕ) (t : Bool) → slice_split (λ c. c == d) cs ≡ parts_of_cut d cs (cut (d ∷ []) cs)
     → cond t ([] ∷ slice_split (λ c. c == d) cs) (onto_first c (slice_split (λ c. c == d) cs)) ≡ parts_of_cut d
@@ -59,7 +60,8 @@ parts_cons d c cs true h = refl
 parts_cons d c cs false h = ap (onto_first c) h ∙ onto_first-parts d c cs (cut (d ∷ []) cs)
 
 swap_eqb : (c d : ℕ) → (c == d) ≡ (d == c)
-swap_eqb c d = same_from_decides (c == d) (d == c) (Decides-eqb c d) ((λ e. sym ((Decides-eqb d c).0 e)), (λ e. (Decides-eqb d c).1 (sym e)))
+swap_eqb c d = same_from_decides (c == d) (d == c) (Decides-eqb c d)
+    ((λ e. sym ((Decides-eqb d c).0 e)), (λ e. (Decides-eqb d c).1 (sym e)))
 
 -- the parts of a text around each such character begin where it is cut first
 pub slice_split-cut : (d : ℕ) (text : List ℕ) → slice_split (λ c. c == d) text ≡ parts_of_cut d text (cut (d ∷ []) text)
@@ -77,7 +79,8 @@ lacks_none d (c ∷ cs) none = rw (none.0) (lacks_none d cs none.1)
 pub lacks_text : (d : ℕ) (bs : List ℕ) → IsUtf8 bs → NoCharPasses (λ c. eqb c d) bs → lacks (d ∷ []) (chars bs) ≡ true
 lacks_text d bs utf8 none = rw (← chars_from_encodes none.0 bs utf8 none.1) (lacks_none d none.0 none.2)
 
-module _ (d : ℕ) (ascii : d < 128) (bs prefix back : List ℕ) (i j : ℕ) (utf8 : IsUtf8 bs) (found : FindsChar d bs (Some (i, j))) (is_prefix : prefix ≡ take i bs) (is_back : back ≡ drop j bs) where
+module _ (d : ℕ) (ascii : d < 128) (bs prefix back : List ℕ) (i j : ℕ) (utf8 : IsUtf8 bs)
+    (found : FindsChar d bs (Some (i, j))) (is_prefix : prefix ≡ take i bs) (is_back : back ≡ drop j bs) where
   -- the rest begins with the character
   begins : drop i bs ≡ d ∷ drop j bs
   begins = drop_at_char d bs i j found.1 ascii
@@ -113,7 +116,8 @@ module _ (d : ℕ) (ascii : d < 128) (bs prefix back : List ℕ) (i j : ℕ) (ut
 abbrev pub Around : ℕ → List ℕ → Option (Bor (List ℕ) × Bor (List ℕ)) → Type 0
 Around d text r =
     MatchOption r (lacks (d ∷ []) (chars text) ≡ true)
-    (λ parts. (lacks (d ∷ []) (chars parts.0.now) ≡ true) × (chars text ≡ chars parts.0.now ++ d ∷ chars parts.1.now) × IsUtf8 parts.1.now)
+    (λ parts. (lacks (d ∷ []) (chars parts.0.now) ≡ true) × (chars text ≡ chars parts.0.now ++ d ∷ chars parts.1.now)
+        × IsUtf8 parts.1.now)
 
 -- what `split_once` gives is such a cut
 pub split_once-around : (d : ℕ) (text : List ℕ) (r : Option (Bor (List ℕ) × Bor (List ℕ))) → d < 128 → IsUtf8 text

@@ -30,7 +30,10 @@ no_more [] (suc n) e = refl
 no_more (x ∷ xs) zero e = cc
 no_more (x ∷ xs) (suc n) e = no_more xs n e
 
-members_step : (ls rs : List code.SoyType) (n : ℕ) (l r : code.SoyType) → n < length ls → l ≡ slice_index_or ls n l → slice_get rs n ≡ Some r → are_same_members (view_members (drop n ls)) (view_members (drop n rs)) ≡ (is_same_type (view_type l) (view_type r) && are_same_members (view_members (drop (n + 1) ls)) (view_members (drop (n + 1) rs)))
+members_step : (ls rs : List code.SoyType) (n : ℕ) (l r : code.SoyType) → n < length ls → l ≡ slice_index_or ls n l
+    → slice_get rs n ≡ Some r → are_same_members (view_members (drop n ls)) (view_members (drop n rs))
+    ≡ (is_same_type (view_type l) (view_type r) && are_same_members (view_members (drop (n + 1) ls))
+    (view_members (drop (n + 1) rs)))
 members_step ls rs n l r below is got =
     let h : (n < length rs) × (r ≡ slice_index_or rs n r) = at_get rs n r got in
     ap (λ (ts : Members). are_same_members ts (view_members (drop n rs))) (members_drop ls n l below is)
@@ -56,7 +59,8 @@ pub members_short : (ls rs : List code.SoyType) (n : ℕ) (l : code.SoyType) →
     → slice_get rs n ≡ None → are_same_members (view_members (drop n ls)) (view_members (drop n rs)) ≡ false
 members_short ls rs n l below is none =
     ap (λ (ts : Members). are_same_members ts (view_members (drop n rs))) (members_drop ls n l below is)
-    ∙ ap (λ (ts : List code.SoyType). are_same_members (member (view_type l) (view_members (drop (n + 1) ls))) (view_members ts)) (no_more rs n none)
+    ∙ ap (λ (ts : List code.SoyType). are_same_members (member (view_type l) (view_members (drop (n + 1) ls)))
+        (view_members ts)) (no_more rs n none)
 
 pub members_end : (ls rs : List code.SoyType) (n : ℕ) → length ls ≤ n → slice_get rs n ≡ None
     → are_same_members (view_members (drop n ls)) (view_members (drop n rs)) ≡ true
@@ -71,7 +75,11 @@ members_longer ls rs n r below got =
     ap (λ (ts : List code.SoyType). are_same_members (view_members ts) (view_members (drop n rs))) (past ls n below)
     ∙ ap (λ (ts : Members). are_same_members no_member ts) (members_drop rs n r h.0 h.1)
 
-fields_step : (ls rs : List code_field.Field) (n : ℕ) (l r : code_field.Field) → n < length ls → l ≡ slice_index_or ls n l → slice_get rs n ≡ Some r → are_same_fields (view_fields (drop n ls)) (view_fields (drop n rs)) ≡ (bytes_eq l.name r.name && is_same_type (view_type l.of) (view_type r.of) && are_same_fields (view_fields (drop (n + 1) ls)) (view_fields (drop (n + 1) rs)))
+fields_step : (ls rs : List code_field.Field) (n : ℕ) (l r : code_field.Field) → n < length ls
+    → l ≡ slice_index_or ls n l → slice_get rs n ≡ Some r
+    → are_same_fields (view_fields (drop n ls)) (view_fields (drop n rs))
+    ≡ (bytes_eq l.name r.name && is_same_type (view_type l.of) (view_type r.of)
+    && are_same_fields (view_fields (drop (n + 1) ls)) (view_fields (drop (n + 1) rs)))
 fields_step ls rs n l r below is got =
     let h : (n < length rs) × (r ≡ slice_index_or rs n r) = at_get rs n r got in
     ap (λ (ts : FieldTypes). are_same_fields ts (view_fields (drop n rs))) (fields-drop ls n l below is)
@@ -110,7 +118,8 @@ pub fields_short : (ls rs : List code_field.Field) (n : ℕ) (l : code_field.Fie
     → are_same_fields (view_fields (drop n ls)) (view_fields (drop n rs)) ≡ false
 fields_short ls rs n l below is none =
     ap (λ (ts : FieldTypes). are_same_fields ts (view_fields (drop n rs))) (fields-drop ls n l below is)
-    ∙ ap (λ (ts : List code_field.Field). are_same_fields (field l.name (view_type l.of) (view_fields (drop (n + 1) ls))) (view_fields ts)) (no_more rs n none)
+    ∙ ap (λ (ts : List code_field.Field). are_same_fields
+        (field l.name (view_type l.of) (view_fields (drop (n + 1) ls))) (view_fields ts)) (no_more rs n none)
 
 pub fields_end : (ls rs : List code_field.Field) (n : ℕ) → length ls ≤ n → slice_get rs n ≡ None
     → are_same_fields (view_fields (drop n ls)) (view_fields (drop n rs)) ≡ true

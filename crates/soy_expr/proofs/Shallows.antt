@@ -112,7 +112,8 @@ truth_seen (ListValue vs) = refl
 truth_seen (MapValue es) = refl
 truth_seen (RecordValue es) = refl
 
-pub shallow_binary : (o : BinaryOp) (v w : Value) → binary_value o (shallow_value v) (shallow_value w) ≡ binary_value o v w
+pub shallow_binary : (o : BinaryOp) (v w : Value) → binary_value o (shallow_value v) (shallow_value w)
+    ≡ binary_value o v w
 shallow_binary op.Mul v w = int_seen (λ m n. m *ℤ n) v w
 shallow_binary op.Rem v w = int_seen int_rem v w
 shallow_binary op.Add v w = sum_seen v w

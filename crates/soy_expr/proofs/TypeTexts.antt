@@ -49,7 +49,8 @@ first_field : (n : ℕ) (name : List ℕ) (t : SoyType) (fs : FieldTypes)
     → fields_left n (field name t fs) ≡ separator_before n (codes ", ") ++
     ((name ++ codes ": ") ++ (type_text t ++ fields_left (n + 1) fs))
 first_field zero name t fs = sym (append_assoc name (codes ": ") _)
-first_field (suc n) name t fs = let e : suc n + 1 ≡ suc (suc n) = omega arith in rw e (ap (λ (l : List ℕ). codes ", " ++ l) (sym (append_assoc name (codes ": ") _)))
+first_field (suc n) name t fs = let e : suc n + 1 ≡ suc (suc n) = omega arith in
+    rw e (ap (λ (l : List ℕ). codes ", " ++ l) (sym (append_assoc name (codes ": ") _)))
 
 pub fields_step : (fs : List code_field.Field) (n : ℕ) (f : code_field.Field) → n < length fs
     → f ≡ slice_index_or fs n f

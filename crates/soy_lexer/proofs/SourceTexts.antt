@@ -340,7 +340,8 @@ command_parts text =
 -- a slash with a name
 close_parts : (text : List ℕ) → StandsIf text (close_segment text)
 close_parts [] = tt
-close_parts (c ∷ cs) = if_ways (StandsIf (c ∷ cs)) (c == 47) _ _ (λ _. name_segment_parts kind.BeginClose (c ∷ []) cs) tt
+close_parts (c ∷ cs) = if_ways (StandsIf (c ∷ cs)) (c == 47) _ _ (λ _. name_segment_parts kind.BeginClose (c ∷ []) cs)
+    tt
 
 -- whatever follows the `{` of a command
 opened_parts : (text : List ℕ) → Stands text (opened_segment text)

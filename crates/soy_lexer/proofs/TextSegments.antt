@@ -49,7 +49,8 @@ module _ (prefix source_text : List ℕ) (same : chars source_text ≡ prefix) (
     without_prefix r none is = rw is (ap (option_map segment) (ap (λ l. after_prefix l text) (sym same) ∙ sym none))
 
     -- the prefix is the one of the definition
-    opened : (inner : List ℕ) → Some inner ≡ after_prefix (chars source_text) text → after_prefix prefix text ≡ Some inner
+    opened : (inner : List ℕ) → Some inner ≡ after_prefix (chars source_text) text
+        → after_prefix prefix text ≡ Some inner
     opened inner some = ap (λ l. after_prefix l text) (sym same) ∙ sym some
 
     -- the text is the prefix and what follows
@@ -84,7 +85,8 @@ module _ (delimiter source_text : List ℕ) (same : chars source_text ≡ delimi
       ∙ sym (append_assoc prefix (a ++ delimiter) rest))
 
   -- so what stands before the rest is that prefix
-  pub before_delimiter : (a rest segment : List ℕ) → Some (a, rest) ≡ cut (chars source_text) inner → text ≡ segment ++ rest
+  pub before_delimiter : (a rest segment : List ℕ) → Some (a, rest) ≡ cut (chars source_text) inner
+      → text ≡ segment ++ rest
       → segment ≡ prefix ++ (a ++ delimiter)
   before_delimiter a rest segment some is =
       append_cancel_right segment (prefix ++ (a ++ delimiter)) rest (sym is ∙ up_to_delimiter a rest some)
@@ -101,7 +103,8 @@ line_prefix text inner rest some is =
 -- and the segment is that comment
 pub line_steps : (text inner rest segment : List ℕ) (r : Result FirstSegment (Refusal ℕ))
     → Some inner ≡ after_prefix (chars (codes "//")) text → rest ≡ after_while continues_line inner →
-    text ≡ segment ++ rest → ReadsSegment (begins (Skipped segment) rest) r → ReadsSegmentIf (line_comment true text) (Some r)
+    text ≡ segment ++ rest → ReadsSegment (begins (Skipped segment) rest) r
+        → ReadsSegmentIf (line_comment true text) (Some r)
 line_steps text inner rest segment r some is whole h =
     let same : segment ≡ codes "//" ++ prefix_while continues_line inner =
     append_cancel_right segment (codes "//" ++ prefix_while continues_line inner) rest

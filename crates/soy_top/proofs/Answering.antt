@@ -43,7 +43,8 @@ named_not_usage false o line e = cc
 form_not_usage : (template : Word) (json : List ℕ) (form : Option FirstFile) → form_answer template json form ≡ Usage
     → ⊥
 form_not_usage template json None e = cc
-form_not_usage template json (Some form) e = named_not_usage (bytes_eq template (full_name form)) (page_of form json) _ e
+form_not_usage template json (Some form) e = named_not_usage (bytes_eq template (full_name form)) (page_of form json)
+    _ e
 
 render_not_usage : (template : Word) (fetched : List (List ℕ)) → render_answer template fetched ≡ Usage → ⊥
 render_not_usage template [] e = cc
@@ -71,7 +72,9 @@ held_not_usage (Some file) a never e = cc
 
 asked_not_usage : (files : Files) (asked : Asked) → asked_answer files asked ≡ Usage → ⊥
 asked_not_usage files asked e =
-    held_not_usage (first_not_held files (asked_files asked)) _ (λ e. limits_not_usage (first_over_limit files (asked_files asked)) _ (λ e. contents_not_usage asked (contents files (asked_files asked)) e) e) e
+    held_not_usage (first_not_held files (asked_files asked)) _
+        (λ e. limits_not_usage (first_over_limit files (asked_files asked)) _
+        (λ e. contents_not_usage asked (contents files (asked_files asked)) e) e) e
 
 no_files_by : (files : Files) (asked : Option Asked) → option_map_or (asked_answer files) asked Usage ≡ Usage
     → file_names (option_map_or asked_files asked []) ≡ []
@@ -121,24 +124,29 @@ answer_by_contents : (files : Files) (asked : Asked) (fetched : List (List ℕ))
     → AreContents files (asked_files asked) fetched → asked_answer files asked ≡ contents_answer asked fetched
 answer_by_contents files asked fetched are =
     ap (λ o. option_map_or Read o (limits_answer files asked (asked_files asked))) are.all_held
-    ∙ (ap (λ o. option_map_or (λ file. Refused (too_large_line file)) o (contents_answer asked (contents files (asked_files asked)))) are.all_within
+    ∙ (ap (λ o. option_map_or (λ file. Refused (too_large_line file)) o
+        (contents_answer asked (contents files (asked_files asked)))) are.all_within
     ∙ ap (contents_answer asked) (sym are.same))
 
 answer_over : (files : Files) (asked : Asked) (name : Word) → first_not_held files (asked_files asked) ≡ None
     → first_over_limit files (asked_files asked) ≡ Some name → asked_answer files asked ≡ Refused (too_large_line name)
 answer_over files asked name held over =
-    ap (λ o. option_map_or Read o (limits_answer files asked (asked_files asked))) held ∙ ap (λ o. option_map_or (λ file. Refused (too_large_line file)) o (contents_answer asked (contents files (asked_files asked)))) over
+    ap (λ o. option_map_or Read o (limits_answer files asked (asked_files asked))) held
+        ∙ ap (λ o. option_map_or (λ file. Refused (too_large_line file)) o
+        (contents_answer asked (contents files (asked_files asked)))) over
 
 answer_missing : (files : Files) (asked : Asked) (name : Word) → first_not_held files (asked_files asked) ≡ Some name
     → asked_answer files asked ≡ Read name
-answer_missing files asked name missing = ap (λ o. option_map_or Read o (limits_answer files asked (asked_files asked))) missing
+answer_missing files asked name missing =
+    ap (λ o. option_map_or Read o (limits_answer files asked (asked_files asked))) missing
 
 -- what the fetches say of the answer
 contents_by : (known : Option Files) (words : List Word) (asked : Asked) (fetched : List (List ℕ))
     → asked_by_words words ≡ Some asked → IfSome known (λ files. AreContents files (asked_files asked) fetched)
     → IfSome (option_map (λ files. answer files words) known) (λ a. a ≡ contents_answer asked fetched)
 contents_by None words asked fetched is are = tt
-contents_by (Some files) words asked fetched is are = answer_to_asked files words asked is ∙ answer_by_contents files asked fetched are
+contents_by (Some files) words asked fetched is are = answer_to_asked files words asked is
+    ∙ answer_by_contents files asked fetched are
 
 -- where all was fetched, the answer is that by the contents
 pub answer-contents : (held : Option Files) (words : List Word) (asked : Asked) (fetched : List (List ℕ))
@@ -146,12 +154,15 @@ pub answer-contents : (held : Option Files) (words : List Word) (asked : Asked) 
     → IfSome (known_files held (asked_files asked)) (λ files. AreContents files (asked_files asked) fetched)
     → IfSome (known_answer held words) (λ a. a ≡ contents_answer asked fetched)
 answer-contents held words asked fetched is are =
-    subst (λ wanted. IfSome (option_map (λ files. answer files words) (known_files held wanted)) (λ a. a ≡ contents_answer asked fetched)) (sym (wanted-asked words asked is)) (contents_by (known_files held (asked_files asked)) words asked fetched (sym is) are)
+    subst (λ wanted. IfSome (option_map (λ files. answer files words) (known_files held wanted))
+        (λ a. a ≡ contents_answer asked fetched)) (sym (wanted-asked words asked is))
+        (contents_by (known_files held (asked_files asked)) words asked fetched (sym is) are)
 
 read_by : (known : Option Files) (words : List Word) (asked : Asked) (name : Word) → asked_by_words words ≡ Some asked
     → IsNotHeld known (asked_files asked) name → option_map (λ files. answer files words) known ≡ Some (Read name)
 read_by None words asked name is missing = absurd missing
-read_by (Some files) words asked name is missing = ap Some (answer_to_asked files words asked is ∙ answer_missing files asked name missing)
+read_by (Some files) words asked name is missing =
+    ap Some (answer_to_asked files words asked is ∙ answer_missing files asked name missing)
 
 read_or_rose : (P : Type 0) (known : Option Files) (words : List Word) (asked : Asked) (name : Word)
     → asked_by_words words ≡ Some asked → P ⊎ IsNotHeld known (asked_files asked) name
@@ -159,9 +170,13 @@ read_or_rose : (P : Type 0) (known : Option Files) (words : List Word) (asked : 
 read_or_rose P known words asked name is (inl rose) = inl rose
 read_or_rose P known words asked name is (inr missing) = inr (read_by known words asked name is missing)
 
-over_by : (known : Option Files) (words : List Word) (asked : Asked) (name : Word) → asked_by_words words ≡ Some asked → IfSome known (λ files. (first_not_held files (asked_files asked) ≡ None) × (first_over_limit files (asked_files asked) ≡ Some name)) → IfSome (option_map (λ files. answer files words) known) (λ a. a ≡ Refused (too_large_line name))
+over_by : (known : Option Files) (words : List Word) (asked : Asked) (name : Word) → asked_by_words words ≡ Some asked
+    → IfSome known (λ files. (first_not_held files (asked_files asked) ≡ None)
+    × (first_over_limit files (asked_files asked) ≡ Some name))
+    → IfSome (option_map (λ files. answer files words) known) (λ a. a ≡ Refused (too_large_line name))
 over_by None words asked name is over = tt
-over_by (Some files) words asked name is over = answer_to_asked files words asked is ∙ answer_over files asked name over.0 over.1
+over_by (Some files) words asked name is over = answer_to_asked files words asked is
+    ∙ answer_over files asked name over.0 over.1
 
 -- a run to whose end its fetches led, over the files that its words want
 ends_by : (known : Option Files) (words : List Word) (asked : Asked) (faults : ℕ × ℕ) (e : Ending)
@@ -179,7 +194,9 @@ pub may_end-fetches : (held : Option Files) (words : List Word) (asked : Asked) 
     → FetchesAll (known_files held (asked_files asked)) (asked_files asked) faults (Err e)
     → MayEnd (known_answer held words) (file_names (wanted_files words)) faults e
 may_end-fetches held words asked faults e is h =
-    subst (λ wanted. MayEnd (option_map (λ files. answer files words) (known_files held wanted)) (file_names wanted) faults e) (sym (wanted-asked words asked is)) (ends_by (known_files held (asked_files asked)) words asked faults e (sym is) h)
+    subst (λ wanted. MayEnd (option_map (λ files. answer files words) (known_files held wanted)) (file_names wanted)
+        faults e) (sym (wanted-asked words asked is))
+        (ends_by (known_files held (asked_files asked)) words asked faults e (sym is) h)
 
 if_same : (answer : Option Answer) (a b : Answer) → IfSome answer (λ x. x ≡ a) → a ≡ b → IfSome answer (λ x. x ≡ b)
 if_same None a b h e = tt
@@ -212,4 +229,6 @@ pub answer-fetched : (held : Option Files) (words : List Word) (asked : Asked) (
     → IfSome (known_files held wanted) (λ files. AreContents files wanted fetched) → fetched ≡ shown
     → IfSome (known_answer held words) (λ a. a ≡ contents_answer asked shown)
 answer-fetched held words asked wanted fetched shown is same are as_shown =
-    subst (λ cs. IfSome (known_answer held words) (λ a. a ≡ contents_answer asked cs)) as_shown (answer-contents held words asked fetched is (subst (λ w. IfSome (known_files held w) (λ files. AreContents files w fetched)) same are))
+    subst (λ cs. IfSome (known_answer held words) (λ a. a ≡ contents_answer asked cs)) as_shown
+        (answer-contents held words asked fetched is
+        (subst (λ w. IfSome (known_files held w) (λ files. AreContents files w fetched)) same are))

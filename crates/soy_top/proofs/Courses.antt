@@ -83,8 +83,10 @@ says_written wanted text sink result w (inr h) = written_by_stop result (stops_s
 writes_status : (text : List ℕ) (end : End) (out err : Change) (SameErr : Type 0) (result : Status)
     → WritesTo text end out err SameErr result → IsWritten result
 writes_status text Whole out err SameErr result h = says_written status.Done text out result tt h.0
-writes_status text (AtCall line) out err SameErr result (inl h) = written_by_stop result (stops_status text out result h.0)
-writes_status text (AtCall line) out err SameErr result (inr h) = says_written status.TooDeep (ended line) err result tt h.1
+writes_status text (AtCall line) out err SameErr result (inl h) =
+    written_by_stop result (stops_status text out result h.0)
+writes_status text (AtCall line) out err SameErr result (inr h) = says_written status.TooDeep (ended line) err result
+    tt h.1
 
 -- whatever the status, a prefix of the text was taken
 stops_prefix : (text : List ℕ) (sink : Change) (result : Status) → Stops text sink result → TookPrefix sink text
@@ -118,7 +120,8 @@ says_due due wanted F text sink result fails is (inr h) = stops_due due F text s
 said_whole : (wanted shown : Status) (text : List ℕ) (sink : Change) (result : Status) → Says wanted text sink result
     → result ≡ shown → (IsStopped shown → ⊥) → (wanted ≡ shown) × Took sink text
 said_whole wanted shown text sink result (inl h) is never = (sym h.0 ∙ is, h.1)
-said_whole wanted shown text sink result (inr h) is never = absurd (never (subst IsStopped is (stops_status text sink result h)))
+said_whole wanted shown text sink result (inr h) is never =
+    absurd (never (subst IsStopped is (stops_status text sink result h)))
 
 on_empty : (P : Type 0) (text : List ℕ) → P → OnEmpty text P
 on_empty P [] h = h
@@ -169,7 +172,8 @@ writes_err_prefix : (text : List ℕ) (end : End) (out err : Change) (SameErr : 
     → TookPrefix err (err_text (ended_answer text end))
 writes_err_prefix text Whole out err SameErr result keeps h = none_prefix err [] (keeps h.1)
 writes_err_prefix text (AtCall line) out err SameErr result keeps (inl h) = none_prefix err (ended line) (keeps h.1)
-writes_err_prefix text (AtCall line) out err SameErr result keeps (inr h) = says_prefix status.TooDeep (ended line) err result h.1
+writes_err_prefix text (AtCall line) out err SameErr result keeps (inr h) =
+    says_prefix status.TooDeep (ended line) err result h.1
 
 no_usage_end : (text : List ℕ) (end : End) → Usage ≡ ended_answer text end → ⊥
 no_usage_end text Whole e = cc
@@ -186,12 +190,14 @@ no_refused_end line text (AtCall call) e = cc
 done_of_end : (shown text : List ℕ) (end : End) (out err : Change) (SameErr : Type 0) (result : Status)
     → Done shown ≡ ended_answer text end → WritesTo text end out err SameErr result
     → IsDue status.Done (Failed out) result × SameErr
-done_of_end shown text Whole out err SameErr result e h = (says_due status.Done status.Done (Failed out) text out result (λ f. f) refl h.0, h.1)
+done_of_end shown text Whole out err SameErr result e h =
+    (says_due status.Done status.Done (Failed out) text out result (λ f. f) refl h.0, h.1)
 done_of_end shown text (AtCall line) out err SameErr result e h = cc
 
 too_deep_of_call : (text line : List ℕ) (out err : Change) (SameErr : Type 0) (result : Status)
     → WritesTo text (AtCall line) out err SameErr result → IsDue status.TooDeep (Failed out ⊎ Failed err) result
-too_deep_of_call text line out err SameErr result (inl h) = stops_due status.TooDeep (Failed out ⊎ Failed err) text out result (λ f. inl f) h.0
+too_deep_of_call text line out err SameErr result (inl h) = stops_due status.TooDeep (Failed out ⊎ Failed err) text
+    out result (λ f. inl f) h.0
 too_deep_of_call text line out err SameErr result (inr h) =
     says_due status.TooDeep status.TooDeep (Failed out ⊎ Failed err) (ended line) err result (λ f. inr f) refl h.1
 
@@ -199,7 +205,8 @@ too_deep_of_end : (shown line text : List ℕ) (end : End) (out err : Change) (S
     → TooDeep shown line ≡ ended_answer text end → WritesTo text end out err SameErr result
     → IsDue status.TooDeep (Failed out ⊎ Failed err) result
 too_deep_of_end shown line text Whole out err SameErr result e h = cc
-too_deep_of_end shown line text (AtCall call) out err SameErr result e h = too_deep_of_call text call out err SameErr result h
+too_deep_of_end shown line text (AtCall call) out err SameErr result e h = too_deep_of_call text call out err SameErr
+    result h
 
 not_done : status.TooDeep ≡ status.Done → ⊥
 not_done e = cc
@@ -226,7 +233,8 @@ too_deep_said_of_end answer text Whole out err SameErr result is h e =
 too_deep_said_of_end answer text (AtCall line) out err SameErr result is (inl h) e =
     absurd (subst IsStopped e (stops_status text out result h.0))
 too_deep_said_of_end answer text (AtCall line) out err SameErr result is (inr h) e =
-    for_one answer (TooDeep text line) _ is (text, line, refl, h.0, (said_whole status.TooDeep status.TooDeep (ended line) err result h.1 e (λ s. s)).1)
+    for_one answer (TooDeep text line) _ is
+        (text, line, refl, h.0, (said_whole status.TooDeep status.TooDeep (ended line) err result h.1 e (λ s. s)).1)
 
 -- at Write the sink to which the text was put failed
 abbrev IsNotWrite : Status → Type 0
@@ -253,9 +261,11 @@ failed_of_end : (answer : Option Answer) (text : List ℕ) (end : End) (out err 
     → result ≡ status.Write → SinkFailed answer out err SameOut SameErr
 failed_of_end answer text Whole out err SameOut SameErr result is h e =
     inl (says_failed status.Done text out result tt h.0 e, h.1)
-failed_of_end answer text (AtCall line) out err SameOut SameErr result is (inl h) e = inl (stops_failed text out result h.0 e, h.1)
+failed_of_end answer text (AtCall line) out err SameOut SameErr result is (inl h) e =
+    inl (stops_failed text out result h.0 e, h.1)
 failed_of_end answer text (AtCall line) out err SameOut SameErr result is (inr h) e =
-    inr (says_failed status.TooDeep (ended line) err result tt h.1 e, inr (text, h.0, for_one answer (TooDeep text line) _ is (line, refl)))
+    inr (says_failed status.TooDeep (ended line) err result tt h.1 e, inr
+        (text, h.0, for_one answer (TooDeep text line) _ is (line, refl)))
 
 -- what is due is said with the status Usage, Read or Refused
 due_not_write : (run : Run) (wanted : Status) (text : List ℕ) → TextIsDue run wanted text → IsNotWrite wanted
@@ -275,7 +285,8 @@ UsageText answer text status.Memory = ⊥
 
 abbrev ReadText : Run → List ℕ → Status → Type 0
 ReadText run text status.Read =
-    (file : Word) × Contains run.names file × (Rose run.file_faults.0 run.file_faults.1 ⊎ (run.answer ≡ Some (Read file))) × (text ≡ ended (read_line file))
+    (file : Word) × Contains run.names file
+        × (Rose run.file_faults.0 run.file_faults.1 ⊎ (run.answer ≡ Some (Read file))) × (text ≡ ended (read_line file))
 ReadText run text status.Usage = Unit {0}
 ReadText run text status.Refused = Unit {0}
 ReadText run text status.Done = ⊥
@@ -335,12 +346,15 @@ none_contained file (i, within, is) = omega (arith, within)
 
 module _ (run : Run) (SameOut SameErr : Type 0) where
   -- a status that only what is said has
-  said_with : (shown : Status) → (IsWritten shown → ⊥) → Course run SameOut SameErr → run.result ≡ shown → (text : List ℕ) × TextIsDue run shown text × Took run.err text
+  said_with : (shown : Status) → (IsWritten shown → ⊥) → Course run SameOut SameErr → run.result ≡ shown
+      → (text : List ℕ) × TextIsDue run shown text × Took run.err text
   said_with shown never (inl said) e =
-      let whole = said_whole said.wanted shown said.text run.err run.result said.says e (λ s. never (written_by_stop shown s)) in
+      let whole = said_whole said.wanted shown said.text run.err run.result said.says e
+          (λ s. never (written_by_stop shown s)) in
       (said.text, subst (λ s. TextIsDue run s said.text) whole.0 said.due, whole.1)
   said_with shown never (inr (inl wrote)) e =
-      absurd (never (subst IsWritten e (writes_status wrote.output.text wrote.output.end run.out run.err SameErr run.result wrote.writes)))
+      absurd (never (subst IsWritten e (writes_status wrote.output.text wrote.output.end run.out run.err SameErr
+          run.result wrote.writes)))
   said_with shown never (inr (inr stopped)) e = absurd (never (subst IsWritten (sym stopped.memory ∙ e) tt))
 
   pub usage_only : Course run SameOut SameErr → run.result ≡ status.Usage → UsageSaid run.answer run.err
@@ -349,7 +363,8 @@ module _ (run : Run) (SameOut SameErr : Type 0) where
       let due = usage_text_due run status.Usage said.0 said.1 in
       (due.0, took_named run.err said.0 usage_text said.2 due.1)
 
-  pub read_only : Course run SameOut SameErr → run.result ≡ status.Read → ReadSaid run.answer run.names run.file_faults run.err
+  pub read_only : Course run SameOut SameErr → run.result ≡ status.Read
+      → ReadSaid run.answer run.names run.file_faults run.err
   read_only course e =
       let said = said_with status.Read (λ w. w) course e in
       let due = read_text_due run status.Read said.0 said.1 in
@@ -362,7 +377,8 @@ module _ (run : Run) (SameOut SameErr : Type 0) where
       for_one run.answer (Refused due.0) _ due.1 (due.0, refl, took_named run.err said.0 (ended due.0) said.2 due.2)
 
   -- a status that only what is written has
-  said_not : (P : Type 0) (shown : Status) → (IsStopped shown → ⊥) → ((text : List ℕ) → TextIsDue run shown text → ⊥) → Said run SameOut → run.result ≡ shown → P
+  said_not : (P : Type 0) (shown : Status) → (IsStopped shown → ⊥) → ((text : List ℕ) → TextIsDue run shown text → ⊥)
+      → Said run SameOut → run.result ≡ shown → P
   said_not P shown never none said e =
       let whole = said_whole said.wanted shown said.text run.err run.result said.says e never in
       absurd (none said.text (subst (λ s. TextIsDue run s said.text) whole.0 said.due))
@@ -370,31 +386,42 @@ module _ (run : Run) (SameOut SameErr : Type 0) where
   pub done_only : Course run SameOut SameErr → run.result ≡ status.Done → TextWritten run.answer run.out
   done_only (inl said) e = said_not _ status.Done (λ s. s) (λ text due. usage_text_due run status.Done text due) said e
   done_only (inr (inl wrote)) e =
-      written_of_end run.answer wrote.output.text wrote.output.end run.out run.err SameErr run.result wrote.is_answer wrote.writes e
+      written_of_end run.answer wrote.output.text wrote.output.end run.out run.err SameErr run.result wrote.is_answer
+          wrote.writes e
   done_only (inr (inr stopped)) e = absurd (subst IsStopped (sym stopped.memory ∙ e) tt)
 
   pub too_deep_only : Course run SameOut SameErr → run.result ≡ status.TooDeep → TooDeepSaid run.answer run.out run.err
-  too_deep_only (inl said) e = said_not _ status.TooDeep (λ s. s) (λ text due. usage_text_due run status.TooDeep text due) said e
+  too_deep_only (inl said) e =
+      said_not _ status.TooDeep (λ s. s) (λ text due. usage_text_due run status.TooDeep text due) said e
   too_deep_only (inr (inl wrote)) e =
-      too_deep_said_of_end run.answer wrote.output.text wrote.output.end run.out run.err SameErr run.result wrote.is_answer wrote.writes e
+      too_deep_said_of_end run.answer wrote.output.text wrote.output.end run.out run.err SameErr run.result
+          wrote.is_answer wrote.writes e
   too_deep_only (inr (inr stopped)) e = absurd (subst IsStopped (sym stopped.memory ∙ e) tt)
 
-  pub write_only : Course run SameOut SameErr → run.result ≡ status.Write → SinkFailed run.answer run.out run.err SameOut SameErr
+  pub write_only : Course run SameOut SameErr → run.result ≡ status.Write
+      → SinkFailed run.answer run.out run.err SameOut SameErr
   write_only (inl said) e =
-      inr (says_failed said.wanted said.text run.err run.result (due_not_write run said.wanted said.text said.due) said.says e, inl said.same_out)
+      inr (says_failed said.wanted said.text run.err run.result (due_not_write run said.wanted said.text said.due)
+          said.says e, inl said.same_out)
   write_only (inr (inl wrote)) e =
-      failed_of_end run.answer wrote.output.text wrote.output.end run.out run.err SameOut SameErr run.result wrote.is_answer wrote.writes e
+      failed_of_end run.answer wrote.output.text wrote.output.end run.out run.err SameOut SameErr run.result
+          wrote.is_answer wrote.writes e
   write_only (inr (inr stopped)) e = absurd (subst IsNotWrite (sym stopped.memory ∙ e) tt)
 
   -- where an answer is known, what is said is due by it, or the library failed
   abbrev IsDueBy : Answer → Status → List ℕ → Type 0
   IsDueBy a wanted text =
-      (Rose run.file_faults.0 run.file_faults.1 × (wanted ≡ status.Read)) ⊎ (((a ≡ Usage) × (wanted ≡ status.Usage)) ⊎ (((file : Word) × (a ≡ Read file) × (wanted ≡ status.Read)) ⊎ ((line : List ℕ) × (a ≡ Refused line) × (wanted ≡ status.Refused))))
+      (Rose run.file_faults.0 run.file_faults.1 × (wanted ≡ status.Read))
+          ⊎ (((a ≡ Usage) × (wanted ≡ status.Usage))
+          ⊎ (((file : Word) × (a ≡ Read file) × (wanted ≡ status.Read))
+          ⊎ ((line : List ℕ) × (a ≡ Refused line) × (wanted ≡ status.Refused))))
 
-  due_by : (a : Answer) → run.answer ≡ Some a → (wanted : Status) (text : List ℕ) → TextIsDue run wanted text → IsDueBy a wanted text
+  due_by : (a : Answer) → run.answer ≡ Some a → (wanted : Status) (text : List ℕ) → TextIsDue run wanted text
+      → IsDueBy a wanted text
   due_by a known wanted text (inl u) = inr (inl (some_answer run.answer a Usage known u.1, u.0))
   due_by a known wanted text (inr (inl (file, is, named, inl rose, same))) = inl (rose, is)
-  due_by a known wanted text (inr (inl (file, is, named, inr read, same))) = inr (inr (inl (file, some_answer run.answer a (Read file) known read, is)))
+  due_by a known wanted text (inr (inl (file, is, named, inr read, same))) =
+      inr (inr (inl (file, some_answer run.answer a (Read file) known read, is)))
   due_by a known wanted text (inr (inr f)) = inr (inr (inr (f.0, one_answer run.answer a (Refused f.0) known f.2, f.1)))
 
   -- that memory ran out is always a way
@@ -404,7 +431,8 @@ module _ (run : Run) (SameOut SameErr : Type 0) where
   err_due : (due : Status) (said : Said run SameOut) → said.wanted ≡ due → IsDue due (Failed run.err) run.result
   err_due due said is = says_due due said.wanted (Failed run.err) said.text run.err run.result (λ f. f) is said.says
 
-  usage_of_said : (said : Said run SameOut) → (Rose run.file_faults.0 run.file_faults.1 → said.wanted ≡ status.Read → ⊥) → IsDueBy Usage said.wanted said.text → UsageDue run.err run.result
+  usage_of_said : (said : Said run SameOut) → (Rose run.file_faults.0 run.file_faults.1 → said.wanted ≡ status.Read
+      → ⊥) → IsDueBy Usage said.wanted said.text → UsageDue run.err run.result
   usage_of_said said never (inl h) = absurd (never h.0 h.1)
   usage_of_said said never (inr (inl h)) = err_due status.Usage said h.1
   usage_of_said said never (inr (inr (inl h))) = let e : Usage ≡ Read h.0 = h.1 in cc
@@ -418,12 +446,14 @@ module _ (run : Run) (SameOut SameErr : Type 0) where
 
   pub usage_due : run.names ≡ [] → Course run SameOut SameErr → run.answer ≡ Some Usage → UsageDue run.err run.result
   usage_due none (inl said) known =
-      usage_of_said said (λ rose is. no_read none said.wanted said.text said.due is) (due_by Usage known said.wanted said.text said.due)
+      usage_of_said said (λ rose is. no_read none said.wanted said.text said.due is)
+          (due_by Usage known said.wanted said.text said.due)
   usage_due none (inr (inl wrote)) known =
       absurd (no_usage_end wrote.output.text wrote.output.end (one_answer run.answer Usage _ known wrote.is_answer))
   usage_due none (inr (inr stopped)) known = memory_due status.Usage (Failed run.err) stopped.memory
 
-  read_of_said : (file : Word) (said : Said run SameOut) → IsDueBy (Read file) said.wanted said.text → ReadDue run.err run.result
+  read_of_said : (file : Word) (said : Said run SameOut) → IsDueBy (Read file) said.wanted said.text
+      → ReadDue run.err run.result
   read_of_said file said (inl h) = err_due status.Read said h.1
   read_of_said file said (inr (inl h)) = let e : Read file ≡ Usage = h.0 in cc
   read_of_said file said (inr (inr (inl h))) = err_due status.Read said h.2
@@ -432,84 +462,112 @@ module _ (run : Run) (SameOut SameErr : Type 0) where
   pub read_due : (file : Word) → Course run SameOut SameErr → run.answer ≡ Some (Read file) → ReadDue run.err run.result
   read_due file (inl said) known = read_of_said file said (due_by (Read file) known said.wanted said.text said.due)
   read_due file (inr (inl wrote)) known =
-      absurd (no_read_end file wrote.output.text wrote.output.end (one_answer run.answer (Read file) _ known wrote.is_answer))
+      absurd (no_read_end file wrote.output.text wrote.output.end
+          (one_answer run.answer (Read file) _ known wrote.is_answer))
   read_due file (inr (inr stopped)) known = memory_due status.Read (Failed run.err) stopped.memory
 
-  refused_of_said : (line : List ℕ) (said : Said run SameOut) → IsDueBy (Refused line) said.wanted said.text → RefusedDue run.file_faults run.err run.result
+  refused_of_said : (line : List ℕ) (said : Said run SameOut) → IsDueBy (Refused line) said.wanted said.text
+      → RefusedDue run.file_faults run.err run.result
   refused_of_said line said (inl h) = inr (h.0, err_due status.Read said h.1)
   refused_of_said line said (inr (inl h)) = let e : Refused line ≡ Usage = h.0 in cc
   refused_of_said line said (inr (inr (inl h))) = let e : Refused line ≡ Read h.0 = h.1 in cc
   refused_of_said line said (inr (inr (inr h))) = inl (err_due status.Refused said h.2)
 
-  pub refused_due : (line : List ℕ) → Course run SameOut SameErr → run.answer ≡ Some (Refused line) → RefusedDue run.file_faults run.err run.result
-  refused_due line (inl said) known = refused_of_said line said (due_by (Refused line) known said.wanted said.text said.due)
+  pub refused_due : (line : List ℕ) → Course run SameOut SameErr → run.answer ≡ Some (Refused line)
+      → RefusedDue run.file_faults run.err run.result
+  refused_due line (inl said) known =
+      refused_of_said line said (due_by (Refused line) known said.wanted said.text said.due)
   refused_due line (inr (inl wrote)) known =
-      absurd (no_refused_end line wrote.output.text wrote.output.end (one_answer run.answer (Refused line) _ known wrote.is_answer))
+      absurd (no_refused_end line wrote.output.text wrote.output.end
+          (one_answer run.answer (Refused line) _ known wrote.is_answer))
   refused_due line (inr (inr stopped)) known = inl (memory_due status.Refused (Failed run.err) stopped.memory)
 
   -- where there is a text for the output, a run says something only where the library failed
-  said_instead : (a : Answer) → (a ≡ Usage → ⊥) → ((file : Word) → a ≡ Read file → ⊥) → ((line : List ℕ) → a ≡ Refused line → ⊥) → (said : Said run SameOut) → IsDueBy a said.wanted said.text → Rose run.file_faults.0 run.file_faults.1 × ReadDue run.err run.result
+  said_instead : (a : Answer) → (a ≡ Usage → ⊥) → ((file : Word) → a ≡ Read file → ⊥)
+      → ((line : List ℕ) → a ≡ Refused line → ⊥) → (said : Said run SameOut) → IsDueBy a said.wanted said.text
+      → Rose run.file_faults.0 run.file_faults.1 × ReadDue run.err run.result
   said_instead a no_usage no_read no_refused said (inl h) = (h.0, err_due status.Read said h.1)
   said_instead a no_usage no_read no_refused said (inr (inl h)) = absurd (no_usage h.0)
   said_instead a no_usage no_read no_refused said (inr (inr (inl h))) = absurd (no_read h.0 h.1)
   said_instead a no_usage no_read no_refused said (inr (inr (inr h))) = absurd (no_refused h.0 h.1)
 
-  done_said : (text : List ℕ) (said : Said run SameOut) → run.answer ≡ Some (Done text) → Rose run.file_faults.0 run.file_faults.1 × ReadDue run.err run.result
+  done_said : (text : List ℕ) (said : Said run SameOut) → run.answer ≡ Some (Done text)
+      → Rose run.file_faults.0 run.file_faults.1 × ReadDue run.err run.result
   done_said text said known =
-      said_instead (Done text) (λ e. done_not_usage text e) (λ file e. done_not_read text file e) (λ line e. done_not_refused text line e) said (due_by (Done text) known said.wanted said.text said.due)
+      said_instead (Done text) (λ e. done_not_usage text e) (λ file e. done_not_read text file e)
+          (λ line e. done_not_refused text line e) said (due_by (Done text) known said.wanted said.text said.due)
 
-  pub done_due : (text : List ℕ) → Course run SameOut SameErr → run.answer ≡ Some (Done text) → DoneDue run.file_faults run.out run.err run.result
+  pub done_due : (text : List ℕ) → Course run SameOut SameErr → run.answer ≡ Some (Done text)
+      → DoneDue run.file_faults run.out run.err run.result
   done_due text (inl said) known = inr (done_said text said known)
   done_due text (inr (inl wrote)) known =
-      inl (done_of_end text wrote.output.text wrote.output.end run.out run.err SameErr run.result (one_answer run.answer (Done text) _ known wrote.is_answer) wrote.writes).0
+      inl (done_of_end text wrote.output.text wrote.output.end run.out run.err SameErr run.result
+          (one_answer run.answer (Done text) _ known wrote.is_answer) wrote.writes).0
   done_due text (inr (inr stopped)) known = inl (memory_due status.Done (Failed run.out) stopped.memory)
 
-  pub err_untouched : (text : List ℕ) → Course run SameOut SameErr → run.answer ≡ Some (Done text) → SameErr ⊎ Rose run.file_faults.0 run.file_faults.1
+  pub err_untouched : (text : List ℕ) → Course run SameOut SameErr → run.answer ≡ Some (Done text) → SameErr
+      ⊎ Rose run.file_faults.0 run.file_faults.1
   err_untouched text (inl said) known = inr (done_said text said known).0
   err_untouched text (inr (inl wrote)) known =
-      inl (done_of_end text wrote.output.text wrote.output.end run.out run.err SameErr run.result (one_answer run.answer (Done text) _ known wrote.is_answer) wrote.writes).1
+      inl (done_of_end text wrote.output.text wrote.output.end run.out run.err SameErr run.result
+          (one_answer run.answer (Done text) _ known wrote.is_answer) wrote.writes).1
   err_untouched text (inr (inr stopped)) known = inl stopped.same_err
 
-  pub too_deep_due : (text line : List ℕ) → Course run SameOut SameErr → run.answer ≡ Some (TooDeep text line) → TooDeepDue run.file_faults run.out run.err run.result
+  pub too_deep_due : (text line : List ℕ) → Course run SameOut SameErr → run.answer ≡ Some (TooDeep text line)
+      → TooDeepDue run.file_faults run.out run.err run.result
   too_deep_due text line (inl said) known =
-      inr (said_instead (TooDeep text line) (λ e. deep_not_usage text line e) (λ file e. deep_not_read text line file e) (λ other e. deep_not_refused text line other e) said (due_by (TooDeep text line) known said.wanted said.text said.due))
+      inr (said_instead (TooDeep text line) (λ e. deep_not_usage text line e)
+          (λ file e. deep_not_read text line file e) (λ other e. deep_not_refused text line other e) said
+          (due_by (TooDeep text line) known said.wanted said.text said.due))
   too_deep_due text line (inr (inl wrote)) known =
-      inl (too_deep_of_end text line wrote.output.text wrote.output.end run.out run.err SameErr run.result (one_answer run.answer (TooDeep text line) _ known wrote.is_answer) wrote.writes)
-  too_deep_due text line (inr (inr stopped)) known = inl (memory_due status.TooDeep (Failed run.out ⊎ Failed run.err) stopped.memory)
+      inl (too_deep_of_end text line wrote.output.text wrote.output.end run.out run.err SameErr run.result
+          (one_answer run.answer (TooDeep text line) _ known wrote.is_answer) wrote.writes)
+  too_deep_due text line (inr (inr stopped)) known =
+      inl (memory_due status.TooDeep (Failed run.out ⊎ Failed run.err) stopped.memory)
 
   pub nothing_written : Course run SameOut SameErr → OnNothingWritten run.result SameOut
   nothing_written (inl said) = nothing_written_of SameOut run.result said.same_out
   nothing_written (inr (inl wrote)) =
-      something_written_of SameOut run.result (writes_status wrote.output.text wrote.output.end run.out run.err SameErr run.result wrote.writes)
+      something_written_of SameOut run.result (writes_status wrote.output.text wrote.output.end run.out run.err
+          SameErr run.result wrote.writes)
   nothing_written (inr (inr stopped)) = nothing_written_of SameOut run.result stopped.same_out
 
   -- where nothing is for the output, it is unchanged
   pub out_untouched : Course run SameOut SameErr → IfSome run.answer (λ a. OnNoOutput a SameOut)
   out_untouched (inl said) = for_any run.answer _ (λ a. on_no_output SameOut a said.same_out)
   out_untouched (inr (inl wrote)) =
-      for_one run.answer (output_answer wrote.output) (λ a. OnNoOutput a SameOut) wrote.is_answer (no_output_of_end SameOut wrote.output.text wrote.output.end wrote.no_text)
+      for_one run.answer (output_answer wrote.output) (λ a. OnNoOutput a SameOut) wrote.is_answer
+          (no_output_of_end SameOut wrote.output.text wrote.output.end wrote.no_text)
   out_untouched (inr (inr stopped)) = for_any run.answer _ (λ a. on_no_output SameOut a stopped.same_out)
 
-  module _ (out_keeps : SameOut → run.out.taken_after ≡ run.out.taken_before) (err_keeps : SameErr → run.err.taken_after ≡ run.err.taken_before) where
+  module _ (out_keeps : SameOut → run.out.taken_after ≡ run.out.taken_before) (err_keeps : SameErr
+      → run.err.taken_after ≡ run.err.taken_before) where
     -- the output took a prefix of the text for it
     pub out_part : Course run SameOut SameErr → OutPart run.answer run.out
     out_part (inl said) = for_any run.answer _ (λ a. none_prefix run.out (out_text a) (out_keeps said.same_out))
     out_part (inr (inl wrote)) =
-        for_one run.answer (output_answer wrote.output) (λ a. TookPrefix run.out (out_text a)) wrote.is_answer (text_of_end run.out wrote.output.text wrote.output.end (writes_prefix wrote.output.text wrote.output.end run.out run.err SameErr run.result wrote.writes))
-    out_part (inr (inr stopped)) = for_any run.answer _ (λ a. none_prefix run.out (out_text a) (out_keeps stopped.same_out))
+        for_one run.answer (output_answer wrote.output) (λ a. TookPrefix run.out (out_text a)) wrote.is_answer
+            (text_of_end run.out wrote.output.text wrote.output.end
+            (writes_prefix wrote.output.text wrote.output.end run.out run.err SameErr run.result wrote.writes))
+    out_part (inr (inr stopped)) =
+        for_any run.answer _ (λ a. none_prefix run.out (out_text a) (out_keeps stopped.same_out))
 
     abbrev IsErrPart : Answer → Type 0
     IsErrPart a =
-        TookPrefix run.err (err_text a) ⊎ ((file : Word) × Contains run.names file × Rose run.file_faults.0 run.file_faults.1 × TookPrefix run.err (ended (read_line file)))
+        TookPrefix run.err (err_text a)
+            ⊎ ((file : Word) × Contains run.names file × Rose run.file_faults.0 run.file_faults.1
+            × TookPrefix run.err (ended (read_line file)))
 
     prefix_named : (text named : List ℕ) → TookPrefix run.err text → text ≡ named → TookPrefix run.err named
     prefix_named text named part same = subst (TookPrefix run.err) same part
 
-    due_part : (wanted : Status) (text : List ℕ) → TookPrefix run.err text → TextIsDue run wanted text → IfSome run.answer IsErrPart
+    due_part : (wanted : Status) (text : List ℕ) → TookPrefix run.err text → TextIsDue run wanted text
+        → IfSome run.answer IsErrPart
     due_part wanted text part (inl usage) =
         for_known run.answer Usage IsErrPart usage.1 (inl (prefix_named text usage_text part usage.2))
     due_part wanted text part (inr (inl (file, is, named, inl rose, same))) =
-        for_any run.answer IsErrPart (λ a. inr (file, named, rose, prefix_named text (ended (read_line file)) part same))
+        for_any run.answer IsErrPart
+            (λ a. inr (file, named, rose, prefix_named text (ended (read_line file)) part same))
     due_part wanted text part (inr (inl (file, is, named, inr known, same))) =
         for_known run.answer (Read file) IsErrPart known (inl (prefix_named text (ended (read_line file)) part same))
     due_part wanted text part (inr (inr (line, is, known, same))) =
@@ -517,10 +575,14 @@ module _ (run : Run) (SameOut SameErr : Type 0) where
 
     -- standard error took a prefix of the text for it
     pub err_part : Course run SameOut SameErr → ErrPart run.answer run.names run.file_faults run.err
-    err_part (inl said) = due_part said.wanted said.text (says_prefix said.wanted said.text run.err run.result said.says) said.due
+    err_part (inl said) =
+        due_part said.wanted said.text (says_prefix said.wanted said.text run.err run.result said.says) said.due
     err_part (inr (inl wrote)) =
-        for_one run.answer (output_answer wrote.output) IsErrPart wrote.is_answer (inl (writes_err_prefix wrote.output.text wrote.output.end run.out run.err SameErr run.result err_keeps wrote.writes))
-    err_part (inr (inr stopped)) = for_any run.answer IsErrPart (λ a. inl (none_prefix run.err (err_text a) (err_keeps stopped.same_err)))
+        for_one run.answer (output_answer wrote.output) IsErrPart wrote.is_answer
+            (inl (writes_err_prefix wrote.output.text wrote.output.end run.out run.err SameErr run.result err_keeps
+            wrote.writes))
+    err_part (inr (inr stopped)) =
+        for_any run.answer IsErrPart (λ a. inl (none_prefix run.err (err_text a) (err_keeps stopped.same_err)))
 
 -- a run that comes to an ending says it
 pub course-ending : (run : Run) (SameOut SameErr : Type 0) (e : Ending) → MayEnd run.answer run.names run.file_faults e
@@ -528,8 +590,10 @@ pub course-ending : (run : Run) (SameOut SameErr : Type 0) (e : Ending) → MayE
 course-ending run SameOut SameErr ending.Usage may said same =
     inl (record { wanted = status.Usage; text = usage_text; due = inl (refl, may, refl); says = said; same_out = same })
 course-ending run SameOut SameErr (ending.Read text) may said same =
-    inl (record { wanted = status.Read; text = string_bytes text; due = inr (inl (may.0, refl, may.1, may.2, may.3)); says = said; same_out = same })
+    inl (record { wanted = status.Read; text = string_bytes text; due = inr (inl (may.0, refl, may.1, may.2, may.3));
+        says = said; same_out = same })
 course-ending run SameOut SameErr (ending.Refused text) may said same =
-    inl (record { wanted = status.Refused; text = string_bytes text; due = inr (inr (may.0, refl, may.1, may.2)); says = said; same_out = same })
+    inl (record { wanted = status.Refused; text = string_bytes text; due = inr (inr (may.0, refl, may.1, may.2));
+        says = said; same_out = same })
 course-ending run SameOut SameErr ending.Memory may said same =
     inr (inr (record { memory = said.0; same_out = same; same_err = said.1 }))

@@ -58,13 +58,15 @@ over-within : (files : Files) (file : FileWanted) (rest : List FileWanted) (byte
     → file_of files file.name ≡ Some bytes → length bytes ≤ file.limit
     → first_over_limit files (file ∷ rest) ≡ first_over_limit files rest
 over-within files file rest bytes found within =
-    over-by (content files file) bytes file (first_over_limit files rest) false (content-found files file bytes found) (within-lt _ _ _ refl within)
+    over-by (content files file) bytes file (first_over_limit files rest) false (content-found files file bytes found)
+        (within-lt _ _ _ refl within)
 
 over-past : (files : Files) (file : FileWanted) (rest : List FileWanted) (bytes : List ℕ)
     → file_of files file.name ≡ Some bytes → file.limit < length bytes
     → first_over_limit files (file ∷ rest) ≡ Some file.name
 over-past files file rest bytes found past =
-    over-by (content files file) bytes file (first_over_limit files rest) true (content-found files file bytes found) (lt-ltb _ _ past)
+    over-by (content files file) bytes file (first_over_limit files rest) true (content-found files file bytes found)
+        (lt-ltb _ _ past)
 
 option_or-again : (so_far : Option Word) (name : Word) (rest : Option Word)
     → option_or so_far (Some name) ≡ option_or (option_or so_far (Some name)) rest
@@ -82,11 +84,14 @@ next-held files wanted rest file so_far faults (Some bytes) far one = record {
   held = far.held ∙ not_held-next files file rest bytes.items one.0;
   over = far.over ∙ ap (option_or so_far.too_large) (over-within files file rest bytes.items one.0 one.1);
   same = λ none.
-      far.same none ∙ (ap (λ b. so_far.contents ++ (b ∷ contents files rest)) (content-found files file bytes.items one.0) ∙ sym (append_assoc so_far.contents (bytes.items ∷ []) (contents files rest)));
+      far.same none ∙ (ap (λ b. so_far.contents ++ (b ∷ contents files rest))
+          (content-found files file bytes.items one.0)
+          ∙ sym (append_assoc so_far.contents (bytes.items ∷ []) (contents files rest)));
 }
 next-held files wanted rest file so_far faults None far one = record {
   held = far.held ∙ not_held-next files file rest one.0 one.1;
-  over = far.over ∙ (ap (option_or so_far.too_large) (over-past files file rest one.0 one.1 one.2) ∙ option_or-again so_far.too_large file.name (first_over_limit files rest));
+  over = far.over ∙ (ap (option_or so_far.too_large) (over-past files file rest one.0 one.1 one.2)
+      ∙ option_or-again so_far.too_large file.name (first_over_limit files rest));
   same = λ none. absurd (no_or so_far.too_large file.name none);
 }
 
@@ -94,7 +99,8 @@ fetched-next : (held : Option Files) (wanted rest : List FileWanted) (file : Fil
     (faults : ℕ × ℕ) (bytes : Option (Vec ℕ Global))
     → FetchedSoFar (known_files held wanted) wanted (file ∷ rest) so_far → FetchesFile held file faults (Ok bytes)
     → 0 < length wanted → FetchedSoFar (known_files held wanted) wanted rest (next_fetched so_far file.name bytes)
-fetched-next (Some files) wanted rest file so_far faults bytes far one some = next-held files wanted rest file so_far faults bytes far one
+fetched-next (Some files) wanted rest file so_far faults bytes far one some =
+    next-held files wanted rest file so_far faults bytes far one
 fetched-next None [] rest file so_far faults bytes far one some = absurd (omega (arith, some))
 fetched-next None (w ∷ ws) rest file so_far faults bytes far one some = tt
 
@@ -102,7 +108,8 @@ fetched-next None (w ∷ ws) rest file so_far faults bytes far one some = tt
 view_files-drop : (wanted : List code.FileWanted) (i : ℕ) (d : code.FileWanted) → i < length wanted
     → view_files (drop i wanted) ≡ view_file (get_or wanted i d) ∷ view_files (drop (i + 1) wanted)
 view_files-drop wanted i d within =
-    ap view_files (drop-cons wanted i d within) ∙ ap (λ k. view_file (get_or wanted i d) ∷ view_files (drop k wanted)) (sym (add-one i))
+    ap view_files (drop-cons wanted i d within) ∙ ap (λ k. view_file (get_or wanted i d) ∷ view_files (drop k wanted))
+        (sym (add-one i))
 
 some_wanted : (wanted : List code.FileWanted) (i : ℕ) → i < length wanted → 0 < length (view_files wanted)
 some_wanted [] i within = absurd (omega (arith, within))
@@ -113,7 +120,9 @@ named : (wanted : List code.FileWanted) (i : ℕ) (d : code.FileWanted) → i < 
     → Contains (file_names (view_files wanted)) (get_or wanted i d).name.now
 named wanted i d within =
     let seen : i < length (view_files wanted) = rw (length-map wanted view_file) within in
-    (i, rw (length-map (view_files wanted) (λ (file : FileWanted). file.name)) seen, get_or-map (λ (file : FileWanted). file.name) (view_files wanted) i (view_file d) _ seen ∙ ap (λ (file : FileWanted). file.name) (get_or-map view_file wanted i d (view_file d) within))
+    (i, rw (length-map (view_files wanted) (λ (file : FileWanted). file.name)) seen, get_or-map
+        (λ (file : FileWanted). file.name) (view_files wanted) i (view_file d) _ seen
+        ∙ ap (λ (file : FileWanted). file.name) (get_or-map view_file wanted i d (view_file d) within))
 
 -- where no file is wanted, none is fetched
 pub none_wanted : (wanted : List code.FileWanted) (i : ℕ) → i < length wanted → view_files wanted ≡ [] → ⊥
@@ -130,8 +139,10 @@ pub fetched-step : (held now_held : Option Files) (wanted : List code.FileWanted
 fetched-step held now_held wanted i d so_far next faults bytes within far one still same =
     let file : FileWanted = view_file (get_or wanted i d) in
     let rest : List FileWanted = view_files (drop (i + 1) wanted) in
-    let here : FetchedSoFar (known_files held (view_files wanted)) (view_files wanted) (file ∷ rest) so_far = rw (view_files-drop wanted i d within) at far in
-    rw same (fetched-next held (view_files wanted) rest file so_far faults bytes here (subst (λ h. FetchesFile h file faults (Ok bytes)) still one) (some_wanted wanted i within))
+    let here : FetchedSoFar (known_files held (view_files wanted)) (view_files wanted) (file ∷ rest) so_far =
+        rw (view_files-drop wanted i d within) at far in
+    rw same (fetched-next held (view_files wanted) rest file so_far faults bytes here
+        (subst (λ h. FetchesFile h file faults (Ok bytes)) still one) (some_wanted wanted i within))
 
 -- a rise since then is a rise since before
 rose-before : (first before now : ℕ) → first ≤ before → Rose before now → Rose first now
@@ -151,8 +162,10 @@ is_not_held (Some files) wanted rest file so_far far none = not_held-first files
 read_ground : (held : Option Files) (wanted rest : List FileWanted) (file : FileWanted) (so_far : SoFar)
     (first before now : ℕ) → first ≤ before → FetchedSoFar (known_files held wanted) wanted (file ∷ rest) so_far
     → Rose before now ⊎ HasNoFile held file.name → Rose first now ⊎ IsNotHeld (known_files held wanted) wanted file.name
-read_ground held wanted rest file so_far first before now later far (inl rose) = inl (rose-before first before now later rose)
-read_ground held wanted rest file so_far first before now later far (inr none) = inr (is_not_held held wanted rest file so_far far none)
+read_ground held wanted rest file so_far first before now later far (inl rose) =
+    inl (rose-before first before now later rose)
+read_ground held wanted rest file so_far first before now later far (inr none) =
+    inr (is_not_held held wanted rest file so_far far none)
 
 -- a fetch of one file that ends the run ends the fetch of all
 pub fetch-stops : (held now_held : Option Files) (wanted : List code.FileWanted) (i : ℕ) (d : code.FileWanted)
@@ -164,10 +177,14 @@ fetch-stops held now_held wanted i d so_far first before now ending.Usage within
 fetch-stops held now_held wanted i d so_far first before now (ending.Read line) within later far one still =
     let file : code.FileWanted = get_or wanted i d in
     let rest : List FileWanted = view_files (drop (i + 1) wanted) in
-    let here : FetchedSoFar (known_files held (view_files wanted)) (view_files wanted) (view_file file ∷ rest) so_far = rw (view_files-drop wanted i d within) at far in
-    let cause : Rose before now ⊎ HasNoFile held file.name.now = subst (λ h. Rose before now ⊎ HasNoFile h file.name.now) still one.0 in
-    (file.name.now, named wanted i d within, read_ground held (view_files wanted) rest (view_file file) so_far first before now later here cause, one.1)
-fetch-stops held now_held wanted i d so_far first before now (ending.Refused line) within later far one still = absurd one
+    let here : FetchedSoFar (known_files held (view_files wanted)) (view_files wanted) (view_file file ∷ rest)
+        so_far = rw (view_files-drop wanted i d within) at far in
+    let cause : Rose before now ⊎ HasNoFile held file.name.now =
+        subst (λ h. Rose before now ⊎ HasNoFile h file.name.now) still one.0 in
+    (file.name.now, named wanted i d within, read_ground held (view_files wanted) rest (view_file file) so_far first
+        before now later here cause, one.1)
+fetch-stops held now_held wanted i d so_far first before now (ending.Refused line) within later far one still =
+    absurd one
 fetch-stops held now_held wanted i d so_far first before now ending.Memory within later far one still = tt
 
 are_contents : (files : Files) (wanted : List FileWanted) (so_far : SoFar) (fetched : List (List ℕ))
@@ -183,7 +200,8 @@ fetched-to-end : (known : Option Files) (wanted : List FileWanted) (so_far : SoF
     (result : Result (Vec (Vec ℕ Global) Global) Ending) → FetchedSoFar known wanted [] so_far
     → FetchedContents so_far result → FetchesAll known wanted faults result
 fetched-to-end None wanted so_far faults (Ok fetched) far h = tt
-fetched-to-end (Some files) wanted so_far faults (Ok fetched) far h = are_contents files wanted so_far (view_contents fetched.items) far h.0 h.1
+fetched-to-end (Some files) wanted so_far faults (Ok fetched) far h =
+    are_contents files wanted so_far (view_contents fetched.items) far h.0 h.1
 fetched-to-end known wanted so_far faults (Err ending.Usage) far h = absurd h
 fetched-to-end known wanted so_far faults (Err (ending.Read line)) far h = absurd h
 fetched-to-end None wanted so_far faults (Err (ending.Refused line)) far h = (h.0, tt, h.2)
@@ -197,4 +215,6 @@ pub fetched-all : (known : Option Files) (wanted : List code.FileWanted) (i : �
     → FetchedSoFar known (view_files wanted) (view_files (drop i wanted)) so_far → FetchedContents so_far result
     → FetchesAll known (view_files wanted) faults result
 fetched-all known wanted i so_far faults result past far h =
-    fetched-to-end known (view_files wanted) so_far faults result (subst (λ rest. FetchedSoFar known (view_files wanted) (view_files rest) so_far) (drop_of_length-le wanted past) far) h
+    fetched-to-end known (view_files wanted) so_far faults result
+        (subst (λ rest. FetchedSoFar known (view_files wanted) (view_files rest) so_far)
+        (drop_of_length-le wanted past) far) h

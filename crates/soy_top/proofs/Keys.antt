@@ -24,7 +24,8 @@ declared_by : (keys new : List (Bor (List ℕ))) (name : Bor (List ℕ)) (is_new
     ((is_among (key_names keys) name.now ≡ false) × (key_names new ≡ key_names keys ++ (name.now ∷ [])))
     ((is_among (key_names keys) name.now ≡ true) × (key_names new ≡ key_names keys))
 declared_by keys new name true true e n k = let h : true ≡ false = n in cc
-declared_by keys new name true false e n k = (is_among-key_names keys name.now ∙ e, ap key_names k ∙ map-append _ keys (name ∷ []))
+declared_by keys new name true false e n k =
+    (is_among-key_names keys name.now ∙ e, ap key_names k ∙ map-append _ keys (name ∷ []))
 declared_by keys new name false true e n k = (is_among-key_names keys name.now ∙ e, ap key_names k)
 declared_by keys new name false false e n k = let h : false ≡ true = n in cc
 

@@ -28,7 +28,8 @@ module _ (template json bundle : Word) (files : List Word) where
   choice true x y h = inl (refl, h)
   choice false x y h = inr h
 
-  no_counted : (b : Bool) (asked : Asked) → (Some asked ≡ Some (Render template json bundle files) → ⊥) → IsRender (cond b (Some asked) None) → ⊥
+  no_counted : (b : Bool) (asked : Asked) → (Some asked ≡ Some (Render template json bundle files) → ⊥)
+      → IsRender (cond b (Some asked) None) → ⊥
   no_counted true asked other h = other h
   no_counted false asked other h = cc
 
@@ -65,7 +66,13 @@ module _ (template json bundle : Word) (files : List Word) where
   no_format (file ∷ []) h = cc
   no_format (file ∷ other ∷ words) h = cc
 
-  no_other : (command : Word) (words : List Word) → IsRender (cond (bytes_eq command (codes "check")) (check_asked words) (cond (bytes_eq command (codes "extract")) (extract_asked words) (cond (bytes_eq command (codes "gen")) (gen_asked words) (cond (bytes_eq command (codes "play")) (play_asked words) (cond (bytes_eq command (codes "preview")) (preview_asked words) (cond (bytes_eq command (codes "format")) (format_asked words) None)))))) → ⊥
+  no_other : (command : Word) (words : List Word)
+      → IsRender (cond (bytes_eq command (codes "check")) (check_asked words)
+      (cond (bytes_eq command (codes "extract")) (extract_asked words)
+      (cond (bytes_eq command (codes "gen")) (gen_asked words)
+      (cond (bytes_eq command (codes "play")) (play_asked words)
+      (cond (bytes_eq command (codes "preview")) (preview_asked words)
+      (cond (bytes_eq command (codes "format")) (format_asked words) None)))))) → ⊥
   no_other command words h =
       elim (choice (bytes_eq command (codes "check")) (check_asked words) _ h) [
         | inl c ↦ no_check words c.1
@@ -87,7 +94,8 @@ module _ (template json bundle : Word) (files : List Word) where
         ]
       ]
 
-  counted_render : (b : Bool) (t j u : Word) (fs : List Word) → IsRender (cond b (Some (Render t j u fs)) None) → t ∷ j ∷ u ∷ fs ≡ template ∷ json ∷ bundle ∷ files
+  counted_render : (b : Bool) (t j u : Word) (fs : List Word) → IsRender (cond b (Some (Render t j u fs)) None)
+      → t ∷ j ∷ u ∷ fs ≡ template ∷ json ∷ bundle ∷ files
   counted_render true t j u fs h = cc
   counted_render false t j u fs h = cc
 
@@ -98,12 +106,14 @@ module _ (template json bundle : Word) (files : List Word) where
   render_words (t ∷ j ∷ u ∷ fs) h = counted_render (has_file_count fs) t j u fs h
 
   -- words that ask for a render are those of one
-  words_of_render : (words : List Word) → IsRender (asked_by_words words) → words ≡ codes "render" ∷ template ∷ json ∷ bundle ∷ files
+  words_of_render : (words : List Word) → IsRender (asked_by_words words) → words ≡ codes "render" ∷ template ∷ json
+      ∷ bundle ∷ files
   words_of_render [] h = cc
   words_of_render (command ∷ words) h =
       elim (choice (bytes_eq command (codes "render")) (render_asked words) _ h) [
         | inl render ↦
-            ap (λ w. w ∷ words) ((bytes_eq-Decides command (codes "render")).0 render.0) ∙ ap (λ ws. codes "render" ∷ ws) (render_words words render.1)
+            ap (λ w. w ∷ words) ((bytes_eq-Decides command (codes "render")).0 render.0)
+                ∙ ap (λ ws. codes "render" ∷ ws) (render_words words render.1)
         | inr other ↦ absurd (no_other command words other)
       ]
 
@@ -121,7 +131,8 @@ form_page : (template : Word) (json file : List ℕ) (form : Option FirstFile) (
     → form_answer template json form ≡ Done text → first_page file json ≡ Some text
 form_page template json file None text e h = cc
 form_page template json file (Some form) text e h =
-    ap (option_and_then (λ form. page_of form json)) e ∙ named_page (bytes_eq template (full_name form)) (page_of form json) _ text h
+    ap (option_and_then (λ form. page_of form json)) e ∙ named_page (bytes_eq template (full_name form))
+        (page_of form json) _ text h
 
 -- a text by the files that are held and within their limits is one by their contents
 option_none : (o : Option Word) (f : Word → Answer) (a : Answer) (text : List ℕ) → ((w : Word) → f w ≡ Done text → ⊥)
@@ -133,8 +144,10 @@ held_page : (files : Files) (asked : Asked) (text : List ℕ) → asked_answer f
     → (first_not_held files (asked_files asked) ≡ None) ×
     (contents_answer asked (contents files (asked_files asked)) ≡ Done text)
 held_page files asked text h =
-    let held = option_none (first_not_held files (asked_files asked)) Read (limits_answer files asked (asked_files asked)) text (λ w e. cc) h in
-    let within = option_none (first_over_limit files (asked_files asked)) (λ file. Refused (too_large_line file)) (contents_answer asked (contents files (asked_files asked))) text (λ w e. cc) held.1 in
+    let held = option_none (first_not_held files (asked_files asked)) Read
+        (limits_answer files asked (asked_files asked)) text (λ w e. cc) h in
+    let within = option_none (first_over_limit files (asked_files asked)) (λ file. Refused (too_large_line file))
+        (contents_answer asked (contents files (asked_files asked))) text (λ w e. cc) held.1 in
     (held.0, within.1)
 
 -- a file before the first that isn't held is held
@@ -150,7 +163,8 @@ one_page : (files : Files) (words : List Word) (template json bundle file : Word
     → first_not_held files wanted ≡ None → render_answer template (contents files wanted) ≡ Done text
     → IsPage files words text
 one_page files words template json bundle file text wanted are words_are dash held h =
-    let first = content_held (file_of files json) (first_not_held files (source_file file ∷ [])) json (ap (first_not_held files) (sym are) ∙ held) in
+    let first = content_held (file_of files json) (first_not_held files (source_file file ∷ [])) json
+        (ap (first_not_held files) (sym are) ∙ held) in
     let second = content_held (file_of files file) None file first.1 in
     record {
       template = template;
@@ -161,7 +175,8 @@ one_page files words template json bundle file text wanted are words_are dash he
       words_are = words_are ∙ ap (λ b. codes "render" ∷ template ∷ json ∷ b ∷ file ∷ []) dash;
       json_held = first.0;
       file_held = second.0;
-      page = form_page template (content files (data_file json)) (content files (source_file file)) _ text refl (ap (λ w. render_answer template (contents files w)) (sym are) ∙ h);
+      page = form_page template (content files (data_file json)) (content files (source_file file)) _ text refl
+          (ap (λ w. render_answer template (contents files w)) (sym are) ∙ h);
     }
 
 render_page : (files : Files) (words : List Word) (template json bundle : Word) (names : List Word) (b : Bool)
@@ -171,16 +186,19 @@ render_page : (files : Files) (words : List Word) (template json bundle : Word) 
     → IsPage files words text
 render_page files words template json bundle names false text words_are e held h = cc
 render_page files words template json bundle [] true text words_are e held h = let f : false ≡ true = e in cc
-render_page files words template json bundle (file ∷ other ∷ names) true text words_are e held h = let f : false ≡ true = e in cc
+render_page files words template json bundle (file ∷ other ∷ names) true text words_are e held h =
+    let f : false ≡ true = e in cc
 render_page files words template json bundle (file ∷ []) true text words_are e held h =
     let one : render_files json bundle (file ∷ []) ≡ data_file json ∷ source_file file ∷ [] = rw e refl in
-    one_page files words template json bundle file text (render_files json bundle (file ∷ [])) one words_are ((bytes_eq-Decides bundle (codes "-")).0 e) held h
+    one_page files words template json bundle file text (render_files json bundle (file ∷ [])) one words_are
+        ((bytes_eq-Decides bundle (codes "-")).0 e) held h
 
 asked_page : (files : Files) (words : List Word) (asked : Asked) (text : List ℕ) → asked_by_words words ≡ Some asked
     → first_not_held files (asked_files asked) ≡ None
     → contents_answer asked (contents files (asked_files asked)) ≡ Done text → IsPage files words text
 asked_page files words (Render template json bundle names) text is held h =
-    render_page files words template json bundle names (is_rendered bundle names) text (words_of_render template json bundle names words is) refl held h
+    render_page files words template json bundle names (is_rendered bundle names) text
+        (words_of_render template json bundle names words is) refl held h
 asked_page files words (Check bundle names) text is held h = cc
 asked_page files words (Extract names) text is held h = cc
 asked_page files words (Gen number) text is held h = cc

@@ -26,7 +26,8 @@ use Rattle.soy_top.proofs.ReadForm.{is_line_byte, lines-bytes, body_of_parts}
 prefix_read : (prefix line : List ℕ) → WhereSome (λ rest. line ≡ prefix ++ rest) (after_prefix prefix line)
 prefix_read prefix line =
     WhereSome-if (λ rest. line ≡ prefix ++ rest) (starts_with nat_eq line prefix) (Some (drop (length prefix) line))
-    (λ t. sym (ap (λ rest. rest ++ drop (length prefix) line) (same_text prefix (take (length prefix) line) (sym t)) ∙ take-append-drop (length prefix) line))
+    (λ t. sym (ap (λ rest. rest ++ drop (length prefix) line) (same_text prefix (take (length prefix) line) (sym t))
+        ∙ take-append-drop (length prefix) line))
 
 -- what stands before a suffix, by the text
 suffix_read : (suffix text : List ℕ) → WhereSome (λ rest. text ≡ rest ++ suffix) (before_suffix suffix text)
@@ -50,16 +51,21 @@ in_prefix prefix suffix rest (Some name) h = ap (λ t. prefix ++ t) h
 name_read : (prefix suffix : List ℕ) (test : List ℕ → Bool) (line : List ℕ)
     → WhereSome (IsNamed prefix suffix test line) (option_and_then (passing test) (between prefix suffix line))
 name_read prefix suffix test line =
-    WhereSome-and_then (λ name. line ≡ prefix ++ (name ++ suffix)) (IsNamed prefix suffix test line) (passing test) (between prefix suffix line)
-    (WhereSome-and_then (λ rest. line ≡ prefix ++ rest) (λ name. line ≡ prefix ++ (name ++ suffix)) (before_suffix suffix) (after_prefix prefix line) (prefix_read prefix line)
-    (λ rest e. subst (λ (t : List ℕ). WhereSome (λ name. t ≡ prefix ++ (name ++ suffix)) (before_suffix suffix rest)) (sym e)
+    WhereSome-and_then (λ name. line ≡ prefix ++ (name ++ suffix)) (IsNamed prefix suffix test line) (passing test)
+        (between prefix suffix line)
+    (WhereSome-and_then (λ rest. line ≡ prefix ++ rest) (λ name. line ≡ prefix ++ (name ++ suffix))
+        (before_suffix suffix) (after_prefix prefix line) (prefix_read prefix line)
+    (λ rest e. subst (λ (t : List ℕ). WhereSome (λ name. t ≡ prefix ++ (name ++ suffix)) (before_suffix suffix rest))
+        (sym e)
     (in_prefix prefix suffix rest (before_suffix suffix rest) (suffix_read suffix rest))))
-    (λ name e. WhereSome-if (IsNamed prefix suffix test line) (test name) (Some name) (λ t. record { spelled = e; passes = t }))
+    (λ name e. WhereSome-if (IsNamed prefix suffix test line) (test name) (Some name)
+        (λ t. record { spelled = e; passes = t }))
 
 -- a text that is empty by its length
 empty_is : (text : List ℕ) → is_empty text ≡ true → text ≡ []
 empty_is [] h = refl
-empty_is (c ∷ cs) h = let e : is_empty (c ∷ cs) ≡ false = grind (arith, nat_tests) in absurd (let f : false ≡ true = sym e ∙ h in cc)
+empty_is (c ∷ cs) h = let e : is_empty (c ∷ cs) ≡ false = grind (arith, nat_tests) in
+    absurd (let f : false ≡ true = sym e ∙ h in cc)
 
 -- the lines after the body
 record IsEnd (marked : List ℕ) : Type 0 where
@@ -75,7 +81,8 @@ record IsLast (marked : List ℕ) : Type 0 where
 -- what is read after the end of the template
 last_read : (lines : List (List ℕ)) → is_last_line lines ≡ true → IsLast (after_mark 10 lines)
 last_read [] h = record { end = []; ends = inl refl; spelled = refl }
-last_read (last ∷ []) h = record { end = codes "\n"; ends = inr refl; spelled = ap (λ t. after_mark 10 (t ∷ [])) (empty_is last h) }
+last_read (last ∷ []) h =
+    record { end = codes "\n"; ends = inr refl; spelled = ap (λ t. after_mark 10 (t ∷ [])) (empty_is last h) }
 last_read (last ∷ more ∷ lines) h = absurd (let f : false ≡ true = h in cc)
 
 -- what is read as the end of the template is written so
@@ -87,7 +94,8 @@ end_read (line ∷ lines) h =
     record {
       end = last.end;
       ends = last.ends;
-      spelled = ap (λ t. 10 ∷ (t ++ after_mark 10 lines)) (same_text line (codes "{/template}") (sym p.0)) ∙ ap (λ t. codes "\n{/template}" ++ t) last.spelled;
+      spelled = ap (λ t. 10 ∷ (t ++ after_mark 10 lines)) (same_text line (codes "{/template}") (sym p.0))
+          ∙ ap (λ t. codes "\n{/template}" ++ t) last.spelled;
     }
 
 -- the lines between the template's first line and its end, each behind a line break
@@ -130,7 +138,9 @@ past_param : (params : List (List ℕ)) (name line marked : List ℕ) (found : D
 past_param params name line marked found e m = record {
   lines = Some name ∷ m.lines;
   end = m.end;
-  spelled = ap (λ t. 10 ∷ (t ++ marked)) e ∙ (ap (λ t. 10 ∷ ((codes "{@param " ++ (name ++ codes ": string}")) ++ t)) m.spelled ∙ ap (λ t. 10 ∷ t) (param_spelled name (param_lines m.lines) (found.body ++ (codes "\n{/template}" ++ m.end))));
+  spelled = ap (λ t. 10 ∷ (t ++ marked)) e
+      ∙ (ap (λ t. 10 ∷ ((codes "{@param " ++ (name ++ codes ": string}")) ++ t)) m.spelled
+      ∙ ap (λ t. 10 ∷ t) (param_spelled name (param_lines m.lines) (found.body ++ (codes "\n{/template}" ++ m.end))));
   ends = m.ends;
   all_params = m.all_params ∙ append_assoc params (name ∷ []) (params_of m.lines);
   names = m.names;
@@ -150,7 +160,8 @@ body_line : (params : List (List ℕ)) (line : List ℕ) (lines : List (List ℕ
     → IsDistinct bytes_eq params → list_all is_line_byte line ≡ true
     → WhereSome (Middle params (after_mark 10 (line ∷ lines))) (body_read params line lines)
 body_line params line lines names distinct l =
-    WhereSome-if (Middle params (after_mark 10 (line ∷ lines))) (has_body_ends line && is_template_end lines) (Some (record { params = params; body = line }))
+    WhereSome-if (Middle params (after_mark 10 (line ∷ lines))) (has_body_ends line && is_template_end lines)
+        (Some (record { params = params; body = line }))
     (λ t. let p = both_hold (has_body_ends line) (is_template_end lines) t in
     let e = end_read lines p.1 in
     record {
@@ -167,7 +178,8 @@ body_line params line lines names distinct l =
 
 -- what is read of lines, where it holds of the lines after the first
 abbrev Reads : List (List ℕ) → Type 0
-Reads lines = (params : List (List ℕ)) → list_all is_name params ≡ true → IsDistinct bytes_eq params → WhereSome (Middle params (after_mark 10 lines)) (declared params lines)
+Reads lines = (params : List (List ℕ)) → list_all is_name params ≡ true → IsDistinct bytes_eq params
+    → WhereSome (Middle params (after_mark 10 lines)) (declared params lines)
 
 -- what is read past an empty line
 empty_line : (params : List (List ℕ)) (marked : List ℕ) (o : Option Declared) → WhereSome (Middle params marked) o
@@ -183,20 +195,35 @@ param_line_read params name line marked None e h = tt
 param_line_read params name line marked (Some found) e h = past_param params name line marked found e h
 
 -- what is read from a line that is not empty on
-line_read : (params : List (List ℕ)) (line : List ℕ) (lines : List (List ℕ)) → Reads lines → list_all is_name params ≡ true → IsDistinct bytes_eq params → list_all is_line_byte line ≡ true → (o : Option (List ℕ)) → WhereSome (IsNamed (codes "{@param ") (codes ": string}") is_name line) o → WhereSome (Middle params (after_mark 10 (line ∷ lines))) (option_map_or (λ name. cond (is_among params name) None (declared (params ++ name ∷ []) lines)) o (body_read params line lines))
+line_read : (params : List (List ℕ)) (line : List ℕ) (lines : List (List ℕ)) → Reads lines
+    → list_all is_name params ≡ true → IsDistinct bytes_eq params → list_all is_line_byte line ≡ true
+    → (o : Option (List ℕ)) → WhereSome (IsNamed (codes "{@param ") (codes ": string}") is_name line) o
+    → WhereSome (Middle params (after_mark 10 (line ∷ lines)))
+    (option_map_or (λ name. cond (is_among params name) None (declared (params ++ name ∷ []) lines)) o
+    (body_read params line lines))
 line_read params line lines reads names distinct l None h = body_line params line lines names distinct l
 line_read params line lines reads names distinct l (Some name) h =
-    else_none (Middle params (after_mark 10 (line ∷ lines))) (is_among params name) (declared (params ++ name ∷ []) lines)
+    else_none (Middle params (after_mark 10 (line ∷ lines))) (is_among params name)
+        (declared (params ++ name ∷ []) lines)
     (λ t. param_line_read params name line (after_mark 10 lines) (declared (params ++ name ∷ []) lines) h.spelled
-    (reads (params ++ name ∷ []) (list_all-both is_name params (name ∷ []) names (and_holds (is_name name) true h.passes refl)) (IsDistinct-push nat_list_eq_equiv params name distinct t)))
+    (reads (params ++ name ∷ [])
+        (list_all-both is_name params (name ∷ []) names (and_holds (is_name name) true h.passes refl))
+        (IsDistinct-push nat_list_eq_equiv params name distinct t)))
 
 -- what is read from any line on
-line_or_empty : (params : List (List ℕ)) (line : List ℕ) (lines : List (List ℕ)) → Reads lines → list_all is_name params ≡ true → IsDistinct bytes_eq params → list_all is_line_byte line ≡ true → (t : Bool) → is_empty line ≡ t → WhereSome (Middle params (after_mark 10 (line ∷ lines))) (cond t (declared params lines) (option_map_or (λ name. cond (is_among params name) None (declared (params ++ name ∷ []) lines)) (param_of line) (body_read params line lines)))
+line_or_empty : (params : List (List ℕ)) (line : List ℕ) (lines : List (List ℕ)) → Reads lines
+    → list_all is_name params ≡ true → IsDistinct bytes_eq params → list_all is_line_byte line ≡ true → (t : Bool)
+    → is_empty line ≡ t → WhereSome (Middle params (after_mark 10 (line ∷ lines)))
+    (cond t (declared params lines)
+    (option_map_or (λ name. cond (is_among params name) None (declared (params ++ name ∷ []) lines)) (param_of line)
+    (body_read params line lines)))
 line_or_empty params line lines reads names distinct l true e =
-    subst (λ (t : List ℕ). WhereSome (Middle params (10 ∷ (t ++ after_mark 10 lines))) (declared params lines)) (sym (empty_is line e))
+    subst (λ (t : List ℕ). WhereSome (Middle params (10 ∷ (t ++ after_mark 10 lines))) (declared params lines))
+        (sym (empty_is line e))
     (empty_line params (after_mark 10 lines) (declared params lines) (reads params names distinct))
 line_or_empty params line lines reads names distinct l false e =
-    line_read params line lines reads names distinct l (param_of line) (name_read (codes "{@param ") (codes ": string}") is_name line)
+    line_read params line lines reads names distinct l (param_of line)
+        (name_read (codes "{@param ") (codes ": string}") is_name line)
 
 -- what is read of the lines after the first two is written so
 declared_read : (lines : List (List ℕ)) → list_all (list_all is_line_byte) lines ≡ true → Reads lines
@@ -206,15 +233,21 @@ declared_read (line ∷ lines) l params names distinct =
     line_or_empty params line lines (declared_read lines b.1) names distinct b.0 (is_empty line) refl
 
 -- the lines of the namespace and the template, before more lines
-pub file_spelled : (namespace template rest : List ℕ) → (codes "{namespace " ++ (namespace ++ codes "}")) ++ (10 ∷ ((codes "{template " ++ (template ++ codes "}")) ++ (10 ∷ rest))) ≡ codes "{namespace " ++ (namespace ++ (codes "}\n{template " ++ (template ++ (codes "}\n" ++ rest))))
+pub file_spelled : (namespace template rest : List ℕ) → (codes "{namespace " ++ (namespace ++ codes "}"))
+    ++ (10 ∷ ((codes "{template " ++ (template ++ codes "}")) ++ (10 ∷ rest))) ≡ codes "{namespace "
+    ++ (namespace ++ (codes "}\n{template " ++ (template ++ (codes "}\n" ++ rest))))
 file_spelled namespace template rest = simp append_assoc
 
 -- the first two lines, by what is read of them
-lines_spelled : (first second marked namespace template rest : List ℕ) → first ≡ codes "{namespace " ++ (namespace ++ codes "}") → second ≡ codes "{template " ++ (template ++ codes "}") → marked ≡ 10 ∷ rest → first ++ (10 ∷ (second ++ marked)) ≡ codes "{namespace " ++ (namespace ++ (codes "}\n{template " ++ (template ++ (codes "}\n" ++ rest))))
+lines_spelled : (first second marked namespace template rest : List ℕ)
+    → first ≡ codes "{namespace " ++ (namespace ++ codes "}") → second ≡ codes "{template " ++ (template ++ codes "}")
+    → marked ≡ 10 ∷ rest → first ++ (10 ∷ (second ++ marked)) ≡ codes "{namespace "
+    ++ (namespace ++ (codes "}\n{template " ++ (template ++ (codes "}\n" ++ rest))))
 lines_spelled first second marked namespace template rest e f g =
     ap (λ t. t ++ (10 ∷ (second ++ marked))) e
     ∙ (ap (λ t. (codes "{namespace " ++ (namespace ++ codes "}")) ++ (10 ∷ (t ++ marked))) f
-    ∙ (ap (λ t. (codes "{namespace " ++ (namespace ++ codes "}")) ++ (10 ∷ ((codes "{template " ++ (template ++ codes "}")) ++ t))) g ∙ file_spelled namespace template rest))
+    ∙ (ap (λ t. (codes "{namespace " ++ (namespace ++ codes "}"))
+        ++ (10 ∷ ((codes "{template " ++ (template ++ codes "}")) ++ t))) g ∙ file_spelled namespace template rest))
 
 -- two numbers that a test tells apart differ
 apart_test : (a b : ℕ) → not (a == b) ≡ true → a ≢ b
@@ -224,9 +257,11 @@ apart_test a b h e = let t : (a == b) ≡ true = (Decides-eqb a b).1 e in let f 
 ends_apart : (body : List ℕ) → has_body_ends body ≡ true
     → (body ≢ []) × (slice_index body 0 ≢ 32) × (slice_index body (length body - 1) ≢ 32)
 ends_apart body h =
-    let p = both_hold (not (is_empty body)) (not (slice_index body 0 == 32) && not (slice_index body (length body - 1) == 32)) h in
+    let p = both_hold (not (is_empty body)) (not (slice_index body 0 == 32)
+        && not (slice_index body (length body - 1) == 32)) h in
     let q = both_hold (not (slice_index body 0 == 32)) (not (slice_index body (length body - 1) == 32)) p.1 in
-    ((λ e. apart_test (length body) 0 p.0 (ap length e)), apart_test (slice_index body 0) 32 q.0, apart_test (slice_index body (length body - 1)) 32 q.1)
+    ((λ e. apart_test (length body) 0 p.0 (ap length e)), apart_test (slice_index body 0) 32 q.0, apart_test
+        (slice_index body (length body - 1)) 32 q.1)
 
 -- the form, by what is read of its lines
 named_read : (first second : List ℕ) (lines : List (List ℕ)) (o p : Option (List ℕ)) (q : Option Declared)
@@ -238,12 +273,15 @@ named_read first second lines None p q a b m = tt
 named_read first second lines (Some namespace) None q a b m = tt
 named_read first second lines (Some namespace) (Some template) None a b m = tt
 named_read first second lines (Some namespace) (Some template) (Some found) a b m =
-    WhereSome-map (IsBody found.params found.body) (Spells (joined 10 (first ∷ second ∷ lines))) (λ body. record { namespace = namespace; template = template; params = found.params; body = body }) (parts_of found.params found.body) (body_of_parts found.params found.body m.bytes)
+    WhereSome-map (IsBody found.params found.body) (Spells (joined 10 (first ∷ second ∷ lines)))
+        (λ body. record { namespace = namespace; template = template; params = found.params; body = body })
+        (parts_of found.params found.body) (body_of_parts found.params found.body m.bytes)
     (λ parts body. record {
       lines = m.lines;
       body = found.body;
       end = m.end;
-      spelled = lines_spelled first second (after_mark 10 lines) namespace template (param_lines m.lines ++ (found.body ++ (codes "\n{/template}" ++ m.end))) a.spelled b.spelled m.spelled;
+      spelled = lines_spelled first second (after_mark 10 lines) namespace template
+          (param_lines m.lines ++ (found.body ++ (codes "\n{/template}" ++ m.end))) a.spelled b.spelled m.spelled;
       ends = m.ends;
       namespace = a.passes;
       template = b.passes;
@@ -269,13 +307,16 @@ lines_read (first ∷ []) l = tt
 lines_read (first ∷ second ∷ lines) l =
     let b = both_hold (list_all is_line_byte first) (list_all (list_all is_line_byte) (second ∷ lines)) l in
     let rest = both_hold (list_all is_line_byte second) (list_all (list_all is_line_byte) lines) b.1 in
-    named_read first second lines (namespace_of first) (template_of second) (declared [] lines) (name_read (codes "{namespace ") (codes "}") is_dotted_name first) (name_read (codes "{template ") (codes "}") is_name second) (declared_read lines rest.1 [] refl none_distinct)
+    named_read first second lines (namespace_of first) (template_of second) (declared [] lines)
+        (name_read (codes "{namespace ") (codes "}") is_dotted_name first)
+        (name_read (codes "{template ") (codes "}") is_name second) (declared_read lines rest.1 [] refl none_distinct)
 
 -- what is read of a file spells the form
 file_read : (file : List ℕ) → WhereSome (Spells file) (first_form file)
 file_read file =
     WhereSome-if (Spells file) (list_all is_file_byte file) (form_of_lines (slice_split (λ c. c == 10) file))
-    (λ t. subst (λ (text : List ℕ). WhereSome (Spells text) (form_of_lines (slice_split (λ c. c == 10) file))) (joined-slice_split 10 file) (lines_read (slice_split (λ c. c == 10) file) (lines-bytes file t)))
+    (λ t. subst (λ (text : List ℕ). WhereSome (Spells text) (form_of_lines (slice_split (λ c. c == 10) file)))
+        (joined-slice_split 10 file) (lines_read (slice_split (λ c. c == 10) file) (lines-bytes file t)))
 
 -- what is read as a form spells it
 pub first_form-Spells : (file : List ℕ) (form : FirstFile) → first_form file ≡ Some form → Spells file form

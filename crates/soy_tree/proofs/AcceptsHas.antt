@@ -42,7 +42,8 @@ use Rattle.soy_tree.specs.Values.{
 }
 use Rattle.soy_tree.specs.Members.{members}
 use Rattle.soy_tree.specs.Accepts.{accepts, accepts_member, some_accepts, accepts_fields, has_field, each_member}
-use Rattle.soy_tree.specs.Has.{Has, HasSome, HasFields, IsRecord, EachItem, EachEntry, IsListOf, IsMapOf, IsThere, field_value}
+use Rattle.soy_tree.specs.Has.{Has, HasSome, HasFields, IsRecord, EachItem, EachEntry, IsListOf, IsMapOf, IsThere}
+use Rattle.soy_tree.specs.Has.{field_value}
 use Rattle.soy_tree.proofs.SameTypes.{both, same_name}
 use Rattle.soy_tree.proofs.MembersHave.{HasAny, has_members}
 
@@ -120,9 +121,12 @@ mutual
   member_accepts_has HtmlType HtmlType v e h = h
   member_accepts_has AttributesType AttributesType v e h = h
   member_accepts_has (ListType to) (ListType from) v e h =
-      list_gives (λ w. Has w from) (λ w. Has w to) v (λ w k. each_gives (accepts_member to) (Has w to) w (members from) (λ u d g. member_accepts_has to u w d g) e (has_members w from k)) h
+      list_gives (λ w. Has w from) (λ w. Has w to) v
+          (λ w k. each_gives (accepts_member to) (Has w to) w (members from) (λ u d g. member_accepts_has to u w d g)
+          e (has_members w from k)) h
   member_accepts_has (MapType to) (MapType from) v e h =
-      map_gives (λ w. Has w from) (λ w. Has w to) v (λ w k. each_gives (accepts_member to) (Has w to) w (members from) (λ u d g. member_accepts_has to u w d g) e (has_members w from k)) h
+      map_gives (λ w. Has w from) (λ w. Has w to) v (λ w k. each_gives (accepts_member to) (Has w to) w (members from)
+          (λ u d g. member_accepts_has to u w d g) e (has_members w from k)) h
   member_accepts_has (RecordType to) (RecordType from) v e h = accepts_fields_has to from v e h
   member_accepts_has (UnionType to) from v e h = some_accepts_has to from v e h
   member_accepts_has _ _ v e h = let no : ⊥ = cc in absurd no
@@ -140,7 +144,9 @@ mutual
   accepts_fields_has (field name t fields) from v e h =
       let parts : (has_field name (each_member (accepts_member t)) from ≡ true) × (accepts_fields fields from ≡ true) =
       both (has_field name (each_member (accepts_member t)) from) (accepts_fields fields from) e in (
-        field_gives from name v (each_member (accepts_member t)) (λ w. Has w t) (λ w u d k. each_gives (accepts_member t) (Has w t) w (members u) (λ x c g. member_accepts_has t x w c g) d (has_members w u k))
+        field_gives from name v (each_member (accepts_member t)) (λ w. Has w t)
+            (λ w u d k. each_gives (accepts_member t) (Has w t) w (members u) (λ x c g. member_accepts_has t x w c g)
+            d (has_members w u k))
             parts.0 h,
         accepts_fields_has fields from v parts.1 h,
       )

@@ -5,4 +5,5 @@ use Rattle.std.specs.Slice.Iter.{chunks_rest}
 use Rattle.escapers.proofs.alphanumeric.are_alphanumeric.Given as goal
 
 abbrev pub invariant-loop-chunk : goal.invariant-loop-chunk
-invariant-loop-chunk l = list_all is_ascii_alphanumeric (chunks_rest l.chunk-iterator) ≡ list_all is_ascii_alphanumeric l.bytes
+invariant-loop-chunk l = list_all is_ascii_alphanumeric (chunks_rest l.chunk-iterator)
+    ≡ list_all is_ascii_alphanumeric l.bytes

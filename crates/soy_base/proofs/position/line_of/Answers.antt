@@ -12,10 +12,12 @@ loop-i-init c = record {
 }
 
 pub after-position-requires-clause-line : goal.after-position-requires-clause-line
-after-position-requires-clause-line c = omega (arith, breaks_within-≤ c.args.text.now c.loop-i.i, length-take c.index_of.result c.args.text.now)
+after-position-requires-clause-line c =
+    omega (arith, breaks_within-≤ c.args.text.now c.loop-i.i, length-take c.index_of.result c.args.text.now)
 
 pub after-position-requires-clause-column : goal.after-position-requires-clause-column
-after-position-requires-clause-column c = omega (arith, characters_before-≤ c.args.text.now c.loop-i.i, length-take c.index_of.result c.args.text.now)
+after-position-requires-clause-column c =
+    omega (arith, characters_before-≤ c.args.text.now c.loop-i.i, length-take c.index_of.result c.args.text.now)
 
 pub loop-i-preserved : goal.loop-i-preserved
 loop-i-preserved c = record {

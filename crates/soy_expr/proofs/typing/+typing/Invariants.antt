@@ -25,4 +25,6 @@ abbrev pub decreases-coalesce_typing : goal.decreases-coalesce_typing
 decreases-coalesce_typing l = 2 * (node_count (view_expr l.left.now) + node_count (view_expr l.right.now)) + 1
 
 abbrev pub decreases-choice_typing : goal.decreases-choice_typing
-decreases-choice_typing l = 2 * (node_count (view_expr l.when.now) + (node_count (view_expr l.left.now) + node_count (view_expr l.right.now))) + 1
+decreases-choice_typing l =
+    2 * (node_count (view_expr l.when.now) + (node_count (view_expr l.left.now) + node_count (view_expr l.right.now)))
+    + 1

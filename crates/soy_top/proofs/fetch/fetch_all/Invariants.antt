@@ -10,5 +10,6 @@ invariant-loop-file g l = record {
   held : g.L.Library.held l.files ≡ g.L.Library.held l.initial.files;
   later : g.L.Library.faults l.initial.files ≤ g.L.Library.faults l.files;
   untouched : view_files l.wanted ≡ [] → l.files ≡ l.initial.files;
-  so_far : FetchedSoFar (known_files (g.L.Library.held l.initial.files) (view_files l.wanted)) (view_files l.wanted) (view_files (drop l.file-index l.wanted)) (view_fetched l.fetched);
+  so_far : FetchedSoFar (known_files (g.L.Library.held l.initial.files) (view_files l.wanted)) (view_files l.wanted)
+      (view_files (drop l.file-index l.wanted)) (view_fetched l.fetched);
 }

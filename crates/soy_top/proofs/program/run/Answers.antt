@@ -10,7 +10,8 @@ pub returns-clause-usage_only : goal.returns-clause-usage_only
 returns-clause-usage_only g c = usage_only _ _ _ c.perform_and_conclude.ensures.course
 
 pub returns-clause-usage_due : goal.returns-clause-usage_due
-returns-clause-usage_due g c = λ known. usage_due _ _ _ (names-at-usage _ (command_words c.args.words.now) known) c.perform_and_conclude.ensures.course known
+returns-clause-usage_due g c = λ known. usage_due _ _ _ (names-at-usage _ (command_words c.args.words.now) known)
+    c.perform_and_conclude.ensures.course known
 
 pub returns-clause-read_only : goal.returns-clause-read_only
 returns-clause-read_only g c = read_only _ _ _ c.perform_and_conclude.ensures.course
@@ -40,10 +41,12 @@ pub returns-clause-write_only : goal.returns-clause-write_only
 returns-clause-write_only g c = write_only _ _ _ c.perform_and_conclude.ensures.course
 
 pub returns-clause-out_part : goal.returns-clause-out_part
-returns-clause-out_part g c = out_part _ _ _ (ap g.K.Sink.taken) (ap g.E.Sink.taken) c.perform_and_conclude.ensures.course
+returns-clause-out_part g c = out_part _ _ _ (ap g.K.Sink.taken) (ap g.E.Sink.taken)
+    c.perform_and_conclude.ensures.course
 
 pub returns-clause-err_part : goal.returns-clause-err_part
-returns-clause-err_part g c = err_part _ _ _ (ap g.K.Sink.taken) (ap g.E.Sink.taken) c.perform_and_conclude.ensures.course
+returns-clause-err_part g c = err_part _ _ _ (ap g.K.Sink.taken) (ap g.E.Sink.taken)
+    c.perform_and_conclude.ensures.course
 
 pub returns-clause-nothing_written : goal.returns-clause-nothing_written
 returns-clause-nothing_written g c = nothing_written _ _ _ c.perform_and_conclude.ensures.course

@@ -9,7 +9,8 @@ returns-clause-fits c =
     let body = bytes_from c.args.plan (source c.args.plan c.args.text.now) 0 in
     record {
       plan = c.requires.plan;
-      boundary = IsCharBoundary-start (source c.args.plan c.args.text.now) (subst IsUtf8 c.source.ensures c.source.utf8);
+      boundary = IsCharBoundary-start (source c.args.plan c.args.text.now)
+          (subst IsUtf8 c.source.ensures c.source.utf8);
       closing = c.requires.closing;
       count = omega (
         arith,
