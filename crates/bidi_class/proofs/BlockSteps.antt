@@ -40,9 +40,9 @@ ends (step ∷ steps) = step.0 ∷ ends steps
 abbrev pub latin_steps : List (ℕ × Step)
 latin_steps =
     (0x0085, All BN) ∷ (0x0086, All B) ∷ (0x00A0, All BN) ∷ (0x00A1, All CS) ∷ (0x00A2, Any) ∷ (0x00A6, All ET)
-        ∷ (0x00AD, Any)
+    ∷ (0x00AD, Any)
     ∷ (0x00AE, All BN) ∷ (0x00B0, Any) ∷ (0x00B2, All ET) ∷ (0x00B4, All EN) ∷ (0x00B9, Any) ∷ (0x00BA, All EN)
-        ∷ (0x00BC, Any)
+    ∷ (0x00BC, Any)
     ∷ (0x00BF, All ON) ∷ (0x0590, Any) ∷ []
 
 -- the table's classes are those of the steps
@@ -57,9 +57,9 @@ pub ruleset latin_classes = (nat_tests, latin)
 abbrev pub right_to_left_steps : List (ℕ × Step)
 right_to_left_steps =
     (0x0600, Letters R) ∷ (0x0606, All AN) ∷ (0x060C, Letters AL) ∷ (0x060D, All CS) ∷ (0x061C, Letters AL)
-        ∷ (0x061D, All AL) ∷ (0x0660, Letters AL)
+    ∷ (0x061D, All AL) ∷ (0x0660, Letters AL)
     ∷ (0x066A, All AN) ∷ (0x066B, All ET) ∷ (0x066D, All AN) ∷ (0x06DD, Letters AL) ∷ (0x06DE, All AN)
-        ∷ (0x06F0, Letters AL) ∷ (0x06FA, All EN)
+    ∷ (0x06F0, Letters AL) ∷ (0x06FA, All EN)
     ∷ (0x07C0, Letters AL) ∷ (0x0860, Letters R) ∷ (0x0900, Letters AL) ∷ []
 
 -- the table's classes are those of the steps
@@ -74,9 +74,9 @@ pub ruleset right_to_left_classes = (nat_tests, right_to_left)
 abbrev pub spaces_steps : List (ℕ × Step)
 spaces_steps =
     (0x200B, All WS) ∷ (0x200E, All BN) ∷ (0x200F, All L) ∷ (0x2010, All R) ∷ (0x2028, Any) ∷ (0x2029, All WS)
-        ∷ (0x202A, All B)
+    ∷ (0x202A, All B)
     ∷ (0x202B, All LRE) ∷ (0x202C, All RLE) ∷ (0x202D, All PDF) ∷ (0x202E, All LRO) ∷ (0x202F, All RLO)
-        ∷ (0x2030, All CS) ∷ []
+    ∷ (0x2030, All CS) ∷ []
 
 -- the table's classes are those of the steps
 pub spaces : (c : ℕ) → 0x2000 ≤ c → bidi_class c ≡ class_by_steps spaces_steps c
@@ -90,7 +90,7 @@ pub ruleset spaces_classes = (nat_tests, spaces)
 abbrev pub punctuation_steps : List (ℕ × Step)
 punctuation_steps =
     (0x2035, All ET) ∷ (0x2044, Any) ∷ (0x2045, All CS) ∷ (0x205F, Any) ∷ (0x2060, All WS) ∷ (0x2065, All BN)
-        ∷ (0x2066, Any)
+    ∷ (0x2066, Any)
     ∷ (0x2067, All LRI) ∷ (0x2068, All RLI) ∷ (0x2069, All FSI) ∷ (0x206A, All PDI) ∷ (0x2070, Any) ∷ []
 
 -- the table's classes are those of the steps
@@ -105,7 +105,7 @@ pub ruleset punctuation_classes = (nat_tests, punctuation)
 abbrev pub symbols_steps : List (ℕ × Step)
 symbols_steps =
     (0x2071, All EN) ∷ (0x2074, Any) ∷ (0x207A, All EN) ∷ (0x207C, All ES) ∷ (0x2080, Any) ∷ (0x208A, All EN)
-        ∷ (0x20A0, Any)
+    ∷ (0x20A0, Any)
     ∷ (0x20D0, All ET) ∷ (0x212E, Any) ∷ (0x212F, All ET) ∷ (0x2212, Any) ∷ (0x2213, All ES) ∷ (0x2214, All ET) ∷ []
 
 -- the table's classes are those of the steps
@@ -120,7 +120,7 @@ pub ruleset symbols_classes = (nat_tests, symbols)
 abbrev pub presentation_steps : List (ℕ × Step)
 presentation_steps =
     (0xFB50, Letters R) ∷ (0xFDD0, Letters AL) ∷ (0xFDF0, Any) ∷ (0xFE00, Letters AL) ∷ (0xFE70, Any)
-        ∷ (0xFEFF, Letters AL) ∷ (0xFF00, All BN) ∷ []
+    ∷ (0xFEFF, Letters AL) ∷ (0xFF00, All BN) ∷ []
 
 -- the table's classes are those of the steps
 pub presentation : (c : ℕ) → 0xFB1D ≤ c → bidi_class c ≡ class_by_steps presentation_steps c
@@ -134,7 +134,7 @@ pub ruleset presentation_classes = (nat_tests, presentation)
 abbrev pub old_scripts_steps : List (ℕ × Step)
 old_scripts_steps =
     (0x10D00, Letters R) ∷ (0x10D40, Letters AL) ∷ (0x10EC0, Letters R) ∷ (0x10F00, Letters AL) ∷ (0x10F30, Letters R)
-        ∷ (0x10F70, Letters AL) ∷ (0x11000, Letters R) ∷ []
+    ∷ (0x10F70, Letters AL) ∷ (0x11000, Letters R) ∷ []
 
 -- the table's classes are those of the steps
 pub old_scripts : (c : ℕ) → 0x10800 ≤ c → bidi_class c ≡ class_by_steps old_scripts_steps c
@@ -148,7 +148,7 @@ pub ruleset old_scripts_classes = (nat_tests, old_scripts)
 abbrev pub new_scripts_steps : List (ℕ × Step)
 new_scripts_steps =
     (0x1EC70, Letters R) ∷ (0x1ECC0, Letters AL) ∷ (0x1ED00, Letters R) ∷ (0x1ED50, Letters AL) ∷ (0x1EE00, Letters R)
-        ∷ (0x1EF00, Letters AL) ∷ (0x1F000, Letters R) ∷ []
+    ∷ (0x1EF00, Letters AL) ∷ (0x1F000, Letters R) ∷ []
 
 -- the table's classes are those of the steps
 pub new_scripts : (c : ℕ) → 0x1E800 ≤ c → bidi_class c ≡ class_by_steps new_scripts_steps c

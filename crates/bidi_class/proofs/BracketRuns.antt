@@ -28,7 +28,7 @@ is_other low high c other above below h = grind (arith, nat_tests)
 passed : {V : Type 0} (outside first second : Bool) (x y z w : V) → (outside ≡ true → first ≡ false)
     → (outside ≡ true → second ≡ false) → z ≡ w
     → (if first then x else (if second then y else z))
-        ≡ (if outside then w else (if first then x else (if second then y else w)))
+    ≡ (if outside then w else (if first then x else (if second then y else w)))
 passed true first second x y z w not_first not_second e = grind arith
 passed false first second x y z w not_first not_second e = grind arith
 
@@ -39,7 +39,7 @@ first_bracket-in_run low high [] c above below = refl
 first_bracket-in_run low high (pair ∷ pairs) c above below =
     passed (is_outside low high pair.0 && is_outside low high pair.1) (c == pair.0) (c == pair.1)
     (Some (Opens (pair_character pair))) (Some (Closes (pair_character pair))) (first_bracket pairs c)
-        (bracket_in_run low high pairs c)
+    (bracket_in_run low high pairs c)
     (λ outside. is_other low high c pair.0 above below (grind (arith, nat_tests)))
     (λ outside. is_other low high c pair.1 above below (grind (arith, nat_tests)))
     (first_bracket-in_run low high pairs c above below)
@@ -55,6 +55,6 @@ pub first_bracket-by_runs : (pairs : List (ℕ × ℕ)) (low : ℕ) (ends : List
 first_bracket-by_runs pairs low [] c above = refl
 first_bracket-by_runs pairs low (end ∷ ends) c above =
     cond_both (nat_lt c end) (bracket_in_run low (end - 1) pairs c) (bracket_by_runs pairs end ends c)
-        (λ b. first_bracket pairs c ≡ b)
+    (λ b. first_bracket pairs c ≡ b)
     (λ before. first_bracket-in_run low (end - 1) pairs c above (omega (arith, ltb-true c end before)))
     (λ after. first_bracket-by_runs pairs end ends c (ltb-false c end after))

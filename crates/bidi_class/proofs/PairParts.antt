@@ -75,13 +75,18 @@ is_pair-parts text first second h =
     let ends = and_parts (nat_lt first second && opened) closed both.0 in
     let starts = and_parts (nat_lt first second) opened ends.0 in
     let between = and_parts (is_even inside) (is_led inside) both.1 in
-    record { ordered = ltb-true first second starts.0; opening = starts.1; closing = ends.1; even = between.0;
-        led = between.1 }
+    record {
+      ordered = ltb-true first second starts.0;
+      opening = starts.1;
+      closing = ends.1;
+      even = between.0;
+      led = between.1;
+    }
 
 pub is_pair-from : (text : List ℕ) (first second : ℕ) → IsPair text first second → is_pair text first second ≡ true
 is_pair-from text first second pair =
     and_from _ _ (and_from _ _ (and_from _ _ (lt-ltb first second pair.ordered) pair.opening) pair.closing)
-        (and_from _ _ pair.even pair.led)
+    (and_from _ _ pair.even pair.led)
 
 -- the text between two offsets, from the first and up to the second
 pub between_from : (text : List ℕ) (first second n : ℕ) → second ≡ suc first + n
@@ -97,7 +102,7 @@ between_until text first second ordered =
     let n : ℕ = second - suc first in
     let at : second ≡ suc first + n = omega arith in
     between_from text first second n at ∙ sym (drop-take (suc first) n text)
-        ∙ ap (λ k. drop (suc first) (take k text)) (sym at)
+    ∙ ap (λ k. drop (suc first) (take k text)) (sym at)
 
 -- ---- an initiator is paired with one PDI at most
 
@@ -117,7 +122,7 @@ closing_within text index closing =
     ⊎_elim
     (λ within. within)
     (λ past. absurd (both_ways (is_closing 0) null_is_none (ap is_closing (sym (get_or_past text index 0 past))
-        ∙ closing)))
+    ∙ closing)))
     (cases_lt index (length text))
 
 -- the nearer of two PDIs that are paired with an initiator leaves no initiator open for the other
@@ -130,25 +135,25 @@ no_later text first second other pair later before =
     let at : second ≡ suc first + n = omega (arith, pair.ordered) in
     let inside : slice_range text (first + 1) second ≡ take n rest = between_from text first second n at in
     let around : slice_range text (first + 1) other ≡ take m rest =
-        between_from text first other m (omega (arith, later.ordered)) in
+    between_from text first other m (omega (arith, later.ordered)) in
     let long : n < length rest =
-        omega (arith, pair.ordered, closing_within text second pair.closing, length-drop (suc first) text) in
+    omega (arith, pair.ordered, closing_within text second pair.closing, length-drop (suc first) text) in
     let even : initiators (take n rest) ≡ closings (take n rest) =
     eqb-true (initiators (take n rest)) (closings (take n rest)) (subst (λ cs. is_even cs ≡ true) inside pair.even) in
     let closing : is_closing (slice_index rest n) ≡ true =
     ap is_closing (get_or-drop (suc first) text n 0 ∙ ap (λ k. slice_index text k) (sym at)) ∙ pair.closing in
     let one_more : closings (take (n + 1) rest) ≡ closings (take n rest) + 1 =
-        count_by_more_yes is_closing rest n 0 long closing in
+    count_by_more_yes is_closing rest n 0 long closing in
     let no_more : initiators (take (n + 1) rest) ≡ initiators (take n rest) =
     count_by_more_no is_initiator rest n 0 long (class_only (bidi_class (slice_index rest n)) closing) in
     let led : is_led (take m rest) ≡ true = subst (λ cs. is_led cs ≡ true) around later.led in
     let short : n + 1 ≤ m = omega (arith, before, pair.ordered) in
     let m_long : length (take m rest) ≡ m =
     length-take-le m rest
-        (omega (arith, closing_within text other later.closing, later.ordered, length-drop (suc first) text)) in
+    (omega (arith, closing_within text other later.closing, later.ordered, length-drop (suc first) text)) in
     let prefix : closings (take (n + 1) rest) ≤ initiators (take (n + 1) rest) =
     subst (λ cs. closings cs ≤ initiators cs) (take-take (n + 1) m rest short)
-        (from_led (take m rest) (n + 1) led (omega (arith, m_long, short))) in
+    (from_led (take m rest) (n + 1) led (omega (arith, m_long, short))) in
     omega (arith, even, one_more, no_more, prefix)
 
 pub one_closing : (text : List ℕ) (first second other : ℕ) → is_pair text first second ≡ true

@@ -37,7 +37,7 @@ is_in_all low high c (range ∷ ranges) above below h =
       | inl here ↦
           let parts = and_parts (nat_le range.0 low) (nat_le high range.1) here in
           or_left _ _ (and_from _ _ (le-leb range.0 c (omega (arith, leb-true range.0 low parts.0)))
-              (le-leb c range.1 (omega (arith, leb-true high range.1 parts.1))))
+          (le-leb c range.1 (omega (arith, leb-true high range.1 parts.1))))
       | inr there ↦ or_right _ _ (is_in_all low high c ranges above below there)
     ]
 
@@ -68,12 +68,12 @@ pub first_class-class_in_run : (low high : ℕ) (rows : List (Class × Character
 first_class-class_in_run low high [] c above below = refl
 first_class-class_in_run low high ((class, Points ranges) ∷ rows) c above below =
     chosen (list_any (is_in c) ranges) (has_all low high ranges) (has_none low high ranges) class (first_class rows c)
-        (class_in_run low high rows c)
+    (class_in_run low high rows c)
     (is_in_all low high c ranges above below) (is_in_none low high c ranges above below)
-        (first_class-class_in_run low high rows c above below)
+    (first_class-class_in_run low high rows c above below)
 first_class-class_in_run low high ((class, Categories categories) ∷ rows) c above below =
     ap (λ rest. if is_one_of (general_category c) categories then class else rest)
-        (first_class-class_in_run low high rows c above below)
+    (first_class-class_in_run low high rows c above below)
 
 -- the class of a character, by the first of the runs that ends past it; each run begins where the one before it ends
 abbrev pub class_by_runs : List (Class × Characters) → ℕ → List ℕ → ℕ → Class
@@ -86,6 +86,6 @@ pub first_class-class_by_runs : (rows : List (Class × Characters)) (low : ℕ) 
 first_class-class_by_runs rows low [] c above = refl
 first_class-class_by_runs rows low (end ∷ ends) c above =
     cond_both (nat_lt c end) (class_in_run low (end - 1) rows c) (class_by_runs rows end ends c)
-        (λ class. first_class rows c ≡ class)
+    (λ class. first_class rows c ≡ class)
     (λ before. first_class-class_in_run low (end - 1) rows c above (omega (arith, ltb-true c end before)))
     (λ after. first_class-class_by_runs rows end ends c (ltb-false c end after))

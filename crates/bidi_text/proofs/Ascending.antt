@@ -24,9 +24,9 @@ increasing-left_out prefix (c ∷ cs) =
     elim (cases_Bool (is_dropped (prefix ++ (c ∷ cs)) (length prefix, c))) [
       | inl out ↦ subst IsStrictlyIncreasing (sym (left_out-cons prefix c cs true out))
           (increasing-cons (length (encode_utf8_all prefix)) (length (encode_utf8_all (prefix ++ c ∷ [])))
-              (left_out (prefix ++ c ∷ []) cs)
+          (left_out (prefix ++ c ∷ []) cs)
           (omega (arith, prefix_byte-snoc prefix c, length-encode c, (len_utf8_bounds c).0))
-              (left_out_from (prefix ++ c ∷ []) cs) (increasing-left_out (prefix ++ c ∷ []) cs))
+          (left_out_from (prefix ++ c ∷ []) cs) (increasing-left_out (prefix ++ c ∷ []) cs))
       | inr kept ↦ subst IsStrictlyIncreasing (sym (left_out-cons prefix c cs false kept))
           (increasing-left_out (prefix ++ c ∷ []) cs)
     ]

@@ -27,25 +27,25 @@ HeadFrom low (n ∷ ns) = low ≤ n
 pub left_out-cons : (prefix : List ℕ) (c : ℕ) (cs : List ℕ) (flag : Bool)
     → is_dropped (prefix ++ (c ∷ cs)) (length prefix, c) ≡ flag
     → left_out prefix (c ∷ cs) ≡ (if flag then length (encode_utf8_all prefix) ∷ [] else []) ++ left_out
-        (prefix ++ c ∷ []) cs
+    (prefix ++ c ∷ []) cs
 left_out-cons prefix c cs flag is =
     ap (λ l. l ++ flat_map (dropped_byte (prefix ++ (c ∷ cs))) (enumerate_from (length prefix + 1) cs))
-        (dropped_byte_is prefix c cs flag is)
+    (dropped_byte_is prefix c cs flag is)
     ∙ ap (λ n. (if flag then length (encode_utf8_all prefix) ∷ [] else []) ++ flat_map
-        (dropped_byte (prefix ++ (c ∷ cs))) (enumerate_from n cs)) (sym (length-append prefix (c ∷ [])))
+    (dropped_byte (prefix ++ (c ∷ cs))) (enumerate_from n cs)) (sym (length-append prefix (c ∷ [])))
     ∙ ap (λ t. (if flag then length (encode_utf8_all prefix) ∷ [] else []) ++ flat_map (dropped_byte t)
-        (enumerate_from (length (prefix ++ c ∷ [])) cs)) (sym (append_assoc prefix (c ∷ []) cs))
+    (enumerate_from (length (prefix ++ c ∷ [])) cs)) (sym (append_assoc prefix (c ∷ []) cs))
 
 pub left_clean-cons : (prefix : List ℕ) (c : ℕ) (cs : List ℕ) (flag : Bool)
     → is_dropped (prefix ++ (c ∷ cs)) (length prefix, c) ≡ flag
     → left_clean prefix (c ∷ cs) ≡ (if flag then [] else spaced c ∷ []) ++ left_clean (prefix ++ c ∷ []) cs
 left_clean-cons prefix c cs flag is =
     ap (λ t. (if t then [] else spaced c ∷ []) ++ flat_map (cleaned_character (prefix ++ (c ∷ cs)))
-        (enumerate_from (length prefix + 1) cs)) is
+    (enumerate_from (length prefix + 1) cs)) is
     ∙ ap (λ n. (if flag then [] else spaced c ∷ []) ++ flat_map (cleaned_character (prefix ++ (c ∷ cs)))
-        (enumerate_from n cs)) (sym (length-append prefix (c ∷ [])))
+    (enumerate_from n cs)) (sym (length-append prefix (c ∷ [])))
     ∙ ap (λ t. (if flag then [] else spaced c ∷ []) ++ flat_map (cleaned_character t)
-        (enumerate_from (length (prefix ++ c ∷ [])) cs)) (sym (append_assoc prefix (c ∷ []) cs))
+    (enumerate_from (length (prefix ++ c ∷ [])) cs)) (sym (append_assoc prefix (c ∷ []) cs))
 
 -- nothing is left out before the character that comes next
 pub left_out_from : (prefix cs : List ℕ) → HeadFrom (length (encode_utf8_all prefix)) (left_out prefix cs)
@@ -56,7 +56,7 @@ left_out_from prefix (c ∷ cs) =
           (omega arith)
       | inr kept ↦ subst (HeadFrom (length (encode_utf8_all prefix))) (sym (left_out-cons prefix c cs false kept))
           (weaker (length (encode_utf8_all prefix)) (length (encode_utf8_all (prefix ++ c ∷ [])))
-              (left_out (prefix ++ c ∷ []) cs)
+          (left_out (prefix ++ c ∷ []) cs)
           (omega (arith, prefix_byte-snoc prefix c)) (left_out_from (prefix ++ c ∷ []) cs))
     ]
   where
@@ -82,8 +82,15 @@ same_after false n xs ys e = e
 
 -- nothing is cleaned before the text
 pub cleaned_start : (text : List ℕ) → IsUtf8 text → CleanedSoFar (dropped_bytes (chars text)) [] 0 text text
-cleaned_start text utf8 = record { prefix = []; whole = refl; begins = refl; leaves_out = refl; cleans = refl;
-    utf8 = utf8; bounded = omega arith }
+cleaned_start text utf8 = record {
+  prefix = [];
+  whole = refl;
+  begins = refl;
+  leaves_out = refl;
+  cleans = refl;
+  utf8 = utf8;
+  bounded = omega arith;
+}
 
 module _ {offsets cleaned : List ℕ} {at next c : ℕ} {bytes rest text : List ℕ}
     (so_far : CleanedSoFar offsets cleaned at bytes text) (reads : ReadsOne c at next bytes rest) where
@@ -94,7 +101,7 @@ module _ {offsets cleaned : List ℕ} {at next c : ℕ} {bytes rest text : List 
   goes_on : (flag : Bool) (later cleaned' : List ℕ) → is_dropped (so_far.prefix ++ (c ∷ chars rest))
       (length so_far.prefix, c) ≡ flag
       → offsets ≡ (if flag then at ∷ [] else []) ++ later → cleaned' ≡ cleaned ++ (if flag then [] else spaced c ∷ [])
-          → CleanedSoFar later cleaned' next rest text
+      → CleanedSoFar later cleaned' next rest text
   goes_on flag later cleaned' is left grows =
       let prefix : List ℕ = so_far.prefix ++ c ∷ [] in
       let byte : at ≡ length (encode_utf8_all so_far.prefix) = so_far.begins in
@@ -111,7 +118,7 @@ module _ {offsets cleaned : List ℕ} {at next c : ℕ} {bytes rest text : List 
         cleans = ap (λ l. l ++ left_clean prefix (chars rest)) grows
             ∙ append_assoc cleaned shown (left_clean prefix (chars rest))
             ∙ ap (λ l. cleaned ++ l) (sym (left_clean-cons so_far.prefix c (chars rest) flag is))
-                ∙ ap (λ cs. cleaned ++ left_clean so_far.prefix cs) (sym read) ∙ so_far.cleans;
+            ∙ ap (λ cs. cleaned ++ left_clean so_far.prefix cs) (sym read) ∙ so_far.cleans;
         utf8 = IsUtf8-past_char bytes rest c so_far.utf8 reads.split;
         bounded = omega (arith, reads.past, so_far.bounded, ap length reads.split, length-append (encode_utf8 c) rest);
       }
@@ -125,11 +132,17 @@ module _ {offsets cleaned : List ℕ} {at next c : ℕ} {bytes rest text : List 
             let prefix : List ℕ = so_far.prefix ++ c ∷ [] in
             let same : left_out prefix (chars rest) ≡ at ∷ later =
             sym (so_far.leaves_out ∙ ap (left_out so_far.prefix) read ∙ left_out-cons so_far.prefix c (chars rest)
-                false kept) ∙ left in
+            false kept) ∙ left in
             let late : length (encode_utf8_all prefix) ≤ at = subst (HeadFrom (length (encode_utf8_all prefix))) same
-                (left_out_from prefix (chars rest)) in
-            absurd (omega (arith, late, so_far.begins, prefix_byte-snoc so_far.prefix c, length-encode c,
-                (len_utf8_bounds c).0))
+            (left_out_from prefix (chars rest)) in
+            absurd (omega (
+              arith,
+              late,
+              so_far.begins,
+              prefix_byte-snoc so_far.prefix c,
+              length-encode c,
+              (len_utf8_bounds c).0,
+            ))
       ]
 
   -- it is not

@@ -85,17 +85,17 @@ left_clean-Paired prefix (c ∷ cs) =
     elim (first c cs) [
       | BeginsLone b e none counts ↦
           let out : is_dropped (prefix ++ (c ∷ cs)) (length prefix, c) ≡ true = dropped_begins prefix c cs b
-              ∙ ap not (le-ltb 0 (lone_closings cs) (omega arith)) in
+          ∙ ap not (le-ltb 0 (lone_closings cs) (omega arith)) in
           let same : left_clean prefix (c ∷ cs) ≡ later = left_clean-cons prefix c cs true out in
           subst (Paired begun (c ∷ cs)) (sym same)
-              (record { closings_are = omega (arith, rest.closings_are); initiators_are = rest.initiators_are })
+          (record { closings_are = omega (arith, rest.closings_are); initiators_are = rest.initiators_are })
       | BeginsMatched b e some counts ↦
           let kept : is_dropped (prefix ++ (c ∷ cs)) (length prefix, c) ≡ false = dropped_begins prefix c cs b
-              ∙ ap not (lt-ltb 0 (lone_closings cs) some) in
+          ∙ ap not (lt-ltb 0 (lone_closings cs) some) in
           let same : left_clean prefix (c ∷ cs) ≡ c ∷ later = left_clean-cons prefix c cs false kept
-              ∙ ap (λ k. k ∷ later) (spaced-begins c b) in
+          ∙ ap (λ k. k ∷ later) (spaced-begins c b) in
           let more : lone_closings later ≡ min (begun + 1) (lone_closings cs) = rest.closings_are
-              ∙ ap (λ n. min n (lone_closings cs)) (lone_initiators-begins prefix c b e) in
+          ∙ ap (λ n. min n (lone_closings cs)) (lone_initiators-begins prefix c b e) in
           subst (Paired begun (c ∷ cs)) (sym same) (record {
             closings_are = omega (arith, lone_closings-begins c later b, more);
             initiators_are = cond-true _ _ _ b
@@ -104,32 +104,32 @@ left_clean-Paired prefix (c ∷ cs) =
           })
       | EndsOne b e counts ↦
           let is : is_dropped (prefix ++ (c ∷ cs)) (length prefix, c) ≡ not (nat_lt 0 begun) =
-              dropped_ends prefix c cs b e in
+          dropped_ends prefix c cs b e in
           let more : lone_closings later ≡ min (begun - 1) (lone_closings cs) = rest.closings_are
-              ∙ ap (λ n. min n (lone_closings cs)) (lone_initiators-ends prefix c b e) in
+          ∙ ap (λ n. min n (lone_closings cs)) (lone_initiators-ends prefix c b e) in
           elim (cases_lt 0 begun) [
             | inl some ↦
                 let kept : is_dropped (prefix ++ (c ∷ cs)) (length prefix, c) ≡ false =
-                    is ∙ ap not (lt-ltb 0 begun some) in
+                is ∙ ap not (lt-ltb 0 begun some) in
                 let same : left_clean prefix (c ∷ cs) ≡ c ∷ later = left_clean-cons prefix c cs false kept
-                    ∙ ap (λ k. k ∷ later) (spaced-ends c e) in
+                ∙ ap (λ k. k ∷ later) (spaced-ends c e) in
                 subst (Paired begun (c ∷ cs)) (sym same) (record {
                   closings_are = omega (arith, lone_closings-ends c later b e, more);
                   initiators_are = cond-false _ _ _ b ∙ rest.initiators_are;
                 })
             | inr none ↦
                 let out : is_dropped (prefix ++ (c ∷ cs)) (length prefix, c) ≡ true =
-                    is ∙ ap not (le-ltb 0 begun none) in
+                is ∙ ap not (le-ltb 0 begun none) in
                 let same : left_clean prefix (c ∷ cs) ≡ later = left_clean-cons prefix c cs true out in
                 subst (Paired begun (c ∷ cs)) (sym same)
-                    (record { closings_are = omega (arith, more); initiators_are = rest.initiators_are })
+                (record { closings_are = omega (arith, more); initiators_are = rest.initiators_are })
           ]
       | StaysOut b e counts ↦
           let kept : is_dropped (prefix ++ (c ∷ cs)) (length prefix, c) ≡ false = dropped_stays prefix c cs b e in
           let same : left_clean prefix (c ∷ cs) ≡ spaced c ∷ later = left_clean-cons prefix c cs false kept in
           let roles = spaced-stays c b e in
           let more : lone_closings later ≡ min begun (lone_closings cs) = rest.closings_are
-              ∙ ap (λ n. min n (lone_closings cs)) (lone_initiators-stays prefix c b e) in
+          ∙ ap (λ n. min n (lone_closings cs)) (lone_initiators-stays prefix c b e) in
           subst (Paired begun (c ∷ cs)) (sym same) (record {
             closings_are = lone_closings-stays (spaced c) later roles.0 roles.1 ∙ more
                 ∙ ap (min begun) (sym (lone_closings-stays c cs b e));
@@ -146,7 +146,7 @@ dropped_bytes-cleaned text =
     let no_initiators : lone_initiator_bytes 0 (cleaned_text text) ≡ [] =
     nil_from_length _ (length-lone_initiator_bytes 0 (cleaned_text text) ∙ paired.initiators_are) in
     dropped_bytes-lone_bytes (cleaned_text text) ∙ ap (λ l. l ++ lone_initiator_bytes 0 (cleaned_text text))
-        no_closings ∙ no_initiators
+    no_closings ∙ no_initiators
 
 -- where nothing is left out from a character on, that character is kept
 kept_from : (prefix : List ℕ) (c : ℕ) (cs : List ℕ) → left_out prefix (c ∷ cs) ≡ []
@@ -199,7 +199,7 @@ controls_paired prefix (c ∷ cs) (suc n) none within control =
     let later = controls_paired (prefix ++ c ∷ []) cs n (kept_from prefix c cs none).1 (omega arith) control in
     let at : length (prefix ++ c ∷ []) + n ≡ length prefix + suc n = omega (arith, length-append prefix (c ∷ [])) in
     subst (λ k. is_in_pair (prefix ++ (c ∷ cs)) k ≡ true) at
-        (subst (λ t. is_in_pair t (length (prefix ++ c ∷ []) + n) ≡ true) (append_assoc prefix (c ∷ []) cs) later)
+    (subst (λ t. is_in_pair t (length (prefix ++ c ∷ []) + n) ≡ true) (append_assoc prefix (c ∷ []) cs) later)
 
 -- each isolate control of a cleaned text is in a pair
 pub cleaned_text-paired : (text : List ℕ) (index : ℕ) → index < length (cleaned_text text)
@@ -207,4 +207,4 @@ pub cleaned_text-paired : (text : List ℕ) (index : ℕ) → index < length (cl
 cleaned_text-paired text index within control =
     let at : 0 + index ≡ index = omega arith in
     subst (λ n. is_in_pair (cleaned_text text) n ≡ true) at
-        (controls_paired [] (cleaned_text text) index (dropped_bytes-cleaned text) within control)
+    (controls_paired [] (cleaned_text text) index (dropped_bytes-cleaned text) within control)

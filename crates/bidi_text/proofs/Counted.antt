@@ -44,7 +44,7 @@ one_more_weak : (kind : WordKind) (kinds all : List WordKind) (b d whole : Bool)
     → (b || list_any is_weak all) ≡ whole → (d || list_any is_weak kinds) ≡ whole
 one_more_weak kind kinds all b d whole first more before =
     ap (λ e. e || list_any is_weak kinds) more ∙ or_assoc b (is_weak kind) (list_any is_weak kinds)
-        ∙ ap (λ ks. b || list_any is_weak ks) (sym first) ∙ before
+    ∙ ap (λ ks. b || list_any is_weak ks) (sym first) ∙ before
 
 -- one more word counted
 pub counted_next : (right_to_left total right_to_left' total' : ℕ) (weak weak' : Bool) (bytes word rest text : List ℕ)
@@ -56,7 +56,7 @@ pub counted_next : (right_to_left total right_to_left' total' : ℕ) (weak weak'
 counted_next right_to_left total right_to_left' total' weak weak' bytes word rest text counted cut rtl_more total_more
     weak_more =
     let kinds : word_kinds (chars bytes) ≡ word_kind (chars word) ∷ word_kinds (chars rest) =
-        ap (map word_kind) cut.words in
+    ap (map word_kind) cut.words in
     record {
       utf8 = cut.utf8;
       right_to_left_words = one_more counts_right_to_left (word_kind (chars word)) (word_kinds (chars rest))
@@ -71,8 +71,14 @@ counted_next right_to_left total right_to_left' total' weak weak' bytes word res
 
 -- nothing counted of the whole text
 pub counted_start : (text : List ℕ) → IsUtf8 text → Counted 0 0 false text text
-counted_start text utf8 = record { utf8 = utf8; right_to_left_words = search rules; total_words = search rules;
-    weak_words = refl; ordered = search rules; fits = search rules }
+counted_start text utf8 = record {
+  utf8 = utf8;
+  right_to_left_words = search rules;
+  total_words = search rules;
+  weak_words = refl;
+  ordered = search rules;
+  fits = search rules;
+}
 
 -- the direction where no word is left
 pub counted_end : (right_to_left total : ℕ) (weak : Bool) (rest text : List ℕ) (context : Dir)
@@ -81,12 +87,12 @@ pub counted_end : (right_to_left total : ℕ) (weak : Bool) (rest text : List �
 counted_end right_to_left total weak rest text context counted none =
     let no_kinds : word_kinds (chars rest) ≡ [] = ap (map word_kind) none in
     let rtl_is : right_to_left ≡ count_by counts_right_to_left (word_kinds (chars text)) =
-        omega (arith, ap (count_by counts_right_to_left) no_kinds, counted.right_to_left_words) in
+    omega (arith, ap (count_by counts_right_to_left) no_kinds, counted.right_to_left_words) in
     let total_is : total ≡ count_by counts_in_total (word_kinds (chars text)) =
-        omega (arith, ap (count_by counts_in_total) no_kinds, counted.total_words) in
+    omega (arith, ap (count_by counts_in_total) no_kinds, counted.total_words) in
     let weak_is : weak ≡ list_any is_weak (word_kinds (chars text)) = sym (or-false weak)
-        ∙ ap (λ ks. weak || list_any is_weak ks) (sym no_kinds) ∙ counted.weak_words in
+    ∙ ap (λ ks. weak || list_any is_weak ks) (sym no_kinds) ∙ counted.weak_words in
     ap (λ n. direction_by n total weak context) rtl_is
     ∙ ap (λ n. direction_by (count_by counts_right_to_left (word_kinds (chars text))) n weak context) total_is
     ∙ ap (λ w. direction_by (count_by counts_right_to_left (word_kinds (chars text)))
-        (count_by counts_in_total (word_kinds (chars text))) w context) weak_is
+    (count_by counts_in_total (word_kinds (chars text))) w context) weak_is

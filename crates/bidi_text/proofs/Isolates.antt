@@ -25,8 +25,11 @@ class_role _ = inr (inr (refl, refl))
 
 -- no character both begins and ends one
 pub role : (c : ℕ) → Role c
-role c = elim (class_role (bidi_class c)) [ inl h ↦ Begins h.0 h.1 | inr rest ↦
-    elim rest [ inl h ↦ Ends h.0 h.1 | inr h ↦ Stays h.0 h.1 ] ]
+role c = elim (class_role (bidi_class c)) [
+  | inl h ↦ Begins h.0 h.1
+  | inr rest ↦
+      elim rest [ inl h ↦ Ends h.0 h.1 | inr h ↦ Stays h.0 h.1 ]
+]
 
 -- how many PDIs match nothing in the text
 abbrev pub lone_closings : List ℕ → ℕ
@@ -133,19 +136,34 @@ lone_closings-le (c ∷ cs) d led =
       | BeginsLone b e none counts ↦ omega arith
       | BeginsMatched b e some counts ↦
           let rest : lone_closings cs ≤ d + 1 = lone_closings-le cs (d + 1) (λ n h.
-          omega (arith, led (suc n) (omega arith), counts.initiators_are (take n cs), counts.closings_are
-              (take n cs))) in
+          omega (
+            arith,
+            led (suc n) (omega arith),
+            counts.initiators_are (take n cs),
+            counts.closings_are
+                (take n cs),
+          )) in
           omega arith
       | EndsOne b e counts ↦
           let some : 1 ≤ d = omega (arith, led 1 (omega arith), counts.initiators_are [], counts.closings_are []) in
           let rest : lone_closings cs ≤ d - 1 = lone_closings-le cs (d - 1) (λ n h.
-          omega (arith, led (suc n) (omega arith), counts.initiators_are (take n cs), counts.closings_are
-              (take n cs))) in
+          omega (
+            arith,
+            led (suc n) (omega arith),
+            counts.initiators_are (take n cs),
+            counts.closings_are
+                (take n cs),
+          )) in
           omega arith
       | StaysOut b e counts ↦
           let rest : lone_closings cs ≤ d = lone_closings-le cs d (λ n h.
-          omega (arith, led (suc n) (omega arith), counts.initiators_are (take n cs), counts.closings_are
-              (take n cs))) in
+          omega (
+            arith,
+            led (suc n) (omega arith),
+            counts.initiators_are (take n cs),
+            counts.closings_are
+                (take n cs),
+          )) in
           omega arith
     ]
 
@@ -180,12 +198,19 @@ closes_at (c ∷ cs) d more =
       | BeginsLone b e none counts ↦ absurd (omega arith)
       | BeginsMatched b e some counts ↦
           let there = closes_at cs (d + 1) (omega arith) in
-              (suc there.0, closes_later c cs d (d + 1) there.0 _ _ _ _ counts (omega arith) there.1)
+          (suc there.0, closes_later c cs d (d + 1) there.0 _ _ _ _ counts (omega arith) there.1)
       | EndsOne b e counts ↦ elim (cases_lt 0 d) [
         | inl some ↦ let there = closes_at cs (d - 1) (omega arith) in
             (suc there.0, closes_later c cs d (d - 1) there.0 _ _ _ _ counts (omega arith) there.1)
-        | inr none ↦ (0, record { within = omega arith; closing = e; balanced = omega arith;
-            led = λ n h. rw (zero_from_le n h) (omega arith) })
+        | inr none ↦ (
+          0,
+          record {
+            within = omega arith;
+            closing = e;
+            balanced = omega arith;
+            led = λ n h. rw (zero_from_le n h) (omega arith);
+          },
+        )
       ]
       | StaysOut b e counts ↦ let there = closes_at cs d (omega arith) in
           (suc there.0, closes_later c cs d d there.0 _ _ _ _ counts (omega arith) there.1)
@@ -222,9 +247,15 @@ pub opens_at : (cs : List ℕ) → 0 < lone_initiators cs → (index : ℕ) × O
 opens_at [] some = absurd (omega arith)
 opens_at (c ∷ cs) some =
     elim (cases_lt 0 (lone_initiators cs)) [
-      | inl later ↦ let there = opens_at cs later in
-          (suc there.0, record { within = omega (arith, there.1.within); opening = there.1.opening;
-              even = there.1.even; led = there.1.led })
+      | inl later ↦ let there = opens_at cs later in (
+        suc there.0,
+        record {
+          within = omega (arith, there.1.within);
+          opening = there.1.opening;
+          even = there.1.even;
+          led = there.1.led;
+        },
+      )
       | inr none ↦ elim (first c cs) [
         | BeginsLone b e matched counts ↦ (
           0,
@@ -254,8 +285,12 @@ lone_initiators-gt (c ∷ cs) zero at =
     ]
 lone_initiators-gt (c ∷ cs) (suc index) at =
     let rest : 0 < lone_initiators cs =
-    lone_initiators-gt cs index (record { within = omega (arith, at.within); opening = at.opening; even = at.even;
-        led = at.led }) in
+    lone_initiators-gt cs index (record {
+      within = omega (arith, at.within);
+      opening = at.opening;
+      even = at.even;
+      led = at.led;
+    }) in
     elim (first c cs) [
       | BeginsLone b e matched counts ↦ omega arith
       | BeginsMatched b e matched counts ↦ omega arith

@@ -30,7 +30,7 @@ abbrev pub lone_initiator_bytes : ℕ → List ℕ → List ℕ
 lone_initiator_bytes at [] = []
 lone_initiator_bytes at (c ∷ cs) =
     if is_initiator c then (if lone_closings cs == 0 then at ∷ lone_initiator_bytes (at + length (encode_utf8 c)) cs
-        else lone_initiator_bytes (at + length (encode_utf8 c)) cs)
+    else lone_initiator_bytes (at + length (encode_utf8 c)) cs)
     else lone_initiator_bytes (at + length (encode_utf8 c)) cs
 
 -- the counts of a text by its first character's role
@@ -67,11 +67,11 @@ length-lone_initiator_bytes at (c ∷ cs) =
     elim (first c cs) [
       | BeginsLone b e none counts ↦
           ap length (cond-true _ _ _ b ∙ cond-true _ _ _ (eq-eqb (lone_closings cs) 0 none)) ∙ omega arith
-              ∙ sym counts.lone_initiators_are
+          ∙ sym counts.lone_initiators_are
       | BeginsMatched b e some counts ↦
           ap length (cond-true _ _ _ b
-              ∙ cond-false _ _ _ (ne_eqb (lone_closings cs) 0 (λ none. absurd (omega arith)))) ∙ rest
-              ∙ sym counts.lone_initiators_are
+          ∙ cond-false _ _ _ (ne_eqb (lone_closings cs) 0 (λ none. absurd (omega arith)))) ∙ rest
+          ∙ sym counts.lone_initiators_are
       | EndsOne b e counts ↦ ap length (cond-false _ _ _ b) ∙ rest ∙ sym counts.lone_initiators_are
       | StaysOut b e counts ↦ ap length (cond-false _ _ _ b) ∙ rest ∙ sym counts.lone_initiators_are
     ]
@@ -79,8 +79,12 @@ length-lone_initiator_bytes at (c ∷ cs) =
 -- a character at the end that closes nothing leaves the lone PDIs as they are
 lone_closings-snoc : (prefix : List ℕ) (c : ℕ) → is_closing c ≡ false
     → lone_closings (prefix ++ c ∷ []) ≡ lone_closings prefix
-lone_closings-snoc [] c e = elim (role c) [ Begins b h ↦ lone_closings-begins c [] b | Ends b h ↦
-    absurd (both_ways _ e h) | Stays b h ↦ lone_closings-stays c [] b h ]
+lone_closings-snoc [] c e = elim (role c) [
+  | Begins b h ↦ lone_closings-begins c [] b
+  | Ends b h ↦
+      absurd (both_ways _ e h)
+  | Stays b h ↦ lone_closings-stays c [] b h
+]
 lone_closings-snoc (f ∷ prefix) c e =
     let rest = lone_closings-snoc prefix c e in
     elim (role f) [
@@ -116,24 +120,42 @@ pub lone_initiators-begins : (prefix : List ℕ) (c : ℕ) → is_initiator c �
 lone_initiators-begins prefix c b e =
     let one : initiators (c ∷ []) ≡ 1 = ap (λ t. 0 + cond t 1 0) b in
     let none : closings (c ∷ []) ≡ 0 = ap (λ t. 0 + cond t 1 0) e in
-    omega (arith, initiators-closings (prefix ++ c ∷ []), initiators-closings prefix, initiators-snoc prefix c,
-        closings-snoc prefix c, lone_closings-snoc prefix c e)
+    omega (
+      arith,
+      initiators-closings (prefix ++ c ∷ []),
+      initiators-closings prefix,
+      initiators-snoc prefix c,
+      closings-snoc prefix c,
+      lone_closings-snoc prefix c e,
+    )
 
 pub lone_initiators-ends : (prefix : List ℕ) (c : ℕ) → is_initiator c ≡ false → is_closing c ≡ true
     → lone_initiators (prefix ++ c ∷ []) ≡ lone_initiators prefix - 1
 lone_initiators-ends prefix c b e =
     let none : initiators (c ∷ []) ≡ 0 = ap (λ t. 0 + cond t 1 0) b in
     let one : closings (c ∷ []) ≡ 1 = ap (λ t. 0 + cond t 1 0) e in
-    omega (arith, initiators-closings (prefix ++ c ∷ []), initiators-closings prefix, initiators-snoc prefix c,
-        closings-snoc prefix c, lone_closings-snoc_ends prefix c b e)
+    omega (
+      arith,
+      initiators-closings (prefix ++ c ∷ []),
+      initiators-closings prefix,
+      initiators-snoc prefix c,
+      closings-snoc prefix c,
+      lone_closings-snoc_ends prefix c b e,
+    )
 
 pub lone_initiators-stays : (prefix : List ℕ) (c : ℕ) → is_initiator c ≡ false → is_closing c ≡ false
     → lone_initiators (prefix ++ c ∷ []) ≡ lone_initiators prefix
 lone_initiators-stays prefix c b e =
     let none : initiators (c ∷ []) ≡ 0 = ap (λ t. 0 + cond t 1 0) b in
     let no_end : closings (c ∷ []) ≡ 0 = ap (λ t. 0 + cond t 1 0) e in
-    omega (arith, initiators-closings (prefix ++ c ∷ []), initiators-closings prefix, initiators-snoc prefix c,
-        closings-snoc prefix c, lone_closings-snoc prefix c e)
+    omega (
+      arith,
+      initiators-closings (prefix ++ c ∷ []),
+      initiators-closings prefix,
+      initiators-snoc prefix c,
+      closings-snoc prefix c,
+      lone_closings-snoc prefix c e,
+    )
 
 -- what is left out of a text from a character on: the PDIs that are lone and find no initiator open before, and the
 -- lone initiators
@@ -155,21 +177,21 @@ pub dropped_begins : (prefix : List ℕ) (c : ℕ) (cs : List ℕ) → is_initia
 dropped_begins prefix c cs b =
     let text : List ℕ = prefix ++ (c ∷ cs) in
     let opening : is_initiator (slice_index text (length prefix)) ≡ true =
-        subst (λ x. is_initiator x ≡ true) (sym (at_seam prefix c cs)) b in
+    subst (λ x. is_initiator x ≡ true) (sym (at_seam prefix c cs)) b in
     ap (λ t. t && not (is_in_pair text (length prefix))) (or_left (is_initiator c) (is_closing c) b)
     ∙ ap not (is_in_pair-initiator text (length prefix) opening) ∙ ap (λ rest. not (nat_lt 0 (lone_closings rest)))
-        (after_seam prefix c cs)
+    (after_seam prefix c cs)
 
 pub dropped_ends : (prefix : List ℕ) (c : ℕ) (cs : List ℕ) → is_initiator c ≡ false → is_closing c ≡ true
     → is_dropped (prefix ++ (c ∷ cs)) (length prefix, c) ≡ not (nat_lt 0 (lone_initiators prefix))
 dropped_ends prefix c cs b e =
     let text : List ℕ = prefix ++ (c ∷ cs) in
     let closing : is_closing (slice_index text (length prefix)) ≡ true =
-        subst (λ x. is_closing x ≡ true) (sym (at_seam prefix c cs)) e in
+    subst (λ x. is_closing x ≡ true) (sym (at_seam prefix c cs)) e in
     let within : length prefix < length text = omega (arith, length-append prefix (c ∷ cs)) in
     ap (λ t. t && not (is_in_pair text (length prefix))) (or_right (is_initiator c) (is_closing c) e)
     ∙ ap not (is_in_pair-closing text (length prefix) within closing)
-        ∙ ap (λ before. not (nat_lt 0 (lone_initiators before))) (take-append_seam prefix (c ∷ cs))
+    ∙ ap (λ before. not (nat_lt 0 (lone_initiators before))) (take-append_seam prefix (c ∷ cs))
 
 pub dropped_stays : (prefix : List ℕ) (c : ℕ) (cs : List ℕ) → is_initiator c ≡ false → is_closing c ≡ false
     → is_dropped (prefix ++ (c ∷ cs)) (length prefix, c) ≡ false
@@ -184,50 +206,50 @@ drop-nil (suc n) = refl
 -- one more initiator before what is left out
 pub lone_bytes-begins : (begun at c : ℕ) (cs : List ℕ) → is_initiator c ≡ true
     → (if not (nat_lt 0 (lone_closings cs)) then at ∷ [] else []) ++ lone_bytes (begun + 1)
-        (at + length (encode_utf8 c)) cs ≡ lone_bytes begun at (c ∷ cs)
+    (at + length (encode_utf8 c)) cs ≡ lone_bytes begun at (c ∷ cs)
 lone_bytes-begins begun at c cs b =
     let next : ℕ = at + length (encode_utf8 c) in
     let ends : List ℕ = lone_closing_bytes next cs in
     let begins : List ℕ = lone_initiator_bytes next cs in
     let first_ends : lone_closing_bytes at (c ∷ cs) ≡ drop 1 ends = cond-true _ _ _ b in
     let first_begins : lone_initiator_bytes at (c ∷ cs) ≡ (if lone_closings cs == 0 then at ∷ begins else begins) =
-        cond-true _ _ _ b in
+    cond-true _ _ _ b in
     elim (cases_lt 0 (lone_closings cs)) [
       | inl some ↦
           let dropped : not (nat_lt 0 (lone_closings cs)) ≡ false = ap not (lt-ltb 0 (lone_closings cs) some) in
           let kept : lone_initiator_bytes at (c ∷ cs) ≡ begins = first_begins
-              ∙ cond-false _ _ _ (ne_eqb (lone_closings cs) 0 (λ none. absurd (omega arith))) in
+          ∙ cond-false _ _ _ (ne_eqb (lone_closings cs) 0 (λ none. absurd (omega arith))) in
           let count : begun + 1 ≡ 1 + begun = omega arith in
           ap (λ t. (if t then at ∷ [] else []) ++ (drop (begun + 1) ends ++ begins)) dropped
           ∙ ap (λ n. drop n ends ++ begins) count ∙ ap (λ l. l ++ begins) (sym (drop-drop begun 1 ends))
           ∙ ap (λ l. drop begun l ++ begins) (sym first_ends)
-              ∙ ap (λ l. drop begun (lone_closing_bytes at (c ∷ cs)) ++ l) (sym kept)
+          ∙ ap (λ l. drop begun (lone_closing_bytes at (c ∷ cs)) ++ l) (sym kept)
       | inr none ↦
           let zero_left : lone_closings cs ≡ 0 = omega arith in
           let dropped : not (nat_lt 0 (lone_closings cs)) ≡ true = ap not (le-ltb 0 (lone_closings cs) none) in
           let kept : lone_initiator_bytes at (c ∷ cs) ≡ at ∷ begins = first_begins
-              ∙ cond-true _ _ _ (eq-eqb (lone_closings cs) 0 zero_left) in
+          ∙ cond-true _ _ _ (eq-eqb (lone_closings cs) 0 zero_left) in
           let empty : ends ≡ [] = nil_from_length ends (length-lone_closing_bytes next cs ∙ zero_left) in
           ap (λ t. (if t then at ∷ [] else []) ++ (drop (begun + 1) ends ++ begins)) dropped
           ∙ ap (λ l. at ∷ (drop (begun + 1) l ++ begins)) empty ∙ ap (λ l. at ∷ (l ++ begins)) (drop-nil (begun + 1))
           ∙ ap (λ l. l ++ (at ∷ begins)) (sym (drop-nil begun)) ∙ ap (λ l. drop begun (drop 1 l) ++ (at ∷ begins))
-              (sym empty)
+          (sym empty)
           ∙ ap (λ l. drop begun l ++ (at ∷ begins)) (sym first_ends)
-              ∙ ap (λ l. drop begun (lone_closing_bytes at (c ∷ cs)) ++ l) (sym kept)
+          ∙ ap (λ l. drop begun (lone_closing_bytes at (c ∷ cs)) ++ l) (sym kept)
     ]
 
 -- one more PDI before what is left out
 pub lone_bytes-ends : (begun at c : ℕ) (cs : List ℕ) → is_initiator c ≡ false → is_closing c ≡ true
     → (if not (nat_lt 0 begun) then at ∷ [] else []) ++ lone_bytes (begun - 1) (at + length (encode_utf8 c)) cs
-        ≡ lone_bytes begun at (c ∷ cs)
+    ≡ lone_bytes begun at (c ∷ cs)
 lone_bytes-ends begun at c cs b e =
     let next : ℕ = at + length (encode_utf8 c) in
     let first_ends : lone_closing_bytes at (c ∷ cs) ≡ at ∷ lone_closing_bytes next cs = cond-false _ _ _ b
-        ∙ cond-true _ _ _ e in
+    ∙ cond-true _ _ _ e in
     let first_begins : lone_initiator_bytes at (c ∷ cs) ≡ lone_initiator_bytes next cs = cond-false _ _ _ b in
     at_end begun at (lone_closing_bytes next cs) (lone_initiator_bytes next cs)
     ∙ ap (λ l. drop begun l ++ lone_initiator_bytes next cs) (sym first_ends)
-        ∙ ap (λ l. drop begun (lone_closing_bytes at (c ∷ cs)) ++ l) (sym first_begins)
+    ∙ ap (λ l. drop begun (lone_closing_bytes at (c ∷ cs)) ++ l) (sym first_begins)
   where
     at_end : (begun at : ℕ) (ends begins : List ℕ) → (if not (nat_lt 0 begun) then at ∷ [] else [])
         ++ (drop (begun - 1) ends ++ begins) ≡ drop begun (at ∷ ends) ++ begins
@@ -236,7 +258,7 @@ lone_bytes-ends begun at c cs b e =
         let some : not (nat_lt 0 (suc begun)) ≡ false = ap not (lt-ltb 0 (suc begun) (omega arith)) in
         let fewer : suc begun - 1 ≡ begun = omega arith in
         ap (λ t. (if t then at ∷ [] else []) ++ (drop (suc begun - 1) ends ++ begins)) some
-            ∙ ap (λ n. drop n ends ++ begins) fewer
+        ∙ ap (λ n. drop n ends ++ begins) fewer
 
 -- another character before what is left out
 pub lone_bytes-stays : (begun at c : ℕ) (cs : List ℕ) → is_initiator c ≡ false → is_closing c ≡ false
@@ -244,10 +266,10 @@ pub lone_bytes-stays : (begun at c : ℕ) (cs : List ℕ) → is_initiator c ≡
 lone_bytes-stays begun at c cs b e =
     let next : ℕ = at + length (encode_utf8 c) in
     let first_ends : lone_closing_bytes at (c ∷ cs) ≡ lone_closing_bytes next cs = cond-false _ _ _ b
-        ∙ cond-false _ _ _ e in
+    ∙ cond-false _ _ _ e in
     let first_begins : lone_initiator_bytes at (c ∷ cs) ≡ lone_initiator_bytes next cs = cond-false _ _ _ b in
     ap (λ l. drop begun l ++ lone_initiator_bytes next cs) (sym first_ends)
-        ∙ ap (λ l. drop begun (lone_closing_bytes at (c ∷ cs)) ++ l) (sym first_begins)
+    ∙ ap (λ l. drop begun (lone_closing_bytes at (c ∷ cs)) ++ l) (sym first_begins)
 
 -- the byte of a character after a prefix, if it is left out
 pub dropped_byte_is : (prefix : List ℕ) (c : ℕ) (cs : List ℕ) (flag : Bool)
@@ -277,19 +299,19 @@ dropped-lone_bytes prefix (c ∷ cs) =
     let rest : later ≡ lone_bytes (lone_initiators (prefix ++ c ∷ [])) next cs =
     ap (λ n. flat_map (dropped_byte text) (enumerate_from n cs)) (sym (length-append prefix (c ∷ [])))
     ∙ ap (λ t. flat_map (dropped_byte t) (enumerate_from (length (prefix ++ c ∷ [])) cs))
-        (sym (append_assoc prefix (c ∷ []) cs))
+    (sym (append_assoc prefix (c ∷ []) cs))
     ∙ dropped-lone_bytes (prefix ++ c ∷ []) cs
     ∙ ap (λ n. lone_bytes (lone_initiators (prefix ++ c ∷ [])) n cs) (prefix_byte-snoc prefix c) in
     elim (role c) [
       | Begins b e ↦
           ap (λ l. l ++ later) (dropped_byte_is prefix c cs _ (dropped_begins prefix c cs b))
           ∙ ap (λ l. (if not (nat_lt 0 (lone_closings cs)) then at ∷ [] else []) ++ l)
-              (rest ∙ ap (λ n. lone_bytes n next cs) (lone_initiators-begins prefix c b e))
+          (rest ∙ ap (λ n. lone_bytes n next cs) (lone_initiators-begins prefix c b e))
           ∙ lone_bytes-begins (lone_initiators prefix) at c cs b
       | Ends b e ↦
           ap (λ l. l ++ later) (dropped_byte_is prefix c cs _ (dropped_ends prefix c cs b e))
           ∙ ap (λ l. (if not (nat_lt 0 (lone_initiators prefix)) then at ∷ [] else []) ++ l)
-              (rest ∙ ap (λ n. lone_bytes n next cs) (lone_initiators-ends prefix c b e))
+          (rest ∙ ap (λ n. lone_bytes n next cs) (lone_initiators-ends prefix c b e))
           ∙ lone_bytes-ends (lone_initiators prefix) at c cs b e
       | Stays b e ↦
           ap (λ l. l ++ later) (dropped_byte_is prefix c cs _ (dropped_stays prefix c cs b e))

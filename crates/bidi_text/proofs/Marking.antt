@@ -32,13 +32,13 @@ kept_with_one begun at closed =
           let shown : not (nat_lt 0 closed) ≡ false = ap not (lt-ltb 0 closed some) in
           let count : (length begun + 1) - closed ≡ length begun - (closed - 1) = omega arith in
           ap (λ n. take n (begun ++ at ∷ [])) count ∙ take-append-le (length begun - (closed - 1)) begun (at ∷ [])
-              (omega arith)
+          (omega arith)
           ∙ sym (append-nil (take (length begun - (closed - 1)) begun))
           ∙ ap (λ t. take (length begun - (closed - 1)) begun ++ (if t then at ∷ [] else [])) (sym shown)
       | inr none ↦
           let shown : not (nat_lt 0 closed) ≡ true = ap not (le-ltb 0 closed none) in
           let all : (length begun + 1) - closed ≡ length (begun ++ at ∷ []) =
-              omega (arith, length-append begun (at ∷ [])) in
+          omega (arith, length-append begun (at ∷ [])) in
           let rest : length begun - (closed - 1) ≡ length begun = omega arith in
           ap (λ n. take n (begun ++ at ∷ [])) all ∙ take-length (begun ++ at ∷ [])
           ∙ ap (λ l. l ++ at ∷ []) (sym (take-length begun)) ∙ ap (λ n. take n begun ++ at ∷ []) (sym rest)
@@ -56,9 +56,9 @@ settled-begins lone begun at c cs b =
     ap (λ n. lone ++ (take (n - lone_closings cs) (begun ++ at ∷ []) ++ lone_bytes n next cs)) more
     ∙ ap (λ l. lone ++ (l ++ lone_bytes (length begun + 1) next cs)) (kept_with_one begun at (lone_closings cs))
     ∙ ap (λ l. lone ++ l) (append_assoc (take (length begun - (lone_closings cs - 1)) begun) shown
-        (lone_bytes (length begun + 1) next cs))
+    (lone_bytes (length begun + 1) next cs))
     ∙ ap (λ l. lone ++ (take (length begun - (lone_closings cs - 1)) begun ++ l))
-        (lone_bytes-begins (length begun) at c cs b)
+    (lone_bytes-begins (length begun) at c cs b)
     ∙ ap (λ n. lone ++ (take (length begun - n) begun ++ lone_bytes (length begun) at (c ∷ cs))) (sym fewer)
 
 -- a PDI that closes the last open initiator
@@ -72,16 +72,16 @@ settled-closes lone begun last at c cs b e =
     let hidden : not (nat_lt 0 (length begun + 1)) ≡ false = ap not (lt-ltb 0 (length begun + 1) (omega arith)) in
     let same : length begun ≡ (length begun + 1) - 1 = omega arith in
     ap (λ l. lone ++ (l ++ lone_bytes (length begun) next cs))
-        (sym (take-append-le (length begun - lone_closings cs) begun (last ∷ []) (omega arith)))
+    (sym (take-append-le (length begun - lone_closings cs) begun (last ∷ []) (omega arith)))
     ∙ ap (λ n. lone ++ (take n (begun ++ last ∷ []) ++ lone_bytes (length begun) next cs)) count
     ∙ ap (λ n. lone ++ (take ((length begun + 1) - (lone_closings cs + 1)) (begun ++ last ∷ []) ++ lone_bytes n next
-        cs)) same
+    cs)) same
     ∙ ap (λ t. lone ++ (take ((length begun + 1) - (lone_closings cs + 1)) (begun ++ last ∷ [])
-        ++ ((if t then at ∷ [] else []) ++ lone_bytes ((length begun + 1) - 1) next cs))) (sym hidden)
+    ++ ((if t then at ∷ [] else []) ++ lone_bytes ((length begun + 1) - 1) next cs))) (sym hidden)
     ∙ ap (λ l. lone ++ (take ((length begun + 1) - (lone_closings cs + 1)) (begun ++ last ∷ []) ++ l))
-        (lone_bytes-ends (length begun + 1) at c cs b e)
+    (lone_bytes-ends (length begun + 1) at c cs b e)
     ∙ ap (λ n. lone ++ (take ((length begun + 1) - n) (begun ++ last ∷ []) ++ lone_bytes (length begun + 1) at
-        (c ∷ cs))) (sym one_more)
+    (c ∷ cs))) (sym one_more)
     ∙ ap (λ n. lone ++ (take (n - lone_closings (c ∷ cs)) (begun ++ last ∷ []) ++ lone_bytes n at (c ∷ cs))) (sym more)
 
 -- a PDI where none is open
@@ -139,7 +139,7 @@ settled_next : (lone begun lone' begun' : List ℕ) (c at next : ℕ) (bytes res
     → ReadsOne c at next bytes rest
     → settled lone' begun' (at + length (encode_utf8 c)) (chars rest) ≡ settled lone begun at (c ∷ chars rest)
     → settled lone begun at (chars bytes) ≡ dropped_bytes (chars text) → settled lone' begun' next (chars rest)
-        ≡ dropped_bytes (chars text)
+    ≡ dropped_bytes (chars text)
 settled_next lone begun lone' begun' c at next bytes rest text utf8 reads step finds =
     ap (λ n. settled lone' begun' n (chars rest)) reads.past ∙ step
     ∙ ap (λ cs. settled lone begun at cs) (sym (chars_past_char bytes rest c utf8 reads.split)) ∙ finds
@@ -179,13 +179,13 @@ module _ {offsets : List ℕ} {closings at next c : ℕ} {bytes rest text : List
       → offsets' ≡ take (length offsets - 1) offsets → Marking offsets' closings next rest text
   marking_closes offsets' b e some taken =
       let split = last_split marking.begun
-          (omega (arith, marking.count, ap length marking.parts, length-append marking.lone marking.begun)) in
+      (omega (arith, marking.count, ap length marking.parts, length-append marking.lone marking.begun)) in
       let prefix : List ℕ = split.0 in
       let last : ℕ = split.1 in
       let whole : offsets ≡ (marking.lone ++ prefix) ++ last ∷ [] =
       marking.parts ∙ ap (λ l. marking.lone ++ l) split.2 ∙ sym (append_assoc marking.lone prefix (last ∷ [])) in
       let shorter : length offsets - 1 ≡ length (marking.lone ++ prefix) =
-          omega (arith, ap length whole, length-append (marking.lone ++ prefix) (last ∷ [])) in
+      omega (arith, ap length whole, length-append (marking.lone ++ prefix) (last ∷ [])) in
       record {
         lone = marking.lone;
         begun = prefix;
@@ -195,7 +195,7 @@ module _ {offsets : List ℕ} {closings at next c : ℕ} {bytes rest text : List
         finds = settled_next marking.lone (prefix ++ last ∷ []) marking.lone prefix c at next bytes rest text
             marking.utf8 reads
             (settled-closes marking.lone prefix last at c (chars rest) b e)
-                (ap (λ l. settled marking.lone l at (chars bytes)) (sym split.2) ∙ marking.finds);
+            (ap (λ l. settled marking.lone l at (chars bytes)) (sym split.2) ∙ marking.finds);
         utf8 = reads_utf8 marking.utf8 reads;
         bounded = reads_bounded (length text) reads marking.bounded;
       }
@@ -205,10 +205,10 @@ module _ {offsets : List ℕ} {closings at next c : ℕ} {bytes rest text : List
       → offsets' ≡ offsets ++ at ∷ [] → Marking offsets' (closings + 1) next rest text
   marking_lone offsets' b e none added =
       let empty : marking.begun ≡ [] =
-          nil_from_length marking.begun
-          (omega (arith, marking.count, ap length marking.parts, length-append marking.lone marking.begun)) in
+      nil_from_length marking.begun
+      (omega (arith, marking.count, ap length marking.parts, length-append marking.lone marking.begun)) in
       let whole : offsets ≡ marking.lone = marking.parts ∙ ap (λ l. marking.lone ++ l) empty
-          ∙ append-nil marking.lone in
+      ∙ append-nil marking.lone in
       record {
         lone = marking.lone ++ at ∷ [];
         begun = [];
@@ -216,7 +216,7 @@ module _ {offsets : List ℕ} {closings at next c : ℕ} {bytes rest text : List
         count = length-append marking.lone (at ∷ []) ∙ ap (λ n. n + 1) marking.count;
         finds = settled_next marking.lone [] (marking.lone ++ at ∷ []) [] c at next bytes rest text marking.utf8 reads
             (settled-lone marking.lone at c (chars rest) b e)
-                (ap (λ l. settled marking.lone l at (chars bytes)) (sym empty) ∙ marking.finds);
+            (ap (λ l. settled marking.lone l at (chars bytes)) (sym empty) ∙ marking.finds);
         utf8 = reads_utf8 marking.utf8 reads;
         bounded = reads_bounded (length text) reads marking.bounded;
       }
@@ -244,6 +244,6 @@ marking_end {offsets} {closings} {at} {rest} {text} marking none =
     let all : n ≡ n - 0 = omega arith in
     marking.parts ∙ ap (λ l. marking.lone ++ l)
     (sym (take-length marking.begun) ∙ ap (λ k. take k marking.begun) all
-        ∙ sym (append-nil (take (n - 0) marking.begun)) ∙ ap (λ l. take (n - 0) marking.begun ++ l)
-        (sym (append-nil (drop n []) ∙ drop-nil n)))
+    ∙ sym (append-nil (take (n - 0) marking.begun)) ∙ ap (λ l. take (n - 0) marking.begun ++ l)
+    (sym (append-nil (drop n []) ∙ drop-nil n)))
     ∙ ap (λ cs. settled marking.lone marking.begun at cs) (sym no_chars) ∙ marking.finds

@@ -32,10 +32,10 @@ closed_in_pair text index opening some =
       led = subst (λ cs. is_led cs ≡ true) (sym inside) (led_from (take n rest) (λ k h.
           let short : k ≤ n = omega arith in
           subst (λ cs. closings cs ≤ initiators cs) (sym (take-take k n rest short))
-              (omega (arith, closes.led k short))));
+          (omega (arith, closes.led k short))));
     } in
     list_any-range (λ other. is_pair text index other || is_pair text other index) 0 (length text) second
-        (omega arith) (omega arith)
+    (omega arith) (omega arith)
     (or_left _ _ (is_pair-from text index second pair))
 
 -- and one in a pair has such a PDI
@@ -68,9 +68,9 @@ in_pair_closed text index opening h =
           balanced = omega (arith, eqb-true (initiators (take n rest)) (closings (take n rest)) even);
           led = λ k h.
               let prefix : closings (take k (take n rest)) ≤ initiators (take k (take n rest)) =
-                  from_led (take n rest) k led (omega arith) in
+              from_led (take n rest) k led (omega arith) in
               let same : closings (take k rest) ≤ initiators (take k rest) = subst (λ cs. closings cs ≤ initiators cs)
-                  (take-take k n rest h) prefix in
+              (take-take k n rest h) prefix in
               omega arith;
         })
 
@@ -94,7 +94,7 @@ opened_in_pair text index within closing some =
       led = subst (λ cs. is_led cs ≡ true) (sym inside) (led_from (drop (suc first) prefix) opens.led);
     } in
     list_any-range (λ other. is_pair text index other || is_pair text other index) 0 (length text) first (omega arith)
-        (omega arith)
+    (omega arith)
     (or_right _ _ (is_pair-from text first index pair))
 
 -- and one in a pair has such an initiator
@@ -114,7 +114,7 @@ in_pair_opened text index within closing h =
         let prefix : List ℕ = take index text in
         let prefix_length : length prefix ≡ index = length-take-le index text (omega arith) in
         let inside : slice_range text (first + 1) index ≡ drop (suc first) prefix =
-            between_until text first index pair.ordered in
+        between_until text first index pair.ordered in
         let even : is_even (drop (suc first) prefix) ≡ true = subst (λ cs. is_even cs ≡ true) inside pair.even in
         let led : is_led (drop (suc first) prefix) ≡ true = subst (λ cs. is_led cs ≡ true) inside pair.led in
         lone_initiators-gt prefix first (record {

@@ -20,7 +20,7 @@ after_word : (word more rest : List ℕ) → NonePass is_whitespace more
 after_word word [] rest solid = ap (λ w. words_after w rest) (sym (append-nil word))
 after_word word (c ∷ more) rest solid =
     cond-false (is_whitespace c) _ _ solid.0 ∙ after_word (word ++ c ∷ []) more rest solid.1
-        ∙ ap (λ w. words_after w rest) (append_assoc word (c ∷ []) more)
+    ∙ ap (λ w. words_after w rest) (append_assoc word (c ∷ []) more)
 
 -- the text is empty or begins with white space
 abbrev pub BeginsBlank : List ℕ → Type 0
@@ -32,7 +32,7 @@ at_end : (word rest : List ℕ) → BeginsBlank rest → words_after word rest �
 at_end word [] blank = sym (append-nil (ended_word word))
 at_end word (c ∷ cs) blank =
     cond-true (is_whitespace c) _ _ blank ∙ ap (λ words. ended_word word ++ words)
-        (sym (cond-true (is_whitespace c) _ _ blank))
+    (sym (cond-true (is_whitespace c) _ _ blank))
 
 -- a gap, a word and the end of it give one word, and the words of what follows
 pub words_of-cut : (gap : List ℕ) (c : ℕ) (word rest : List ℕ) → NonePass is_not_whitespace gap
@@ -51,7 +51,7 @@ utf8_after [] bytes rest utf8 split = subst IsUtf8 split utf8
 utf8_after (c ∷ prefix) bytes rest utf8 split =
     let next : List ℕ = encode_utf8_all prefix ++ rest in
     utf8_after prefix next rest
-        (IsUtf8-past_char bytes next c utf8 (split ∙ append_assoc (encode_utf8 c) (encode_utf8_all prefix) rest)) refl
+    (IsUtf8-past_char bytes next c utf8 (split ∙ append_assoc (encode_utf8 c) (encode_utf8_all prefix) rest)) refl
 
 -- bytes that begin with the bytes of characters
 chars-prefix : (prefix bytes rest : List ℕ) → IsUtf8 bytes → bytes ≡ encode_utf8_all prefix ++ rest
@@ -59,7 +59,7 @@ chars-prefix : (prefix bytes rest : List ℕ) → IsUtf8 bytes → bytes ≡ enc
 chars-prefix prefix bytes rest utf8 split =
     sym (chars_from_encodes (prefix ++ chars rest) bytes utf8
     (encodes-append prefix (chars rest) ∙ ap (λ end. encode_utf8_all prefix ++ end)
-        (encodes-chars rest (utf8_after prefix bytes rest utf8 split)) ∙ sym split))
+    (encodes-chars rest (utf8_after prefix bytes rest utf8 split)) ∙ sym split))
 
 -- bytes that are empty or begin with the bytes of white space are those of such a text
 begins_blank : (bytes rest : List ℕ) → IsUtf8 bytes → EmptyOrStartsWithPassing is_whitespace bytes rest
@@ -79,13 +79,13 @@ pub record CutsWord (bytes word rest : List ℕ) : Type 0 where
 utf8_word : (word rest : List ℕ) → IsUtf8 (word ++ rest) → IsUtf8 rest → IsUtf8 word
 utf8_word word rest utf8 utf8_rest =
     subst IsUtf8 (take-append_seam word rest)
-        (IsUtf8-take (word ++ rest) (length word) utf8 (IsCharBoundary-at_seam (word ++ rest) word rest refl utf8_rest))
+    (IsUtf8-take (word ++ rest) (length word) utf8 (IsCharBoundary-at_seam (word ++ rest) word rest refl utf8_rest))
 
 -- the same by the characters of the gap and of the word
 cuts : (gap more bytes rest : List ℕ) → IsUtf8 bytes → NonePass is_not_whitespace gap → NonePass is_whitespace more
     → 0 < length (encode_utf8_all more)
     → bytes ≡ encode_utf8_all gap ++ (encode_utf8_all more ++ rest) → (IsUtf8 rest → BeginsBlank (chars rest))
-        → CutsWord bytes (encode_utf8_all more) rest
+    → CutsWord bytes (encode_utf8_all more) rest
 cuts gap [] bytes rest utf8 blank solid nonempty split ends = absurd (omega arith)
 cuts gap (c ∷ more) bytes rest utf8 blank solid nonempty split ends =
     let word : List ℕ = encode_utf8_all (c ∷ more) in
@@ -93,15 +93,20 @@ cuts gap (c ∷ more) bytes rest utf8 blank solid nonempty split ends =
     let utf8_rest : IsUtf8 rest = utf8_after (c ∷ more) (word ++ rest) rest utf8_from_word refl in
     let read : chars bytes ≡ gap ++ ((c ∷ more) ++ chars rest) =
     chars-prefix gap bytes (word ++ rest) utf8 split
-        ∙ ap (λ end. gap ++ end) (chars-prefix (c ∷ more) (word ++ rest) rest utf8_from_word refl) in
+    ∙ ap (λ end. gap ++ end) (chars-prefix (c ∷ more) (word ++ rest) rest utf8_from_word refl) in
     let read_word : chars word ≡ c ∷ more =
-        sym (chars_from_encodes (c ∷ more) word (utf8_word word rest utf8_from_word utf8_rest) refl) in
+    sym (chars_from_encodes (c ∷ more) word (utf8_word word rest utf8_from_word utf8_rest) refl) in
     record {
       utf8 = utf8_rest;
       words = ap words_of read ∙ words_of-cut gap c more (chars rest) blank solid (ends utf8_rest)
           ∙ ap (λ w. w ∷ words_of (chars rest)) (sym read_word);
-      shorter = omega (arith, nonempty, ap length split, length-append (encode_utf8_all gap) (word ++ rest),
-          length-append word rest);
+      shorter = omega (
+        arith,
+        nonempty,
+        ap length split,
+        length-append (encode_utf8_all gap) (word ++ rest),
+        length-append word rest,
+      );
     }
 
 -- what `split_whitespace` says of a word
@@ -110,12 +115,18 @@ pub cuts_word : (bytes word rest : List ℕ) → IsUtf8 bytes
     (0 < length word) × NoCharPasses is_not_whitespace gap × NoCharPasses is_whitespace word ×
     ((more : List ℕ) × EmptyOrStartsWithPassing is_whitespace rest more)
     → CutsWord bytes word rest
-cuts_word bytes word rest utf8 (gap, split, nonempty, (gap_chars, gap_is, blank), (word_chars, word_is, solid),
-    (more, ends)) =
+cuts_word bytes word rest utf8 (
+  gap,
+  split,
+  nonempty,
+  (gap_chars, gap_is, blank),
+  (word_chars, word_is, solid),
+  (more, ends),
+) =
     subst (λ w. CutsWord bytes w rest) word_is
     (cuts gap_chars word_chars bytes rest utf8 blank solid (subst (λ w. 0 < length w) (sym word_is) nonempty)
     (split ∙ ap (λ g. g ++ (word ++ rest)) (sym gap_is) ∙ ap (λ w. encode_utf8_all gap_chars ++ (w ++ rest))
-        (sym word_is))
+    (sym word_is))
     (λ utf8_rest. begins_blank rest more utf8_rest ends))
 
 -- what it says where no word is left

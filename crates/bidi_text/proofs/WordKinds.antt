@@ -23,7 +23,7 @@ strong_cases _ = inr (inr (refl, refl))
 left_to_right_step : (k : Class) (later : Option Class) (rest : Bool)
     → (option_map_or is_right_to_left later false ≡ false → rest ≡ is_some later)
     → option_map_or is_right_to_left (cond (is_strong k) (Some k) later) false ≡ false → (is_left_to_right k || rest)
-        ≡ is_some (cond (is_strong k) (Some k) later)
+    ≡ is_some (cond (is_strong k) (Some k) later)
 left_to_right_step k later rest same h =
     elim (strong_cases k) [
       | inl rtl ↦ grind (arith, rtl.0, rtl.1, h)

@@ -21,5 +21,5 @@ pub five_added : (a b c d e t t1 t2 t3 t4 t5 : List ℕ) → t ≡ [] → t1 ≡
     → t5 ≡ a ++ (b ++ (c ++ (d ++ e)))
 five_added a b c d e t t1 t2 t3 t4 t5 h h1 h2 h3 h4 h5 =
     h5 ∙ ap (λ l. l ++ e)
-        (h4 ∙ ap (λ l. l ++ d) (h3 ∙ ap (λ l. l ++ c) (h2 ∙ ap (λ l. l ++ b) (h1 ∙ ap (λ l. l ++ a) h))))
+    (h4 ∙ ap (λ l. l ++ d) (h3 ∙ ap (λ l. l ++ c) (h2 ∙ ap (λ l. l ++ b) (h1 ∙ ap (λ l. l ++ a) h))))
     ∙ append_assoc ((a ++ b) ++ c) d e ∙ append_assoc (a ++ b) c (d ++ e) ∙ append_assoc a b (c ++ (d ++ e))

@@ -26,10 +26,10 @@ pub cut_at_old : (old new more : List ℕ) → IsUtf8 old → IsUtf8 new → cha
     → IsSplitPoint new (length old)
 cut_at_old old new more text text' added =
     let within : length old ≤ length new =
-        omega (arith, ap length (bytes_added old new more text text' added), length-append old (encode_utf8_all more))
-        in
+    omega (arith, ap length (bytes_added old new more text text' added), length-append old (encode_utf8_all more))
+    in
     let boundary = IsCharBoundary-from_take new (length old) text' within
-        (rw (prefix_stays old new more text text' added) text) in
+    (rw (prefix_stays old new more text text' added) text) in
     (boundary.0, λ _. boundary.1)
 
 -- more characters add what stands for them
@@ -42,4 +42,4 @@ pub next_escaped : (rows : List (ℕ × List ℕ)) (text : List ℕ) (c : ℕ) �
     escaped_text rows (text ++ c ∷ []) ≡ escaped_text rows text ++ escaped_character rows c
 next_escaped rows text c =
     more_escaped rows text (c ∷ []) ∙ ap (λ more. escaped_text rows text ++ more)
-        (append-nil (escaped_character rows c))
+    (append-nil (escaped_character rows c))

@@ -40,8 +40,15 @@ first_character text rest c utf8 split =
 pub past_character_shorter : (rest run others after : List ℕ) (c : ℕ) → rest ≡ run ++ others
     → others ≡ encode_utf8 c ++ after → length after < length rest
 past_character_shorter rest run others after c split next =
-    omega (arith, ap length split, ap length next, length-append run others, length-append (encode_utf8 c) after,
-        length-encode c, (len_utf8_bounds c).0)
+    omega (
+      arith,
+      ap length split,
+      ap length next,
+      length-append run others,
+      length-append (encode_utf8 c) after,
+      length-encode c,
+      (len_utf8_bounds c).0,
+    )
 
 -- at the start nothing is passed
 pub none_passed : (rows : List (ℕ × List ℕ)) (text : List ℕ) → IsUtf8 text → IsUtf8 [] → PassedSoFar rows text text
@@ -75,25 +82,25 @@ module _ (rows : List (ℕ × List ℕ)) (text rest : List ℕ) (so_far : Passed
   character_passed c after utf8 split plain =
       let first = first_character rest after c so_far.utf8_rest split in
       run_passed (encode_utf8 c) after first.0 utf8 split (ap (list_all (has_no_row rows)) first.1
-          ∙ and_from _ _ plain refl)
+      ∙ and_from _ _ plain refl)
 
   -- where nothing of the rest stands for itself, the text is cut there
   pub cut_at : IsCharBoundary text (length text - length rest)
   cut_at =
       let at : length text - length rest ≡ length so_far.prefix =
-          omega (arith, ap length so_far.split, length-append so_far.prefix rest) in
+      omega (arith, ap length so_far.split, length-append so_far.prefix rest) in
       rw at (IsCharBoundary-at_seam text so_far.prefix rest so_far.split so_far.utf8_rest)
 
   pub prefix_cut : take (length text - length rest) text ≡ so_far.prefix
   prefix_cut =
       let at : length text - length rest ≡ length so_far.prefix =
-          omega (arith, ap length so_far.split, length-append so_far.prefix rest) in
+      omega (arith, ap length so_far.split, length-append so_far.prefix rest) in
       rw (at, so_far.split) (take-append_seam so_far.prefix rest)
 
   pub rest_cut : drop (length text - length rest) text ≡ rest
   rest_cut =
       let at : length text - length rest ≡ length so_far.prefix =
-          omega (arith, ap length so_far.split, length-append so_far.prefix rest) in
+      omega (arith, ap length so_far.split, length-append so_far.prefix rest) in
       rw (at, so_far.split) (drop-append_seam so_far.prefix rest)
 
   pub whole_prefix : plain_prefix rows (chars rest) ≡ [] → chars so_far.prefix ≡ plain_prefix rows (chars text)

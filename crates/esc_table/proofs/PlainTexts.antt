@@ -23,13 +23,13 @@ Unflagged flags bytes = All (λ byte. is_flagged flags byte ≡ false) bytes
 -- a character whose first byte isn't flagged has no row
 pub unflagged_none : (rows : List (ℕ × List ℕ)) (flags : List Bool) (c : ℕ) →
     list_all (λ row. is_flagged flags (lead_byte row.0)) rows ≡ true → is_flagged flags (lead_byte c) ≡ false
-        → row_text rows c ≡ None
+    → row_text rows c ≡ None
 unflagged_none [] flags c all is = refl
 unflagged_none (row ∷ rows) flags c all is =
     let parts = and_parts _ _ all in
     ⊎_elim
     (λ same. absurd (both_ways (is_flagged flags (lead_byte c)) is
-        (ap (λ d. is_flagged flags (lead_byte d)) (sym (eqb-true row.0 c same)) ∙ parts.0)))
+    (ap (λ d. is_flagged flags (lead_byte d)) (sym (eqb-true row.0 c same)) ∙ parts.0)))
     (λ other. cond-false (eqb row.0 c) (Some row.1) (row_text rows c) other ∙ unflagged_none rows flags c parts.1 is)
     (cases_Bool (eqb row.0 c))
 
@@ -46,10 +46,10 @@ module _ (rows : List (ℕ × List ℕ)) (flags : List Bool) (leads : LeadBytes 
       let others : List ℕ = encode_utf8_all cs in
       let here : is_flagged flags (lead_byte c) ≡ false =
       ap (is_flagged flags) (sym (get_or_append_left bytes others 0 0 (begins c)))
-          ∙ unflagged 0 0 (omega (arith, begins c, length-append bytes others)) in
+      ∙ unflagged 0 0 (omega (arith, begins c, length-append bytes others)) in
       let rest : Unflagged flags others =
       rw (← drop-append_seam bytes others) (All-drop (λ byte. is_flagged flags byte ≡ false) (length bytes)
-          (bytes ++ others) unflagged) in
+      (bytes ++ others) unflagged) in
       and_from _ _ (ap is_none (unflagged_none rows flags c (and_parts _ _ leads).0 here)) (plain_characters cs rest)
 
   pub plain_text : (text : List ℕ) → IsUtf8 text → Unflagged flags text → list_all (has_no_row rows) (chars text) ≡ true
@@ -82,7 +82,7 @@ flag_begins rows flags leads byte is high =
     let at : 128 + (byte - 128) ≡ byte = omega (arith, high) in
     let here : slice_index_or (slice_range flags 0x80 0xC0) (byte - 128) false ≡ true =
     get_or-take 64 (drop 128 flags) (byte - 128) false (omega (arith, low, high)) ∙ get_or-drop 128 flags (byte - 128)
-        false ∙ ap (λ i. slice_index_or flags i false) at ∙ is in
+    false ∙ ap (λ i. slice_index_or flags i false) at ∙ is in
     absurd (none_true (slice_range flags 0x80 0xC0) (byte - 128) (and_parts _ _ leads).1 here))
     (λ above. above)
     (cases_lt byte 192)

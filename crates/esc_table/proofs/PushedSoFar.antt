@@ -19,7 +19,7 @@ module _ (rows : List (ℕ × List ℕ)) where
       → out' ++ escaped_text rows (chars rest) ≡ out ++ escaped_text rows (chars text)
   first_pushed text rest c out out' utf8 split grows =
       ap (λ l. l ++ escaped_text rows (chars rest)) grows ∙ append_assoc out (escaped_character rows c)
-          (escaped_text rows (chars rest))
+      (escaped_text rows (chars rest))
       ∙ ap (λ l. out ++ escaped_text rows l) (sym (chars_past_char text rest c utf8 split))
 
   -- a prefix that stands for itself, and then what stands for the rest
@@ -28,9 +28,9 @@ module _ (rows : List (ℕ × List ℕ)) where
       → out' ++ escaped_text rows (chars rest) ≡ out ++ escaped_text rows (chars text)
   prefix_pushed text prefix rest out out' utf8 split plain grows =
       ap (λ l. l ++ escaped_text rows (chars rest)) grows
-          ∙ append_assoc out (chars prefix) (escaped_text rows (chars rest))
+      ∙ append_assoc out (chars prefix) (escaped_text rows (chars rest))
       ∙ ap (λ l. out ++ (l ++ escaped_text rows (chars rest))) (sym plain)
-          ∙ ap (λ l. out ++ l) (sym (more_escaped rows (chars prefix) (chars rest)))
+      ∙ ap (λ l. out ++ l) (sym (more_escaped rows (chars prefix) (chars rest)))
       ∙ ap (λ l. out ++ escaped_text rows l) (sym (ap chars split ∙ chars-append prefix rest utf8))
 
   -- a prefix that stands for itself and then what stands for more of the text
@@ -38,21 +38,21 @@ module _ (rows : List (ℕ × List ℕ)) where
       → PushedSoFar rows start out rest text → IsUtf8 prefix → rest ≡ prefix ++ others
       → escaped_text rows (chars prefix) ≡ chars prefix → pushed ≡ out ++ chars prefix
       → out' ++ escaped_text rows (chars rest') ≡ pushed ++ escaped_text rows (chars others) → IsUtf8 rest'
-          → ((more : List ℕ) × (out' ≡ pushed ++ more))
+      → ((more : List ℕ) × (out' ≡ pushed ++ more))
       → PushedSoFar rows start out' rest' text
   next_pushed start out rest text prefix others rest' pushed out' so_far utf8 split plain prefix_grows grows utf8_rest
       longer = record {
-    whole = grows ∙ prefix_pushed rest prefix others out pushed utf8 split plain prefix_grows ∙ so_far.whole;
-    utf8 = utf8_rest;
-    more = (so_far.more ++ chars prefix) ++ longer.0;
-    grown = longer.1 ∙ ap (λ l. l ++ longer.0) (prefix_grows ∙ ap (λ l. l ++ chars prefix) so_far.grown
-        ∙ append_assoc start so_far.more (chars prefix))
-        ∙ append_assoc start (so_far.more ++ chars prefix) longer.0;
-  }
+        whole = grows ∙ prefix_pushed rest prefix others out pushed utf8 split plain prefix_grows ∙ so_far.whole;
+        utf8 = utf8_rest;
+        more = (so_far.more ++ chars prefix) ++ longer.0;
+        grown = longer.1 ∙ ap (λ l. l ++ longer.0) (prefix_grows ∙ ap (λ l. l ++ chars prefix) so_far.grown
+            ∙ append_assoc start so_far.more (chars prefix))
+            ∙ append_assoc start (so_far.more ++ chars prefix) longer.0;
+      }
 
   -- where nothing is left, all is pushed
   pub all_pushed : (start out rest text : List ℕ) → length rest ≡ 0 → PushedSoFar rows start out rest text
       → out ≡ start ++ escaped_text rows (chars text)
   all_pushed start out rest text none so_far =
       sym (ap (λ l. out ++ escaped_text rows l) (ap chars (nil_from_length rest none) ∙ chars-nil) ∙ append-nil out)
-          ∙ so_far.whole
+      ∙ so_far.whole

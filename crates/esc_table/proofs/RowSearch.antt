@@ -31,8 +31,13 @@ pub row_text_present : (d : Row) (rows : List Row) (c i : ℕ) → i < length ro
 row_text_present d [] c i lt same none = absurd (omega (arith, lt))
 row_text_present d (row ∷ rows) c zero lt same none = grind (arith, nat_tests, same)
 row_text_present d (row ∷ rows) c (suc i) lt same none =
-    grind (arith, nat_tests, none 0 (omega arith), row_text_present d rows c i (omega arith) same
-        (λ j below. none (suc j) (omega arith)))
+    grind (
+      arith,
+      nat_tests,
+      none 0 (omega arith),
+      row_text_present d rows c i (omega arith) same
+          (λ j below. none (suc j) (omega arith)),
+    )
 
 -- each half of a test that holds
 first_holds : (a b : Bool) → IsTrue (a && b) → IsTrue a
@@ -65,7 +70,7 @@ characters_rise d (row ∷ next ∷ rows) ascends zero (suc zero) lt within = ne
 characters_rise d (row ∷ next ∷ rows) ascends zero (suc (suc j)) lt within =
     let above = next_above row next rows ascends in
     let later = characters_rise d (next ∷ rows) (rest_ascends row next rows ascends) zero (suc j) (omega arith)
-        (omega (arith, within)) in
+    (omega (arith, within)) in
     omega (arith, above, later)
 characters_rise d (row ∷ next ∷ rows) ascends (suc i) (suc j) lt within =
     characters_rise d (next ∷ rows) (rest_ascends row next rows ascends) i j (omega (arith, lt)) (omega (arith, within))
@@ -85,7 +90,7 @@ module _ (d : Row) (rows : List Row) (ascends : Ascends (row_pairs rows)) (c : �
   searched_text at within equal =
       let same : (get_or rows at d).from ≡ c = ranked _ c _ (sym (equal d)) in
       sym (row_text_present d rows c at within same
-          (λ j below here. omega (arith, characters_rise d rows ascends j at below within, same, here)))
+      (λ j below here. omega (arith, characters_rise d rows ascends j at below within, same, here)))
 
   -- where it finds none, no row has the character
   pub searched_none : (at : ℕ) → at ≤ length rows → IsBinarySearchResult (λ row. nat_cmp row.from c) rows (Err at) →
@@ -93,7 +98,7 @@ module _ (d : Row) (rows : List Row) (ascends : Ascends (row_pairs rows)) (c : �
   searched_none at within parted =
       sym (row_text_absent d rows c (λ j below here.
       let before : j < at → (get_or rows j d).from < c =
-          λ lt. ranked _ c _ (sym ((parted comparisons_rise).0 j d (omega arith) lt)) in
+      λ lt. ranked _ c _ (sym ((parted comparisons_rise).0 j d (omega arith) lt)) in
       let after : at ≤ j → c < (get_or rows j d).from =
-          λ le. ranked _ c _ (sym ((parted comparisons_rise).1 j d le below)) in
+      λ le. ranked _ c _ (sym ((parted comparisons_rise).1 j d le below)) in
       grind (arith, before, after, here)))

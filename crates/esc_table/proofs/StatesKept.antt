@@ -9,22 +9,22 @@ use Rattle.esc_table.specs.StateAfter.{state_after, KeepsStates}
 -- a text is read as its prefix and then the rest
 pub state_after-append : {S : Type 0} (next : S → ℕ → Option S) (state : S) (prefix rest : List ℕ) →
     state_after next state (prefix ++ rest) ≡ option_and_then (λ s. state_after next s rest)
-        (state_after next state prefix)
+    (state_after next state prefix)
 state_after-append next state [] rest = refl
 state_after-append {S = S} next state (c ∷ cs) rest =
     from_next (next state c) (λ s. state_after-append next s cs rest) where
-  from_next : (o : Option S)
-      → ((s : S) → state_after next s (cs ++ rest) ≡ option_and_then (λ t. state_after next t rest)
-      (state_after next s cs)) →
-      option_and_then (λ s. state_after next s (cs ++ rest)) o ≡ option_and_then (λ s. state_after next s rest)
+      from_next : (o : Option S)
+          → ((s : S) → state_after next s (cs ++ rest) ≡ option_and_then (λ t. state_after next t rest)
+          (state_after next s cs)) →
+          option_and_then (λ s. state_after next s (cs ++ rest)) o ≡ option_and_then (λ s. state_after next s rest)
           (option_and_then (λ s. state_after next s cs) o)
-  from_next None further = refl
-  from_next (Some s) further = further s
+      from_next None further = refl
+      from_next (Some s) further = further s
 
 -- from a state of the set to a state of the set, and on from there
 onward : {S : Type 0} (next : S → ℕ → Option S) (kept : S → Bool) (rest : List ℕ) → KeepsStates next kept rest →
     (o : Option S) → IsSomeAnd o (λ s. IsTrue (kept s)) → IsSomeAnd (option_and_then (λ s. state_after next s rest) o)
-        (λ s. IsTrue (kept s))
+    (λ s. IsTrue (kept s))
 onward next kept rest keeps None never = never
 onward next kept rest keeps (Some s) held = keeps s held
 
@@ -34,7 +34,7 @@ module _ {S : Type 0} (next : S → ℕ → Option S) (kept : S → Bool) where
       → KeepsStates next kept (prefix ++ rest)
   append_keeps prefix rest keeps keeps' state held =
       rw (state_after-append next state prefix rest)
-          (onward next kept rest keeps' (state_after next state prefix) (keeps state held))
+      (onward next kept rest keeps' (state_after next state prefix) (keeps state held))
 
   -- the texts of any characters, joined
   pub joined_texts_keep : (form : ℕ → List ℕ) → ((c : ℕ) → KeepsStates next kept (form c)) → (text : List ℕ)

@@ -31,7 +31,7 @@ alphanumeric_bytes [] = refl
 alphanumeric_bytes (c ∷ cs) =
     ⊎_elim
     (λ low. ap (λ l. is_alphanumeric (l ++ encode_utf8_all cs)) (encode_ascii c low)
-        ∙ ap (λ t. is_ascii_alphanumeric c && t) (alphanumeric_bytes cs))
+    ∙ ap (λ t. is_ascii_alphanumeric c && t) (alphanumeric_bytes cs))
     (λ high. high_first c (encode_utf8_all cs) high ∙ sym (ap (λ t. t && is_alphanumeric cs) (high_none c high)))
     (cases_lt c 128)
 
@@ -49,7 +49,7 @@ alphanumeric_row (row ∷ rows) c none is =
     let parts = and_parts _ _ none in
     ⊎_elim
     (λ same. absurd (both_ways (is_ascii_alphanumeric row.0) (not-true _ parts.0)
-        (ap is_ascii_alphanumeric (eqb-true row.0 c same) ∙ is)))
+    (ap is_ascii_alphanumeric (eqb-true row.0 c same) ∙ is)))
     (λ other. cond-false (eqb row.0 c) (Some row.1) (row_text rows c) other ∙ alphanumeric_row rows c parts.1 is)
     (cases_Bool (eqb row.0 c))
 
@@ -60,7 +60,7 @@ alphanumeric_escaped rows [] none are = refl
 alphanumeric_escaped rows (c ∷ text) none are =
     let parts = and_parts _ _ are in
     ap (λ o. unwrap_or o (c ∷ []) ++ escaped_text rows text) (alphanumeric_row rows c none parts.0)
-        ∙ ap (λ l. c ∷ l) (alphanumeric_escaped rows text none parts.1)
+    ∙ ap (λ l. c ∷ l) (alphanumeric_escaped rows text none parts.1)
 
 -- and where such characters stand for themselves, so does the text
 pub alphanumeric_stands : (test : ℕ → Bool) (text : List ℕ) → ((c : ℕ) → is_ascii_alphanumeric c ≡ true → test c ≡ true)

@@ -46,8 +46,8 @@ bytes_written [] rest are more = more
 bytes_written (b ∷ bs) rest are more =
     let small : b < 256 = are.0 in
     encoded (upper_digit (b / 16)) (upper_digit (b % 16)) (flat_map encoded_byte bs ++ rest)
-        (digit_is_upper (b / 16) (omega arith)) (digit_is_upper (b % 16) (omega arith))
-        (bytes_written bs rest are.1 more)
+    (digit_is_upper (b / 16) (omega arith)) (digit_is_upper (b % 16) (omega arith))
+    (bytes_written bs rest are.1 more)
 
 pub component_written : (text : List ℕ) → all_scalars text ≡ true → IsComponentText (uri_component text)
 component_written [] are = empty
@@ -56,11 +56,11 @@ component_written (c ∷ text) are =
     let more = component_written text both.1 in
     ⊎_elim
     (λ passes. subst (λ l. IsComponentText (l ++ uri_component text))
-        (sym (cond-true (is_unreserved c) (c ∷ []) (percent_encoded c) passes))
-        (unreserved c (uri_component text) passes more))
+    (sym (cond-true (is_unreserved c) (c ∷ []) (percent_encoded c) passes))
+    (unreserved c (uri_component text) passes more))
     (λ fails. subst (λ l. IsComponentText (l ++ uri_component text))
-        (sym (cond-false (is_unreserved c) (c ∷ []) (percent_encoded c) fails))
-        (bytes_written (encode_utf8 c) (uri_component text) (scalar_bytes c both.0) more))
+    (sym (cond-false (is_unreserved c) (c ∷ []) (percent_encoded c) fails))
+    (bytes_written (encode_utf8 c) (uri_component text) (scalar_bytes c both.0) more))
     (cases_Bool (is_unreserved c))
 
 -- ---- how it is read back
@@ -71,7 +71,7 @@ byte_decoded b rest small =
     let high = digit_number-upper_digit (b / 16) (omega arith) in
     let low = digit_number-upper_digit (b % 16) (omega arith) in
     let value : 16 * digit_number (upper_digit (b / 16)) + digit_number (upper_digit (b % 16)) ≡ b =
-        rw (high, low) (omega arith) in
+    rw (high, low) (omega arith) in
     ap (λ d. d ∷ decoded_bytes rest) value
 
 bytes_decoded : (bs rest : List ℕ) → AllByRecursion IsByte bs
@@ -86,7 +86,7 @@ other_decoded c [] other = refl
 other_decoded c (d ∷ []) other = refl
 other_decoded c (d ∷ e ∷ rest) other =
     cond-false (eqb c percent_sign) ((16 * digit_number d + digit_number e) ∷ decoded_bytes rest)
-        (c ∷ decoded_bytes (d ∷ e ∷ rest)) other
+    (c ∷ decoded_bytes (d ∷ e ∷ rest)) other
 
 -- an unreserved character is of ASCII, and no `%`
 unreserved_is : (c : ℕ) → is_unreserved c ≡ true → (c < 128) × (eqb c percent_sign ≡ false)

@@ -17,10 +17,10 @@ module _ (P : List ℕ → Type 0) where
   row_kept (row ∷ rows) c each plain =
       ⊎_elim
       (λ same. subst (λ o. Keeps P (unwrap_or o (c ∷ [])))
-          (sym (cond-true (eqb row.0 c) (Some row.1) (row_text rows c) same)) each.0)
+      (sym (cond-true (eqb row.0 c) (Some row.1) (row_text rows c) same)) each.0)
       (λ other.
       let skip : row_text (row ∷ rows) c ≡ row_text rows c = cond-false (eqb row.0 c) (Some row.1) (row_text rows c)
-          other in
+      other in
       subst (λ o. Keeps P (unwrap_or o (c ∷ []))) (sym skip) (row_kept rows c each.1 (λ none. plain (skip ∙ none))))
       (cases_Bool (eqb row.0 c))
 

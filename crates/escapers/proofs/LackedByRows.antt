@@ -35,7 +35,7 @@ module _ (these : List ℕ) (rows : List (ℕ × List ℕ)) (have_rows : list_al
   plain : (c : ℕ) → row_text rows c ≡ None → is_one_of these c ≡ false
   plain c none =
       false_from_ne_true (is_one_of these c) (λ one. both_ways (is_some (row_text rows c)) (ap is_some none)
-          (of_one (λ d. is_some (row_text rows d)) these c have_rows one))
+      (of_one (λ d. is_some (row_text rows d)) these c have_rows one))
 
   -- a row's text that lacks these may be put before a text
   each_row : (some : List (ℕ × List ℕ)) → list_all (λ row. lacks these row.1) some ≡ true

@@ -106,4 +106,4 @@ module _ (set : AsciiSet) (test : ℕ → Bool) (outside : IsOutside set test) w
       ∙ ap (λ l. chars old ++ l)
       (chars-IsAscii (percent_encode set text) (IsAscii-percent_encode set text)
       ∙ ap (percent_encode set) (sym (encodes-chars text utf8_text))
-          ∙ text_encoded (chars text) (scalars-chars text utf8_text))
+      ∙ text_encoded (chars text) (scalars-chars text utf8_text))

@@ -30,7 +30,7 @@ same_prefix : (p q : ℕ → Bool) → ((c : ℕ) → p c ≡ q c) → (cs : Lis
 same_prefix p q same [] = refl
 same_prefix p q same (c ∷ cs) =
     ap (λ b. if b then c ∷ prefix_while p cs else []) (same c) ∙ ap (λ l. if q c then c ∷ l else [])
-        (same_prefix p q same cs)
+    (same_prefix p q same cs)
 
 -- it is that of the library
 take_while-prefix : (test : ℕ → Bool) (cs : List ℕ) → take_while test cs ≡ prefix_while test cs
@@ -62,10 +62,10 @@ row_itself (row ∷ rows) c none =
     let here : row_text (row ∷ rows) c ≡ Some row.1 = cond-true (eqb row.0 c) (Some row.1) (row_text rows c) same in
     ap is_none here
     ∙ sym (ap (λ o. bytes_eq (unwrap_or o (c ∷ [])) (c ∷ [])) here ∙ subst (λ d. bytes_eq row.1 (d ∷ []) ≡ false)
-        (eqb-true row.0 c same) (not-true _ parts.0)))
+    (eqb-true row.0 c same) (not-true _ parts.0)))
     (λ other.
     let later : row_text (row ∷ rows) c ≡ row_text rows c = cond-false (eqb row.0 c) (Some row.1) (row_text rows c)
-        other in
+    other in
     ap is_none later ∙ row_itself rows c parts.1 ∙ sym (ap (λ o. bytes_eq (unwrap_or o (c ∷ [])) (c ∷ [])) later))
     (cases_Bool (eqb row.0 c))
 
@@ -74,8 +74,8 @@ by_rows : (rows : List (ℕ × List ℕ)) → has_no_own rows ≡ true → (cs :
     rowless_prefix rows cs ≡ prefix_while (λ c. bytes_eq (row_or_character rows c) (c ∷ [])) cs
 by_rows rows none cs =
     take_while-prefix (has_no_row rows) cs
-        ∙ same_prefix (has_no_row rows) (λ c. bytes_eq (row_or_character rows c) (c ∷ []))
-        (λ c. row_itself rows c none) cs
+    ∙ same_prefix (has_no_row rows) (λ c. bytes_eq (row_or_character rows c) (c ∷ []))
+    (λ c. row_itself rows c none) cs
 
 pub html_prefix : (cs : List ℕ) → rowless_prefix html_rows cs ≡ plain_prefix escaper.Html cs
 html_prefix = by_rows html_rows refl
@@ -129,7 +129,7 @@ alphanumeric_all_themselves how by [] are = refl
 alphanumeric_all_themselves how by (c ∷ cs) are =
     let parts = and_parts _ _ are in
     ap (λ b. b && list_all (stands_for_itself how) cs) (alphanumeric_itself how c by parts.0)
-        ∙ alphanumeric_all_themselves how by cs parts.1
+    ∙ alphanumeric_all_themselves how by cs parts.1
 
 pub alphanumeric_prefix : (how : Escaper) → is_by_characters how ≡ true → (cs : List ℕ)
     → list_all is_ascii_alphanumeric cs ≡ true → cs ≡ plain_prefix how cs

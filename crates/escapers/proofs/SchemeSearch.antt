@@ -29,4 +29,4 @@ before_colon [] back none = refl
 before_colon (c ∷ prefix) back none =
     ap (λ t. t || (not (ends_scheme c) && has_scheme (prefix ++ colon ∷ back))) (not_colon c prefix none)
     ∙ ap (λ t. not (ends_scheme c) && t) (before_colon prefix back (and_parts _ _ none).1)
-        ∙ not_either (ends_scheme c) (list_any ends_scheme prefix)
+    ∙ not_either (ends_scheme c) (list_any ends_scheme prefix)

@@ -38,13 +38,13 @@ begins_bytes (c ∷ prefix) (d ∷ cs) are =
     ap (λ l. begins_in_any_case (c ∷ prefix) (l ++ encode_utf8_all cs)) (encode_ascii d low)
     ∙ ap (λ t. eqb (to_ascii_lowercase d) c && t) (begins_bytes prefix cs both.1))
     (λ high. high_first c d prefix (encode_utf8_all cs) small high
-        ∙ sym (ap (λ t. t && begins_in_any_case prefix cs) (high_other c d small high)))
+    ∙ sym (ap (λ t. t && begins_in_any_case prefix cs) (high_other c d small high)))
     (cases_lt d 128)
 
 -- the prefix as the lower case of the first bytes
 begins_decides : (prefix bs : List ℕ) → list_all is_scheme_character prefix ≡ true →
     Decides (begins_in_any_case prefix bs) (map to_ascii_lowercase (take (length prefix) bs) ≡ map to_ascii_lowercase
-        prefix)
+    prefix)
 begins_decides [] bs are = (λ _. refl, λ _. refl)
 begins_decides (c ∷ prefix) [] are = (λ never. cc, λ never. cc)
 begins_decides (c ∷ prefix) (d ∷ bs) are =
@@ -64,7 +64,7 @@ begins_decides (c ∷ prefix) (d ∷ bs) are =
 -- so what is found in bytes holds of characters
 pub begins_from_bytes : (prefix bs : List ℕ) (r : Bool) → list_all is_scheme_character prefix ≡ true → IsUtf8 bs
     → (IsTrue r ↔ (map to_ascii_lowercase (take (length prefix) bs) ≡ map to_ascii_lowercase prefix))
-        → r ≡ begins_in_any_case prefix (chars bs)
+    → r ≡ begins_in_any_case prefix (chars bs)
 begins_from_bytes prefix bs r are utf8 same =
     same_from_decides r (begins_in_any_case prefix bs) (same.0, same.1) (begins_decides prefix bs are)
     ∙ ap (begins_in_any_case prefix) (sym (encodes-chars bs utf8)) ∙ begins_bytes prefix (chars bs) are

@@ -22,19 +22,19 @@ short_row (row ∷ rows) c short =
     (λ same.
     let few : byte_len row.1 ≤ 16 = grind (arith, nat_tests, parts.0) in
     subst (λ o. IfSome o (λ to. byte_len to ≤ 16)) (sym (cond-true (eqb row.0 c) (Some row.1) (row_text rows c) same))
-        few)
+    few)
     (λ other. subst (λ o. IfSome o (λ to. byte_len to ≤ 16))
-        (sym (cond-false (eqb row.0 c) (Some row.1) (row_text rows c) other)) (short_row rows c parts.1))
+    (sym (cond-false (eqb row.0 c) (Some row.1) (row_text rows c) other)) (short_row rows c parts.1))
     (cases_Bool (eqb row.0 c))
 
 -- the text that is found in a table has at most 16 bytes
 pub found_short : (rows : List (ℕ × List ℕ)) (c : ℕ) (found : Option (Bor (List ℕ))) → are_short rows ≡ true →
     option_map (λ text. chars text.now) found ≡ row_text rows c → IfSome found (λ text. IsUtf8 text.now)
-        → IfSome found (λ text. length text.now ≤ 16)
+    → IfSome found (λ text. length text.now ≤ 16)
 found_short rows c None short is utf8 = tt
 found_short rows c (Some text) short is utf8 =
     let few : byte_len (chars text.now) ≤ 16 = subst (λ o. IfSome o (λ to. byte_len to ≤ 16)) (sym is)
-        (short_row rows c short) in
+    (short_row rows c short) in
     omega (arith, few, byte_len-chars text.now utf8)
 
 -- and is the bytes of what stands for the character

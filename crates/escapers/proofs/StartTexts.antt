@@ -33,7 +33,7 @@ past_bytes [] rest = refl
 past_bytes (b ∷ bs) rest =
     let after = flat_map encoded_byte bs ++ rest in
     past_inert (upper_digit (b / 16)) (upper_digit (b % 16) ∷ after) (digit_inert (b / 16))
-        ∙ past_inert (upper_digit (b % 16)) after (digit_inert (b % 16))
+    ∙ past_inert (upper_digit (b % 16)) after (digit_inert (b % 16))
     ∙ past_bytes bs rest
 
 -- and so is a character that is encoded
@@ -45,12 +45,12 @@ module _ (c : ℕ) (text : List ℕ) (same : has_scheme (uri_normal text) ≡ ha
   at_ampersand : eqb c ampersand ≡ true → has_scheme (normal_character c ++ uri_normal text) ≡ has_scheme (c ∷ text)
   at_ampersand is =
       ap (λ l. has_scheme (l ++ uri_normal text)) (cond-true (eqb c ampersand) _ _ is)
-          ∙ sym (ap (λ d. has_scheme (d ∷ text)) (eqb-true c ampersand is))
+      ∙ sym (ap (λ d. has_scheme (d ∷ text)) (eqb-true c ampersand is))
 
   at_other : eqb c ampersand ≡ false → has_scheme (normal_character c ++ uri_normal text) ≡ has_scheme (c ∷ text)
   at_other other =
       ap (λ l. has_scheme (l ++ uri_normal text))
-          (cond-false (eqb c ampersand) (codes "&amp;") (if is_normal c then c ∷ [] else percent_encoded c) other)
+      (cond-false (eqb c ampersand) (codes "&amp;") (if is_normal c then c ∷ [] else percent_encoded c) other)
       ∙ ⊎_elim
       (λ normal.
       ap (λ l. has_scheme (l ++ uri_normal text)) (cond-true (is_normal c) (c ∷ []) (percent_encoded c) normal)
@@ -64,7 +64,7 @@ pub has_scheme-uri_normal : (text : List ℕ) → has_scheme (uri_normal text) �
 has_scheme-uri_normal [] = refl
 has_scheme-uri_normal (c ∷ text) =
     ⊎_elim (at_ampersand c text (has_scheme-uri_normal text)) (at_other c text (has_scheme-uri_normal text))
-        (cases_Bool (eqb c ampersand))
+    (cases_Bool (eqb c ampersand))
 
 -- ---- a text with an allowed scheme
 
@@ -83,7 +83,7 @@ begins_normal (d ∷ prefix) (c ∷ text) are begins =
     let parts = and_parts _ _ begins in
     let facts = scheme_normal c d scheme.0 (eqb-true (to_ascii_lowercase c) d parts.0) in
     let stays : normal_character c ≡ c ∷ [] = cond-false (eqb c ampersand) _ _ facts.0
-        ∙ cond-true (is_normal c) _ (percent_encoded c) facts.1 in
+    ∙ cond-true (is_normal c) _ (percent_encoded c) facts.1 in
     ap (λ l. begins_in_any_case (d ∷ prefix) (l ++ uri_normal text)) stays
     ∙ and_from _ _ parts.0 (begins_normal prefix text scheme.1 parts.1)
 
@@ -112,7 +112,7 @@ pub start_text : (text : List ℕ) → IsUriStartText (uri_start text)
 start_text text =
     ⊎_elim
     (λ may. subst IsUriStartText (sym (cond-true (may_start_uri text) (uri_normal text) invalid_uri may))
-        (passed text may))
+    (passed text may))
     (λ may_not. subst IsUriStartText (sym (cond-false (may_start_uri text) (uri_normal text) invalid_uri may_not))
-        (inl refl))
+    (inl refl))
     (cases_Bool (may_start_uri text))

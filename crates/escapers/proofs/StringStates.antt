@@ -24,17 +24,22 @@ apart : (rows : List (ℕ × List ℕ)) (c d : ℕ) → is_some (row_text rows d
     → eqb c d ≡ false
 apart rows c d some none =
     false_from_ne_true (eqb c d)
-        (λ same. both_ways (is_some (row_text rows d))
-        (subst (λ e. is_some (row_text rows e) ≡ false) (eqb-true c d same) (ap is_some none)) some)
+    (λ same. both_ways (is_some (row_text rows d))
+    (subst (λ e. is_some (row_text rows e) ≡ false) (eqb-true c d same) (ap is_some none)) some)
 
 -- where a backslash, the quote and the line breaks have rows, a character without one stays within a string
 stays_in_string : {S : Type 0} (rows : List (ℕ × List ℕ)) (quote : ℕ) (within escaped past : S) →
     is_some (row_text rows backslash) ≡ true → is_some (row_text rows quote) ≡ true
-        → is_some (row_text rows line_feed) ≡ true → is_some (row_text rows carriage_return) ≡ true →
+    → is_some (row_text rows line_feed) ≡ true → is_some (row_text rows carriage_return) ≡ true →
     (c : ℕ) → row_text rows c ≡ None → string_next quote within escaped past c ≡ Some within
 stays_in_string rows quote within escaped past a b d e c none =
-    rw (apart rows c backslash a none, apart rows c quote b none, apart rows c line_feed d none, apart rows c
-        carriage_return e none) refl
+    rw (
+      apart rows c backslash a none,
+      apart rows c quote b none,
+      apart rows c line_feed d none,
+      apart rows c
+          carriage_return e none,
+    ) refl
 
 module _ {S : Type 0} (next : S → ℕ → Option S) (state : S) (is : Option S → Bool) (known : (o : Option S)
     → is o ≡ true → o ≡ Some state) where
@@ -46,18 +51,20 @@ module _ {S : Type 0} (next : S → ℕ → Option S) (state : S) (is : Option S
       → AllByRecursion (λ row. Keeps Stays row.1) rows
   each_row [] all = tt
   each_row (row ∷ rows) all =
-      let parts = and_parts _ _ all in
-      (λ rest stays. state_after-append_some next state state row.1 rest (known _ parts.0)
-          ∙ stays, each_row rows parts.1)
+      let parts = and_parts _ _ all in (
+        λ rest stays. state_after-append_some next state state row.1 rest (known _ parts.0)
+            ∙ stays,
+        each_row rows parts.1,
+      )
 
   -- so every text that is escaped by the rows does
   rows_stay : (rows : List (ℕ × List ℕ)) → list_all (λ row. is (state_after next state row.1)) rows ≡ true →
       ((c : ℕ) → row_text rows c ≡ None → next state c ≡ Some state) → (text : List ℕ)
-          → state_after next state (escaped_text rows text) ≡ Some state
+      → state_after next state (escaped_text rows text) ≡ Some state
   rows_stay rows all plain =
       escaped_keeps Stays rows (each_row rows all)
       (λ c none rest stays. state_after-append_some next state state (c ∷ []) rest (one c (plain c none)) ∙ stays)
-          refl where
+      refl where
         one : (c : ℕ) → next state c ≡ Some state → state_after next state (c ∷ []) ≡ Some state
         one c leads = rw leads refl
 

@@ -55,7 +55,7 @@ length-encoded (b ∷ bs) = omega (arith, length-encoded bs)
 pub encoded_len : (c : ℕ) → IsScalar c → byte_len (percent_encoded c) ≡ 3 * len_utf8 c
 encoded_len c is =
     low_len (percent_encoded c) (encoded_low (encode_utf8 c) (scalar_bytes c is)) ∙ length-encoded (encode_utf8 c)
-        ∙ ap (λ n. 3 * n) (length-encode c)
+    ∙ ap (λ n. 3 * n) (length-encode c)
 
 -- ---- the form of a character that is encoded, and of one that isn't
 
@@ -71,12 +71,12 @@ normal_reference c is = cond-true (eqb c ampersand) _ (if is_normal c then c ∷
 pub normal_kept : (c : ℕ) → eqb c ampersand ≡ false → is_normal c ≡ true → normal_character c ≡ c ∷ []
 normal_kept c other is =
     cond-false (eqb c ampersand) _ (if is_normal c then c ∷ [] else percent_encoded c) other
-        ∙ cond-true (is_normal c) (c ∷ []) (percent_encoded c) is
+    ∙ cond-true (is_normal c) (c ∷ []) (percent_encoded c) is
 
 pub normal_encoded : (c : ℕ) → eqb c ampersand ≡ false → is_normal c ≡ false → normal_character c ≡ percent_encoded c
 normal_encoded c other is =
     cond-false (eqb c ampersand) _ (if is_normal c then c ∷ [] else percent_encoded c) other
-        ∙ cond-false (is_normal c) (c ∷ []) (percent_encoded c) is
+    ∙ cond-false (is_normal c) (c ∷ []) (percent_encoded c) is
 
 pub not_ampersand : (c : ℕ) → (c ≡ 38 → ⊥) → eqb c ampersand ≡ false
 not_ampersand c other = grind (arith, nat_tests, other)
@@ -88,16 +88,26 @@ module _ (bytes tail pushed : List ℕ) (i : ℕ) (within : i < length bytes) (s
   pub one_fits : (c : ℕ) → bytes ≡ encode_utf8 c → length tail + length pushed ≤ 16
   one_fits c whole =
       let three : length pushed ≡ 3 = ap length is ∙ ap length (encoded_byte_is (get_or bytes i 0) small) in
-      omega (arith, within, three, ap length whole, ap length so_far, length-encoded (take i bytes), length-take i
-          bytes, length-encode c, (len_utf8_bounds c).1)
+      omega (
+        arith,
+        within,
+        three,
+        ap length whole,
+        ap length so_far,
+        length-encoded (take i bytes),
+        length-take i
+            bytes,
+        length-encode c,
+        (len_utf8_bounds c).1,
+      )
 
   pub one_more : (new : List ℕ) → new ≡ tail ++ pushed → new ≡ flat_map encoded_byte (take (i + 1) bytes)
   one_more new more =
       more ∙ ap (λ l. l ++ pushed) so_far
       ∙ ap (λ l. flat_map encoded_byte (take i bytes) ++ l) (is ∙ encoded_byte_is (get_or bytes i 0) small
-          ∙ sym (append-nil (encoded_byte (get_or bytes i 0))))
+      ∙ sym (append-nil (encoded_byte (get_or bytes i 0))))
       ∙ sym (ap (flat_map encoded_byte) (take_more bytes i 0 within) ∙ flat_map-append encoded_byte (take i bytes)
-          (get_or bytes i 0 ∷ []))
+      (get_or bytes i 0 ∷ []))
 
 -- ---- which characters stand for themselves
 
@@ -112,7 +122,7 @@ longer cs ds more = grind (arith, bytes_eq-Decides cs ds, λ (same : cs ≡ ds).
 encoded_longer : (c d : ℕ) → bytes_eq (percent_encoded c) (d ∷ []) ≡ false
 encoded_longer c d =
     longer (percent_encoded c) (d ∷ [])
-        (omega (arith, length-encoded (encode_utf8 c), length-encode c, (len_utf8_bounds c).0))
+    (omega (arith, length-encoded (encode_utf8 c), length-encode c, (len_utf8_bounds c).0))
 
 pub unreserved_itself : (c : ℕ) → is_unreserved c ≡ bytes_eq (component_character c) (c ∷ [])
 unreserved_itself c =

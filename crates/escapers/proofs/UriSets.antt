@@ -45,5 +45,5 @@ normal_without (c ∷ cs) none =
     let parts = and_parts _ _ none in
     let other = (or_parts _ _ (not-true _ parts.0)).0 in
     ap (λ l. l ++ flat_map (stands_for is_normal) cs)
-        (sym (cond-false (eqb c ampersand) _ (stands_for is_normal c) other))
+    (sym (cond-false (eqb c ampersand) _ (stands_for is_normal c) other))
     ∙ ap (λ l. normal_character c ++ l) (normal_without cs parts.1)

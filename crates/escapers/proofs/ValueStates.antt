@@ -63,7 +63,7 @@ css_value_is text =
     ⊎_elim
     (λ is. subst (λ l. is_css_value l ≡ true) (sym (cond-true (is_css_value text) text (codes "zSoyz") is)) is)
     (λ is_not. subst (λ l. is_css_value l ≡ true) (sym (cond-false (is_css_value text) text (codes "zSoyz") is_not))
-        refl)
+    refl)
     (cases_Bool (is_css_value text))
 
 pub css_value_leads : (text : List ℕ) → state_after css_next css.Ready (css_value text) ≡ Some css.Code

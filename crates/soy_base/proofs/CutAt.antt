@@ -51,7 +51,7 @@ onto_first-parts d c cs (Some halves) = refl
 abbrev cut_by : ℕ → List ℕ → Bool → Option (List ℕ × List ℕ) → Option (List ℕ × List ℕ)
 cut_by c cs here later =
     option_or (option_map (λ rest. ([], rest)) (cond here (Some cs) None))
-        (option_map (λ parts. (c ∷ parts.0, parts.1)) later)
+    (option_map (λ parts. (c ∷ parts.0, parts.1)) later)
 
 parts_cons : (d c : ℕ) (cs : List ℕ) (t : Bool) → slice_split (λ c. c == d) cs ≡ parts_of_cut d cs (cut (d ∷ []) cs)
     → cond t ([] ∷ slice_split (λ c. c == d) cs) (onto_first c (slice_split (λ c. c == d) cs)) ≡ parts_of_cut d
@@ -117,7 +117,7 @@ abbrev pub Around : ℕ → List ℕ → Option (Bor (List ℕ) × Bor (List ℕ
 Around d text r =
     MatchOption r (lacks (d ∷ []) (chars text) ≡ true)
     (λ parts. (lacks (d ∷ []) (chars parts.0.now) ≡ true) × (chars text ≡ chars parts.0.now ++ d ∷ chars parts.1.now)
-        × IsUtf8 parts.1.now)
+    × IsUtf8 parts.1.now)
 
 -- what `split_once` gives is such a cut
 pub split_once-around : (d : ℕ) (text : List ℕ) (r : Option (Bor (List ℕ) × Bor (List ℕ))) → d < 128 → IsUtf8 text

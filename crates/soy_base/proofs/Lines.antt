@@ -65,22 +65,22 @@ counted_on : (text : List ℕ) (at start : ℕ) → at < length text → start �
     (take (at - start) (drop start text)) + cond (begins_character (get_or text at 0)) 1 0
 counted_on text at start h low =
     let more : count_by begins_character (take (at - start + 1) (drop start text)) ≡ count_by begins_character
-        (take (at - start) (drop start text)) + cond (begins_character (get_or (drop start text) (at - start) 0)) 1 0 =
+    (take (at - start) (drop start text)) + cond (begins_character (get_or (drop start text) (at - start) 0)) 1 0 =
     counted_more begins_character (drop start text) (at - start) (omega (arith, length-drop start text)) in
     let same : at - start + 1 ≡ at + 1 - start = omega arith in
     let offset : start + (at - start) ≡ at = omega arith in
     let byte : get_or (drop start text) (at - start) 0 ≡ get_or text at 0 =
     get_or-drop start text (at - start) 0 ∙ ap (λ k. get_or text k 0) offset in
     ap (λ k. count_by begins_character (take k (drop start text))) (sym same)
-        ∙ (more ∙ ap (λ x. count_by begins_character (take (at - start) (drop start text)) + cond (begins_character x)
-        1 0) byte)
+    ∙ (more ∙ ap (λ x. count_by begins_character (take (at - start) (drop start text)) + cond (begins_character x)
+    1 0) byte)
 
 counted_line : (text : List ℕ) (at start : ℕ) (b : Bool) → at < length text → start ≤ at
     → count_by begins_character (take (at + 1 - cond b (suc at) start) (drop (cond b (suc at) start) text)) ≡ cond b 0
     (count_by begins_character (take (at - start) (drop start text)) + cond (begins_character (get_or text at 0)) 1 0)
 counted_line text at start true h low =
     let none : at + 1 - suc at ≡ 0 = omega arith in ap (λ k. count_by begins_character (take k (drop (suc at) text)))
-        none
+    none
 counted_line text at start false h low = counted_on text at start h low
 
 -- the characters of a line, one byte further
@@ -89,11 +89,15 @@ pub characters_before-more : (text : List ℕ) (at : ℕ) → at < length text �
     else characters_before text at + (if begins_character (slice_index text at) then 1 else 0))
 characters_before-more text at h =
     ap (λ start. count_by begins_character (take (at + 1 - start) (drop start text))) (line_start-more text at)
-        ∙ counted_line text at (line_start text at) (is_break_end text at) h (line_start-≤ text at)
+    ∙ counted_line text at (line_start text at) (is_break_end text at) h (line_start-≤ text at)
 
 -- no byte begins more than one character
 pub characters_before-≤ : (text : List ℕ) (at : ℕ) → characters_before text at ≤ at
 characters_before-≤ text at =
     let start = line_start text at in
-    omega (arith, count_by-le-length begins_character (take (at - start) (drop start text)), length-take (at - start)
-        (drop start text))
+    omega (
+      arith,
+      count_by-le-length begins_character (take (at - start) (drop start text)),
+      length-take (at - start)
+          (drop start text),
+    )

@@ -15,7 +15,7 @@ pub state_after-append : {S : Type 0} (next : S → ℕ → Option S) (state : S
 state_after-append next state [] second = refl
 state_after-append next state (c ∷ first) second =
     elim (next state c) as (λ o. option_and_then (λ t. state_after next t (first ++ second)) o ≡ option_and_then
-        (λ t. state_after next t second) (option_and_then (λ t. state_after next t first) o))
+    (λ t. state_after next t second) (option_and_then (λ t. state_after next t first) o))
     [ None ↦ refl | Some past ↦ state_after-append next past first second ]
 
 -- the same where the first piece is known to lead to a state

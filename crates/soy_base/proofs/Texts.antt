@@ -76,7 +76,7 @@ cut-none delimiter [] h = refl
 cut-none delimiter (c ∷ cs) h =
     let here : after_prefix delimiter (c ∷ cs) ≡ None = after_prefix-none delimiter (c ∷ cs) (h []) in
     let later : cut delimiter cs ≡ None =
-        cut-none delimiter cs (λ prefix back e. h (c ∷ prefix) back (ap (λ l. c ∷ l) e)) in
+    cut-none delimiter cs (λ prefix back e. h (c ∷ prefix) back (ap (λ l. c ∷ l) e)) in
     rw (here, later) refl
 
 -- a text is cut at the first delimiter in it
@@ -87,9 +87,9 @@ cut-first [] [] back some h = absurd (omega (arith, some))
 cut-first (m ∷ ms) [] back some h = rw (after_prefix-append (m ∷ ms) back) refl
 cut-first delimiter (c ∷ cs) back some h =
     let here : after_prefix delimiter (c ∷ (cs ++ (delimiter ++ back))) ≡ None =
-        after_prefix-none delimiter (c ∷ (cs ++ (delimiter ++ back))) (λ rest. h [] rest (omega arith)) in
+    after_prefix-none delimiter (c ∷ (cs ++ (delimiter ++ back))) (λ rest. h [] rest (omega arith)) in
     let later : cut delimiter (cs ++ (delimiter ++ back)) ≡ Some (cs, back) =
-        cut-first delimiter cs back some (λ a rest l e. h (c ∷ a) rest (omega (arith, l)) (ap (λ l. c ∷ l) e)) in
+    cut-first delimiter cs back some (λ a rest l e. h (c ∷ a) rest (omega (arith, l)) (ap (λ l. c ∷ l) e)) in
     rw (here, later) refl
 
 -- the parts of a cut with the delimiter between them are the text
@@ -103,8 +103,8 @@ cut-whole delimiter (c ∷ cs) = whole_by (after_prefix delimiter (c ∷ cs)) (c
         → ((rest : List ℕ) → here ≡ Some rest → c ∷ cs ≡ delimiter ++ rest)
         → IfSome later (λ parts. cs ≡ parts.0 ++ (delimiter ++ parts.1)) →
         IfSome {T = List ℕ × List ℕ}
-            (option_or (option_map (λ rest. ([], rest)) here) (option_map (λ parts. (c ∷ parts.0, parts.1)) later))
-            (λ parts. c ∷ cs ≡ parts.0 ++ (delimiter ++ parts.1))
+        (option_or (option_map (λ rest. ([], rest)) here) (option_map (λ parts. (c ∷ parts.0, parts.1)) later))
+        (λ parts. c ∷ cs ≡ parts.0 ++ (delimiter ++ parts.1))
     whole_by (Some rest) later h k = h rest refl
     whole_by None None h k = tt
     whole_by None (Some parts) h k = ap (λ l. c ∷ l) k
@@ -118,9 +118,14 @@ shorter_prefix [] (d ∷ ds) x y e l =
 shorter_prefix (c ∷ cs) (d ∷ ds) x y e l =
     let same : c ≡ d = cc in
     let fewer : length (encode_utf8_all cs) < length (encode_utf8_all ds) =
-        shorter_prefix cs ds x y (cc) (omega (arith, l)) in
-    omega (arith, fewer, ap (λ c. length (encode_utf8 c)) same, length-append (encode_utf8 c) (encode_utf8_all cs),
-        length-append (encode_utf8 d) (encode_utf8_all ds))
+    shorter_prefix cs ds x y (cc) (omega (arith, l)) in
+    omega (
+      arith,
+      fewer,
+      ap (λ c. length (encode_utf8 c)) same,
+      length-append (encode_utf8 c) (encode_utf8_all cs),
+      length-append (encode_utf8 d) (encode_utf8_all ds),
+    )
 
 -- the bytes of a prefix, a delimiter and a back
 spelled_cut : (text delimiter prefix back : List ℕ) → IsUtf8 text → IsUtf8 delimiter
@@ -129,7 +134,7 @@ spelled_cut : (text delimiter prefix back : List ℕ) → IsUtf8 text → IsUtf8
 spelled_cut text delimiter prefix back utf8 utf8_delimiter e =
     sym (encodes-chars text utf8) ∙ ap encode_utf8_all e ∙ encodes-append prefix (chars delimiter ++ back)
     ∙ ap (λ l. encode_utf8_all prefix ++ l) (encodes-append (chars delimiter) back
-        ∙ ap (λ l. l ++ encode_utf8_all back) (encodes-chars delimiter utf8_delimiter))
+    ∙ ap (λ l. l ++ encode_utf8_all back) (encodes-chars delimiter utf8_delimiter))
 
 -- what `split_once` gives is the cut
 abbrev view_parts : Option (Bor (List ℕ) × Bor (List ℕ)) → Option (List ℕ × List ℕ)
@@ -146,28 +151,28 @@ module _ (delimiter text : List ℕ) (utf8_delimiter : IsUtf8 delimiter) (utf8 :
   split_some x some h =
       let whole : text ≡ x.0.now ++ (delimiter ++ x.1.now) = split_text_parts delimiter text (Some x) h in
       let after : IsCharBoundary text h.1 = let P : ℕ → Type 0 = IsCharBoundary text in
-          subst P (sym h.2.1.ends) h.2.1.after in
+      subst P (sym h.2.1.ends) h.2.1.after in
       let utf8_rest : IsUtf8 x.1.now = subst IsUtf8 (sym h.4) (IsUtf8-drop text h.1 utf8 after) in
       let before : IsCharBoundary text (length x.0.now) = IsCharBoundary-at_seam text x.0.now (delimiter ++ x.1.now)
-          whole (IsUtf8-append delimiter x.1.now utf8_delimiter utf8_rest) in
+      whole (IsUtf8-append delimiter x.1.now utf8_delimiter utf8_rest) in
       let utf8_prefix : IsUtf8 x.0.now = subst IsUtf8 (ap (λ n. take n text) h.6 ∙ sym h.3)
-          (IsUtf8-take text (length x.0.now) utf8 before) in
+      (IsUtf8-take text (length x.0.now) utf8 before) in
       let characters : chars text ≡ chars x.0.now ++ (chars delimiter ++ chars x.1.now) =
       ap chars whole ∙ chars-append x.0.now (delimiter ++ x.1.now) utf8_prefix
-          ∙ ap (λ l. chars x.0.now ++ l) (chars-append delimiter x.1.now utf8_delimiter) in
+      ∙ ap (λ l. chars x.0.now ++ l) (chars-append delimiter x.1.now utf8_delimiter) in
       let lacks : (a rest : List ℕ) → length a < length (chars x.0.now)
-          → chars x.0.now ++ (chars delimiter ++ chars x.1.now) ≢ a ++ (chars delimiter ++ rest) =
+      → chars x.0.now ++ (chars delimiter ++ chars x.1.now) ≢ a ++ (chars delimiter ++ rest) =
       λ a rest l e.
       let spelled : text ≡ encode_utf8_all a ++ (delimiter ++ encode_utf8_all rest) =
-          spelled_cut text delimiter a rest utf8 utf8_delimiter (characters ∙ e) in
+      spelled_cut text delimiter a rest utf8 utf8_delimiter (characters ∙ e) in
       let fewer = shorter_prefix a (chars x.0.now) (chars delimiter ++ rest) (chars delimiter ++ chars x.1.now)
-          (sym e) l in
+      (sym e) l in
       h.2.0 (length (encode_utf8_all a)) (omega (arith, fewer, ap length (encodes-chars x.0.now utf8_prefix), h.6))
-          (encode_utf8_all rest)
+      (encode_utf8_all rest)
       (ap (drop (length (encode_utf8_all a))) spelled ∙ drop-append_seam (encode_utf8_all a)
-          (delimiter ++ encode_utf8_all rest)) in
+      (delimiter ++ encode_utf8_all rest)) in
       ap (cut (chars delimiter)) characters ∙ cut-first (chars delimiter) (chars x.0.now) (chars x.1.now)
-          (some_characters delimiter utf8_delimiter some) lacks
+      (some_characters delimiter utf8_delimiter some) lacks
 
   pub split_once-cut : (r : Option (Bor (List ℕ) × Bor (List ℕ))) → 0 < length delimiter
       → MatchOption r (FindsText delimiter text None)
@@ -198,11 +203,11 @@ pub strip_prefix-after_prefix : (prefix text : List ℕ) (r : Option (Bor (List 
     → option_map (λ x. chars x.now) r ≡ after_prefix (chars prefix) (chars text)
 strip_prefix-after_prefix prefix text None utf8_prefix utf8 h =
     sym (after_prefix-none (chars prefix) (chars text)
-        (λ rest e. h (encode_utf8_all rest) (spelled_cut text prefix [] rest utf8 utf8_prefix e)))
+    (λ rest e. h (encode_utf8_all rest) (spelled_cut text prefix [] rest utf8 utf8_prefix e)))
 strip_prefix-after_prefix prefix text (Some x) utf8_prefix utf8 h =
     let whole : text ≡ prefix ++ x.now = h.1.1 ∙ ap (λ l. prefix ++ l) (sym h.2) in
     let characters : chars text ≡ chars prefix ++ chars x.now = ap chars whole ∙ chars-append prefix x.now utf8_prefix
-        in
+    in
     sym (ap (after_prefix (chars prefix)) characters ∙ after_prefix-append (chars prefix) (chars x.now))
 
 -- what `find` gives by the place where characters stop passing a test
@@ -218,7 +223,7 @@ module _ (passes : ℕ → Bool) (text : List ℕ) (utf8 : IsUtf8 text) where
   pub stops_at : (end after : ℕ) (prefix back : List ℕ) → NoCharPasses (λ c. not (passes c)) (take end text)
       → HasPassingCharAt (λ c. not (passes c)) text end after → IsCharBoundary text end
       → prefix ≡ take end text → back ≡ drop end text → (chars prefix ≡ prefix_while passes (chars text))
-          × (chars back ≡ after_while passes (chars text))
+      × (chars back ≡ after_while passes (chars text))
   stops_at end after prefix back passed stop boundary is_prefix is_back =
       let utf8_prefix : IsUtf8 (take end text) = IsUtf8-take text end utf8 boundary in
       let same : passed.0 ≡ chars (take end text) = chars_from_encodes passed.0 (take end text) utf8_prefix passed.1 in
@@ -227,10 +232,12 @@ module _ (passes : ℕ → Bool) (text : List ℕ) (utf8 : IsUtf8 text) where
       chars_past_char (drop end text) (drop after text) stop.0 (IsUtf8-drop text end utf8 boundary) stop.2.split in
       let whole : chars text ≡ chars (take end text) ++ (stop.0 ∷ chars (drop after text)) =
       ap chars (sym (take-append-drop end text)) ∙ chars-append (take end text) (drop end text) utf8_prefix
-          ∙ ap (λ l. chars (take end text) ++ l) rest in
-      let parts = prefix_while-stops passes (chars (take end text)) stop.0 (chars (drop after text)) passing stop.1 in
-      (ap chars is_prefix ∙ sym (ap (prefix_while passes) whole ∙ parts.0), ap chars is_back ∙ rest
-          ∙ sym (ap (after_while passes) whole ∙ parts.1))
+      ∙ ap (λ l. chars (take end text) ++ l) rest in
+      let parts = prefix_while-stops passes (chars (take end text)) stop.0 (chars (drop after text)) passing stop.1 in (
+        ap chars is_prefix ∙ sym (ap (prefix_while passes) whole ∙ parts.0),
+        ap chars is_back ∙ rest
+            ∙ sym (ap (after_while passes) whole ∙ parts.1),
+      )
 
 -- what stands in a text before its rest
 module _ (text rest prefix : List ℕ) (utf8 : IsUtf8 text) (utf8_rest : IsUtf8 rest)
@@ -241,7 +248,7 @@ module _ (text rest prefix : List ℕ) (utf8 : IsUtf8 text) (utf8_rest : IsUtf8 
   spelled_prefix : text ≡ encode_utf8_all prefix ++ rest
   spelled_prefix =
       sym (encodes-chars text utf8) ∙ ap encode_utf8_all whole ∙ encodes-append prefix (chars rest)
-          ∙ ap (λ l. encode_utf8_all prefix ++ l) (encodes-chars rest utf8_rest)
+      ∙ ap (λ l. encode_utf8_all prefix ++ l) (encodes-chars rest utf8_rest)
 
   both : length text ≡ length (encode_utf8_all prefix) + length rest
   both = ap length spelled_prefix ∙ length-append (encode_utf8_all prefix) rest
@@ -289,6 +296,7 @@ chars-injective a b utf8_a utf8_b same =
 -- so a comparison of bytes is one of characters
 pub bytes_eq-chars : (a b : List ℕ) → IsUtf8 a → IsUtf8 b → bytes_eq a b ≡ bytes_eq (chars a) (chars b)
 bytes_eq-chars a b utf8_a utf8_b =
-    same_from_decides (bytes_eq a b) (bytes_eq (chars a) (chars b)) (bytes_eq-Decides a b)
-    ((λ e. chars-injective a b utf8_a utf8_b ((bytes_eq-Decides (chars a) (chars b)).0 e)),
-        (λ e. (bytes_eq-Decides (chars a) (chars b)).1 (ap chars e)))
+    same_from_decides (bytes_eq a b) (bytes_eq (chars a) (chars b)) (bytes_eq-Decides a b) (
+      (λ e. chars-injective a b utf8_a utf8_b ((bytes_eq-Decides (chars a) (chars b)).0 e)),
+      (λ e. (bytes_eq-Decides (chars a) (chars b)).1 (ap chars e)),
+    )

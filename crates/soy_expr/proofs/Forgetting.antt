@@ -72,10 +72,10 @@ forgotten_val (Binary o a b span) env =
     ∙ ap (λ (v : Value). Known (binary_value o (operand (val a env)) v)) (of_operand b env (forgotten_val b env))
 forgotten_val (Coalesce a b span) env =
     chosen (is_null (val a (forgotten_env env))) (is_null (val a env)) _ _ (val b env) (val a env)
-        (of_null a env (forgotten_val a env)) (forgotten_val b env) (forgotten_val a env)
+    (of_null a env (forgotten_val a env)) (forgotten_val b env) (forgotten_val a env)
 forgotten_val (Conditional c a b span) env =
     chosen (is_truthy (val c (forgotten_env env))) (is_truthy (val c env)) _ _ (val a env) (val b env)
-        (of_truth c env (forgotten_val c env)) (forgotten_val a env) (forgotten_val b env)
+    (of_truth c env (forgotten_val c env)) (forgotten_val a env) (forgotten_val b env)
 
 cost_if : (t u : Bool) (m n k l : ℕ) → t ≡ u → m ≡ k → n ≡ l → (if t then m else n) ≡ (if u then k else l)
 cost_if t u m n k l e f g = rw (e, f, g) refl
@@ -105,6 +105,6 @@ forgotten_cost (Coalesce a b span) env =
     (cost_if _ _ _ 0 _ 0 (of_null a env (forgotten_val a env)) (forgotten_cost b env) refl)
 forgotten_cost (Conditional c a b span) env =
     ap (λ (n : ℕ). 1 + (n + (if is_truthy (val c (forgotten_env env)) then cost a (forgotten_env env)
-        else cost b (forgotten_env env)))) (forgotten_cost c env)
+    else cost b (forgotten_env env)))) (forgotten_cost c env)
     ∙ ap (λ (n : ℕ). 1 + (cost c env + n))
     (cost_if _ _ _ _ _ _ (of_truth c env (forgotten_val c env)) (forgotten_cost a env) (forgotten_cost b env))

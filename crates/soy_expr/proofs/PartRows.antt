@@ -43,6 +43,6 @@ pub entry_passed : (es : List code_entry.Entry) (n : ℕ) (e : code_entry.Entry)
 entry_passed [] n e name below is other = absurd (omega arith)
 entry_passed (x ∷ es) zero e name below is other =
     rw (view_entry_is x) (other_entry (bytes_eq x.name name) (view_value x.value) (entry_value name (view_entries es))
-        (rw is at other))
+    (rw is at other))
 entry_passed (x ∷ es) (suc n) e name below is other =
     let t : suc n + 1 ≡ suc (n + 1) = omega arith in rw t (entry_passed es n e name (omega arith) is other)

@@ -60,7 +60,7 @@ pub members_short : (ls rs : List code.SoyType) (n : ℕ) (l : code.SoyType) →
 members_short ls rs n l below is none =
     ap (λ (ts : Members). are_same_members ts (view_members (drop n rs))) (members_drop ls n l below is)
     ∙ ap (λ (ts : List code.SoyType). are_same_members (member (view_type l) (view_members (drop (n + 1) ls)))
-        (view_members ts)) (no_more rs n none)
+    (view_members ts)) (no_more rs n none)
 
 pub members_end : (ls rs : List code.SoyType) (n : ℕ) → length ls ≤ n → slice_get rs n ≡ None
     → are_same_members (view_members (drop n ls)) (view_members (drop n rs)) ≡ true
@@ -119,7 +119,7 @@ pub fields_short : (ls rs : List code_field.Field) (n : ℕ) (l : code_field.Fie
 fields_short ls rs n l below is none =
     ap (λ (ts : FieldTypes). are_same_fields ts (view_fields (drop n rs))) (fields-drop ls n l below is)
     ∙ ap (λ (ts : List code_field.Field). are_same_fields
-        (field l.name (view_type l.of) (view_fields (drop (n + 1) ls))) (view_fields ts)) (no_more rs n none)
+    (field l.name (view_type l.of) (view_fields (drop (n + 1) ls))) (view_fields ts)) (no_more rs n none)
 
 pub fields_end : (ls rs : List code_field.Field) (n : ℕ) → length ls ≤ n → slice_get rs n ≡ None
     → are_same_fields (view_fields (drop n ls)) (view_fields (drop n rs)) ≡ true

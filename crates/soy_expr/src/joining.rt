@@ -142,13 +142,7 @@ fn is_same(left: &SoyType, right: &SoyType) -> bool
 
 /// Whether two lists of members are the same.
 #[cycle(comparing)]
-#[tactic(auto, using(
-    crate::proofs::SameLists::members_same,
-    crate::proofs::SameLists::members_differ,
-    crate::proofs::SameLists::members_short,
-    crate::proofs::SameLists::members_end,
-    crate::proofs::SameLists::members_longer
-))]
+#[tactic(auto, using(crate::proofs::SameLists::members_same, crate::proofs::SameLists::members_differ, crate::proofs::SameLists::members_short, crate::proofs::SameLists::members_end, crate::proofs::SameLists::members_longer))]
 fn are_same_members(left: &[SoyType], right: &[SoyType]) -> bool
     ensures { result ≡ are_same_members (view_members left.now) (view_members right.now) }
 {
@@ -174,14 +168,7 @@ fn member_at(members: &[SoyType], number: usize) -> Option<&SoyType>
 
 /// Whether two lists of fields are the same.
 #[cycle(comparing)]
-#[tactic(auto, using(
-    crate::proofs::SameLists::fields_same,
-    crate::proofs::SameLists::fields_differ,
-    crate::proofs::SameLists::names_differ,
-    crate::proofs::SameLists::fields_short,
-    crate::proofs::SameLists::fields_end,
-    crate::proofs::SameLists::fields_longer
-))]
+#[tactic(auto, using(crate::proofs::SameLists::fields_same, crate::proofs::SameLists::fields_differ, crate::proofs::SameLists::names_differ, crate::proofs::SameLists::fields_short, crate::proofs::SameLists::fields_end, crate::proofs::SameLists::fields_longer))]
 fn are_same_fields(left: &[Field], right: &[Field]) -> bool
     ensures { result ≡ are_same_fields (view_fields left.now) (view_fields right.now) }
 {

@@ -53,11 +53,7 @@ fn push_type(out: &mut String, of: &SoyType) -> Result<(), OutOfMemory>
 
 /// Adds the texts of the members, with `|` between them.
 #[cycle(pushing_types)]
-#[tactic(auto, using(
-    crate::proofs::TypeTexts::append_assoc,
-    crate::proofs::TypeTexts::members_step,
-    crate::proofs::TypeTexts::members_over
-))]
+#[tactic(auto, using(crate::proofs::TypeTexts::append_assoc, crate::proofs::TypeTexts::members_step, crate::proofs::TypeTexts::members_over))]
 fn push_members(out: &mut String, members: &[SoyType]) -> Result<(), OutOfMemory>
     ensures { OnOk result (Appends out.old out.new (members_text (view_members members.now))) }
 {
@@ -70,11 +66,7 @@ fn push_members(out: &mut String, members: &[SoyType]) -> Result<(), OutOfMemory
 
 /// Adds the texts of the fields in brackets, with `, ` between them.
 #[cycle(pushing_types)]
-#[tactic(auto, using(
-    crate::proofs::TypeTexts::append_assoc,
-    crate::proofs::TypeTexts::fields_step,
-    crate::proofs::TypeTexts::fields_over
-))]
+#[tactic(auto, using(crate::proofs::TypeTexts::append_assoc, crate::proofs::TypeTexts::fields_step, crate::proofs::TypeTexts::fields_over))]
 fn push_record(out: &mut String, fields: &[Field]) -> Result<(), OutOfMemory>
     ensures { OnOk result (Appends out.old out.new
         (codes "[" ++ (fields_text (view_fields fields.now) ++ codes "]"))) }

@@ -22,13 +22,13 @@ pub next_part : (done count : ℕ) (bytes : List ℕ) → done + count ≤ lengt
 next_part done count bytes within =
     let rest : length (drop done bytes) ≤ length bytes - done = omega (arith, length-drop done bytes) in
     ap (λ piece. take done bytes ++ take count piece) (take_all (length bytes - done) (drop done bytes) rest)
-        ∙ sym (take-add done count bytes)
+    ∙ sym (take-add done count bytes)
 
 -- a put took the next `count` bytes after the first `done` of them
 pub put_next : (before between after : Option (List ℕ)) (done count : ℕ) (bytes : List ℕ)
     → between ≡ added before (take done bytes) →
     after ≡ added between (take count (take (length bytes - done) (drop done bytes))) → done + count ≤ length bytes
-        → after ≡ added before (take (done + count) bytes)
+    → after ≡ added before (take (done + count) bytes)
 put_next before between after done count bytes first second within =
     second ∙ ap (λ taken. added taken (take count (take (length bytes - done) (drop done bytes)))) first
     ∙ added-added before (take done bytes) (take count (take (length bytes - done) (drop done bytes)))

@@ -275,7 +275,7 @@ command_formed text =
     or_token (white_segment text) _ (white_token text) (
     or_token (fixed_segment kind.End (125 ∷ []) text) _ (fixed_token kind.End (125 ∷ []) text refl) (
     or_token (fixed_segment kind.SlashEnd (47 ∷ 125 ∷ []) text) _
-        (fixed_token kind.SlashEnd (47 ∷ 125 ∷ []) text refl) (
+    (fixed_token kind.SlashEnd (47 ∷ 125 ∷ []) text refl) (
     or_token (name_segment kind.Word [] text) _ (name_token kind.Word [] text (λ name h. h)) (
     or_token (variable_segment text) _ (variable_token text) (
     or_token (int_segment text) _ (int_token text) (

@@ -280,7 +280,7 @@ segments_in_order _ _ _ _ _ from run (Goes offset mode c cs p rest ps stop begin
     (λ later b. subst (λ n. InOrder later n (tokens_of (offset + byte_len (source_text p)) (run_after offset run p) ps))
     both
     (segments_in_order (offset + byte_len (source_text p)) (mode_after mode p) rest ps stop later
-        (run_after offset run p)
+    (run_after offset run p)
     d none b))
 
 -- the tokens of a text stand in its order

@@ -104,7 +104,7 @@ line_prefix text inner rest some is =
 pub line_steps : (text inner rest segment : List ℕ) (r : Result FirstSegment (Refusal ℕ))
     → Some inner ≡ after_prefix (chars (codes "//")) text → rest ≡ after_while continues_line inner →
     text ≡ segment ++ rest → ReadsSegment (begins (Skipped segment) rest) r
-        → ReadsSegmentIf (line_comment true text) (Some r)
+    → ReadsSegmentIf (line_comment true text) (Some r)
 line_steps text inner rest segment r some is whole h =
     let same : segment ≡ codes "//" ++ prefix_while continues_line inner =
     append_cancel_right segment (codes "//" ++ prefix_while continues_line inner) rest

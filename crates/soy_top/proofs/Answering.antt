@@ -73,8 +73,8 @@ held_not_usage (Some file) a never e = cc
 asked_not_usage : (files : Files) (asked : Asked) → asked_answer files asked ≡ Usage → ⊥
 asked_not_usage files asked e =
     held_not_usage (first_not_held files (asked_files asked)) _
-        (λ e. limits_not_usage (first_over_limit files (asked_files asked)) _
-        (λ e. contents_not_usage asked (contents files (asked_files asked)) e) e) e
+    (λ e. limits_not_usage (first_over_limit files (asked_files asked)) _
+    (λ e. contents_not_usage asked (contents files (asked_files asked)) e) e) e
 
 no_files_by : (files : Files) (asked : Option Asked) → option_map_or (asked_answer files) asked Usage ≡ Usage
     → file_names (option_map_or asked_files asked []) ≡ []
@@ -125,15 +125,15 @@ answer_by_contents : (files : Files) (asked : Asked) (fetched : List (List ℕ))
 answer_by_contents files asked fetched are =
     ap (λ o. option_map_or Read o (limits_answer files asked (asked_files asked))) are.all_held
     ∙ (ap (λ o. option_map_or (λ file. Refused (too_large_line file)) o
-        (contents_answer asked (contents files (asked_files asked)))) are.all_within
+    (contents_answer asked (contents files (asked_files asked)))) are.all_within
     ∙ ap (contents_answer asked) (sym are.same))
 
 answer_over : (files : Files) (asked : Asked) (name : Word) → first_not_held files (asked_files asked) ≡ None
     → first_over_limit files (asked_files asked) ≡ Some name → asked_answer files asked ≡ Refused (too_large_line name)
 answer_over files asked name held over =
     ap (λ o. option_map_or Read o (limits_answer files asked (asked_files asked))) held
-        ∙ ap (λ o. option_map_or (λ file. Refused (too_large_line file)) o
-        (contents_answer asked (contents files (asked_files asked)))) over
+    ∙ ap (λ o. option_map_or (λ file. Refused (too_large_line file)) o
+    (contents_answer asked (contents files (asked_files asked)))) over
 
 answer_missing : (files : Files) (asked : Asked) (name : Word) → first_not_held files (asked_files asked) ≡ Some name
     → asked_answer files asked ≡ Read name
@@ -155,8 +155,8 @@ pub answer-contents : (held : Option Files) (words : List Word) (asked : Asked) 
     → IfSome (known_answer held words) (λ a. a ≡ contents_answer asked fetched)
 answer-contents held words asked fetched is are =
     subst (λ wanted. IfSome (option_map (λ files. answer files words) (known_files held wanted))
-        (λ a. a ≡ contents_answer asked fetched)) (sym (wanted-asked words asked is))
-        (contents_by (known_files held (asked_files asked)) words asked fetched (sym is) are)
+    (λ a. a ≡ contents_answer asked fetched)) (sym (wanted-asked words asked is))
+    (contents_by (known_files held (asked_files asked)) words asked fetched (sym is) are)
 
 read_by : (known : Option Files) (words : List Word) (asked : Asked) (name : Word) → asked_by_words words ≡ Some asked
     → IsNotHeld known (asked_files asked) name → option_map (λ files. answer files words) known ≡ Some (Read name)
@@ -195,8 +195,8 @@ pub may_end-fetches : (held : Option Files) (words : List Word) (asked : Asked) 
     → MayEnd (known_answer held words) (file_names (wanted_files words)) faults e
 may_end-fetches held words asked faults e is h =
     subst (λ wanted. MayEnd (option_map (λ files. answer files words) (known_files held wanted)) (file_names wanted)
-        faults e) (sym (wanted-asked words asked is))
-        (ends_by (known_files held (asked_files asked)) words asked faults e (sym is) h)
+    faults e) (sym (wanted-asked words asked is))
+    (ends_by (known_files held (asked_files asked)) words asked faults e (sym is) h)
 
 if_same : (answer : Option Answer) (a b : Answer) → IfSome answer (λ x. x ≡ a) → a ≡ b → IfSome answer (λ x. x ≡ b)
 if_same None a b h e = tt
@@ -230,5 +230,5 @@ pub answer-fetched : (held : Option Files) (words : List Word) (asked : Asked) (
     → IfSome (known_answer held words) (λ a. a ≡ contents_answer asked shown)
 answer-fetched held words asked wanted fetched shown is same are as_shown =
     subst (λ cs. IfSome (known_answer held words) (λ a. a ≡ contents_answer asked cs)) as_shown
-        (answer-contents held words asked fetched is
-        (subst (λ w. IfSome (known_files held w) (λ files. AreContents files w fetched)) same are))
+    (answer-contents held words asked fetched is
+    (subst (λ w. IfSome (known_files held w) (λ files. AreContents files w fetched)) same are))

@@ -234,7 +234,7 @@ too_deep_said_of_end answer text (AtCall line) out err SameErr result is (inl h)
     absurd (subst IsStopped e (stops_status text out result h.0))
 too_deep_said_of_end answer text (AtCall line) out err SameErr result is (inr h) e =
     for_one answer (TooDeep text line) _ is
-        (text, line, refl, h.0, (said_whole status.TooDeep status.TooDeep (ended line) err result h.1 e (λ s. s)).1)
+    (text, line, refl, h.0, (said_whole status.TooDeep status.TooDeep (ended line) err result h.1 e (λ s. s)).1)
 
 -- at Write the sink to which the text was put failed
 abbrev IsNotWrite : Status → Type 0
@@ -264,8 +264,11 @@ failed_of_end answer text Whole out err SameOut SameErr result is h e =
 failed_of_end answer text (AtCall line) out err SameOut SameErr result is (inl h) e =
     inl (stops_failed text out result h.0 e, h.1)
 failed_of_end answer text (AtCall line) out err SameOut SameErr result is (inr h) e =
-    inr (says_failed status.TooDeep (ended line) err result tt h.1 e, inr
-        (text, h.0, for_one answer (TooDeep text line) _ is (line, refl)))
+    inr (
+      says_failed status.TooDeep (ended line) err result tt h.1 e,
+      inr
+          (text, h.0, for_one answer (TooDeep text line) _ is (line, refl)),
+    )
 
 -- what is due is said with the status Usage, Read or Refused
 due_not_write : (run : Run) (wanted : Status) (text : List ℕ) → TextIsDue run wanted text → IsNotWrite wanted
@@ -286,7 +289,7 @@ UsageText answer text status.Memory = ⊥
 abbrev ReadText : Run → List ℕ → Status → Type 0
 ReadText run text status.Read =
     (file : Word) × Contains run.names file
-        × (Rose run.file_faults.0 run.file_faults.1 ⊎ (run.answer ≡ Some (Read file))) × (text ≡ ended (read_line file))
+    × (Rose run.file_faults.0 run.file_faults.1 ⊎ (run.answer ≡ Some (Read file))) × (text ≡ ended (read_line file))
 ReadText run text status.Usage = Unit {0}
 ReadText run text status.Refused = Unit {0}
 ReadText run text status.Done = ⊥
@@ -350,11 +353,11 @@ module _ (run : Run) (SameOut SameErr : Type 0) where
       → (text : List ℕ) × TextIsDue run shown text × Took run.err text
   said_with shown never (inl said) e =
       let whole = said_whole said.wanted shown said.text run.err run.result said.says e
-          (λ s. never (written_by_stop shown s)) in
+      (λ s. never (written_by_stop shown s)) in
       (said.text, subst (λ s. TextIsDue run s said.text) whole.0 said.due, whole.1)
   said_with shown never (inr (inl wrote)) e =
       absurd (never (subst IsWritten e (writes_status wrote.output.text wrote.output.end run.out run.err SameErr
-          run.result wrote.writes)))
+      run.result wrote.writes)))
   said_with shown never (inr (inr stopped)) e = absurd (never (subst IsWritten (sym stopped.memory ∙ e) tt))
 
   pub usage_only : Course run SameOut SameErr → run.result ≡ status.Usage → UsageSaid run.answer run.err
@@ -387,7 +390,7 @@ module _ (run : Run) (SameOut SameErr : Type 0) where
   done_only (inl said) e = said_not _ status.Done (λ s. s) (λ text due. usage_text_due run status.Done text due) said e
   done_only (inr (inl wrote)) e =
       written_of_end run.answer wrote.output.text wrote.output.end run.out run.err SameErr run.result wrote.is_answer
-          wrote.writes e
+      wrote.writes e
   done_only (inr (inr stopped)) e = absurd (subst IsStopped (sym stopped.memory ∙ e) tt)
 
   pub too_deep_only : Course run SameOut SameErr → run.result ≡ status.TooDeep → TooDeepSaid run.answer run.out run.err
@@ -395,26 +398,29 @@ module _ (run : Run) (SameOut SameErr : Type 0) where
       said_not _ status.TooDeep (λ s. s) (λ text due. usage_text_due run status.TooDeep text due) said e
   too_deep_only (inr (inl wrote)) e =
       too_deep_said_of_end run.answer wrote.output.text wrote.output.end run.out run.err SameErr run.result
-          wrote.is_answer wrote.writes e
+      wrote.is_answer wrote.writes e
   too_deep_only (inr (inr stopped)) e = absurd (subst IsStopped (sym stopped.memory ∙ e) tt)
 
   pub write_only : Course run SameOut SameErr → run.result ≡ status.Write
       → SinkFailed run.answer run.out run.err SameOut SameErr
   write_only (inl said) e =
-      inr (says_failed said.wanted said.text run.err run.result (due_not_write run said.wanted said.text said.due)
-          said.says e, inl said.same_out)
+      inr (
+        says_failed said.wanted said.text run.err run.result (due_not_write run said.wanted said.text said.due)
+            said.says e,
+        inl said.same_out,
+      )
   write_only (inr (inl wrote)) e =
       failed_of_end run.answer wrote.output.text wrote.output.end run.out run.err SameOut SameErr run.result
-          wrote.is_answer wrote.writes e
+      wrote.is_answer wrote.writes e
   write_only (inr (inr stopped)) e = absurd (subst IsNotWrite (sym stopped.memory ∙ e) tt)
 
   -- where an answer is known, what is said is due by it, or the library failed
   abbrev IsDueBy : Answer → Status → List ℕ → Type 0
   IsDueBy a wanted text =
       (Rose run.file_faults.0 run.file_faults.1 × (wanted ≡ status.Read))
-          ⊎ (((a ≡ Usage) × (wanted ≡ status.Usage))
-          ⊎ (((file : Word) × (a ≡ Read file) × (wanted ≡ status.Read))
-          ⊎ ((line : List ℕ) × (a ≡ Refused line) × (wanted ≡ status.Refused))))
+      ⊎ (((a ≡ Usage) × (wanted ≡ status.Usage))
+      ⊎ (((file : Word) × (a ≡ Read file) × (wanted ≡ status.Read))
+      ⊎ ((line : List ℕ) × (a ≡ Refused line) × (wanted ≡ status.Refused))))
 
   due_by : (a : Answer) → run.answer ≡ Some a → (wanted : Status) (text : List ℕ) → TextIsDue run wanted text
       → IsDueBy a wanted text
@@ -447,7 +453,7 @@ module _ (run : Run) (SameOut SameErr : Type 0) where
   pub usage_due : run.names ≡ [] → Course run SameOut SameErr → run.answer ≡ Some Usage → UsageDue run.err run.result
   usage_due none (inl said) known =
       usage_of_said said (λ rose is. no_read none said.wanted said.text said.due is)
-          (due_by Usage known said.wanted said.text said.due)
+      (due_by Usage known said.wanted said.text said.due)
   usage_due none (inr (inl wrote)) known =
       absurd (no_usage_end wrote.output.text wrote.output.end (one_answer run.answer Usage _ known wrote.is_answer))
   usage_due none (inr (inr stopped)) known = memory_due status.Usage (Failed run.err) stopped.memory
@@ -463,7 +469,7 @@ module _ (run : Run) (SameOut SameErr : Type 0) where
   read_due file (inl said) known = read_of_said file said (due_by (Read file) known said.wanted said.text said.due)
   read_due file (inr (inl wrote)) known =
       absurd (no_read_end file wrote.output.text wrote.output.end
-          (one_answer run.answer (Read file) _ known wrote.is_answer))
+      (one_answer run.answer (Read file) _ known wrote.is_answer))
   read_due file (inr (inr stopped)) known = memory_due status.Read (Failed run.err) stopped.memory
 
   refused_of_said : (line : List ℕ) (said : Said run SameOut) → IsDueBy (Refused line) said.wanted said.text
@@ -479,7 +485,7 @@ module _ (run : Run) (SameOut SameErr : Type 0) where
       refused_of_said line said (due_by (Refused line) known said.wanted said.text said.due)
   refused_due line (inr (inl wrote)) known =
       absurd (no_refused_end line wrote.output.text wrote.output.end
-          (one_answer run.answer (Refused line) _ known wrote.is_answer))
+      (one_answer run.answer (Refused line) _ known wrote.is_answer))
   refused_due line (inr (inr stopped)) known = inl (memory_due status.Refused (Failed run.err) stopped.memory)
 
   -- where there is a text for the output, a run says something only where the library failed
@@ -495,14 +501,14 @@ module _ (run : Run) (SameOut SameErr : Type 0) where
       → Rose run.file_faults.0 run.file_faults.1 × ReadDue run.err run.result
   done_said text said known =
       said_instead (Done text) (λ e. done_not_usage text e) (λ file e. done_not_read text file e)
-          (λ line e. done_not_refused text line e) said (due_by (Done text) known said.wanted said.text said.due)
+      (λ line e. done_not_refused text line e) said (due_by (Done text) known said.wanted said.text said.due)
 
   pub done_due : (text : List ℕ) → Course run SameOut SameErr → run.answer ≡ Some (Done text)
       → DoneDue run.file_faults run.out run.err run.result
   done_due text (inl said) known = inr (done_said text said known)
   done_due text (inr (inl wrote)) known =
       inl (done_of_end text wrote.output.text wrote.output.end run.out run.err SameErr run.result
-          (one_answer run.answer (Done text) _ known wrote.is_answer) wrote.writes).0
+      (one_answer run.answer (Done text) _ known wrote.is_answer) wrote.writes).0
   done_due text (inr (inr stopped)) known = inl (memory_due status.Done (Failed run.out) stopped.memory)
 
   pub err_untouched : (text : List ℕ) → Course run SameOut SameErr → run.answer ≡ Some (Done text) → SameErr
@@ -510,18 +516,18 @@ module _ (run : Run) (SameOut SameErr : Type 0) where
   err_untouched text (inl said) known = inr (done_said text said known).0
   err_untouched text (inr (inl wrote)) known =
       inl (done_of_end text wrote.output.text wrote.output.end run.out run.err SameErr run.result
-          (one_answer run.answer (Done text) _ known wrote.is_answer) wrote.writes).1
+      (one_answer run.answer (Done text) _ known wrote.is_answer) wrote.writes).1
   err_untouched text (inr (inr stopped)) known = inl stopped.same_err
 
   pub too_deep_due : (text line : List ℕ) → Course run SameOut SameErr → run.answer ≡ Some (TooDeep text line)
       → TooDeepDue run.file_faults run.out run.err run.result
   too_deep_due text line (inl said) known =
       inr (said_instead (TooDeep text line) (λ e. deep_not_usage text line e)
-          (λ file e. deep_not_read text line file e) (λ other e. deep_not_refused text line other e) said
-          (due_by (TooDeep text line) known said.wanted said.text said.due))
+      (λ file e. deep_not_read text line file e) (λ other e. deep_not_refused text line other e) said
+      (due_by (TooDeep text line) known said.wanted said.text said.due))
   too_deep_due text line (inr (inl wrote)) known =
       inl (too_deep_of_end text line wrote.output.text wrote.output.end run.out run.err SameErr run.result
-          (one_answer run.answer (TooDeep text line) _ known wrote.is_answer) wrote.writes)
+      (one_answer run.answer (TooDeep text line) _ known wrote.is_answer) wrote.writes)
   too_deep_due text line (inr (inr stopped)) known =
       inl (memory_due status.TooDeep (Failed run.out ⊎ Failed run.err) stopped.memory)
 
@@ -529,7 +535,7 @@ module _ (run : Run) (SameOut SameErr : Type 0) where
   nothing_written (inl said) = nothing_written_of SameOut run.result said.same_out
   nothing_written (inr (inl wrote)) =
       something_written_of SameOut run.result (writes_status wrote.output.text wrote.output.end run.out run.err
-          SameErr run.result wrote.writes)
+      SameErr run.result wrote.writes)
   nothing_written (inr (inr stopped)) = nothing_written_of SameOut run.result stopped.same_out
 
   -- where nothing is for the output, it is unchanged
@@ -537,7 +543,7 @@ module _ (run : Run) (SameOut SameErr : Type 0) where
   out_untouched (inl said) = for_any run.answer _ (λ a. on_no_output SameOut a said.same_out)
   out_untouched (inr (inl wrote)) =
       for_one run.answer (output_answer wrote.output) (λ a. OnNoOutput a SameOut) wrote.is_answer
-          (no_output_of_end SameOut wrote.output.text wrote.output.end wrote.no_text)
+      (no_output_of_end SameOut wrote.output.text wrote.output.end wrote.no_text)
   out_untouched (inr (inr stopped)) = for_any run.answer _ (λ a. on_no_output SameOut a stopped.same_out)
 
   module _ (out_keeps : SameOut → run.out.taken_after ≡ run.out.taken_before) (err_keeps : SameErr
@@ -547,16 +553,16 @@ module _ (run : Run) (SameOut SameErr : Type 0) where
     out_part (inl said) = for_any run.answer _ (λ a. none_prefix run.out (out_text a) (out_keeps said.same_out))
     out_part (inr (inl wrote)) =
         for_one run.answer (output_answer wrote.output) (λ a. TookPrefix run.out (out_text a)) wrote.is_answer
-            (text_of_end run.out wrote.output.text wrote.output.end
-            (writes_prefix wrote.output.text wrote.output.end run.out run.err SameErr run.result wrote.writes))
+        (text_of_end run.out wrote.output.text wrote.output.end
+        (writes_prefix wrote.output.text wrote.output.end run.out run.err SameErr run.result wrote.writes))
     out_part (inr (inr stopped)) =
         for_any run.answer _ (λ a. none_prefix run.out (out_text a) (out_keeps stopped.same_out))
 
     abbrev IsErrPart : Answer → Type 0
     IsErrPart a =
         TookPrefix run.err (err_text a)
-            ⊎ ((file : Word) × Contains run.names file × Rose run.file_faults.0 run.file_faults.1
-            × TookPrefix run.err (ended (read_line file)))
+        ⊎ ((file : Word) × Contains run.names file × Rose run.file_faults.0 run.file_faults.1
+        × TookPrefix run.err (ended (read_line file)))
 
     prefix_named : (text named : List ℕ) → TookPrefix run.err text → text ≡ named → TookPrefix run.err named
     prefix_named text named part same = subst (TookPrefix run.err) same part
@@ -567,7 +573,7 @@ module _ (run : Run) (SameOut SameErr : Type 0) where
         for_known run.answer Usage IsErrPart usage.1 (inl (prefix_named text usage_text part usage.2))
     due_part wanted text part (inr (inl (file, is, named, inl rose, same))) =
         for_any run.answer IsErrPart
-            (λ a. inr (file, named, rose, prefix_named text (ended (read_line file)) part same))
+        (λ a. inr (file, named, rose, prefix_named text (ended (read_line file)) part same))
     due_part wanted text part (inr (inl (file, is, named, inr known, same))) =
         for_known run.answer (Read file) IsErrPart known (inl (prefix_named text (ended (read_line file)) part same))
     due_part wanted text part (inr (inr (line, is, known, same))) =
@@ -579,8 +585,8 @@ module _ (run : Run) (SameOut SameErr : Type 0) where
         due_part said.wanted said.text (says_prefix said.wanted said.text run.err run.result said.says) said.due
     err_part (inr (inl wrote)) =
         for_one run.answer (output_answer wrote.output) IsErrPart wrote.is_answer
-            (inl (writes_err_prefix wrote.output.text wrote.output.end run.out run.err SameErr run.result err_keeps
-            wrote.writes))
+        (inl (writes_err_prefix wrote.output.text wrote.output.end run.out run.err SameErr run.result err_keeps
+        wrote.writes))
     err_part (inr (inr stopped)) =
         for_any run.answer IsErrPart (λ a. inl (none_prefix run.err (err_text a) (err_keeps stopped.same_err)))
 
@@ -590,10 +596,20 @@ pub course-ending : (run : Run) (SameOut SameErr : Type 0) (e : Ending) → MayE
 course-ending run SameOut SameErr ending.Usage may said same =
     inl (record { wanted = status.Usage; text = usage_text; due = inl (refl, may, refl); says = said; same_out = same })
 course-ending run SameOut SameErr (ending.Read text) may said same =
-    inl (record { wanted = status.Read; text = string_bytes text; due = inr (inl (may.0, refl, may.1, may.2, may.3));
-        says = said; same_out = same })
+    inl (record {
+      wanted = status.Read;
+      text = string_bytes text;
+      due = inr (inl (may.0, refl, may.1, may.2, may.3));
+      says = said;
+      same_out = same;
+    })
 course-ending run SameOut SameErr (ending.Refused text) may said same =
-    inl (record { wanted = status.Refused; text = string_bytes text; due = inr (inr (may.0, refl, may.1, may.2));
-        says = said; same_out = same })
+    inl (record {
+      wanted = status.Refused;
+      text = string_bytes text;
+      due = inr (inr (may.0, refl, may.1, may.2));
+      says = said;
+      same_out = same;
+    })
 course-ending run SameOut SameErr ending.Memory may said same =
     inr (inr (record { memory = said.0; same_out = same; same_err = said.1 }))

@@ -29,7 +29,7 @@ pub cut-none : (delimiter : ℕ) (text : List ℕ) → Lacks delimiter text → 
 cut-none delimiter [] h = refl
 cut-none delimiter (c ∷ cs) h =
     rw (not_delimiter delimiter c cs h)
-        (ap (option_map (λ halves. (c ∷ halves.0, halves.1))) (cut-none delimiter cs (Lacks-rest delimiter c cs h)))
+    (ap (option_map (λ halves. (c ∷ halves.0, halves.1))) (cut-none delimiter cs (Lacks-rest delimiter c cs h)))
 
 -- a text is cut at its first delimiter
 pub cut-at : (delimiter : ℕ) (text rest : List ℕ) → Lacks delimiter text
@@ -37,7 +37,7 @@ pub cut-at : (delimiter : ℕ) (text rest : List ℕ) → Lacks delimiter text
 cut-at delimiter [] rest h = rw (same_delimiter delimiter) refl
 cut-at delimiter (c ∷ cs) rest h =
     rw (not_delimiter delimiter c cs h)
-        (ap (option_map (λ halves. (c ∷ halves.0, halves.1))) (cut-at delimiter cs rest (Lacks-rest delimiter c cs h)))
+    (ap (option_map (λ halves. (c ∷ halves.0, halves.1))) (cut-at delimiter cs rest (Lacks-rest delimiter c cs h)))
 
 abbrev view_halves : Option (Bor (List ℕ) × Bor (List ℕ)) → Option (List ℕ × List ℕ)
 view_halves o = option_map (λ halves. (halves.0.now, halves.1.now)) o
@@ -94,7 +94,7 @@ pub strip_suffix-before_suffix : (suffix text : List ℕ) (r : Option (Bor (List
 strip_suffix-before_suffix suffix text None h = rw (sym (ends_text false suffix text h)) refl
 strip_suffix-before_suffix suffix text (Some x) h =
     let ends : true ≡ ends_with eqb text suffix =
-        ends_text true suffix text (h.0, h.1, omega (arith, h.3), rw h.1.0 h.1.2) in
+    ends_text true suffix text (h.0, h.1, omega (arith, h.3), rw h.1.0 h.1.2) in
     rw (sym ends) (ap Some (h.2 ∙ ap (λ n. take (length text - n) text) h.1.0))
 
 two_by : (line rest : List ℕ) (r : Option (List ℕ × List ℕ)) → is_last_line (line ∷ parts_of_cut 10 rest r) ≡ false
@@ -136,8 +136,8 @@ bytes_eq-append text [] suffix = refl
 bytes_eq-append [] (f ∷ fs) suffix = refl
 bytes_eq-append (c ∷ cs) (f ∷ fs) suffix =
     ap (λ b. b && bytes_eq cs (fs ++ suffix)) (swap_eqb c f)
-        ∙ (ap (λ b. nat_eq f c && b) (bytes_eq-append cs fs suffix)
-        ∙ sym (and_assoc (nat_eq f c) (starts_with nat_eq cs fs) _))
+    ∙ (ap (λ b. nat_eq f c && b) (bytes_eq-append cs fs suffix)
+    ∙ sym (and_assoc (nat_eq f c) (starts_with nat_eq cs fs) _))
 
 bytes_eq_by : (text prefix suffix : List ℕ) (t : Bool) (r : Option (List ℕ)) → starts_with nat_eq text prefix ≡ t
     → r ≡ cond t (Some (drop (length prefix) text)) None
@@ -150,14 +150,14 @@ pub bytes_eq-after_prefix : (text prefix suffix : List ℕ)
     → bytes_eq text (prefix ++ suffix) ≡ option_map_or (λ rest. bytes_eq rest suffix) (after_prefix prefix text) false
 bytes_eq-after_prefix text prefix suffix =
     bytes_eq-append text prefix suffix ∙ bytes_eq_by text prefix suffix (starts_with nat_eq text prefix)
-        (after_prefix prefix text) refl refl
+    (after_prefix prefix text) refl refl
 
 -- a text is a prefix with a suffix just where it begins with the prefix, and what follows is the suffix
 pub bytes_eq-prefix : (text prefix suffix : List ℕ) (rest : Option (List ℕ)) → rest ≡ after_prefix prefix text
     → option_map_or (λ rest. bytes_eq rest suffix) rest false ≡ bytes_eq text (prefix ++ suffix)
 bytes_eq-prefix text prefix suffix rest h =
     sym (bytes_eq-after_prefix text prefix suffix ∙ ap (λ r. option_map_or (λ rest. bytes_eq rest suffix) r false)
-        (sym h))
+    (sym h))
 
 file_byte_low : (b : ℕ) → is_file_byte b ≡ true → b < 128
 file_byte_low b h = grind (arith, nat_tests)

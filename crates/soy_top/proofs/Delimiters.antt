@@ -76,7 +76,7 @@ cut-delimiter delimiter [] rest h = rw (same_delimiter delimiter) refl
 cut-delimiter delimiter (c ∷ cs) rest h =
     let parts = both_hold (not (c == delimiter)) (lacks delimiter cs) h in
     rw (not_true (c == delimiter) parts.0)
-        (ap (option_map (λ halves. (c ∷ halves.0, halves.1))) (cut-delimiter delimiter cs rest parts.1))
+    (ap (option_map (λ halves. (c ∷ halves.0, halves.1))) (cut-delimiter delimiter cs rest parts.1))
 
 -- the parts after a delimiter, each behind one
 abbrev pub after_mark : ℕ → List (List ℕ) → List ℕ
@@ -124,7 +124,7 @@ joined-slice_split delimiter [] = refl
 joined-slice_split delimiter (c ∷ cs) =
     let has = split_has delimiter cs in
     let before : joined delimiter (has.first ∷ has.more) ≡ cs = sym (ap (joined delimiter) has.is)
-        ∙ joined-slice_split delimiter cs in
+    ∙ joined-slice_split delimiter cs in
     ap (λ parts. joined delimiter (cond (c == delimiter) ([] ∷ parts) (onto_first c parts))) has.is
     ∙ joined_cond delimiter c cs (c == delimiter) refl has.first has.more before
 
@@ -182,7 +182,7 @@ split_cond p c false [] hc h = and_holds (p c && true) true (and_holds (p c) tru
 split_cond p c false (part ∷ parts) hc h =
     let halves = both_hold (list_all p part) (list_all (list_all p) parts) h in
     and_holds (p c && list_all p part) (list_all (list_all p) parts) (and_holds (p c) (list_all p part) hc halves.0)
-        halves.1
+    halves.1
 
 -- each part passes where the text does
 pub split-all : (p : ℕ → Bool) (delimiter : ℕ) (text : List ℕ) → list_all p text ≡ true
@@ -199,7 +199,7 @@ after_mark-all p delimiter [] hm h = refl
 after_mark-all p delimiter (text ∷ texts) hm h =
     let parts = both_hold (list_all p text) (list_all (list_all p) texts) h in
     and_holds (p delimiter) (list_all p (text ++ after_mark delimiter texts)) hm
-        (list_all-both p text (after_mark delimiter texts) parts.0 (after_mark-all p delimiter texts hm parts.1))
+    (list_all-both p text (after_mark delimiter texts) parts.0 (after_mark-all p delimiter texts hm parts.1))
 
 -- the joined text passes where its parts and the delimiter do
 joined-all : (p : ℕ → Bool) (delimiter : ℕ) (texts : List (List ℕ)) → p delimiter ≡ true
@@ -214,7 +214,7 @@ pub all-split : (p : ℕ → Bool) (delimiter : ℕ) (text : List ℕ) → p del
     → list_all (list_all p) (slice_split (λ c. c == delimiter) text) ≡ true → list_all p text ≡ true
 all-split p delimiter text hm h =
     sym (ap (list_all p) (joined-slice_split delimiter text))
-        ∙ joined-all p delimiter (slice_split (λ c. c == delimiter) text) hm h
+    ∙ joined-all p delimiter (slice_split (λ c. c == delimiter) text) hm h
 
 -- one name of the list, which is the text or is not
 among_step : (p : List ℕ → Bool) (n : List ℕ) (ns : List (List ℕ)) (name : List ℕ) (t : Bool) → bytes_eq name n ≡ t

@@ -59,14 +59,14 @@ over-within : (files : Files) (file : FileWanted) (rest : List FileWanted) (byte
     → first_over_limit files (file ∷ rest) ≡ first_over_limit files rest
 over-within files file rest bytes found within =
     over-by (content files file) bytes file (first_over_limit files rest) false (content-found files file bytes found)
-        (within-lt _ _ _ refl within)
+    (within-lt _ _ _ refl within)
 
 over-past : (files : Files) (file : FileWanted) (rest : List FileWanted) (bytes : List ℕ)
     → file_of files file.name ≡ Some bytes → file.limit < length bytes
     → first_over_limit files (file ∷ rest) ≡ Some file.name
 over-past files file rest bytes found past =
     over-by (content files file) bytes file (first_over_limit files rest) true (content-found files file bytes found)
-        (lt-ltb _ _ past)
+    (lt-ltb _ _ past)
 
 option_or-again : (so_far : Option Word) (name : Word) (rest : Option Word)
     → option_or so_far (Some name) ≡ option_or (option_or so_far (Some name)) rest
@@ -85,8 +85,8 @@ next-held files wanted rest file so_far faults (Some bytes) far one = record {
   over = far.over ∙ ap (option_or so_far.too_large) (over-within files file rest bytes.items one.0 one.1);
   same = λ none.
       far.same none ∙ (ap (λ b. so_far.contents ++ (b ∷ contents files rest))
-          (content-found files file bytes.items one.0)
-          ∙ sym (append_assoc so_far.contents (bytes.items ∷ []) (contents files rest)));
+      (content-found files file bytes.items one.0)
+      ∙ sym (append_assoc so_far.contents (bytes.items ∷ []) (contents files rest)));
 }
 next-held files wanted rest file so_far faults None far one = record {
   held = far.held ∙ not_held-next files file rest one.0 one.1;
@@ -109,7 +109,7 @@ view_files-drop : (wanted : List code.FileWanted) (i : ℕ) (d : code.FileWanted
     → view_files (drop i wanted) ≡ view_file (get_or wanted i d) ∷ view_files (drop (i + 1) wanted)
 view_files-drop wanted i d within =
     ap view_files (drop-cons wanted i d within) ∙ ap (λ k. view_file (get_or wanted i d) ∷ view_files (drop k wanted))
-        (sym (add-one i))
+    (sym (add-one i))
 
 some_wanted : (wanted : List code.FileWanted) (i : ℕ) → i < length wanted → 0 < length (view_files wanted)
 some_wanted [] i within = absurd (omega (arith, within))
@@ -119,10 +119,13 @@ some_wanted (w ∷ ws) i within = omega arith
 named : (wanted : List code.FileWanted) (i : ℕ) (d : code.FileWanted) → i < length wanted
     → Contains (file_names (view_files wanted)) (get_or wanted i d).name.now
 named wanted i d within =
-    let seen : i < length (view_files wanted) = rw (length-map wanted view_file) within in
-    (i, rw (length-map (view_files wanted) (λ (file : FileWanted). file.name)) seen, get_or-map
-        (λ (file : FileWanted). file.name) (view_files wanted) i (view_file d) _ seen
-        ∙ ap (λ (file : FileWanted). file.name) (get_or-map view_file wanted i d (view_file d) within))
+    let seen : i < length (view_files wanted) = rw (length-map wanted view_file) within in (
+      i,
+      rw (length-map (view_files wanted) (λ (file : FileWanted). file.name)) seen,
+      get_or-map
+          (λ (file : FileWanted). file.name) (view_files wanted) i (view_file d) _ seen
+          ∙ ap (λ (file : FileWanted). file.name) (get_or-map view_file wanted i d (view_file d) within),
+    )
 
 -- where no file is wanted, none is fetched
 pub none_wanted : (wanted : List code.FileWanted) (i : ℕ) → i < length wanted → view_files wanted ≡ [] → ⊥
@@ -140,9 +143,9 @@ fetched-step held now_held wanted i d so_far next faults bytes within far one st
     let file : FileWanted = view_file (get_or wanted i d) in
     let rest : List FileWanted = view_files (drop (i + 1) wanted) in
     let here : FetchedSoFar (known_files held (view_files wanted)) (view_files wanted) (file ∷ rest) so_far =
-        rw (view_files-drop wanted i d within) at far in
+    rw (view_files-drop wanted i d within) at far in
     rw same (fetched-next held (view_files wanted) rest file so_far faults bytes here
-        (subst (λ h. FetchesFile h file faults (Ok bytes)) still one) (some_wanted wanted i within))
+    (subst (λ h. FetchesFile h file faults (Ok bytes)) still one) (some_wanted wanted i within))
 
 -- a rise since then is a rise since before
 rose-before : (first before now : ℕ) → first ≤ before → Rose before now → Rose first now
@@ -178,11 +181,15 @@ fetch-stops held now_held wanted i d so_far first before now (ending.Read line) 
     let file : code.FileWanted = get_or wanted i d in
     let rest : List FileWanted = view_files (drop (i + 1) wanted) in
     let here : FetchedSoFar (known_files held (view_files wanted)) (view_files wanted) (view_file file ∷ rest)
-        so_far = rw (view_files-drop wanted i d within) at far in
+    so_far = rw (view_files-drop wanted i d within) at far in
     let cause : Rose before now ⊎ HasNoFile held file.name.now =
-        subst (λ h. Rose before now ⊎ HasNoFile h file.name.now) still one.0 in
-    (file.name.now, named wanted i d within, read_ground held (view_files wanted) rest (view_file file) so_far first
-        before now later here cause, one.1)
+    subst (λ h. Rose before now ⊎ HasNoFile h file.name.now) still one.0 in (
+      file.name.now,
+      named wanted i d within,
+      read_ground held (view_files wanted) rest (view_file file) so_far first
+          before now later here cause,
+      one.1,
+    )
 fetch-stops held now_held wanted i d so_far first before now (ending.Refused line) within later far one still =
     absurd one
 fetch-stops held now_held wanted i d so_far first before now ending.Memory within later far one still = tt
@@ -216,5 +223,5 @@ pub fetched-all : (known : Option Files) (wanted : List code.FileWanted) (i : �
     → FetchesAll known (view_files wanted) faults result
 fetched-all known wanted i so_far faults result past far h =
     fetched-to-end known (view_files wanted) so_far faults result
-        (subst (λ rest. FetchedSoFar known (view_files wanted) (view_files rest) so_far)
-        (drop_of_length-le wanted past) far) h
+    (subst (λ rest. FetchedSoFar known (view_files wanted) (view_files rest) so_far)
+    (drop_of_length-le wanted past) far) h

@@ -113,7 +113,7 @@ module _ (template json bundle : Word) (files : List Word) where
       elim (choice (bytes_eq command (codes "render")) (render_asked words) _ h) [
         | inl render ↦
             ap (λ w. w ∷ words) ((bytes_eq-Decides command (codes "render")).0 render.0)
-                ∙ ap (λ ws. codes "render" ∷ ws) (render_words words render.1)
+            ∙ ap (λ ws. codes "render" ∷ ws) (render_words words render.1)
         | inr other ↦ absurd (no_other command words other)
       ]
 
@@ -132,7 +132,7 @@ form_page : (template : Word) (json file : List ℕ) (form : Option FirstFile) (
 form_page template json file None text e h = cc
 form_page template json file (Some form) text e h =
     ap (option_and_then (λ form. page_of form json)) e ∙ named_page (bytes_eq template (full_name form))
-        (page_of form json) _ text h
+    (page_of form json) _ text h
 
 -- a text by the files that are held and within their limits is one by their contents
 option_none : (o : Option Word) (f : Word → Answer) (a : Answer) (text : List ℕ) → ((w : Word) → f w ≡ Done text → ⊥)
@@ -145,9 +145,9 @@ held_page : (files : Files) (asked : Asked) (text : List ℕ) → asked_answer f
     (contents_answer asked (contents files (asked_files asked)) ≡ Done text)
 held_page files asked text h =
     let held = option_none (first_not_held files (asked_files asked)) Read
-        (limits_answer files asked (asked_files asked)) text (λ w e. cc) h in
+    (limits_answer files asked (asked_files asked)) text (λ w e. cc) h in
     let within = option_none (first_over_limit files (asked_files asked)) (λ file. Refused (too_large_line file))
-        (contents_answer asked (contents files (asked_files asked))) text (λ w e. cc) held.1 in
+    (contents_answer asked (contents files (asked_files asked))) text (λ w e. cc) held.1 in
     (held.0, within.1)
 
 -- a file before the first that isn't held is held
@@ -164,7 +164,7 @@ one_page : (files : Files) (words : List Word) (template json bundle file : Word
     → IsPage files words text
 one_page files words template json bundle file text wanted are words_are dash held h =
     let first = content_held (file_of files json) (first_not_held files (source_file file ∷ [])) json
-        (ap (first_not_held files) (sym are) ∙ held) in
+    (ap (first_not_held files) (sym are) ∙ held) in
     let second = content_held (file_of files file) None file first.1 in
     record {
       template = template;
@@ -191,14 +191,14 @@ render_page files words template json bundle (file ∷ other ∷ names) true tex
 render_page files words template json bundle (file ∷ []) true text words_are e held h =
     let one : render_files json bundle (file ∷ []) ≡ data_file json ∷ source_file file ∷ [] = rw e refl in
     one_page files words template json bundle file text (render_files json bundle (file ∷ [])) one words_are
-        ((bytes_eq-Decides bundle (codes "-")).0 e) held h
+    ((bytes_eq-Decides bundle (codes "-")).0 e) held h
 
 asked_page : (files : Files) (words : List Word) (asked : Asked) (text : List ℕ) → asked_by_words words ≡ Some asked
     → first_not_held files (asked_files asked) ≡ None
     → contents_answer asked (contents files (asked_files asked)) ≡ Done text → IsPage files words text
 asked_page files words (Render template json bundle names) text is held h =
     render_page files words template json bundle names (is_rendered bundle names) text
-        (words_of_render template json bundle names words is) refl held h
+    (words_of_render template json bundle names words is) refl held h
 asked_page files words (Check bundle names) text is held h = cc
 asked_page files words (Extract names) text is held h = cc
 asked_page files words (Gen number) text is held h = cc

@@ -40,8 +40,11 @@ lines-bytes (c ∷ cs) h =
 
 -- a plain character by its tests
 plain_char : (c : ℕ) → is_plain c ≡ true → nat_le 32 c ≡ true → nat_le c 126 ≡ true → IsPlain c
-plain_char c h low high = record { from_space = grind (arith, nat_tests); to_tilde = grind (arith, nat_tests);
-    plain = h }
+plain_char c h low high = record {
+  from_space = grind (arith, nat_tests);
+  to_tilde = grind (arith, nat_tests);
+  plain = h;
+}
 
 -- plain characters before a static text
 static_plain : (text more : List ℕ) → list_all is_plain text ≡ true → list_all is_line_byte text ≡ true
@@ -61,12 +64,12 @@ tag_step text None h e l more d = absurd (let f : false ≡ true = e in cc)
 tag_step text (Some halves) h e l more d =
     let parts = both_hold (is_among tag_names halves.0) (list_all is_plain halves.1) e in
     let bytes : list_all is_line_byte (halves.0 ++ (62 ∷ halves.1)) ≡ true =
-        subst (λ (t : List ℕ). list_all is_line_byte t ≡ true) h l in
+    subst (λ (t : List ℕ). list_all is_line_byte t ≡ true) h l in
     let rest = both_hold (is_line_byte 62) (list_all is_line_byte halves.1)
-        (list_all-halves is_line_byte halves.0 (62 ∷ halves.1) bytes).1 in
+    (list_all-halves is_line_byte halves.0 (62 ∷ halves.1) bytes).1 in
     subst (λ (t : List ℕ). IsStaticText (60 ∷ (t ++ more))) (sym h)
-        (subst (λ (t : List ℕ). IsStaticText (60 ∷ t)) (sym (append_assoc halves.0 (62 ∷ halves.1) more))
-        (tag halves.0 (halves.1 ++ more) parts.0 (static_plain halves.1 more parts.1 rest.1 d)))
+    (subst (λ (t : List ℕ). IsStaticText (60 ∷ t)) (sym (append_assoc halves.0 (62 ∷ halves.1) more))
+    (tag halves.0 (halves.1 ++ more) parts.0 (static_plain halves.1 more parts.1 rest.1 d)))
 
 -- what is read as tags, each with text
 static_tags : (texts : List (List ℕ)) → list_all is_tag_and_text texts ≡ true
@@ -90,7 +93,7 @@ static_parts (text ∷ texts) h l =
 pub static_read : (text : List ℕ) → is_static text ≡ true → list_all is_line_byte text ≡ true → IsStaticText text
 static_read text h l =
     subst IsStaticText (joined-slice_split 60 text)
-        (static_parts (slice_split (λ c. c == 60) text) h (split-all is_line_byte 60 text l))
+    (static_parts (slice_split (λ c. c == 60) text) h (split-all is_line_byte 60 text l))
 
 -- a print's name and static text, read from what follows its `{`
 record IsPrint (params : List (List ℕ)) (text : List ℕ) (halves : List ℕ × List ℕ) : Type 0 where
@@ -104,11 +107,11 @@ print_rest : (params : List (List ℕ)) (cs : List ℕ)
     (option_and_then (λ halves. cond (is_among params halves.0 && is_static halves.1) (Some halves) None) (cut 125 cs))
 print_rest params cs =
     WhereSome-and_then (AreHalves 125 cs) (IsPrint params (36 ∷ cs))
-        (λ halves. cond (is_among params halves.0 && is_static halves.1) (Some halves) None) (cut 125 cs)
-        (cut-halves 125 cs)
+    (λ halves. cond (is_among params halves.0 && is_static halves.1) (Some halves) None) (cut 125 cs)
+    (cut-halves 125 cs)
     (λ halves e. WhereSome-if (IsPrint params (36 ∷ cs)) (is_among params halves.0 && is_static halves.1) (Some halves)
     (λ t. let p = both_hold (is_among params halves.0) (is_static halves.1) t in
-        record { spelled = ap (λ rest. 36 ∷ rest) e; named = p.0; static = p.1 }))
+    record { spelled = ap (λ rest. 36 ∷ rest) e; named = p.0; static = p.1 }))
 
 -- what is read of a print by its first character
 print_mark : (params : List (List ℕ)) (c : ℕ) (cs : List ℕ) (t : Bool) → (c == 36) ≡ t
@@ -117,8 +120,8 @@ print_mark : (params : List (List ℕ)) (c : ℕ) (cs : List ℕ) (t : Bool) →
     (cut 125 cs)) None)
 print_mark params c cs true e =
     subst (λ (m : ℕ). WhereSome (IsPrint params (m ∷ cs))
-        (option_and_then (λ halves. cond (is_among params halves.0 && is_static halves.1) (Some halves) None)
-        (cut 125 cs))) (sym (eqb-true c 36 e)) (print_rest params cs)
+    (option_and_then (λ halves. cond (is_among params halves.0 && is_static halves.1) (Some halves) None)
+    (cut 125 cs))) (sym (eqb-true c 36 e)) (print_rest params cs)
 print_mark params c cs false e = tt
 
 -- what is read as a print is one
@@ -132,14 +135,14 @@ print_built : (params : List (List ℕ)) (text more : List ℕ) (parts : List Pa
     → ArePrints params (123 ∷ (text ++ more)) (Print halves.0 ∷ (static_part halves.1 ++ parts))
 print_built params text more parts halves p l d =
     let bytes : list_all is_line_byte (36 ∷ (halves.0 ++ (125 ∷ halves.1))) ≡ true =
-        subst (λ (t : List ℕ). list_all is_line_byte t ≡ true) p.spelled l in
+    subst (λ (t : List ℕ). list_all is_line_byte t ≡ true) p.spelled l in
     let behind = (both_hold (is_line_byte 36) (list_all is_line_byte (halves.0 ++ (125 ∷ halves.1))) bytes).1 in
     let rest = both_hold (is_line_byte 125) (list_all is_line_byte halves.1)
-        (list_all-halves is_line_byte halves.0 (125 ∷ halves.1) behind).1 in
+    (list_all-halves is_line_byte halves.0 (125 ∷ halves.1) behind).1 in
     subst (λ (t : List ℕ). ArePrints params (123 ∷ (t ++ more)) (Print halves.0 ∷ (static_part halves.1 ++ parts)))
-        (sym p.spelled)
+    (sym p.spelled)
     (subst (λ (t : List ℕ). ArePrints params (123 ∷ (36 ∷ t)) (Print halves.0 ∷ (static_part halves.1 ++ parts)))
-        (sym (append_assoc halves.0 (125 ∷ halves.1) more))
+    (sym (append_assoc halves.0 (125 ∷ halves.1) more))
     (print halves.0 halves.1 more p.named (static_read halves.1 p.static rest.1) d))
 
 -- what is read as prints are prints
@@ -149,11 +152,11 @@ prints_read params [] l = none
 prints_read params (text ∷ texts) l =
     let b = both_hold (list_all is_line_byte text) (list_all (list_all is_line_byte) texts) l in
     WhereSome-and_then (IsPrint params text) (ArePrints params (after_mark 123 (text ∷ texts)))
-        (λ print. option_map (λ parts. (Print print.0 ∷ static_part print.1) ++ parts) (print_parts params texts))
-        (print_of params text) (print_read params text)
+    (λ print. option_map (λ parts. (Print print.0 ∷ static_part print.1) ++ parts) (print_parts params texts))
+    (print_of params text) (print_read params text)
     (λ halves p. WhereSome-map (ArePrints params (after_mark 123 texts))
-        (ArePrints params (after_mark 123 (text ∷ texts))) (λ parts. (Print halves.0 ∷ static_part halves.1) ++ parts)
-        (print_parts params texts) (prints_read params texts b.1)
+    (ArePrints params (after_mark 123 (text ∷ texts))) (λ parts. (Print halves.0 ∷ static_part halves.1) ++ parts)
+    (print_parts params texts) (prints_read params texts b.1)
     (λ parts d. print_built params text (after_mark 123 texts) parts halves p b.0 d))
 
 -- what is read as a static text and prints is a body
@@ -163,15 +166,22 @@ braces_read params [] l = tt
 braces_read params (text ∷ texts) l =
     let b = both_hold (list_all is_line_byte text) (list_all (list_all is_line_byte) texts) l in
     WhereSome-if (IsBody params (joined 123 (text ∷ texts))) (is_static text)
-        (option_map (λ parts. static_part text ++ parts) (print_parts params texts))
+    (option_map (λ parts. static_part text ++ parts) (print_parts params texts))
     (λ s. WhereSome-map (ArePrints params (after_mark 123 texts)) (IsBody params (joined 123 (text ∷ texts)))
-        (λ parts. static_part text ++ parts) (print_parts params texts) (prints_read params texts b.1)
-    (λ parts d. record { text = text; more = after_mark 123 texts; more_parts = parts;
-        static = static_read text s b.0; prints = d; spelled = refl; found = refl }))
+    (λ parts. static_part text ++ parts) (print_parts params texts) (prints_read params texts b.1)
+    (λ parts d. record {
+      text = text;
+      more = after_mark 123 texts;
+      more_parts = parts;
+      static = static_read text s b.0;
+      prints = d;
+      spelled = refl;
+      found = refl;
+    }))
 
 -- what is read as the parts of a body are its parts
 pub body_of_parts : (params : List (List ℕ)) (body : List ℕ) → list_all is_line_byte body ≡ true
     → WhereSome (IsBody params body) (parts_of params body)
 body_of_parts params body l =
     subst (λ (t : List ℕ). WhereSome (IsBody params t) (parts_of params body)) (joined-slice_split 123 body)
-        (braces_read params (slice_split (λ c. c == 123) body) (split-all is_line_byte 123 body l))
+    (braces_read params (slice_split (λ c. c == 123) body) (split-all is_line_byte 123 body l))

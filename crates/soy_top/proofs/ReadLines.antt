@@ -27,7 +27,7 @@ prefix_read : (prefix line : List ℕ) → WhereSome (λ rest. line ≡ prefix +
 prefix_read prefix line =
     WhereSome-if (λ rest. line ≡ prefix ++ rest) (starts_with nat_eq line prefix) (Some (drop (length prefix) line))
     (λ t. sym (ap (λ rest. rest ++ drop (length prefix) line) (same_text prefix (take (length prefix) line) (sym t))
-        ∙ take-append-drop (length prefix) line))
+    ∙ take-append-drop (length prefix) line))
 
 -- what stands before a suffix, by the text
 suffix_read : (suffix text : List ℕ) → WhereSome (λ rest. text ≡ rest ++ suffix) (before_suffix suffix text)
@@ -52,14 +52,14 @@ name_read : (prefix suffix : List ℕ) (test : List ℕ → Bool) (line : List �
     → WhereSome (IsNamed prefix suffix test line) (option_and_then (passing test) (between prefix suffix line))
 name_read prefix suffix test line =
     WhereSome-and_then (λ name. line ≡ prefix ++ (name ++ suffix)) (IsNamed prefix suffix test line) (passing test)
-        (between prefix suffix line)
+    (between prefix suffix line)
     (WhereSome-and_then (λ rest. line ≡ prefix ++ rest) (λ name. line ≡ prefix ++ (name ++ suffix))
-        (before_suffix suffix) (after_prefix prefix line) (prefix_read prefix line)
+    (before_suffix suffix) (after_prefix prefix line) (prefix_read prefix line)
     (λ rest e. subst (λ (t : List ℕ). WhereSome (λ name. t ≡ prefix ++ (name ++ suffix)) (before_suffix suffix rest))
-        (sym e)
+    (sym e)
     (in_prefix prefix suffix rest (before_suffix suffix rest) (suffix_read suffix rest))))
     (λ name e. WhereSome-if (IsNamed prefix suffix test line) (test name) (Some name)
-        (λ t. record { spelled = e; passes = t }))
+    (λ t. record { spelled = e; passes = t }))
 
 -- a text that is empty by its length
 empty_is : (text : List ℕ) → is_empty text ≡ true → text ≡ []
@@ -161,7 +161,7 @@ body_line : (params : List (List ℕ)) (line : List ℕ) (lines : List (List ℕ
     → WhereSome (Middle params (after_mark 10 (line ∷ lines))) (body_read params line lines)
 body_line params line lines names distinct l =
     WhereSome-if (Middle params (after_mark 10 (line ∷ lines))) (has_body_ends line && is_template_end lines)
-        (Some (record { params = params; body = line }))
+    (Some (record { params = params; body = line }))
     (λ t. let p = both_hold (has_body_ends line) (is_template_end lines) t in
     let e = end_read lines p.1 in
     record {
@@ -204,11 +204,11 @@ line_read : (params : List (List ℕ)) (line : List ℕ) (lines : List (List ℕ
 line_read params line lines reads names distinct l None h = body_line params line lines names distinct l
 line_read params line lines reads names distinct l (Some name) h =
     else_none (Middle params (after_mark 10 (line ∷ lines))) (is_among params name)
-        (declared (params ++ name ∷ []) lines)
+    (declared (params ++ name ∷ []) lines)
     (λ t. param_line_read params name line (after_mark 10 lines) (declared (params ++ name ∷ []) lines) h.spelled
     (reads (params ++ name ∷ [])
-        (list_all-both is_name params (name ∷ []) names (and_holds (is_name name) true h.passes refl))
-        (IsDistinct-push nat_list_eq_equiv params name distinct t)))
+    (list_all-both is_name params (name ∷ []) names (and_holds (is_name name) true h.passes refl))
+    (IsDistinct-push nat_list_eq_equiv params name distinct t)))
 
 -- what is read from any line on
 line_or_empty : (params : List (List ℕ)) (line : List ℕ) (lines : List (List ℕ)) → Reads lines
@@ -219,11 +219,11 @@ line_or_empty : (params : List (List ℕ)) (line : List ℕ) (lines : List (List
     (body_read params line lines)))
 line_or_empty params line lines reads names distinct l true e =
     subst (λ (t : List ℕ). WhereSome (Middle params (10 ∷ (t ++ after_mark 10 lines))) (declared params lines))
-        (sym (empty_is line e))
+    (sym (empty_is line e))
     (empty_line params (after_mark 10 lines) (declared params lines) (reads params names distinct))
 line_or_empty params line lines reads names distinct l false e =
     line_read params line lines reads names distinct l (param_of line)
-        (name_read (codes "{@param ") (codes ": string}") is_name line)
+    (name_read (codes "{@param ") (codes ": string}") is_name line)
 
 -- what is read of the lines after the first two is written so
 declared_read : (lines : List (List ℕ)) → list_all (list_all is_line_byte) lines ≡ true → Reads lines
@@ -247,7 +247,7 @@ lines_spelled first second marked namespace template rest e f g =
     ap (λ t. t ++ (10 ∷ (second ++ marked))) e
     ∙ (ap (λ t. (codes "{namespace " ++ (namespace ++ codes "}")) ++ (10 ∷ (t ++ marked))) f
     ∙ (ap (λ t. (codes "{namespace " ++ (namespace ++ codes "}"))
-        ++ (10 ∷ ((codes "{template " ++ (template ++ codes "}")) ++ t))) g ∙ file_spelled namespace template rest))
+    ++ (10 ∷ ((codes "{template " ++ (template ++ codes "}")) ++ t))) g ∙ file_spelled namespace template rest))
 
 -- two numbers that a test tells apart differ
 apart_test : (a b : ℕ) → not (a == b) ≡ true → a ≢ b
@@ -258,10 +258,13 @@ ends_apart : (body : List ℕ) → has_body_ends body ≡ true
     → (body ≢ []) × (slice_index body 0 ≢ 32) × (slice_index body (length body - 1) ≢ 32)
 ends_apart body h =
     let p = both_hold (not (is_empty body)) (not (slice_index body 0 == 32)
-        && not (slice_index body (length body - 1) == 32)) h in
-    let q = both_hold (not (slice_index body 0 == 32)) (not (slice_index body (length body - 1) == 32)) p.1 in
-    ((λ e. apart_test (length body) 0 p.0 (ap length e)), apart_test (slice_index body 0) 32 q.0, apart_test
-        (slice_index body (length body - 1)) 32 q.1)
+    && not (slice_index body (length body - 1) == 32)) h in
+    let q = both_hold (not (slice_index body 0 == 32)) (not (slice_index body (length body - 1) == 32)) p.1 in (
+      (λ e. apart_test (length body) 0 p.0 (ap length e)),
+      apart_test (slice_index body 0) 32 q.0,
+      apart_test
+          (slice_index body (length body - 1)) 32 q.1,
+    )
 
 -- the form, by what is read of its lines
 named_read : (first second : List ℕ) (lines : List (List ℕ)) (o p : Option (List ℕ)) (q : Option Declared)
@@ -274,8 +277,8 @@ named_read first second lines (Some namespace) None q a b m = tt
 named_read first second lines (Some namespace) (Some template) None a b m = tt
 named_read first second lines (Some namespace) (Some template) (Some found) a b m =
     WhereSome-map (IsBody found.params found.body) (Spells (joined 10 (first ∷ second ∷ lines)))
-        (λ body. record { namespace = namespace; template = template; params = found.params; body = body })
-        (parts_of found.params found.body) (body_of_parts found.params found.body m.bytes)
+    (λ body. record { namespace = namespace; template = template; params = found.params; body = body })
+    (parts_of found.params found.body) (body_of_parts found.params found.body m.bytes)
     (λ parts body. record {
       lines = m.lines;
       body = found.body;
@@ -308,15 +311,15 @@ lines_read (first ∷ second ∷ lines) l =
     let b = both_hold (list_all is_line_byte first) (list_all (list_all is_line_byte) (second ∷ lines)) l in
     let rest = both_hold (list_all is_line_byte second) (list_all (list_all is_line_byte) lines) b.1 in
     named_read first second lines (namespace_of first) (template_of second) (declared [] lines)
-        (name_read (codes "{namespace ") (codes "}") is_dotted_name first)
-        (name_read (codes "{template ") (codes "}") is_name second) (declared_read lines rest.1 [] refl none_distinct)
+    (name_read (codes "{namespace ") (codes "}") is_dotted_name first)
+    (name_read (codes "{template ") (codes "}") is_name second) (declared_read lines rest.1 [] refl none_distinct)
 
 -- what is read of a file spells the form
 file_read : (file : List ℕ) → WhereSome (Spells file) (first_form file)
 file_read file =
     WhereSome-if (Spells file) (list_all is_file_byte file) (form_of_lines (slice_split (λ c. c == 10) file))
     (λ t. subst (λ (text : List ℕ). WhereSome (Spells text) (form_of_lines (slice_split (λ c. c == 10) file)))
-        (joined-slice_split 10 file) (lines_read (slice_split (λ c. c == 10) file) (lines-bytes file t)))
+    (joined-slice_split 10 file) (lines_read (slice_split (λ c. c == 10) file) (lines-bytes file t)))
 
 -- what is read as a form spells it
 pub first_form-Spells : (file : List ℕ) (form : FirstFile) → first_form file ≡ Some form → Spells file form

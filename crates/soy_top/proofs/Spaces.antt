@@ -17,7 +17,7 @@ scalars-spaced [] h = refl
 scalars-spaced (c ∷ cs) h =
     let parts = both_hold (scalar c) (scalars cs) h in
     and_holds (scalar (space_for c)) (scalars (map space_for cs)) (scalar_space c (separates_words c) parts.0)
-        (scalars-spaced cs parts.1)
+    (scalars-spaced cs parts.1)
 
 -- a value with spaces for its separators is a text of just those characters
 pub chars-spaced : (value : List ℕ) → IsUtf8 value

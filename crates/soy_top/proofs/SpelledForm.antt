@@ -30,7 +30,7 @@ name_parts [] h = refl
 name_parts (c ∷ cs) h =
     let p = both_hold (begins_name c) (list_all continues_name cs) h in
     and_holds (is_name_part c) (list_all is_name_part cs)
-        (or_first (continues_name c) (c == 46) (or_first (begins_name c) (is_ascii_digit c) p.0))
+    (or_first (continues_name c) (c == 46) (or_first (begins_name c) (is_ascii_digit c) p.0))
     (list_all-weaken continues_name is_name_part (λ b t. or_first (continues_name b) (b == 46) t) cs p.1)
 
 -- so are names
@@ -39,7 +39,7 @@ names_parts [] h = refl
 names_parts (name ∷ names) h =
     let p = both_hold (is_name name) (list_all is_name names) h in
     and_holds (list_all is_name_part name) (list_all (list_all is_name_part) names) (name_parts name p.0)
-        (names_parts names p.1)
+    (names_parts names p.1)
 
 -- so is a dotted name
 pub dotted_name_parts : (name : List ℕ) → is_dotted_name name ≡ true → list_all is_name_part name ≡ true
@@ -69,8 +69,8 @@ static_all p hp less more tags (plain {c = c} {text = text} pc d) =
     and_holds (p c) (list_all p text) (hp c pc) (static_all p hp less more tags d)
 static_all p hp less more tags (tag name text named d) =
     and_holds (p 60) (list_all p (name ++ (62 ∷ text))) less
-        (list_all-both p name (62 ∷ text) (among_all (list_all p) tag_names name named tags)
-        (and_holds (p 62) (list_all p text) more (static_all p hp less more tags d)))
+    (list_all-both p name (62 ∷ text) (among_all (list_all p) tag_names name named tags)
+    (and_holds (p 62) (list_all p text) more (static_all p hp less more tags d)))
 
 -- a plain character is a printing one
 plain_line : (c : ℕ) → IsPlain c → is_line_byte c ≡ true
@@ -103,14 +103,14 @@ static_cons c [] hc h = let e : false ≡ true = h in cc
 static_cons c (text ∷ tags) hc h =
     let p = both_hold (list_all is_plain text) (list_all is_tag_and_text tags) h in
     and_holds (is_plain c && list_all is_plain text) (list_all is_tag_and_text tags)
-        (and_holds (is_plain c) (list_all is_plain text) hc p.0) p.1
+    (and_holds (is_plain c) (list_all is_plain text) hc p.0) p.1
 
 -- a tag and the text after it are read as such
 tag_read : (name rest : List ℕ) → is_among tag_names name ≡ true → list_all is_plain rest ≡ true
     → is_tag_and_text (name ++ (62 ∷ rest)) ≡ true
 tag_read name rest named h =
     ap (λ r. option_map_or (λ halves. is_among tag_names halves.0 && list_all is_plain halves.1) r false)
-        (cut-delimiter 62 name rest (among_all (lacks 62) tag_names name named refl))
+    (cut-delimiter 62 name rest (among_all (lacks 62) tag_names name named refl))
     ∙ and_holds (is_among tag_names name) (list_all is_plain rest) named h
 
 -- a static text is read as one
@@ -123,10 +123,10 @@ static-is (tag name text named d) =
     let read : are_text_and_tags (has.first ∷ has.more) ≡ true = sym (ap are_text_and_tags has.is) ∙ static-is d in
     let p = both_hold (list_all is_plain has.first) (list_all is_tag_and_text has.more) read in
     ap (list_all is_tag_and_text)
-        (split-prefix 60 name (62 ∷ text) (62 ∷ has.first) has.more (among_all (lacks 60) tag_names name named refl)
-        (ap (onto_first 62) has.is))
+    (split-prefix 60 name (62 ∷ text) (62 ∷ has.first) has.more (among_all (lacks 60) tag_names name named refl)
+    (ap (onto_first 62) has.is))
     ∙ and_holds (is_tag_and_text (name ++ (62 ∷ has.first))) (list_all is_tag_and_text has.more)
-        (tag_read name has.first named p.0) p.1
+    (tag_read name has.first named p.0) p.1
 
 -- parts that lack the delimiter are those of the text that they make up
 pub split-joined : (delimiter : ℕ) (text : List ℕ) (texts : List (List ℕ)) → lacks delimiter text ≡ true
@@ -136,7 +136,7 @@ split-joined delimiter text [] h hs = split-prefix delimiter text [] [] [] h ref
 split-joined delimiter text (next ∷ texts) h hs =
     let p = both_hold (lacks delimiter next) (list_all (lacks delimiter) texts) hs in
     split-at delimiter text (next ++ after_mark delimiter texts) h
-        ∙ ap (λ rest. text ∷ rest) (split-joined delimiter next texts p.0 p.1)
+    ∙ ap (λ rest. text ∷ rest) (split-joined delimiter next texts p.0 p.1)
 
 -- what follows each `{` of prints
 record PrintTexts (params : List (List ℕ)) (more : List ℕ) (parts : List Part) : Type 0 where
@@ -155,7 +155,7 @@ print_found : (params : List (List ℕ)) (name text : List ℕ) → is_among par
     → is_static text ≡ true → print_of params (36 ∷ (name ++ (125 ∷ text))) ≡ Some (name, text)
 print_found params name text named ends static =
     ap (option_and_then (λ halves. cond (is_among params halves.0 && is_static halves.1) (Some halves) None))
-        (cut-delimiter 125 name text ends)
+    (cut-delimiter 125 name text ends)
     ∙ if_both (is_among params name) (is_static text) (name, text) named static
 
 -- one more print before prints
@@ -183,7 +183,7 @@ prints_texts : (params : List (List ℕ)) → list_all is_name params ≡ true �
 prints_texts params names none = record { texts = []; spelled = refl; read = refl; bare = refl; bytes = refl }
 prints_texts params names (print name text more {parts = parts} named static d) =
     print_texts params name text more parts named (name_parts name (among_all is_name params name named names)) static
-        (prints_texts params names d)
+    (prints_texts params names d)
 
 -- a static text and prints are read as their parts
 braces_found : (params : List (List ℕ)) (text : List ℕ) (texts : List (List ℕ)) (parts : List Part)
@@ -191,7 +191,7 @@ braces_found : (params : List (List ℕ)) (text : List ℕ) (texts : List (List 
     → parts_at_braces params (text ∷ texts) ≡ Some (static_part text ++ parts)
 braces_found params text texts parts static read =
     if_true (is_static text) (option_map (λ more. static_part text ++ more) (print_parts params texts)) static
-        ∙ ap (option_map (λ more. static_part text ++ more)) read
+    ∙ ap (option_map (λ more. static_part text ++ more)) read
   where
     if_true : {A : Type 0} (b : Bool) (o : Option A) → b ≡ true → cond b o None ≡ o
     if_true b o h = rw h refl
@@ -210,7 +210,7 @@ pub body-line : (params : List (List ℕ)) (body : List ℕ) (parts : List Part)
     → IsBody params body parts → list_all is_line_byte body ≡ true
 body-line params body parts names b =
     ap (list_all is_line_byte) b.spelled ∙ list_all-both is_line_byte b.text b.more (static-line b.static)
-        (prints_texts params names b.prints).bytes
+    (prints_texts params names b.prints).bytes
 
 -- a static text and prints begin otherwise than a declaration
 no_prefix : {params : List (List ℕ)} {text more : List ℕ} {parts : List Part} → IsStaticText text

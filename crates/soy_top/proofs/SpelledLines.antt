@@ -35,7 +35,7 @@ prefix_at text prefix suffix e = rw e (rw (same_bytes prefix) refl)
 after_prefix-append : (prefix suffix : List ℕ) → after_prefix prefix (prefix ++ suffix) ≡ Some suffix
 after_prefix-append prefix suffix =
     prefix_at (take (length prefix) (prefix ++ suffix)) prefix (drop (length prefix) (prefix ++ suffix))
-        (take-append_seam prefix suffix) ∙ ap Some (drop-append_seam prefix suffix)
+    (take-append_seam prefix suffix) ∙ ap Some (drop-append_seam prefix suffix)
 
 -- what stands before a suffix, by its length
 back_at : (n : ℕ) (text suffix : List ℕ) → n ≡ length text
@@ -57,7 +57,7 @@ name_found : (prefix suffix : List ℕ) (test : List ℕ → Bool) (name : List 
     → option_and_then (passing test) (between prefix suffix (prefix ++ (name ++ suffix))) ≡ Some name
 name_found prefix suffix test name h =
     ap (λ rest. option_and_then (passing test) (option_and_then (before_suffix suffix) rest))
-        (after_prefix-append prefix (name ++ suffix))
+    (after_prefix-append prefix (name ++ suffix))
     ∙ (ap (option_and_then (passing test)) (before_suffix-append name suffix) ∙ passing-is test name h)
 
 -- what holds of each name holds of the one in the middle
@@ -85,8 +85,8 @@ new_name : (params : List (List ℕ)) (name : List ℕ) (more : List (List ℕ))
 new_name [] name more h = refl
 new_name (param ∷ params) name more h =
     or_none (bytes_eq name param) (is_among params name)
-        (apart name param (all_at (λ other. bytes_eq param other ≡ false) params name more
-        (IsDistinct-head bytes_eq param (params ++ (name ∷ more)) h)))
+    (apart name param (all_at (λ other. bytes_eq param other ≡ false) params name more
+    (IsDistinct-head bytes_eq param (params ++ (name ∷ more)) h)))
     (new_name params name more (IsDistinct-tail bytes_eq param (params ++ (name ∷ more)) h))
 
 -- the body line is taken for no other line
@@ -159,9 +159,9 @@ module _ (body end : List ℕ) (bytes : list_all is_line_byte body ≡ true) (bo
       let after = slice_split (λ c. c == 10) (codes "{/template}" ++ end) in
       ap (declared params) (split-at 10 body (codes "{/template}" ++ end) (one_line body bytes))
       ∙ body_step (is_empty body) (declared params after) (param_of body)
-          (λ name. cond (is_among params name) None (declared (params ++ name ∷ []) after)) (has_body_ends body)
-          (is_template_end after) (record { params = params; body = body })
-          (not_true_empty (is_empty body) _ body_ends) other body_ends (ends_found end ends)
+      (λ name. cond (is_among params name) None (declared (params ++ name ∷ []) after)) (has_body_ends body)
+      (is_template_end after) (record { params = params; body = body })
+      (not_true_empty (is_empty body) _ body_ends) other body_ends (ends_found end ends)
 
   -- a declaration is read as one more parameter
   param_found : (params : List (List ℕ)) (name rest : List ℕ) → is_name name ≡ true → is_among params name ≡ false
@@ -172,11 +172,11 @@ module _ (body end : List ℕ) (bytes : list_all is_line_byte body ≡ true) (bo
       let line = codes "{@param " ++ (name ++ codes ": string}") in
       let after = slice_split (λ c. c == 10) rest in
       ap (declared params) (split-at 10 line rest
-          (one_line line (list_all-both is_line_byte name (codes ": string}") (line_bytes name h) refl)))
+      (one_line line (list_all-both is_line_byte name (codes ": string}") (line_bytes name h) refl)))
       ∙ (param_step (is_empty line) (declared params after) (param_of line) name
-          (λ name. cond (is_among params name) None (declared (params ++ name ∷ []) after))
-          (body_read params line after) (not_empty 123 (codes "@param " ++ (name ++ codes ": string}")))
-          (name_found (codes "{@param ") (codes ": string}") is_name name h)
+      (λ name. cond (is_among params name) None (declared (params ++ name ∷ []) after))
+      (body_read params line after) (not_empty 123 (codes "@param " ++ (name ++ codes ": string}")))
+      (name_found (codes "{@param ") (codes ": string}") is_name name h)
       ∙ else_step (is_among params name) None (declared (params ++ name ∷ []) after) new)
 
   -- the lines of a file after its first two are read as its parameters and body
@@ -190,7 +190,7 @@ module _ (body end : List ℕ) (bytes : list_all is_line_byte body ≡ true) (bo
   declared_found (Some name ∷ lines) params names distinct =
       let p = both_hold (is_name name) (list_all is_name (params_of lines)) names in
       let seam : (params ++ name ∷ []) ++ params_of lines ≡ params ++ (name ∷ params_of lines) =
-          append_assoc params (name ∷ []) (params_of lines) in
+      append_assoc params (name ∷ []) (params_of lines) in
       ap (λ text. declared params (slice_split (λ c. c == 10) text)) (sym (param_spelled name (param_lines lines) tail))
       ∙ (param_found params name (param_lines lines ++ tail) p.0 (new_name params name (params_of lines) distinct)
       ∙ (declared_found lines (params ++ name ∷ []) p.1 (subst (IsDistinct bytes_eq) (sym seam) distinct)
@@ -204,8 +204,8 @@ param_bytes (None ∷ lines) h = param_bytes lines h
 param_bytes (Some name ∷ lines) h =
     let p = both_hold (is_name name) (list_all is_name (params_of lines)) h in
     list_all-both is_file_byte (codes "{@param " ++ (name ++ codes ": string}\n")) (param_lines lines)
-        (list_all-both is_file_byte name (codes ": string}\n") (file_bytes name (line_bytes name p.0)) refl)
-        (param_bytes lines p.1)
+    (list_all-both is_file_byte name (codes ": string}\n") (file_bytes name (line_bytes name p.0)) refl)
+    (param_bytes lines p.1)
 
 -- so may the end of the template
 end_bytes : (end : List ℕ) → (end ≡ []) ⊎ (end ≡ codes "\n")
@@ -241,9 +241,9 @@ ends_hold : (body : List ℕ) → body ≢ [] → slice_index body 0 ≢ 32 → 
     → has_body_ends body ≡ true
 ends_hold body some first last =
     and_holds (not (is_empty body)) (not (slice_index body 0 == 32) && not (slice_index body (length body - 1) == 32))
-        (not_empty_is body some)
+    (not_empty_is body some)
     (and_holds (not (slice_index body 0 == 32)) (not (slice_index body (length body - 1) == 32))
-        (differs (slice_index body 0) 32 first) (differs (slice_index body (length body - 1)) 32 last))
+    (differs (slice_index body 0) 32 first) (differs (slice_index body (length body - 1)) 32 last))
 
 module _ (file : List ℕ) (form : FirstFile) (s : Spells file form) where
   -- the parameters that the lines declare have names
@@ -258,18 +258,18 @@ module _ (file : List ℕ) (form : FirstFile) (s : Spells file form) where
   tail_bytes : list_all is_file_byte (param_lines s.lines ++ (s.body ++ (codes "\n{/template}" ++ s.end))) ≡ true
   tail_bytes =
       list_all-both is_file_byte (param_lines s.lines) (s.body ++ (codes "\n{/template}" ++ s.end))
-          (param_bytes s.lines own_names)
+      (param_bytes s.lines own_names)
       (list_all-both is_file_byte s.body (codes "\n{/template}" ++ s.end) (file_bytes s.body own_bytes)
-          (end_bytes s.end s.ends))
+      (end_bytes s.end s.ends))
 
   -- the file has only characters that may stand in one
   written_bytes : list_all is_file_byte (written form s.lines s.body s.end) ≡ true
   written_bytes =
       let rest = param_lines s.lines ++ (s.body ++ (codes "\n{/template}" ++ s.end)) in
       list_all-both is_file_byte form.namespace (codes "}\n{template " ++ (form.template ++ (codes "}\n" ++ rest)))
-          (file_bytes form.namespace (name-line form.namespace (dotted_name_parts form.namespace s.namespace)))
+      (file_bytes form.namespace (name-line form.namespace (dotted_name_parts form.namespace s.namespace)))
       (list_all-both is_file_byte form.template (codes "}\n" ++ rest)
-          (file_bytes form.template (line_bytes form.template s.template)) tail_bytes)
+      (file_bytes form.template (line_bytes form.template s.template)) tail_bytes)
 
   -- what is read of the lines after the first two
   own_declared : declared []
@@ -277,8 +277,8 @@ module _ (file : List ℕ) (form : FirstFile) (s : Spells file form) where
       ≡ Some (record { params = form.params; body = s.body })
   own_declared =
       declared_found s.body s.end own_bytes (ends_hold s.body s.not_empty s.no_space_first s.no_space_last)
-          (no_param s.body (body_no_param form.params s.body form.body s.parts)) s.ends s.lines [] own_names
-          (subst (IsDistinct bytes_eq) s.params s.distinct)
+      (no_param s.body (body_no_param form.params s.body form.body s.parts)) s.ends s.lines [] own_names
+      (subst (IsDistinct bytes_eq) s.params s.distinct)
       ∙ ap (λ found. Some (record { params = found; body = s.body })) (sym s.params)
 
   -- the lines of the file
@@ -291,30 +291,34 @@ module _ (file : List ℕ) (form : FirstFile) (s : Spells file form) where
       let second = codes "{template " ++ (form.template ++ codes "}") in
       ap (slice_split (λ c. c == 10)) (sym (file_spelled form.namespace form.template rest))
       ∙ (split-at 10 first (second ++ (10 ∷ rest))
-          (one_line first (list_all-both is_line_byte form.namespace (codes "}")
-          (name-line form.namespace (dotted_name_parts form.namespace s.namespace)) refl))
+      (one_line first (list_all-both is_line_byte form.namespace (codes "}")
+      (name-line form.namespace (dotted_name_parts form.namespace s.namespace)) refl))
       ∙ ap (λ lines. first ∷ lines)
-          (split-at 10 second rest
-          (one_line second (list_all-both is_line_byte form.template (codes "}") (line_bytes form.template s.template)
-          refl))))
+      (split-at 10 second rest
+      (one_line second (list_all-both is_line_byte form.template (codes "}") (line_bytes form.template s.template)
+      refl))))
 
   -- the form, by its declarations and body
   own_form : form_after form.namespace form.template (Some (record { params = form.params; body = s.body })) ≡ Some form
   own_form =
-      ap (option_map (λ body. record { namespace = form.namespace; template = form.template; params = form.params;
-          body = body })) (parts_of-IsBody form.params s.body form.body s.names s.parts)
+      ap (option_map (λ body. record {
+        namespace = form.namespace;
+        template = form.template;
+        params = form.params;
+        body = body;
+      })) (parts_of-IsBody form.params s.body form.body s.names s.parts)
 
   -- the form that is read of the lines
   own_read : form_of_lines (slice_split (λ c. c == 10) (written form s.lines s.body s.end)) ≡ Some form
   own_read =
       ap form_of_lines own_lines
       ∙ (names_found (namespace_of (codes "{namespace " ++ (form.namespace ++ codes "}")))
-          (template_of (codes "{template " ++ (form.template ++ codes "}")))
-          (declared [] (slice_split (λ c. c == 10)
-          (param_lines s.lines ++ (s.body ++ (codes "\n{/template}" ++ s.end))))) form.namespace form.template
-          (record { params = form.params; body = s.body })
+      (template_of (codes "{template " ++ (form.template ++ codes "}")))
+      (declared [] (slice_split (λ c. c == 10)
+      (param_lines s.lines ++ (s.body ++ (codes "\n{/template}" ++ s.end))))) form.namespace form.template
+      (record { params = form.params; body = s.body })
       (name_found (codes "{namespace ") (codes "}") is_dotted_name form.namespace s.namespace)
-          (name_found (codes "{template ") (codes "}") is_name form.template s.template) own_declared
+      (name_found (codes "{template ") (codes "}") is_name form.template s.template) own_declared
       ∙ own_form)
 
   -- the form that is read of the file
@@ -322,7 +326,7 @@ module _ (file : List ℕ) (form : FirstFile) (s : Spells file form) where
   own_file =
       ap first_form s.spelled
       ∙ (holds (list_all is_file_byte (written form s.lines s.body s.end))
-          (form_of_lines (slice_split (λ c. c == 10) (written form s.lines s.body s.end))) written_bytes ∙ own_read)
+      (form_of_lines (slice_split (λ c. c == 10) (written form s.lines s.body s.end))) written_bytes ∙ own_read)
 
 -- what spells a form is read as it
 pub Spells-first_form : (file : List ℕ) (form : FirstFile) → Spells file form → first_form file ≡ Some form

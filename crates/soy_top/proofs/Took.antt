@@ -43,12 +43,14 @@ put_rest before now then text rest far took =
 -- a prefix of the rest was taken
 pub put_part : (before now then : Option (List ℕ)) (text rest : List ℕ) → PutSoFar before now text rest
     → PrefixTaken now then rest → PrefixTaken before then text
-put_part before now then text rest far part =
-    (length far.done + part.0, part.1
-        ∙ (ap (λ t. added t (take part.0 rest)) far.taken
-        ∙ (added-added before far.done (take part.0 rest)
-        ∙ ap (added before) (sym (ap (take (length far.done + part.0)) far.split
-        ∙ take-append-add far.done rest part.0)))))
+put_part before now then text rest far part = (
+  length far.done + part.0,
+  part.1
+      ∙ (ap (λ t. added t (take part.0 rest)) far.taken
+      ∙ (added-added before far.done (take part.0 rest)
+      ∙ ap (added before) (sym (ap (take (length far.done + part.0)) far.split
+      ∙ take-append-add far.done rest part.0)))),
+)
 
 -- a prefix of a prefix was taken
 pub prefix_of_prefix : (now then : Option (List ℕ)) (rest piece others : List ℕ) (n : ℕ) → rest ≡ piece ++ others
@@ -62,8 +64,8 @@ pub body_bytes-drop : (value : Data) (parts : List Part) (i : ℕ) (d : Part) �
     (view_part (get_or parts i d)) ++ body_bytes value (view_parts (drop (i + 1) parts))
 body_bytes-drop value parts i d within =
     ap (λ rest. body_bytes value (view_parts rest)) (drop-cons parts i d within)
-        ∙ ap (λ k. part_bytes value (view_part (get_or parts i d)) ++ body_bytes value (view_parts (drop k parts)))
-        (sym (add-one i))
+    ∙ ap (λ k. part_bytes value (view_part (get_or parts i d)) ++ body_bytes value (view_parts (drop k parts)))
+    (sym (add-one i))
 
 -- the same where the parts are shown under another name
 pub body_bytes-step : (value : Data) (parts shown : List Part) (i : ℕ) (d : Part) → shown ≡ parts → i < length shown
@@ -71,14 +73,16 @@ pub body_bytes-step : (value : Data) (parts shown : List Part) (i : ℕ) (d : Pa
     (view_part (get_or shown i d)) ++ body_bytes value (view_parts (drop (i + 1) parts))
 body_bytes-step value parts shown i d same within =
     ap (λ items. body_bytes value (view_parts (drop i items))) (sym same)
-        ∙ (body_bytes-drop value shown i d within
-        ∙ ap (λ items. part_bytes value (view_part (get_or shown i d)) ++ body_bytes value
-        (view_parts (drop (i + 1) items))) same)
+    ∙ (body_bytes-drop value shown i d within
+    ∙ ap (λ items. part_bytes value (view_part (get_or shown i d)) ++ body_bytes value
+    (view_parts (drop (i + 1) items))) same)
 
 -- a prefix of the next part is a prefix of what is left
 pub part_of_part : (now then : Option (List ℕ)) (rest piece others : List ℕ) → rest ≡ piece ++ others
     → PrefixTaken now then piece → PrefixTaken now then rest
 part_of_part now then rest piece others same part =
-    let n : ℕ = min part.0 (length piece) in
-    (n, part.1 ∙ ap (added now) (sym (take_min part.0 piece)
-        ∙ (sym (take-append-le n piece others (omega arith)) ∙ ap (take n) (sym same))))
+    let n : ℕ = min part.0 (length piece) in (
+      n,
+      part.1 ∙ ap (added now) (sym (take_min part.0 piece)
+          ∙ (sym (take-append-le n piece others (omega arith)) ∙ ap (take n) (sym same))),
+    )

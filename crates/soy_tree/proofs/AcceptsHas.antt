@@ -122,11 +122,11 @@ mutual
   member_accepts_has AttributesType AttributesType v e h = h
   member_accepts_has (ListType to) (ListType from) v e h =
       list_gives (λ w. Has w from) (λ w. Has w to) v
-          (λ w k. each_gives (accepts_member to) (Has w to) w (members from) (λ u d g. member_accepts_has to u w d g)
-          e (has_members w from k)) h
+      (λ w k. each_gives (accepts_member to) (Has w to) w (members from) (λ u d g. member_accepts_has to u w d g)
+      e (has_members w from k)) h
   member_accepts_has (MapType to) (MapType from) v e h =
       map_gives (λ w. Has w from) (λ w. Has w to) v (λ w k. each_gives (accepts_member to) (Has w to) w (members from)
-          (λ u d g. member_accepts_has to u w d g) e (has_members w from k)) h
+      (λ u d g. member_accepts_has to u w d g) e (has_members w from k)) h
   member_accepts_has (RecordType to) (RecordType from) v e h = accepts_fields_has to from v e h
   member_accepts_has (UnionType to) from v e h = some_accepts_has to from v e h
   member_accepts_has _ _ v e h = let no : ⊥ = cc in absurd no

@@ -12,7 +12,7 @@ pub pending_left : (plan : Plan) (source : List ℕ) (pending closing : List ℕ
     → closing ≡ [] → (pending ++ bytes_from plan source offset) ++ closing ≡ pending
 pending_left plan source pending closing offset end none =
     ap (λ l. (pending ++ bytes_from plan source offset) ++ l) none
-        ∙ append-nil (pending ++ bytes_from plan source offset)
+    ∙ append-nil (pending ++ bytes_from plan source offset)
     ∙ ap (λ l. pending ++ l) (bytes_end plan source offset end) ∙ append-nil pending
 
 -- the closing is given behind the characters
@@ -21,10 +21,10 @@ pub closing_given : {left room between part : List ℕ} {filled more : ℕ} (pla
     → Gives left (bytes_after plan source at) room between filled → at.pending ≡ [] → length source ≤ at.offset
     → Gives closing pending (take (length between - filled) (drop filled between)) part more
     → Gives (left ++ closing) pending room
-        (take filled between ++ (part ++ drop (length between - filled) (drop filled between))) (filled + more)
+    (take filled between ++ (part ++ drop (length between - filled) (drop filled between))) (filled + more)
 closing_given {left} {room} {between} {part} {filled} {more} plan source at closing pending first none end next =
     gives_then (gives_before closing first)
     (gives_same (bytes_after plan source at ++ closing) (gives_behind between filled next)
     (ap (λ l. (l ++ bytes_from plan source at.offset) ++ closing) none
-        ∙ ap (λ l. l ++ closing) (bytes_end plan source at.offset end)))
+    ∙ ap (λ l. l ++ closing) (bytes_end plan source at.offset end)))
     (room_end between part filled)

@@ -50,9 +50,9 @@ pub word_bytes : (plan : Plan) (text : List ℕ) → plan.how ≡ escaper.Plain 
     → (32 ∷ bytes_from plan (source plan text) 0) ++ 32 ∷ [] ≡ encode_utf8_all (js_word (chars text))
 word_bytes plan text is nothing own =
     ap (λ l. (32 ∷ l) ++ 32 ∷ []) (own_bytes plan escaper.Plain text is nothing own
-        ∙ ap encode_utf8_all (plain_text (chars text)))
+    ∙ ap encode_utf8_all (plain_text (chars text)))
     ∙ sym (encodes_three (codes " ") (chars text) (codes " ") ∙ ap (λ l. (l ++ encode_utf8_all (chars text)) ++ l)
-        encoded_space)
+    encoded_space)
 
 -- every value but a string is a word
 pub other_value : (what : ValueClass) (text : List ℕ) → (what ≡ class.Text → ⊥) → js_value what text ≡ js_word text
@@ -73,7 +73,7 @@ pub wrapped_bytes : (direction : Dir) (body : List ℕ)
     ≡ (opening_bytes direction ++ encode_utf8_all body) ++ encode_utf8_all (codes "</span>")
 wrapped_bytes direction body =
     ap encode_utf8_all (ap (λ l. codes "<span dir=\"" ++ l)
-        (sym (append_assoc (direction_word direction) (codes "\">") (body ++ codes "</span>")))
+    (sym (append_assoc (direction_word direction) (codes "\">") (body ++ codes "</span>")))
     ∙ sym (append_assoc (codes "<span dir=\"") (direction_word direction ++ codes "\">") (body ++ codes "</span>")))
     ∙ encodes_three (codes "<span dir=\"" ++ (direction_word direction ++ codes "\">")) body (codes "</span>")
 

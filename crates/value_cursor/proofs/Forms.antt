@@ -34,9 +34,9 @@ forms-append plan offset [] ds = ap (λ n. forms plan n ds) (omega arith)
 forms-append plan offset (c ∷ cs) ds =
     let further : offset + len_utf8 c + byte_len cs ≡ offset + byte_len (c ∷ cs) = omega arith in
     ap (λ l. form plan offset c ++ l) (forms-append plan (offset + len_utf8 c) cs ds
-        ∙ ap (λ n. forms plan (offset + len_utf8 c) cs ++ forms plan n ds) further)
+    ∙ ap (λ n. forms plan (offset + len_utf8 c) cs ++ forms plan n ds) further)
     ∙ sym (append_assoc (form plan offset c) (forms plan (offset + len_utf8 c) cs)
-        (forms plan (offset + byte_len (c ∷ cs)) ds))
+    (forms plan (offset + byte_len (c ∷ cs)) ds))
 
 -- characters whose forms are themselves
 pub forms_themselves : (plan : Plan) (test : ℕ → Bool) → ((offset c : ℕ) → test c ≡ true → form plan offset c ≡ c ∷ [])
@@ -45,7 +45,7 @@ forms_themselves plan test own [] all offset = refl
 forms_themselves plan test own (c ∷ cs) all offset =
     let parts = and_parts _ _ all in
     ap (λ l. l ++ forms plan (offset + len_utf8 c) cs) (own offset c parts.0)
-        ∙ ap (λ l. c ∷ l) (forms_themselves plan test own cs parts.1 (offset + len_utf8 c))
+    ∙ ap (λ l. c ∷ l) (forms_themselves plan test own cs parts.1 (offset + len_utf8 c))
 
 module _ (plan : Plan) (source rest : List ℕ) (offset : ℕ) (utf8 : IsUtf8 source)
     (boundary : IsCharBoundary source offset) (is_rest : rest ≡ drop offset source) where
@@ -57,30 +57,30 @@ module _ (plan : Plan) (source rest : List ℕ) (offset : ℕ) (utf8 : IsUtf8 so
 
   -- a run of characters whose forms are themselves
   module _ (run others : List ℕ) (whole : rest ≡ run ++ others) (utf8_run : IsUtf8 run) (utf8_others : IsUtf8 others)
-      where
-    pub past : drop (offset + length run) source ≡ others
-    past =
-        sym (drop-drop (length run) offset source) ∙ ap (drop (length run)) (sym is_rest ∙ whole)
-            ∙ drop_at run others (length run) refl
+    where
+      pub past : drop (offset + length run) source ≡ others
+      past =
+          sym (drop-drop (length run) offset source) ∙ ap (drop (length run)) (sym is_rest ∙ whole)
+          ∙ drop_at run others (length run) refl
 
-    pub run_boundary : IsCharBoundary source (offset + length run)
-    run_boundary =
-        IsCharBoundary-from_drop source (offset + length run)
-            (omega (arith, size_rest, ap length whole, length-append run others, boundary.0))
-            (subst IsUtf8 (sym past) utf8_others)
+      pub run_boundary : IsCharBoundary source (offset + length run)
+      run_boundary =
+          IsCharBoundary-from_drop source (offset + length run)
+          (omega (arith, size_rest, ap length whole, length-append run others, boundary.0))
+          (subst IsUtf8 (sym past) utf8_others)
 
-    pub run_bytes : ((n : ℕ) → forms plan n (chars run) ≡ chars run) → bytes_from plan source offset
-        ≡ run ++ bytes_from plan source (offset + length run)
-    run_bytes own =
-        ap (λ l. encode_utf8_all (forms plan offset (chars l))) (sym is_rest ∙ whole)
-        ∙ ap (λ l. encode_utf8_all (forms plan offset l)) (chars-append run others utf8_run)
-        ∙ ap encode_utf8_all (forms-append plan offset (chars run) (chars others)
-            ∙ ap (λ l. l ++ forms plan (offset + byte_len (chars run)) (chars others)) (own offset))
-        ∙ encodes-append (chars run) (forms plan (offset + byte_len (chars run)) (chars others))
-        ∙ ap (λ l. l ++ encode_utf8_all (forms plan (offset + byte_len (chars run)) (chars others)))
-            (encodes-chars run utf8_run)
-        ∙ ap (λ n. run ++ encode_utf8_all (forms plan (offset + n) (chars others))) (byte_len-chars run utf8_run)
-        ∙ ap (λ l. run ++ encode_utf8_all (forms plan (offset + length run) (chars l))) (sym past)
+      pub run_bytes : ((n : ℕ) → forms plan n (chars run) ≡ chars run) → bytes_from plan source offset
+          ≡ run ++ bytes_from plan source (offset + length run)
+      run_bytes own =
+          ap (λ l. encode_utf8_all (forms plan offset (chars l))) (sym is_rest ∙ whole)
+          ∙ ap (λ l. encode_utf8_all (forms plan offset l)) (chars-append run others utf8_run)
+          ∙ ap encode_utf8_all (forms-append plan offset (chars run) (chars others)
+          ∙ ap (λ l. l ++ forms plan (offset + byte_len (chars run)) (chars others)) (own offset))
+          ∙ encodes-append (chars run) (forms plan (offset + byte_len (chars run)) (chars others))
+          ∙ ap (λ l. l ++ encode_utf8_all (forms plan (offset + byte_len (chars run)) (chars others)))
+          (encodes-chars run utf8_run)
+          ∙ ap (λ n. run ++ encode_utf8_all (forms plan (offset + n) (chars others))) (byte_len-chars run utf8_run)
+          ∙ ap (λ l. run ++ encode_utf8_all (forms plan (offset + length run) (chars l))) (sym past)
 
   -- a character
   module _ (c : ℕ) (others : List ℕ) (whole : chars rest ≡ c ∷ chars others) where
@@ -93,8 +93,14 @@ module _ (plan : Plan) (source rest : List ℕ) (offset : ℕ) (utf8 : IsUtf8 so
     pub char_boundary : IsCharBoundary source (offset + len_utf8 c)
     char_boundary =
         IsCharBoundary-from_drop source (offset + len_utf8 c)
-        (omega (arith, size_rest, ap length split, length-append (encode_utf8 c) (encode_utf8_all (chars others)),
-            length-encode c, boundary.0))
+        (omega (
+          arith,
+          size_rest,
+          ap length split,
+          length-append (encode_utf8 c) (encode_utf8_all (chars others)),
+          length-encode c,
+          boundary.0,
+        ))
         (subst IsUtf8 (sym past_c) (IsUtf8-past_char rest (encode_utf8_all (chars others)) c utf8_rest split))
 
     same_others : c ∷ chars (encode_utf8_all (chars others)) ≡ c ∷ chars others
@@ -106,9 +112,9 @@ module _ (plan : Plan) (source rest : List ℕ) (offset : ℕ) (utf8 : IsUtf8 so
         ap (λ l. encode_utf8_all (forms plan offset (chars l))) (sym is_rest)
         ∙ ap (λ l. encode_utf8_all (forms plan offset l)) (whole ∙ sym same_others)
         ∙ encodes-append (form plan offset c)
-            (forms plan (offset + len_utf8 c) (chars (encode_utf8_all (chars others))))
+        (forms plan (offset + len_utf8 c) (chars (encode_utf8_all (chars others))))
         ∙ ap (λ l. encode_utf8_all (form plan offset c) ++ encode_utf8_all
-            (forms plan (offset + len_utf8 c) (chars l))) (sym past_c)
+        (forms plan (offset + len_utf8 c) (chars l))) (sym past_c)
 
   -- no character
   pub no_character : chars rest ≡ [] → length source ≤ offset
@@ -119,7 +125,7 @@ pub bytes_end : (plan : Plan) (source : List ℕ) (offset : ℕ) → length sour
     → bytes_from plan source offset ≡ []
 bytes_end plan source offset end =
     ap (λ l. encode_utf8_all (forms plan offset (chars l))) (drop_all offset source end)
-        ∙ ap (λ l. encode_utf8_all (forms plan offset l)) chars-nil
+    ∙ ap (λ l. encode_utf8_all (forms plan offset l)) chars-nil
 
 -- a character takes bytes
 pub some_bytes : (c : ℕ) → 1 ≤ len_utf8 c
@@ -131,7 +137,7 @@ pub escaped_forms : (plan : Plan) (how : Escaper) → plan.how ≡ how → plan.
 escaped_forms plan how is nothing offset [] = refl
 escaped_forms plan how is nothing offset (c ∷ cs) =
     ap (λ what. option_map_or (escaped_character plan.how) (cleaned what offset c) [] ++ forms plan
-        (offset + len_utf8 c) cs) nothing
+    (offset + len_utf8 c) cs) nothing
     ∙ ap (λ h. escaped_character h c ++ forms plan (offset + len_utf8 c) cs) is
     ∙ ap (λ l. escaped_character how c ++ l) (escaped_forms plan how is nothing (offset + len_utf8 c) cs)
 

@@ -28,7 +28,7 @@ gives_pending pending pending_after after room room_after count is given rest =
     let whole : take count pending ++ (pending_after ++ after) ≡ pending ++ after =
     sym (append_assoc (take count pending) pending_after after)
     ∙ ap (λ l. l ++ after) (ap (λ l. take count pending ++ l) (rest ∙ ap (λ n. drop n pending) (sym is))
-        ∙ take-append-drop count pending) in
+    ∙ take-append-drop count pending) in
     let gives = gives_prefix (take count pending) (pending_after ++ after) room room_after count
     (length-take-le count pending (omega (arith, is))) (omega (arith, is))
     (given ∙ ap (λ n. take n pending ++ drop n room) (sym is)) in
@@ -39,21 +39,21 @@ pub gives_pending_behind : (pending pending_after after room room_after : List �
     → count ≡ min (length pending) (length (take (length room - before) (drop before room)))
     → room_after ≡ take (min (length pending) (length (take (length room - before) (drop before room)))) pending
     ++ drop (min (length pending) (length (take (length room - before) (drop before room))))
-        (take (length room - before) (drop before room))
+    (take (length room - before) (drop before room))
     → pending_after ≡ drop (min (length pending) (length (take (length room - before) (drop before room)))) pending
     → Gives (pending ++ after) (pending_after ++ after) (drop before room) room_after count
 gives_pending_behind pending pending_after after room room_after before count is given rest =
     subst (λ part. Gives (pending ++ after) (pending_after ++ after) part room_after count) (take_rest room before)
     (gives_pending pending pending_after after (take (length room - before) (drop before room)) room_after count is
-        given rest)
+    given rest)
 
 -- nothing stands behind the end of a room
 pub room_end : (room part : List ℕ) (n : ℕ)
     → take n room ++ (part ++ drop (length room - n) (drop n room)) ≡ take n room ++ part
 room_end room part n =
     ap (λ l. take n room ++ l)
-        (ap (λ l. part ++ l) (drop_all (length room - n) (drop n room) (omega (arith, length-drop n room)))
-        ∙ append-nil part)
+    (ap (λ l. part ++ l) (drop_all (length room - n) (drop n room) (omega (arith, length-drop n room)))
+    ∙ append-nil part)
 
 -- a part up to the end is what stands behind
 pub gives_behind : {left left_after part : List ℕ} {count : ℕ} (room : List ℕ) (before : ℕ)
@@ -81,8 +81,13 @@ gives_same other gives same =
 pub gives_after : {left left_after room room_after : List ℕ} {count : ℕ} (other : List ℕ)
     → Gives left left_after room room_after count → other ≡ left_after → Gives left other room room_after count
 gives_after {left} {left_after} {room} {room_after} {count} other gives same =
-    record { within = gives.within; size = gives.size; given = ap (λ l. take count room_after ++ l) same
-        ∙ gives.given; behind = gives.behind }
+    record {
+      within = gives.within;
+      size = gives.size;
+      given = ap (λ l. take count room_after ++ l) same
+          ∙ gives.given;
+      behind = gives.behind;
+    }
 
 -- what comes after all that is left changes nothing
 pub gives_before : {left left_after room room_after : List ℕ} {count : ℕ} (more : List ℕ)
@@ -100,18 +105,25 @@ pub gives_then : {left between left_after room room_between part room_after : Li
     → room_after ≡ take count room_between ++ part → Gives left left_after room room_after (count + more)
 gives_then {left} {between} {left_after} {room} {room_between} {part} {room_after} {count} {more} first next is =
     let size_first : length (take count room_between) ≡ count =
-        length-take-le count room_between (omega (arith, first.within, first.size)) in
+    length-take-le count room_between (omega (arith, first.within, first.size)) in
     let size_rest : length (drop count room_between) ≡ length room - count =
-        omega (arith, length-drop count room_between, first.size) in
+    omega (arith, length-drop count room_between, first.size) in
     let split : take (count + more) room_after ≡ take count room_between ++ take more part =
     ap (take (count + more)) is ∙ take_past (take count room_between) part count more size_first in
     let behind : drop (count + more) room_after ≡ drop more part =
     ap (drop (count + more)) is ∙ sym (drop-drop more count (take count room_between ++ part))
-        ∙ ap (drop more) (drop_at (take count room_between) part count size_first) in
+    ∙ ap (drop more) (drop_at (take count room_between) part count size_first) in
     record {
       within = omega (arith, first.within, next.within, size_rest);
-      size = omega (arith, ap length is, length-append (take count room_between) part, size_first, next.size,
-          size_rest, first.within);
+      size = omega (
+        arith,
+        ap length is,
+        length-append (take count room_between) part,
+        size_first,
+        next.size,
+        size_rest,
+        first.within,
+      );
       given = ap (λ l. l ++ left_after) split ∙ append_assoc (take count room_between) (take more part) left_after
           ∙ ap (λ l. take count room_between ++ l) next.given ∙ first.given;
       behind = behind ∙ next.behind ∙ ap (drop more) first.behind ∙ drop-drop more count room;
@@ -131,28 +143,42 @@ behind_given gives = omega (arith, gives.within, gives.size)
 
 -- what is given in all
 module _ {left left_after room room_after : List ℕ} {count : ℕ} (gives : Gives left left_after room room_after count)
-    where
-  size_given : length (take count room_after) ≡ count
-  size_given = length-take-le count room_after (omega (arith, gives.within, gives.size))
+  where
+    size_given : length (take count room_after) ≡ count
+    size_given = length-take-le count room_after (omega (arith, gives.within, gives.size))
 
-  pub given_count : (count < length room → left_after ≡ []) → count ≡ min (length left) (length room)
-  given_count all =
-      elim (cases_lt count (length room)) [
-        | inl less ↦ omega (arith, gives.within, ap length gives.given, length-append (take count room_after)
-            left_after, size_given, ap length (all less))
-        | inr full ↦ omega (arith, gives.within, full, ap length gives.given, length-append (take count room_after)
-            left_after, size_given)
-      ]
+    pub given_count : (count < length room → left_after ≡ []) → count ≡ min (length left) (length room)
+    given_count all =
+        elim (cases_lt count (length room)) [
+          | inl less ↦ omega (
+            arith,
+            gives.within,
+            ap length gives.given,
+            length-append (take count room_after)
+                left_after,
+            size_given,
+            ap length (all less),
+          )
+          | inr full ↦ omega (
+            arith,
+            gives.within,
+            full,
+            ap length gives.given,
+            length-append (take count room_after)
+                left_after,
+            size_given,
+          )
+        ]
 
-  pub given_first : room_after ≡ take count left ++ drop count room
-  given_first =
-      sym (take-append-drop count room_after)
-      ∙ ap (λ l. l ++ drop count room_after) (sym (take_at (take count room_after) left_after count size_given)
-          ∙ ap (take count) gives.given)
-      ∙ ap (λ l. take count left ++ l) gives.behind
+    pub given_first : room_after ≡ take count left ++ drop count room
+    given_first =
+        sym (take-append-drop count room_after)
+        ∙ ap (λ l. l ++ drop count room_after) (sym (take_at (take count room_after) left_after count size_given)
+        ∙ ap (take count) gives.given)
+        ∙ ap (λ l. take count left ++ l) gives.behind
 
-  pub given_rest : left_after ≡ drop count left
-  given_rest = sym (drop_at (take count room_after) left_after count size_given) ∙ ap (drop count) gives.given
+    pub given_rest : left_after ≡ drop count left
+    given_rest = sym (drop_at (take count room_after) left_after count size_given) ∙ ap (drop count) gives.given
 
-  pub given_length : length left ≡ count + length left_after
-  given_length = omega (arith, ap length gives.given, length-append (take count room_after) left_after, size_given)
+    pub given_length : length left ≡ count + length left_after
+    given_length = omega (arith, ap length gives.given, length-append (take count room_after) left_after, size_given)

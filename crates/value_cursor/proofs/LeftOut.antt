@@ -22,7 +22,7 @@ offset_after : (prefix : List ℕ) (c : ℕ) (rest : List ℕ)
     → length (encode_utf8_all (take (length prefix) (prefix ++ (c ∷ rest)))) ≡ byte_len prefix
 offset_after prefix c rest =
     ap (λ l. length (encode_utf8_all l)) (take_at prefix (c ∷ rest) (length prefix) refl)
-        ∙ sym (byte_len-encodes prefix)
+    ∙ sym (byte_len-encodes prefix)
 
 byte_len-snoc : (prefix : List ℕ) (c : ℕ) → byte_len (prefix ++ c ∷ []) ≡ byte_len prefix + len_utf8 c
 byte_len-snoc [] c = omega arith
@@ -49,17 +49,17 @@ left_out_of text prefix cs = flat_map (dropped_byte text) (enumerate_from (lengt
 other_first : (text prefix : List ℕ) (c : ℕ) (cs : List ℕ) (offset : ℕ) → text ≡ prefix ++ (c ∷ cs)
     → (byte_len prefix ≡ offset → ⊥)
     → list_any (is_at offset) (left_out_of text (prefix ++ c ∷ []) cs) ≡ false
-        → list_any (is_at offset) (left_out_of text prefix (c ∷ cs)) ≡ false
+    → list_any (is_at offset) (left_out_of text prefix (c ∷ cs)) ≡ false
 other_first text prefix c cs offset whole other rest =
     let place : length (encode_utf8_all (take (length prefix) text)) ≡ byte_len prefix =
     ap (λ l. length (encode_utf8_all (take (length prefix) l))) whole ∙ offset_after prefix c cs in
     let next : enumerate_from (length prefix + 1) cs ≡ enumerate_from (length (prefix ++ c ∷ [])) cs =
     ap (λ n. enumerate_from n cs) (sym (length-append prefix (c ∷ []))) in
     list_any-append (is_at offset) (dropped_byte text (length prefix, c))
-        (flat_map (dropped_byte text) (enumerate_from (length prefix + 1) cs))
+    (flat_map (dropped_byte text) (enumerate_from (length prefix + 1) cs))
     ∙ or_from _ _
     (one_other (is_dropped text (length prefix, c)) (length (encode_utf8_all (take (length prefix) text))) offset
-        (λ e. other (sym place ∙ e)))
+    (λ e. other (sym place ∙ e)))
     (ap (λ l. list_any (is_at offset) (flat_map (dropped_byte text) l)) next ∙ rest)
 
 -- no offset behind a prefix is one before its end
@@ -69,32 +69,32 @@ later_offsets text prefix [] offset whole before = refl
 later_offsets text prefix (c ∷ cs) offset whole before =
     other_first text prefix c cs offset whole (λ e. omega (arith, before, e))
     (later_offsets text (prefix ++ c ∷ []) cs offset (whole ∙ sym (append_assoc prefix (c ∷ []) cs))
-        (omega (arith, before, byte_len-snoc prefix c)))
+    (omega (arith, before, byte_len-snoc prefix c)))
 
 -- an offset is among them where the character there is left out
 among_offsets : (text prefix before : List ℕ) (c : ℕ) (after : List ℕ) → text ≡ prefix ++ (before ++ (c ∷ after))
     → list_any (is_at (byte_len (prefix ++ before))) (left_out_of text prefix (before ++ (c ∷ after)))
-        ≡ is_dropped text (length (prefix ++ before), c)
+    ≡ is_dropped text (length (prefix ++ before), c)
 among_offsets text prefix [] c after whole =
     let place : length (encode_utf8_all (take (length prefix) text)) ≡ byte_len prefix =
     ap (λ l. length (encode_utf8_all (take (length prefix) l))) whole ∙ offset_after prefix c after in
     let next : enumerate_from (length prefix + 1) after ≡ enumerate_from (length (prefix ++ c ∷ [])) after =
     ap (λ n. enumerate_from n after) (sym (length-append prefix (c ∷ []))) in
     let later : list_any (is_at (byte_len prefix))
-        (flat_map (dropped_byte text) (enumerate_from (length prefix + 1) after)) ≡ false =
+    (flat_map (dropped_byte text) (enumerate_from (length prefix + 1) after)) ≡ false =
     ap (λ l. list_any (is_at (byte_len prefix)) (flat_map (dropped_byte text) l)) next
     ∙ later_offsets text (prefix ++ c ∷ []) after (byte_len prefix) (whole ∙ sym (append_assoc prefix (c ∷ []) after))
     (omega (arith, byte_len-snoc prefix c, (len_utf8_bounds c).0)) in
     let here : list_any (is_at (byte_len prefix)) (left_out_of text prefix (c ∷ after)) ≡ is_dropped text
-        (length prefix, c) =
+    (length prefix, c) =
     list_any-append (is_at (byte_len prefix)) (dropped_byte text (length prefix, c))
-        (flat_map (dropped_byte text) (enumerate_from (length prefix + 1) after))
+    (flat_map (dropped_byte text) (enumerate_from (length prefix + 1) after))
     ∙ ap (λ b. list_any (is_at (byte_len prefix)) (dropped_byte text (length prefix, c)) || b) later
     ∙ or_false (list_any (is_at (byte_len prefix)) (dropped_byte text (length prefix, c)))
     ∙ one_same (is_dropped text (length prefix, c)) (length (encode_utf8_all (take (length prefix) text)))
-        (byte_len prefix) place in
+    (byte_len prefix) place in
     subst (λ l. list_any (is_at (byte_len l)) (left_out_of text prefix (c ∷ after)) ≡ is_dropped text (length l, c))
-        (sym (append-nil prefix)) here
+    (sym (append-nil prefix)) here
   where
     or_false : (b : Bool) → (b || false) ≡ b
     or_false true = refl
@@ -107,23 +107,23 @@ among_offsets text prefix (d ∷ before) c after whole =
     let place : length (encode_utf8_all (take (length prefix) text)) ≡ byte_len prefix =
     ap (λ l. length (encode_utf8_all (take (length prefix) l))) whole ∙ offset_after prefix d (before ++ (c ∷ after)) in
     let next : enumerate_from (length prefix + 1) (before ++ (c ∷ after)) ≡ enumerate_from (length (prefix ++ d ∷ []))
-        (before ++ (c ∷ after)) =
+    (before ++ (c ∷ after)) =
     ap (λ n. enumerate_from n (before ++ (c ∷ after))) (sym (length-append prefix (d ∷ []))) in
     let rest : list_any (is_at (byte_len ((prefix ++ d ∷ []) ++ before)))
-        (left_out_of text (prefix ++ d ∷ []) (before ++ (c ∷ after))) ≡ is_dropped text
-        (length ((prefix ++ d ∷ []) ++ before), c) =
+    (left_out_of text (prefix ++ d ∷ []) (before ++ (c ∷ after))) ≡ is_dropped text
+    (length ((prefix ++ d ∷ []) ++ before), c) =
     among_offsets text (prefix ++ d ∷ []) before c after
-        (whole ∙ sym (append_assoc prefix (d ∷ []) (before ++ (c ∷ after)))) in
+    (whole ∙ sym (append_assoc prefix (d ∷ []) (before ++ (c ∷ after)))) in
     let rest_here : list_any (is_at offset) (left_out_of text (prefix ++ d ∷ []) (before ++ (c ∷ after)))
-        ≡ is_dropped text (length (prefix ++ (d ∷ before)), c) =
+    ≡ is_dropped text (length (prefix ++ (d ∷ before)), c) =
     subst (λ l. list_any (is_at (byte_len l)) (left_out_of text (prefix ++ d ∷ []) (before ++ (c ∷ after)))
-        ≡ is_dropped text (length l, c)) same rest in
+    ≡ is_dropped text (length l, c)) same rest in
     list_any-append (is_at offset) (dropped_byte text (length prefix, d))
-        (flat_map (dropped_byte text) (enumerate_from (length prefix + 1) (before ++ (c ∷ after))))
+    (flat_map (dropped_byte text) (enumerate_from (length prefix + 1) (before ++ (c ∷ after))))
     ∙ ap (λ b. b || list_any (is_at offset)
-        (flat_map (dropped_byte text) (enumerate_from (length prefix + 1) (before ++ (c ∷ after)))))
+    (flat_map (dropped_byte text) (enumerate_from (length prefix + 1) (before ++ (c ∷ after)))))
     (one_other (is_dropped text (length prefix, d)) (length (encode_utf8_all (take (length prefix) text))) offset
-        (λ e. omega (arith, further, place, e)))
+    (λ e. omega (arith, further, place, e)))
     ∙ ap (λ l. list_any (is_at offset) (flat_map (dropped_byte text) l)) next ∙ rest_here
   where
     byte_len-append : (xs ys : List ℕ) → byte_len (xs ++ ys) ≡ byte_len xs + byte_len ys
@@ -149,7 +149,7 @@ none_in_range test none a (suc n) = or_from _ _ (none a) (none_in_range test non
 no_pairs : (text : List ℕ) → list_any is_initiator text ≡ false → (index : ℕ) → is_in_pair text index ≡ false
 no_pairs text none index =
     none_in_range (λ other. is_pair text index other || is_pair text other index)
-        (λ other. or_from _ _ (no_pair text none index other) (no_pair text none other index)) 0 (length text)
+    (λ other. or_from _ _ (no_pair text none index other) (no_pair text none other index)) 0 (length text)
 
 -- what is left out of a wrapped text is what is dropped of it
 pub left_out_is_dropped : (what : Cleaning) (text before : List ℕ) (c : ℕ) (after : List ℕ) → Cleans what text

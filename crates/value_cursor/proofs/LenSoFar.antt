@@ -25,10 +25,15 @@ module _ {plan : Plan} {source : List ℕ} {len offset : ℕ} (so_far : LenSoFar
       → LenSoFar plan source (len + length run) (offset + length run)
   run_counted rest run others utf8 is_rest whole utf8_run utf8_others plain =
       let bytes = run_bytes plan source rest offset utf8 so_far.boundary is_rest run others whole utf8_run utf8_others
-          plain in
+      plain in
       record {
-        count = omega (arith, so_far.count, ap length bytes, length-append run
-            (bytes_from plan source (offset + length run)));
+        count = omega (
+          arith,
+          so_far.count,
+          ap length bytes,
+          length-append run
+              (bytes_from plan source (offset + length run)),
+        );
         boundary = run_boundary plan source rest offset utf8 so_far.boundary is_rest run others whole utf8_run
             utf8_others;
         bound = omega (arith, so_far.bound);
@@ -41,8 +46,15 @@ module _ {plan : Plan} {source : List ℕ} {len offset : ℕ} (so_far : LenSoFar
   char_counted rest others c size char_len utf8 is_rest whole is_size is_len small =
       let bytes = char_bytes plan source rest offset utf8 so_far.boundary is_rest c others whole in
       subst (λ n. LenSoFar plan source (len + char_len) (offset + n)) (sym is_size) (record {
-        count = omega (arith, so_far.count, ap length bytes, length-append (encode_utf8_all (form plan offset c))
-            (bytes_from plan source (offset + len_utf8 c)), is_len, byte_len-encodes (form plan offset c));
+        count = omega (
+          arith,
+          so_far.count,
+          ap length bytes,
+          length-append (encode_utf8_all (form plan offset c))
+              (bytes_from plan source (offset + len_utf8 c)),
+          is_len,
+          byte_len-encodes (form plan offset c),
+        );
         boundary = char_boundary plan source rest offset utf8 so_far.boundary is_rest c others whole;
         bound = omega (arith, so_far.bound, small, (len_utf8_bounds c).0);
       })

@@ -31,7 +31,7 @@ none_of : (xs : List ℕ) (offset : ℕ) → ((k : ℕ) → k < length xs → ge
 none_of [] offset other = refl
 none_of (x ∷ xs) offset other =
     or_from _ _ (ne_eqb x offset (other 0 (omega arith)))
-        (none_of xs offset (λ k within. other (suc k) (omega (arith, within))))
+    (none_of xs offset (λ k within. other (suc k) (omega (arith, within))))
 
 pub found_among : (xs : List ℕ) (offset : ℕ) (r : Result ℕ ℕ) → IsStrictlyIncreasing xs
     → IsBinarySearchResult (λ y. nat_cmp y offset) xs r → is_ok r ≡ list_any (λ place. place == offset) xs

@@ -38,7 +38,7 @@ clean_itself : (leaves_out : Bool) (c : ℕ) → is_clean c ≡ true → cleaned
 clean_itself leaves_out c is =
     let parts = and_parts _ _ is in
     cond-false _ _ _ (and_left (is_isolate_control c) leaves_out (not-true _ parts.0))
-        ∙ ap Some (cond-false _ _ _ (not-true _ parts.1))
+    ∙ ap Some (cond-false _ _ _ (not-true _ parts.1))
 
 cleaned_itself : (what : Cleaning) (offset c : ℕ) → is_clean c ≡ true → cleaned what offset c ≡ Some c
 cleaned_itself cleaning.Nothing offset c is = refl
@@ -86,16 +86,16 @@ pub escaped_run : (plan : Plan) (run cs : List ℕ) → plan.cleaning ≡ cleani
 escaped_run plan run cs nothing is =
     forms_themselves plan (stands_for_itself plan.how)
     (λ offset c own. ap (λ what. option_map_or (escaped_character plan.how) (cleaned what offset c) []) nothing
-        ∙ own_form plan.how c own)
+    ∙ own_form plan.how c own)
     run (subst (λ l. list_all (stands_for_itself plan.how) l ≡ true) (sym is)
-        (prefix_all (stands_for_itself plan.how) cs))
+    (prefix_all (stands_for_itself plan.how) cs))
 
 -- what is cleaned and escaped
 module _ (plan : Plan) (text window plain others behind more cs : List ℕ) (utf8 : IsUtf8 text)
     (utf8_plain : IsUtf8 plain) (utf8_others : IsUtf8 others) (utf8_behind : IsUtf8 behind) (utf8_more : IsUtf8 more)
     (is_window : text ≡ window ++ more) (whole : window ≡ plain ++ behind)
-        (is_plain_prefix : chars plain ≡ plain_prefix plan.how cs)
-        (is_others : chars others ≡ after_while is_clean (chars plain)) where
+    (is_plain_prefix : chars plain ≡ plain_prefix plan.how cs)
+    (is_others : chars others ≡ after_while is_clean (chars plain)) where
   abbrev run_characters : List ℕ
   run_characters = prefix_while is_clean (chars plain)
 
@@ -104,7 +104,7 @@ module _ (plan : Plan) (text window plain others behind more cs : List ℕ) (utf
       sym (encodes-chars plain utf8_plain) ∙ ap encode_utf8_all (prefix_and_after is_clean (chars plain))
       ∙ encodes-append run_characters (after_while is_clean (chars plain))
       ∙ ap (λ l. encode_utf8_all run_characters ++ l) (ap encode_utf8_all (sym is_others)
-          ∙ encodes-chars others utf8_others)
+      ∙ encodes-chars others utf8_others)
 
   split_text : text ≡ encode_utf8_all run_characters ++ (others ++ (behind ++ more))
   split_text =
@@ -125,19 +125,19 @@ module _ (plan : Plan) (text window plain others behind more cs : List ℕ) (utf
   run_boundary =
       let P : ℕ → Type 0 = IsCharBoundary text in
       subst P size_run (IsCharBoundary-at_seam text (encode_utf8_all run_characters) (others ++ (behind ++ more))
-          split_text utf8_rest)
+      split_text utf8_rest)
 
   module _ (run rest : List ℕ) (is_run : run ≡ take (length plain - length others) text)
       (is_rest : rest ≡ drop (length plain - length others) text) where
     bytes_run : run ≡ encode_utf8_all run_characters
     bytes_run =
         is_run ∙ ap (take (length plain - length others)) split_text ∙ take_at (encode_utf8_all run_characters)
-            (others ++ (behind ++ more)) (length plain - length others) size_run
+        (others ++ (behind ++ more)) (length plain - length others) size_run
 
     bytes_rest : rest ≡ others ++ (behind ++ more)
     bytes_rest =
         is_rest ∙ ap (drop (length plain - length others)) split_text ∙ drop_at (encode_utf8_all run_characters)
-            (others ++ (behind ++ more)) (length plain - length others) size_run
+        (others ++ (behind ++ more)) (length plain - length others) size_run
 
     pub run_whole : text ≡ run ++ rest
     run_whole =
@@ -158,9 +158,9 @@ module _ (plan : Plan) (text window plain others behind more cs : List ℕ) (utf
         (λ offset c own.
         let parts = and_parts (stands_for_itself plan.how c) (is_clean c) own in
         ap (λ o. option_map_or (escaped_character plan.how) o []) (cleaned_itself plan.cleaning offset c parts.1)
-            ∙ own_form plan.how c parts.0)
+        ∙ own_form plan.how c parts.0)
         (chars run)
         (subst (λ l. list_all (is_plain plan.how) l ≡ true) (sym are_run)
         (prefix_both (stands_for_itself plan.how) is_clean (chars plain)
         (subst (λ l. list_all (stands_for_itself plan.how) l ≡ true) (sym is_plain_prefix)
-            (prefix_all (stands_for_itself plan.how) cs))))
+        (prefix_all (stands_for_itself plan.how) cs))))

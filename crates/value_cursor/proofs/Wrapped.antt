@@ -44,7 +44,7 @@ module _ (plan : Plan) (text : List ℕ) (html : plan.how ≡ escaper.Html) (cle
       ∙ ap (λ o. option_map_or (row_or_character html_rows) o [])
       (cleaned_is plan.cleaning text (byte_len before) c cleans
       ∙ ap (λ b. if b then None else Some (spaced c))
-          (left_out_is_dropped plan.cleaning text before c after cleans whole))
+      (left_out_is_dropped plan.cleaning text before c after cleans whole))
       ∙ form_by (is_dropped text (length before, c)) c
 
   forms_are : (before cs : List ℕ) → text ≡ before ++ cs → forms plan (byte_len before) cs
@@ -54,11 +54,11 @@ module _ (plan : Plan) (text : List ℕ) (html : plan.how ≡ escaper.Html) (cle
       ap (λ l. l ++ forms plan (byte_len before + len_utf8 c) cs) (form_is before c cs whole)
       ∙ ap (λ l. flat_map (row_or_character html_rows) (cleaned_character text (length before, c)) ++ l)
       (ap (λ n. forms plan n cs) (sym (byte_len-snoc before c))
-          ∙ forms_are (before ++ c ∷ []) cs (whole ∙ sym (append_assoc before (c ∷ []) cs))
+      ∙ forms_are (before ++ c ∷ []) cs (whole ∙ sym (append_assoc before (c ∷ []) cs))
       ∙ ap (λ n. flat_map (row_or_character html_rows) (flat_map (cleaned_character text) (enumerate_from n cs)))
-          (length-append before (c ∷ [])))
+      (length-append before (c ∷ [])))
       ∙ sym (flat_map-append (row_or_character html_rows) (cleaned_character text (length before, c))
-          (flat_map (cleaned_character text) (enumerate_from (length before + 1) cs)))
+      (flat_map (cleaned_character text) (enumerate_from (length before + 1) cs)))
 
   pub forms_cleaned : forms plan 0 text ≡ escaped_text html_rows (cleaned_text text)
   forms_cleaned = forms_are [] text refl

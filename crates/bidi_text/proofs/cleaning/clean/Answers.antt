@@ -27,12 +27,12 @@ pub loop-offset-preserved-then-first-offset : goal.loop-offset-preserved-then-fi
 loop-offset-preserved-then-first-offset c =
     let step = c.in-Some.ensures.steps in
     let reads : ReadsOne c.in-Some.c (char_indices_offset c.loop-offset.offset-iterator)
-        (char_indices_offset c.next.new.self) (char_indices_rest c.loop-offset.offset-iterator)
-        (char_indices_rest c.next.new.self) =
+    (char_indices_offset c.next.new.self) (char_indices_rest c.loop-offset.offset-iterator)
+    (char_indices_rest c.next.new.self) =
     record { split = step.1; past = step.2 } in
     cleaned_dropped c.loop-offset.invariant reads c.in-Some-split_first.later.now
     (c.in-Some-split_first.ensures.cases.0 ∙ ap (λ n. n ∷ c.in-Some-split_first.later.now)
-        (c.if-first-offset.true ∙ step.0))
+    (c.if-first-offset.true ∙ step.0))
 
 -- a list that begins with a number is no other one
 other_head : (offsets later rest : List ℕ) (first at offset : ℕ) → offsets ≡ first ∷ later → (first ≡ offset → ⊥)
@@ -44,18 +44,18 @@ pub loop-offset-preserved : goal.loop-offset-preserved
 loop-offset-preserved c =
     let step = c.in-Some.ensures.steps in
     let reads : ReadsOne c.in-Some.c (char_indices_offset c.loop-offset.offset-iterator)
-        (char_indices_offset c.next.new.self) (char_indices_rest c.loop-offset.offset-iterator)
-        (char_indices_rest c.next.new.self) =
+    (char_indices_offset c.next.new.self) (char_indices_rest c.loop-offset.offset-iterator)
+    (char_indices_rest c.next.new.self) =
     record { split = step.1; past = step.2 } in
     cleaned_kept c.loop-offset.invariant reads (chars (string_bytes c.push_char.new.out))
     (λ later is. elim c.in_default.branch [
       | in_default-via-in-Some-split_first+else-first-offset w ↦
           other_head _ w.in-Some-split_first.later.now later w.in-Some-split_first.first.now _ c.in-Some.offset
-              w.in-Some-split_first.ensures.cases.0 w.if-first-offset.false step.0 is
+          w.in-Some-split_first.ensures.cases.0 w.if-first-offset.false step.0 is
       | in_default-via-in_default w ↦ omega (arith, w.in_default.ensures.cases, ap length is)
     ])
     (c.in_ok-push_char-in_default.ensures.ok ∙ ap (λ k. chars (string_bytes c.loop-offset.cleaned) ++ k ∷ [])
-        c.spaced.ensures)
+    c.spaced.ensures)
 
 -- no character is left
 pub returns : goal.returns

@@ -14,8 +14,11 @@ use Rattle.bidi_text.proofs.controls.marks.Goals as goal
 
 -- the initiators' classes begin isolates
 begins : (k : Class) → (k ≡ LRI) ⊎ ((k ≡ RLI) ⊎ (k ≡ FSI)) → begins_isolate k ≡ true
-begins k h = elim h [ inl lri ↦ ap begins_isolate lri | inr others ↦
-    elim others [ inl rli ↦ ap begins_isolate rli | inr fsi ↦ ap begins_isolate fsi ] ]
+begins k h = elim h [
+  | inl lri ↦ ap begins_isolate lri
+  | inr others ↦
+      elim others [ inl rli ↦ ap begins_isolate rli | inr fsi ↦ ap begins_isolate fsi ]
+]
 
 -- no other class but that of PDI does anything to an isolate
 neither : (k : Class) → (k ≡ LRI → ⊥) → (k ≡ RLI → ⊥) → (k ≡ FSI → ⊥) → (k ≡ PDI → ⊥)
@@ -30,8 +33,12 @@ neither _ lri rli fsi pdi = (refl, refl)
 pub loop-offset-init : goal.loop-offset-init
 loop-offset-init c =
     let same = c.into_iter-offset-iterator.ensures.into_iter_gives in
-    rw (c.new-offsets.ensures.items, ap char_indices_offset same ∙ c.char_indices-offset-items.ensures.offset, ap
-        char_indices_rest same ∙ c.char_indices-offset-items.ensures.rest)
+    rw (
+      c.new-offsets.ensures.items,
+      ap char_indices_offset same ∙ c.char_indices-offset-items.ensures.offset,
+      ap
+          char_indices_rest same ∙ c.char_indices-offset-items.ensures.rest,
+    )
     (marking_start c.args.text.now c.utf8.text)
 
 -- an initiator was found
@@ -39,8 +46,8 @@ pub loop-offset-preserved-in-Continue-1 : goal.loop-offset-preserved-in-Continue
 loop-offset-preserved-in-Continue-1 c =
     let step = c.in-Some.ensures.steps in
     let reads : ReadsOne c.in-Some.c (char_indices_offset c.loop-offset.offset-iterator)
-        (char_indices_offset c.next.new.self) (char_indices_rest c.loop-offset.offset-iterator)
-        (char_indices_rest c.next.new.self) =
+    (char_indices_offset c.next.new.self) (char_indices_rest c.loop-offset.offset-iterator)
+    (char_indices_rest c.next.new.self) =
     record { split = step.1; past = step.2 } in
     marking_begins c.loop-offset.invariant reads c.push.new.self.items
     (ap begins_isolate (sym c.class_of.ensures) ∙ begins c.class_of.result c.in-LRI.is)
@@ -51,8 +58,8 @@ pub loop-offset-preserved-then-closings-len : goal.loop-offset-preserved-then-cl
 loop-offset-preserved-then-closings-len c =
     let step = c.in-Some.ensures.steps in
     let reads : ReadsOne c.in-Some.c (char_indices_offset c.loop-offset.offset-iterator)
-        (char_indices_offset c.next.new.self) (char_indices_rest c.loop-offset.offset-iterator)
-        (char_indices_rest c.next.new.self) =
+    (char_indices_offset c.next.new.self) (char_indices_rest c.loop-offset.offset-iterator)
+    (char_indices_rest c.next.new.self) =
     record { split = step.1; past = step.2 } in
     let same : vec_len c.loop-offset.offsets ≡ length c.loop-offset.offsets.items = omega arith in
     marking_closes c.loop-offset.invariant reads c.pop.new.self.items
@@ -64,8 +71,8 @@ pub loop-offset-preserved-in-PDI-2 : goal.loop-offset-preserved-in-PDI-2
 loop-offset-preserved-in-PDI-2 c =
     let step = c.in-Some.ensures.steps in
     let reads : ReadsOne c.in-Some.c (char_indices_offset c.loop-offset.offset-iterator)
-        (char_indices_offset c.next.new.self) (char_indices_rest c.loop-offset.offset-iterator)
-        (char_indices_rest c.next.new.self) =
+    (char_indices_offset c.next.new.self) (char_indices_rest c.loop-offset.offset-iterator)
+    (char_indices_rest c.next.new.self) =
     record { split = step.1; past = step.2 } in
     marking_lone c.loop-offset.invariant reads c.push-in-PDI-2.new.self.items
     (ap begins_isolate (sym c.class_of.ensures ∙ c.in-PDI.is)) (ap ends_isolate (sym c.class_of.ensures ∙ c.in-PDI.is))
@@ -76,13 +83,13 @@ pub loop-offset-preserved : goal.loop-offset-preserved
 loop-offset-preserved c =
     let step = c.in-Some.ensures.steps in
     let reads : ReadsOne c.in-Some.c (char_indices_offset c.loop-offset.offset-iterator)
-        (char_indices_offset c.next.new.self) (char_indices_rest c.loop-offset.offset-iterator)
-        (char_indices_rest c.next.new.self) =
+    (char_indices_offset c.next.new.self) (char_indices_rest c.loop-offset.offset-iterator)
+    (char_indices_rest c.next.new.self) =
     record { split = step.1; past = step.2 } in
     let out = neither c.class_of.result c.in_default.not-LRI c.in_default.not-RLI c.in_default.not-FSI
-        c.in_default.not-PDI in
+    c.in_default.not-PDI in
     marking_stays c.loop-offset.invariant reads (ap begins_isolate (sym c.class_of.ensures) ∙ out.0)
-        (ap ends_isolate (sym c.class_of.ensures) ∙ out.1)
+    (ap ends_isolate (sym c.class_of.ensures) ∙ out.1)
 
 -- no character is left
 pub returns-clause-offsets : goal.returns-clause-offsets

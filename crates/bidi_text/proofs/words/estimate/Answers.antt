@@ -8,7 +8,7 @@ pub loop-word-preserved : goal.loop-word-preserved
 loop-word-preserved c =
     let cut = cuts_word _ c.in-Some.word.now _ c.loop-word.invariant.utf8 c.in-Some.ensures.steps in
     counted_next _ _ _ _ _ _ _ _ _ _ c.loop-word.invariant cut c.count.ensures.right_to_left c.count.ensures.total
-        c.count.ensures.weak
+    c.count.ensures.weak
 
 -- no word is left
 pub returns : goal.returns

@@ -18,7 +18,7 @@ unfolding is_address
 returns-then-starts_with c =
     let first : c.starts_with.result ≡ starts_with nat_eq (chars c.args.word.now) (codes "http://") =
     starts_text c.starts_with.result (codes "http://") c.args.word.now c.starts_with.ensures.cases
-        ∙ starts_with-chars c.args.word.now (codes "http://") c.utf8.word http_is_ascii in
+    ∙ starts_with-chars c.args.word.now (codes "http://") c.utf8.word http_is_ascii in
     grind (arith, first, c.if-starts_with.true)
 
 pub returns-else-starts_with : goal.returns-else-starts_with
@@ -26,9 +26,9 @@ unfolding is_address
 returns-else-starts_with c =
     let first : c.starts_with.result ≡ starts_with nat_eq (chars c.args.word.now) (codes "http://") =
     starts_text c.starts_with.result (codes "http://") c.args.word.now c.starts_with.ensures.cases
-        ∙ starts_with-chars c.args.word.now (codes "http://") c.utf8.word http_is_ascii in
+    ∙ starts_with-chars c.args.word.now (codes "http://") c.utf8.word http_is_ascii in
     let second : c.starts_with-else-starts_with.result ≡ starts_with nat_eq (chars c.args.word.now) (codes "https://") =
     starts_text c.starts_with-else-starts_with.result (codes "https://") c.args.word.now
-        c.starts_with-else-starts_with.ensures.cases
+    c.starts_with-else-starts_with.ensures.cases
     ∙ starts_with-chars c.args.word.now (codes "https://") c.utf8.word https_is_ascii in
     grind (arith, first, second, c.if-starts_with.false)

@@ -13,20 +13,20 @@ use Rattle.bidi_text.proofs.wrapping.wrap.Goals as goal
 pub returns-clause-characters : goal.returns-clause-characters
 returns-clause-characters c =
     five_added (codes "<span dir=\"") (direction_word (estimated_direction (chars c.args.text.now) c.args.context))
-        (codes "\">")
+    (codes "\">")
     (escaped_text html_rows (cleaned_text (chars c.args.text.now))) (codes "</span>")
     (chars (string_bytes c.new-wrapped.result)) (chars (string_bytes c.push_text.new.out))
-        (chars (string_bytes c.push_text-2.new.out))
+    (chars (string_bytes c.push_text-2.new.out))
     (chars (string_bytes c.push_text-3.new.out)) (chars (string_bytes c.push_escaped.new.out))
-        (chars (string_bytes c.push_text-4.new.out))
+    (chars (string_bytes c.push_text-4.new.out))
     (ap chars c.new-wrapped.ensures.bytes ∙ chars-nil)
     (c.in_ok-push_text.ensures.ok ∙ ap (λ l. chars (string_bytes c.new-wrapped.result) ++ l) begins_span)
     (c.in_ok-push_text-2.ensures.ok ∙ ap (λ l. chars (string_bytes c.push_text.new.out) ++ l)
-        (c.direction_word.ensures ∙ ap direction_word c.estimate.ensures))
+    (c.direction_word.ensures ∙ ap direction_word c.estimate.ensures))
     (c.in_ok-push_text-3.ensures.ok ∙ ap (λ l. chars (string_bytes c.push_text-2.new.out) ++ l) ends_tag)
     (c.in_ok-push_escaped.ensures
     ∙ ap (λ l. chars (string_bytes c.push_text-3.new.out) ++ escaped_text html_rows l)
-        (ap chars c.as_str.ensures.value ∙ c.in_ok-cleaned.ensures))
+    (ap chars c.as_str.ensures.value ∙ c.in_ok-cleaned.ensures))
     (c.in_ok-push_text-4.ensures.ok ∙ ap (λ l. chars (string_bytes c.push_escaped.new.out) ++ l) ends_span)
 
 pub returns-clause-bytes : goal.returns-clause-bytes

@@ -13,5 +13,5 @@ returns-in_ok-push_str-clause-ok c =
 pub returns-else-not-is_empty-clause-ok : goal.returns-else-not-is_empty-clause-ok
 returns-else-not-is_empty-clause-ok c =
     sym (ap (λ l. chars (string_bytes c.args.out.now) ++ l)
-        (ap chars (nil_from_length c.args.text.now (grind (arith, nat_tests, c.if-not-is_empty.ensures))) ∙ chars-nil)
-        ∙ append-nil (chars (string_bytes c.args.out.now)))
+    (ap chars (nil_from_length c.args.text.now (grind (arith, nat_tests, c.if-not-is_empty.ensures))) ∙ chars-nil)
+    ∙ append-nil (chars (string_bytes c.args.out.now)))

@@ -9,7 +9,7 @@ loop-rest-preserved g c =
     let facts = c.plain_run.ensures in
     let next = c.in_ok-rest.ensures in
     next_pushed _ _ _ _ _ _ _ _ _ _ c.loop-rest.invariant facts.run_utf8 facts.whole (plain_escaped _ _ facts.plain)
-        c.in_ok-push_text.ensures.ok next.ok next.utf8 next.grown
+    c.in_ok-push_text.ensures.ok next.ok next.utf8 next.grown
 
 pub returns-clause-ok : goal.returns-clause-ok
 returns-clause-ok g c =

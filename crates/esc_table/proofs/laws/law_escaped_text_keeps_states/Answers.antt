@@ -5,4 +5,4 @@ use Rattle.esc_table.proofs.laws.law_escaped_text_keeps_states.Goals as goal
 pub returns : goal.returns
 returns g c =
     λ next kept of_row of_none. joined_texts_keep next kept (escaped_character _)
-        (escaped_character_keeps next kept _ of_row of_none)
+    (escaped_character_keeps next kept _ of_row of_none)

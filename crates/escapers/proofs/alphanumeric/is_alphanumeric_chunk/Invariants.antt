@@ -7,4 +7,4 @@ use Rattle.escapers.proofs.alphanumeric.is_alphanumeric_chunk.Given as goal
 abbrev pub invariant-loop-byte : goal.invariant-loop-byte
 invariant-loop-byte l =
     (l.alphanumeric && list_all is_ascii_alphanumeric (drop l.byte-index l.bytes)) ≡ list_all is_ascii_alphanumeric
-        l.bytes
+    l.bytes

@@ -8,4 +8,4 @@ use Rattle.escapers.proofs.css.has_value_characters.Goals as goal
 pub returns-then-is_alphanumeric : goal.returns-then-is_alphanumeric
 returns-then-is_alphanumeric c =
     sym (alphanumeric_all is_value_character (chars c.args.text.now) (λ c is. or_left _ _ is)
-        (sym c.is_alphanumeric.ensures ∙ c.if-is_alphanumeric.true))
+    (sym c.is_alphanumeric.ensures ∙ c.if-is_alphanumeric.true))

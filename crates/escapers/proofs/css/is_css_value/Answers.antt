@@ -16,12 +16,18 @@ pub returns-then-not-is_empty : goal.returns-then-not-is_empty
 returns-then-not-is_empty c =
     c.has_value_characters.ensures
     ∙ tested (chars c.args.text.now)
-        (λ none. grind (arith, nat_tests, none, ap length (encodes-chars c.args.text.now c.utf8.text),
-        c.is_empty.ensures, c.if-not-is_empty.ensures))
+    (λ none. grind (
+      arith,
+      nat_tests,
+      none,
+      ap length (encodes-chars c.args.text.now c.utf8.text),
+      c.is_empty.ensures,
+      c.if-not-is_empty.ensures,
+    ))
 
 pub returns-else-not-is_empty : goal.returns-else-not-is_empty
 returns-else-not-is_empty c =
     ap not c.if-not-is_empty.false
     ∙ sym (ap is_css_value
-        (ap chars (nil_from_length c.args.text.now
-        (grind (arith, nat_tests, c.is_empty.ensures, c.if-not-is_empty.ensures))) ∙ chars-nil))
+    (ap chars (nil_from_length c.args.text.now
+    (grind (arith, nat_tests, c.is_empty.ensures, c.if-not-is_empty.ensures))) ∙ chars-nil))

@@ -15,8 +15,8 @@ from_empty start new (Some more) empty added = ap Some (sym (added ∙ ap (λ l.
 in_characters : goal.returns-clause-escaped
 in_characters c =
     from_empty (chars (string_bytes c.new-out.result)) (chars (string_bytes c.push.new.out))
-        (esc c.args.how c.args.class (chars c.args.text.now)) (ap chars c.new-out.ensures.bytes ∙ chars-nil)
-        c.in_ok-push.ensures
+    (esc c.args.how c.args.class (chars c.args.text.now)) (ap chars c.new-out.ensures.bytes ∙ chars-nil)
+    c.in_ok-push.ensures
 
 pub returns-clause-escaped : goal.returns-clause-escaped
 returns-clause-escaped c = in_characters c
@@ -24,4 +24,4 @@ returns-clause-escaped c = in_characters c
 pub returns-clause-bytes : goal.returns-clause-bytes
 returns-clause-bytes c =
     ap (option_map encode_utf8_all) (in_characters c)
-        ∙ ap Some (encodes-chars (string_bytes c.push.new.out) (IsUtf8-string_bytes c.push.new.out))
+    ∙ ap Some (encodes-chars (string_bytes c.push.new.out) (IsUtf8-string_bytes c.push.new.out))

@@ -8,6 +8,6 @@ pub returns : goal.returns
 unfolding chars
 returns c =
     let joined = three_pushed (chars (string_bytes c.args.out.now)) (chars (string_bytes c.push_text.new.out))
-        (chars (string_bytes c.push_text-2.new.out)) (32 ∷ []) (chars c.args.text.now) (32 ∷ [])
-        c.in_ok-push_text.ensures.ok c.in_ok-push_text-2.ensures.ok in
+    (chars (string_bytes c.push_text-2.new.out)) (32 ∷ []) (chars c.args.text.now) (32 ∷ [])
+    c.in_ok-push_text.ensures.ok c.in_ok-push_text-2.ensures.ok in
     rw joined at c.push_text-3.ensures.ok

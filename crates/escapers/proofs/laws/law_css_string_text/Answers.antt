@@ -7,5 +7,8 @@ use Rattle.escapers.proofs.laws.law_css_string_text.Goals as goal
 
 pub returns : goal.returns
 returns c =
-    λ text. record { single = css_single_stays text; double = css_double_stays text;
-        no_end = escaped_lacks css_string_ends css_rows refl refl text }
+    λ text. record {
+      single = css_single_stays text;
+      double = css_double_stays text;
+      no_end = escaped_lacks css_string_ends css_rows refl refl text;
+    }

@@ -7,5 +7,7 @@ use Rattle.escapers.proofs.laws.law_html_text.Goals as goal
 
 pub returns : goal.returns
 returns c =
-    λ text. record { no_markup = escaped_lacks html_markup html_rows refl refl text;
-        references = html_references_begin text }
+    λ text. record {
+      no_markup = escaped_lacks html_markup html_rows refl refl text;
+      references = html_references_begin text;
+    }

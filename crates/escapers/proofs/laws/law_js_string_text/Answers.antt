@@ -7,5 +7,8 @@ use Rattle.escapers.proofs.laws.law_js_string_text.Goals as goal
 
 pub returns : goal.returns
 returns c =
-    λ text. record { single = js_single_stays text; double = js_double_stays text;
-        no_end = escaped_lacks js_string_ends js_rows refl refl text }
+    λ text. record {
+      single = js_single_stays text;
+      double = js_double_stays text;
+      no_end = escaped_lacks js_string_ends js_rows refl refl text;
+    }

@@ -7,4 +7,4 @@ pub returns-else-is_unreserved : goal.returns-else-is_unreserved
 returns-else-is_unreserved c =
     ap (λ n. 3 * n) c.len_utf8.ensures.value
     ∙ sym (ap byte_len (component_encoded c.args.c (sym c.is_unreserved.ensures ∙ c.if-is_unreserved.false))
-        ∙ encoded_len c.args.c c.ranges.c.0)
+    ∙ encoded_len c.args.c c.ranges.c.0)

@@ -7,4 +7,4 @@ pub returns-else-is_normal : goal.returns-else-is_normal
 returns-else-is_normal c =
     ap (λ n. 3 * n) c.len_utf8.ensures.value
     ∙ sym (ap byte_len (normal_encoded c.args.c (not_ampersand c.args.c c.if-c-eq38.false)
-        (sym c.is_normal.ensures ∙ c.if-is_normal.false)) ∙ encoded_len c.args.c c.ranges.c.0)
+    (sym c.is_normal.ensures ∙ c.if-is_normal.false)) ∙ encoded_len c.args.c c.ranges.c.0)

@@ -12,10 +12,10 @@ use Rattle.escapers.proofs.uri.push_uri_component.Goals as goal
 pub returns-then-is_alphanumeric : goal.returns-then-is_alphanumeric
 returns-then-is_alphanumeric c =
     rw (alphanumeric_stands is_unreserved (chars c.args.text.now) (λ c is. or_left _ _ is)
-        (sym c.is_alphanumeric.ensures ∙ c.if-is_alphanumeric.true)) c.push_text.ensures.ok
+    (sym c.is_alphanumeric.ensures ∙ c.if-is_alphanumeric.true)) c.push_text.ensures.ok
 
 pub returns : goal.returns
 returns c =
     pushed_encoded _ _ outside_component (string_bytes c.args.out.now) _ c.args.text.now
-        (IsUtf8-string_bytes c.args.out.now) c.utf8.text
+    (IsUtf8-string_bytes c.args.out.now) c.utf8.text
     (c.in_ok-append_to.ensures.ok ∙ ap (λ l. string_bytes c.args.out.now ++ l) c.utf8_percent_encode.ensures.text)

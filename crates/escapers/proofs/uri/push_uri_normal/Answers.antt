@@ -17,6 +17,6 @@ loop-part-preserved c =
     let cut : uri_normal (chars c.loop-part.rest.now) ≡ uri_normal part ++ (codes "&amp;" ++ uri_normal after) =
     ap uri_normal c.in-Some.ensures.around.1 ∙ flat_map-append normal_character part (ampersand ∷ after) in
     let joined = three_pushed start (chars (string_bytes c.push_without_ampersand.new.out))
-        (chars (string_bytes c.push_text.new.out)) (uri_normal part) (codes "&amp;") (uri_normal after)
-        c.in_ok-push_without_ampersand.ensures c.in_ok-push_text.ensures.ok in
+    (chars (string_bytes c.push_text.new.out)) (uri_normal part) (codes "&amp;") (uri_normal after)
+    c.in_ok-push_without_ampersand.ensures c.in_ok-push_text.ensures.ok in
     (c.in-Some.ensures.around.2, joined ∙ ap (λ l. start ++ l) (sym cut) ∙ c.loop-part.invariant.1)

@@ -11,7 +11,7 @@ abbrev pub invariant-loop-part : goal.invariant-loop-part
 invariant-loop-part l =
     shadow (Utf8 l.rest)
     × (chars (string_bytes l.out) ++ uri_normal (chars l.rest) ≡ chars (string_bytes l.initial.out) ++ uri_normal
-        (chars l.initial.rest))
+    (chars l.initial.rest))
 
 abbrev pub decreases-loop-part : goal.decreases-loop-part
 decreases-loop-part l = length (chars l.rest)

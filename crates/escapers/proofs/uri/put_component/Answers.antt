@@ -6,4 +6,4 @@ pub returns-else-is_unreserved : goal.returns-else-is_unreserved
 returns-else-is_unreserved c =
     c.put_encoded.ensures
     ∙ sym (ap encode_utf8_all (component_encoded c.args.c (sym c.is_unreserved.ensures ∙ c.if-is_unreserved.false))
-        ∙ encoded_bytes c.args.c c.ranges.c.0)
+    ∙ encoded_bytes c.args.c c.ranges.c.0)

@@ -12,5 +12,5 @@ range-requires-clause-end_boundary c = prefix_boundary c.args.text.now c.args.re
 pub returns : goal.returns
 returns c =
     prefix_characters c.args.text.now c.args.rest.now c.requires.0 c.utf8.text c.utf8.rest c.requires.1
-        c.range.result.now c.range.utf8
+    c.range.result.now c.range.utf8
     (grind (arith, c.range.ensures.value))

@@ -8,6 +8,6 @@ pub returns-clause-ok : goal.returns-clause-ok
 returns-clause-ok c =
     let one : chars (encode_utf8 c.args.c) ≡ c.args.c ∷ [] =
     chars_past_char (encode_utf8 c.args.c) [] c.args.c (IsUtf8-encode c.args.c c.ranges.c.0)
-        (sym (append-nil (encode_utf8 c.args.c))) ∙ ap (λ rest. c.args.c ∷ rest) chars-nil in
+    (sym (append-nil (encode_utf8 c.args.c))) ∙ ap (λ rest. c.args.c ∷ rest) chars-nil in
     rw c.in_ok-push.ensures.bytes (chars-append _ _ (IsUtf8-string_bytes c.args.out.now)
-        ∙ ap (λ more. chars (string_bytes c.args.out.now) ++ more) one)
+    ∙ ap (λ more. chars (string_bytes c.args.out.now) ++ more) one)

@@ -44,16 +44,16 @@ the_items_listed X items = list-listed X items
 abbrev stored : Former {0}
 stored =
     via (vec.the_former this Global) Inside (λ X fields. fields.items) (λ X v. record { items = v }) (λ X v. refl)
-        (λ X fields. refl)
+    (λ X fields. refl)
 
 module _ (R S : RattleType) (h : R.Denot → S.Denot) where
   pub the_places : Alike R S h
       → Alike (contract.the_row R) (contract.the_row S) ((the_former this).map R.Denot S.Denot h)
   the_places alike =
       let fields = struct_places (inside.the_type R) (inside.the_type S) (vec.mapped h, tt) _ (λ d. refl) refl
-          (laid _ _ _ (vec.the_places global.the_row ghosts R S h alike), tt) in
+      (laid _ _ _ (vec.the_places global.the_row ghosts R S h alike), tt) in
       view_places stored (list this) view (λ X Y k u. refl) (λ X u. refl) R.Denot S.Denot h (contract.the_row R).coded
-          (contract.the_row S).coded
+      (contract.the_row S).coded
       (invariant R.Denot) (invariant S.Denot) (λ u p q. refl) (λ u p q. refl) (λ u e. tt) (λ u e. tt)
       (over (inside.the_row R)) (over (inside.the_row S)) fields
 

@@ -8,4 +8,4 @@ use Rattle.soy_expr.proofs.member_kind.+searching.Given as goal
 abbrev pub invariant-some_has_member-loop-of : goal.invariant-some_has_member-loop-of
 invariant-some_has_member-loop-of l =
     list_any (is_of_kind l.kind) (union_members (view_members l.types)) ≡ list_any (is_of_kind l.kind)
-        (union_members (view_members (drop l.of-index l.types)))
+    (union_members (view_members (drop l.of-index l.types)))

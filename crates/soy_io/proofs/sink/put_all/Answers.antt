@@ -9,8 +9,14 @@ loop-taken-preserved g c =
     let held = c.loop-taken.invariant in
     let took = c.in-Ok.ensures.taken in
     let within : done + c.in-Ok.count ≤ length bytes =
-    omega (arith, took.1, length-take (length bytes - done) (drop done bytes), length-drop done bytes, held.within,
-        c.loop-taken-test.true) in
+    omega (
+      arith,
+      took.1,
+      length-take (length bytes - done) (drop done bytes),
+      length-drop done bytes,
+      held.within,
+      c.loop-taken-test.true,
+    ) in
     record {
       within = within;
       prefix = put_next _ _ _ done c.in-Ok.count bytes held.prefix took.0 within;

@@ -23,7 +23,7 @@ returns-in-125 c =
     source_text_token kind.End (c.args.c ∷ []) c.command_token_to.ensures.0 (chars c.args.rest.now)
     (chars c.args.text.now) _ c.command_token_to.result c.requires c.command_token_to.ensures.1
     (ap command_segment c.requires ∙ begins_end c.args.c (chars c.args.rest.now) c.in-125.is)
-        c.command_token_to.ensures.2
+    c.command_token_to.ensures.2
 
 pub returns-then-begins_name : goal.returns-then-begins_name
 returns-then-begins_name c =
@@ -32,7 +32,7 @@ returns-then-begins_name c =
     steps_by (command_segment (chars c.args.text.now))
     (unwrap_or (name_segment kind.Word [] (chars c.args.text.now)) (Fails 0)) c.word_segment.result
     (ap command_segment c.requires ∙ found ∙ ap (λ l. unwrap_or (name_segment kind.Word [] l) (Fails 0))
-        (sym c.requires))
+    (sym c.requires))
     c.word_segment.ensures
 
 pub returns-then-is_ascii_digit : goal.returns-then-is_ascii_digit

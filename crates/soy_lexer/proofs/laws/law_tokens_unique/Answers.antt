@@ -21,13 +21,13 @@ returns-clause-one_list c = λ text first second one two.
 pub returns-clause-one_fault : goal.returns-clause-one_fault
 returns-clause-one_fault c = λ text first second one two.
     same_some first second (one_segments 0 (Outside true) text one.segments two.segments (Some first) (Some second)
-        one.prefix
+    one.prefix
     two.prefix).1
 
 pub returns-clause-never_both : goal.returns-clause-never_both
 returns-clause-never_both c = λ text tokens offset one two.
     none_some offset (one_segments 0 (Outside true) text one.segments two.segments None (Some offset) one.whole
-        two.prefix).1
+    two.prefix).1
 
 pub returns-clause-either : goal.returns-clause-either
 returns-clause-either c = tokens_or_fault

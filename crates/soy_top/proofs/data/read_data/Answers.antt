@@ -15,4 +15,4 @@ pub returns-else-is_memory : goal.returns-else-is_memory
 returns-else-is_memory c =
     let utf8 = c.in-Ok.ensures.cases in
     data_of-utf8 c.args.bytes.now c.in-Ok.text.now _ utf8.0 utf8.1
-        (c.in-Err.ensures.err (λ memory. false≢true (sym c.if-is_memory.false ∙ c.is_memory.ensures.1 memory)))
+    (c.in-Err.ensures.err (λ memory. false≢true (sym c.if-is_memory.false ∙ c.is_memory.ensures.1 memory)))

@@ -7,7 +7,7 @@ pub returns-in_err-bytes-clause-fetched : goal.returns-in_err-bytes-clause-fetch
 returns-in_err-bytes-clause-fetched g c =
     let p = err_from_is_err_and c.from_residual.result c.from_residual.ensures.1 in
     rw (p.1, p.2) (fetch-stops _ _ _ _ _ _ _ _ _ _ c.loop-file-test.true c.loop-file.invariant.later
-        c.loop-file.invariant.so_far c.in_err-bytes.ensures.fetched c.loop-file.invariant.held)
+    c.loop-file.invariant.so_far c.in_err-bytes.ensures.fetched c.loop-file.invariant.held)
 
 pub loop-file-preserved : goal.loop-file-preserved
 loop-file-preserved g c = record {
@@ -22,4 +22,4 @@ loop-file-preserved g c = record {
 pub returns-clause-fetched : goal.returns-clause-fetched
 returns-clause-fetched g c =
     fetched-all _ c.args.wanted.now c.loop-file.file-index _ _ _ c.loop-file-test.false c.loop-file.invariant.so_far
-        c.contents.ensures
+    c.contents.ensures

@@ -20,8 +20,8 @@ returns-in-Err-clause-err g c =
     let split : c.loop-rest.rest.now ≡ c.split_at.result.0.now ++ c.split_at.result.1.now =
     rw (c.split_at.ensures.front, c.split_at.ensures.back) (sym (take-append-drop 4096 c.loop-rest.rest.now)) in
     put_part _ _ _ _ _ c.loop-rest.invariant.so_far
-        (prefix_of_prefix _ _ _ _ _ c.in-Err.stop.taken split (omega (arith, c.in-Err.ensures.within))
-        c.in-Err.ensures.err)
+    (prefix_of_prefix _ _ _ _ _ c.in-Err.stop.taken split (omega (arith, c.in-Err.ensures.within))
+    c.in-Err.ensures.err)
 
 pub returns-in-Err-put_all-clause-err : goal.returns-in-Err-put_all-clause-err
 returns-in-Err-put_all-clause-err g c =

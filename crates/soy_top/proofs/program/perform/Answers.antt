@@ -10,17 +10,17 @@ pub returns-in_err-contents-clause-may_end : goal.returns-in_err-contents-clause
 returns-in_err-contents-clause-may_end g c =
     let p = err_from_is_err_and c.from_residual-in_err-contents.result c.from_residual-in_err-contents.ensures.1 in
     rw (p.1, p.2) (may_end-fetched _ (command_words c.args.words.now) (view_command c.in-Some.command) _ _ _
-        c.in-Some.ensures (ap view_files c.as_slice.ensures.value ∙ c.in_ok-wanted.ensures)
-        c.in_err-contents.ensures.fetched)
+    c.in-Some.ensures (ap view_files c.as_slice.ensures.value ∙ c.in_ok-wanted.ensures)
+    c.in_err-contents.ensures.fetched)
 
 pub returns-in_err-output-clause-may_end : goal.returns-in_err-output-clause-may_end
 returns-in_err-output-clause-may_end g c =
     let p = err_from_is_err_and c.from_residual-in_err-output.result c.from_residual-in_err-output.ensures.1 in
     rw (p.1, p.2) (may_end-refusal _ _ _ _ _
-        (answer-fetched _ (command_words c.args.words.now) (view_command c.in-Some.command) _ _
-        (view_contents c.as_slice-2.result.now) c.in-Some.ensures (ap view_files c.as_slice.ensures.value
-        ∙ c.in_ok-wanted.ensures) c.in_ok-contents.ensures.fetched
-        (ap view_contents (sym c.as_slice-2.ensures.value))) c.in_err-output.ensures)
+    (answer-fetched _ (command_words c.args.words.now) (view_command c.in-Some.command) _ _
+    (view_contents c.as_slice-2.result.now) c.in-Some.ensures (ap view_files c.as_slice.ensures.value
+    ∙ c.in_ok-wanted.ensures) c.in_ok-contents.ensures.fetched
+    (ap view_contents (sym c.as_slice-2.ensures.value))) c.in_err-output.ensures)
 
 pub returns-clause-wrote : goal.returns-clause-wrote
 returns-clause-wrote g c = record {

@@ -7,4 +7,4 @@ use Rattle.soy_top.proofs.wanted.render_files.Given as goal
 abbrev pub invariant-loop-file : goal.invariant-loop-file
 invariant-loop-file l =
     view_files l.wanted.items ++ map source_file (command_words (drop l.file-index l.files)) ≡ render_files l.json
-        l.bundle (command_words l.files)
+    l.bundle (command_words l.files)

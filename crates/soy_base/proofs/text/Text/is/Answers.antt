@@ -9,5 +9,5 @@ pub returns : goal.returns
 returns c =
     c.eq.ensures ∙ ap (λ seen. bytes_eq seen c.args.other.now) c.as_str.ensures.value
     ∙ bytes_eq-chars (string_bytes c.self.inside.text) c.args.other.now (IsUtf8-string_bytes c.self.inside.text)
-        c.utf8.other
+    c.utf8.other
     ∙ ap (λ seen. bytes_eq seen (chars c.args.other.now)) c.self.view_is

@@ -8,5 +8,5 @@ use Rattle.soy_base.proofs.text.Text.is_empty.Goals as goal
 pub returns : goal.returns
 returns c =
     no_bytes (string_bytes c.self.inside.text) c.as_str.result.now c.is_empty.result
-        (IsUtf8-string_bytes c.self.inside.text) c.as_str.ensures.value c.is_empty.ensures
+    (IsUtf8-string_bytes c.self.inside.text) c.as_str.ensures.value c.is_empty.ensures
     ∙ ap is_nil c.self.view_is

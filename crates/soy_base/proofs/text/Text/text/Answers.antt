@@ -6,4 +6,4 @@ use Rattle.soy_base.proofs.text.Text.text.Goals as goal
 pub returns-clause-bytes : goal.returns-clause-bytes
 returns-clause-bytes c =
     c.as_str.ensures.value
-        ∙ sym (ap encode_utf8_all (sym c.self.view_is) ∙ encodes-chars _ (IsUtf8-string_bytes c.self.inside.text))
+    ∙ sym (ap encode_utf8_all (sym c.self.view_is) ∙ encodes-chars _ (IsUtf8-string_bytes c.self.inside.text))

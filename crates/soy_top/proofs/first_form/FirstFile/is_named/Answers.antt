@@ -12,13 +12,13 @@ returns-in_default-after_prefix c =
     let form = c.args.self.now in
     bytes_eq-prefix c.in-Some.rest.now (46 ∷ []) form.template.now None c.in_default-after_prefix.ensures
     ∙ bytes_eq-prefix c.args.name.now form.namespace.now (46 ∷ form.template.now) (Some c.in-Some.rest.now)
-        c.in-Some.ensures
+    c.in-Some.ensures
 
 pub returns : goal.returns
 returns c =
     let form = c.args.self.now in
     c.eq.ensures
     ∙ (bytes_eq-prefix c.in-Some.rest.now (46 ∷ []) form.template.now (Some c.in-Some-after_prefix.template.now)
-        c.in-Some-after_prefix.ensures
+    c.in-Some-after_prefix.ensures
     ∙ bytes_eq-prefix c.args.name.now form.namespace.now (46 ∷ form.template.now) (Some c.in-Some.rest.now)
-        c.in-Some.ensures)
+    c.in-Some.ensures)

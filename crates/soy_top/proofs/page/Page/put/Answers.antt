@@ -16,5 +16,5 @@ pub returns-in-Err-clause-err : goal.returns-in-Err-clause-err
 returns-in-Err-clause-err g c =
     let page = c.args.self.now in
     put_part _ _ _ _ _ c.loop-part.invariant.so_far
-        (part_of_part _ _ _ _ _ (body_bytes-step (view page.json) page.body.items c.deref-part-items.result.now
-        c.loop-part.part-index _ c.deref-part-items.ensures.value c.loop-part-test.true) c.in-Err.ensures.err)
+    (part_of_part _ _ _ _ _ (body_bytes-step (view page.json) page.body.items c.deref-part-items.result.now
+    c.loop-part.part-index _ c.deref-part-items.ensures.value c.loop-part-test.true) c.in-Err.ensures.err)

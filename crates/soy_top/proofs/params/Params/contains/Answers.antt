@@ -7,4 +7,4 @@ pub returns : goal.returns
 returns c =
     let name = c.args.name.now in
     c.contains.ensures ∙ (sym (is_among-key_names c.self.inside.names.keys name) ∙ ap (λ names. is_among names name)
-        c.self.view_is)
+    c.self.view_is)

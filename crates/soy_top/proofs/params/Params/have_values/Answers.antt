@@ -10,4 +10,4 @@ pub returns : goal.returns
 returns c =
     let has : List ℕ → Bool = λ name. is_some (value_of (view c.args.json.now) name) in
     c.all_have_values.ensures ∙ (ap (list_all (λ name. has name.now)) c.as_slice.ensures.keys
-        ∙ (sym (list_all-map has (λ name. name.now) c.self.inside.names.keys) ∙ ap (list_all has) c.self.view_is))
+    ∙ (sym (list_all-map has (λ name. name.now) c.self.inside.names.keys) ∙ ap (list_all has) c.self.view_is))

@@ -7,6 +7,6 @@ pub returns-in-Marked : goal.returns-in-Marked
 returns-in-Marked c =
     c.is_ok.ensures.value
     ∙ found_among c.in-Marked.marks.places c.args.offset c.binary_search.result
-        (subst MarksAscend c.in-Marked.is c.requires)
+    (subst MarksAscend c.in-Marked.is c.requires)
     (rw c.items.ensures at c.binary_search.ensures.position)
     ∙ sym (ap (λ what. is_left_out what c.args.offset) c.in-Marked.is)

@@ -8,5 +8,5 @@ pub returns-clause-whole : goal.returns-clause-whole
 returns-clause-whole c =
     c.enclosed.ensures.whole ∙ append-nil (bytes_from c.escaping.result (source c.escaping.result c.args.text.now) 0)
     ∙ ap (λ other. bytes_from c.escaping.result (option_map_or (λ o. o.now) other c.args.text.now) 0)
-        c.escaping.ensures.own
+    c.escaping.ensures.own
     ∙ escaped_bytes c.escaping.result c.args.how c.escaping.ensures.how c.escaping.ensures.nothing c.args.text.now

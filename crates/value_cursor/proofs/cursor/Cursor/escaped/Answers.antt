@@ -11,5 +11,5 @@ returns-in-CssValue-clause-whole c =
     let text = chars c.args.text.now in
     ap (λ how. option_map encode_utf8_all (esc how c.args.class text)) c.in-CssValue.is
     ∙ ap (λ l. Some (encode_utf8_all l))
-        (cond-true (is_css_value text) text (codes "zSoyz") (sym c.is_css_value.ensures ∙ c.if-is_css_value.true))
+    (cond-true (is_css_value text) text (codes "zSoyz") (sym c.is_css_value.ensures ∙ c.if-is_css_value.true))
     ∙ ap Some (sym (c.by_characters-in-CssValue.ensures.whole ∙ ap encode_utf8_all (plain_text text)))

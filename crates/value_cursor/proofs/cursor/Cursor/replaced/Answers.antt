@@ -12,5 +12,5 @@ pub returns-clause-whole : goal.returns-clause-whole
 returns-clause-whole c =
     let plan : Plan = record { how = escaper.Plain; cleaning = cleaning.Nothing; instead = Some c.args.other } in
     c.enclosed.ensures.whole ∙ append-nil (bytes_from plan c.args.other.now 0) ∙ escaped_bytes plan escaper.Plain refl
-        refl c.args.other.now
+    refl c.args.other.now
     ∙ ap encode_utf8_all (plain_text (chars c.args.other.now)) ∙ encodes-chars c.args.other.now c.utf8.other

@@ -23,7 +23,7 @@ returns-clause-whole c =
     c.enclosed.ensures.whole
     ∙ ap (λ l. (l ++ encode_utf8_all (forms plan 0 (chars c.args.text.now))) ++ codes "</span>") opening
     ∙ ap (λ l. (opening_bytes direction ++ encode_utf8_all l) ++ codes "</span>")
-        (forms_cleaned plan (chars c.args.text.now) refl c.requires.cleans)
+    (forms_cleaned plan (chars c.args.text.now) refl c.requires.cleans)
     ∙ ap (λ l. (opening_bytes direction ++ encode_utf8_all
-        (escaped_text html_rows (cleaned_text (chars c.args.text.now)))) ++ l) (sym span_end)
+    (escaped_text html_rows (cleaned_text (chars c.args.text.now)))) ++ l) (sym span_end)
     ∙ sym (wrapped_bytes direction (escaped_text html_rows (cleaned_text (chars c.args.text.now))))

@@ -10,8 +10,8 @@ returns-clause-gives c =
     gives_then c.copy_run-copied.ensures.gives
     (gives_same (bytes_after c.args.plan.now c.args.source.now c.copy_run-copied.new.self)
     (gives_pending_behind c.put_next.new.self.pending c.take.new.self
-        (bytes_from c.args.plan.now c.args.source.now c.put_next.new.self.offset) between c.take.new.room copied
-        c.take.result
+    (bytes_from c.args.plan.now c.args.source.now c.put_next.new.self.offset) between c.take.new.room copied
+    c.take.result
     c.take.ensures.count c.take.ensures.given c.take.ensures.rest)
     (sym c.put_next.ensures.same))
     (room_end between c.take.new.room copied)
