@@ -8,6 +8,7 @@ pub mod AcceptsHas
 pub mod ValueTypes
 pub mod Branches
 pub mod TemplateNumbers
+pub mod TagScans
 mod Rows
 mod AcceptRows
 mod TypeRows
