@@ -9,6 +9,8 @@ pub mod ValueTypes
 pub mod Branches
 pub mod TemplateNumbers
 pub mod TagScans
+pub mod SameContents
+pub mod PlaceholderNames
 mod Rows
 mod AcceptRows
 mod TypeRows

@@ -26,7 +26,7 @@ pub use bundle::{
 pub use expr::{BinaryOp, Expr, ExprNode};
 pub use laws::{
     law_accepted_value, law_accepts_by_members, law_branch, law_cost, law_joined, law_narrow,
-    law_value_type,
+    law_placeholder_names, law_value_type,
 };
 pub use message_text::is_message_text;
 pub use narrowing::narrow;
