@@ -1,21 +1,24 @@
 -- Reading a message's text a character at a time: it ends outside tags just where the text has cuts.
-use Rattle.std.proofs.Common.{◌≡◌, ℕ, zero, suc, ◌+◌, ◌<◌, ◌&&◌, ◌||◌, ◌==◌, Bool, true, false, List, [], ◌∷◌, ◌++◌}
-use Rattle.std.proofs.Common.{drop, length, slice_index_or, arith, refl, ap, sym, ◌∙◌}
-use Rattle.std.specs.Prelude.{Option, Some, None, is_some, if◌then◌else◌, option_map, map}
+use Rattle.std.proofs.Common.{◌≡◌, ℕ, ◌&&◌, ◌||◌, ◌==◌, Bool, true, false, List, [], ◌∷◌, ◌++◌}
+use Rattle.std.proofs.Common.{arith, refl, ap, sym, ◌∙◌}
+use Rattle.std.specs.Prelude.{Option, Some, None, is_some, option_map, map}
 use Rattle.std.proofs.lemmas.Bool.Decides.{nat_tests}
 use Rattle.std.specs.Char.{is_ascii_alphabetic}
 use Rattle.soy_base.specs.Characters.{less_than, greater_than, slash, double_quote, single_quote}
 use Rattle.soy_base.specs.declared.fault.Span.{Span}
 use Rattle.soy_tree.specs.declared.message_text.TagScan.{TagScan}
 use Rattle.soy_tree.specs.declared.message_text.TagScan.TheVariants as scan
-use Rattle.soy_tree.specs.Nodes.{Node, Nodes, TextNode, Print, If, Switch, For, Let, LetBlock, Call, MessageNode}
-use Rattle.soy_tree.specs.Nodes.{no_node, node}
-use Rattle.soy_tree.specs.MessageText.{MessageItem, Character, Printed, Cut, text_cut, characters, message_items}
+use Rattle.soy_tree.specs.Nodes.{Node, Nodes, TextNode, Print, no_node, node}
+use Rattle.soy_tree.specs.MessageText.{MessageItem, Character, Printed, characters, message_items}
 use Rattle.soy_tree.specs.MessageText.{joined_items, begins_with_letter, goes_on_as_tag, quote_after, ends_tag}
 use Rattle.soy_tree.specs.MessageText.{cuts_after_text, cuts_in_tag, cuts_of}
 use Rattle.soy_tree.specs.Formed.{is_message_text}
 use Rattle.soy_tree.proofs.SameTypes.{both}
+use Rattle.soy_tree.proofs.ViewTexts.{view_text}
 use Rattle.soy_tree.specs.TagScan.{after_plain, after_character, after_characters, after_print, is_outside}
+use Rattle.soy_tree.specs.TagScan.{after_nodes}
+use Rattle.soy_tree.specs.declared.node.Node as code
+use Rattle.soy_tree.specs.ViewNodes.{nodes_of, view_node, view_nodes, text_node}
 
 split : (P : Type 0) (t : Bool) → (t ≡ true → P) → (t ≡ false → P) → P
 split P true f g = f refl
@@ -170,12 +173,10 @@ cuts_end : (o : Option (List MessageItem)) → is_some (cuts_of o) ≡ some_end 
 cuts_end None = refl
 cuts_end (Some items) = text_ends items []
 
--- whether the nodes that follow are texts and prints and end outside tags
-abbrev pub nodes_end : TagScan → Nodes → Bool
-nodes_end last no_node = is_outside last
-nodes_end last (node (TextNode text span) ns) = nodes_end (after_characters last text) ns
-nodes_end last (node (Print e phname span) ns) = nodes_end (after_print last) ns
-nodes_end last (node _ ns) = false
+-- whether texts and prints end outside tags
+abbrev pub ends_outside : Option TagScan → Bool
+ends_outside None = false
+ends_outside (Some last) = is_outside last
 
 characters_end : (text : List ℕ) (span : Span) (o : Option (List MessageItem)) (last : TagScan)
     → some_end last (joined_items (Some (characters text span)) o) ≡ some_end (after_characters last text) o
@@ -189,7 +190,8 @@ print_end : (item : MessageItem) (o : Option (List MessageItem)) (last next : Ta
 print_end item None last next goes = refl
 print_end item (Some items) last next goes = goes items
 
-items_end-nodes : (ns : Nodes) (last : TagScan) → some_end last (message_items ns) ≡ nodes_end last ns
+items_end-nodes : (ns : Nodes) (last : TagScan)
+    → some_end last (message_items ns) ≡ ends_outside (after_nodes last ns)
 items_end-nodes no_node last = refl
 items_end-nodes (node (TextNode text span) ns) last =
     characters_end text span (message_items ns) last ∙ items_end-nodes ns (after_characters last text)
@@ -198,6 +200,28 @@ items_end-nodes (node (Print e phname span) ns) last =
     ∙ items_end-nodes ns (after_print last)
 items_end-nodes (node _ ns) last = refl
 
--- nodes are a message's text where they end outside tags
-pub message_text_ends : (ns : Nodes) → is_message_text ns ≡ nodes_end scan.Outside ns
+-- nodes are a message's text where they are texts and prints and end outside tags
+pub message_text_ends : (ns : Nodes) → is_message_text ns ≡ ends_outside (after_nodes scan.Outside ns)
 message_text_ends ns = cuts_end (message_items ns) ∙ items_end-nodes ns scan.Outside
+
+-- one more text
+text_after : (ns : List Node) (text : List ℕ) (span : Span) (last : TagScan)
+    → after_nodes last (nodes_of (ns ++ TextNode text span ∷ []))
+    ≡ option_map (λ s. after_characters s text) (after_nodes last (nodes_of ns))
+text_after [] text span last = refl
+text_after (TextNode other at ∷ ns) text span last = text_after ns text span (after_characters last other)
+text_after (Print e phname at ∷ ns) text span last = text_after ns text span (after_print last)
+text_after (_ ∷ ns) text span last = refl
+
+views_append : (ns : List code.Node) (n : code.Node) → map view_node (ns ++ n ∷ []) ≡ map view_node ns ++ view_node n ∷ []
+views_append [] n = refl
+views_append (m ∷ ns) n = ap (λ l. view_node m ∷ l) (views_append ns n)
+
+pub message_text_with : (ns : List code.Node) (text : List ℕ) (span : Span)
+    → is_message_text (view_nodes (ns ++ text_node text span ∷ []))
+    ≡ ends_outside (option_map (λ s. after_characters s text) (after_nodes scan.Outside (view_nodes ns)))
+message_text_with ns text span =
+    message_text_ends (view_nodes (ns ++ text_node text span ∷ []))
+    ∙ ap ends_outside (ap (λ ms. after_nodes scan.Outside (nodes_of ms))
+    (views_append ns (text_node text span) ∙ ap (λ m. map view_node ns ++ m ∷ []) (view_text text span))
+    ∙ text_after (map view_node ns) text span scan.Outside)

@@ -28,7 +28,7 @@ pub use laws::{
     law_accepted_value, law_accepts_by_members, law_branch, law_cost, law_joined, law_narrow,
     law_placeholder_names, law_value_type,
 };
-pub use message_text::is_message_text;
+pub use message_text::{is_message_text, is_message_text_with};
 pub use narrowing::narrow;
 pub use node::{
     Argument, Arm, Case, Form, Given, Message, MessageBody, Node, PluralCase, SelectCase,

@@ -1,13 +1,15 @@
 //! Whether nodes are a message's text: texts, prints and whole tags.
 
-ghost use Rattle.std.specs.Prelude.{◌≡◌, None};
+ghost use Rattle.std.specs.Prelude.{◌≡◌, None, [], ◌∷◌, ◌++◌};
 ghost use Rattle.std.specs.Str.{chars};
 ghost use Rattle.soy_tree.specs.Formed.{is_message_text};
-ghost use Rattle.soy_tree.specs.TagScan.{after_character, after_characters, after_print, is_outside};
-ghost use Rattle.soy_tree.specs.ViewNodes.{view_nodes};
+ghost use Rattle.soy_tree.specs.TagScan.{after_character, after_characters, after_nodes, after_print, is_outside};
+ghost use Rattle.soy_tree.specs.ViewNodes.{text_node, view_nodes};
+ghost use Rattle.soy_base.specs.declared.fault.Span.{Span};
 ghost use Rattle.soy_tree.specs.declared.message_text.TagScan.TheVariants as scan;
 
 use crate::{Form, Node};
+use soy_base::Text;
 
 /// What was read last of a message's text.
 #[derive(Clone, Copy)]
@@ -28,15 +30,37 @@ pub(crate) enum TagScan {
 pub fn is_message_text(nodes: &[Node]) -> bool
     ensures { result ≡ is_message_text (view_nodes nodes.now) }
 {
+    match scan_nodes(nodes) {
+        Some(scan) => is_outside(scan),
+        None => false,
+    }
+}
+
+/// Whether the nodes and one more text after them, which stands anywhere, are texts, prints and whole tags. Takes no
+/// memory.
+#[tactic(auto, using(crate::proofs::TagScans::message_text_with))]
+pub fn is_message_text_with(nodes: &[Node], text: &Text) -> bool
+    ensures { (span : Span) → result ≡ is_message_text (view_nodes (nodes.now ++ text_node text.now span ∷ [])) }
+{
+    match scan_nodes(nodes) {
+        Some(scan) => is_outside(scan_characters(scan, text.text())),
+        None => false,
+    }
+}
+
+/// What was read last, after the nodes, if they are texts and prints.
+fn scan_nodes(nodes: &[Node]) -> Option<TagScan>
+    ensures { result ≡ after_nodes scan.Outside (view_nodes nodes.now) }
+{
     let mut scan = TagScan::Outside;
     for node in nodes {
         scan = match &node.form {
             Form::Text(text) => scan_characters(scan, text.text()),
             Form::Print(_, _) => scan_print(scan),
-            _ => return false,
+            _ => return None,
         };
     }
-    is_outside(scan)
+    Some(scan)
 }
 
 /// What was read last, after a text.
