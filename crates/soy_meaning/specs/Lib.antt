@@ -18,3 +18,5 @@ pub mod Giving
 pub mod Branch
 pub mod Pieces
 pub mod RunRows
+pub mod TranslationFits
+pub mod RunsAlong
