@@ -1,5 +1,5 @@
 -- How a run goes along a path: through all of it, or to a stop.
-use Rattle.std.proofs.Common.{◌≡◌, ℕ, Bool, true, false, List, [], ◌∷◌, ◌++◌, ◌⊎◌, inl, inr, Ok, if◌then◌else◌, refl, sym}
+use Rattle.std.proofs.Common.{◌≡◌, ℕ, Bool, true, false, List, [], ◌∷◌, ◌++◌, ◌⊎◌, inl, inr, if◌then◌else◌, refl, sym}
 use Rattle.std.proofs.Common.{ap, ◌∙◌, subst, append_assoc}
 use Rattle.std.proofs.lemmas.List.{append-nil}
 use Rattle.soy_base.specs.declared.direction.Dir.{Dir}
@@ -14,17 +14,17 @@ use Rattle.soy_tree.specs.Values.{StringValue}
 use Rattle.soy_meaning.specs.Filled.{Filled, IsBlockKind, filled_end, filled_pieces, frame_before, parts_of_filled}
 use Rattle.soy_meaning.specs.Filled.{text_before, value_before, value_form}
 use Rattle.soy_meaning.specs.Giving.{BoundBlock, StateSoFar, block_bound, called_means, frame_means, piece_means}
-use Rattle.soy_meaning.specs.Giving.{placing_so_far, printed_means, read_outcome, read_piece, text_means, value_class}
+use Rattle.soy_meaning.specs.Giving.{placing_so_far, printed_means, read_outcome, text_means, value_class}
 use Rattle.soy_meaning.specs.Giving.{value_means}
 use Rattle.soy_meaning.specs.Outcome.{Outcome, RunEnd, StopsAt, WholeRun, continued_by, end_of_outcome, gathered}
 use Rattle.soy_meaning.specs.Outcome.{gives_nothing, pieces_of_outcome}
 use Rattle.soy_meaning.specs.PathParts.{IsPath, PathPart, empty_path, hole, met, static_text}
-use Rattle.soy_meaning.specs.Plan.{Site, Plan, Hole, Nothing, Nowhere, any_of, arms_meet}
+use Rattle.soy_meaning.specs.Plan.{Site, Plan, Hole, Nothing, Nowhere, arms_meet}
 use Rattle.soy_meaning.specs.PlanOfParts.{text_plan}
-use Rattle.soy_meaning.specs.RunsAlong.{BindingRuns, BlockRuns, FilledByRuns, IsFrameWithin, IsPathUpTo, RunsAlong}
+use Rattle.soy_meaning.specs.RunsAlong.{BindingRuns, FilledByRuns, IsFrameWithin, IsPathUpTo, RunsAlong}
 use Rattle.soy_meaning.specs.RunsAlong.{RunsInFrame, end_before}
 use Rattle.soy_meaning.specs.States.{IsMember}
-use Rattle.soy_meaning.proofs.RunPieces.{Becomes, ComesBehind, Halts, IsAnyText, IsSilent, SameRun, filled_then}
+use Rattle.soy_meaning.proofs.RunPieces.{ComesBehind, Halts, IsAnyText, IsSilent, SameRun, filled_then}
 use Rattle.soy_meaning.proofs.RunPieces.{gathered_silent, parts_then, pieces_then, placing_is, read_all, read_more}
 use Rattle.soy_meaning.proofs.RunPieces.{stop_followed, whole_followed}
 use Rattle.soy_meaning.proofs.SomePaths.{HasPath, any_member}

@@ -1,72 +1,48 @@
 -- What the parts of a translation mean goes along paths of its plan.
-use Rattle.std.proofs.Common.{◌≡◌, ℕ, ◌+◌, ℤ, pos, Bool, true, false, List, [], ◌∷◌, ◌++◌, ◌⊎◌, inl, inr, Option, Some}
-use Rattle.std.proofs.Common.{None, Ok, if◌then◌else◌, refl, sym, ap, ◌∙◌, subst}
+use Rattle.std.proofs.Common.{◌≡◌, ℕ, ◌+◌, ℤ, pos, Bool, true, false, List, [], ◌∷◌, ◌++◌, inl, inr, Option, Some}
+use Rattle.std.proofs.Common.{None, if◌then◌else◌, refl}
 use Rattle.std.specs.Prelude.{◌&&◌, ◌||◌, ◌-ℤ◌, bytes_eq, codes, is_some}
 use Rattle.std.specs.Option.{option_or}
 use Rattle.std.proofs.lemmas.Bool.{and_parts}
-use Rattle.std.proofs.lemmas.List.{append-nil}
 use Rattle.soy_base.specs.declared.direction.Dir.{Dir}
-use Rattle.soy_base.specs.declared.fault.Span.{Span}
 use Rattle.soy_base.specs.declared.kind.Kind.{Kind}
 use Rattle.soy_base.specs.declared.place.ValueClass.{ValueClass}
 use Rattle.plural_rules.specs.Category.{is_same}
 use Rattle.plural_rules.specs.declared.category.Category.{Category}
 use Rattle.plural_rules.specs.declared.category.Category.TheVariants as category
-use Rattle.html_state.specs.Pieces.{Piece, after_pieces}
-use Rattle.html_state.specs.Start.{start}
-use Rattle.soy_tree.specs.Types.{Name}
+use Rattle.html_state.specs.Pieces.{Piece}
 use Rattle.soy_tree.specs.Cost.{cost}
 use Rattle.soy_tree.specs.Expressions.{Expr}
 use Rattle.soy_tree.specs.MessageParts.{MsgPart, MsgParts, ExactArms, NamedArms, SelectArms, TextPart, Placeholder}
 use Rattle.soy_tree.specs.MessageParts.{NumberPart, PluralPart, SelectPart, no_part, part, no_exact_arm, exact_arm}
 use Rattle.soy_tree.specs.MessageParts.{no_named_arm, named_arm, no_select_arm, select_arm}
 use Rattle.soy_tree.specs.MessageText.{MessageItem, Character, Printed, Cut, TextCut, PrintCut, TagCut}
-use Rattle.soy_tree.specs.Narrowing.{narrowed}
-use Rattle.soy_tree.specs.Nodes.{Node, Nodes, Otherwise, Arms, Cases, Arguments, Given, Message, Fallback, MessageBody}
-use Rattle.soy_tree.specs.Nodes.{PluralCases, SelectCases, TextNode, Print, If, Switch, For, Let, LetBlock, Call}
-use Rattle.soy_tree.specs.Nodes.{MessageNode, no_node, node, no_otherwise, otherwise, no_arm, arm, no_case, case}
-use Rattle.soy_tree.specs.Nodes.{no_argument, argument, Plain, Block, message, no_fallback, fallback, Parts, Plural}
-use Rattle.soy_tree.specs.Nodes.{Select, no_plural_case, plural_case, no_select_case, select_case}
 use Rattle.soy_tree.specs.Placeholders.{Use}
-use Rattle.soy_tree.specs.Templates.{Declared, callee, param_scope}
-use Rattle.soy_tree.specs.TypeOf.{Scope, type_of}
-use Rattle.soy_tree.specs.Val.{Binding, Known, is_same_int, is_truthy, operand, val}
-use Rattle.soy_tree.specs.Values.{IntValue, Items, NullValue, Value, item, no_item}
+use Rattle.soy_tree.specs.TypeOf.{Scope}
+use Rattle.soy_tree.specs.Val.{is_same_int, operand, val}
+use Rattle.soy_tree.specs.Values.{IntValue}
 use Rattle.soy_meaning.specs.Branch.{PartMeans, arm_means, cut_means, exact_of, exact_rows, int_of, named_of, named_rows}
 use Rattle.soy_meaning.specs.Branch.{part_means, parts_means, plural_means, print_means, row_count, select_means}
 use Rattle.soy_meaning.specs.Branch.{select_of, select_rows, selector, tag_means, word_of}
-use Rattle.soy_meaning.specs.Giving.{BoundBlock, Means, RunEnv, StateSoFar, block_bound, printed_means, text_means}
-use Rattle.soy_meaning.specs.Giving.{value_means, with_choice, with_cost}
-use Rattle.soy_meaning.specs.Outcome.{ArmTaken, ChoiceMade, FallbackTranslation, Outcome, OwnTranslation, SourceText}
-use Rattle.soy_meaning.specs.Outcome.{TextTaken, Turns, gives_nothing}
-use Rattle.soy_meaning.specs.PathParts.{IsPath, PathPart, both, empty_path, hole, no_turn, passed_by, turn}
-use Rattle.soy_meaning.specs.Pieces.{GivenArguments, RunContext, arguments_mean, arms_mean, at_end, callee_env}
-use Rattle.soy_meaning.specs.Pieces.{cases_mean, chosen_after, chosen_of, chosen_text, fallback_text, frame_outcome}
-use Rattle.soy_meaning.specs.Pieces.{given_means, is_one, item_count, listed_items, message_means, node_means, nodes_mean}
-use Rattle.soy_meaning.specs.Pieces.{opened_means, otherwise_means, plural_cases_mean, select_cases_mean, source_means}
-use Rattle.soy_meaning.specs.Pieces.{translated_means, turns_mean, unbound, valued, with_index}
-use Rattle.soy_meaning.specs.Pieces.{ChosenText, TheFallback, TheOwn, TheSource}
-use Rattle.soy_meaning.specs.Plan.{Site, Plan, Frame, Hole, Loop, Nothing, Nowhere, Then, arms_meet}
-use Rattle.soy_meaning.specs.PlanOfNodes.{PlanContext, arm_plans, argument_frames, body_plan, body_scope, called_classes}
-use Rattle.soy_meaning.specs.PlanOfNodes.{case_plans, closes_at, fallback_plans, given_frame, node_plan, nodes_plan}
-use Rattle.soy_meaning.specs.PlanOfNodes.{other_plan, plural_plans, scope_past, select_plans, source_plan, starts_at}
-use Rattle.soy_meaning.specs.PlanOfNodes.{translated_plan, translation_plans, uses_of}
+use Rattle.soy_meaning.specs.Giving.{RunEnv, StateSoFar, printed_means, text_means}
+use Rattle.soy_meaning.specs.Giving.{with_choice, with_cost}
+use Rattle.soy_meaning.specs.Outcome.{ArmTaken, ChoiceMade, Outcome}
+use Rattle.soy_meaning.specs.PathParts.{both, empty_path, hole}
+use Rattle.soy_meaning.specs.Plan.{Site, Plan, Hole, Nothing, Then, arms_meet}
 use Rattle.soy_meaning.specs.PlanOfParts.{cut_plan, exact_plans, named_plans, part_plan, parts_plan, placeholder_cut}
 use Rattle.soy_meaning.specs.PlanOfParts.{printed_classes, select_arm_plans, tag_plan, text_plan}
-use Rattle.soy_meaning.specs.Points.{Here, Inside, Left, Right}
-use Rattle.soy_meaning.specs.RunsAlong.{BindingRuns, EnvRuns, IsFrameWithin, RunsAlong}
+use Rattle.soy_meaning.specs.RunsAlong.{EnvRuns}
 use Rattle.soy_meaning.specs.States.{IsMember}
-use Rattle.soy_meaning.specs.TranslationFits.{FitsMessage, TranslationsFit, exact_fit, has_other, has_other_word}
+use Rattle.soy_meaning.specs.TranslationFits.{exact_fit, has_other, has_other_word}
 use Rattle.soy_meaning.specs.TranslationFits.{named_fit, part_fits, parts_fit, select_fit}
-use Rattle.soy_meaning.proofs.Goings.{Goes, GoesSome, after_so_far, block_binds, called_goes, goes_both, goes_whole}
-use Rattle.soy_meaning.proofs.Goings.{along, halts_goes, passes, printed_goes, same_goes, some_behind, some_here, some_if}
+use Rattle.soy_meaning.proofs.Goings.{Goes, GoesSome, after_so_far, goes_both}
+use Rattle.soy_meaning.proofs.Goings.{passes, printed_goes, same_goes}
 use Rattle.soy_meaning.proofs.Goings.{some_meets, some_same, text_goes, value_goes}
 use Rattle.soy_meaning.proofs.Members.{mem_left, mem_right}
-use Rattle.soy_meaning.proofs.RunBindings.{AllFramesIn, FramesIn, IsAmong, any_frames, callee_among, callee_runs}
-use Rattle.soy_meaning.proofs.RunBindings.{env_more, frames_left, frames_right, index_runs, val_runs}
-use Rattle.soy_meaning.proofs.RunPieces.{Becomes, Halts, IsSilent, SameRun, same_run, same_silent, silent_then}
+use Rattle.soy_meaning.proofs.RunBindings.{val_runs}
+use Rattle.soy_meaning.proofs.RunPieces.{SameRun}
 use Rattle.soy_meaning.proofs.RunPieces.{spent_same}
-use Rattle.soy_meaning.proofs.SomePaths.{HasPath, frames_path, node_path, nodes_path, parts_path, tag_path, text_path}
+use Rattle.soy_meaning.proofs.SomePaths.{parts_path, tag_path}
 
 pub cost_same : (n : ℕ) (o : Outcome) → SameRun (with_cost n o) o
 cost_same n o = spent_same (record { cost = n; work = 0; choices = [] }) o

@@ -1,5 +1,5 @@
 -- Under accepted paths what runs give is read without a fault, also where they stop.
-use Rattle.std.proofs.Common.{◌≡◌, ℕ, true, List, [], ◌∷◌, ◌++◌, ◌⊎◌, inl, inr, Option, Some, None, Ok, refl, sym, ap, ◌∙◌}
+use Rattle.std.proofs.Common.{◌≡◌, ℕ, true, List, [], ◌∷◌, ◌++◌, inl, inr, Option, Some, None, Ok, refl, sym, ap, ◌∙◌}
 use Rattle.std.proofs.Common.{subst, append_assoc}
 use Rattle.std.proofs.lemmas.List.{append-nil}
 use Rattle.soy_base.specs.declared.direction.Dir.{Dir}
@@ -20,15 +20,13 @@ use Rattle.soy_meaning.specs.EscapedAt.{escaped_where}
 use Rattle.soy_meaning.specs.Filled.{Filled, FillsHoles, IsBlockKind, IsFrameOf, filled_end, filled_pieces, frame_before}
 use Rattle.soy_meaning.specs.Filled.{parts_of_filled, text_before, value_before, value_form}
 use Rattle.soy_meaning.specs.FourPoints.{AcceptedPaths, FourPoints, takes_classes}
-use Rattle.soy_meaning.specs.Machine.{Machine}
 use Rattle.soy_meaning.specs.Outcome.{Outcome, RunEnd, StopsAt, WholeRun, end_of_outcome, pieces_of_outcome}
 use Rattle.soy_meaning.specs.PageMachine.{page_machine}
-use Rattle.soy_meaning.specs.PathParts.{HolePart, IsPath, PathPart, StaticPart, after_text, state_after_parts}
+use Rattle.soy_meaning.specs.PathParts.{IsPath, PathPart, after_text, state_after_parts}
 use Rattle.soy_meaning.specs.Plan.{Either, Frame, Loop, Meet, Plan, Then}
 use Rattle.soy_meaning.specs.PlanOfNodes.{kind_class}
 use Rattle.soy_meaning.specs.Points.{Address, Here, Inside, Left, Right, frame_at}
 use Rattle.soy_meaning.specs.RunsAlong.{FilledByRuns, FitsClasses, IsFrameWithin, IsPathUpTo, RunsAlong, RunsInFrame}
-use Rattle.soy_meaning.specs.RunsAlong.{end_before}
 use Rattle.soy_meaning.proofs.FinePaths.{Fine}
 use Rattle.soy_meaning.proofs.Goings.{whole_before}
 use Rattle.soy_meaning.proofs.KeptForms.{form_kept}

@@ -1,6 +1,6 @@
 -- The blocks that variables are bound to run along paths of frames.
-use Rattle.std.proofs.Common.{◌≡◌, ℕ, pos, Bool, true, false, List, [], ◌∷◌, ◌++◌, ◌⊎◌, inl, inr, Option, Some, None}
-use Rattle.std.proofs.Common.{if◌then◌else◌, refl, ap, ◌∙◌}
+use Rattle.std.proofs.Common.{◌≡◌, ℕ, Bool, true, false, List, [], ◌∷◌, ◌++◌, inl, inr, Option, Some, None}
+use Rattle.std.proofs.Common.{if◌then◌else◌, refl}
 use Rattle.std.specs.Prelude.{bytes_eq, is_some, ◌&&◌}
 use Rattle.soy_base.specs.declared.direction.Dir.{Dir}
 use Rattle.soy_base.specs.declared.kind.Kind.{Kind}
@@ -10,12 +10,11 @@ use Rattle.soy_tree.specs.Expressions.{Expr, NullLiteral, BoolLiteral, IntLitera
 use Rattle.soy_tree.specs.Expressions.{Index, Minus, Not, Binary, Coalesce, Conditional}
 use Rattle.soy_tree.specs.Templates.{Declared, callee, called_name, full_name, is_visible_from, template_of, visible}
 use Rattle.soy_tree.specs.Trees.{Param}
-use Rattle.soy_tree.specs.Val.{Binding, BlockOf, Known, binding, is_null, is_truthy, val}
-use Rattle.soy_tree.specs.Values.{IntValue}
+use Rattle.soy_tree.specs.Val.{Binding, binding, is_null, is_truthy, val}
 use Rattle.soy_meaning.specs.Giving.{BoundBlock, RunEnv}
 use Rattle.soy_meaning.specs.Pieces.{GivenArguments, callee_env, given_binding, handed_on, param_binding, with_index}
-use Rattle.soy_meaning.specs.Plan.{Plan, Either, Frame, Then, any_of, in_turn}
-use Rattle.soy_meaning.specs.Points.{Address, Here, Inside, Left, Right, frame_at}
+use Rattle.soy_meaning.specs.Plan.{Plan, Either, any_of}
+use Rattle.soy_meaning.specs.Points.{Address, Left, Right, frame_at}
 use Rattle.soy_meaning.specs.RunsAlong.{BindingRuns, EnvRuns, IsFrameWithin}
 use Rattle.soy_meaning.specs.States.{IsMember}
 

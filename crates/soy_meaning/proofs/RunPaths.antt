@@ -1,12 +1,9 @@
 -- What templates give goes along paths of their plans.
-use Rattle.std.proofs.Common.{◌≡◌, ℕ, zero, suc, List, [], ◌∷◌, ◌++◌, ◌⊎◌, inl, inr, Some, Ok, map, refl, sym, ap, ◌∙◌, subst}
-use Rattle.soy_base.specs.declared.kind.Kind.{Kind}
-use Rattle.soy_tree.specs.Nodes.{Message}
+use Rattle.std.proofs.Common.{◌≡◌, ℕ, zero, suc, List, [], ◌∷◌, inl, inr, map, refl, sym, ap, ◌∙◌, subst}
 use Rattle.soy_tree.specs.Templates.{Declared, declared, param_scope}
 use Rattle.soy_tree.specs.Trees.{Tree}
 use Rattle.soy_meaning.specs.Filled.{filled_end}
 use Rattle.soy_meaning.specs.Giving.{RunEnv}
-use Rattle.soy_meaning.specs.Outcome.{Outcome}
 use Rattle.soy_meaning.specs.Pieces.{RunContext, called_within, context_in, frame_outcome, template_run}
 use Rattle.soy_meaning.specs.Plan.{Site, Plan, in_turn}
 use Rattle.soy_meaning.specs.PlanOfNodes.{declared_plan, trees_plan}
@@ -14,7 +11,7 @@ use Rattle.soy_meaning.specs.Points.{Here, Inside, Left, Right, frame_at}
 use Rattle.soy_meaning.specs.RunsAlong.{EnvRuns, IsFrameWithin, RunsAlong, frame_plan}
 use Rattle.soy_meaning.specs.States.{IsMember}
 use Rattle.soy_meaning.specs.TranslationFits.{TranslationsFit}
-use Rattle.soy_meaning.proofs.NodeRuns.{CallRuns, frame_runs, plan_context}
+use Rattle.soy_meaning.proofs.NodeRuns.{frame_runs, plan_context}
 use Rattle.soy_meaning.proofs.RunBindings.{FramesIn}
 use Rattle.soy_meaning.proofs.SomePaths.{HasPath, nodes_path}
 

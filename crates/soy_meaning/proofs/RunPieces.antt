@@ -5,7 +5,6 @@ use Rattle.std.proofs.lemmas.List.{append-nil}
 use Rattle.soy_base.specs.declared.code.Code.{Code}
 use Rattle.soy_base.specs.declared.direction.Dir.{Dir}
 use Rattle.soy_base.specs.declared.kind.Kind.{Kind}
-use Rattle.soy_base.specs.declared.place.Placing.{Placing}
 use Rattle.html_state.specs.Pieces.{Piece, Static, Value, after_piece, after_pieces, placing_after}
 use Rattle.html_state.specs.Start.{start}
 use Rattle.html_state.specs.StatePlacing.{placing}
@@ -15,7 +14,7 @@ use Rattle.html_state.proofs.Pieces.{after_all-append}
 use Rattle.soy_meaning.specs.Filled.{Filled, filled_end, filled_pieces, frame_before, parts_of_filled, text_before}
 use Rattle.soy_meaning.specs.Filled.{value_before, value_form}
 use Rattle.soy_meaning.specs.Giving.{placing_so_far, read_outcome, read_piece}
-use Rattle.soy_meaning.specs.Outcome.{GivesPiece, Outcome, RunEnd, RunEnds, Spent, StopsAt, WholeRun, continued_by}
+use Rattle.soy_meaning.specs.Outcome.{GivesPiece, Outcome, RunEnds, Spent, StopsAt, WholeRun, continued_by}
 use Rattle.soy_meaning.specs.Outcome.{end_of_outcome, gathered, pieces_of_outcome, spent_first}
 use Rattle.soy_meaning.specs.PathParts.{HolePart, StaticPart}
 use Rattle.soy_meaning.specs.Plan.{Site}

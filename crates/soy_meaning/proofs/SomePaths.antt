@@ -1,22 +1,21 @@
 -- Each plan of a tree has a path.
-use Rattle.std.proofs.Common.{◌≡◌, ℕ, Bool, true, false, List, [], ◌∷◌, ◌++◌, ◌⊎◌, inl, inr, Option, Some, None, refl, subst}
+use Rattle.std.proofs.Common.{◌≡◌, ℕ, true, false, List, [], ◌∷◌, ◌++◌, inl, inr, Option, Some, None, refl, subst}
 use Rattle.std.proofs.lemmas.Bool.{and_parts}
-use Rattle.soy_tree.specs.MessageParts.{MsgPart, MsgParts, ExactArms, NamedArms, SelectArms, TextPart, Placeholder}
-use Rattle.soy_tree.specs.MessageParts.{NumberPart, PluralPart, SelectPart, no_part, part, no_exact_arm, exact_arm}
+use Rattle.soy_tree.specs.MessageParts.{MsgPart, MsgParts, NamedArms, SelectArms, TextPart, Placeholder}
+use Rattle.soy_tree.specs.MessageParts.{NumberPart, PluralPart, SelectPart, no_part, part}
 use Rattle.soy_tree.specs.MessageParts.{no_named_arm, named_arm, no_select_arm, select_arm}
 use Rattle.soy_tree.specs.MessageText.{MessageItem, Character, Printed, Cut, TextCut, PrintCut, TagCut}
-use Rattle.soy_tree.specs.Narrowing.{narrowed}
-use Rattle.soy_tree.specs.Nodes.{Node, Nodes, Otherwise, Arms, Cases, Arguments, Given, Message, Fallback, MessageBody}
-use Rattle.soy_tree.specs.Nodes.{PluralCases, SelectCases, TextNode, Print, If, Switch, For, Let, LetBlock, Call}
-use Rattle.soy_tree.specs.Nodes.{MessageNode, no_node, node, no_otherwise, otherwise, no_arm, arm, no_case, case}
-use Rattle.soy_tree.specs.Nodes.{no_argument, argument, Plain, Block, message, no_fallback, fallback, Parts, Plural}
-use Rattle.soy_tree.specs.Nodes.{Select, no_plural_case, plural_case, no_select_case, select_case}
+use Rattle.soy_tree.specs.Nodes.{Node, Nodes, Otherwise, Arguments, Given, Message, MessageBody}
+use Rattle.soy_tree.specs.Nodes.{TextNode, Print, If, Switch, For, Let, LetBlock, Call}
+use Rattle.soy_tree.specs.Nodes.{MessageNode, no_node, node, no_otherwise, otherwise}
+use Rattle.soy_tree.specs.Nodes.{no_argument, argument, Plain, Block, message, Parts, Plural}
+use Rattle.soy_tree.specs.Nodes.{Select}
 use Rattle.soy_tree.specs.Placeholders.{Use}
 use Rattle.soy_tree.specs.TypeOf.{Scope}
 use Rattle.soy_base.specs.declared.fault.Span.{Span}
 use Rattle.soy_meaning.specs.PathParts.{IsPath, PathPart, both, empty_path, first_way, hole, met, no_turn, passed_by}
 use Rattle.soy_meaning.specs.PathParts.{second_way, static_text}
-use Rattle.soy_meaning.specs.Plan.{Site, Plan, Nothing, Nowhere, StaticText, Hole, Then, Either, Meet, any_of, arms_meet}
+use Rattle.soy_meaning.specs.Plan.{Site, Plan, Nowhere, Then, Either, any_of, arms_meet}
 use Rattle.soy_meaning.specs.PlanOfNodes.{PlanContext, arm_plans, argument_frames, body_plan, case_plans, fallback_plans}
 use Rattle.soy_meaning.specs.PlanOfNodes.{given_frame, node_plan, nodes_plan, other_plan, plural_plans, scope_past}
 use Rattle.soy_meaning.specs.PlanOfNodes.{select_plans, source_plan, starts_at, translation_plans}
@@ -27,7 +26,7 @@ use Rattle.soy_meaning.specs.TranslationFits.{has_other, has_other_word, part_fi
 use Rattle.soy_meaning.specs.TranslationFits.{select_fit}
 use Rattle.soy_meaning.specs.Branch.{selector}
 use Rattle.std.specs.Prelude.{◌&&◌, is_some}
-use Rattle.soy_meaning.proofs.Members.{mem_left, mem_right}
+use Rattle.soy_meaning.proofs.Members.{mem_right}
 
 pub record HasPath (p : Plan) : Type 0 where
   pub parts : List PathPart

@@ -5,7 +5,7 @@
 -- whole path. One that stops at a call takes a prefix of one, and may have stopped within the frame in its last hole.
 -- Example: `{if $x}<b {$c}>{/if}`, with `$x` true and with the block `id="a"` in `$c`, runs along the path of the text
 -- `<b `, a hole and the text `>`; in the hole stands a run along the path of the one text `id="a"`.
-use Rattle.std.specs.Prelude.{◌≡◌, List, [], ◌∷◌, ◌++◌, Option, Some, IsTrue}
+use Rattle.std.specs.Prelude.{◌≡◌, List, [], ◌∷◌, ◌++◌, Some, IsTrue}
 use Rattle.soy_base.specs.declared.direction.Dir.{Dir}
 use Rattle.soy_base.specs.declared.kind.Kind.{Kind}
 use Rattle.soy_tree.specs.Templates.{Declared, param_scope}
