@@ -28,3 +28,5 @@ pub mod PartRuns
 pub mod NodeRuns
 pub mod RunPaths
 pub mod ReadRuns
+pub mod WayPlans
+pub mod BlockFrames

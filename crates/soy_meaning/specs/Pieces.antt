@@ -141,7 +141,7 @@ module _ (c : RunContext) (called : Site → Declared → RunEnv → Outcome) wh
   abbrev pub translated_means : RunEnv → Message → MsgParts → Means
   translated_means env m parts = parts_means c.direction c.category (uses_of m) env parts (pos 0)
 
-  -- what no template means, a typed tree doesn't call; null stands there, as for a name that nothing is bound to
+  -- a typed tree calls known templates alone; for any other null stands, as for a name that nothing is bound to
   abbrev pub opened_means : Site → Option Declared → GivenArguments → Bool → RunEnv → Means
   opened_means at None given all env so_far next = value_means c.direction NullValue so_far next
   opened_means at (Some d) given all env so_far next =

@@ -8,9 +8,10 @@ use Rattle.soy_base.specs.declared.direction.Dir.{Dir}
 use Rattle.soy_base.specs.declared.direction.Dir.TheVariants as dir
 use Rattle.soy_base.specs.declared.kind.Kind.TheVariants as kind
 use Rattle.plural_rules.specs.Category.{category_of}
-use Rattle.plural_rules.specs.Condition.{Alternatives}
+use Rattle.plural_rules.specs.Condition.{Alternatives, Relation}
 use Rattle.plural_rules.specs.declared.category.Category.{Category}
 use Rattle.plural_rules.specs.declared.category.Category.TheVariants as category
+use Rattle.plural_rules.specs.declared.condition.Comparison.{Comparison}
 use Rattle.plural_rules.specs.declared.condition.Operand.TheVariants as operand
 use Rattle.bidi_text.specs.Wrap.{wrapped_text}
 use Rattle.html_state.specs.Pieces.{Piece, Static, Value}
@@ -28,7 +29,8 @@ use Rattle.soy_tree.specs.MessageParts.{named_arm, no_part, part}
 use Rattle.soy_tree.specs.Templates.{Declared}
 use Rattle.soy_meaning.specs.Giving.{RunEnv}
 use Rattle.soy_meaning.specs.Outcome.{Outcome, RunEnd, end_of_outcome, pieces_of_outcome}
-use Rattle.soy_meaning.specs.Pieces.{template_run}
+use Rattle.soy_meaning.specs.Meaning.{meaning}
+use Rattle.soy_meaning.specs.Pieces.{RunContext, template_run}
 use Rattle.soy_meaning.specs.Rows.{all_nodes, print_node, row_param, span_at, text_node, variable}
 
 abbrev pub row_template : List Node → Declared
@@ -45,19 +47,21 @@ row_template body = record {
   };
 }
 
--- what a template gives in a direction, by rules of categories for ordinals and for counts alike
+-- a direction, rules of categories for ordinals and for counts alike, and the translation of each message
+abbrev pub context_of : Dir → List (Category × Alternatives) → Option MsgParts → List Node → RunContext
+context_of direction rules translation body = record {
+  file = 0;
+  namespace = [];
+  params = [];
+  declared = row_template body ∷ [];
+  translation = λ m. translation;
+  category = λ ordinal n. category_of rules n;
+  direction = direction;
+}
+
 abbrev pub outcome_in : Dir → List (Category × Alternatives) → Option MsgParts → List Node → RunEnv → Outcome
 outcome_in direction rules translation body env =
-    let d : Declared = row_template body in
-    template_run (record {
-      file = 0;
-      namespace = [];
-      params = [];
-      declared = d ∷ [];
-      translation = λ m. translation;
-      category = λ ordinal n. category_of rules n;
-      direction = direction;
-    }) d env
+    template_run (context_of direction rules translation body) (row_template body) env
 
 abbrev pub row_outcome : List Node → RunEnv → Outcome
 row_outcome = outcome_in dir.Ltr [] None
@@ -121,13 +125,10 @@ source_plural n = row_outcome (message_of (Plural (variable 0 (codes "n")) 1
 
 -- `n = first..last`, or the same of the remainder
 abbrev pub within : Option ℕ → ℕ → ℕ → Alternatives
-within modulus first last = (
-    record {
-      comparison = record { operand = operand.N; modulus = modulus; equal = true };
-      ranges = record { first = first; last = last } ∷ [];
-    } ∷ []
-    )
-    ∷ []
+within modulus first last =
+    let comparison : Comparison = record { operand = operand.N; modulus = modulus; equal = true } in
+    let relation : Relation = record { comparison = comparison; ranges = record { first = first; last = last } ∷ [] } in
+    (relation ∷ []) ∷ []
 
 -- zero `n = 0`, one `n = 1`, two `n = 2`, few `n % 100 = 3..10`, many `n % 100 = 11..99`
 abbrev pub row_rules : List (Category × Alternatives)
@@ -135,27 +136,40 @@ row_rules =
     (category.Zero, within None 0 0) ∷ (category.One, within None 1 1) ∷ (category.Two, within None 2 2)
     ∷ (category.Few, within (Some 100) 3 10) ∷ (category.Many, within (Some 100) 11 99) ∷ []
 
--- `{msg desc="d"}{plural $n}{case 1}one{default}some{/plural}{/msg}` with a translation from right to left
+-- `{msg desc="d"}{plural $n}{case 1}one{default}some{/plural}{/msg}`
+abbrev pub plural_source : List Node
+plural_source =
+    message_of (Plural (variable 0 (codes "n")) 0
+    (plural_case (pos 1) (Parts (all_nodes (text_node 0 (codes "one") ∷ []))) no_plural_case)
+    (Parts (all_nodes (text_node 0 (codes "some") ∷ [])))) ∷ []
+
+-- the same with a translation from right to left
 abbrev pub translated : MsgPart → ℤ → Outcome
 translated translation n =
-    outcome_in dir.Rtl row_rules (Some (part translation no_part)) (message_of (Plural (variable 0 (codes "n")) 0
-    (plural_case (pos 1) (Parts (all_nodes (text_node 0 (codes "one") ∷ []))) no_plural_case)
-    (Parts (all_nodes (text_node 0 (codes "some") ∷ [])))) ∷ []) (number_env n)
+    outcome_in dir.Rtl row_rules (Some (part translation no_part)) plural_source (number_env n)
 
-abbrev pub text_parts : List ℕ → MsgParts
-text_parts text = part (TextPart text) no_part
+abbrev pub translated_meaning : MsgPart → ℤ → List ℕ
+translated_meaning translation n =
+    meaning (context_of dir.Rtl row_rules (Some (part translation no_part)) plural_source) (row_template plural_source)
+    (number_env n)
+
+abbrev pub one_text : List ℕ → MsgParts
+one_text text = part (TextPart text) no_part
 
 -- `{N, plural, zero {Z} one {O} two {T} few {F} many {M} other {X #}}`
+abbrev pub plural_part : MsgPart
+plural_part = PluralPart false (codes "N") 0 no_exact_arm
+    (named_arm category.Zero (one_text (codes "Z")) (named_arm category.One (one_text (codes "O"))
+    (named_arm category.Two (one_text (codes "T")) (named_arm category.Few (one_text (codes "F"))
+    (named_arm category.Many (one_text (codes "M"))
+    (named_arm category.Other (part (TextPart (codes "X ")) (part NumberPart no_part)) no_named_arm))))))
+
 abbrev pub plural_translation : ℤ → Outcome
-plural_translation = translated (PluralPart false (codes "N") 0 no_exact_arm
-    (named_arm category.Zero (text_parts (codes "Z")) (named_arm category.One (text_parts (codes "O"))
-    (named_arm category.Two (text_parts (codes "T")) (named_arm category.Few (text_parts (codes "F"))
-    (named_arm category.Many (text_parts (codes "M"))
-    (named_arm category.Other (part (TextPart (codes "X ")) (part NumberPart no_part)) no_named_arm)))))))
+plural_translation = translated plural_part
 
 -- `{N, plural, offset:1 =1 {only} one {and # more} other {all}}`
 abbrev pub offset_translation : ℤ → Outcome
 offset_translation = translated (PluralPart false (codes "N") 1
-    (exact_arm (pos 1) (text_parts (codes "only")) no_exact_arm)
-    (named_arm category.One (part (TextPart (codes "and ")) (part NumberPart (text_parts (codes " more"))))
-    (named_arm category.Other (text_parts (codes "all")) no_named_arm)))
+    (exact_arm (pos 1) (one_text (codes "only")) no_exact_arm)
+    (named_arm category.One (part (TextPart (codes "and ")) (part NumberPart (one_text (codes " more"))))
+    (named_arm category.Other (one_text (codes "all")) no_named_arm)))

@@ -1,7 +1,7 @@
 //! What the definitions come to, for the tokenizer of a page. Each law is a contract with an empty body.
 
 ghost use Rattle.std.specs.Prelude.{◌≡◌, ◌+◌, ◌++◌, ◌∷◌, [], ℕ, IsTrue, List, Option, Some, None, Ok, Err, length, get_or};
-ghost use Rattle.std.specs.Prelude.{replicate};
+ghost use Rattle.std.specs.Prelude.{map, replicate};
 ghost use Rattle.std.specs.Prelude.{pos, codes};
 ghost use Rattle.soy_base.specs.declared.code.Code.TheVariants as code;
 ghost use Rattle.soy_base.specs.declared.direction.Dir.TheVariants as dir;
@@ -24,7 +24,8 @@ ghost use Rattle.html_state.specs.declared.row.Reference.TheVariants as referenc
 ghost use Rattle.html_state.specs.declared.row.State.{State};
 ghost use Rattle.html_state.specs.declared.row.Tag.{Tag};
 ghost use Rattle.soy_tree.specs.MessageParts.{MsgParts};
-ghost use Rattle.soy_tree.specs.Nodes.{Message};
+ghost use Rattle.soy_tree.specs.Nodes.{Message, Nodes};
+ghost use Rattle.soy_tree.specs.TypeOf.{Scope};
 ghost use Rattle.soy_tree.specs.Trees.{Tree};
 ghost use Rattle.soy_tree.specs.Val.{value_text};
 ghost use Rattle.soy_tree.specs.Values.{Value};
@@ -44,8 +45,10 @@ ghost use Rattle.soy_meaning.specs.Outcome.{Outcome, choices_of_outcome, continu
 ghost use Rattle.soy_meaning.specs.Outcome.{gives_nothing, pieces_of_outcome};
 ghost use Rattle.soy_meaning.specs.PageMachine.{page_machine};
 ghost use Rattle.soy_meaning.specs.Plan.{Plan};
-ghost use Rattle.soy_meaning.specs.PlanOfNodes.{kind_class, trees_plan};
-ghost use Rattle.soy_meaning.specs.PathParts.{StandsAfter};
+ghost use Rattle.soy_meaning.specs.Blocks.{block_frame, nodes_blocks, plan_frames};
+ghost use Rattle.soy_meaning.specs.PlanOfNodes.{PlanContext, kind_class, nodes_plan, trees_plan};
+ghost use Rattle.soy_meaning.specs.PathParts.{IsPath, PathPart, StandsAfter};
+ghost use Rattle.soy_meaning.specs.Ways.{IsWayOfNodes};
 ghost use Rattle.soy_meaning.specs.States.{AtMost, IsMember};
 ghost use Rattle.soy_meaning.specs.Points.{Address, AtHole, LeadsTo, Point, StandsAt, frame_at, point_at};
 ghost use Rattle.soy_meaning.specs.Rows.{ampersand_in_arm, ampersand_in_fallback, ampersand_in_plural};
@@ -55,7 +58,8 @@ ghost use Rattle.soy_meaning.specs.Rows.{open_tag_in_param, optional_attribute, 
 ghost use Rattle.soy_meaning.specs.Rows.{second_uri_value, seventeen_states, site_at, sixteen_states};
 ghost use Rattle.soy_meaning.specs.Rows.{tag_in_translation};
 ghost use Rattle.soy_meaning.specs.RunRows.{attributes_block, block_pieces, block_twice, calls, input_pieces};
-ghost use Rattle.soy_meaning.specs.RunRows.{offset_translation, pieces_and_end, plural_translation, source_plural};
+ghost use Rattle.soy_meaning.specs.RunRows.{offset_translation, pieces_and_end, plural_part, plural_translation};
+ghost use Rattle.soy_meaning.specs.RunRows.{source_plural, translated_meaning};
 ghost use Rattle.soy_meaning.specs.Walk.{Walked, mixed_at, walk, walk_fault, walked};
 
 /// The escaped form of a value at the place that a state gives, and then the mark that the value sets, lead to the
@@ -121,17 +125,28 @@ pub fn law_places_are_static()
         ≡ Ok (Takes (get_or new (holes_before p y + holes_before q x) d))) }
 {}
 
+/// The plan of a tree is that of no other: its paths are the ways through the tree, and its frames the blocks that stand
+/// in the tree, each with the plan of its body in the scope that it sees.
+pub fn law_plan_is_of_tree()
+    ensures paths { (c : PlanContext) (ns : Nodes) (scope : Scope) (l : List PathPart) →
+        IsPath (nodes_plan c ns scope) l → IsWayOfNodes c ns scope l }
+    ensures ways { (c : PlanContext) (ns : Nodes) (scope : Scope) (l : List PathPart) →
+        IsWayOfNodes c ns scope l → IsPath (nodes_plan c ns scope) l }
+    ensures frames { (c : PlanContext) (ns : Nodes) (scope : Scope) →
+        plan_frames (nodes_plan c ns scope) ≡ map (block_frame c) (nodes_blocks ns scope) }
+{}
+
 /// What a template gives under any environment and bundle goes along a path of its plan: the pieces are those of a
 /// path, or of a prefix of one where it stops at a call, with each hole filled by a value or by a run of the frame that
 /// is printed or called there. Each frame is one of the plan of all trees, as the template's own is.
 pub fn law_runs_are_paths()
     ensures runs { (c : RunContext) (trees : List Tree) (d : Declared) (env : RunEnv) →
-        c.declared ≡ declared trees → IsMember d c.declared → TranslationsFit c.translation →
+        c.declared ≡ declared trees → IsMember d c.declared → TranslationsFit c.translation c.declared →
         EnvRuns c.direction (trees_plan c.translation trees) env →
         RunsAlong c.direction (trees_plan c.translation trees) d.template.kind (frame_plan c d)
         (template_run c d env) }
     ensures frames { (c : RunContext) (trees : List Tree) (d : Declared) →
-        c.declared ≡ declared trees → IsMember d c.declared → TranslationsFit c.translation →
+        c.declared ≡ declared trees → IsMember d c.declared →
         IsFrameWithin (trees_plan c.translation trees) d.template.kind (frame_plan c d) }
 {}
 
@@ -205,6 +220,7 @@ pub fn law_run_rows()
         ≡ (page.Static (codes "M") ∷ [], outcome.WholeRun) }
     ensures plural_other { pieces_and_end (plural_translation (pos 100))
         ≡ (page.Static (codes "X ") ∷ page.Value (wrapped_text (codes "100") dir.Rtl) ∷ [], outcome.WholeRun) }
+    ensures plural_meaning { translated_meaning plural_part (pos 11) ≡ codes "M" }
     ensures offset_exact { pieces_and_end (offset_translation (pos 1))
         ≡ (page.Static (codes "only") ∷ [], outcome.WholeRun) }
     ensures offset_number { pieces_and_end (offset_translation (pos 2))

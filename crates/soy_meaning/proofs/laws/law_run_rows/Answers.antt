@@ -1,4 +1,5 @@
 use Rattle.std.proofs.Common.{refl}
+use lib.Utf8.{encode}
 use Rattle.std.specs.Fmt.{digits}
 use Rattle.soy_meaning.specs.Pieces.{called_within}
 use Rattle.soy_meaning.proofs.laws.law_run_rows.Goals as goal
@@ -82,3 +83,7 @@ returns-clause-offset_costs c = refl
 pub returns-clause-offset_choices : goal.returns-clause-offset_choices
 unfolding called_within
 returns-clause-offset_choices c = refl
+
+pub returns-clause-plural_meaning : goal.returns-clause-plural_meaning
+unfolding called_within encode
+returns-clause-plural_meaning c = refl

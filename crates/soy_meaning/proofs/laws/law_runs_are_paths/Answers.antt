@@ -5,4 +5,4 @@ pub returns-clause-runs : goal.returns-clause-runs
 returns-clause-runs c = λ context trees d env are member fits env_runs. runs_are_paths context fits trees d env are member env_runs
 
 pub returns-clause-frames : goal.returns-clause-frames
-returns-clause-frames c = λ context trees d are member fits. frame_stands context fits trees d are member
+returns-clause-frames c = λ context trees d are member. frame_stands context trees d are member
