@@ -63,7 +63,7 @@ module _ (uses : List Use) (scope : Scope) (at : Site) where
     part_built (PluralPart ordinal name offset exact named) =
         arms_built at (exact_plans uses scope at exact ++ named_plans uses scope at named)
         (all_joined (exact_plans uses scope at exact) (named_plans uses scope at named) (exact_built exact) (named_built named))
-    part_built (SelectPart name arms) = arms_built at (parts_.select_plans uses scope at arms) (select_arms_built arms)
+    part_built (SelectPart name arms) = arms_built at (parts_.select_arm_plans uses scope at arms) (select_arms_built arms)
 
     pub parts_built : (ps : MsgParts) → IsBuilt (parts_plan uses scope at ps)
     parts_built no_part = tt
@@ -77,7 +77,7 @@ module _ (uses : List Use) (scope : Scope) (at : Site) where
     named_built no_named_arm = tt
     named_built (named_arm category ps arms) = (parts_built ps, named_built arms)
 
-    select_arms_built : (arms : SelectArms) → AllBuilt (parts_.select_plans uses scope at arms)
+    select_arms_built : (arms : SelectArms) → AllBuilt (parts_.select_arm_plans uses scope at arms)
     select_arms_built no_select_arm = tt
     select_arms_built (select_arm word ps arms) = (parts_built ps, select_arms_built arms)
 

@@ -2,10 +2,10 @@
 use Rattle.std.proofs.Common.{◌≡◌, ◌+◌, ℕ, List, [], ◌++◌, refl, sym, ap, arith, append_assoc}
 use Rattle.std.proofs.lemmas.List.{append-nil}
 use Rattle.html_state.specs.Pieces.{Static, Value}
-use Rattle.soy_meaning.specs.Outcome.{Choice, Outcome, RunEnds, GivesPiece, Spent, StopsAt, WholeRun, and_spent}
+use Rattle.soy_meaning.specs.Outcome.{ChoiceMade, Outcome, RunEnds, GivesPiece, Spent, StopsAt, WholeRun, and_spent}
 use Rattle.soy_meaning.specs.Outcome.{continued_by, gathered, gives_nothing, none_spent, spent_first}
 
-spent_is : (c d v w : ℕ) (k l : List Choice) → c ≡ d → v ≡ w → k ≡ l →
+spent_is : (c d v w : ℕ) (k l : List ChoiceMade) → c ≡ d → v ≡ w → k ≡ l →
     ◌≡◌ {A = Spent} (record { cost = c; work = v; choices = k }) (record { cost = d; work = w; choices = l })
 spent_is c d v w k l same_cost same_work same_choices = cc
 

@@ -146,14 +146,14 @@ step_follows : (around : Option Tag) (s t u : State) (c : ℕ) → Follows aroun
 step_follows around s t u c follows is = subst (λ o. FollowsOn around (next s c) o) is (page_step around s t c follows)
 
 -- what reading a static text leads to
-abbrev ReadsOn : Option Tag → Result State Code → State → Type 0
+abbrev pub ReadsOn : Option Tag → Result State Code → State → Type 0
 ReadsOn around read u = IsLost u ⊎ ((v : State) × (read ≡ Ok v) × Follows around v u × IsSettled u)
 
 read_first : (around : Option Tag) (text : List ℕ) (o : Result State Code) (v u : State) → o ≡ Ok v →
     ReadsOn around (after text_end (after_all next v text)) u → ReadsOn around (after text_end (after (λ past. after_all next past text) o)) u
 read_first around text o v u is on = subst (λ z. ReadsOn around (after text_end (after (λ past. after_all next past text) z)) u) (sym is) on
 
-text_follows : (around : Option Tag) (text : List ℕ) (s t u : State) → Follows around s t
+pub text_follows : (around : Option Tag) (text : List ℕ) (s t u : State) → Follows around s t
     → after_text page_machine text t ≡ Ok u →
     ReadsOn around (after_piece s (Static text)) u
 text_follows around [] s t u follows is =
@@ -173,7 +173,7 @@ lost_hole t classes lost takes =
     let refused : takes_classes (Refuses code.Place) classes ≡ true = subst (λ r. takes_classes (row_placing r) classes ≡ true) (outside_row t.row lost) takes in
     let never : ⊥ = cc in never
 
-lost_rest : (l : List PathPart) (t u : State) → IsLost t → Fine page_machine l t
+pub lost_rest : (l : List PathPart) (t u : State) → IsLost t → Fine page_machine l t
     → state_after_parts page_machine l t ≡ Ok u → IsLost u
 lost_rest [] t u lost fine is = subst IsLost (ok_same t u is) lost
 lost_rest (StaticPart text ∷ l) t u lost fine is =
@@ -214,13 +214,13 @@ same_placing_alone own (Takes place.Plain) classes alike all = alike
 same_placing_alone own (Refuses code) classes alike all = let never : ⊥ = cc in absurd never
 
 -- what a value or a frame in a hole leads to
-abbrev LeadsOn : Option Tag → List Piece → State → State → Type 0
+abbrev pub LeadsOn : Option Tag → List Piece → State → State → Type 0
 LeadsOn around pieces page after_hole = (now : State) × (after_pieces page pieces ≡ Ok now) × Follows around now after_hole
 
-one_piece : (page now : State) (item : Piece) → after_piece page item ≡ Ok now → after_pieces page (item ∷ []) ≡ Ok now
+pub one_piece : (page now : State) (item : Piece) → after_piece page item ≡ Ok now → after_pieces page (item ∷ []) ≡ Ok now
 one_piece page now item is = ap (after (λ past. Ok past)) is
 
-value_follows : (around : Option Tag) (page walk : State) (out : List ℕ) → Follows around page walk
+pub value_follows : (around : Option Tag) (page walk : State) (out : List ℕ) → Follows around page walk
     → KeepsPlaceAt (placing walk) out →
     LeadsOn around (Value out ∷ []) page (after_value walk)
 value_follows around page walk out follows keeps =
@@ -235,19 +235,19 @@ form_is context o own walk value text out is same form = rw (is, same, form) ref
 
 -- ---- frames
 
-abbrev FrameGoesOn : Option Tag → State → State → Kind → Type 0
+abbrev pub FrameGoesOn : Option Tag → State → State → Kind → Type 0
 FrameGoesOn around page walk kind =
     (inside : Option Tag) × Follows inside page (start kind)
     × ((now ended : State) → Follows inside now ended → may_end kind ended ≡ true → IsSettled ended → Follows around now (after_value walk))
 
-frame_goes_on : (around : Option Tag) (page walk : State) (kind : Kind) → IsBlockKind kind → Follows around page walk
+pub frame_goes_on : (around : Option Tag) (page walk : State) (kind : Kind) → IsBlockKind kind → Follows around page walk
     → takes_class (placing walk) (kind_class kind) ≡ true → IsSettled walk →
     FrameGoesOn around page walk kind
 frame_goes_on around page walk kind.Html block follows takes settled = let f : FramesHtml around page walk = page_html around page walk follows takes settled in (None, f.0, f.1)
 frame_goes_on around page walk kind.Attributes block follows takes settled = let f : FramesAttributes around page walk = page_attributes around page walk follows takes settled in (Some f.0, f.1, f.2)
 frame_goes_on around page walk kind.Text block follows takes settled = absurd block
 
-may_not_end : (kind : Kind) (t : State) → IsLost t → may_end kind t ≡ true → ⊥
+pub may_not_end : (kind : Kind) (t : State) → IsLost t → may_end kind t ≡ true → ⊥
 may_not_end kind.Html t lost ends = let is : may_end_row kind.Html row.Outside ≡ true = subst (λ r. may_end_row kind.Html r ≡ true) (outside_row t.row lost) ends in let never : ⊥ = cc in never
 may_not_end kind.Attributes t lost ends = let is : may_end_row kind.Attributes row.Outside ≡ true = subst (λ r. may_end_row kind.Attributes r ≡ true) (outside_row t.row lost) ends in let never : ⊥ = cc in never
 may_not_end kind.Text t lost ends = let is : may_end_row kind.Text row.Outside ≡ true = subst (λ r. may_end_row kind.Text r ≡ true) (outside_row t.row lost) ends in let never : ⊥ = cc in never
@@ -261,13 +261,13 @@ pub follows_itself : (state : State) → Follows None state state
 follows_itself state = (same_row state.row, refl)
 
 -- an accepted frame is fine from its start, and may end where it leads
-record FrameRuns (kind : Kind) (parts : List PathPart) : Type 0 where
+pub record FrameRuns (kind : Kind) (parts : List PathPart) : Type 0 where
   pub last : State
   pub fine : Fine page_machine parts (start kind)
   pub leads : state_after_parts page_machine parts (start kind) ≡ Ok last
   pub ends : may_end kind last ≡ true
 
-frame_runs : (kind : Kind) (parts : List PathPart) → IsFrameOf kind parts → FrameRuns kind parts
+pub frame_runs : (kind : Kind) (parts : List PathPart) → IsFrameOf kind parts → FrameRuns kind parts
 frame_runs kind parts frame =
     let good : Holds page_machine frame.plan (StartsAs page_machine kind) = good_of_points page_machine frame.plan (StartsAs page_machine kind) frame.points.points frame.inner in
     let fine : Fine page_machine parts (start kind) = path_fine page_machine frame.plan (StartsAs page_machine kind) good parts frame.path (start kind) refl in
@@ -300,7 +300,7 @@ goes_on_behind around kind so_far first whole page middle last is on = record {
   settled = on.settled;
 }
 
-read_behind : (kind : Kind) (so_far more : List Piece) (own now : State) → after_pieces (start kind) so_far ≡ Ok own
+pub read_behind : (kind : Kind) (so_far more : List Piece) (own now : State) → after_pieces (start kind) so_far ≡ Ok own
     → after_pieces own more ≡ Ok now → after_pieces (start kind) (so_far ++ more) ≡ Ok now
 read_behind kind so_far more own now is led = after_all-append after_piece (start kind) so_far more ∙ (ap (after (λ past. after_pieces past more)) is ∙ led)
 
@@ -340,7 +340,7 @@ module _ (context : Dir) where
         )
       ]
 
-  form_of_walk : (kind : Kind) (so_far : List Piece) (own walk : State) (classes : List ValueClass) (value : ValueClass) (text out : List ℕ) → after_pieces (start kind) so_far ≡ Ok own → Follows None own walk →
+  pub form_of_walk : (kind : Kind) (so_far : List Piece) (own walk : State) (classes : List ValueClass) (value : ValueClass) (text out : List ℕ) → after_pieces (start kind) so_far ≡ Ok own → Follows None own walk →
       takes_classes (placing walk) classes ≡ true → escaped_where (placing walk) value text context ≡ Some out → value_form (placing_after kind so_far) value text context ≡ out
   form_of_walk kind so_far own walk classes value text out reads follows takes form =
       form_is context (placing_after kind so_far) (placing own) (placing walk) value text out (ap (after (λ state. Ok (placing state))) reads)
