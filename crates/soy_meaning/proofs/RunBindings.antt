@@ -28,7 +28,8 @@ abbrev pub AllFramesIn : Plan → List Plan → Type 0
 AllFramesIn whole [] = Unit {0}
 AllFramesIn whole (p ∷ ps) = FramesIn whole p × AllFramesIn whole ps
 
-pub any_frames : (whole p : Plan) (ps : List Plan) → FramesIn whole (any_of p ps) → FramesIn whole p × AllFramesIn whole ps
+pub any_frames : (whole p : Plan) (ps : List Plan) → FramesIn whole (any_of p ps) → FramesIn whole p
+    × AllFramesIn whole ps
 any_frames whole p [] h = (h, tt)
 any_frames whole p (q ∷ qs) h =
     let r : FramesIn whole (Either p q) × AllFramesIn whole qs = any_frames whole (Either p q) qs h in
@@ -51,13 +52,15 @@ module _ (context : Dir) (whole : Plan) where
   abbrev AllRun : RunEnv → Type 0
   AllRun = EnvRuns context whole
 
-  binding_if : (test : Bool) (one other : Binding BoundBlock) → Runs one → Runs other → Runs (if test then one else other)
+  binding_if : (test : Bool) (one other : Binding BoundBlock) → Runs one → Runs other
+      → Runs (if test then one else other)
   binding_if true one other a b = a
   binding_if false one other a b = b
 
   pub variable_runs : (name : Name) (env : RunEnv) → AllRun env → Runs (binding name env)
   variable_runs name [] h = tt
-  variable_runs name (v ∷ env) h = binding_if (bytes_eq v.0 name) v.1 (binding name env) h.0 (variable_runs name env h.1)
+  variable_runs name (v ∷ env) h = binding_if (bytes_eq v.0 name) v.1 (binding name env) h.0
+      (variable_runs name env h.1)
 
   pub val_runs : (e : Expr) (env : RunEnv) → AllRun env → Runs (val e env)
   val_runs (NullLiteral span) env h = tt
@@ -70,8 +73,10 @@ module _ (context : Dir) (whole : Plan) where
   val_runs (Minus e span) env h = tt
   val_runs (Not e span) env h = tt
   val_runs (Binary op a b span) env h = tt
-  val_runs (Coalesce a b span) env h = binding_if (is_null (val a env)) (val b env) (val a env) (val_runs b env h) (val_runs a env h)
-  val_runs (Conditional c a b span) env h = binding_if (is_truthy (val c env)) (val a env) (val b env) (val_runs a env h) (val_runs b env h)
+  val_runs (Coalesce a b span) env h = binding_if (is_null (val a env)) (val b env) (val a env) (val_runs b env h)
+      (val_runs a env h)
+  val_runs (Conditional c a b span) env h = binding_if (is_truthy (val c env)) (val a env) (val b env)
+      (val_runs a env h) (val_runs b env h)
 
   pub env_more : (env more : RunEnv) → AllRun env → AllRun more → AllRun (env ++ more)
   env_more [] more h k = k
@@ -87,26 +92,31 @@ module _ (context : Dir) (whole : Plan) where
   GivenRuns None = Unit {0}
   GivenRuns (Some bound) = Runs bound
 
-  given_if : (test : Bool) (bound : Binding BoundBlock) (other : Option (Binding BoundBlock)) → Runs bound → GivenRuns other → GivenRuns (if test then Some bound else other)
+  given_if : (test : Bool) (bound : Binding BoundBlock) (other : Option (Binding BoundBlock)) → Runs bound
+      → GivenRuns other → GivenRuns (if test then Some bound else other)
   given_if true bound other a b = a
   given_if false bound other a b = b
 
   given_runs : (name : Name) (given : GivenArguments) → AllRun given → GivenRuns (given_binding name given)
   given_runs name [] h = tt
-  given_runs name (a ∷ rest) h = given_if (bytes_eq a.0 name) a.1 (given_binding name rest) h.0 (given_runs name rest h.1)
+  given_runs name (a ∷ rest) h = given_if (bytes_eq a.0 name) a.1 (given_binding name rest) h.0
+      (given_runs name rest h.1)
 
   handed_runs : (hands : Bool) (own : Binding BoundBlock) → Runs own → Runs (handed_on hands own)
   handed_runs true own h = h
   handed_runs false own h = tt
 
-  param_runs : (given : Option (Binding BoundBlock)) (other : Binding BoundBlock) → GivenRuns given → Runs other → Runs (param_binding given other)
+  param_runs : (given : Option (Binding BoundBlock)) (other : Binding BoundBlock) → GivenRuns given → Runs other
+      → Runs (param_binding given other)
   param_runs None other h k = k
   param_runs (Some bound) other h k = h
 
-  pub callee_runs : (params : List Param) (given : GivenArguments) (all : Bool) (own : List Param) (env : RunEnv) → AllRun given → AllRun env → AllRun (callee_env params given all own env)
+  pub callee_runs : (params : List Param) (given : GivenArguments) (all : Bool) (own : List Param) (env : RunEnv)
+      → AllRun given → AllRun env → AllRun (callee_env params given all own env)
   callee_runs [] given all own env h k = tt
   callee_runs (p ∷ ps) given all own env h k = (
-    param_runs (given_binding p.name given) (handed_on (all && is_some (param_of p.name own)) (binding p.name env)) (given_runs p.name given h)
+    param_runs (given_binding p.name given) (handed_on (all && is_some (param_of p.name own)) (binding p.name env))
+        (given_runs p.name given h)
         (handed_runs (all && is_some (param_of p.name own)) (binding p.name env) (variable_runs p.name env k)),
     callee_runs ps given all own env h k,
   )
@@ -117,7 +127,8 @@ abbrev pub IsAmong : List Declared → Option Declared → Type 0
 IsAmong ds None = Unit {0}
 IsAmong ds (Some d) = IsMember d ds
 
-among_if : (ds : List Declared) (test : Bool) (d : Declared) (other : Option Declared) → IsMember d ds → IsAmong ds other → IsAmong ds (if test then Some d else other)
+among_if : (ds : List Declared) (test : Bool) (d : Declared) (other : Option Declared) → IsMember d ds
+    → IsAmong ds other → IsAmong ds (if test then Some d else other)
 among_if ds true d other h k = h
 among_if ds false d other h k = k
 
@@ -127,11 +138,14 @@ among_more d ds (Some e) h = inr h
 
 template_among : (name : Name) (ds : List Declared) → IsAmong ds (template_of name ds)
 template_among name [] = tt
-template_among name (d ∷ ds) = among_if (d ∷ ds) (bytes_eq (full_name d) name) d (template_of name ds) (inl refl) (among_more d ds (template_of name ds) (template_among name ds))
+template_among name (d ∷ ds) = among_if (d ∷ ds) (bytes_eq (full_name d) name) d (template_of name ds) (inl refl)
+    (among_more d ds (template_of name ds) (template_among name ds))
 
-visible_among : (namespace : Name) (ds : List Declared) (found : Option Declared) → IsAmong ds found → IsAmong ds (visible namespace found)
+visible_among : (namespace : Name) (ds : List Declared) (found : Option Declared) → IsAmong ds found
+    → IsAmong ds (visible namespace found)
 visible_among namespace ds None h = tt
 visible_among namespace ds (Some d) h = among_if ds (is_visible_from namespace d) d None h tt
 
 pub callee_among : (ds : List Declared) (namespace name : Name) → IsAmong ds (callee ds namespace name)
-callee_among ds namespace name = visible_among namespace ds (template_of (called_name namespace name) ds) (template_among (called_name namespace name) ds)
+callee_among ds namespace name = visible_among namespace ds (template_of (called_name namespace name) ds)
+    (template_among (called_name namespace name) ds)

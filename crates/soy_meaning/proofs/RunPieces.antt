@@ -48,7 +48,8 @@ pub record ComesBehind (o rest whole : Outcome) : Type 0 where
   pub ends : end_of_outcome whole ≡ end_of_outcome rest
 
 pub whole_followed : (o rest : Outcome) → end_of_outcome o ≡ WholeRun → ComesBehind o rest (continued_by o rest)
-whole_followed (RunEnds a WholeRun) rest h = record { pieces = (spent_same a rest).pieces; ends = (spent_same a rest).ends }
+whole_followed (RunEnds a WholeRun) rest h =
+    record { pieces = (spent_same a rest).pieces; ends = (spent_same a rest).ends }
 whole_followed (RunEnds a (StopsAt call)) rest h = absurd (stop_not_whole call h)
 whole_followed (GivesPiece a piece o) rest h =
     let r : ComesBehind o rest (continued_by o rest) = whole_followed o rest h in
@@ -79,21 +80,27 @@ same_silent IsGood o other next same (inl b) =
     inl (record { value = b.value; good = b.good; same = same_run o other (next b.value) same b.same })
 same_silent IsGood o other next same (inr h) = inr (same_halts o other same h)
 
-pub silent_then : {A B : Type 0} (IsGood : A → Type 0) (IsFine : B → Type 0) (o : Outcome) (middle : A → Outcome) (next : B → Outcome) →
+pub silent_then : {A B : Type 0} (IsGood : A → Type 0) (IsFine : B → Type 0) (o : Outcome) (middle : A → Outcome)
+    (next : B → Outcome) →
     IsSilent IsGood o middle → ((a : A) → IsGood a → IsSilent IsFine (middle a) next) → IsSilent IsFine o next
-silent_then IsGood IsFine o middle next (inl b) rest = same_silent IsFine o (middle b.value) next b.same (rest b.value b.good)
+silent_then IsGood IsFine o middle next (inl b) rest = same_silent IsFine o (middle b.value) next b.same
+    (rest b.value b.good)
 silent_then IsGood IsFine o middle next (inr h) rest = inr h
 
 abbrev pub IsAnyText : List ℕ → Type 0
 IsAnyText text = Unit {0}
 
-pub gathered_silent : (text : List ℕ) (o : Outcome) (next : List ℕ → Outcome) → IsSilent IsAnyText (gathered text o next) next
-gathered_silent text (RunEnds a WholeRun) next = inl (record { value = text; good = tt; same = spent_same a (next text) })
+pub gathered_silent : (text : List ℕ) (o : Outcome) (next : List ℕ → Outcome)
+    → IsSilent IsAnyText (gathered text o next) next
+gathered_silent text (RunEnds a WholeRun) next =
+    inl (record { value = text; good = tt; same = spent_same a (next text) })
 gathered_silent text (RunEnds a (StopsAt call)) next = inr (record { pieces = refl; call = call; ends = refl })
 gathered_silent text (GivesPiece a (Static more) o) next =
-    same_silent IsAnyText (spent_first a (gathered (text ++ more) o next)) (gathered (text ++ more) o next) next (spent_same a (gathered (text ++ more) o next)) (gathered_silent (text ++ more) o next)
+    same_silent IsAnyText (spent_first a (gathered (text ++ more) o next)) (gathered (text ++ more) o next) next
+    (spent_same a (gathered (text ++ more) o next)) (gathered_silent (text ++ more) o next)
 gathered_silent text (GivesPiece a (Value more) o) next =
-    same_silent IsAnyText (spent_first a (gathered (text ++ more) o next)) (gathered (text ++ more) o next) next (spent_same a (gathered (text ++ more) o next)) (gathered_silent (text ++ more) o next)
+    same_silent IsAnyText (spent_first a (gathered (text ++ more) o next)) (gathered (text ++ more) o next) next
+    (spent_same a (gathered (text ++ more) o next)) (gathered_silent (text ++ more) o next)
 
 -- ---- states
 
@@ -101,26 +108,30 @@ ok_again : (r : Result State Code) → after (λ following. Ok following) r ≡ 
 ok_again (Ok now) = refl
 ok_again (Err fault) = refl
 
-read_one : (r : Result State Code) (piece : Piece) → after (λ middle. after_pieces middle (piece ∷ [])) r ≡ read_piece r piece
+read_one : (r : Result State Code) (piece : Piece) → after (λ middle. after_pieces middle (piece ∷ [])) r
+    ≡ read_piece r piece
 read_one (Ok now) piece = ok_again (after_piece now piece)
 read_one (Err fault) piece = refl
 
 pub read_more : (s : State) (before : List Piece) (piece : Piece) →
     read_piece (after_pieces s before) piece ≡ after_pieces s (before ++ (piece ∷ []))
-read_more s before piece = sym (after_all-append after_piece s before (piece ∷ []) ∙ read_one (after_pieces s before) piece)
+read_more s before piece =
+    sym (after_all-append after_piece s before (piece ∷ []) ∙ read_one (after_pieces s before) piece)
 
 pub read_all : (s : State) (before : List Piece) (o : Outcome) →
     read_outcome (after_pieces s before) o ≡ after_pieces s (before ++ pieces_of_outcome o)
 read_all s before (RunEnds a end) = ap (λ l. after_pieces s l) (sym (append-nil before))
 read_all s before (GivesPiece a piece o) =
     ap (λ r. read_outcome r o) (read_more s before piece)
-    ∙ (read_all s (before ++ (piece ∷ [])) o ∙ ap (λ l. after_pieces s l) (append_assoc before (piece ∷ []) (pieces_of_outcome o)))
+    ∙ (read_all s (before ++ (piece ∷ [])) o
+    ∙ ap (λ l. after_pieces s l) (append_assoc before (piece ∷ []) (pieces_of_outcome o)))
 
 placing_of : (r : Result State Code) → placing_so_far r ≡ after (λ state. Ok (placing state)) r
 placing_of (Ok now) = refl
 placing_of (Err fault) = refl
 
-pub placing_is : (kind : Kind) (before : List Piece) → placing_so_far (after_pieces (start kind) before) ≡ placing_after kind before
+pub placing_is : (kind : Kind) (before : List Piece) → placing_so_far (after_pieces (start kind) before)
+    ≡ placing_after kind before
 placing_is kind before = placing_of (after_pieces (start kind) before)
 
 -- ---- what fills a path and then another
@@ -138,7 +149,8 @@ parts_then (value_before classes value text f) g = ap (λ l. HolePart classes �
 parts_then (frame_before classes kind inner f) g = ap (λ l. HolePart classes ∷ l) (parts_then f g)
 
 pub pieces_then : (context : Dir) (f g : Filled) (kind : Kind) (before : List Piece) →
-    filled_pieces context (filled_then f g) kind before ≡ filled_pieces context g kind (filled_pieces context f kind before)
+    filled_pieces context (filled_then f g) kind before ≡ filled_pieces context g kind
+    (filled_pieces context f kind before)
 pieces_then context filled_end g kind before = refl
 pieces_then context (text_before text f) g kind before = pieces_then context f g kind (before ++ (Static text ∷ []))
 pieces_then context (value_before classes value text f) g kind before =

@@ -16,7 +16,8 @@ use Rattle.soy_base.specs.declared.fault.Span.{Span}
 use Rattle.soy_meaning.specs.PathParts.{IsPath, PathPart, both, empty_path, first_way, hole, met, no_turn, passed_by}
 use Rattle.soy_meaning.specs.PathParts.{second_way, static_text}
 use Rattle.soy_meaning.specs.Plan.{Site, Plan, Nowhere, Then, Either, any_of, arms_meet}
-use Rattle.soy_meaning.specs.PlanOfNodes.{PlanContext, arm_plans, argument_frames, body_plan, case_plans, fallback_plans}
+use Rattle.soy_meaning.specs.PlanOfNodes.{PlanContext, arm_plans, argument_frames, body_plan, case_plans}
+use Rattle.soy_meaning.specs.PlanOfNodes.{fallback_plans}
 use Rattle.soy_meaning.specs.PlanOfNodes.{given_frame, node_plan, nodes_plan, other_plan, plural_plans, scope_past}
 use Rattle.soy_meaning.specs.PlanOfNodes.{select_plans, source_plan, starts_at, translation_plans}
 use Rattle.soy_meaning.specs.PlanOfParts.{cut_plan, exact_plans, named_plans, part_plan, parts_plan, placeholder_cut}
@@ -41,7 +42,8 @@ any_first p (q ∷ qs) parts h = any_first (Either p q) qs parts (first_way h)
 pub any_member : (p : Plan) (ps : List Plan) (q : Plan) (parts : List PathPart) → IsMember q ps → IsPath q parts
     → IsPath (any_of p ps) parts
 any_member p [] q parts member h = absurd member
-any_member p (r ∷ rs) q parts (inl same) h = any_first (Either p r) rs parts (second_way (subst (λ z. IsPath z parts) same h))
+any_member p (r ∷ rs) q parts (inl same) h =
+    any_first (Either p r) rs parts (second_way (subst (λ z. IsPath z parts) same h))
 any_member p (r ∷ rs) q parts (inr member) h = any_member (Either p r) rs q parts member h
 
 -- one of these plans has a path
@@ -77,11 +79,13 @@ text_path at (c ∷ text) = record { parts = _; path = static_text }
 
 -- ---- translations
 
-pub tag_path : (scope : Scope) (at : Site) (text : List ℕ) (tag : List MessageItem) → HasPath (tag_plan scope at text tag)
+pub tag_path : (scope : Scope) (at : Site) (text : List ℕ) (tag : List MessageItem)
+    → HasPath (tag_plan scope at text tag)
 tag_path scope at text [] = text_path at text
 tag_path scope at text (Character c span ∷ rest) = tag_path scope at (text ++ (c ∷ [])) rest
 tag_path scope at text (Printed e phname span ∷ rest) =
-    then_path (text_plan at text) _ (text_path at text) (then_path _ (tag_plan scope at [] rest) (record { parts = _; path = hole }) (tag_path scope at [] rest))
+    then_path (text_plan at text) _ (text_path at text)
+    (then_path _ (tag_plan scope at [] rest) (record { parts = _; path = hole }) (tag_path scope at [] rest))
 
 cut_path : (scope : Scope) (at : Site) (cut : Option Cut) → HasPath (cut_plan scope at cut)
 cut_path scope at None = record { parts = []; path = empty_path }
@@ -96,13 +100,16 @@ module _ (uses : List Use) (scope : Scope) (at : Site) where
     part_path (Placeholder name) fits = cut_path scope at (placeholder_cut name uses uses)
     part_path NumberPart fits = record { parts = _; path = hole }
     part_path (PluralPart ordinal name offset exact named) fits =
-        let parts = and_parts (is_some (selector true name uses uses) && has_other named) (exact_fit uses exact && named_fit uses named) fits in
+        let parts = and_parts (is_some (selector true name uses uses) && has_other named) (exact_fit uses exact
+        && named_fit uses named) fits in
         let head = and_parts (is_some (selector true name uses uses)) (has_other named) parts.0 in
         let rest = and_parts (exact_fit uses exact) (named_fit uses named) parts.1 in
         arms_path at (exact_plans uses scope at exact ++ named_plans uses scope at named)
-        (some_right (exact_plans uses scope at exact) (named_plans uses scope at named) (named_path named head.1 rest.1))
+        (some_right (exact_plans uses scope at exact) (named_plans uses scope at named)
+        (named_path named head.1 rest.1))
     part_path (SelectPart name arms) fits =
-        let parts = and_parts (is_some (selector false name uses uses) && has_other_word arms) (select_fit uses arms) fits in
+        let parts = and_parts (is_some (selector false name uses uses) && has_other_word arms) (select_fit uses arms)
+        fits in
         let head = and_parts (is_some (selector false name uses uses)) (has_other_word arms) parts.0 in
         arms_path at (select_arm_plans uses scope at arms) (select_arms_path arms head.1 parts.1)
 
@@ -110,17 +117,22 @@ module _ (uses : List Use) (scope : Scope) (at : Site) where
     parts_path no_part fits = record { parts = []; path = empty_path }
     parts_path (part p ps) fits =
         let parts = and_parts (part_fits uses p) (parts_fit uses ps) fits in
-        then_path (part_plan uses scope at p) (parts_plan uses scope at ps) (part_path p parts.0) (parts_path ps parts.1)
+        then_path (part_plan uses scope at p) (parts_plan uses scope at ps) (part_path p parts.0)
+        (parts_path ps parts.1)
 
-    named_path : (arms : NamedArms) → has_other arms ≡ true → named_fit uses arms ≡ true → SomeHasPath (named_plans uses scope at arms)
+    named_path : (arms : NamedArms) → has_other arms ≡ true → named_fit uses arms ≡ true
+        → SomeHasPath (named_plans uses scope at arms)
     named_path no_named_arm has fits = let no : ⊥ = cc in absurd no
     named_path (named_arm of ps arms) has fits =
-        some_first (parts_plan uses scope at ps) (named_plans uses scope at arms) (parts_path ps (and_parts (parts_fit uses ps) (named_fit uses arms) fits).0)
+        some_first (parts_plan uses scope at ps) (named_plans uses scope at arms)
+        (parts_path ps (and_parts (parts_fit uses ps) (named_fit uses arms) fits).0)
 
-    select_arms_path : (arms : SelectArms) → has_other_word arms ≡ true → select_fit uses arms ≡ true → SomeHasPath (select_arm_plans uses scope at arms)
+    select_arms_path : (arms : SelectArms) → has_other_word arms ≡ true → select_fit uses arms ≡ true
+        → SomeHasPath (select_arm_plans uses scope at arms)
     select_arms_path no_select_arm has fits = let no : ⊥ = cc in absurd no
     select_arms_path (select_arm word ps arms) has fits =
-        some_first (parts_plan uses scope at ps) (select_arm_plans uses scope at arms) (parts_path ps (and_parts (parts_fit uses ps) (select_fit uses arms) fits).0)
+        some_first (parts_plan uses scope at ps) (select_arm_plans uses scope at arms)
+        (parts_path ps (and_parts (parts_fit uses ps) (select_fit uses arms) fits).0)
 
 -- ---- nodes
 
@@ -130,22 +142,29 @@ module _ (c : PlanContext) where
     node_path (TextNode text span) scope = text_path (starts_at c.file span) text
     node_path (Print e phname span) scope = record { parts = _; path = hole }
     node_path (If arms other span) scope =
-        arms_path (starts_at c.file span) (arm_plans c arms scope ++ (other_plan c other scope ∷ [])) (some_last (arm_plans c arms scope) (other_plan c other scope) (other_path other scope))
+        arms_path (starts_at c.file span) (arm_plans c arms scope ++ (other_plan c other scope ∷ []))
+        (some_last (arm_plans c arms scope) (other_plan c other scope) (other_path other scope))
     node_path (Switch e cases other span) scope =
-        arms_path (starts_at c.file span) (case_plans c cases scope ++ (other_plan c other scope ∷ [])) (some_last (case_plans c cases scope) (other_plan c other scope) (other_path other scope))
+        arms_path (starts_at c.file span) (case_plans c cases scope ++ (other_plan c other scope ∷ []))
+        (some_last (case_plans c cases scope) (other_plan c other scope) (other_path other scope))
     node_path (For name index e body span) scope = record { parts = []; path = no_turn }
     node_path (Let name e span) scope = record { parts = []; path = empty_path }
     node_path (LetBlock name kind body span) scope = record { parts = []; path = passed_by }
     node_path (Call name all given span) scope =
-        then_path _ (argument_frames c given scope) (record { parts = _; path = hole }) (record { parts = []; path = frames_path given scope })
+        then_path _ (argument_frames c given scope) (record { parts = _; path = hole })
+        (record { parts = []; path = frames_path given scope })
     node_path (MessageNode m other span) scope =
-        arms_path (starts_at c.file span) (source_plan c m scope (starts_at c.file span) ∷ (translation_plans c m scope (starts_at c.file span) ++ fallback_plans c other scope (starts_at c.file span)))
+        arms_path (starts_at c.file span)
+        (source_plan c m scope (starts_at c.file span)
+        ∷ (translation_plans c m scope (starts_at c.file span) ++ fallback_plans c other scope
+        (starts_at c.file span)))
         (some_first (source_plan c m scope (starts_at c.file span)) _ (source_path m scope (starts_at c.file span)))
 
     pub nodes_path : (ns : Nodes) (scope : Scope) → HasPath (nodes_plan c ns scope)
     nodes_path no_node scope = record { parts = []; path = empty_path }
     nodes_path (node n ns) scope =
-        then_path (node_plan c n scope) (nodes_plan c ns (scope_past n scope)) (node_path n scope) (nodes_path ns (scope_past n scope))
+        then_path (node_plan c n scope) (nodes_plan c ns (scope_past n scope)) (node_path n scope)
+        (nodes_path ns (scope_past n scope))
 
     other_path : (o : Otherwise) (scope : Scope) → HasPath (other_plan c o scope)
     other_path no_otherwise scope = record { parts = []; path = empty_path }
@@ -166,6 +185,8 @@ module _ (c : PlanContext) where
     pub body_path : (b : MessageBody) (scope : Scope) (at : Site) → HasPath (body_plan c b scope at)
     body_path (Parts ns) scope at = nodes_path ns scope
     body_path (Plural e offset cases other) scope at =
-        arms_path at (plural_plans c cases scope at ++ (body_plan c other scope at ∷ [])) (some_last (plural_plans c cases scope at) (body_plan c other scope at) (body_path other scope at))
+        arms_path at (plural_plans c cases scope at ++ (body_plan c other scope at ∷ []))
+        (some_last (plural_plans c cases scope at) (body_plan c other scope at) (body_path other scope at))
     body_path (Select e cases other) scope at =
-        arms_path at (select_plans c cases scope at ++ (body_plan c other scope at ∷ [])) (some_last (select_plans c cases scope at) (body_plan c other scope at) (body_path other scope at))
+        arms_path at (select_plans c cases scope at ++ (body_plan c other scope at ∷ []))
+        (some_last (select_plans c cases scope at) (body_plan c other scope at) (body_path other scope at))

@@ -217,7 +217,8 @@ tag_cases (c ∷ letters) =
 -- `{switch $n}` with a case for each of these letters, `{/switch}`
 abbrev pub many_tags : List ℕ → Result (Walked State) WalkFault
 many_tags letters =
-    walked_row (λ m. None) row_params (Switch (variable 8 (codes "n")) (tag_cases letters) no_otherwise (span_at 0) ∷ [])
+    walked_row (λ m. None) row_params (Switch (variable 8 (codes "n")) (tag_cases letters) no_otherwise (span_at 0)
+    ∷ [])
 
 abbrev pub sixteen_states : Result (Walked State) WalkFault
 sixteen_states = many_tags (codes "abcdefghijklmno")

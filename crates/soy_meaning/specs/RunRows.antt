@@ -1,7 +1,8 @@
 -- Worked rows: what small templates give under data, which the checker computes.
 --
 -- Each row is one template of kind html, `m` of the namespace `t`, with its body, the translation that each message
--- has, if any, and the variables. Example: the body `{let $b kind="html"}<i>{$x}</i>{/let}{$b}{$b}` with x `q` gives the pieces
+-- has, if any, and the variables. Example: the body `{let $b kind="html"}<i>{$x}</i>{/let}{$b}{$b}` with x `q` gives
+-- the pieces
 -- of the block twice.
 use Rattle.std.specs.Prelude.{ℕ, ℤ, pos, true, false, List, [], ◌∷◌, Option, Some, None, codes}
 use Rattle.soy_base.specs.declared.direction.Dir.{Dir}
@@ -20,7 +21,8 @@ use Rattle.soy_tree.specs.Types.{IntType}
 use Rattle.soy_tree.specs.Values.{IntValue, StringValue}
 use Rattle.soy_tree.specs.Val.{Known}
 use Rattle.soy_tree.specs.Expressions.{Binary, IntLiteral}
-use Rattle.soy_tree.specs.Nodes.{MessageBody, Node, If, LetBlock, Call, MessageNode, no_node, node, no_otherwise, no_arm, arm}
+use Rattle.soy_tree.specs.Nodes.{MessageBody, Node, If, LetBlock, Call, MessageNode, no_node, node, no_otherwise}
+use Rattle.soy_tree.specs.Nodes.{no_arm, arm}
 use Rattle.soy_tree.specs.Nodes.{no_argument, argument, Plain, message, no_fallback, Parts, Plural, no_plural_case}
 use Rattle.soy_tree.specs.Nodes.{plural_case}
 use Rattle.soy_tree.specs.MessageParts.{MsgPart, MsgParts, NumberPart, PluralPart, TextPart, no_exact_arm, exact_arm}

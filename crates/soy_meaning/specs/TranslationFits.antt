@@ -1,8 +1,10 @@
 -- When a translation fits a message.
 --
 -- Each plural and each select in it has an arm `other`, and names a selector of its kind among those of the message.
--- Example: `{N, plural, other {#}}` fits `{plural $n}{case 1}a{default}b{/plural}`, and `{M, plural, other {#}}` doesn't.
-use Rattle.std.specs.Prelude.{Bool, true, false, ◌&&◌, ◌||◌, List, [], ◌∷◌, Option, Some, None, IsTrue, bytes_eq, codes, is_some}
+-- Example: `{N, plural, other {#}}` fits `{plural $n}{case 1}a{default}b{/plural}`, and `{M, plural, other {#}}`
+-- doesn't.
+use Rattle.std.specs.Prelude.{Bool, true, false, ◌&&◌, ◌||◌, List, [], ◌∷◌, Option, Some, None, IsTrue, bytes_eq, codes}
+use Rattle.std.specs.Prelude.{is_some}
 use Rattle.plural_rules.specs.Category.{is_same}
 use Rattle.plural_rules.specs.declared.category.Category.TheVariants as category
 use Rattle.soy_tree.specs.MessageParts.{MsgPart, MsgParts, ExactArms, NamedArms, SelectArms, PluralPart, SelectPart}

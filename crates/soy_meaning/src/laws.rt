@@ -1,6 +1,7 @@
 //! What the definitions come to, for the tokenizer of a page. Each law is a contract with an empty body.
 
-ghost use Rattle.std.specs.Prelude.{◌≡◌, ◌+◌, ◌++◌, ◌∷◌, [], ℕ, IsTrue, List, Option, Some, None, Ok, Err, length, get_or};
+ghost use Rattle.std.specs.Prelude.{◌≡◌, ◌+◌, ◌++◌, ◌∷◌, [], ℕ, IsTrue, List, Option};
+ghost use Rattle.std.specs.Prelude.{Some, None, Ok, Err, length, get_or};
 ghost use Rattle.std.specs.Prelude.{map, replicate};
 ghost use Rattle.std.specs.Prelude.{pos, codes};
 ghost use Rattle.soy_base.specs.declared.code.Code.TheVariants as code;
@@ -125,7 +126,8 @@ pub fn law_places_are_static()
         ≡ Ok (Takes (get_or new (holes_before p y + holes_before q x) d))) }
 {}
 
-/// The plan of a tree is that of no other: its paths are the ways through the tree, and its frames the blocks that stand
+/// The plan of a tree is that of no other: its paths are the ways through the tree, and its frames the blocks that
+/// stand
 /// in the tree, each with the plan of its body in the scope that it sees.
 pub fn law_plan_is_of_tree()
     ensures paths { (c : PlanContext) (ns : Nodes) (scope : Scope) (l : List PathPart) →
@@ -212,10 +214,14 @@ pub fn law_run_rows()
         ≡ (page.Value (wrapped_text (codes "3") dir.Ltr) ∷ page.Static (codes " in all") ∷ [], outcome.WholeRun) }
     ensures source_choices { choices_of_outcome (source_plural (pos 3))
         ≡ outcome.TextTaken outcome.SourceText ∷ outcome.ArmTaken (Some 1) ∷ [] }
-    ensures plural_zero { pieces_and_end (plural_translation (pos 0)) ≡ (page.Static (codes "Z") ∷ [], outcome.WholeRun) }
-    ensures plural_one { pieces_and_end (plural_translation (pos 1)) ≡ (page.Static (codes "O") ∷ [], outcome.WholeRun) }
-    ensures plural_two { pieces_and_end (plural_translation (pos 2)) ≡ (page.Static (codes "T") ∷ [], outcome.WholeRun) }
-    ensures plural_few { pieces_and_end (plural_translation (pos 3)) ≡ (page.Static (codes "F") ∷ [], outcome.WholeRun) }
+    ensures plural_zero { pieces_and_end (plural_translation (pos 0))
+        ≡ (page.Static (codes "Z") ∷ [], outcome.WholeRun) }
+    ensures plural_one { pieces_and_end (plural_translation (pos 1))
+        ≡ (page.Static (codes "O") ∷ [], outcome.WholeRun) }
+    ensures plural_two { pieces_and_end (plural_translation (pos 2))
+        ≡ (page.Static (codes "T") ∷ [], outcome.WholeRun) }
+    ensures plural_few { pieces_and_end (plural_translation (pos 3))
+        ≡ (page.Static (codes "F") ∷ [], outcome.WholeRun) }
     ensures plural_many { pieces_and_end (plural_translation (pos 11))
         ≡ (page.Static (codes "M") ∷ [], outcome.WholeRun) }
     ensures plural_other { pieces_and_end (plural_translation (pos 100))

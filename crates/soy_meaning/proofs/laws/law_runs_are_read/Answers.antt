@@ -5,4 +5,5 @@ pub returns-clause-holes : goal.returns-clause-holes
 returns-clause-holes c = λ whole f accepted runs fits. runs_fill_holes whole accepted f runs fits
 
 pub returns-clause-read : goal.returns-clause-read
-returns-clause-read c = λ context whole kind p o accepted within r fits. runs_are_read context whole accepted kind p o within r fits
+returns-clause-read c = λ context whole kind p o accepted within r fits. runs_are_read context whole accepted kind p o
+    within r fits
