@@ -127,8 +127,7 @@ pub fn law_places_are_static()
 {}
 
 /// The plan of a tree is that of no other: its paths are the ways through the tree, and its frames the blocks that
-/// stand
-/// in the tree, each with the plan of its body in the scope that it sees.
+/// stand in the tree, each with the plan of its body in the scope that it sees.
 pub fn law_plan_is_of_tree()
     ensures paths { (c : PlanContext) (ns : Nodes) (scope : Scope) (l : List PathPart) →
         IsPath (nodes_plan c ns scope) l → IsWayOfNodes c ns scope l }
