@@ -413,11 +413,17 @@ const TYPES_WITHIN: &[(&str, u32)] = &[
 fn the_limit_of_depth_is_reached(rt: HostRuntime) {
     for (text, depth) in WITHIN {
         assert!(rt; read(rt.alloc(), text, *depth).is_ok(), "{text}");
-        assert!(rt; read(rt.alloc(), text, depth.saturating_add(1)).is_err(), "{text}");
+        assert!(rt;
+            read(rt.alloc(), text, depth.saturating_add(1)).is_err(),
+            "{text}"
+        );
     }
     for (text, depth) in TYPES_WITHIN {
         assert!(rt; read_type(rt.alloc(), text, *depth).is_ok(), "{text}");
-        assert!(rt; read_type(rt.alloc(), text, depth.saturating_add(1)).is_err(), "{text}");
+        assert!(rt;
+            read_type(rt.alloc(), text, depth.saturating_add(1)).is_err(),
+            "{text}"
+        );
     }
 }
 
