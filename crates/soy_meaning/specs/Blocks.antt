@@ -1,7 +1,8 @@
 -- The blocks of a tree: each is a frame of its own, also where nothing prints it.
 --
--- A block stands in a let or in a param of a call, at any depth, and in a message's source. It has its kind, its body
--- and the variables that its body sees. A frame that stands in a plan has its kind and its own plan.
+-- A block stands in a let or in a param of a call, at any depth; a message's source is asked too, though none stands
+-- there. It has its kind, its body and the variables that its body sees. A frame that stands in a plan has its kind and
+-- its own plan.
 -- Example: `{call m}{param p kind="html"}<b>{$x}</b>{/param}{/call}` has one block, of kind html, which sees `$x`.
 use Rattle.std.specs.Prelude.{List, [], ◌∷◌, ◌++◌}
 use Rattle.soy_base.specs.declared.kind.Kind.{Kind}

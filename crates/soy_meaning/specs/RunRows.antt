@@ -1,9 +1,8 @@
 -- Worked rows: what small templates give under data, which the checker computes.
 --
 -- Each row is one template of kind html, `m` of the namespace `t`, with its body, the translation that each message
--- has, if any, and the variables. Example: the body `{let $b kind="html"}<i>{$x}</i>{/let}{$b}{$b}` with x `q` gives
--- the pieces
--- of the block twice.
+-- has, if any, and the variables.
+-- Example: the body `{let $b kind="html"}<i>{$x}</i>{/let}{$b}{$b}` with x `q` gives the pieces of the block twice.
 use Rattle.std.specs.Prelude.{ℕ, ℤ, pos, true, false, List, [], ◌∷◌, Option, Some, None, codes}
 use Rattle.soy_base.specs.declared.direction.Dir.{Dir}
 use Rattle.soy_base.specs.declared.direction.Dir.TheVariants as dir

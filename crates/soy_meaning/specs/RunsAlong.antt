@@ -1,8 +1,8 @@
 -- A run of a frame goes along a path of the frame's plan.
 --
--- Its pieces are those of the path with each hole filled: by a value, or by the pieces of the frame that is printed or
--- called there, which is a frame of the same trees and runs along a path of its own plan. A run that ends whole takes a
--- whole path. One that stops at a call takes a prefix of one, and may have stopped within the frame in its last hole.
+-- Its pieces are those of the path with each hole filled: by a value, or by the pieces of a frame of the same trees,
+-- which runs along a path of its own plan. A run that ends whole takes a whole path. One that stops at a call takes a
+-- prefix of one, whichever call that is, and may have stopped within the frame in its last hole.
 -- Example: `{if $x}<b {$c}>{/if}`, with `$x` true and with the block `id="a"` in `$c`, runs along the path of the text
 -- `<b `, a hole and the text `>`; in the hole stands a run along the path of the one text `id="a"`.
 use Rattle.std.specs.Prelude.{◌≡◌, List, [], ◌∷◌, ◌++◌, Some, IsTrue}

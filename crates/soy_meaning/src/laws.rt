@@ -126,8 +126,8 @@ pub fn law_places_are_static()
         ≡ Ok (Takes (get_or new (holes_before p y + holes_before q x) d))) }
 {}
 
-/// The plan of a tree is that of no other: its paths are the ways through the tree, and its frames the blocks that
-/// stand in the tree, each with the plan of its body in the scope that it sees.
+/// A plan has the ways through its tree as its paths, and the blocks that stand in the tree as its frames, each with the
+/// plan of its body in the scope that it sees.
 pub fn law_plan_is_of_tree()
     ensures paths { (c : PlanContext) (ns : Nodes) (scope : Scope) (l : List PathPart) →
         IsPath (nodes_plan c ns scope) l → IsWayOfNodes c ns scope l }
@@ -137,9 +137,10 @@ pub fn law_plan_is_of_tree()
         plan_frames (nodes_plan c ns scope) ≡ map (block_frame c) (nodes_blocks ns scope) }
 {}
 
-/// What a template gives under any environment and bundle goes along a path of its plan: the pieces are those of a
-/// path, or of a prefix of one where it stops at a call, with each hole filled by a value or by a run of the frame that
-/// is printed or called there. Each frame is one of the plan of all trees, as the template's own is.
+/// What a template gives goes along a path of its plan, under any bundle whose translations fit their messages, and any
+/// variables whose blocks run along frames of the trees, as data do, which hold no blocks: the pieces are those of a
+/// path, or of a prefix of one where it stops at a call, with each hole filled by a value or by a run of a frame of the
+/// trees. Which frame that is, and at which call it stops, isn't said.
 pub fn law_runs_are_paths()
     ensures runs { (c : RunContext) (trees : List Tree) (d : Declared) (env : RunEnv) →
         c.declared ≡ declared trees → IsMember d c.declared → TranslationsFit c.translation c.declared →

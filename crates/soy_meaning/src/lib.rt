@@ -3,7 +3,8 @@
 //!
 //! Nothing here runs: the definitions of specs/ are what the contracts of the crates above cite, and the law functions,
 //! each a contract with an empty body, say what they come to.
-//! Depends on soy_base, soy_tree, script_state, html_state, escapers, esc_table and bidi_text.
+//! Depends on soy_base, soy_tree, html_state, escapers, bidi_text and plural_rules, and in proofs on script_state,
+//! esc_table and bidi_class.
 #![tactic(auto)]
 
 mod laws;
