@@ -27,6 +27,11 @@ pub mod RunBindings
 pub mod PartRuns
 pub mod NodeRuns
 pub mod RunPaths
+pub mod AlikeOutcomes
+pub mod AlikeBindings
+pub mod AlikeParts
+pub mod AlikeNodes
+pub mod AlikeRuns
 pub mod ReadRuns
 pub mod WayPlans
 pub mod BlockFrames

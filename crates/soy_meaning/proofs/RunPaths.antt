@@ -24,7 +24,7 @@ turn_frames f (first ∷ ds) d (inl same) y kind q e = (Left y, ap (λ z. frame_
 turn_frames f (first ∷ ds) d (inr member) y kind q e =
     let r : IsFrameWithin (in_turn (map f ds)) kind q = turn_frames f ds d member y kind q e in (Right r.0, r.1)
 
-member_fits : (translation : Message → Option MsgParts) (ds : List Declared) (d : Declared) → IsMember d ds
+pub member_fits : (translation : Message → Option MsgParts) (ds : List Declared) (d : Declared) → IsMember d ds
     → TranslationsFit translation ds → NodesFit translation d.template.body
 member_fits translation [] d member fits = absurd member
 member_fits translation (first ∷ ds) d (inl same) fits = subst (λ z. NodesFit translation z.template.body) (sym same)

@@ -39,7 +39,7 @@ spent_same a (GivesPiece b piece o) = record { pieces = refl; ends = refl }
 pub same_run : (a b c : Outcome) → SameRun a b → SameRun b c → SameRun a c
 same_run a b c h k = record { pieces = h.pieces ∙ k.pieces; ends = h.ends ∙ k.ends }
 
-stop_not_whole : (call : Site) → StopsAt call ≡ WholeRun → ⊥
+pub stop_not_whole : (call : Site) → StopsAt call ≡ WholeRun → ⊥
 stop_not_whole call e = cc
 
 -- what comes behind an outcome that ends whole

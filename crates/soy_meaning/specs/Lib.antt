@@ -21,5 +21,7 @@ pub mod Meaning
 pub mod RunRows
 pub mod TranslationFits
 pub mod RunsAlong
+pub mod PicksValues
+pub mod EqualChoices
 pub mod Ways
 pub mod Blocks

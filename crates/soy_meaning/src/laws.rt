@@ -36,6 +36,8 @@ ghost use Rattle.soy_meaning.specs.Pieces.{RunContext, template_run};
 ghost use Rattle.soy_meaning.specs.RunsAlong.{EnvRuns, FilledByRuns, FitsClasses, IsFrameWithin, RunsAlong};
 ghost use Rattle.soy_meaning.specs.RunsAlong.{frame_plan};
 ghost use Rattle.soy_meaning.specs.TranslationFits.{TranslationsFit};
+ghost use Rattle.soy_meaning.specs.EqualChoices.{AlikeByChoices, AlikeRuns, EnvsAlike};
+ghost use Rattle.soy_meaning.specs.PicksValues.{TemplatesPick, param_marks};
 ghost use Rattle.soy_meaning.specs.AcceptedTrees.{AcceptedTrees, walk_trees};
 ghost use Rattle.soy_meaning.specs.EscapedAt.{escaped_where, is_text_of};
 ghost use Rattle.soy_meaning.specs.Filled.{Filled, FillsHoles, IsBlockKind, IsFrameOf, filled_pieces, parts_of_filled};
@@ -150,6 +152,22 @@ pub fn law_runs_are_paths()
     ensures frames { (c : RunContext) (trees : List Tree) (d : Declared) →
         c.declared ≡ declared trees → IsMember d c.declared →
         IsFrameWithin (trees_plan c.translation trees) d.template.kind (frame_plan c d) }
+{}
+
+/// Where expressions pick values alone, two runs of a template with the same choices are alike: the same texts stand
+/// there, in nested frames too, with values at the same points between them, and both end whole or stop at the same
+/// call. So it is for all environments that bind values, or blocks that are alike by their choices. The choices of
+/// neither run begin those of the other.
+pub fn law_equal_choices()
+    ensures alike { (c : RunContext) (d : Declared) (env other : RunEnv) → IsMember d c.declared →
+        TranslationsFit c.translation c.declared → TemplatesPick c c.declared →
+        EnvsAlike (param_marks d.template.params) env other →
+        choices_of_outcome (template_run c d env) ≡ choices_of_outcome (template_run c d other) →
+        AlikeRuns (template_run c d env) (template_run c d other) }
+    ensures no_beginning { (c : RunContext) (d : Declared) (env other : RunEnv) → IsMember d c.declared →
+        TranslationsFit c.translation c.declared → TemplatesPick c c.declared →
+        EnvsAlike (param_marks d.template.params) env other →
+        AlikeByChoices (template_run c d env) (template_run c d other) }
 {}
 
 /// Under accepted paths what fills a path by runs fills its holes, where values and frames have classes of theirs. The
