@@ -36,7 +36,7 @@ use Rattle.bidi_order.specs.DecodedReferences.{character_given, character_pendin
 pub data MarkupToken : Type 0 where
   -- a character of text, and its label
   Character : ℕ → Option ℕ → MarkupToken
-  -- a name, the value of the first `dir` if there is one, and the label of the tag's `>`
+  -- a name, the value of the first `dir` if there is one, and the label of the tag's `<`
   StartTag : List ℕ → Option (List ℕ) → Option ℕ → MarkupToken
   -- a name
   EndTag : List ℕ → MarkupToken
@@ -144,9 +144,9 @@ character_read row.EndTagOpen (row.TagName _ _) label c r =
     ([], record r { tag = named_tag (to_ascii_lowercase c ∷ []) })
 character_read (row.TagName _ _) (row.TagName _ _) label c r =
     ([], record r { tag = named_tag (r.tag.name ++ to_ascii_lowercase c ∷ []) })
-character_read (row.TagName kind _) after label c r = in_tag_read kind r.tag after label r
+character_read (row.TagName kind _) after label c r = in_tag_read kind r.tag after r.opening r
 character_read (row.InTag (tag.Named kind _) inner) after label c r =
-    in_tag_read kind (tag_read inner (row_in_tag after) c r.tag) after label r
+    in_tag_read kind (tag_read inner (row_in_tag after) c r.tag) after r.opening r
 character_read (row.BegunEndTag now _) (row.InTag _ _) label c r =
     ([], record r { tag = named_tag (element_name now) })
 character_read (row.BegunEndTag now _) row.Data label c r = (EndTag (element_name now) ∷ [], r)
