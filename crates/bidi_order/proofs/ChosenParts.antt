@@ -27,7 +27,7 @@ use Rattle.bidi_order.proofs.SimilarLevels.{least_level-append, levels_in-append
 use Rattle.bidi_order.proofs.ResetOrder.{has_separator}
 use Rattle.bidi_order.proofs.SameOrder.{kinds, Held, Limited, Pieces, pieces, is_value, surrounding-text}
 use Rattle.bidi_order.proofs.SameOrder.{one_line-append, other_line-append, plain, next_level-explicit_character}
-use Rattle.bidi_order.proofs.SameOrder.{next_level-limited, one_line, same_separators, Held-one_line}
+use Rattle.bidi_order.proofs.SameOrder.{next_level-limited, order_in_line, same_separators, Held-one_line}
 use Rattle.bidi_order.proofs.SameOrder.{has_separator-append, initiator-apart}
 use Rattle.bidi_order.proofs.SameOrder.Held.{held_shared, held_value}
 use Rattle.bidi_order.proofs.SameOrder.Limited.{limited_value}
@@ -495,14 +495,14 @@ chosen_order base A E M F Z sle sre slf srf held limited =
     (other_index A E + 1 + other_apart E M F))
     (ap (λ l. is_left_of (line_levels base l) (one_index A E) (one_index A E + 1 + one_apart E M F))
     (one_line-line A E M F Z)
-    ∙ one_line base (one_line A ++ one_before E) (one_after E ++ (one_line M ++ one_before F))
+    ∙ order_in_line base (one_line A ++ one_before E) (one_after E ++ (one_line M ++ one_before F))
     (one_after F ++ one_line Z) (one_character E) (one_character F) (pa.first ++ ce.B1)
     (ce.A1 ++ (pm.first ++ cf.B1)) (cf.A1 ++ T) ce.k cf.k
     (ap (explicit_characters base) (sym (one_line-line A E M F Z)) ∙ left_is) long1 mid1
     (surrounding-text (bidi_class (one_character E)) sle) (surrounding-text (bidi_class (one_character F)) slf))
     (ap (λ l. is_left_of (line_levels base l) (other_index A E) (other_index A E + 1 + other_apart E M F))
     (other_line-line A E M F Z)
-    ∙ one_line base (other_line A ++ other_before E) (other_after E ++ (other_line M ++ other_before F))
+    ∙ order_in_line base (other_line A ++ other_before E) (other_after E ++ (other_line M ++ other_before F))
     (other_after F ++ other_line Z) (other_character E) (other_character F) (pa.second ++ ce.B2)
     (ce.A2 ++ (pm.second ++ cf.B2)) (cf.A2 ++ T') ce.l cf.l
     (ap (explicit_characters base) (sym (other_line-line A E M F Z)) ∙ right_is) long2 mid2

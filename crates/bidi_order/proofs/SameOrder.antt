@@ -283,10 +283,10 @@ module _ (base : ℕ) (a m b : List ℕ) (x y : ℕ) (SA SM TB : List (Option Ke
   abbrev in_m : List (Option ℕ)
   in_m = levels_in base (Some kx ∷ past [] SA) SM (Some ky ∷ TB)
 
-  pub one_line : is_left_of (line_levels base (a ++ x ∷ (m ++ y ∷ b))) (length a) (length a + 1 + length m)
+  pub order_in_line : is_left_of (line_levels base (a ++ x ∷ (m ++ y ∷ b))) (length a) (length a + 1 + length m)
       ≡ not (is_odd (least_between base (has_separator (kinds m)) at_x in_m at_y))
   unfolding line_levels
-  one_line =
+  order_in_line =
       let line : List ℕ = a ++ x ∷ (m ++ y ∷ b) in
       let LA : List (Option ℕ) = levels_in base [] SA (Some kx ∷ (SM ++ Some ky ∷ TB)) in
       let LB : List (Option ℕ) = resolved_levels_from base (Some ky ∷ past (Some kx ∷ past [] SA) SM) TB in
