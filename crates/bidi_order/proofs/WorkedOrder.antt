@@ -126,7 +126,7 @@ value_and_letter-order : (i c : ℕ) (v w : List ℕ) (mid : List Both) (letter 
     → HoldsCleaned (mid ++ Shared letter ∷ suffix) → is_surrounding (bidi_class letter) ≡ true
     → is_within_limit 1 (one_labelled 0 (whole_line (value_and_letter i c v w mid letter suffix))) ≡ true
     → is_left_of (line_levels 1 (one_line (whole_line (value_and_letter i c v w mid letter suffix)))) 1
-    (4 + length (one_line mid ++ [])) ≡ false
+    (3 + length (one_line mid ++ [])) ≡ false
     → is_left_of (line_levels 1 (other_line (whole_line (value_and_letter i c v w mid letter suffix)))) (1 + length v)
     (3 + length v + length w + length (other_line mid)) ≡ false
 value_and_letter-order i c v w mid letter suffix initiator clean surrounding held letters within one =
@@ -135,7 +135,7 @@ value_and_letter-order i c v w mid letter suffix initiator clean surrounding hel
     let all : HoldsCleaned (whole_line lines) = ((refl, initiator, cleaned-c, clean), held) in
     let same = choice_order 1 lines all (value_and_letter-surrounding i c v w mid letter suffix letters surrounding)
     within in
-    let one_at : one_second lines ≡ 4 + length (one_line mid ++ []) = omega arith in
+    let one_at : one_second lines ≡ 3 + length (one_line mid ++ []) = omega arith in
     let first_at : other_first lines ≡ 1 + length v = omega arith in
     let second_at : other_second lines ≡ 3 + length v + length w + length (other_line mid) =
     omega (
