@@ -47,6 +47,14 @@ pub nested-within : (i : ℕ) (text : List ℕ) → is_value_initiator i ≡ tru
     → is_within_limit 0 (other_labelled 0 (nested_line 61 i (cleaned_text text))) ≡ true
 nested-within i text h = sym (nested-same 61 i text h) ∙ within-c i text
 
+last-c : (i : ℕ) (text : List ℕ) → is_within_limit 0 (one_labelled 0 (nested_line 62 i (cleaned_text text))) ≡ true
+unfolding is_within_limit bidi_class general_category value_in general_category_rows
+last-c i text = refl
+
+pub nested-last : (i : ℕ) (text : List ℕ) → is_value_initiator i ≡ true
+    → is_within_limit 0 (other_labelled 0 (nested_line 62 i (cleaned_text text))) ≡ true
+nested-last i text h = sym (nested-same 62 i text h) ∙ last-c i text
+
 past-c : (i : ℕ) (text : List ℕ) → is_within_limit 0 (one_labelled 0 (nested_line 63 i (cleaned_text text))) ≡ false
 unfolding is_within_limit bidi_class general_category value_in general_category_rows
 past-c i text = refl

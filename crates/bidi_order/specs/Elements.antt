@@ -59,15 +59,15 @@ dir_attribute (Some value) = dir_of_value (map to_ascii_lowercase value)
 
 -- ---- which elements are open
 
--- the names of open elements, innermost first, without the innermost of a name and those that were opened in it; none
--- where none has the name
-abbrev pub names_closed : {X : Type 0} → (X → List ℕ) → List ℕ → List X → Option (List X)
-names_closed name_of name [] = None
-names_closed name_of name (x ∷ xs) = if bytes_eq (name_of x) name then Some xs else names_closed name_of name xs
+-- the open elements, innermost first, that stay open where the innermost of a name is closed, with those that were
+-- opened in it; none where none has the name
+abbrev pub left_open : {X : Type 0} → (X → List ℕ) → List ℕ → List X → Option (List X)
+left_open name_of name [] = None
+left_open name_of name (x ∷ xs) = if bytes_eq (name_of x) name then Some xs else left_open name_of name xs
 
 -- ---- a direction that goes by the content
 
--- an element opened in the content, and whether the content of it counts
+-- an element opened in the content, and whether its own content stands apart and so doesn't count
 pub record InnerElement : Type 0 where
   pub name : List ℕ
   pub is_apart : Bool
@@ -91,7 +91,7 @@ content_right_to_left outer inner (Character c label ∷ rest) =
 content_right_to_left outer inner (StartTag name dir label ∷ rest) =
     content_right_to_left outer (if is_void name then inner else inner_element name dir ∷ inner) rest
 content_right_to_left outer inner (EndTag name ∷ rest) =
-    elim (names_closed (λ (e : InnerElement). e.name) name inner) [
+    elim (left_open (λ (e : InnerElement). e.name) name inner) [
       | Some left ↦ content_right_to_left outer left rest
       | None ↦ if is_among outer name then false else content_right_to_left outer inner rest
     ]
@@ -135,4 +135,4 @@ elements_closed name (e ∷ es) = if bytes_eq e.name name then e ∷ [] else e �
 
 -- those that stay open; none where none has the name
 abbrev pub elements_left : List ℕ → List OpenElement → Option (List OpenElement)
-elements_left name open_ones = names_closed (λ (e : OpenElement). e.name) name open_ones
+elements_left name open_ones = left_open (λ (e : OpenElement). e.name) name open_ones

@@ -1,12 +1,10 @@
 -- The lines of a page: its characters by the tags that end a line, each line with the direction of its base, and with
--- the isolates and overrides that stand for its inline elements (WHATWG HTML, "Rendering", "Bidirectional text"; UAX
--- #9,
--- 4.3, HL3).
+-- the isolates and overrides that stand for its inline elements (WHATWG HTML, "Rendering", "Bidirectional text", and
+-- UAX #9, 4.3, HL3).
 --
 -- A tag that isn't inline ends a line, and so does a static character of class B other than LF and CR; neither stands
 -- in a line. White space of HTML stands as U+0020. An inline element with a direction stands as LRI or RLI and its
--- close
--- as PDI; a `bdo` that overrides has LRO or RLO and PDF inside these. A line begins with what stands for each inline
+-- close as PDI; a `bdo` that overrides has LRO or RLO and PDF inside these. A line begins with what stands for each inline
 -- element that is open, outermost first, and its base is the direction of the innermost open block that has one, else
 -- the context's. What stands for a value's span has the value's label.
 --

@@ -2,8 +2,7 @@
 -- before one or at the line's end, have the level of the base.
 --
 -- Of `a`, space, LRI, `b`, PDI at the base 1 the levels are 2, 1, 1, 2, 1: the PDI at the end is reset; the LRI isn't
--- at
--- the end, and has the level that N2 and I2 give it.
+-- at the end, and has the level that N2 and I2 give it.
 use Rattle.std.specs.Prelude.{ℕ, Bool, true, false, List, [], ◌∷◌, if◌then◌else◌, Option, Some, None}
 use Rattle.bidi_class.specs.declared.class.Class.{Class}
 use Rattle.bidi_class.specs.declared.class.Class.TheVariants.{S, WS, LRI, RLI, FSI, PDI, LRE, RLE, LRO, RLO, PDF, BN}
@@ -59,3 +58,13 @@ abbrev pub can_reset : ResetKind → Bool
 can_reset Separator = true
 can_reset Whitespace = true
 can_reset _ = false
+
+-- the classes of which L1 speaks: separators of segments, white space and isolate controls
+abbrev pub is_reset_class : Class → Bool
+is_reset_class S = true
+is_reset_class WS = true
+is_reset_class LRI = true
+is_reset_class RLI = true
+is_reset_class FSI = true
+is_reset_class PDI = true
+is_reset_class _ = false

@@ -8,8 +8,7 @@
 -- out.
 --
 -- In `a`, RLI, U+05D0, PDI, `b` at the base 0 the sequence through `a` is `a`, RLI, PDI, `b`, and that through U+05D0
--- is
--- this character alone, at level 1 with sos and eos R.
+-- is this character alone, at level 1 with sos and eos R.
 use Rattle.std.specs.Prelude.{ℕ, zero, suc, max, Bool, true, false, ◌==◌, List, [], ◌∷◌, ◌++◌, reverse, length, get_or}
 use Rattle.std.specs.Prelude.{if◌then◌else◌, Option, Some, None}
 use Rattle.bidi_class.specs.declared.class.Class.{Class}

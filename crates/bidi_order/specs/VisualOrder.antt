@@ -53,7 +53,8 @@ abbrev pub comes_first : ℕ → ℕ → List LeveledCharacter → Bool
 comes_first i j [] = false
 comes_first i j (x ∷ xs) = if x.index == i then true else if x.index == j then false else comes_first i j xs
 
--- of a line with these levels the character at the one index stands left of that at the other
+-- of a line with these levels the character at the one index stands left of that at the other, where these are two
+-- characters that are kept
 unfoldable pub is_left_of : List (Option ℕ) → ℕ → ℕ → Bool
 is_left_of levels i j = comes_first i j (visual_order levels)
 

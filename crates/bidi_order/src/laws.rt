@@ -1,10 +1,11 @@
 //! What holds of levels and order, for every line: functions with an empty body, whose contracts are the laws.
 ghost use Rattle.std.specs.Prelude.{◌≡◌, ℕ, ◌<◌, ◌+◌, false, not, List, [], ◌∷◌, ◌++◌, length, Option, Some, None};
-ghost use Rattle.std.specs.Prelude.{slice_range, slice_index_or, IsTrue};
+ghost use Rattle.std.specs.Prelude.{slice_range, slice_index, slice_index_or, IsTrue};
 ghost use Rattle.bidi_text.specs.Clean.{cleaned_text};
 ghost use Rattle.bidi_order.specs.DirectionalStatus.{is_odd};
 ghost use Rattle.bidi_order.specs.Levels.{line_levels};
-ghost use Rattle.bidi_order.specs.Reset.{ResetKind, can_reset, reset_levels};
+ghost use Rattle.bidi_class.specs.Class.{bidi_class};
+ghost use Rattle.bidi_order.specs.Reset.{ResetKind, can_reset, is_reset_class, reset_levels};
 ghost use Rattle.bidi_order.specs.Reset.ResetKind.{Separator};
 ghost use Rattle.bidi_order.specs.Sequences.{levels_before_reset};
 ghost use Rattle.bidi_order.specs.TwoLines.{Both, HoldsCleaned, ComparedLines, are_surrounding, one_first};
@@ -34,9 +35,12 @@ pub fn law_delete_content()
         ≡ levels_before_reset base (line_characters (prefix ++ (value_characters k i [] ++ suffix))) }
 {}
 
-/// L1 leaves the level of a character that is no separator, no white space and no isolate control.
+/// L1 leaves the level of a character whose class is none of S, WS, LRI, RLI, FSI and PDI.
 pub fn law_reset()
-    ensures { (base : ℕ) (kinds : List ResetKind) (levels : List (Option ℕ)) (i : ℕ)
+    ensures of_lines { (base : ℕ) (line : List ℕ) (i : ℕ) → i < length line
+        → is_reset_class (bidi_class (slice_index line i)) ≡ false
+        → slice_index_or (line_levels base line) i None ≡ slice_index_or (levels_before_reset base line) i None }
+    ensures of_kinds { (base : ℕ) (kinds : List ResetKind) (levels : List (Option ℕ)) (i : ℕ)
         → can_reset (slice_index_or kinds i Separator) ≡ false
         → slice_index_or (reset_levels base kinds levels) i None ≡ slice_index_or levels i None }
 {}
@@ -51,8 +55,8 @@ pub fn law_order()
 
 /// Two lines that differ in what their values hold, and in the directions of these, are both within the limit or
 /// neither is. On such a line within it any two characters that are surrounding, or of values' blocks, stand in the
-/// order of the other line; and within one line, any two characters of a block stand alike to a third one, so that no
-/// surrounding character stands between them.
+/// order of the other line; and within one line, any two characters of a block stand alike to a surrounding one or one of
+/// another block, so that none of these stands between them.
 pub fn law_same_line()
     ensures within { (base : ℕ) (line : List Both) → HoldsCleaned line
         → is_within_limit base (one_labelled 0 line) ≡ is_within_limit base (other_labelled 0 line) }

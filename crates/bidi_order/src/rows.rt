@@ -29,10 +29,12 @@ pub fn law_levels_rows()
     ensures terminator { line_levels 1 (0x61 ∷ 0x31 ∷ 0x25 ∷ []) ≡ Some 2 ∷ Some 2 ∷ Some 2 ∷ [] }
 {}
 
-/// A value of any cleaned text inside 61 spans from right to left is within the limit, and inside 63 none is.
+/// A value of any cleaned text inside 61 or 62 spans from right to left is within the limit, and inside 63 none is.
 pub fn law_limit_rows()
     ensures within { (i : ℕ) (text : List ℕ) → IsTrue (is_value_initiator i)
         → is_within_limit 0 (other_labelled 0 (nested_line 61 i (cleaned_text text))) ≡ true }
+    ensures last_within { (i : ℕ) (text : List ℕ) → IsTrue (is_value_initiator i)
+        → is_within_limit 0 (other_labelled 0 (nested_line 62 i (cleaned_text text))) ≡ true }
     ensures past { (i : ℕ) (text : List ℕ) → IsTrue (is_value_initiator i)
         → is_within_limit 0 (other_labelled 0 (nested_line 63 i (cleaned_text text))) ≡ false }
 {}
