@@ -1,5 +1,6 @@
 -- What is read of tokens is the longest prefix with which some type begins.
-use Rattle.std.proofs.Common.{◌≡◌, ℕ, ◌+◌, ◌≤◌, Bool, true, false, length, List, [], ◌∷◌, ◌++◌, Option}
+use Rattle.std.proofs.Common.{◌≡◌, ℕ, ◌+◌, ◌≤◌, Bool, true, false, not, ◌&&◌, length, List, [], ◌∷◌, ◌++◌}
+use Rattle.std.proofs.Common.{Option}
 use Rattle.std.proofs.Common.{Some, None, refl, sym, ◌∙◌, ap, subst, arith, append_assoc, length-append}
 use Rattle.std.specs.Prelude.{if◌then◌else◌}
 use Rattle.soy_base.specs.declared.code.Code.TheVariants as code
@@ -307,3 +308,47 @@ reading_type-Answers blocks ts = means blocks ts [] type_start refl tt (start_kn
 pub read_type-Answers : (blocks : ℕ) (ts : List Token) (o : TypeOutcome) → o ≡ reading_type blocks 0 0 ts type_start →
     Answers blocks ts o
 read_type-Answers blocks ts o e = rw e (reading_type-Answers blocks ts)
+
+-- whether the token read last is a word that stands as a type and names none
+unknown_at-is : (p : ExpectedInType) (t : Token) (ts : List Token) → IfNamed p t →
+    unknown_at p (begins_with_less ts)
+    ≡ (if is_after_name p && not (is_type_name t ts) then Some t.span.start else None)
+unknown_at-is (expected.AfterName n at) t ts i =
+    over (names_type n (begins_with_less ts))
+    ∙ (ap (λ k. if not (names_type n (begins_with_less ts)) then Some k else None) (sym i.1)
+    ∙ ap (λ m. if not (word_names_type m (begins_with_less ts)) then Some t.span.start else None) (sym i.0))
+  where
+    over : (b : Bool) → (if b then None else Some at) ≡ (if not b then Some at else None)
+    over true = refl
+    over false = refl
+unknown_at-is expected.Type t ts i = refl
+unknown_at-is (expected.Delimiter x) t ts i = refl
+unknown_at-is expected.Key t ts i = refl
+unknown_at-is expected.KeyComma t ts i = refl
+unknown_at-is (expected.FieldName fields n) t ts i = refl
+unknown_at-is (expected.FieldColon fields n name) t ts i = refl
+
+ran_one : (o : Option TypeState) (m : TypeState) → type_run_from (type_run []) o ≡ Some m → o ≡ Some m
+ran_one None m e = absurd (cc e)
+ran_one (Some s) m e = e
+
+-- **A state answers of the token read last whether it stands as a type and names none.**
+pub unknown-is : (us ts : List Token) (t : Token) (ws : List Bool) (w : Bool) (m : TypeState) →
+    type_run (us ++ t ∷ []) type_start ≡ Some m → type_words (us ++ t ∷ []) type_start ≡ ws ++ w ∷ [] →
+    unknown_type m (begins_with_less ts) ≡ (if w && not (is_type_name t ts) then Some t.span.start else None)
+unknown-is us ts t ws w m r words = over (type_run us type_start) refl
+  where
+    last : IfNamed m.expected t
+    last = named_last m.expected m.frames us t (run_holds (us ++ t ∷ []) [] type_start m Opened.none r)
+
+    over : (o : Option TypeState) → type_run us type_start ≡ o →
+        unknown_type m (begins_with_less ts) ≡ (if w && not (is_type_name t ts) then Some t.span.start else None)
+    over None e = absurd (cc (sym r ∙ (run_append us (t ∷ []) type_start ∙ ap (type_run_from (type_run (t ∷ []))) e)))
+    over (Some s) e =
+        let next : type_next s t ≡ Some m = ran_one (type_next s t) m (sym (one_more us t s e) ∙ r) in
+        let word : is_after_name m.expected ≡ w =
+        same_last (type_words us type_start) ws (is_after_name m.expected) w
+        (sym (words_append us (t ∷ []) type_start s e
+        ∙ ap (λ l. type_words us type_start ++ l) (ap (type_words_from (type_words [])) next)) ∙ words) in
+        unknown_at-is m.expected t ts last
+        ∙ ap (λ b. if b && not (is_type_name t ts) then Some t.span.start else None) word

@@ -1,7 +1,8 @@
 //! What holds of the grammar and of the machine: functions that take nothing and do nothing, whose contracts are the
 //! laws.
 
-ghost use Rattle.std.specs.Prelude.{◌≡◌, ◌≢◌, ℕ, Bool, true, List, ◌++◌, Some, Result, Err};
+ghost use Rattle.std.specs.Prelude.{◌≡◌, ◌≢◌, ℕ, Bool, true, not, ◌&&◌, List, [], ◌∷◌, ◌++◌, Some, None};
+ghost use Rattle.std.specs.Prelude.{Result, Err, if◌then◌else◌};
 ghost use Rattle.soy_base.specs.declared.fault.Fault.{Fault};
 ghost use Rattle.soy_base.specs.declared.memory.Refusal.{Refusal};
 ghost use Rattle.soy_base.specs.declared.memory.Refusal.TheVariants.{OutOfMemory};
@@ -24,7 +25,8 @@ ghost use Rattle.expr_parser.specs.SpansInOrder.{SpansInOrder};
 ghost use Rattle.expr_parser.specs.SpellsExpr.{SpellsExpr};
 ghost use Rattle.expr_parser.specs.SpellsType.{SpellsType};
 ghost use Rattle.expr_parser.specs.TypeRuns.{type_run, type_depths, type_words, type_start};
-ghost use Rattle.expr_parser.specs.TypeSteps.{whole_type};
+ghost use Rattle.expr_parser.specs.TypeSteps.{unknown_type, whole_type};
+ghost use Rattle.expr_parser.specs.TypeTerminals.{begins_with_less, is_type_name};
 ghost use Rattle.expr_parser.specs.declared.operand.Operand.{Operand};
 ghost use Rattle.expr_parser.specs.declared.state.ExprState.{ExprState};
 ghost use Rattle.expr_parser.specs.declared.type_frame.TypeOperand.{TypeOperand};
@@ -83,6 +85,17 @@ pub fn law_type_machine()
     ensures spelled { (tokens : List Token) (ds : List ℕ) (ws : List Bool) (x : TypeOperand) →
         SpellsType tokens ds ws x →
         (s : TypeState) × (type_run tokens type_start ≡ Some s) × (whole_type s ≡ Some x) }
+{}
+
+/// Of a state after tokens it is asked whether the last of them is a word that stands as a type and names none before
+/// what follows: the answer is its offset.
+pub fn law_unknown_type()
+    ensures after_a_token { (before after : List Token) (token : Token) (words : List Bool) (word : Bool)
+        (s : TypeState) → type_run (before ++ token ∷ []) type_start ≡ Some s →
+        type_words (before ++ token ∷ []) type_start ≡ words ++ word ∷ [] →
+        unknown_type s (begins_with_less after)
+        ≡ (if word && not (is_type_name token after) then Some token.span.start else None) }
+    ensures at_the_start { (less_follows : Bool) → unknown_type type_start less_follows ≡ None }
 {}
 
 /// What tokens spell whose words and variables are names is formed: each int literal is from 0 to 9007199254740991,

@@ -19,7 +19,7 @@ mod type_terminal;
 
 pub use laws::{
     law_expr_machine, law_expr_spans, law_formed, law_one_answer, law_one_expr, law_one_type,
-    law_type_machine,
+    law_type_machine, law_unknown_type,
 };
 pub use operand::Operand;
 pub use parse::{parse_expr, parse_type};

@@ -1,8 +1,8 @@
 //! Rows of the grammar of expressions and types, over the tokens of the lexer.
 
-use crate::{parse_expr, parse_type};
-use soy_base::{Code, Fault, OutOfMemory, Refusal, push_text};
-use soy_lexer::lex;
+use crate::{ExprState, ExprStep, TypeState, TypeStep, parse_expr, parse_type};
+use soy_base::{Code, Fault, OutOfMemory, Refusal, Span, push_text};
+use soy_lexer::{Token, lex};
 use soy_tree::{BinaryOp, Expr, ExprNode, Field, SoyType};
 use std::alloc::Global;
 
@@ -188,6 +188,9 @@ const FAULTS: &[(&str, u32, Code, u64)] = &[
     ("{1 + 2 + 3}", 62, Code::Nesting, 7),
     ("{1 + 2 * 3}", 62, Code::Nesting, 7),
     ("{1 + (2 * 3)}", 61, Code::Nesting, 8),
+    ("{((1))}", 62, Code::Nesting, 3),
+    ("{(1) + 2}", 62, Code::Nesting, 5),
+    ("{-(1)}", 62, Code::Nesting, 3),
     ("{$a ? $b : $c.d}", 62, Code::Nesting, 13),
     ("{)}", 64, Code::Syntax, 1),
 ];
@@ -367,6 +370,9 @@ const TYPE_FAULTS: &[(&str, u32, Code, u64)] = &[
     ("{list<list<int>>|int}", 61, Code::Nesting, 16),
     ("{[a: int]}", 63, Code::Nesting, 5),
     ("{[a: int, b: bool|int]}", 62, Code::Nesting, 17),
+    ("{list<int|bool>}", 62, Code::Nesting, 9),
+    ("{int|list<bool>}", 62, Code::Nesting, 10),
+    ("{int|bool|int}", 63, Code::Nesting, 4),
 ];
 
 #[test]
@@ -379,5 +385,169 @@ fn type_faults_are_at_the_first_token(rt: HostRuntime) {
                 assert_eq!(rt; at, *offset, "{text}");
             }
         }
+    }
+}
+
+/// A command whose expression or type is just within the limit, and the block commands that are open around it.
+const WITHIN: &[(&str, u32)] = &[
+    ("{1}", 63),
+    ("{1 + 2}", 62),
+    ("{1 + 2 + 3}", 61),
+    ("{(1)}", 62),
+    ("{((1))}", 61),
+    ("{(1) + 2}", 61),
+    ("{-(1)}", 61),
+    ("{($a ? $b : $c)}", 61),
+];
+
+const TYPES_WITHIN: &[(&str, u32)] = &[
+    ("{int}", 63),
+    ("{int|bool}", 62),
+    ("{int|bool|int}", 62),
+    ("{list<int|bool>}", 61),
+    ("{int|list<bool>}", 61),
+    ("{[a: int]}", 62),
+];
+
+#[test]
+fn the_limit_of_depth_is_reached(rt: HostRuntime) {
+    for (text, depth) in WITHIN {
+        assert!(rt; read(rt.alloc(), text, *depth).is_ok(), "{text}");
+        assert!(rt;
+            read(rt.alloc(), text, depth.saturating_add(1)).is_err(),
+            "{text}"
+        );
+    }
+    for (text, depth) in TYPES_WITHIN {
+        assert!(rt; read_type(rt.alloc(), text, *depth).is_ok(), "{text}");
+        assert!(rt;
+            read_type(rt.alloc(), text, depth.saturating_add(1)).is_err(),
+            "{text}"
+        );
+    }
+}
+
+/// The span of the expression at the head of a command.
+fn span_of(alloc: Global, text: &str) -> Option<Span> {
+    let tokens = lex(alloc, text, 0).ok()?;
+    if tokens.is_empty() {
+        return None;
+    }
+    let (expr, _) = parse_expr(alloc, &tokens.as_slice()[1..], 0, 0).ok()?;
+    Some(expr.span)
+}
+
+/// A command, and where its expression begins and ends.
+const SPANS: &[(&str, u64, u64)] = &[
+    ("{1}", 1, 2),
+    ("{$a }", 1, 3),
+    ("{'é'}", 1, 5),
+    ("{1 + 2}", 1, 6),
+    ("{1 + 2 * 3 }", 1, 10),
+    ("{- $a}", 1, 5),
+    ("{not $a }", 1, 7),
+    ("{(1 + 2)}", 2, 7),
+    ("{(1) + (2)}", 1, 10),
+    ("{$a.b}", 1, 5),
+    ("{$a?.b[1] }", 1, 9),
+    ("{$a ?: $b}", 1, 9),
+    ("{$a ? $b : $c}", 1, 13),
+];
+
+#[test]
+fn an_expression_spans_its_tokens(rt: HostRuntime) {
+    for (text, start, end) in SPANS {
+        assert_eq!(rt;
+            span_of(rt.alloc(), text),
+            Some(Span {
+                start: *start,
+                end: *end
+            }),
+            "{text}"
+        );
+    }
+}
+
+/// The number of tokens that the machine takes, the depth after them, and whether they are a whole expression.
+fn steps(alloc: Global, tokens: &[Token]) -> Result<(usize, u32, bool), OutOfMemory> {
+    let mut state = ExprState::start(alloc);
+    for (count, token) in tokens.iter().enumerate() {
+        let depth = state.depth();
+        match state.step(alloc, token)? {
+            ExprStep::Next(to) => state = to,
+            ExprStep::End(before) => return Ok((count, depth, before.is_some())),
+        }
+    }
+    let depth = state.depth();
+    let whole = state.finish(alloc)?;
+    Ok((tokens.len(), depth, whole.is_some()))
+}
+
+/// The same of a type.
+fn type_steps(alloc: Global, tokens: &[Token]) -> Result<(usize, u32, bool), OutOfMemory> {
+    let mut state = TypeState::start(alloc);
+    for (count, token) in tokens.iter().enumerate() {
+        let depth = state.depth();
+        match state.step(alloc, token)? {
+            TypeStep::Next(to) => state = to,
+            TypeStep::End(before) => return Ok((count, depth, before.is_some())),
+        }
+    }
+    let depth = state.depth();
+    let whole = state.finish()?;
+    Ok((tokens.len(), depth, whole.is_some()))
+}
+
+/// A command, the number of tokens that the machine takes, the depth after them, and whether they are whole.
+const STEPS: &[(&str, usize, u32, bool)] = &[
+    ("{1 + 2}", 3, 2, true),
+    ("{1", 1, 1, true),
+    ("{1 +", 2, 2, false),
+    ("{1 +}", 2, 2, false),
+    ("{(1", 2, 2, false),
+    ("{((1))", 5, 3, true),
+    ("{$a.", 2, 2, false),
+    ("{$a[1", 3, 2, false),
+    ("{$a ? $b", 3, 2, false),
+    ("{$a ? $b : $c", 5, 2, true),
+    ("{)}", 0, 0, false),
+    ("{", 0, 0, false),
+];
+
+const TYPE_STEPS: &[(&str, usize, u32, bool)] = &[
+    ("{int", 1, 1, true),
+    ("{uri", 1, 1, true),
+    ("{int|", 2, 2, false),
+    ("{int|bool}", 3, 2, true),
+    ("{list<int", 3, 2, false),
+    ("{list<int>", 4, 2, true),
+    ("{map<string", 3, 1, false),
+    ("{[a: int", 4, 2, false),
+    ("{[a: int]", 5, 2, true),
+    ("{)}", 0, 0, false),
+    ("{", 0, 0, false),
+];
+
+#[test]
+fn the_machines_take_what_goes_on(rt: HostRuntime) {
+    for (text, taken, depth, whole) in STEPS {
+        let Ok(tokens) = lex(rt.alloc(), text, 0) else {
+            assert!(rt; false, "{text}");
+            return;
+        };
+        let found = steps(rt.alloc(), tokens.as_slice().get(1..).unwrap_or(&[])).ok();
+        assert_eq!(rt; found, Some((*taken, *depth, *whole)), "{text}");
+    }
+}
+
+#[test]
+fn the_machine_of_types_takes_what_goes_on(rt: HostRuntime) {
+    for (text, taken, depth, whole) in TYPE_STEPS {
+        let Ok(tokens) = lex(rt.alloc(), text, 0) else {
+            assert!(rt; false, "{text}");
+            return;
+        };
+        let found = type_steps(rt.alloc(), tokens.as_slice().get(1..).unwrap_or(&[])).ok();
+        assert_eq!(rt; found, Some((*taken, *depth, *whole)), "{text}");
     }
 }

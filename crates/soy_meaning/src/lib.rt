@@ -3,12 +3,13 @@
 //!
 //! Nothing here runs: the definitions of specs/ are what the contracts of the crates above cite, and the law functions,
 //! each a contract with an empty body, say what they come to.
-//! Depends on soy_base, soy_tree, script_state, html_state, escapers, esc_table and bidi_text.
+//! Depends on soy_base, soy_tree, html_state, escapers, bidi_text and plural_rules, and in proofs on script_state,
+//! esc_table and bidi_class.
 #![tactic(auto)]
 
 mod laws;
 
 pub use laws::{
-    law_few_states, law_frame, law_hole, law_outcomes, law_places_are_static, law_rows,
-    law_run_rows, law_value_texts, law_walk,
+    law_few_states, law_frame, law_hole, law_outcomes, law_places_are_static, law_plan_is_of_tree,
+    law_rows, law_run_rows, law_runs_are_paths, law_runs_are_read, law_value_texts, law_walk,
 };
