@@ -1,0 +1,20 @@
+use Rattle.std.proofs.Common.{refl}
+use Rattle.bidi_class.specs.Class.{bidi_class}
+use Rattle.html_state.specs.References.{may_go_on}
+use Rattle.ucd_category.specs.GeneralCategory.{general_category}
+use Rattle.ucd_category.specs.GeneralCategoryRows.{general_category_rows}
+use Rattle.ucd_table.specs.Rows.{value_in}
+use Rattle.bidi_order.specs.Lines.{lines}
+use Rattle.bidi_order.proofs.rows.law_line_rows.Goals as goal
+
+pub returns-clause-with_override : goal.returns-clause-with_override
+unfolding lines may_go_on bidi_class general_category value_in general_category_rows
+returns-clause-with_override c = refl
+
+pub returns-clause-with_auto : goal.returns-clause-with_auto
+unfolding lines may_go_on bidi_class general_category value_in general_category_rows
+returns-clause-with_auto c = refl
+
+pub returns-clause-nested : goal.returns-clause-nested
+unfolding lines may_go_on bidi_class general_category value_in general_category_rows
+returns-clause-nested c = refl

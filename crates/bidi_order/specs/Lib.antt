@@ -1,0 +1,14 @@
+pub mod DirectionalStatus
+pub mod Explicit
+pub mod Resolve
+pub mod Sequences
+pub mod Reset
+pub mod Levels
+pub mod VisualOrder
+pub mod WithinLimit
+pub mod TwoLines
+pub mod DecodedReferences
+pub mod MarkupTokens
+pub mod Elements
+pub mod Lines
+pub mod WorkedLines
