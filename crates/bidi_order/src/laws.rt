@@ -9,7 +9,8 @@ ghost use Rattle.bidi_order.specs.Reset.{ResetKind, can_reset, is_reset_class, r
 ghost use Rattle.bidi_order.specs.Reset.ResetKind.{Separator};
 ghost use Rattle.bidi_order.specs.Sequences.{levels_before_reset};
 ghost use Rattle.bidi_order.specs.TwoLines.{Both, HoldsCleaned, ComparedLines, are_surrounding, one_first};
-ghost use Rattle.bidi_order.specs.TwoLines.{one_labelled, one_line, one_second, other_first, other_labelled, other_line};
+ghost use Rattle.bidi_order.specs.TwoLines.{one_labelled, one_line, one_second, other_first, other_labelled};
+ghost use Rattle.bidi_order.specs.TwoLines.{other_line};
 ghost use Rattle.bidi_order.specs.TwoLines.{other_second, whole_line};
 ghost use Rattle.bidi_order.specs.VisualOrder.{is_left_of, least_level};
 ghost use Rattle.bidi_order.specs.WithinLimit.{LabelledCharacter, is_value_initiator, is_within_limit};
@@ -55,8 +56,8 @@ pub fn law_order()
 
 /// Two lines that differ in what their values hold, and in the directions of these, are both within the limit or
 /// neither is. On such a line within it any two characters that are surrounding, or of values' blocks, stand in the
-/// order of the other line; and within one line, any two characters of a block stand alike to a surrounding one or one of
-/// another block, so that none of these stands between them.
+/// order of the other line; and within one line, any two characters of a block stand alike to a surrounding one or one
+/// of another block, so that none of these stands between them.
 pub fn law_same_line()
     ensures within { (base : ℕ) (line : List Both) → HoldsCleaned line
         → is_within_limit base (one_labelled 0 line) ≡ is_within_limit base (other_labelled 0 line) }

@@ -128,8 +128,8 @@ pub fn law_places_are_static()
         ≡ Ok (Takes (get_or new (holes_before p y + holes_before q x) d))) }
 {}
 
-/// A plan has the ways through its tree as its paths, and the blocks that stand in the tree as its frames, each with the
-/// plan of its body in the scope that it sees.
+/// A plan has the ways through its tree as its paths, and the blocks that stand in the tree as its frames, each with
+/// the plan of its body in the scope that it sees.
 pub fn law_plan_is_of_tree()
     ensures paths { (c : PlanContext) (ns : Nodes) (scope : Scope) (l : List PathPart) →
         IsPath (nodes_plan c ns scope) l → IsWayOfNodes c ns scope l }
