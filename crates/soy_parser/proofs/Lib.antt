@@ -14,3 +14,5 @@ pub mod SeamComma
 pub mod TypeSeam
 pub mod HeadsRead
 pub mod Ints
+pub mod Cases
+pub mod Literals

@@ -23,6 +23,7 @@ fn is_within(blocks: usize, to: &FileState) -> bool
 }
 
 /// Whether a token is a `<`.
+#[tactic(auto, using(crate::proofs::Literals::less_by_text))]
 fn is_less(token: &Token) -> bool
     ensures { result ≡ is_less (type_terminal_of token.now) }
 {
