@@ -306,7 +306,7 @@ expression_leads s from t us ds x h m ht p e ok = over m ht e
     over _ q f = absurd (cc f)
 
 -- tokens outside of expressions and types
-none_then : {n : ℕ} {a m b : FileState} {ts us : List Token} → Leads n a ts (none_deep ts) (no_words ts) m →
+pub none_then : {n : ℕ} {a m b : FileState} {ts us : List Token} → Leads n a ts (none_deep ts) (no_words ts) m →
     Leads n m us (none_deep us) (no_words us) b → Leads n a (ts ++ us) (none_deep (ts ++ us)) (no_words (ts ++ us)) b
 none_then {n} {a} {m} {b} {ts} {us} p q =
     subst (λ l. Leads n a (ts ++ us) l (no_words (ts ++ us)) b) (sym (none_append ts us))

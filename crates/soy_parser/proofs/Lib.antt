@@ -13,3 +13,12 @@ pub mod Starts
 pub mod SeamComma
 pub mod TypeSeam
 pub mod HeadsRead
+pub mod FilesComplete
+pub mod WrittenTokens
+pub mod HeadsBegun
+pub mod FilesSound
+pub mod HeadsEnd
+pub mod AdmittedSteps
+pub mod FilesExact
+pub mod FileMachine
+pub mod FileReads
