@@ -56,7 +56,7 @@ second_true true b e = e
 second_true false b e = absurd (cc e)
 
 -- the kinds of heads with which a block goes on or ends
-goes_on : HeadKind → Bool
+abbrev goes_on : HeadKind → Bool
 goes_on kind.ElseIf = true
 goes_on kind.Else = true
 goes_on kind.Case = true

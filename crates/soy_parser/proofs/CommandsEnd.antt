@@ -44,15 +44,15 @@ IsBlock name.Other = ⊥
 IsBlock _ = Unit {0}
 
 -- commands that close what is open, for which there are tokens
-pub data Written : Tag → Type 0 where
-  text_ : (text : List ℕ) → Written (tag.Text text)
-  default_ : Written (tag.GoesOn middle.Default)
-  closes_ : (n : BlockName) → IsBlock n → Written (tag.Closes n)
-  namespace_ : Written (tag.Namespace (codes "x"))
+pub data IsWritten : Tag → Type 0 where
+  text_ : (text : List ℕ) → IsWritten (tag.Text text)
+  default_ : IsWritten (tag.GoesOn middle.Default)
+  closes_ : (n : BlockName) → IsBlock n → IsWritten (tag.Closes n)
+  namespace_ : IsWritten (tag.Namespace (codes "x"))
 
 pub data AllWritten : List Command → Type 0 where
   none_ : AllWritten []
-  more_ : (of : Tag) (cs : List Command) → Written of → AllWritten cs → AllWritten (written of ∷ cs)
+  more_ : (of : Tag) (cs : List Command) → IsWritten of → AllWritten cs → AllWritten (written of ∷ cs)
 
 -- further commands lead to the templates of a file
 pub record Ends (s : CommandState) : Type 0 where
@@ -62,7 +62,7 @@ pub record Ends (s : CommandState) : Type 0 where
   pub templates : List Template
   pub runs : command_run more s ≡ Some (at [] (content.Templates namespace templates))
 
-then_ends : (s m : CommandState) (of : Tag) → Written of → step_at s.content s.blocks of no_span ≡ Some m → Ends m → Ends s
+then_ends : (s m : CommandState) (of : Tag) → IsWritten of → step_at s.content s.blocks of no_span ≡ Some m → Ends m → Ends s
 then_ends s m of w e h = record {
   more = written of ∷ h.more;
   are = AllWritten.more_ of h.more w h.are;
@@ -95,52 +95,52 @@ nothing_is bs = record { goes_on = λ m span. refl; closes = λ n span. refl }
 opened_ends : (k : Inside) (bs : List Block) (xs : List Command) → Opened k bs xs → EndsAt k bs
 opened_ends _ _ _ (Opened.template_ ds cs ps c d n templates h params w hc t hd p) = λ nodes. record {
   more = written (tag.Closes name.Template) ∷ [];
-  are = AllWritten.more_ _ [] (Written.closes_ name.Template tt) AllWritten.none_;
+  are = AllWritten.more_ _ [] (IsWritten.closes_ name.Template tt) AllWritten.none_;
   namespace = n;
   templates = _;
   runs = refl;
 }
 opened_ends _ _ _ (Opened.arm_ bs xs ys zs before arms start e o b a) =
-    λ nodes. then_ends _ _ (tag.Closes name.If) (Written.closes_ name.If tt) refl (opened_ends ABody bs xs o (nodes_with _ None))
+    λ nodes. then_ends _ _ (tag.Closes name.If) (IsWritten.closes_ name.If tt) refl (opened_ends ABody bs xs o (nodes_with _ None))
 opened_ends _ _ _ (Opened.else_ bs xs ys zs d before arms start o b a hd) =
-    λ nodes. then_ends _ _ (tag.Closes name.If) (Written.closes_ name.If tt) refl (opened_ends ABody bs xs o (nodes_with _ None))
+    λ nodes. then_ends _ _ (tag.Closes name.If) (IsWritten.closes_ name.If tt) refl (opened_ends ABody bs xs o (nodes_with _ None))
 opened_ends _ _ _ (Opened.for_ bs xs ys c before n index e o b hc) =
-    λ nodes. then_ends _ _ (tag.Closes name.For) (Written.closes_ name.For tt) refl (opened_ends ABody bs xs o (nodes_with _ None))
+    λ nodes. then_ends _ _ (tag.Closes name.For) (IsWritten.closes_ name.For tt) refl (opened_ends ABody bs xs o (nodes_with _ None))
 opened_ends _ _ _ (Opened.let_ bs xs ys c before n kind o b hc) =
-    λ nodes. then_ends _ _ (tag.Closes name.Let) (Written.closes_ name.Let tt) refl (opened_ends ABody bs xs o (nodes_with _ None))
+    λ nodes. then_ends _ _ (tag.Closes name.Let) (IsWritten.closes_ name.Let tt) refl (opened_ends ABody bs xs o (nodes_with _ None))
 opened_ends _ _ _ (Opened.call_ bs xs ys c before n all o b hc) =
-    λ arguments. then_ends _ _ (tag.Closes name.Call) (Written.closes_ name.Call tt) refl (opened_ends ABody bs xs o (nodes_with _ None))
+    λ arguments. then_ends _ _ (tag.Closes name.Call) (IsWritten.closes_ name.Call tt) refl (opened_ends ABody bs xs o (nodes_with _ None))
 opened_ends _ _ _ (Opened.param_ bs xs ys c arguments n kind o a hc) =
-    λ nodes. then_ends _ _ (tag.Closes name.Param) (Written.closes_ name.Param tt) refl (opened_ends ACall bs xs o _)
+    λ nodes. then_ends _ _ (tag.Closes name.Param) (IsWritten.closes_ name.Param tt) refl (opened_ends ACall bs xs o _)
 opened_ends _ _ _ (Opened.switch_ bs xs ys c before e o b hc) =
-    then_ends _ _ (tag.Closes name.Switch) (Written.closes_ name.Switch tt) refl (opened_ends ABody bs xs o (nodes_with _ None))
+    then_ends _ _ (tag.Closes name.Switch) (IsWritten.closes_ name.Switch tt) refl (opened_ends ABody bs xs o (nodes_with _ None))
 opened_ends _ _ _ (Opened.case_ bs xs ys ws zs c d before e cases values o b hc w a hd) =
-    λ nodes. then_ends _ _ (tag.Closes name.Switch) (Written.closes_ name.Switch tt) refl (opened_ends ABody bs xs o (nodes_with _ None))
+    λ nodes. then_ends _ _ (tag.Closes name.Switch) (IsWritten.closes_ name.Switch tt) refl (opened_ends ABody bs xs o (nodes_with _ None))
 opened_ends _ _ _ (Opened.switch_default_ bs xs ys ws zs c d before e cases o b hc w a hd) =
-    λ nodes. then_ends _ _ (tag.Closes name.Switch) (Written.closes_ name.Switch tt) refl (opened_ends ABody bs xs o (nodes_with _ None))
+    λ nodes. then_ends _ _ (tag.Closes name.Switch) (IsWritten.closes_ name.Switch tt) refl (opened_ends ABody bs xs o (nodes_with _ None))
 opened_ends _ _ _ (Opened.message_ bs xs ys c before desc meaning o b hc) =
-    λ body s is. then_ends s _ (tag.Closes name.Msg) (Written.closes_ name.Msg tt) (is.closes name.Msg no_span)
+    λ body s is. then_ends s _ (tag.Closes name.Msg) (IsWritten.closes_ name.Msg tt) (is.closes name.Msg no_span)
     (opened_ends ABody bs xs o (nodes_with _ None))
 opened_ends _ _ _ (Opened.fallback_ bs xs ys zs c d before first desc meaning older older_meaning o b hc a hd) =
-    λ body s is. then_ends s _ (tag.Closes name.Msg) (Written.closes_ name.Msg tt) (is.closes name.Msg no_span)
+    λ body s is. then_ends s _ (tag.Closes name.Msg) (IsWritten.closes_ name.Msg tt) (is.closes name.Msg no_span)
     (opened_ends ABody bs xs o (nodes_with _ None))
 opened_ends _ _ _ (Opened.plural_ bs xs ys c e offset o v hc) =
-    then_ends _ _ (tag.GoesOn middle.Default) Written.default_ refl
-    (then_ends _ _ (tag.Closes name.Plural) (Written.closes_ name.Plural tt) refl (opened_ends AMessage bs xs o _ _ (choice_is bs _)))
+    then_ends _ _ (tag.GoesOn middle.Default) IsWritten.default_ refl
+    (then_ends _ _ (tag.Closes name.Plural) (IsWritten.closes_ name.Plural tt) refl (opened_ends AMessage bs xs o _ _ (choice_is bs _)))
 opened_ends _ _ _ (Opened.plural_case_ bs xs ys ws zs c d e offset cases values o v hc w a hd) =
-    λ body s is. then_ends s _ (tag.GoesOn middle.Default) Written.default_ (is.goes_on middle.Default no_span)
-    (then_ends _ _ (tag.Closes name.Plural) (Written.closes_ name.Plural tt) refl (opened_ends AMessage bs xs o _ _ (choice_is bs _)))
+    λ body s is. then_ends s _ (tag.GoesOn middle.Default) IsWritten.default_ (is.goes_on middle.Default no_span)
+    (then_ends _ _ (tag.Closes name.Plural) (IsWritten.closes_ name.Plural tt) refl (opened_ends AMessage bs xs o _ _ (choice_is bs _)))
 opened_ends _ _ _ (Opened.plural_default_ bs xs ys ws zs c d e offset cases o v hc w a hd) =
-    λ body s is. then_ends s _ (tag.Closes name.Plural) (Written.closes_ name.Plural tt) (is.closes name.Plural no_span)
+    λ body s is. then_ends s _ (tag.Closes name.Plural) (IsWritten.closes_ name.Plural tt) (is.closes name.Plural no_span)
     (opened_ends AMessage bs xs o _ _ (choice_is bs _))
 opened_ends _ _ _ (Opened.select_ bs xs ys c e o v hc) =
-    then_ends _ _ (tag.GoesOn middle.Default) Written.default_ refl
-    (then_ends _ _ (tag.Closes name.Select) (Written.closes_ name.Select tt) refl (opened_ends AMessage bs xs o _ _ (choice_is bs _)))
+    then_ends _ _ (tag.GoesOn middle.Default) IsWritten.default_ refl
+    (then_ends _ _ (tag.Closes name.Select) (IsWritten.closes_ name.Select tt) refl (opened_ends AMessage bs xs o _ _ (choice_is bs _)))
 opened_ends _ _ _ (Opened.select_case_ bs xs ys ws zs c d e cases values o v hc w a hd) =
-    λ body s is. then_ends s _ (tag.GoesOn middle.Default) Written.default_ (is.goes_on middle.Default no_span)
-    (then_ends _ _ (tag.Closes name.Select) (Written.closes_ name.Select tt) refl (opened_ends AMessage bs xs o _ _ (choice_is bs _)))
+    λ body s is. then_ends s _ (tag.GoesOn middle.Default) IsWritten.default_ (is.goes_on middle.Default no_span)
+    (then_ends _ _ (tag.Closes name.Select) (IsWritten.closes_ name.Select tt) refl (opened_ends AMessage bs xs o _ _ (choice_is bs _)))
 opened_ends _ _ _ (Opened.select_default_ bs xs ys ws zs c d e cases o v hc w a hd) =
-    λ body s is. then_ends s _ (tag.Closes name.Select) (Written.closes_ name.Select tt) (is.closes name.Select no_span)
+    λ body s is. then_ends s _ (tag.Closes name.Select) (IsWritten.closes_ name.Select tt) (is.closes name.Select no_span)
     (opened_ends AMessage bs xs o _ _ (choice_is bs _))
 
 -- texts and prints of a message, whose tags are whole
@@ -155,7 +155,7 @@ parts_ends : (bs : List Block) (nodes : Nodes) (white : Bool) (cs : List Command
     Ends (at bs (content.Parts nodes white))
 parts_ends bs nodes white cs h =
     let e = parts_end h.back nodes.items nodes.run no_span h.parts in
-    then_ends (at bs (content.Parts nodes white)) _ (tag.Text e.text) (Written.text_ e.text) refl
+    then_ends (at bs (content.Parts nodes white)) _ (tag.Text e.text) (IsWritten.text_ e.text) refl
     (opened_ends AMessage bs h.front h.opened (parts_of (with_text nodes e.text no_span)) _
     (parts_is bs (with_text nodes e.text no_span) _ e.whole))
 
@@ -170,7 +170,7 @@ held_ends content.White bs cs h =
     subst (λ l. Ends (at l content.White)) (sym h.none)
     (record {
       more = written (tag.Namespace (codes "x")) ∷ [];
-      are = AllWritten.more_ _ [] Written.namespace_ AllWritten.none_;
+      are = AllWritten.more_ _ [] IsWritten.namespace_ AllWritten.none_;
       namespace = codes "x";
       templates = [];
       runs = refl;

@@ -262,7 +262,9 @@ module _ (file : ℕ) where
 
   moved : (ts xs ys : List Token) (e f : ℕ) (m : FileState) → xs ≡ ys → e ≡ f →
       Answers file xs (reading_file file e ts m) → Answers file ys (reading_file file f ts m)
-  moved ts xs ys e f m p q a = rw (← p, ← q) a
+  moved ts xs ys e f m p q a =
+      subst (λ l. Answers file l (reading_file file f ts m)) p
+      (subst (λ n. Answers file xs (reading_file file n ts m)) q a)
 
   module _ (ts us : List Token) (s : FileState) (t : Token) (r : file_run us file_start ≡ Some s)
       (within : AreWithin 0 (file_depths us file_start)) (names : NameTypes us (file_words us file_start) (t ∷ ts)) where

@@ -156,7 +156,8 @@ command_leads _ _ _ _ (SpellsCommand.command_ b z ts us ds ws h a of hb p q hz) 
 -- inside no block
 inside_none : (ds : List ℕ) → inside 0 ds ≡ ds
 inside_none [] = refl
-inside_none (d ∷ ds) = let e : 0 + d ≡ d = omega arith in rw (e, inside_none ds) refl
+inside_none (d ∷ ds) =
+    let e : 0 + d ≡ d = omega arith in ap (λ k. k ∷ inside 0 ds) e ∙ ap (λ l. d ∷ l) (inside_none ds)
 
 inside_leads : {n : ℕ} {a b : FileState} {ts : List Token} {ds : List ℕ} {ws : List Bool} (level : ℕ) → n ≡ level →
     Leads n a ts ds ws b → Leads 0 a ts (inside level ds) ws b
@@ -166,11 +167,11 @@ inside_leads {n} {a} {b} {ts} {ds} {ws} level e p = record {
   words = p.words;
 }
 
-first_of : List ℕ → ℕ
+abbrev first_of : List ℕ → ℕ
 first_of [] = 0
 first_of (l ∷ ls) = l
 
-rest_of : List ℕ → List ℕ
+abbrev rest_of : List ℕ → List ℕ
 rest_of [] = []
 rest_of (l ∷ ls) = ls
 

@@ -260,7 +260,8 @@ module _ (s : CommandState) (front : List Token) (begin : Token) (heard : Heard 
       SpellsDot ts → command_terminal_of n ≡ terminal.Word w → admits s kind.Template ≡ true →
       Goes (stands s begin.span (spot.Attributes (head.Template n.text) no_attributes)) (t ∷ (ts ++ (n ∷ [])))
   template_head t n w ts ht d hn ok =
-      again _ _ _ (append-nil (t ∷ (ts ++ (n ∷ []))))
+      again (stands s begin.span (spot.Attributes (head.Template n.text) no_attributes)) _ _
+      (append-nil (t ∷ (ts ++ (n ∷ []))))
       (stand (spot.Attributes (head.Template n.text) no_attributes) ((t ∷ (ts ++ (n ∷ []))) ++ []) kind.Template
       (Begun.attributes_ (t ∷ (ts ++ (n ∷ []))) [] (head.Template n.text) kind.Template no_attributes
       (record { depths = _; words = _; spells = SpellsHead.template_ t n w ts ht d hn; kind_is = refl })

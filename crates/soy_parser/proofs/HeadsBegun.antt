@@ -94,13 +94,13 @@ pub data Begun : Spot → List Token → HeadKind → Type 0 where
   template_name_ : (t d : Token) → command_terminal_of t ≡ terminal.Word word.Template → command_terminal_of d ≡ terminal.Dot
       → Begun spot.TemplateName (t ∷ (d ∷ [])) kind.Template
   call_ : (t : Token) → command_terminal_of t ≡ terminal.Word word.Call → Begun spot.Call (t ∷ []) kind.Call
-  dotted_first_ : (ts : List Token) (for_ : DottedUse) (k : HeadKind) → DottedBegins for_ ts k
-      → Begun (spot.DottedName for_ []) ts k
-  dotted_next_ : (ts us : List Token) (for_ : DottedUse) (k : HeadKind) (text : List ℕ) (dot : Token)
-      → DottedBegins for_ ts k → SpellsDotted us text → command_terminal_of dot ≡ terminal.Dot
-      → Begun (spot.DottedName for_ (text ++ (46 ∷ []))) (ts ++ (us ++ (dot ∷ []))) k
-  dotted_ : (ts us : List Token) (for_ : DottedUse) (k : HeadKind) (text : List ℕ) → DottedBegins for_ ts k
-      → SpellsDotted us text → Begun (spot.Dotted for_ text) (ts ++ us) k
+  dotted_first_ : (ts : List Token) (of : DottedUse) (k : HeadKind) → DottedBegins of ts k
+      → Begun (spot.DottedName of []) ts k
+  dotted_next_ : (ts us : List Token) (of : DottedUse) (k : HeadKind) (text : List ℕ) (dot : Token)
+      → DottedBegins of ts k → SpellsDotted us text → command_terminal_of dot ≡ terminal.Dot
+      → Begun (spot.DottedName of (text ++ (46 ∷ []))) (ts ++ (us ++ (dot ∷ []))) k
+  dotted_ : (ts us : List Token) (of : DottedUse) (k : HeadKind) (text : List ℕ) → DottedBegins of ts k
+      → SpellsDotted us text → Begun (spot.Dotted of text) (ts ++ us) k
   for_ : (t : Token) → command_terminal_of t ≡ terminal.Word word.For → Begun spot.For (t ∷ []) kind.For
   for_in_ : (t v : Token) → command_terminal_of t ≡ terminal.Word word.For → command_terminal_of v ≡ terminal.Variable
       → Begun (spot.ForIn v.text) (t ∷ (v ∷ [])) kind.For
@@ -154,21 +154,21 @@ pub use_head : (of : Use) (us : List Token) (k : HeadKind) → UseBegins of us k
 use_head _ _ _ UseBegins.print_ vs ds x p =
     record { depths = _; words = _; spells = SpellsHead.printed_ vs ds x p; kind_is = refl }
 use_head _ _ _ (UseBegins.print_word_ t h) vs ds x p =
-    record { depths = _; words = _; spells = SpellsHead.expression_ t vs ds x (head_of use_.Print x) p (rw h refl); kind_is = refl }
+    record { depths = _; words = _; spells = SpellsHead.expression_ t vs ds x (head_of use_.Print x) p (ap (λ m. expr_head m x.expr) h); kind_is = refl }
 use_head _ _ _ UseBegins.message_print_ vs ds x p =
     record { depths = _; words = _; spells = SpellsHead.message_printed_ vs ds x p; kind_is = refl }
 use_head _ _ _ (UseBegins.message_print_word_ t h) vs ds x p =
     record { depths = _; words = _; spells = SpellsHead.message_print_ t vs ds x h p; kind_is = refl }
 use_head _ _ _ (UseBegins.if_ t h) vs ds x p =
-    record { depths = _; words = _; spells = SpellsHead.expression_ t vs ds x (head_of use_.If x) p (rw h refl); kind_is = refl }
+    record { depths = _; words = _; spells = SpellsHead.expression_ t vs ds x (head_of use_.If x) p (ap (λ m. expr_head m x.expr) h); kind_is = refl }
 use_head _ _ _ (UseBegins.else_if_ t h) vs ds x p =
-    record { depths = _; words = _; spells = SpellsHead.expression_ t vs ds x (head_of use_.ElseIf x) p (rw h refl); kind_is = refl }
+    record { depths = _; words = _; spells = SpellsHead.expression_ t vs ds x (head_of use_.ElseIf x) p (ap (λ m. expr_head m x.expr) h); kind_is = refl }
 use_head _ _ _ (UseBegins.switch_ t h) vs ds x p =
-    record { depths = _; words = _; spells = SpellsHead.expression_ t vs ds x (head_of use_.Switch x) p (rw h refl); kind_is = refl }
+    record { depths = _; words = _; spells = SpellsHead.expression_ t vs ds x (head_of use_.Switch x) p (ap (λ m. expr_head m x.expr) h); kind_is = refl }
 use_head _ _ _ (UseBegins.plural_ t h) vs ds x p =
-    record { depths = _; words = _; spells = SpellsHead.expression_ t vs ds x (head_of use_.Plural x) p (rw h refl); kind_is = refl }
+    record { depths = _; words = _; spells = SpellsHead.expression_ t vs ds x (head_of use_.Plural x) p (ap (λ m. expr_head m x.expr) h); kind_is = refl }
 use_head _ _ _ (UseBegins.select_ t h) vs ds x p =
-    record { depths = _; words = _; spells = SpellsHead.expression_ t vs ds x (head_of use_.Select x) p (rw h refl); kind_is = refl }
+    record { depths = _; words = _; spells = SpellsHead.expression_ t vs ds x (head_of use_.Select x) p (ap (λ m. expr_head m x.expr) h); kind_is = refl }
 use_head _ _ _ (UseBegins.for_ t i ts n index h v k) vs ds x p =
     record {
       depths = _;

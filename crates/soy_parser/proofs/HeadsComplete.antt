@@ -95,7 +95,7 @@ word_opens s from t _ _ _ WordBefore.switch_ e = opens s from kind.Switch _ e
 word_opens s from t _ _ _ WordBefore.plural_ e = opens s from kind.Plural _ e
 word_opens s from t _ _ _ WordBefore.select_ e = opens s from kind.Select _ e
 
-use_depth : (s : CommandState) (from : Span) (for_ : Use) (t : Token) →
+pub use_depth : (s : CommandState) (from : Span) (for_ : Use) (t : Token) →
     file_step (opened s from) t ≡ Some (in_at s from (spot.Expr for_ expr_start)) →
     Leads (length s.blocks) (opened s from) (t ∷ []) (0 ∷ []) (false ∷ []) (in_at s from (spot.Expr for_ expr_start))
 use_depth s from for_ t e = step_leads (length s.blocks) 0 false (opened s from) t _ e refl refl

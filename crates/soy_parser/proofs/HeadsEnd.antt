@@ -125,7 +125,7 @@ record HasValue (a : Attributes) (n : AttributeName) : Type 0 where
   pub with_it : Attributes
   pub is : with_attribute a n text ≡ Some with_it
 
-has_value : (a : Attributes) (n : AttributeName) → HasValue a n
+abbrev has_value : (a : Attributes) (n : AttributeName) → HasValue a n
 has_value a attribute.Kind = record { text = codes "text"; with_it = _; is = refl }
 has_value a attribute.Visibility = record { text = codes "private"; with_it = _; is = refl }
 has_value a attribute.Data = record { text = codes "all"; with_it = _; is = refl }

@@ -209,10 +209,14 @@ select_case_alone (content.Parts nodes white) bs e = (
 select_case_alone (content.Choice body) bs e = (never message_admits kind.Case no_case bs, message_select bs e)
 
 printed_use : (s : CommandState) → admits s kind.Print ≡ true → print_use s ≡ Some use_.Print
-printed_use s e = rw e refl
+printed_use s e =
+    ap (λ b. if b then Some use_.Print else (if admits s kind.MessagePrint then Some use_.MessagePrint else None)) e
 
 message_use : (s : CommandState) → admits s kind.MessagePrint ≡ true → print_use s ≡ Some use_.MessagePrint
-message_use s e = rw (message_print_alone s.content s.blocks e, e) refl
+message_use s e =
+    ap (λ b. if b then Some use_.Print else (if admits s kind.MessagePrint then Some use_.MessagePrint else None))
+    (message_print_alone s.content s.blocks e)
+    ∙ ap (λ b. if b then Some use_.MessagePrint else None) e
 
 -- an expression that begins a command
 
@@ -250,13 +254,16 @@ bare_expr_leads : (s : CommandState) (from : Span) (for_ : Use) (us : List Token
     print_use s ≡ Some for_ → SpellsExpr 9 us ds x → HeadLeads s from (opened s from) us ds (no_words us) (head_of for_ x)
 bare_expr_leads s from for_ us ds x u p =
     let i = SpellsExpr-whole_expr us ds x p in
-    let read = expr_head_leads s from for_ us ds x p in
     record {
       to = in_at s from (spot.Expr for_ i.state);
       leads = subst
           (λ l. Leads (length s.blocks) (opened s from) us l (no_words us) (in_at s from (spot.Expr for_ i.state)))
           (sym (spelled_depths us ds x p)) (bare_run s from for_ us i.state x u i.goes.runs i.finishes);
-      has = read.has;
+      has = record {
+        commands_are = refl;
+        takes = λ t f. ap (in_expr s from for_ t) (whole_ends i.state t x i.finishes f)
+            ∙ next_is_head s from for_ x t (command_terminal_of t) f;
+      };
     }
 
 -- the word `print` before it
@@ -366,16 +373,33 @@ values_lead s from _ _ _ (SpellsValues.more_ ts us ds es values comma x w hc p) 
 
 case_opened : (s : CommandState) (from : Span) → admits s kind.Case ≡ true →
     case_opens s from ≡ stands s from (spot.Expr (use_.Case []) expr_start)
-case_opened s from e = rw e refl
+case_opened s from e =
+    ap (λ b. if b then stands s from (spot.Expr (use_.Case []) expr_start) else
+    (if admits s kind.PluralCase then stands s from (spot.IntValue []) else
+    opens_if s from kind.SelectCase (spot.CaseWord []))) e
+
+-- where no case of a switch is admitted
+other_case : (s : CommandState) (from : Span) → admits s kind.Case ≡ false → case_opens s from ≡
+    (if admits s kind.PluralCase then stands s from (spot.IntValue []) else
+    opens_if s from kind.SelectCase (spot.CaseWord []))
+other_case s from e =
+    ap (λ b. if b then stands s from (spot.Expr (use_.Case []) expr_start) else
+    (if admits s kind.PluralCase then stands s from (spot.IntValue []) else
+    opens_if s from kind.SelectCase (spot.CaseWord []))) e
 
 plural_case_opened : (s : CommandState) (from : Span) → admits s kind.PluralCase ≡ true →
     case_opens s from ≡ stands s from (spot.IntValue [])
-plural_case_opened s from e = rw (plural_case_alone s.content s.blocks e, e) refl
+plural_case_opened s from e =
+    other_case s from (plural_case_alone s.content s.blocks e)
+    ∙ ap (λ b. if b then stands s from (spot.IntValue []) else opens_if s from kind.SelectCase (spot.CaseWord [])) e
 
 select_case_opened : (s : CommandState) (from : Span) → admits s kind.SelectCase ≡ true →
     case_opens s from ≡ stands s from (spot.CaseWord [])
 select_case_opened s from e =
-    let a = select_case_alone s.content s.blocks e in rw (a.0, a.1, e) refl
+    let a = select_case_alone s.content s.blocks e in
+    other_case s from a.0
+    ∙ (ap (λ b. if b then stands s from (spot.IntValue []) else opens_if s from kind.SelectCase (spot.CaseWord [])) a.1
+    ∙ opens s from kind.SelectCase (spot.CaseWord []) e)
 
 -- the word of a head, from which further tokens lead to its end
 from_word : (s : CommandState) (from : Span) (t : Token) (m : CommandTerminal) (at : Spot) (to : Option FileState) →

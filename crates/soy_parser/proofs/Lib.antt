@@ -22,3 +22,4 @@ pub mod AdmittedSteps
 pub mod FilesExact
 pub mod FileMachine
 pub mod FileReads
+pub mod FileAnswers

@@ -31,24 +31,26 @@ module _ (fs : List Frame) (t : Token) (r : ExprState) where
   Begins m = operand_next fs t m ≡ Some r
 
   -- not with a word that is none of these
-  if_word : (text known : List ℕ) (m rest : Terminal) → Plain (terminal.Word (command_word known)) →
-      (Begins rest → Plain (terminal.Word (command_word text))) → Begins (if bytes_eq text known then m else rest) →
+  if_word : (text known : List ℕ) (m rest : Terminal) → Begins (if bytes_eq text known then m else rest) →
+      Plain (terminal.Word (command_word known)) → (Begins rest → Plain (terminal.Word (command_word text))) →
       Plain (terminal.Word (command_word text))
-  if_word text known m rest plain otherwise e = over (bytes_eq text known) refl e
+  if_word text known m rest e plain otherwise = over (bytes_eq text known) refl e
     where
       over : (b : Bool) → bytes_eq text known ≡ b → Begins (if b then m else rest) → Plain (terminal.Word (command_word text))
       over true q e = subst (λ l. Plain (terminal.Word (command_word l))) (sym ((bytes_eq-Decides text known).0 q)) plain
       over false q e = otherwise e
 
+  none_begins : None ≡ Some r → ⊥
+  none_begins h = cc h
+
   plain_word : (text : List ℕ) → Begins (word_terminal text) → Plain (terminal.Word (command_word text))
   plain_word text e =
-      if_word text (codes "null") _ _ (record { is = λ s from t. refl })
-      (if_word text (codes "true") _ _ (record { is = λ s from t. refl })
-      (if_word text (codes "false") _ _ (record { is = λ s from t. refl })
-      (if_word text (codes "not") _ _ (record { is = λ s from t. refl })
-      (if_word text (codes "and") _ _ (record { is = λ s from t. refl })
-      (if_word text (codes "or") _ _ (record { is = λ s from t. refl })
-      (λ none. absurd (cc none))))))) e
+      if_word text (codes "null") _ _ e (record { is = λ s from t. refl }) (λ e.
+      if_word text (codes "true") _ _ e (record { is = λ s from t. refl }) (λ e.
+      if_word text (codes "false") _ _ e (record { is = λ s from t. refl }) (λ e.
+      if_word text (codes "not") _ _ e (record { is = λ s from t. refl }) (λ e.
+      if_word text (codes "and") _ _ e (record { is = λ s from t. refl }) (λ e.
+      if_word text (codes "or") _ _ e (record { is = λ s from t. refl }) (λ e. absurd (none_begins e)))))))
 
   -- not with these symbols
   if_symbol : (text known : List ℕ) (m rest : CommandTerminal) → (Begins (symbol_terminal known) → ⊥) →
@@ -58,9 +60,6 @@ module _ (fs : List Frame) (t : Token) (r : ExprState) where
       over : (b : Bool) → bytes_eq text known ≡ b → Plain (if b then m else rest)
       over true q = absurd (never (subst (λ l. Begins (symbol_terminal l)) ((bytes_eq-Decides text known).0 q) e))
       over false q = plain
-
-  none_begins : None ≡ Some r → ⊥
-  none_begins h = cc h
 
   plain_symbol : (text : List ℕ) → Begins (symbol_terminal text) → Plain (command_symbol text)
   plain_symbol text e =

@@ -25,7 +25,7 @@ use Rattle.soy_parser.specs.SpellsFile.{SpellsFile}
 use Rattle.soy_parser.specs.SpellsHead.{SpellsHead, SpellsDotted, bare_head}
 use Rattle.soy_parser.specs.SpellsTree.{SpellsTree}
 use Rattle.soy_parser.proofs.CommandsComplete.{tree_goes}
-use Rattle.soy_parser.proofs.CommandsEnd.{no_span, written, IsBlock, Written, AllWritten}
+use Rattle.soy_parser.proofs.CommandsEnd.{no_span, written, IsBlock, IsWritten, AllWritten}
 
 abbrev pub token : TokenKind → List ℕ → Token
 token k text = record { kind = k; span = no_span; text = text }
@@ -98,17 +98,17 @@ spelled_end of ts ds ws p = record {
       (SpellsAttributes.none_ (head.Whole of)) refl;
 }
 
-pub written_spelled : (of : Tag) → Written of → SpelledCommand (written of)
-written_spelled _ (Written.text_ text) = record {
+pub written_spelled : (of : Tag) → IsWritten of → SpelledCommand (written of)
+written_spelled _ (IsWritten.text_ text) = record {
   tokens = token token_kind.Text text ∷ [];
   depths = 0 ∷ [];
   words = false ∷ [];
   spells = SpellsCommand.text_ (token token_kind.Text text) refl;
 }
-written_spelled _ Written.default_ =
+written_spelled _ IsWritten.default_ =
     spelled_end _ _ _ _ (SpellsHead.bare_ (word_token (codes "default")) _ default_is)
-written_spelled _ (Written.closes_ n i) = spelled_end _ _ _ _ (SpellsHead.bare_ (closing_token n) _ (closing_is n i))
-written_spelled _ Written.namespace_ =
+written_spelled _ (IsWritten.closes_ n i) = spelled_end _ _ _ _ (SpellsHead.bare_ (closing_token n) _ (closing_is n i))
+written_spelled _ IsWritten.namespace_ =
     spelled_end _ _ _ _
     (SpellsHead.namespace_ (word_token (codes "namespace")) (word_token (codes "x") ∷ []) (codes "x") namespace_is
     (SpellsDotted.one_ (word_token (codes "x")) _ refl))
