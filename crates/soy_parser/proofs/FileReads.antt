@@ -32,6 +32,7 @@ use Rattle.soy_parser.specs.declared.spot.Spot.TheVariants as spot
 use Rattle.soy_parser.specs.FileReading.{fault_at, file_answer, unless_unknown_type, read_file_on, reading_file}
 use Rattle.soy_parser.specs.FileRuns.{file_run, file_run_from, file_depths, file_depths_from, file_words, file_words_from}
 use Rattle.soy_parser.specs.FileSteps.{file_step, file_start, token_depth, word_in, unknown_in, spot_word, spot_unknown, whole_file}
+use Rattle.soy_parser.specs.ReadsFile.{ReadsFile}
 use Rattle.soy_parser.specs.ParsesFile.{IsFile, NoFileGoesOn, IsNoFile, BeginsFault, IsTooDeep, IsUnknown, RefusesFile, ParsesFile}
 use Rattle.soy_parser.specs.SpellsFile.{SpellsFile, BeginsFile}
 use Rattle.soy_parser.proofs.FileMachine.{BeginsFile-run, run-BeginsFile, same_state, whole-spelled, words_length}
@@ -379,10 +380,16 @@ module _ (file : ℕ) where
   reading_file-Answers ts = means ts [] file_start refl tt (start_known ts)
 
 -- **What `parse` is to answer, of what is read.**
-pub read-ParsesFile : (file : ℕ) (ts : List Token) (tree : Tree) → Ok tree ≡ reading_file file 0 ts file_start →
+pub read-ParsesFile : (file : ℕ) (ts : List Token) (tree : Tree) → reading_file file 0 ts file_start ≡ Ok tree →
     ParsesFile file ts (Ok tree)
-read-ParsesFile file ts tree e = subst (Answers file ts) (sym e) (reading_file-Answers file ts)
+read-ParsesFile file ts tree e = subst (Answers file ts) e (reading_file-Answers file ts)
 
-pub refused-ParsesFile : (file : ℕ) (ts : List Token) (fault : Fault) → Err fault ≡ reading_file file 0 ts file_start →
+pub refused-ParsesFile : (file : ℕ) (ts : List Token) (fault : Fault) → reading_file file 0 ts file_start ≡ Err fault →
     ParsesFile file ts (Err (refusal.Because fault))
-refused-ParsesFile file ts fault e = subst (Answers file ts) (sym e) (reading_file-Answers file ts)
+refused-ParsesFile file ts fault e = subst (Answers file ts) e (reading_file-Answers file ts)
+
+pub ReadsFile-ParsesFile : (file : ℕ) (ts : List Token) (r : Result Tree (Refusal Fault)) → ReadsFile file ts r →
+    ParsesFile file ts r
+ReadsFile-ParsesFile file ts (Ok tree) e = read-ParsesFile file ts tree e
+ReadsFile-ParsesFile file ts (Err (refusal.Because fault)) e = refused-ParsesFile file ts fault e
+ReadsFile-ParsesFile file ts (Err refusal.OutOfMemory) e = tt

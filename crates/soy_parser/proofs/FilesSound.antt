@@ -3,6 +3,7 @@ use Rattle.std.proofs.Common.{◌≡◌, ℕ, ◌+◌, ℤ, pos, Bool, true, fal
 use Rattle.std.specs.Prelude.{if◌then◌else◌}
 use Rattle.soy_base.specs.declared.fault.Span.{Span}
 use Rattle.soy_lexer.specs.CommandSegment.{number_after}
+use Rattle.soy_lexer.specs.LongestToken.{is_int}
 use Rattle.soy_lexer.specs.declared.token.Token.{Token}
 use Rattle.soy_tree.specs.Formed.{is_case_word}
 use Rattle.soy_tree.specs.declared.expr.Expr.{Expr}
@@ -183,10 +184,10 @@ module _ (s : CommandState) (front : List Token) (begin : Token) (heard : Heard 
   equals_goes terminal.Equals to own f = f refl
   equals_goes _ to own f = tt
 
-  int_goes : (m : CommandTerminal) (to : Option FileState) (own : List Token) →
-      (m ≡ terminal.Int → Goes to own) → Goes (if_int m to) own
-  int_goes terminal.Int to own f = f refl
-  int_goes _ to own f = tt
+  int_goes : (m : CommandTerminal) (text : List ℕ) (to : Option FileState) (own : List Token) →
+      (m ≡ terminal.Int → is_int text ≡ true → Goes to own) → Goes (if_int m text to) own
+  int_goes terminal.Int text to own f = if_goes (is_int text) to own (λ e. f refl e)
+  int_goes _ text to own f = tt
 
   case_word_goes : (m : CommandTerminal) (text : List ℕ) (to : Option FileState) (own : List Token) →
       (m ≡ terminal.Str → is_case_word text ≡ true → Goes to own) → Goes (if_case_word m text to) own
@@ -517,16 +518,16 @@ module _ (s : CommandState) (front : List Token) (begin : Token) (heard : Heard 
       (λ w e. stand (spot.ParamColon t.text) _ kind.Param (Begun.param_colon_ u t w hu e) ok)
   spot_fine _ _ _ t (Begun.param_colon_ u n w hu hn) ok = param_colon_fine t u n w (command_terminal_of t) refl hu hn ok
   spot_fine _ _ _ t (Begun.int_first_ u hu) ok =
-      int_goes (command_terminal_of t) _ _
-      (λ e. stand (spot.AfterInt (pos (number_after 0 t.text) ∷ [])) _ kind.PluralCase
-      (Begun.after_int_ u (t ∷ []) (pos (number_after 0 t.text) ∷ []) hu (SpellsInts.one_ t e)) ok)
+      int_goes (command_terminal_of t) t.text _ _
+      (λ e f. stand (spot.AfterInt (pos (number_after 0 t.text) ∷ [])) _ kind.PluralCase
+      (Begun.after_int_ u (t ∷ []) (pos (number_after 0 t.text) ∷ []) hu (SpellsInts.one_ t e f)) ok)
   spot_fine _ _ _ t (Begun.int_next_ u c us values hu p hc) ok =
       let next = values ++ (pos (number_after 0 t.text) ∷ []) in
-      again (if_int (command_terminal_of t) (stands s begin.span (spot.AfterInt next))) _ _
+      again (if_int (command_terminal_of t) t.text (stands s begin.span (spot.AfterInt next))) _ _
       (sym (ap (λ l. u ∷ l) (append_assoc us (c ∷ []) (t ∷ []))))
-      (int_goes (command_terminal_of t) (stands s begin.span (spot.AfterInt next)) (u ∷ (us ++ (c ∷ (t ∷ []))))
-      (λ e. stand (spot.AfterInt next) (u ∷ (us ++ (c ∷ (t ∷ [])))) kind.PluralCase
-      (Begun.after_int_ u (us ++ (c ∷ (t ∷ []))) next hu (SpellsInts.more_ us values c t p hc e)) ok))
+      (int_goes (command_terminal_of t) t.text (stands s begin.span (spot.AfterInt next)) (u ∷ (us ++ (c ∷ (t ∷ []))))
+      (λ e f. stand (spot.AfterInt next) (u ∷ (us ++ (c ∷ (t ∷ [])))) kind.PluralCase
+      (Begun.after_int_ u (us ++ (c ∷ (t ∷ []))) next hu (SpellsInts.more_ us values c t p hc e f)) ok))
   spot_fine _ _ _ t (Begun.after_int_ u us values hu p) ok = after_int_fine t u us values (command_terminal_of t) refl hu p ok
   spot_fine _ _ _ t (Begun.case_word_first_ u hu) ok =
       case_word_goes (command_terminal_of t) t.text _ _

@@ -377,12 +377,12 @@ begun_ends _ _ _ (Begun.param_colon_ t n w ht hn) =
     head_ends (t ∷ (n ∷ [])) (head.Param n.text) kind.Param
     (record { depths = _; words = _; spells = SpellsHead.param_block_ t n w ht hn; kind_is = refl })
 begun_ends _ _ _ (Begun.int_first_ t ht) =
-    shorter (t ∷ []) (int_token ∷ []) kind.PluralCase (ints_end t (int_token ∷ []) _ ht (SpellsInts.one_ int_token refl))
+    shorter (t ∷ []) (int_token ∷ []) kind.PluralCase (ints_end t (int_token ∷ []) _ ht (SpellsInts.one_ int_token refl refl))
 begun_ends _ _ _ (Begun.int_next_ t comma us values ht p hc) =
     shorter (t ∷ (us ++ (comma ∷ []))) (int_token ∷ []) kind.PluralCase
     (moved kind.PluralCase (t ∷ (us ++ (comma ∷ (int_token ∷ [])))) (t ∷ ((us ++ (comma ∷ [])) ++ (int_token ∷ [])))
     (ap (λ l. t ∷ l) (sym (append_assoc us (comma ∷ []) (int_token ∷ []))))
-    (ints_end t (us ++ (comma ∷ (int_token ∷ []))) _ ht (SpellsInts.more_ us values comma int_token p hc refl)))
+    (ints_end t (us ++ (comma ∷ (int_token ∷ []))) _ ht (SpellsInts.more_ us values comma int_token p hc refl refl)))
 begun_ends _ _ _ (Begun.after_int_ t us values ht p) = ints_end t us values ht p
 begun_ends _ _ _ (Begun.case_word_first_ t ht) =
     shorter (t ∷ []) (string_token ∷ []) kind.SelectCase

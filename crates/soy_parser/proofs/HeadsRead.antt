@@ -4,6 +4,7 @@ use Rattle.std.specs.Prelude.{if◌then◌else◌, ◌&&◌}
 use Rattle.soy_base.specs.declared.fault.Span.{Span}
 use Rattle.soy_lexer.specs.CommandSegment.{number_after}
 use Rattle.soy_lexer.specs.declared.token.Token.{Token}
+use Rattle.soy_lexer.specs.LongestToken.{is_int}
 use Rattle.soy_tree.specs.Formed.{is_case_word}
 use Rattle.soy_tree.specs.declared.expr.Expr.{Expr}
 use Rattle.expr_parser.specs.declared.operand.Operand.{Operand}
@@ -441,18 +442,23 @@ opened_leads s from b t e deep plain = step_leads (length s.blocks) 0 false (ope
 
 -- the ints of a plural's case, and the words of a select's
 
+int_taken : (m : CommandTerminal) (text : List ℕ) (to : Option FileState) → m ≡ terminal.Int → is_int text ≡ true →
+    if_int m text to ≡ to
+int_taken m text to h w = ap (λ k. if_int k text to) h ∙ if_then (is_int text) to w
+
 ints_lead : (s : CommandState) (from : Span) (ts : List Token) (values : List ℤ) → SpellsInts ts values →
     Leads (length s.blocks) (in_at s from (spot.IntValue [])) ts (none_deep ts) (no_words ts)
     (in_at s from (spot.AfterInt values))
-ints_lead s from _ _ (SpellsInts.one_ t h) =
-    token_leads s from (spot.IntValue []) (spot.AfterInt (pos (number_after 0 t.text) ∷ [])) t
-    (ap (λ m. if_int m (stands s from (spot.AfterInt (pos (number_after 0 t.text) ∷ [])))) h) refl refl
-ints_lead s from _ _ (SpellsInts.more_ ts values comma t w hc h) =
+ints_lead s from _ _ (SpellsInts.one_ t h w) =
+    let next = spot.AfterInt (pos (number_after 0 t.text) ∷ []) in
+    token_leads s from (spot.IntValue []) next t (int_taken (command_terminal_of t) t.text (stands s from next) h w) refl refl
+ints_lead s from _ _ (SpellsInts.more_ ts values comma t p hc h w) =
     let next = spot.AfterInt (values ++ (pos (number_after 0 t.text) ∷ [])) in
-    none_then {us = comma ∷ (t ∷ [])} (ints_lead s from ts values w)
+    none_then {us = comma ∷ (t ∷ [])} (ints_lead s from ts values p)
     (then_leads {ts = comma ∷ []} {ds = 0 ∷ []} {ws = false ∷ []}
     (token_leads s from (spot.AfterInt values) (spot.IntValue values) comma (ap (after_int_step s from values comma) hc) refl refl)
-    (token_leads s from (spot.IntValue values) next t (ap (λ m. if_int m (stands s from next)) h) refl refl))
+    (token_leads s from (spot.IntValue values) next t
+    (int_taken (command_terminal_of t) t.text (stands s from next) h w) refl refl))
 
 after_int_takes : (s : CommandState) (from : Span) (values : List ℤ) (t : Token) (m : CommandTerminal) → FollowsHead m →
     after_int_step s from values t m ≡ head_done s from (head.Whole (tag.GoesOn (middle.PluralCase values))) t

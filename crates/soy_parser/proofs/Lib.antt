@@ -23,3 +23,4 @@ pub mod FilesExact
 pub mod FileMachine
 pub mod FileReads
 pub mod FileAnswers
+pub mod Ints

@@ -42,7 +42,7 @@ use Rattle.soy_parser.specs.declared.command.Tag.TheVariants as tag
 use Rattle.soy_parser.specs.declared.terminal.BlockName.{BlockName}
 use Rattle.soy_parser.specs.declared.terminal.BlockName.TheVariants as name
 use Rattle.soy_parser.specs.Nodes.{node_of, arm_of, case_of, argument_of, message_of, plural_cases, select_cases}
-use Rattle.soy_parser.specs.Nodes.{text_span}
+use Rattle.soy_parser.specs.Nodes.{text_span, up_to}
 use Rattle.soy_parser.specs.SpellsTree.{param_of, template_of}
 
 abbrev pub state : List Block → Content → Option CommandState
@@ -158,7 +158,7 @@ closed_switch blocks s other end = adds blocks s.before (node_of (form.Switch s.
 
 abbrev pub closed_template : List Block → OpenTemplate → List Node → Span → Option CommandState
 closed_template blocks t body end =
-    state blocks (content.Templates t.namespace (t.templates ++ (template_of t.head t.params body (joined t.start end) ∷ [])))
+    state blocks (content.Templates t.namespace (t.templates ++ (template_of t.head t.params body (up_to t.start end) ∷ [])))
 
 abbrev pub closed_body : List Block → Block → List Node → Span → Option CommandState
 closed_body blocks (block.Template t) ns end = closed_template blocks t ns end
@@ -167,9 +167,9 @@ closed_body blocks (block.Else i) ns end = closed_if blocks i (Some ns) end
 closed_body blocks (block.For before start variable index of) ns end =
     adds blocks before (node_of (form.For variable index of ns) (joined start end))
 closed_body blocks (block.Let before start variable kind) ns end =
-    adds blocks before (node_of (form.LetBlock variable kind ns) (joined start end))
+    adds blocks before (node_of (form.LetBlock variable kind ns) (up_to start end))
 closed_body blocks (block.Param arguments start param kind) ns end =
-    state blocks (content.Arguments (arguments ++ (argument_of param (given.Block kind ns) (joined start end) ∷ [])))
+    state blocks (content.Arguments (arguments ++ (argument_of param (given.Block kind ns) (up_to start end) ∷ [])))
 closed_body blocks (block.Case s values) ns end = closed_switch blocks (with_case s values ns) None end
 closed_body blocks (block.SwitchDefault s) ns end = closed_switch blocks s (Some ns) end
 closed_body blocks _ ns end = None

@@ -5,6 +5,7 @@
 use Rattle.std.specs.Prelude.{ℕ, ◌+◌, ℤ, pos, Bool, true, false, ◌&&◌, List, [], ◌∷◌, ◌++◌, Option, Some, None, length, if◌then◌else◌}
 use Rattle.soy_base.specs.declared.fault.Span.{Span}
 use Rattle.soy_lexer.specs.CommandSegment.{number_after}
+use Rattle.soy_lexer.specs.LongestToken.{is_int}
 use Rattle.soy_lexer.specs.declared.token.Token.{Token}
 use Rattle.soy_tree.specs.Formed.{is_case_word}
 use Rattle.soy_tree.specs.declared.expr.Expr.{Expr}
@@ -295,9 +296,9 @@ abbrev pub if_equals : CommandTerminal → Option FileState → Option FileState
 if_equals terminal.Equals to = to
 if_equals _ to = None
 
-abbrev pub if_int : CommandTerminal → Option FileState → Option FileState
-if_int terminal.Int to = to
-if_int _ to = None
+abbrev pub if_int : CommandTerminal → List ℕ → Option FileState → Option FileState
+if_int terminal.Int text to = if is_int text then to else None
+if_int _ text to = None
 
 abbrev pub if_case_word : CommandTerminal → List ℕ → Option FileState → Option FileState
 if_case_word terminal.Str text to = if is_case_word text then to else None
@@ -363,7 +364,7 @@ spot_step s from (spot.LetColon n) t m = let_colon_step s from n t m
 spot_step s from spot.Param t m = if_word m (stands s from (spot.ParamColon t.text))
 spot_step s from (spot.ParamColon n) t m = param_colon_step s from n t m
 spot_step s from (spot.IntValue values) t m =
-    if_int m (stands s from (spot.AfterInt (values ++ (pos (number_after 0 t.text) ∷ []))))
+    if_int m t.text (stands s from (spot.AfterInt (values ++ (pos (number_after 0 t.text) ∷ []))))
 spot_step s from (spot.AfterInt values) t m = after_int_step s from values t m
 spot_step s from (spot.CaseWord values) t m =
     if_case_word m t.text (stands s from (spot.AfterCaseWord (values ++ (t.text ∷ []))))

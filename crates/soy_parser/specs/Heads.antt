@@ -1,13 +1,15 @@
 -- The attributes that a command takes after its head, and what it says with them and its end.
 -- Example: `{msg desc="a"}` has the head `{msg`, an attribute and an end; `{let $x: 1 /}` has no attribute, and `/}` as its
 -- end.
-use Rattle.std.specs.Prelude.{◌≡◌, ℕ, Bool, true, false, not, ◌&&◌, List, [], ◌∷◌, ◌++◌, Option, Some, None, option_map, unwrap_or, is_some, codes, if◌then◌else◌}
+use Rattle.std.specs.Prelude.{◌≡◌, ℕ, nat_le, Bool, true, false, not, ◌&&◌, List, [], ◌∷◌, ◌++◌, Option, Some, None, option_map, unwrap_or, is_some, codes, if◌then◌else◌}
 use Rattle.std.specs.Str.{bytes_eq}
 use Rattle.soy_base.specs.Names.{is_name}
 use Rattle.soy_base.specs.declared.kind.Kind.{Kind}
 use Rattle.soy_base.specs.declared.kind.Kind.TheVariants as block_kind
 use Rattle.soy_lexer.specs.LongestToken.{is_int}
-use Rattle.soy_lexer.specs.CommandSegment.{number_after}
+use Rattle.std.specs.Char.{is_ascii_digit}
+use Rattle.std.specs.List.{list_all}
+use Rattle.soy_lexer.specs.CommandSegment.{number_after, largest_int}
 use Rattle.soy_lexer.specs.declared.token.Token.{Token}
 use Rattle.soy_parser.specs.declared.attributes.AttributeName.{AttributeName}
 use Rattle.soy_parser.specs.declared.attributes.AttributeName.TheVariants as attribute
@@ -62,6 +64,15 @@ kind_named text =
 
 abbrev pub with_kind : Attributes → Kind → Attributes
 with_kind a k = record a { kind = Some k }
+
+-- the number that decimal digits write after those of n, if it is none over the largest int
+abbrev pub digits_value : ℕ → List ℕ → Option ℕ
+digits_value n digits =
+    if list_all is_ascii_digit digits && nat_le (number_after n digits) largest_int then Some (number_after n digits) else None
+
+-- the int that a text is
+abbrev pub int_of : List ℕ → Option ℕ
+int_of text = if is_int text then Some (number_after 0 text) else None
 
 abbrev pub with_offset : Attributes → List ℕ → Option Attributes
 with_offset a text = if is_int text then Some (record a { offset = Some (number_after 0 text) }) else None

@@ -45,3 +45,7 @@ text_start _ _ a b = a.start
 
 abbrev pub text_span : List ℕ → List ℕ → Span → Span → Span
 text_span text more a b = record { start = text_start text more a b; end = b.end }
+
+-- a block that a refusal of its end names by the offset of its closing command ends where that command begins
+abbrev pub up_to : Span → Span → Span
+up_to a b = record { start = a.start; end = b.start }

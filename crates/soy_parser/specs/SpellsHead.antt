@@ -5,6 +5,7 @@
 -- Example: `for $x in $list` is a head with the depths 0, 0, 0 and 1.
 use Rattle.std.specs.Prelude.{◌≡◌, ℕ, ℤ, pos, Bool, true, false, not, List, [], ◌∷◌, ◌++◌, Option, Some, None, map, codes}
 use Rattle.soy_lexer.specs.CommandSegment.{number_after}
+use Rattle.soy_lexer.specs.LongestToken.{is_int}
 use Rattle.soy_lexer.specs.declared.token.Token.{Token}
 use Rattle.soy_tree.specs.Formed.{is_case_word}
 use Rattle.soy_tree.specs.declared.expr.Expr.{Expr}
@@ -70,9 +71,10 @@ pub data SpellsValues : List Token → List ℕ → List Expr → Type 0 where
       → SpellsValues (ts ++ (comma ∷ us)) (ds ++ (0 ∷ es)) (values ++ (x.expr ∷ []))
 
 pub data SpellsInts : List Token → List ℤ → Type 0 where
-  one_ : (t : Token) → command_terminal_of t ≡ terminal.Int → SpellsInts (t ∷ []) (pos (number_after 0 t.text) ∷ [])
+  one_ : (t : Token) → command_terminal_of t ≡ terminal.Int → is_int t.text ≡ true
+      → SpellsInts (t ∷ []) (pos (number_after 0 t.text) ∷ [])
   more_ : (ts : List Token) (values : List ℤ) (comma t : Token) → SpellsInts ts values
-      → command_terminal_of comma ≡ terminal.Comma → command_terminal_of t ≡ terminal.Int
+      → command_terminal_of comma ≡ terminal.Comma → command_terminal_of t ≡ terminal.Int → is_int t.text ≡ true
       → SpellsInts (ts ++ (comma ∷ (t ∷ []))) (values ++ (pos (number_after 0 t.text) ∷ []))
 
 pub data SpellsCaseWords : List Token → List (List ℕ) → Type 0 where

@@ -35,7 +35,7 @@ use Rattle.soy_parser.specs.declared.command.Tag.TheVariants as tag
 use Rattle.soy_parser.specs.declared.command.TemplateHead.{TemplateHead}
 use Rattle.soy_parser.specs.declared.terminal.BlockName.TheVariants as block
 use Rattle.soy_parser.specs.Depth.{inside}
-use Rattle.soy_parser.specs.Nodes.{node_of, arm_of, case_of, argument_of, message_of, plural_cases, select_cases, text_span}
+use Rattle.soy_parser.specs.Nodes.{node_of, arm_of, case_of, argument_of, message_of, plural_cases, select_cases, text_span, up_to}
 
 -- these commands are white text alone, as stands between a file's templates and before a switch's first case; so many
 -- blocks are open around it
@@ -158,7 +158,7 @@ mutual
     let_block_ : (c z : Command) (bs : List Command) (ks : List ℕ) (name : List ℕ) (kind : Kind) (body : List Node)
         → c.tag ≡ tag.Opens (opening.Let name kind) → SpellsBody bs ks body → z.tag ≡ tag.Closes block.Let
         → SpellsNode (c ∷ (bs ++ (z ∷ []))) (0 ∷ inside 1 (ks ++ (0 ∷ [])))
-        (node_of (form.LetBlock name kind body) (joined c.span z.span))
+        (node_of (form.LetBlock name kind body) (up_to c.span z.span))
     call_ : (c z : Command) (cs : List Command) (ls : List ℕ) (name : List ℕ) (all : Bool) (arguments : List Argument)
         → c.tag ≡ tag.Opens (opening.Call name all) → SpellsArguments cs ls arguments → z.tag ≡ tag.Closes block.Call
         → SpellsNode (c ∷ (cs ++ (z ∷ []))) (0 ∷ inside 1 (ls ++ (0 ∷ [])))
@@ -204,7 +204,7 @@ mutual
         (body : List Node)
         → SpellsArguments cs ls arguments → c.tag ≡ tag.Opens (opening.Param name kind) → SpellsBody bs ks body → z.tag ≡ tag.Closes block.Param
         → SpellsArguments (cs ++ (c ∷ (bs ++ (z ∷ [])))) (ls ++ (0 ∷ inside 1 (ks ++ (0 ∷ []))))
-        (arguments ++ (argument_of name (given.Block kind body) (joined c.span z.span) ∷ []))
+        (arguments ++ (argument_of name (given.Block kind body) (up_to c.span z.span) ∷ []))
 
 -- the parameters at the head of a template
 
@@ -232,7 +232,7 @@ pub data SpellsTemplates : List Command → List ℕ → List Template → Type 
       → SpellsTemplates cs ls templates → c.tag ≡ tag.Opens (opening.Template h) → SpellsParams ps ms params → SpellsBody bs ks body
       → z.tag ≡ tag.Closes block.Template
       → SpellsTemplates (cs ++ (c ∷ (ps ++ (bs ++ (z ∷ []))))) (ls ++ (0 ∷ inside 1 (ms ++ (ks ++ (0 ∷ [])))))
-      (templates ++ (template_of h params body (joined c.span z.span) ∷ []))
+      (templates ++ (template_of h params body (up_to c.span z.span) ∷ []))
 
 -- a file, as commands
 pub data SpellsTree : List Command → List ℕ → Tree → Type 0 where

@@ -6,12 +6,22 @@
 //! soy_tree and expr_parser.
 #![tactic(auto)]
 
+mod admits;
 mod attributes;
 mod block;
+mod blocks;
 mod command;
+mod commands;
+mod files;
 mod head;
+mod heads;
+mod messages;
+mod nodes;
+mod parse;
 mod spot;
+mod spots;
 mod terminal;
+mod values;
 
 pub use attributes::{AttributeName, Attributes};
 pub use block::{
@@ -20,5 +30,9 @@ pub use block::{
 };
 pub use command::{Command, Middle, Opening, Single, Tag, TemplateHead};
 pub use head::{Head, HeadKind};
+pub use parse::parse;
 pub use spot::{CommandSpot, DottedUse, FileState, Spot, Use};
 pub use terminal::{BlockName, CommandTerminal, CommandWord};
+
+#[cfg(test)]
+mod tests;
