@@ -339,8 +339,9 @@ module _ (file : ℕ) where
         moved ts ((us ++ t ∷ []) ++ ts) (us ++ t ∷ ts) (end_after 0 (us ++ t ∷ [])) t.span.end m
         (append_assoc us (t ∷ []) ts) (end_last 0 us t) (inside (within_to m e small) (known_to m e small))
     on m e false large inside =
-        let deep = within-false (0 + token_depth s m) depth_limit large in
-        (refl, record { fault = fault_to t.span.start m e refl; deep = omega (arith, deep) })
+        let large = within-false (0 + token_depth s m) depth_limit large in
+        let deep : depth_limit < token_depth s m = omega (arith, large) in
+        (refl, record { fault = fault_to t.span.start m e refl; deep = deep })
 
     over : (to : Option FileState) → file_step s t ≡ to →
         ((m : FileState) → file_run (us ++ t ∷ []) file_start ≡ Some m →
