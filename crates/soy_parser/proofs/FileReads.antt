@@ -231,18 +231,21 @@ module _ (file : ℕ) where
   refused : (us rest : List Token) (s : FileState) (offset : ℕ) → file_run us file_start ≡ Some s → NoFileGoesOn us rest →
       AreWithin 0 (file_depths us file_start) → NameTypes us (file_words us file_start) rest →
       offset_after us rest ≡ offset → Answers file (us ++ rest) (Err (fault_at file code.Syntax offset))
-  refused us rest s offset r ends within known at = (refl, record {
-    prefix = us;
-    rest = rest;
-    depths = file_depths us file_start;
-    words = file_words us file_start;
-    whole = refl;
-    begins = run-BeginsFile us s r;
-    longest = ends;
-    within = within;
-    known = known;
-    offset_is = at;
-  })
+  refused us rest s offset r ends within known at = (
+    refl,
+    record {
+      prefix = us;
+      rest = rest;
+      depths = file_depths us file_start;
+      words = file_words us file_start;
+      whole = refl;
+      begins = run-BeginsFile us s r;
+      longest = ends;
+      within = within;
+      known = known;
+      offset_is = at;
+    },
+  )
 
   -- where the tokens run out
   run_out : (us : List Token) (s : FileState) (o : Option Tree) → file_run us file_start ≡ Some s → whole_file s ≡ o →

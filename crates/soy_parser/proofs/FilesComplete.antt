@@ -144,12 +144,12 @@ command_leads _ _ _ _ (SpellsCommand.text_ t h) s m e =
 command_leads _ _ _ _ (SpellsCommand.command_ b z ts us ds ws h a of hb p q hz) s m e =
     let fits = said_fits h a (command_terminal_of z) of (spelled_is_head ts ds ws h p) hz in
     let ok = subst (λ k. admits s k ≡ true) fits.0
-        (step_admits s.content s.blocks of (joined b.span z.span) m fits.1 e) in
+    (step_admits s.content s.blocks of (joined b.span z.span) m fits.1 e) in
     let g = head_leads s b.span ts ds ws h p ok in
     let k = attributes_lead s b.span h g.to g.has us a q in
     let first = step_leads (length s.blocks) 0 false (between s) b (opened s b.span) (ap (between_step s b) hb) refl refl in
     let last = step_leads (length s.blocks) 0 false k.to z (between m) (end_step s m b.span h a k.to z of k.has hz e)
-        (ap (λ (c : CommandState). length c.blocks + 0) k.has.commands_are) refl in
+    (ap (λ (c : CommandState). length c.blocks + 0) k.has.commands_are) refl in
     then_leads {ts = b ∷ []} {ds = 0 ∷ []} {ws = false ∷ []} first
     (then_leads g.leads (none_then {us = z ∷ []} k.leads last))
 

@@ -83,16 +83,16 @@ inside_completes : (s : CommandState) (front : List Token) (begin : Token) (own 
 inside_completes s front begin own k heard begins c ok =
     let of = c.of in
     let fits = said_fits c.head_ c.attributes (command_terminal_of c.close) c.said
-        (spelled_is_head c.head_tokens of.depths of.words c.head_ of.spells) c.ends in
+    (spelled_is_head c.head_tokens of.depths of.words c.head_ of.spells) c.ends in
     let span = joined begin.span c.close.span in
     let said : Command = record { tag = c.said; span = span } in
     let step = admitted_steps heard.commands s heard.runs c.said span fits.1
-        (subst (λ k. admits s k ≡ true) (sym (fits.0 ∙ of.kind_is)) ok) in
+    (subst (λ k. admits s k ≡ true) (sym (fits.0 ∙ of.kind_is)) ok) in
     let own_tokens = begin ∷ (c.head_tokens ++ (c.attribute_tokens ++ (c.close ∷ []))) in
     let spoken : Speaks own_tokens (said ∷ []) =
-        speaks_one own_tokens _ _ said
-        (SpellsCommand.command_ begin c.close c.head_tokens c.attribute_tokens of.depths of.words c.head_ c.attributes c.said
-        begins of.spells c.spells c.ends) in
+    speaks_one own_tokens _ _ said
+    (SpellsCommand.command_ begin c.close c.head_tokens c.attribute_tokens of.depths of.words c.head_ c.attributes c.said
+    begins of.spells c.spells c.ends) in
     let next : Heard step.to (front ++ own_tokens) = record {
       commands = heard.commands ++ (said ∷ []);
       speaks = speaks_append front own_tokens heard.commands (said ∷ []) heard.speaks spoken;
@@ -206,7 +206,7 @@ templates_whole : (n : List ℕ) (templates : List Template) (bs : List Block) (
 templates_whole n templates bs ts h =
     let held = commands.start_run_held h.commands (at bs (content.Templates n templates)) h.runs in
     let t = run_tree h.commands n templates
-        (subst (λ l. command_run h.commands command_start ≡ Some (at l (content.Templates n templates))) held.none h.runs) in
+    (subst (λ l. command_run h.commands command_start ≡ Some (at l (content.Templates n templates))) held.none h.runs) in
     file_spelled ts h.commands t.0 (record { namespace = n; templates = templates }) h.speaks t.1
 
 whole_of : (k : Content) (bs : List Block) (ts : List Token) → Heard (at bs k) ts → IfWhole (tree_of k) ts

@@ -398,8 +398,12 @@ module _ (s : CommandState) (front : List Token) (begin : Token) (heard : Heard 
       again (head_done s begin.span (head_of (use_.Case values) x) t) (c ∷ ((us ++ vs) ++ (t ∷ []))) _
       (ap (λ l. c ∷ l) (append_assoc us vs (t ∷ [])))
       (done_fine (c ∷ (us ++ vs)) (head_of (use_.Case values) x) kind.Case
-      (record { depths = _; words = _; spells = SpellsHead.case_ c (us ++ vs) g.depths (values ++ (x.expr ∷ [])) hc g.spells;
-      kind_is = refl }) ok t)
+      (record {
+        depths = _;
+        words = _;
+        spells = SpellsHead.case_ c (us ++ vs) g.depths (values ++ (x.expr ∷ [])) hc g.spells;
+        kind_is = refl;
+      }) ok t)
 
   case_fine : (t c : Token) (us vs : List Token) (values : List Expr) (r : ExprState) →
       command_terminal_of c ≡ terminal.Word word.Case → CaseBegins us values → expr_run vs expr_start ≡ Some r →
@@ -443,9 +447,12 @@ module _ (s : CommandState) (front : List Token) (begin : Token) (heard : Heard 
           again (head_done s begin.span (head.Whole (tag.HeadParam n.text required x.of)) t) _ _
           (ap (λ l. sign ∷ (u ∷ l)) (append_assoc ts (n ∷ (colon ∷ us)) (t ∷ [])))
           (done_fine (sign ∷ (u ∷ (ts ++ (n ∷ (colon ∷ us))))) (head.Whole (tag.HeadParam n.text required x.of)) kind.HeadParam
-          (record { depths = _; words = _;
-          spells = SpellsHead.head_param_ sign u n colon w ts us p.depths p.words required x hs hu hq hn hc p.spells;
-          kind_is = refl }) ok t)
+          (record {
+            depths = _;
+            words = _;
+            spells = SpellsHead.head_param_ sign u n colon w ts us p.depths p.words required x hs hu hq hn hc p.spells;
+            kind_is = refl;
+          }) ok t)
 
       over : (to : Option TypeState) → type_next r t ≡ to →
           Goes (in_type s begin.span n.text required t (type_step_of to (whole_type r)))

@@ -240,8 +240,12 @@ case_ends t us vs values r h b q =
     shorter (t ∷ (us ++ vs)) c.more kind.Case
     (moved kind.Case (t ∷ (us ++ (vs ++ c.more))) (t ∷ ((us ++ vs) ++ c.more)) (ap (λ l. t ∷ l) (sym (append_assoc us vs c.more)))
     (head_ends (t ∷ (us ++ (vs ++ c.more))) (head.Whole (tag.GoesOn (middle.Case next))) kind.Case
-    (record { depths = _; words = _; spells = SpellsHead.case_ t (us ++ (vs ++ c.more)) g.depths next h g.spells;
-    kind_is = refl })))
+    (record {
+      depths = _;
+      words = _;
+      spells = SpellsHead.case_ t (us ++ (vs ++ c.more)) g.depths next h g.spells;
+      kind_is = refl;
+    })))
 
 -- a use without its expression
 use_ends : (us : List Token) (of : Use) (k : HeadKind) → UseBegins of us k → Completes us k

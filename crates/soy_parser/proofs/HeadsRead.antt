@@ -355,9 +355,9 @@ values_lead s from _ _ _ (SpellsValues.more_ ts us ds es values comma x w hc p) 
     let i = SpellsExpr-whole_expr us es x p in
     let at_ = in_at s from (spot.Expr (use_.Case values) expr_start) in
     let step : file_step (in_at s from (spot.Expr (use_.Case g.before) g.state)) comma ≡ Some at_ =
-        ap (in_expr s from (use_.Case g.before) comma) (ends_at_comma g.state comma g.last g.whole hc)
-        ∙ (ap (next_value s from (use_.Case g.before) g.last comma) hc
-        ∙ ap (λ l. stands s from (spot.Expr (use_.Case l) expr_start)) g.are) in
+    ap (in_expr s from (use_.Case g.before) comma) (ends_at_comma g.state comma g.last g.whole hc)
+    ∙ (ap (next_value s from (use_.Case g.before) g.last comma) hc
+    ∙ ap (λ l. stands s from (spot.Expr (use_.Case l) expr_start)) g.are) in
     record {
       before = values;
       last = x;
