@@ -312,7 +312,7 @@ fn with_plural_copies(
 {
     let mut cases = cases;
     for value in values {
-        let body = copied(alloc, body)?;
+        let body = body.copy(alloc)?;
         cases.push(PluralCase { is: *value, body })?;
     }
     Ok(cases)
@@ -355,7 +355,7 @@ fn with_select_copies(
     let mut cases = cases;
     for word in words {
         let is = word.copy(alloc)?;
-        let body = copied(alloc, body)?;
+        let body = body.copy(alloc)?;
         cases.push(SelectCase { is, body })?;
     }
     Ok(cases)
@@ -485,11 +485,4 @@ impl OpenFallback {
             span: self.start,
         }
     }
-}
-
-/// A stub.
-fn copied(alloc: Global, body: &MessageBody) -> Result<MessageBody, OutOfMemory>
-    ensures { IfOk result (λ b. b ≡ body.now) }
-{
-    Err(OutOfMemory)
 }

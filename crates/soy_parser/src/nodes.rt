@@ -9,7 +9,7 @@ ghost use Rattle.soy_parser.specs.Nodes.{node_of, text_span, up_to};
 
 use crate::block::{Nodes, TextRun};
 use soy_base::{OutOfMemory, Row, Span, Text, is_template_space};
-use soy_tree::{Form, MessageBody, Node};
+use soy_tree::{Form, MessageBody, Node, is_message_text, is_message_text_with};
 use std::alloc::Global;
 
 /// From the start of one span to the end of the other.
@@ -96,7 +96,10 @@ impl Nodes {
     pub(crate) fn has_whole_tags(&self) -> bool
         ensures { result ≡ has_whole_tags self.now }
     {
-        true
+        match &self.run {
+            None => is_message_text(self.items.items()),
+            Some(run) => is_message_text_with(self.items.items(), &run.text),
+        }
     }
 
     /// The nodes with one more text.
