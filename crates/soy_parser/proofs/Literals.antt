@@ -7,21 +7,27 @@ use Rattle.expr_parser.specs.declared.type_terminal.TypeTerminal.{TypeTerminal}
 use Rattle.expr_parser.specs.declared.type_terminal.TypeTerminal.TheVariants as terminal
 
 pub chars_html : chars (codes "html") ≡ codes "html"
+unfolding chars
 chars_html = refl
 
 pub chars_attributes : chars (codes "attributes") ≡ codes "attributes"
+unfolding chars
 chars_attributes = refl
 
 pub chars_text : chars (codes "text") ≡ codes "text"
+unfolding chars
 chars_text = refl
 
 pub chars_private : chars (codes "private") ≡ codes "private"
+unfolding chars
 chars_private = refl
 
 pub chars_all : chars (codes "all") ≡ codes "all"
+unfolding chars
 chars_all = refl
 
 pub chars_other : chars (codes "other") ≡ codes "other"
+unfolding chars
 chars_other = refl
 
 -- no other symbol of types is a `<`
