@@ -1,6 +1,6 @@
 -- Names as the keys of a set.
 use Rattle.std.proofs.Common.{◌≡◌, ℕ, ◌+◌, Bool, true, false, not, ◌||◌, ◌&&◌, cond, List, [], ◌∷◌, ◌++◌, map, refl, ap}
-use Rattle.std.proofs.Common.{sym, ◌∙◌, Bor, MatchBool, Option, Some, None, length, reverse, cc}
+use Rattle.std.proofs.Common.{sym, ◌∙◌, Bor, MatchBool, Option, Some, None, length, reverse}
 use Rattle.std.specs.Prelude.{nat_lt}
 use Rattle.std.specs.List.{list_all, list_any, position, prefix_len}
 use Rattle.std.specs.Str.{bytes_eq, chars, is_utf8, IsUtf8}
@@ -81,10 +81,14 @@ pub seen-insert : (keys new : List (Bor (List ℕ))) (name : Bor (List ℕ)) (is
 seen-insert keys new name is_new text all n k =
     inserted keys new name is_new (has_key keys name.now) text all refl n k
 
+true_too : (a b : Bool) → a ≡ true → b ≡ true → (a && (b && true)) ≡ true
+true_too a b e f = rw (e, f) refl
+
 one_more : (keys : List (Bor (List ℕ))) (name : Bor (List ℕ)) → IsUtf8 name.now → are_texts keys ≡ true
     → are_texts (keys ++ (name ∷ [])) ≡ true
 one_more keys name text all =
-    list_all-append (λ key. is_utf8 key.now) keys (name ∷ []) ∙ rw (all, is_utf8-from_IsUtf8 name.now text) refl
+    list_all-append (λ (key : Bor (List ℕ)). is_utf8 key.now) keys (name ∷ [])
+    ∙ true_too (are_texts keys) (is_utf8 name.now) all (is_utf8-from_IsUtf8 name.now text)
 
 kept_texts : (keys : List (Bor (List ℕ))) (name : Bor (List ℕ)) (has : Bool) → IsUtf8 name.now → are_texts keys ≡ true
     → are_texts (cond has keys (keys ++ (name ∷ []))) ≡ true

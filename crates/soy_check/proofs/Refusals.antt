@@ -9,7 +9,7 @@ use Rattle.soy_tree.specs.Faults.{TypeFault, followed_by}
 use Rattle.soy_tree.specs.Demands.{CheckFault}
 use Rattle.soy_expr.specs.declared.type_fault.TypeFault as code
 use Rattle.soy_expr.specs.ViewTypeFault.{FirstRefusal, Keeps}
-use Rattle.soy_check.specs.declared.check.CheckFault as code_check
+use Rattle.soy_check.specs.declared.checker.CheckFault as code_check
 use Rattle.soy_check.specs.Answers.{KeepsFault, KeepsInFile, Refuses}
 
 pub refused_first : {A B : Type 0} (r : Result A TypeFault) (next : A → Result B TypeFault)

@@ -11,7 +11,7 @@ use Rattle.soy_tree.specs.Demands.{CheckFault, check_fault, in_file}
 use Rattle.soy_tree.specs.ViewTrees.{view_trees}
 use Rattle.soy_expr.specs.declared.type_fault.TypeFault as code_fault
 use Rattle.soy_expr.specs.ViewTypeFault.{view_type_fault}
-use Rattle.soy_check.specs.declared.check.CheckFault as code
+use Rattle.soy_check.specs.declared.checker.CheckFault as code
 
 abbrev pub view_check_fault : code.CheckFault → CheckFault
 view_check_fault f =
@@ -34,6 +34,9 @@ FindsInFile wanted (Ok a) = wanted ≡ None
 FindsInFile wanted (Err e) = KeepsInFile wanted e
 
 -- the same of a part of a file
+abbrev pub MaybeFault : Type 0
+MaybeFault = Option TypeFault
+
 abbrev pub KeepsFault : Option TypeFault → Refusal code_fault.TypeFault → Type 0
 KeepsFault wanted (refusal.Because f) = wanted ≡ Some (view_type_fault f)
 KeepsFault wanted refusal.OutOfMemory = Unit {0}

@@ -9,10 +9,11 @@ use soy_base::Text;
 use soy_tree::Param;
 
 /// The templates of all files with their full names, and the namespace and the parameters of the body's template.
-pub(crate) struct Around<'a> {
-    pub(crate) declared: &'a [Declared<'a>],
-    pub(crate) names: &'a Names<'a>,
-    pub(crate) namespace: &'a Text,
-    pub(crate) params: &'a [Param],
+#[derive(Drop)]
+pub(crate) struct Around<'n, 'a, 't> {
+    pub(crate) declared: &'a [Declared<'t>],
+    pub(crate) names: &'n Names<'a>,
+    pub(crate) namespace: &'t Text,
+    pub(crate) params: &'t [Param],
     ghost indexed: { names.now ≡ reverse (full_names declared.now) },
 }

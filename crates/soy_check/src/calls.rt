@@ -25,92 +25,90 @@ use soy_expr::TypeFault;
 use soy_tree::{Argument, Field, Param};
 use std::alloc::Global;
 
-impl<'a> Around<'a> {
-    /// The parameters of the template that a call means by a name.
-    #[tactic(auto, using(crate::proofs::Refusals::kept))]
-    pub(crate) fn callee_params(
-        &self,
-        alloc: Global,
-        name: &Text,
-        span: Span,
-    ) -> Result<&'a [Param], Refusal<TypeFault>>
-        ensures { Answers (λ ps. view_params ps.now) (callee_params (view_around self.now) name.now span) result }
-    {
-        let full = called_name(alloc, self.namespace, name)?;
-        match self.visible_template(&full) {
-            Some(declared) => Ok(declared.template.params.items()),
-            None => Err(misnamed(alloc, Code::Unknown, span, &full)),
-        }
+/// The parameters of the template that a call means by a name.
+#[tactic(auto, using(crate::proofs::Refusals::kept))]
+pub(crate) fn callee_params<'a, 't>(
+    alloc: Global,
+    around: &Around<'_, 'a, 't>,
+    name: &Text,
+    span: Span,
+) -> Result<&'t [Param], Refusal<TypeFault>>
+    ensures { Answers (λ ps. view_params ps.now) (callee_params (view_around around.now) name.now span) result }
+{
+    let full = called_name(alloc, around.namespace, name)?;
+    match visible_template(around, &full) {
+        Some(declared) => Ok(declared.template.params.items()),
+        None => Err(misnamed(alloc, Code::Unknown, span, &full)),
     }
+}
 
-    /// The template of a full name, where the namespace sees it.
-    fn visible_template(&self, full: &Text) -> Option<&'a Declared<'a>>
-        ensures { option_map (λ d. view_declared d.now) result
-            ≡ visible self.now.namespace.now (template_of full.now (view_all self.now.declared.now)) }
-    {
-        let declared = self.template_of(full)?;
-        if declared.template.private && !declared.namespace.is(self.namespace.text()) {
-            return None;
-        }
-        Some(declared)
+/// The template of a full name, where the namespace sees it.
+fn visible_template<'a, 't>(around: &Around<'_, 'a, 't>, full: &Text) -> Option<&'a Declared<'t>>
+    ensures { option_map (λ d. view_declared d.now) result
+        ≡ visible around.now.namespace.now (template_of full.now (view_all around.now.declared.now)) }
+{
+    let declared = template_of(around, full)?;
+    if declared.template.private && !declared.namespace.is(around.namespace.text()) {
+        return None;
     }
+    Some(declared)
+}
 
-    /// The template of a full name.
-    fn template_of(&self, full: &Text) -> Option<&'a Declared<'a>>
-        ensures { option_map (λ d. view_declared d.now) result ≡ template_of full.now (view_all self.now.declared.now) }
-    {
-        match self.names.position(full) {
-            Some(at) => self.declared.get(at),
-            None => None,
-        }
+/// The template of a full name.
+fn template_of<'a, 't>(around: &Around<'_, 'a, 't>, full: &Text) -> Option<&'a Declared<'t>>
+    ensures { option_map (λ d. view_declared d.now) result ≡ template_of full.now (view_all around.now.declared.now) }
+{
+    match around.names.position(full) {
+        Some(at) => around.declared.get(at),
+        None => None,
     }
+}
 
-    /// What the callee's parameters demand of a call.
-    #[tactic(auto, using(crate::proofs::Refusals::refused_first))]
-    pub(crate) fn check_demands(
-        &self,
-        alloc: Global,
-        all: bool,
-        given: &[Argument],
-        span: Span,
-        params: &[Param],
-        vars: &[Field],
-    ) -> Result<(), Refusal<TypeFault>>
-        ensures { Passes (param_demands (view_around self.now) all (names_given (view_arguments given.now)) span
-            (view_params params.now) (view_vars vars.now)) (view_vars vars.now) result }
-    {
-        for param in params {
-            if !is_given(&param.name, given) {
-                self.check_unnamed(alloc, all, span, param, vars)?;
-            }
+/// What the callee's parameters demand of a call.
+#[tactic(auto, using(crate::proofs::Refusals::refused_first))]
+pub(crate) fn check_demands(
+    alloc: Global,
+    around: &Around,
+    all: bool,
+    given: &[Argument],
+    span: Span,
+    params: &[Param],
+    vars: &[Field],
+) -> Result<(), Refusal<TypeFault>>
+    ensures { Passes (param_demands (view_around around.now) all (names_given (view_arguments given.now)) span
+        (view_params params.now) (view_vars vars.now)) (view_vars vars.now) result }
+{
+    for param in params {
+        if !is_given(&param.name, given) {
+            check_unnamed(alloc, around, all, span, param, vars)?;
         }
-        Ok(())
     }
+    Ok(())
+}
 
-    /// What a parameter demands that no param names: that what is handed on fits, or that it may be left out.
-    #[tactic(auto, using(crate::proofs::Refusals::kept))]
-    fn check_unnamed(
-        &self,
-        alloc: Global,
-        all: bool,
-        span: Span,
-        param: &Param,
-        vars: &[Field],
-    ) -> Result<(), Refusal<TypeFault>>
-        ensures { Passes (unnamed_demand (view_around self.now) all span (view_param param.now) (view_vars vars.now))
-            (view_vars vars.now) result }
-    {
-        if all && param_of(&param.name, self.params).is_some() {
-            return match variable_of(vars, &param.name) {
-                Some(given) => check_accepted(alloc, &param_type(alloc, param)?, span, given),
-                None => Ok(()),
-            };
-        }
-        if param.required {
-            return Err(misnamed(alloc, Code::Argument, span, &param.name));
-        }
-        Ok(())
+/// What a parameter demands that no param names: that what is handed on fits, or that it may be left out.
+#[tactic(auto, using(crate::proofs::Refusals::kept))]
+fn check_unnamed(
+    alloc: Global,
+    around: &Around,
+    all: bool,
+    span: Span,
+    param: &Param,
+    vars: &[Field],
+) -> Result<(), Refusal<TypeFault>>
+    ensures { Passes (unnamed_demand (view_around around.now) all span (view_param param.now) (view_vars vars.now))
+        (view_vars vars.now) result }
+{
+    if all && param_of(&param.name, around.params).is_some() {
+        return match variable_of(vars, &param.name) {
+            Some(given) => check_accepted(alloc, &param_type(alloc, param)?, span, given),
+            None => Ok(()),
+        };
     }
+    if param.required {
+        return Err(misnamed(alloc, Code::Argument, span, &param.name));
+    }
+    Ok(())
 }
 
 /// The full name that a call means.

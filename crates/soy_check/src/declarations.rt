@@ -17,9 +17,9 @@ use std::alloc::Global;
 
 /// The declaration of a template, after templates of these full names, to which its own is added.
 #[tactic(auto, using(crate::proofs::Refusals::found_first, crate::proofs::Refusals::kept_fault))]
-pub(crate) fn check_declaration<'a>(
+pub(crate) fn check_declaration<'a, 't>(
     alloc: Global,
-    declared: &'a Declared<'a>,
+    declared: &'a Declared<'t>,
     before: &mut Names<'a>,
 ) -> Result<(), Refusal<TypeFault>>
     ensures found { Finds (declaration_fault (view_declared declared.now) before.old) result }

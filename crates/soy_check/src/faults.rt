@@ -1,15 +1,14 @@
 //! Refusals of what fails a demand.
 
-ghost use Rattle.std.specs.Prelude.{[], option_map, Option};
+ghost use Rattle.std.specs.Prelude.{[], option_map};
 ghost use Rattle.soy_base.specs.declared.code.Code.TheVariants as code;
 ghost use Rattle.soy_tree.specs.Demands.{in_file};
-ghost use Rattle.soy_tree.specs.Faults.{TypeFault};
 ghost use Rattle.soy_tree.specs.TypeText.{type_text};
 ghost use Rattle.soy_tree.specs.ViewTypes.{view_type};
 ghost use Rattle.soy_expr.specs.ViewTypeFault.{Keeps};
-ghost use Rattle.soy_check.specs.Answers.{Finds, FindsInFile};
+ghost use Rattle.soy_check.specs.Answers.{Finds, FindsInFile, MaybeFault};
 
-use crate::check::CheckFault;
+use crate::checker::CheckFault;
 use soy_base::{Code, Fault, Refusal, Span, Text};
 use soy_expr::{TypeFault, text_of};
 use soy_tree::SoyType;
@@ -78,7 +77,7 @@ pub(crate) fn found_in(
     file: u32,
     found: Result<(), Refusal<TypeFault>>,
 ) -> Result<(), Refusal<CheckFault>>
-    ensures { (wanted : Option TypeFault) → Finds wanted found → FindsInFile (option_map (in_file file) wanted) result }
+    ensures { (wanted : MaybeFault) → Finds wanted found → FindsInFile (option_map (in_file file) wanted) result }
 {
     match found {
         Ok(_) => Ok(()),

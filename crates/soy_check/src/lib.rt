@@ -10,7 +10,7 @@
 mod around;
 mod bodies;
 mod calls;
-mod check;
+mod checker;
 mod commands;
 mod declarations;
 mod faults;
@@ -21,7 +21,7 @@ mod templates;
 mod type_faults;
 mod variables;
 
-pub use check::{CheckFault, check};
+pub use checker::{CheckFault, check};
 
 #[cfg(test)]
 mod tests;

@@ -3,7 +3,7 @@
 ghost use Rattle.std.specs.Prelude.{◌<◌, ◌^◌, length};
 
 use crate::check;
-use crate::check::check_trees;
+use crate::checker::check_trees;
 use soy_base::{Boxed, Kind, OutOfMemory, Refusal, Seq, Span, Text};
 use soy_tree::{
     Argument, Arm, BinaryOp, Expr, ExprNode, Field, Form, Given, Message, MessageBody, Node, Param,
@@ -132,7 +132,13 @@ fn found(alloc: Global, trees: &[Tree]) -> Result<Found, OutOfMemory>
         Err(Refusal::OutOfMemory) => Err(OutOfMemory),
         Err(Refusal::Because(found)) => {
             let number = found.fault.code.number();
-            Ok((number, found.fault.file, found.fault.at, found.left, found.right))
+            Ok((
+                number,
+                found.fault.file,
+                found.fault.at,
+                found.left,
+                found.right,
+            ))
         }
     }
 }
@@ -265,7 +271,10 @@ fn call(
     all: bool,
     given: Seq<Argument>,
 ) -> Result<Seq<Node>, OutOfMemory> {
-    one(alloc, command(Form::Call(text_of(alloc, name)?, all, given)))
+    one(
+        alloc,
+        command(Form::Call(text_of(alloc, name)?, all, given)),
+    )
 }
 
 fn argument(alloc: Global, name: &str, given: Given) -> Result<Argument, OutOfMemory> {

@@ -1,7 +1,7 @@
 use Rattle.std.proofs.Common.{◌≡◌, drop}
 use Rattle.soy_tree.specs.Demands.{bodies_fault}
 use Rattle.soy_check.specs.ViewAround.{view_all}
-use Rattle.soy_check.proofs.check.check_bodies.Given as goal
+use Rattle.soy_check.proofs.checker.check_bodies.Given as goal
 
 abbrev pub invariant-loop-declared : goal.invariant-loop-declared
 invariant-loop-declared l =

@@ -2,7 +2,7 @@ use Rattle.std.proofs.Common.{◌≡◌, ◌++◌, [], drop, reverse}
 use Rattle.soy_tree.specs.Demands.{declarations_fault}
 use Rattle.soy_check.specs.FullNames.{full_names}
 use Rattle.soy_check.specs.ViewAround.{view_all}
-use Rattle.soy_check.proofs.check.check_declarations.Given as goal
+use Rattle.soy_check.proofs.checker.check_declarations.Given as goal
 
 abbrev pub invariant-loop-declared : goal.invariant-loop-declared
 invariant-loop-declared l = record {

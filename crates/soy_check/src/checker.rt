@@ -9,6 +9,7 @@ ghost use Rattle.soy_check.specs.FullNames.{full_names};
 ghost use Rattle.soy_check.specs.ViewAround.{view_all, view_declared};
 
 use crate::around::Around;
+use crate::bodies::check_nodes;
 use crate::declarations::check_declaration;
 use crate::faults::found_in;
 use crate::names::Names;
@@ -45,14 +46,15 @@ pub(crate) fn check_trees(alloc: Global, trees: &[Tree]) -> Result<(), Refusal<C
     ensures { FindsInFile (check_fault (view_trees trees.now)) result }
 {
     let all = all_templates(alloc, trees)?;
-    let names = check_declarations(alloc, all.as_slice())?;
-    check_bodies(alloc, all.as_slice(), &names)
+    let all = all.as_slice();
+    let names = check_declarations(alloc, all)?;
+    check_bodies(alloc, all, &names)
 }
 
 /// The pass over declarations, which gives the full names.
-fn check_declarations<'a>(
+fn check_declarations<'a, 't>(
     alloc: Global,
-    all: &'a [Declared<'a>],
+    all: &'a [Declared<'t>],
 ) -> Result<Names<'a>, Refusal<CheckFault>>
     ensures found { FindsInFile (declarations_fault (view_all all.now) []) result }
     ensures names { IfOk result (λ names. names ≡ reverse (full_names all.now)) }
@@ -68,7 +70,11 @@ fn check_declarations<'a>(
 }
 
 /// The pass over bodies.
-fn check_bodies(alloc: Global, all: &[Declared], names: &Names) -> Result<(), Refusal<CheckFault>>
+fn check_bodies<'n, 'a, 't>(
+    alloc: Global,
+    all: &'a [Declared<'t>],
+    names: &'n Names<'a>,
+) -> Result<(), Refusal<CheckFault>>
     requires { names.now ≡ reverse (full_names all.now) }
     ensures { FindsInFile (bodies_fault (view_all all.now) (view_all all.now)) result }
 {
@@ -79,11 +85,11 @@ fn check_bodies(alloc: Global, all: &[Declared], names: &Names) -> Result<(), Re
 }
 
 /// The body of a template.
-fn check_body<'a>(
+fn check_body<'n, 'a, 't>(
     alloc: Global,
-    all: &'a [Declared<'a>],
-    names: &'a Names<'a>,
-    declared: &'a Declared<'a>,
+    all: &'a [Declared<'t>],
+    names: &'n Names<'a>,
+    declared: &'a Declared<'t>,
 ) -> Result<(), Refusal<TypeFault>>
     requires { names.now ≡ reverse (full_names all.now) }
     ensures { Finds (body_fault (view_all all.now) (view_declared declared.now)) result }
@@ -96,5 +102,5 @@ fn check_body<'a>(
         params: template.params.items(),
     };
     let mut vars = param_variables(alloc, around.params)?;
-    around.check_nodes(alloc, template.body.items(), &mut vars)
+    check_nodes(alloc, &around, template.body.items(), &mut vars)
 }
