@@ -343,7 +343,7 @@ const DECLARATIONS: &[(Declares, u32, u64, &str)] = &[
     (Declares::NameTwice, 6, 21, "p"),
 ];
 
-fn declares(alloc: Global, case: Declares) -> Result<Seq<Param>, OutOfMemory> {
+fn declared_params(alloc: Global, case: Declares) -> Result<Seq<Param>, OutOfMemory> {
     let of = match case {
         Declares::HtmlOrNull => union_of(alloc, SoyType::Html, SoyType::Null)?,
         Declares::HtmlOrInt => union_of(alloc, SoyType::Html, SoyType::Int)?,
@@ -360,7 +360,7 @@ fn params_named_alike(alloc: Global) -> Result<Seq<Param>, OutOfMemory> {
 }
 
 fn found_in_declaration(alloc: Global, case: Declares) -> Result<Found, OutOfMemory> {
-    let tree = file(alloc, declares(alloc, case)?, none(alloc))?;
+    let tree = file(alloc, declared_params(alloc, case)?, none(alloc))?;
     found(alloc, &[tree])
 }
 
