@@ -1,0 +1,9 @@
+pub mod Infers
+pub mod JoinedArms
+pub mod NarrowedVariable
+pub mod StandsFor
+pub mod TakenClass
+pub mod ViewDeclared
+pub mod ViewParts
+pub mod ViewWalker
+pub mod Walks
