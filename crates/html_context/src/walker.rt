@@ -278,8 +278,8 @@ impl<'a, T: Translations> Walker<'a, T> {
             let inner = copied_vars(self.alloc, vars)?;
             joined = self.branch(case.body.items(), inner, before, joined, places)?;
         }
-        let inner = copied_vars(self.alloc, vars)?;
-        let joined = self.branch(other, inner, before, joined, places)?;
+        let rest = copied_vars(self.alloc, vars)?;
+        let joined = self.branch(other, rest, before, joined, places)?;
         within_limit(at, joined, places)
     }
 
