@@ -62,8 +62,10 @@ module _ (uses : List Use) (scope : Scope) (at : Site) where
     part_built NumberPart = tt
     part_built (PluralPart ordinal name offset exact named) =
         arms_built at (exact_plans uses scope at exact ++ named_plans uses scope at named)
-        (all_joined (exact_plans uses scope at exact) (named_plans uses scope at named) (exact_built exact) (named_built named))
-    part_built (SelectPart name arms) = arms_built at (parts_.select_plans uses scope at arms) (select_arms_built arms)
+        (all_joined (exact_plans uses scope at exact) (named_plans uses scope at named) (exact_built exact)
+        (named_built named))
+    part_built (SelectPart name arms) = arms_built at (parts_.select_arm_plans uses scope at arms)
+        (select_arms_built arms)
 
     pub parts_built : (ps : MsgParts) → IsBuilt (parts_plan uses scope at ps)
     parts_built no_part = tt
@@ -77,11 +79,12 @@ module _ (uses : List Use) (scope : Scope) (at : Site) where
     named_built no_named_arm = tt
     named_built (named_arm category ps arms) = (parts_built ps, named_built arms)
 
-    select_arms_built : (arms : SelectArms) → AllBuilt (parts_.select_plans uses scope at arms)
+    select_arms_built : (arms : SelectArms) → AllBuilt (parts_.select_arm_plans uses scope at arms)
     select_arms_built no_select_arm = tt
     select_arms_built (select_arm word ps arms) = (parts_built ps, select_arms_built arms)
 
-translated_built : (uses : List Use) (scope : Scope) (at : Site) (found : Option MsgParts) → AllBuilt (translated_plan uses scope at found)
+translated_built : (uses : List Use) (scope : Scope) (at : Site) (found : Option MsgParts)
+    → AllBuilt (translated_plan uses scope at found)
 translated_built uses scope at None = tt
 translated_built uses scope at (Some ps) = (parts_built uses scope at ps, tt)
 
@@ -96,10 +99,12 @@ module _ (c : PlanContext) where
     node_built (Print e phname span) scope = tt
     node_built (If arms other span) scope =
         arms_built (starts_at c.file span) (arm_plans c arms scope ++ (other_plan c other scope ∷ []))
-        (all_joined (arm_plans c arms scope) (other_plan c other scope ∷ []) (arm_plans_built arms scope) (other_built other scope, tt))
+        (all_joined (arm_plans c arms scope) (other_plan c other scope ∷ []) (arm_plans_built arms scope)
+        (other_built other scope, tt))
     node_built (Switch e cases other span) scope =
         arms_built (starts_at c.file span) (case_plans c cases scope ++ (other_plan c other scope ∷ []))
-        (all_joined (case_plans c cases scope) (other_plan c other scope ∷ []) (cases_built cases scope) (other_built other scope, tt))
+        (all_joined (case_plans c cases scope) (other_plan c other scope ∷ []) (cases_built cases scope)
+        (other_built other scope, tt))
     node_built (For name index e body span) scope = nodes_built body (body_scope name index (type_of e scope) scope)
     node_built (Let name e span) scope = tt
     node_built (LetBlock name kind body span) scope = nodes_built body scope
@@ -143,10 +148,12 @@ module _ (c : PlanContext) where
     body_built (Parts ns) scope at = nodes_built ns scope
     body_built (Plural e offset cases other) scope at =
         arms_built at (plural_plans c cases scope at ++ (body_plan c other scope at ∷ []))
-        (all_joined (plural_plans c cases scope at) (body_plan c other scope at ∷ []) (plurals_built cases scope at) (body_built other scope at, tt))
+        (all_joined (plural_plans c cases scope at) (body_plan c other scope at ∷ []) (plurals_built cases scope at)
+        (body_built other scope at, tt))
     body_built (Select e cases other) scope at =
         arms_built at (select_plans c cases scope at ++ (body_plan c other scope at ∷ []))
-        (all_joined (select_plans c cases scope at) (body_plan c other scope at ∷ []) (selects_built cases scope at) (body_built other scope at, tt))
+        (all_joined (select_plans c cases scope at) (body_plan c other scope at ∷ []) (selects_built cases scope at)
+        (body_built other scope at, tt))
 
     plurals_built : (cases : PluralCases) (scope : Scope) (at : Site) → AllBuilt (plural_plans c cases scope at)
     plurals_built no_plural_case scope at = tt
@@ -156,7 +163,11 @@ module _ (c : PlanContext) where
     selects_built no_select_case scope at = tt
     selects_built (select_case word body cases) scope at = (body_built body scope at, selects_built cases scope at)
 
-pub trees_built : (translation : Message → Option MsgParts) (all ds : List Declared) → IsBuilt (in_turn (map (declared_plan translation all) ds))
+pub trees_built : (translation : Message → Option MsgParts) (all ds : List Declared)
+    → IsBuilt (in_turn (map (declared_plan translation all) ds))
 trees_built translation all [] = tt
-trees_built translation all (d ∷ ds) =
-    (nodes_built (record { file = d.file; namespace = d.namespace; declared = all; translation = translation }) d.template.body (param_scope d.template.params), trees_built translation all ds)
+trees_built translation all (d ∷ ds) = (
+  nodes_built (record { file = d.file; namespace = d.namespace; declared = all; translation = translation })
+      d.template.body (param_scope d.template.params),
+  trees_built translation all ds,
+)

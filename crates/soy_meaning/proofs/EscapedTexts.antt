@@ -56,7 +56,8 @@ word_no_tag c is = grind (arith, nat_tests)
 
 pub js_word_no_tag : (text : List ℕ) → list_all is_word_character text ≡ true
     → lacks (less_than ∷ []) (js_word text) ≡ true
-js_word_no_tag text are = lacks-append (less_than ∷ []) text (codes " ") (tested_lacks is_word_character (less_than ∷ []) text word_no_tag are) refl
+js_word_no_tag text are = lacks-append (less_than ∷ []) text (codes " ")
+    (tested_lacks is_word_character (less_than ∷ []) text word_no_tag are) refl
 
 pub js_literal_no_tag : (text : List ℕ) → lacks (less_than ∷ []) (js_literal text) ≡ true
 js_literal_no_tag text = lacks-append (less_than ∷ []) (escaped_text js_rows text) (codes "'") (js_no_tag text) refl
@@ -72,10 +73,12 @@ css_value_all [] is = refl
 css_value_all (c ∷ text) is = is
 
 pub css_value_no_tag : (text : List ℕ) → lacks (less_than ∷ []) (css_value text) ≡ true
-css_value_no_tag text = tested_lacks is_value_character (less_than ∷ []) (css_value text) value_no_tag (css_value_all (css_value text) (css_value_is text))
+css_value_no_tag text = tested_lacks is_value_character (less_than ∷ []) (css_value text) value_no_tag
+    (css_value_all (css_value text) (css_value_is text))
 
 pub css_value_no_quote : (text : List ℕ) → lacks quotes (css_value text) ≡ true
-css_value_no_quote text = tested_lacks is_value_character quotes (css_value text) value_no_quote (css_value_all (css_value text) (css_value_is text))
+css_value_no_quote text = tested_lacks is_value_character quotes (css_value text) value_no_quote
+    (css_value_all (css_value text) (css_value_is text))
 
 -- ---- URIs
 
@@ -109,12 +112,15 @@ either_lacks these true one other if_so if_not = if_so refl
 either_lacks these false one other if_so if_not = if_not refl
 
 component_one : (c : ℕ) → lacks quotes (component_character c) ≡ true
-component_one c = either_lacks quotes (is_unreserved c) (c ∷ []) (percent_encoded c) (λ is. one_no_quote c (unreserved_no_quote c is)) (λ is. encoded_no_quote c)
+component_one c = either_lacks quotes (is_unreserved c) (c ∷ []) (percent_encoded c)
+    (λ is. one_no_quote c (unreserved_no_quote c is)) (λ is. encoded_no_quote c)
 
 normal_one : (c : ℕ) → lacks quotes (normal_character c) ≡ true
 normal_one c =
-    either_lacks quotes (eqb c ampersand) (codes "&amp;") (if is_normal c then c ∷ [] else percent_encoded c) (λ is. refl)
-    (λ is. either_lacks quotes (is_normal c) (c ∷ []) (percent_encoded c) (λ is. one_no_quote c (normal_no_quote c is)) (λ is. encoded_no_quote c))
+    either_lacks quotes (eqb c ampersand) (codes "&amp;") (if is_normal c then c ∷ [] else percent_encoded c)
+    (λ is. refl)
+    (λ is. either_lacks quotes (is_normal c) (c ∷ []) (percent_encoded c)
+    (λ is. one_no_quote c (normal_no_quote c is)) (λ is. encoded_no_quote c))
 
 pub component_no_quote : (text : List ℕ) → lacks quotes (uri_component text) ≡ true
 component_no_quote text = flat_lacks quotes component_character component_one text
@@ -123,4 +129,5 @@ pub normal_text_no_quote : (text : List ℕ) → lacks quotes (uri_normal text) 
 normal_text_no_quote text = flat_lacks quotes normal_character normal_one text
 
 pub start_no_quote : (text : List ℕ) → lacks quotes (uri_start text) ≡ true
-start_no_quote text = either_lacks quotes (may_start_uri text) (uri_normal text) invalid_uri (λ is. normal_text_no_quote text) (λ is. refl)
+start_no_quote text = either_lacks quotes (may_start_uri text) (uri_normal text) invalid_uri
+    (λ is. normal_text_no_quote text) (λ is. refl)

@@ -43,7 +43,8 @@ some_frame : (a b : Kind × Plan) → ◌≡◌ {A = Option (Kind × Plan)} (Som
 some_frame a b e = cc
 
 mutual
-  pub built_at : (p : Plan) → IsBuilt p → (y : Address) (found : Kind × Plan) → frame_at p y ≡ Some found → IsBuilt found.1
+  pub built_at : (p : Plan) → IsBuilt p → (y : Address) (found : Kind × Plan) → frame_at p y ≡ Some found
+      → IsBuilt found.1
   built_at (Frame kind at p) b Here found e = subst (λ (z : Kind × Plan). IsBuilt z.1) (some_frame (kind, p) found e) b
   built_at (Frame kind at p) b (Inside y) found e = built_at p b y found e
   built_at (Then p q) b (Left y) found e = built_at p b.0 y found e
@@ -55,7 +56,8 @@ mutual
   built_at (Either p q) b y found e = absurd b
   built_at _ b _ found e = absurd (none_frame found e)
 
-  arms_built_at : (p : Plan) → AreArms p → (y : Address) (found : Kind × Plan) → frame_at p y ≡ Some found → IsBuilt found.1
+  arms_built_at : (p : Plan) → AreArms p → (y : Address) (found : Kind × Plan) → frame_at p y ≡ Some found
+      → IsBuilt found.1
   arms_built_at (Either p q) b (Left y) found e = arms_built_at p b.0 y found e
   arms_built_at (Either p q) b (Right y) found e = built_at q b.1 y found e
   arms_built_at (Either p q) b Here found e = absurd (none_frame found e)
@@ -73,7 +75,8 @@ record Sources {S : Type 0} (P : S → Type 0) (f : S → Result S Code) (xs : L
   pub inside : (s : S) → IsMember s ys → P s
   pub lead : (s : S) → IsMember s ys → (t : S) × IsMember t xs × (f s ≡ Ok t)
 
-sources : {S : Type 0} (P : S → Type 0) (f : S → Result S Code) (xs : List S) → HasNoRepeats xs → ((t : S) → IsMember t xs → (s : S) × P s × (f s ≡ Ok t)) → Sources P f xs
+sources : {S : Type 0} (P : S → Type 0) (f : S → Result S Code) (xs : List S) → HasNoRepeats xs
+    → ((t : S) → IsMember t xs → (s : S) × P s × (f s ≡ Ok t)) → Sources P f xs
 sources P f [] d all = record { ys = []; same = refl; apart = tt; inside = λ s h. absurd h; lead = λ s h. absurd h }
 sources {S} P f (x ∷ xs) d all =
     let r : Sources P f xs = sources P f xs d.1 (λ t h. all t (inr h)) in
@@ -92,7 +95,8 @@ sources {S} P f (x ∷ xs) d all =
       ];
     }
 
-few_image : {S : Type 0} (n : ℕ) (P Q : S → Type 0) (f : S → Result S Code) → ((t : S) → Q t → (s : S) × P s × (f s ≡ Ok t)) → AtMost n P → AtMost n Q
+few_image : {S : Type 0} (n : ℕ) (P Q : S → Type 0) (f : S → Result S Code)
+    → ((t : S) → Q t → (s : S) × P s × (f s ≡ Ok t)) → AtMost n P → AtMost n Q
 few_image n P Q f from few xs d all =
     let r : Sources P f xs = sources P f xs d (λ t h. from t (all t h)) in
     let h : length r.ys ≤ n = few r.ys r.apart r.inside in omega (arith, h, r.same)
@@ -107,60 +111,109 @@ module _ {S : Type 0} (m : Machine S) where
 
   -- no more states stand after a plan than may meet
   pub few_after : (p : Plan) → IsBuilt p → (P : S → Type 0) → Holds m p P → AtMost 16 P → AtMost 16 (StandsAfter m p P)
-  few_after Nothing b P g few = few_mono m 16 (StandsAfter m Nothing P) P (λ t h. subst P (nothing_reached m h.from t h.path_leads) h.before) few
+  few_after Nothing b P g few = few_mono m 16 (StandsAfter m Nothing P) P
+      (λ t h. subst P (nothing_reached m h.from t h.path_leads) h.before) few
   few_after Nowhere b P g few = none_few (StandsAfter m Nowhere P) (λ t h. nowhere_reached m h.from t h.path_leads)
   few_after (StaticText at text) b P g few =
-      few_image 16 P (StandsAfter m (StaticText at text) P) (after_text m text) (λ t h. (h.from, h.before, static_reached m at text h.from t h.path_leads)) few
+      few_image 16 P (StandsAfter m (StaticText at text) P) (after_text m text)
+      (λ t h. (h.from, h.before, static_reached m at text h.from t h.path_leads)) few
   few_after (Hole at classes) b P g few =
-      few_image 16 P (StandsAfter m (Hole at classes) P) (λ s. Ok (m.value s)) (λ t h. (h.from, h.before, ap (λ z. Ok z) (hole_reached m at classes h.from t h.path_leads))) few
+      few_image 16 P (StandsAfter m (Hole at classes) P) (λ s. Ok (m.value s))
+      (λ t h. (h.from, h.before, ap (λ z. Ok z) (hole_reached m at classes h.from t h.path_leads))) few
   few_after (Then p q) b P g few =
       few_mono m 16 (StandsAfter m (Then p q) P) (StandsAfter m q (StandsAfter m p P))
-      (λ t h. (let r : (u : S) × PathLeads m p h.from u × PathLeads m q u t = then_reached m p q h.from t h.path_leads in
+      (λ t h. (let r : (u : S) × PathLeads m p h.from u × PathLeads m q u t = then_reached m p q h.from t h.path_leads
+      in
       record { from = r.0; before = record { from = h.from; before = h.before; path_leads = r.1 }; path_leads = r.2 }))
       (few_after q b.1 (StandsAfter m p P) g.1 (few_after p b.0 P g.0 few))
   few_after (Either p q) b P g few = absurd b
   few_after (Meet at p) b P g few =
-      few_mono m 16 (StandsAfter m (Meet at p) P) (StandsAfter m p P) (λ t h. record { from = h.from; before = h.before; path_leads = meet_reached m at p h.from t h.path_leads }) g.1
+      few_mono m 16 (StandsAfter m (Meet at p) P) (StandsAfter m p P)
+      (λ t h. record { from = h.from; before = h.before; path_leads = meet_reached m at p h.from t h.path_leads })
+      g.1
   few_after (Loop at p) b P g few = g.1
-  few_after (Frame kind at p) b P g few = few_mono m 16 (StandsAfter m (Frame kind at p) P) P (λ t h. subst P (block_reached m kind at p h.from t h.path_leads) h.before) few
+  few_after (Frame kind at p) b P g few = few_mono m 16 (StandsAfter m (Frame kind at p) P) P
+      (λ t h. subst P (block_reached m kind at p h.from t h.path_leads) h.before) few
 
   no_point : (pt : Point) → ◌≡◌ {A = Option Point} None (Some pt) → ⊥
   no_point pt e = cc
 
   mutual
     -- at each point
-    pub few_at : (p : Plan) → IsBuilt p → (P : S → Type 0) → Holds m p P → AtMost 16 P → (x : Address) (pt : Point) → point_at p x ≡ Some pt → AtMost 16 (StandsAt m p P x)
+    pub few_at : (p : Plan) → IsBuilt p → (P : S → Type 0) → Holds m p P → AtMost 16 P → (x : Address) (pt : Point)
+        → point_at p x ≡ Some pt → AtMost 16 (StandsAt m p P x)
     few_at (StaticText at text) b P g few Here pt e =
-        few_mono m 16 (StandsAt m (StaticText at text) P Here) P (λ t h. text_from m at text P h.parts h.from t h.leads h.reads h.before) few
+        few_mono m 16 (StandsAt m (StaticText at text) P Here) P
+        (λ t h. text_from m at text P h.parts h.from t h.leads h.reads h.before) few
     few_at (Hole at classes) b P g few Here pt e =
-        few_mono m 16 (StandsAt m (Hole at classes) P Here) P (λ t h. hole_from m at classes P h.parts h.from t h.leads h.reads h.before) few
+        few_mono m 16 (StandsAt m (Hole at classes) P Here) P
+        (λ t h. hole_from m at classes P h.parts h.from t h.leads h.reads h.before) few
     few_at (Then p q) b P g few (Left x) pt e =
-        few_mono m 16 (StandsAt m (Then p q) P (Left x)) (StandsAt m p P x) (λ t h. record { from = h.from; before = h.before; parts = h.parts; leads = left_leads m p q h.parts x h.leads; reads = h.reads })
+        few_mono m 16 (StandsAt m (Then p q) P (Left x)) (StandsAt m p P x)
+        (λ t h. record {
+          from = h.from;
+          before = h.before;
+          parts = h.parts;
+          leads = left_leads m p q h.parts x h.leads;
+          reads = h.reads;
+        })
         (few_at p b.0 P g.0 few x pt e)
     few_at (Then p q) b P g few (Right x) pt e =
-        few_mono m 16 (StandsAt m (Then p q) P (Right x)) (StandsAt m q (StandsAfter m p P) x) (λ t h. right_stands m p q P x h.parts h.from t h.before h.leads h.reads)
+        few_mono m 16 (StandsAt m (Then p q) P (Right x)) (StandsAt m q (StandsAfter m p P) x)
+        (λ t h. right_stands m p q P x h.parts h.from t h.before h.leads h.reads)
         (few_at q b.1 (StandsAfter m p P) g.1 (few_after p b.0 P g.0 few) x pt e)
     few_at (Meet at p) b P g few Here pt e =
         few_mono m 16 (StandsAt m (Meet at p) P Here) (StandsAfter m p P)
-        (λ t h. record { from = h.from; before = h.before; path_leads = record { parts = h.parts; path = meet_path m at p h.parts h.leads; reads = h.reads } }) g.1
+        (λ t h. record {
+          from = h.from;
+          before = h.before;
+          path_leads = record { parts = h.parts; path = meet_path m at p h.parts h.leads; reads = h.reads };
+        }) g.1
     few_at (Meet at p) b P g few (Inside x) pt e =
-        few_mono m 16 (StandsAt m (Meet at p) P (Inside x)) (StandsAt m p P x) (λ t h. record { from = h.from; before = h.before; parts = h.parts; leads = arms_lead m at p h.parts x h.leads; reads = h.reads })
+        few_mono m 16 (StandsAt m (Meet at p) P (Inside x)) (StandsAt m p P x)
+        (λ t h. record {
+          from = h.from;
+          before = h.before;
+          parts = h.parts;
+          leads = arms_lead m at p h.parts x h.leads;
+          reads = h.reads;
+        })
         (few_in_arms p b P g.0 few x pt e)
     few_at (Loop at p) b P g few Here pt e =
         few_mono m 16 (StandsAt m (Loop at p) P Here) (StandsAfter m (Loop at p) P)
-        (λ t h. record { from = h.from; before = h.before; path_leads = record { parts = h.parts; path = head_path m at p h.parts h.leads; reads = h.reads } }) g.1
+        (λ t h. record {
+          from = h.from;
+          before = h.before;
+          path_leads = record { parts = h.parts; path = head_path m at p h.parts h.leads; reads = h.reads };
+        }) g.1
     few_at (Loop at p) b P g few (Inside x) pt e =
-        few_mono m 16 (StandsAt m (Loop at p) P (Inside x)) (StandsAt m p (StandsAfter m (Loop at p) P) x) (λ t h. body_stands m at p P x h.parts h.from t h.before h.leads h.reads)
+        few_mono m 16 (StandsAt m (Loop at p) P (Inside x)) (StandsAt m p (StandsAfter m (Loop at p) P) x)
+        (λ t h. body_stands m at p P x h.parts h.from t h.before h.leads h.reads)
         (few_at p b (StandsAfter m (Loop at p) P) g.0 g.1 x pt e)
     few_at (Either p q) b P g few x pt e = absurd b
     few_at _ b P g few _ pt e = absurd (no_point pt e)
 
-    few_in_arms : (p : Plan) → AreArms p → (P : S → Type 0) → Holds m p P → AtMost 16 P → (x : Address) (pt : Point) → point_at p x ≡ Some pt → AtMost 16 (StandsAt m p P x)
+    few_in_arms : (p : Plan) → AreArms p → (P : S → Type 0) → Holds m p P → AtMost 16 P → (x : Address) (pt : Point)
+        → point_at p x ≡ Some pt → AtMost 16 (StandsAt m p P x)
     few_in_arms (Either p q) b P g few (Left x) pt e =
-        few_mono m 16 (StandsAt m (Either p q) P (Left x)) (StandsAt m p P x) (λ t h. record { from = h.from; before = h.before; parts = h.parts; leads = one_leads m p q h.parts x h.leads; reads = h.reads })
+        few_mono m 16 (StandsAt m (Either p q) P (Left x)) (StandsAt m p P x)
+        (λ t h. record {
+          from = h.from;
+          before = h.before;
+          parts = h.parts;
+          leads = one_leads m p q h.parts x h.leads;
+          reads = h.reads;
+        })
         (few_in_arms p b.0 P g.0 few x pt e)
     few_in_arms (Either p q) b P g few (Right x) pt e =
-        few_mono m 16 (StandsAt m (Either p q) P (Right x)) (StandsAt m q P x) (λ t h. record { from = h.from; before = h.before; parts = h.parts; leads = other_leads m p q h.parts x h.leads; reads = h.reads })
+        few_mono m 16 (StandsAt m (Either p q) P (Right x)) (StandsAt m q P x)
+        (λ t h. record {
+          from = h.from;
+          before = h.before;
+          parts = h.parts;
+          leads = other_leads m p q h.parts x h.leads;
+          reads = h.reads;
+        })
         (few_at q b.1 P g.1 few x pt e)
     few_in_arms (Either p q) b P g few Here pt e = absurd (no_point pt e)
     few_in_arms (Either p q) b P g few (Inside x) pt e = absurd (no_point pt e)

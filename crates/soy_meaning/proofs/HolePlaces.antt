@@ -17,7 +17,8 @@ pub record TwoLists (X Y : List Place → Type 0) (places : List Place) : Type 0
 
 module _ {S : Type 0} (m : Machine S) where
   abbrev pub HolePlaces : Plan → (S → Type 0) → List Place → Type 0
-  HolePlaces (Hole at classes) P places = (point : Place) × (places ≡ point ∷ []) × ((s : S) → P s → m.placing s ≡ Takes point)
+  HolePlaces (Hole at classes) P places = (point : Place) × (places ≡ point ∷ [])
+      × ((s : S) → P s → m.placing s ≡ Takes point)
   HolePlaces (Then p q) P places = TwoLists (HolePlaces p P) (HolePlaces q (StandsAfter m p P)) places
   HolePlaces (Either p q) P places = TwoLists (HolePlaces p P) (HolePlaces q P) places
   HolePlaces (Meet at p) P places = HolePlaces p P places

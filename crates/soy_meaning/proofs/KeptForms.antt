@@ -56,7 +56,8 @@ span_inner text none =
     ∙ ap (and_then (λ now. after_all (row_next false) now (codes "</span>"))) (safe_text text none)
 
 span_leads : (direction : Dir) (rest : List ℕ) →
-    after_all (row_next false) row.Data (codes "<span dir=\"" ++ (direction_word direction ++ (codes "\">" ++ rest))) ≡ after_all (row_next false) row.Data rest
+    after_all (row_next false) row.Data (codes "<span dir=\"" ++ (direction_word direction ++ (codes "\">" ++ rest)))
+    ≡ after_all (row_next false) row.Data rest
 span_leads dir.Ltr rest = refl
 span_leads dir.Rtl rest = refl
 
@@ -88,7 +89,8 @@ text_kept place.UriFragment value text context script takes = (_, refl, componen
 text_kept place.JsValue value text context script takes = (js_value value text, refl, script)
 text_kept place.JsSingle value text context script takes = (_, refl, (js_no_tag text, js_single_stays text))
 text_kept place.JsDouble value text context script takes = (_, refl, (js_no_tag text, js_double_stays text))
-text_kept place.CssValue value text context script takes = (_, refl, (css_value_no_tag text, css_value_no_quote text, css_value_leads text))
+text_kept place.CssValue value text context script takes =
+    (_, refl, (css_value_no_tag text, css_value_no_quote text, css_value_leads text))
 text_kept place.CssString value text context script takes =
     (_, refl, (css_no_tag text, css_no_quote text, css_single_stays text, css_double_stays text))
 text_kept place.Plain value text context script takes = (_, refl, tt)
@@ -100,7 +102,8 @@ digit_character c is = grind (arith, nat_tests)
 
 all_digits : (text : List ℕ) → list_all is_ascii_digit text ≡ true → list_all is_word_character text ≡ true
 all_digits [] are = refl
-all_digits (c ∷ text) are = let parts = and_parts _ _ are in and_from _ _ (digit_character c parts.0) (all_digits text parts.1)
+all_digits (c ∷ text) are = let parts = and_parts _ _ are in and_from _ _ (digit_character c parts.0)
+    (all_digits text parts.1)
 
 digits_word : (text : List ℕ) → are_some_digits text ≡ true → list_all is_word_character text ≡ true
 digits_word [] are = refl
@@ -123,11 +126,13 @@ int_word (c ∷ text) are = int_if (eqb c minus_sign) c text refl are
 among_word : (words : List (List ℕ)) (text : List ℕ) → list_all (list_all is_word_character) words ≡ true
     → is_among words text ≡ true → list_all is_word_character text ≡ true
 among_word [] text are one = let never : ⊥ = cc in absurd never
-among_word (word ∷ words) text are one = among_if (bytes_eq text word) word words text refl are one (among_word words text)
+among_word (word ∷ words) text are one = among_if (bytes_eq text word) word words text refl are one
+    (among_word words text)
   where
     among_if : (test : Bool) (word : List ℕ) (words : List (List ℕ)) (text : List ℕ) → bytes_eq text word ≡ test →
         list_all (list_all is_word_character) (word ∷ words) ≡ true → (test || is_among words text) ≡ true →
-        (list_all (list_all is_word_character) words ≡ true → is_among words text ≡ true → list_all is_word_character text ≡ true) →
+        (list_all (list_all is_word_character) words ≡ true → is_among words text ≡ true
+        → list_all is_word_character text ≡ true) →
         list_all is_word_character text ≡ true
     among_if true word words text same are one rest =
         let parts = and_parts _ _ are in
@@ -143,11 +148,16 @@ word_script value text are = (js_word_no_tag text are, js_word_leads text are)
 pub form_kept : (placing : Placing) (value : ValueClass) (text : List ℕ) (context : Dir)
     → takes_class placing value ≡ true → is_text_of value text ≡ true →
     (out : List ℕ) × (escaped_where placing value text context ≡ Some out) × KeepsPlaceAt placing out
-form_kept (Takes point) class.Text text context takes is = text_kept point class.Text text context (js_literal_no_tag text, literal_leads text) takes
-form_kept (Takes point) class.Int text context takes is = text_kept point class.Int text context (word_script class.Int text (int_word text is)) takes
+form_kept (Takes point) class.Text text context takes is =
+    text_kept point class.Text text context (js_literal_no_tag text, literal_leads text) takes
+form_kept (Takes point) class.Int text context takes is =
+    text_kept point class.Int text context (word_script class.Int text (int_word text is)) takes
 form_kept (Takes point) class.Bool text context takes is =
-    text_kept point class.Bool text context (word_script class.Bool text (among_word (codes "true" ∷ codes "false" ∷ []) text refl is)) takes
-form_kept (Takes point) class.Null text context takes is = text_kept point class.Null text context (word_script class.Null text (among_word (codes "null" ∷ []) text refl is)) takes
+    text_kept point class.Bool text context
+    (word_script class.Bool text (among_word (codes "true" ∷ codes "false" ∷ []) text refl is)) takes
+form_kept (Takes point) class.Null text context takes is =
+    text_kept point class.Null text context
+    (word_script class.Null text (among_word (codes "null" ∷ []) text refl is)) takes
 form_kept (Takes point) class.Html text context takes is = let never : ⊥ = cc in absurd never
 form_kept (Takes point) class.Attributes text context takes is = let never : ⊥ = cc in absurd never
 form_kept (Refuses code) value text context takes is = let never : ⊥ = cc in absurd never
@@ -156,5 +166,6 @@ pub value_leads : (state : State) (value : ValueClass) (text : List ℕ) (contex
     → takes_class (placing state) value ≡ true → is_text_of value text ≡ true →
     (out : List ℕ) × (escaped_where (placing state) value text context ≡ Some out) × Leads state out
 value_leads state value text context takes is =
-    let form : (out : List ℕ) × (escaped_where (placing state) value text context ≡ Some out) × KeepsPlaceAt (placing state) out = form_kept (placing state) value text context takes is in
+    let form : (out : List ℕ) × (escaped_where (placing state) value text context ≡ Some out)
+    × KeepsPlaceAt (placing state) out = form_kept (placing state) value text context takes is in
     (form.0, form.1, holds state form.0 form.2)

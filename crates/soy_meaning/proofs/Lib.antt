@@ -20,3 +20,13 @@ pub mod Pages
 pub mod PagePlaces
 pub mod Outcomes
 pub mod ValueTexts
+pub mod SomePaths
+pub mod RunPieces
+pub mod Goings
+pub mod RunBindings
+pub mod PartRuns
+pub mod NodeRuns
+pub mod RunPaths
+pub mod ReadRuns
+pub mod WayPlans
+pub mod BlockFrames

@@ -55,7 +55,8 @@ pigeons [] ys d inside = omega arith
 pigeons (x ∷ xs) ys d inside =
     let here : IsMember x ys = inside x (inl refl) in
     let rest : length xs ≤ length (without x ys here) =
-    pigeons xs (without x ys here) d.1 (λ t k. mem_without x t ys here (λ e. d.0 (subst (λ u. IsMember u xs) e k)) (inside t (inr k))) in
+    pigeons xs (without x ys here) d.1 (λ t k. mem_without x t ys here (λ e. d.0 (subst (λ u. IsMember u xs) e k))
+    (inside t (inr k))) in
     omega (arith, length_without x ys here, rest)
 
 pub few_from_list : {S : Type 0} (n : ℕ) (ys : List S) (P : S → Type 0) → length ys ≤ n
@@ -64,7 +65,8 @@ few_from_list n ys P small inside xs d all =
     let h : length xs ≤ length ys = pigeons xs ys d (λ t k. inside t (all t k)) in omega arith
 
 module _ {S : Type 0} (m : Machine S) (compares : ComparesEqual m) where
-  has_here : (s x : S) (xs : List S) → (has_state m s xs ≡ true → IsMember s xs) → (b : Bool) → m.same s x ≡ b → (if b then true else has_state m s xs) ≡ true → IsMember s (x ∷ xs)
+  has_here : (s x : S) (xs : List S) → (has_state m s xs ≡ true → IsMember s xs) → (b : Bool) → m.same s x ≡ b
+      → (if b then true else has_state m s xs) ≡ true → IsMember s (x ∷ xs)
   has_here s x xs f true e h = inl (compares.equal s x e)
   has_here s x xs f false e h = inr (f h)
 
@@ -82,7 +84,8 @@ module _ {S : Type 0} (m : Machine S) (compares : ComparesEqual m) where
 
   pub mem_has : (s : S) (xs : List S) → IsMember s xs → has_state m s xs ≡ true
   mem_has s [] h = absurd h
-  mem_has s (x ∷ xs) (inl e) = here_has (m.same s x) (has_state m s xs) (subst (λ u. m.same s u ≡ true) e (compares.itself s))
+  mem_has s (x ∷ xs) (inl e) = here_has (m.same s x) (has_state m s xs)
+      (subst (λ u. m.same s u ≡ true) e (compares.itself s))
   mem_has s (x ∷ xs) (inr h) = later_has (m.same s x) (has_state m s xs) (mem_has s xs h)
 
   mem_if : (b : Bool) (t y : S) (xs : List S) → IsMember t (if b then xs else xs ++ (y ∷ [])) → IsMember t xs ⊎ (t ≡ y)
@@ -113,9 +116,11 @@ module _ {S : Type 0} (m : Machine S) (compares : ComparesEqual m) where
     distinct_push y xs d.1 (λ h. new (inr h)),
   )
 
-  distinct_if : (b : Bool) (y : S) (xs : List S) → has_state m y xs ≡ b → HasNoRepeats xs → HasNoRepeats (if b then xs else xs ++ (y ∷ []))
+  distinct_if : (b : Bool) (y : S) (xs : List S) → has_state m y xs ≡ b → HasNoRepeats xs
+      → HasNoRepeats (if b then xs else xs ++ (y ∷ []))
   distinct_if true y xs e d = d
-  distinct_if false y xs e d = distinct_push y xs d (λ h. let k : has_state m y xs ≡ true = mem_has y xs h in let no : ⊥ = cc in no)
+  distinct_if false y xs e d = distinct_push y xs d (λ h. let k : has_state m y xs ≡ true = mem_has y xs h in
+      let no : ⊥ = cc in no)
 
   pub distinct_add : (y : S) (xs : List S) → HasNoRepeats xs → HasNoRepeats (with_state m xs y)
   distinct_add y xs d = distinct_if (has_state m y xs) y xs refl d
@@ -127,7 +132,8 @@ module _ {S : Type 0} (m : Machine S) (compares : ComparesEqual m) where
   pub length_add : (y : S) (xs : List S) → length xs ≤ length (with_state m xs y)
   length_add y xs = length_if (has_state m y xs) y xs
 
-  same_if : (b : Bool) (y : S) (xs : List S) → has_state m y xs ≡ b → length (if b then xs else xs ++ (y ∷ [])) ≡ length xs → IsMember y xs
+  same_if : (b : Bool) (y : S) (xs : List S) → has_state m y xs ≡ b → length (if b then xs else xs ++ (y ∷ []))
+      ≡ length xs → IsMember y xs
   same_if true y xs e h = has_mem y xs e
   same_if false y xs e h = let no : ⊥ = omega (arith, length-append xs (y ∷ []), h) in absurd no
 
@@ -140,10 +146,12 @@ module _ {S : Type 0} (m : Machine S) (compares : ComparesEqual m) where
 
   pub join_new : (t : S) (xs ys : List S) → IsMember t ys → IsMember t (joined_states m xs ys)
   join_new t xs [] h = absurd h
-  join_new t xs (y ∷ ys) (inl e) = join_old t (with_state m xs y) ys (subst (λ u. IsMember u (with_state m xs y)) (sym e) (add_new y xs))
+  join_new t xs (y ∷ ys) (inl e) =
+      join_old t (with_state m xs y) ys (subst (λ u. IsMember u (with_state m xs y)) (sym e) (add_new y xs))
   join_new t xs (y ∷ ys) (inr h) = join_new t (with_state m xs y) ys h
 
-  regroup : (t y : S) (xs ys : List S) → IsMember t (with_state m xs y) ⊎ IsMember t ys → IsMember t xs ⊎ IsMember t (y ∷ ys)
+  regroup : (t y : S) (xs ys : List S) → IsMember t (with_state m xs y) ⊎ IsMember t ys → IsMember t xs
+      ⊎ IsMember t (y ∷ ys)
   regroup t y xs ys (inl h) = elim (mem_add t y xs h) [ inl k ↦ inl k | inr e ↦ inr (inl e) ]
   regroup t y xs ys (inr h) = inr (inr h)
 
@@ -163,12 +171,16 @@ module _ {S : Type 0} (m : Machine S) (compares : ComparesEqual m) where
   only_old t y xs h k = elim (mem_add t y xs k) [ inl j ↦ j | inr e ↦ subst (λ u. IsMember u xs) (sym e) h ]
 
   -- what adds nothing was there
-  pub join_same : (xs ys : List S) → length (joined_states m xs ys) ≡ length xs → (t : S) → IsMember t ys → IsMember t xs
+  pub join_same : (xs ys : List S) → length (joined_states m xs ys) ≡ length xs → (t : S) → IsMember t ys
+      → IsMember t xs
   join_same xs [] h t k = absurd k
   join_same xs (y ∷ ys) h t (inl e) =
-      let short : length (with_state m xs y) ≡ length xs = omega (arith, h, length_add y xs, length_join (with_state m xs y) ys) in
+      let short : length (with_state m xs y) ≡ length xs =
+      omega (arith, h, length_add y xs, length_join (with_state m xs y) ys) in
       subst (λ u. IsMember u xs) (sym e) (add_same y xs short)
   join_same xs (y ∷ ys) h t (inr k) =
-      let short : length (with_state m xs y) ≡ length xs = omega (arith, h, length_add y xs, length_join (with_state m xs y) ys) in
-      let rest : length (joined_states m (with_state m xs y) ys) ≡ length (with_state m xs y) = omega (arith, h, short) in
+      let short : length (with_state m xs y) ≡ length xs =
+      omega (arith, h, length_add y xs, length_join (with_state m xs y) ys) in
+      let rest : length (joined_states m (with_state m xs y) ys) ≡ length (with_state m xs y) =
+      omega (arith, h, short) in
       only_old t y xs (add_same y xs short) (join_same (with_state m xs y) ys rest t k)

@@ -2,10 +2,10 @@
 use Rattle.std.proofs.Common.{◌≡◌, ◌+◌, ℕ, List, [], ◌++◌, refl, sym, ap, arith, append_assoc}
 use Rattle.std.proofs.lemmas.List.{append-nil}
 use Rattle.html_state.specs.Pieces.{Static, Value}
-use Rattle.soy_meaning.specs.Outcome.{Choice, Outcome, RunEnds, GivesPiece, Spent, StopsAt, WholeRun, and_spent}
+use Rattle.soy_meaning.specs.Outcome.{ChoiceMade, Outcome, RunEnds, GivesPiece, Spent, StopsAt, WholeRun, and_spent}
 use Rattle.soy_meaning.specs.Outcome.{continued_by, gathered, gives_nothing, none_spent, spent_first}
 
-spent_is : (c d v w : ℕ) (k l : List Choice) → c ≡ d → v ≡ w → k ≡ l →
+spent_is : (c d v w : ℕ) (k l : List ChoiceMade) → c ≡ d → v ≡ w → k ≡ l →
     ◌≡◌ {A = Spent} (record { cost = c; work = v; choices = k }) (record { cost = d; work = w; choices = l })
 spent_is c d v w k l same_cost same_work same_choices = cc
 
@@ -14,11 +14,13 @@ spent_none a = spent_is (0 + a.cost) a.cost (0 + a.work) a.work a.choices a.choi
 
 pub none_after : (a : Spent) → and_spent a none_spent ≡ a
 none_after a =
-    spent_is (a.cost + 0) a.cost (a.work + 0) a.work (a.choices ++ []) a.choices (omega arith) (omega arith) (append-nil a.choices)
+    spent_is (a.cost + 0) a.cost (a.work + 0) a.work (a.choices ++ []) a.choices (omega arith) (omega arith)
+    (append-nil a.choices)
 
 pub spent_joined : (a b c : Spent) → and_spent (and_spent a b) c ≡ and_spent a (and_spent b c)
 spent_joined a b c =
-    spent_is (a.cost + b.cost + c.cost) (a.cost + (b.cost + c.cost)) (a.work + b.work + c.work) (a.work + (b.work + c.work))
+    spent_is (a.cost + b.cost + c.cost) (a.cost + (b.cost + c.cost)) (a.work + b.work + c.work)
+    (a.work + (b.work + c.work))
     ((a.choices ++ b.choices) ++ c.choices) (a.choices ++ (b.choices ++ c.choices)) (omega arith) (omega arith)
     (append_assoc a.choices b.choices c.choices)
 
@@ -57,5 +59,7 @@ pub gathered_followed : (text : List ℕ) (o rest : Outcome) (next : List ℕ �
     gathered text (continued_by o rest) next ≡ gathered text o (λ more. gathered more rest next)
 gathered_followed text (RunEnds a WholeRun) rest next = first_gathered text a rest next
 gathered_followed text (RunEnds a (StopsAt call)) rest next = refl
-gathered_followed text (GivesPiece a (Static more) o) rest next = ap (spent_first a) (gathered_followed (text ++ more) o rest next)
-gathered_followed text (GivesPiece a (Value more) o) rest next = ap (spent_first a) (gathered_followed (text ++ more) o rest next)
+gathered_followed text (GivesPiece a (Static more) o) rest next =
+    ap (spent_first a) (gathered_followed (text ++ more) o rest next)
+gathered_followed text (GivesPiece a (Value more) o) rest next =
+    ap (spent_first a) (gathered_followed (text ++ more) o rest next)

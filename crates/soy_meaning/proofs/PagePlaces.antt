@@ -38,25 +38,43 @@ at_hole o classes X e holds = subst (λ z. PointHolds page_machine z X) e holds
 
 pub static_places : (p : Plan) (w v : Walked State) → walk page_machine p w ≡ Ok v →
     (new : List Place) × (v.places ≡ w.places ++ new) × (length new ≡ hole_count p)
-    × ((y : Address) (kind : Kind) (q : Plan) → frame_at p y ≡ Some (kind, q) → (x : Address) (classes : List ValueClass) → point_at q x ≡ Some (AtHole classes) → (context : Dir) (f : Filled) →
-    LeadsTo q (parts_of_filled f) x → FillsHoles f → (d : Place) → placing_after kind (filled_pieces context f kind []) ≡ Ok (Takes (get_or new (holes_before p y + holes_before q x) d)))
+    × ((y : Address) (kind : Kind) (q : Plan) → frame_at p y ≡ Some (kind, q)
+    → (x : Address) (classes : List ValueClass) → point_at q x ≡ Some (AtHole classes)
+    → (context : Dir) (f : Filled) →
+    LeadsTo q (parts_of_filled f) x → FillsHoles f → (d : Place)
+    → placing_after kind (filled_pieces context f kind [])
+    ≡ Ok (Takes (get_or new (holes_before p y + holes_before q x) d)))
 static_places p w v h =
     let found = walked_places page_machine page_compares p w v h in (
       found.0,
       found.1,
       found.2,
       (λ y kind q within x classes e context f leads fills d.
-          let good : Holds page_machine q (StartsAs page_machine kind) = inner_holds page_machine p (λ s. IsMember s w.states) (sound page_machine page_compares p w v h).good y (kind, q) within in
-          let fine : Fine page_machine (parts_of_filled f) (start kind) = leads_fine page_machine q (StartsAs page_machine kind) good (parts_of_filled f) x leads (start kind) refl in
-          let runs : (t : State) × (state_after_parts page_machine (parts_of_filled f) (start kind) ≡ Ok t) = fine_runs page_machine (parts_of_filled f) (start kind) fine in
-          let here : StandsAt page_machine q (StartsAs page_machine kind) x runs.0 = record { from = start kind; before = refl; parts = parts_of_filled f; leads = leads; reads = runs.1 } in
-          let one : OnePlacing page_machine classes (StandsAt page_machine q (StartsAs page_machine kind) x) = at_hole (point_at q x) classes (StandsAt page_machine q (StartsAs page_machine kind) x) e (points_of_good page_machine q (StartsAs page_machine kind) good x) in
-          placed (filled_pieces context f kind []) kind runs.0 classes (Takes (get_or found.0 (holes_before p y + holes_before q x) d)) (one.takes runs.0 here) (found.3 y kind q within x classes e runs.0 here d)
-          (pieces_follow context f None kind [] (start kind) (start kind) (start kind) runs.0 fills refl (follows_itself (start kind)) (follows_itself (start kind)) (starts_settled kind) fine runs.1)),
+          let good : Holds page_machine q (StartsAs page_machine kind) =
+          inner_holds page_machine p (λ s. IsMember s w.states) (sound page_machine page_compares p w v h).good y
+          (kind, q) within in
+          let fine : Fine page_machine (parts_of_filled f) (start kind) =
+          leads_fine page_machine q (StartsAs page_machine kind) good (parts_of_filled f) x leads (start kind)
+          refl in
+          let runs : (t : State) × (state_after_parts page_machine (parts_of_filled f) (start kind) ≡ Ok t) =
+          fine_runs page_machine (parts_of_filled f) (start kind) fine in
+          let here : StandsAt page_machine q (StartsAs page_machine kind) x runs.0 =
+          record { from = start kind; before = refl; parts = parts_of_filled f; leads = leads; reads = runs.1 } in
+          let one : OnePlacing page_machine classes (StandsAt page_machine q (StartsAs page_machine kind) x) =
+          at_hole (point_at q x) classes (StandsAt page_machine q (StartsAs page_machine kind) x) e
+          (points_of_good page_machine q (StartsAs page_machine kind) good x) in
+          placed (filled_pieces context f kind []) kind runs.0 classes
+          (Takes (get_or found.0 (holes_before p y + holes_before q x) d)) (one.takes runs.0 here)
+          (found.3 y kind q within x classes e runs.0 here d)
+          (pieces_follow context f None kind [] (start kind) (start kind) (start kind) runs.0 fills refl
+          (follows_itself (start kind)) (follows_itself (start kind)) (starts_settled kind) fine runs.1)),
     )
   where
-    placed : (pieces : List Piece) (kind : Kind) (t : State) (classes : List ValueClass) (q : Placing) → takes_classes (placing t) classes ≡ true → placing t ≡ q →
+    placed : (pieces : List Piece) (kind : Kind) (t : State) (classes : List ValueClass) (q : Placing)
+        → takes_classes (placing t) classes ≡ true → placing t ≡ q →
         (IsLost t ⊎ GoesOn None kind [] pieces (start kind) t) → placing_after kind pieces ≡ Ok q
     placed pieces kind t classes q takes is (inl lost) = absurd (lost_hole t classes lost takes)
     placed pieces kind t classes q takes is (inr on) =
-        ap (after (λ state. Ok (placing state))) on.own.1 ∙ ap Ok (same_placing_alone (placing on.own.0) (placing t) classes (page_place None on.own.0 t on.own.2) takes ∙ is)
+        ap (after (λ state. Ok (placing state))) on.own.1
+        ∙ ap Ok (same_placing_alone (placing on.own.0) (placing t) classes (page_place None on.own.0 t on.own.2)
+        takes ∙ is)

@@ -21,7 +21,7 @@ use Rattle.soy_tree.specs.Values.{NullValue, BoolValue, IntValue, StringValue}
 use Rattle.soy_tree.specs.Values as values
 use Rattle.soy_tree.specs.Val.{Binding, Env, Known, BlockOf, value_text}
 use Rattle.soy_meaning.specs.Filled.{value_form}
-use Rattle.soy_meaning.specs.Outcome.{Choice, Outcome, RunEnds, GivesPiece, continued_by, gathered}
+use Rattle.soy_meaning.specs.Outcome.{ChoiceMade, Outcome, RunEnds, GivesPiece, continued_by, gathered}
 use Rattle.soy_meaning.specs.Outcome.{spent_first}
 
 -- the state after the pieces of a frame so far
@@ -43,7 +43,7 @@ RunEnv = Env BoundBlock
 abbrev pub with_cost : ℕ → Outcome → Outcome
 with_cost cost o = spent_first (record { cost = cost; work = 0; choices = [] }) o
 
-abbrev pub with_choice : Choice → Outcome → Outcome
+abbrev pub with_choice : ChoiceMade → Outcome → Outcome
 with_choice choice o = spent_first (record { cost = 0; work = 1; choices = choice ∷ [] }) o
 
 abbrev pub read_piece : StateSoFar → Piece → StateSoFar

@@ -17,4 +17,9 @@ pub mod Outcome
 pub mod Giving
 pub mod Branch
 pub mod Pieces
+pub mod Meaning
 pub mod RunRows
+pub mod TranslationFits
+pub mod RunsAlong
+pub mod Ways
+pub mod Blocks

@@ -18,16 +18,16 @@ pub data MessageText : Type 0 where
   OwnTranslation : MessageText
   FallbackTranslation : MessageText
 
-pub data Choice : Type 0 where
+pub data ChoiceMade : Type 0 where
   -- an arm by its number, or none
-  ArmTaken : Option ℕ → Choice
-  Turns : ℕ → Choice
-  TextTaken : MessageText → Choice
+  ArmTaken : Option ℕ → ChoiceMade
+  Turns : ℕ → ChoiceMade
+  TextTaken : MessageText → ChoiceMade
 
 pub record Spent : Type 0 where
   pub cost : ℕ
   pub work : ℕ
-  pub choices : List Choice
+  pub choices : List ChoiceMade
 
 pub data Outcome : Type 0 where
   RunEnds : Spent → RunEnd → Outcome
@@ -72,7 +72,7 @@ abbrev pub end_of_outcome : Outcome → RunEnd
 end_of_outcome (RunEnds a end) = end
 end_of_outcome (GivesPiece a piece o) = end_of_outcome o
 
-abbrev pub choices_of_outcome : Outcome → List Choice
+abbrev pub choices_of_outcome : Outcome → List ChoiceMade
 choices_of_outcome (RunEnds a end) = a.choices
 choices_of_outcome (GivesPiece a piece o) = a.choices ++ choices_of_outcome o
 

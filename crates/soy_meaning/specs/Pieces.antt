@@ -27,7 +27,7 @@ use Rattle.soy_tree.specs.Templates.{Declared, callee}
 use Rattle.soy_tree.specs.Bodies.{param_of}
 use Rattle.soy_meaning.specs.Branch.{int_of, parts_means, word_of}
 use Rattle.soy_meaning.specs.Giving.{BoundBlock, Means, RunEnv, StateSoFar, block_bound, called_means, printed_means}
-use Rattle.soy_meaning.specs.Giving.{text_means, with_choice, with_cost}
+use Rattle.soy_meaning.specs.Giving.{text_means, value_means, with_choice, with_cost}
 use Rattle.soy_meaning.specs.Outcome.{ArmTaken, RunEnds, FallbackTranslation, Outcome, OwnTranslation, SourceText}
 use Rattle.soy_meaning.specs.Outcome.{StopsAt}
 use Rattle.soy_meaning.specs.Outcome.{TextTaken, Turns, gives_nothing, none_spent}
@@ -141,8 +141,9 @@ module _ (c : RunContext) (called : Site → Declared → RunEnv → Outcome) wh
   abbrev pub translated_means : RunEnv → Message → MsgParts → Means
   translated_means env m parts = parts_means c.direction c.category (uses_of m) env parts (pos 0)
 
+  -- a typed tree calls known templates alone; for any other null stands, as for a name that nothing is bound to
   abbrev pub opened_means : Site → Option Declared → GivenArguments → Bool → RunEnv → Means
-  opened_means at None given all env so_far next = next so_far
+  opened_means at None given all env so_far next = value_means c.direction NullValue so_far next
   opened_means at (Some d) given all env so_far next =
       called_means c.direction d.template.kind (called at d (callee_env d.template.params given all c.params env))
       so_far next

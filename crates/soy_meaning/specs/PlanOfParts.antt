@@ -83,7 +83,7 @@ module _ (uses : List Use) (scope : Scope) (at : Site) where
     part_plan (Placeholder name) = cut_plan scope at (placeholder_cut name uses uses)
     part_plan NumberPart = Hole at (class.Int ∷ [])
     part_plan (PluralPart ordinal name offset exact named) = arms_meet at (exact_plans exact ++ named_plans named)
-    part_plan (SelectPart name arms) = arms_meet at (select_plans arms)
+    part_plan (SelectPart name arms) = arms_meet at (select_arm_plans arms)
 
     pub parts_plan : MsgParts → Plan
     parts_plan no_part = Nothing
@@ -97,6 +97,6 @@ module _ (uses : List Use) (scope : Scope) (at : Site) where
     named_plans no_named_arm = []
     named_plans (named_arm category ps arms) = parts_plan ps ∷ named_plans arms
 
-    pub select_plans : SelectArms → List Plan
-    select_plans no_select_arm = []
-    select_plans (select_arm word ps arms) = parts_plan ps ∷ select_plans arms
+    pub select_arm_plans : SelectArms → List Plan
+    select_arm_plans no_select_arm = []
+    select_arm_plans (select_arm word ps arms) = parts_plan ps ∷ select_arm_plans arms

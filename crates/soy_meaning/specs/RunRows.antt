@@ -1,14 +1,19 @@
 -- Worked rows: what small templates give under data, which the checker computes.
 --
 -- Each row is one template of kind html, `m` of the namespace `t`, with its body, the translation that each message
--- has, and the variables. Example: the body `{let $b kind="html"}<i>{$x}</i>{/let}{$b}{$b}` with x `q` gives the pieces
+-- has, if any, and the variables. Example: the body `{let $b kind="html"}<i>{$x}</i>{/let}{$b}{$b}` with x `q` gives
+-- the pieces
 -- of the block twice.
-use Rattle.std.specs.Prelude.{ℕ, ℤ, pos, Bool, false, ◌==◌, List, [], ◌∷◌, Option, Some, None}
-use Rattle.std.specs.Prelude.{if◌then◌else◌, codes}
+use Rattle.std.specs.Prelude.{ℕ, ℤ, pos, true, false, List, [], ◌∷◌, Option, Some, None, codes}
+use Rattle.soy_base.specs.declared.direction.Dir.{Dir}
 use Rattle.soy_base.specs.declared.direction.Dir.TheVariants as dir
 use Rattle.soy_base.specs.declared.kind.Kind.TheVariants as kind
+use Rattle.plural_rules.specs.Category.{category_of}
+use Rattle.plural_rules.specs.Condition.{Alternatives, Relation}
 use Rattle.plural_rules.specs.declared.category.Category.{Category}
 use Rattle.plural_rules.specs.declared.category.Category.TheVariants as category
+use Rattle.plural_rules.specs.declared.condition.Comparison.{Comparison}
+use Rattle.plural_rules.specs.declared.condition.Operand.TheVariants as operand
 use Rattle.bidi_text.specs.Wrap.{wrapped_text}
 use Rattle.html_state.specs.Pieces.{Piece, Static, Value}
 use Rattle.soy_tree.specs.declared.expr.BinaryOp.TheVariants as op
@@ -16,16 +21,18 @@ use Rattle.soy_tree.specs.Types.{IntType}
 use Rattle.soy_tree.specs.Values.{IntValue, StringValue}
 use Rattle.soy_tree.specs.Val.{Known}
 use Rattle.soy_tree.specs.Expressions.{Binary, IntLiteral}
-use Rattle.soy_tree.specs.Nodes.{Node, If, LetBlock, Call, MessageNode, no_node, node, no_otherwise, no_arm, arm}
+use Rattle.soy_tree.specs.Nodes.{MessageBody, Node, If, LetBlock, Call, MessageNode, no_node, node, no_otherwise}
+use Rattle.soy_tree.specs.Nodes.{no_arm, arm}
 use Rattle.soy_tree.specs.Nodes.{no_argument, argument, Plain, message, no_fallback, Parts, Plural, no_plural_case}
 use Rattle.soy_tree.specs.Nodes.{plural_case}
-use Rattle.soy_tree.specs.MessageParts.{MsgParts, NumberPart, PluralPart, TextPart, no_exact_arm, exact_arm}
+use Rattle.soy_tree.specs.MessageParts.{MsgPart, MsgParts, NumberPart, PluralPart, TextPart, no_exact_arm, exact_arm}
 use Rattle.soy_tree.specs.MessageParts.{no_named_arm}
 use Rattle.soy_tree.specs.MessageParts.{named_arm, no_part, part}
 use Rattle.soy_tree.specs.Templates.{Declared}
 use Rattle.soy_meaning.specs.Giving.{RunEnv}
 use Rattle.soy_meaning.specs.Outcome.{Outcome, RunEnd, end_of_outcome, pieces_of_outcome}
-use Rattle.soy_meaning.specs.Pieces.{template_run}
+use Rattle.soy_meaning.specs.Meaning.{meaning}
+use Rattle.soy_meaning.specs.Pieces.{RunContext, template_run}
 use Rattle.soy_meaning.specs.Rows.{all_nodes, print_node, row_param, span_at, text_node, variable}
 
 abbrev pub row_template : List Node → Declared
@@ -42,23 +49,24 @@ row_template body = record {
   };
 }
 
--- the rule one of English: the number 1
-abbrev pub one_or_other : Bool → ℤ → Category
-one_or_other ordinal (pos n) = if n == 1 then category.One else category.Other
-one_or_other ordinal n = category.Other
+-- a direction, rules of categories for ordinals and for counts alike, and the translation of each message
+abbrev pub context_of : Dir → List (Category × Alternatives) → Option MsgParts → List Node → RunContext
+context_of direction rules translation body = record {
+  file = 0;
+  namespace = [];
+  params = [];
+  declared = row_template body ∷ [];
+  translation = λ m. translation;
+  category = λ ordinal n. category_of rules n;
+  direction = direction;
+}
 
-abbrev pub row_outcome : Option MsgParts → List Node → RunEnv → Outcome
-row_outcome translation body env =
-    let d : Declared = row_template body in
-    template_run (record {
-      file = 0;
-      namespace = [];
-      params = [];
-      declared = d ∷ [];
-      translation = λ m. translation;
-      category = one_or_other;
-      direction = dir.Ltr;
-    }) d env
+abbrev pub outcome_in : Dir → List (Category × Alternatives) → Option MsgParts → List Node → RunEnv → Outcome
+outcome_in direction rules translation body env =
+    template_run (context_of direction rules translation body) (row_template body) env
+
+abbrev pub row_outcome : List Node → RunEnv → Outcome
+row_outcome = outcome_in dir.Ltr [] None
 
 abbrev pub pieces_and_end : Outcome → List Piece × RunEnd
 pieces_and_end o = (pieces_of_outcome o, end_of_outcome o)
@@ -73,7 +81,7 @@ number_env n = (codes "n", Known (IntValue n)) ∷ []
 
 -- `{let $b kind="html"}<i>{$x}</i>{/let}{$b}{$b}`, with x `q`
 abbrev pub block_twice : Outcome
-block_twice = row_outcome None
+block_twice = row_outcome
     (LetBlock (codes "b") kind.Html
     (all_nodes (text_node 0 (codes "<i>") ∷ print_node 0 (codes "x") ∷ text_node 0 (codes "</i>") ∷ [])) (span_at 0)
     ∷ print_node 0 (codes "b") ∷ print_node 0 (codes "b") ∷ []) (text_env (codes "x") (codes "q"))
@@ -83,7 +91,7 @@ block_pieces = Static (codes "<i>") ∷ Value (wrapped_text (codes "q") dir.Ltr)
 
 -- `{let $b kind="attributes"}class="{$k}" disabled{/let}<input {$b}>`, with k `a"b`
 abbrev pub attributes_block : Outcome
-attributes_block = row_outcome None
+attributes_block = row_outcome
     (LetBlock (codes "b") kind.Attributes
     (all_nodes (text_node 0 (codes "class=\"") ∷ print_node 0 (codes "k") ∷ text_node 0 (codes "\" disabled") ∷ []))
     (span_at 0)
@@ -100,7 +108,7 @@ input_pieces =
 -- `{if $n > 0}a{call m}{param n: $n - 1 /}{/call}{/if}`, whose call is at offset 12
 abbrev pub calls : ℤ → Outcome
 calls n =
-    row_outcome None
+    row_outcome
     (If (arm (Binary op.Gt (variable 4 (codes "n")) (IntLiteral (pos 0) (span_at 9)) (span_at 4))
     (node (text_node 11 (codes "a")) (node (Call (codes "m") false (argument (codes "n")
     (Plain (Binary op.Sub (variable 30 (codes "n")) (IntLiteral (pos 1) (span_at 35)) (span_at 30))) (span_at 20)
@@ -108,23 +116,62 @@ calls n =
 
 -- ---- messages
 
+abbrev pub message_of : MessageBody → Node
+message_of body = MessageNode (message (codes "d") [] body (span_at 0)) no_fallback (span_at 0)
+
 -- `{msg desc="d"}{plural $n offset="1"}{case 1}only{default}{$n} in all{/plural}{/msg}`
-abbrev pub plural_message : Node
-plural_message =
-    MessageNode (message (codes "d") [] (Plural (variable 0 (codes "n")) 1
-    (plural_case (pos 1) (Parts (all_nodes (text_node 0 (codes "only") ∷ []))) no_plural_case)
-    (Parts (all_nodes (print_node 0 (codes "n") ∷ text_node 0 (codes " in all") ∷ [])))) (span_at 0))
-    no_fallback (span_at 0)
-
 abbrev pub source_plural : ℤ → Outcome
-source_plural n = row_outcome None (plural_message ∷ []) (number_env n)
+source_plural n = row_outcome (message_of (Plural (variable 0 (codes "n")) 1
+    (plural_case (pos 1) (Parts (all_nodes (text_node 0 (codes "only") ∷ []))) no_plural_case)
+    (Parts (all_nodes (print_node 0 (codes "n") ∷ text_node 0 (codes " in all") ∷ [])))) ∷ []) (number_env n)
 
--- `{N, plural, offset:1 =1 {only} one {and # more} other {all}}`
-abbrev pub plural_parts : MsgParts
-plural_parts =
-    part (PluralPart false (codes "N") 1 (exact_arm (pos 1) (part (TextPart (codes "only")) no_part) no_exact_arm)
-    (named_arm category.One (part (TextPart (codes "and ")) (part NumberPart (part (TextPart (codes " more")) no_part)))
-    (named_arm category.Other (part (TextPart (codes "all")) no_part) no_named_arm))) no_part
+-- `n = first..last`, or the same of the remainder
+abbrev pub within : Option ℕ → ℕ → ℕ → Alternatives
+within modulus first last =
+    let comparison : Comparison = record { operand = operand.N; modulus = modulus; equal = true } in
+    let relation : Relation = record { comparison = comparison; ranges = record { first = first; last = last } ∷ [] } in
+    (relation ∷ []) ∷ []
+
+-- zero `n = 0`, one `n = 1`, two `n = 2`, few `n % 100 = 3..10`, many `n % 100 = 11..99`
+abbrev pub row_rules : List (Category × Alternatives)
+row_rules =
+    (category.Zero, within None 0 0) ∷ (category.One, within None 1 1) ∷ (category.Two, within None 2 2)
+    ∷ (category.Few, within (Some 100) 3 10) ∷ (category.Many, within (Some 100) 11 99) ∷ []
+
+-- `{msg desc="d"}{plural $n}{case 1}one{default}some{/plural}{/msg}`
+abbrev pub plural_source : List Node
+plural_source =
+    message_of (Plural (variable 0 (codes "n")) 0
+    (plural_case (pos 1) (Parts (all_nodes (text_node 0 (codes "one") ∷ []))) no_plural_case)
+    (Parts (all_nodes (text_node 0 (codes "some") ∷ [])))) ∷ []
+
+-- the same with a translation from right to left
+abbrev pub translated : MsgPart → ℤ → Outcome
+translated translation n =
+    outcome_in dir.Rtl row_rules (Some (part translation no_part)) plural_source (number_env n)
+
+abbrev pub translated_meaning : MsgPart → ℤ → List ℕ
+translated_meaning translation n =
+    meaning (context_of dir.Rtl row_rules (Some (part translation no_part)) plural_source) (row_template plural_source)
+    (number_env n)
+
+abbrev pub one_text : List ℕ → MsgParts
+one_text text = part (TextPart text) no_part
+
+-- `{N, plural, zero {Z} one {O} two {T} few {F} many {M} other {X #}}`
+abbrev pub plural_part : MsgPart
+plural_part = PluralPart false (codes "N") 0 no_exact_arm
+    (named_arm category.Zero (one_text (codes "Z")) (named_arm category.One (one_text (codes "O"))
+    (named_arm category.Two (one_text (codes "T")) (named_arm category.Few (one_text (codes "F"))
+    (named_arm category.Many (one_text (codes "M"))
+    (named_arm category.Other (part (TextPart (codes "X ")) (part NumberPart no_part)) no_named_arm))))))
 
 abbrev pub plural_translation : ℤ → Outcome
-plural_translation n = row_outcome (Some plural_parts) (plural_message ∷ []) (number_env n)
+plural_translation = translated plural_part
+
+-- `{N, plural, offset:1 =1 {only} one {and # more} other {all}}`
+abbrev pub offset_translation : ℤ → Outcome
+offset_translation = translated (PluralPart false (codes "N") 1
+    (exact_arm (pos 1) (one_text (codes "only")) no_exact_arm)
+    (named_arm category.One (part (TextPart (codes "and ")) (part NumberPart (one_text (codes " more"))))
+    (named_arm category.Other (one_text (codes "all")) no_named_arm)))

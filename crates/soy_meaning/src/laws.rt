@@ -1,7 +1,8 @@
 //! What the definitions come to, for the tokenizer of a page. Each law is a contract with an empty body.
 
-ghost use Rattle.std.specs.Prelude.{◌≡◌, ◌+◌, ◌++◌, ◌∷◌, [], ℕ, IsTrue, List, Option, Some, None, Ok, Err, length, get_or};
-ghost use Rattle.std.specs.Prelude.{replicate};
+ghost use Rattle.std.specs.Prelude.{◌≡◌, ◌+◌, ◌++◌, ◌∷◌, [], ℕ, IsTrue, List, Option};
+ghost use Rattle.std.specs.Prelude.{Some, None, Ok, Err, length, get_or};
+ghost use Rattle.std.specs.Prelude.{map, replicate};
 ghost use Rattle.std.specs.Prelude.{pos, codes};
 ghost use Rattle.soy_base.specs.declared.code.Code.TheVariants as code;
 ghost use Rattle.soy_base.specs.declared.direction.Dir.TheVariants as dir;
@@ -17,37 +18,49 @@ ghost use Rattle.html_state.specs.Follows.{Follows};
 ghost use Rattle.html_state.specs.Leads.{Leads};
 ghost use Rattle.html_state.specs.Pieces as page;
 ghost use Rattle.html_state.specs.Pieces.{after_pieces, placing_after};
+ghost use Rattle.html_state.specs.Start.{start};
 ghost use Rattle.html_state.specs.StatePlacing.{placing};
 ghost use Rattle.html_state.specs.TakesClass.{takes_class};
 ghost use Rattle.html_state.specs.declared.row.Reference.TheVariants as reference;
 ghost use Rattle.html_state.specs.declared.row.State.{State};
 ghost use Rattle.html_state.specs.declared.row.Tag.{Tag};
 ghost use Rattle.soy_tree.specs.MessageParts.{MsgParts};
-ghost use Rattle.soy_tree.specs.Nodes.{Message};
+ghost use Rattle.soy_tree.specs.Nodes.{Message, Nodes};
+ghost use Rattle.soy_tree.specs.TypeOf.{Scope};
 ghost use Rattle.soy_tree.specs.Trees.{Tree};
 ghost use Rattle.soy_tree.specs.Val.{value_text};
 ghost use Rattle.soy_tree.specs.Values.{Value};
-ghost use Rattle.soy_meaning.specs.Giving.{value_class};
+ghost use Rattle.soy_tree.specs.Templates.{Declared, declared};
+ghost use Rattle.soy_meaning.specs.Giving.{RunEnv, value_class};
+ghost use Rattle.soy_meaning.specs.Pieces.{RunContext, template_run};
+ghost use Rattle.soy_meaning.specs.RunsAlong.{EnvRuns, FilledByRuns, FitsClasses, IsFrameWithin, RunsAlong};
+ghost use Rattle.soy_meaning.specs.RunsAlong.{frame_plan};
+ghost use Rattle.soy_meaning.specs.TranslationFits.{TranslationsFit};
 ghost use Rattle.soy_meaning.specs.AcceptedTrees.{AcceptedTrees, walk_trees};
 ghost use Rattle.soy_meaning.specs.EscapedAt.{escaped_where, is_text_of};
 ghost use Rattle.soy_meaning.specs.Filled.{Filled, FillsHoles, IsBlockKind, IsFrameOf, filled_pieces, parts_of_filled};
-ghost use Rattle.soy_meaning.specs.FourPoints.{StartsAs};
+ghost use Rattle.soy_meaning.specs.FourPoints.{AcceptedPaths, StartsAs};
 ghost use Rattle.soy_meaning.specs.Holes.{hole_count, holes_before};
 ghost use Rattle.soy_meaning.specs.Outcome as outcome;
 ghost use Rattle.soy_meaning.specs.Outcome.{Outcome, choices_of_outcome, continued_by, costs_of_outcome, gathered};
-ghost use Rattle.soy_meaning.specs.Outcome.{gives_nothing};
+ghost use Rattle.soy_meaning.specs.Outcome.{gives_nothing, pieces_of_outcome};
 ghost use Rattle.soy_meaning.specs.PageMachine.{page_machine};
 ghost use Rattle.soy_meaning.specs.Plan.{Plan};
-ghost use Rattle.soy_meaning.specs.PlanOfNodes.{kind_class, trees_plan};
-ghost use Rattle.soy_meaning.specs.PathParts.{StandsAfter};
-ghost use Rattle.soy_meaning.specs.States.{AtMost};
+ghost use Rattle.soy_meaning.specs.Blocks.{block_frame, nodes_blocks, plan_frames};
+ghost use Rattle.soy_meaning.specs.PlanOfNodes.{PlanContext, kind_class, nodes_plan, trees_plan};
+ghost use Rattle.soy_meaning.specs.PathParts.{IsPath, PathPart, StandsAfter};
+ghost use Rattle.soy_meaning.specs.Ways.{IsWayOfNodes};
+ghost use Rattle.soy_meaning.specs.States.{AtMost, IsMember};
 ghost use Rattle.soy_meaning.specs.Points.{Address, AtHole, LeadsTo, Point, StandsAt, frame_at, point_at};
-ghost use Rattle.soy_meaning.specs.Rows.{ampersand_in_translation, block_in_attribute, mixed_places};
-ghost use Rattle.soy_meaning.specs.Rows.{optional_attribute};
-ghost use Rattle.soy_meaning.specs.Rows.{second_turn, second_uri_value, seventeen_states, site_at, sixteen_states};
+ghost use Rattle.soy_meaning.specs.Rows.{ampersand_in_arm, ampersand_in_fallback, ampersand_in_plural};
+ghost use Rattle.soy_meaning.specs.Rows.{ampersand_in_translation, block_in_attribute, block_in_title, mixed_places};
+ghost use Rattle.soy_meaning.specs.Rows.{narrowed_attributes, number_in_tag, number_in_title, open_tag_in_let};
+ghost use Rattle.soy_meaning.specs.Rows.{open_tag_in_param, optional_attribute, refused_source, second_turn};
+ghost use Rattle.soy_meaning.specs.Rows.{second_uri_value, seventeen_states, site_at, sixteen_states};
+ghost use Rattle.soy_meaning.specs.Rows.{tag_in_translation};
 ghost use Rattle.soy_meaning.specs.RunRows.{attributes_block, block_pieces, block_twice, calls, input_pieces};
-ghost use Rattle.soy_meaning.specs.RunRows.{pieces_and_end};
-ghost use Rattle.soy_meaning.specs.RunRows.{plural_translation, source_plural};
+ghost use Rattle.soy_meaning.specs.RunRows.{offset_translation, pieces_and_end, plural_part, plural_translation};
+ghost use Rattle.soy_meaning.specs.RunRows.{source_plural, translated_meaning};
 ghost use Rattle.soy_meaning.specs.Walk.{Walked, mixed_at, walk, walk_fault, walked};
 
 /// The escaped form of a value at the place that a state gives, and then the mark that the value sets, lead to the
@@ -113,6 +126,41 @@ pub fn law_places_are_static()
         ≡ Ok (Takes (get_or new (holes_before p y + holes_before q x) d))) }
 {}
 
+/// The plan of a tree is that of no other: its paths are the ways through the tree, and its frames the blocks that
+/// stand in the tree, each with the plan of its body in the scope that it sees.
+pub fn law_plan_is_of_tree()
+    ensures paths { (c : PlanContext) (ns : Nodes) (scope : Scope) (l : List PathPart) →
+        IsPath (nodes_plan c ns scope) l → IsWayOfNodes c ns scope l }
+    ensures ways { (c : PlanContext) (ns : Nodes) (scope : Scope) (l : List PathPart) →
+        IsWayOfNodes c ns scope l → IsPath (nodes_plan c ns scope) l }
+    ensures frames { (c : PlanContext) (ns : Nodes) (scope : Scope) →
+        plan_frames (nodes_plan c ns scope) ≡ map (block_frame c) (nodes_blocks ns scope) }
+{}
+
+/// What a template gives under any environment and bundle goes along a path of its plan: the pieces are those of a
+/// path, or of a prefix of one where it stops at a call, with each hole filled by a value or by a run of the frame that
+/// is printed or called there. Each frame is one of the plan of all trees, as the template's own is.
+pub fn law_runs_are_paths()
+    ensures runs { (c : RunContext) (trees : List Tree) (d : Declared) (env : RunEnv) →
+        c.declared ≡ declared trees → IsMember d c.declared → TranslationsFit c.translation c.declared →
+        EnvRuns c.direction (trees_plan c.translation trees) env →
+        RunsAlong c.direction (trees_plan c.translation trees) d.template.kind (frame_plan c d)
+        (template_run c d env) }
+    ensures frames { (c : RunContext) (trees : List Tree) (d : Declared) →
+        c.declared ≡ declared trees → IsMember d c.declared →
+        IsFrameWithin (trees_plan c.translation trees) d.template.kind (frame_plan c d) }
+{}
+
+/// Under accepted paths what fills a path by runs fills its holes, where values and frames have classes of theirs. The
+/// pieces of a run are read without a fault then, also those of one that stops.
+pub fn law_runs_are_read()
+    ensures holes { (whole : Plan) (f : Filled) → AcceptedPaths page_machine whole →
+        FilledByRuns whole outcome.WholeRun f → FitsClasses f → FillsHoles f }
+    ensures read { (context : Dir) (whole : Plan) (kind : Kind) (p : Plan) (o : Outcome) →
+        AcceptedPaths page_machine whole → IsFrameWithin whole kind p → (r : RunsAlong context whole kind p o) →
+        FitsClasses r.filled → (now : State) × (after_pieces (start kind) (pieces_of_outcome o) ≡ Ok now) }
+{}
+
 /// Outcomes follow one another as lists do, and what is gathered from two that follow one another is gathered from the
 /// one and then from the other.
 pub fn law_outcomes()
@@ -130,7 +178,18 @@ pub fn law_rows()
     ensures mixed_places { mixed_places ≡ Err (mixed_at (site_at 21) (Takes place.UriStart) (Takes place.Tag)) }
     ensures optional_attribute { optional_attribute ≡ Ok (walked [] []) }
     ensures block_in_attribute { block_in_attribute ≡ Ok (walked [] (place.UriStart ∷ [])) }
+    ensures open_tag_in_let { open_tag_in_let ≡ Err (walk_fault (site_at 22) code.EndState) }
+    ensures open_tag_in_param { open_tag_in_param ≡ Err (walk_fault (site_at 31) code.EndState) }
+    ensures block_in_title { block_in_title ≡ Err (walk_fault (site_at 37) code.Place) }
+    ensures narrowed_attributes { narrowed_attributes ≡ Ok (walked [] (place.Tag ∷ [])) }
     ensures ampersand_in_translation { ampersand_in_translation ≡ Err (walk_fault (site_at 10) code.Ampersand) }
+    ensures ampersand_in_fallback { ampersand_in_fallback ≡ Err (walk_fault (site_at 10) code.Ampersand) }
+    ensures ampersand_in_plural { ampersand_in_plural ≡ Err (walk_fault (site_at 53) code.Ampersand) }
+    ensures ampersand_in_arm { ampersand_in_arm ≡ Err (walk_fault (site_at 10) code.Ampersand) }
+    ensures refused_source { refused_source ≡ Err (walk_fault (site_at 14) code.InName) }
+    ensures tag_in_translation { tag_in_translation ≡ Ok (walked [] (place.UriStart ∷ place.UriStart ∷ [])) }
+    ensures number_in_title { number_in_title ≡ Ok (walked [] (place.Attr ∷ [])) }
+    ensures number_in_tag { number_in_tag ≡ Err (walk_fault (site_at 7) code.Place) }
     ensures sixteen_states { sixteen_states ≡ Err (walk_fault (site_at 100) code.EndState) }
     ensures seventeen_states { seventeen_states ≡ Err (walk_fault (site_at 0) code.States) }
 {}
@@ -154,14 +213,27 @@ pub fn law_run_rows()
         ≡ (page.Value (wrapped_text (codes "3") dir.Ltr) ∷ page.Static (codes " in all") ∷ [], outcome.WholeRun) }
     ensures source_choices { choices_of_outcome (source_plural (pos 3))
         ≡ outcome.TextTaken outcome.SourceText ∷ outcome.ArmTaken (Some 1) ∷ [] }
-    ensures plural_translation { pieces_and_end (plural_translation (pos 1))
+    ensures plural_zero { pieces_and_end (plural_translation (pos 0))
+        ≡ (page.Static (codes "Z") ∷ [], outcome.WholeRun) }
+    ensures plural_one { pieces_and_end (plural_translation (pos 1))
+        ≡ (page.Static (codes "O") ∷ [], outcome.WholeRun) }
+    ensures plural_two { pieces_and_end (plural_translation (pos 2))
+        ≡ (page.Static (codes "T") ∷ [], outcome.WholeRun) }
+    ensures plural_few { pieces_and_end (plural_translation (pos 3))
+        ≡ (page.Static (codes "F") ∷ [], outcome.WholeRun) }
+    ensures plural_many { pieces_and_end (plural_translation (pos 11))
+        ≡ (page.Static (codes "M") ∷ [], outcome.WholeRun) }
+    ensures plural_other { pieces_and_end (plural_translation (pos 100))
+        ≡ (page.Static (codes "X ") ∷ page.Value (wrapped_text (codes "100") dir.Rtl) ∷ [], outcome.WholeRun) }
+    ensures plural_meaning { translated_meaning plural_part (pos 11) ≡ codes "M" }
+    ensures offset_exact { pieces_and_end (offset_translation (pos 1))
         ≡ (page.Static (codes "only") ∷ [], outcome.WholeRun) }
-    ensures plural_number { pieces_and_end (plural_translation (pos 2))
+    ensures offset_number { pieces_and_end (offset_translation (pos 2))
         ≡ (
-          page.Static (codes "and ") ∷ page.Value (wrapped_text (codes "1") dir.Ltr) ∷ page.Static (codes " more") ∷ [],
+          page.Static (codes "and ") ∷ page.Value (wrapped_text (codes "1") dir.Rtl) ∷ page.Static (codes " more") ∷ [],
           outcome.WholeRun,
         ) }
-    ensures plural_costs { costs_of_outcome (plural_translation (pos 2)) ≡ 1 ∷ 0 ∷ 0 ∷ 0 ∷ [] }
-    ensures plural_choices { choices_of_outcome (plural_translation (pos 2))
+    ensures offset_costs { costs_of_outcome (offset_translation (pos 2)) ≡ 1 ∷ 0 ∷ 0 ∷ 0 ∷ [] }
+    ensures offset_choices { choices_of_outcome (offset_translation (pos 2))
         ≡ outcome.TextTaken outcome.OwnTranslation ∷ outcome.ArmTaken (Some 1) ∷ [] }
 {}

@@ -8,6 +8,10 @@ pub mod AcceptsHas
 pub mod ValueTypes
 pub mod Branches
 pub mod TemplateNumbers
+pub mod ViewTexts
+pub mod TagScans
+pub mod SameContents
+pub mod PlaceholderNames
 mod Rows
 mod AcceptRows
 mod TypeRows

@@ -25,6 +25,7 @@ pub mod Declarations
 pub mod Bodies
 pub mod Demands
 pub mod MessageText
+pub mod TagScan
 pub mod Formed
 pub mod SameExpression
 pub mod BaseNames

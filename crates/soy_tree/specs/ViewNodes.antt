@@ -11,6 +11,7 @@ use Rattle.soy_tree.specs.declared.node.Message as code_message
 use Rattle.soy_tree.specs.declared.node.MessageBody as code_body
 use Rattle.soy_tree.specs.declared.node.PluralCase as code_plural_case
 use Rattle.soy_tree.specs.declared.node.SelectCase as code_select_case
+use Rattle.soy_tree.specs.declared.node.Form.TheVariants as form
 use Rattle.soy_tree.specs.declared.node.Form.TheOpen.{Form-F, Given-F, MessageBody-F, Argument-F, Arm-F, Case-F}
 use Rattle.soy_tree.specs.declared.node.Form.TheOpen.{Message-F, Node-F, PluralCase-F, SelectCase-F}
 use Rattle.soy_tree.specs.Types.{Name}
@@ -182,3 +183,7 @@ view_plural_cases cases = plural_cases_of (map view_plural_case cases)
 
 abbrev pub view_select_cases : List code_select_case.SelectCase → SelectCases
 view_select_cases cases = select_cases_of (map view_select_case cases)
+
+-- a text of the code that stands at a span
+abbrev pub text_node : List ℕ → Span → code.Node
+text_node text span = record { form = form.Text text; span = span }

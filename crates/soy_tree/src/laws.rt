@@ -1,6 +1,6 @@
 //! Laws of the definitions, each a function that does nothing and whose contract is the law.
 
-ghost use Rattle.std.specs.Prelude.{◌≡◌, Ok, true, ◌<◌, ◌≤◌, ◌⊎◌};
+ghost use Rattle.std.specs.Prelude.{◌≡◌, ℕ, Ok, Some, true, ◌<◌, ◌≤◌, ◌^◌, ◌⊎◌, List, length, slice_get};
 ghost use Rattle.std.specs.List.{list_any, list_all};
 ghost use Rattle.soy_tree.specs.Types.{SoyType};
 ghost use Rattle.soy_tree.specs.Values.{Value, NullValue};
@@ -14,6 +14,7 @@ ghost use Rattle.soy_tree.specs.TypeOf.{Scope, type_of};
 ghost use Rattle.soy_tree.specs.Narrowing.{narrowed};
 ghost use Rattle.soy_tree.specs.Val.{Env, is_truthy, val};
 ghost use Rattle.soy_tree.specs.Cost.{cost, node_count};
+ghost use Rattle.soy_tree.specs.Placeholders.{Use, is_same_content, name_of};
 
 /// A type accepts another where each member of the other is accepted by one of its own members.
 pub fn law_accepts_by_members()
@@ -56,4 +57,12 @@ pub fn law_branch<A>()
 pub fn law_cost<A>()
     ensures some { (e : Expr) (env : Env A) → 0 < cost e env }
     ensures at_most { (e : Expr) (env : Env A) → cost e env ≤ node_count e }
+{}
+
+/// Two placeholders or selectors of a message that have one name have the same base name and the same content. A
+/// message has fewer than 2^64 of them.
+pub fn law_placeholder_names()
+    ensures { (uses : List Use) (i j : ℕ) (u v : Use) → length uses < 2 ^ 64 → slice_get uses i ≡ Some u
+        → slice_get uses j ≡ Some v → name_of uses u.base u.content ≡ name_of uses v.base v.content
+        → (u.base ≡ v.base) × (is_same_content u.content v.content ≡ true) }
 {}

@@ -11,6 +11,7 @@ mod acceptance;
 mod bundle;
 mod expr;
 mod laws;
+mod message_text;
 mod narrowing;
 mod node;
 mod soy_type;
@@ -25,8 +26,9 @@ pub use bundle::{
 pub use expr::{BinaryOp, Expr, ExprNode};
 pub use laws::{
     law_accepted_value, law_accepts_by_members, law_branch, law_cost, law_joined, law_narrow,
-    law_value_type,
+    law_placeholder_names, law_value_type,
 };
+pub use message_text::{is_message_text, is_message_text_with};
 pub use narrowing::narrow;
 pub use node::{
     Argument, Arm, Case, Form, Given, Message, MessageBody, Node, PluralCase, SelectCase,

@@ -1,7 +1,7 @@
 //! Tests of what no clause says: with ample memory each call succeeds.
 use crate::{
     BinaryOp, Bundle, Entry, Expr, ExprNode, Field, Form, Node, Param, SoyType, Typed, Value,
-    accepts, narrow,
+    accepts, is_message_text, narrow,
 };
 use soy_base::{Boxed, Dir, OutOfMemory, Seq, Span, Text};
 use std::alloc::Global;
@@ -249,4 +249,71 @@ fn no_trees_are_typed(rt: HostRuntime) {
     let typed = Typed::new(Seq::new(Vec::new(rt.alloc())));
     assert!(rt; typed.trees().is_empty());
     assert!(rt; typed.params(0).is_empty());
+}
+
+/// A text, a print and a text.
+fn around_print(alloc: Global, before: &str, after: &str) -> Result<Vec<Node>, OutOfMemory> {
+    let forms = [
+        Form::Text(text_of(alloc, before)?),
+        Form::Print(variable(alloc)?, None),
+        Form::Text(text_of(alloc, after)?),
+    ];
+    let mut nodes = Vec::new(alloc);
+    for form in forms {
+        nodes.push(Node { form, span: SPAN })?;
+    }
+    Ok(nodes)
+}
+
+/// What a message holds, before and after a print; whether it is texts, prints and whole tags.
+const MESSAGE_TEXTS: &[(&str, &str, &str, bool)] = &[
+    ("text", "a", "b", true),
+    ("nothing around the print", "", "", true),
+    ("tags", "a<b>", "</b>c", true),
+    ("a print in a tag", "<a title=\"", "\">", true),
+    ("an end in quotes", "<a title='>", "'>", true),
+    ("other quotes in quotes", "<a title=\"'", "\">", true),
+    ("a `<` in a tag", "<a <", ">", true),
+    ("no tag: a space follows", "1 < 2", "", true),
+    ("no tag: a digit follows", "1<2", "</3", true),
+    ("no tag: a print follows", "<", "b", true),
+    ("no tag: a print follows the slash", "</", "b", true),
+    ("a tag after another `<`", "<<b", ">", true),
+    ("a tag after a `<` and a slash", "</<b", ">", true),
+    ("no end", "<b", "", false),
+    ("no end of an end tag", "", "</b", false),
+    ("no end after another `<`", "<<b", "c", false),
+    (
+        "a quote of the other kind ends nothing",
+        "<a title=\"'>",
+        "",
+        false,
+    ),
+    ("a quote without an end", "<b '>", ">", false),
+    ("a quote in a print's neighbour", "<b \"", "'>", false),
+    ("a second tag without an end", "<b>", "<i", false),
+];
+
+#[test]
+fn texts_prints_and_whole_tags_are_a_message(rt: HostRuntime) {
+    for (name, before, after, answer) in MESSAGE_TEXTS {
+        let Ok(nodes) = around_print(rt.alloc(), before, after) else {
+            assert!(rt; false);
+            return;
+        };
+        assert_eq!(rt; is_message_text(nodes.as_slice()), *answer, "{name}");
+    }
+}
+
+fn a_let(alloc: Global) -> Result<Form, OutOfMemory> {
+    Ok(Form::Let(text_of(alloc, "x")?, variable(alloc)?))
+}
+
+#[test]
+fn a_let_is_no_part_of_a_message(rt: HostRuntime) {
+    let Ok(form) = a_let(rt.alloc()) else {
+        assert!(rt; false);
+        return;
+    };
+    assert!(rt; !is_message_text(&[Node { form, span: SPAN }]));
 }

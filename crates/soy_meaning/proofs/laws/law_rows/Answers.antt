@@ -26,3 +26,36 @@ returns-clause-sixteen_states c = refl
 
 pub returns-clause-seventeen_states : goal.returns-clause-seventeen_states
 returns-clause-seventeen_states c = refl
+
+pub returns-clause-open_tag_in_let : goal.returns-clause-open_tag_in_let
+returns-clause-open_tag_in_let c = refl
+
+pub returns-clause-open_tag_in_param : goal.returns-clause-open_tag_in_param
+returns-clause-open_tag_in_param c = refl
+
+pub returns-clause-block_in_title : goal.returns-clause-block_in_title
+returns-clause-block_in_title c = refl
+
+pub returns-clause-narrowed_attributes : goal.returns-clause-narrowed_attributes
+returns-clause-narrowed_attributes c = refl
+
+pub returns-clause-ampersand_in_fallback : goal.returns-clause-ampersand_in_fallback
+returns-clause-ampersand_in_fallback c = refl
+
+pub returns-clause-ampersand_in_plural : goal.returns-clause-ampersand_in_plural
+returns-clause-ampersand_in_plural c = refl
+
+pub returns-clause-ampersand_in_arm : goal.returns-clause-ampersand_in_arm
+returns-clause-ampersand_in_arm c = refl
+
+pub returns-clause-refused_source : goal.returns-clause-refused_source
+returns-clause-refused_source c = refl
+
+pub returns-clause-tag_in_translation : goal.returns-clause-tag_in_translation
+returns-clause-tag_in_translation c = refl
+
+pub returns-clause-number_in_title : goal.returns-clause-number_in_title
+returns-clause-number_in_title c = refl
+
+pub returns-clause-number_in_tag : goal.returns-clause-number_in_tag
+returns-clause-number_in_tag c = refl

@@ -1,4 +1,5 @@
 use Rattle.std.proofs.Common.{refl}
+use lib.Utf8.{encode}
 use Rattle.std.specs.Fmt.{digits}
 use Rattle.soy_meaning.specs.Pieces.{called_within}
 use Rattle.soy_meaning.proofs.laws.law_run_rows.Goals as goal
@@ -43,18 +44,46 @@ pub returns-clause-source_choices : goal.returns-clause-source_choices
 unfolding called_within
 returns-clause-source_choices c = refl
 
-pub returns-clause-plural_translation : goal.returns-clause-plural_translation
+pub returns-clause-plural_zero : goal.returns-clause-plural_zero
 unfolding called_within
-returns-clause-plural_translation c = refl
+returns-clause-plural_zero c = refl
 
-pub returns-clause-plural_number : goal.returns-clause-plural_number
+pub returns-clause-plural_one : goal.returns-clause-plural_one
+unfolding called_within
+returns-clause-plural_one c = refl
+
+pub returns-clause-plural_two : goal.returns-clause-plural_two
+unfolding called_within
+returns-clause-plural_two c = refl
+
+pub returns-clause-plural_few : goal.returns-clause-plural_few
+unfolding called_within
+returns-clause-plural_few c = refl
+
+pub returns-clause-plural_many : goal.returns-clause-plural_many
+unfolding called_within
+returns-clause-plural_many c = refl
+
+pub returns-clause-plural_other : goal.returns-clause-plural_other
 unfolding called_within digits
-returns-clause-plural_number c = refl
+returns-clause-plural_other c = refl
 
-pub returns-clause-plural_costs : goal.returns-clause-plural_costs
+pub returns-clause-offset_exact : goal.returns-clause-offset_exact
 unfolding called_within
-returns-clause-plural_costs c = refl
+returns-clause-offset_exact c = refl
 
-pub returns-clause-plural_choices : goal.returns-clause-plural_choices
+pub returns-clause-offset_number : goal.returns-clause-offset_number
+unfolding called_within digits
+returns-clause-offset_number c = refl
+
+pub returns-clause-offset_costs : goal.returns-clause-offset_costs
 unfolding called_within
-returns-clause-plural_choices c = refl
+returns-clause-offset_costs c = refl
+
+pub returns-clause-offset_choices : goal.returns-clause-offset_choices
+unfolding called_within
+returns-clause-offset_choices c = refl
+
+pub returns-clause-plural_meaning : goal.returns-clause-plural_meaning
+unfolding called_within encode
+returns-clause-plural_meaning c = refl

@@ -7,7 +7,8 @@ use Rattle.soy_meaning.proofs.Walks.{accepted_when_walked, trees_walked, walked_
 use Rattle.soy_meaning.proofs.laws.law_walk.Goals as goal
 
 pub returns-clause-accepted : goal.returns-clause-accepted
-returns-clause-accepted c = λ translation trees v is. accepted_when_walked page_machine page_compares (trees_plan translation trees) (walked [] []) v is
+returns-clause-accepted c = λ translation trees v is. accepted_when_walked page_machine page_compares
+    (trees_plan translation trees) (walked [] []) v is
 
 pub returns-clause-walked : goal.returns-clause-walked
 returns-clause-walked c = trees_walked

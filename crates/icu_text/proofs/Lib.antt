@@ -1,0 +1,15 @@
+pub mod CharacterTests
+pub mod PatternRunning
+pub mod KeptArms
+pub mod ArmSets
+pub mod ReadParts
+pub mod PlainText
+pub mod Heads
+pub mod Keys
+pub mod PatternComplete
+pub mod PatternLeft
+pub mod ArgumentSound
+pub mod PatternSound
+pub mod StepsSound
+pub mod PatternCloses
+pub mod PatternExact
