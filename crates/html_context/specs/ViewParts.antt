@@ -5,7 +5,7 @@ use Rattle.soy_tree.specs.MessageParts.{MsgPart, MsgParts, ExactArms, NamedArms,
 use Rattle.soy_tree.specs.Placeholders.{Use}
 use Rattle.soy_expr.specs.ViewScope.{view_vars}
 use Rattle.soy_meaning.specs.Plan.{Plan}
-use Rattle.soy_meaning.specs.PlanOfParts.{exact_plans, named_plans, part_plan, parts_plan, select_plans}
+use Rattle.soy_meaning.specs.PlanOfParts.{exact_plans, named_plans, part_plan, parts_plan, select_arm_plans}
 use Rattle.html_context.specs.declared.parts.PartsWalker.{PartsWalker}
 use Rattle.html_context.specs.Walks.{view_site}
 
@@ -23,4 +23,4 @@ module _ {P : Type 0} (uses : P → List Use) (w : PartsWalker P) where
   plans_of_named = named_plans (uses w.placeholders.now) (view_vars w.vars.now) (view_site w.at)
 
   abbrev pub plans_of_select : SelectArms → List Plan
-  plans_of_select = select_plans (uses w.placeholders.now) (view_vars w.vars.now) (view_site w.at)
+  plans_of_select = select_arm_plans (uses w.placeholders.now) (view_vars w.vars.now) (view_site w.at)
