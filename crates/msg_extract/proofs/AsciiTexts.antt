@@ -3,7 +3,7 @@ use Rattle.std.proofs.Common.{◌≡◌, ℕ, Bool, true, false, ◌&&◌, ◌==
 use borrow.Author.Tests.{ltb-true}
 use Rattle.std.specs.Str.{IsAscii, chars}
 use Rattle.std.proofs.lemmas.Bool.Decides.{nat_tests}
-use Rattle.std.proofs.lemmas.Str.{chars-IsAscii}
+use Rattle.std.proofs.lemmas.Str.{chars-IsAscii, chars-nil}
 use Rattle.std.proofs.lemmas.Str.Ascii.{IsAscii-nil, IsAscii-cons}
 use Rattle.msg_extract.specs.Ascii.{is_ascii}
 
@@ -28,3 +28,7 @@ same_swapped [] [] = refl
 same_swapped [] (d ∷ ds) = refl
 same_swapped (c ∷ cs) [] = refl
 same_swapped (c ∷ cs) (d ∷ ds) = rw (number_swapped c d, same_swapped cs ds) refl
+
+-- of no bytes
+pub no_characters : (bytes : List ℕ) → bytes ≡ [] → chars bytes ≡ []
+no_characters bytes e = rw e chars-nil

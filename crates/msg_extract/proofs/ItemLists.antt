@@ -12,7 +12,7 @@ pub drop_got : {A : Type 0} (xs : List A) (n : ℕ) (x : A) → slice_get xs n �
 drop_got [] zero x e = absurd (cc e)
 drop_got [] (suc n) x e = absurd (cc e)
 drop_got (y ∷ ys) zero x e = let h : y ≡ x = cc e in rw h refl
-drop_got (y ∷ ys) (suc n) x e = drop_got ys n x e
+drop_got (y ∷ ys) (suc n) x e = let h : suc n + 1 ≡ suc (n + 1) = omega arith in rw h (drop_got ys n x e)
 
 pub drop_none : {A : Type 0} (xs : List A) (n : ℕ) → slice_get xs n ≡ None → drop n xs ≡ []
 drop_none [] zero e = refl

@@ -1,23 +1,38 @@
 -- The pieces of a message make its canonical text, and their uses are those of the message.
 use Rattle.std.proofs.Common.{◌≡◌, ℕ, Bool, true, false, List, [], ◌∷◌, ◌++◌, Option, Some, None, refl, sym, ap, ◌∙◌}
-use Rattle.std.proofs.Common.{common_steps}
 use Rattle.std.specs.Prelude.{codes}
 use Rattle.std.specs.Fmt.{signed_decimal}
 use Rattle.std.proofs.lemmas.List as lists
 use Rattle.soy_tree.specs.Nodes.{MessageBody, PluralCases, SelectCases, Parts, Plural, Select, no_plural_case}
 use Rattle.soy_tree.specs.Nodes.{plural_case, no_select_case, select_case}
-use Rattle.soy_tree.specs.MessageText.{Cut, TextCut, PrintCut, TagCut, cuts_of, message_items}
-use Rattle.soy_tree.specs.BaseNames.{base_of_expr}
-use Rattle.soy_tree.specs.Placeholders.{Use, ExprContent, body_uses, cut_uses, found_uses, name_of, plural_uses}
+use Rattle.soy_tree.specs.MessageText.{MessageItem, Cut, TextCut, PrintCut, TagCut, cuts_of, message_items}
+use Rattle.soy_base.specs.declared.fault.Span.{Span}
+use Rattle.soy_tree.specs.Types.{Name}
+use Rattle.soy_tree.specs.Expressions.{Expr}
+use Rattle.soy_tree.specs.BaseNames.{base_of_expr, base_of_print, base_of_tag}
+use Rattle.soy_tree.specs.Placeholders.{Use, AsPlaceholder, AsPlural, AsSelect, ExprContent, TagContent, body_uses}
+use Rattle.soy_tree.specs.Placeholders.{cut_uses, found_uses, name_of, plural_uses}
 use Rattle.soy_tree.specs.Placeholders.{select_uses}
 use Rattle.msg_extract.specs.CanonicalText.{canonical_text, written_body, written_case, written_cuts, written_found}
-use Rattle.msg_extract.specs.CanonicalText.{written_offset, written_plural_cases, written_select_cases}
+use Rattle.msg_extract.specs.CanonicalText.{text_of_items, written_name, written_offset, written_plural_cases}
+use Rattle.msg_extract.specs.CanonicalText.{written_select_cases, written_text}
 use Rattle.msg_extract.specs.Pieces.{Piece, TextPiece, UsePiece, body_pieces, cut_pieces, found_pieces, pieces_text}
 use Rattle.msg_extract.specs.Pieces.{plural_case_pieces, select_case_pieces, uses_in}
 use Rattle.msg_extract.specs.TextOfPiece.{piece_text}
 
 pub append_assoc : {A : Type 0} (xs ys zs : List A) → (xs ++ ys) ++ zs ≡ xs ++ (ys ++ zs)
 append_assoc xs ys zs = lists.append_assoc xs ys zs
+
+-- what a plural or select adds, one after another
+pub six_added : {A : Type 0} (old as_ : List A) (b : A) (cs : List A) (d : A) (es : List A) (f : A)
+    → (((((old ++ as_) ++ (b ∷ [])) ++ cs) ++ (d ∷ [])) ++ es) ++ (f ∷ [])
+    ≡ old ++ (as_ ++ (b ∷ (cs ++ (d ∷ (es ++ (f ∷ []))))))
+six_added old as_ b cs d es f =
+    append_assoc ((((old ++ as_) ++ (b ∷ [])) ++ cs) ++ (d ∷ [])) es (f ∷ [])
+    ∙ (append_assoc (((old ++ as_) ++ (b ∷ [])) ++ cs) (d ∷ []) (es ++ (f ∷ []))
+    ∙ (append_assoc ((old ++ as_) ++ (b ∷ [])) cs (d ∷ (es ++ (f ∷ [])))
+    ∙ (append_assoc (old ++ as_) (b ∷ []) (cs ++ (d ∷ (es ++ (f ∷ []))))
+    ∙ append_assoc old as_ (b ∷ (cs ++ (d ∷ (es ++ (f ∷ []))))))))
 
 pub uses_join : (ps qs : List Piece) → uses_in (ps ++ qs) ≡ uses_in ps ++ uses_in qs
 uses_join [] qs = refl
@@ -36,11 +51,24 @@ text_join uses (UsePiece u ∷ ps) qs =
 
 -- uses
 
+abbrev print_use : Expr → Option Name → Span → Use
+print_use e phname span =
+    record { base = base_of_print e phname; content = ExprContent e; role = AsPlaceholder (PrintCut e phname span) }
+
+abbrev tag_use : List MessageItem → Use
+tag_use tag = record { base = base_of_tag tag; content = TagContent tag; role = AsPlaceholder (TagCut tag) }
+
+abbrev plural_use : Expr → Use
+plural_use e = record { base = base_of_expr e; content = ExprContent e; role = AsPlural e }
+
+abbrev select_use : Expr → Use
+select_use e = record { base = base_of_expr e; content = ExprContent e; role = AsSelect e }
+
 cut_pieces_uses : (flag : Bool) (cuts : List Cut) → uses_in (cut_pieces flag cuts) ≡ cut_uses cuts
 cut_pieces_uses flag [] = refl
 cut_pieces_uses flag (TextCut text ∷ cuts) = cut_pieces_uses flag cuts
-cut_pieces_uses flag (PrintCut e phname span ∷ cuts) = ap (λ us. _ ∷ us) (cut_pieces_uses flag cuts)
-cut_pieces_uses flag (TagCut tag ∷ cuts) = ap (λ us. _ ∷ us) (cut_pieces_uses flag cuts)
+cut_pieces_uses flag (PrintCut e phname span ∷ cuts) = ap (λ us. print_use e phname span ∷ us) (cut_pieces_uses flag cuts)
+cut_pieces_uses flag (TagCut tag ∷ cuts) = ap (λ us. tag_use tag ∷ us) (cut_pieces_uses flag cuts)
 
 found_pieces_uses : (flag : Bool) (found : Option (List Cut)) → uses_in (found_pieces flag found) ≡ found_uses found
 found_pieces_uses flag None = refl
@@ -55,13 +83,13 @@ mutual
   pub body_pieces_uses : (flag : Bool) (body : MessageBody) → uses_in (body_pieces flag body) ≡ body_uses body
   body_pieces_uses flag (Parts ns) = found_pieces_uses flag (cuts_of (message_items ns))
   body_pieces_uses flag (Plural e offset cases other) =
-      ap (λ us. _ ∷ us) (then_text (plural_case_pieces cases) (codes "other {") (body_pieces true other ++
+      ap (λ us. plural_use e ∷ us) (then_text (plural_case_pieces cases) (codes "other {") (body_pieces true other ++
       (TextPiece (codes "}}") ∷ []))
       ∙ (ap (λ us. us ++ uses_in (body_pieces true other ++ (TextPiece (codes "}}") ∷ []))) (plural_pieces_uses cases)
       ∙ ap (λ us. plural_uses cases ++ us) (then_text (body_pieces true other) (codes "}}") []
       ∙ (lists.append-nil (uses_in (body_pieces true other)) ∙ body_pieces_uses true other))))
   body_pieces_uses flag (Select e cases other) =
-      ap (λ us. _ ∷ us) (then_text (select_case_pieces cases) (codes "other {") (body_pieces false other ++
+      ap (λ us. select_use e ∷ us) (then_text (select_case_pieces cases) (codes "other {") (body_pieces false other ++
       (TextPiece (codes "}}") ∷ []))
       ∙ (ap (λ us. us ++ uses_in (body_pieces false other ++ (TextPiece (codes "}}") ∷ []))) (select_pieces_uses cases)
       ∙ ap (λ us. select_uses cases ++ us) (then_text (body_pieces false other) (codes "}}") []
@@ -83,17 +111,24 @@ mutual
 
 -- text
 
+in_braces : (name more written : List ℕ) → more ≡ written
+    → codes "{" ++ (name ++ (codes "}" ++ more)) ≡ written_name name ++ written
+in_braces name more written h =
+    ap (λ t. codes "{" ++ (name ++ (codes "}" ++ t))) h
+    ∙ ap (λ t. codes "{" ++ t) (sym (append_assoc name (codes "}") written))
+
 module _ (uses : List Use) where
   cut_pieces_text : (flag : Bool) (cuts : List Cut) → pieces_text uses (cut_pieces flag cuts)
       ≡ written_cuts uses flag cuts
   cut_pieces_text flag [] = refl
-  cut_pieces_text flag (TextCut text ∷ cuts) = ap (λ t. _ ++ t) (cut_pieces_text flag cuts)
+  cut_pieces_text flag (TextCut text ∷ cuts) =
+      ap (λ t. written_text flag (text_of_items text) ++ t) (cut_pieces_text flag cuts)
   cut_pieces_text flag (PrintCut e phname span ∷ cuts) =
-      ap (λ t. codes "{" ++ (_ ++ (codes "}" ++ t))) (cut_pieces_text flag cuts)
-      ∙ ap (λ t. codes "{" ++ t) (sym (append_assoc _ (codes "}") (written_cuts uses flag cuts)))
+      in_braces (name_of uses (base_of_print e phname) (ExprContent e)) (pieces_text uses (cut_pieces flag cuts))
+      (written_cuts uses flag cuts) (cut_pieces_text flag cuts)
   cut_pieces_text flag (TagCut tag ∷ cuts) =
-      ap (λ t. codes "{" ++ (_ ++ (codes "}" ++ t))) (cut_pieces_text flag cuts)
-      ∙ ap (λ t. codes "{" ++ t) (sym (append_assoc _ (codes "}") (written_cuts uses flag cuts)))
+      in_braces (name_of uses (base_of_tag tag) (TagContent tag)) (pieces_text uses (cut_pieces flag cuts))
+      (written_cuts uses flag cuts) (cut_pieces_text flag cuts)
 
   found_pieces_text : (flag : Bool) (found : Option (List Cut)) → pieces_text uses (found_pieces flag found)
       ≡ written_found uses flag found
@@ -137,14 +172,17 @@ module _ (uses : List Use) where
     body_pieces_text flag (Parts ns) = found_pieces_text flag (cuts_of (message_items ns))
     body_pieces_text flag (Plural e offset cases other) =
         ap (λ t. codes "{" ++ (name_of uses (base_of_expr e) (ExprContent e) ++ t))
-        (append_assoc (codes ", plural, ") (written_offset offset) _
+        (append_assoc (codes ", plural, ") (written_offset offset) (pieces_text uses (plural_case_pieces cases ++
+        (TextPiece (codes "other {") ∷ (body_pieces true other ++ (TextPiece (codes "}}") ∷ [])))))
         ∙ ap (λ t. codes ", plural, " ++ (written_offset offset ++ t))
-        (behind (plural_case_pieces cases) _ (written_plural_cases uses cases) (plural_pieces_text cases)
+        (behind (plural_case_pieces cases) (TextPiece (codes "other {") ∷ (body_pieces true other ++
+        (TextPiece (codes "}}") ∷ []))) (written_plural_cases uses cases) (plural_pieces_text cases)
         ∙ ap (λ t. written_plural_cases uses cases ++ t)
         (default_text (body_pieces true other) (written_body uses true other) (body_pieces_text true other))))
     body_pieces_text flag (Select e cases other) =
         ap (λ t. codes "{" ++ (name_of uses (base_of_expr e) (ExprContent e) ++ (codes ", select, " ++ t)))
-        (behind (select_case_pieces cases) _ (written_select_cases uses cases) (select_pieces_text cases)
+        (behind (select_case_pieces cases) (TextPiece (codes "other {") ∷ (body_pieces false other ++
+        (TextPiece (codes "}}") ∷ []))) (written_select_cases uses cases) (select_pieces_text cases)
         ∙ ap (λ t. written_select_cases uses cases ++ t)
         (default_text (body_pieces false other) (written_body uses false other) (body_pieces_text false other)))
 

@@ -13,7 +13,7 @@ ghost use Rattle.msg_extract.specs.Ascii.{is_ascii};
 ghost use Rattle.msg_extract.specs.TagNames.{begins_with_slash, ends_name, name_character, tag_prefix, upper_step};
 ghost use Rattle.msg_extract.specs.ViewItems.{view_item};
 
-use crate::ascii::{is_word, push_ascii};
+use crate::ascii::{empty, is_word, push_ascii};
 use crate::item::Item;
 use soy_base::{OutOfMemory, Text, first, push_char};
 use soy_tree::{Expr, ExprNode};
@@ -34,7 +34,7 @@ pub fn base_of_expr(alloc: Global, expr: &Expr) -> Result<Text, OutOfMemory>
 fn no_name(alloc: Global) -> Result<Text, OutOfMemory>
     ensures { IfOk result (λ t. t ≡ codes "XXX") }
 {
-    let mut base = String::new(alloc);
+    let mut base = empty(alloc);
     push_ascii(&mut base, "XXX")?;
     Ok(Text::new(base))
 }
@@ -54,7 +54,7 @@ pub fn base_of_print(alloc: Global, expr: &Expr, phname: &Option<Text>) -> Resul
 fn base_of_name(alloc: Global, name: &str) -> Result<Text, OutOfMemory>
     ensures { IfOk result (λ t. t ≡ base_of_name (chars name.now)) }
 {
-    let mut base = String::new(alloc);
+    let mut base = empty(alloc);
     let mut follows_lower = false;
     let mut rest = name;
     while let Some((c, after)) = first(rest) {
@@ -82,7 +82,7 @@ pub fn base_of_tag(alloc: Global, tag: &[Item<'_>]) -> Result<Text, OutOfMemory>
     ensures { IfOk result (λ t. t ≡ base_of_tag (map view_item tag.now)) }
 {
     let name = tag_name(alloc, tag)?;
-    let mut base = String::new(alloc);
+    let mut base = empty(alloc);
     push_ascii(&mut base, tag_prefix(tag, &name))?;
     push_shown(&mut base, &name)?;
     Ok(Text::new(base))
@@ -265,7 +265,7 @@ fn ends_name(c: char) -> bool
 fn leading_name(alloc: Global, items: &[Item<'_>]) -> Result<Text, OutOfMemory>
     ensures { IfOk result (λ t. t ≡ map to_ascii_lowercase (leading_name (map view_item items.now))) }
 {
-    let mut name = String::new(alloc);
+    let mut name = empty(alloc);
     for item in items {
         let Some(c) = name_character(*item) else {
             return Ok(Text::new(name));

@@ -9,6 +9,7 @@ ghost use Rattle.msg_extract.specs.Pieces.{pieces_text, uses_in};
 ghost use Rattle.msg_extract.specs.TextOfPiece.{piece_text};
 ghost use Rattle.msg_extract.specs.ViewPieces.{view_piece};
 
+use crate::ascii::empty;
 use crate::names::name_of;
 use crate::piece::{CodePiece, pieces_of};
 use sha2::{Digest, Sha256};
@@ -40,7 +41,7 @@ fn push_piece(
 pub fn text_of_pieces(alloc: Global, pieces: &[CodePiece<'_>]) -> Result<Text, OutOfMemory>
     ensures { IfOk result (λ t. t ≡ pieces_text (uses_in (map view_piece pieces.now)) (map view_piece pieces.now)) }
 {
-    let mut out = String::new(alloc);
+    let mut out = empty(alloc);
     for piece in pieces {
         push_piece(alloc, &mut out, pieces, piece)?;
     }

@@ -2,7 +2,6 @@
 
 ghost use Rattle.std.specs.Prelude.{◌≡◌, ◌+◌, [], map, length, IfOk, OnOk};
 ghost use Rattle.std.specs.List.{list_any};
-ghost use Rattle.std.specs.Fmt.{decimal};
 ghost use Rattle.std.specs.Str.{chars};
 ghost use Rattle.soy_tree.specs.Placeholders.{content_name, contents_after, free_number, has_base, is_same_content};
 ghost use Rattle.soy_tree.specs.Placeholders.{ExprContent, TagContent, name_of, numbered};
@@ -13,6 +12,7 @@ ghost use Rattle.msg_extract.specs.Pieces.{uses_in};
 ghost use Rattle.msg_extract.specs.ViewItems.{view_item};
 ghost use Rattle.msg_extract.specs.ViewPieces.{content_of, view_piece};
 
+use crate::ascii::{decimal, empty};
 use crate::item::Item;
 use crate::piece::{CodePiece, NameUse, Named, copied_items};
 use crate::same::{are_same_items, is_same_expr};
@@ -147,18 +147,11 @@ fn numbered_name(alloc: Global, base: &Text, number: u64) -> Result<Text, OutOfM
     ensures { IfOk result (λ name. name ≡ numbered_name base.now number) }
 {
     let digits = decimal(alloc, number)?;
-    let mut name = String::new(alloc);
+    let mut name = empty(alloc);
     push_text(&mut name, base.text())?;
     push_char(&mut name, '_')?;
     push_text(&mut name, digits.text())?;
     Ok(Text::new(name))
-}
-
-/// The digits of a number.
-fn decimal(alloc: Global, number: u64) -> Result<Text, OutOfMemory>
-    ensures { IfOk result (λ t. t ≡ decimal number) }
-{
-    Ok(Text::new(number.to_string(alloc)?))
 }
 
 /// The next number. One past those of `u64` would take more names than there is memory for.

@@ -1,7 +1,7 @@
 //! A message as texts and uses of names, in the order of its canonical text.
 
 ghost use Rattle.std.specs.Prelude.{◌≡◌, ◌∷◌, [], ◌++◌, false, true, codes, map, IfOk, OnOk};
-ghost use Rattle.std.specs.Fmt.{decimal, signed_decimal};
+ghost use Rattle.std.specs.Fmt.{signed_decimal};
 ghost use Rattle.soy_base.specs.Appends.{Appends};
 ghost use Rattle.soy_tree.specs.BaseNames.{base_of_expr};
 ghost use Rattle.soy_tree.specs.MessageText.{message_items, cuts_of};
@@ -14,7 +14,7 @@ ghost use Rattle.msg_extract.specs.Pieces.{plural_case_pieces, select_case_piece
 ghost use Rattle.msg_extract.specs.ViewItems.{view_cut};
 ghost use Rattle.msg_extract.specs.ViewPieces.{view_piece, view_use};
 
-use crate::ascii::push_ascii;
+use crate::ascii::{decimal, empty, push_ascii, signed_decimal};
 use crate::base_name::{base_of_expr, base_of_print, base_of_tag};
 use crate::cut::{MessageCut, cut};
 use crate::item::{Item, items_of};
@@ -60,7 +60,7 @@ pub fn pieces_of<'a>(
 
 /// Adds the pieces of a body.
 #[cycle(pieces)]
-#[tactic(auto, using(crate::proofs::PieceLists::append_assoc))]
+#[tactic(auto, using(crate::proofs::PieceLists::append_assoc, crate::proofs::PieceLists::six_added))]
 fn push_body<'a>(
     alloc: Global,
     pieces: &mut Row<CodePiece<'a>>,
@@ -142,7 +142,7 @@ fn push_word(alloc: Global, pieces: &mut Row<CodePiece<'_>>, word: &str) -> Resu
     requires { is_ascii word.now ≡ true }
     ensures { OnOk result (map view_piece pieces.new ≡ map view_piece pieces.old ++ TextPiece word.now ∷ []) }
 {
-    let mut text = String::new(alloc);
+    let mut text = empty(alloc);
     push_ascii(&mut text, word)?;
     push_piece(pieces, Text::new(text))
 }
@@ -156,7 +156,7 @@ fn push_offset(
     ensures { OnOk result (map view_piece pieces.new
         ≡ map view_piece pieces.old ++ TextPiece (codes ", plural, " ++ written_offset offset) ∷ []) }
 {
-    let mut text = String::new(alloc);
+    let mut text = empty(alloc);
     push_ascii(&mut text, ", plural, ")?;
     push_written_offset(alloc, &mut text, offset)?;
     push_piece(pieces, Text::new(text))
@@ -175,26 +175,12 @@ fn push_written_offset(alloc: Global, out: &mut String, offset: u64) -> Result<(
     push_ascii(out, " ")
 }
 
-/// The digits of an offset.
-fn decimal(alloc: Global, number: u64) -> Result<Text, OutOfMemory>
-    ensures { IfOk result (λ t. t ≡ decimal number) }
-{
-    Ok(Text::new(number.to_string(alloc)?))
-}
-
-/// The digits of a case's number.
-fn signed_decimal(alloc: Global, number: i64) -> Result<Text, OutOfMemory>
-    ensures { IfOk result (λ t. t ≡ signed_decimal number) }
-{
-    Ok(Text::new(number.to_string(alloc)?))
-}
-
 /// Adds the key of a plural's case.
 fn push_key(alloc: Global, pieces: &mut Row<CodePiece<'_>>, number: i64) -> Result<(), OutOfMemory>
     ensures { OnOk result (map view_piece pieces.new
         ≡ map view_piece pieces.old ++ TextPiece (codes "=" ++ (signed_decimal number ++ codes " {")) ∷ []) }
 {
-    let mut text = String::new(alloc);
+    let mut text = empty(alloc);
     push_ascii(&mut text, "=")?;
     let digits = signed_decimal(alloc, number)?;
     push_text(&mut text, digits.text())?;
@@ -211,7 +197,7 @@ fn push_case_word(
     ensures { OnOk result (map view_piece pieces.new
         ≡ map view_piece pieces.old ++ TextPiece (word.now ++ codes " {") ∷ []) }
 {
-    let mut text = String::new(alloc);
+    let mut text = empty(alloc);
     push_text(&mut text, word.text())?;
     push_ascii(&mut text, " {")?;
     push_piece(pieces, Text::new(text))

@@ -12,6 +12,7 @@ ghost use Rattle.msg_extract.specs.ViewItems.{view_item};
 ghost use Rattle.msg_extract.specs.ViewPieces.{role_of, view_piece};
 ghost use Rattle.msg_extract.specs.ViewPlaceholders.{view_begun, view_placeholder};
 
+use crate::ascii::empty;
 use crate::item::Item;
 use crate::names::name_of;
 use crate::piece::{CodePiece, Named, pieces_of};
@@ -89,7 +90,7 @@ fn with_character(
 {
     match begun {
         None => {
-            let mut text = String::new(alloc);
+            let mut text = empty(alloc);
             push_char(&mut text, c)?;
             Ok(Some(Begun { text, span }))
         }

@@ -7,6 +7,7 @@ ghost use Rattle.msg_extract.specs.QuotedRuns.{behind_apostrophe, is_run_after, 
 ghost use Rattle.msg_extract.specs.QuotedRuns.{written_step};
 ghost use Rattle.msg_extract.specs.ViewItems.{view_item};
 
+use crate::ascii::empty;
 use crate::item::Item;
 use soy_base::{OutOfMemory, Text, push_char};
 use std::alloc::Global;
@@ -16,7 +17,7 @@ use std::alloc::Global;
 pub fn quoted(alloc: Global, in_plural: bool, text: &[Item<'_>]) -> Result<Text, OutOfMemory>
     ensures { IfOk result (λ t. t ≡ written_text in_plural (text_of_items (map view_item text.now))) }
 {
-    let mut out = String::new(alloc);
+    let mut out = empty(alloc);
     let mut in_run = false;
     for item in text {
         in_run = push_item(&mut out, in_plural, in_run, *item)?;
