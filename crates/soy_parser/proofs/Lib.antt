@@ -1,0 +1,16 @@
+pub mod CommandRunning
+pub mod CommandsComplete
+pub mod CommandsSound
+pub mod ClosingText
+pub mod MessageItems
+pub mod CommandsEnd
+pub mod Admits
+pub mod FileRunning
+pub mod AttributesComplete
+pub mod Seam
+pub mod HeadsComplete
+pub mod Starts
+pub mod SeamComma
+pub mod TypeSeam
+pub mod HeadsRead
+pub mod Ints
