@@ -9,6 +9,7 @@ pub mod Pages
 pub mod ReadForm
 pub mod ReadLines
 pub mod Reading
+pub mod SourceTokens
 pub mod Spaces
 pub mod SpelledForm
 pub mod SpelledLines

@@ -27,3 +27,12 @@ Accepts answer (Err ending) = Refuses answer ending
 abbrev pub AcceptsPage : Answer → Result Page Ending → Type 0
 AcceptsPage answer (Ok page) = answer ≡ output_answer (view_page page)
 AcceptsPage answer (Err ending) = Refuses answer ending
+
+-- no template file has a fault, or the ending is the line of the first
+abbrev pub AcceptsSources : Option (List ℕ) → Result Unit Ending → Type 0
+AcceptsSources line (Ok done) = line ≡ None
+AcceptsSources line (Err ending) = RefusesLine line ending
+
+abbrev pub RefusesLine : Option (List ℕ) → Ending → Type 0
+RefusesLine None ending = ending ≡ ending.Memory
+RefusesLine (Some line) ending = Refuses (Refused line) ending

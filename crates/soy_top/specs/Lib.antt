@@ -15,6 +15,8 @@ pub mod FirstPage
 pub mod IsPage
 pub mod Line
 pub mod Output
+pub mod ReadsSource
+pub mod Sources
 pub mod Spells
 pub mod View
 pub mod ViewForm

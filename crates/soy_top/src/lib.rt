@@ -22,6 +22,7 @@ mod output;
 mod page;
 mod params;
 mod program;
+mod sources;
 mod status;
 mod text;
 mod wanted;
