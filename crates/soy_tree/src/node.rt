@@ -356,7 +356,7 @@ fn worded(
 impl MessageBody {
     /// An equal body.
     #[cycle(copying_nodes)]
-    fn copy(&self, alloc: Global) -> Result<MessageBody, OutOfMemory>
+    pub fn copy(&self, alloc: Global) -> Result<MessageBody, OutOfMemory>
         ensures { IfOk result (λ b. b ≡ self.now) }
     {
         match self {
