@@ -13,4 +13,16 @@ pub mod Starts
 pub mod SeamComma
 pub mod TypeSeam
 pub mod HeadsRead
+pub mod FilesComplete
+pub mod WrittenTokens
+pub mod HeadsBegun
+pub mod FilesSound
+pub mod HeadsEnd
+pub mod AdmittedSteps
+pub mod FilesExact
+pub mod FileMachine
+pub mod FileReads
+pub mod FileAnswers
 pub mod Ints
+pub mod Cases
+pub mod Literals

@@ -5,10 +5,11 @@ ghost use Rattle.soy_parser.specs.CommandSteps.{adds, arm_goes_on, begins, begin
 ghost use Rattle.soy_parser.specs.CommandSteps.{case_goes_on, closed_body, closed_if, closed_switch, closed_template};
 ghost use Rattle.soy_parser.specs.CommandSteps.{closes_body, state, with_arm, with_case, with_param};
 ghost use Rattle.soy_parser.specs.Nodes.{argument_of, node_of};
+ghost use Rattle.soy_parser.specs.SpellsTree.{template_of};
 ghost use Rattle.soy_parser.specs.declared.block.Content.TheVariants as content;
 
 use crate::block::{Block, CommandState, Content, Nodes, OpenIf, OpenSwitch, OpenTemplate};
-use crate::command::Middle;
+use crate::command::{Middle, TemplateHead};
 use crate::nodes::{joined, up_to, with_node};
 use crate::terminal::BlockName;
 use soy_base::{OutOfMemory, Row, Seq, Span, Stack, Text};
@@ -129,15 +130,40 @@ fn block_goes_on(
     ensures { IfOk result (λ to. to ≡ body_goes_on (block ∷ blocks) nodes of) }
 {
     match block {
-        Block::Arm(part, when) => arm_goes_on(alloc, blocks, part.with_arm(when, nodes)?, of),
-        Block::Case(part, values) => case_goes_on(
-            alloc,
-            blocks,
-            part.with_case(values, nodes)?,
-            of,
-        ),
+        Block::Arm(part, when) => arm_ends(alloc, blocks, part, when, nodes, of),
+        Block::Case(part, values) => case_ends(alloc, blocks, part, values, nodes, of),
         _ => Ok(None),
     }
+}
+
+/// An arm of an if ends, and the if goes on.
+fn arm_ends(
+    alloc: Global,
+    blocks: Stack<Block>,
+    part: OpenIf,
+    when: Expr,
+    nodes: Row<Node>,
+    of: Middle,
+) -> Result<Option<CommandState>, OutOfMemory>
+    ensures { IfOk result (λ to. to ≡ arm_goes_on blocks (with_arm part when nodes) of) }
+{
+    let part = part.with_arm(when, nodes)?;
+    arm_goes_on(alloc, blocks, part, of)
+}
+
+/// A case of a switch ends, and the switch goes on.
+fn case_ends(
+    alloc: Global,
+    blocks: Stack<Block>,
+    part: OpenSwitch,
+    values: Row<Expr>,
+    nodes: Row<Node>,
+    of: Middle,
+) -> Result<Option<CommandState>, OutOfMemory>
+    ensures { IfOk result (λ to. to ≡ case_goes_on blocks (with_case part values nodes) of) }
+{
+    let part = part.with_case(values, nodes)?;
+    case_goes_on(alloc, blocks, part, of)
 }
 
 /// An if goes on.
@@ -296,17 +322,31 @@ fn closed_template(
 ) -> Result<Option<CommandState>, OutOfMemory>
     ensures { IfOk result (λ to. to ≡ closed_template blocks template body end) }
 {
-    let mut templates = template.templates;
-    templates.push(Template {
-        name: template.head.name,
-        kind: template.head.kind,
-        private: template.head.private,
-        params: template.params.done(),
-        body: body.done(),
-        span: up_to(template.start, end),
-    })?;
+    let OpenTemplate {
+        namespace,
+        templates,
+        head,
+        start,
+        params,
+    } = template;
+    let mut templates = templates;
+    templates.push(template_of(head, params, body, up_to(start, end)))?;
     Ok(Some(CommandState {
         blocks,
-        content: Content::Templates(template.namespace, templates),
+        content: Content::Templates(namespace, templates),
     }))
+}
+
+/// The template of these parts.
+fn template_of(head: TemplateHead, params: Row<Param>, body: Row<Node>, span: Span) -> Template
+    ensures { result ≡ template_of head params body span }
+{
+    Template {
+        name: head.name,
+        kind: head.kind,
+        private: head.private,
+        params: params.done(),
+        body: body.done(),
+        span,
+    }
 }

@@ -4,7 +4,8 @@ ghost use Rattle.std.specs.Prelude.{◌≡◌, ◌∷◌, IfOk};
 ghost use Rattle.soy_parser.specs.CommandSteps.{argument_opens, argument_single, arguments_step, before_cases_step};
 ghost use Rattle.soy_parser.specs.CommandSteps.{body_step, cases_begin, closed_bare_switch, closed_call};
 ghost use Rattle.soy_parser.specs.CommandSteps.{command_start, command_step, head_param_step, opening_step};
-ghost use Rattle.soy_parser.specs.CommandSteps.{single_step, state, template_opens, templates_step, white_step};
+ghost use Rattle.soy_parser.specs.CommandSteps.{single_step, state, template_opens, templates_step, white_step, with_text};
+ghost use Rattle.soy_parser.specs.declared.block.Content.TheVariants as content;
 
 use crate::block::{
     Block, CommandState, Content, Nodes, OpenIf, OpenMessage, OpenPlural, OpenSelect, OpenSwitch,
@@ -44,7 +45,7 @@ impl CommandState {
         let CommandState { blocks, content } = self;
         let Command { tag, span } = command;
         match content {
-            Content::White => Ok(white(alloc, blocks, tag)),
+            Content::White => Ok(white(alloc, blocks, Command { tag, span })),
             Content::Templates(namespace, templates) => between_templates(
                 alloc, blocks, namespace, templates, tag, span,
             ),
@@ -58,10 +59,10 @@ impl CommandState {
 }
 
 /// Before the namespace.
-fn white(alloc: Global, blocks: Stack<Block>, tag: Tag) -> Option<CommandState>
-    ensures { (span : Span) → result ≡ white_step blocks tag span }
+fn white(alloc: Global, blocks: Stack<Block>, command: Command) -> Option<CommandState>
+    ensures { result ≡ white_step blocks command.tag command.span }
 {
-    match tag {
+    match command.tag {
         Tag::Text(text) => {
             if is_white(&text) {
                 Some(CommandState {
@@ -144,10 +145,8 @@ fn body(
     ensures { IfOk result (λ to. to ≡ body_step blocks nodes tag span) }
 {
     match tag {
-        Tag::Text(text) | Tag::Character(text) => Ok(Some(CommandState {
-            blocks,
-            content: Content::Body(nodes.with_text(text, span)?),
-        })),
+        Tag::Text(text) => text_in_body(blocks, nodes, text, span),
+        Tag::Character(text) => text_in_body(blocks, nodes, text, span),
         Tag::Namespace(_) => Ok(None),
         Tag::HeadParam(name, required, of) => {
             if nodes.is_empty() {
@@ -167,6 +166,22 @@ fn body(
         Tag::GoesOn(of) => body_goes_on(alloc, blocks, nodes.ended()?, of),
         Tag::Closes(name) => body_closes(blocks, nodes.ended()?, name, span),
     }
+}
+
+/// A text of a body has come.
+fn text_in_body(
+    blocks: Stack<Block>,
+    nodes: Nodes,
+    text: Text,
+    span: Span,
+) -> Result<Option<CommandState>, OutOfMemory>
+    ensures { IfOk result (λ to. to ≡ state blocks (content.Body (with_text nodes text span))) }
+{
+    let nodes = nodes.with_text(text, span)?;
+    Ok(Some(CommandState {
+        blocks,
+        content: Content::Body(nodes),
+    }))
 }
 
 /// A parameter, at the head of a template.

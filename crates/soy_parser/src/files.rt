@@ -4,6 +4,8 @@ ghost use Rattle.std.specs.Prelude.{◌≡◌, IfOk};
 ghost use Rattle.soy_parser.specs.FileSteps.{bare_expr, bare_opens, between_step, case_opens, ended_command};
 ghost use Rattle.soy_parser.specs.FileSteps.{file_start, file_step, opened_step, opens_if, print_opens, print_use};
 ghost use Rattle.soy_parser.specs.FileSteps.{depth_in, stands, taken, tree_of, unknown_in, whole_file};
+ghost use Rattle.expr_parser.specs.ExprRuns.{expr_start};
+ghost use Rattle.soy_parser.specs.declared.spot.Spot.TheVariants as spot;
 ghost use Rattle.soy_parser.specs.declared.terminal.CommandTerminal.TheVariants as terminal;
 
 use crate::attributes::Attributes;
@@ -196,41 +198,63 @@ fn opened_word(
 ) -> Result<Option<FileState>, OutOfMemory>
     ensures { IfOk result (λ to. to ≡ opened_step commands from token.now (terminal.Word word)) }
 {
-    let (kind, spot) = match word {
-        CommandWord::Namespace => (
-            HeadKind::Namespace,
-            Spot::DottedName(DottedUse::Namespace, Text::empty(alloc)),
-        ),
-        CommandWord::Template => (HeadKind::Template, Spot::Template),
-        CommandWord::If => (HeadKind::If, Spot::Expr(Use::If, ExprState::start(alloc))),
-        CommandWord::ElseIf => (
-            HeadKind::ElseIf,
-            Spot::Expr(Use::ElseIf, ExprState::start(alloc)),
-        ),
-        CommandWord::Switch => (
-            HeadKind::Switch,
-            Spot::Expr(Use::Switch, ExprState::start(alloc)),
-        ),
-        CommandWord::Plural => (
-            HeadKind::Plural,
-            Spot::Expr(Use::Plural, ExprState::start(alloc)),
-        ),
-        CommandWord::Select => (
-            HeadKind::Select,
-            Spot::Expr(Use::Select, ExprState::start(alloc)),
-        ),
-        CommandWord::For => (HeadKind::For, Spot::For),
-        CommandWord::Let => (HeadKind::Let, Spot::Let),
-        CommandWord::Call => (HeadKind::Call, Spot::Call),
-        CommandWord::Param => (HeadKind::Param, Spot::Param),
-        CommandWord::Print => return Ok(print_opens(alloc, commands, from)),
-        CommandWord::Case => return Ok(case_opens(alloc, commands, from)),
+    match word {
+        CommandWord::Namespace => {
+            let spot = Spot::DottedName(DottedUse::Namespace, Text::empty(alloc));
+            Ok(opens_if(commands, from, HeadKind::Namespace, spot))
+        }
+        CommandWord::Template => Ok(opens_if(commands, from, HeadKind::Template, Spot::Template)),
+        CommandWord::If => { Ok(opens_if(commands, from, HeadKind::If, in_expr(alloc, Use::If))) }
+        CommandWord::ElseIf => {
+            Ok(opens_if(
+                commands,
+                from,
+                HeadKind::ElseIf,
+                in_expr(alloc, Use::ElseIf),
+            ))
+        }
+        CommandWord::Switch => {
+            Ok(opens_if(
+                commands,
+                from,
+                HeadKind::Switch,
+                in_expr(alloc, Use::Switch),
+            ))
+        }
+        CommandWord::Plural => {
+            Ok(opens_if(
+                commands,
+                from,
+                HeadKind::Plural,
+                in_expr(alloc, Use::Plural),
+            ))
+        }
+        CommandWord::Select => {
+            Ok(opens_if(
+                commands,
+                from,
+                HeadKind::Select,
+                in_expr(alloc, Use::Select),
+            ))
+        }
+        CommandWord::For => Ok(opens_if(commands, from, HeadKind::For, Spot::For)),
+        CommandWord::Let => Ok(opens_if(commands, from, HeadKind::Let, Spot::Let)),
+        CommandWord::Call => Ok(opens_if(commands, from, HeadKind::Call, Spot::Call)),
+        CommandWord::Param => Ok(opens_if(commands, from, HeadKind::Param, Spot::Param)),
+        CommandWord::Print => Ok(print_opens(alloc, commands, from)),
+        CommandWord::Case => Ok(case_opens(alloc, commands, from)),
         _ => {
             let head = Head::bare(alloc, CommandTerminal::Word(word))?;
-            return bare_opens(alloc, commands, from, head, token);
+            bare_opens(alloc, commands, from, head, token)
         }
-    };
-    Ok(opens_if(commands, from, kind, spot))
+    }
+}
+
+/// Where an expression is expected.
+fn in_expr(alloc: Global, of: Use) -> Spot
+    ensures { result ≡ spot.Expr of expr_start }
+{
+    Spot::Expr(of, ExprState::start(alloc))
 }
 
 /// What an expression is for that begins a command, where a print may stand.
@@ -251,7 +275,7 @@ fn print_opens(alloc: Global, commands: CommandState, from: Span) -> Option<File
     ensures { result ≡ print_opens commands from (print_use commands) }
 {
     match print_use(&commands) {
-        Some(of) => stands(commands, from, Spot::Expr(of, ExprState::start(alloc))),
+        Some(of) => stands(commands, from, in_expr(alloc, of)),
         None => None,
     }
 }
@@ -261,8 +285,7 @@ fn case_opens(alloc: Global, commands: CommandState, from: Span) -> Option<FileS
     ensures { result ≡ case_opens commands from }
 {
     if commands.admits(HeadKind::Case) {
-        let of = Use::Case(Row::empty(alloc));
-        stands(commands, from, Spot::Expr(of, ExprState::start(alloc)))
+        stands(commands, from, in_expr(alloc, Use::Case(Row::empty(alloc))))
     } else if commands.admits(HeadKind::PluralCase) {
         stands(commands, from, Spot::IntValue(Row::empty(alloc)))
     } else {

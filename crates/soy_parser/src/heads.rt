@@ -5,6 +5,7 @@ ghost use Rattle.soy_parser.specs.FileSteps.{head_of};
 ghost use Rattle.soy_parser.specs.Heads.{allows, attribute_name, kind_named, no_attributes, plain_tag, slash_tag, tag_at};
 ghost use Rattle.soy_parser.specs.Heads.{template_tag, with_attribute, with_kind, with_offset, with_phname};
 ghost use Rattle.soy_parser.specs.SpellsHead.{bare_head};
+ghost use Rattle.soy_parser.specs.declared.command.Opening.TheVariants as opening;
 ghost use Rattle.soy_parser.specs.declared.command.Tag.TheVariants as tag;
 ghost use Rattle.soy_parser.specs.declared.head.Head.TheVariants as head;
 ghost use Rattle.soy_parser.specs.declared.terminal.CommandTerminal.TheVariants as terminal;
@@ -54,6 +55,7 @@ impl Attributes {
     }
 
     /// The attributes with one more, or none where the value isn't allowed there.
+    #[tactic(auto, using(crate::proofs::Literals::chars_private, crate::proofs::Literals::chars_all))]
     pub(crate) fn with(
         self,
         alloc: Global,
@@ -150,6 +152,7 @@ impl Attributes {
 }
 
 /// The kind of a block that a value names.
+#[tactic(auto, using(crate::proofs::Literals::chars_html, crate::proofs::Literals::chars_attributes, crate::proofs::Literals::chars_text))]
 fn kind_named(value: &Text) -> Option<Kind>
     ensures { result ≡ kind_named value.now }
 {
@@ -197,7 +200,7 @@ impl Head {
         match terminal {
             CommandTerminal::End => self.plain_tag(alloc, attributes),
             CommandTerminal::SlashEnd => self.slash_tag(attributes),
-            _ => None,
+            _ => no_tag(self, attributes),
         }
     }
 
@@ -212,32 +215,15 @@ impl Head {
             Head::MessagePrint(expr) => {
                 Some(Tag::Single(Single::MessagePrint(expr, attributes.phname)))
             }
-            Head::Let(name) => match attributes.kind {
-                Some(kind) => Some(Tag::Opens(Opening::Let(name, kind))),
-                None => None,
-            },
-            Head::Param(name) => match attributes.kind {
-                Some(kind) => Some(Tag::Opens(Opening::Param(name, kind))),
-                None => None,
-            },
+            Head::Let(name) => let_tag(name, attributes.kind),
+            Head::Param(name) => param_tag(name, attributes.kind),
             Head::Call(name) => Some(Tag::Opens(Opening::Call(name, attributes.all))),
-            Head::Message => match attributes.desc {
-                Some(desc) => {
-                    let meaning = or_empty(alloc, attributes.meaning);
-                    Some(Tag::Opens(Opening::Message(desc, meaning)))
-                }
-                None => None,
-            },
-            Head::Fallback => match attributes.desc {
-                Some(desc) => {
-                    let meaning = or_empty(alloc, attributes.meaning);
-                    Some(Tag::GoesOn(Middle::Fallback(desc, meaning)))
-                }
-                None => None,
-            },
-            Head::Plural(selector) => {
-                Some(Tag::Opens(Opening::Plural(selector, attributes.offset.unwrap_or(0))))
-            }
+            Head::Message => message_tag(alloc, attributes),
+            Head::Fallback => fallback_tag(alloc, attributes),
+            Head::Plural(selector) => Some(Tag::Opens(Opening::Plural(
+                selector,
+                attributes.offset.unwrap_or(0),
+            ))),
         }
     }
 
@@ -313,6 +299,57 @@ impl Head {
     }
 }
 
+/// A command that has no such end.
+fn no_tag(head: Head, attributes: Attributes) -> Option<Tag>
+    ensures { result ≡ None }
+{
+    drop(head);
+    drop(attributes);
+    None
+}
+
+/// What a let with a block says, if its kind is there.
+fn let_tag(name: Text, kind: Option<Kind>) -> Option<Tag>
+    ensures { result ≡ option_map (λ kind. tag.Opens (opening.Let name kind)) kind }
+{
+    match kind {
+        Some(kind) => Some(Tag::Opens(Opening::Let(name, kind))),
+        None => None,
+    }
+}
+
+/// What a param with a block says, if its kind is there.
+fn param_tag(name: Text, kind: Option<Kind>) -> Option<Tag>
+    ensures { result ≡ option_map (λ kind. tag.Opens (opening.Param name kind)) kind }
+{
+    match kind {
+        Some(kind) => Some(Tag::Opens(Opening::Param(name, kind))),
+        None => None,
+    }
+}
+
+/// What a message says, if its `desc` is there.
+fn message_tag(alloc: Global, attributes: Attributes) -> Option<Tag>
+    ensures { result ≡ plain_tag head.Message attributes }
+{
+    let Attributes { desc, meaning, .. } = attributes;
+    match desc {
+        Some(desc) => Some(Tag::Opens(Opening::Message(desc, or_empty(alloc, meaning)))),
+        None => None,
+    }
+}
+
+/// What a fallback says, if its `desc` is there.
+fn fallback_tag(alloc: Global, attributes: Attributes) -> Option<Tag>
+    ensures { result ≡ plain_tag head.Fallback attributes }
+{
+    let Attributes { desc, meaning, .. } = attributes;
+    match desc {
+        Some(desc) => Some(Tag::GoesOn(Middle::Fallback(desc, or_empty(alloc, meaning)))),
+        None => None,
+    }
+}
+
 /// What the opening command of a template says.
 fn template_tag(name: Text, attributes: Attributes) -> Tag
     ensures { result ≡ template_tag name attributes }
@@ -336,7 +373,7 @@ fn or_empty(alloc: Global, text: Option<Text>) -> Text
 
 /// A character command.
 fn character(alloc: Global, c: char) -> Result<Option<Head>, OutOfMemory>
-    ensures { IfOk result (λ head. head ≡ Some (head.Whole (tag.Character (c ∷ [])))) }
+    ensures { IfOk result (λ found. found ≡ Some (head.Whole (tag.Character (c ∷ [])))) }
 {
     let mut text = String::new(alloc);
     push_char(&mut text, c)?;

@@ -6,7 +6,7 @@
 //! soy_tree and expr_parser.
 #![tactic(auto)]
 
-mod admits;
+mod admission;
 mod attributes;
 mod block;
 mod blocks;
@@ -17,7 +17,7 @@ mod head;
 mod heads;
 mod messages;
 mod nodes;
-mod parse;
+mod reading;
 mod spot;
 mod spots;
 mod terminal;
@@ -30,7 +30,7 @@ pub use block::{
 };
 pub use command::{Command, Middle, Opening, Single, Tag, TemplateHead};
 pub use head::{Head, HeadKind};
-pub use parse::parse;
+pub use reading::parse;
 pub use spot::{CommandSpot, DottedUse, FileState, Spot, Use};
 pub use terminal::{BlockName, CommandTerminal, CommandWord};
 

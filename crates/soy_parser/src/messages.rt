@@ -176,15 +176,45 @@ fn block_message_goes_on(
     match block {
         Block::Message(message) => fallback_begins(alloc, blocks, message, body, of, span),
         Block::PluralCase(part, values) => {
-            let part = part.with_cases(alloc, values.items(), body)?;
-            plural_goes_on(alloc, blocks, part, of)
+            plural_case_ends(alloc, blocks, part, values, body, of)
         }
-        Block::SelectCase(part, values) => {
-            let part = part.with_cases(alloc, values.items(), body)?;
-            select_goes_on(alloc, blocks, part, of)
+        Block::SelectCase(part, words) => { select_case_ends(alloc, blocks, part, words, body, of) }
+        _ => {
+            drop(body);
+            drop(of);
+            Ok(None)
         }
-        _ => Ok(None),
     }
+}
+
+/// A case of a plural ends, and the plural goes on.
+fn plural_case_ends(
+    alloc: Global,
+    blocks: Stack<Block>,
+    part: OpenPlural,
+    values: Row<i64>,
+    body: MessageBody,
+    of: Middle,
+) -> Result<Option<CommandState>, OutOfMemory>
+    ensures { IfOk result (λ to. to ≡ plural_goes_on blocks (with_plural_cases part values body) of) }
+{
+    let part = part.with_cases(alloc, values.items(), body)?;
+    plural_goes_on(alloc, blocks, part, of)
+}
+
+/// A case of a select ends, and the select goes on.
+fn select_case_ends(
+    alloc: Global,
+    blocks: Stack<Block>,
+    part: OpenSelect,
+    words: Row<Text>,
+    body: MessageBody,
+    of: Middle,
+) -> Result<Option<CommandState>, OutOfMemory>
+    ensures { IfOk result (λ to. to ≡ select_goes_on blocks (with_select_cases part words body) of) }
+{
+    let part = part.with_cases(alloc, words.items(), body)?;
+    select_goes_on(alloc, blocks, part, of)
 }
 
 /// The fallback of a message begins.
@@ -249,6 +279,7 @@ pub(crate) fn select_goes_on(
 
 impl OpenPlural {
     /// The plural with a case for each of the values.
+    #[tactic(auto, using(crate::proofs::Cases::plural_cases_last))]
     fn with_cases(
         self,
         alloc: Global,
@@ -289,6 +320,7 @@ fn with_plural_copies(
 
 impl OpenSelect {
     /// The select with a case for each of the words.
+    #[tactic(auto, using(crate::proofs::Cases::select_cases_last))]
     fn with_cases(
         self,
         alloc: Global,
@@ -353,14 +385,28 @@ fn message_closes(
 {
     let mut blocks = blocks;
     match blocks.pop() {
-        Some(block) => {
-            if closes_message(&block, name) {
-                closed_message(alloc, blocks, block, body, end)
-            } else {
-                Ok(None)
-            }
-        }
+        Some(block) => block_message_closes(alloc, blocks, block, body, name, end),
         None => Ok(None),
+    }
+}
+
+/// A command that closes this block of a message.
+fn block_message_closes(
+    alloc: Global,
+    blocks: Stack<Block>,
+    block: Block,
+    body: MessageBody,
+    name: BlockName,
+    end: Span,
+) -> Result<Option<CommandState>, OutOfMemory>
+    ensures { IfOk result (λ to. to ≡ message_closes (block ∷ blocks) body name end) }
+{
+    if closes_message(&block, name) {
+        closed_message(alloc, blocks, block, body, end)
+    } else {
+        drop(block);
+        drop(body);
+        Ok(None)
     }
 }
 

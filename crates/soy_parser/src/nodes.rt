@@ -2,13 +2,14 @@
 
 ghost use Rattle.std.specs.Prelude.{◌≡◌, ◌++◌, ◌∷◌, [], IfOk, Some};
 ghost use Rattle.expr_parser.specs.Operands.{joined};
+ghost use Rattle.soy_base.specs.WhiteSpace.{is_template_space};
 ghost use Rattle.soy_parser.specs.CommandSteps.{ended, has_whole_tags, is_empty, is_white, no_nodes, text_run, with_text};
 ghost use Rattle.soy_parser.specs.CommandSteps.{parts_of};
 ghost use Rattle.soy_parser.specs.Nodes.{node_of, text_span, up_to};
 
 use crate::block::{Nodes, TextRun};
 use soy_base::{OutOfMemory, Row, Span, Text, is_template_space};
-use soy_tree::{Form, MessageBody, Node};
+use soy_tree::{Form, MessageBody, Node, is_message_text, is_message_text_with};
 use std::alloc::Global;
 
 /// From the start of one span to the end of the other.
@@ -35,22 +36,26 @@ pub(crate) fn up_to(from: Span, to: Span) -> Span
 pub(crate) fn is_white(text: &Text) -> bool
     ensures { result ≡ is_white text.now }
 {
-    text.text().chars().all(is_template_space)
+    text.text().chars().all(is_space)
+}
+
+fn is_space(c: char) -> bool
+    ensures { result ≡ is_template_space c }
+{
+    is_template_space(c)
 }
 
 /// Where two neighbouring texts stand as one.
+#[tactic(auto, using(crate::proofs::Cases::text_start_by_empty))]
 fn text_span(text: &Text, more: &Text, a: Span, b: Span) -> Span
     ensures { result ≡ text_span text.now more.now a b }
 {
-    let begins = if text.is_empty() && !more.is_empty() {
-        b
+    let start = if text.is_empty() && !more.is_empty() {
+        b.start
     } else {
-        a
+        a.start
     };
-    Span {
-        start: begins.start,
-        end: b.end,
-    }
+    Span { start, end: b.end }
 }
 
 impl TextRun {
@@ -77,6 +82,7 @@ impl Nodes {
     }
 
     /// Whether nothing was read.
+    #[tactic(auto, using(crate::proofs::Cases::empty_by_length))]
     pub(crate) fn is_empty(&self) -> bool
         ensures { result ≡ is_empty self.now }
     {
@@ -90,7 +96,10 @@ impl Nodes {
     pub(crate) fn has_whole_tags(&self) -> bool
         ensures { result ≡ has_whole_tags self.now }
     {
-        true
+        match &self.run {
+            None => is_message_text(self.items.items()),
+            Some(run) => is_message_text_with(self.items.items(), &run.text),
+        }
     }
 
     /// The nodes with one more text.

@@ -1,6 +1,6 @@
 //! What a token does in a command, by where its reading stands.
 
-ghost use Rattle.std.specs.Prelude.{◌≡◌, ◌++◌, ◌∷◌, [], IfOk, Some};
+ghost use Rattle.std.specs.Prelude.{◌≡◌, ◌++◌, ◌∷◌, [], IfOk, Some, None, if◌then◌else◌};
 ghost use Rattle.expr_parser.specs.ExprRuns.{expr_start};
 ghost use Rattle.expr_parser.specs.ExprSteps.{expr_step};
 ghost use Rattle.expr_parser.specs.TypeRuns.{type_start};
@@ -10,6 +10,7 @@ ghost use Rattle.soy_parser.specs.FileSteps.{dotted_step, for_in_step, head_done
 ghost use Rattle.soy_parser.specs.FileSteps.{in_expr, in_type, let_colon_step, next_value, param_colon_step, spot_step};
 ghost use Rattle.soy_parser.specs.FileSteps.{dotted_head, if_colon, if_equals, if_in, stands, template_step, value_step};
 ghost use Rattle.soy_parser.specs.CommandTerminals.{command_terminal_of};
+ghost use Rattle.soy_parser.specs.Heads.{allows};
 ghost use Rattle.soy_parser.specs.declared.spot.Spot.TheVariants as spot;
 ghost use Rattle.soy_parser.specs.declared.spot.Use.TheVariants as use_;
 
@@ -74,7 +75,8 @@ pub(crate) fn inside(
             attributes_go_on(alloc, commands, from, head, attributes, token)
         }
         Spot::Equals(head, attributes, name) => {
-            Ok(equals(commands, from, head, attributes, name, terminal))
+            let to = stands(commands, from, Spot::Value(head, attributes, name));
+            Ok(equals(terminal, to))
         }
         Spot::Value(head, attributes, name) => {
             value(
@@ -635,13 +637,7 @@ fn attributes_go_on(
 {
     let terminal = CommandTerminal::of(token);
     match AttributeName::of(terminal) {
-        Some(name) => {
-            if head.allows(&attributes, name) {
-                Ok(stands(commands, from, Spot::Equals(head, attributes, name)))
-            } else {
-                Ok(None)
-            }
-        }
+        Some(name) => Ok(attribute(commands, from, head, attributes, name)),
         None => {
             let tag = head.tag(alloc, attributes, terminal);
             ended_command(alloc, commands, from, tag, token)
@@ -649,19 +645,36 @@ fn attributes_go_on(
     }
 }
 
-/// After the name of an attribute.
-fn equals(
+/// Another attribute, if it is allowed.
+fn attribute(
     commands: CommandState,
     from: Span,
     head: Head,
     attributes: Attributes,
     name: AttributeName,
-    terminal: CommandTerminal,
 ) -> Option<FileState>
-    ensures { result ≡ if_equals terminal (stands commands from (spot.Value head attributes name)) }
+    ensures { result ≡ (if allows head attributes name then stands commands from (spot.Equals head attributes name) else None) }
+{
+    let allowed = head.allows(&attributes, name);
+    only_if(
+        allowed,
+        stands(commands, from, Spot::Equals(head, attributes, name)),
+    )
+}
+
+/// The state, if it may be reached.
+fn only_if(holds: bool, to: Option<FileState>) -> Option<FileState>
+    ensures { result ≡ (if holds then to else None) }
+{
+    if holds { to } else { None }
+}
+
+/// After the name of an attribute.
+fn equals(terminal: CommandTerminal, to: Option<FileState>) -> Option<FileState>
+    ensures { result ≡ if_equals terminal to }
 {
     match terminal {
-        CommandTerminal::Equals => stands(commands, from, Spot::Value(head, attributes, name)),
+        CommandTerminal::Equals => to,
         _ => None,
     }
 }

@@ -30,7 +30,7 @@ fn digits_value(digits: &str) -> Option<u64>
         if !c.is_ascii_digit() {
             return None;
         }
-        value = 10 * value + (c as u64 - '0' as u64);
+        value = 10 * value + (c as u32 - '0' as u32) as u64;
         if value > LARGEST_INT {
             return None;
         }
@@ -39,6 +39,7 @@ fn digits_value(digits: &str) -> Option<u64>
 }
 
 /// Whether a text is a word of a select's case.
+#[tactic(auto, using(crate::proofs::Literals::chars_other))]
 pub(crate) fn is_case_word(word: &Text) -> bool
     ensures { result ≡ is_case_word word.now }
 {

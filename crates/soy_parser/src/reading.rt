@@ -5,7 +5,7 @@ ghost use Rattle.expr_parser.specs.Depths.{is_within};
 ghost use Rattle.expr_parser.specs.TypeTerminals.{is_less, type_terminal_of};
 ghost use Rattle.soy_parser.specs.FileReading.{file_answer, reading_file};
 ghost use Rattle.soy_parser.specs.FileSteps.{depth_in, file_start};
-ghost use Rattle.soy_parser.specs.ReadsFile.{ReadsFile};
+ghost use Rattle.soy_parser.specs.ParsesFile.{ParsesFile};
 
 use crate::spot::FileState;
 use soy_base::{Code, Fault, OutOfMemory, Refusal};
@@ -23,6 +23,7 @@ fn is_within(blocks: usize, to: &FileState) -> bool
 }
 
 /// Whether a token is a `<`.
+#[tactic(auto, using(crate::proofs::Literals::less_by_text))]
 fn is_less(token: &Token) -> bool
     ensures { result ≡ is_less (type_terminal_of token.now) }
 {
@@ -87,7 +88,7 @@ fn read(alloc: Global, tokens: &[Token], file: u32) -> Result<Result<Tree, Fault
 /// depth is over 64; or 8 at the first word that stands as a type and names none. The first in the order of the tokens;
 /// at one token 4, then 5, then 8.
 pub fn parse(alloc: Global, tokens: &[Token], file: u32) -> Result<Tree, Refusal<Fault>>
-    ensures { ReadsFile file tokens.now result }
+    ensures { ParsesFile file tokens.now result }
 {
     match read(alloc, tokens, file)? {
         Ok(tree) => Ok(tree),

@@ -1,7 +1,7 @@
 use Rattle.std.proofs.Common.{◌≡◌, drop}
 use Rattle.soy_parser.specs.FileReading.{reading_file}
 use Rattle.soy_parser.specs.FileSteps.{file_start}
-use Rattle.soy_parser.proofs.parse.read.Given as goal
+use Rattle.soy_parser.proofs.reading.read.Given as goal
 
 -- the rest is read as the whole is
 abbrev pub invariant-loop-token : goal.invariant-loop-token
