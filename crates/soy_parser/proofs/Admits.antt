@@ -1,5 +1,5 @@
 -- A command has a step only where its head is admitted.
-use Rattle.std.proofs.Common.{◌≡◌, ℕ, Bool, true, false, List, [], ◌∷◌, ◌++◌, Option, Some, None, refl, sym, ◌∙◌, ap, subst}
+use Rattle.std.proofs.Common.{◌≡◌, Bool, true, false, List, [], ◌∷◌, Option, Some, None, refl}
 use Rattle.std.specs.Prelude.{if◌then◌else◌, ◌&&◌}
 use Rattle.soy_base.specs.declared.fault.Span.{Span}
 use Rattle.soy_tree.specs.declared.node.MessageBody.{MessageBody}
@@ -11,27 +11,23 @@ use Rattle.soy_parser.specs.declared.block.CommandState.{CommandState}
 use Rattle.soy_parser.specs.declared.block.Content.{Content}
 use Rattle.soy_parser.specs.declared.block.Content.TheVariants as content
 use Rattle.soy_parser.specs.declared.block.Nodes.{Nodes}
-use Rattle.soy_parser.specs.declared.block.OpenIf.{OpenIf}
-use Rattle.soy_parser.specs.declared.block.OpenSwitch.{OpenSwitch}
-use Rattle.soy_parser.specs.declared.block.OpenPlural.{OpenPlural}
-use Rattle.soy_parser.specs.declared.block.OpenSelect.{OpenSelect}
 use Rattle.soy_parser.specs.declared.command.Middle.{Middle}
 use Rattle.soy_parser.specs.declared.command.Middle.TheVariants as middle
-use Rattle.soy_parser.specs.declared.command.Opening.{Opening}
 use Rattle.soy_parser.specs.declared.command.Opening.TheVariants as opening
-use Rattle.soy_parser.specs.declared.command.Single.{Single}
 use Rattle.soy_parser.specs.declared.command.Single.TheVariants as single
 use Rattle.soy_parser.specs.declared.command.Tag.{Tag}
 use Rattle.soy_parser.specs.declared.command.Tag.TheVariants as tag
-use Rattle.soy_parser.specs.declared.head.HeadKind.{HeadKind}
 use Rattle.soy_parser.specs.declared.head.HeadKind.TheVariants as kind
 use Rattle.soy_parser.specs.declared.terminal.BlockName.{BlockName}
 use Rattle.soy_parser.specs.declared.terminal.BlockName.TheVariants as name
-use Rattle.soy_parser.specs.CommandSteps.{ended, is_empty, closes_body, closed_body, body_closes, body_goes_on, single_step, opening_step}
-use Rattle.soy_parser.specs.CommandSteps.{head_param_step, closes_message, closed_message, message_closes, message_goes_on}
-use Rattle.soy_parser.specs.CommandSteps.{cases_begin, closed_bare_switch, is_switch, is_call, closed_call, choice_opens, part_single}
+use Rattle.soy_parser.specs.CommandSteps.{ended, is_empty, closes_body, closed_body, body_closes, body_goes_on}
+use Rattle.soy_parser.specs.CommandSteps.{head_param_step, closes_message, closed_message, message_closes}
+use Rattle.soy_parser.specs.CommandSteps.{message_goes_on}
+use Rattle.soy_parser.specs.CommandSteps.{cases_begin, closed_bare_switch, is_switch, is_call, closed_call}
+use Rattle.soy_parser.specs.CommandSteps.{choice_opens}
 use Rattle.soy_parser.specs.CommandSteps.{has_whole_tags, parts_of, step_at}
-use Rattle.soy_parser.specs.FileSteps.{middle_kind, tag_kind, body_admits, message_admits, cases_admit, top_admits, is_template}
+use Rattle.soy_parser.specs.FileSteps.{middle_kind, tag_kind, body_admits, message_admits, cases_admit, top_admits}
+use Rattle.soy_parser.specs.FileSteps.{is_template}
 use Rattle.soy_parser.specs.FileSteps.{in_body_admits, in_parts_admits, admits_at}
 use Rattle.soy_parser.specs.SpellsTree.{param_of}
 
@@ -54,13 +50,15 @@ closes_body_admits (block.Arm i when) n e = e
 closes_body_admits (block.Case s values) n e = e
 closes_body_admits _ n e = e
 
-closes_message_admits : (b : Block) (n : BlockName) → closes_message b n ≡ true → message_admits b (kind.Closes n) ≡ true
+closes_message_admits : (b : Block) (n : BlockName) → closes_message b n ≡ true → message_admits b (kind.Closes n)
+    ≡ true
 closes_message_admits (block.Message m) n e = e
 closes_message_admits (block.PluralCase p values) n e = e
 closes_message_admits (block.SelectCase s values) n e = e
 closes_message_admits _ n e = e
 
-body_goes_admits : (bs : List Block) (ns : List Node) (m : Middle) (to : CommandState) → body_goes_on bs ns m ≡ Some to →
+body_goes_admits : (bs : List Block) (ns : List Node) (m : Middle) (to : CommandState)
+    → body_goes_on bs ns m ≡ Some to →
     top_admits body_admits bs (middle_kind m) ≡ true
 body_goes_admits (block.Arm i when ∷ bs) ns (middle.ElseIf e) to h = refl
 body_goes_admits (block.Arm i when ∷ bs) ns middle.Else to h = refl

@@ -1,5 +1,6 @@
 -- Where a head is admitted, each command with a head of its kind has a step.
-use Rattle.std.proofs.Common.{◌≡◌, ℕ, Bool, true, false, List, [], ◌∷◌, ◌++◌, Option, Some, None, refl, sym, ◌∙◌, ap, subst}
+use Rattle.std.proofs.Common.{◌≡◌, ℕ, Bool, true, false, List, [], ◌∷◌, Option, Some, None, refl, sym}
+use Rattle.std.proofs.Common.{subst}
 use Rattle.std.specs.Prelude.{if◌then◌else◌, ◌&&◌}
 use Rattle.soy_base.specs.declared.fault.Span.{Span}
 use Rattle.soy_tree.specs.declared.node.Argument.{Argument}
@@ -26,15 +27,20 @@ use Rattle.soy_parser.specs.declared.head.HeadKind.{HeadKind}
 use Rattle.soy_parser.specs.declared.head.HeadKind.TheVariants as kind
 use Rattle.soy_parser.specs.declared.terminal.BlockName.{BlockName}
 use Rattle.soy_parser.specs.declared.terminal.BlockName.TheVariants as name
-use Rattle.soy_parser.specs.CommandSteps.{ended, is_empty, closes_body, closed_body, body_closes, body_goes_on, head_param_step}
-use Rattle.soy_parser.specs.CommandSteps.{closes_message, closed_message, message_closes, message_goes_on, cases_begin, closed_call}
-use Rattle.soy_parser.specs.CommandSteps.{before_cases_step, has_whole_tags, parts_of, choice_opens, step_at, command_step, command_run}
+use Rattle.soy_parser.specs.CommandSteps.{ended, is_empty, closes_body, closed_body, body_closes, body_goes_on}
+use Rattle.soy_parser.specs.CommandSteps.{head_param_step}
+use Rattle.soy_parser.specs.CommandSteps.{closes_message, closed_message, message_closes, message_goes_on, cases_begin}
+use Rattle.soy_parser.specs.CommandSteps.{closed_call}
+use Rattle.soy_parser.specs.CommandSteps.{has_whole_tags, parts_of, step_at}
+use Rattle.soy_parser.specs.CommandSteps.{command_step, command_run}
 use Rattle.soy_parser.specs.CommandSteps.{command_start}
-use Rattle.soy_parser.specs.FileSteps.{middle_kind, opening_kind, single_kind, tag_kind, body_admits, message_admits, cases_admit}
+use Rattle.soy_parser.specs.FileSteps.{middle_kind, opening_kind, single_kind, tag_kind, body_admits, message_admits}
+use Rattle.soy_parser.specs.FileSteps.{cases_admit}
 use Rattle.soy_parser.specs.FileSteps.{top_admits, is_template, in_body_admits, in_parts_admits, admits_at, admits}
 use Rattle.soy_parser.specs.SpellsTree.{param_of}
 use Rattle.soy_parser.proofs.Admits.{HasHead}
-use Rattle.soy_parser.proofs.CommandsSound.{Inside, ABody, ACall, ASwitch, APlural, ASelect, AMessage, Opened, HasCases, Held_at}
+use Rattle.soy_parser.proofs.CommandsSound.{Inside, ABody, ACall, ASwitch, APlural, ASelect, AMessage, Opened}
+use Rattle.soy_parser.proofs.CommandsSound.{Held_at}
 use Rattle.soy_parser.proofs.CommandsSound.{start_run_held}
 
 pub record HasStep (o : Option CommandState) : Type 0 where
@@ -239,7 +245,8 @@ closed_message_steps (block.PluralDefault p) n e bs body span = stepped _
 closed_message_steps (block.SelectDefault s) n e bs body span = stepped _
 closed_message_steps _ n e bs body span = absurd (cc e)
 
-message_admits_closes : (b : Block) (n : BlockName) → message_admits b (kind.Closes n) ≡ true → closes_message b n ≡ true
+message_admits_closes : (b : Block) (n : BlockName) → message_admits b (kind.Closes n) ≡ true
+    → closes_message b n ≡ true
 message_admits_closes (block.Message m) n e = e
 message_admits_closes (block.PluralCase p values) n e = e
 message_admits_closes (block.SelectCase s values) n e = e
@@ -300,7 +307,8 @@ parts_steps bs nodes white (tag.Single (single.Call n all)) span i e = absurd (n
 parts_steps bs nodes white (tag.Single (single.Param n x)) span i e = absurd (not_in_parts bs nodes kind.Param refl e)
 parts_steps bs nodes white (tag.Opens (opening.Plural x offset)) span i e = when white _ e (stepped _)
 parts_steps bs nodes white (tag.Opens (opening.Select x)) span i e = when white _ e (stepped _)
-parts_steps bs nodes white (tag.Opens (opening.Template h)) span i e = absurd (not_in_parts bs nodes kind.Template refl e)
+parts_steps bs nodes white (tag.Opens (opening.Template h)) span i e =
+    absurd (not_in_parts bs nodes kind.Template refl e)
 parts_steps bs nodes white (tag.Opens (opening.If x)) span i e = absurd (not_in_parts bs nodes kind.If refl e)
 parts_steps bs nodes white (tag.Opens (opening.Switch x)) span i e = absurd (not_in_parts bs nodes kind.Switch refl e)
 parts_steps bs nodes white (tag.Opens (opening.For n index x)) span i e = absurd (not_in_parts bs nodes kind.For refl e)
@@ -330,7 +338,8 @@ choice_steps bs body (tag.Opens of) span i e = absurd (clash (opening_no of) (in
 
 -- before the first case
 
-begin_steps : (bs : List Block) (m : Middle) → top_admits cases_admit bs (middle_kind m) ≡ true → HasStep (cases_begin bs m)
+begin_steps : (bs : List Block) (m : Middle) → top_admits cases_admit bs (middle_kind m) ≡ true
+    → HasStep (cases_begin bs m)
 begin_steps (block.Switch before start s ∷ bs) (middle.Case values) e = stepped _
 begin_steps (block.Switch before start s ∷ bs) middle.Default e = stepped _
 begin_steps (block.Switch before start s ∷ bs) _ e = absurd (cc e)
@@ -423,7 +432,8 @@ call_steps bs arguments (tag.HeadParam n required of) span i e h = absurd (cc e)
 
 -- in white text alone, and between templates
 
-white_steps : (bs : List Block) (of : Tag) (span : Span) → HasHead of → admits_at content.White bs (tag_kind of) ≡ true →
+white_steps : (bs : List Block) (of : Tag) (span : Span) → HasHead of → admits_at content.White bs (tag_kind of)
+    ≡ true →
     HasStep (step_at content.White bs of span)
 white_steps bs (tag.Text text) span i e = absurd i
 white_steps bs (tag.Namespace n) span i e = stepped _
@@ -475,7 +485,8 @@ templates_steps bs n ts (tag.GoesOn middle.Default) span i e = absurd (cc e)
 templates_steps bs n ts (tag.GoesOn (middle.Fallback desc meaning)) span i e = absurd (cc e)
 templates_steps bs n ts (tag.Closes m) span i e = absurd (cc e)
 
-held_steps : (k : Content) (bs : List Block) (cs : List Command) → Held_at k bs cs → (of : Tag) (span : Span) → HasHead of →
+held_steps : (k : Content) (bs : List Block) (cs : List Command) → Held_at k bs cs → (of : Tag) (span : Span)
+    → HasHead of →
     admits_at k bs (tag_kind of) ≡ true → HasStep (step_at k bs of span)
 held_steps content.White bs cs h of span i e = white_steps bs of span i e
 held_steps (content.Templates n ts) bs cs h of span i e = templates_steps bs n ts of span i e
@@ -487,6 +498,7 @@ held_steps (content.Parts nodes white) bs cs h of span i e = parts_steps bs node
 held_steps (content.Choice body) bs cs h of span i e = choice_steps bs body of span i e
 
 -- **A command whose head is admitted has a step.**
-pub admitted_steps : (cs : List Command) (s : CommandState) → command_run cs command_start ≡ Some s → (of : Tag) (span : Span) →
+pub admitted_steps : (cs : List Command) (s : CommandState) → command_run cs command_start ≡ Some s
+    → (of : Tag) (span : Span) →
     HasHead of → admits s (tag_kind of) ≡ true → HasStep (command_step s (record { tag = of; span = span }))
 admitted_steps cs s r of span i e = held_steps s.content s.blocks cs (start_run_held cs s r) of span i e

@@ -1,17 +1,15 @@
 -- The attributes of a command and its end are read.
-use Rattle.std.proofs.Common.{◌≡◌, ℕ, ◌+◌, Bool, true, false, List, [], ◌∷◌, ◌++◌, map, length, Option, Some, None, refl, sym, ◌∙◌, ap, subst, arith}
-use Rattle.std.specs.Prelude.{if◌then◌else◌, ◌⊎◌}
-use Rattle.std.proofs.Common.{inl, inr}
+use Rattle.std.proofs.Common.{◌≡◌, ◌+◌, Bool, true, false, List, [], ◌∷◌, ◌++◌, length, Option, Some, None}
+use Rattle.std.proofs.Common.{refl, sym, ◌∙◌, ap, subst}
+use Rattle.std.specs.Prelude.{if◌then◌else◌}
 use Rattle.soy_base.specs.declared.fault.Span.{Span}
 use Rattle.soy_lexer.specs.declared.token.Token.{Token}
 use Rattle.expr_parser.specs.Operands.{joined}
 use Rattle.soy_parser.specs.declared.attributes.AttributeName.{AttributeName}
 use Rattle.soy_parser.specs.declared.attributes.Attributes.{Attributes}
 use Rattle.soy_parser.specs.declared.block.CommandState.{CommandState}
-use Rattle.soy_parser.specs.declared.command.Command.{Command}
 use Rattle.soy_parser.specs.declared.command.Tag.{Tag}
 use Rattle.soy_parser.specs.declared.head.Head.{Head}
-use Rattle.soy_parser.specs.declared.spot.CommandSpot.{CommandSpot}
 use Rattle.soy_parser.specs.declared.spot.CommandSpot.TheVariants as where_
 use Rattle.soy_parser.specs.declared.spot.FileState.{FileState}
 use Rattle.soy_parser.specs.declared.spot.Spot.{Spot}
@@ -21,9 +19,10 @@ use Rattle.soy_parser.specs.declared.terminal.CommandTerminal.TheVariants as ter
 use Rattle.soy_parser.specs.CommandSteps.{command_step}
 use Rattle.soy_parser.specs.CommandTerminals.{command_terminal_of}
 use Rattle.soy_parser.specs.Depth.{none_deep, no_words}
-use Rattle.soy_parser.specs.FileSteps.{stands, attributes_step, attribute_step, ended_command, taken, if_equals, value_step, with_value}
+use Rattle.soy_parser.specs.FileSteps.{stands, attributes_step, attribute_step, ended_command, taken, if_equals}
+use Rattle.soy_parser.specs.FileSteps.{value_step, with_value}
 use Rattle.soy_parser.specs.FileSteps.{file_step, token_depth, word_in}
-use Rattle.soy_parser.specs.Heads.{no_attributes, attribute_name, allows, with_attribute, SpellsAttributes, tag_at}
+use Rattle.soy_parser.specs.Heads.{no_attributes, attribute_name, allows, SpellsAttributes, tag_at}
 use Rattle.soy_parser.proofs.CommandRunning.{map_append}
 use Rattle.soy_parser.proofs.FileRunning.{Leads, none_leads, step_leads, then_leads}
 
@@ -44,13 +43,15 @@ pub record HasHead (s : CommandState) (from : Span) (h : Head) (a : Attributes) 
   pub commands_are : to.commands ≡ s
   pub takes : (t : Token) → FollowsHead (command_terminal_of t) → file_step to t ≡ attributes_step s from h a t
 
-pub record AttributesLead (s : CommandState) (from : Span) (h : Head) (st : FileState) (us : List Token) (a : Attributes) : Type 0
+pub record AttributesLead (s : CommandState) (from : Span) (h : Head) (st : FileState) (us : List Token)
+    (a : Attributes) : Type 0
   where
     pub to : FileState
     pub leads : Leads (length s.blocks) st us (none_deep us) (no_words us) to
     pub has : HasHead s from h a to
 
-pub has_attributes : (s : CommandState) (from : Span) (h : Head) (a : Attributes) → HasHead s from h a (in_at s from (spot.Attributes h a))
+pub has_attributes : (s : CommandState) (from : Span) (h : Head) (a : Attributes)
+    → HasHead s from h a (in_at s from (spot.Attributes h a))
 has_attributes s from h a = record { commands_are = refl; takes = λ t f. refl }
 
 pub if_then : (b : Bool) (to : Option FileState) → b ≡ true → (if b then to else None) ≡ to
@@ -65,7 +66,8 @@ plain_append ts us = map_append (λ t. false) ts us
 -- a token of a command that is no part of an expression or type
 pub plain_step : (s : CommandState) (from : Span) (st : FileState) (at : Spot) (t : Token) → st.commands ≡ s →
     file_step st t ≡ Some (in_at s from at) → token_depth st (in_at s from at) ≡ length st.commands.blocks + 0 →
-    word_in (where_.Inside from at) ≡ false → Leads (length s.blocks) st (t ∷ []) (0 ∷ []) (false ∷ []) (in_at s from at)
+    word_in (where_.Inside from at) ≡ false → Leads (length s.blocks) st (t ∷ []) (0 ∷ []) (false ∷ [])
+    (in_at s from at)
 plain_step s from st at t same e deep word =
     step_leads (length s.blocks) 0 false st t (in_at s from at) e
     (deep ∙ ap (λ (k : CommandState). length k.blocks + 0) same) word
@@ -87,7 +89,8 @@ attributes_lead s from h st has _ _ (SpellsAttributes.more_ _ ts a b name equals
     (ap (λ m. value_step s from h a n value m) hv ∙ ap (with_value s from h) hw) refl refl in
     record {
       to = in_at s from (spot.Attributes h b);
-      leads = subst (λ l. Leads (length s.blocks) st (ts ++ third) l (no_words (ts ++ third)) (in_at s from (spot.Attributes h b)))
+      leads = subst (λ l. Leads (length s.blocks) st (ts ++ third) l (no_words (ts ++ third))
+          (in_at s from (spot.Attributes h b)))
           (sym (none_append ts third))
           (subst (λ l. Leads (length s.blocks) st (ts ++ third) (none_deep ts ++ none_deep third) l
           (in_at s from (spot.Attributes h b)))

@@ -1,14 +1,15 @@
 -- A message's texts and prints can be ended: some text closes the tag that is open after them.
-use Rattle.std.proofs.Common.{◌≡◌, ℕ, Bool, true, false, ◌==◌, ◌&&◌, ◌||◌, List, [], ◌∷◌, ◌++◌, map, Option, Some, None, option_map, refl, sym, ◌∙◌, ap, subst, arith, append_assoc, append-nil}
+use Rattle.std.proofs.Common.{◌≡◌, ℕ, Bool, true, false, ◌==◌, ◌&&◌, ◌||◌, List, [], ◌∷◌, ◌++◌, Option, Some, None}
+use Rattle.std.proofs.Common.{option_map, refl, sym, ◌∙◌, ap, subst, arith}
 use Rattle.std.specs.Prelude.{if◌then◌else◌, is_some, ◌⊎◌}
 use Rattle.std.proofs.Common.{inl, inr}
 use Rattle.std.specs.Char.{is_ascii_alphabetic}
 use Rattle.std.proofs.lemmas.Bool.Decides.{nat_tests}
 use Rattle.soy_base.specs.declared.fault.Span.{Span}
-use Rattle.soy_tree.specs.Formed.{is_message_text}
-use Rattle.soy_tree.specs.MessageText.{MessageItem, Cut, TextCut, PrintCut, TagCut, characters, node_message_items, joined_items}
-use Rattle.soy_tree.specs.MessageText.{message_items, begins_with_letter, goes_on_as_tag, text_cut, quote_after, ends_tag}
-use Rattle.soy_tree.specs.MessageText.{cuts_after_text, cuts_in_tag, cuts, cuts_of}
+use Rattle.soy_tree.specs.MessageText.{MessageItem, Cut, PrintCut, TagCut, characters}
+use Rattle.soy_tree.specs.MessageText.{begins_with_letter, goes_on_as_tag, text_cut, quote_after}
+use Rattle.soy_tree.specs.MessageText.{ends_tag}
+use Rattle.soy_tree.specs.MessageText.{cuts_after_text, cuts_in_tag, cuts}
 use Rattle.soy_tree.specs.MessageText.MessageItem.{Character, Printed}
 
 -- a quote that may be open
@@ -140,12 +141,14 @@ mutual
       (closes_tag ps (quote_after quote c) (quote_goes_on quote c h) (tag ++ (Character c span ∷ [])) s)
     where
       over : (a : Bool) → ends_tag quote c ≡ a → HasCloser (λ o. cuts_after_text (ps ++ characters (closer o) s) []) →
-          HasCloser (λ o. cuts_in_tag (ps ++ characters (closer o) s) (quote_after quote c) (tag ++ (Character c span ∷ []))) →
+          HasCloser (λ o. cuts_in_tag (ps ++ characters (closer o) s) (quote_after quote c)
+          (tag ++ (Character c span ∷ []))) →
           HasCloser (λ o. cuts_in_tag ((Character c span ∷ ps) ++ characters (closer o) s) quote tag)
       over true e i j = record {
         quote = i.quote;
         is_quote = i.is_quote;
-        is_closed = closed_then _ _ _ e (map_closed (λ cuts. TagCut (tag ++ (Character c span ∷ [])) ∷ cuts) _ i.is_closed);
+        is_closed = closed_then _ _ _ e (map_closed (λ cuts. TagCut (tag ++ (Character c span ∷ [])) ∷ cuts) _
+            i.is_closed);
       }
       over false e i j = record { quote = j.quote; is_quote = j.is_quote; is_closed = closed_else _ _ _ e j.is_closed }
 

@@ -1,8 +1,7 @@
 -- Commands that are a file are read to their end, at their levels.
-use Rattle.std.proofs.Common.{◌≡◌, ℕ, ℤ, suc, ◌+◌, Bool, true, false, List, [], ◌∷◌, ◌++◌, length, Option, Some, None, refl, sym, ◌∙◌, ap, subst, arith, append_assoc, append-nil}
+use Rattle.std.proofs.Common.{◌≡◌, ℕ, suc, Bool, true, false, List, [], ◌∷◌, ◌++◌, length, Option, Some, None}
+use Rattle.std.proofs.Common.{refl, ◌∙◌, ap, subst, arith}
 use Rattle.std.specs.Prelude.{if◌then◌else◌, ◌&&◌}
-use Rattle.std.specs.List.{list_all}
-use Rattle.soy_base.specs.WhiteSpace.{is_template_space}
 use Rattle.soy_base.specs.declared.fault.Span.{Span}
 use Rattle.soy_tree.specs.Formed.{is_message_text}
 use Rattle.soy_tree.specs.ViewNodes.{view_nodes}
@@ -41,16 +40,20 @@ use Rattle.soy_parser.specs.declared.command.Tag.TheVariants as tag
 use Rattle.soy_parser.specs.declared.command.TemplateHead.{TemplateHead}
 use Rattle.soy_parser.specs.declared.terminal.BlockName.{BlockName}
 use Rattle.soy_parser.specs.declared.terminal.BlockName.TheVariants as name
-use Rattle.soy_parser.specs.CommandSteps.{is_white, nodes_with, no_nodes, text_run, with_text, ended, has_whole_tags, parts_of}
-use Rattle.soy_parser.specs.CommandSteps.{with_arm, with_case, with_plural_cases, with_select_cases, arm_goes_on, case_goes_on}
+use Rattle.soy_parser.specs.CommandSteps.{is_white, nodes_with, no_nodes, with_text, ended, has_whole_tags}
+use Rattle.soy_parser.specs.CommandSteps.{parts_of}
+use Rattle.soy_parser.specs.CommandSteps.{with_arm, with_case, arm_goes_on}
+use Rattle.soy_parser.specs.CommandSteps.{case_goes_on}
 use Rattle.soy_parser.specs.CommandSteps.{plural_goes_on, select_goes_on, message_goes_on, message_closes}
 use Rattle.soy_parser.specs.CommandSteps.{closes_body, closed_body, body_closes, closed_if, closed_switch, body_step}
 use Rattle.soy_parser.specs.CommandSteps.{parts_step, step_at, command_step, command_start}
 use Rattle.soy_parser.specs.Depth.{inside}
-use Rattle.soy_parser.specs.Nodes.{node_of, arm_of, case_of, text_span}
+use Rattle.soy_parser.specs.Nodes.{node_of}
 use Rattle.soy_parser.specs.SpellsTree.{SpellsWhite, text_of, SpellsText, SpellsPrints, SpellsParts, SpellsMessageBody}
-use Rattle.soy_parser.specs.SpellsTree.{SpellsChoice, SpellsPluralCases, SpellsSelectCases, SpellsNodes, SpellsBody, SpellsNode}
-use Rattle.soy_parser.specs.SpellsTree.{SpellsArms, SpellsCases, SpellsArguments, SpellsParams, SpellsTemplates, SpellsTree}
+use Rattle.soy_parser.specs.SpellsTree.{SpellsChoice, SpellsPluralCases, SpellsSelectCases, SpellsNodes, SpellsBody}
+use Rattle.soy_parser.specs.SpellsTree.{SpellsNode}
+use Rattle.soy_parser.specs.SpellsTree.{SpellsArms, SpellsCases, SpellsArguments, SpellsParams, SpellsTemplates}
+use Rattle.soy_parser.specs.SpellsTree.{SpellsTree}
 use Rattle.soy_parser.proofs.CommandRunning.{Goes, none_goes, step_goes, then_goes, inside_goes}
 
 abbrev pub at : List Block → Content → CommandState
@@ -67,7 +70,8 @@ one_goes : (bs : List Block) (k : Content) (c : Command) (s' : CommandState) →
 one_goes bs k c s' e = step_goes (length bs) 0 (at bs k) c s' e (omega arith)
 
 -- and one further in
-further_goes : (bs : List Block) (s : CommandState) (c : Command) (s' : CommandState) → length s.blocks ≡ suc (length bs) →
+further_goes : (bs : List Block) (s : CommandState) (c : Command) (s' : CommandState)
+    → length s.blocks ≡ suc (length bs) →
     command_step s c ≡ Some s' → Goes (length bs) s (c ∷ []) (1 ∷ []) s'
 further_goes bs s c s' long e = step_goes (length bs) 1 s c s' e (long ∙ omega arith)
 
@@ -130,7 +134,8 @@ record PartsGo (bs : List Block) (cs : List Command) (ls : List ℕ) (ns : List 
 
 record PrintsGo (bs : List Block) (cs : List Command) (ls : List ℕ) (ns : List Node) : Type 0 where
   pub white : Bool
-  pub goes : Goes (length bs) (at bs (content.Parts no_nodes true)) cs ls (at bs (content.Parts (nodes_with ns None) white))
+  pub goes : Goes (length bs) (at bs (content.Parts no_nodes true)) cs ls
+      (at bs (content.Parts (nodes_with ns None) white))
 
 record PartStep (bs : List Block) (nodes : Nodes) (white : Bool) (of : Tag) (text : List ℕ) (span : Span) : Type 0 where
   pub white_then : Bool
@@ -148,7 +153,8 @@ part_step bs nodes white (tag.Character t) text span h = record {
 }
 part_step bs nodes white _ text span h = absurd (cc h)
 
-record RunGo (bs : List Block) (items : List Node) (white : Bool) (cs : List Command) (ls text : List ℕ) (span : Span) : Type 0
+record RunGo (bs : List Block) (items : List Node) (white : Bool) (cs : List Command) (ls text : List ℕ)
+    (span : Span) : Type 0
   where
     pub white_then : Bool
     pub goes : Goes (length bs) (at bs (content.Parts (nodes_with items None) white)) cs ls
@@ -181,11 +187,13 @@ mutual
         white = false;
         goes = then_goes p.goes (one_goes bs (content.Parts p.nodes p.white) c _
             (tag_step (at bs (content.Parts p.nodes p.white)) c _ _ h
-            (ap (λ l. Some (at bs (content.Parts (nodes_with (l ++ (node_of (form.Print e phname) c.span ∷ [])) None) false)))
+            (ap (λ l. Some (at bs (content.Parts (nodes_with (l ++ (node_of (form.Print e phname) c.span ∷ [])) None)
+            false)))
             p.ends)));
       }
 
-  parts_go : (bs : List Block) (cs : List Command) (ls : List ℕ) (ns : List Node) → SpellsParts cs ls ns → PartsGo bs cs ls ns
+  parts_go : (bs : List Block) (cs : List Command) (ls : List ℕ) (ns : List Node) → SpellsParts cs ls ns
+      → PartsGo bs cs ls ns
   parts_go bs _ _ _ (SpellsParts.plain_ cs ls ns s) =
       let p = prints_go bs cs ls ns s in
       record { nodes = nodes_with ns None; white = p.white; ends = refl; goes = p.goes }
@@ -212,10 +220,12 @@ closes_step : (bs : List Block) (b : Block) (nodes : Nodes) (ns : List Node) (z 
     closed_body bs b ns z.span ≡ to → command_step (at (b ∷ bs) (content.Body nodes)) z ≡ to
 closes_step bs b nodes ns z n to ends h closes e =
     tag_step (at (b ∷ bs) (content.Body nodes)) z (tag.Closes n) to h
-    (ap (λ l. body_closes (b ∷ bs) l n z.span) ends ∙ (when_true (closes_body b n) (closed_body bs b ns z.span) closes ∙ e))
+    (ap (λ l. body_closes (b ∷ bs) l n z.span) ends ∙ (when_true (closes_body b n) (closed_body bs b ns z.span) closes
+    ∙ e))
 
 -- a body inside a block, and the end of the block
-body_closed : (bs : List Block) (b : Block) (cs : List Command) (ls : List ℕ) (ns : List Node) (z : Command) (n : BlockName)
+body_closed : (bs : List Block) (b : Block) (cs : List Command) (ls : List ℕ) (ns : List Node) (z : Command)
+    (n : BlockName)
     (s' : CommandState) → BodyGoes (b ∷ bs) cs ls ns → z.tag ≡ tag.Closes n → closes_body b n ≡ true →
     closed_body bs b ns z.span ≡ Some s' →
     Goes (suc (length bs)) (at (b ∷ bs) (content.Body no_nodes)) (cs ++ (z ∷ [])) (ls ++ (0 ∷ [])) s'
@@ -238,7 +248,8 @@ record MessageGoes (b : Block) (bs : List Block) (cs : List Command) (ls : List 
   pub has : HasMessage b bs body to
 
 has_parts : (b : Block) (bs : List Block) (nodes : Nodes) (white : Bool) (ns : List Node) → ended nodes ≡ ns →
-    is_message_text (view_nodes ns) ≡ true → HasMessage b bs (message_body.Parts ns) (at (b ∷ bs) (content.Parts nodes white))
+    is_message_text (view_nodes ns) ≡ true
+    → HasMessage b bs (message_body.Parts ns) (at (b ∷ bs) (content.Parts nodes white))
 has_parts b bs nodes white ns ends whole =
     let tags : has_whole_tags nodes ≡ true = ap (λ l. is_message_text (view_nodes l)) ends ∙ whole in
     record {
@@ -272,19 +283,21 @@ record HasPlural (bs : List Block) (p : OpenPlural) (s : CommandState) : Type 0 
   pub long : length s.blocks ≡ suc (length bs)
   pub goes_on : (m : Middle) (span : Span) → step_at s.content s.blocks (tag.GoesOn m) span ≡ plural_goes_on bs p m
 
-record PluralGoes (bs : List Block) (from : CommandState) (cs : List Command) (ls : List ℕ) (p : OpenPlural) : Type 0 where
-  pub to : CommandState
-  pub goes : Goes (suc (length bs)) from cs ls to
-  pub has : HasPlural bs p to
+record PluralGoes (bs : List Block) (from : CommandState) (cs : List Command) (ls : List ℕ) (p : OpenPlural) : Type 0
+  where
+    pub to : CommandState
+    pub goes : Goes (suc (length bs)) from cs ls to
+    pub has : HasPlural bs p to
 
 record HasSelect (bs : List Block) (p : OpenSelect) (s : CommandState) : Type 0 where
   pub long : length s.blocks ≡ suc (length bs)
   pub goes_on : (m : Middle) (span : Span) → step_at s.content s.blocks (tag.GoesOn m) span ≡ select_goes_on bs p m
 
-record SelectGoes (bs : List Block) (from : CommandState) (cs : List Command) (ls : List ℕ) (p : OpenSelect) : Type 0 where
-  pub to : CommandState
-  pub goes : Goes (suc (length bs)) from cs ls to
-  pub has : HasSelect bs p to
+record SelectGoes (bs : List Block) (from : CommandState) (cs : List Command) (ls : List ℕ) (p : OpenSelect) : Type 0
+  where
+    pub to : CommandState
+    pub goes : Goes (suc (length bs)) from cs ls to
+    pub has : HasSelect bs p to
 
 abbrev pub open_plural : Expr → ℕ → List PluralCase → OpenPlural
 open_plural e offset cases = record { selector = e; offset = offset; cases = cases }
@@ -293,7 +306,8 @@ abbrev pub open_select : Expr → List SelectCase → OpenSelect
 open_select e cases = record { selector = e; cases = cases }
 
 -- a command at a state in so many blocks
-at_goes : (n : ℕ) (s : CommandState) (c : Command) (s' : CommandState) → length s.blocks ≡ n → command_step s c ≡ Some s' →
+at_goes : (n : ℕ) (s : CommandState) (c : Command) (s' : CommandState) → length s.blocks ≡ n
+    → command_step s c ≡ Some s' →
     Goes n s (c ∷ []) (0 ∷ []) s'
 at_goes n s c s' long e = step_goes n 0 s c s' e (long ∙ omega arith)
 
@@ -354,7 +368,8 @@ mutual
       (then_goes m.goes (at_goes (suc (length bs)) m.to z _ m.has.long
       (tag_step m.to z _ _ hz (m.has.closes name.Select z.span)))))))
 
-  plural_cases_go : (bs : List Block) (e : Expr) (offset : ℕ) (cs : List Command) (ls : List ℕ) (cases : List PluralCase) →
+  plural_cases_go : (bs : List Block) (e : Expr) (offset : ℕ) (cs : List Command) (ls : List ℕ)
+      (cases : List PluralCase) →
       SpellsPluralCases cs ls cases →
       PluralGoes bs (at (block.Plural e offset ∷ bs) content.BeforeCases) cs ls (open_plural e offset cases)
   plural_cases_go bs e offset _ _ _ SpellsPluralCases.no_plural_case_ = record {
@@ -490,9 +505,11 @@ mutual
       let i = open_if (ended nodes) start arms in
       then_goes g.goes
       (inside_goes
-      (then_goes {cs = d ∷ []} {ls = 0 ∷ []} (at_goes (suc (length bs)) g.to d (at (block.Else i ∷ bs) (content.Body no_nodes))
+      (then_goes {cs = d ∷ []} {ls = 0 ∷ []}
+      (at_goes (suc (length bs)) g.to d (at (block.Else i ∷ bs) (content.Body no_nodes))
       g.has.long (tag_step g.to d _ _ hd (g.has.goes_on middle.Else d.span)))
-      (body_closed bs (block.Else i) os ks body z name.If _ (body_goes (block.Else i ∷ bs) os ks body so) hz refl refl)))
+      (body_closed bs (block.Else i) os ks body z name.If _ (body_goes (block.Else i ∷ bs) os ks body so) hz refl
+      refl)))
   node_goes bs nodes _ _ _ (SpellsNode.switch_ c z ds cs ms ls e cases hc w s hz) =
       let open_ = block.Switch (ended nodes) c.span e in
       let g = cases_go bs (ended nodes) c.span e cs ls cases s in
@@ -509,7 +526,8 @@ mutual
       (tag_step (at bs (content.Body nodes)) c _ _ hc refl)
       (then_goes (white_goes (open_ ∷ bs) content.BeforeCases (white_stays (open_ ∷ bs)) ds ms w)
       (then_goes g.goes
-      (then_goes {cs = d ∷ []} {ls = 0 ∷ []} (at_goes (suc (length bs)) g.to d (at (default_ ∷ bs) (content.Body no_nodes))
+      (then_goes {cs = d ∷ []} {ls = 0 ∷ []}
+      (at_goes (suc (length bs)) g.to d (at (default_ ∷ bs) (content.Body no_nodes))
       g.has.long (tag_step g.to d _ _ hd (g.has.goes_on middle.Default d.span)))
       (body_closed bs default_ os ks body z name.Switch _ (body_goes (default_ ∷ bs) os ks body so) hz refl refl))))
   node_goes bs nodes _ _ _ (SpellsNode.for_ c z os ks n index e body hc so hz) =
@@ -532,11 +550,13 @@ mutual
   node_goes bs nodes _ _ _ (SpellsNode.message_ c z os ks desc meaning body hc so hz) =
       let open_ = block.Message (open_message (ended nodes) c.span desc meaning) in
       let m = message_goes open_ bs os ks body so in
-      opens_goes bs (content.Body nodes) c (at (open_ ∷ bs) (content.Parts no_nodes true)) (with_node bs (ended nodes) _) _ _
+      opens_goes bs (content.Body nodes) c (at (open_ ∷ bs) (content.Parts no_nodes true))
+      (with_node bs (ended nodes) _) _ _
       (tag_step (at bs (content.Body nodes)) c _ _ hc refl)
       (then_goes m.goes
       (at_goes (suc (length bs)) m.to z _ m.has.long (tag_step m.to z _ _ hz (m.has.closes name.Msg z.span))))
-  node_goes bs nodes _ _ _ (SpellsNode.message_fallback_ c d z os es ks js desc meaning older older_meaning body other hc so hd se
+  node_goes bs nodes _ _ _ (SpellsNode.message_fallback_ c d z os es ks js desc meaning older older_meaning body other
+      hc so hd se
       hz) =
       let first_ = open_message (ended nodes) c.span desc meaning in
       let m = message_goes (block.Message first_) bs os ks body so in
@@ -611,7 +631,8 @@ mutual
   arguments_go bs _ _ _ (SpellsArguments.param_block_ cs os ls ks arguments c z n kind body s hc so hz) =
       let open_ = block.Param arguments c.span n kind in
       then_goes (arguments_go bs cs ls arguments s)
-      (opens_goes bs (content.Arguments arguments) c (at (open_ ∷ bs) (content.Body no_nodes)) (at bs (content.Arguments _)) _ _
+      (opens_goes bs (content.Arguments arguments) c (at (open_ ∷ bs) (content.Body no_nodes))
+      (at bs (content.Arguments _)) _ _
       (tag_step (at bs (content.Arguments arguments)) c _ _ hc refl)
       (body_closed bs open_ os ks body z name.Param _ (body_goes (open_ ∷ bs) os ks body so) hz refl refl))
 
@@ -623,16 +644,19 @@ open_template namespace templates h start params =
 
 params_go : (bs : List Block) (namespace : List ℕ) (templates : List Template) (h : TemplateHead) (start : Span)
     (cs : List Command) (ls : List ℕ) (params : List Param) → SpellsParams cs ls params →
-    Goes (suc (length bs)) (at (block.Template (open_template namespace templates h start []) ∷ bs) (content.Body no_nodes)) cs ls
+    Goes (suc (length bs)) (at (block.Template (open_template namespace templates h start []) ∷ bs)
+    (content.Body no_nodes)) cs ls
     (at (block.Template (open_template namespace templates h start params) ∷ bs) (content.Body no_nodes))
 params_go bs namespace templates h start _ _ _ SpellsParams.none_ = none_goes (suc (length bs)) _
 params_go bs namespace templates h start _ _ _ (SpellsParams.param_ cs ls params c n required of s hc) =
     let open_ = block.Template (open_template namespace templates h start params) in
     then_goes (params_go bs namespace templates h start cs ls params s)
-    (one_goes (open_ ∷ bs) (content.Body no_nodes) c _ (tag_step (at (open_ ∷ bs) (content.Body no_nodes)) c _ _ hc refl))
+    (one_goes (open_ ∷ bs) (content.Body no_nodes) c _
+    (tag_step (at (open_ ∷ bs) (content.Body no_nodes)) c _ _ hc refl))
 
 templates_stay : (namespace : List ℕ) (templates : List Template) (text : List ℕ) (span : Span) → is_white text ≡ true →
-    step_at (content.Templates namespace templates) [] (tag.Text text) span ≡ Some (at [] (content.Templates namespace templates))
+    step_at (content.Templates namespace templates) [] (tag.Text text) span
+    ≡ Some (at [] (content.Templates namespace templates))
 templates_stay namespace templates text span w =
     when_true (is_white text) (Some (at [] (content.Templates namespace templates))) w
 
@@ -643,7 +667,8 @@ templates_go namespace _ _ _ SpellsTemplates.none_ = none_goes 0 (at [] (content
 templates_go namespace _ _ _ (SpellsTemplates.white_ cs ls templates c text s h w) =
     then_goes (templates_go namespace cs ls templates s)
     (one_goes [] (content.Templates namespace templates) c _
-    (tag_step (at [] (content.Templates namespace templates)) c _ _ h (templates_stay namespace templates text c.span w)))
+    (tag_step (at [] (content.Templates namespace templates)) c _ _ h
+    (templates_stay namespace templates text c.span w)))
 templates_go namespace _ _ _ (SpellsTemplates.template_ cs ps os ls ms ks templates c z h params body s hc sp so hz) =
     let open_ = block.Template (open_template namespace templates h c.span params) in
     then_goes (templates_go namespace cs ls templates s)

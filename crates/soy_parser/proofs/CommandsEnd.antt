@@ -1,17 +1,14 @@
 -- What was read of commands can be completed to a file: further commands close what is open.
-use Rattle.std.proofs.Common.{◌≡◌, ℕ, Bool, true, false, List, [], ◌∷◌, ◌++◌, map, length, Option, Some, None, refl, sym, ◌∙◌, ap, subst, arith, append_assoc, append-nil}
-use Rattle.std.specs.Prelude.{if◌then◌else◌, is_some, codes}
+use Rattle.std.proofs.Common.{◌≡◌, ℕ, Bool, true, List, [], ◌∷◌, ◌++◌, Option, Some, None, refl}
+use Rattle.std.proofs.Common.{sym, ◌∙◌, ap, subst}
+use Rattle.std.specs.Prelude.{if◌then◌else◌, codes}
 use Rattle.soy_base.specs.declared.fault.Span.{Span}
-use Rattle.soy_tree.specs.Formed.{is_message_text}
-use Rattle.soy_tree.specs.ViewNodes.{view_nodes}
 use Rattle.soy_tree.specs.declared.node.Argument.{Argument}
 use Rattle.soy_tree.specs.declared.node.MessageBody.{MessageBody}
 use Rattle.soy_tree.specs.declared.node.MessageBody.TheVariants as message_body
-use Rattle.soy_tree.specs.declared.node.Node.{Node}
 use Rattle.soy_tree.specs.declared.tree.Template.{Template}
 use Rattle.soy_tree.specs.declared.tree.Tree.{Tree}
 use Rattle.soy_parser.specs.declared.block.Block.{Block}
-use Rattle.soy_parser.specs.declared.block.Block.TheVariants as block
 use Rattle.soy_parser.specs.declared.block.CommandState.{CommandState}
 use Rattle.soy_parser.specs.declared.block.Content.{Content}
 use Rattle.soy_parser.specs.declared.block.Content.TheVariants as content
@@ -23,14 +20,17 @@ use Rattle.soy_parser.specs.declared.command.Tag.{Tag}
 use Rattle.soy_parser.specs.declared.command.Tag.TheVariants as tag
 use Rattle.soy_parser.specs.declared.terminal.BlockName.{BlockName}
 use Rattle.soy_parser.specs.declared.terminal.BlockName.TheVariants as name
-use Rattle.soy_parser.specs.CommandSteps.{nodes_with, no_nodes, with_text, ended, has_whole_tags, parts_of, message_goes_on}
-use Rattle.soy_parser.specs.CommandSteps.{message_closes, step_at, command_step, commands_from, command_run, command_start}
+use Rattle.soy_parser.specs.CommandSteps.{nodes_with, no_nodes, with_text, has_whole_tags, parts_of}
+use Rattle.soy_parser.specs.CommandSteps.{message_goes_on}
+use Rattle.soy_parser.specs.CommandSteps.{message_closes, step_at, commands_from, command_run}
+use Rattle.soy_parser.specs.CommandSteps.{command_start}
 use Rattle.soy_parser.specs.SpellsTree.{SpellsTree}
 use Rattle.soy_parser.proofs.CommandRunning.{run_append}
 use Rattle.soy_parser.proofs.CommandsComplete.{at, tree_goes}
-use Rattle.soy_parser.proofs.CommandsSound.{Inside, ABody, ACall, ASwitch, APlural, ASelect, AMessage, Opened, HasCases, Held_at}
-use Rattle.soy_parser.proofs.MessageItems.{HasEnd, parts_end}
-use Rattle.soy_parser.proofs.CommandsSound.{HeldParts, PartsAt, start_run_held, run_tree}
+use Rattle.soy_parser.proofs.CommandsSound.{Inside, ABody, ACall, ASwitch, APlural, ASelect, AMessage, Opened, HasCases}
+use Rattle.soy_parser.proofs.CommandsSound.{Held_at}
+use Rattle.soy_parser.proofs.MessageItems.{parts_end}
+use Rattle.soy_parser.proofs.CommandsSound.{HeldParts, start_run_held, run_tree}
 
 abbrev pub no_span : Span
 no_span = record { start = 0; end = 0 }
@@ -62,7 +62,8 @@ pub record Ends (s : CommandState) : Type 0 where
   pub templates : List Template
   pub runs : command_run more s ≡ Some (at [] (content.Templates namespace templates))
 
-then_ends : (s m : CommandState) (of : Tag) → IsWritten of → step_at s.content s.blocks of no_span ≡ Some m → Ends m → Ends s
+then_ends : (s m : CommandState) (of : Tag) → IsWritten of → step_at s.content s.blocks of no_span ≡ Some m → Ends m
+    → Ends s
 then_ends s m of w e h = record {
   more = written of ∷ h.more;
   are = AllWritten.more_ of h.more w h.are;
@@ -73,8 +74,10 @@ then_ends s m of w e h = record {
 
 -- a message's content, as what follows it sees it
 pub record IsMessage (bs : List Block) (body : MessageBody) (s : CommandState) : Type 0 where
-  pub goes_on : (m : Middle) (span : Span) → step_at s.content s.blocks (tag.GoesOn m) span ≡ message_goes_on bs body m span
-  pub closes : (n : BlockName) (span : Span) → step_at s.content s.blocks (tag.Closes n) span ≡ message_closes bs body n span
+  pub goes_on : (m : Middle) (span : Span) → step_at s.content s.blocks (tag.GoesOn m) span ≡ message_goes_on bs body
+      m span
+  pub closes : (n : BlockName) (span : Span) → step_at s.content s.blocks (tag.Closes n) span ≡ message_closes bs body
+      n span
 
 -- whatever a block holds, it can be closed
 abbrev pub EndsAt : Inside → List Block → Type 0
@@ -101,23 +104,31 @@ opened_ends _ _ _ (Opened.template_ ds cs ps c d n templates h params w hc t hd 
   runs = refl;
 }
 opened_ends _ _ _ (Opened.arm_ bs xs ys zs before arms start e o b a) =
-    λ nodes. then_ends _ _ (tag.Closes name.If) (IsWritten.closes_ name.If tt) refl (opened_ends ABody bs xs o (nodes_with _ None))
+    λ nodes. then_ends _ _ (tag.Closes name.If) (IsWritten.closes_ name.If tt) refl
+    (opened_ends ABody bs xs o (nodes_with _ None))
 opened_ends _ _ _ (Opened.else_ bs xs ys zs d before arms start o b a hd) =
-    λ nodes. then_ends _ _ (tag.Closes name.If) (IsWritten.closes_ name.If tt) refl (opened_ends ABody bs xs o (nodes_with _ None))
+    λ nodes. then_ends _ _ (tag.Closes name.If) (IsWritten.closes_ name.If tt) refl
+    (opened_ends ABody bs xs o (nodes_with _ None))
 opened_ends _ _ _ (Opened.for_ bs xs ys c before n index e o b hc) =
-    λ nodes. then_ends _ _ (tag.Closes name.For) (IsWritten.closes_ name.For tt) refl (opened_ends ABody bs xs o (nodes_with _ None))
+    λ nodes. then_ends _ _ (tag.Closes name.For) (IsWritten.closes_ name.For tt) refl
+    (opened_ends ABody bs xs o (nodes_with _ None))
 opened_ends _ _ _ (Opened.let_ bs xs ys c before n kind o b hc) =
-    λ nodes. then_ends _ _ (tag.Closes name.Let) (IsWritten.closes_ name.Let tt) refl (opened_ends ABody bs xs o (nodes_with _ None))
+    λ nodes. then_ends _ _ (tag.Closes name.Let) (IsWritten.closes_ name.Let tt) refl
+    (opened_ends ABody bs xs o (nodes_with _ None))
 opened_ends _ _ _ (Opened.call_ bs xs ys c before n all o b hc) =
-    λ arguments. then_ends _ _ (tag.Closes name.Call) (IsWritten.closes_ name.Call tt) refl (opened_ends ABody bs xs o (nodes_with _ None))
+    λ arguments. then_ends _ _ (tag.Closes name.Call) (IsWritten.closes_ name.Call tt) refl
+    (opened_ends ABody bs xs o (nodes_with _ None))
 opened_ends _ _ _ (Opened.param_ bs xs ys c arguments n kind o a hc) =
     λ nodes. then_ends _ _ (tag.Closes name.Param) (IsWritten.closes_ name.Param tt) refl (opened_ends ACall bs xs o _)
 opened_ends _ _ _ (Opened.switch_ bs xs ys c before e o b hc) =
-    then_ends _ _ (tag.Closes name.Switch) (IsWritten.closes_ name.Switch tt) refl (opened_ends ABody bs xs o (nodes_with _ None))
+    then_ends _ _ (tag.Closes name.Switch) (IsWritten.closes_ name.Switch tt) refl
+    (opened_ends ABody bs xs o (nodes_with _ None))
 opened_ends _ _ _ (Opened.case_ bs xs ys ws zs c d before e cases values o b hc w a hd) =
-    λ nodes. then_ends _ _ (tag.Closes name.Switch) (IsWritten.closes_ name.Switch tt) refl (opened_ends ABody bs xs o (nodes_with _ None))
+    λ nodes. then_ends _ _ (tag.Closes name.Switch) (IsWritten.closes_ name.Switch tt) refl
+    (opened_ends ABody bs xs o (nodes_with _ None))
 opened_ends _ _ _ (Opened.switch_default_ bs xs ys ws zs c d before e cases o b hc w a hd) =
-    λ nodes. then_ends _ _ (tag.Closes name.Switch) (IsWritten.closes_ name.Switch tt) refl (opened_ends ABody bs xs o (nodes_with _ None))
+    λ nodes. then_ends _ _ (tag.Closes name.Switch) (IsWritten.closes_ name.Switch tt) refl
+    (opened_ends ABody bs xs o (nodes_with _ None))
 opened_ends _ _ _ (Opened.message_ bs xs ys c before desc meaning o b hc) =
     λ body s is. then_ends s _ (tag.Closes name.Msg) (IsWritten.closes_ name.Msg tt) (is.closes name.Msg no_span)
     (opened_ends ABody bs xs o (nodes_with _ None))
@@ -126,21 +137,27 @@ opened_ends _ _ _ (Opened.fallback_ bs xs ys zs c d before first desc meaning ol
     (opened_ends ABody bs xs o (nodes_with _ None))
 opened_ends _ _ _ (Opened.plural_ bs xs ys c e offset o v hc) =
     then_ends _ _ (tag.GoesOn middle.Default) IsWritten.default_ refl
-    (then_ends _ _ (tag.Closes name.Plural) (IsWritten.closes_ name.Plural tt) refl (opened_ends AMessage bs xs o _ _ (choice_is bs _)))
+    (then_ends _ _ (tag.Closes name.Plural) (IsWritten.closes_ name.Plural tt) refl
+    (opened_ends AMessage bs xs o _ _ (choice_is bs _)))
 opened_ends _ _ _ (Opened.plural_case_ bs xs ys ws zs c d e offset cases values o v hc w a hd) =
     λ body s is. then_ends s _ (tag.GoesOn middle.Default) IsWritten.default_ (is.goes_on middle.Default no_span)
-    (then_ends _ _ (tag.Closes name.Plural) (IsWritten.closes_ name.Plural tt) refl (opened_ends AMessage bs xs o _ _ (choice_is bs _)))
+    (then_ends _ _ (tag.Closes name.Plural) (IsWritten.closes_ name.Plural tt) refl
+    (opened_ends AMessage bs xs o _ _ (choice_is bs _)))
 opened_ends _ _ _ (Opened.plural_default_ bs xs ys ws zs c d e offset cases o v hc w a hd) =
-    λ body s is. then_ends s _ (tag.Closes name.Plural) (IsWritten.closes_ name.Plural tt) (is.closes name.Plural no_span)
+    λ body s is. then_ends s _ (tag.Closes name.Plural) (IsWritten.closes_ name.Plural tt)
+    (is.closes name.Plural no_span)
     (opened_ends AMessage bs xs o _ _ (choice_is bs _))
 opened_ends _ _ _ (Opened.select_ bs xs ys c e o v hc) =
     then_ends _ _ (tag.GoesOn middle.Default) IsWritten.default_ refl
-    (then_ends _ _ (tag.Closes name.Select) (IsWritten.closes_ name.Select tt) refl (opened_ends AMessage bs xs o _ _ (choice_is bs _)))
+    (then_ends _ _ (tag.Closes name.Select) (IsWritten.closes_ name.Select tt) refl
+    (opened_ends AMessage bs xs o _ _ (choice_is bs _)))
 opened_ends _ _ _ (Opened.select_case_ bs xs ys ws zs c d e cases values o v hc w a hd) =
     λ body s is. then_ends s _ (tag.GoesOn middle.Default) IsWritten.default_ (is.goes_on middle.Default no_span)
-    (then_ends _ _ (tag.Closes name.Select) (IsWritten.closes_ name.Select tt) refl (opened_ends AMessage bs xs o _ _ (choice_is bs _)))
+    (then_ends _ _ (tag.Closes name.Select) (IsWritten.closes_ name.Select tt) refl
+    (opened_ends AMessage bs xs o _ _ (choice_is bs _)))
 opened_ends _ _ _ (Opened.select_default_ bs xs ys ws zs c d e cases o v hc w a hd) =
-    λ body s is. then_ends s _ (tag.Closes name.Select) (IsWritten.closes_ name.Select tt) (is.closes name.Select no_span)
+    λ body s is. then_ends s _ (tag.Closes name.Select) (IsWritten.closes_ name.Select tt)
+    (is.closes name.Select no_span)
     (opened_ends AMessage bs xs o _ _ (choice_is bs _))
 
 -- texts and prints of a message, whose tags are whole
@@ -213,7 +230,8 @@ run_ends cs s e =
     }
 
 -- **Where there is a state after commands, some file begins with them,**
-pub run-CompletesTree : (cs : List Command) (s : CommandState) → command_run cs command_start ≡ Some s → CompletesTree cs
+pub run-CompletesTree : (cs : List Command) (s : CommandState) → command_run cs command_start ≡ Some s
+    → CompletesTree cs
 run-CompletesTree cs s e =
     let h = run_ends cs s e in record { more = h.more; levels = h.levels; tree = h.tree; spells = h.spells }
 

@@ -1,24 +1,20 @@
 -- What was read of commands is what the machine holds.
-use Rattle.std.proofs.Common.{◌≡◌, ℕ, ℤ, suc, ◌+◌, Bool, true, false, List, [], ◌∷◌, ◌++◌, length, Option, Some, None, refl, sym, ◌∙◌, ap, subst, arith, append_assoc, append-nil, length-append}
+use Rattle.std.proofs.Common.{◌≡◌, ℕ, ℤ, Bool, true, false, List, [], ◌∷◌, ◌++◌, length, Option, Some, None}
+use Rattle.std.proofs.Common.{refl, sym, ◌∙◌, ap, subst, arith, append_assoc, append-nil, length-append}
 use Rattle.std.specs.Prelude.{if◌then◌else◌, ◌&&◌}
 use Rattle.soy_base.specs.declared.fault.Span.{Span}
 use Rattle.soy_base.specs.declared.kind.Kind.{Kind}
-use Rattle.soy_tree.specs.Formed.{is_message_text}
-use Rattle.soy_tree.specs.ViewNodes.{view_nodes}
 use Rattle.soy_tree.specs.declared.expr.Expr.{Expr}
 use Rattle.soy_tree.specs.declared.node.Argument.{Argument}
 use Rattle.soy_tree.specs.declared.node.Arm.{Arm}
 use Rattle.soy_tree.specs.declared.node.Case.{Case}
-use Rattle.soy_tree.specs.declared.node.Form.TheVariants as form
 use Rattle.soy_tree.specs.declared.node.MessageBody.{MessageBody}
-use Rattle.soy_tree.specs.declared.node.MessageBody.TheVariants as message_body
 use Rattle.soy_tree.specs.declared.node.Node.{Node}
 use Rattle.soy_tree.specs.declared.node.PluralCase.{PluralCase}
 use Rattle.soy_tree.specs.declared.node.SelectCase.{SelectCase}
 use Rattle.soy_tree.specs.declared.soy_type.SoyType.{SoyType}
 use Rattle.soy_tree.specs.declared.tree.Param.{Param}
 use Rattle.soy_tree.specs.declared.tree.Template.{Template}
-use Rattle.soy_tree.specs.declared.tree.Tree.{Tree}
 use Rattle.soy_parser.specs.declared.block.Block.{Block}
 use Rattle.soy_parser.specs.declared.block.Block.TheVariants as block
 use Rattle.soy_parser.specs.declared.block.CommandState.{CommandState}
@@ -38,22 +34,29 @@ use Rattle.soy_parser.specs.declared.command.Tag.TheVariants as tag
 use Rattle.soy_parser.specs.declared.command.TemplateHead.{TemplateHead}
 use Rattle.soy_parser.specs.declared.terminal.BlockName.{BlockName}
 use Rattle.soy_parser.specs.declared.terminal.BlockName.TheVariants as name
-use Rattle.soy_parser.specs.CommandSteps.{state, is_white, nodes_with, no_nodes, text_run, with_text, ended, ended_run}
-use Rattle.soy_parser.specs.CommandSteps.{adds, begins, begins_parts, single_step, opening_step, with_arm, with_case}
-use Rattle.soy_parser.specs.CommandSteps.{arm_goes_on, case_goes_on, body_goes_on, closes_body, closed_body, body_closes}
+use Rattle.soy_parser.specs.CommandSteps.{state, is_white, text_run, with_text, ended, ended_run}
+use Rattle.soy_parser.specs.CommandSteps.{adds, begins, begins_parts, single_step, opening_step, with_arm}
+use Rattle.soy_parser.specs.CommandSteps.{arm_goes_on, case_goes_on, body_goes_on, closes_body, closed_body}
+use Rattle.soy_parser.specs.CommandSteps.{body_closes}
 use Rattle.soy_parser.specs.CommandSteps.{is_empty, is_empty_of, head_param_step, body_step, white_step, template_opens}
-use Rattle.soy_parser.specs.CommandSteps.{templates_step, argument_single, argument_opens, closed_call, is_call, arguments_step}
+use Rattle.soy_parser.specs.CommandSteps.{templates_step, argument_single, argument_opens, closed_call, is_call}
+use Rattle.soy_parser.specs.CommandSteps.{arguments_step}
 use Rattle.soy_parser.specs.CommandSteps.{plural_goes_on, select_goes_on, cases_begin, is_switch, closed_bare_switch}
-use Rattle.soy_parser.specs.CommandSteps.{before_cases_step, with_plural_cases, with_select_cases, message_goes_on}
-use Rattle.soy_parser.specs.CommandSteps.{fallback_begins, closes_message, closed_message, message_closes, choice_opens, part_single}
+use Rattle.soy_parser.specs.CommandSteps.{before_cases_step, message_goes_on}
+use Rattle.soy_parser.specs.CommandSteps.{fallback_begins, closes_message, closed_message, message_closes, choice_opens}
+use Rattle.soy_parser.specs.CommandSteps.{part_single}
 use Rattle.soy_parser.specs.CommandSteps.{has_whole_tags, parts_of, parts_step, choice_step, step_at, command_step}
 use Rattle.soy_parser.specs.CommandSteps.{commands_from, command_run, command_start}
 use Rattle.soy_parser.specs.Depth.{inside}
-use Rattle.soy_parser.specs.Nodes.{node_of, case_of, plural_cases, select_cases, text_span}
-use Rattle.soy_parser.specs.SpellsTree.{param_of, SpellsWhite, text_of, SpellsText, SpellsPrints, SpellsParts, SpellsMessageBody}
-use Rattle.soy_parser.specs.SpellsTree.{SpellsChoice, SpellsPluralCases, SpellsSelectCases, SpellsNodes, SpellsBody, SpellsNode}
-use Rattle.soy_parser.specs.SpellsTree.{SpellsArms, SpellsCases, SpellsArguments, SpellsParams, SpellsTemplates, SpellsTree}
-use Rattle.soy_parser.proofs.CommandsComplete.{open_if, open_switch, open_message, open_fallback, open_plural, open_select, open_template}
+use Rattle.soy_parser.specs.Nodes.{case_of, plural_cases, select_cases}
+use Rattle.soy_parser.specs.SpellsTree.{param_of, SpellsWhite, text_of, SpellsText, SpellsPrints, SpellsParts}
+use Rattle.soy_parser.specs.SpellsTree.{SpellsMessageBody}
+use Rattle.soy_parser.specs.SpellsTree.{SpellsChoice, SpellsPluralCases, SpellsSelectCases, SpellsNodes, SpellsBody}
+use Rattle.soy_parser.specs.SpellsTree.{SpellsNode}
+use Rattle.soy_parser.specs.SpellsTree.{SpellsArms, SpellsCases, SpellsArguments, SpellsParams, SpellsTemplates}
+use Rattle.soy_parser.specs.SpellsTree.{SpellsTree}
+use Rattle.soy_parser.proofs.CommandsComplete.{open_if, open_switch, open_message, open_fallback, open_plural}
+use Rattle.soy_parser.proofs.CommandsComplete.{open_select, open_template}
 
 -- what commands spell, at some levels: which those are, completeness says
 
@@ -129,10 +132,12 @@ pub data Opened : Inside → List Block → List Command → Type 0 where
   arm_ : (bs : List Block) (xs ys zs : List Command) (before : List Node) (arms : List Arm) (start : Span) (e : Expr)
       → Opened ABody bs xs → BodyOf ys before → ArmOpens zs arms start e
       → Opened ABody (block.Arm (open_if before start arms) e ∷ bs) (xs ++ (ys ++ zs))
-  else_ : (bs : List Block) (xs ys zs : List Command) (d : Command) (before : List Node) (arms : List Arm) (start : Span)
+  else_ : (bs : List Block) (xs ys zs : List Command) (d : Command) (before : List Node) (arms : List Arm)
+      (start : Span)
       → Opened ABody bs xs → BodyOf ys before → ArmsOf zs arms start → d.tag ≡ tag.GoesOn middle.Else
       → Opened ABody (block.Else (open_if before start arms) ∷ bs) (xs ++ (ys ++ (zs ++ (d ∷ []))))
-  for_ : (bs : List Block) (xs ys : List Command) (c : Command) (before : List Node) (n : List ℕ) (index : Option (List ℕ))
+  for_ : (bs : List Block) (xs ys : List Command) (c : Command) (before : List Node) (n : List ℕ)
+      (index : Option (List ℕ))
       (e : Expr) → Opened ABody bs xs → BodyOf ys before → c.tag ≡ tag.Opens (opening.For n index e)
       → Opened ABody (block.For before c.span n index e ∷ bs) (xs ++ (ys ++ (c ∷ [])))
   let_ : (bs : List Block) (xs ys : List Command) (c : Command) (before : List Node) (n : List ℕ) (kind : Kind)
@@ -147,7 +152,8 @@ pub data Opened : Inside → List Block → List Command → Type 0 where
   switch_ : (bs : List Block) (xs ys : List Command) (c : Command) (before : List Node) (e : Expr)
       → Opened ABody bs xs → BodyOf ys before → c.tag ≡ tag.Opens (opening.Switch e)
       → Opened ASwitch (block.Switch before c.span e ∷ bs) (xs ++ (ys ++ (c ∷ [])))
-  case_ : (bs : List Block) (xs ys ws zs : List Command) (c d : Command) (before : List Node) (e : Expr) (cases : List Case)
+  case_ : (bs : List Block) (xs ys ws zs : List Command) (c d : Command) (before : List Node) (e : Expr)
+      (cases : List Case)
       (values : List Expr)
       → Opened ABody bs xs → BodyOf ys before → c.tag ≡ tag.Opens (opening.Switch e) → WhiteOf ws → CasesOf zs cases
       → d.tag ≡ tag.GoesOn (middle.Case values)
@@ -166,7 +172,8 @@ pub data Opened : Inside → List Block → List Command → Type 0 where
       (desc meaning older older_meaning : List ℕ)
       → Opened ABody bs xs → BodyOf ys before → c.tag ≡ tag.Opens (opening.Message desc meaning) → MessageOf zs body
       → d.tag ≡ tag.GoesOn (middle.Fallback older older_meaning)
-      → Opened AMessage (block.Fallback (open_message before c.span desc meaning) body (open_fallback d.span older older_meaning)
+      → Opened AMessage (block.Fallback (open_message before c.span desc meaning) body
+      (open_fallback d.span older older_meaning)
       ∷ bs) (xs ++ (ys ++ (c ∷ (zs ++ (d ∷ [])))))
   plural_ : (bs : List Block) (xs ys : List Command) (c : Command) (e : Expr) (offset : ℕ)
       → Opened AMessage bs xs → WhiteOf ys → c.tag ≡ tag.Opens (opening.Plural e offset)
@@ -317,7 +324,8 @@ moved {o} f e = record { fine = subst (Fine o) e f.fine }
 no_white : WhiteOf []
 no_white = ([], SpellsWhite.none_)
 
-white_more : (cs : List Command) (c : Command) (text : List ℕ) → WhiteOf cs → c.tag ≡ tag.Text text → is_white text ≡ true →
+white_more : (cs : List Command) (c : Command) (text : List ℕ) → WhiteOf cs → c.tag ≡ tag.Text text
+    → is_white text ≡ true →
     WhiteOf (cs ++ (c ∷ []))
 white_more cs c text w h s = (w.0 ++ (0 ∷ []), SpellsWhite.more_ cs w.0 c text w.1 h s)
 
@@ -400,7 +408,8 @@ begun b bs xs o = record {
   };
 }
 
-begun_parts : (b : Block) (bs : List Block) (xs : List Command) → Opened AMessage (b ∷ bs) xs → IsFine (begins_parts bs b) xs
+begun_parts : (b : Block) (bs : List Block) (xs : List Command) → Opened AMessage (b ∷ bs) xs
+    → IsFine (begins_parts bs b) xs
 begun_parts b bs xs o = record {
   fine = record {
     front = xs;
@@ -457,11 +466,13 @@ module _ (bs : List Block) (nodes : Nodes) (cs : List Command) (c : Command) (h 
   single_fine (single.MessagePrint e phname) t = record { fine = tt }
   single_fine (single.Param n e) t = record { fine = tt }
 
-  opening_fine : (of : Opening) → c.tag ≡ tag.Opens of → IsFine (opening_step bs (ended nodes) of c.span) (cs ++ (c ∷ []))
+  opening_fine : (of : Opening) → c.tag ≡ tag.Opens of → IsFine (opening_step bs (ended nodes) of c.span)
+      (cs ++ (c ∷ []))
   opening_fine (opening.If e) t =
       moved
       (begun (block.Arm (open_if (ended nodes) c.span []) e) bs (h.front ++ (h.back ++ (c ∷ [])))
-      (Opened.arm_ bs h.front h.back (c ∷ []) (ended nodes) [] c.span e h.opened (body_of h.back nodes.items nodes.run h.body)
+      (Opened.arm_ bs h.front h.back (c ∷ []) (ended nodes) [] c.span e h.opened
+      (body_of h.back nodes.items nodes.run h.body)
       (ArmOpens.first_ c e t)))
       (on_whole cs h.front h.back (c ∷ []) h.whole)
   opening_fine (opening.Switch e) t =
@@ -472,7 +483,8 @@ module _ (bs : List Block) (nodes : Nodes) (cs : List Command) (c : Command) (h 
   opening_fine (opening.For n index e) t =
       moved
       (begun (block.For (ended nodes) c.span n index e) bs (h.front ++ (h.back ++ (c ∷ [])))
-      (Opened.for_ bs h.front h.back c (ended nodes) n index e h.opened (body_of h.back nodes.items nodes.run h.body) t))
+      (Opened.for_ bs h.front h.back c (ended nodes) n index e h.opened (body_of h.back nodes.items nodes.run h.body)
+      t))
       (on_whole cs h.front h.back (c ∷ []) h.whole)
   opening_fine (opening.Let n kind) t =
       moved
@@ -484,14 +496,16 @@ module _ (bs : List Block) (nodes : Nodes) (cs : List Command) (c : Command) (h 
       front = h.front ++ (h.back ++ (c ∷ []));
       back = [];
       whole = sym (append-nil (h.front ++ (h.back ++ (c ∷ []))) ∙ on_whole cs h.front h.back (c ∷ []) h.whole);
-      opened = Opened.call_ bs h.front h.back c (ended nodes) n all h.opened (body_of h.back nodes.items nodes.run h.body) t;
+      opened = Opened.call_ bs h.front h.back c (ended nodes) n all h.opened
+          (body_of h.back nodes.items nodes.run h.body) t;
       are = ([], SpellsArguments.no_argument_);
     };
   }
   opening_fine (opening.Message desc meaning) t =
       moved
       (begun_parts (block.Message (open_message (ended nodes) c.span desc meaning)) bs (h.front ++ (h.back ++ (c ∷ [])))
-      (Opened.message_ bs h.front h.back c (ended nodes) desc meaning h.opened (body_of h.back nodes.items nodes.run h.body) t))
+      (Opened.message_ bs h.front h.back c (ended nodes) desc meaning h.opened
+      (body_of h.back nodes.items nodes.run h.body) t))
       (on_whole cs h.front h.back (c ∷ []) h.whole)
   opening_fine (opening.Template of) t = record { fine = tt }
   opening_fine (opening.Param n kind) t = record { fine = tt }
@@ -499,7 +513,8 @@ module _ (bs : List Block) (nodes : Nodes) (cs : List Command) (c : Command) (h 
   opening_fine (opening.Select e) t = record { fine = tt }
 
 -- an arm has its body
-arms_more : (zs ys : List Command) (arms : List Arm) (start : Span) (e : Expr) (ns : List Node) → ArmOpens zs arms start e →
+arms_more : (zs ys : List Command) (arms : List Arm) (start : Span) (e : Expr) (ns : List Node)
+    → ArmOpens zs arms start e →
     BodyOf ys ns → ArmsOf (zs ++ ys) (with_arm (open_if [] start arms) e ns).arms start
 arms_more _ ys _ _ _ ns (ArmOpens.first_ c e h) b = (0 ∷ inside 1 b.0, SpellsArms.first_arm_ c ys b.0 e ns h b.1)
 arms_more _ ys _ _ _ ns (ArmOpens.next_ cs arms start d e a h) b =
@@ -507,12 +522,15 @@ arms_more _ ys _ _ _ ns (ArmOpens.next_ cs arms start d e a h) b =
     (a.0 ++ inside 1 (0 ∷ b.0), SpellsArms.next_arm_ cs ys a.0 b.0 arms start d e ns a.1 h b.1)
 
 -- a case has its body
-cases_more : (zs ys : List Command) (cases : List Case) (d : Command) (values : List Expr) (ns : List Node) → CasesOf zs cases →
-    d.tag ≡ tag.GoesOn (middle.Case values) → BodyOf ys ns → CasesOf (zs ++ (d ∷ ys)) (cases ++ (case_of values ns ∷ []))
+cases_more : (zs ys : List Command) (cases : List Case) (d : Command) (values : List Expr) (ns : List Node)
+    → CasesOf zs cases →
+    d.tag ≡ tag.GoesOn (middle.Case values) → BodyOf ys ns
+    → CasesOf (zs ++ (d ∷ ys)) (cases ++ (case_of values ns ∷ []))
 cases_more zs ys cases d values ns k h b =
     (k.0 ++ (0 ∷ b.0), SpellsCases.case_ zs ys k.0 b.0 cases d values ns k.1 h b.1)
 
-arm_goes_on_fine : (bs : List Block) (xs ys zs : List Command) (before : List Node) (arms : List Arm) (start : Span) (m : Middle)
+arm_goes_on_fine : (bs : List Block) (xs ys zs : List Command) (before : List Node) (arms : List Arm) (start : Span)
+    (m : Middle)
     (d : Command) → Opened ABody bs xs → BodyOf ys before → ArmsOf zs arms start → d.tag ≡ tag.GoesOn m →
     IsFine (arm_goes_on bs (open_if before start arms) m) (xs ++ (ys ++ (zs ++ (d ∷ []))))
 arm_goes_on_fine bs xs ys zs before arms start (middle.ElseIf e) d o b a h =
@@ -536,20 +554,24 @@ case_goes_on_fine bs xs ys ws zs c before e cases middle.Default d o b hc w k h 
 case_goes_on_fine bs xs ys ws zs c before e cases _ d o b hc w k h = record { fine = tt }
 
 goes_on_fine : (bs : List Block) (xs : List Command) → Opened ABody bs xs → (ys : List Command) (ns : List Node) →
-    BodyOf ys ns → (d : Command) (m : Middle) → d.tag ≡ tag.GoesOn m → IsFine (body_goes_on bs ns m) ((xs ++ ys) ++ (d ∷ []))
+    BodyOf ys ns → (d : Command) (m : Middle) → d.tag ≡ tag.GoesOn m
+    → IsFine (body_goes_on bs ns m) ((xs ++ ys) ++ (d ∷ []))
 goes_on_fine _ _ (Opened.template_ ds cs ps c k n templates of params w hc t hk p) ys ns b d m h = record { fine = tt }
 goes_on_fine _ _ (Opened.arm_ bs xs us zs before arms start e o v a) ys ns b d m h =
     moved
-    (arm_goes_on_fine bs xs us (zs ++ ys) before _ start m d o v (arms_more zs ys arms start e ns a b) h) (simp append_assoc)
+    (arm_goes_on_fine bs xs us (zs ++ ys) before _ start m d o v (arms_more zs ys arms start e ns a b) h)
+    (simp append_assoc)
 goes_on_fine _ _ (Opened.else_ bs xs us zs k before arms start o v a hk) ys ns b d m h = record { fine = tt }
 goes_on_fine _ _ (Opened.for_ bs xs us c before n index e o v hc) ys ns b d m h = record { fine = tt }
 goes_on_fine _ _ (Opened.let_ bs xs us c before n kind o v hc) ys ns b d m h = record { fine = tt }
 goes_on_fine _ _ (Opened.param_ bs xs us c arguments n kind o a hc) ys ns b d m h = record { fine = tt }
 goes_on_fine _ _ (Opened.case_ bs xs us ws zs c k before e cases values o v hc w a hk) ys ns b d m h =
     moved
-    (case_goes_on_fine bs xs us ws (zs ++ (k ∷ ys)) c before e _ m d o v hc w (cases_more zs ys cases k values ns a hk b) h)
+    (case_goes_on_fine bs xs us ws (zs ++ (k ∷ ys)) c before e _ m d o v hc w
+    (cases_more zs ys cases k values ns a hk b) h)
     (simp append_assoc)
-goes_on_fine _ _ (Opened.switch_default_ bs xs us ws zs c k before e cases o v hc w a hk) ys ns b d m h = record { fine = tt }
+goes_on_fine _ _ (Opened.switch_default_ bs xs us ws zs c k before e cases o v hc w a hk) ys ns b d m h =
+    record { fine = tt }
 
 -- the name that closes a block with a body
 abbrev body_name : Block → BlockName
@@ -595,7 +617,8 @@ closed_fine _ _ _ (Opened.template_ ds cs ps c k n templates of params w hc t hk
 closed_fine _ _ _ (Opened.arm_ bs xs us zs before arms start e o v a) ys ns b z h =
     let k = arms_more zs ys arms start e ns a b in
     moved
-    (adds_fine bs xs us ((zs ++ ys) ++ (z ∷ [])) before _ o v (k.0 ++ (1 ∷ []), SpellsNode.if_ z (zs ++ ys) k.0 _ start k.1 h))
+    (adds_fine bs xs us ((zs ++ ys) ++ (z ∷ [])) before _ o v
+    (k.0 ++ (1 ∷ []), SpellsNode.if_ z (zs ++ ys) k.0 _ start k.1 h))
     (simp append_assoc)
 closed_fine _ _ _ (Opened.else_ bs xs us zs k before arms start o v a hk) ys ns b z h =
     moved
@@ -656,14 +679,16 @@ none_spelled _ _ _ SpellsNodes.no_node_ e = refl
 none_spelled _ _ _ (SpellsNodes.node_ cs ds ls ms ns n s i) e =
     absurd (omega (arith, simp length-append at (ap length e)))
 
-head_param_fine : (bs : List Block) (xs : List Command) → Opened ABody bs xs → (c : Command) (n : List ℕ) (required : Bool)
+head_param_fine : (bs : List Block) (xs : List Command) → Opened ABody bs xs
+    → (c : Command) (n : List ℕ) (required : Bool)
     (of : SoyType) → c.tag ≡ tag.HeadParam n required of →
     IsFine (head_param_step bs (param_of n of required c.span)) (xs ++ (c ∷ []))
 head_param_fine _ _ (Opened.template_ ds cs ps k d n templates of params w hk t hd p) c m required kind h =
     moved
     (begun (block.Template (open_template n templates of d.span (params ++ (param_of m kind required c.span ∷ [])))) []
     (ds ++ (k ∷ (cs ++ (d ∷ (ps ++ (c ∷ []))))))
-    (Opened.template_ ds cs (ps ++ (c ∷ [])) k d n templates of (params ++ (param_of m kind required c.span ∷ [])) w hk t hd
+    (Opened.template_ ds cs (ps ++ (c ∷ [])) k d n templates of (params ++ (param_of m kind required c.span ∷ [])) w
+    hk t hd
     (p.0 ++ (0 ∷ []), SpellsParams.param_ ps p.0 params c m required kind p.1 h)))
     (simp append_assoc)
 head_param_fine _ _ (Opened.arm_ bs xs us zs before arms start e o v a) c m required kind h = record { fine = tt }
@@ -671,8 +696,10 @@ head_param_fine _ _ (Opened.else_ bs xs us zs k before arms start o v a hk) c m 
 head_param_fine _ _ (Opened.for_ bs xs us k before n index e o v hc) c m required kind h = record { fine = tt }
 head_param_fine _ _ (Opened.let_ bs xs us k before n of o v hc) c m required kind h = record { fine = tt }
 head_param_fine _ _ (Opened.param_ bs xs us k arguments n of o a hc) c m required kind h = record { fine = tt }
-head_param_fine _ _ (Opened.case_ bs xs us ws zs k d before e cases values o v hc w a hk) c m required kind h = record { fine = tt }
-head_param_fine _ _ (Opened.switch_default_ bs xs us ws zs k d before e cases o v hc w a hk) c m required kind h = record { fine = tt }
+head_param_fine _ _ (Opened.case_ bs xs us ws zs k d before e cases values o v hc w a hk) c m required kind h =
+    record { fine = tt }
+head_param_fine _ _ (Opened.switch_default_ bs xs us ws zs k d before e cases o v hc w a hk) c m required kind h =
+    record { fine = tt }
 
 empty_back : (ys : List Command) (items : List Node) (run : Option TextRun) → BodyAt_run ys items run →
     is_empty_of items run ≡ true → ys ≡ []
@@ -728,7 +755,8 @@ white_fine bs cs c (tag.Namespace n) e h = record {
 }
 white_fine bs cs c _ e h = record { fine = tt }
 
-template_opens_fine : (bs : List Block) (n : List ℕ) (templates : List Template) (cs : List Command) (c : Command) (of : Opening) →
+template_opens_fine : (bs : List Block) (n : List ℕ) (templates : List Template) (cs : List Command) (c : Command)
+    (of : Opening) →
     c.tag ≡ tag.Opens of → HeldTemplates bs n templates cs →
     IsFine (template_opens bs n templates of c.span) (cs ++ (c ∷ []))
 template_opens_fine bs n templates cs c (opening.Template of) e h =
@@ -740,7 +768,8 @@ template_opens_fine bs n templates cs c (opening.Template of) e h =
     (sym (append_assoc h.front (h.command ∷ h.back) (c ∷ [])) ∙ ap (λ l. l ++ (c ∷ [])) (sym h.whole)))
 template_opens_fine bs n templates cs c _ e h = record { fine = tt }
 
-templates_fine : (bs : List Block) (n : List ℕ) (templates : List Template) (cs : List Command) (c : Command) (of : Tag) →
+templates_fine : (bs : List Block) (n : List ℕ) (templates : List Template) (cs : List Command) (c : Command)
+    (of : Tag) →
     c.tag ≡ of → HeldTemplates bs n templates cs → IsFine (templates_step bs n templates of c.span) (cs ++ (c ∷ []))
 templates_fine bs n templates cs c (tag.Text text) e h = over (is_white text) refl
   where
@@ -801,7 +830,8 @@ call_name : (n : BlockName) → is_call n ≡ true → n ≡ name.Call
 call_name name.Call e = refl
 call_name _ e = absurd (cc e)
 
-arguments_fine : (bs : List Block) (arguments : List Argument) (cs : List Command) (c : Command) (of : Tag) → c.tag ≡ of →
+arguments_fine : (bs : List Block) (arguments : List Argument) (cs : List Command) (c : Command) (of : Tag)
+    → c.tag ≡ of →
     HeldArguments bs arguments cs → IsFine (arguments_step bs arguments of c.span) (cs ++ (c ∷ []))
 arguments_fine bs arguments cs c (tag.Text text) e h = over (is_white text) refl
   where
@@ -855,7 +885,8 @@ select_goes_on_fine bs xs ys ws zs c e cases middle.Default d o v hc w k h =
     (Opened.select_default_ bs xs ys ws zs c d e cases o v hc w k h)
 select_goes_on_fine bs xs ys ws zs c e cases _ d o v hc w k h = record { fine = tt }
 
-cases_begin_fine : (k : Inside) → HasCases k → (bs : List Block) (xs : List Command) → Opened k bs xs → (ws : List Command) →
+cases_begin_fine : (k : Inside) → HasCases k → (bs : List Block) (xs : List Command) → Opened k bs xs
+    → (ws : List Command) →
     WhiteOf ws → (d : Command) (m : Middle) → d.tag ≡ tag.GoesOn m → IsFine (cases_begin bs m) ((xs ++ ws) ++ (d ∷ []))
 cases_begin_fine _ HasCases.switch_ _ _ (Opened.switch_ bs xs us c before e o v hc) ws w d m h =
     moved (case_goes_on_fine bs xs us ws [] c before e [] m d o v hc w ([], SpellsCases.no_case_) h) (simp append_assoc)
@@ -866,7 +897,8 @@ cases_begin_fine _ HasCases.select_ _ _ (Opened.select_ bs xs us c e o v hc) ws 
     moved (select_goes_on_fine bs xs us ws [] c e [] m d o v hc w ([], SpellsSelectCases.no_select_case_) h)
     (simp append_assoc)
 
-closed_bare_fine : (k : Inside) → HasCases k → (bs : List Block) (xs : List Command) → Opened k bs xs → (ws : List Command) →
+closed_bare_fine : (k : Inside) → HasCases k → (bs : List Block) (xs : List Command) → Opened k bs xs
+    → (ws : List Command) →
     WhiteOf ws → (z : Command) → z.tag ≡ tag.Closes name.Switch →
     IsFine (closed_bare_switch bs z.span) ((xs ++ ws) ++ (z ∷ []))
 closed_bare_fine _ HasCases.switch_ _ _ (Opened.switch_ bs xs us c before e o v hc) ws w z h =
@@ -881,7 +913,8 @@ switch_name : (n : BlockName) → is_switch n ≡ true → n ≡ name.Switch
 switch_name name.Switch e = refl
 switch_name _ e = absurd (cc e)
 
-before_cases_fine : (bs : List Block) (cs : List Command) (c : Command) (of : Tag) → c.tag ≡ of → HeldBeforeCases bs cs →
+before_cases_fine : (bs : List Block) (cs : List Command) (c : Command) (of : Tag) → c.tag ≡ of
+    → HeldBeforeCases bs cs →
     IsFine (before_cases_step bs of c.span) (cs ++ (c ∷ []))
 before_cases_fine bs cs c (tag.Text text) e h = over (is_white text) refl
   where
@@ -899,7 +932,8 @@ before_cases_fine bs cs c (tag.Text text) e h = over (is_white text) refl
     }
     over false w = record { fine = tt }
 before_cases_fine bs cs c (tag.GoesOn m) e h =
-    moved (cases_begin_fine h.inside h.has bs h.front h.opened h.back h.white c m e) (ap (λ l. l ++ (c ∷ [])) (sym h.whole))
+    moved (cases_begin_fine h.inside h.has bs h.front h.opened h.back h.white c m e)
+    (ap (λ l. l ++ (c ∷ [])) (sym h.whole))
 before_cases_fine bs cs c (tag.Closes n) e h = over (is_switch n) refl
   where
     over : (t : Bool) → is_switch n ≡ t → IsFine (if t then closed_bare_switch bs c.span else None) (cs ++ (c ∷ []))
@@ -918,7 +952,8 @@ plural_more : (zs ys : List Command) (cases : List PluralCase) (d : Command) (va
 plural_more zs ys cases d values body k h b =
     (k.0 ++ (0 ∷ b.0), SpellsPluralCases.plural_case_ zs ys k.0 b.0 cases d values body k.1 h b.1)
 
-select_more : (zs ys : List Command) (cases : List SelectCase) (d : Command) (values : List (List ℕ)) (body : MessageBody) →
+select_more : (zs ys : List Command) (cases : List SelectCase) (d : Command) (values : List (List ℕ))
+    (body : MessageBody) →
     SelectCasesOf zs cases → d.tag ≡ tag.GoesOn (middle.SelectCase values) → MessageOf ys body →
     SelectCasesOf (zs ++ (d ∷ ys)) (cases ++ select_cases values body)
 select_more zs ys cases d values body k h b =
@@ -927,9 +962,11 @@ select_more zs ys cases d values body k h b =
 fallback_fine : (bs : List Block) (xs us ys : List Command) (c : Command) (before : List Node) (desc meaning : List ℕ)
     (body : MessageBody) (m : Middle) (d : Command) → Opened ABody bs xs → BodyOf us before →
     c.tag ≡ tag.Opens (opening.Message desc meaning) → MessageOf ys body → d.tag ≡ tag.GoesOn m →
-    IsFine (fallback_begins bs (open_message before c.span desc meaning) body m d.span) (xs ++ (us ++ (c ∷ (ys ++ (d ∷ [])))))
+    IsFine (fallback_begins bs (open_message before c.span desc meaning) body m d.span)
+    (xs ++ (us ++ (c ∷ (ys ++ (d ∷ [])))))
 fallback_fine bs xs us ys c before desc meaning body (middle.Fallback older older_meaning) d o v hc b h =
-    begun_parts (block.Fallback (open_message before c.span desc meaning) body (open_fallback d.span older older_meaning)) bs
+    begun_parts (block.Fallback (open_message before c.span desc meaning) body
+    (open_fallback d.span older older_meaning)) bs
     (xs ++ (us ++ (c ∷ (ys ++ (d ∷ [])))))
     (Opened.fallback_ bs xs us ys c d before body desc meaning older older_meaning o v hc b h)
 fallback_fine bs xs us ys c before desc meaning body _ d o v hc b h = record { fine = tt }
@@ -939,17 +976,20 @@ message_goes_on_fine : (bs : List Block) (xs : List Command) → Opened AMessage
     IsFine (message_goes_on bs body m d.span) ((xs ++ ys) ++ (d ∷ []))
 message_goes_on_fine _ _ (Opened.message_ bs xs us c before desc meaning o v hc) ys body b d m h =
     moved (fallback_fine bs xs us ys c before desc meaning body m d o v hc b h) (simp append_assoc)
-message_goes_on_fine _ _ (Opened.fallback_ bs xs us zs c k before first desc meaning older older_meaning o v hc a hk) ys body b d
+message_goes_on_fine _ _ (Opened.fallback_ bs xs us zs c k before first desc meaning older older_meaning o v hc a hk)
+    ys body b d
     m h = record { fine = tt }
 message_goes_on_fine _ _ (Opened.plural_case_ bs xs us ws zs c k e offset cases values o v hc w a hk) ys body b d m h =
     moved
-    (plural_goes_on_fine bs xs us ws (zs ++ (k ∷ ys)) c e offset _ m d o v hc w (plural_more zs ys cases k values body a hk b) h)
+    (plural_goes_on_fine bs xs us ws (zs ++ (k ∷ ys)) c e offset _ m d o v hc w
+    (plural_more zs ys cases k values body a hk b) h)
     (simp append_assoc)
 message_goes_on_fine _ _ (Opened.plural_default_ bs xs us ws zs c k e offset cases o v hc w a hk) ys body b d m h =
     record { fine = tt }
 message_goes_on_fine _ _ (Opened.select_case_ bs xs us ws zs c k e cases values o v hc w a hk) ys body b d m h =
     moved
-    (select_goes_on_fine bs xs us ws (zs ++ (k ∷ ys)) c e _ m d o v hc w (select_more zs ys cases k values body a hk b) h)
+    (select_goes_on_fine bs xs us ws (zs ++ (k ∷ ys)) c e _ m d o v hc w
+    (select_more zs ys cases k values body a hk b) h)
     (simp append_assoc)
 message_goes_on_fine _ _ (Opened.select_default_ bs xs us ws zs c k e cases o v hc w a hk) ys body b d m h =
     record { fine = tt }
@@ -969,7 +1009,8 @@ closes_message_name (block.PluralDefault p) name.Plural e = refl
 closes_message_name (block.SelectDefault s) name.Select e = refl
 closes_message_name _ _ e = absurd (cc e)
 
-closed_message_fine : (b : Block) (bs : List Block) (xs : List Command) → Opened AMessage (b ∷ bs) xs → (ys : List Command)
+closed_message_fine : (b : Block) (bs : List Block) (xs : List Command) → Opened AMessage (b ∷ bs) xs
+    → (ys : List Command)
     (body : MessageBody) → MessageOf ys body → (z : Command) → z.tag ≡ tag.Closes (message_name b) →
     IsFine (closed_message bs b body z.span) ((xs ++ ys) ++ (z ∷ []))
 closed_message_fine _ _ _ (Opened.message_ bs xs us c before desc meaning o v hc) ys body m z h =
@@ -977,7 +1018,8 @@ closed_message_fine _ _ _ (Opened.message_ bs xs us c before desc meaning o v hc
     (adds_fine bs xs us (c ∷ (ys ++ (z ∷ []))) before _ o v
     (0 ∷ inside 1 (m.0 ++ (0 ∷ [])), SpellsNode.message_ c z ys m.0 desc meaning body hc m.1 h))
     (simp append_assoc)
-closed_message_fine _ _ _ (Opened.fallback_ bs xs us zs c k before first desc meaning older older_meaning o v hc a hk) ys body m z
+closed_message_fine _ _ _ (Opened.fallback_ bs xs us zs c k before first desc meaning older older_meaning o v hc a hk)
+    ys body m z
     h =
     moved
     (adds_fine bs xs us (c ∷ (zs ++ (k ∷ (ys ++ (z ∷ []))))) before _ o v (
@@ -1041,7 +1083,8 @@ choice_opens_fine bs xs ys c (opening.Plural e offset) h o w =
     begun_cases APlural (block.Plural e offset) bs (xs ++ (ys ++ (c ∷ []))) HasCases.plural_
     (Opened.plural_ bs xs ys c e offset o w h)
 choice_opens_fine bs xs ys c (opening.Select e) h o w =
-    begun_cases ASelect (block.Select e) bs (xs ++ (ys ++ (c ∷ []))) HasCases.select_ (Opened.select_ bs xs ys c e o w h)
+    begun_cases ASelect (block.Select e) bs (xs ++ (ys ++ (c ∷ []))) HasCases.select_
+    (Opened.select_ bs xs ys c e o w h)
 choice_opens_fine bs xs ys c _ h o w = record { fine = tt }
 
 both_true : (a b : Bool) → (a && b) ≡ true → (a ≡ true) × (b ≡ true)
@@ -1050,7 +1093,8 @@ both_true true false e = absurd (cc e)
 both_true false b e = absurd (cc e)
 
 part_single_fine : (bs : List Block) (nodes : Nodes) (white : Bool) (cs : List Command) (c : Command) (of : Single) →
-    c.tag ≡ tag.Single of → HeldParts bs nodes white cs → IsFine (part_single bs (ended nodes) of c.span) (cs ++ (c ∷ []))
+    c.tag ≡ tag.Single of → HeldParts bs nodes white cs → IsFine (part_single bs (ended nodes) of c.span)
+    (cs ++ (c ∷ []))
 part_single_fine bs nodes white cs c (single.MessagePrint e phname) t h =
     let p = parts_at h.back nodes.items nodes.run h.parts in
     record {
@@ -1065,7 +1109,8 @@ part_single_fine bs nodes white cs c (single.MessagePrint e phname) t h =
     }
 part_single_fine bs nodes white cs c _ t h = record { fine = tt }
 
-parts_fine : (bs : List Block) (nodes : Nodes) (white : Bool) (cs : List Command) (c : Command) (of : Tag) → c.tag ≡ of →
+parts_fine : (bs : List Block) (nodes : Nodes) (white : Bool) (cs : List Command) (c : Command) (of : Tag)
+    → c.tag ≡ of →
     HeldParts bs nodes white cs → IsFine (parts_step bs nodes white of c.span) (cs ++ (c ∷ []))
 parts_fine bs nodes white cs c (tag.Text text) e h = record {
   fine = record {
@@ -1074,7 +1119,8 @@ parts_fine bs nodes white cs c (tag.Text text) e h = record {
     whole = sym (on_whole cs h.front h.back (c ∷ []) h.whole);
     opened = h.opened;
     parts = parts_text h.back nodes.items nodes.run c text h.parts (ap text_of e);
-    are_white = λ q. let both = both_true white (is_white text) q in white_more h.back c text (h.are_white both.0) e both.1;
+    are_white = λ q. let both = both_true white (is_white text) q in white_more h.back c text (h.are_white both.0) e
+        both.1;
   };
 }
 parts_fine bs nodes white cs c (tag.Character text) e h = record {
@@ -1094,7 +1140,8 @@ parts_fine bs nodes white cs c (tag.Opens of) e h = over white refl
   where
     over : (t : Bool) → white ≡ t → IsFine (if t then choice_opens bs of else None) (cs ++ (c ∷ []))
     over true q =
-        moved (choice_opens_fine bs h.front h.back c of e h.opened (h.are_white q)) (on_whole cs h.front h.back (c ∷ []) h.whole)
+        moved (choice_opens_fine bs h.front h.back c of e h.opened (h.are_white q))
+        (on_whole cs h.front h.back (c ∷ []) h.whole)
     over false q = record { fine = tt }
 parts_fine bs nodes white cs c (tag.GoesOn m) e h = over (has_whole_tags nodes) refl
   where
@@ -1169,7 +1216,8 @@ step_fine (content.Parts nodes white) bs cs c h = parts_fine bs nodes white cs c
 step_fine (content.Choice body) bs cs c h = choice_fine bs body cs c c.tag refl h
 
 -- so do commands one after the other
-pub run_held : (cs ds : List Command) (s s' : CommandState) → Held_at s.content s.blocks ds → command_run cs s ≡ Some s' →
+pub run_held : (cs ds : List Command) (s s' : CommandState) → Held_at s.content s.blocks ds
+    → command_run cs s ≡ Some s' →
     Held_at s'.content s'.blocks (ds ++ cs)
 run_held [] ds s s' h e =
     subst (λ l. Held_at s'.content s'.blocks l) (sym (append-nil ds)) (subst (λ o. Fine o ds) e h)

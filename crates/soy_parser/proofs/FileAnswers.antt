@@ -1,5 +1,6 @@
 -- Tokens have one answer as a file, but where memory runs out.
-use Rattle.std.proofs.Common.{◌≡◌, ℕ, ◌+◌, ◌<◌, Bool, true, false, length, List, [], ◌∷◌, ◌++◌, refl, sym, ◌∙◌, ap, subst, arith, append_assoc, append-nil, length-append}
+use Rattle.std.proofs.Common.{◌≡◌, ℕ, ◌<◌, Bool, true, false, length, List, [], ◌∷◌, ◌++◌, refl, sym, ◌∙◌, ap}
+use Rattle.std.proofs.Common.{subst, arith, append_assoc, append-nil, length-append}
 use Rattle.std.specs.Prelude.{Result, Ok, Err}
 use Rattle.soy_base.specs.declared.code.Code.{Code}
 use Rattle.soy_base.specs.declared.code.Code.TheVariants as code
@@ -16,9 +17,11 @@ use Rattle.expr_parser.proofs.Longest.{Ends, same_longest, same_bad, longest_goo
 use Rattle.expr_parser.proofs.Prefixes.{same_prefix, same_last, within_prefix, within_last}
 use Rattle.soy_parser.specs.FileRuns.{file_depths, file_words}
 use Rattle.soy_parser.specs.FileSteps.{file_start}
-use Rattle.soy_parser.specs.ParsesFile.{IsFile, NoFileGoesOn, IsNoFile, BeginsFault, IsTooDeep, IsUnknown, RefusesFile, ParsesFile}
+use Rattle.soy_parser.specs.ParsesFile.{IsFile, NoFileGoesOn, IsNoFile, BeginsFault, IsTooDeep, IsUnknown, RefusesFile}
+use Rattle.soy_parser.specs.ParsesFile.{ParsesFile}
 use Rattle.soy_parser.specs.SpellsFile.{SpellsFile, BeginsFile}
-use Rattle.soy_parser.proofs.FileMachine.{BeginsFile-run, run-BeginsFile, before, depths_length, words_length, spelled_same}
+use Rattle.soy_parser.proofs.FileMachine.{BeginsFile-run, run-BeginsFile, before, depths_length, words_length}
+use Rattle.soy_parser.proofs.FileMachine.{spelled_same}
 use Rattle.soy_parser.proofs.FileMachine.{begun_depths, begun_words}
 use Rattle.soy_parser.proofs.FileRunning.{depths_append, words_append}
 use Rattle.soy_parser.proofs.FilesComplete.{file_leads}
@@ -56,7 +59,11 @@ begun_shorter : (ts us : List Token) → Begun (ts ++ us) → Begun ts
 begun_shorter ts us b =
     let i = BeginsFile-run (ts ++ us) b.depths b.words b.begins in
     let m = before ts us i.state i.is in
-    record { depths = file_depths ts file_start; words = file_words ts file_start; begins = run-BeginsFile ts m.state m.is }
+    record {
+      depths = file_depths ts file_start;
+      words = file_words ts file_start;
+      begins = run-BeginsFile ts m.state m.is;
+    }
 
 good_shorter : (ts us rest : List Token) → Good (ts ++ us) rest → Good ts (us ++ rest)
 good_shorter ts us rest g =
@@ -70,11 +77,13 @@ good_shorter ts us rest g =
           (subst (AreWithin 0) (i.depths_are ∙ depths_append ts us file_start m.state m.is) g.within);
       known = names_prefix ts us (file_words ts file_start) (file_words us m.state) rest
           (words_length ts file_start m.state m.is)
-          (subst (λ ws. NameTypes (ts ++ us) ws rest) (i.words_are ∙ words_append ts us file_start m.state m.is) g.known);
+          (subst (λ ws. NameTypes (ts ++ us) ws rest) (i.words_are ∙ words_append ts us file_start m.state m.is)
+          g.known);
     }
 
 -- what is spelled begins
-spelled_begins : (ts : List Token) (ds : List ℕ) (ws : List Bool) (x : Tree) → SpellsFile ts ds ws x → BeginsFile ts ds ws
+spelled_begins : (ts : List Token) (ds : List ℕ) (ws : List Bool) (x : Tree) → SpellsFile ts ds ws x
+    → BeginsFile ts ds ws
 spelled_begins ts ds ws x s =
     let i = file_leads ts ds ws x s in
     subst (λ l. BeginsFile ts ds l) (sym i.words_are)
@@ -121,7 +130,8 @@ module _ (tokens : List Token) where
   -- the tokens before the fault are good
   before_fault : {offset : ℕ} (i : BeginsFault tokens offset) → Good i.prefix (i.token ∷ i.rest)
   before_fault i =
-      let r = BeginsFile-run (i.prefix ++ (i.token ∷ [])) (i.depths ++ (i.depth ∷ [])) (i.words ++ (i.word ∷ [])) i.begins in
+      let r = BeginsFile-run (i.prefix ++ (i.token ∷ [])) (i.depths ++ (i.depth ∷ [])) (i.words ++ (i.word ∷ []))
+      i.begins in
       let m = before i.prefix (i.token ∷ []) r.state r.is in
       let long = i.begins.one_depth_each in
       let short = i.begins.one_word_each in
@@ -136,10 +146,12 @@ module _ (tokens : List Token) where
         words = file_words i.prefix file_start;
         begins = run-BeginsFile i.prefix m.state m.is;
         within = subst (AreWithin 0)
-            (same_prefix i.depths (file_depths i.prefix file_start) (i.depth ∷ []) (file_depths (i.token ∷ []) m.state) even
+            (same_prefix i.depths (file_depths i.prefix file_start) (i.depth ∷ [])
+            (file_depths (i.token ∷ []) m.state) even
             (r.depths_are ∙ depths_append i.prefix (i.token ∷ []) file_start m.state m.is)) i.within;
         known = subst (λ ws. NameTypes i.prefix ws (i.token ∷ i.rest))
-            (same_prefix i.words (file_words i.prefix file_start) (i.word ∷ []) (file_words (i.token ∷ []) m.state) level
+            (same_prefix i.words (file_words i.prefix file_start) (i.word ∷ []) (file_words (i.token ∷ []) m.state)
+            level
             (r.words_are ∙ words_append i.prefix (i.token ∷ []) file_start m.state m.is)) i.known;
       }
 
@@ -177,7 +189,8 @@ module _ (tokens : List Token) where
     bad = bad_deep i.fault i.deep;
   }
 
-  first_unknown : {offset : ℕ} (i : IsUnknown tokens offset) → IsFirstBad tokens i.fault.prefix i.fault.token i.fault.rest
+  first_unknown : {offset : ℕ} (i : IsUnknown tokens offset) → IsFirstBad tokens i.fault.prefix i.fault.token
+      i.fault.rest
   first_unknown i = record {
     whole = i.fault.whole;
     good = before_fault i.fault;
@@ -197,7 +210,8 @@ module _ (tokens : List Token) where
 
   never_both : {ps rs qs ss : List Token} {t : Token} → IsLongest tokens ps rs → IsFirstBad tokens qs t ss → ⊥
   never_both {ps} {rs} {qs} {ss} {t} a b =
-      longest_good Begun begun_shorter Good good_shorter ps rs qs ss t (sym a.whole ∙ b.whole) a.good a.stops b.begun b.bad
+      longest_good Begun begun_shorter Good good_shorter ps rs qs ss t (sym a.whole ∙ b.whole) a.good a.stops b.begun
+      b.bad
 
   one_bad : {ps rs qs ss : List Token} {t u : Token} → IsFirstBad tokens ps t rs → IsFirstBad tokens qs u ss →
       (ps ≡ qs) × (t ≡ u)
@@ -275,6 +289,7 @@ one_file_answer file tokens (Ok x) (Ok y) p q m n =
 one_file_answer file tokens (Ok x) (Err (refusal.Because g)) p q m n = absurd (never_refused tokens g.code g.at p q.1)
 one_file_answer file tokens (Err (refusal.Because f)) (Ok y) p q m n = absurd (never_refused tokens f.code f.at q p.1)
 one_file_answer file tokens (Err (refusal.Because f)) (Err (refusal.Because g)) p q m n =
-    ap (λ h. Err (refusal.Because h)) (fault_same f g (refused_same tokens f.code g.code f.at g.at p.1 q.1) (p.0 ∙ sym q.0))
+    ap (λ h. Err (refusal.Because h)) (fault_same f g (refused_same tokens f.code g.code f.at g.at p.1 q.1)
+    (p.0 ∙ sym q.0))
 one_file_answer file tokens (Err refusal.OutOfMemory) b p q m n = absurd (m refl)
 one_file_answer file tokens a (Err refusal.OutOfMemory) p q m n = absurd (n refl)

@@ -1,20 +1,23 @@
--- The machine of files against the grammar: there is a state after tokens exactly where some file begins with them, it has
+-- The machine of files against the grammar: there is a state after tokens exactly where some file begins with them, it
+-- has
 -- read a whole file exactly where they spell one, and its depths and words are those at the tokens.
-use Rattle.std.proofs.Common.{◌≡◌, ℕ, suc, Bool, List, [], ◌∷◌, ◌++◌, length, Option, Some, None, refl, sym, ◌∙◌, ap, subst}
+use Rattle.std.proofs.Common.{◌≡◌, ℕ, suc, Bool, List, [], ◌∷◌, ◌++◌, length, Option, Some, None, refl, sym, ◌∙◌, ap}
+use Rattle.std.proofs.Common.{subst}
 use Rattle.soy_lexer.specs.declared.token.Token.{Token}
 use Rattle.soy_tree.specs.declared.tree.Tree.{Tree}
 use Rattle.expr_parser.proofs.Prefixes.{same_prefix}
 use Rattle.soy_parser.specs.declared.spot.FileState.{FileState}
-use Rattle.soy_parser.specs.FileRuns.{file_run, file_run_from, file_depths, file_depths_from, file_words, file_words_from}
+use Rattle.soy_parser.specs.FileRuns.{file_run, file_run_from, file_depths, file_depths_from, file_words}
+use Rattle.soy_parser.specs.FileRuns.{file_words_from}
 use Rattle.soy_parser.specs.FileSteps.{file_step, file_start, whole_file}
 use Rattle.soy_parser.specs.SpellsFile.{SpellsFile, BeginsFile}
 use Rattle.soy_parser.proofs.FileRunning.{run_append, depths_append, words_append}
-use Rattle.soy_parser.proofs.FilesComplete.{ReadFile, file_leads}
-use Rattle.soy_parser.proofs.FilesExact.{CompletesFile, run-CompletesFile, whole_file-SpelledFile}
-use Rattle.soy_parser.proofs.WrittenTokens.{SpelledFile}
+use Rattle.soy_parser.proofs.FilesComplete.{file_leads}
+use Rattle.soy_parser.proofs.FilesExact.{run-CompletesFile, whole_file-SpelledFile}
 
 -- there is a depth for each token
-pub depths_length : (ts : List Token) (s s' : FileState) → file_run ts s ≡ Some s' → length (file_depths ts s) ≡ length ts
+pub depths_length : (ts : List Token) (s s' : FileState) → file_run ts s ≡ Some s'
+    → length (file_depths ts s) ≡ length ts
 depths_length [] s s' e = refl
 depths_length (t ∷ ts) s s' e = over (file_step s t) e (λ m. depths_length ts m s')
   where
@@ -36,7 +39,8 @@ words_length (t ∷ ts) s s' e = over (file_step s t) e (λ m. words_length ts m
     over (Some m) e inside = ap (λ n. suc n) (inside m e)
 
 -- two states after the same tokens are the same
-pub same_state : (ts : List Token) (s m : FileState) → file_run ts file_start ≡ Some s → file_run ts file_start ≡ Some m →
+pub same_state : (ts : List Token) (s m : FileState) → file_run ts file_start ≡ Some s
+    → file_run ts file_start ≡ Some m →
     s ≡ m
 same_state ts s m a b = ap unwrap (sym a ∙ b)
   where
@@ -113,16 +117,19 @@ BeginsFile-run ts ds ws b =
     }
 
 -- tokens have one depth each, and are words or not
-pub begun_depths : (ts : List Token) (ds es : List ℕ) (ws vs : List Bool) → BeginsFile ts ds ws → BeginsFile ts es vs → ds ≡ es
+pub begun_depths : (ts : List Token) (ds es : List ℕ) (ws vs : List Bool) → BeginsFile ts ds ws → BeginsFile ts es vs
+    → ds ≡ es
 begun_depths ts ds es ws vs a b =
     let i = BeginsFile-run ts ds ws a in let j = BeginsFile-run ts es vs b in i.depths_are ∙ sym j.depths_are
 
-pub begun_words : (ts : List Token) (ds es : List ℕ) (ws vs : List Bool) → BeginsFile ts ds ws → BeginsFile ts es vs → ws ≡ vs
+pub begun_words : (ts : List Token) (ds es : List ℕ) (ws vs : List Bool) → BeginsFile ts ds ws → BeginsFile ts es vs
+    → ws ≡ vs
 begun_words ts ds es ws vs a b =
     let i = BeginsFile-run ts ds ws a in let j = BeginsFile-run ts es vs b in i.words_are ∙ sym j.words_are
 
 -- **What is read as a whole is spelled, at the depths and with the words that were read.**
-pub whole-spelled : (ts : List Token) (s : FileState) (x : Tree) → file_run ts file_start ≡ Some s → whole_file s ≡ Some x →
+pub whole-spelled : (ts : List Token) (s : FileState) (x : Tree) → file_run ts file_start ≡ Some s
+    → whole_file s ≡ Some x →
     SpellsFile ts (file_depths ts file_start) (file_words ts file_start) x
 whole-spelled ts s x r f =
     let p = whole_file-SpelledFile ts s x r f in

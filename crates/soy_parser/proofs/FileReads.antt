@@ -1,5 +1,6 @@
 -- What is read of tokens is what `parse` is to answer.
-use Rattle.std.proofs.Common.{◌≡◌, ℕ, ◌+◌, ◌≤◌, ◌<◌, Bool, true, false, length, List, [], ◌∷◌, ◌++◌, Option, Some, None, refl, sym, ◌∙◌, ap, subst, arith, append_assoc, append-nil}
+use Rattle.std.proofs.Common.{◌≡◌, ℕ, ◌+◌, ◌≤◌, ◌<◌, Bool, true, false, length, List, [], ◌∷◌, ◌++◌, Option, Some, None}
+use Rattle.std.proofs.Common.{refl, sym, ◌∙◌, ap, subst, arith, append_assoc, append-nil}
 use Rattle.std.specs.Prelude.{if◌then◌else◌, Result, Ok, Err}
 use Rattle.soy_base.specs.declared.code.Code.TheVariants as code
 use Rattle.soy_base.specs.declared.fault.Fault.{Fault}
@@ -16,8 +17,9 @@ use Rattle.expr_parser.specs.Depths.{depth_limit, is_within, AreWithin}
 use Rattle.expr_parser.specs.Offsets.{end_after, offset_after}
 use Rattle.expr_parser.specs.ParsesType.{NamesTypeIf, NameTypes}
 use Rattle.expr_parser.specs.TypeRuns.{is_after_name, type_start}
-use Rattle.expr_parser.specs.TypeSteps.{unknown_at, unknown_type}
-use Rattle.expr_parser.specs.TypeTerminals.{type_terminal_of, begins_with_less, names_type, word_names_type, is_type_name}
+use Rattle.expr_parser.specs.TypeSteps.{unknown_at}
+use Rattle.expr_parser.specs.TypeTerminals.{type_terminal_of, begins_with_less, names_type, word_names_type}
+use Rattle.expr_parser.specs.TypeTerminals.{is_type_name}
 use Rattle.expr_parser.proofs.Levels.{within-true, within-false}
 use Rattle.expr_parser.proofs.Prefixes.{within_append, end_last, same_last}
 use Rattle.expr_parser.proofs.TypeSound.{Holds_at}
@@ -30,10 +32,13 @@ use Rattle.soy_parser.specs.declared.spot.FileState.{FileState}
 use Rattle.soy_parser.specs.declared.spot.Spot.{Spot}
 use Rattle.soy_parser.specs.declared.spot.Spot.TheVariants as spot
 use Rattle.soy_parser.specs.FileReading.{fault_at, file_answer, unless_unknown_type, read_file_on, reading_file}
-use Rattle.soy_parser.specs.FileRuns.{file_run, file_run_from, file_depths, file_depths_from, file_words, file_words_from}
-use Rattle.soy_parser.specs.FileSteps.{file_step, file_start, token_depth, word_in, unknown_in, spot_word, spot_unknown, whole_file}
+use Rattle.soy_parser.specs.FileRuns.{file_run, file_run_from, file_depths, file_depths_from, file_words}
+use Rattle.soy_parser.specs.FileRuns.{file_words_from}
+use Rattle.soy_parser.specs.FileSteps.{file_step, file_start, token_depth, word_in, unknown_in}
+use Rattle.soy_parser.specs.FileSteps.{whole_file}
 use Rattle.soy_parser.specs.ReadsFile.{ReadsFile}
-use Rattle.soy_parser.specs.ParsesFile.{IsFile, NoFileGoesOn, IsNoFile, BeginsFault, IsTooDeep, IsUnknown, RefusesFile, ParsesFile}
+use Rattle.soy_parser.specs.ParsesFile.{IsFile, NoFileGoesOn, BeginsFault, IsUnknown, RefusesFile}
+use Rattle.soy_parser.specs.ParsesFile.{ParsesFile}
 use Rattle.soy_parser.specs.SpellsFile.{SpellsFile, BeginsFile}
 use Rattle.soy_parser.proofs.FileMachine.{BeginsFile-run, run-BeginsFile, same_state, whole-spelled, words_length}
 use Rattle.soy_parser.proofs.FileRunning.{run_append, depths_append, words_append}
@@ -72,7 +77,8 @@ abbrev IfLast : ExpectedInType → List Token → Type 0
 IfLast (expected.AfterName n offset) own = LastIs (IfNamed (expected.AfterName n offset)) own
 IfLast _ own = Unit {0}
 
-type_last : (p : ExpectedInType) (fs : List TypeFrame) (us front : List Token) → Holds_at p fs us → IfLast p (front ++ us)
+type_last : (p : ExpectedInType) (fs : List TypeFrame) (us front : List Token) → Holds_at p fs us
+    → IfLast p (front ++ us)
 type_last (expected.AfterName n offset) fs us front h = record {
   prefix = front ++ h.prefix;
   token = h.token;
@@ -102,7 +108,8 @@ spot_last _ _ _ (Begun.type_ sign t n colon w ts us required r hs ht hq hn hc q)
 spot_last _ _ _ _ = tt
 
 -- it is the last of all tokens
-named_last : (p : ExpectedInType) (front own us : List Token) (t : Token) → us ++ (t ∷ []) ≡ front ++ own → IfLast p own →
+named_last : (p : ExpectedInType) (front own us : List Token) (t : Token) → us ++ (t ∷ []) ≡ front ++ own
+    → IfLast p own →
     IfNamed p t
 named_last (expected.AfterName n offset) front own us t e h =
     let whole = e ∙ (ap (λ l. front ++ l) h.whole ∙ sym (append_assoc front h.prefix (h.token ∷ []))) in
@@ -115,7 +122,8 @@ named_last (expected.FieldName fields n) front own us t e h = tt
 named_last (expected.FieldColon fields n name) front own us t e h = tt
 
 -- whether it names a type
-named_known : (p : ExpectedInType) (t : Token) (ts : List Token) → IfNamed p t → unknown_at p (begins_with_less ts) ≡ None →
+named_known : (p : ExpectedInType) (t : Token) (ts : List Token) → IfNamed p t → unknown_at p (begins_with_less ts)
+    ≡ None →
     NamesTypeIf (is_after_name p) t ts
 named_known (expected.AfterName n offset) t ts i e =
     ap (λ m. word_names_type m (begins_with_less ts)) i.0 ∙ over (names_type n (begins_with_less ts)) e
@@ -228,7 +236,8 @@ record Known (us ts : List Token) (s : FileState) : Type 0 where
 
 module _ (file : ℕ) where
   -- where no file goes on
-  refused : (us rest : List Token) (s : FileState) (offset : ℕ) → file_run us file_start ≡ Some s → NoFileGoesOn us rest →
+  refused : (us rest : List Token) (s : FileState) (offset : ℕ) → file_run us file_start ≡ Some s
+      → NoFileGoesOn us rest →
       AreWithin 0 (file_depths us file_start) → NameTypes us (file_words us file_start) rest →
       offset_after us rest ≡ offset → Answers file (us ++ rest) (Err (fault_at file code.Syntax offset))
   refused us rest s offset r ends within known at = (
@@ -271,88 +280,90 @@ module _ (file : ℕ) where
       (subst (λ n. Answers file xs (reading_file file n ts m)) q a)
 
   module _ (ts us : List Token) (s : FileState) (t : Token) (r : file_run us file_start ≡ Some s)
-      (within : AreWithin 0 (file_depths us file_start)) (names : NameTypes us (file_words us file_start) (t ∷ ts)) where
-    read_to : (m : FileState) → file_step s t ≡ Some m → file_run (us ++ t ∷ []) file_start ≡ Some m
-    read_to m e = one_more us t s r ∙ ap (file_run_from (file_run [])) e
+      (within : AreWithin 0 (file_depths us file_start)) (names : NameTypes us (file_words us file_start) (t ∷ ts))
+    where
+      read_to : (m : FileState) → file_step s t ≡ Some m → file_run (us ++ t ∷ []) file_start ≡ Some m
+      read_to m e = one_more us t s r ∙ ap (file_run_from (file_run [])) e
 
-    depths_to : (m : FileState) → file_step s t ≡ Some m →
-        file_depths (us ++ t ∷ []) file_start ≡ file_depths us file_start ++ token_depth s m ∷ []
-    depths_to m e = depths_append us (t ∷ []) file_start s r
-        ∙ ap (λ l. file_depths us file_start ++ l) (ap (file_depths_from s (file_depths [])) e)
+      depths_to : (m : FileState) → file_step s t ≡ Some m →
+          file_depths (us ++ t ∷ []) file_start ≡ file_depths us file_start ++ token_depth s m ∷ []
+      depths_to m e = depths_append us (t ∷ []) file_start s r
+          ∙ ap (λ l. file_depths us file_start ++ l) (ap (file_depths_from s (file_depths [])) e)
 
-    words_to : (m : FileState) → file_step s t ≡ Some m →
-        file_words (us ++ t ∷ []) file_start ≡ file_words us file_start ++ word_in m.spot ∷ []
-    words_to m e = words_append us (t ∷ []) file_start s r
-        ∙ ap (λ l. file_words us file_start ++ l) (ap (file_words_from (file_words [])) e)
+      words_to : (m : FileState) → file_step s t ≡ Some m →
+          file_words (us ++ t ∷ []) file_start ≡ file_words us file_start ++ word_in m.spot ∷ []
+      words_to m e = words_append us (t ∷ []) file_start s r
+          ∙ ap (λ l. file_words us file_start ++ l) (ap (file_words_from (file_words [])) e)
 
-    within_to : (m : FileState) → file_step s t ≡ Some m → 0 + token_depth s m ≤ depth_limit →
-        AreWithin 0 (file_depths (us ++ t ∷ []) file_start)
-    within_to m e small =
-        subst (AreWithin 0) (sym (depths_to m e))
-        (within_append 0 (file_depths us file_start) (token_depth s m ∷ []) within (small, tt))
+      within_to : (m : FileState) → file_step s t ≡ Some m → 0 + token_depth s m ≤ depth_limit →
+          AreWithin 0 (file_depths (us ++ t ∷ []) file_start)
+      within_to m e small =
+          subst (AreWithin 0) (sym (depths_to m e))
+          (within_append 0 (file_depths us file_start) (token_depth s m ∷ []) within (small, tt))
 
-    -- the tokens up to this one, as a fault at it has them
-    fault_to : (offset : ℕ) (m : FileState) → file_step s t ≡ Some m → t.span.start ≡ offset →
-        BeginsFault (us ++ t ∷ ts) offset
-    fault_to offset m e at = record {
-      prefix = us;
-      token = t;
-      rest = ts;
-      depths = file_depths us file_start;
-      depth = token_depth s m;
-      words = file_words us file_start;
-      word = word_in m.spot;
-      whole = refl;
-      begins = subst (λ ws. BeginsFile (us ++ t ∷ []) (file_depths us file_start ++ token_depth s m ∷ []) ws) (words_to m e)
-          (subst (λ ds. BeginsFile (us ++ t ∷ []) ds (file_words (us ++ t ∷ []) file_start)) (depths_to m e)
-          (run-BeginsFile (us ++ t ∷ []) m (read_to m e)));
-      within = within;
-      known = names;
-      offset_is = at;
-    }
+      -- the tokens up to this one, as a fault at it has them
+      fault_to : (offset : ℕ) (m : FileState) → file_step s t ≡ Some m → t.span.start ≡ offset →
+          BeginsFault (us ++ t ∷ ts) offset
+      fault_to offset m e at = record {
+        prefix = us;
+        token = t;
+        rest = ts;
+        depths = file_depths us file_start;
+        depth = token_depth s m;
+        words = file_words us file_start;
+        word = word_in m.spot;
+        whole = refl;
+        begins = subst (λ ws. BeginsFile (us ++ t ∷ []) (file_depths us file_start ++ token_depth s m ∷ []) ws)
+            (words_to m e)
+            (subst (λ ds. BeginsFile (us ++ t ∷ []) ds (file_words (us ++ t ∷ []) file_start)) (depths_to m e)
+            (run-BeginsFile (us ++ t ∷ []) m (read_to m e)));
+        within = within;
+        known = names;
+        offset_is = at;
+      }
 
-    -- the word that stands last as a type
-    last_word : (m : FileState) → file_step s t ≡ Some m → WordIs m.spot t ts
-    last_word m e = held_word m.spot m.commands us t ts (start_run_held (us ++ t ∷ []) m (read_to m e))
+      -- the word that stands last as a type
+      last_word : (m : FileState) → file_step s t ≡ Some m → WordIs m.spot t ts
+      last_word m e = held_word m.spot m.commands us t ts (start_run_held (us ++ t ∷ []) m (read_to m e))
 
-    known_to : (m : FileState) → file_step s t ≡ Some m → 0 + token_depth s m ≤ depth_limit → Known (us ++ t ∷ []) ts m
-    unfolding fault_to
-    known_to m e small = let w = last_word m e in record {
-      known = λ none. subst (λ ws. NameTypes (us ++ t ∷ []) ws ts) (sym (words_to m e))
-          (names_append us (file_words us file_start) t (word_in m.spot) ts (words_length us file_start s r) names
-          (w.known none));
-      unknown = λ offset some.
-          let u = w.unknown offset some in
-          rw (append_assoc us (t ∷ []) ts) (record {
-            fault = fault_to offset m e u.at;
-            shallow = (small, tt);
-            stands = u.stands;
-            unknown = u.unknown;
-          });
-    }
+      known_to : (m : FileState) → file_step s t ≡ Some m → 0 + token_depth s m ≤ depth_limit → Known (us ++ t ∷ []) ts m
+      unfolding fault_to
+      known_to m e small = let w = last_word m e in record {
+        known = λ none. subst (λ ws. NameTypes (us ++ t ∷ []) ws ts) (sym (words_to m e))
+            (names_append us (file_words us file_start) t (word_in m.spot) ts (words_length us file_start s r) names
+            (w.known none));
+        unknown = λ offset some.
+            let u = w.unknown offset some in
+            rw (append_assoc us (t ∷ []) ts) (record {
+              fault = fault_to offset m e u.at;
+              shallow = (small, tt);
+              stands = u.stands;
+              unknown = u.unknown;
+            });
+      }
 
-    on : (m : FileState) → file_step s t ≡ Some m → (b : Bool) → is_within 0 (token_depth s m) ≡ b →
-        (AreWithin 0 (file_depths (us ++ t ∷ []) file_start) → Known (us ++ t ∷ []) ts m →
-        Answers file ((us ++ t ∷ []) ++ ts) (reading_file file (end_after 0 (us ++ t ∷ [])) ts m)) →
-        Answers file (us ++ t ∷ ts)
-        (if b then reading_file file t.span.end ts m else Err (fault_at file code.Nesting t.span.start))
-    unfolding fault_to
-    on m e true within_limit inside =
-        let small = within-true (0 + token_depth s m) depth_limit within_limit in
-        moved ts ((us ++ t ∷ []) ++ ts) (us ++ t ∷ ts) (end_after 0 (us ++ t ∷ [])) t.span.end m
-        (append_assoc us (t ∷ []) ts) (end_last 0 us t) (inside (within_to m e small) (known_to m e small))
-    on m e false large inside =
-        let large = within-false (0 + token_depth s m) depth_limit large in
-        let deep : depth_limit < token_depth s m = omega (arith, large) in
-        (refl, record { fault = fault_to t.span.start m e refl; deep = deep })
+      on : (m : FileState) → file_step s t ≡ Some m → (b : Bool) → is_within 0 (token_depth s m) ≡ b →
+          (AreWithin 0 (file_depths (us ++ t ∷ []) file_start) → Known (us ++ t ∷ []) ts m →
+          Answers file ((us ++ t ∷ []) ++ ts) (reading_file file (end_after 0 (us ++ t ∷ [])) ts m)) →
+          Answers file (us ++ t ∷ ts)
+          (if b then reading_file file t.span.end ts m else Err (fault_at file code.Nesting t.span.start))
+      unfolding fault_to
+      on m e true within_limit inside =
+          let small = within-true (0 + token_depth s m) depth_limit within_limit in
+          moved ts ((us ++ t ∷ []) ++ ts) (us ++ t ∷ ts) (end_after 0 (us ++ t ∷ [])) t.span.end m
+          (append_assoc us (t ∷ []) ts) (end_last 0 us t) (inside (within_to m e small) (known_to m e small))
+      on m e false large inside =
+          let large = within-false (0 + token_depth s m) depth_limit large in
+          let deep : depth_limit < token_depth s m = omega (arith, large) in
+          (refl, record { fault = fault_to t.span.start m e refl; deep = deep })
 
-    over : (to : Option FileState) → file_step s t ≡ to →
-        ((m : FileState) → file_run (us ++ t ∷ []) file_start ≡ Some m →
-        AreWithin 0 (file_depths (us ++ t ∷ []) file_start) → Known (us ++ t ∷ []) ts m →
-        Answers file ((us ++ t ∷ []) ++ ts) (reading_file file (end_after 0 (us ++ t ∷ [])) ts m)) →
-        Answers file (us ++ t ∷ ts) (read_file_on file s t (reading_file file t.span.end ts) to)
-    over None e inside = refused us (t ∷ ts) s t.span.start r (none_goes_on us t s r e) within names refl
-    over (Some m) e inside = on m e (is_within 0 (token_depth s m)) refl (inside m (read_to m e))
+      over : (to : Option FileState) → file_step s t ≡ to →
+          ((m : FileState) → file_run (us ++ t ∷ []) file_start ≡ Some m →
+          AreWithin 0 (file_depths (us ++ t ∷ []) file_start) → Known (us ++ t ∷ []) ts m →
+          Answers file ((us ++ t ∷ []) ++ ts) (reading_file file (end_after 0 (us ++ t ∷ [])) ts m)) →
+          Answers file (us ++ t ∷ ts) (read_file_on file s t (reading_file file t.span.end ts) to)
+      over None e inside = refused us (t ∷ ts) s t.span.start r (none_goes_on us t s r e) within names refl
+      over (Some m) e inside = on m e (is_within 0 (token_depth s m)) refl (inside m (read_to m e))
 
   -- where the word that was read last names no type, and where it does
   asked : (ts us : List Token) (s : FileState) → Known us ts s → (out : Result Tree Fault) →

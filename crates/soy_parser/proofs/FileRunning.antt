@@ -1,13 +1,16 @@
 -- Reading lists of tokens one after the other, with the depths at them and their words.
-use Rattle.std.proofs.Common.{◌≡◌, ℕ, ◌+◌, Bool, List, [], ◌∷◌, ◌++◌, map, length, Option, Some, None, refl, sym, ◌∙◌, ap, arith}
+use Rattle.std.proofs.Common.{◌≡◌, ℕ, ◌+◌, Bool, List, [], ◌∷◌, ◌++◌, Option, Some, None, refl, sym, ◌∙◌}
+use Rattle.std.proofs.Common.{ap}
 use Rattle.soy_lexer.specs.declared.token.Token.{Token}
 use Rattle.soy_parser.specs.declared.spot.FileState.{FileState}
 use Rattle.soy_parser.specs.Depth.{inside}
-use Rattle.soy_parser.specs.FileRuns.{file_run, file_run_from, file_depths, file_depths_from, file_words, file_words_from}
+use Rattle.soy_parser.specs.FileRuns.{file_run, file_run_from, file_depths, file_depths_from, file_words}
+use Rattle.soy_parser.specs.FileRuns.{file_words_from}
 use Rattle.soy_parser.specs.FileSteps.{file_step, token_depth, word_in}
 use Rattle.soy_parser.proofs.CommandRunning.{map_append}
 
-pub run_append : (ts us : List Token) (s : FileState) → file_run (ts ++ us) s ≡ file_run_from (file_run us) (file_run ts s)
+pub run_append : (ts us : List Token) (s : FileState) → file_run (ts ++ us) s ≡ file_run_from (file_run us)
+    (file_run ts s)
 run_append [] us s = refl
 run_append (t ∷ ts) us s = over (file_step s t) (run_append ts us)
   where
@@ -47,10 +50,11 @@ words_append (t ∷ ts) us s s' e = over (file_step s t) e (λ m. words_append t
     over (Some m) e inside_ = ap (λ l. word_in m.spot ∷ l) (inside_ m e)
 
 -- from one state tokens lead to another, with these depths at them inside so many blocks and these words among them
-pub record Leads (n : ℕ) (s : FileState) (ts : List Token) (ds : List ℕ) (ws : List Bool) (s' : FileState) : Type 0 where
-  pub runs : file_run ts s ≡ Some s'
-  pub deep : file_depths ts s ≡ inside n ds
-  pub words : file_words ts s ≡ ws
+pub record Leads (n : ℕ) (s : FileState) (ts : List Token) (ds : List ℕ) (ws : List Bool) (s' : FileState) : Type 0
+  where
+    pub runs : file_run ts s ≡ Some s'
+    pub deep : file_depths ts s ≡ inside n ds
+    pub words : file_words ts s ≡ ws
 
 pub none_leads : (n : ℕ) (s : FileState) → Leads n s [] [] [] s
 none_leads n s = record { runs = refl; deep = refl; words = refl }

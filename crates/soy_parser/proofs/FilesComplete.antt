@@ -1,7 +1,7 @@
 -- **Each command that is spelled is read, and so is each file.**
-use Rattle.std.proofs.Common.{◌≡◌, ℕ, suc, ◌+◌, Bool, true, false, List, [], ◌∷◌, ◌++◌, map, length, Option, Some, None, option_map, refl, sym, ◌∙◌, ap, subst, arith}
+use Rattle.std.proofs.Common.{◌≡◌, ℕ, ◌+◌, Bool, true, false, List, [], ◌∷◌, ◌++◌, length, Option, Some, None}
+use Rattle.std.proofs.Common.{option_map, refl, sym, ◌∙◌, ap, subst, arith}
 use Rattle.std.specs.Prelude.{unwrap_or}
-use Rattle.soy_base.specs.declared.kind.Kind.{Kind}
 use Rattle.soy_lexer.specs.declared.token.Token.{Token}
 use Rattle.soy_tree.specs.declared.expr.Expr.{Expr}
 use Rattle.soy_tree.specs.declared.tree.Tree.{Tree}
@@ -12,7 +12,6 @@ use Rattle.soy_parser.specs.declared.block.Content.TheVariants as content
 use Rattle.soy_parser.specs.declared.command.Command.{Command}
 use Rattle.soy_parser.specs.declared.command.Middle.TheVariants as middle
 use Rattle.soy_parser.specs.declared.command.Opening.TheVariants as opening
-use Rattle.soy_parser.specs.declared.command.Single.TheVariants as single
 use Rattle.soy_parser.specs.declared.command.Tag.{Tag}
 use Rattle.soy_parser.specs.declared.command.Tag.TheVariants as tag
 use Rattle.soy_parser.specs.declared.head.Head.{Head}
@@ -25,17 +24,16 @@ use Rattle.soy_parser.specs.declared.terminal.CommandWord.TheVariants as word
 use Rattle.soy_parser.specs.CommandLevels.{levels_from, command_levels}
 use Rattle.soy_parser.specs.CommandSteps.{command_step, commands_from, command_run, command_start}
 use Rattle.soy_parser.specs.CommandTerminals.{command_terminal_of}
-use Rattle.soy_parser.specs.Depth.{none_deep, no_words, inside}
+use Rattle.soy_parser.specs.Depth.{inside}
 use Rattle.soy_parser.specs.FileRuns.{file_run, file_depths, file_words}
 use Rattle.soy_parser.specs.FileSteps.{admits, between_step, taken, tag_kind, head_kind, file_start, whole_file}
-use Rattle.soy_parser.specs.Heads.{tag_at, plain_tag, slash_tag, message_tag}
+use Rattle.soy_parser.specs.Heads.{tag_at, plain_tag, slash_tag}
 use Rattle.soy_parser.specs.SpellsCommand.{SpellsCommand, SpellsCommands}
 use Rattle.soy_parser.specs.SpellsFile.{SpellsFile}
 use Rattle.soy_parser.specs.SpellsHead.{SpellsHead, bare_head, expr_head}
 use Rattle.soy_parser.proofs.Admits.{step_admits}
 use Rattle.soy_parser.proofs.Admits as admit
 use Rattle.soy_parser.proofs.AttributesComplete.{between, attributes_lead, end_step}
-use Rattle.soy_parser.proofs.CommandRunning.{Goes}
 use Rattle.soy_parser.proofs.CommandsComplete.{at, tree_goes}
 use Rattle.soy_parser.proofs.FileRunning.{Leads, none_leads, then_leads, step_leads}
 use Rattle.soy_parser.proofs.HeadsComplete.{opened}
@@ -70,9 +68,11 @@ plain_fits (head.Param n) a i =
     map_fits (head.Param n) (λ kind. tag.Opens (opening.Param n kind)) (λ kind. (refl, tt)) a.kind
 plain_fits (head.Call n) a i = (refl, tt)
 plain_fits head.Message a i =
-    map_fits head.Message (λ desc. tag.Opens (opening.Message desc (unwrap_or a.meaning []))) (λ desc. (refl, tt)) a.desc
+    map_fits head.Message (λ desc. tag.Opens (opening.Message desc (unwrap_or a.meaning []))) (λ desc. (refl, tt))
+    a.desc
 plain_fits head.Fallback a i =
-    map_fits head.Fallback (λ desc. tag.GoesOn (middle.Fallback desc (unwrap_or a.meaning []))) (λ desc. (refl, tt)) a.desc
+    map_fits head.Fallback (λ desc. tag.GoesOn (middle.Fallback desc (unwrap_or a.meaning []))) (λ desc. (refl, tt))
+    a.desc
 plain_fits (head.Plural e) a i = (refl, tt)
 
 slash_fits : (h : Head) (a : Attributes) → Fits h (slash_tag h a)
@@ -119,7 +119,8 @@ expr_is_head _ e = tt
 
 pub spelled_is_head : (ts : List Token) (ds : List ℕ) (ws : List Bool) (h : Head) → SpellsHead ts ds ws h → IsHead h
 spelled_is_head _ _ _ _ (SpellsHead.bare_ t h e) = subst IfHead e (bare_is_head (command_terminal_of t))
-spelled_is_head _ _ _ _ (SpellsHead.expression_ t ts ds x h p e) = subst IfHead e (expr_is_head (command_terminal_of t) x.expr)
+spelled_is_head _ _ _ _ (SpellsHead.expression_ t ts ds x h p e) =
+    subst IfHead e (expr_is_head (command_terminal_of t) x.expr)
 spelled_is_head _ _ _ _ (SpellsHead.printed_ ts ds x p) = tt
 spelled_is_head _ _ _ _ (SpellsHead.message_printed_ ts ds x p) = tt
 spelled_is_head _ _ _ _ (SpellsHead.message_print_ t ts ds x ht p) = tt
@@ -147,7 +148,8 @@ command_leads _ _ _ _ (SpellsCommand.command_ b z ts us ds ws h a of hb p q hz) 
     (step_admits s.content s.blocks of (joined b.span z.span) m fits.1 e) in
     let g = head_leads s b.span ts ds ws h p ok in
     let k = attributes_lead s b.span h g.to g.has us a q in
-    let first = step_leads (length s.blocks) 0 false (between s) b (opened s b.span) (ap (between_step s b) hb) refl refl in
+    let first = step_leads (length s.blocks) 0 false (between s) b (opened s b.span) (ap (between_step s b) hb) refl
+    refl in
     let last = step_leads (length s.blocks) 0 false k.to z (between m) (end_step s m b.span h a k.to z of k.has hz e)
     (ap (λ (c : CommandState). length c.blocks + 0) k.has.commands_are) refl in
     then_leads {ts = b ∷ []} {ds = 0 ∷ []} {ws = false ∷ []} first
@@ -213,7 +215,8 @@ pub file_leads : (ts : List Token) (ds : List ℕ) (ws : List Bool) (tree : Tree
 file_leads ts ds ws tree f =
     let g = tree_goes f.commands f.levels tree f.are in
     let to = at [] (content.Templates tree.namespace tree.templates) in
-    let p = commands_lead ts ds ws f.commands f.levels f.spell command_start to g.runs (g.deep ∙ inside_none f.levels) in
+    let p = commands_lead ts ds ws f.commands f.levels f.spell command_start to g.runs (g.deep ∙ inside_none f.levels)
+    in
     record {
       state = between to;
       runs = p.runs;

@@ -1,10 +1,10 @@
--- **Where the machine of files has a state after tokens, some file begins with them; and what it has read as a whole file is
+-- **Where the machine of files has a state after tokens, some file begins with them; and what it has read as a whole
+-- file is
 -- one.**
-use Rattle.std.proofs.Common.{◌≡◌, ℕ, Bool, true, false, List, [], ◌∷◌, ◌++◌, Option, Some, None, refl, sym, ◌∙◌, ap, subst, append_assoc, append-nil}
+use Rattle.std.proofs.Common.{◌≡◌, ℕ, true, List, [], ◌∷◌, ◌++◌, Option, Some, None, refl, sym, ◌∙◌, ap}
+use Rattle.std.proofs.Common.{subst, append_assoc}
 use Rattle.std.specs.Prelude.{codes}
-use Rattle.soy_base.specs.declared.fault.Span.{Span}
 use Rattle.soy_lexer.specs.declared.token.Token.{Token}
-use Rattle.soy_lexer.specs.declared.token.TokenKind.TheVariants as token_kind
 use Rattle.soy_tree.specs.declared.node.MessageBody.{MessageBody}
 use Rattle.soy_tree.specs.declared.tree.Template.{Template}
 use Rattle.soy_tree.specs.declared.tree.Tree.{Tree}
@@ -15,7 +15,6 @@ use Rattle.soy_parser.specs.declared.block.Content.{Content}
 use Rattle.soy_parser.specs.declared.block.Content.TheVariants as content
 use Rattle.soy_parser.specs.declared.command.Command.{Command}
 use Rattle.soy_parser.specs.declared.command.Middle.TheVariants as middle
-use Rattle.soy_parser.specs.declared.command.Tag.{Tag}
 use Rattle.soy_parser.specs.declared.command.Tag.TheVariants as tag
 use Rattle.soy_parser.specs.declared.head.Head.{Head}
 use Rattle.soy_parser.specs.declared.head.Head.TheVariants as head
@@ -25,30 +24,29 @@ use Rattle.soy_parser.specs.declared.spot.CommandSpot.{CommandSpot}
 use Rattle.soy_parser.specs.declared.spot.CommandSpot.TheVariants as where_
 use Rattle.soy_parser.specs.declared.spot.DottedUse.TheVariants as dotted
 use Rattle.soy_parser.specs.declared.spot.FileState.{FileState}
-use Rattle.soy_parser.specs.declared.spot.Spot.{Spot}
 use Rattle.soy_parser.specs.declared.terminal.BlockName.TheVariants as name
 use Rattle.soy_parser.specs.declared.terminal.CommandTerminal.TheVariants as terminal
 use Rattle.soy_parser.specs.declared.terminal.CommandWord.TheVariants as word
-use Rattle.soy_parser.specs.CommandSteps.{command_step, commands_from, command_run, command_start}
+use Rattle.soy_parser.specs.CommandSteps.{commands_from, command_run, command_start}
 use Rattle.soy_parser.specs.CommandTerminals.{command_terminal_of}
 use Rattle.soy_parser.specs.FileRuns.{file_run}
-use Rattle.soy_parser.specs.FileSteps.{admits, admits_at, tag_kind, head_kind, file_start, tree_of, whole_at, whole_file}
-use Rattle.soy_parser.specs.Heads.{no_attributes, SpellsAttributes}
+use Rattle.soy_parser.specs.FileSteps.{admits, admits_at, head_kind, file_start, tree_of, whole_at}
+use Rattle.soy_parser.specs.FileSteps.{whole_file}
 use Rattle.soy_parser.specs.SpellsCommand.{SpellsCommand}
 use Rattle.soy_parser.specs.SpellsHead.{SpellsHead, bare_head}
-use Rattle.soy_parser.proofs.Admits as admit
-use Rattle.soy_parser.proofs.AdmittedSteps.{HasStep, MessageTop, top_is, admitted_steps}
+use Rattle.soy_parser.proofs.AdmittedSteps.{MessageTop, top_is, admitted_steps}
 use Rattle.soy_parser.proofs.CommandRunning.{run_append}
 use Rattle.soy_parser.proofs.CommandsComplete.{at}
 use Rattle.soy_parser.proofs.CommandsEnd.{run_ends}
-use Rattle.soy_parser.proofs.CommandsSound.{Inside, ACall, ASwitch, APlural, ASelect, AMessage, Opened, HasCases, Held_at, run_tree}
+use Rattle.soy_parser.proofs.CommandsSound.{Inside, ACall, ASwitch, APlural, ASelect, AMessage, Opened, HasCases}
+use Rattle.soy_parser.proofs.CommandsSound.{Held_at, run_tree}
 use Rattle.soy_parser.proofs.CommandsSound as commands
 use Rattle.soy_parser.proofs.FilesComplete.{said_fits, spelled_is_head}
 use Rattle.soy_parser.proofs.FilesSound.{Heard, HeldOpened, HeldInside, start_run_held}
 use Rattle.soy_parser.proofs.FilesSound as files
-use Rattle.soy_parser.proofs.HeadsBegun.{DottedBegins, HeadOf, Begun}
+use Rattle.soy_parser.proofs.HeadsBegun.{DottedBegins, Begun}
 use Rattle.soy_parser.proofs.HeadsEnd.{Completes, begun_ends, head_ends}
-use Rattle.soy_parser.proofs.WrittenTokens.{token, word_token, closing_token, closing_is, default_is, namespace_is}
+use Rattle.soy_parser.proofs.WrittenTokens.{word_token, closing_token, closing_is, default_is, namespace_is}
 use Rattle.soy_parser.proofs.WrittenTokens.{Speaks, speaks_append, speaks_one, all_spoken, SpelledFile, file_spelled}
 
 -- further tokens complete these to a file
@@ -77,7 +75,8 @@ heard_completes s ts h =
     }
 
 -- in a command
-inside_completes : (s : CommandState) (front : List Token) (begin : Token) (own : List Token) (k : HeadKind) → Heard s front →
+inside_completes : (s : CommandState) (front : List Token) (begin : Token) (own : List Token) (k : HeadKind)
+    → Heard s front →
     command_terminal_of begin ≡ terminal.Begin → Completes own k → admits s k ≡ true →
     CompletesFile (front ++ (begin ∷ own))
 inside_completes s front begin own k heard begins c ok =
@@ -91,7 +90,8 @@ inside_completes s front begin own k heard begins c ok =
     let own_tokens = begin ∷ (c.head_tokens ++ (c.attribute_tokens ++ (c.close ∷ []))) in
     let spoken : Speaks own_tokens (said ∷ []) =
     speaks_one own_tokens _ _ said
-    (SpellsCommand.command_ begin c.close c.head_tokens c.attribute_tokens of.depths of.words c.head_ c.attributes c.said
+    (SpellsCommand.command_ begin c.close c.head_tokens c.attribute_tokens of.depths of.words c.head_ c.attributes
+    c.said
     begins of.spells c.spells c.ends) in
     let next : Heard step.to (front ++ own_tokens) = record {
       commands = heard.commands ++ (said ∷ []);
@@ -115,7 +115,8 @@ record CanBegin (k : Content) (bs : List Block) : Type 0 where
 
 bare_ends : (t : Token) (h : Head) → bare_head (command_terminal_of t) ≡ Some h → Completes (t ∷ []) (head_kind h)
 bare_ends t h e =
-    head_ends (t ∷ []) h (head_kind h) (record { depths = _; words = _; spells = SpellsHead.bare_ t h e; kind_is = refl })
+    head_ends (t ∷ []) h (head_kind h)
+    (record { depths = _; words = _; spells = SpellsHead.bare_ t h e; kind_is = refl })
 
 template_is : command_terminal_of (word_token (codes "template")) ≡ terminal.Word word.Template
 unfolding lib.Utf8.encode
@@ -131,9 +132,11 @@ bare_begins k bs t h e ok = record { kind_ = head_kind h; first = t; ends = bare
 
 choice_begins : (body : MessageBody) (bs : List Block) → MessageTop bs → CanBegin (content.Choice body) bs
 choice_begins body _ (MessageTop.default_ bs e) =
-    bare_begins (content.Choice body) bs (word_token (codes "default")) (head.Whole (tag.GoesOn middle.Default)) default_is e
+    bare_begins (content.Choice body) bs (word_token (codes "default")) (head.Whole (tag.GoesOn middle.Default))
+    default_is e
 choice_begins body _ (MessageTop.msg_ bs e) =
-    bare_begins (content.Choice body) bs (closing_token name.Msg) (head.Whole (tag.Closes name.Msg)) (closing_is name.Msg tt) e
+    bare_begins (content.Choice body) bs (closing_token name.Msg) (head.Whole (tag.Closes name.Msg))
+    (closing_is name.Msg tt) e
 choice_begins body _ (MessageTop.plural_ bs e) =
     bare_begins (content.Choice body) bs (closing_token name.Plural) (head.Whole (tag.Closes name.Plural))
     (closing_is name.Plural tt) e
@@ -169,7 +172,8 @@ can_begin (content.Arguments arguments) bs cs h =
     bare_begins (content.Arguments arguments) bs (closing_token name.Call) (head.Whole (tag.Closes name.Call))
     (closing_is name.Call tt) refl
 can_begin content.BeforeCases bs cs h =
-    bare_begins content.BeforeCases bs (word_token (codes "default")) (head.Whole (tag.GoesOn middle.Default)) default_is
+    bare_begins content.BeforeCases bs (word_token (codes "default")) (head.Whole (tag.GoesOn middle.Default))
+    default_is
     (cases_default h.inside h.has bs h.front h.opened)
 can_begin (content.Parts nodes white) bs cs h =
     bare_begins (content.Parts nodes white) bs (word_token (codes "nil")) (head.Whole (tag.Character [])) nil_is refl
@@ -206,7 +210,8 @@ templates_whole : (n : List ℕ) (templates : List Template) (bs : List Block) (
 templates_whole n templates bs ts h =
     let held = commands.start_run_held h.commands (at bs (content.Templates n templates)) h.runs in
     let t = run_tree h.commands n templates
-    (subst (λ l. command_run h.commands command_start ≡ Some (at l (content.Templates n templates))) held.none h.runs) in
+    (subst (λ l. command_run h.commands command_start ≡ Some (at l (content.Templates n templates))) held.none h.runs)
+    in
     file_spelled ts h.commands t.0 (record { namespace = n; templates = templates }) h.speaks t.1
 
 whole_of : (k : Content) (bs : List Block) (ts : List Token) → Heard (at bs k) ts → IfWhole (tree_of k) ts

@@ -1,5 +1,6 @@
 -- **What the machine of files holds is spelled**: commands that were read, and the head or attributes in work.
-use Rattle.std.proofs.Common.{◌≡◌, ℕ, ◌+◌, ℤ, pos, Bool, true, false, List, [], ◌∷◌, ◌++◌, Option, Some, None, refl, sym, ◌∙◌, ap, subst, append_assoc, append-nil}
+use Rattle.std.proofs.Common.{◌≡◌, ℕ, ℤ, pos, Bool, true, false, List, [], ◌∷◌, ◌++◌, Option, Some, None, refl}
+use Rattle.std.proofs.Common.{sym, ◌∙◌, ap, subst, append_assoc, append-nil}
 use Rattle.std.specs.Prelude.{if◌then◌else◌}
 use Rattle.soy_base.specs.declared.fault.Span.{Span}
 use Rattle.soy_lexer.specs.CommandSegment.{number_after}
@@ -7,16 +8,13 @@ use Rattle.soy_lexer.specs.LongestToken.{is_int}
 use Rattle.soy_lexer.specs.declared.token.Token.{Token}
 use Rattle.soy_tree.specs.Formed.{is_case_word}
 use Rattle.soy_tree.specs.declared.expr.Expr.{Expr}
-use Rattle.soy_tree.specs.declared.tree.Tree.{Tree}
 use Rattle.expr_parser.specs.declared.operand.Operand.{Operand}
 use Rattle.expr_parser.specs.declared.state.ExprState.{ExprState}
-use Rattle.expr_parser.specs.declared.state.ExprStep.{ExprStep}
 use Rattle.expr_parser.specs.declared.state.ExprStep.TheVariants as expr_does
 use Rattle.expr_parser.specs.declared.type_frame.TypeOperand.{TypeOperand}
 use Rattle.expr_parser.specs.declared.type_state.TypeState.{TypeState}
 use Rattle.expr_parser.specs.ExprRuns.{expr_run, expr_run_from, expr_start}
 use Rattle.expr_parser.specs.ExprSteps.{expr_next, expr_step, step_of, whole_expr}
-use Rattle.expr_parser.specs.Operands.{joined}
 use Rattle.expr_parser.specs.TypeRuns.{type_run, type_run_from, type_start}
 use Rattle.expr_parser.specs.TypeSteps.{type_next, type_step, type_step_of, whole_type}
 use Rattle.expr_parser.proofs.ExprExact.{whole_expr-SpellsExpr}
@@ -50,20 +48,25 @@ use Rattle.soy_parser.specs.declared.terminal.CommandWord.{CommandWord}
 use Rattle.soy_parser.specs.declared.terminal.CommandWord.TheVariants as word
 use Rattle.soy_parser.specs.CommandSteps.{command_step, commands_from, command_run, command_start}
 use Rattle.soy_parser.specs.CommandTerminals.{command_terminal_of}
-use Rattle.soy_parser.specs.Depth.{none_deep, no_words}
 use Rattle.soy_parser.specs.FileRuns.{file_run, file_run_from}
-use Rattle.soy_parser.specs.FileSteps.{stands, taken, admits, ended_command, attribute_step, attributes_step, head_done, with_value}
-use Rattle.soy_parser.specs.FileSteps.{value_step, head_of, head_kind, next_value, in_expr, in_type, dotted_head, dotted_step, if_word}
+use Rattle.soy_parser.specs.FileSteps.{stands, taken, admits, ended_command, attribute_step, attributes_step, head_done}
+use Rattle.soy_parser.specs.FileSteps.{with_value}
+use Rattle.soy_parser.specs.FileSteps.{value_step, head_of, head_kind, next_value, in_expr, in_type, dotted_head}
+use Rattle.soy_parser.specs.FileSteps.{dotted_step, if_word}
 use Rattle.soy_parser.specs.FileSteps.{if_variable, if_in, if_colon, if_equals, if_int, if_case_word, head_param_step}
-use Rattle.soy_parser.specs.FileSteps.{head_param_word_step, template_step, call_step, for_in_step, let_colon_step, param_colon_step}
-use Rattle.soy_parser.specs.FileSteps.{after_int_step, after_case_word_step, spot_step, opens_if, print_use, print_opens, case_opens}
-use Rattle.soy_parser.specs.FileSteps.{bare_expr, bare_opens, opened_step, between_step, file_step_at, file_step, file_start}
+use Rattle.soy_parser.specs.FileSteps.{head_param_word_step, template_step, call_step, for_in_step, let_colon_step}
+use Rattle.soy_parser.specs.FileSteps.{param_colon_step}
+use Rattle.soy_parser.specs.FileSteps.{after_int_step, after_case_word_step, spot_step, opens_if, print_use}
+use Rattle.soy_parser.specs.FileSteps.{print_opens, case_opens}
+use Rattle.soy_parser.specs.FileSteps.{bare_expr, bare_opens, opened_step, between_step, file_step_at, file_step}
+use Rattle.soy_parser.specs.FileSteps.{file_start}
 use Rattle.soy_parser.specs.Heads.{no_attributes, attribute_name, allows, with_attribute, SpellsAttributes, tag_at}
 use Rattle.soy_parser.specs.SpellsCommand.{SpellsCommand}
-use Rattle.soy_parser.specs.SpellsHead.{SpellsHead, SpellsDotted, SpellsValues, SpellsInts, SpellsCaseWords, SpellsDot}
+use Rattle.soy_parser.specs.SpellsHead.{SpellsHead, SpellsDotted, SpellsInts, SpellsCaseWords, SpellsDot}
 use Rattle.soy_parser.specs.SpellsHead.{SpellsRequired, SpellsVariables, bare_head}
 use Rattle.soy_parser.proofs.CommandRunning as command_running
-use Rattle.soy_parser.proofs.HeadsBegun.{UseBegins, CaseBegins, DottedBegins, HeadOf, Begun, use_head, one_value, case_values}
+use Rattle.soy_parser.proofs.HeadsBegun.{UseBegins, CaseBegins, DottedBegins, HeadOf, Begun, use_head, one_value}
+use Rattle.soy_parser.proofs.HeadsBegun.{case_values}
 use Rattle.soy_parser.proofs.HeadsBegun.{dotted_head_of}
 use Rattle.soy_parser.proofs.WrittenTokens.{Speaks, speaks_append, speaks_one}
 
@@ -257,7 +260,8 @@ module _ (s : CommandState) (front : List Token) (begin : Token) (heard : Heard 
 
   -- names
 
-  template_head : (t n : Token) (w : CommandWord) (ts : List Token) → command_terminal_of t ≡ terminal.Word word.Template →
+  template_head : (t n : Token) (w : CommandWord) (ts : List Token)
+      → command_terminal_of t ≡ terminal.Word word.Template →
       SpellsDot ts → command_terminal_of n ≡ terminal.Word w → admits s kind.Template ≡ true →
       Goes (stands s begin.span (spot.Attributes (head.Template n.text) no_attributes)) (t ∷ (ts ++ (n ∷ [])))
   template_head t n w ts ht d hn ok =
@@ -280,7 +284,8 @@ module _ (s : CommandState) (front : List Token) (begin : Token) (heard : Heard 
       Goes (call_step s begin.span t m) (u ∷ (t ∷ []))
   call_fine t u terminal.Dot e hu ok =
       stand (spot.DottedName dotted.Call []) _ kind.Call
-      (Begun.dotted_first_ (u ∷ (t ∷ [])) dotted.Call kind.Call (DottedBegins.call_ u (t ∷ []) hu (SpellsDot.with_ t e))) ok
+      (Begun.dotted_first_ (u ∷ (t ∷ [])) dotted.Call kind.Call
+      (DottedBegins.call_ u (t ∷ []) hu (SpellsDot.with_ t e))) ok
   call_fine t u (terminal.Word w) e hu ok =
       stand (spot.Dotted dotted.Call t.text) _ kind.Call
       (Begun.dotted_ (u ∷ []) (t ∷ []) dotted.Call kind.Call t.text (DottedBegins.call_ u [] hu SpellsDot.without_)
@@ -299,7 +304,8 @@ module _ (s : CommandState) (front : List Token) (begin : Token) (heard : Heard 
   -- a loop, a let and a param
 
   for_in_fine : (t u v : Token) (m : CommandTerminal) → command_terminal_of t ≡ m →
-      command_terminal_of u ≡ terminal.Word word.For → command_terminal_of v ≡ terminal.Variable → admits s kind.For ≡ true →
+      command_terminal_of u ≡ terminal.Word word.For → command_terminal_of v ≡ terminal.Variable
+      → admits s kind.For ≡ true →
       Goes (for_in_step s begin.span v.text m) (u ∷ (v ∷ (t ∷ [])))
   for_in_fine t u v terminal.Comma e hu hv ok =
       stand (spot.ForIndex v.text) _ kind.For (Begun.for_index_ u v t hu hv e) ok
@@ -310,7 +316,8 @@ module _ (s : CommandState) (front : List Token) (begin : Token) (heard : Heard 
   for_in_fine t u v _ e hu hv ok = tt
 
   let_colon_fine : (t u v : Token) (m : CommandTerminal) → command_terminal_of t ≡ m →
-      command_terminal_of u ≡ terminal.Word word.Let → command_terminal_of v ≡ terminal.Variable → admits s kind.Let ≡ true →
+      command_terminal_of u ≡ terminal.Word word.Let → command_terminal_of v ≡ terminal.Variable
+      → admits s kind.Let ≡ true →
       Goes (let_colon_step s begin.span v.text t m) (u ∷ (v ∷ (t ∷ [])))
   let_colon_fine t u v terminal.Colon e hu hv ok =
       stand (spot.Expr (use_.Let v.text) expr_start) _ kind.Let
@@ -320,11 +327,13 @@ module _ (s : CommandState) (front : List Token) (begin : Token) (heard : Heard 
       (record { depths = _; words = _; spells = SpellsHead.let_block_ u v hu hv; kind_is = refl }) ok t
 
   param_colon_fine : (t u n : Token) (w : CommandWord) (m : CommandTerminal) → command_terminal_of t ≡ m →
-      command_terminal_of u ≡ terminal.Word word.Param → command_terminal_of n ≡ terminal.Word w → admits s kind.Param ≡ true →
+      command_terminal_of u ≡ terminal.Word word.Param → command_terminal_of n ≡ terminal.Word w
+      → admits s kind.Param ≡ true →
       Goes (param_colon_step s begin.span n.text t m) (u ∷ (n ∷ (t ∷ [])))
   param_colon_fine t u n w terminal.Colon e hu hn ok =
       stand (spot.Expr (use_.Param n.text) expr_start) _ kind.Param
-      (Begun.expr_ (u ∷ (n ∷ (t ∷ []))) [] (use_.Param n.text) kind.Param expr_start (UseBegins.param_ u n t w hu hn e) refl) ok
+      (Begun.expr_ (u ∷ (n ∷ (t ∷ []))) [] (use_.Param n.text) kind.Param expr_start
+      (UseBegins.param_ u n t w hu hn e) refl) ok
   param_colon_fine t u n w m e hu hn ok =
       done_fine (u ∷ (n ∷ [])) (head.Param n.text) kind.Param
       (record { depths = _; words = _; spells = SpellsHead.param_block_ u n w hu hn; kind_is = refl }) ok t
@@ -376,10 +385,12 @@ module _ (s : CommandState) (front : List Token) (begin : Token) (heard : Heard 
       over : (to : Option ExprState) → expr_next r t ≡ to →
           Goes (in_expr s begin.span of t (step_of to (whole_expr r))) (us ++ (vs ++ (t ∷ [])))
       over (Some m) e =
-          stand (spot.Expr of m) (us ++ (vs ++ (t ∷ []))) k (Begun.expr_ us (vs ++ (t ∷ [])) of k m u (on_expr vs t r m q e)) ok
+          stand (spot.Expr of m) (us ++ (vs ++ (t ∷ []))) k
+          (Begun.expr_ us (vs ++ (t ∷ [])) of k m u (on_expr vs t r m q e)) ok
       over None e = ends (whole_expr r) refl
 
-  value_in_case : (t c : Token) (us vs : List Token) (values : List Expr) (r : ExprState) (x : Operand) (m : CommandTerminal) →
+  value_in_case : (t c : Token) (us vs : List Token) (values : List Expr) (r : ExprState) (x : Operand)
+      (m : CommandTerminal) →
       command_terminal_of t ≡ m → command_terminal_of c ≡ terminal.Word word.Case → CaseBegins us values →
       expr_run vs expr_start ≡ Some r → whole_expr r ≡ Some x → admits s kind.Case ≡ true →
       Goes (next_value s begin.span (use_.Case values) x t m) (c ∷ (us ++ (vs ++ (t ∷ []))))
@@ -431,7 +442,8 @@ module _ (s : CommandState) (front : List Token) (begin : Token) (heard : Heard 
       ∙ (ap (type_run_from (type_run (t ∷ []))) q ∙ ap (type_run_from (type_run [])) e)
 
   type_fine : (t sign u n colon : Token) (w : CommandWord) (ts us : List Token) (required : Bool) (r : TypeState) →
-      command_terminal_of sign ≡ terminal.At → command_terminal_of u ≡ terminal.Word word.Param → SpellsRequired ts required →
+      command_terminal_of sign ≡ terminal.At → command_terminal_of u ≡ terminal.Word word.Param
+      → SpellsRequired ts required →
       command_terminal_of n ≡ terminal.Word w → command_terminal_of colon ≡ terminal.Colon →
       type_run us type_start ≡ Some r → admits s kind.HeadParam ≡ true →
       Goes (in_type s begin.span n.text required t (type_step r t))
@@ -446,7 +458,8 @@ module _ (s : CommandState) (front : List Token) (begin : Token) (heard : Heard 
           let p = whole_type-SpellsType us r x q e in
           again (head_done s begin.span (head.Whole (tag.HeadParam n.text required x.of)) t) _ _
           (ap (λ l. sign ∷ (u ∷ l)) (append_assoc ts (n ∷ (colon ∷ us)) (t ∷ [])))
-          (done_fine (sign ∷ (u ∷ (ts ++ (n ∷ (colon ∷ us))))) (head.Whole (tag.HeadParam n.text required x.of)) kind.HeadParam
+          (done_fine (sign ∷ (u ∷ (ts ++ (n ∷ (colon ∷ us))))) (head.Whole (tag.HeadParam n.text required x.of))
+          kind.HeadParam
           (record {
             depths = _;
             words = _;
@@ -515,7 +528,8 @@ module _ (s : CommandState) (front : List Token) (begin : Token) (heard : Heard 
       in_goes (command_terminal_of t) _ _
       (λ e. stand (spot.Expr (use_.For v.text (Some i.text)) expr_start) _ kind.For
       (Begun.expr_ (u ∷ (v ∷ (c ∷ (i ∷ (t ∷ []))))) [] (use_.For v.text (Some i.text)) kind.For expr_start
-      (UseBegins.for_ u t (v ∷ (c ∷ (i ∷ []))) v.text (Some i.text) hu (SpellsVariables.two_ v c i hv hc hi) e) refl) ok)
+      (UseBegins.for_ u t (v ∷ (c ∷ (i ∷ []))) v.text (Some i.text) hu (SpellsVariables.two_ v c i hv hc hi) e) refl)
+      ok)
   spot_fine _ _ _ t (Begun.let_ u hu) ok =
       variable_goes (command_terminal_of t) _ _
       (λ e. stand (spot.LetColon t.text) _ kind.Let (Begun.let_colon_ u t hu e) ok)
@@ -535,7 +549,8 @@ module _ (s : CommandState) (front : List Token) (begin : Token) (heard : Heard 
       (int_goes (command_terminal_of t) t.text (stands s begin.span (spot.AfterInt next)) (u ∷ (us ++ (c ∷ (t ∷ []))))
       (λ e f. stand (spot.AfterInt next) (u ∷ (us ++ (c ∷ (t ∷ [])))) kind.PluralCase
       (Begun.after_int_ u (us ++ (c ∷ (t ∷ []))) next hu (SpellsInts.more_ us values c t p hc e f)) ok))
-  spot_fine _ _ _ t (Begun.after_int_ u us values hu p) ok = after_int_fine t u us values (command_terminal_of t) refl hu p ok
+  spot_fine _ _ _ t (Begun.after_int_ u us values hu p) ok = after_int_fine t u us values (command_terminal_of t) refl
+      hu p ok
   spot_fine _ _ _ t (Begun.case_word_first_ u hu) ok =
       case_word_goes (command_terminal_of t) t.text _ _
       (λ e f. stand (spot.AfterCaseWord (t.text ∷ [])) _ kind.SelectCase
@@ -554,9 +569,11 @@ module _ (s : CommandState) (front : List Token) (begin : Token) (heard : Heard 
       again (in_expr s begin.span (use_.Case values) t (expr_step r t)) _ _
       (ap (λ l. u ∷ l) (last_of_two us vs (t ∷ []))) (case_fine t u us vs values r hu b q ok)
   spot_fine _ _ _ t (Begun.expr_ us vs of k r u q) ok =
-      again (in_expr s begin.span of t (expr_step r t)) _ _ (last_of_two us vs (t ∷ [])) (expr_fine t us vs of k r u q ok)
+      again (in_expr s begin.span of t (expr_step r t)) _ _ (last_of_two us vs (t ∷ []))
+      (expr_fine t us vs of k r u q ok)
   spot_fine _ _ _ t (Begun.attributes_ ts us h k a of p) ok =
-      again (attributes_step s begin.span h a t) _ _ (last_of_two ts us (t ∷ [])) (attributes_fine ts h k of ok us a t p)
+      again (attributes_step s begin.span h a t) _ _ (last_of_two ts us (t ∷ []))
+      (attributes_fine ts h k of ok us a t p)
   spot_fine _ _ _ t (Begun.equals_ ts us n h k a name of p hn al) ok =
       again (if_equals (command_terminal_of t) (stands s begin.span (spot.Value h a name))) _ _
       (sym (append_assoc ts (us ++ (n ∷ [])) (t ∷ []) ∙ ap (λ l. ts ++ l) (append_assoc us (n ∷ []) (t ∷ []))))
@@ -565,7 +582,8 @@ module _ (s : CommandState) (front : List Token) (begin : Token) (heard : Heard 
       (Begun.value_ ts us n t h k a name of p hn al e) ok))
   spot_fine _ _ _ t (Begun.value_ ts us n q h k a name of p hn al he) ok =
       again (value_step s begin.span h a name t (command_terminal_of t)) _ _
-      (sym (append_assoc ts (us ++ (n ∷ (q ∷ []))) (t ∷ []) ∙ ap (λ l. ts ++ l) (append_assoc us (n ∷ (q ∷ [])) (t ∷ []))))
+      (sym (append_assoc ts (us ++ (n ∷ (q ∷ []))) (t ∷ [])
+      ∙ ap (λ l. ts ++ l) (append_assoc us (n ∷ (q ∷ [])) (t ∷ []))))
       (value_fine ts h k of ok us a name n q t (command_terminal_of t) refl p hn al he)
 
   -- the first token after the `{`
@@ -593,7 +611,8 @@ module _ (s : CommandState) (front : List Token) (begin : Token) (heard : Heard 
           (Begun.expr_ (t ∷ []) [] use_.Print kind.Print expr_start (UseBegins.print_word_ t e) refl) p
       over false true p q =
           stand (spot.Expr use_.MessagePrint expr_start) (t ∷ []) kind.MessagePrint
-          (Begun.expr_ (t ∷ []) [] use_.MessagePrint kind.MessagePrint expr_start (UseBegins.message_print_word_ t e) refl) q
+          (Begun.expr_ (t ∷ []) [] use_.MessagePrint kind.MessagePrint expr_start (UseBegins.message_print_word_ t e)
+          refl) q
       over false false p q = tt
 
   bare_expr_fine : (t : Token) → Goes (bare_expr s begin.span (print_use s) (expr_step expr_start t)) (t ∷ [])
@@ -624,7 +643,8 @@ module _ (s : CommandState) (front : List Token) (begin : Token) (heard : Heard 
     where
       over : (a b : Bool) → admits s kind.Case ≡ a → admits s kind.PluralCase ≡ b →
           Goes (if a then stands s begin.span (spot.Expr (use_.Case []) expr_start) else
-          (if b then stands s begin.span (spot.IntValue []) else opens_if s begin.span kind.SelectCase (spot.CaseWord [])))
+          (if b then stands s begin.span (spot.IntValue [])
+          else opens_if s begin.span kind.SelectCase (spot.CaseWord [])))
           (t ∷ [])
       over true b p q =
           stand (spot.Expr (use_.Case []) expr_start) (t ∷ []) kind.Case
@@ -640,7 +660,8 @@ module _ (s : CommandState) (front : List Token) (begin : Token) (heard : Heard 
       (record { depths = _; words = _; spells = SpellsHead.bare_ t h e; kind_is = refl }) (SpellsAttributes.none_ h))
   bare_fine t None e = bare_expr_fine t
 
-  opened_fine : (t : Token) (m : CommandTerminal) → command_terminal_of t ≡ m → Goes (opened_step s begin.span t m) (t ∷ [])
+  opened_fine : (t : Token) (m : CommandTerminal) → command_terminal_of t ≡ m
+      → Goes (opened_step s begin.span t m) (t ∷ [])
   opened_fine t terminal.At e = opens_fine kind.HeadParam spot.HeadParam (t ∷ []) (Begun.head_param_ t e)
   opened_fine t (terminal.Word word.Namespace) e =
       opens_fine kind.Namespace (spot.DottedName dotted.Namespace []) (t ∷ [])

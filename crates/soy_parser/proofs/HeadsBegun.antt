@@ -1,5 +1,6 @@
 -- What the tokens after a `{` have led to: at each spot a part of a head or of attributes, as the grammar has it.
-use Rattle.std.proofs.Common.{◌≡◌, ℕ, ℤ, pos, Bool, true, false, List, [], ◌∷◌, ◌++◌, Option, Some, None, refl, sym, ap, subst, append_assoc}
+use Rattle.std.proofs.Common.{◌≡◌, ℕ, ℤ, Bool, true, List, [], ◌∷◌, ◌++◌, Option, Some, refl, sym, ap}
+use Rattle.std.proofs.Common.{subst, append_assoc}
 use Rattle.soy_lexer.specs.declared.token.Token.{Token}
 use Rattle.soy_tree.specs.declared.expr.Expr.{Expr}
 use Rattle.expr_parser.specs.declared.operand.Operand.{Operand}
@@ -35,19 +36,22 @@ use Rattle.soy_parser.specs.SpellsHead.{SpellsRequired, SpellsVariables, expr_he
 -- the tokens before an expression, by its use
 pub data UseBegins : Use → List Token → HeadKind → Type 0 where
   print_ : UseBegins use_.Print [] kind.Print
-  print_word_ : (t : Token) → command_terminal_of t ≡ terminal.Word word.Print → UseBegins use_.Print (t ∷ []) kind.Print
+  print_word_ : (t : Token) → command_terminal_of t ≡ terminal.Word word.Print
+      → UseBegins use_.Print (t ∷ []) kind.Print
   message_print_ : UseBegins use_.MessagePrint [] kind.MessagePrint
   message_print_word_ : (t : Token) → command_terminal_of t ≡ terminal.Word word.Print
       → UseBegins use_.MessagePrint (t ∷ []) kind.MessagePrint
   if_ : (t : Token) → command_terminal_of t ≡ terminal.Word word.If → UseBegins use_.If (t ∷ []) kind.If
-  else_if_ : (t : Token) → command_terminal_of t ≡ terminal.Word word.ElseIf → UseBegins use_.ElseIf (t ∷ []) kind.ElseIf
+  else_if_ : (t : Token) → command_terminal_of t ≡ terminal.Word word.ElseIf
+      → UseBegins use_.ElseIf (t ∷ []) kind.ElseIf
   switch_ : (t : Token) → command_terminal_of t ≡ terminal.Word word.Switch → UseBegins use_.Switch (t ∷ []) kind.Switch
   plural_ : (t : Token) → command_terminal_of t ≡ terminal.Word word.Plural → UseBegins use_.Plural (t ∷ []) kind.Plural
   select_ : (t : Token) → command_terminal_of t ≡ terminal.Word word.Select → UseBegins use_.Select (t ∷ []) kind.Select
   for_ : (t i : Token) (ts : List Token) (n : List ℕ) (index : Option (List ℕ))
       → command_terminal_of t ≡ terminal.Word word.For → SpellsVariables ts n index
       → command_terminal_of i ≡ terminal.Word word.In → UseBegins (use_.For n index) (t ∷ (ts ++ (i ∷ []))) kind.For
-  let_ : (t v colon : Token) → command_terminal_of t ≡ terminal.Word word.Let → command_terminal_of v ≡ terminal.Variable
+  let_ : (t v colon : Token) → command_terminal_of t ≡ terminal.Word word.Let
+      → command_terminal_of v ≡ terminal.Variable
       → command_terminal_of colon ≡ terminal.Colon → UseBegins (use_.Let v.text) (t ∷ (v ∷ (colon ∷ []))) kind.Let
   param_ : (t n colon : Token) (w : CommandWord) → command_terminal_of t ≡ terminal.Word word.Param
       → command_terminal_of n ≡ terminal.Word w → command_terminal_of colon ≡ terminal.Colon
@@ -75,7 +79,8 @@ pub record HeadOf (ts : List Token) (h : Head) (k : HeadKind) : Type 0 where
 
 -- the tokens after a `{` lead to this spot, in a head of this kind
 pub data Begun : Spot → List Token → HeadKind → Type 0 where
-  head_param_ : (sign : Token) → command_terminal_of sign ≡ terminal.At → Begun spot.HeadParam (sign ∷ []) kind.HeadParam
+  head_param_ : (sign : Token) → command_terminal_of sign ≡ terminal.At
+      → Begun spot.HeadParam (sign ∷ []) kind.HeadParam
   head_param_word_ : (sign t : Token) → command_terminal_of sign ≡ terminal.At
       → command_terminal_of t ≡ terminal.Word word.Param → Begun spot.HeadParamWord (sign ∷ (t ∷ [])) kind.HeadParam
   head_param_name_ : (sign t q : Token) → command_terminal_of sign ≡ terminal.At
@@ -87,11 +92,14 @@ pub data Begun : Spot → List Token → HeadKind → Type 0 where
       → Begun (spot.HeadParamColon n.text required) (sign ∷ (t ∷ (ts ++ (n ∷ [])))) kind.HeadParam
   type_ : (sign t n colon : Token) (w : CommandWord) (ts us : List Token) (required : Bool) (r : TypeState)
       → command_terminal_of sign ≡ terminal.At → command_terminal_of t ≡ terminal.Word word.Param
-      → SpellsRequired ts required → command_terminal_of n ≡ terminal.Word w → command_terminal_of colon ≡ terminal.Colon
+      → SpellsRequired ts required → command_terminal_of n ≡ terminal.Word w
+      → command_terminal_of colon ≡ terminal.Colon
       → type_run us type_start ≡ Some r
       → Begun (spot.Type n.text required r) (sign ∷ (t ∷ (ts ++ (n ∷ (colon ∷ us))))) kind.HeadParam
-  template_ : (t : Token) → command_terminal_of t ≡ terminal.Word word.Template → Begun spot.Template (t ∷ []) kind.Template
-  template_name_ : (t d : Token) → command_terminal_of t ≡ terminal.Word word.Template → command_terminal_of d ≡ terminal.Dot
+  template_ : (t : Token) → command_terminal_of t ≡ terminal.Word word.Template
+      → Begun spot.Template (t ∷ []) kind.Template
+  template_name_ : (t d : Token) → command_terminal_of t ≡ terminal.Word word.Template
+      → command_terminal_of d ≡ terminal.Dot
       → Begun spot.TemplateName (t ∷ (d ∷ [])) kind.Template
   call_ : (t : Token) → command_terminal_of t ≡ terminal.Word word.Call → Begun spot.Call (t ∷ []) kind.Call
   dotted_first_ : (ts : List Token) (of : DottedUse) (k : HeadKind) → DottedBegins of ts k
@@ -112,7 +120,8 @@ pub data Begun : Spot → List Token → HeadKind → Type 0 where
       → command_terminal_of i ≡ terminal.Variable
       → Begun (spot.ForIndexIn v.text i.text) (t ∷ (v ∷ (comma ∷ (i ∷ [])))) kind.For
   let_ : (t : Token) → command_terminal_of t ≡ terminal.Word word.Let → Begun spot.Let (t ∷ []) kind.Let
-  let_colon_ : (t v : Token) → command_terminal_of t ≡ terminal.Word word.Let → command_terminal_of v ≡ terminal.Variable
+  let_colon_ : (t v : Token) → command_terminal_of t ≡ terminal.Word word.Let
+      → command_terminal_of v ≡ terminal.Variable
       → Begun (spot.LetColon v.text) (t ∷ (v ∷ [])) kind.Let
   param_ : (t : Token) → command_terminal_of t ≡ terminal.Word word.Param → Begun spot.Param (t ∷ []) kind.Param
   param_colon_ : (t n : Token) (w : CommandWord) → command_terminal_of t ≡ terminal.Word word.Param
@@ -138,7 +147,8 @@ pub data Begun : Spot → List Token → HeadKind → Type 0 where
       → Begun (spot.Expr (use_.Case values) r) (t ∷ (us ++ vs)) kind.Case
   expr_ : (us vs : List Token) (of : Use) (k : HeadKind) (r : ExprState) → UseBegins of us k
       → expr_run vs expr_start ≡ Some r → Begun (spot.Expr of r) (us ++ vs) k
-  attributes_ : (ts us : List Token) (h : Head) (k : HeadKind) (a : Attributes) → HeadOf ts h k → SpellsAttributes h us a
+  attributes_ : (ts us : List Token) (h : Head) (k : HeadKind) (a : Attributes) → HeadOf ts h k
+      → SpellsAttributes h us a
       → Begun (spot.Attributes h a) (ts ++ us) k
   equals_ : (ts us : List Token) (name : Token) (h : Head) (k : HeadKind) (a : Attributes) (n : AttributeName)
       → HeadOf ts h k → SpellsAttributes h us a → attribute_name (command_terminal_of name) ≡ Some n
@@ -154,21 +164,57 @@ pub use_head : (of : Use) (us : List Token) (k : HeadKind) → UseBegins of us k
 use_head _ _ _ UseBegins.print_ vs ds x p =
     record { depths = _; words = _; spells = SpellsHead.printed_ vs ds x p; kind_is = refl }
 use_head _ _ _ (UseBegins.print_word_ t h) vs ds x p =
-    record { depths = _; words = _; spells = SpellsHead.expression_ t vs ds x (head_of use_.Print x) p (ap (λ m. expr_head m x.expr) h); kind_is = refl }
+    record {
+      depths = _;
+      words = _;
+      spells = SpellsHead.expression_ t vs ds x (head_of use_.Print x) p
+          (ap (λ m. expr_head m x.expr) h);
+      kind_is = refl;
+    }
 use_head _ _ _ UseBegins.message_print_ vs ds x p =
     record { depths = _; words = _; spells = SpellsHead.message_printed_ vs ds x p; kind_is = refl }
 use_head _ _ _ (UseBegins.message_print_word_ t h) vs ds x p =
     record { depths = _; words = _; spells = SpellsHead.message_print_ t vs ds x h p; kind_is = refl }
 use_head _ _ _ (UseBegins.if_ t h) vs ds x p =
-    record { depths = _; words = _; spells = SpellsHead.expression_ t vs ds x (head_of use_.If x) p (ap (λ m. expr_head m x.expr) h); kind_is = refl }
+    record {
+      depths = _;
+      words = _;
+      spells = SpellsHead.expression_ t vs ds x (head_of use_.If x) p
+          (ap (λ m. expr_head m x.expr) h);
+      kind_is = refl;
+    }
 use_head _ _ _ (UseBegins.else_if_ t h) vs ds x p =
-    record { depths = _; words = _; spells = SpellsHead.expression_ t vs ds x (head_of use_.ElseIf x) p (ap (λ m. expr_head m x.expr) h); kind_is = refl }
+    record {
+      depths = _;
+      words = _;
+      spells = SpellsHead.expression_ t vs ds x (head_of use_.ElseIf x) p
+          (ap (λ m. expr_head m x.expr) h);
+      kind_is = refl;
+    }
 use_head _ _ _ (UseBegins.switch_ t h) vs ds x p =
-    record { depths = _; words = _; spells = SpellsHead.expression_ t vs ds x (head_of use_.Switch x) p (ap (λ m. expr_head m x.expr) h); kind_is = refl }
+    record {
+      depths = _;
+      words = _;
+      spells = SpellsHead.expression_ t vs ds x (head_of use_.Switch x) p
+          (ap (λ m. expr_head m x.expr) h);
+      kind_is = refl;
+    }
 use_head _ _ _ (UseBegins.plural_ t h) vs ds x p =
-    record { depths = _; words = _; spells = SpellsHead.expression_ t vs ds x (head_of use_.Plural x) p (ap (λ m. expr_head m x.expr) h); kind_is = refl }
+    record {
+      depths = _;
+      words = _;
+      spells = SpellsHead.expression_ t vs ds x (head_of use_.Plural x) p
+          (ap (λ m. expr_head m x.expr) h);
+      kind_is = refl;
+    }
 use_head _ _ _ (UseBegins.select_ t h) vs ds x p =
-    record { depths = _; words = _; spells = SpellsHead.expression_ t vs ds x (head_of use_.Select x) p (ap (λ m. expr_head m x.expr) h); kind_is = refl }
+    record {
+      depths = _;
+      words = _;
+      spells = SpellsHead.expression_ t vs ds x (head_of use_.Select x) p
+          (ap (λ m. expr_head m x.expr) h);
+      kind_is = refl;
+    }
 use_head _ _ _ (UseBegins.for_ t i ts n index h v k) vs ds x p =
     record {
       depths = _;
@@ -184,7 +230,8 @@ use_head _ _ _ (UseBegins.param_ t n colon w ht hn hc) vs ds x p =
     record { depths = _; words = _; spells = SpellsHead.param_ t n colon w vs ds x ht hn hc p; kind_is = refl }
 
 -- no further value follows
-pub one_value : (of : Use) (us : List Token) (k : HeadKind) → UseBegins of us k → (s : CommandState) (from : Span) (x : Operand)
+pub one_value : (of : Use) (us : List Token) (k : HeadKind) → UseBegins of us k
+    → (s : CommandState) (from : Span) (x : Operand)
     (t : Token) (m : CommandTerminal) → next_value s from of x t m ≡ head_done s from (head_of of x) t
 one_value _ _ _ UseBegins.print_ s from x t m = refl
 one_value _ _ _ (UseBegins.print_word_ u h) s from x t m = refl
@@ -204,12 +251,14 @@ pub record SpelledValues (ts : List Token) (values : List Expr) : Type 0 where
   pub depths : List ℕ
   pub spells : SpellsValues ts depths values
 
-pub case_values : (us : List Token) (values : List Expr) → CaseBegins us values → (vs : List Token) (ds : List ℕ) (x : Operand) →
+pub case_values : (us : List Token) (values : List Expr) → CaseBegins us values
+    → (vs : List Token) (ds : List ℕ) (x : Operand) →
     SpellsExpr 9 vs ds x → SpelledValues (us ++ vs) (values ++ (x.expr ∷ []))
 case_values _ _ CaseBegins.first_ vs ds x p = record { depths = ds; spells = SpellsValues.one_ vs ds x p }
 case_values _ _ (CaseBegins.next_ ts es values comma w hc) vs ds x p = record {
   depths = es ++ (0 ∷ ds);
-  spells = subst (λ l. SpellsValues l (es ++ (0 ∷ ds)) (values ++ (x.expr ∷ []))) (sym (append_assoc ts (comma ∷ []) vs))
+  spells = subst (λ l. SpellsValues l (es ++ (0 ∷ ds)) (values ++ (x.expr ∷ [])))
+      (sym (append_assoc ts (comma ∷ []) vs))
       (SpellsValues.more_ ts vs es ds values comma x w hc p);
 }
 

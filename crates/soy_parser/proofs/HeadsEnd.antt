@@ -1,11 +1,11 @@
 -- **Whatever a command has begun with, further tokens end it.**
-use Rattle.std.proofs.Common.{◌≡◌, ℕ, ℤ, Bool, true, false, not, List, [], ◌∷◌, ◌++◌, Option, Some, None, option_map, refl, sym, ◌∙◌, ap, subst, append_assoc, append-nil}
+use Rattle.std.proofs.Common.{◌≡◌, ℕ, ℤ, Bool, true, false, not, List, [], ◌∷◌, ◌++◌, Option, Some, None, option_map}
+use Rattle.std.proofs.Common.{refl, sym, ◌∙◌, ap, subst, append_assoc, append-nil}
 use Rattle.std.specs.Prelude.{codes, is_some, unwrap_or}
 use Rattle.soy_base.specs.declared.kind.Kind.{Kind}
 use Rattle.soy_lexer.specs.declared.token.Token.{Token}
 use Rattle.soy_lexer.specs.declared.token.TokenKind.TheVariants as token_kind
 use Rattle.soy_tree.specs.declared.expr.Expr.{Expr}
-use Rattle.expr_parser.specs.declared.operand.Operand.{Operand}
 use Rattle.expr_parser.specs.declared.state.ExprState.{ExprState}
 use Rattle.expr_parser.specs.declared.type_state.TypeState.{TypeState}
 use Rattle.expr_parser.specs.ExprRuns.{expr_run, expr_start}
@@ -34,9 +34,11 @@ use Rattle.soy_parser.specs.declared.terminal.CommandWord.TheVariants as word
 use Rattle.soy_parser.specs.CommandTerminals.{command_terminal_of}
 use Rattle.soy_parser.specs.FileSteps.{dotted_head, head_of}
 use Rattle.soy_parser.specs.Heads.{no_attributes, attribute_name, allows, with_attribute, SpellsAttributes, tag_at}
-use Rattle.soy_parser.specs.SpellsHead.{SpellsHead, SpellsDotted, SpellsInts, SpellsCaseWords, SpellsDot, SpellsRequired}
+use Rattle.soy_parser.specs.SpellsHead.{SpellsHead, SpellsDotted, SpellsInts, SpellsCaseWords, SpellsDot}
+use Rattle.soy_parser.specs.SpellsHead.{SpellsRequired}
 use Rattle.soy_parser.specs.SpellsHead.{SpellsVariables}
-use Rattle.soy_parser.proofs.HeadsBegun.{UseBegins, CaseBegins, DottedBegins, HeadOf, Begun, use_head, case_values, dotted_head_of}
+use Rattle.soy_parser.proofs.HeadsBegun.{UseBegins, CaseBegins, DottedBegins, HeadOf, Begun, use_head, case_values}
+use Rattle.soy_parser.proofs.HeadsBegun.{dotted_head_of}
 use Rattle.soy_parser.proofs.WrittenTokens.{token, end_token, word_token, symbol_token}
 
 -- further tokens make a head, attributes and an end of these
@@ -154,7 +156,8 @@ module _ (ts : List Token) (h : Head) (k : HeadKind) (of : HeadOf ts h k) where
   }
 
   -- with a further attribute
-  then_attribute : (us : List Token) (a b : Attributes) (name : Token) (n : AttributeName) (text : List ℕ) (said : Tag) →
+  then_attribute : (us : List Token) (a b : Attributes) (name : Token) (n : AttributeName) (text : List ℕ)
+      (said : Tag) →
       SpellsAttributes h us a → attribute_name (command_terminal_of name) ≡ Some n → allows h a n ≡ true →
       with_attribute a n text ≡ Some b → tag_at h b terminal.End ≡ Some said → Completes (ts ++ us) k
   then_attribute us a b name n text said p hn al w e =
@@ -165,7 +168,8 @@ module _ (ts : List Token) (h : Head) (k : HeadKind) (of : HeadOf ts h k) where
       (SpellsAttributes.more_ h us a b name equals_token (value_token text) n p hn al is_equals refl w) e))
 
 -- a command is ended after its attributes
-pub attributes_end : (ts us : List Token) (h : Head) (k : HeadKind) (a : Attributes) → HeadOf ts h k → SpellsAttributes h us a →
+pub attributes_end : (ts us : List Token) (h : Head) (k : HeadKind) (a : Attributes) → HeadOf ts h k
+    → SpellsAttributes h us a →
     Completes (ts ++ us) k
 attributes_end ts us (head.Whole said) k a of p = closed ts (head.Whole said) k of us a end_token said p refl
 attributes_end ts us (head.Alone said) k a of p =
@@ -192,7 +196,8 @@ attributes_end ts us (head.Param n) k a of p = over a.kind refl
         (ap (option_map (λ given. tag.Opens (opening.Param n given))) e)
     over None e =
         let v = has_value a attribute.Kind in
-        then_attribute ts (head.Param n) k of us a v.with_it (word_token (codes "kind")) attribute.Kind v.text _ p is_kind
+        then_attribute ts (head.Param n) k of us a v.with_it (word_token (codes "kind")) attribute.Kind v.text _ p
+        is_kind
         (ap (λ o. not (is_some o)) e) v.is refl
 attributes_end ts us head.Message k a of p = over a.desc refl
   where
@@ -212,7 +217,8 @@ attributes_end ts us head.Fallback k a of p = over a.desc refl
         (ap (option_map (λ desc. tag.GoesOn (middle.Fallback desc (unwrap_or a.meaning [])))) e)
     over None e =
         let v = has_value a attribute.Desc in
-        then_attribute ts head.Fallback k of us a v.with_it (word_token (codes "desc")) attribute.Desc v.text _ p is_desc
+        then_attribute ts head.Fallback k of us a v.with_it (word_token (codes "desc")) attribute.Desc v.text _ p
+        is_desc
         (ap (λ o. not (is_some o)) e) v.is refl
 
 -- a head that is whole
@@ -228,7 +234,8 @@ expr_ends us vs of k r u q =
     let c = expr_exact.run-Completes vs r q in
     shorter (us ++ vs) c.more k
     (moved k (us ++ (vs ++ c.more)) ((us ++ vs) ++ c.more) (sym (append_assoc us vs c.more))
-    (head_ends (us ++ (vs ++ c.more)) (head_of of c.operand) k (use_head of us k u (vs ++ c.more) c.depths c.operand c.spells)))
+    (head_ends (us ++ (vs ++ c.more)) (head_of of c.operand) k
+    (use_head of us k u (vs ++ c.more) c.depths c.operand c.spells)))
 
 case_ends : (t : Token) (us vs : List Token) (values : List Expr) (r : ExprState) →
     command_terminal_of t ≡ terminal.Word word.Case → CaseBegins us values → expr_run vs expr_start ≡ Some r →
@@ -238,7 +245,8 @@ case_ends t us vs values r h b q =
     let g = case_values us values b (vs ++ c.more) c.depths c.operand c.spells in
     let next = values ++ (c.operand.expr ∷ []) in
     shorter (t ∷ (us ++ vs)) c.more kind.Case
-    (moved kind.Case (t ∷ (us ++ (vs ++ c.more))) (t ∷ ((us ++ vs) ++ c.more)) (ap (λ l. t ∷ l) (sym (append_assoc us vs c.more)))
+    (moved kind.Case (t ∷ (us ++ (vs ++ c.more))) (t ∷ ((us ++ vs) ++ c.more))
+    (ap (λ l. t ∷ l) (sym (append_assoc us vs c.more)))
     (head_ends (t ∷ (us ++ (vs ++ c.more))) (head.Whole (tag.GoesOn (middle.Case next))) kind.Case
     (record {
       depths = _;
@@ -254,8 +262,10 @@ use_ends us of k u = moved k (us ++ []) us (append-nil us) (expr_ends us [] of k
 -- a parameter of a template
 
 type_ends : (sign t n colon : Token) (w : CommandWord) (ts us : List Token) (required : Bool) (r : TypeState) →
-    command_terminal_of sign ≡ terminal.At → command_terminal_of t ≡ terminal.Word word.Param → SpellsRequired ts required →
-    command_terminal_of n ≡ terminal.Word w → command_terminal_of colon ≡ terminal.Colon → type_run us type_start ≡ Some r →
+    command_terminal_of sign ≡ terminal.At → command_terminal_of t ≡ terminal.Word word.Param
+    → SpellsRequired ts required →
+    command_terminal_of n ≡ terminal.Word w → command_terminal_of colon ≡ terminal.Colon
+    → type_run us type_start ≡ Some r →
     Completes (sign ∷ (t ∷ (ts ++ (n ∷ (colon ∷ us))))) kind.HeadParam
 type_ends sign t n colon w ts us required r hs ht hq hn hc q =
     let c = type_exact.run-Completes us r q in
@@ -268,17 +278,20 @@ type_ends sign t n colon w ts us required r hs ht hq hn hc q =
     (record {
       depths = _;
       words = _;
-      spells = SpellsHead.head_param_ sign t n colon w ts (us ++ c.more) c.depths c.words required c.operand hs ht hq hn hc
+      spells = SpellsHead.head_param_ sign t n colon w ts (us ++ c.more) c.depths c.words required c.operand hs ht hq
+          hn hc
           c.spells;
       kind_is = refl;
     })))
 
 colon_ends : (sign t n : Token) (w : CommandWord) (ts : List Token) (required : Bool) →
-    command_terminal_of sign ≡ terminal.At → command_terminal_of t ≡ terminal.Word word.Param → SpellsRequired ts required →
+    command_terminal_of sign ≡ terminal.At → command_terminal_of t ≡ terminal.Word word.Param
+    → SpellsRequired ts required →
     command_terminal_of n ≡ terminal.Word w → Completes (sign ∷ (t ∷ (ts ++ (n ∷ [])))) kind.HeadParam
 colon_ends sign t n w ts required hs ht hq hn =
     shorter (sign ∷ (t ∷ (ts ++ (n ∷ [])))) (colon_token ∷ []) kind.HeadParam
-    (moved kind.HeadParam (sign ∷ (t ∷ (ts ++ (n ∷ (colon_token ∷ []))))) (sign ∷ (t ∷ ((ts ++ (n ∷ [])) ++ (colon_token ∷ []))))
+    (moved kind.HeadParam (sign ∷ (t ∷ (ts ++ (n ∷ (colon_token ∷ [])))))
+    (sign ∷ (t ∷ ((ts ++ (n ∷ [])) ++ (colon_token ∷ []))))
     (ap (λ l. sign ∷ (t ∷ l)) (sym (append_assoc ts (n ∷ []) (colon_token ∷ []))))
     (type_ends sign t n colon_token w ts [] required type_start hs ht hq hn is_colon refl))
 
@@ -286,7 +299,8 @@ name_ends : (sign t : Token) (ts : List Token) (required : Bool) → command_ter
     command_terminal_of t ≡ terminal.Word word.Param → SpellsRequired ts required →
     Completes (sign ∷ (t ∷ ts)) kind.HeadParam
 name_ends sign t ts required hs ht hq =
-    shorter (sign ∷ (t ∷ ts)) (name_token ∷ []) kind.HeadParam (colon_ends sign t name_token _ ts required hs ht hq refl)
+    shorter (sign ∷ (t ∷ ts)) (name_token ∷ []) kind.HeadParam
+    (colon_ends sign t name_token _ ts required hs ht hq refl)
 
 -- names
 
@@ -317,7 +331,8 @@ ints_end t us values h p =
     head_ends (t ∷ us) (head.Whole (tag.GoesOn (middle.PluralCase values))) kind.PluralCase
     (record { depths = _; words = _; spells = SpellsHead.plural_case_ t us values h p; kind_is = refl })
 
-case_words_end : (t : Token) (us : List Token) (values : List (List ℕ)) → command_terminal_of t ≡ terminal.Word word.Case →
+case_words_end : (t : Token) (us : List Token) (values : List (List ℕ))
+    → command_terminal_of t ≡ terminal.Word word.Case →
     SpellsCaseWords us values → Completes (t ∷ us) kind.SelectCase
 case_words_end t us values h p =
     head_ends (t ∷ us) (head.Whole (tag.GoesOn (middle.SelectCase values))) kind.SelectCase
@@ -332,7 +347,8 @@ in_ends : (t : Token) (ts : List Token) (n : List ℕ) (index : Option (List ℕ
     command_terminal_of t ≡ terminal.Word word.For → SpellsVariables ts n index → Completes (t ∷ ts) kind.For
 in_ends t ts n index h v =
     shorter (t ∷ ts) (in_token ∷ []) kind.For
-    (use_ends (t ∷ (ts ++ (in_token ∷ []))) (use_.For n index) kind.For (UseBegins.for_ t in_token ts n index h v is_in))
+    (use_ends (t ∷ (ts ++ (in_token ∷ []))) (use_.For n index) kind.For
+    (UseBegins.for_ t in_token ts n index h v is_in))
 
 -- **So it is at each spot.**
 pub begun_ends : (at : Spot) (own : List Token) (k : HeadKind) → Begun at own k → Completes own k
@@ -342,7 +358,8 @@ begun_ends _ _ _ (Begun.head_param_ sign hs) =
 begun_ends _ _ _ (Begun.head_param_word_ sign t hs ht) = name_ends sign t [] true hs ht SpellsRequired.required_
 begun_ends _ _ _ (Begun.head_param_name_ sign t q hs ht hq) =
     name_ends sign t (q ∷ []) false hs ht (SpellsRequired.optional_ q hq)
-begun_ends _ _ _ (Begun.head_param_colon_ sign t n w ts required hs ht hq hn) = colon_ends sign t n w ts required hs ht hq hn
+begun_ends _ _ _ (Begun.head_param_colon_ sign t n w ts required hs ht hq hn) =
+    colon_ends sign t n w ts required hs ht hq hn
 begun_ends _ _ _ (Begun.type_ sign t n colon w ts us required r hs ht hq hn hc q) =
     type_ends sign t n colon w ts us required r hs ht hq hn hc q
 begun_ends _ _ _ (Begun.template_ t ht) = template_ends t [] ht SpellsDot.without_
@@ -363,7 +380,8 @@ begun_ends _ _ _ (Begun.for_ t ht) =
 begun_ends _ _ _ (Begun.for_in_ t v ht hv) = in_ends t (v ∷ []) v.text None ht (SpellsVariables.one_ v hv)
 begun_ends _ _ _ (Begun.for_index_ t v comma ht hv hc) =
     shorter (t ∷ (v ∷ (comma ∷ []))) (variable_token ∷ []) kind.For
-    (in_ends t (v ∷ (comma ∷ (variable_token ∷ []))) v.text _ ht (SpellsVariables.two_ v comma variable_token hv hc refl))
+    (in_ends t (v ∷ (comma ∷ (variable_token ∷ []))) v.text _ ht
+    (SpellsVariables.two_ v comma variable_token hv hc refl))
 begun_ends _ _ _ (Begun.for_index_in_ t v comma i ht hv hc hi) =
     in_ends t (v ∷ (comma ∷ (i ∷ []))) v.text (Some i.text) ht (SpellsVariables.two_ v comma i hv hc hi)
 begun_ends _ _ _ (Begun.let_ t ht) =
@@ -381,7 +399,8 @@ begun_ends _ _ _ (Begun.param_colon_ t n w ht hn) =
     head_ends (t ∷ (n ∷ [])) (head.Param n.text) kind.Param
     (record { depths = _; words = _; spells = SpellsHead.param_block_ t n w ht hn; kind_is = refl })
 begun_ends _ _ _ (Begun.int_first_ t ht) =
-    shorter (t ∷ []) (int_token ∷ []) kind.PluralCase (ints_end t (int_token ∷ []) _ ht (SpellsInts.one_ int_token refl refl))
+    shorter (t ∷ []) (int_token ∷ []) kind.PluralCase
+    (ints_end t (int_token ∷ []) _ ht (SpellsInts.one_ int_token refl refl))
 begun_ends _ _ _ (Begun.int_next_ t comma us values ht p hc) =
     shorter (t ∷ (us ++ (comma ∷ []))) (int_token ∷ []) kind.PluralCase
     (moved kind.PluralCase (t ∷ (us ++ (comma ∷ (int_token ∷ [])))) (t ∷ ((us ++ (comma ∷ [])) ++ (int_token ∷ [])))
@@ -393,7 +412,8 @@ begun_ends _ _ _ (Begun.case_word_first_ t ht) =
     (case_words_end t (string_token ∷ []) _ ht (SpellsCaseWords.one_ string_token refl refl))
 begun_ends _ _ _ (Begun.case_word_next_ t comma us values ht p hc) =
     shorter (t ∷ (us ++ (comma ∷ []))) (string_token ∷ []) kind.SelectCase
-    (moved kind.SelectCase (t ∷ (us ++ (comma ∷ (string_token ∷ [])))) (t ∷ ((us ++ (comma ∷ [])) ++ (string_token ∷ [])))
+    (moved kind.SelectCase (t ∷ (us ++ (comma ∷ (string_token ∷ []))))
+    (t ∷ ((us ++ (comma ∷ [])) ++ (string_token ∷ [])))
     (ap (λ l. t ∷ l) (sym (append_assoc us (comma ∷ []) (string_token ∷ []))))
     (case_words_end t (us ++ (comma ∷ (string_token ∷ []))) _ ht
     (SpellsCaseWords.more_ us values comma string_token p hc refl refl)))
@@ -414,6 +434,7 @@ begun_ends _ _ _ (Begun.value_ ts us name equals h k a n of p hn al he) =
     let last = value_token v.text ∷ [] in
     shorter (ts ++ (us ++ (name ∷ (equals ∷ [])))) last k
     (moved k (ts ++ (us ++ (name ∷ (equals ∷ last)))) ((ts ++ (us ++ (name ∷ (equals ∷ [])))) ++ last)
-    (sym (append_assoc ts (us ++ (name ∷ (equals ∷ []))) last ∙ ap (λ l. ts ++ l) (append_assoc us (name ∷ (equals ∷ [])) last)))
+    (sym (append_assoc ts (us ++ (name ∷ (equals ∷ []))) last
+    ∙ ap (λ l. ts ++ l) (append_assoc us (name ∷ (equals ∷ [])) last)))
     (attributes_end ts (us ++ (name ∷ (equals ∷ last))) h k v.with_it of
     (SpellsAttributes.more_ h us a v.with_it name equals (value_token v.text) n p hn al he refl v.is)))

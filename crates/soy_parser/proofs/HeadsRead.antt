@@ -1,5 +1,6 @@
 -- **Each head is read, where its kind is admitted.**
-use Rattle.std.proofs.Common.{◌≡◌, ℕ, ◌+◌, ℤ, pos, Bool, true, false, List, [], ◌∷◌, ◌++◌, map, length, Option, Some, None, refl, sym, ◌∙◌, ap, subst, append_assoc}
+use Rattle.std.proofs.Common.{◌≡◌, ℕ, ◌+◌, ℤ, pos, Bool, true, false, List, [], ◌∷◌, ◌++◌, length, Option, Some}
+use Rattle.std.proofs.Common.{None, refl, sym, ◌∙◌, ap, subst, append_assoc}
 use Rattle.std.specs.Prelude.{if◌then◌else◌, ◌&&◌}
 use Rattle.soy_base.specs.declared.fault.Span.{Span}
 use Rattle.soy_lexer.specs.CommandSegment.{number_after}
@@ -9,7 +10,6 @@ use Rattle.soy_tree.specs.Formed.{is_case_word}
 use Rattle.soy_tree.specs.declared.expr.Expr.{Expr}
 use Rattle.expr_parser.specs.declared.operand.Operand.{Operand}
 use Rattle.expr_parser.specs.declared.state.ExprState.{ExprState}
-use Rattle.expr_parser.specs.declared.state.ExprStep.TheVariants as expr_does
 use Rattle.expr_parser.specs.ExprRuns.{expr_run, expr_run_from, expr_depths, expr_depths_from, expr_start}
 use Rattle.expr_parser.specs.ExprSteps.{expr_next, expr_step, expr_depth, step_of, whole_expr}
 use Rattle.expr_parser.specs.SpellsExpr.{SpellsExpr}
@@ -29,7 +29,6 @@ use Rattle.soy_parser.specs.declared.head.Head.{Head}
 use Rattle.soy_parser.specs.declared.head.Head.TheVariants as head
 use Rattle.soy_parser.specs.declared.head.HeadKind.{HeadKind}
 use Rattle.soy_parser.specs.declared.head.HeadKind.TheVariants as kind
-use Rattle.soy_parser.specs.declared.spot.CommandSpot.TheVariants as where_
 use Rattle.soy_parser.specs.declared.spot.DottedUse.{DottedUse}
 use Rattle.soy_parser.specs.declared.spot.DottedUse.TheVariants as dotted
 use Rattle.soy_parser.specs.declared.spot.FileState.{FileState}
@@ -44,21 +43,28 @@ use Rattle.soy_parser.specs.declared.terminal.CommandWord.TheVariants as word
 use Rattle.soy_parser.specs.CommandSteps.{has_whole_tags}
 use Rattle.soy_parser.specs.CommandTerminals.{command_terminal_of}
 use Rattle.soy_parser.specs.Depth.{none_deep, no_words}
-use Rattle.soy_parser.specs.FileSteps.{stands, admits, admits_at, body_admits, message_admits, cases_admit, top_admits, opens_if}
-use Rattle.soy_parser.specs.FileSteps.{bare_expr, bare_opens, case_opens, print_opens, print_use, head_kind, head_of, head_done}
-use Rattle.soy_parser.specs.FileSteps.{opened_step, file_step, in_expr, next_value, dotted_step, dotted_head, if_word, if_variable}
-use Rattle.soy_parser.specs.FileSteps.{if_in, if_int, if_case_word, if_colon, head_param_step, head_param_word_step, template_step}
-use Rattle.soy_parser.specs.FileSteps.{call_step, spot_depth, spot_word, for_in_step, let_colon_step, param_colon_step, after_int_step, after_case_word_step}
+use Rattle.soy_parser.specs.FileSteps.{stands, admits, admits_at, body_admits, message_admits, cases_admit, top_admits}
+use Rattle.soy_parser.specs.FileSteps.{opens_if}
+use Rattle.soy_parser.specs.FileSteps.{bare_expr, bare_opens, case_opens, print_opens, print_use, head_kind, head_of}
+use Rattle.soy_parser.specs.FileSteps.{head_done}
+use Rattle.soy_parser.specs.FileSteps.{opened_step, file_step, in_expr, next_value, dotted_step, dotted_head, if_word}
+use Rattle.soy_parser.specs.FileSteps.{if_variable}
+use Rattle.soy_parser.specs.FileSteps.{if_in, if_int, if_case_word, if_colon, head_param_step, head_param_word_step}
+use Rattle.soy_parser.specs.FileSteps.{template_step}
+use Rattle.soy_parser.specs.FileSteps.{call_step, spot_depth, spot_word, for_in_step, let_colon_step, param_colon_step}
+use Rattle.soy_parser.specs.FileSteps.{after_int_step, after_case_word_step}
 use Rattle.soy_parser.specs.Heads.{no_attributes}
 use Rattle.soy_parser.specs.SpellsHead.{SpellsHead, SpellsDotted, SpellsValues, SpellsInts, SpellsCaseWords, SpellsDot}
 use Rattle.soy_parser.specs.SpellsHead.{SpellsRequired, SpellsVariables, bare_head, expr_head}
-use Rattle.soy_parser.proofs.AttributesComplete.{in_at, FollowsHead, HasHead, has_attributes, if_then, none_append, plain_append, plain_step}
-use Rattle.soy_parser.proofs.FileRunning.{Leads, none_leads, then_leads, step_leads}
-use Rattle.soy_parser.proofs.HeadsComplete.{opened, HeadLeads, next_is_head, expr_head_leads, before_head, opens, WordBefore, word_leads}
+use Rattle.soy_parser.proofs.AttributesComplete.{in_at, FollowsHead, HasHead, has_attributes, if_then, none_append}
+use Rattle.soy_parser.proofs.AttributesComplete.{plain_append}
+use Rattle.soy_parser.proofs.FileRunning.{Leads, then_leads, step_leads}
+use Rattle.soy_parser.proofs.HeadsComplete.{opened, HeadLeads, next_is_head, expr_head_leads, before_head, opens}
+use Rattle.soy_parser.proofs.HeadsComplete.{WordBefore, word_leads}
 use Rattle.soy_parser.proofs.HeadsComplete.{let_leads, param_leads, use_depth}
 use Rattle.soy_parser.proofs.Seam.{comma_, colon_, dot_, expr_leads, whole_ends}
 use Rattle.soy_parser.proofs.SeamComma.{ends_at_comma}
-use Rattle.soy_parser.proofs.Starts.{Plain, plain_start}
+use Rattle.soy_parser.proofs.Starts.{plain_start}
 use Rattle.soy_parser.proofs.TypeSeam.{type_head_leads}
 
 -- a head of one token
@@ -88,7 +94,8 @@ bare_leads s from t h e ok =
     record {
       to = to;
       leads = step_leads (length s.blocks) 0 false (opened s from) t to
-          (bare_opened s from t (command_terminal_of t) h e ∙ opens s from (head_kind h) (spot.Attributes h no_attributes) ok)
+          (bare_opened s from t (command_terminal_of t) h e
+          ∙ opens s from (head_kind h) (spot.Attributes h no_attributes) ok)
           refl refl;
       has = has_attributes s from h no_attributes;
     }
@@ -160,7 +167,8 @@ no_select_case (block.Arm i when) = refl
 no_select_case (block.Case s values) = refl
 no_select_case _ = refl
 
-cases_plural : (bs : List Block) → top_admits cases_admit bs kind.PluralCase ≡ true → top_admits cases_admit bs kind.Case ≡ false
+cases_plural : (bs : List Block) → top_admits cases_admit bs kind.PluralCase ≡ true
+    → top_admits cases_admit bs kind.Case ≡ false
 cases_plural (block.Switch before start e ∷ bs) h = absurd (cc h)
 cases_plural (block.Plural e offset ∷ bs) h = refl
 cases_plural (block.Select e ∷ bs) h = refl
@@ -186,7 +194,8 @@ second false b e = absurd (cc e)
 
 -- a case is of one kind
 
-plural_case_alone : (k : Content) (bs : List Block) → admits_at k bs kind.PluralCase ≡ true → admits_at k bs kind.Case ≡ false
+plural_case_alone : (k : Content) (bs : List Block) → admits_at k bs kind.PluralCase ≡ true
+    → admits_at k bs kind.Case ≡ false
 plural_case_alone content.White bs e = refl
 plural_case_alone (content.Templates n templates) bs e = refl
 plural_case_alone (content.Body nodes) bs e = absurd (clash (never body_admits kind.PluralCase no_plural_case bs) e)
@@ -223,7 +232,8 @@ message_use s e =
 
 bare_run : (s : CommandState) (from : Span) (for_ : Use) (us : List Token) (r : ExprState) (x : Operand) →
     print_use s ≡ Some for_ → expr_run us expr_start ≡ Some r → whole_expr r ≡ Some x →
-    Leads (length s.blocks) (opened s from) us (expr_depths us expr_start) (no_words us) (in_at s from (spot.Expr for_ r))
+    Leads (length s.blocks) (opened s from) us (expr_depths us expr_start) (no_words us)
+    (in_at s from (spot.Expr for_ r))
 bare_run s from for_ [] r x u e w = absurd (nothing (subst (λ k. whole_expr k ≡ Some x) (sym (same e)) w))
   where
     unwrap : Option ExprState → ExprState
@@ -252,7 +262,8 @@ bare_run s from for_ (t ∷ us) r x u e w = over (expr_next expr_start t) refl e
         (expr_leads s from for_ us m r h)
 
 bare_expr_leads : (s : CommandState) (from : Span) (for_ : Use) (us : List Token) (ds : List ℕ) (x : Operand) →
-    print_use s ≡ Some for_ → SpellsExpr 9 us ds x → HeadLeads s from (opened s from) us ds (no_words us) (head_of for_ x)
+    print_use s ≡ Some for_ → SpellsExpr 9 us ds x → HeadLeads s from (opened s from) us ds (no_words us)
+    (head_of for_ x)
 bare_expr_leads s from for_ us ds x u p =
     let i = SpellsExpr-whole_expr us ds x p in
     record {
@@ -268,12 +279,14 @@ bare_expr_leads s from for_ us ds x u p =
     }
 
 -- the word `print` before it
-print_word_leads : (s : CommandState) (from : Span) (for_ : Use) (t : Token) (us : List Token) (ds : List ℕ) (x : Operand) →
+print_word_leads : (s : CommandState) (from : Span) (for_ : Use) (t : Token) (us : List Token) (ds : List ℕ)
+    (x : Operand) →
     command_terminal_of t ≡ terminal.Word word.Print → print_use s ≡ Some for_ → SpellsExpr 9 us ds x →
     HeadLeads s from (opened s from) (t ∷ us) (0 ∷ ds) (false ∷ no_words us) (head_of for_ x)
 print_word_leads s from for_ t us ds x ht u p =
     before_head s from (opened s from) (spot.Expr for_ expr_start) t us ds (no_words us) (head_of for_ x)
-    (use_depth s from for_ t (ap (opened_step s from t) ht ∙ ap (print_opens s from) u)) (expr_head_leads s from for_ us ds x p)
+    (use_depth s from for_ t (ap (opened_step s from t) ht ∙ ap (print_opens s from) u))
+    (expr_head_leads s from for_ us ds x p)
 
 -- a word and an expression
 
@@ -322,18 +335,21 @@ none_then {n} {a} {m} {b} {ts} {us} p q =
 
 -- the values of a case
 
-pub record ValuesLead (s : CommandState) (from : Span) (ts : List Token) (ds : List ℕ) (values : List Expr) : Type 0 where
-  pub before : List Expr
-  pub last : Operand
-  pub state : ExprState
-  pub leads : Leads (length s.blocks) (in_at s from (spot.Expr (use_.Case []) expr_start)) ts ds (no_words ts)
-      (in_at s from (spot.Expr (use_.Case before) state))
-  pub whole : whole_expr state ≡ Some last
-  pub are : before ++ (last.expr ∷ []) ≡ values
+pub record ValuesLead (s : CommandState) (from : Span) (ts : List Token) (ds : List ℕ) (values : List Expr) : Type 0
+  where
+    pub before : List Expr
+    pub last : Operand
+    pub state : ExprState
+    pub leads : Leads (length s.blocks) (in_at s from (spot.Expr (use_.Case []) expr_start)) ts ds (no_words ts)
+        (in_at s from (spot.Expr (use_.Case before) state))
+    pub whole : whole_expr state ≡ Some last
+    pub are : before ++ (last.expr ∷ []) ≡ values
 
-value_leads : (s : CommandState) (from : Span) (for_ : Use) (us : List Token) (ds : List ℕ) (x : Operand) (r : ExprState) →
+value_leads : (s : CommandState) (from : Span) (for_ : Use) (us : List Token) (ds : List ℕ) (x : Operand)
+    (r : ExprState) →
     SpellsExpr 9 us ds x → expr_run us expr_start ≡ Some r →
-    Leads (length s.blocks) (in_at s from (spot.Expr for_ expr_start)) us ds (no_words us) (in_at s from (spot.Expr for_ r))
+    Leads (length s.blocks) (in_at s from (spot.Expr for_ expr_start)) us ds (no_words us)
+    (in_at s from (spot.Expr for_ r))
 value_leads s from for_ us ds x r p e =
     subst (λ l. Leads (length s.blocks) (in_at s from (spot.Expr for_ expr_start)) us l (no_words us)
     (in_at s from (spot.Expr for_ r))) (sym (spelled_depths us ds x p)) (expr_leads s from for_ us expr_start r e)
@@ -362,11 +378,13 @@ values_lead s from _ _ _ (SpellsValues.more_ ts us ds es values comma x w hc p) 
       before = values;
       last = x;
       state = i.state;
-      leads = subst (λ l. Leads (length s.blocks) (in_at s from (spot.Expr (use_.Case []) expr_start)) (ts ++ (comma ∷ us))
+      leads = subst (λ l. Leads (length s.blocks) (in_at s from (spot.Expr (use_.Case []) expr_start))
+          (ts ++ (comma ∷ us))
           (ds ++ (0 ∷ es)) l (in_at s from (spot.Expr (use_.Case values) i.state)))
           (sym (plain_append ts (comma ∷ us)))
           (then_leads g.leads (then_leads {ts = comma ∷ []} {ds = 0 ∷ []} {ws = false ∷ []}
-          (step_leads (length s.blocks) 0 false (in_at s from (spot.Expr (use_.Case g.before) g.state)) comma at_ step refl refl)
+          (step_leads (length s.blocks) 0 false (in_at s from (spot.Expr (use_.Case g.before) g.state)) comma at_ step
+          refl refl)
           (value_leads s from (use_.Case values) us es x i.state p i.goes.runs)));
       whole = i.finishes;
       are = refl;
@@ -410,14 +428,16 @@ from_word s from t m at to ht e f = ap (opened_step s from t) ht ∙ (e ∙ f)
 
 case_leads : (s : CommandState) (from : Span) (t : Token) (us : List Token) (ds : List ℕ) (values : List Expr) →
     command_terminal_of t ≡ terminal.Word word.Case → admits s kind.Case ≡ true → SpellsValues us ds values →
-    HeadLeads s from (opened s from) (t ∷ us) (0 ∷ ds) (false ∷ no_words us) (head.Whole (tag.GoesOn (middle.Case values)))
+    HeadLeads s from (opened s from) (t ∷ us) (0 ∷ ds) (false ∷ no_words us)
+    (head.Whole (tag.GoesOn (middle.Case values)))
 case_leads s from t us ds values ht ok p =
     let g = values_lead s from us ds values p in
     let to = in_at s from (spot.Expr (use_.Case g.before) g.state) in
     record {
       to = to;
       leads = then_leads {ts = t ∷ []} {ds = 0 ∷ []} {ws = false ∷ []}
-          (use_depth s from (use_.Case []) t (from_word s from t (terminal.Word word.Case) _ _ ht refl (case_opened s from ok)))
+          (use_depth s from (use_.Case []) t
+          (from_word s from t (terminal.Word word.Case) _ _ ht refl (case_opened s from ok)))
           g.leads;
       has = record {
         commands_are = refl;
@@ -432,13 +452,15 @@ token_leads : (s : CommandState) (from : Span) (a b : Spot) (t : Token) →
     file_step (in_at s from a) t ≡ Some (in_at s from b) →
     length s.blocks + spot_depth b ≡ length s.blocks + 0 → spot_word b ≡ false →
     Leads (length s.blocks) (in_at s from a) (t ∷ []) (0 ∷ []) (false ∷ []) (in_at s from b)
-token_leads s from a b t e deep plain = step_leads (length s.blocks) 0 false (in_at s from a) t (in_at s from b) e deep plain
+token_leads s from a b t e deep plain = step_leads (length s.blocks) 0 false (in_at s from a) t (in_at s from b) e
+    deep plain
 
 opened_leads : (s : CommandState) (from : Span) (b : Spot) (t : Token) →
     file_step (opened s from) t ≡ Some (in_at s from b) →
     length s.blocks + spot_depth b ≡ length s.blocks + 0 → spot_word b ≡ false →
     Leads (length s.blocks) (opened s from) (t ∷ []) (0 ∷ []) (false ∷ []) (in_at s from b)
-opened_leads s from b t e deep plain = step_leads (length s.blocks) 0 false (opened s from) t (in_at s from b) e deep plain
+opened_leads s from b t e deep plain = step_leads (length s.blocks) 0 false (opened s from) t (in_at s from b) e deep
+    plain
 
 -- the ints of a plural's case, and the words of a select's
 
@@ -451,12 +473,14 @@ ints_lead : (s : CommandState) (from : Span) (ts : List Token) (values : List �
     (in_at s from (spot.AfterInt values))
 ints_lead s from _ _ (SpellsInts.one_ t h w) =
     let next = spot.AfterInt (pos (number_after 0 t.text) ∷ []) in
-    token_leads s from (spot.IntValue []) next t (int_taken (command_terminal_of t) t.text (stands s from next) h w) refl refl
+    token_leads s from (spot.IntValue []) next t (int_taken (command_terminal_of t) t.text (stands s from next) h w)
+    refl refl
 ints_lead s from _ _ (SpellsInts.more_ ts values comma t p hc h w) =
     let next = spot.AfterInt (values ++ (pos (number_after 0 t.text) ∷ [])) in
     none_then {us = comma ∷ (t ∷ [])} (ints_lead s from ts values p)
     (then_leads {ts = comma ∷ []} {ds = 0 ∷ []} {ws = false ∷ []}
-    (token_leads s from (spot.AfterInt values) (spot.IntValue values) comma (ap (after_int_step s from values comma) hc) refl refl)
+    (token_leads s from (spot.AfterInt values) (spot.IntValue values) comma
+    (ap (after_int_step s from values comma) hc) refl refl)
     (token_leads s from (spot.IntValue values) next t
     (int_taken (command_terminal_of t) t.text (stands s from next) h w) refl refl))
 
@@ -478,11 +502,13 @@ plural_case_leads s from t us values ht ok p = record {
   has = record { commands_are = refl; takes = λ z f. after_int_takes s from values z (command_terminal_of z) f };
 }
 
-case_word_taken : (m : CommandTerminal) (text : List ℕ) (to : Option FileState) → m ≡ terminal.Str → is_case_word text ≡ true →
+case_word_taken : (m : CommandTerminal) (text : List ℕ) (to : Option FileState) → m ≡ terminal.Str
+    → is_case_word text ≡ true →
     if_case_word m text to ≡ to
 case_word_taken m text to h w = ap (λ k. if_case_word k text to) h ∙ if_then (is_case_word text) to w
 
-case_words_lead : (s : CommandState) (from : Span) (ts : List Token) (values : List (List ℕ)) → SpellsCaseWords ts values →
+case_words_lead : (s : CommandState) (from : Span) (ts : List Token) (values : List (List ℕ))
+    → SpellsCaseWords ts values →
     Leads (length s.blocks) (in_at s from (spot.CaseWord [])) ts (none_deep ts) (no_words ts)
     (in_at s from (spot.AfterCaseWord values))
 case_words_lead s from _ _ (SpellsCaseWords.one_ t h w) =
@@ -518,9 +544,11 @@ select_case_leads s from t us values ht ok p = record {
 
 -- a loop
 
-in_leads : (s : CommandState) (from : Span) (at : Spot) (n : List ℕ) (index : Option (List ℕ)) (i : Token) (us : List Token)
+in_leads : (s : CommandState) (from : Span) (at : Spot) (n : List ℕ) (index : Option (List ℕ)) (i : Token)
+    (us : List Token)
     (ds : List ℕ) (x : Operand) →
-    file_step (in_at s from at) i ≡ Some (in_at s from (spot.Expr (use_.For n index) expr_start)) → SpellsExpr 9 us ds x →
+    file_step (in_at s from at) i ≡ Some (in_at s from (spot.Expr (use_.For n index) expr_start))
+    → SpellsExpr 9 us ds x →
     HeadLeads s from (in_at s from at) (i ∷ us) (0 ∷ ds) (no_words (i ∷ us)) (head_of (use_.For n index) x)
 in_leads s from at n index i us ds x e p =
     before_head s from (in_at s from at) (spot.Expr (use_.For n index) expr_start) i us ds (no_words us) _
@@ -528,25 +556,31 @@ in_leads s from at n index i us ds x e p =
     (expr_head_leads s from (use_.For n index) us ds x p)
 
 for_leads : (s : CommandState) (from : Span) (t i : Token) (ts us : List Token) (ds : List ℕ) (n : List ℕ)
-    (index : Option (List ℕ)) (x : Operand) → command_terminal_of t ≡ terminal.Word word.For → admits s kind.For ≡ true →
+    (index : Option (List ℕ)) (x : Operand) → command_terminal_of t ≡ terminal.Word word.For
+    → admits s kind.For ≡ true →
     SpellsVariables ts n index → command_terminal_of i ≡ terminal.Word word.In → SpellsExpr 9 us ds x →
-    HeadLeads s from (opened s from) (t ∷ (ts ++ (i ∷ us))) (none_deep (t ∷ ts) ++ (0 ∷ ds)) (no_words (t ∷ (ts ++ (i ∷ us))))
+    HeadLeads s from (opened s from) (t ∷ (ts ++ (i ∷ us))) (none_deep (t ∷ ts) ++ (0 ∷ ds))
+    (no_words (t ∷ (ts ++ (i ∷ us))))
     (head_of (use_.For n index) x)
 for_leads s from t i _ us ds _ _ x ht ok (SpellsVariables.one_ v hv) hi p =
     before_head s from (opened s from) spot.For t (v ∷ (i ∷ us)) (0 ∷ (0 ∷ ds)) (no_words (v ∷ (i ∷ us))) _
-    (opened_leads s from spot.For t (from_word s from t (terminal.Word word.For) _ _ ht refl (opens s from kind.For spot.For ok))
+    (opened_leads s from spot.For t
+    (from_word s from t (terminal.Word word.For) _ _ ht refl (opens s from kind.For spot.For ok))
     refl refl)
     (before_head s from (in_at s from spot.For) (spot.ForIn v.text) v (i ∷ us) (0 ∷ ds) (no_words (i ∷ us)) _
-    (token_leads s from spot.For (spot.ForIn v.text) v (ap (λ m. if_variable m (stands s from (spot.ForIn v.text))) hv) refl refl)
+    (token_leads s from spot.For (spot.ForIn v.text) v
+    (ap (λ m. if_variable m (stands s from (spot.ForIn v.text))) hv) refl refl)
     (in_leads s from (spot.ForIn v.text) v.text None i us ds x (ap (for_in_step s from v.text) hi) p))
 for_leads s from t i _ us ds _ _ x ht ok (SpellsVariables.two_ v comma j hv hc hj) hi p =
     before_head s from (opened s from) spot.For t (v ∷ (comma ∷ (j ∷ (i ∷ us)))) (0 ∷ (0 ∷ (0 ∷ (0 ∷ ds))))
     (no_words (v ∷ (comma ∷ (j ∷ (i ∷ us))))) _
-    (opened_leads s from spot.For t (from_word s from t (terminal.Word word.For) _ _ ht refl (opens s from kind.For spot.For ok))
+    (opened_leads s from spot.For t
+    (from_word s from t (terminal.Word word.For) _ _ ht refl (opens s from kind.For spot.For ok))
     refl refl)
     (before_head s from (in_at s from spot.For) (spot.ForIn v.text) v (comma ∷ (j ∷ (i ∷ us))) (0 ∷ (0 ∷ (0 ∷ ds)))
     (no_words (comma ∷ (j ∷ (i ∷ us)))) _
-    (token_leads s from spot.For (spot.ForIn v.text) v (ap (λ m. if_variable m (stands s from (spot.ForIn v.text))) hv) refl refl)
+    (token_leads s from spot.For (spot.ForIn v.text) v
+    (ap (λ m. if_variable m (stands s from (spot.ForIn v.text))) hv) refl refl)
     (before_head s from (in_at s from (spot.ForIn v.text)) (spot.ForIndex v.text) comma (j ∷ (i ∷ us)) (0 ∷ (0 ∷ ds))
     (no_words (j ∷ (i ∷ us))) _
     (token_leads s from (spot.ForIn v.text) (spot.ForIndex v.text) comma (ap (for_in_step s from v.text) hc) refl refl)
@@ -570,7 +604,8 @@ let_block_leads : (s : CommandState) (from : Span) (t v : Token) → command_ter
 let_block_leads s from t v ht hv ok = record {
   to = in_at s from (spot.LetColon v.text);
   leads = then_leads {ts = t ∷ []} {ds = 0 ∷ []} {ws = false ∷ []}
-      (opened_leads s from spot.Let t (from_word s from t (terminal.Word word.Let) _ _ ht refl (opens s from kind.Let spot.Let ok))
+      (opened_leads s from spot.Let t
+      (from_word s from t (terminal.Word word.Let) _ _ ht refl (opens s from kind.Let spot.Let ok))
       refl refl)
       (token_leads s from spot.Let (spot.LetColon v.text) v
       (ap (λ m. if_variable m (stands s from (spot.LetColon v.text))) hv) refl refl);
@@ -583,7 +618,8 @@ param_takes s from n t terminal.Colon f = absurd (colon_ f)
 param_takes s from n t m f = refl
 
 param_block_leads : (s : CommandState) (from : Span) (t n : Token) (w : CommandWord) →
-    command_terminal_of t ≡ terminal.Word word.Param → command_terminal_of n ≡ terminal.Word w → admits s kind.Param ≡ true →
+    command_terminal_of t ≡ terminal.Word word.Param → command_terminal_of n ≡ terminal.Word w
+    → admits s kind.Param ≡ true →
     HeadLeads s from (opened s from) (t ∷ (n ∷ [])) (0 ∷ (0 ∷ [])) (false ∷ (false ∷ [])) (head.Param n.text)
 param_block_leads s from t n w ht hn ok = record {
   to = in_at s from (spot.ParamColon n.text);
@@ -637,13 +673,15 @@ namespace_leads s from t ts n ht ok p = record {
   leads = then_leads {ts = t ∷ []} {ds = 0 ∷ []} {ws = false ∷ []}
       (opened_leads s from (spot.DottedName dotted.Namespace []) t
       (from_word s from t (terminal.Word word.Namespace) _ _ ht refl (opens s from kind.Namespace _ ok)) refl refl)
-      (dotted_leads s from dotted.Namespace (spot.DottedName dotted.Namespace []) (after_dot_first s from dotted.Namespace) ts n p);
+      (dotted_leads s from dotted.Namespace (spot.DottedName dotted.Namespace [])
+      (after_dot_first s from dotted.Namespace) ts n p);
   has = has_dotted s from dotted.Namespace n;
 }
 
 call_leads : (s : CommandState) (from : Span) (t : Token) (ts us : List Token) (n : List ℕ) →
     command_terminal_of t ≡ terminal.Word word.Call → admits s kind.Call ≡ true → SpellsDot ts → SpellsDotted us n →
-    HeadLeads s from (opened s from) (t ∷ (ts ++ us)) (none_deep (t ∷ (ts ++ us))) (no_words (t ∷ (ts ++ us))) (head.Call n)
+    HeadLeads s from (opened s from) (t ∷ (ts ++ us)) (none_deep (t ∷ (ts ++ us))) (no_words (t ∷ (ts ++ us)))
+    (head.Call n)
 call_leads s from t _ us n ht ok SpellsDot.without_ p = record {
   to = in_at s from (spot.Dotted dotted.Call n);
   leads = then_leads {ts = t ∷ []} {ds = 0 ∷ []} {ws = false ∷ []}
@@ -693,9 +731,11 @@ template_leads s from t n w _ ht ok (SpellsDot.with_ d hd) hn =
 
 -- a parameter of a template
 
-head_param_leads : (s : CommandState) (from : Span) (sign t n colon : Token) (w : CommandWord) (ts us : List Token) (ds : List ℕ)
+head_param_leads : (s : CommandState) (from : Span) (sign t n colon : Token) (w : CommandWord) (ts us : List Token)
+    (ds : List ℕ)
     (ws : List Bool) (required : Bool) (x : TypeOperand) → command_terminal_of sign ≡ terminal.At →
-    command_terminal_of t ≡ terminal.Word word.Param → SpellsRequired ts required → command_terminal_of n ≡ terminal.Word w →
+    command_terminal_of t ≡ terminal.Word word.Param → SpellsRequired ts required
+    → command_terminal_of n ≡ terminal.Word w →
     command_terminal_of colon ≡ terminal.Colon → SpellsType us ds ws x → admits s kind.HeadParam ≡ true →
     HeadLeads s from (opened s from) (sign ∷ (t ∷ (ts ++ (n ∷ (colon ∷ us)))))
     (none_deep (sign ∷ (t ∷ ts)) ++ (0 ∷ (0 ∷ ds))) (no_words (sign ∷ (t ∷ ts)) ++ (false ∷ (false ∷ ws)))
@@ -710,8 +750,10 @@ head_param_leads s from sign t n colon w _ us ds ws _ x hs ht SpellsRequired.req
     (token_leads s from spot.HeadParam spot.HeadParamWord t (ap (head_param_step s from) ht) refl refl)
     (before_head s from (in_at s from spot.HeadParamWord) (spot.HeadParamColon n.text true) n (colon ∷ us) (0 ∷ ds)
     (false ∷ ws) _
-    (token_leads s from spot.HeadParamWord (spot.HeadParamColon n.text true) n (ap (head_param_word_step s from n) hn) refl refl)
-    (before_head s from (in_at s from (spot.HeadParamColon n.text true)) (spot.Type n.text true type_start) colon us ds ws _
+    (token_leads s from spot.HeadParamWord (spot.HeadParamColon n.text true) n (ap (head_param_word_step s from n) hn)
+    refl refl)
+    (before_head s from (in_at s from (spot.HeadParamColon n.text true)) (spot.Type n.text true type_start) colon us
+    ds ws _
     (token_leads s from (spot.HeadParamColon n.text true) (spot.Type n.text true type_start) colon
     (ap (λ m. if_colon m (stands s from (spot.Type n.text true type_start))) hc) refl refl)
     (type_head_leads s from n.text true us ds ws x p))))
@@ -730,7 +772,8 @@ head_param_leads s from sign t n colon w _ us ds ws _ x hs ht (SpellsRequired.op
     (false ∷ ws) _
     (token_leads s from spot.HeadParamName (spot.HeadParamColon n.text false) n
     (ap (λ m. if_word m (stands s from (spot.HeadParamColon n.text false))) hn) refl refl)
-    (before_head s from (in_at s from (spot.HeadParamColon n.text false)) (spot.Type n.text false type_start) colon us ds ws _
+    (before_head s from (in_at s from (spot.HeadParamColon n.text false)) (spot.Type n.text false type_start) colon us
+    ds ws _
     (token_leads s from (spot.HeadParamColon n.text false) (spot.Type n.text false type_start) colon
     (ap (λ m. if_colon m (stands s from (spot.Type n.text false type_start))) hc) refl refl)
     (type_head_leads s from n.text false us ds ws x p)))))
@@ -752,7 +795,8 @@ head_leads s from _ _ _ _ (SpellsHead.plural_case_ t ts values ht p) ok = plural
 head_leads s from _ _ _ _ (SpellsHead.select_case_ t ts values ht p) ok = select_case_leads s from t ts values ht ok p
 head_leads s from _ _ _ _ (SpellsHead.for_ t i ts us ds n index x ht v hi p) ok =
     for_leads s from t i ts us ds n index x ht ok v hi p
-head_leads s from _ _ _ _ (SpellsHead.let_ t v colon ts ds x ht hv hc p) ok = let_leads s from t v colon ts ds x ht hv hc ok p
+head_leads s from _ _ _ _ (SpellsHead.let_ t v colon ts ds x ht hv hc p) ok = let_leads s from t v colon ts ds x ht hv
+    hc ok p
 head_leads s from _ _ _ _ (SpellsHead.let_block_ t v ht hv) ok = let_block_leads s from t v ht hv ok
 head_leads s from _ _ _ _ (SpellsHead.call_ t ts us n ht d p) ok = call_leads s from t ts us n ht ok d p
 head_leads s from _ _ _ _ (SpellsHead.param_ t n colon w ts ds x ht hn hc p) ok =

@@ -1,37 +1,42 @@
 -- The texts and prints of a message have items, and with some further text they are a message.
-use Rattle.std.proofs.Common.{◌≡◌, ℕ, ℤ, Bool, true, false, List, [], ◌∷◌, ◌++◌, map, Option, Some, None, refl, sym, ◌∙◌, ap, subst, append_assoc, append-nil}
+use Rattle.std.proofs.Common.{◌≡◌, ℕ, ℤ, true, List, [], ◌∷◌, ◌++◌, Option, Some, None, refl, sym}
+use Rattle.std.proofs.Common.{◌∙◌, ap, subst, append_assoc, append-nil}
 use Rattle.std.specs.Prelude.{is_some}
 use Rattle.soy_base.specs.declared.fault.Span.{Span}
 use Rattle.soy_tree.specs.Expressions.{Expr}
 use Rattle.soy_tree.specs.Formed.{is_message_text}
-use Rattle.soy_tree.specs.MessageText.{MessageItem, characters, node_message_items, joined_items, message_items, cuts, cuts_of}
+use Rattle.soy_tree.specs.MessageText.{MessageItem, characters, node_message_items, joined_items, message_items, cuts}
+use Rattle.soy_tree.specs.MessageText.{cuts_of}
 use Rattle.soy_tree.specs.MessageText.MessageItem.{Character, Printed}
 use Rattle.soy_tree.specs.Nodes as tree
 use Rattle.soy_tree.specs.Types.{Name}
 use Rattle.soy_tree.specs.ViewExpressions.{view_expr}
-use Rattle.soy_tree.specs.ViewNodes.{view_node, view_form, view_nodes, nodes_of, form_layer, given_layer, body_layer, argument_layer}
-use Rattle.soy_tree.specs.ViewNodes.{arm_layer, case_layer, message_layer, node_layer, plural_case_layer, select_case_layer}
+use Rattle.soy_tree.specs.ViewNodes.{view_node, view_form, view_nodes, form_layer, given_layer, body_layer}
+use Rattle.soy_tree.specs.ViewNodes.{argument_layer}
+use Rattle.soy_tree.specs.ViewNodes.{arm_layer, case_layer, message_layer, node_layer, plural_case_layer}
+use Rattle.soy_tree.specs.ViewNodes.{select_case_layer}
 use Rattle.soy_tree.specs.declared.expr.Expr as code_expr
 use Rattle.soy_tree.specs.declared.node.Form as code_form
 use Rattle.soy_tree.specs.declared.node.Form.{Form}
 use Rattle.soy_tree.specs.declared.node.Form.TheVariants as form
 use Rattle.soy_tree.specs.declared.node.Node as code
-use Rattle.soy_parser.specs.declared.block.Nodes.{Nodes}
 use Rattle.soy_parser.specs.declared.block.TextRun.{TextRun}
 use Rattle.soy_parser.specs.declared.command.Command.{Command}
-use Rattle.soy_parser.specs.CommandSteps.{text_run, with_text, ended, has_whole_tags}
+use Rattle.soy_parser.specs.CommandSteps.{with_text, has_whole_tags}
 use Rattle.soy_parser.specs.Nodes.{node_of, text_span}
 use Rattle.soy_parser.specs.SpellsTree.{SpellsPrints, SpellsParts}
-use Rattle.soy_parser.proofs.ClosingText.{closer, HasCloser, IsClosed, closed_by}
-use Rattle.soy_parser.proofs.CommandsSound.{PrintsOf, PartsAt_run, PartsAt}
+use Rattle.soy_parser.proofs.ClosingText.{closer, closed_by}
+use Rattle.soy_parser.proofs.CommandsSound.{PartsAt_run}
 
 -- what a node stands for, by its form
 
 view_by_form : (f : Form) (s : Span) → view_node (node_of f s) ≡ view_form f s
 view_by_form f s =
     code.fold_out-Node (Span → tree.Node) tree.Given tree.MessageBody (Name × tree.Given × Span) (Expr × tree.Nodes)
-    (List Expr × tree.Nodes) tree.Message tree.Node (ℤ × tree.MessageBody) (List ℕ × tree.MessageBody) form_layer given_layer
-    body_layer argument_layer arm_layer case_layer message_layer node_layer plural_case_layer select_case_layer (node_of f s)
+    (List Expr × tree.Nodes) tree.Message tree.Node (ℤ × tree.MessageBody) (List ℕ × tree.MessageBody) form_layer
+    given_layer
+    body_layer argument_layer arm_layer case_layer message_layer node_layer plural_case_layer select_case_layer
+    (node_of f s)
 
 view_text : (t : List ℕ) (s : Span) → view_node (node_of (form.Text t) s) ≡ tree.TextNode t s
 unfolding code_form.out-Form denote.Hole.Carrier.out
@@ -58,7 +63,8 @@ joined_none : (o : Option (List MessageItem)) → joined_items o (Some []) ≡ j
 joined_none None = refl
 joined_none (Some ps) = ap Some (append-nil ps)
 
-joined_assoc : (a b c : Option (List MessageItem)) → joined_items a (joined_items b c) ≡ joined_items (joined_items a b) c
+joined_assoc : (a b c : Option (List MessageItem)) → joined_items a (joined_items b c)
+    ≡ joined_items (joined_items a b) c
 joined_assoc None b c = refl
 joined_assoc (Some ps) None c = refl
 joined_assoc (Some ps) (Some qs) None = refl
@@ -76,14 +82,18 @@ HasItems ns = (ps : List MessageItem) × (message_items (view_nodes ns) ≡ Some
 
 more_items : (ns : List code.Node) (n : code.Node) (qs : List MessageItem) → HasItems ns →
     node_message_items (view_node n) ≡ Some qs → HasItems (ns ++ (n ∷ []))
-more_items ns n qs h e =
-    (h.0 ++ qs, items_append ns n ∙ (ap (λ o. joined_items o (node_message_items (view_node n))) h.1 ∙ ap (joined_items (Some h.0)) e))
+more_items ns n qs h e = (
+  h.0 ++ qs,
+  items_append ns n ∙ (ap (λ o. joined_items o (node_message_items (view_node n))) h.1
+      ∙ ap (joined_items (Some h.0)) e),
+)
 
 mutual
   prints_items : (cs : List Command) (ls : List ℕ) (ns : List code.Node) → SpellsPrints cs ls ns → HasItems ns
   prints_items _ _ _ SpellsPrints.none_ = ([], refl)
   prints_items _ _ _ (SpellsPrints.print_ cs ls ns c e phname s h) =
-      more_items ns (node_of (form.Print e phname) c.span) (Printed (view_expr e) phname c.span ∷ []) (parts_items cs ls ns s)
+      more_items ns (node_of (form.Print e phname) c.span) (Printed (view_expr e) phname c.span ∷ [])
+      (parts_items cs ls ns s)
       (ap node_message_items (view_print e phname c.span))
 
   parts_items : (cs : List Command) (ls : List ℕ) (ns : List code.Node) → SpellsParts cs ls ns → HasItems ns

@@ -1,5 +1,6 @@
 -- No expression goes on with a token that follows a head, so an expression in a command is read as it is alone.
-use Rattle.std.proofs.Common.{◌≡◌, ℕ, ◌+◌, Bool, true, false, List, [], ◌∷◌, ◌++◌, map, length, Option, Some, None, refl, sym, ◌∙◌, ap, subst}
+use Rattle.std.proofs.Common.{◌≡◌, ℕ, Bool, true, false, List, [], ◌∷◌, length, Option, Some, None}
+use Rattle.std.proofs.Common.{refl, ◌∙◌, ap, subst}
 use Rattle.std.specs.Prelude.{if◌then◌else◌, codes, encode_utf8_all}
 use Rattle.std.specs.Str.{bytes_eq}
 use Rattle.std.proofs.lemmas.Slice.Eq.{bytes_eq-Decides}
@@ -12,25 +13,22 @@ use Rattle.expr_parser.specs.declared.operand.Operand.{Operand}
 use Rattle.expr_parser.specs.declared.state.Expected.{Expected}
 use Rattle.expr_parser.specs.declared.state.Expected.TheVariants as expected
 use Rattle.expr_parser.specs.declared.state.ExprState.{ExprState}
-use Rattle.expr_parser.specs.declared.state.ExprStep.{ExprStep}
 use Rattle.expr_parser.specs.declared.state.ExprStep.TheVariants as expr_does
 use Rattle.expr_parser.specs.declared.terminal.Terminal.{Terminal}
 use Rattle.expr_parser.specs.declared.terminal.Terminal.TheVariants as expr_terminal
-use Rattle.expr_parser.specs.ExprRuns.{expr_run, expr_run_from, expr_depths, expr_depths_from, expr_start}
-use Rattle.expr_parser.specs.ExprSteps.{expr_next, expr_step, expr_depth, step_of, next_at, operator_next, whole_at, whole_expr}
+use Rattle.expr_parser.specs.ExprRuns.{expr_run, expr_run_from, expr_depths, expr_depths_from}
+use Rattle.expr_parser.specs.ExprSteps.{expr_next, expr_step, expr_depth, step_of, next_at, operator_next, whole_at}
+use Rattle.expr_parser.specs.ExprSteps.{whole_expr}
 use Rattle.expr_parser.specs.Terminals.{terminal_of, kind_terminal, word_terminal}
 use Rattle.expr_parser.proofs.ExprMachine.{next_is}
-use Rattle.soy_parser.specs.declared.attributes.AttributeName.{AttributeName}
 use Rattle.soy_parser.specs.declared.block.CommandState.{CommandState}
-use Rattle.soy_parser.specs.declared.spot.FileState.{FileState}
 use Rattle.soy_parser.specs.declared.spot.Spot.TheVariants as spot
 use Rattle.soy_parser.specs.declared.spot.Use.{Use}
 use Rattle.soy_parser.specs.declared.terminal.CommandTerminal.{CommandTerminal}
 use Rattle.soy_parser.specs.declared.terminal.CommandTerminal.TheVariants as terminal
 use Rattle.soy_parser.specs.CommandTerminals.{command_terminal, command_terminal_of, command_word, command_symbol}
-use Rattle.soy_parser.specs.Depth.{inside, no_words}
-use Rattle.soy_parser.specs.FileRuns.{file_run, file_run_from, file_depths, file_depths_from, file_words, file_words_from}
-use Rattle.soy_parser.specs.FileSteps.{in_expr, file_step, token_depth, word_in, head_of, next_value, head_done}
+use Rattle.soy_parser.specs.Depth.{no_words}
+use Rattle.soy_parser.specs.FileSteps.{in_expr}
 use Rattle.soy_parser.specs.Heads.{attribute_name}
 use Rattle.soy_parser.proofs.AttributesComplete.{in_at, FollowsHead}
 use Rattle.soy_parser.proofs.FileRunning.{Leads, none_leads, step_leads, then_leads}
@@ -96,7 +94,8 @@ symbol_follows text =
     (record { no = other_ })))))))))
 
 -- a word that an expression knows names no attribute
-known_word : (text known : List ℕ) → attribute_name (terminal.Word (command_word known)) ≡ None → bytes_eq text known ≡ true →
+known_word : (text known : List ℕ) → attribute_name (terminal.Word (command_word known)) ≡ None
+    → bytes_eq text known ≡ true →
     FollowsHead (terminal.Word (command_word text)) → ⊥
 known_word text known none e f =
     let same = (bytes_eq-Decides text known).0 e in
@@ -114,7 +113,8 @@ unless_known text known m rest none f r = over (bytes_eq text known) refl
     over true e = absurd (known_word text known none e f)
     over false e = r
 
-word_follows : (text : List ℕ) → FollowsHead (terminal.Word (command_word text)) → word_terminal text ≡ expr_terminal.Other
+word_follows : (text : List ℕ) → FollowsHead (terminal.Word (command_word text))
+    → word_terminal text ≡ expr_terminal.Other
 word_follows text f =
     unless_known text (codes "null") _ _ refl f
     (unless_known text (codes "true") _ _ refl f
@@ -123,7 +123,8 @@ word_follows text f =
     (unless_known text (codes "and") _ _ refl f
     (unless_known text (codes "or") _ _ refl f refl)))))
 
-kind_follows : (k : TokenKind) (text : List ℕ) → FollowsHead (command_terminal k text) → kind_terminal k text ≡ expr_terminal.Other
+kind_follows : (k : TokenKind) (text : List ℕ) → FollowsHead (command_terminal k text)
+    → kind_terminal k text ≡ expr_terminal.Other
 kind_follows token_kind.Word text f = word_follows text f
 kind_follows token_kind.Symbol text f = absurd ((symbol_follows text).no f)
 kind_follows token_kind.Variable text f = absurd (variable_ f)
@@ -142,7 +143,8 @@ whole_ends_at (expected.Name y takes_null) fs t x w e = absurd (cc w)
 whole_ends_at (expected.Operator y) fs t x w e = ap (operator_next fs y t) e
 
 -- so an expression that was read ends there
-pub whole_ends : (r : ExprState) (t : Token) (x : Operand) → whole_expr r ≡ Some x → FollowsHead (command_terminal_of t) →
+pub whole_ends : (r : ExprState) (t : Token) (x : Operand) → whole_expr r ≡ Some x
+    → FollowsHead (command_terminal_of t) →
     expr_step r t ≡ expr_does.End (Some x)
 whole_ends r t x w f =
     next_is r.expected r.frames t
@@ -155,7 +157,8 @@ pub expr_leads : (s : CommandState) (from : Span) (for_ : Use) (us : List Token)
     Leads (length s.blocks) (in_at s from (spot.Expr for_ r)) us (expr_depths us r) (no_words us)
     (in_at s from (spot.Expr for_ r'))
 expr_leads s from for_ [] r r' e =
-    subst (λ k. Leads (length s.blocks) (in_at s from (spot.Expr for_ r)) [] [] [] (in_at s from (spot.Expr for_ k))) (same e)
+    subst (λ k. Leads (length s.blocks) (in_at s from (spot.Expr for_ r)) [] [] [] (in_at s from (spot.Expr for_ k)))
+    (same e)
     (none_leads (length s.blocks) (in_at s from (spot.Expr for_ r)))
   where
     unwrap : Option ExprState → ExprState
@@ -174,6 +177,7 @@ expr_leads s from for_ (t ∷ us) r r' e = over (expr_next r t) refl e (λ m. ex
     over None n h inside_ = absurd (cc h)
     over (Some m) n h inside_ =
         then_leads
-        (step_leads (length s.blocks) (expr_depth m) false (in_at s from (spot.Expr for_ r)) t (in_at s from (spot.Expr for_ m))
+        (step_leads (length s.blocks) (expr_depth m) false (in_at s from (spot.Expr for_ r)) t
+        (in_at s from (spot.Expr for_ m))
         (ap (in_expr s from for_ t) (next_is r.expected r.frames t ∙ ap (λ o. step_of o (whole_expr r)) n)) refl refl)
         (inside_ m h)

@@ -1,5 +1,5 @@
 -- No expression goes on with a comma, which parts the values of a case.
-use Rattle.std.proofs.Common.{◌≡◌, ℕ, Bool, true, false, List, [], ◌∷◌, Option, Some, None, refl, sym, ◌∙◌, ap, subst}
+use Rattle.std.proofs.Common.{◌≡◌, ℕ, Bool, true, false, List, Some, refl, sym, ◌∙◌, ap, subst}
 use Rattle.std.specs.Prelude.{if◌then◌else◌, codes, encode_utf8_all}
 use Rattle.std.specs.Str.{bytes_eq}
 use Rattle.std.proofs.lemmas.Slice.Eq.{bytes_eq-Decides}
@@ -11,7 +11,7 @@ use Rattle.expr_parser.specs.declared.state.ExprState.{ExprState}
 use Rattle.expr_parser.specs.declared.state.ExprStep.TheVariants as expr_does
 use Rattle.expr_parser.specs.declared.terminal.Terminal.TheVariants as expr_terminal
 use Rattle.expr_parser.specs.ExprSteps.{expr_step, step_of, whole_expr}
-use Rattle.expr_parser.specs.Terminals.{terminal_of, kind_terminal, symbol_terminal}
+use Rattle.expr_parser.specs.Terminals.{kind_terminal, symbol_terminal}
 use Rattle.expr_parser.proofs.ExprMachine.{next_is}
 use Rattle.soy_parser.specs.declared.terminal.CommandTerminal.{CommandTerminal}
 use Rattle.soy_parser.specs.declared.terminal.CommandTerminal.TheVariants as terminal
@@ -50,7 +50,8 @@ symbol_is text h = over (bytes_eq text (codes ",")) refl
     over true e = ap symbol_terminal ((bytes_eq-Decides text (codes ",")).0 e)
     over false e = absurd ((other_symbol text e).no h)
 
-kind_is : (k : TokenKind) (text : List ℕ) → command_terminal k text ≡ terminal.Comma → kind_terminal k text ≡ expr_terminal.Other
+kind_is : (k : TokenKind) (text : List ℕ) → command_terminal k text ≡ terminal.Comma
+    → kind_terminal k text ≡ expr_terminal.Other
 kind_is token_kind.Symbol text h = symbol_is text h
 kind_is _ text h = absurd (cc h)
 

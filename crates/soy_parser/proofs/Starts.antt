@@ -1,5 +1,6 @@
 -- The first token of an expression is no head of a command: after a `{` it begins a print.
-use Rattle.std.proofs.Common.{◌≡◌, ℕ, Bool, true, false, List, [], ◌∷◌, ◌++◌, Option, Some, None, refl, sym, ◌∙◌, ap, subst}
+use Rattle.std.proofs.Common.{◌≡◌, ℕ, Bool, true, false, List, [], Some, None, refl, sym}
+use Rattle.std.proofs.Common.{subst}
 use Rattle.std.specs.Prelude.{if◌then◌else◌, codes, encode_utf8_all}
 use Rattle.std.specs.Str.{bytes_eq}
 use Rattle.std.proofs.lemmas.Slice.Eq.{bytes_eq-Decides}
@@ -10,10 +11,9 @@ use Rattle.soy_lexer.specs.declared.token.TokenKind.TheVariants as token_kind
 use Rattle.expr_parser.specs.declared.frame.Frame.{Frame}
 use Rattle.expr_parser.specs.declared.state.ExprState.{ExprState}
 use Rattle.expr_parser.specs.declared.terminal.Terminal.{Terminal}
-use Rattle.expr_parser.specs.declared.terminal.Terminal.TheVariants as expr_terminal
 use Rattle.expr_parser.specs.ExprRuns.{expr_start}
 use Rattle.expr_parser.specs.ExprSteps.{expr_next, expr_step, operand_next}
-use Rattle.expr_parser.specs.Terminals.{terminal_of, kind_terminal, word_terminal, symbol_terminal}
+use Rattle.expr_parser.specs.Terminals.{kind_terminal, word_terminal, symbol_terminal}
 use Rattle.soy_parser.specs.declared.block.CommandState.{CommandState}
 use Rattle.soy_parser.specs.declared.terminal.CommandTerminal.{CommandTerminal}
 use Rattle.soy_parser.specs.declared.terminal.CommandTerminal.TheVariants as terminal
@@ -36,8 +36,10 @@ module _ (fs : List Frame) (t : Token) (r : ExprState) where
       Plain (terminal.Word (command_word text))
   if_word text known m rest e plain otherwise = over (bytes_eq text known) refl e
     where
-      over : (b : Bool) → bytes_eq text known ≡ b → Begins (if b then m else rest) → Plain (terminal.Word (command_word text))
-      over true q e = subst (λ l. Plain (terminal.Word (command_word l))) (sym ((bytes_eq-Decides text known).0 q)) plain
+      over : (b : Bool) → bytes_eq text known ≡ b → Begins (if b then m else rest)
+          → Plain (terminal.Word (command_word text))
+      over true q e = subst (λ l. Plain (terminal.Word (command_word l))) (sym ((bytes_eq-Decides text known).0 q))
+          plain
       over false q e = otherwise e
 
   none_begins : None ≡ Some r → ⊥

@@ -1,5 +1,6 @@
 -- No type goes on with a token that follows a head, so a type in a command is read as it is alone.
-use Rattle.std.proofs.Common.{◌≡◌, ℕ, ◌+◌, Bool, List, [], ◌∷◌, ◌++◌, length, Option, Some, None, refl, sym, ◌∙◌, ap, subst}
+use Rattle.std.proofs.Common.{◌≡◌, ℕ, Bool, List, [], ◌∷◌, length, Option, Some, None, refl, sym, ◌∙◌, ap}
+use Rattle.std.proofs.Common.{subst}
 use Rattle.std.specs.Prelude.{encode_utf8_all}
 use Rattle.soy_base.specs.declared.fault.Span.{Span}
 use Rattle.soy_lexer.specs.declared.token.Token.{Token}
@@ -15,8 +16,10 @@ use Rattle.expr_parser.specs.declared.type_terminal.TypeName.{TypeName}
 use Rattle.expr_parser.specs.declared.type_terminal.TypeTerminal.{TypeTerminal}
 use Rattle.expr_parser.specs.declared.type_terminal.TypeTerminal.TheVariants as type_terminal_
 use Rattle.expr_parser.specs.SpellsType.{SpellsType}
-use Rattle.expr_parser.specs.TypeRuns.{type_run, type_run_from, type_depths, type_depths_from, type_words, type_words_from, type_start, is_after_name}
-use Rattle.expr_parser.specs.TypeSteps.{type_next, type_next_at, type_step, type_step_of, type_depth, whole_type, whole_type_at}
+use Rattle.expr_parser.specs.TypeRuns.{type_run, type_run_from, type_depths, type_depths_from, type_words}
+use Rattle.expr_parser.specs.TypeRuns.{type_words_from, type_start, is_after_name}
+use Rattle.expr_parser.specs.TypeSteps.{type_next, type_next_at, type_step, type_step_of, type_depth, whole_type}
+use Rattle.expr_parser.specs.TypeSteps.{whole_type_at}
 use Rattle.expr_parser.specs.TypeTerminals.{type_terminal, type_terminal_of}
 use Rattle.expr_parser.proofs.TypeExact.{SpellsType-whole_type}
 use Rattle.expr_parser.proofs.TypeMachine.{spelled_depths, spelled_words}
@@ -26,10 +29,10 @@ use Rattle.soy_parser.specs.declared.command.Tag.TheVariants as tag
 use Rattle.soy_parser.specs.declared.spot.Spot.TheVariants as spot
 use Rattle.soy_parser.specs.CommandTerminals.{command_terminal, command_terminal_of}
 use Rattle.soy_parser.specs.FileSteps.{in_type}
-use Rattle.soy_parser.proofs.AttributesComplete.{in_at, FollowsHead, HasHead}
+use Rattle.soy_parser.proofs.AttributesComplete.{in_at, FollowsHead}
 use Rattle.soy_parser.proofs.FileRunning.{Leads, none_leads, step_leads, then_leads}
 use Rattle.soy_parser.proofs.HeadsComplete.{HeadLeads}
-use Rattle.soy_parser.proofs.Seam.{NoFollow, symbol_follows}
+use Rattle.soy_parser.proofs.Seam.{symbol_follows}
 
 -- a token with which no whole type goes on
 pub data EndsType : TypeTerminal → Type 0 where
@@ -90,7 +93,8 @@ type_leads s from n required (t ∷ us) r r' e = over (type_next r t) refl e (λ
     over None q h inside_ = absurd (cc h)
     over (Some m) q h inside_ =
         then_leads
-        (step_leads (length s.blocks) (type_depth m) (is_after_name m.expected) (in_at s from (spot.Type n required r)) t
+        (step_leads (length s.blocks) (type_depth m) (is_after_name m.expected)
+        (in_at s from (spot.Type n required r)) t
         (in_at s from (spot.Type n required m))
         (ap (in_type s from n required t) (ap (λ o. type_step_of o (whole_type r)) q)) refl refl)
         (inside_ m h)
@@ -98,7 +102,8 @@ type_leads s from n required (t ∷ us) r r' e = over (type_next r t) refl e (λ
 -- a type, in a parameter of which it is the last part
 pub type_head_leads : (s : CommandState) (from : Span) (n : List ℕ) (required : Bool) (us : List Token) (ds : List ℕ)
     (ws : List Bool) (x : TypeOperand) → SpellsType us ds ws x →
-    HeadLeads s from (in_at s from (spot.Type n required type_start)) us ds ws (head.Whole (tag.HeadParam n required x.of))
+    HeadLeads s from (in_at s from (spot.Type n required type_start)) us ds ws
+    (head.Whole (tag.HeadParam n required x.of))
 type_head_leads s from n required us ds ws x p =
     let i = SpellsType-whole_type us ds ws x p in
     let to = in_at s from (spot.Type n required i.state) in
@@ -108,7 +113,8 @@ type_head_leads s from n required us ds ws x p =
           (λ l. Leads (length s.blocks) (in_at s from (spot.Type n required type_start)) us l ws to)
           (sym (spelled_depths us ds ws x p))
           (subst
-          (λ l. Leads (length s.blocks) (in_at s from (spot.Type n required type_start)) us (type_depths us type_start) l to)
+          (λ l. Leads (length s.blocks) (in_at s from (spot.Type n required type_start)) us
+          (type_depths us type_start) l to)
           (sym (spelled_words us ds ws x p)) (type_leads s from n required us type_start i.state i.goes.runs));
       has = record {
         commands_are = refl;

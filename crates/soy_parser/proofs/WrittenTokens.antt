@@ -1,5 +1,6 @@
 -- Tokens for the commands that close what is open; and the commands that tokens spell, whatever the blocks around them.
-use Rattle.std.proofs.Common.{◌≡◌, ℕ, suc, ◌+◌, Bool, true, false, List, [], ◌∷◌, ◌++◌, map, length, Option, Some, None, refl, sym, ◌∙◌, ap, subst, arith, append_assoc, append-nil}
+use Rattle.std.proofs.Common.{◌≡◌, ℕ, suc, Bool, false, List, [], ◌∷◌, ◌++◌, length, Option, Some, None}
+use Rattle.std.proofs.Common.{refl, sym, ◌∙◌, ap, subst, arith, append_assoc, append-nil}
 use Rattle.std.specs.Prelude.{codes}
 use Rattle.soy_lexer.specs.declared.token.Token.{Token}
 use Rattle.soy_lexer.specs.declared.token.TokenKind.{TokenKind}
@@ -18,7 +19,7 @@ use Rattle.soy_parser.specs.declared.terminal.CommandWord.TheVariants as word
 use Rattle.soy_parser.specs.CommandLevels.{command_levels, levels_from}
 use Rattle.soy_parser.specs.CommandSteps.{command_step, commands_from, command_run, command_start}
 use Rattle.soy_parser.specs.CommandTerminals.{command_terminal_of}
-use Rattle.soy_parser.specs.Depth.{inside, none_deep, no_words}
+use Rattle.soy_parser.specs.Depth.{inside}
 use Rattle.soy_parser.specs.Heads.{no_attributes, SpellsAttributes}
 use Rattle.soy_parser.specs.SpellsCommand.{SpellsCommand, SpellsCommands}
 use Rattle.soy_parser.specs.SpellsFile.{SpellsFile}
@@ -80,7 +81,8 @@ closing_is name.Plural i = refl
 closing_is name.Select i = refl
 closing_is name.Other i = absurd i
 
-pub default_is : bare_head (command_terminal_of (word_token (codes "default"))) ≡ Some (head.Whole (tag.GoesOn middle.Default))
+pub default_is : bare_head (command_terminal_of (word_token (codes "default")))
+    ≡ Some (head.Whole (tag.GoesOn middle.Default))
 unfolding lib.Utf8.encode
 default_is = refl
 
@@ -116,10 +118,12 @@ written_spelled _ IsWritten.namespace_ =
 -- the commands that tokens spell
 pub data Speaks : List Token → List Command → Type 0 where
   none_ : Speaks [] []
-  more_ : (ts us : List Token) (ds : List ℕ) (ws : List Bool) (c : Command) (cs : List Command) → SpellsCommand ts ds ws c
+  more_ : (ts us : List Token) (ds : List ℕ) (ws : List Bool) (c : Command) (cs : List Command)
+      → SpellsCommand ts ds ws c
       → Speaks us cs → Speaks (ts ++ us) (c ∷ cs)
 
-pub speaks_append : (ts us : List Token) (cs ds : List Command) → Speaks ts cs → Speaks us ds → Speaks (ts ++ us) (cs ++ ds)
+pub speaks_append : (ts us : List Token) (cs ds : List Command) → Speaks ts cs → Speaks us ds
+    → Speaks (ts ++ us) (cs ++ ds)
 speaks_append _ us _ ds Speaks.none_ q = q
 speaks_append _ us _ ds (Speaks.more_ vs ts es ws c cs p r) q =
     subst (λ l. Speaks l (c ∷ (cs ++ ds))) (sym (append_assoc vs ts us))
@@ -183,7 +187,8 @@ pub record SpelledFile (ts : List Token) (tree : Tree) : Type 0 where
   pub words : List Bool
   pub spells : SpellsFile ts depths words tree
 
-pub file_spelled : (ts : List Token) (cs : List Command) (ls : List ℕ) (tree : Tree) → Speaks ts cs → SpellsTree cs ls tree →
+pub file_spelled : (ts : List Token) (cs : List Command) (ls : List ℕ) (tree : Tree) → Speaks ts cs
+    → SpellsTree cs ls tree →
     SpelledFile ts tree
 file_spelled ts cs ls tree p t =
     let g = tree_goes cs ls tree t in

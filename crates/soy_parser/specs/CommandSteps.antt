@@ -4,7 +4,6 @@ use Rattle.std.specs.Prelude.{ℕ, ℤ, Bool, true, false, ◌&&◌, List, [], �
 use Rattle.std.specs.List.{list_all}
 use Rattle.soy_base.specs.WhiteSpace.{is_template_space}
 use Rattle.soy_base.specs.declared.fault.Span.{Span}
-use Rattle.soy_base.specs.declared.kind.Kind.{Kind}
 use Rattle.soy_tree.specs.Formed.{is_message_text}
 use Rattle.soy_tree.specs.ViewNodes.{view_nodes}
 use Rattle.soy_tree.specs.declared.expr.Expr.{Expr}

@@ -8,7 +8,6 @@ use Rattle.soy_lexer.specs.CommandSegment.{number_after}
 use Rattle.soy_lexer.specs.LongestToken.{is_int}
 use Rattle.soy_lexer.specs.declared.token.Token.{Token}
 use Rattle.soy_tree.specs.Formed.{is_case_word}
-use Rattle.soy_tree.specs.declared.expr.Expr.{Expr}
 use Rattle.soy_tree.specs.declared.tree.Tree.{Tree}
 use Rattle.expr_parser.specs.ExprRuns.{expr_start}
 use Rattle.expr_parser.specs.ExprSteps.{expr_step, expr_depth}
@@ -16,11 +15,8 @@ use Rattle.expr_parser.specs.Operands.{joined}
 use Rattle.expr_parser.specs.TypeRuns.{type_start, is_after_name}
 use Rattle.expr_parser.specs.TypeSteps.{type_step, type_depth, unknown_type}
 use Rattle.expr_parser.specs.declared.operand.Operand.{Operand}
-use Rattle.expr_parser.specs.declared.state.ExprState.{ExprState}
 use Rattle.expr_parser.specs.declared.state.ExprStep.{ExprStep}
 use Rattle.expr_parser.specs.declared.state.ExprStep.TheVariants as expr_does
-use Rattle.expr_parser.specs.declared.type_frame.TypeOperand.{TypeOperand}
-use Rattle.expr_parser.specs.declared.type_state.TypeState.{TypeState}
 use Rattle.expr_parser.specs.declared.type_state.TypeStep.{TypeStep}
 use Rattle.expr_parser.specs.declared.type_state.TypeStep.TheVariants as type_does
 use Rattle.soy_parser.specs.declared.attributes.AttributeName.{AttributeName}
@@ -31,7 +27,6 @@ use Rattle.soy_parser.specs.declared.block.CommandState.{CommandState}
 use Rattle.soy_parser.specs.declared.block.Content.{Content}
 use Rattle.soy_parser.specs.declared.block.Content.TheVariants as content
 use Rattle.soy_parser.specs.declared.block.Nodes.{Nodes}
-use Rattle.soy_parser.specs.declared.command.Command.{Command}
 use Rattle.soy_parser.specs.declared.command.Middle.{Middle}
 use Rattle.soy_parser.specs.declared.command.Middle.TheVariants as middle
 use Rattle.soy_parser.specs.declared.command.Opening.{Opening}
@@ -53,11 +48,9 @@ use Rattle.soy_parser.specs.declared.spot.Spot.{Spot}
 use Rattle.soy_parser.specs.declared.spot.Spot.TheVariants as spot
 use Rattle.soy_parser.specs.declared.spot.Use.{Use}
 use Rattle.soy_parser.specs.declared.spot.Use.TheVariants as use_
-use Rattle.soy_parser.specs.declared.terminal.BlockName.{BlockName}
 use Rattle.soy_parser.specs.declared.terminal.BlockName.TheVariants as name
 use Rattle.soy_parser.specs.declared.terminal.CommandTerminal.{CommandTerminal}
 use Rattle.soy_parser.specs.declared.terminal.CommandTerminal.TheVariants as terminal
-use Rattle.soy_parser.specs.declared.terminal.CommandWord.{CommandWord}
 use Rattle.soy_parser.specs.declared.terminal.CommandWord.TheVariants as word
 use Rattle.soy_parser.specs.CommandSteps.{command_step, command_start, closes_body, closes_message, has_whole_tags, is_empty}
 use Rattle.soy_parser.specs.CommandTerminals.{command_terminal_of}

@@ -1,14 +1,13 @@
 -- What commands make: nodes, and lists of nodes in which neighbouring texts are one.
 -- A text stands from the first of its commands that has characters, or from its first command where none has.
 -- Example: a text of the run `a`, the command `{sp}` and the literal `b` is the text `a b`, from `a` on.
-use Rattle.std.specs.Prelude.{ℕ, ℤ, Bool, List, [], ◌∷◌, ◌++◌, Option, map}
+use Rattle.std.specs.Prelude.{ℕ, ℤ, List, [], ◌∷◌, map}
 use Rattle.soy_base.specs.declared.fault.Span.{Span}
 use Rattle.soy_tree.specs.declared.expr.Expr.{Expr}
 use Rattle.soy_tree.specs.declared.node.Argument.{Argument}
 use Rattle.soy_tree.specs.declared.node.Arm.{Arm, roll-Arm}
 use Rattle.soy_tree.specs.declared.node.Case.{Case, roll-Case}
 use Rattle.soy_tree.specs.declared.node.Form.{Form}
-use Rattle.soy_tree.specs.declared.node.Form.TheVariants as form
 use Rattle.soy_tree.specs.declared.node.Given.{Given}
 use Rattle.soy_tree.specs.declared.node.Message.{Message}
 use Rattle.soy_tree.specs.declared.node.MessageBody.{MessageBody}

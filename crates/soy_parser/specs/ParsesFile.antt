@@ -1,7 +1,7 @@
 -- What `parse` answers for tokens: the tree that they all spell, or the first token with which no file goes on, that lies
 -- too deep or that names no type.
 -- Example: the tokens of `{namespace a` are refused with 4 at their end, and `{namespace a}{` there too.
-use Rattle.std.specs.Prelude.{◌≡◌, ℕ, ◌+◌, ◌<◌, Bool, true, false, List, [], ◌∷◌, ◌++◌, Result, Ok, Err}
+use Rattle.std.specs.Prelude.{◌≡◌, ℕ, ◌<◌, Bool, true, false, List, [], ◌∷◌, ◌++◌, Result, Ok, Err}
 use Rattle.soy_base.specs.declared.code.Code.{Code}
 use Rattle.soy_base.specs.declared.code.Code.TheVariants as code
 use Rattle.soy_base.specs.declared.fault.Fault.{Fault}

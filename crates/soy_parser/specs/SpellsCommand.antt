@@ -1,6 +1,6 @@
 -- Which tokens are a command: a text, or a `{` with a head, attributes and an end; and which are a list of commands.
 -- Example: `{if $x}a{/if}` is three commands, at the levels 0, 1 and 1.
-use Rattle.std.specs.Prelude.{◌≡◌, ℕ, Bool, false, List, [], ◌∷◌, ◌++◌, Option, Some}
+use Rattle.std.specs.Prelude.{◌≡◌, ℕ, Bool, false, List, [], ◌∷◌, ◌++◌, Some}
 use Rattle.soy_lexer.specs.declared.token.Token.{Token}
 use Rattle.expr_parser.specs.Operands.{joined}
 use Rattle.soy_parser.specs.declared.attributes.Attributes.{Attributes}

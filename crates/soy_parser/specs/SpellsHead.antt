@@ -3,7 +3,7 @@
 -- `SpellsHead ts ds ws h`: the tokens ts spell the head h, the depths at them inside the open blocks are ds, and ws are true
 -- at the words that stand as types.
 -- Example: `for $x in $list` is a head with the depths 0, 0, 0 and 1.
-use Rattle.std.specs.Prelude.{◌≡◌, ℕ, ℤ, pos, Bool, true, false, not, List, [], ◌∷◌, ◌++◌, Option, Some, None, map, codes}
+use Rattle.std.specs.Prelude.{◌≡◌, ℕ, ℤ, pos, Bool, true, false, List, [], ◌∷◌, ◌++◌, Option, Some, None, codes}
 use Rattle.soy_lexer.specs.CommandSegment.{number_after}
 use Rattle.soy_lexer.specs.LongestToken.{is_int}
 use Rattle.soy_lexer.specs.declared.token.Token.{Token}

@@ -15,7 +15,6 @@ use Rattle.soy_tree.specs.declared.node.Arm.{Arm}
 use Rattle.soy_tree.specs.declared.node.Case.{Case}
 use Rattle.soy_tree.specs.declared.node.Form.TheVariants as form
 use Rattle.soy_tree.specs.declared.node.Given.TheVariants as given
-use Rattle.soy_tree.specs.declared.node.Message.{Message}
 use Rattle.soy_tree.specs.declared.node.MessageBody.{MessageBody}
 use Rattle.soy_tree.specs.declared.node.MessageBody.TheVariants as message_body
 use Rattle.soy_tree.specs.declared.node.Node.{Node}
