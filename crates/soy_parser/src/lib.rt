@@ -15,6 +15,7 @@ mod commands;
 mod files;
 mod head;
 mod heads;
+mod laws;
 mod messages;
 mod nodes;
 mod reading;
@@ -30,6 +31,7 @@ pub use block::{
 };
 pub use command::{Command, Middle, Opening, Single, Tag, TemplateHead};
 pub use head::{Head, HeadKind};
+pub use laws::{law_file_machine, law_one_answer, law_one_file};
 pub use reading::parse;
 pub use spot::{CommandSpot, DottedUse, FileState, Spot, Use};
 pub use terminal::{BlockName, CommandTerminal, CommandWord};
