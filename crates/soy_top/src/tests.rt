@@ -8,6 +8,7 @@ use std::alloc::Global;
 mod faults;
 mod forms;
 mod rows;
+mod sources;
 
 use forms::FORMS;
 use rows::{DATA, WORDS};
@@ -215,17 +216,7 @@ fn rows_of_bytes(rt: HostRuntime) {
         Some(deep) => deep.as_slice(),
         None => b"",
     };
-    let rows: [(&str, &[u8], &[u8]); 5] = [
-        (
-            "FILE with a byte 255",
-            b"{namespace t}\n{template m}\n\xff\n{/template}\n",
-            b"{}",
-        ),
-        (
-            "FILE cut within a character",
-            b"{namespace t}\n{template m}\na\n{/template}\n\xc3",
-            b"{}",
-        ),
+    let rows: [(&str, &[u8], &[u8]); 3] = [
         ("DATA with a byte 255", file, b"{\"x\":\"\xff\"}"),
         ("DATA cut within a character", file, b"{\"x\":\"a\"}\xc3"),
         ("4 MiB of brackets as DATA", file, deep),
@@ -273,8 +264,8 @@ fn status_with_files(alloc: Global, command: &str, count: usize) -> Option<Statu
 fn rows_of_file_counts(rt: HostRuntime) {
     let counts = [
         (0, Status::Usage),
-        (1, Status::Refused),
-        (64, Status::Refused),
+        (1, Status::Read),
+        (64, Status::Read),
         (65, Status::Usage),
     ];
     for command in [
