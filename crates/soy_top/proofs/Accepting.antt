@@ -1,17 +1,16 @@
 -- Template files that are read one after the other, each by its own first fault.
-use Rattle.std.proofs.Common.{◌≡◌, ℕ, zero, suc, ◌-◌, ◌<◌, List, [], ◌∷◌, ◌++◌, length, drop, map, Vec, refl, sym, ap}
-use Rattle.std.proofs.Common.{subst, ◌∙◌, Option, Some, None, ◌+◌, ◌≤◌, get_or, arith, add-one}
+use Rattle.std.proofs.Common.{◌≡◌, ℕ, zero, suc, ◌-◌, ◌<◌, List, [], ◌∷◌, length, drop, Vec, refl, sym, ap}
+use Rattle.std.proofs.Common.{subst, ◌∙◌, Option, None, ◌+◌, ◌≤◌, get_or, arith, add-one}
 use Rattle.std.proofs.Math.Seq.{drop-cons}
 use Rattle.std.proofs.lemmas.List.{length-map}
 use Rattle.std.specs.Prelude.{Result, Ok, Err, String}
-use Rattle.std.specs.Option.{option_map_or}
 use Rattle.std.specs.String.{string_bytes}
 use Rattle.std.specs.declared.alloc.Global.{Global}
 use Rattle.soy_base.specs.declared.fault.Fault.{Fault}
 use Rattle.soy_top.specs.declared.ending.Ending.{Ending}
 use Rattle.soy_top.specs.declared.ending.Ending.TheVariants as ending
-use Rattle.soy_top.specs.Accepts.{Refuses, RefusesSources, AcceptsSources}
-use Rattle.soy_top.specs.Answer.{Answer, Refused, first_fault_line, last, unless_fault}
+use Rattle.soy_top.specs.Accepts.{RefusesSources, AcceptsSources}
+use Rattle.soy_top.specs.Answer.{first_fault_line, last, unless_fault}
 use Rattle.soy_top.specs.Sources.{source_answer}
 use Rattle.soy_top.specs.View.{view_contents}
 use Rattle.soy_top.specs.Words.{Word, command_words}

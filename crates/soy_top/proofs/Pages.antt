@@ -181,7 +181,8 @@ one_page files words template json bundle file text wanted are words_are dash he
     }
 
 -- a text is no refusal by a fault of a file
-faultless : (line : Option (List ℕ)) (a : Answer) (text : List ℕ) → option_map_or Refused line a ≡ Done text → a ≡ Done text
+faultless : (line : Option (List ℕ)) (a : Answer) (text : List ℕ) → option_map_or Refused line a ≡ Done text
+    → a ≡ Done text
 faultless None a text h = h
 faultless (Some line) a text h = cc
 

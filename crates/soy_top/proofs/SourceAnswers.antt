@@ -1,11 +1,11 @@
 -- What is read of a template file is its tree or its first fault, which lies within it.
-use Rattle.std.proofs.Common.{◌≡◌, ℕ, ◌≤◌, ◌<◌, Bool, true, false, cond, List, [], ◌∷◌, ◌++◌, length}
-use Rattle.std.proofs.Common.{refl, sym, subst, ap, ◌∙◌, arith, nat_lt, ◌⊎◌, inl, inr}
+use Rattle.std.proofs.Common.{◌≡◌, ℕ, ◌≤◌, ◌<◌, Bool, true, false, cond, List, length}
+use Rattle.std.proofs.Common.{refl, sym, subst, ap, ◌∙◌, arith, ◌⊎◌, inl, inr}
 use Rattle.std.specs.Prelude.{Result, Ok, Err}
-use Rattle.std.specs.Str.{chars, is_utf8, IsUtf8, IsValidUpTo}
+use Rattle.std.specs.Str.{chars, is_utf8, IsUtf8}
 use Rattle.std.specs.Str.Lossy.{utf8_valid_len}
 use Rattle.std.proofs.lemmas.Bool.{lt-ltb, le-ltb}
-use Rattle.std.proofs.lemmas.Str.{IsUtf8-from_is_utf8, is_utf8-from_IsUtf8, utf8_valid_len_le}
+use Rattle.std.proofs.lemmas.Str.{IsUtf8-from_is_utf8, is_utf8-from_IsUtf8}
 use Rattle.soy_base.proofs.Texts.{byte_len-chars}
 use Rattle.soy_base.specs.declared.code.Code.{Code}
 use Rattle.soy_base.specs.declared.code.Code.TheVariants as code
@@ -97,7 +97,8 @@ parsed-reads text tokens r lexed p =
 refused_by : (text : List ℕ) (fault : Fault) → TooLarge 0 text fault ⊎ NoToken 0 text fault
     → text_answer text ≡ Err fault
 refused_by text fault (inl over) = text_over text over.over ∙ ap Err (sym over.fault_is)
-refused_by text fault (inr none) = text_answer-fault text none.offset none.within none.first ∙ ap Err (sym none.fault_is)
+refused_by text fault (inr none) =
+    text_answer-fault text none.offset none.within none.first ∙ ap Err (sym none.fault_is)
 
 pub unlexed-reads : (text : List ℕ) (refusal : Refusal Fault) → lexes.RefusesFile 0 text refusal
     → ReadsSource (text_answer text) (Err refusal)

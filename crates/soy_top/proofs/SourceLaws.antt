@@ -7,7 +7,7 @@ use Rattle.std.specs.Str.Lossy.{utf8_valid_len, valid_len_up_to}
 use Rattle.std.proofs.Math.Seq.{take-length}
 use Rattle.std.proofs.lemmas.Bool.{ltb-true, ltb-false}
 use Rattle.std.proofs.lemmas.List.{take_all}
-use Rattle.std.proofs.lemmas.Str.{IsUtf8-from_is_utf8, is_utf8-from_IsUtf8, IsUtf8-nil, utf8_valid_len_le}
+use Rattle.std.proofs.lemmas.Str.{IsUtf8-from_is_utf8, is_utf8-from_IsUtf8, IsUtf8-nil}
 use Rattle.std.proofs.lemmas.Str.{utf8_valid_len-IsValidUpTo}
 use Rattle.soy_base.specs.declared.code.Code.TheVariants as code
 use Rattle.soy_base.specs.declared.fault.Fault.{Fault}
@@ -76,8 +76,11 @@ module _ (bytes : List ℕ) where
   no_prefix : (n m : ℕ) (b : Bool) → is_utf8 bytes ≡ false → Longest bytes (length bytes) n
       → nat_lt (length bytes) m ≡ b → n < m → IsUtf8 (take m bytes) → ⊥
   no_prefix n m true e l past below u =
-      cc (e, is_utf8-from_IsUtf8 bytes (subst IsUtf8 (take_all m bytes
-      (let more : length bytes < m = ltb-true (length bytes) m past in omega (arith, more))) u))
+      cc (
+        e,
+        is_utf8-from_IsUtf8 bytes (subst IsUtf8 (take_all m bytes
+            (let more : length bytes < m = ltb-true (length bytes) m past in omega (arith, more))) u),
+      )
   no_prefix n m false e l past below u = l.none m below (ltb-false (length bytes) m past) u
 
   valid_up_to : (n : ℕ) → is_utf8 bytes ≡ false → Longest bytes (length bytes) n → IsValidUpTo bytes n

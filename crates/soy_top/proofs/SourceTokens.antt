@@ -1,5 +1,5 @@
 -- A text has one list of tokens or one first fault, and no token and no fault lies past its end.
-use Rattle.std.proofs.Common.{◌≡◌, ℕ, ◌≤◌, ◌<◌, List, [], ◌∷◌, ◌++◌, Some, None, refl, sym, subst, ap, ◌∙◌, arith}
+use Rattle.std.proofs.Common.{◌≡◌, ℕ, ◌≤◌, List, [], ◌∷◌, ◌++◌, Some, None, sym, subst, ap, ◌∙◌, arith}
 use Rattle.std.proofs.Common.{append-nil}
 use Rattle.expr_parser.specs.Offsets.{end_after, offset_after}
 use Rattle.soy_lexer.specs.InOrder.{InOrder}

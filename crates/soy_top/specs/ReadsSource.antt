@@ -1,5 +1,5 @@
--- What the reading of a template file answers: its tree or its first fault, which lies within the file; or that memory ran
--- out.
+-- What the reading of a template file answers: its tree or its first fault, which lies within the file; or that memory
+-- ran out.
 use Rattle.std.specs.Prelude.{◌≡◌, ℕ, ◌≤◌, Result, Ok, Err}
 use Rattle.soy_base.specs.declared.fault.Fault.{Fault}
 use Rattle.soy_base.specs.declared.memory.Refusal.{Refusal}

@@ -107,7 +107,8 @@ fn accept_source(alloc: Global, name: &str, bytes: &[u8]) -> Result<(), Ending>
     }
 }
 
-/// What is to be written for a command with the contents of the files that it wants, where no template file has a fault.
+/// What is to be written for a command with the contents of the files that it wants, where no template file has a
+/// fault.
 fn accept_parsed<'a>(
     alloc: Global,
     command: Command<'_>,

@@ -2,7 +2,8 @@
 
 ghost use Rattle.std.specs.Prelude.{◌≡◌, ◌≤◌, length, IfOk};
 ghost use Rattle.std.specs.String.{string_bytes};
-ghost use Rattle.soy_top.specs.Line.{refusal_line, not_yet_line, too_large_line, fault_line, entry_line, read_line, ended};
+ghost use Rattle.soy_top.specs.Line.{refusal_line, not_yet_line, too_large_line, fault_line, entry_line, read_line};
+ghost use Rattle.soy_top.specs.Line.{ended};
 
 use soy_base::{Code, Fault, OutOfMemory, Position, line_of};
 use std::alloc::Global;
