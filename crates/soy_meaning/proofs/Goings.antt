@@ -6,7 +6,7 @@ use Rattle.soy_base.specs.declared.direction.Dir.{Dir}
 use Rattle.soy_base.specs.declared.kind.Kind.{Kind}
 use Rattle.soy_base.specs.declared.kind.Kind.TheVariants as kinds
 use Rattle.soy_base.specs.declared.place.ValueClass.{ValueClass}
-use Rattle.html_state.specs.Pieces.{Piece, Static, Value, after_pieces, placing_after}
+use Rattle.html_state.specs.AfterPieces.{Piece, Static, Value, after_pieces, placing_after}
 use Rattle.html_state.specs.Start.{start}
 use Rattle.soy_tree.specs.Val.{Binding, BlockOf, Known, value_text}
 use Rattle.soy_tree.specs.Values as values

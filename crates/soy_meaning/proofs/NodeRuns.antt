@@ -6,7 +6,7 @@ use Rattle.std.proofs.lemmas.List.{append-nil}
 use Rattle.soy_base.specs.declared.direction.Dir.{Dir}
 use Rattle.soy_base.specs.declared.fault.Span.{Span}
 use Rattle.soy_base.specs.declared.kind.Kind.{Kind}
-use Rattle.html_state.specs.Pieces.{Piece}
+use Rattle.html_state.specs.AfterPieces.{Piece}
 use Rattle.html_state.specs.Start.{start}
 use Rattle.soy_tree.specs.Types.{Name}
 use Rattle.soy_tree.specs.Cost.{cost}

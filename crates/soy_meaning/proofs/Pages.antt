@@ -27,7 +27,7 @@ use Rattle.html_state.specs.Leads.{marked}
 use Rattle.html_state.specs.MayEnd.{may_end, may_end_row}
 use Rattle.html_state.specs.Next.{begun_reference, is_decided, name_end, name_next, next, numeric_next}
 use Rattle.html_state.specs.Next.{pending, plain_next, reference_begun_next, reference_next, text_end}
-use Rattle.html_state.specs.Pieces.{Piece, Static, Value, after_piece, after_pieces, placing_after}
+use Rattle.html_state.specs.AfterPieces.{Piece, Static, Value, after_piece, after_pieces, placing_after}
 use Rattle.html_state.specs.References.{name_begun, reference_names}
 use Rattle.html_state.specs.Start.{start}
 use Rattle.html_state.specs.StatePlacing.{placing, row_placing}

@@ -10,7 +10,7 @@ use Rattle.soy_base.specs.declared.place.ValueClass.{ValueClass}
 use Rattle.plural_rules.specs.Category.{is_same}
 use Rattle.plural_rules.specs.declared.category.Category.{Category}
 use Rattle.plural_rules.specs.declared.category.Category.TheVariants as category
-use Rattle.html_state.specs.Pieces.{Piece}
+use Rattle.html_state.specs.AfterPieces.{Piece}
 use Rattle.soy_tree.specs.Cost.{cost}
 use Rattle.soy_tree.specs.Expressions.{Expr}
 use Rattle.soy_tree.specs.MessageParts.{MsgPart, MsgParts, ExactArms, NamedArms, SelectArms, TextPart, Placeholder}

@@ -8,7 +8,7 @@ use Rattle.soy_base.specs.declared.place.ValueClass.{ValueClass}
 use Rattle.html_state.specs.AfterValue.{after_value}
 use Rattle.html_state.specs.Follows.{Follows}
 use Rattle.html_state.specs.KeepsPlace.{KeepsPlaceAt}
-use Rattle.html_state.specs.Pieces.{Piece, Static, Value, after_piece, after_pieces, placing_after}
+use Rattle.html_state.specs.AfterPieces.{Piece, Static, Value, after_piece, after_pieces, placing_after}
 use Rattle.html_state.specs.Start.{start}
 use Rattle.html_state.specs.StatePlacing.{placing}
 use Rattle.html_state.specs.TakesClass.{takes_class}

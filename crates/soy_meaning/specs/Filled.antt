@@ -10,7 +10,7 @@ use Rattle.soy_base.specs.declared.kind.Kind.{Kind}
 use Rattle.soy_base.specs.declared.kind.Kind.TheVariants as kind
 use Rattle.soy_base.specs.declared.place.Placing.{Placing}
 use Rattle.soy_base.specs.declared.place.ValueClass.{ValueClass}
-use Rattle.html_state.specs.Pieces.{Piece, Static, Value, placing_after}
+use Rattle.html_state.specs.AfterPieces.{Piece, Static, Value, placing_after}
 use Rattle.soy_meaning.specs.EscapedAt.{escaped_where, is_text_of}
 use Rattle.soy_meaning.specs.FourPoints.{FourPoints, AcceptedPaths}
 use Rattle.soy_meaning.specs.PageMachine.{page_machine}

@@ -14,7 +14,7 @@ use Rattle.plural_rules.specs.declared.category.Category.TheVariants as category
 use Rattle.plural_rules.specs.declared.condition.Comparison.{Comparison}
 use Rattle.plural_rules.specs.declared.condition.Operand.TheVariants as operand
 use Rattle.bidi_text.specs.Wrap.{wrapped_text}
-use Rattle.html_state.specs.Pieces.{Piece, Static, Value}
+use Rattle.html_state.specs.AfterPieces.{Piece, Static, Value}
 use Rattle.soy_tree.specs.declared.expr.BinaryOp.TheVariants as op
 use Rattle.soy_tree.specs.Types.{IntType}
 use Rattle.soy_tree.specs.Values.{IntValue, StringValue}
