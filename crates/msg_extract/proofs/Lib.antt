@@ -8,11 +8,14 @@ pub mod JoinedItems
 pub mod JoinedTests
 pub mod MessageCuts
 pub mod MessageNames
+pub mod MessageRows
 pub mod NameSteps
 pub mod OwnNames
 pub mod PieceLists
 pub mod PlaceholderNodes
+pub mod PluralPieces
 pub mod QuotedRuns
 pub mod RoleNames
 pub mod TagNames
+pub mod ViewBodies
 pub mod WrittenText

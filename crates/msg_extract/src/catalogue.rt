@@ -40,7 +40,6 @@ pub struct Catalogue {
 }
 
 /// What a catalogue has of a message.
-#[tactic(auto, using(crate::proofs::PieceLists::pieces_canonical, crate::proofs::PieceLists::body_pieces_uses))]
 fn row_of(alloc: Global, message: &Message) -> Result<Listed, OutOfMemory>
     ensures { IfOk result (λ l. l ≡ listed (view_message message.now)) }
 {

@@ -60,7 +60,7 @@ pub fn pieces_of<'a>(
 
 /// Adds the pieces of a body.
 #[cycle(pieces)]
-#[tactic(auto, using(crate::proofs::PieceLists::append_assoc, crate::proofs::PieceLists::six_added))]
+#[tactic(auto, using(crate::proofs::PieceLists::append_assoc))]
 fn push_body<'a>(
     alloc: Global,
     pieces: &mut Row<CodePiece<'a>>,

@@ -208,7 +208,6 @@ fn placeholders_of(alloc: Global, pieces: &[CodePiece<'_>]) -> Result<Seq<Placeh
 }
 
 /// The placeholders of a message, each once, in order of first appearance.
-#[tactic(auto, using(crate::proofs::PieceLists::body_pieces_uses))]
 pub fn placeholders(alloc: Global, message: &Message) -> Result<Seq<Placeholder>, OutOfMemory>
     ensures { IfOk result (λ rows. map view_placeholder rows ≡ placeholders_of (view_message message.now)) }
 {

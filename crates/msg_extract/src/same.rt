@@ -67,7 +67,6 @@ fn item_at<'a>(items: &[Item<'a>], number: usize) -> Option<Item<'a>>
 }
 
 /// Whether two tags have the same texts and prints.
-#[tactic(auto, using(crate::proofs::ItemLists::drop_got, crate::proofs::ItemLists::drop_none))]
 pub fn are_same_items(left: &[Item<'_>], right: &[Item<'_>]) -> bool
     ensures { result ≡ are_same_message_items (map view_item left.now) (map view_item right.now) }
 {
