@@ -12,7 +12,7 @@ use Rattle.soy_meaning.proofs.Holds.{Holds}
 use Rattle.soy_meaning.proofs.HolePlaces.{HolePlaces, TwoLists}
 use Rattle.soy_meaning.proofs.Moves.{followed_is, followed_ok, ok_same}
 use Rattle.soy_meaning.proofs.PointsAndHolds.{arms_lead, body_stands, hole_from, left_leads, one_leads, other_leads}
-use Rattle.soy_meaning.proofs.PointsAndHolds.{right_stands}
+use Rattle.soy_meaning.proofs.PointsAndHolds.{right_stands, stands_by}
 use Rattle.soy_meaning.proofs.Runs.{loop_more, loop_stops}
 use Rattle.soy_meaning.specs.FourPoints.{OnePlacing, Passes, takes_classes}
 use Rattle.soy_meaning.specs.Holes.{hole_count, holes_before}
@@ -244,13 +244,7 @@ module _ {S : Type 0} (m : Machine S) where
       ap Takes (place_in_one (HolePlaces m p P) (HolePlaces m q (StandsAfter m p P)) l h (holes_before p x) d
       (omega (arith, hole_within p x classes e, places_length p P h.one h.of_one)))
       ∙ hole_has_place p P h.one h.of_one x classes e t
-      (record {
-        from = k.from;
-        before = k.before;
-        parts = k.parts;
-        leads = left_leads m p q k.parts x k.leads;
-        reads = k.reads;
-      }) d
+      (stands_by m (Then p q) p P (Left x) x (left_leads m p q x) t k) d
   hole_has_place (Then p q) P l h (Right x) classes e t k d =
       ap Takes (place_in_other (HolePlaces m p P) (HolePlaces m q (StandsAfter m p P)) l h (hole_count p)
       (holes_before q x) d (places_length p P h.one h.of_one))
@@ -260,33 +254,15 @@ module _ {S : Type 0} (m : Machine S) where
       ap Takes (place_in_one (HolePlaces m p P) (HolePlaces m q P) l h (holes_before p x) d
       (omega (arith, hole_within p x classes e, places_length p P h.one h.of_one)))
       ∙ hole_has_place p P h.one h.of_one x classes e t
-      (record {
-        from = k.from;
-        before = k.before;
-        parts = k.parts;
-        leads = one_leads m p q k.parts x k.leads;
-        reads = k.reads;
-      }) d
+      (stands_by m (Either p q) p P (Left x) x (one_leads m p q x) t k) d
   hole_has_place (Either p q) P l h (Right x) classes e t k d =
       ap Takes (place_in_other (HolePlaces m p P) (HolePlaces m q P) l h (hole_count p) (holes_before q x) d
       (places_length p P h.one h.of_one))
       ∙ hole_has_place q P h.other h.of_other x classes e t
-      (record {
-        from = k.from;
-        before = k.before;
-        parts = k.parts;
-        leads = other_leads m p q k.parts x k.leads;
-        reads = k.reads;
-      }) d
+      (stands_by m (Either p q) q P (Right x) x (other_leads m p q x) t k) d
   hole_has_place (Meet at p) P l h (Inside x) classes e t k d =
       hole_has_place p P l h x classes e t
-      (record {
-        from = k.from;
-        before = k.before;
-        parts = k.parts;
-        leads = arms_lead m at p k.parts x k.leads;
-        reads = k.reads;
-      }) d
+      (stands_by m (Meet at p) p P (Inside x) x (arms_lead m at p x) t k) d
   hole_has_place (Loop at p) P l h (Inside x) classes e t k d =
       hole_has_place p (StandsAfter m (Loop at p) P) l h x classes e t
       (body_stands m at p P x k.parts k.from t k.before k.leads k.reads) d
