@@ -29,7 +29,7 @@ module _ {S : Type 0} (m : Machine S) where
   abbrev pub Fine : List PathPart → S → Type 0
   Fine [] s = Unit {0}
   Fine (StaticPart text ∷ l) s = (t : S) × (after_text m text s ≡ Ok t) × Fine l t
-  Fine (HolePart classes ∷ l) s = IsTrue (takes_classes (m.placing s) classes) × Fine l (m.value s)
+  Fine (HolePart at classes ∷ l) s = IsTrue (takes_classes (m.placing s) classes) × Fine l (m.value s)
 
 abbrev class_at : Option Point → Option (List ValueClass)
 class_at None = None
@@ -47,7 +47,7 @@ module _ {S : Type 0} (m : Machine S) where
   fine_runs (StaticPart text ∷ l) s f =
       let r : (t : S) × (state_after_parts m l f.0 ≡ Ok t) = fine_runs l f.0 f.2 in
       (r.0, followed_is (after_text m text s) (λ t. state_after_parts m l t) f.0 (Ok r.0) f.1 r.1)
-  fine_runs (HolePart classes ∷ l) s f = fine_runs l (m.value s) f.1
+  fine_runs (HolePart at classes ∷ l) s f = fine_runs l (m.value s) f.1
 
   pub fine_join : (a b : List PathPart) (s t : S) → Fine m a s → state_after_parts m a s ≡ Ok t → Fine m b t
       → Fine m (a ++ b) s
@@ -57,7 +57,7 @@ module _ {S : Type 0} (m : Machine S) where
       followed_ok (after_text m text s) (λ v. state_after_parts m a v) t h in
       let same : f.0 ≡ p.0 = ok_same f.0 p.0 (sym f.1 ∙ p.1) in
       (p.0, p.1, fine_join a b p.0 t (subst (λ v. Fine m a v) same f.2) p.2 g)
-  fine_join (HolePart classes ∷ a) b s t f h g = (f.0, fine_join a b (m.value s) t f.1 h g)
+  fine_join (HolePart at classes ∷ a) b s t f h g = (f.0, fine_join a b (m.value s) t f.1 h g)
 
   loop_fine : (at : Site) (p : Plan) (P : S → Type 0)
       → ((l : List PathPart) → IsPath p l → (s : S) → P s → Fine m l s) → ((s t : S) → P s → PathLeads m p s t → P t)

@@ -170,7 +170,8 @@ module _ {S : Type 0} (m : Machine S) where
     good_of_points p P (λ x. fits_mono (point_at p x) (StandsAt m p P x) (StandsAt m (Then p q) P (Left x))
         (stands_by p (Then p q) P x (Left x) (λ a l. to_first l)) (g (Left x))) f.0,
     good_of_points q (StandsAfter m p P) (λ x. fits_mono (point_at q x) (StandsAt m q (StandsAfter m p P) x)
-        (StandsAt m (Then p q) P (Right x)) (behind_stands p q (Then p q) P x (Right x) (λ a b y l. to_second y l)) (g (Right x))) f.1,
+        (StandsAt m (Then p q) P (Right x)) (behind_stands p q (Then p q) P x (Right x) (λ a b y l. to_second y l)) (g
+        (Right x))) f.1,
   )
   good_of_points (Either p q) P g f = (
     good_of_points p P (λ x. fits_mono (point_at p x) (StandsAt m p P x) (StandsAt m (Either p q) P (Left x))
@@ -187,7 +188,8 @@ module _ {S : Type 0} (m : Machine S) where
   good_of_points (Loop at p) P g f = (
     good_of_points p (StandsAfter m (Loop at p) P)
         (λ x. fits_mono (point_at p x) (StandsAt m p (StandsAfter m (Loop at p) P) x)
-        (StandsAt m (Loop at p) P (Inside x)) (behind_stands (Loop at p) p (Loop at p) P x (Inside x) (λ a b y l. in_body y l)) (g (Inside x))) f,
+        (StandsAt m (Loop at p) P (Inside x)) (behind_stands (Loop at p) p (Loop at p) P x (Inside x) (λ a b y l.
+        in_body y l)) (g (Inside x))) f,
     few_mono m 16 (StandsAfter m (Loop at p) P) (StandsAt m (Loop at p) P Here)
         (after_stands (Loop at p) (Loop at p) P Here (λ a y. to_head y)) (g Here),
   )

@@ -33,8 +33,10 @@ ghost use Rattle.soy_tree.specs.Values.{Value};
 ghost use Rattle.soy_tree.specs.Templates.{Declared, declared};
 ghost use Rattle.soy_meaning.specs.Giving.{RunEnv, value_class};
 ghost use Rattle.soy_meaning.specs.Pieces.{RunContext, template_run};
-ghost use Rattle.soy_meaning.specs.RunsAlong.{EnvRuns, FilledByRuns, FitsClasses, IsFrameWithin, RunsAlong};
-ghost use Rattle.soy_meaning.specs.RunsAlong.{frame_plan};
+ghost use Rattle.soy_meaning.specs.FrameRun.{FrameRun, entry_frame, run_outcome, run_plan};
+ghost use Rattle.soy_meaning.specs.RunsAlong.{BindsValues, EnvRuns, FilledByRuns, FitsClasses, IsFrameWithin};
+ghost use Rattle.soy_meaning.specs.RunsAlong.{RunsAlong};
+ghost use Rattle.soy_meaning.specs.StopsWithin.{StopsWithin};
 ghost use Rattle.soy_meaning.specs.TranslationFits.{TranslationsFit};
 ghost use Rattle.soy_meaning.specs.EqualChoices.{AlikeByChoices, AlikeRuns, EnvsAlike};
 ghost use Rattle.soy_meaning.specs.PicksValues.{TemplatesPick, param_marks};
@@ -44,10 +46,11 @@ ghost use Rattle.soy_meaning.specs.Filled.{Filled, FillsHoles, IsBlockKind, IsFr
 ghost use Rattle.soy_meaning.specs.FourPoints.{AcceptedPaths, StartsAs};
 ghost use Rattle.soy_meaning.specs.Holes.{hole_count, holes_before};
 ghost use Rattle.soy_meaning.specs.Outcome as outcome;
-ghost use Rattle.soy_meaning.specs.Outcome.{Outcome, choices_of_outcome, continued_by, costs_of_outcome, gathered};
+ghost use Rattle.soy_meaning.specs.Outcome.{Outcome, choices_of_outcome, continued_by, costs_of_outcome, end_of_outcome};
+ghost use Rattle.soy_meaning.specs.Outcome.{gathered};
 ghost use Rattle.soy_meaning.specs.Outcome.{gives_nothing, pieces_of_outcome};
 ghost use Rattle.soy_meaning.specs.PageMachine.{page_machine};
-ghost use Rattle.soy_meaning.specs.Plan.{Plan};
+ghost use Rattle.soy_meaning.specs.Plan.{Plan, Site};
 ghost use Rattle.soy_meaning.specs.Blocks.{block_frame, nodes_blocks, plan_frames};
 ghost use Rattle.soy_meaning.specs.PlanOfNodes.{PlanContext, kind_class, nodes_plan, trees_plan};
 ghost use Rattle.soy_meaning.specs.PathParts.{IsPath, PathPart, StandsAfter};
@@ -141,17 +144,22 @@ pub fn law_plan_is_of_tree()
 
 /// What a template gives goes along a path of its plan, under any bundle whose translations fit their messages, and any
 /// variables whose blocks run along frames of the trees, as data do, which hold no blocks: the pieces are those of a
-/// path, or of a prefix of one where it stops at a call, with each hole filled by a value or by a run of a frame of the
-/// trees. Which frame that is, and at which call it stops, isn't said.
+/// path, or of a prefix of one where it stops at a call, with each hole filled by a value or by the run of the frame
+/// that is printed or called at its command. Under data alone the call at which it stops comes in a frame that the
+/// hundredth call has opened.
 pub fn law_runs_are_paths()
     ensures runs { (c : RunContext) (trees : List Tree) (d : Declared) (env : RunEnv) →
         c.declared ≡ declared trees → IsMember d c.declared → TranslationsFit c.translation c.declared →
-        EnvRuns c.direction (trees_plan c.translation trees) env →
-        RunsAlong c.direction (trees_plan c.translation trees) d.template.kind (frame_plan c d)
-        (template_run c d env) }
-    ensures frames { (c : RunContext) (trees : List Tree) (d : Declared) →
+        EnvRuns c (trees_plan c.translation trees) env →
+        RunsAlong c (trees_plan c.translation trees) (entry_frame d env) }
+    ensures entry { (c : RunContext) (d : Declared) (env : RunEnv) →
+        run_outcome c (entry_frame d env) ≡ template_run c d env }
+    ensures stops { (c : RunContext) (d : Declared) (env : RunEnv) (call : Site) →
+        IsMember d c.declared → TranslationsFit c.translation c.declared → BindsValues env →
+        end_of_outcome (template_run c d env) ≡ outcome.StopsAt call → StopsWithin c (entry_frame d env) call }
+    ensures frames { (c : RunContext) (trees : List Tree) (d : Declared) (env : RunEnv) →
         c.declared ≡ declared trees → IsMember d c.declared →
-        IsFrameWithin (trees_plan c.translation trees) d.template.kind (frame_plan c d) }
+        IsFrameWithin (trees_plan c.translation trees) d.template.kind (run_plan c (entry_frame d env)) }
 {}
 
 /// Where expressions pick values alone, two runs of a template with the same choices are alike: the same texts stand
@@ -173,11 +181,12 @@ pub fn law_equal_choices()
 /// Under accepted paths what fills a path by runs fills its holes, where values and frames have classes of theirs. The
 /// pieces of a run are read without a fault then, also those of one that stops.
 pub fn law_runs_are_read()
-    ensures holes { (whole : Plan) (f : Filled) → AcceptedPaths page_machine whole →
-        FilledByRuns whole outcome.WholeRun f → FitsClasses f → FillsHoles f }
-    ensures read { (context : Dir) (whole : Plan) (kind : Kind) (p : Plan) (o : Outcome) →
-        AcceptedPaths page_machine whole → IsFrameWithin whole kind p → (r : RunsAlong context whole kind p o) →
-        FitsClasses r.filled → (now : State) × (after_pieces (start kind) (pieces_of_outcome o) ≡ Ok now) }
+    ensures holes { (c : RunContext) (whole : Plan) (q : FrameRun) (f : Filled) → AcceptedPaths page_machine whole →
+        FilledByRuns c whole q outcome.WholeRun f → FitsClasses f → FillsHoles f }
+    ensures read { (c : RunContext) (whole : Plan) (q : FrameRun) →
+        AcceptedPaths page_machine whole → IsFrameWithin whole q.kind (run_plan c q) → (r : RunsAlong c whole q) →
+        FitsClasses r.filled → (now : State)
+        × (after_pieces (start q.kind) (pieces_of_outcome (run_outcome c q)) ≡ Ok now) }
 {}
 
 /// Outcomes follow one another as lists do, and what is gathered from two that follow one another is gathered from the
