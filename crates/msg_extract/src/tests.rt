@@ -159,17 +159,14 @@ fn an_id_comes_of_meaning_and_canonical_text(rt: HostRuntime) {
 }
 
 /// A file with the same message as message and fallback.
-fn love_trees(alloc: Global) -> Result<Vec<Tree>, OutOfMemory> {
+fn love_tree(alloc: Global) -> Result<Tree, OutOfMemory> {
     let first = message(alloc, "", who_body(alloc, "love ")?, 3)?;
     let second = message(alloc, "", who_body(alloc, "love ")?, 9)?;
-    let mut trees = Vec::new(alloc);
-    trees.push(tree(alloc, first, Some(second))?)?;
-    Ok(trees)
+    tree(alloc, first, Some(second))
 }
 
 fn love_catalogue(alloc: Global) -> Result<String, Refusal<Fault>> {
-    let trees = love_trees(alloc)?;
-    let catalogue = extract(alloc, trees.as_slice())?;
+    let catalogue = extract(alloc, &[love_tree(alloc)?])?;
     Ok(write_catalogue(alloc, &catalogue)?)
 }
 
