@@ -1,5 +1,6 @@
 -- The characters of ASCII texts.
-use Rattle.std.proofs.Common.{◌≡◌, ℕ, Bool, true, false, ◌&&◌, ◌==◌, nat_lt, List, [], ◌∷◌, ap, ◌∙◌, refl, arith, bytes_eq}
+use Rattle.std.proofs.Common.{◌≡◌, ℕ, Bool, true, false, ◌&&◌, ◌==◌, nat_lt, List, [], ◌∷◌, ap, ◌∙◌, refl, arith}
+use Rattle.std.proofs.Common.{bytes_eq}
 use borrow.Author.Tests.{ltb-true}
 use Rattle.std.specs.Str.{IsAscii, chars}
 use Rattle.std.proofs.lemmas.Bool.Decides.{nat_tests}

@@ -3,7 +3,8 @@ use Rattle.std.proofs.Common.{◌≡◌, ◌≢◌, ℕ, ◌+◌, Bool, true, fa
 use Rattle.std.proofs.Common.{refl, sym, ap, ◌∙◌, bytes_eq, arith}
 use Rattle.std.specs.Prelude.{if◌then◌else◌}
 use Rattle.soy_tree.specs.Types.{Name}
-use Rattle.soy_tree.specs.Placeholders.{Content, Use, content_name, contents_after, free_number, has_base, is_same_content}
+use Rattle.soy_tree.specs.Placeholders.{Content, Use, content_name, contents_after, free_number, has_base}
+use Rattle.soy_tree.specs.Placeholders.{is_same_content}
 use Rattle.soy_tree.specs.Placeholders.{named_contents, numbered, numbered_name}
 use Rattle.msg_extract.specs.NameSteps.{contents_step, is_base_of, try_step}
 use Rattle.msg_extract.specs.Pieces.{Piece, TextPiece, UsePiece, uses_in}

@@ -1,8 +1,8 @@
 -- What a translation may name, and when translations fit files.
--- A placeholder of a translation is among those of its source; the name of a plural or selectordinal is that of a plural
--- selector, that of a select of a select selector. The first that isn't is refused, with 24 for a placeholder and with 25
--- for a selector, in the order of the parts. Translations fit files where that of each message, if it has one, is the
--- parts of a pattern and names nothing else. Example: `{WHOM}` isn't a translation of `love {$who}`.
+-- A placeholder of a translation is among those of its source; the name of a plural or selectordinal is that of a
+-- plural selector, that of a select of a select selector. The first that isn't is refused, with 24 for a placeholder
+-- and with 25 for a selector, in the order of the parts. Translations fit files where that of each message, if it has
+-- one, is the parts of a pattern and names nothing else. Example: `{WHOM}` isn't a translation of `love {$who}`.
 use Rattle.std.specs.Prelude.{◌≡◌, ℕ, List, [], ◌∷◌, Option, Some, None, if◌then◌else◌}
 use Rattle.std.specs.Option.{option_or}
 use Rattle.soy_base.specs.Among.{is_among}

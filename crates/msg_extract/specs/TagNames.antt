@@ -1,6 +1,7 @@
 -- The base name of a tag, as what stands before its name and the name as it is shown.
 -- Example: before the name of `<a href="/x">` stands `START_`, and it is shown as `LINK`.
-use Rattle.std.specs.Prelude.{ℕ, Bool, false, ◌&&◌, ◌||◌, ◌==◌, List, [], ◌∷◌, if◌then◌else◌, bytes_eq, codes, Option, Some}
+use Rattle.std.specs.Prelude.{ℕ, Bool, false, ◌&&◌, ◌||◌, ◌==◌, List, [], ◌∷◌, if◌then◌else◌, bytes_eq, codes}
+use Rattle.std.specs.Prelude.{Option, Some}
 use Rattle.std.specs.Prelude.{None}
 use Rattle.std.specs.List.{list_any}
 use Rattle.std.specs.Char.{is_ascii_uppercase, is_ascii_whitespace, to_ascii_uppercase}

@@ -65,8 +65,8 @@ fn base_of_name(alloc: Global, name: &str) -> Result<Text, OutOfMemory>
     Ok(Text::new(base))
 }
 
-/// Adds a character of a name in upper case, an upper-case letter with `_` before it where a lower-case letter or a digit
-/// stands there.
+/// Adds a character of a name in upper case, an upper-case letter with `_` before it where a lower-case letter or a
+/// digit stands there.
 fn push_upper(out: &mut String, follows_lower: bool, c: char) -> Result<(), OutOfMemory>
     ensures { OnOk result (Appends out.old out.new (upper_step follows_lower c)) }
 {
