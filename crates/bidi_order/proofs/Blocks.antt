@@ -41,49 +41,51 @@ least-ge base low n back V rest (above_some {k = k} {V = V'} l a) h =
     (omega (arith, resolved_level-ge base back k (V' ++ rest)))
 
 -- up to a character of a value the least level is that up to its initiator
-up_to : (base n : ℕ) (back U1 R : List (Option KeptCharacter)) (i k : KeptCharacter) → Above i.level U1
+up_to : (base n : ℕ) (back prefix R : List (Option KeptCharacter)) (i k : KeptCharacter) → Above i.level prefix
     → i.level < k.level → is_steady i.resolved.class ≡ true
-    → min (least_level n (levels_in base back (Some i ∷ U1) (Some k ∷ R)))
-    (resolved_level base (past back (Some i ∷ U1)) k R) ≡ min n (resolved_level base back i (U1 ++ Some k ∷ R))
+    → min (least_level n (levels_in base back (Some i ∷ prefix) (Some k ∷ R)))
+    (resolved_level base (past back (Some i ∷ prefix)) k R) ≡ min n (resolved_level base back i (prefix ++ Some k ∷ R))
 unfolding levels_in
-up_to base n back U1 R i k above higher steady =
-    let at_i : ℕ = resolved_level base back i (U1 ++ Some k ∷ R) in
-    let low : at_i ≤ i.level + 1 = resolved_level-le base back i (U1 ++ Some k ∷ R) steady in
-    let inside : least_level (min n at_i) (levels_in base (Some i ∷ back) U1 (Some k ∷ R)) ≡ min n at_i =
-    least-inside base (min n at_i) i.level (Some i ∷ back) U1 (Some k ∷ R) above (omega arith) in
-    ap (λ m. min m (resolved_level base (past back (Some i ∷ U1)) k R)) inside
-    ∙ omega (arith, resolved_level-ge base (past back (Some i ∷ U1)) k R)
+up_to base n back prefix R i k above higher steady =
+    let at_i : ℕ = resolved_level base back i (prefix ++ Some k ∷ R) in
+    let low : at_i ≤ i.level + 1 = resolved_level-le base back i (prefix ++ Some k ∷ R) steady in
+    let inside : least_level (min n at_i) (levels_in base (Some i ∷ back) prefix (Some k ∷ R)) ≡ min n at_i =
+    least-inside base (min n at_i) i.level (Some i ∷ back) prefix (Some k ∷ R) above (omega arith) in
+    ap (λ m. min m (resolved_level base (past back (Some i ∷ prefix)) k R)) inside
+    ∙ omega (arith, resolved_level-ge base (past back (Some i ∷ prefix)) k R)
 
 -- from a character of a value on the least level is that from its PDI on
-from_there : (base : ℕ) (back U2 R : List (Option KeptCharacter)) (k p : KeptCharacter) → Above p.level U2
+from_there : (base : ℕ) (back suffix R : List (Option KeptCharacter)) (k p : KeptCharacter) → Above p.level suffix
     → p.level < k.level → is_steady p.resolved.class ≡ true
-    → least_level (resolved_level base back k ((U2 ++ Some p ∷ []) ++ R))
-    (levels_in base (Some k ∷ back) (U2 ++ Some p ∷ []) R) ≡ resolved_level base (past (Some k ∷ back) U2) p R
+    → least_level (resolved_level base back k ((suffix ++ Some p ∷ []) ++ R))
+    (levels_in base (Some k ∷ back) (suffix ++ Some p ∷ []) R) ≡ resolved_level base (past (Some k ∷ back) suffix) p R
 unfolding levels_in
-from_there base back U2 R k p above higher steady =
-    let at_k : ℕ = resolved_level base back k ((U2 ++ Some p ∷ []) ++ R) in
-    let inside : ℕ = least_level at_k (levels_in base (Some k ∷ back) U2 (Some p ∷ R)) in
-    let high : p.level < inside = least-ge base p.level at_k (Some k ∷ back) U2 (Some p ∷ R) above
-    (omega (arith, resolved_level-ge base back k ((U2 ++ Some p ∷ []) ++ R))) in
-    ap (least_level at_k) (levels_in-append base (Some k ∷ back) U2 (Some p ∷ []) R)
-    ∙ least_level-append at_k (levels_in base (Some k ∷ back) U2 (Some p ∷ R))
-    (levels_in base (past (Some k ∷ back) U2) (Some p ∷ []) R)
-    ∙ omega (arith, resolved_level-le base (past (Some k ∷ back) U2) p R steady)
+from_there base back suffix R k p above higher steady =
+    let at_k : ℕ = resolved_level base back k ((suffix ++ Some p ∷ []) ++ R) in
+    let inside : ℕ = least_level at_k (levels_in base (Some k ∷ back) suffix (Some p ∷ R)) in
+    let high : p.level < inside = least-ge base p.level at_k (Some k ∷ back) suffix (Some p ∷ R) above
+    (omega (arith, resolved_level-ge base back k ((suffix ++ Some p ∷ []) ++ R))) in
+    ap (least_level at_k) (levels_in-append base (Some k ∷ back) suffix (Some p ∷ []) R)
+    ∙ least_level-append at_k (levels_in base (Some k ∷ back) suffix (Some p ∷ R))
+    (levels_in base (past (Some k ∷ back) suffix) (Some p ∷ []) R)
+    ∙ omega (arith, resolved_level-le base (past (Some k ∷ back) suffix) p R steady)
 
 -- an index in both lines: the explicit characters before it, it, and those after it, of one character or of one value
-pub record Spot (base : ℕ) (B1 : List (Option KeptCharacter)) (k : KeptCharacter)
-    (A1 B2 : List (Option KeptCharacter)) (l : KeptCharacter) (A2 : List (Option KeptCharacter)) : Type 0 where
-  pub similar : Similar (B1 ++ Some k ∷ A1) (B2 ++ Some l ∷ A2)
+pub record Spot (base : ℕ) (one_prefix : List (Option KeptCharacter)) (k : KeptCharacter)
+    (one_suffix other_prefix : List (Option KeptCharacter)) (l : KeptCharacter)
+    (other_suffix : List (Option KeptCharacter)) : Type 0 where
+  pub similar : Similar (one_prefix ++ Some k ∷ one_suffix) (other_prefix ++ Some l ∷ other_suffix)
   pub starts : (back back' R R' : List (Option KeptCharacter)) → Same Backward base back back' → Same Forward base R R'
-      → least_level (resolved_level base (past back B1) k (A1 ++ R)) (levels_in base (Some k ∷ past back B1) A1 R)
-      ≡ least_level (resolved_level base (past back' B2) l (A2 ++ R'))
-      (levels_in base (Some l ∷ past back' B2) A2 R')
+      → least_level (resolved_level base (past back one_prefix) k (one_suffix ++ R))
+      (levels_in base (Some k ∷ past back one_prefix) one_suffix R)
+      ≡ least_level (resolved_level base (past back' other_prefix) l (other_suffix ++ R'))
+      (levels_in base (Some l ∷ past back' other_prefix) other_suffix R')
   pub finishes : (n : ℕ) (back back' R R' : List (Option KeptCharacter)) → Same Backward base back back'
       → Same Forward base R R'
-      → min (least_level n (levels_in base back B1 (Some k ∷ (A1 ++ R))))
-      (resolved_level base (past back B1) k (A1 ++ R))
-      ≡ min (least_level n (levels_in base back' B2 (Some l ∷ (A2 ++ R'))))
-      (resolved_level base (past back' B2) l (A2 ++ R'))
+      → min (least_level n (levels_in base back one_prefix (Some k ∷ (one_suffix ++ R))))
+      (resolved_level base (past back one_prefix) k (one_suffix ++ R))
+      ≡ min (least_level n (levels_in base back' other_prefix (Some l ∷ (other_suffix ++ R'))))
+      (resolved_level base (past back' other_prefix) l (other_suffix ++ R'))
 
 -- a character of both lines
 pub shared-Spot : (base : ℕ) (k : KeptCharacter) → Spot base [] k [] [] k []
@@ -122,49 +124,53 @@ closing-same base i p U V back back' R R' u v b a =
     (a p.level (Taking (enters_isolate (scanned_role Forward p.role))))
     ∙ sym (ap (λ s. resolved_level base s p R') (past-reverse (Some i ∷ back') V))
 
-regroup : (U1 U2 R : List (Option KeptCharacter)) (k p : KeptCharacter) → U1 ++ Some k ∷ ((U2 ++ Some p ∷ []) ++ R)
-    ≡ (U1 ++ Some k ∷ U2) ++ Some p ∷ R
-regroup U1 U2 R k p = ap (λ l. U1 ++ Some k ∷ l) (append_assoc U2 (Some p ∷ []) R)
-    ∙ sym (append_assoc U1 (Some k ∷ U2) (Some p ∷ R))
+regroup : (prefix suffix R : List (Option KeptCharacter)) (k p : KeptCharacter)
+    → prefix ++ Some k ∷ ((suffix ++ Some p ∷ []) ++ R)
+    ≡ (prefix ++ Some k ∷ suffix) ++ Some p ∷ R
+regroup prefix suffix R k p = ap (λ l. prefix ++ Some k ∷ l) (append_assoc suffix (Some p ∷ []) R)
+    ∙ sym (append_assoc prefix (Some k ∷ suffix) (Some p ∷ R))
 
 -- one side of a value's starts and finishes
-value-starts : (base : ℕ) (i p k : KeptCharacter) (U1 U2 back R : List (Option KeptCharacter))
-    → IsValue i p (U1 ++ Some k ∷ U2)
-    → least_level (resolved_level base (past back (Some i ∷ U1)) k ((U2 ++ Some p ∷ []) ++ R))
-    (levels_in base (Some k ∷ past back (Some i ∷ U1)) (U2 ++ Some p ∷ []) R) ≡ resolved_level base
-    (past (Some i ∷ back) (U1 ++ Some k ∷ U2)) p R
+value-starts : (base : ℕ) (i p k : KeptCharacter) (prefix suffix back R : List (Option KeptCharacter))
+    → IsValue i p (prefix ++ Some k ∷ suffix)
+    → least_level (resolved_level base (past back (Some i ∷ prefix)) k ((suffix ++ Some p ∷ []) ++ R))
+    (levels_in base (Some k ∷ past back (Some i ∷ prefix)) (suffix ++ Some p ∷ []) R) ≡ resolved_level base
+    (past (Some i ∷ back) (prefix ++ Some k ∷ suffix)) p R
 unfolding past
-value-starts base i p k U1 U2 back R u =
-    let above : Above p.level (U1 ++ Some k ∷ U2) = subst (λ l. Above l (U1 ++ Some k ∷ U2)) u.same
+value-starts base i p k prefix suffix back R u =
+    let above : Above p.level (prefix ++ Some k ∷ suffix) = subst (λ l. Above l (prefix ++ Some k ∷ suffix)) u.same
     (Above-Within u.within) in
-    from_there base (past (Some i ∷ back) U1) U2 R k p
-    (Above-rest p.level k U2 (Above-other_line p.level U1 (Some k ∷ U2) above))
-    (Above-first p.level k U2 (Above-other_line p.level U1 (Some k ∷ U2) above)) u.steady_end
-    ∙ ap (λ s. resolved_level base s p R) (sym (past-append (Some i ∷ back) U1 (Some k ∷ U2)))
+    from_there base (past (Some i ∷ back) prefix) suffix R k p
+    (Above-rest p.level k suffix (Above-other_line p.level prefix (Some k ∷ suffix) above))
+    (Above-first p.level k suffix (Above-other_line p.level prefix (Some k ∷ suffix) above)) u.steady_end
+    ∙ ap (λ s. resolved_level base s p R) (sym (past-append (Some i ∷ back) prefix (Some k ∷ suffix)))
 
-value-finishes : (base n : ℕ) (i p k : KeptCharacter) (U1 U2 back R : List (Option KeptCharacter))
-    → IsValue i p (U1 ++ Some k ∷ U2)
-    → min (least_level n (levels_in base back (Some i ∷ U1) (Some k ∷ ((U2 ++ Some p ∷ []) ++ R))))
-    (resolved_level base (past back (Some i ∷ U1)) k ((U2 ++ Some p ∷ []) ++ R))
-    ≡ min n (resolved_level base back i ((U1 ++ Some k ∷ U2) ++ Some p ∷ R))
-value-finishes base n i p k U1 U2 back R u =
-    let above : Above i.level (U1 ++ Some k ∷ U2) = Above-Within u.within in
-    up_to base n back U1 ((U2 ++ Some p ∷ []) ++ R) i k (Above-one_line i.level U1 (Some k ∷ U2) above)
-    (Above-first i.level k U2 (Above-other_line i.level U1 (Some k ∷ U2) above)) u.steady
-    ∙ ap (λ l. min n (resolved_level base back i l)) (regroup U1 U2 R k p)
+value-finishes : (base n : ℕ) (i p k : KeptCharacter) (prefix suffix back R : List (Option KeptCharacter))
+    → IsValue i p (prefix ++ Some k ∷ suffix)
+    → min (least_level n (levels_in base back (Some i ∷ prefix) (Some k ∷ ((suffix ++ Some p ∷ []) ++ R))))
+    (resolved_level base (past back (Some i ∷ prefix)) k ((suffix ++ Some p ∷ []) ++ R))
+    ≡ min n (resolved_level base back i ((prefix ++ Some k ∷ suffix) ++ Some p ∷ R))
+value-finishes base n i p k prefix suffix back R u =
+    let above : Above i.level (prefix ++ Some k ∷ suffix) = Above-Within u.within in
+    up_to base n back prefix ((suffix ++ Some p ∷ []) ++ R) i k (Above-one_line i.level prefix (Some k ∷ suffix) above)
+    (Above-first i.level k suffix (Above-other_line i.level prefix (Some k ∷ suffix) above)) u.steady
+    ∙ ap (λ l. min n (resolved_level base back i l)) (regroup prefix suffix R k p)
 
-pub value-Spot : (base : ℕ) (i p k l : KeptCharacter) (U1 U2 V1 V2 : List (Option KeptCharacter))
-    → IsValue i p (U1 ++ Some k ∷ U2) → IsValue i p (V1 ++ Some l ∷ V2)
-    → Spot base (Some i ∷ U1) k (U2 ++ Some p ∷ []) (Some i ∷ V1) l (V2 ++ Some p ∷ [])
-value-Spot base i p k l U1 U2 V1 V2 u v = record {
-  similar = subst (λ a. Similar (Some i ∷ (U1 ++ Some k ∷ (U2 ++ Some p ∷ []))) (Some i ∷ a))
-      (append_assoc V1 (Some l ∷ V2) (Some p ∷ []))
-      (subst (λ a. Similar (Some i ∷ a) (Some i ∷ ((V1 ++ Some l ∷ V2) ++ Some p ∷ [])))
-      (append_assoc U1 (Some k ∷ U2) (Some p ∷ [])) (similar_value u v similar_end));
-  starts = λ back back' R R' b a. value-starts base i p k U1 U2 back R u
-      ∙ closing-same base i p (U1 ++ Some k ∷ U2) (V1 ++ Some l ∷ V2) back back' R R' u v b a
-      ∙ sym (value-starts base i p l V1 V2 back' R' v);
-  finishes = λ n back back' R R' b a. value-finishes base n i p k U1 U2 back R u
-      ∙ ap (min n) (initiator-same base i p (U1 ++ Some k ∷ U2) (V1 ++ Some l ∷ V2) back back' R R' u v b a)
-      ∙ sym (value-finishes base n i p l V1 V2 back' R' v);
+pub value-Spot : (base : ℕ) (i p k l : KeptCharacter)
+    (prefix suffix other_prefix other_suffix : List (Option KeptCharacter))
+    → IsValue i p (prefix ++ Some k ∷ suffix) → IsValue i p (other_prefix ++ Some l ∷ other_suffix)
+    → Spot base (Some i ∷ prefix) k (suffix ++ Some p ∷ []) (Some i ∷ other_prefix) l (other_suffix ++ Some p ∷ [])
+value-Spot base i p k l prefix suffix other_prefix other_suffix u v = record {
+  similar = subst (λ a. Similar (Some i ∷ (prefix ++ Some k ∷ (suffix ++ Some p ∷ []))) (Some i ∷ a))
+      (append_assoc other_prefix (Some l ∷ other_suffix) (Some p ∷ []))
+      (subst (λ a. Similar (Some i ∷ a) (Some i ∷ ((other_prefix ++ Some l ∷ other_suffix) ++ Some p ∷ [])))
+      (append_assoc prefix (Some k ∷ suffix) (Some p ∷ [])) (similar_value u v similar_end));
+  starts = λ back back' R R' b a. value-starts base i p k prefix suffix back R u
+      ∙ closing-same base i p (prefix ++ Some k ∷ suffix) (other_prefix ++ Some l ∷ other_suffix) back back' R R' u v
+      b a
+      ∙ sym (value-starts base i p l other_prefix other_suffix back' R' v);
+  finishes = λ n back back' R R' b a. value-finishes base n i p k prefix suffix back R u
+      ∙ ap (min n) (initiator-same base i p (prefix ++ Some k ∷ suffix) (other_prefix ++ Some l ∷ other_suffix) back
+      back' R R' u v b a)
+      ∙ sym (value-finishes base n i p l other_prefix other_suffix back' R' v);
 }

@@ -34,120 +34,129 @@ use Rattle.bidi_order.proofs.SameOrder.Limited.{limited_value}
 use Rattle.bidi_order.proofs.Blocks.{Spot, shared-Spot, value-Spot}
 
 -- a list that begins as another
-pub record Cut (U X1 : List (Option KeptCharacter)) (s : Option KeptCharacter) : Type 0 where
+pub record Cut (U prefix : List (Option KeptCharacter)) (s : Option KeptCharacter) : Type 0 where
   rest : List (Option KeptCharacter)
-  is : U ≡ X1 ++ s ∷ rest
+  is : U ≡ prefix ++ s ∷ rest
 
 head-of : Option KeptCharacter → List (Option KeptCharacter) → Option KeptCharacter
 head-of d [] = d
 head-of d (x ∷ xs) = x
 
-cut : (U W X1 : List (Option KeptCharacter)) (s : Option KeptCharacter) (R : List (Option KeptCharacter))
-    → U ++ W ≡ X1 ++ s ∷ R → length X1 < length U → Cut U X1 s
+cut : (U W prefix : List (Option KeptCharacter)) (s : Option KeptCharacter) (R : List (Option KeptCharacter))
+    → U ++ W ≡ prefix ++ s ∷ R → length prefix < length U → Cut U prefix s
 unfolding head-of
-cut [] W X1 s R e l = absurd (omega arith)
+cut [] W prefix s R e l = absurd (omega arith)
 cut (u ∷ U) W [] s R e l = record { rest = U; is = ap (λ h. h ∷ U) (ap (head-of None) e) }
-cut (u ∷ U) W (x ∷ X1) s R e l =
-    let more : Cut U X1 s = cut U W X1 s R (ap (drop 1) e) (omega arith) in
+cut (u ∷ U) W (x ∷ prefix) s R e l =
+    let more : Cut U prefix s = cut U W prefix s R (ap (drop 1) e) (omega arith) in
     record { rest = more.rest; is = ap (λ h. h ∷ U) (ap (head-of None) e) ∙ ap (λ t. x ∷ t) more.is }
 
 -- a surrounding character of what a value holds
-record Inner (V : List (Option KeptCharacter)) (v1 v2 : List ℕ) : Type 0 where
+record Inner (V : List (Option KeptCharacter)) (one_begin one_end : List ℕ) : Type 0 where
   before : List (Option KeptCharacter)
   here : KeptCharacter
   after : List (Option KeptCharacter)
   is : V ≡ before ++ Some here ∷ after
-  long_before : length before ≡ length v1
-  long_after : length after ≡ length v2
+  long_before : length before ≡ length one_begin
+  long_after : length after ≡ length one_end
 
-inner : (s : DirectionalStatus) (i p y : ℕ) (v1 v2 back : List ℕ) → is_surrounding (bidi_class y) ≡ true
-    → (u : Value s i p (v1 ++ y ∷ v2) back) → Inner u.slots v1 v2
-inner s i p y v1 v2 back sy u =
-    let s1 : DirectionalStatus = status_after (act_of_character i ((v1 ++ y ∷ v2) ++ p ∷ back)) s in
-    let tail : List ℕ = v2 ++ p ∷ back in
-    let s2 : DirectionalStatus = status_before s1 v1 (y ∷ tail) in
-    let X1 : List (Option KeptCharacter) = explicit_in s1 v1 (y ∷ tail) in
-    let e : u.slots ++ Some (closing s) ∷ explicit_from s back ≡ X1 ++ Some (plain s2 y) ∷ explicit_from s2 tail =
-    sym (ap (drop 1) u.is) ∙ ap (explicit_from s1) (append_assoc v1 (y ∷ v2) (p ∷ back))
-    ∙ explicit_from-prefix s1 v1 (y ∷ tail) ∙ ap (λ l. X1 ++ l) (next_level-explicit_character s2 y tail sy) in
-    let short : length X1 < length u.slots =
-    omega (arith, length-explicit_in s1 v1 (y ∷ tail), u.long, length-append v1 (y ∷ v2)) in
-    let c : Cut u.slots X1 (Some (plain s2 y)) = cut u.slots (Some (closing s) ∷ explicit_from s back) X1
-    (Some (plain s2 y)) (explicit_from s2 tail) e short in
+inner : (s : DirectionalStatus) (i p y : ℕ) (one_begin one_end back : List ℕ) → is_surrounding (bidi_class y) ≡ true
+    → (u : Value s i p (one_begin ++ y ∷ one_end) back) → Inner u.slots one_begin one_end
+inner s i p y one_begin one_end back sy u =
+    let inside : DirectionalStatus = status_after (act_of_character i ((one_begin ++ y ∷ one_end) ++ p ∷ back)) s in
+    let tail : List ℕ = one_end ++ p ∷ back in
+    let here_before : DirectionalStatus = status_before inside one_begin (y ∷ tail) in
+    let prefix : List (Option KeptCharacter) = explicit_in inside one_begin (y ∷ tail) in
+    let e : u.slots ++ Some (closing s) ∷ explicit_from s back ≡ prefix ++ Some (plain here_before y) ∷ explicit_from
+    here_before tail =
+    sym (ap (drop 1) u.is) ∙ ap (explicit_from inside) (append_assoc one_begin (y ∷ one_end) (p ∷ back))
+    ∙ explicit_from-prefix inside one_begin (y ∷ tail)
+    ∙ ap (λ l. prefix ++ l) (next_level-explicit_character here_before y tail sy) in
+    let short : length prefix < length u.slots =
+    omega (arith, length-explicit_in inside one_begin (y ∷ tail), u.long, length-append one_begin (y ∷ one_end)) in
+    let c : Cut u.slots prefix (Some (plain here_before y)) = cut u.slots (Some (closing s) ∷ explicit_from s back)
+    prefix
+    (Some (plain here_before y)) (explicit_from here_before tail) e short in
     record {
-      before = X1;
-      here = plain s2 y;
+      before = prefix;
+      here = plain here_before y;
       after = c.rest;
       is = c.is;
-      long_before = length-explicit_in s1 v1 (y ∷ tail);
+      long_before = length-explicit_in inside one_begin (y ∷ tail);
       long_after = omega (
         arith,
         ap length c.is,
-        length-append X1 (Some (plain s2 y) ∷ c.rest),
-        length-explicit_in s1
-            v1 (y ∷ tail),
+        length-append prefix (Some (plain here_before y) ∷ c.rest),
+        length-explicit_in inside
+            one_begin (y ∷ tail),
         u.long,
-        length-append v1 (y ∷ v2),
+        length-append one_begin (y ∷ one_end),
       );
     }
 
 -- the explicit characters of a chosen character's part of both lines
 record ChosenCharacters (base : ℕ) (s : DirectionalStatus) (E : Chosen) (Z : List Both) : Type 0 where
-  B1 : List (Option KeptCharacter)
+  one_prefix : List (Option KeptCharacter)
   k : KeptCharacter
-  A1 : List (Option KeptCharacter)
-  B2 : List (Option KeptCharacter)
+  one_suffix : List (Option KeptCharacter)
+  other_prefix : List (Option KeptCharacter)
   l : KeptCharacter
-  A2 : List (Option KeptCharacter)
-  spot : Spot base B1 k A1 B2 l A2
-  left_is : explicit_from s (one_line (chosen_part E ∷ Z)) ≡ B1 ++ Some k ∷ (A1 ++ explicit_from s (one_line Z))
-  right_is : explicit_from s (other_line (chosen_part E ∷ Z)) ≡ B2 ++ Some l ∷ (A2 ++ explicit_from s (other_line Z))
-  long_B1 : length B1 ≡ length (one_before E)
-  long_A1 : length A1 ≡ length (one_after E)
-  long_B2 : length B2 ≡ length (other_before E)
-  long_A2 : length A2 ≡ length (other_after E)
+  other_suffix : List (Option KeptCharacter)
+  spot : Spot base one_prefix k one_suffix other_prefix l other_suffix
+  left_is : explicit_from s (one_line (chosen_part E ∷ Z)) ≡ one_prefix ++ Some k
+      ∷ (one_suffix ++ explicit_from s (one_line Z))
+  right_is : explicit_from s (other_line (chosen_part E ∷ Z)) ≡ other_prefix ++ Some l
+      ∷ (other_suffix ++ explicit_from s (other_line Z))
+  long_one_prefix : length one_prefix ≡ length (one_before E)
+  long_one_suffix : length one_suffix ≡ length (one_after E)
+  long_other_prefix : length other_prefix ≡ length (other_before E)
+  long_other_suffix : length other_suffix ≡ length (other_after E)
   held : Held Z
   limited : Limited s Z
 
-around_cut : (U1 U2 R : List (Option KeptCharacter)) (k p : KeptCharacter) → (U1 ++ Some k ∷ U2) ++ Some p ∷ R
-    ≡ U1 ++ Some k ∷ ((U2 ++ Some p ∷ []) ++ R)
-around_cut U1 U2 R k p = append_assoc U1 (Some k ∷ U2) (Some p ∷ R)
-    ∙ ap (λ l. U1 ++ Some k ∷ l) (sym (append_assoc U2 (Some p ∷ []) R))
+around_cut : (prefix suffix R : List (Option KeptCharacter)) (k p : KeptCharacter)
+    → (prefix ++ Some k ∷ suffix) ++ Some p ∷ R
+    ≡ prefix ++ Some k ∷ ((suffix ++ Some p ∷ []) ++ R)
+around_cut prefix suffix R k p = append_assoc prefix (Some k ∷ suffix) (Some p ∷ R)
+    ∙ ap (λ l. prefix ++ Some k ∷ l) (sym (append_assoc suffix (Some p ∷ []) R))
 
 chosen : (base : ℕ) (s : DirectionalStatus) (E : Chosen) (Z : List Both)
     → is_surrounding (bidi_class (one_character E)) ≡ true → is_surrounding (bidi_class (other_character E)) ≡ true
     → Held (chosen_part E ∷ Z) → Limited s (chosen_part E ∷ Z) → ChosenCharacters base s E Z
 chosen base s (Outside c) Z sl sr (held_shared h) l = record {
-  B1 = [];
+  one_prefix = [];
   k = plain s c;
-  A1 = [];
-  B2 = [];
+  one_suffix = [];
+  other_prefix = [];
   l = plain s c;
-  A2 = [];
+  other_suffix = [];
   spot = shared-Spot base (plain s c);
   left_is = next_level-explicit_character s c (one_line Z) sl;
   right_is = next_level-explicit_character s c (other_line Z) sr;
-  long_B1 = refl;
-  long_A1 = refl;
-  long_B2 = refl;
-  long_A2 = refl;
+  long_one_prefix = refl;
+  long_one_suffix = refl;
+  long_other_prefix = refl;
+  long_other_suffix = refl;
   held = h;
   limited = next_level-limited s c Z sl l;
 }
-chosen base s (Inside i j v1 y v2 w1 z w2) Z sl sr (held_value bi bj mv mw sv sw h) (limited_value room l) =
-    let one : Value s i 0x2069 (v1 ++ y ∷ v2) (one_line Z) = value s i 0x2069 (v1 ++ y ∷ v2) (one_line Z) bi
+chosen base s (Inside i j one_begin y one_end other_begin z other_end) Z sl sr (held_value bi bj mv mw sv sw h)
+    (limited_value room l) =
+    let one : Value s i 0x2069 (one_begin ++ y ∷ one_end) (one_line Z) = value s i 0x2069 (one_begin ++ y ∷ one_end)
+    (one_line Z) bi
     closing-pdi mv room in
-    let two : Value s j 0x2069 (w1 ++ z ∷ w2) (other_line Z) = value s j 0x2069 (w1 ++ z ∷ w2) (other_line Z) bj
+    let two : Value s j 0x2069 (other_begin ++ z ∷ other_end) (other_line Z) =
+    value s j 0x2069 (other_begin ++ z ∷ other_end) (other_line Z) bj
     closing-pdi mw room in
-    let a : Inner one.slots v1 v2 = inner s i 0x2069 y v1 v2 (one_line Z) sl one in
-    let b : Inner two.slots w1 w2 = inner s j 0x2069 z w1 w2 (other_line Z) sr two in
+    let a : Inner one.slots one_begin one_end = inner s i 0x2069 y one_begin one_end (one_line Z) sl one in
+    let b : Inner two.slots other_begin other_end = inner s j 0x2069 z other_begin other_end (other_line Z) sr two in
     record {
-      B1 = Some (opening s) ∷ a.before;
+      one_prefix = Some (opening s) ∷ a.before;
       k = a.here;
-      A1 = a.after ++ Some (closing s) ∷ [];
-      B2 = Some (opening s) ∷ b.before;
+      one_suffix = a.after ++ Some (closing s) ∷ [];
+      other_prefix = Some (opening s) ∷ b.before;
       l = b.here;
-      A2 = b.after ++ Some (closing s) ∷ [];
+      other_suffix = b.after ++ Some (closing s) ∷ [];
       spot = value-Spot base (opening s) (closing s) a.here b.here a.before a.after b.before b.after
           (subst (IsValue (opening s) (closing s)) a.is (is_value s one.slots one.within))
           (subst (IsValue (opening s) (closing s)) b.is (is_value s two.slots two.within));
@@ -157,18 +166,18 @@ chosen base s (Inside i j v1 y v2 w1 z w2) Z sl sr (held_value bi bj mv mw sv sw
       right_is = two.is ∙ ap (λ U. Some (opening s) ∷ (U ++ Some (closing s) ∷ explicit_from s (other_line Z))) b.is
           ∙ ap (λ r. Some (opening s) ∷ r) (around_cut b.before b.after (explicit_from s (other_line Z)) b.here
           (closing s));
-      long_B1 = ap suc a.long_before;
-      long_B2 = ap suc b.long_before;
-      long_A1 = omega (
+      long_one_prefix = ap suc a.long_before;
+      long_other_prefix = ap suc b.long_before;
+      long_one_suffix = omega (
         arith,
         length-append a.after (Some (closing s) ∷ []),
-        length-append v2 (0x2069 ∷ []),
+        length-append one_end (0x2069 ∷ []),
         a.long_after,
       );
-      long_A2 = omega (
+      long_other_suffix = omega (
         arith,
         length-append b.after (Some (closing s) ∷ []),
-        length-append w2 (0x2069 ∷ []),
+        length-append other_end (0x2069 ∷ []),
         b.long_after,
       );
       held = h;
@@ -179,16 +188,16 @@ chosen base s (Inside i j v1 y v2 w1 z w2) Z sl sr (held_value bi bj mv mw sv sw
 one_line-chosen : (E : Chosen) (Z : List Both) → one_line (chosen_part E ∷ Z) ≡ one_before E ++ one_character E
     ∷ (one_after E ++ one_line Z)
 one_line-chosen (Outside c) Z = refl
-one_line-chosen (Inside i j v1 y v2 w1 z w2) Z =
-    ap (λ l. i ∷ l) (append_assoc v1 (y ∷ v2) (0x2069 ∷ one_line Z)
-    ∙ ap (λ l. v1 ++ y ∷ l) (sym (append_assoc v2 (0x2069 ∷ []) (one_line Z))))
+one_line-chosen (Inside i j one_begin y one_end other_begin z other_end) Z =
+    ap (λ l. i ∷ l) (append_assoc one_begin (y ∷ one_end) (0x2069 ∷ one_line Z)
+    ∙ ap (λ l. one_begin ++ y ∷ l) (sym (append_assoc one_end (0x2069 ∷ []) (one_line Z))))
 
 other_line-chosen : (E : Chosen) (Z : List Both) → other_line (chosen_part E ∷ Z) ≡ other_before E ++ other_character
     E ∷ (other_after E ++ other_line Z)
 other_line-chosen (Outside c) Z = refl
-other_line-chosen (Inside i j v1 y v2 w1 z w2) Z =
-    ap (λ l. j ∷ l) (append_assoc w1 (z ∷ w2) (0x2069 ∷ other_line Z)
-    ∙ ap (λ l. w1 ++ z ∷ l) (sym (append_assoc w2 (0x2069 ∷ []) (other_line Z))))
+other_line-chosen (Inside i j one_begin y one_end other_begin z other_end) Z =
+    ap (λ l. j ∷ l) (append_assoc other_begin (z ∷ other_end) (0x2069 ∷ other_line Z)
+    ∙ ap (λ l. other_begin ++ z ∷ l) (sym (append_assoc other_end (0x2069 ∷ []) (other_line Z))))
 
 -- no separator stands in a part of a list without one
 no_separator-parts : (a b : List ResetKind) → has_separator (a ++ b) ≡ false → (has_separator a ≡ false)
@@ -223,14 +232,17 @@ unfolding bidi_class
 pdi-apart = refl
 
 -- nothing of a value is a separator
-inside-apart : (i y : ℕ) (v1 v2 : List ℕ) → is_initiator i ≡ true → has_separator (kinds (v1 ++ y ∷ v2)) ≡ false
-    → (has_separator (kinds (i ∷ v1)) ≡ false) × (has_separator (kinds (v2 ++ 0x2069 ∷ [])) ≡ false)
-inside-apart i y v1 v2 bi sv =
-    let parts = no_separator-parts (kinds v1) (kinds (y ∷ v2)) (sym (ap has_separator (kinds-append v1 (y ∷ v2)))
+inside-apart : (i y : ℕ) (one_begin one_end : List ℕ) → is_initiator i ≡ true
+    → has_separator (kinds (one_begin ++ y ∷ one_end)) ≡ false
+    → (has_separator (kinds (i ∷ one_begin)) ≡ false) × (has_separator (kinds (one_end ++ 0x2069 ∷ [])) ≡ false)
+inside-apart i y one_begin one_end bi sv =
+    let parts = no_separator-parts (kinds one_begin) (kinds (y ∷ one_end))
+    (sym (ap has_separator (kinds-append one_begin (y ∷ one_end)))
     ∙ sv) in (
-      initiator-apart (bidi_class i) (kinds v1) bi ∙ parts.0,
-      ap has_separator (kinds-append v2 (0x2069 ∷ [])) ∙ has_separator-end (kinds v2) (kinds (0x2069 ∷ [])) pdi-apart
-          ∙ no_separator-last y v2 parts.1,
+      initiator-apart (bidi_class i) (kinds one_begin) bi ∙ parts.0,
+      ap has_separator (kinds-append one_end (0x2069 ∷ [])) ∙ has_separator-end (kinds one_end) (kinds (0x2069 ∷ []))
+          pdi-apart
+          ∙ no_separator-last y one_end parts.1,
     )
 
 record Apart (E : Chosen) : Type 0 where
@@ -241,9 +253,9 @@ record Apart (E : Chosen) : Type 0 where
 
 apart : (E : Chosen) (Z : List Both) → Held (chosen_part E ∷ Z) → Apart E
 apart (Outside c) Z h = record { lb = refl; la = refl; rb = refl; ra = refl }
-apart (Inside i j v1 y v2 w1 z w2) Z (held_value bi bj mv mw sv sw h) =
-    let l = inside-apart i y v1 v2 bi sv in
-    let r = inside-apart j z w1 w2 bj sw in
+apart (Inside i j one_begin y one_end other_begin z other_end) Z (held_value bi bj mv mw sv sw h) =
+    let l = inside-apart i y one_begin one_end bi sv in
+    let r = inside-apart j z other_begin other_end bj sw in
     record { lb = l.0; la = l.1; rb = r.0; ra = r.1 }
 
 between_apart : (a m b : List ℕ) → has_separator (kinds a) ≡ false → has_separator (kinds b) ≡ false
@@ -253,47 +265,57 @@ between_apart a m b ha hb =
     ∙ ap has_separator (kinds-append m b) ∙ has_separator-end (kinds m) (kinds b) hb
 
 -- the least level between two chosen characters, by the parts of the line
-module _ (base : ℕ) (A1 M C1 : List (Option KeptCharacter)) (k h : KeptCharacter) (R : List (Option KeptCharacter))
+module _ (base : ℕ) (suffix M next_prefix : List (Option KeptCharacter)) (k h : KeptCharacter)
+    (R : List (Option KeptCharacter))
   where
     abbrev between_from : List (Option KeptCharacter) → ℕ
-    between_from q = min (least_level (resolved_level base q k ((A1 ++ (M ++ C1)) ++ Some h ∷ R))
-        (levels_in base (Some k ∷ q) (A1 ++ (M ++ C1)) (Some h ∷ R)))
-        (resolved_level base (past (Some k ∷ q) (A1 ++ (M ++ C1))) h R)
+    between_from q = min (least_level (resolved_level base q k ((suffix ++ (M ++ next_prefix)) ++ Some h ∷ R))
+        (levels_in base (Some k ∷ q) (suffix ++ (M ++ next_prefix)) (Some h ∷ R)))
+        (resolved_level base (past (Some k ∷ q) (suffix ++ (M ++ next_prefix))) h R)
 
     abbrev rest_of : List (Option KeptCharacter)
-    rest_of = M ++ (C1 ++ Some h ∷ R)
+    rest_of = M ++ (next_prefix ++ Some h ∷ R)
 
     abbrev first_of : List (Option KeptCharacter) → ℕ
-    first_of q = least_level (resolved_level base q k (A1 ++ rest_of)) (levels_in base (Some k ∷ q) A1 rest_of)
+    first_of q = least_level (resolved_level base q k (suffix ++ rest_of)) (levels_in base (Some k ∷ q) suffix rest_of)
 
     abbrev back_of : List (Option KeptCharacter) → List (Option KeptCharacter)
-    back_of q = past (past (Some k ∷ q) A1) M
+    back_of q = past (past (Some k ∷ q) suffix) M
 
     normal : (q : List (Option KeptCharacter)) → between_from q
-        ≡ min (least_level (least_level (first_of q) (levels_in base (past (Some k ∷ q) A1) M (C1 ++ Some h ∷ R)))
-        (levels_in base (back_of q) C1 (Some h ∷ R))) (resolved_level base (past (back_of q) C1) h R)
+        ≡ min (least_level (least_level (first_of q)
+        (levels_in base (past (Some k ∷ q) suffix) M (next_prefix ++ Some h ∷ R)))
+        (levels_in base (back_of q) next_prefix (Some h ∷ R))) (resolved_level base (past (back_of q) next_prefix) h R)
     normal q =
-        let e1 : (A1 ++ (M ++ C1)) ++ Some h ∷ R ≡ A1 ++ rest_of = append_assoc A1 (M ++ C1) (Some h ∷ R)
-        ∙ ap (λ l. A1 ++ l) (append_assoc M C1 (Some h ∷ R)) in
-        let n : ℕ = resolved_level base q k (A1 ++ rest_of) in
-        let L1 : List (Option ℕ) = levels_in base (Some k ∷ q) A1 rest_of in
-        let L2 : List (Option ℕ) = levels_in base (past (Some k ∷ q) A1) M (C1 ++ Some h ∷ R) in
-        let L3 : List (Option ℕ) = levels_in base (back_of q) C1 (Some h ∷ R) in
-        let list : levels_in base (Some k ∷ q) (A1 ++ (M ++ C1)) (Some h ∷ R) ≡ L1 ++ (L2 ++ L3) =
-        levels_in-append base (Some k ∷ q) A1 (M ++ C1) (Some h ∷ R)
-        ∙ ap (λ r. levels_in base (Some k ∷ q) A1 r ++ levels_in base (past (Some k ∷ q) A1) (M ++ C1) (Some h ∷ R))
-        (append_assoc M C1 (Some h ∷ R))
-        ∙ ap (λ l. L1 ++ l) (levels_in-append base (past (Some k ∷ q) A1) M C1 (Some h ∷ R)) in
-        let least : least_level n (L1 ++ (L2 ++ L3)) ≡ least_level (least_level (least_level n L1) L2) L3 =
-        least_level-append n L1 (L2 ++ L3) ∙ least_level-append (least_level n L1) L2 L3 in
-        let back : past (Some k ∷ q) (A1 ++ (M ++ C1)) ≡ past (back_of q) C1 = past-append (Some k ∷ q) A1 (M ++ C1)
-        ∙ past-append (past (Some k ∷ q) A1) M C1 in
+        let regrouped : (suffix ++ (M ++ next_prefix)) ++ Some h ∷ R ≡ suffix ++ rest_of =
+        append_assoc suffix (M ++ next_prefix) (Some h ∷ R)
+        ∙ ap (λ l. suffix ++ l) (append_assoc M next_prefix (Some h ∷ R)) in
+        let n : ℕ = resolved_level base q k (suffix ++ rest_of) in
+        let first_levels : List (Option ℕ) = levels_in base (Some k ∷ q) suffix rest_of in
+        let middle_levels : List (Option ℕ) = levels_in base (past (Some k ∷ q) suffix) M (next_prefix ++ Some h ∷ R) in
+        let last_levels : List (Option ℕ) = levels_in base (back_of q) next_prefix (Some h ∷ R) in
+        let list : levels_in base (Some k ∷ q) (suffix ++ (M ++ next_prefix)) (Some h ∷ R) ≡ first_levels
+        ++ (middle_levels ++ last_levels) =
+        levels_in-append base (Some k ∷ q) suffix (M ++ next_prefix) (Some h ∷ R)
+        ∙ ap (λ r. levels_in base (Some k ∷ q) suffix r ++ levels_in base (past (Some k ∷ q) suffix)
+        (M ++ next_prefix) (Some h ∷ R))
+        (append_assoc M next_prefix (Some h ∷ R))
+        ∙ ap (λ l. first_levels ++ l) (levels_in-append base (past (Some k ∷ q) suffix) M next_prefix (Some h ∷ R)) in
+        let least : least_level n (first_levels ++ (middle_levels ++ last_levels))
+        ≡ least_level (least_level (least_level n first_levels) middle_levels) last_levels =
+        least_level-append n first_levels (middle_levels ++ last_levels)
+        ∙ least_level-append (least_level n first_levels) middle_levels last_levels in
+        let back : past (Some k ∷ q) (suffix ++ (M ++ next_prefix)) ≡ past (back_of q) next_prefix =
+        past-append (Some k ∷ q) suffix (M ++ next_prefix)
+        ∙ past-append (past (Some k ∷ q) suffix) M next_prefix in
         ap (λ r. min (least_level (resolved_level base q k r)
-        (levels_in base (Some k ∷ q) (A1 ++ (M ++ C1)) (Some h ∷ R)))
-        (resolved_level base (past (Some k ∷ q) (A1 ++ (M ++ C1))) h R)) e1
-        ∙ ap (λ l. min (least_level n l) (resolved_level base (past (Some k ∷ q) (A1 ++ (M ++ C1))) h R)) list
-        ∙ ap (λ m. min m (resolved_level base (past (Some k ∷ q) (A1 ++ (M ++ C1))) h R)) least
-        ∙ ap (λ b. min (least_level (least_level (least_level n L1) L2) L3) (resolved_level base b h R)) back
+        (levels_in base (Some k ∷ q) (suffix ++ (M ++ next_prefix)) (Some h ∷ R)))
+        (resolved_level base (past (Some k ∷ q) (suffix ++ (M ++ next_prefix))) h R)) regrouped
+        ∙ ap (λ l. min (least_level n l) (resolved_level base (past (Some k ∷ q) (suffix ++ (M ++ next_prefix))) h R))
+        list
+        ∙ ap (λ m. min m (resolved_level base (past (Some k ∷ q) (suffix ++ (M ++ next_prefix))) h R)) least
+        ∙ ap (λ b. min (least_level (least_level (least_level n first_levels) middle_levels) last_levels)
+        (resolved_level base b h R)) back
 
 past-chosen : (q B A : List (Option KeptCharacter)) (k : KeptCharacter)
     → past q (B ++ Some k ∷ A) ≡ past (Some k ∷ past q B) A
@@ -301,51 +323,84 @@ unfolding past
 past-chosen q B A k = past-append q B (Some k ∷ A)
 
 -- the same on both lines
-same_between : (base : ℕ) (B1 A1 B2 A2 M N C1 D1 C2 D2 : List (Option KeptCharacter)) (k l h g : KeptCharacter)
+same_between : (base : ℕ) (one_prefix one_suffix other_prefix other_suffix M N one_next_prefix one_next_suffix
+    other_next_prefix other_next_suffix : List (Option KeptCharacter)) (k l h g : KeptCharacter)
     (q q' T T' : List (Option KeptCharacter))
-    → Spot base B1 k A1 B2 l A2 → Similar M N → Spot base C1 h D1 C2 g D2 → Same Backward base q q'
+    → Spot base one_prefix k one_suffix other_prefix l other_suffix → Similar M N
+    → Spot base one_next_prefix h one_next_suffix other_next_prefix g other_next_suffix → Same Backward base q q'
     → Same Forward base T T'
-    → between_from base A1 M C1 k h (D1 ++ T) (past q B1) ≡ between_from base A2 N C2 l g (D2 ++ T') (past q' B2)
-same_between base B1 A1 B2 A2 M N C1 D1 C2 D2 k l h g q q' T T' e m f behind ahead =
-    let end_first : (X : List (Option KeptCharacter)) → (C1 ++ Some h ∷ D1) ++ X ≡ C1 ++ Some h ∷ (D1 ++ X) =
-    λ X. append_assoc C1 (Some h ∷ D1) X in
-    let same_end : Same Forward base (C1 ++ Some h ∷ (D1 ++ T)) (C2 ++ Some g ∷ (D2 ++ T')) =
-    subst (λ a. Same Forward base a (C2 ++ Some g ∷ (D2 ++ T'))) (append_assoc C1 (Some h ∷ D1) T)
-    (subst (λ b. Same Forward base ((C1 ++ Some h ∷ D1) ++ T) b) (append_assoc C2 (Some g ∷ D2) T')
-    (Same-Similar base (C1 ++ Some h ∷ D1) (C2 ++ Some g ∷ D2) T T' f.similar ahead)) in
-    let same_rest : Same Forward base (M ++ (C1 ++ Some h ∷ (D1 ++ T))) (N ++ (C2 ++ Some g ∷ (D2 ++ T'))) =
-    Same-Similar base M N (C1 ++ Some h ∷ (D1 ++ T)) (C2 ++ Some g ∷ (D2 ++ T')) m same_end in
-    let first_same : first_of base A1 M C1 k h (D1 ++ T) (past q B1) ≡ first_of base A2 N C2 l g (D2 ++ T')
-    (past q' B2) =
-    e.starts q q' (M ++ (C1 ++ Some h ∷ (D1 ++ T))) (N ++ (C2 ++ Some g ∷ (D2 ++ T'))) behind same_rest in
-    let back_e : Same Backward base (past (Some k ∷ past q B1) A1) (past (Some l ∷ past q' B2) A2) =
-    subst (λ a. Same Backward base a (past (Some l ∷ past q' B2) A2)) (past-chosen q B1 A1 k)
-    (subst (λ b. Same Backward base (past q (B1 ++ Some k ∷ A1)) b) (past-chosen q' B2 A2 l)
-    (Same-past base (B1 ++ Some k ∷ A1) (B2 ++ Some l ∷ A2) q q' e.similar behind)) in
-    let back_m : Same Backward base (past (past (Some k ∷ past q B1) A1) M) (past (past (Some l ∷ past q' B2) A2) N) =
-    Same-past base M N (past (Some k ∷ past q B1) A1) (past (Some l ∷ past q' B2) A2) m back_e in
-    let n1 : ℕ = least_level (first_of base A1 M C1 k h (D1 ++ T) (past q B1))
-    (levels_in base (past (Some k ∷ past q B1) A1) M (C1 ++ Some h ∷ (D1 ++ T))) in
-    let n2 : ℕ = least_level (first_of base A2 N C2 l g (D2 ++ T') (past q' B2))
-    (levels_in base (past (Some l ∷ past q' B2) A2) N (C2 ++ Some g ∷ (D2 ++ T'))) in
-    let n : n1 ≡ n2 =
-    ap (λ s. least_level s (levels_in base (past (Some k ∷ past q B1) A1) M (C1 ++ Some h ∷ (D1 ++ T)))) first_same
-    ∙ least-Similar base (first_of base A2 N C2 l g (D2 ++ T') (past q' B2)) M N (past (Some k ∷ past q B1) A1)
-    (past (Some l ∷ past q' B2) A2) (C1 ++ Some h ∷ (D1 ++ T)) (C2 ++ Some g ∷ (D2 ++ T')) m back_e same_end in
-    normal base A1 M C1 k h (D1 ++ T) (past q B1)
-    ∙ ap (λ n. min (least_level n (levels_in base (past (past (Some k ∷ past q B1) A1) M) C1 (Some h ∷ (D1 ++ T))))
-    (resolved_level base (past (past (past (Some k ∷ past q B1) A1) M) C1) h (D1 ++ T))) n
-    ∙ f.finishes n2 (past (past (Some k ∷ past q B1) A1) M) (past (past (Some l ∷ past q' B2) A2) N) T T' back_m ahead
-    ∙ sym (normal base A2 N C2 l g (D2 ++ T') (past q' B2))
+    → between_from base one_suffix M one_next_prefix k h (one_next_suffix ++ T) (past q one_prefix)
+    ≡ between_from base other_suffix N other_next_prefix l g (other_next_suffix ++ T') (past q' other_prefix)
+same_between base one_prefix one_suffix other_prefix other_suffix M N one_next_prefix one_next_suffix
+    other_next_prefix other_next_suffix k l h g q q' T T' e m f behind ahead =
+    let end_first : (X : List (Option KeptCharacter)) → (one_next_prefix ++ Some h ∷ one_next_suffix) ++ X
+    ≡ one_next_prefix ++ Some h ∷ (one_next_suffix ++ X) =
+    λ X. append_assoc one_next_prefix (Some h ∷ one_next_suffix) X in
+    let same_end : Same Forward base (one_next_prefix ++ Some h ∷ (one_next_suffix ++ T))
+    (other_next_prefix ++ Some g ∷ (other_next_suffix ++ T')) =
+    subst (λ a. Same Forward base a (other_next_prefix ++ Some g ∷ (other_next_suffix ++ T')))
+    (append_assoc one_next_prefix (Some h ∷ one_next_suffix) T)
+    (subst (λ b. Same Forward base ((one_next_prefix ++ Some h ∷ one_next_suffix) ++ T) b)
+    (append_assoc other_next_prefix (Some g ∷ other_next_suffix) T')
+    (Same-Similar base (one_next_prefix ++ Some h ∷ one_next_suffix) (other_next_prefix ++ Some g ∷ other_next_suffix)
+    T T' f.similar ahead)) in
+    let same_rest : Same Forward base (M ++ (one_next_prefix ++ Some h ∷ (one_next_suffix ++ T)))
+    (N ++ (other_next_prefix ++ Some g ∷ (other_next_suffix ++ T'))) =
+    Same-Similar base M N (one_next_prefix ++ Some h ∷ (one_next_suffix ++ T))
+    (other_next_prefix ++ Some g ∷ (other_next_suffix ++ T')) m same_end in
+    let first_same : first_of base one_suffix M one_next_prefix k h (one_next_suffix ++ T) (past q one_prefix)
+    ≡ first_of base other_suffix N other_next_prefix l g (other_next_suffix ++ T')
+    (past q' other_prefix) =
+    e.starts q q' (M ++ (one_next_prefix ++ Some h ∷ (one_next_suffix ++ T)))
+    (N ++ (other_next_prefix ++ Some g ∷ (other_next_suffix ++ T'))) behind same_rest in
+    let back_e : Same Backward base (past (Some k ∷ past q one_prefix) one_suffix)
+    (past (Some l ∷ past q' other_prefix) other_suffix) =
+    subst (λ a. Same Backward base a (past (Some l ∷ past q' other_prefix) other_suffix))
+    (past-chosen q one_prefix one_suffix k)
+    (subst (λ b. Same Backward base (past q (one_prefix ++ Some k ∷ one_suffix)) b)
+    (past-chosen q' other_prefix other_suffix l)
+    (Same-past base (one_prefix ++ Some k ∷ one_suffix) (other_prefix ++ Some l ∷ other_suffix) q q' e.similar
+    behind)) in
+    let back_m : Same Backward base (past (past (Some k ∷ past q one_prefix) one_suffix) M)
+    (past (past (Some l ∷ past q' other_prefix) other_suffix) N) =
+    Same-past base M N (past (Some k ∷ past q one_prefix) one_suffix)
+    (past (Some l ∷ past q' other_prefix) other_suffix) m back_e in
+    let one_least : ℕ = least_level (first_of base one_suffix M one_next_prefix k h (one_next_suffix ++ T)
+    (past q one_prefix))
+    (levels_in base (past (Some k ∷ past q one_prefix) one_suffix) M
+    (one_next_prefix ++ Some h ∷ (one_next_suffix ++ T))) in
+    let other_least : ℕ =
+    least_level (first_of base other_suffix N other_next_prefix l g (other_next_suffix ++ T')
+    (past q' other_prefix))
+    (levels_in base (past (Some l ∷ past q' other_prefix) other_suffix) N
+    (other_next_prefix ++ Some g ∷ (other_next_suffix ++ T'))) in
+    let n : one_least ≡ other_least =
+    ap (λ s. least_level s (levels_in base (past (Some k ∷ past q one_prefix) one_suffix) M
+    (one_next_prefix ++ Some h ∷ (one_next_suffix ++ T)))) first_same
+    ∙ least-Similar base (first_of base other_suffix N other_next_prefix l g (other_next_suffix ++ T')
+    (past q' other_prefix)) M N (past (Some k ∷ past q one_prefix) one_suffix)
+    (past (Some l ∷ past q' other_prefix) other_suffix) (one_next_prefix ++ Some h ∷ (one_next_suffix ++ T))
+    (other_next_prefix ++ Some g ∷ (other_next_suffix ++ T')) m back_e same_end in
+    normal base one_suffix M one_next_prefix k h (one_next_suffix ++ T) (past q one_prefix)
+    ∙ ap (λ n. min (least_level n (levels_in base (past (past (Some k ∷ past q one_prefix) one_suffix) M)
+    one_next_prefix (Some h ∷ (one_next_suffix ++ T))))
+    (resolved_level base (past (past (past (Some k ∷ past q one_prefix) one_suffix) M) one_next_prefix) h
+    (one_next_suffix ++ T))) n
+    ∙ f.finishes other_least (past (past (Some k ∷ past q one_prefix) one_suffix) M)
+    (past (past (Some l ∷ past q' other_prefix) other_suffix) N) T T' back_m ahead
+    ∙ sym (normal base other_suffix N other_next_prefix l g (other_next_suffix ++ T') (past q' other_prefix))
 
 -- one side of a line around two chosen characters, in parts
-parted : (A1 M C1 D1 T : List (Option KeptCharacter)) (SA B1 : List (Option KeptCharacter)) (k h : KeptCharacter)
-    → SA ++ (B1 ++ Some k ∷ (A1 ++ (M ++ (C1 ++ Some h ∷ (D1 ++ T))))) ≡ (SA ++ B1) ++ Some k
-    ∷ ((A1 ++ (M ++ C1)) ++ Some h ∷ (D1 ++ T))
-parted A1 M C1 D1 T SA B1 k h =
-    sym (append_assoc SA B1 (Some k ∷ (A1 ++ (M ++ (C1 ++ Some h ∷ (D1 ++ T))))))
-    ∙ ap (λ l. (SA ++ B1) ++ Some k ∷ l) (ap (λ l. A1 ++ l) (sym (append_assoc M C1 (Some h ∷ (D1 ++ T))))
-    ∙ sym (append_assoc A1 (M ++ C1) (Some h ∷ (D1 ++ T))))
+parted : (suffix M next_prefix next_suffix T : List (Option KeptCharacter)) (SA prefix : List (Option KeptCharacter))
+    (k h : KeptCharacter)
+    → SA ++ (prefix ++ Some k ∷ (suffix ++ (M ++ (next_prefix ++ Some h ∷ (next_suffix ++ T))))) ≡ (SA ++ prefix)
+    ++ Some k
+    ∷ ((suffix ++ (M ++ next_prefix)) ++ Some h ∷ (next_suffix ++ T))
+parted suffix M next_prefix next_suffix T SA prefix k h =
+    sym (append_assoc SA prefix (Some k ∷ (suffix ++ (M ++ (next_prefix ++ Some h ∷ (next_suffix ++ T))))))
+    ∙ ap (λ l. (SA ++ prefix) ++ Some k ∷ l)
+    (ap (λ l. suffix ++ l) (sym (append_assoc M next_prefix (Some h ∷ (next_suffix ++ T))))
+    ∙ sym (append_assoc suffix (M ++ next_prefix) (Some h ∷ (next_suffix ++ T))))
 
 parted_line : (a b : List ℕ) (x : ℕ) (c m d : List ℕ) (y : ℕ) (e z : List ℕ)
     → a ++ (b ++ x ∷ (c ++ (m ++ (d ++ y ∷ (e ++ z))))) ≡ (a ++ b) ++ x ∷ ((c ++ (m ++ d)) ++ y ∷ (e ++ z))
@@ -422,22 +477,30 @@ chosen_order base A E M F Z sle sre slf srf held limited =
     let back_a : Same Backward base (past [] pa.first) (past [] pa.second) =
     Same-past base pa.first pa.second [] [] pa.similar (λ level w. refl) in
     let left_is : explicit_characters base (one_line (A ++ chosen_part E ∷ (M ++ chosen_part F ∷ Z)))
-    ≡ (pa.first ++ ce.B1) ++ Some ce.k ∷ ((ce.A1 ++ (pm.first ++ cf.B1)) ++ Some cf.k ∷ (cf.A1 ++ T)) =
+    ≡ (pa.first ++ ce.one_prefix) ++ Some ce.k ∷ ((ce.one_suffix ++ (pm.first ++ cf.one_prefix)) ++ Some cf.k
+    ∷ (cf.one_suffix ++ T)) =
     pa.first_is ∙ ap (λ l. pa.first ++ l)
-    (ce.left_is ∙ ap (λ l. ce.B1 ++ Some ce.k ∷ (ce.A1 ++ l)) (pm.first_is ∙ ap (λ l. pm.first ++ l) cf.left_is))
-    ∙ parted ce.A1 pm.first cf.B1 cf.A1 T pa.first ce.B1 ce.k cf.k in
+    (ce.left_is ∙ ap (λ l. ce.one_prefix ++ Some ce.k ∷ (ce.one_suffix ++ l))
+    (pm.first_is ∙ ap (λ l. pm.first ++ l) cf.left_is))
+    ∙ parted ce.one_suffix pm.first cf.one_prefix cf.one_suffix T pa.first ce.one_prefix ce.k cf.k in
     let right_is : explicit_characters base (other_line (A ++ chosen_part E ∷ (M ++ chosen_part F ∷ Z)))
-    ≡ (pa.second ++ ce.B2) ++ Some ce.l ∷ ((ce.A2 ++ (pm.second ++ cf.B2)) ++ Some cf.l ∷ (cf.A2 ++ T')) =
+    ≡ (pa.second ++ ce.other_prefix) ++ Some ce.l ∷ ((ce.other_suffix ++ (pm.second ++ cf.other_prefix)) ++ Some cf.l
+    ∷ (cf.other_suffix ++ T')) =
     pa.second_is ∙ ap (λ l. pa.second ++ l)
-    (ce.right_is ∙ ap (λ l. ce.B2 ++ Some ce.l ∷ (ce.A2 ++ l))
+    (ce.right_is ∙ ap (λ l. ce.other_prefix ++ Some ce.l ∷ (ce.other_suffix ++ l))
     (pm.second_is ∙ ap (λ l. pm.second ++ l) cf.right_is))
-    ∙ parted ce.A2 pm.second cf.B2 cf.A2 T' pa.second ce.B2 ce.l cf.l in
-    let between : between_from base ce.A1 pm.first cf.B1 ce.k cf.k (cf.A1 ++ T) (past [] (pa.first ++ ce.B1))
-    ≡ between_from base ce.A2 pm.second cf.B2 ce.l cf.l (cf.A2 ++ T') (past [] (pa.second ++ ce.B2)) =
-    ap (between_from base ce.A1 pm.first cf.B1 ce.k cf.k (cf.A1 ++ T)) (past-append [] pa.first ce.B1)
-    ∙ same_between base ce.B1 ce.A1 ce.B2 ce.A2 pm.first pm.second cf.B1 cf.A1 cf.B2 cf.A2 ce.k ce.l cf.k cf.l
+    ∙ parted ce.other_suffix pm.second cf.other_prefix cf.other_suffix T' pa.second ce.other_prefix ce.l cf.l in
+    let between : between_from base ce.one_suffix pm.first cf.one_prefix ce.k cf.k (cf.one_suffix ++ T)
+    (past [] (pa.first ++ ce.one_prefix))
+    ≡ between_from base ce.other_suffix pm.second cf.other_prefix ce.l cf.l (cf.other_suffix ++ T')
+    (past [] (pa.second ++ ce.other_prefix)) =
+    ap (between_from base ce.one_suffix pm.first cf.one_prefix ce.k cf.k (cf.one_suffix ++ T))
+    (past-append [] pa.first ce.one_prefix)
+    ∙ same_between base ce.one_prefix ce.one_suffix ce.other_prefix ce.other_suffix pm.first pm.second cf.one_prefix
+    cf.one_suffix cf.other_prefix cf.other_suffix ce.k ce.l cf.k cf.l
     (past [] pa.first) (past [] pa.second) T T' ce.spot pm.similar cf.spot back_a same_t
-    ∙ sym (ap (between_from base ce.A2 pm.second cf.B2 ce.l cf.l (cf.A2 ++ T')) (past-append [] pa.second ce.B2)) in
+    ∙ sym (ap (between_from base ce.other_suffix pm.second cf.other_prefix ce.l cf.l (cf.other_suffix ++ T'))
+    (past-append [] pa.second ce.other_prefix)) in
     let ae : Apart E = apart E (M ++ chosen_part F ∷ Z) pa.held in
     let af : Apart F = apart F Z pm.held in
     let separated : has_separator (kinds (one_after E ++ (one_line M ++ one_before F)))
@@ -445,50 +508,54 @@ chosen_order base A E M F Z sle sre slf srf held limited =
     between_apart (one_after E) (one_line M) (one_before F) ae.la af.lb
     ∙ same_separators M (Held-one_line M (chosen_part F ∷ Z) ce.held)
     ∙ sym (between_apart (other_after E) (other_line M) (other_before F) ae.ra af.rb) in
-    let long1 : length (pa.first ++ ce.B1) ≡ length (one_line A ++ one_before E) =
+    let one_long : length (pa.first ++ ce.one_prefix) ≡ length (one_line A ++ one_before E) =
     omega (
       arith,
-      length-append pa.first ce.B1,
+      length-append pa.first ce.one_prefix,
       length-append (one_line A) (one_before E),
       pa.long_first,
-      ce.long_B1,
+      ce.long_one_prefix,
     ) in
-    let long2 : length (pa.second ++ ce.B2) ≡ length (other_line A ++ other_before E) =
+    let other_long : length (pa.second ++ ce.other_prefix) ≡ length (other_line A ++ other_before E) =
     omega (
       arith,
-      length-append pa.second ce.B2,
+      length-append pa.second ce.other_prefix,
       length-append (other_line A) (other_before E),
       pa.long_second,
-      ce.long_B2,
+      ce.long_other_prefix,
     ) in
-    let mid1 : length (ce.A1 ++ (pm.first ++ cf.B1)) ≡ length (one_after E ++ (one_line M ++ one_before F)) =
+    let one_middle : length (ce.one_suffix ++ (pm.first ++ cf.one_prefix))
+    ≡ length (one_after E ++ (one_line M ++ one_before F)) =
     omega (
       arith,
-      length-append ce.A1 (pm.first ++ cf.B1),
-      length-append pm.first cf.B1,
+      length-append ce.one_suffix (pm.first ++ cf.one_prefix),
+      length-append pm.first cf.one_prefix,
       length-append (one_after E)
           (one_line M ++ one_before F),
       length-append (one_line M) (one_before F),
-      ce.long_A1,
+      ce.long_one_suffix,
       pm.long_first,
-      cf.long_B1,
+      cf.long_one_prefix,
     ) in
-    let mid2 : length (ce.A2 ++ (pm.second ++ cf.B2)) ≡ length (other_after E ++ (other_line M ++ other_before F)) =
+    let other_middle : length (ce.other_suffix ++ (pm.second ++ cf.other_prefix))
+    ≡ length (other_after E ++ (other_line M ++ other_before F)) =
     omega (
       arith,
-      length-append ce.A2 (pm.second ++ cf.B2),
-      length-append pm.second cf.B2,
+      length-append ce.other_suffix (pm.second ++ cf.other_prefix),
+      length-append pm.second cf.other_prefix,
       length-append
           (other_after E) (other_line M ++ other_before F),
       length-append (other_line M) (other_before F),
-      ce.long_A2,
+      ce.long_other_suffix,
       pm.long_second,
-      cf.long_B2,
+      cf.long_other_prefix,
     ) in
     separator_class (has_separator (kinds (one_after E ++ (one_line M ++ one_before F))))
     (has_separator (kinds (other_after E ++ (other_line M ++ other_before F)))) separated
-    (between_from base ce.A1 pm.first cf.B1 ce.k cf.k (cf.A1 ++ T) (past [] (pa.first ++ ce.B1)))
-    (between_from base ce.A2 pm.second cf.B2 ce.l cf.l (cf.A2 ++ T') (past [] (pa.second ++ ce.B2))) between
+    (between_from base ce.one_suffix pm.first cf.one_prefix ce.k cf.k (cf.one_suffix ++ T)
+    (past [] (pa.first ++ ce.one_prefix)))
+    (between_from base ce.other_suffix pm.second cf.other_prefix ce.l cf.l (cf.other_suffix ++ T')
+    (past [] (pa.second ++ ce.other_prefix))) between
     (is_left_of (line_levels base (one_line (A ++ chosen_part E ∷ (M ++ chosen_part F ∷ Z)))) (one_index A E)
     (one_index A E + 1 + one_apart E M F))
     (is_left_of (line_levels base (other_line (A ++ chosen_part E ∷ (M ++ chosen_part F ∷ Z)))) (other_index A E)
@@ -496,16 +563,16 @@ chosen_order base A E M F Z sle sre slf srf held limited =
     (ap (λ l. is_left_of (line_levels base l) (one_index A E) (one_index A E + 1 + one_apart E M F))
     (one_line-line A E M F Z)
     ∙ order_in_line base (one_line A ++ one_before E) (one_after E ++ (one_line M ++ one_before F))
-    (one_after F ++ one_line Z) (one_character E) (one_character F) (pa.first ++ ce.B1)
-    (ce.A1 ++ (pm.first ++ cf.B1)) (cf.A1 ++ T) ce.k cf.k
-    (ap (explicit_characters base) (sym (one_line-line A E M F Z)) ∙ left_is) long1 mid1
+    (one_after F ++ one_line Z) (one_character E) (one_character F) (pa.first ++ ce.one_prefix)
+    (ce.one_suffix ++ (pm.first ++ cf.one_prefix)) (cf.one_suffix ++ T) ce.k cf.k
+    (ap (explicit_characters base) (sym (one_line-line A E M F Z)) ∙ left_is) one_long one_middle
     (surrounding-text (bidi_class (one_character E)) sle) (surrounding-text (bidi_class (one_character F)) slf))
     (ap (λ l. is_left_of (line_levels base l) (other_index A E) (other_index A E + 1 + other_apart E M F))
     (other_line-line A E M F Z)
     ∙ order_in_line base (other_line A ++ other_before E) (other_after E ++ (other_line M ++ other_before F))
-    (other_after F ++ other_line Z) (other_character E) (other_character F) (pa.second ++ ce.B2)
-    (ce.A2 ++ (pm.second ++ cf.B2)) (cf.A2 ++ T') ce.l cf.l
-    (ap (explicit_characters base) (sym (other_line-line A E M F Z)) ∙ right_is) long2 mid2
+    (other_after F ++ other_line Z) (other_character E) (other_character F) (pa.second ++ ce.other_prefix)
+    (ce.other_suffix ++ (pm.second ++ cf.other_prefix)) (cf.other_suffix ++ T') ce.l cf.l
+    (ap (explicit_characters base) (sym (other_line-line A E M F Z)) ∙ right_is) other_long other_middle
     (surrounding-text (bidi_class (other_character E)) sre) (surrounding-text (bidi_class (other_character F)) srf))
   where
     separator_class : (e f : Bool) → e ≡ f → (m n : ℕ) → m ≡ n → (x y : Bool)

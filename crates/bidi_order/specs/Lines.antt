@@ -5,8 +5,8 @@
 -- A tag that isn't inline ends a line, and so does a static character of class B other than LF and CR; neither stands
 -- in a line. White space of HTML stands as U+0020. An inline element with a direction stands as LRI or RLI and its
 -- close as PDI; a `bdo` that overrides has LRO or RLO and PDF inside these. A line begins with what stands for each
--- inline element that is open, outermost first, and its base is the direction of the innermost open block that has one, else
--- the context's. What stands for a value's span has the value's label.
+-- inline element that is open, outermost first, and its base is the direction of the innermost open block that has one,
+-- else the context's. What stands for a value's span has the value's label.
 --
 -- `<p dir="rtl">a <b dir="ltr">c<br>d` has three lines: an empty one; with base 1 `a`, space, LRI, `c`; and with base 1
 -- LRI, `d`.
@@ -21,7 +21,7 @@ use Rattle.soy_base.specs.Characters.{carriage_return, line_feed, space}
 use Rattle.bidi_class.specs.declared.class.Class.{Class}
 use Rattle.bidi_class.specs.declared.class.Class.TheVariants.{B}
 use Rattle.bidi_class.specs.Class.{bidi_class}
-use Rattle.html_state.specs.Pieces.{Piece}
+use Rattle.html_state.specs.AfterPieces.{Piece}
 use Rattle.bidi_order.specs.Elements.{OpenElement, elements_closed, elements_left, is_inline, is_void}
 use Rattle.bidi_order.specs.Elements.{opened_element}
 use Rattle.bidi_order.specs.MarkupTokens.{MarkupToken, tokens_of}

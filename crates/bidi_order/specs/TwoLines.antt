@@ -62,33 +62,34 @@ pub data Chosen : Type 0 where
 -- the part of the lines that it stands in
 abbrev pub chosen_part : Chosen → Both
 chosen_part (Outside c) = Shared c
-chosen_part (Inside i j v1 y v2 w1 z w2) = Values i j (v1 ++ y ∷ v2) (w1 ++ z ∷ w2)
+chosen_part (Inside i j one_begin y one_end other_begin z other_end) =
+    Values i j (one_begin ++ y ∷ one_end) (other_begin ++ z ∷ other_end)
 
 -- on the one line: what stands in this part before the character, the character, and what stands after it
 abbrev pub one_before : Chosen → List ℕ
 one_before (Outside c) = []
-one_before (Inside i j v1 y v2 w1 z w2) = i ∷ v1
+one_before (Inside i j one_begin y one_end other_begin z other_end) = i ∷ one_begin
 
 abbrev pub one_character : Chosen → ℕ
 one_character (Outside c) = c
-one_character (Inside i j v1 y v2 w1 z w2) = y
+one_character (Inside i j one_begin y one_end other_begin z other_end) = y
 
 abbrev pub one_after : Chosen → List ℕ
 one_after (Outside c) = []
-one_after (Inside i j v1 y v2 w1 z w2) = v2 ++ 0x2069 ∷ []
+one_after (Inside i j one_begin y one_end other_begin z other_end) = one_end ++ 0x2069 ∷ []
 
 -- the same on the other line
 abbrev pub other_before : Chosen → List ℕ
 other_before (Outside c) = []
-other_before (Inside i j v1 y v2 w1 z w2) = j ∷ w1
+other_before (Inside i j one_begin y one_end other_begin z other_end) = j ∷ other_begin
 
 abbrev pub other_character : Chosen → ℕ
 other_character (Outside c) = c
-other_character (Inside i j v1 y v2 w1 z w2) = z
+other_character (Inside i j one_begin y one_end other_begin z other_end) = z
 
 abbrev pub other_after : Chosen → List ℕ
 other_after (Outside c) = []
-other_after (Inside i j v1 y v2 w1 z w2) = w2 ++ 0x2069 ∷ []
+other_after (Inside i j one_begin y one_end other_begin z other_end) = other_end ++ 0x2069 ∷ []
 
 -- each value begins with LRI or RLI and holds a cleaned text: one that cleaning leaves as it is
 abbrev pub HoldsCleaned : List Both → Type 0

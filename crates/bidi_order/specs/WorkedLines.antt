@@ -4,8 +4,8 @@
 -- The first is `<bdo dir="rtl">a{$x}b</bdo>`. The second is `<p dir="auto">{$x} `, a word of Hebrew, and `</p>`.
 use Rattle.std.specs.Prelude.{ℕ, List, [], ◌∷◌, ◌++◌, codes, replicate}
 use Rattle.std.specs.List.{concat}
-use Rattle.html_state.specs.Pieces.{Piece}
-use Rattle.html_state.specs.Pieces.Piece.{Static, Value}
+use Rattle.html_state.specs.AfterPieces.{Piece}
+use Rattle.html_state.specs.AfterPieces.Piece.{Static, Value}
 use Rattle.bidi_order.specs.TwoLines.{Both, Chosen, ComparedLines, one_labelled}
 use Rattle.bidi_order.specs.TwoLines.Both.{Shared, Values}
 use Rattle.bidi_order.specs.TwoLines.Chosen.{Outside, Inside}

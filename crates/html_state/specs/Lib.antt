@@ -1,4 +1,5 @@
 pub mod AfterAll
+pub mod AfterPieces
 pub mod AfterValue
 pub mod AttributeNamed
 pub mod DeclarationNext
@@ -15,7 +16,6 @@ pub mod Next
 pub mod Padding
 pub mod PartNext
 pub mod PartOf
-pub mod Pieces
 pub mod QuoteCharacter
 pub mod References
 pub mod RowAt

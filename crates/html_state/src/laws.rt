@@ -23,7 +23,7 @@ ghost use Rattle.html_state.specs.MayEnd.{may_end};
 ghost use Rattle.html_state.specs.Next.{at_row, next, text_end, value_character_next};
 ghost use Rattle.html_state.specs.PartNext.{part_next};
 ghost use Rattle.html_state.specs.PartOf.{part_of};
-ghost use Rattle.html_state.specs.Pieces.{Piece, after_pieces};
+ghost use Rattle.html_state.specs.AfterPieces.{Piece, after_pieces};
 ghost use Rattle.html_state.specs.RowAt.{in_script, in_style, inside, quoted};
 ghost use Rattle.html_state.specs.StatePlacing.{placing};
 ghost use Rattle.html_state.specs.TakesClass.{takes_class};

@@ -1,9 +1,29 @@
-//! Canonical texts of messages: what a translator is given of a message, as ICU text.
+//! Messages as a translator is given them: placeholders with their names, canonical texts, ids and the catalogue.
 //!
-//! The text of a message, read as a pattern, gives the parts of its source: `law_canonical_text`. Depends on soy_base,
-//! soy_tree and plural_rules.
+//! `extract` lists the messages of files, `write_catalogue` writes them as JSON, and `placeholders` and `message_id`
+//! say the same of one message. The text of a message, read as a pattern, gives the parts of its source:
+//! `law_canonical_text`. Depends on soy_base, soy_tree and plural_rules, and on sha2, hex and serde_json.
 #![tactic(auto)]
 
+mod ascii;
+mod base_name;
+mod canonical;
+mod catalogue;
+mod cut;
+mod item;
 mod laws;
+mod messages;
+mod names;
+mod piece;
+mod placeholder;
+mod quoting;
+mod role_names;
+mod same;
 
-pub use laws::{law_canonical_text, law_written_text};
+pub use canonical::message_id;
+pub use catalogue::{Catalogue, Listed, extract, write_catalogue};
+pub use laws::{law_canonical_text, law_fits, law_written_text};
+pub use placeholder::{Placeholder, placeholders};
+
+#[cfg(test)]
+mod tests;

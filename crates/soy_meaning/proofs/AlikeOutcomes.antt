@@ -5,7 +5,7 @@ use Rattle.std.proofs.lemmas.List.{append-nil, append_cancel_left}
 use Rattle.soy_base.specs.declared.direction.Dir.{Dir}
 use Rattle.soy_base.specs.declared.kind.Kind.{Kind}
 use Rattle.soy_base.specs.declared.kind.Kind.TheVariants as kinds
-use Rattle.html_state.specs.Pieces.{Piece, Static, Value}
+use Rattle.html_state.specs.AfterPieces.{Piece, Static, Value}
 use Rattle.soy_tree.specs.Val.{Binding, BlockOf, Known}
 use Rattle.soy_tree.specs.Values as values
 use Rattle.soy_tree.specs.Values.{StringValue}

@@ -14,7 +14,8 @@ use Rattle.soy_meaning.proofs.Holds.{Holds}
 use Rattle.soy_meaning.proofs.Members.{few_from_list}
 use Rattle.soy_meaning.proofs.Moves.{ok_same}
 use Rattle.soy_meaning.proofs.PointsAndHolds.{arms_lead, body_stands, head_path, hole_from, left_leads, meet_path}
-use Rattle.soy_meaning.proofs.PointsAndHolds.{one_leads, other_leads, right_stands, text_from}
+use Rattle.soy_meaning.proofs.PointsAndHolds.{one_leads, other_leads, right_stands, stands_after, stands_by}
+use Rattle.soy_meaning.proofs.PointsAndHolds.{text_from}
 use Rattle.soy_meaning.proofs.Runs.{block_reached, hole_reached, meet_reached, nothing_reached, nowhere_reached}
 use Rattle.soy_meaning.proofs.Runs.{static_reached, then_reached}
 use Rattle.soy_meaning.proofs.Sound.{few_mono}
@@ -150,13 +151,7 @@ module _ {S : Type 0} (m : Machine S) where
         (λ t h. hole_from m at classes P h.parts h.from t h.leads h.reads h.before) few
     few_at (Then p q) b P g few (Left x) pt e =
         few_mono m 16 (StandsAt m (Then p q) P (Left x)) (StandsAt m p P x)
-        (λ t h. record {
-          from = h.from;
-          before = h.before;
-          parts = h.parts;
-          leads = left_leads m p q h.parts x h.leads;
-          reads = h.reads;
-        })
+        (stands_by m (Then p q) p P (Left x) x (left_leads m p q x))
         (few_at p b.0 P g.0 few x pt e)
     few_at (Then p q) b P g few (Right x) pt e =
         few_mono m 16 (StandsAt m (Then p q) P (Right x)) (StandsAt m q (StandsAfter m p P) x)
@@ -164,28 +159,14 @@ module _ {S : Type 0} (m : Machine S) where
         (few_at q b.1 (StandsAfter m p P) g.1 (few_after p b.0 P g.0 few) x pt e)
     few_at (Meet at p) b P g few Here pt e =
         few_mono m 16 (StandsAt m (Meet at p) P Here) (StandsAfter m p P)
-        (λ t h. record {
-          from = h.from;
-          before = h.before;
-          path_leads = record { parts = h.parts; path = meet_path m at p h.parts h.leads; reads = h.reads };
-        }) g.1
+        (stands_after m (Meet at p) p P Here (meet_path m at p)) g.1
     few_at (Meet at p) b P g few (Inside x) pt e =
         few_mono m 16 (StandsAt m (Meet at p) P (Inside x)) (StandsAt m p P x)
-        (λ t h. record {
-          from = h.from;
-          before = h.before;
-          parts = h.parts;
-          leads = arms_lead m at p h.parts x h.leads;
-          reads = h.reads;
-        })
+        (stands_by m (Meet at p) p P (Inside x) x (arms_lead m at p x))
         (few_in_arms p b P g.0 few x pt e)
     few_at (Loop at p) b P g few Here pt e =
         few_mono m 16 (StandsAt m (Loop at p) P Here) (StandsAfter m (Loop at p) P)
-        (λ t h. record {
-          from = h.from;
-          before = h.before;
-          path_leads = record { parts = h.parts; path = head_path m at p h.parts h.leads; reads = h.reads };
-        }) g.1
+        (stands_after m (Loop at p) (Loop at p) P Here (head_path m at p)) g.1
     few_at (Loop at p) b P g few (Inside x) pt e =
         few_mono m 16 (StandsAt m (Loop at p) P (Inside x)) (StandsAt m p (StandsAfter m (Loop at p) P) x)
         (λ t h. body_stands m at p P x h.parts h.from t h.before h.leads h.reads)
@@ -197,23 +178,11 @@ module _ {S : Type 0} (m : Machine S) where
         → point_at p x ≡ Some pt → AtMost 16 (StandsAt m p P x)
     few_in_arms (Either p q) b P g few (Left x) pt e =
         few_mono m 16 (StandsAt m (Either p q) P (Left x)) (StandsAt m p P x)
-        (λ t h. record {
-          from = h.from;
-          before = h.before;
-          parts = h.parts;
-          leads = one_leads m p q h.parts x h.leads;
-          reads = h.reads;
-        })
+        (stands_by m (Either p q) p P (Left x) x (one_leads m p q x))
         (few_in_arms p b.0 P g.0 few x pt e)
     few_in_arms (Either p q) b P g few (Right x) pt e =
         few_mono m 16 (StandsAt m (Either p q) P (Right x)) (StandsAt m q P x)
-        (λ t h. record {
-          from = h.from;
-          before = h.before;
-          parts = h.parts;
-          leads = other_leads m p q h.parts x h.leads;
-          reads = h.reads;
-        })
+        (stands_by m (Either p q) q P (Right x) x (other_leads m p q x))
         (few_at q b.1 P g.1 few x pt e)
     few_in_arms (Either p q) b P g few Here pt e = absurd (no_point pt e)
     few_in_arms (Either p q) b P g few (Inside x) pt e = absurd (no_point pt e)

@@ -12,7 +12,7 @@ use Rattle.soy_meaning.proofs.Holds.{Holds}
 use Rattle.soy_meaning.proofs.HolePlaces.{HolePlaces, TwoLists}
 use Rattle.soy_meaning.proofs.Moves.{followed_is, followed_ok, ok_same}
 use Rattle.soy_meaning.proofs.PointsAndHolds.{arms_lead, body_stands, hole_from, left_leads, one_leads, other_leads}
-use Rattle.soy_meaning.proofs.PointsAndHolds.{right_stands}
+use Rattle.soy_meaning.proofs.PointsAndHolds.{right_stands, stands_by}
 use Rattle.soy_meaning.proofs.Runs.{loop_more, loop_stops}
 use Rattle.soy_meaning.specs.FourPoints.{OnePlacing, Passes, takes_classes}
 use Rattle.soy_meaning.specs.Holes.{hole_count, holes_before}
@@ -29,7 +29,7 @@ module _ {S : Type 0} (m : Machine S) where
   abbrev pub Fine : List PathPart → S → Type 0
   Fine [] s = Unit {0}
   Fine (StaticPart text ∷ l) s = (t : S) × (after_text m text s ≡ Ok t) × Fine l t
-  Fine (HolePart classes ∷ l) s = IsTrue (takes_classes (m.placing s) classes) × Fine l (m.value s)
+  Fine (HolePart at classes ∷ l) s = IsTrue (takes_classes (m.placing s) classes) × Fine l (m.value s)
 
 abbrev class_at : Option Point → Option (List ValueClass)
 class_at None = None
@@ -47,7 +47,7 @@ module _ {S : Type 0} (m : Machine S) where
   fine_runs (StaticPart text ∷ l) s f =
       let r : (t : S) × (state_after_parts m l f.0 ≡ Ok t) = fine_runs l f.0 f.2 in
       (r.0, followed_is (after_text m text s) (λ t. state_after_parts m l t) f.0 (Ok r.0) f.1 r.1)
-  fine_runs (HolePart classes ∷ l) s f = fine_runs l (m.value s) f.1
+  fine_runs (HolePart at classes ∷ l) s f = fine_runs l (m.value s) f.1
 
   pub fine_join : (a b : List PathPart) (s t : S) → Fine m a s → state_after_parts m a s ≡ Ok t → Fine m b t
       → Fine m (a ++ b) s
@@ -57,7 +57,7 @@ module _ {S : Type 0} (m : Machine S) where
       followed_ok (after_text m text s) (λ v. state_after_parts m a v) t h in
       let same : f.0 ≡ p.0 = ok_same f.0 p.0 (sym f.1 ∙ p.1) in
       (p.0, p.1, fine_join a b p.0 t (subst (λ v. Fine m a v) same f.2) p.2 g)
-  fine_join (HolePart classes ∷ a) b s t f h g = (f.0, fine_join a b (m.value s) t f.1 h g)
+  fine_join (HolePart at classes ∷ a) b s t f h g = (f.0, fine_join a b (m.value s) t f.1 h g)
 
   loop_fine : (at : Site) (p : Plan) (P : S → Type 0)
       → ((l : List PathPart) → IsPath p l → (s : S) → P s → Fine m l s) → ((s t : S) → P s → PathLeads m p s t → P t)
@@ -244,13 +244,7 @@ module _ {S : Type 0} (m : Machine S) where
       ap Takes (place_in_one (HolePlaces m p P) (HolePlaces m q (StandsAfter m p P)) l h (holes_before p x) d
       (omega (arith, hole_within p x classes e, places_length p P h.one h.of_one)))
       ∙ hole_has_place p P h.one h.of_one x classes e t
-      (record {
-        from = k.from;
-        before = k.before;
-        parts = k.parts;
-        leads = left_leads m p q k.parts x k.leads;
-        reads = k.reads;
-      }) d
+      (stands_by m (Then p q) p P (Left x) x (left_leads m p q x) t k) d
   hole_has_place (Then p q) P l h (Right x) classes e t k d =
       ap Takes (place_in_other (HolePlaces m p P) (HolePlaces m q (StandsAfter m p P)) l h (hole_count p)
       (holes_before q x) d (places_length p P h.one h.of_one))
@@ -260,33 +254,15 @@ module _ {S : Type 0} (m : Machine S) where
       ap Takes (place_in_one (HolePlaces m p P) (HolePlaces m q P) l h (holes_before p x) d
       (omega (arith, hole_within p x classes e, places_length p P h.one h.of_one)))
       ∙ hole_has_place p P h.one h.of_one x classes e t
-      (record {
-        from = k.from;
-        before = k.before;
-        parts = k.parts;
-        leads = one_leads m p q k.parts x k.leads;
-        reads = k.reads;
-      }) d
+      (stands_by m (Either p q) p P (Left x) x (one_leads m p q x) t k) d
   hole_has_place (Either p q) P l h (Right x) classes e t k d =
       ap Takes (place_in_other (HolePlaces m p P) (HolePlaces m q P) l h (hole_count p) (holes_before q x) d
       (places_length p P h.one h.of_one))
       ∙ hole_has_place q P h.other h.of_other x classes e t
-      (record {
-        from = k.from;
-        before = k.before;
-        parts = k.parts;
-        leads = other_leads m p q k.parts x k.leads;
-        reads = k.reads;
-      }) d
+      (stands_by m (Either p q) q P (Right x) x (other_leads m p q x) t k) d
   hole_has_place (Meet at p) P l h (Inside x) classes e t k d =
       hole_has_place p P l h x classes e t
-      (record {
-        from = k.from;
-        before = k.before;
-        parts = k.parts;
-        leads = arms_lead m at p k.parts x k.leads;
-        reads = k.reads;
-      }) d
+      (stands_by m (Meet at p) p P (Inside x) x (arms_lead m at p x) t k) d
   hole_has_place (Loop at p) P l h (Inside x) classes e t k d =
       hole_has_place p (StandsAfter m (Loop at p) P) l h x classes e t
       (body_stands m at p P x k.parts k.from t k.before k.leads k.reads) d

@@ -35,3 +35,4 @@ pub mod AlikeRuns
 pub mod ReadRuns
 pub mod WayPlans
 pub mod BlockFrames
+pub mod PrintedClasses

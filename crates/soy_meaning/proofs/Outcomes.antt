@@ -1,7 +1,7 @@
 -- Outcomes follow one another as lists do.
 use Rattle.std.proofs.Common.{◌≡◌, ◌+◌, ℕ, List, [], ◌++◌, refl, sym, ap, arith, append_assoc}
 use Rattle.std.proofs.lemmas.List.{append-nil}
-use Rattle.html_state.specs.Pieces.{Static, Value}
+use Rattle.html_state.specs.AfterPieces.{Static, Value}
 use Rattle.soy_meaning.specs.Outcome.{ChoiceMade, Outcome, RunEnds, GivesPiece, Spent, StopsAt, WholeRun, and_spent}
 use Rattle.soy_meaning.specs.Outcome.{continued_by, gathered, gives_nothing, none_spent, spent_first}
 

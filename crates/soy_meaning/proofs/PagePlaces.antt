@@ -7,7 +7,7 @@ use Rattle.soy_base.specs.declared.place.Place.{Place}
 use Rattle.soy_base.specs.declared.place.Placing.{Placing}
 use Rattle.soy_base.specs.declared.place.Placing.TheVariants.{Takes}
 use Rattle.soy_base.specs.declared.place.ValueClass.{ValueClass}
-use Rattle.html_state.specs.Pieces.{Piece, placing_after}
+use Rattle.html_state.specs.AfterPieces.{Piece, placing_after}
 use Rattle.html_state.specs.Start.{start}
 use Rattle.html_state.specs.StatePlacing.{placing}
 use Rattle.html_state.specs.Texts.{and_then as after}

@@ -27,7 +27,7 @@ use Rattle.html_state.specs.Leads.{marked}
 use Rattle.html_state.specs.MayEnd.{may_end, may_end_row}
 use Rattle.html_state.specs.Next.{begun_reference, is_decided, name_end, name_next, next, numeric_next}
 use Rattle.html_state.specs.Next.{pending, plain_next, reference_begun_next, reference_next, text_end}
-use Rattle.html_state.specs.Pieces.{Piece, Static, Value, after_piece, after_pieces, placing_after}
+use Rattle.html_state.specs.AfterPieces.{Piece, Static, Value, after_piece, after_pieces, placing_after}
 use Rattle.html_state.specs.References.{name_begun, reference_names}
 use Rattle.html_state.specs.Start.{start}
 use Rattle.html_state.specs.StatePlacing.{placing, row_placing}
@@ -198,7 +198,7 @@ lost_rest (StaticPart text ∷ l) t u lost fine is =
     followed_ok (after_text page_machine text t) (λ w. state_after_parts page_machine l w) u is in
     let same : fine.0 ≡ p.0 = ok_same fine.0 p.0 (sym fine.1 ∙ p.1) in
     lost_rest l p.0 u (lost_text text t p.0 lost p.1) (subst (λ w. Fine page_machine l w) same fine.2) p.2
-lost_rest (HolePart classes ∷ l) t u lost fine is = absurd (lost_hole t classes lost fine.0)
+lost_rest (HolePart at classes ∷ l) t u lost fine is = absurd (lost_hole t classes lost fine.0)
 
 all_take : (point : Place) (value : ValueClass) (classes : List ValueClass)
     → list_all (takes_class (Takes point)) classes ≡ true → IsMember value classes
@@ -433,7 +433,7 @@ module _ (context : Dir) where
               rest p.2
         ]
       ]
-  pieces_follow (value_before classes value text f) around kind so_far own page walk last fills reads own_follows
+  pieces_follow (value_before at classes value text f) around kind so_far own page walk last fills reads own_follows
       page_follows settled fine leads =
       let form : (out : List ℕ) × (escaped_where (placing walk) value text context ≡ Some out)
       × KeepsPlaceAt (placing walk) out = form_kept (placing walk) value text context
@@ -446,7 +446,7 @@ module _ (context : Dir) where
       (value_follows None own walk form.0 own_follows form.2))
       (subst (λ o. LeadsOn around (Value o ∷ []) page (after_value walk)) (sym is_out)
       (value_follows around page walk form.0 page_follows form.2)) settled fine.1 leads
-  pieces_follow (frame_before classes inner_kind inner f) around kind so_far own page walk last fills reads
+  pieces_follow (frame_before at classes inner_kind inner f) around kind so_far own page walk last fills reads
       own_follows page_follows settled fine leads =
       let takes : takes_class (placing walk) (kind_class inner_kind) ≡ true =
       takes_one (placing walk) (kind_class inner_kind) classes fine.0 fills.1 in

@@ -5,12 +5,11 @@ use Rattle.std.specs.Prelude.{◌&&◌, ◌||◌, ◌-ℤ◌, bytes_eq, codes, i
 use Rattle.std.specs.Option.{option_or}
 use Rattle.std.proofs.lemmas.Bool.{and_parts}
 use Rattle.soy_base.specs.declared.direction.Dir.{Dir}
-use Rattle.soy_base.specs.declared.kind.Kind.{Kind}
 use Rattle.soy_base.specs.declared.place.ValueClass.{ValueClass}
 use Rattle.plural_rules.specs.Category.{is_same}
 use Rattle.plural_rules.specs.declared.category.Category.{Category}
 use Rattle.plural_rules.specs.declared.category.Category.TheVariants as category
-use Rattle.html_state.specs.Pieces.{Piece}
+use Rattle.html_state.specs.AfterPieces.{Piece}
 use Rattle.soy_tree.specs.Cost.{cost}
 use Rattle.soy_tree.specs.Expressions.{Expr}
 use Rattle.soy_tree.specs.MessageParts.{MsgPart, MsgParts, ExactArms, NamedArms, SelectArms, TextPart, Placeholder}
@@ -25,22 +24,24 @@ use Rattle.soy_meaning.specs.Branch.{PartMeans, arm_means, cut_means, exact_of, 
 use Rattle.soy_meaning.specs.Branch.{named_rows}
 use Rattle.soy_meaning.specs.Branch.{part_means, parts_means, plural_means, print_means, row_count, select_means}
 use Rattle.soy_meaning.specs.Branch.{select_of, select_rows, selector, tag_means, word_of}
+use Rattle.soy_meaning.specs.FrameRun.{FrameRun}
+use Rattle.soy_meaning.specs.GivenAt.{HasPlaceholderOf, cut_prints, tag_prints}
 use Rattle.soy_meaning.specs.Giving.{RunEnv, StateSoFar, printed_means, text_means}
 use Rattle.soy_meaning.specs.Giving.{with_choice, with_cost}
 use Rattle.soy_meaning.specs.Outcome.{ArmTaken, ChoiceMade, Outcome}
 use Rattle.soy_meaning.specs.PathParts.{both, empty_path, hole}
+use Rattle.soy_meaning.specs.Pieces.{RunContext}
 use Rattle.soy_meaning.specs.Plan.{Site, Plan, Hole, Nothing, Then, arms_meet}
 use Rattle.soy_meaning.specs.PlanOfParts.{cut_plan, exact_plans, named_plans, part_plan, parts_plan, placeholder_cut}
 use Rattle.soy_meaning.specs.PlanOfParts.{printed_classes, select_arm_plans, tag_plan, text_plan}
-use Rattle.soy_meaning.specs.RunsAlong.{EnvRuns}
 use Rattle.soy_meaning.specs.States.{IsMember}
 use Rattle.soy_meaning.specs.TranslationFits.{exact_fit, has_other, has_other_word}
 use Rattle.soy_meaning.specs.TranslationFits.{named_fit, part_fits, parts_fit, select_fit}
-use Rattle.soy_meaning.proofs.Goings.{Goes, GoesSome, after_so_far, goes_both}
+use Rattle.soy_meaning.proofs.Goings.{GivesBlocks, Goes, GoesSome, after_so_far, goes_both}
 use Rattle.soy_meaning.proofs.Goings.{passes, printed_goes, same_goes}
 use Rattle.soy_meaning.proofs.Goings.{some_meets, some_same, text_goes, value_goes}
 use Rattle.soy_meaning.proofs.Members.{mem_left, mem_right}
-use Rattle.soy_meaning.proofs.RunBindings.{val_runs}
+use Rattle.soy_meaning.proofs.RunBindings.{AllRun, val_runs}
 use Rattle.soy_meaning.proofs.RunPieces.{SameRun}
 use Rattle.soy_meaning.proofs.RunPieces.{spent_same}
 use Rattle.soy_meaning.proofs.SomePaths.{parts_path, tag_path}
@@ -53,53 +54,68 @@ choice_same choice o = spent_same (record { cost = 0; work = 1; choices = choice
 
 -- ---- translations
 
-module _ (context : Dir) (category_of : Bool → ℤ → Category) (whole : Plan) (kind : Kind) (uses : List Use)
-    (scope : Scope) (at : Site) (env : RunEnv) (runs : EnvRuns context whole env) where
-  abbrev At : List Piece → StateSoFar
-  At before = after_so_far context whole kind before
+module _ (c : RunContext) (whole : Plan) (IsStop : Site → Type 0) (q : FrameRun) (uses : List Use) (scope : Scope)
+    (at : Site) (env : RunEnv) (runs : AllRun c whole IsStop env)
+    (given : (e : Expr) → HasPlaceholderOf uses e → GivesBlocks c whole IsStop q at (val e env)) where
+  abbrev context : Dir
+  context = c.direction
 
-  print_goes : (site : Site) (classes : List ValueClass) (e : Expr) (before : List Piece) (on : StateSoFar → Outcome) →
-      Goes context whole kind (Hole site classes) before (print_means context category_of uses env e (At before) on) on
-  print_goes site classes e before on =
-      same_goes context whole kind (Hole site classes) before
+  abbrev category_of : Bool → ℤ → Category
+  category_of = c.category
+
+  abbrev At : List Piece → StateSoFar
+  At before = after_so_far c whole IsStop q before
+
+  print_goes : (classes : List ValueClass) (e : Expr) → GivesBlocks c whole IsStop q at (val e env)
+      → (before : List Piece) (on : StateSoFar → Outcome) →
+      Goes c whole IsStop q (Hole at classes) before (print_means context category_of uses env e (At before) on) on
+  print_goes classes e gives before on =
+      same_goes c whole IsStop q (Hole at classes) before
       (print_means context category_of uses env e (At before) on)
       (printed_means context (val e env) (At before) on) on
       (cost_same (cost e env) (printed_means context (val e env) (At before) on))
-      (printed_goes context whole kind site classes (val e env) before on (val_runs context whole e env runs))
+      (printed_goes c whole IsStop q at classes (val e env) before on (val_runs c whole IsStop e env runs) gives)
 
-  tag_goes : (text : List ℕ) (tag : List MessageItem) (before : List Piece) (on : StateSoFar → Outcome) →
-      Goes context whole kind (tag_plan scope at text tag) before
+  -- the blocks of these expressions are given
+  abbrev AllGiven : List Expr → Type 0
+  AllGiven es = (e : Expr) → IsMember e es → GivesBlocks c whole IsStop q at (val e env)
+
+  tag_goes : (text : List ℕ) (tag : List MessageItem) → AllGiven (tag_prints tag)
+      → (before : List Piece) (on : StateSoFar → Outcome) →
+      Goes c whole IsStop q (tag_plan scope at text tag) before
       (tag_means context category_of uses env text tag (At before) on) on
-  tag_goes text [] before on = text_goes context whole kind at text before on
-  tag_goes text (Character c span ∷ rest) before on = tag_goes (text ++ (c ∷ [])) rest before on
-  tag_goes text (Printed e phname span ∷ rest) before on =
+  tag_goes text [] all before on = text_goes c whole IsStop q at text before on
+  tag_goes text (Character code span ∷ rest) all before on = tag_goes (text ++ (code ∷ [])) rest all before on
+  tag_goes text (Printed e phname span ∷ rest) all before on =
       let print : Plan = Hole at (printed_classes e scope) in
       let following : Plan = tag_plan scope at [] rest in
       let printed : StateSoFar → Outcome = λ now. print_means context category_of uses env e now
       (λ past. tag_means context category_of uses env [] rest past on) in
-      goes_both context whole kind (text_plan at text) (Then print following)
+      goes_both c whole IsStop q (text_plan at text) (Then print following)
       (Then (text_plan at text) (Then print following)) before (text_means text (At before) printed) printed on
       (λ a b h k. both h k)
       (record { parts = _; path = both hole (tag_path scope at [] rest).path })
-      (text_goes context whole kind at text before printed)
-      (λ more. goes_both context whole kind print following (Then print following) more (printed (At more))
+      (text_goes c whole IsStop q at text before printed)
+      (λ more. goes_both c whole IsStop q print following (Then print following) more (printed (At more))
       (λ past. tag_means context category_of uses env [] rest past on) on (λ a b h k. both h k)
       (tag_path scope at [] rest)
-      (print_goes at (printed_classes e scope) e more
-      (λ past. tag_means context category_of uses env [] rest past on)) (λ further. tag_goes [] rest further on))
+      (print_goes (printed_classes e scope) e (all e (inl refl)) more
+      (λ past. tag_means context category_of uses env [] rest past on))
+      (λ further. tag_goes [] rest (λ other member. all other (inr member)) further on))
 
-  cut_goes : (cut : Option Cut) (before : List Piece) (on : StateSoFar → Outcome)
-      → Goes context whole kind (cut_plan scope at cut) before
+  cut_goes : (cut : Option Cut) → AllGiven (cut_prints cut) → (before : List Piece) (on : StateSoFar → Outcome)
+      → Goes c whole IsStop q (cut_plan scope at cut) before
       (cut_means context category_of uses env cut (At before) on) on
-  cut_goes None before on = passes context whole kind Nothing before on empty_path
-  cut_goes (Some (TextCut text)) before on = passes context whole kind Nothing before on empty_path
-  cut_goes (Some (PrintCut e phname span)) before on = print_goes at (printed_classes e scope) e before on
-  cut_goes (Some (TagCut tag)) before on = tag_goes [] tag before on
+  cut_goes None all before on = passes c whole IsStop q Nothing before on empty_path
+  cut_goes (Some (TextCut text)) all before on = passes c whole IsStop q Nothing before on empty_path
+  cut_goes (Some (PrintCut e phname span)) all before on =
+      print_goes (printed_classes e scope) e (all e (inl refl)) before on
+  cut_goes (Some (TagCut tag)) all before on = tag_goes [] tag all before on
 
   -- the parts of an arm, whatever the number, go along one of these plans
   abbrev ArmGoes : List Plan → PartMeans → Type 0
   ArmGoes ps means = (n : ℤ) (before : List Piece) (on : StateSoFar → Outcome)
-      → GoesSome context whole kind ps before (means n (At before) on) on
+      → GoesSome c whole IsStop q ps before (means n (At before) on) on
 
   abbrev RowsGo : {A : Type 0} → List Plan → List (A × PartMeans) → Type 0
   RowsGo ps [] = Unit {0}
@@ -166,16 +182,16 @@ module _ (context : Dir) (category_of : Bool → ℤ → Category) (whole : Plan
 
   arm_goes : (ps : List Plan) (found : Option (ℕ × PartMeans)) → is_some found ≡ true → ChosenGoes ps found
       → (n : ℤ) (before : List Piece) (on : StateSoFar → Outcome)
-      → GoesSome context whole kind ps before (arm_means found n (At before) on) on
+      → GoesSome c whole IsStop q ps before (arm_means found n (At before) on) on
   arm_goes ps None there goes n before on = let no : ⊥ = cc in absurd no
   arm_goes ps (Some taken) there goes n before on =
-      some_same context whole kind ps before (arm_means (Some taken) n (At before) on) (taken.1 n (At before) on) on
+      some_same c whole IsStop q ps before (arm_means (Some taken) n (At before) on) (taken.1 n (At before) on) on
       (choice_same (ArmTaken (Some taken.0)) (taken.1 n (At before) on)) (goes n before on)
 
   plural_goes : (ps : List Plan) (ordinal : Bool) (selects : Option Expr) (offset : ℕ) (exact : List (ℤ × PartMeans))
       (arms : NamedArms) → is_some selects ≡ true → has_other arms ≡ true → RowsGo ps exact →
       RowsGo ps (named_rows context category_of uses env arms) → (before : List Piece) (on : StateSoFar → Outcome) →
-      Goes context whole kind (arms_meet at ps) before
+      Goes c whole IsStop q (arms_meet at ps) before
       (plural_means context category_of uses env ordinal selects offset exact
       (named_rows context category_of uses env arms) (At before) on) on
   plural_goes ps ordinal None offset exact arms there has e_go n_go before on = let no : ⊥ = cc in absurd no
@@ -192,14 +208,14 @@ module _ (context : Dir) (category_of : Bool → ℤ → Category) (whole : Plan
       (exact_chosen ps n 0 exact e_go)
       (chosen_or ps one other (named_chosen ps (category_of ordinal rest) (row_count exact) named n_go)
       (named_chosen ps category.Other (row_count exact) named n_go)) in
-      some_meets context whole kind at ps before (with_cost (cost e env) (arm_means chosen rest (At before) on)) on
-      (some_same context whole kind ps before (with_cost (cost e env) (arm_means chosen rest (At before) on))
+      some_meets c whole IsStop q at ps before (with_cost (cost e env) (arm_means chosen rest (At before) on)) on
+      (some_same c whole IsStop q ps before (with_cost (cost e env) (arm_means chosen rest (At before) on))
       (arm_means chosen rest (At before) on) on (cost_same (cost e env) (arm_means chosen rest (At before) on))
       (arm_goes ps chosen is_there goes rest before on))
 
   select_goes : (ps : List Plan) (selects : Option Expr) (arms : SelectArms) → is_some selects ≡ true
       → has_other_word arms ≡ true → RowsGo ps (select_rows context category_of uses env arms) →
-      (before : List Piece) (on : StateSoFar → Outcome) → Goes context whole kind (arms_meet at ps) before
+      (before : List Piece) (on : StateSoFar → Outcome) → Goes c whole IsStop q (arms_meet at ps) before
       (select_means context category_of uses env selects (select_rows context category_of uses env arms)
       (At before) on) on
   select_goes ps None arms there has rows_go before on = let no : ⊥ = cc in absurd no
@@ -211,8 +227,8 @@ module _ (context : Dir) (category_of : Bool → ℤ → Category) (whole : Plan
       (word_found arms 0 has) in
       let goes : ChosenGoes ps chosen = chosen_or ps (select_of word 0 rows) (select_of (codes "other") 0 rows)
       (select_chosen ps word 0 rows rows_go) (select_chosen ps (codes "other") 0 rows rows_go) in
-      some_meets context whole kind at ps before (with_cost (cost e env) (arm_means chosen (pos 0) (At before) on)) on
-      (some_same context whole kind ps before (with_cost (cost e env) (arm_means chosen (pos 0) (At before) on))
+      some_meets c whole IsStop q at ps before (with_cost (cost e env) (arm_means chosen (pos 0) (At before) on)) on
+      (some_same c whole IsStop q ps before (with_cost (cost e env) (arm_means chosen (pos 0) (At before) on))
       (arm_means chosen (pos 0) (At before) on) on
       (cost_same (cost e env) (arm_means chosen (pos 0) (At before) on))
       (arm_goes ps chosen is_there goes (pos 0) before on))
@@ -222,11 +238,12 @@ module _ (context : Dir) (category_of : Bool → ℤ → Category) (whole : Plan
 
   mutual
     part_goes : (p : MsgPart) → part_fits uses p ≡ true → (n : ℤ) (before : List Piece) (on : StateSoFar → Outcome) →
-        Goes context whole kind (part_plan uses scope at p) before
+        Goes c whole IsStop q (part_plan uses scope at p) before
         (part_means context category_of uses env p n (At before) on) on
-    part_goes (TextPart text) fits n before on = text_goes context whole kind at text before on
-    part_goes (Placeholder name) fits n before on = cut_goes (placeholder_cut name uses uses) before on
-    part_goes NumberPart fits n before on = value_goes context whole kind at _ (IntValue n) before on
+    part_goes (TextPart text) fits n before on = text_goes c whole IsStop q at text before on
+    part_goes (Placeholder name) fits n before on =
+        cut_goes (placeholder_cut name uses uses) (λ e member. given e (name, member)) before on
+    part_goes NumberPart fits n before on = value_goes c whole IsStop q at _ (IntValue n) before on
     part_goes (PluralPart ordinal name offset exact named) fits n before on =
         let parts = and_parts (is_some (selector true name uses uses) && has_other named) (exact_fit uses exact
         && named_fit uses named) fits in
@@ -249,13 +266,13 @@ module _ (context : Dir) (category_of : Bool → ℤ → Category) (whole : Plan
 
     pub parts_go : (ps : MsgParts) → parts_fit uses ps ≡ true
         → (n : ℤ) (before : List Piece) (on : StateSoFar → Outcome) →
-        Goes context whole kind (parts_plan uses scope at ps) before
+        Goes c whole IsStop q (parts_plan uses scope at ps) before
         (parts_means context category_of uses env ps n (At before) on) on
-    parts_go no_part fits n before on = passes context whole kind Nothing before on empty_path
+    parts_go no_part fits n before on = passes c whole IsStop q Nothing before on empty_path
     parts_go (part p ps) fits n before on =
         let fit = and_parts (part_fits uses p) (parts_fit uses ps) fits in
         let following : StateSoFar → Outcome = λ now. parts_means context category_of uses env ps n now on in
-        goes_both context whole kind (part_plan uses scope at p) (parts_plan uses scope at ps)
+        goes_both c whole IsStop q (part_plan uses scope at p) (parts_plan uses scope at ps)
         (Then (part_plan uses scope at p) (parts_plan uses scope at ps)) before
         (part_means context category_of uses env p n (At before) following) following on
         (λ a b h k. both h k) (parts_path uses scope at ps fit.1) (part_goes p fit.0 n before following)

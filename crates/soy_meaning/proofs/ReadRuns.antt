@@ -8,7 +8,7 @@ use Rattle.soy_base.specs.declared.place.ValueClass.{ValueClass}
 use Rattle.html_state.specs.AfterValue.{after_value}
 use Rattle.html_state.specs.Follows.{Follows}
 use Rattle.html_state.specs.KeepsPlace.{KeepsPlaceAt}
-use Rattle.html_state.specs.Pieces.{Piece, Static, Value, after_piece, after_pieces, placing_after}
+use Rattle.html_state.specs.AfterPieces.{Piece, Static, Value, after_piece, after_pieces, placing_after}
 use Rattle.html_state.specs.Start.{start}
 use Rattle.html_state.specs.StatePlacing.{placing}
 use Rattle.html_state.specs.TakesClass.{takes_class}
@@ -21,15 +21,17 @@ use Rattle.soy_meaning.specs.Filled.{Filled, FillsHoles, IsBlockKind, IsFrameOf,
 use Rattle.soy_meaning.specs.Filled.{frame_before}
 use Rattle.soy_meaning.specs.Filled.{parts_of_filled, text_before, value_before, value_form}
 use Rattle.soy_meaning.specs.FourPoints.{AcceptedPaths, FourPoints, takes_classes}
-use Rattle.soy_meaning.specs.Outcome.{Outcome, RunEnd, StopsAt, WholeRun, end_of_outcome, pieces_of_outcome}
+use Rattle.soy_meaning.specs.FrameRun.{FrameRun, run_outcome, run_plan}
+use Rattle.soy_meaning.specs.Outcome.{RunEnd, StopsAt, WholeRun, end_of_outcome, pieces_of_outcome}
 use Rattle.soy_meaning.specs.PageMachine.{page_machine}
 use Rattle.soy_meaning.specs.PathParts.{IsPath, PathPart, after_text, state_after_parts}
-use Rattle.soy_meaning.specs.Plan.{Either, Frame, Loop, Meet, Plan, Then}
+use Rattle.soy_meaning.specs.Plan.{Either, Frame, Loop, Meet, Plan, Site, Then}
 use Rattle.soy_meaning.specs.PlanOfNodes.{kind_class}
 use Rattle.soy_meaning.specs.Points.{Address, Here, Inside, Left, Right, frame_at}
-use Rattle.soy_meaning.specs.RunsAlong.{FilledByRuns, FitsClasses, IsFrameWithin, IsPathUpTo, RunsAlong, RunsInFrame}
+use Rattle.soy_meaning.specs.Pieces.{RunContext}
+use Rattle.soy_meaning.specs.RunsAlong.{FilledByRuns, FitsClasses, IsFrameWithin, IsPathUpTo, RunsAlong}
 use Rattle.soy_meaning.proofs.FinePaths.{Fine}
-use Rattle.soy_meaning.proofs.Goings.{whole_before}
+use Rattle.soy_meaning.proofs.Goings.{FrameFills, whole_before}
 use Rattle.soy_meaning.proofs.KeptForms.{form_kept}
 use Rattle.soy_meaning.proofs.Moves.{followed_ok, ok_same}
 use Rattle.soy_meaning.proofs.Pages.{FrameGoesOn, FrameRuns, IsLost, IsSettled, LeadsOn, follows_itself, form_of_walk}
@@ -71,34 +73,32 @@ path_goes_on : (end : RunEnd) (p : Plan) (parts : List PathPart) → IsPathUpTo 
 path_goes_on WholeRun p parts h = record { more = []; path = subst (λ l. IsPath p l) (sym (append-nil parts)) h }
 path_goes_on (StopsAt call) p parts h = record { more = h.0; path = h.1 }
 
-module _ (whole : Plan) (accepted : AcceptedPaths page_machine whole) where
-  frame_of : (end : RunEnd) (kind : Kind) (parts more : List PathPart) (r : RunsInFrame whole end kind parts)
-      → IsPath r.plan (parts ++ more) → IsFrameOf kind (parts ++ more)
-  frame_of end kind parts more r path =
-      let found : IsAcceptedFrame (kind, r.plan) = accepted_frame whole accepted r.within.0 (kind, r.plan) r.within.1 in
-      record { plan = r.plan; points = found.0; inner = found.1; path = path }
+module _ (c : RunContext) (whole : Plan) (accepted : AcceptedPaths page_machine whole) where
+  frame_of : (kind : Kind) (p : Plan) (parts : List PathPart) → IsFrameWithin whole kind p → IsPath p parts
+      → IsFrameOf kind parts
+  frame_of kind p parts within path =
+      let found : IsAcceptedFrame (kind, p) = accepted_frame whole accepted within.0 (kind, p) within.1 in
+      record { plan = p; points = found.0; inner = found.1; path = path }
 
-  whole_frame_of : (kind : Kind) (parts : List PathPart) → RunsInFrame whole WholeRun kind parts → IsFrameOf kind parts
-  whole_frame_of kind parts r =
-      let found : IsAcceptedFrame (kind, r.plan) = accepted_frame whole accepted r.within.0 (kind, r.plan) r.within.1 in
-      record { plan = r.plan; points = found.0; inner = found.1; path = r.path }
-
-  pub runs_fill_holes : (f : Filled) → FilledByRuns whole WholeRun f → FitsClasses f → FillsHoles f
-  runs_fill_holes filled_end runs fits = tt
-  runs_fill_holes (text_before text f) runs fits = runs_fill_holes f runs fits
-  runs_fill_holes (value_before classes value text f) runs fits = (fits.0, runs.0, runs_fill_holes f runs.1 fits.1)
-  runs_fill_holes (frame_before classes kind inner f) runs fits =
-      let frame : RunsInFrame whole WholeRun kind (parts_of_filled inner) =
-      whole_before f (λ e. RunsInFrame whole e kind (parts_of_filled inner)) runs.1 in
-      let inside : FilledByRuns whole WholeRun inner = whole_before f (λ e. FilledByRuns whole e inner) runs.2 in (
+  pub runs_fill_holes : (f : Filled) (q : FrameRun) → FilledByRuns c whole q WholeRun f → FitsClasses f → FillsHoles f
+  runs_fill_holes filled_end q runs fits = tt
+  runs_fill_holes (text_before text f) q runs fits = runs_fill_holes f q runs fits
+  runs_fill_holes (value_before at classes value text f) q runs fits =
+      (fits.0, runs.0, runs_fill_holes f q runs.1 fits.1)
+  runs_fill_holes (frame_before at classes kind inner f) q runs fits =
+      let frame : FrameFills c whole q WholeRun at kind inner =
+      whole_before f (λ e. FrameFills c whole q e at kind inner) runs.1 in (
         runs.0,
         fits.0,
-        whole_frame_of kind (parts_of_filled inner) frame,
-        runs_fill_holes inner inside fits.1,
-        runs_fill_holes f runs.3 fits.2,
+        frame_of kind (run_plan c frame.0.frame) (parts_of_filled inner) frame.0.within frame.0.path,
+        runs_fill_holes inner frame.0.frame frame.1 fits.1,
+        runs_fill_holes f q runs.2 fits.2,
       )
 
-module _ (context : Dir) (whole : Plan) (accepted : AcceptedPaths page_machine whole) where
+module _ (c : RunContext) (whole : Plan) (accepted : AcceptedPaths page_machine whole) where
+  abbrev context : Dir
+  context = c.direction
+
   -- the pieces behind those so far are read by the page
   record IsRead (so_far all : List Piece) (page : State) : Type 0 where
     pub more : List Piece
@@ -136,28 +136,28 @@ module _ (context : Dir) (whole : Plan) (accepted : AcceptedPaths page_machine w
       }
 
   -- past a whole frame
-  past_frame : (f : Filled) → ReadFrom f → (classes : List ValueClass) (inner_kind : Kind) (inner : Filled)
-      → IsBlockKind inner_kind → RunsInFrame whole WholeRun inner_kind (parts_of_filled inner)
-      → FilledByRuns whole WholeRun inner →
+  past_frame : (f : Filled) → ReadFrom f → (q : FrameRun) (at : Site) (classes : List ValueClass) (inner_kind : Kind)
+      (inner : Filled) → IsBlockKind inner_kind → FrameFills c whole q WholeRun at inner_kind inner →
       FitsClasses inner → ((placed : State) → takes_classes (placing placed) classes ≡ true
       → takes_class (placing placed) (kind_class inner_kind) ≡ true)
-      → ReadFrom (frame_before classes inner_kind inner f)
-  past_frame f read classes inner_kind inner block frame inside fits one around kind so_far own page walk reads
+      → ReadFrom (frame_before at classes inner_kind inner f)
+  past_frame f read q at classes inner_kind inner block frame fits one around kind so_far own page walk reads
       own_follows page_follows settled more last fine leads kept =
       let takes : takes_class (placing walk) (kind_class inner_kind) ≡ true = one walk fine.0 in
-      let is_frame : IsFrameOf inner_kind (parts_of_filled inner) = whole_frame_of whole accepted inner_kind
-      (parts_of_filled inner) frame in
-      let fills : FillsHoles inner = runs_fill_holes whole accepted inner inside fits in
+      let is_frame : IsFrameOf inner_kind (parts_of_filled inner) =
+      frame_of c whole accepted inner_kind (run_plan c frame.0.frame) (parts_of_filled inner) frame.0.within
+      frame.0.path in
+      let fills : FillsHoles inner = runs_fill_holes c whole accepted inner frame.0.frame frame.1 fits in
       read_past f read around kind so_far (filled_pieces context inner inner_kind []) own page (after_value walk)
       reads (frame_law context None own walk inner_kind inner own_follows settled block takes is_frame fills)
       (frame_law context around page walk inner_kind inner page_follows settled block takes is_frame fills) settled
       more last fine.1 leads kept
 
-  read_on : (f : Filled) (end : RunEnd) → FilledByRuns whole end f → FitsClasses f → ReadFrom f
-  read_on filled_end end runs fits around kind so_far own page walk reads own_follows page_follows settled more last
+  read_on : (f : Filled) (end : RunEnd) (q : FrameRun) → FilledByRuns c whole q end f → FitsClasses f → ReadFrom f
+  read_on filled_end end q runs fits around kind so_far own page walk reads own_follows page_follows settled more last
       fine leads kept =
       record { more = []; is = sym (append-nil so_far); now = page; reads = refl }
-  read_on (text_before text f) end runs fits around kind so_far own page walk reads own_follows page_follows settled
+  read_on (text_before text f) end q runs fits around kind so_far own page walk reads own_follows page_follows settled
       more last fine leads kept =
       let rest : List PathPart = parts_of_filled f ++ more in
       let p : (w : State) × (after_text page_machine text walk ≡ Ok w)
@@ -169,38 +169,39 @@ module _ (context : Dir) (whole : Plan) (accepted : AcceptedPaths page_machine w
         | inl lost ↦ absurd (kept (lost_rest rest p.0 last lost fine_rest p.2))
         | inr o ↦ elim (text_follows around text page walk p.0 page_follows p.1) [
           | inl lost ↦ absurd (kept (lost_rest rest p.0 last lost fine_rest p.2))
-          | inr q ↦ read_past f (read_on f end runs fits) around kind so_far (Static text ∷ []) own page p.0 reads
-              (o.0, one_piece own o.0 (Static text) o.1, o.2) (q.0, one_piece page q.0 (Static text) q.1, q.2) q.3
+          | inr g ↦ read_past f (read_on f end q runs fits) around kind so_far (Static text ∷ []) own page p.0 reads
+              (o.0, one_piece own o.0 (Static text) o.1, o.2) (g.0, one_piece page g.0 (Static text) g.1, g.2) g.3
               more last fine_rest p.2 kept
         ]
       ]
-  read_on (value_before classes value text f) end runs fits around kind so_far own page walk reads own_follows
+  read_on (value_before at classes value text f) end q runs fits around kind so_far own page walk reads own_follows
       page_follows settled more last fine leads kept =
       let form : (out : List ℕ) × (escaped_where (placing walk) value text context ≡ Some out)
       × KeepsPlaceAt (placing walk) out = form_kept (placing walk) value text context
       (takes_one (placing walk) value classes fine.0 fits.0) runs.0 in
       let is_out : value_form (placing_after kind so_far) value text context ≡ form.0 =
       form_of_walk context kind so_far own walk classes value text form.0 reads own_follows fine.0 form.1 in
-      read_past f (read_on f end runs.1 fits.1) around kind so_far
+      read_past f (read_on f end q runs.1 fits.1) around kind so_far
       (Value (value_form (placing_after kind so_far) value text context) ∷ []) own page (after_value walk) reads
       (subst (λ o. LeadsOn None (Value o ∷ []) own (after_value walk)) (sym is_out)
       (value_follows None own walk form.0 own_follows form.2))
       (subst (λ o. LeadsOn around (Value o ∷ []) page (after_value walk)) (sym is_out)
       (value_follows around page walk form.0 page_follows form.2)) settled more last fine.1 leads kept
-  read_on (frame_before classes inner_kind inner filled_end) end runs fits around kind so_far own page walk reads
+  read_on (frame_before at classes inner_kind inner filled_end) end q runs fits around kind so_far own page walk reads
       own_follows page_follows settled more last fine leads kept =
-      let frame : RunsInFrame whole end inner_kind (parts_of_filled inner) = runs.1 in
+      let frame : FrameFills c whole q end at inner_kind inner = runs.1 in
+      let plan : Plan = run_plan c frame.0.frame in
       let takes : takes_class (placing walk) (kind_class inner_kind) ≡ true =
       takes_one (placing walk) (kind_class inner_kind) classes fine.0 fits.0 in
       let g : FrameGoesOn around page walk inner_kind = frame_goes_on around page walk inner_kind runs.0 page_follows
       takes settled in
-      let longer : GoesOnAs frame.plan (parts_of_filled inner) = path_goes_on end frame.plan (parts_of_filled inner)
-      frame.path in
+      let longer : GoesOnAs plan (parts_of_filled inner) = path_goes_on end plan (parts_of_filled inner)
+      frame.0.path in
       let run : FrameRuns inner_kind (parts_of_filled inner ++ longer.more) =
       frame_runs inner_kind (parts_of_filled inner ++ longer.more)
-      (frame_of whole accepted end inner_kind (parts_of_filled inner) longer.more frame longer.path) in
+      (frame_of c whole accepted inner_kind plan (parts_of_filled inner ++ longer.more) frame.0.within longer.path) in
       let r : IsRead [] (filled_pieces context inner inner_kind []) page =
-      read_on inner end runs.2 fits.1 g.0 inner_kind [] (start inner_kind) page (start inner_kind) refl
+      read_on inner end frame.0.frame frame.1 fits.1 g.0 inner_kind [] (start inner_kind) page (start inner_kind) refl
       (follows_itself (start inner_kind)) g.1 (starts_settled inner_kind) longer.more run.last run.fine run.leads
       (λ lost. may_not_end inner_kind run.last lost run.ends) in
       record {
@@ -209,37 +210,39 @@ module _ (context : Dir) (whole : Plan) (accepted : AcceptedPaths page_machine w
         now = r.now;
         reads = subst (λ l. after_pieces page l ≡ Ok r.now) (sym r.is) r.reads;
       }
-  read_on (frame_before classes inner_kind inner (text_before text f)) end runs fits around kind so_far own page walk
-      reads own_follows page_follows settled more last fine leads kept =
-      past_frame (text_before text f) (read_on (text_before text f) end runs.3 fits.2) classes inner_kind inner runs.0
-      runs.1 runs.2 fits.1 (λ s all. takes_one (placing s) (kind_class inner_kind) classes all fits.0)
+  read_on (frame_before at classes inner_kind inner (text_before text f)) end q runs fits around kind so_far own page
+      walk reads own_follows page_follows settled more last fine leads kept =
+      past_frame (text_before text f) (read_on (text_before text f) end q runs.2 fits.2) q at classes inner_kind inner
+      runs.0 runs.1 fits.1 (λ s all. takes_one (placing s) (kind_class inner_kind) classes all fits.0)
       around kind so_far own page walk reads own_follows page_follows settled more last fine leads kept
-  read_on (frame_before classes inner_kind inner (value_before others value text f)) end runs fits around kind so_far
-      own page walk reads own_follows page_follows settled more last fine leads kept =
-      past_frame (value_before others value text f) (read_on (value_before others value text f) end runs.3 fits.2)
-      classes inner_kind inner runs.0 runs.1 runs.2 fits.1
+  read_on (frame_before at classes inner_kind inner (value_before spot others value text f)) end q runs fits around
+      kind so_far own page walk reads own_follows page_follows settled more last fine leads kept =
+      past_frame (value_before spot others value text f)
+      (read_on (value_before spot others value text f) end q runs.2 fits.2) q at
+      classes inner_kind inner runs.0 runs.1 fits.1
       (λ s all. takes_one (placing s) (kind_class inner_kind) classes all fits.0)
       around kind so_far own page walk reads own_follows page_follows settled more last fine leads kept
-  read_on (frame_before classes inner_kind inner (frame_before others other within f)) end runs fits around kind
-      so_far own page walk reads own_follows page_follows settled more last fine leads kept =
-      past_frame (frame_before others other within f) (read_on (frame_before others other within f) end runs.3 fits.2)
-      classes inner_kind inner runs.0 runs.1 runs.2 fits.1
+  read_on (frame_before at classes inner_kind inner (frame_before spot others other within f)) end q runs fits around
+      kind so_far own page walk reads own_follows page_follows settled more last fine leads kept =
+      past_frame (frame_before spot others other within f)
+      (read_on (frame_before spot others other within f) end q runs.2 fits.2) q at
+      classes inner_kind inner runs.0 runs.1 fits.1
       (λ s all. takes_one (placing s) (kind_class inner_kind) classes all fits.0)
       around kind so_far own page walk reads own_follows page_follows settled more last fine leads kept
 
-  pub runs_are_read : (kind : Kind) (p : Plan) (o : Outcome) → IsFrameWithin whole kind p
-      → (r : RunsAlong context whole kind p o) → FitsClasses r.filled → (now : State)
-      × (after_pieces (start kind) (pieces_of_outcome o) ≡ Ok now)
-  runs_are_read kind p o within r fits =
-      let longer : GoesOnAs p (parts_of_filled r.filled) =
-      path_goes_on (end_of_outcome o) p (parts_of_filled r.filled) r.path in
-      let frame : RunsInFrame whole (end_of_outcome o) kind (parts_of_filled r.filled) =
-      record { plan = p; within = within; path = r.path } in
+  pub runs_are_read : (q : FrameRun) → IsFrameWithin whole q.kind (run_plan c q) → (r : RunsAlong c whole q)
+      → FitsClasses r.filled → (now : State)
+      × (after_pieces (start q.kind) (pieces_of_outcome (run_outcome c q)) ≡ Ok now)
+  runs_are_read q within r fits =
+      let p : Plan = run_plan c q in
+      let end : RunEnd = end_of_outcome (run_outcome c q) in
+      let kind : Kind = q.kind in
+      let longer : GoesOnAs p (parts_of_filled r.filled) = path_goes_on end p (parts_of_filled r.filled) r.path in
       let run : FrameRuns kind (parts_of_filled r.filled ++ longer.more) =
       frame_runs kind (parts_of_filled r.filled ++ longer.more)
-      (frame_of whole accepted (end_of_outcome o) kind (parts_of_filled r.filled) longer.more frame longer.path) in
+      (frame_of c whole accepted kind p (parts_of_filled r.filled ++ longer.more) within longer.path) in
       let read : IsRead [] (filled_pieces context r.filled kind []) (start kind) =
-      read_on r.filled (end_of_outcome o) r.runs fits None kind [] (start kind) (start kind) (start kind) refl
+      read_on r.filled end q r.runs fits None kind [] (start kind) (start kind) (start kind) refl
       (follows_itself (start kind)) (follows_itself (start kind)) (starts_settled kind) longer.more run.last
       run.fine run.leads (λ lost. may_not_end kind run.last lost run.ends) in
       (read.now, subst (λ l. after_pieces (start kind) l ≡ Ok read.now) (sym (r.pieces ∙ read.is)) read.reads)

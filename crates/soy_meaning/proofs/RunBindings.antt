@@ -2,7 +2,6 @@
 use Rattle.std.proofs.Common.{◌≡◌, ℕ, Bool, true, false, List, [], ◌∷◌, ◌++◌, inl, inr, Option, Some, None}
 use Rattle.std.proofs.Common.{if◌then◌else◌, refl}
 use Rattle.std.specs.Prelude.{bytes_eq, is_some, ◌&&◌}
-use Rattle.soy_base.specs.declared.direction.Dir.{Dir}
 use Rattle.soy_base.specs.declared.kind.Kind.{Kind}
 use Rattle.soy_tree.specs.Types.{Name}
 use Rattle.soy_tree.specs.Bodies.{param_of}
@@ -10,13 +9,22 @@ use Rattle.soy_tree.specs.Expressions.{Expr, NullLiteral, BoolLiteral, IntLitera
 use Rattle.soy_tree.specs.Expressions.{Index, Minus, Not, Binary, Coalesce, Conditional}
 use Rattle.soy_tree.specs.Templates.{Declared, callee, called_name, full_name, is_visible_from, template_of, visible}
 use Rattle.soy_tree.specs.Trees.{Param}
-use Rattle.soy_tree.specs.Val.{Binding, binding, is_null, is_truthy, val}
+use Rattle.soy_tree.specs.Val.{Binding, BlockOf, Known, binding, is_null, is_truthy, val}
 use Rattle.soy_meaning.specs.Giving.{BoundBlock, RunEnv}
-use Rattle.soy_meaning.specs.Pieces.{GivenArguments, callee_env, given_binding, handed_on, param_binding, with_index}
-use Rattle.soy_meaning.specs.Plan.{Plan, Either, any_of}
+use Rattle.soy_meaning.specs.Pieces.{
+  GivenArguments,
+  RunContext,
+  callee_env,
+  given_binding,
+  handed_on,
+  param_binding,
+  with_index,
+}
+use Rattle.soy_meaning.specs.Plan.{Plan, Either, Site, any_of}
 use Rattle.soy_meaning.specs.Points.{Address, Left, Right, frame_at}
-use Rattle.soy_meaning.specs.RunsAlong.{BindingRuns, EnvRuns, IsFrameWithin}
+use Rattle.soy_meaning.specs.RunsAlong.{BindsValues, EnvRuns, IsFrameWithin}
 use Rattle.soy_meaning.specs.States.{IsMember}
+use Rattle.soy_meaning.proofs.Goings.{IsGood}
 
 -- ---- frames within a plan
 
@@ -45,12 +53,24 @@ frames_right whole (p ∷ ps) qs h = frames_right whole ps qs h.1
 
 -- ---- values of variables and of expressions
 
-module _ (context : Dir) (whole : Plan) where
+module _ (c : RunContext) (whole : Plan) (IsStop : Site → Type 0) where
   abbrev Runs : Binding BoundBlock → Type 0
-  Runs = BindingRuns context whole
+  Runs = IsGood c whole IsStop
 
-  abbrev AllRun : RunEnv → Type 0
-  AllRun = EnvRuns context whole
+  abbrev pub AllRun : RunEnv → Type 0
+  AllRun [] = Unit {0}
+  AllRun (v ∷ env) = Runs v.1 × AllRun env
+
+  -- where the calls at which a block may stop aren't asked, and where no variable is a block
+  pub env_runs : ((at : Site) → IsStop at) → (env : RunEnv) → EnvRuns c whole env → AllRun env
+  env_runs any [] h = tt
+  env_runs any ((name, Known v) ∷ env) h = (tt, env_runs any env h.1)
+  env_runs any ((name, BlockOf block) ∷ env) h = ((h.0, (λ call ends. any call)), env_runs any env h.1)
+
+  pub values_run : (env : RunEnv) → BindsValues env → AllRun env
+  values_run [] h = tt
+  values_run ((name, Known v) ∷ env) h = (tt, values_run env h)
+  values_run ((name, BlockOf block) ∷ env) h = absurd h
 
   binding_if : (test : Bool) (one other : Binding BoundBlock) → Runs one → Runs other
       → Runs (if test then one else other)

@@ -1,21 +1,24 @@
 -- What templates give goes along paths of their plans.
 use Rattle.std.proofs.Common.{◌≡◌, ℕ, zero, suc, List, [], ◌∷◌, inl, inr, Option, map, refl, sym, ap, ◌∙◌, subst}
+use Rattle.std.proofs.Common.{arith}
 use Rattle.soy_tree.specs.MessageParts.{MsgParts}
 use Rattle.soy_tree.specs.Nodes.{Message}
 use Rattle.soy_tree.specs.Templates.{Declared, declared, param_scope}
 use Rattle.soy_tree.specs.Trees.{Tree}
-use Rattle.soy_meaning.specs.Filled.{filled_end}
+use Rattle.soy_meaning.specs.FrameRun.{FrameRun, entry_frame, plan_context, run_plan, template_frame}
 use Rattle.soy_meaning.specs.Giving.{RunEnv}
-use Rattle.soy_meaning.specs.Pieces.{RunContext, called_within, context_in, frame_outcome, template_run}
+use Rattle.soy_meaning.specs.Outcome.{StopsAt, end_of_outcome}
+use Rattle.soy_meaning.specs.Pieces.{RunContext, context_in, template_run}
 use Rattle.soy_meaning.specs.Plan.{Site, Plan, in_turn}
-use Rattle.soy_meaning.specs.PlanOfNodes.{declared_plan, trees_plan}
+use Rattle.soy_meaning.specs.PlanOfNodes.{declared_plan, nodes_plan, trees_plan}
 use Rattle.soy_meaning.specs.Points.{Here, Inside, Left, Right, frame_at}
-use Rattle.soy_meaning.specs.RunsAlong.{EnvRuns, IsFrameWithin, RunsAlong, frame_plan}
+use Rattle.soy_meaning.specs.RunsAlong.{BindsValues, EnvRuns, IsFrameWithin, RunsAlong}
 use Rattle.soy_meaning.specs.States.{IsMember}
+use Rattle.soy_meaning.specs.StopsWithin.{IsOpened, StopsWithin, itself}
 use Rattle.soy_meaning.specs.TranslationFits.{NodesFit, TranslationsFit}
-use Rattle.soy_meaning.proofs.NodeRuns.{frame_runs, plan_context}
-use Rattle.soy_meaning.proofs.RunBindings.{FramesIn}
-use Rattle.soy_meaning.proofs.SomePaths.{HasPath, nodes_path}
+use Rattle.soy_meaning.proofs.Goings.{Ran}
+use Rattle.soy_meaning.proofs.NodeRuns.{frame_runs}
+use Rattle.soy_meaning.proofs.RunBindings.{AllRun, FramesIn, env_runs, values_run}
 
 turn_frames : (f : Declared → Plan) (ds : List Declared) (d : Declared) → IsMember d ds
     → FramesIn (in_turn (map f ds)) (f d)
@@ -38,53 +41,73 @@ module _ (c : RunContext) where
   abbrev whole : Plan
   whole = whole_of c.declared
 
-  frame_within : (d : Declared) → IsMember d c.declared → IsFrameWithin whole d.template.kind (frame_plan c d)
-  frame_within d member = turn_frames (declared_plan c.translation c.declared) c.declared d member Here
-      d.template.kind (frame_plan c d) refl
+  abbrev frame_plan : Declared → Plan
+  frame_plan d = nodes_plan (plan_context (context_in c d)) d.template.body (param_scope d.template.params)
 
-  frames_within : (d : Declared) → IsMember d c.declared → FramesIn whole (frame_plan c d)
+  frame_within : (d : Declared) → IsMember d c.declared → IsFrameWithin whole d.template.kind (frame_plan d)
+  frame_within d member = turn_frames (declared_plan c.translation c.declared) c.declared d member Here
+      d.template.kind (frame_plan d) refl
+
+  frames_within : (d : Declared) → IsMember d c.declared → FramesIn whole (frame_plan d)
   frames_within d member y kind q e = turn_frames (declared_plan c.translation c.declared) c.declared d member
       (Inside y) kind q e
 
-  opened_runs : TranslationsFit c.translation c.declared → (left : ℕ)
-      → ((at : Site) (d : Declared) (env : RunEnv) → IsMember d c.declared → EnvRuns c.direction whole env
-      → RunsAlong c.direction whole d.template.kind (frame_plan c d) (called_within c left at d env)) →
-      (d : Declared) (env : RunEnv) → IsMember d c.declared → EnvRuns c.direction whole env
-      → RunsAlong c.direction whole d.template.kind (frame_plan c d)
-      (frame_outcome (context_in c d) (called_within c left) d.template.kind d.template.body env)
-  opened_runs fits left calls d env member runs =
-      frame_runs (context_in c d) (called_within c left) whole
-      (λ at e inner among inner_runs. record {
-        plan = frame_plan c e;
-        within = frame_within e among;
-        runs = calls at e inner among inner_runs;
-      })
-      d.template.kind d.template.body env runs (param_scope d.template.params) (frames_within d member)
-      (member_fits c.translation c.declared d member fits)
+  module _ (IsStop : Site → Type 0) (entry : FrameRun) (stop : (at : Site) → StopsWithin c entry at → IsStop at)
+      (fits : TranslationsFit c.translation c.declared) where
+    one_less : (left fewer : ℕ) → suc left ≡ suc fewer → left ≡ fewer
+    one_less left fewer e = omega (arith, e)
 
-  called_runs : TranslationsFit c.translation c.declared → (left : ℕ) (at : Site) (d : Declared) (env : RunEnv)
-      → IsMember d c.declared → EnvRuns c.direction whole env → RunsAlong c.direction whole d.template.kind
-      (frame_plan c d) (called_within c left at d env)
-  unfolding called_within
-  called_runs fits zero at d env member runs =
-      let some : HasPath (frame_plan c d) = nodes_path (plan_context (context_in c d)) d.template.body
-      (param_scope d.template.params) in
-      record { filled = filled_end; pieces = refl; path = (some.parts, some.path); runs = tt }
-  called_runs fits (suc left) at d env member runs = opened_runs fits left (called_runs fits left) d env member runs
+    never : (fewer : ℕ) → zero ≡ suc fewer → ⊥
+    never fewer e = omega (arith, e)
 
-  template_runs : TranslationsFit c.translation c.declared → (d : Declared) (env : RunEnv) → IsMember d c.declared
-      → EnvRuns c.direction whole env → RunsAlong c.direction whole d.template.kind (frame_plan c d)
-      (template_run c d env)
-  template_runs fits d env member runs = opened_runs fits 100 (called_runs fits 100) d env member runs
+    -- a template by itself, where those that it calls have run
+    frame_ran : (left : ℕ) → ((fewer : ℕ) → left ≡ suc fewer → (d : Declared) (env : RunEnv) → IsMember d c.declared
+        → AllRun c whole IsStop env → IsOpened c entry (template_frame fewer d env)
+        → Ran c whole IsStop (template_frame fewer d env)) →
+        (d : Declared) (env : RunEnv) → IsMember d c.declared → AllRun c whole IsStop env
+        → IsOpened c entry (template_frame left d env) → Ran c whole IsStop (template_frame left d env)
+    frame_ran left deeper d env member runs opened =
+        frame_runs c whole IsStop entry stop left deeper (template_frame left d env)
+        (record { same_left = refl; opened = opened }) runs (frame_within d member) (frames_within d member)
+        (member_fits c.translation c.declared d member fits)
+
+    template_ran : (left : ℕ) (d : Declared) (env : RunEnv) → IsMember d c.declared → AllRun c whole IsStop env
+        → IsOpened c entry (template_frame left d env) → Ran c whole IsStop (template_frame left d env)
+    template_ran zero d env member runs opened =
+        frame_ran zero (λ fewer e inner inner_env among inner_runs inner_opened. absurd (never fewer e)) d env member
+        runs opened
+    template_ran (suc left) d env member runs opened =
+        frame_ran (suc left)
+        (λ fewer e inner inner_env among inner_runs. subst
+        (λ n. IsOpened c entry (template_frame n inner inner_env)
+        → Ran c whole IsStop (template_frame n inner inner_env)) (one_less left fewer e)
+        (template_ran left inner inner_env among inner_runs))
+        d env member runs opened
+
+  entry_runs : TranslationsFit c.translation c.declared → (d : Declared) (env : RunEnv) → IsMember d c.declared
+      → EnvRuns c whole env → RunsAlong c whole (entry_frame d env)
+  entry_runs fits d env member runs =
+      (template_ran (λ at. Unit {0}) (entry_frame d env) (λ at h. tt) fits 100 d env member
+      (env_runs c whole (λ at. Unit {0}) (λ at. tt) env runs) itself).runs
 
   pub runs_are_paths : TranslationsFit c.translation c.declared → (trees : List Tree) (d : Declared) (env : RunEnv)
-      → c.declared ≡ declared trees → IsMember d c.declared → EnvRuns c.direction (trees_plan c.translation trees) env →
-      RunsAlong c.direction (trees_plan c.translation trees) d.template.kind (frame_plan c d) (template_run c d env)
+      → c.declared ≡ declared trees → IsMember d c.declared → EnvRuns c (trees_plan c.translation trees) env →
+      RunsAlong c (trees_plan c.translation trees) (entry_frame d env)
   runs_are_paths fits trees d env are member =
-      subst (λ ds. EnvRuns c.direction (whole_of ds) env → RunsAlong c.direction (whole_of ds) d.template.kind
-      (frame_plan c d) (template_run c d env)) are (template_runs fits d env member)
+      subst (λ ds. EnvRuns c (whole_of ds) env → RunsAlong c (whole_of ds) (entry_frame d env)) are
+      (entry_runs fits d env member)
 
-  pub frame_stands : (trees : List Tree) (d : Declared) → c.declared ≡ declared trees → IsMember d c.declared
-      → IsFrameWithin (trees_plan c.translation trees) d.template.kind (frame_plan c d)
-  frame_stands trees d are member = subst (λ ds. IsFrameWithin (whole_of ds) d.template.kind (frame_plan c d)) are
+  -- where it stops
+  pub entry_stops : TranslationsFit c.translation c.declared → (d : Declared) (env : RunEnv) → IsMember d c.declared
+      → BindsValues env → (call : Site) → end_of_outcome (template_run c d env) ≡ StopsAt call
+      → StopsWithin c (entry_frame d env) call
+  entry_stops fits d env member values call ends =
+      (template_ran (StopsWithin c (entry_frame d env)) (entry_frame d env) (λ at h. h) fits 100 d env member
+      (values_run c whole (StopsWithin c (entry_frame d env)) env values) itself).stops call ends
+
+  pub frame_stands : (trees : List Tree) (d : Declared) (env : RunEnv) → c.declared ≡ declared trees
+      → IsMember d c.declared
+      → IsFrameWithin (trees_plan c.translation trees) d.template.kind (run_plan c (entry_frame d env))
+  frame_stands trees d env are member =
+      subst (λ ds. IsFrameWithin (whole_of ds) d.template.kind (run_plan c (entry_frame d env))) are
       (frame_within d member)

@@ -18,7 +18,7 @@ module _ {S : Type 0} (m : Machine S) where
       followed_ok (after_text m text s) (λ v. state_after_parts m a v) t h in
       followed_is (after_text m text s) (λ v. state_after_parts m (a ++ b) v) p.0 (Ok u) p.1
       (run_join a b p.0 t u p.2 k)
-  run_join (HolePart classes ∷ a) b s t u h k = run_join a b (m.value s) t u h k
+  run_join (HolePart at classes ∷ a) b s t u h k = run_join a b (m.value s) t u h k
 
   pub run_cut : (a b : List PathPart) (s u : S) → state_after_parts m (a ++ b) s ≡ Ok u → (t : S)
       × (state_after_parts m a s ≡ Ok t) × (state_after_parts m b t ≡ Ok u)
@@ -28,7 +28,7 @@ module _ {S : Type 0} (m : Machine S) where
       followed_ok (after_text m text s) (λ v. state_after_parts m (a ++ b) v) u h in
       let r : (t : S) × (state_after_parts m a p.0 ≡ Ok t) × (state_after_parts m b t ≡ Ok u) = run_cut a b p.0 u p.2 in
       (r.0, followed_is (after_text m text s) (λ v. state_after_parts m a v) p.0 (Ok r.0) p.1 r.1, r.2)
-  run_cut (HolePart classes ∷ a) b s u h = run_cut a b (m.value s) u h
+  run_cut (HolePart at classes ∷ a) b s u h = run_cut a b (m.value s) u h
 
   at_static : (at : Site) (text : List ℕ) (l : List PathPart) (s t : S) → IsPath (StaticText at text) l
       → state_after_parts m l s ≡ Ok t → after_text m text s ≡ Ok t
@@ -57,7 +57,7 @@ module _ {S : Type 0} (m : Machine S) where
   hole_reached at classes s t r = at_hole at classes r.parts s t r.path r.reads
 
   pub hole_reaches : (at : Site) (classes : List ValueClass) (s : S) → PathLeads m (Hole at classes) s (m.value s)
-  hole_reaches at classes s = record { parts = HolePart classes ∷ []; path = hole; reads = refl }
+  hole_reaches at classes s = record { parts = HolePart at classes ∷ []; path = hole; reads = refl }
 
   at_nothing : (l : List PathPart) (s t : S) → IsPath Nothing l → state_after_parts m l s ≡ Ok t → s ≡ t
   at_nothing l s t empty_path h = ok_same s t h

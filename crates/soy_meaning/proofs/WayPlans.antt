@@ -52,10 +52,10 @@ frame_ways kind at p =
     record { to = frame_path kind at p; from = λ l e. subst (λ z. IsPath (Frame kind at p) z) (sym e) passed_by }
 
 hole_parts : (at : Site) (classes : List ValueClass) (l : List PathPart) → IsPath (Hole at classes) l
-    → l ≡ HolePart classes ∷ []
+    → l ≡ HolePart at classes ∷ []
 hole_parts at classes l hole = refl
 
-hole_ways : (at : Site) (classes : List ValueClass) → HasWays (Hole at classes) (λ l. l ≡ HolePart classes ∷ [])
+hole_ways : (at : Site) (classes : List ValueClass) → HasWays (Hole at classes) (λ l. l ≡ HolePart at classes ∷ [])
 hole_ways at classes =
     record { to = hole_parts at classes; from = λ l e. subst (λ z. IsPath (Hole at classes) z) (sym e) hole }
 
@@ -179,18 +179,18 @@ joined_ways ps qs One Other one other = record {
 -- ---- translations
 
 tag_ways : (scope : Scope) (at : Site) (text : List ℕ) (tag : List MessageItem)
-    → HasWays (tag_plan scope at text tag) (IsWayOfTag scope text tag)
+    → HasWays (tag_plan scope at text tag) (IsWayOfTag scope at text tag)
 tag_ways scope at text [] = text_ways at text
 tag_ways scope at text (Character c span ∷ rest) = tag_ways scope at (text ++ (c ∷ [])) rest
 tag_ways scope at text (Printed e phname span ∷ rest) =
     then_ways (text_plan at text) (Then (Hole at (printed_classes e scope)) (tag_plan scope at [] rest))
     (λ a. a ≡ text_parts text)
-    (IsBoth (λ a. a ≡ HolePart (printed_classes e scope) ∷ []) (IsWayOfTag scope [] rest)) (text_ways at text)
+    (IsBoth (λ a. a ≡ HolePart at (printed_classes e scope) ∷ []) (IsWayOfTag scope at [] rest)) (text_ways at text)
     (then_ways (Hole at (printed_classes e scope)) (tag_plan scope at [] rest)
-    (λ a. a ≡ HolePart (printed_classes e scope) ∷ []) (IsWayOfTag scope [] rest)
+    (λ a. a ≡ HolePart at (printed_classes e scope) ∷ []) (IsWayOfTag scope at [] rest)
     (hole_ways at (printed_classes e scope)) (tag_ways scope at [] rest))
 
-cut_ways : (scope : Scope) (at : Site) (cut : Option Cut) → HasWays (cut_plan scope at cut) (IsWayOfCut scope cut)
+cut_ways : (scope : Scope) (at : Site) (cut : Option Cut) → HasWays (cut_plan scope at cut) (IsWayOfCut scope at cut)
 cut_ways scope at None = nothing_ways
 cut_ways scope at (Some (TextCut text)) = nothing_ways
 cut_ways scope at (Some (PrintCut e phname span)) = hole_ways at (printed_classes e scope)
@@ -198,44 +198,44 @@ cut_ways scope at (Some (TagCut tag)) = tag_ways scope at [] tag
 
 module _ (uses : List Use) (scope : Scope) (at : Site) where
   mutual
-    part_ways : (p : MsgPart) → HasWays (part_plan uses scope at p) (IsWayOfPart uses scope p)
+    part_ways : (p : MsgPart) → HasWays (part_plan uses scope at p) (IsWayOfPart uses scope at p)
     part_ways (TextPart text) = text_ways at text
     part_ways (Placeholder name) = cut_ways scope at (placeholder_cut name uses uses)
     part_ways NumberPart = hole_ways at _
     part_ways (PluralPart ordinal name offset exact named) =
         meet_ways at (exact_plans uses scope at exact ++ named_plans uses scope at named)
-        (IsWayOfPart uses scope (PluralPart ordinal name offset exact named))
+        (IsWayOfPart uses scope at (PluralPart ordinal name offset exact named))
         (joined_ways (exact_plans uses scope at exact) (named_plans uses scope at named)
-        (IsWayOfExact uses scope exact) (IsWayOfNamed uses scope named) (exact_ways exact) (named_ways named))
+        (IsWayOfExact uses scope at exact) (IsWayOfNamed uses scope at named) (exact_ways exact) (named_ways named))
     part_ways (SelectPart name arms) = meet_ways at (select_arm_plans uses scope at arms)
-        (IsWayOfWords uses scope arms) (word_ways arms)
+        (IsWayOfWords uses scope at arms) (word_ways arms)
 
-    pub parts_ways : (ps : MsgParts) → HasWays (parts_plan uses scope at ps) (IsWayOfParts uses scope ps)
+    pub parts_ways : (ps : MsgParts) → HasWays (parts_plan uses scope at ps) (IsWayOfParts uses scope at ps)
     parts_ways no_part = nothing_ways
     parts_ways (part p ps) = then_ways (part_plan uses scope at p) (parts_plan uses scope at ps)
-        (IsWayOfPart uses scope p) (IsWayOfParts uses scope ps) (part_ways p) (parts_ways ps)
+        (IsWayOfPart uses scope at p) (IsWayOfParts uses scope at ps) (part_ways p) (parts_ways ps)
 
-    exact_ways : (arms : ExactArms) → AnyHasWays (exact_plans uses scope at arms) (IsWayOfExact uses scope arms)
+    exact_ways : (arms : ExactArms) → AnyHasWays (exact_plans uses scope at arms) (IsWayOfExact uses scope at arms)
     exact_ways no_exact_arm = no_ways
     exact_ways (exact_arm n ps arms) = more_ways (parts_plan uses scope at ps) (exact_plans uses scope at arms)
-        (IsWayOfParts uses scope ps) (IsWayOfExact uses scope arms) (parts_ways ps) (exact_ways arms)
+        (IsWayOfParts uses scope at ps) (IsWayOfExact uses scope at arms) (parts_ways ps) (exact_ways arms)
 
-    named_ways : (arms : NamedArms) → AnyHasWays (named_plans uses scope at arms) (IsWayOfNamed uses scope arms)
+    named_ways : (arms : NamedArms) → AnyHasWays (named_plans uses scope at arms) (IsWayOfNamed uses scope at arms)
     named_ways no_named_arm = no_ways
     named_ways (named_arm of ps arms) = more_ways (parts_plan uses scope at ps) (named_plans uses scope at arms)
-        (IsWayOfParts uses scope ps) (IsWayOfNamed uses scope arms) (parts_ways ps) (named_ways arms)
+        (IsWayOfParts uses scope at ps) (IsWayOfNamed uses scope at arms) (parts_ways ps) (named_ways arms)
 
-    word_ways : (arms : SelectArms) → AnyHasWays (select_arm_plans uses scope at arms) (IsWayOfWords uses scope arms)
+    word_ways : (arms : SelectArms) → AnyHasWays (select_arm_plans uses scope at arms) (IsWayOfWords uses scope at arms)
     word_ways no_select_arm = no_ways
     word_ways (select_arm word ps arms) =
-        more_ways (parts_plan uses scope at ps) (select_arm_plans uses scope at arms) (IsWayOfParts uses scope ps)
-        (IsWayOfWords uses scope arms) (parts_ways ps) (word_ways arms)
+        more_ways (parts_plan uses scope at ps) (select_arm_plans uses scope at arms) (IsWayOfParts uses scope at ps)
+        (IsWayOfWords uses scope at arms) (parts_ways ps) (word_ways arms)
 
 translated_ways : (uses : List Use) (scope : Scope) (at : Site) (found : Option MsgParts)
-    → AnyHasWays (translated_plan uses scope at found) (IsWayOfTranslation uses scope found)
+    → AnyHasWays (translated_plan uses scope at found) (IsWayOfTranslation uses scope at found)
 translated_ways uses scope at None = no_ways
 translated_ways uses scope at (Some parts) = last_ways (parts_plan uses scope at parts)
-    (IsWayOfParts uses scope parts) (parts_ways uses scope at parts)
+    (IsWayOfParts uses scope at parts) (parts_ways uses scope at parts)
 
 -- ---- nodes
 
@@ -250,7 +250,7 @@ past_ways p q One one none = record {
 
 module _ (c : PlanContext) where
   fallback_ways : (other : Fallback) (scope : Scope) (at : Site) → AnyHasWays (fallback_plans c other scope at)
-      (IsWayOfFallback c other scope)
+      (IsWayOfFallback c other scope at)
   fallback_ways no_fallback scope at = no_ways
   fallback_ways (fallback m) scope at = translated_ways (uses_of m) scope at (c.translation m)
 
@@ -295,10 +295,10 @@ module _ (c : PlanContext) where
         let fallbacks : List Plan = fallback_plans c other scope at in
         meet_ways at (source_plan c m scope at ∷ (own ++ fallbacks)) (IsWayOfNode c (MessageNode m other span) scope)
         (more_ways (source_plan c m scope at) (own ++ fallbacks) (IsWayOfMessage c m scope)
-        (λ l. IsWayOfTranslation (uses_of m) scope (c.translation m) l ⊎ IsWayOfFallback c other scope l)
+        (λ l. IsWayOfTranslation (uses_of m) scope at (c.translation m) l ⊎ IsWayOfFallback c other scope at l)
         (source_ways m scope at)
-        (joined_ways own fallbacks (IsWayOfTranslation (uses_of m) scope (c.translation m))
-        (IsWayOfFallback c other scope) (translated_ways (uses_of m) scope at (c.translation m))
+        (joined_ways own fallbacks (IsWayOfTranslation (uses_of m) scope at (c.translation m))
+        (IsWayOfFallback c other scope at) (translated_ways (uses_of m) scope at (c.translation m))
         (fallback_ways other scope at)))
 
     pub nodes_ways : (ns : Nodes) (scope : Scope) → HasWays (nodes_plan c ns scope) (IsWayOfNodes c ns scope)

@@ -4,7 +4,7 @@
 -- whole, or at the same call. What the values are doesn't count. Example: two runs of `{if $x}<b>{$y}</b>{/if}`, both
 -- with `$x` true, are alike, whatever `$y` is.
 use Rattle.std.specs.Prelude.{◌≡◌, Bool, true, List, [], ◌∷◌, ◌++◌}
-use Rattle.html_state.specs.Pieces.{Piece, Static, Value}
+use Rattle.html_state.specs.AfterPieces.{Piece, Static, Value}
 use Rattle.soy_tree.specs.Val.{Binding, BlockOf, Known}
 use Rattle.soy_meaning.specs.Giving.{BoundBlock, RunEnv}
 use Rattle.soy_meaning.specs.Outcome.{ChoiceMade, Outcome, choices_of_outcome, end_of_outcome, pieces_of_outcome}

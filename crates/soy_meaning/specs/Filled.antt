@@ -10,11 +10,11 @@ use Rattle.soy_base.specs.declared.kind.Kind.{Kind}
 use Rattle.soy_base.specs.declared.kind.Kind.TheVariants as kind
 use Rattle.soy_base.specs.declared.place.Placing.{Placing}
 use Rattle.soy_base.specs.declared.place.ValueClass.{ValueClass}
-use Rattle.html_state.specs.Pieces.{Piece, Static, Value, placing_after}
+use Rattle.html_state.specs.AfterPieces.{Piece, Static, Value, placing_after}
 use Rattle.soy_meaning.specs.EscapedAt.{escaped_where, is_text_of}
 use Rattle.soy_meaning.specs.FourPoints.{FourPoints, AcceptedPaths}
 use Rattle.soy_meaning.specs.PageMachine.{page_machine}
-use Rattle.soy_meaning.specs.Plan.{Plan}
+use Rattle.soy_meaning.specs.Plan.{Plan, Site}
 use Rattle.soy_meaning.specs.PlanOfNodes.{kind_class}
 use Rattle.soy_meaning.specs.PathParts.{PathPart, StaticPart, HolePart, IsPath}
 use Rattle.soy_meaning.specs.States.{IsMember}
@@ -22,16 +22,16 @@ use Rattle.soy_meaning.specs.States.{IsMember}
 pub data Filled : Type 0 where
   filled_end : Filled
   text_before : List ℕ → Filled → Filled
-  -- the classes of the hole, and the class and the text of the value
-  value_before : List ValueClass → ValueClass → List ℕ → Filled → Filled
-  -- the classes of the hole, and the kind of the frame and what fills it
-  frame_before : List ValueClass → Kind → Filled → Filled → Filled
+  -- the site and the classes of the hole, and the class and the text of the value
+  value_before : Site → List ValueClass → ValueClass → List ℕ → Filled → Filled
+  -- the site and the classes of the hole, and the kind of the frame and what fills it
+  frame_before : Site → List ValueClass → Kind → Filled → Filled → Filled
 
 abbrev pub parts_of_filled : Filled → List PathPart
 parts_of_filled filled_end = []
 parts_of_filled (text_before text f) = StaticPart text ∷ parts_of_filled f
-parts_of_filled (value_before classes value text f) = HolePart classes ∷ parts_of_filled f
-parts_of_filled (frame_before classes kind inner f) = HolePart classes ∷ parts_of_filled f
+parts_of_filled (value_before at classes value text f) = HolePart at classes ∷ parts_of_filled f
+parts_of_filled (frame_before at classes kind inner f) = HolePart at classes ∷ parts_of_filled f
 
 -- where a value has no form, it gives nothing
 abbrev pub value_form : Result Placing Code → ValueClass → List ℕ → Dir → List ℕ
@@ -42,9 +42,9 @@ value_form (Err code) value text context = []
 abbrev pub filled_pieces : Dir → Filled → Kind → List Piece → List Piece
 filled_pieces context filled_end kind so_far = so_far
 filled_pieces context (text_before text f) kind so_far = filled_pieces context f kind (so_far ++ (Static text ∷ []))
-filled_pieces context (value_before classes value text f) kind so_far =
+filled_pieces context (value_before at classes value text f) kind so_far =
     filled_pieces context f kind (so_far ++ (Value (value_form (placing_after kind so_far) value text context) ∷ []))
-filled_pieces context (frame_before classes inner_kind inner f) kind so_far =
+filled_pieces context (frame_before at classes inner_kind inner f) kind so_far =
     filled_pieces context f kind (so_far ++ filled_pieces context inner inner_kind [])
 
 abbrev pub IsBlockKind : Kind → Type 0
@@ -62,7 +62,8 @@ pub record IsFrameOf (kind : Kind) (parts : List PathPart) : Type 0 where
 abbrev pub FillsHoles : Filled → Type 0
 FillsHoles filled_end = Unit {0}
 FillsHoles (text_before text f) = FillsHoles f
-FillsHoles (value_before classes value text f) = IsMember value classes × IsTrue (is_text_of value text) × FillsHoles f
-FillsHoles (frame_before classes kind inner f) =
+FillsHoles (value_before at classes value text f) = IsMember value classes × IsTrue (is_text_of value text) ×
+    FillsHoles f
+FillsHoles (frame_before at classes kind inner f) =
     IsBlockKind kind × IsMember (kind_class kind) classes × IsFrameOf kind (parts_of_filled inner)
     × FillsHoles inner × FillsHoles f

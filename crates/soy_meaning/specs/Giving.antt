@@ -13,7 +13,7 @@ use Rattle.soy_base.specs.declared.kind.Kind.TheVariants as kind
 use Rattle.soy_base.specs.declared.place.Placing.{Placing}
 use Rattle.soy_base.specs.declared.place.ValueClass.{ValueClass}
 use Rattle.soy_base.specs.declared.place.ValueClass.TheVariants as class
-use Rattle.html_state.specs.Pieces.{Piece, Static, Value, after_piece}
+use Rattle.html_state.specs.AfterPieces.{Piece, Static, Value, after_piece}
 use Rattle.html_state.specs.StatePlacing.{placing}
 use Rattle.html_state.specs.declared.row.State.{State}
 use Rattle.soy_tree.specs.Faults.{followed_by}

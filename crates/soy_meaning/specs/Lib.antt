@@ -20,6 +20,10 @@ pub mod Pieces
 pub mod Meaning
 pub mod RunRows
 pub mod TranslationFits
+pub mod FrameRun
+pub mod ComesNext
+pub mod GivenAt
+pub mod StopsWithin
 pub mod RunsAlong
 pub mod PicksValues
 pub mod EqualChoices

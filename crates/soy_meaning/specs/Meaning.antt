@@ -2,7 +2,7 @@
 --
 -- Example: `{if $x}a{/if}{$y}` with `$x` true and `$y` `<` means the bytes of `a<span dir="ltr">&lt;</span>`.
 use Rattle.std.specs.Prelude.{ℕ, List, [], ◌∷◌, ◌++◌, encode_utf8_all}
-use Rattle.html_state.specs.Pieces.{Piece, Static, Value}
+use Rattle.html_state.specs.AfterPieces.{Piece, Static, Value}
 use Rattle.soy_tree.specs.Templates.{Declared}
 use Rattle.soy_meaning.specs.Giving.{RunEnv}
 use Rattle.soy_meaning.specs.Outcome.{pieces_of_outcome}

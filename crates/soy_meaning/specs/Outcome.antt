@@ -6,7 +6,7 @@
 -- valued. Example: `{if $x}a{/if}b` with `$x` true gives `a` with the cost 1 and the choice of the first arm, and then
 -- `b` with the cost 0.
 use Rattle.std.specs.Prelude.{ℕ, ◌+◌, List, [], ◌∷◌, ◌++◌, Option}
-use Rattle.html_state.specs.Pieces.{Piece, Static, Value}
+use Rattle.html_state.specs.AfterPieces.{Piece, Static, Value}
 use Rattle.soy_meaning.specs.Plan.{Site}
 
 pub data RunEnd : Type 0 where

@@ -1,6 +1,7 @@
 -- The paths of a plan, and the states of a machine along them.
 --
--- A path is a list of static texts and holes. It takes any arm where arms stand side by side and any number of turns of
+-- A path is a list of static texts and holes, each hole with its site. It takes any arm where arms stand side by side
+-- and any number of turns of
 -- a loop, and passes by the frames within. Along it the machine reads each static text and its end, and goes on from a
 -- hole as after a value.
 -- Example: `<b>{$x}` has one path, the text `<b>` and a hole; after it the state is data again.
@@ -14,12 +15,12 @@ use Rattle.soy_meaning.specs.Plan.{Site, Plan, Nothing, StaticText, Hole, Then, 
 
 pub data PathPart : Type 0 where
   StaticPart : List ℕ → PathPart
-  HolePart : List ValueClass → PathPart
+  HolePart : Site → List ValueClass → PathPart
 
 pub data IsPath : Plan → List PathPart → Type 0 where
   empty_path : IsPath Nothing []
   static_text : {at : Site} {text : List ℕ} → IsPath (StaticText at text) (StaticPart text ∷ [])
-  hole : {at : Site} {classes : List ValueClass} → IsPath (Hole at classes) (HolePart classes ∷ [])
+  hole : {at : Site} {classes : List ValueClass} → IsPath (Hole at classes) (HolePart at classes ∷ [])
   both : {p q : Plan} {a b : List PathPart} → IsPath p a → IsPath q b → IsPath (Then p q) (a ++ b)
   first_way : {p q : Plan} {a : List PathPart} → IsPath p a → IsPath (Either p q) a
   second_way : {p q : Plan} {a : List PathPart} → IsPath q a → IsPath (Either p q) a
@@ -37,7 +38,7 @@ module _ {S : Type 0} (m : Machine S) where
   abbrev pub state_after_parts : List PathPart → S → Result S Code
   state_after_parts [] s = Ok s
   state_after_parts (StaticPart text ∷ l) s = followed_by (after_text text s) (λ t. state_after_parts l t)
-  state_after_parts (HolePart classes ∷ l) s = state_after_parts l (m.value s)
+  state_after_parts (HolePart at classes ∷ l) s = state_after_parts l (m.value s)
 
   -- some path leads from the one state to the other
   pub record PathLeads (p : Plan) (s t : S) : Type 0 where

@@ -3,8 +3,8 @@
 -- Nodes give what they give in source order, with the variables that each binds. An if and a switch take the first arm
 -- that holds, a loop its body for each item, a message the text that the bundle chooses. A call's parameters are valued
 -- first, in source order; then the call is opened, or, where it would stand more than 100 calls deep, the run stops
--- there. A block counts as standing where it is written. Example: `{let $b kind="html"}<i>{$x}</i>{/let}{$b}{$b}` gives
--- the pieces of the block twice.
+-- there. A block's calls are counted from where it is written. Example:
+-- `{let $b kind="html"}<i>{$x}</i>{/let}{$b}{$b}` gives the pieces of the block twice.
 use Rattle.std.specs.Prelude.{ℕ, zero, suc, ◌+◌, ℤ, pos, Bool, true, false, ◌&&◌, List, [], ◌∷◌, ◌++◌, Option, Some}
 use Rattle.std.specs.Prelude.{None, Ok, is_some, if◌then◌else◌, bytes_eq}
 use Rattle.soy_base.specs.declared.direction.Dir.{Dir}

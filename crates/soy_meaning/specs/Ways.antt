@@ -1,7 +1,8 @@
 -- The ways through a tree, in the words of templates: which texts and holes can follow one another, whatever the data.
 --
--- A text gives itself, unless it is empty. A print is a hole of the classes of its type, and a call one of the callee's
--- kind. An if goes one of its arms or its else, where there is none past it; so does a switch. A loop goes its body any
+-- A text gives itself, unless it is empty. A print is a hole of the classes of its type, at its site, and a call one of
+-- the callee's kind; those of a translation stand at its message. An if goes one of its arms or its else, where there
+-- is none past it; so does a switch. A loop goes its body any
 -- number of times. A message goes its source, its translation or its fallback's translation, and in each any arm of a
 -- plural or a select. A let gives nothing, and a block's own ways are those of a frame of its own.
 -- Example: the ways of `<p {if $x}id="a"{/if}>` are `<p `, `id="a"`, `>` and `<p `, `>`.
@@ -21,7 +22,8 @@ use Rattle.soy_tree.specs.Placeholders.{Use}
 use Rattle.soy_tree.specs.Templates.{callee}
 use Rattle.soy_tree.specs.TypeOf.{Scope, type_of}
 use Rattle.soy_meaning.specs.PathParts.{HolePart, PathPart, StaticPart}
-use Rattle.soy_meaning.specs.PlanOfNodes.{PlanContext, body_scope, called_classes, scope_past, uses_of}
+use Rattle.soy_meaning.specs.Plan.{Site}
+use Rattle.soy_meaning.specs.PlanOfNodes.{PlanContext, body_scope, called_classes, scope_past, starts_at, uses_of}
 use Rattle.soy_meaning.specs.PlanOfParts.{placeholder_cut, printed_classes}
 
 abbrev pub text_parts : List ℕ → List PathPart
@@ -40,24 +42,24 @@ pub data IsRepeated (One : List PathPart → Type 0) : List PathPart → Type 0 
 -- ---- translations
 
 -- the texts and prints of a tag, behind this text
-abbrev pub IsWayOfTag : Scope → List ℕ → List MessageItem → List PathPart → Type 0
-IsWayOfTag scope text [] l = l ≡ text_parts text
-IsWayOfTag scope text (Character c span ∷ rest) l = IsWayOfTag scope (text ++ (c ∷ [])) rest l
-IsWayOfTag scope text (Printed e phname span ∷ rest) l =
+abbrev pub IsWayOfTag : Scope → Site → List ℕ → List MessageItem → List PathPart → Type 0
+IsWayOfTag scope at text [] l = l ≡ text_parts text
+IsWayOfTag scope at text (Character c span ∷ rest) l = IsWayOfTag scope at (text ++ (c ∷ [])) rest l
+IsWayOfTag scope at text (Printed e phname span ∷ rest) l =
     IsBoth (λ a. a ≡ text_parts text)
-    (IsBoth (λ a. a ≡ HolePart (printed_classes e scope) ∷ []) (IsWayOfTag scope [] rest)) l
+    (IsBoth (λ a. a ≡ HolePart at (printed_classes e scope) ∷ []) (IsWayOfTag scope at [] rest)) l
 
-abbrev pub IsWayOfCut : Scope → Option Cut → List PathPart → Type 0
-IsWayOfCut scope (Some (PrintCut e phname span)) l = l ≡ HolePart (printed_classes e scope) ∷ []
-IsWayOfCut scope (Some (TagCut tag)) l = IsWayOfTag scope [] tag l
-IsWayOfCut scope _ l = l ≡ []
+abbrev pub IsWayOfCut : Scope → Site → Option Cut → List PathPart → Type 0
+IsWayOfCut scope at (Some (PrintCut e phname span)) l = l ≡ HolePart at (printed_classes e scope) ∷ []
+IsWayOfCut scope at (Some (TagCut tag)) l = IsWayOfTag scope at [] tag l
+IsWayOfCut scope at _ l = l ≡ []
 
-module _ (uses : List Use) (scope : Scope) where
+module _ (uses : List Use) (scope : Scope) (at : Site) where
   abbrev mutual
     pub IsWayOfPart : MsgPart → List PathPart → Type 0
     IsWayOfPart (TextPart text) l = l ≡ text_parts text
-    IsWayOfPart (Placeholder name) l = IsWayOfCut scope (placeholder_cut name uses uses) l
-    IsWayOfPart NumberPart l = l ≡ HolePart (class.Int ∷ []) ∷ []
+    IsWayOfPart (Placeholder name) l = IsWayOfCut scope at (placeholder_cut name uses uses) l
+    IsWayOfPart NumberPart l = l ≡ HolePart at (class.Int ∷ []) ∷ []
     IsWayOfPart (PluralPart ordinal name offset exact named) l = IsWayOfExact exact l ⊎ IsWayOfNamed named l
     IsWayOfPart (SelectPart name arms) l = IsWayOfWords arms l
 
@@ -77,30 +79,32 @@ module _ (uses : List Use) (scope : Scope) where
     IsWayOfWords no_select_arm l = ⊥
     IsWayOfWords (select_arm word ps arms) l = IsWayOfParts ps l ⊎ IsWayOfWords arms l
 
-abbrev pub IsWayOfTranslation : List Use → Scope → Option MsgParts → List PathPart → Type 0
-IsWayOfTranslation uses scope None l = ⊥
-IsWayOfTranslation uses scope (Some parts) l = IsWayOfParts uses scope parts l
+abbrev pub IsWayOfTranslation : List Use → Scope → Site → Option MsgParts → List PathPart → Type 0
+IsWayOfTranslation uses scope at None l = ⊥
+IsWayOfTranslation uses scope at (Some parts) l = IsWayOfParts uses scope at parts l
 
 -- ---- nodes
 
 module _ (c : PlanContext) where
-  abbrev pub IsWayOfFallback : Fallback → Scope → List PathPart → Type 0
-  IsWayOfFallback no_fallback scope l = ⊥
-  IsWayOfFallback (fallback m) scope l = IsWayOfTranslation (uses_of m) scope (c.translation m) l
+  abbrev pub IsWayOfFallback : Fallback → Scope → Site → List PathPart → Type 0
+  IsWayOfFallback no_fallback scope at l = ⊥
+  IsWayOfFallback (fallback m) scope at l = IsWayOfTranslation (uses_of m) scope at (c.translation m) l
 
   abbrev mutual
     pub IsWayOfNode : Node → Scope → List PathPart → Type 0
     IsWayOfNode (TextNode text span) scope l = l ≡ text_parts text
-    IsWayOfNode (Print e phname span) scope l = l ≡ HolePart (printed_classes e scope) ∷ []
+    IsWayOfNode (Print e phname span) scope l =
+        l ≡ HolePart (starts_at c.file span) (printed_classes e scope) ∷ []
     IsWayOfNode (If arms other span) scope l = IsWayOfArms arms scope l ⊎ IsWayOfOther other scope l
     IsWayOfNode (Switch e cases other span) scope l = IsWayOfCases cases scope l ⊎ IsWayOfOther other scope l
     IsWayOfNode (For name index e body span) scope l =
         IsRepeated (IsWayOfNodes body (body_scope name index (type_of e scope) scope)) l
     IsWayOfNode (Call name all given span) scope l =
-        l ≡ HolePart (called_classes (callee c.declared c.namespace name)) ∷ []
+        l ≡ HolePart (starts_at c.file span) (called_classes (callee c.declared c.namespace name)) ∷ []
     IsWayOfNode (MessageNode m other span) scope l =
         IsWayOfMessage m scope l
-        ⊎ (IsWayOfTranslation (uses_of m) scope (c.translation m) l ⊎ IsWayOfFallback other scope l)
+        ⊎ (IsWayOfTranslation (uses_of m) scope (starts_at c.file span) (c.translation m) l
+        ⊎ IsWayOfFallback other scope (starts_at c.file span) l)
     IsWayOfNode _ scope l = l ≡ []
 
     pub IsWayOfNodes : Nodes → Scope → List PathPart → Type 0

@@ -3,7 +3,7 @@
 ghost use Rattle.std.specs.Prelude.{◌≡◌, ◌+◌, ◌++◌, ◌∷◌, [], ℕ, IsTrue, List, Option};
 ghost use Rattle.std.specs.Prelude.{Some, None, Ok, Err, length, get_or};
 ghost use Rattle.std.specs.Prelude.{map, replicate};
-ghost use Rattle.std.specs.Prelude.{pos, codes};
+ghost use Rattle.std.specs.Prelude.{ℤ, pos, codes, true};
 ghost use Rattle.soy_base.specs.declared.code.Code.TheVariants as code;
 ghost use Rattle.soy_base.specs.declared.direction.Dir.TheVariants as dir;
 ghost use Rattle.soy_base.specs.declared.direction.Dir.{Dir};
@@ -16,8 +16,8 @@ ghost use Rattle.soy_base.specs.declared.place.ValueClass.{ValueClass};
 ghost use Rattle.html_state.specs.AfterValue.{after_value};
 ghost use Rattle.html_state.specs.Follows.{Follows};
 ghost use Rattle.html_state.specs.Leads.{Leads};
-ghost use Rattle.html_state.specs.Pieces as page;
-ghost use Rattle.html_state.specs.Pieces.{after_pieces, placing_after};
+ghost use Rattle.html_state.specs.AfterPieces as page;
+ghost use Rattle.html_state.specs.AfterPieces.{after_pieces, placing_after};
 ghost use Rattle.html_state.specs.Start.{start};
 ghost use Rattle.html_state.specs.StatePlacing.{placing};
 ghost use Rattle.html_state.specs.TakesClass.{takes_class};
@@ -25,16 +25,24 @@ ghost use Rattle.html_state.specs.declared.row.Reference.TheVariants as referenc
 ghost use Rattle.html_state.specs.declared.row.State.{State};
 ghost use Rattle.html_state.specs.declared.row.Tag.{Tag};
 ghost use Rattle.soy_tree.specs.MessageParts.{MsgParts};
-ghost use Rattle.soy_tree.specs.Nodes.{Message, Nodes};
-ghost use Rattle.soy_tree.specs.TypeOf.{Scope};
+ghost use Rattle.soy_tree.specs.Nodes.{Message, Node, Nodes};
+ghost use Rattle.soy_tree.specs.TypeOf.{Scope, type_of};
+ghost use Rattle.soy_tree.specs.Bodies.{is_printed};
+ghost use Rattle.soy_tree.specs.Expressions.{Expr};
+ghost use Rattle.soy_tree.specs.Fits.{Fits};
+ghost use Rattle.soy_tree.specs.Formed.{is_formed_expr};
+ghost use Rattle.soy_tree.specs.Types.{SoyType};
 ghost use Rattle.soy_tree.specs.Trees.{Tree};
-ghost use Rattle.soy_tree.specs.Val.{value_text};
+ghost use Rattle.soy_tree.specs.Val.{Known, val, value_text};
+ghost use Rattle.soy_meaning.specs.PlanOfParts.{printed_classes};
 ghost use Rattle.soy_tree.specs.Values.{Value};
 ghost use Rattle.soy_tree.specs.Templates.{Declared, declared};
 ghost use Rattle.soy_meaning.specs.Giving.{RunEnv, value_class};
 ghost use Rattle.soy_meaning.specs.Pieces.{RunContext, template_run};
-ghost use Rattle.soy_meaning.specs.RunsAlong.{EnvRuns, FilledByRuns, FitsClasses, IsFrameWithin, RunsAlong};
-ghost use Rattle.soy_meaning.specs.RunsAlong.{frame_plan};
+ghost use Rattle.soy_meaning.specs.FrameRun.{FrameRun, entry_frame, run_outcome, run_plan};
+ghost use Rattle.soy_meaning.specs.RunsAlong.{BindsValues, EnvRuns, FilledByRuns, FitsClasses, IsFrameWithin};
+ghost use Rattle.soy_meaning.specs.RunsAlong.{RunsAlong};
+ghost use Rattle.soy_meaning.specs.StopsWithin.{StopsWithin};
 ghost use Rattle.soy_meaning.specs.TranslationFits.{TranslationsFit};
 ghost use Rattle.soy_meaning.specs.EqualChoices.{AlikeByChoices, AlikeRuns, EnvsAlike};
 ghost use Rattle.soy_meaning.specs.PicksValues.{TemplatesPick, param_marks};
@@ -44,10 +52,11 @@ ghost use Rattle.soy_meaning.specs.Filled.{Filled, FillsHoles, IsBlockKind, IsFr
 ghost use Rattle.soy_meaning.specs.FourPoints.{AcceptedPaths, StartsAs};
 ghost use Rattle.soy_meaning.specs.Holes.{hole_count, holes_before};
 ghost use Rattle.soy_meaning.specs.Outcome as outcome;
-ghost use Rattle.soy_meaning.specs.Outcome.{Outcome, choices_of_outcome, continued_by, costs_of_outcome, gathered};
+ghost use Rattle.soy_meaning.specs.Outcome.{Outcome, choices_of_outcome, continued_by, costs_of_outcome};
+ghost use Rattle.soy_meaning.specs.Outcome.{end_of_outcome, gathered};
 ghost use Rattle.soy_meaning.specs.Outcome.{gives_nothing, pieces_of_outcome};
 ghost use Rattle.soy_meaning.specs.PageMachine.{page_machine};
-ghost use Rattle.soy_meaning.specs.Plan.{Plan};
+ghost use Rattle.soy_meaning.specs.Plan.{Plan, Site};
 ghost use Rattle.soy_meaning.specs.Blocks.{block_frame, nodes_blocks, plan_frames};
 ghost use Rattle.soy_meaning.specs.PlanOfNodes.{PlanContext, kind_class, nodes_plan, trees_plan};
 ghost use Rattle.soy_meaning.specs.PathParts.{IsPath, PathPart, StandsAfter};
@@ -60,9 +69,12 @@ ghost use Rattle.soy_meaning.specs.Rows.{narrowed_attributes, number_in_tag, num
 ghost use Rattle.soy_meaning.specs.Rows.{open_tag_in_param, optional_attribute, refused_source, second_turn};
 ghost use Rattle.soy_meaning.specs.Rows.{second_uri_value, seventeen_states, site_at, sixteen_states};
 ghost use Rattle.soy_meaning.specs.Rows.{tag_in_translation};
-ghost use Rattle.soy_meaning.specs.RunRows.{attributes_block, block_pieces, block_twice, calls, input_pieces};
-ghost use Rattle.soy_meaning.specs.RunRows.{offset_translation, pieces_and_end, plural_part, plural_translation};
-ghost use Rattle.soy_meaning.specs.RunRows.{source_plural, translated_meaning};
+ghost use Rattle.soy_meaning.specs.RunRows.{MeetsPremises, attributes_block, attributes_body, block_body};
+ghost use Rattle.soy_meaning.specs.RunRows.{block_pieces, block_twice, calls, calls_body, input_pieces, number_env};
+ghost use Rattle.soy_meaning.specs.RunRows.{number_param, offset_part, offset_translation, pieces_and_end};
+ghost use Rattle.soy_meaning.specs.RunRows.{plural_part, plural_source, plural_translation, row_context};
+ghost use Rattle.soy_meaning.specs.RunRows.{row_template, source_body, source_plural, text_param};
+ghost use Rattle.soy_meaning.specs.RunRows.{translated_context, translated_meaning};
 ghost use Rattle.soy_meaning.specs.Walk.{Walked, mixed_at, walk, walk_fault, walked};
 
 /// The escaped form of a value at the place that a state gives, and then the mark that the value sets, lead to the
@@ -76,6 +88,13 @@ pub fn law_hole()
 /// The text of a value is one that its class has, so that what `law_hole` says holds of each printed value.
 pub fn law_value_texts()
     ensures { (v : Value) → IsTrue (is_text_of (value_class v) (value_text v)) }
+{}
+
+/// The value of a typed print, where it is no block, has one of the classes of its hole.
+pub fn law_printed_classes()
+    ensures { (e : Expr) (scope : Scope) (env : RunEnv) (t : SoyType) (v : Value) → is_formed_expr e ≡ true →
+        Fits scope env → type_of e scope ≡ Ok t → is_printed t ≡ true → val e env ≡ Known v →
+        IsMember (value_class v) (printed_classes e scope) }
 {}
 
 /// The walk over trees meets no fault exactly where what is demanded of all paths holds of each frame. Then the place
@@ -141,17 +160,22 @@ pub fn law_plan_is_of_tree()
 
 /// What a template gives goes along a path of its plan, under any bundle whose translations fit their messages, and any
 /// variables whose blocks run along frames of the trees, as data do, which hold no blocks: the pieces are those of a
-/// path, or of a prefix of one where it stops at a call, with each hole filled by a value or by a run of a frame of the
-/// trees. Which frame that is, and at which call it stops, isn't said.
+/// path, or of a prefix of one where it stops at a call, with each hole filled by a value or by the run of the frame
+/// that is printed or called at its command. Under data alone the call at which it stops comes in a frame that the
+/// hundredth call has opened.
 pub fn law_runs_are_paths()
     ensures runs { (c : RunContext) (trees : List Tree) (d : Declared) (env : RunEnv) →
         c.declared ≡ declared trees → IsMember d c.declared → TranslationsFit c.translation c.declared →
-        EnvRuns c.direction (trees_plan c.translation trees) env →
-        RunsAlong c.direction (trees_plan c.translation trees) d.template.kind (frame_plan c d)
-        (template_run c d env) }
-    ensures frames { (c : RunContext) (trees : List Tree) (d : Declared) →
+        EnvRuns c (trees_plan c.translation trees) env →
+        RunsAlong c (trees_plan c.translation trees) (entry_frame d env) }
+    ensures entry { (c : RunContext) (d : Declared) (env : RunEnv) →
+        run_outcome c (entry_frame d env) ≡ template_run c d env }
+    ensures stops { (c : RunContext) (d : Declared) (env : RunEnv) (call : Site) →
+        IsMember d c.declared → TranslationsFit c.translation c.declared → BindsValues env →
+        end_of_outcome (template_run c d env) ≡ outcome.StopsAt call → StopsWithin c (entry_frame d env) call }
+    ensures frames { (c : RunContext) (trees : List Tree) (d : Declared) (env : RunEnv) →
         c.declared ≡ declared trees → IsMember d c.declared →
-        IsFrameWithin (trees_plan c.translation trees) d.template.kind (frame_plan c d) }
+        IsFrameWithin (trees_plan c.translation trees) d.template.kind (run_plan c (entry_frame d env)) }
 {}
 
 /// Where expressions pick values alone, two runs of a template with the same choices are alike: the same texts stand
@@ -173,11 +197,12 @@ pub fn law_equal_choices()
 /// Under accepted paths what fills a path by runs fills its holes, where values and frames have classes of theirs. The
 /// pieces of a run are read without a fault then, also those of one that stops.
 pub fn law_runs_are_read()
-    ensures holes { (whole : Plan) (f : Filled) → AcceptedPaths page_machine whole →
-        FilledByRuns whole outcome.WholeRun f → FitsClasses f → FillsHoles f }
-    ensures read { (context : Dir) (whole : Plan) (kind : Kind) (p : Plan) (o : Outcome) →
-        AcceptedPaths page_machine whole → IsFrameWithin whole kind p → (r : RunsAlong context whole kind p o) →
-        FitsClasses r.filled → (now : State) × (after_pieces (start kind) (pieces_of_outcome o) ≡ Ok now) }
+    ensures holes { (c : RunContext) (whole : Plan) (q : FrameRun) (f : Filled) → AcceptedPaths page_machine whole →
+        FilledByRuns c whole q outcome.WholeRun f → FitsClasses f → FillsHoles f }
+    ensures read { (c : RunContext) (whole : Plan) (q : FrameRun) →
+        AcceptedPaths page_machine whole → IsFrameWithin whole q.kind (run_plan c q) → (r : RunsAlong c whole q) →
+        FitsClasses r.filled → (now : State)
+        × (after_pieces (start q.kind) (pieces_of_outcome (run_outcome c q)) ≡ Ok now) }
 {}
 
 /// Outcomes follow one another as lists do, and what is gathered from two that follow one another is gathered from the
@@ -216,8 +241,17 @@ pub fn law_rows()
 /// Rows that the checker computes: the pieces and the end that small templates give under data, the costs before each
 /// piece and the end, and the choices.
 pub fn law_run_rows()
-    ensures block_twice { pieces_and_end block_twice ≡ (block_pieces ++ block_pieces, outcome.WholeRun) }
-    ensures block_costs { costs_of_outcome block_twice ≡ 1 ∷ 1 ∷ 0 ∷ 1 ∷ 1 ∷ 0 ∷ 0 ∷ [] }
+    ensures block_twice { pieces_and_end (block_twice (codes "q"))
+        ≡ (
+          block_pieces (wrapped_text (codes "q") dir.Ltr) ++ block_pieces (wrapped_text (codes "q") dir.Ltr),
+          outcome.WholeRun,
+        ) }
+    ensures block_bytes { pieces_and_end (block_twice (codes "7"))
+        ≡ (
+          block_pieces (codes "<span dir=\"ltr\">7</span>") ++ block_pieces (codes "<span dir=\"ltr\">7</span>"),
+          outcome.WholeRun,
+        ) }
+    ensures block_costs { costs_of_outcome (block_twice (codes "q")) ≡ 1 ∷ 1 ∷ 0 ∷ 1 ∷ 1 ∷ 0 ∷ 0 ∷ [] }
     ensures attributes_block { pieces_and_end attributes_block ≡ (input_pieces, outcome.WholeRun) }
     ensures calls_to_limit { pieces_and_end (calls (pos 100))
         ≡ (replicate 100 (page.Static (codes "a")), outcome.WholeRun) }
@@ -229,7 +263,7 @@ pub fn law_run_rows()
     ensures source_plural { pieces_and_end (source_plural (pos 1))
         ≡ (page.Static (codes "only") ∷ [], outcome.WholeRun) }
     ensures source_default { pieces_and_end (source_plural (pos 3))
-        ≡ (page.Value (wrapped_text (codes "3") dir.Ltr) ∷ page.Static (codes " in all") ∷ [], outcome.WholeRun) }
+        ≡ (page.Value (codes "<span dir=\"ltr\">3</span>") ∷ page.Static (codes " in all") ∷ [], outcome.WholeRun) }
     ensures source_choices { choices_of_outcome (source_plural (pos 3))
         ≡ outcome.TextTaken outcome.SourceText ∷ outcome.ArmTaken (Some 1) ∷ [] }
     ensures plural_zero { pieces_and_end (plural_translation (pos 0))
@@ -243,16 +277,32 @@ pub fn law_run_rows()
     ensures plural_many { pieces_and_end (plural_translation (pos 11))
         ≡ (page.Static (codes "M") ∷ [], outcome.WholeRun) }
     ensures plural_other { pieces_and_end (plural_translation (pos 100))
-        ≡ (page.Static (codes "X ") ∷ page.Value (wrapped_text (codes "100") dir.Rtl) ∷ [], outcome.WholeRun) }
+        ≡ (page.Static (codes "X ") ∷ page.Value (codes "<span dir=\"ltr\">100</span>") ∷ [], outcome.WholeRun) }
     ensures plural_meaning { translated_meaning plural_part (pos 11) ≡ codes "M" }
     ensures offset_exact { pieces_and_end (offset_translation (pos 1))
         ≡ (page.Static (codes "only") ∷ [], outcome.WholeRun) }
     ensures offset_number { pieces_and_end (offset_translation (pos 2))
         ≡ (
-          page.Static (codes "and ") ∷ page.Value (wrapped_text (codes "1") dir.Rtl) ∷ page.Static (codes " more") ∷ [],
+          page.Static (codes "and ") ∷ page.Value (codes "<span dir=\"ltr\">1</span>") ∷ page.Static (codes " more") ∷ [],
           outcome.WholeRun,
         ) }
     ensures offset_costs { costs_of_outcome (offset_translation (pos 2)) ≡ 1 ∷ 0 ∷ 0 ∷ 0 ∷ [] }
     ensures offset_choices { choices_of_outcome (offset_translation (pos 2))
         ≡ outcome.TextTaken outcome.OwnTranslation ∷ outcome.ArmTaken (Some 1) ∷ [] }
+{}
+
+/// The files of the rows meet what the laws on runs ask, and their variables what those on choices do: data bind no
+/// blocks, and two numbers are alike.
+pub fn law_row_premises()
+    ensures block { MeetsPremises (row_context (text_param (codes "x")) block_body) (text_param (codes "x")) block_body
+        (place.Text ∷ place.Text ∷ place.Text ∷ []) }
+    ensures attributes { MeetsPremises (row_context (text_param (codes "k")) attributes_body) (text_param (codes "k"))
+        attributes_body (place.Attr ∷ place.Tag ∷ []) }
+    ensures calls { MeetsPremises (row_context number_param calls_body) number_param calls_body (place.Text ∷ []) }
+    ensures source { MeetsPremises (row_context number_param source_body) number_param source_body (place.Text ∷ []) }
+    ensures plural { MeetsPremises (translated_context plural_part) number_param plural_source (place.Text ∷ []) }
+    ensures offset { MeetsPremises (translated_context offset_part) number_param plural_source (place.Text ∷ []) }
+    ensures values { (n : ℤ) → BindsValues (number_env n) }
+    ensures alike { (n m : ℤ) (body : List Node) →
+        EnvsAlike (param_marks (row_template number_param body).template.params) (number_env n) (number_env m) }
 {}

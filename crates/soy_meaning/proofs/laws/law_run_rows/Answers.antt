@@ -1,12 +1,18 @@
 use Rattle.std.proofs.Common.{refl}
 use lib.Utf8.{encode}
 use Rattle.std.specs.Fmt.{digits}
+use Rattle.bidi_class.specs.Class.{bidi_class}
+use Rattle.bidi_text.specs.Estimate.{first_strong, is_address, word_kind}
 use Rattle.soy_meaning.specs.Pieces.{called_within}
 use Rattle.soy_meaning.proofs.laws.law_run_rows.Goals as goal
 
 pub returns-clause-block_twice : goal.returns-clause-block_twice
 unfolding called_within
 returns-clause-block_twice c = refl
+
+pub returns-clause-block_bytes : goal.returns-clause-block_bytes
+unfolding called_within first_strong is_address word_kind bidi_class
+returns-clause-block_bytes c = refl
 
 pub returns-clause-block_costs : goal.returns-clause-block_costs
 unfolding called_within
@@ -37,7 +43,7 @@ unfolding called_within
 returns-clause-source_plural c = refl
 
 pub returns-clause-source_default : goal.returns-clause-source_default
-unfolding called_within digits
+unfolding called_within digits first_strong is_address word_kind bidi_class
 returns-clause-source_default c = refl
 
 pub returns-clause-source_choices : goal.returns-clause-source_choices
@@ -65,7 +71,7 @@ unfolding called_within
 returns-clause-plural_many c = refl
 
 pub returns-clause-plural_other : goal.returns-clause-plural_other
-unfolding called_within digits
+unfolding called_within digits first_strong is_address word_kind bidi_class
 returns-clause-plural_other c = refl
 
 pub returns-clause-offset_exact : goal.returns-clause-offset_exact
@@ -73,7 +79,7 @@ unfolding called_within
 returns-clause-offset_exact c = refl
 
 pub returns-clause-offset_number : goal.returns-clause-offset_number
-unfolding called_within digits
+unfolding called_within digits first_strong is_address word_kind bidi_class
 returns-clause-offset_number c = refl
 
 pub returns-clause-offset_costs : goal.returns-clause-offset_costs

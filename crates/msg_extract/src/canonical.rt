@@ -1,0 +1,78 @@
+//! The canonical text of a message, and its id.
+
+ghost use Rattle.std.specs.Prelude.{◌≡◌, map, IfOk, OnOk};
+ghost use Rattle.soy_base.specs.Appends.{Appends};
+ghost use Rattle.soy_tree.specs.ViewNodes.{view_body, view_message};
+ghost use Rattle.msg_extract.specs.CanonicalText.{canonical_text};
+ghost use Rattle.msg_extract.specs.MessageId.{id_of, id_of_text};
+ghost use Rattle.msg_extract.specs.Pieces.{pieces_text, uses_in};
+ghost use Rattle.msg_extract.specs.TextOfPiece.{piece_text};
+ghost use Rattle.msg_extract.specs.ViewPieces.{view_piece};
+
+use crate::ascii::empty;
+use crate::names::name_of;
+use crate::piece::{CodePiece, pieces_of};
+use sha2::{Digest, Sha256};
+use soy_base::{OutOfMemory, Text, push_text};
+use soy_tree::{Message, MessageBody};
+use std::alloc::Global;
+
+/// Adds the text of a piece.
+fn push_piece(
+    alloc: Global,
+    out: &mut String,
+    pieces: &[CodePiece<'_>],
+    piece: &CodePiece<'_>,
+) -> Result<(), OutOfMemory>
+    ensures { OnOk result (Appends out.old out.new (piece_text (uses_in (map view_piece pieces.now))
+        (view_piece piece.now))) }
+{
+    match piece {
+        CodePiece::Text(text) => push_text(out, text.text()),
+        CodePiece::Use(of) => {
+            let name = name_of(alloc, pieces, of)?;
+            push_text(out, name.text())
+        }
+    }
+}
+
+/// The text that pieces make.
+#[tactic(auto, using(crate::proofs::PieceLists::text_step, crate::proofs::PieceLists::append_assoc))]
+pub fn text_of_pieces(alloc: Global, pieces: &[CodePiece<'_>]) -> Result<Text, OutOfMemory>
+    ensures { IfOk result (λ t. t ≡ pieces_text (uses_in (map view_piece pieces.now)) (map view_piece pieces.now)) }
+{
+    let mut out = empty(alloc);
+    for piece in pieces {
+        push_piece(alloc, &mut out, pieces, piece)?;
+    }
+    Ok(Text::new(out))
+}
+
+/// The canonical text of a message.
+#[tactic(auto, using(crate::proofs::PieceLists::pieces_canonical))]
+pub fn canonical_text(alloc: Global, body: &MessageBody) -> Result<Text, OutOfMemory>
+    ensures { IfOk result (λ t. t ≡ canonical_text (view_body body.now)) }
+{
+    let pieces = pieces_of(alloc, body)?;
+    text_of_pieces(alloc, pieces.items())
+}
+
+/// The id of a message of this meaning and canonical text.
+pub fn id_of_text(alloc: Global, meaning: &Text, text: &Text) -> Result<Text, OutOfMemory>
+    ensures { IfOk result (λ id. id ≡ id_of_text meaning.now text.now) }
+{
+    let mut hasher = Sha256::new();
+    hasher.update(meaning.text().as_bytes());
+    hasher.update("\0".as_bytes());
+    hasher.update(text.text().as_bytes());
+    let digest = hasher.finalize();
+    Ok(Text::new(hex::encode(alloc, &digest[..8])?))
+}
+
+/// The id of a message: sixteen hexadecimal digits, from its meaning and its canonical text.
+pub fn message_id(alloc: Global, message: &Message) -> Result<Text, OutOfMemory>
+    ensures { IfOk result (λ id. id ≡ id_of (view_message message.now)) }
+{
+    let text = canonical_text(alloc, &message.body)?;
+    id_of_text(alloc, &message.meaning, &text)
+}

@@ -1,0 +1,216 @@
+//! The placeholders of a message, with what they stand for.
+
+ghost use Rattle.std.specs.Prelude.{◌≡◌, [], ◌∷◌, ◌++◌, None, map, option_map, IfOk, OnOk};
+ghost use Rattle.soy_tree.specs.MessageText.{Character};
+ghost use Rattle.soy_tree.specs.Nodes.{Print};
+ghost use Rattle.soy_tree.specs.ViewExpressions.{view_expr};
+ghost use Rattle.soy_tree.specs.ViewNodes.{view_message, view_node, view_nodes};
+ghost use Rattle.msg_extract.specs.Pieces.{uses_in};
+ghost use Rattle.msg_extract.specs.PlaceholderNodes.{begun_after, flushed, has_row, nodes_behind, placeholders_of};
+ghost use Rattle.msg_extract.specs.PlaceholderNodes.{role_nodes, row_step, rows_after, text_nodes};
+ghost use Rattle.msg_extract.specs.ViewItems.{view_item};
+ghost use Rattle.msg_extract.specs.ViewPieces.{role_of, view_piece};
+ghost use Rattle.msg_extract.specs.ViewPlaceholders.{view_begun, view_placeholder};
+
+use crate::ascii::empty;
+use crate::item::Item;
+use crate::names::name_of;
+use crate::piece::{CodePiece, Named, pieces_of};
+use soy_base::{OutOfMemory, Row, Seq, Span, Text, push_char};
+use soy_tree::{Expr, Form, Message, Node};
+use std::alloc::Global;
+
+/// A placeholder of a message: its name, and the print or the texts and prints of the tag that it stands for.
+#[derive(Drop)]
+pub struct Placeholder {
+    pub name: Text,
+    pub nodes: Seq<Node>,
+}
+
+/// A text of a tag that has begun, and the span of the node in which its first character stands.
+#[derive(Drop)]
+struct Begun {
+    text: String,
+    span: Span,
+}
+
+/// Adds a print.
+#[tactic(auto, using(crate::proofs::CutSteps::map_append))]
+fn push_print(
+    alloc: Global,
+    nodes: &mut Row<Node>,
+    expr: &Expr,
+    phname: &Option<Text>,
+    span: Span,
+) -> Result<(), OutOfMemory>
+    ensures { OnOk result (map view_node nodes.new
+        ≡ map view_node nodes.old ++ Print (view_expr expr.now) phname.now span ∷ []) }
+{
+    let phname = copied_name(alloc, phname)?;
+    let expr = expr.copy(alloc)?;
+    nodes.push(Node {
+        form: Form::Print(expr, phname),
+        span,
+    })
+}
+
+/// An equal name, if there is one.
+fn copied_name(alloc: Global, name: &Option<Text>) -> Result<Option<Text>, OutOfMemory>
+    ensures { IfOk result (λ n. n ≡ name.now) }
+{
+    match name {
+        None => Ok(None),
+        Some(name) => Ok(Some(name.copy(alloc)?)),
+    }
+}
+
+/// Adds the text that has begun, if there is one.
+#[tactic(auto, using(crate::proofs::CutSteps::map_append))]
+fn push_begun(nodes: &mut Row<Node>, begun: Option<Begun>) -> Result<(), OutOfMemory>
+    ensures { OnOk result (map view_node nodes.new
+        ≡ map view_node nodes.old ++ text_nodes (view_begun begun)) }
+{
+    match begun {
+        None => Ok(()),
+        Some(begun) => nodes.push(Node {
+            form: Form::Text(Text::new(begun.text)),
+            span: begun.span,
+        }),
+    }
+}
+
+/// The text that has begun after a character.
+fn with_character(
+    alloc: Global,
+    begun: Option<Begun>,
+    c: char,
+    span: Span,
+) -> Result<Option<Begun>, OutOfMemory>
+    ensures { IfOk result (λ to. view_begun to ≡ begun_after (view_begun begun) (Character c span)) }
+{
+    match begun {
+        None => {
+            let mut text = empty(alloc);
+            push_char(&mut text, c)?;
+            Ok(Some(Begun { text, span }))
+        }
+        Some(begun) => {
+            let mut text = begun.text;
+            push_char(&mut text, c)?;
+            Ok(Some(Begun {
+                text,
+                span: begun.span,
+            }))
+        }
+    }
+}
+
+/// Adds what an item of a tag ends, and gives the text that has begun after it.
+#[tactic(auto, using(crate::proofs::PieceLists::append_assoc))]
+fn push_item(
+    alloc: Global,
+    nodes: &mut Row<Node>,
+    begun: Option<Begun>,
+    item: Item<'_>,
+) -> Result<Option<Begun>, OutOfMemory>
+    ensures { IfOk result (λ to. (view_begun to ≡ begun_after (view_begun begun) (view_item item.entry))
+        × (map view_node nodes.new ≡ map view_node nodes.old ++ flushed (view_begun begun) (view_item item.entry))) }
+{
+    match item {
+        Item::Character(c, span) => with_character(alloc, begun, c, span),
+        Item::Printed(expr, phname, span) => {
+            push_begun(nodes, begun)?;
+            push_print(alloc, nodes, expr, phname, span)?;
+            Ok(None)
+        }
+    }
+}
+
+/// The texts and prints of a tag.
+#[tactic(auto, using(crate::proofs::PlaceholderNodes::item_step, crate::proofs::PieceLists::append_assoc))]
+fn tag_nodes(alloc: Global, tag: &[Item<'_>]) -> Result<Seq<Node>, OutOfMemory>
+    ensures { IfOk result (λ nodes. map view_node nodes ≡ nodes_behind None (map view_item tag.now)) }
+{
+    let mut nodes = Row::empty(alloc);
+    let mut begun = None;
+    for item in tag {
+        begun = push_item(alloc, &mut nodes, begun, *item)?;
+    }
+    push_begun(&mut nodes, begun)?;
+    Ok(nodes.done())
+}
+
+/// What a name stands for, if it isn't a selector.
+fn nodes_of(alloc: Global, of: &Named<'_>) -> Result<Option<Seq<Node>>, OutOfMemory>
+    ensures { IfOk result (λ nodes. option_map view_nodes nodes ≡ role_nodes (role_of of.now)) }
+{
+    match of {
+        Named::Plural(_) => Ok(None),
+        Named::Select(_) => Ok(None),
+        Named::Tag(tag) => Ok(Some(tag_nodes(alloc, tag.items())?)),
+        Named::Print(expr, phname, span) => {
+            let mut nodes = Row::empty(alloc);
+            push_print(alloc, &mut nodes, expr, phname, *span)?;
+            Ok(Some(nodes.done()))
+        }
+    }
+}
+
+/// Whether one of these has the name.
+fn has_row(rows: &[Placeholder], name: &Text) -> bool
+    ensures { result ≡ has_row name.now (map view_placeholder rows.now) }
+{
+    for row in rows {
+        if row.name.is(name.text()) {
+            return true;
+        }
+    }
+    false
+}
+
+/// Adds the placeholder that a piece names, unless it is there.
+#[tactic(auto, using(crate::proofs::CutSteps::map_append))]
+fn add(
+    alloc: Global,
+    rows: &mut Row<Placeholder>,
+    pieces: &[CodePiece<'_>],
+    piece: &CodePiece<'_>,
+) -> Result<(), OutOfMemory>
+    ensures { OnOk result (map view_placeholder rows.new ≡ row_step (uses_in (map view_piece pieces.now))
+        (map view_placeholder rows.old) (view_piece piece.now)) }
+{
+    match piece {
+        CodePiece::Text(_) => Ok(()),
+        CodePiece::Use(of) => {
+            let Some(nodes) = nodes_of(alloc, &of.of)? else {
+                return Ok(());
+            };
+            let name = name_of(alloc, pieces, of)?;
+            if has_row(rows.items(), &name) {
+                return Ok(());
+            }
+            rows.push(Placeholder { name, nodes })
+        }
+    }
+}
+
+/// The placeholders of pieces.
+#[tactic(auto, using(crate::proofs::PlaceholderNodes::rows_step))]
+fn placeholders_of(alloc: Global, pieces: &[CodePiece<'_>]) -> Result<Seq<Placeholder>, OutOfMemory>
+    ensures { IfOk result (λ rows. map view_placeholder rows ≡ rows_after (uses_in (map view_piece pieces.now)) []
+        (uses_in (map view_piece pieces.now))) }
+{
+    let mut rows = Row::empty(alloc);
+    for piece in pieces {
+        add(alloc, &mut rows, pieces, piece)?;
+    }
+    Ok(rows.done())
+}
+
+/// The placeholders of a message, each once, in order of first appearance.
+pub fn placeholders(alloc: Global, message: &Message) -> Result<Seq<Placeholder>, OutOfMemory>
+    ensures { IfOk result (λ rows. map view_placeholder rows ≡ placeholders_of (view_message message.now)) }
+{
+    let pieces = pieces_of(alloc, &message.body)?;
+    placeholders_of(alloc, pieces.items())
+}
