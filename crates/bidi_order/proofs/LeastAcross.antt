@@ -36,14 +36,14 @@ use Rattle.bidi_order.proofs.SameLine.{kinds-cleaned}
 -- ---- a separator
 
 -- no level of a line is below its base
-reset_levels-Every : (base : ℕ) (kinds : List ResetKind) (levels : List (Option ℕ)) → Every (λ l. base ≤ l) levels
-    → Every (λ l. base ≤ l) (reset_levels base kinds levels)
+reset_levels-Every : (base : ℕ) (those : List ResetKind) (levels : List (Option ℕ)) → Every (λ l. base ≤ l) levels
+    → Every (λ l. base ≤ l) (reset_levels base those levels)
 reset_levels-Every base [] levels h = h
-reset_levels-Every base (kind ∷ kinds) [] h = every_end
-reset_levels-Every base (kind ∷ kinds) (None ∷ levels) (every_none h) =
-    every_none (reset_levels-Every base kinds levels h)
-reset_levels-Every base (kind ∷ kinds) (Some level ∷ levels) (every_some g h) =
-    every_some (reset_levels-ge base (is_reset kind kinds) level g) (reset_levels-Every base kinds levels h)
+reset_levels-Every base (kind ∷ those) [] h = every_end
+reset_levels-Every base (kind ∷ those) (None ∷ levels) (every_none h) =
+    every_none (reset_levels-Every base those levels h)
+reset_levels-Every base (kind ∷ those) (Some level ∷ levels) (every_some g h) =
+    every_some (reset_levels-ge base (is_reset kind those) level g) (reset_levels-Every base those levels h)
 
 line_levels-Every : (base : ℕ) (line : List ℕ) → Every (λ l. base ≤ l) (line_levels base line)
 unfolding line_levels
@@ -51,19 +51,21 @@ line_levels-Every base line = reset_levels-Every base (kinds line) (levels_befor
     (levels-base base line)
 
 -- a separator has the level of the base
-separator-level : (base : ℕ) (kinds : List ResetKind) (levels : List (Option ℕ)) (m : ℕ) → Fits kinds levels
-    → get_or kinds m Text ≡ Separator → get_or (reset_levels base kinds levels) m None ≡ Some base
+separator-level : (base : ℕ) (those : List ResetKind) (levels : List (Option ℕ)) (m : ℕ) → Fits those levels
+    → get_or those m Text ≡ Separator → get_or (reset_levels base those levels) m None ≡ Some base
 separator-level base [] [] m fits_end e = absurd (apart e)
   where
     apart : Text ≡ Separator → ⊥
     apart e = cc
-separator-level base (kind ∷ kinds) (Some level ∷ levels) zero (fits_some f) e =
-    ap (λ k. Some (if is_reset k kinds then base else level)) e
-separator-level base (kind ∷ kinds) (Some level ∷ levels) (suc m) (fits_some f) e =
-    separator-level base kinds levels m f e
-separator-level base (kind ∷ kinds) (None ∷ levels) zero (fits_none apart f) e = absurd (apart e)
-separator-level base (kind ∷ kinds) (None ∷ levels) (suc m) (fits_none apart f) e =
-    separator-level base kinds levels m f e
+separator-level base [] (level ∷ levels) m f e = elim f [ ]
+separator-level base (kind ∷ after) [] m f e = elim f [ ]
+separator-level base (kind ∷ after) (Some level ∷ levels) zero (fits_some f) e =
+    ap (λ k. Some (if is_reset k after then base else level)) e
+separator-level base (kind ∷ after) (Some level ∷ levels) (suc m) (fits_some f) e =
+    separator-level base after levels m f e
+separator-level base (kind ∷ after) (None ∷ levels) zero (fits_none apart f) e = absurd (apart e)
+separator-level base (kind ∷ after) (None ∷ levels) (suc m) (fits_none apart f) e =
+    separator-level base after levels m f e
 
 kind-at : (line : List ℕ) (m : ℕ) → m < length line → get_or (kinds line) m Text ≡ reset_kind
     (bidi_class (get_or line m 0))
@@ -126,39 +128,39 @@ least-separator base line i m j first after before within at_first e =
 -- ---- a value
 
 -- before white space that isn't reset nothing is reset, up to a separator
-trails-not : (kinds after : List ResetKind) → has_separator kinds ≡ false → is_trailing after ≡ false
-    → is_trailing (kinds ++ Whitespace ∷ after) ≡ false
+trails-not : (those after : List ResetKind) → has_separator those ≡ false → is_trailing after ≡ false
+    → is_trailing (those ++ Whitespace ∷ after) ≡ false
 trails-not [] after h t = t
-trails-not (Separator ∷ kinds) after h t = absurd (both_ways _ h refl)
-trails-not (Text ∷ kinds) after h t = refl
-trails-not (Whitespace ∷ kinds) after h t = trails-not kinds after h t
-trails-not (Removed ∷ kinds) after h t = trails-not kinds after h t
+trails-not (Separator ∷ those) after h t = absurd (both_ways _ h refl)
+trails-not (Text ∷ those) after h t = refl
+trails-not (Whitespace ∷ those) after h t = trails-not those after h t
+trails-not (Removed ∷ those) after h t = trails-not those after h t
 
-reset-not : (kind : ResetKind) (kinds after : List ResetKind) → has_separator (kind ∷ kinds) ≡ false
-    → is_trailing after ≡ false → is_reset kind (kinds ++ Whitespace ∷ after) ≡ false
-reset-not Separator kinds after h t = absurd (both_ways _ h refl)
-reset-not Whitespace kinds after h t = trails-not kinds after h t
-reset-not Removed kinds after h t = refl
-reset-not Text kinds after h t = refl
+reset-not : (kind : ResetKind) (those after : List ResetKind) → has_separator (kind ∷ those) ≡ false
+    → is_trailing after ≡ false → is_reset kind (those ++ Whitespace ∷ after) ≡ false
+reset-not Separator those after h t = absurd (both_ways _ h refl)
+reset-not Whitespace those after h t = trails-not those after h t
+reset-not Removed those after h t = refl
+reset-not Text those after h t = refl
 
-reset_in-not : (base : ℕ) (kinds after : List ResetKind) (ls : List (Option ℕ)) → Fits kinds ls
-    → has_separator kinds ≡ false → is_trailing after ≡ false → reset_in base kinds (Whitespace ∷ after) ls ≡ ls
-reset_in-not base kinds after ls fits_end h t = refl
-reset_in-not base kinds after ls (fits_some {kind = kind} {kinds = kinds'} {l = l} {ls = ls'} f) h t =
-    ap (λ n. Some n ∷ reset_in base kinds' (Whitespace ∷ after) ls')
-    (cond-false _ _ _ (reset-not kind kinds' after h t))
-    ∙ ap (λ r. Some l ∷ r) (reset_in-not base kinds' after ls' f (later kind kinds' h) t)
-reset_in-not base kinds after ls (fits_none {kind = kind} {kinds = kinds'} {ls = ls'} n f) h t =
-    ap (λ r. None ∷ r) (reset_in-not base kinds' after ls' f (later kind kinds' h) t)
+reset_in-not : (base : ℕ) (those after : List ResetKind) (ls : List (Option ℕ)) → Fits those ls
+    → has_separator those ≡ false → is_trailing after ≡ false → reset_in base those (Whitespace ∷ after) ls ≡ ls
+reset_in-not base those after ls fits_end h t = refl
+reset_in-not base those after ls (fits_some {kind = kind} {kinds = those'} {l = l} {ls = ls'} f) h t =
+    ap (λ n. Some n ∷ reset_in base those' (Whitespace ∷ after) ls')
+    (cond-false _ _ _ (reset-not kind those' after h t))
+    ∙ ap (λ r. Some l ∷ r) (reset_in-not base those' after ls' f (later kind those' h) t)
+reset_in-not base those after ls (fits_none {kind = kind} {kinds = those'} {ls = ls'} n f) h t =
+    ap (λ r. None ∷ r) (reset_in-not base those' after ls' f (later kind those' h) t)
 
-reset_in-Every : (base : ℕ) (kinds after : List ResetKind) (ls : List (Option ℕ)) → Every (λ l. base ≤ l) ls
-    → Every (λ l. base ≤ l) (reset_in base kinds after ls)
+reset_in-Every : (base : ℕ) (those after : List ResetKind) (ls : List (Option ℕ)) → Every (λ l. base ≤ l) ls
+    → Every (λ l. base ≤ l) (reset_in base those after ls)
 reset_in-Every base [] after ls h = every_end
-reset_in-Every base (kind ∷ kinds) after [] h = every_end
-reset_in-Every base (kind ∷ kinds) after (None ∷ ls) (every_none h) =
-    every_none (reset_in-Every base kinds after ls h)
-reset_in-Every base (kind ∷ kinds) after (Some l ∷ ls) (every_some g h) =
-    every_some (reset_levels-ge base (is_reset kind (kinds ++ after)) l g) (reset_in-Every base kinds after ls h)
+reset_in-Every base (kind ∷ those) after [] h = every_end
+reset_in-Every base (kind ∷ those) after (None ∷ ls) (every_none h) =
+    every_none (reset_in-Every base those after ls h)
+reset_in-Every base (kind ∷ those) after (Some l ∷ ls) (every_some g h) =
+    every_some (reset_levels-ge base (is_reset kind (those ++ after)) l g) (reset_in-Every base those after ls h)
 
 -- from an isolate control over some levels to another one the least level is that of one of the two, where before L1 no
 -- level between is below the first
@@ -185,6 +187,9 @@ least_between_controls base KV KB LV lo lp fits apart every low inside =
           ∙ inside ∙ sym first_is in
           ap (λ n. min n (if is_trailing KB then base else lp)) same
     ]
+
+same-level : {m n : ℕ} → Some m ≡ Some n → m ≡ n
+same-level e = cc
 
 -- the same of a whole list of levels
 least_across_controls : (base : ℕ) (KA KV KB : List ResetKind) (LA LV LB : List (Option ℕ)) (lo lp first last : ℕ)
@@ -217,8 +222,8 @@ least_across_controls base KA KV KB LA LV LB lo lp first last fa fv apart every 
     sym (second-at RA RV RB (Some one) (Some other)) ∙ ap (λ n. get_or L (n + 1 + length RV) None) (sym a)
     ∙ ap (λ n. get_or L (length KA + 1 + n) None) (sym v)
     ∙ ap (λ l. get_or l (length KA + 1 + length KV) None) (sym parted) ∙ at_last in
-    let first_is : one ≡ first = cc in
-    let last_is : other ≡ last = cc in
+    let first_is : one ≡ first = same-level first_at in
+    let last_is : other ≡ last = same-level last_at in
     let slice : slice_range L (length KA + 1) (length KA + 1 + length KV + 1) ≡ RV ++ Some other ∷ [] =
     ap (λ n. slice_range L (n + 1) (n + 1 + length KV + 1)) a
     ∙ ap (λ n. slice_range L (length RA + 1) (length RA + 1 + n + 1)) v

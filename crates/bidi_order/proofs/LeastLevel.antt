@@ -1,6 +1,7 @@
 -- A character stands left of a later one exactly where the least level between them is even.
 use Rattle.std.proofs.Common.{◌≡◌, ℕ, zero, suc, ◌+◌, ◌-◌, ◌%◌, ◌<◌, ◌≤◌, ◌≢◌, min, max, Bool, true, false, not, ◌==◌}
-use Rattle.std.proofs.Common.{◌&&◌, ◌||◌, nat_lt, nat_le, inl, inr, List, [], ◌∷◌, ◌++◌, take, drop, get_or, refl, sym, ap}
+use Rattle.std.proofs.Common.{◌&&◌, ◌||◌, nat_lt, nat_le, inl, inr, List, [], ◌∷◌, ◌++◌, take, drop, get_or, refl, sym}
+use Rattle.std.proofs.Common.{ap}
 use Rattle.std.proofs.Common.{subst, ◌∙◌, arith, if◌then◌else◌, Option, Some, None, slice_range}
 use Rattle.std.proofs.lemmas.Bool.{cond-true, cond-false, cases_Bool, cases_lt, both_ways, ltb-true, eqb-true, eq-eqb}
 use Rattle.std.proofs.lemmas.Bool.{ne_eqb, and_parts, and_from, lt-ltb}
@@ -445,6 +446,8 @@ unfolding is_left_of
 is_left_of-removed levels i j e =
     let above : ℕ = highest_level levels + 1 in
     let lowest : ℕ = least_odd_level above levels in
+    let at : 0 + i ≡ i = omega arith in
     let none : count i (visual_order levels) ≡ 0 =
-    count-reordered i lowest (above - lowest) (indexed_from 0 levels) ∙ count-removed 0 i levels e in
+    count-reordered i lowest (above - lowest) (indexed_from 0 levels)
+    ∙ subst (λ p. count p (indexed_from 0 levels) ≡ 0) at (count-removed 0 i levels e) in
     (comes_first-no_first i j (visual_order levels) none, comes_first-no_second j i (visual_order levels) none)

@@ -319,7 +319,8 @@ resolve-ge level sos eos characters i within =
     (implicit-ge level (get_or done i ON))
 
 pub resolve-le : (level : ℕ) (sos eos : Class) (characters : List SequenceCharacter) (i : ℕ) → i < length characters
-    → Steady i (map (λ (s : SequenceCharacter). s.class) characters) → get_or (resolve level sos eos characters) i 0 ≤ level + 1
+    → Steady i (map (λ (s : SequenceCharacter). s.class) characters)
+    → get_or (resolve level sos eos characters) i 0 ≤ level + 1
 unfolding resolve
 resolve-le level sos eos characters i within steady =
     let given : List Class = map (λ (s : SequenceCharacter). s.class) characters in

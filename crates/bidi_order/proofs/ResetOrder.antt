@@ -66,7 +66,8 @@ not-is_reset Whitespace kinds after h = not-is_trailing kinds after h
 not-is_reset Removed kinds after h = refl
 not-is_reset Text kinds after h = refl
 
-pub later : (kind : ResetKind) (kinds : List ResetKind) → has_separator (kind ∷ kinds) ≡ false → has_separator kinds ≡ false
+pub later : (kind : ResetKind) (kinds : List ResetKind) → has_separator (kind ∷ kinds) ≡ false
+    → has_separator kinds ≡ false
 later Separator kinds h = absurd (both_ways _ h refl)
 later Whitespace kinds h = h
 later Removed kinds h = h

@@ -20,7 +20,8 @@ use Rattle.bidi_order.specs.WithinLimit.{LabelledCharacter, line_characters, val
 use Rattle.bidi_order.specs.WithinLimit.{is_within_from, is_within_limit}
 use Rattle.bidi_order.specs.TwoLines.{Both, one_line, other_line, is_surrounding, one_labelled, other_labelled}
 use Rattle.bidi_order.specs.TwoLines.{HoldsCleaned, ComparedLines, whole_line, are_surrounding, one_character}
-use Rattle.bidi_order.specs.TwoLines.{one_after, one_before, other_after, other_before, other_character, one_first, one_second, other_first, other_second}
+use Rattle.bidi_order.specs.TwoLines.{one_after, one_before, other_after, other_before, other_character, one_first}
+use Rattle.bidi_order.specs.TwoLines.{one_second, other_first, other_second}
 use Rattle.bidi_order.specs.TwoLines.Both.{Shared, Values}
 use Rattle.bidi_order.proofs.RestoredStatus.{Matched, Value, value, act_of_class-same}
 use Rattle.bidi_order.proofs.AroundValues.{closing-pdi, initiator-starts}

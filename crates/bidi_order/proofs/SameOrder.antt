@@ -237,8 +237,8 @@ fits-line base s back (c ∷ cs) =
     (separator-stands (bidi_class c) (map bidi_class cs))
     (λ back. fits-line base (status_after (act_of_character c cs) s) back cs)
 
-pub Fits-tail : {kind : ResetKind} {ss : List ResetKind} {l : Option ℕ} {ls : List (Option ℕ)} → Fits (kind ∷ ss) (l ∷ ls)
-    → Fits ss ls
+pub Fits-tail : {kind : ResetKind} {ss : List ResetKind} {l : Option ℕ} {ls : List (Option ℕ)}
+    → Fits (kind ∷ ss) (l ∷ ls) → Fits ss ls
 Fits-tail (fits_some f) = f
 Fits-tail (fits_none n f) = f
 

@@ -5,8 +5,8 @@
 -- A tag that isn't inline ends a line, and so does a static character of class B other than LF and CR; neither stands
 -- in a line. White space of HTML stands as U+0020. An inline element with a direction stands as LRI or RLI and its
 -- close as PDI; a `bdo` that overrides has LRO or RLO and PDF inside these. A line begins with what stands for each
--- inline element that is open, outermost first, and its base is the direction of the innermost open block that has one, else
--- the context's. What stands for a value's span has the value's label.
+-- inline element that is open, outermost first, and its base is the direction of the innermost open block that has one,
+-- else the context's. What stands for a value's span has the value's label.
 --
 -- `<p dir="rtl">a <b dir="ltr">c<br>d` has three lines: an empty one; with base 1 `a`, space, LRI, `c`; and with base 1
 -- LRI, `d`.

@@ -1,12 +1,12 @@
 -- Pieces and lines of the worked examples: a `bdo` from right to left around `a`, a value and `b`; a paragraph whose
 -- direction is found in its text; and a value inside so many spans from right to left.
 --
--- The first is `<bdo dir="rtl">a{$x}b</bdo>`. The second is `<p dir="auto">{$x} `, a word of Hebrew, and `</p>`. In a
--- page of the context from left to right a value is the text in its span.
+-- The first is `<bdo dir="rtl">a{$x}b</bdo>`. The second is `<p dir="auto">{$x} `, a word of Hebrew, and `</p>`. A
+-- value is its text in a span of the text's direction.
 use Rattle.std.specs.Prelude.{ℕ, List, [], ◌∷◌, ◌++◌, codes, replicate}
 use Rattle.std.specs.List.{concat}
-use Rattle.soy_base.specs.declared.direction.Dir.TheVariants.{Ltr}
-use Rattle.bidi_text.specs.Wrap.{wrapped_text}
+use Rattle.soy_base.specs.declared.direction.Dir.{Dir}
+use Rattle.bidi_text.specs.Wrap.{direction_word}
 use Rattle.html_state.specs.Pieces.{Piece}
 use Rattle.html_state.specs.Pieces.Piece.{Static, Value}
 use Rattle.bidi_order.specs.TwoLines.{Both, one_labelled, other_labelled}
@@ -22,14 +22,19 @@ word = 0x5E9 ∷ 0x5DC ∷ 0x5D5 ∷ 0x5DD ∷ []
 abbrev pub hebrew : List ℕ
 hebrew = 0x5D0 ∷ 0x5D1 ∷ []
 
-abbrev pub value_piece : List ℕ → Piece
-value_piece text = Value (wrapped_text text Ltr)
+-- a text in a span of a direction
+abbrev pub span_text : Dir → List ℕ → List ℕ
+span_text direction text =
+    codes "<span dir=\"" ++ (direction_word direction ++ (codes "\">" ++ (text ++ codes "</span>")))
+
+abbrev pub value_piece : Dir → List ℕ → Piece
+value_piece direction text = Value (span_text direction text)
 
 -- ---- an override
 
-abbrev pub override_pieces : List ℕ → List Piece
-override_pieces text =
-    Static (codes "<bdo dir=\"rtl\">a") ∷ value_piece text ∷ Static (codes "b</bdo>") ∷ []
+abbrev pub override_pieces : Dir → List ℕ → List Piece
+override_pieces direction text =
+    Static (codes "<bdo dir=\"rtl\">a") ∷ value_piece direction text ∷ Static (codes "b</bdo>") ∷ []
 
 -- the line with `c` as the value, and the same with another initiator and content
 abbrev pub override_line : ℕ → List ℕ → List Both
@@ -39,9 +44,9 @@ override_line i v =
 
 -- ---- a direction that is found
 
-abbrev pub auto_pieces : List ℕ → List Piece
-auto_pieces text =
-    Static (codes "<p dir=\"auto\">") ∷ value_piece text ∷ Static (0x20 ∷ (word ++ codes "</p>")) ∷ []
+abbrev pub auto_pieces : Dir → List ℕ → List Piece
+auto_pieces direction text =
+    Static (codes "<p dir=\"auto\">") ∷ value_piece direction text ∷ Static (0x20 ∷ (word ++ codes "</p>")) ∷ []
 
 -- the line with `abc` as the value, and the same with another initiator and content
 abbrev pub auto_line : ℕ → List ℕ → List Both
@@ -55,8 +60,8 @@ auto_line i v =
 abbrev pub repeated : ℕ → List ℕ → List ℕ
 repeated n text = concat (replicate n text)
 
-abbrev pub nested_pieces : ℕ → List ℕ → List Piece
-nested_pieces depth text =
+abbrev pub nested_pieces : ℕ → Dir → List ℕ → List Piece
+nested_pieces depth direction text =
     Static (repeated depth (codes "<span dir=\"rtl\">") ++ codes "a") ∷ value_piece text
     ∷ Static (codes "b" ++ repeated depth (codes "</span>")) ∷ []
 

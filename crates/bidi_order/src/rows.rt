@@ -1,7 +1,8 @@
 //! Lines whose levels and order are known: worked examples of the definitions, which the checker computes.
 ghost use Rattle.std.specs.Prelude.{◌≡◌, ℕ, ◌<◌, ◌+◌, true, false, List, [], ◌∷◌, ◌++◌, length, Option, Some, None};
 ghost use Rattle.std.specs.Prelude.{IsTrue, codes};
-ghost use Rattle.soy_base.specs.declared.direction.Dir.TheVariants.{Ltr};
+ghost use Rattle.soy_base.specs.declared.direction.Dir.TheVariants.{Ltr, Rtl};
+ghost use Rattle.bidi_text.specs.Wrap.{wrapped_text};
 ghost use Rattle.bidi_class.specs.Class.{bidi_class};
 ghost use Rattle.bidi_text.specs.Clean.{cleaned_text};
 ghost use Rattle.bidi_order.specs.Levels.{line_levels};
@@ -11,7 +12,7 @@ ghost use Rattle.bidi_order.specs.VisualOrder.{is_left_of};
 ghost use Rattle.bidi_order.specs.WithinLimit.{is_value_initiator, is_within_limit};
 ghost use Rattle.bidi_order.specs.WorkedLines.{auto_line, auto_pieces, cut_line, cut_pieces, empty_line, hebrew};
 ghost use Rattle.bidi_order.specs.WorkedLines.{line_of, nested_line, nested_pieces, other_line_of, override_line};
-ghost use Rattle.bidi_order.specs.WorkedLines.{override_pieces, value_piece};
+ghost use Rattle.bidi_order.specs.WorkedLines.{override_pieces, span_text, value_piece};
 ghost use Rattle.bidi_order.specs.TwoLines.Both.{Shared};
 ghost use Rattle.html_state.specs.Pieces.Piece.{Static};
 
@@ -42,24 +43,31 @@ pub fn law_limit_rows()
         → is_within_limit 0 (other_labelled (nested_line 63 i (cleaned_text text))) ≡ false }
 {}
 
-/// The lines of pages: a `bdo` from right to left around `a`, a value and `b`, for two values; a paragraph whose
-/// direction is found in its text, which is a value and a word of Hebrew, for two values; `a`, a value and `b` in 61 and
-/// 63 spans, for two values; a text whose last `&` isn't decided, which is a fault, so that what follows is left out;
-/// and a value that is an `&` alone, which is text of the value.
+/// Three values in their spans, and the lines of pages: a `bdo` from right to left around `a`, a value and `b`, for two
+/// values; a paragraph whose direction is found in its text, which is a value and a word of Hebrew, for two values; `a`,
+/// a value and `b` in 61 and 63 spans, for two values; a text whose last `&` isn't decided, which is a fault, so that
+/// what follows is left out; and a value that is an `&` alone, which is text of the value.
 pub fn law_line_rows()
-    ensures with_override { lines Ltr (override_pieces (codes "c"))
+    ensures value_c { wrapped_text (codes "c") Ltr ≡ span_text Ltr (codes "c") }
+    ensures value_abc { wrapped_text (codes "abc") Ltr ≡ span_text Ltr (codes "abc") }
+    ensures value_hebrew { wrapped_text hebrew Ltr ≡ span_text Rtl hebrew }
+    ensures with_override { lines Ltr (override_pieces Ltr (codes "c"))
         ≡ line_of 0 (override_line 0x2066 (codes "c")) ∷ [] }
-    ensures with_override_hebrew { lines Ltr (override_pieces hebrew)
+    ensures with_override_hebrew { lines Ltr (override_pieces Rtl hebrew)
         ≡ other_line_of 0 (override_line 0x2067 hebrew) ∷ [] }
-    ensures with_auto { lines Ltr (auto_pieces (codes "abc"))
+    ensures with_auto { lines Ltr (auto_pieces Ltr (codes "abc"))
         ≡ empty_line ∷ line_of 1 (auto_line 0x2066 (codes "abc")) ∷ empty_line ∷ [] }
-    ensures with_auto_hebrew { lines Ltr (auto_pieces hebrew)
+    ensures with_auto_hebrew { lines Ltr (auto_pieces Rtl hebrew)
         ≡ empty_line ∷ other_line_of 1 (auto_line 0x2067 hebrew) ∷ empty_line ∷ [] }
-    ensures nested { lines Ltr (nested_pieces 61 (codes "c")) ≡ line_of 0 (nested_line 61 0x2066 (codes "c")) ∷ [] }
-    ensures nested_hebrew { lines Ltr (nested_pieces 61 hebrew) ≡ other_line_of 0 (nested_line 61 0x2067 hebrew) ∷ [] }
-    ensures past { lines Ltr (nested_pieces 63 (codes "c")) ≡ line_of 0 (nested_line 63 0x2066 (codes "c")) ∷ [] }
-    ensures past_hebrew { lines Ltr (nested_pieces 63 hebrew) ≡ other_line_of 0 (nested_line 63 0x2067 hebrew) ∷ [] }
-    ensures fault { lines Ltr (Static (codes "a&&") ∷ value_piece (codes "c") ∷ [])
+    ensures nested { lines Ltr (nested_pieces 61 Ltr (codes "c"))
+        ≡ line_of 0 (nested_line 61 0x2066 (codes "c")) ∷ [] }
+    ensures nested_hebrew { lines Ltr (nested_pieces 61 Rtl hebrew)
+        ≡ other_line_of 0 (nested_line 61 0x2067 hebrew) ∷ [] }
+    ensures past { lines Ltr (nested_pieces 63 Ltr (codes "c"))
+        ≡ line_of 0 (nested_line 63 0x2066 (codes "c")) ∷ [] }
+    ensures past_hebrew { lines Ltr (nested_pieces 63 Rtl hebrew)
+        ≡ other_line_of 0 (nested_line 63 0x2067 hebrew) ∷ [] }
+    ensures fault { lines Ltr (Static (codes "a&&") ∷ value_piece Ltr (codes "c") ∷ [])
         ≡ line_of 0 (Shared 0x61 ∷ Shared 0x26 ∷ []) ∷ [] }
     ensures cut { lines Ltr cut_pieces ≡ cut_line ∷ [] }
 {}
