@@ -1,6 +1,6 @@
 -- The levels around a value of a line within the limit.
 use Rattle.std.proofs.Common.{◌≡◌, ℕ, ◌+◌, true, ◌==◌, ◌||◌, not, List, [], ◌∷◌, ◌++◌, map, take, drop, length, refl}
-use Rattle.std.proofs.Common.{sym, ap, subst, ◌∙◌, inl, inr, append_assoc, arith, Some}
+use Rattle.std.proofs.Common.{sym, ap, subst, ◌∙◌, inl, inr, append_assoc, arith}
 use Rattle.std.proofs.lemmas.Bool.{and_parts, or_cases, eqb-true}
 use Rattle.std.proofs.lemmas.List.{map-append, take-append-drop, length-map}
 use Rattle.bidi_class.specs.Class.{bidi_class}

@@ -1,5 +1,5 @@
 -- The least level from one character of a line to another, where a separator or a value stands between them.
-use Rattle.std.proofs.Common.{◌≡◌, ℕ, zero, suc, ◌+◌, ◌-◌, ◌<◌, ◌≤◌, min, Bool, true, false, inl, inr, List, []}
+use Rattle.std.proofs.Common.{◌≡◌, ℕ, zero, suc, ◌+◌, ◌-◌, ◌<◌, ◌≤◌, min, true, false, inl, inr, List, []}
 use Rattle.std.proofs.Common.{◌∷◌, ◌++◌, take, drop, get_or, length, map, slice_range, refl, sym, ap, subst, ◌∙◌, arith}
 use Rattle.std.proofs.Common.{Option, Some, None, if◌then◌else◌, ◌==◌}
 use Rattle.std.proofs.lemmas.Bool.{cond-true, cond-false, cases_Bool, both_ways, eqb-true, or_cases}

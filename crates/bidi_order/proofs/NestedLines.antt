@@ -8,7 +8,7 @@ use Rattle.ucd_category.specs.GeneralCategory.{general_category}
 use Rattle.ucd_category.specs.GeneralCategoryRows.{general_category_rows}
 use Rattle.ucd_table.specs.Rows.{value_in}
 use Rattle.bidi_order.specs.TwoLines.{Both, HoldsCleaned, one_labelled, other_labelled}
-use Rattle.bidi_order.specs.TwoLines.Both.{Shared, Values}
+use Rattle.bidi_order.specs.TwoLines.Both.{Shared}
 use Rattle.bidi_order.specs.WithinLimit.{is_value_initiator, is_within_limit}
 use Rattle.bidi_order.specs.WorkedLines.{nested_line}
 use Rattle.bidi_order.proofs.SameLine.{within_both}

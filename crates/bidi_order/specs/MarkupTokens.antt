@@ -8,7 +8,7 @@
 -- follows a character that is a fault is left out, and what follows a static text whose end is one, as that of `a&`.
 --
 -- `a<B DIR=rtl>` gives the character `a` and the start tag `b` with the `dir` `rtl`.
-use Rattle.std.specs.Prelude.{ℕ, suc, Bool, true, false, ◌==◌, ◌&&◌, if◌then◌else◌, List, [], ◌∷◌, ◌++◌, map, Option}
+use Rattle.std.specs.Prelude.{ℕ, suc, ◌==◌, if◌then◌else◌, List, [], ◌∷◌, ◌++◌, map, Option}
 use Rattle.std.specs.Prelude.{Some}
 use Rattle.std.specs.Prelude.{None, Result, Ok, Err, codes}
 use Rattle.std.specs.Char.{to_ascii_lowercase}

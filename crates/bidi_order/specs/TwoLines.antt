@@ -3,7 +3,7 @@
 -- `a`, LRI, `c`, PDI, `b` and `a`, RLI, U+05D0, PDI, `b`, where the value is that of number 3, are Shared `a`, Values 3
 -- LRI RLI `c` U+05D0, Shared `b`. The two `a` and the two `b` may be compared; or the `c` with U+05D0 and the two `b`.
 -- Values may have any numbers: in a page a line begins with some value, and those of attributes stand in none.
-use Rattle.std.specs.Prelude.{ℕ, suc, ◌+◌, ◌≡◌, Bool, true, false, ◌&&◌, List, [], ◌∷◌, ◌++◌, length, None, IsTrue}
+use Rattle.std.specs.Prelude.{ℕ, ◌+◌, ◌≡◌, Bool, true, false, ◌&&◌, List, [], ◌∷◌, ◌++◌, length, IsTrue}
 use Rattle.bidi_class.specs.Class.{bidi_class}
 use Rattle.bidi_text.specs.Clean.{cleaned_text}
 use Rattle.bidi_class.specs.declared.class.Class.{Class}

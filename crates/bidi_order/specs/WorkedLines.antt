@@ -62,7 +62,7 @@ repeated n text = concat (replicate n text)
 
 abbrev pub nested_pieces : ℕ → Dir → List ℕ → List Piece
 nested_pieces depth direction text =
-    Static (repeated depth (codes "<span dir=\"rtl\">") ++ codes "a") ∷ value_piece text
+    Static (repeated depth (codes "<span dir=\"rtl\">") ++ codes "a") ∷ value_piece direction text
     ∷ Static (codes "b" ++ repeated depth (codes "</span>")) ∷ []
 
 -- the line with `c` as the value, and the same with another initiator and content

@@ -1,8 +1,7 @@
 //! Lines whose levels and order are known: worked examples of the definitions, which the checker computes.
-ghost use Rattle.std.specs.Prelude.{◌≡◌, ℕ, ◌<◌, ◌+◌, true, false, List, [], ◌∷◌, ◌++◌, length, Option, Some, None};
+ghost use Rattle.std.specs.Prelude.{◌≡◌, ℕ, ◌<◌, ◌+◌, true, false, List, [], ◌∷◌, ◌++◌, length, Some};
 ghost use Rattle.std.specs.Prelude.{IsTrue, codes};
 ghost use Rattle.soy_base.specs.declared.direction.Dir.TheVariants.{Ltr, Rtl};
-ghost use Rattle.bidi_text.specs.Wrap.{wrapped_text};
 ghost use Rattle.bidi_class.specs.Class.{bidi_class};
 ghost use Rattle.bidi_text.specs.Clean.{cleaned_text};
 ghost use Rattle.bidi_order.specs.Levels.{line_levels};
@@ -12,7 +11,7 @@ ghost use Rattle.bidi_order.specs.VisualOrder.{is_left_of};
 ghost use Rattle.bidi_order.specs.WithinLimit.{is_value_initiator, is_within_limit};
 ghost use Rattle.bidi_order.specs.WorkedLines.{auto_line, auto_pieces, cut_line, cut_pieces, empty_line, hebrew};
 ghost use Rattle.bidi_order.specs.WorkedLines.{line_of, nested_line, nested_pieces, other_line_of, override_line};
-ghost use Rattle.bidi_order.specs.WorkedLines.{override_pieces, span_text, value_piece};
+ghost use Rattle.bidi_order.specs.WorkedLines.{override_pieces, value_piece};
 ghost use Rattle.bidi_order.specs.TwoLines.Both.{Shared};
 ghost use Rattle.html_state.specs.AfterPieces.Piece.{Static};
 
@@ -43,14 +42,11 @@ pub fn law_limit_rows()
         → is_within_limit 0 (other_labelled (nested_line 63 i (cleaned_text text))) ≡ false }
 {}
 
-/// Three values in their spans, and the lines of pages: a `bdo` from right to left around `a`, a value and `b`, for two
-/// values; a paragraph whose direction is found in its text, which is a value and a word of Hebrew, for two values; `a`,
-/// a value and `b` in 61 and 63 spans, for two values; a text whose last `&` isn't decided, which is a fault, so that
-/// what follows is left out; and a value that is an `&` alone, which is text of the value.
+/// The lines of pages: a `bdo` from right to left around `a`, a value and `b`, for two values; a paragraph whose
+/// direction is found in its text, which is a value and a word of Hebrew, for two values; `a`, a value and `b` in 61
+/// and 63 spans, for two values; a text whose last `&` isn't decided, which is a fault, so that what follows is left
+/// out; and a value that is an `&` alone, which is text of the value.
 pub fn law_line_rows()
-    ensures value_c { wrapped_text (codes "c") Ltr ≡ span_text Ltr (codes "c") }
-    ensures value_abc { wrapped_text (codes "abc") Ltr ≡ span_text Ltr (codes "abc") }
-    ensures value_hebrew { wrapped_text hebrew Ltr ≡ span_text Rtl hebrew }
     ensures with_override { lines Ltr (override_pieces Ltr (codes "c"))
         ≡ line_of 0 (override_line 0x2066 (codes "c")) ∷ [] }
     ensures with_override_hebrew { lines Ltr (override_pieces Rtl hebrew)

@@ -7,18 +7,6 @@ use Rattle.ucd_table.specs.Rows.{value_in}
 use Rattle.bidi_order.specs.Lines.{lines}
 use Rattle.bidi_order.proofs.rows.law_line_rows.Goals as goal
 
-pub returns-clause-value_c : goal.returns-clause-value_c
-unfolding bidi_class general_category value_in general_category_rows
-returns-clause-value_c c = refl
-
-pub returns-clause-value_abc : goal.returns-clause-value_abc
-unfolding bidi_class general_category value_in general_category_rows
-returns-clause-value_abc c = refl
-
-pub returns-clause-value_hebrew : goal.returns-clause-value_hebrew
-unfolding bidi_class general_category value_in general_category_rows
-returns-clause-value_hebrew c = refl
-
 pub returns-clause-with_override : goal.returns-clause-with_override
 unfolding lines may_go_on bidi_class general_category value_in general_category_rows
 returns-clause-with_override c = refl
