@@ -1,6 +1,6 @@
 -- The levels around a value of a line within the limit.
 use Rattle.std.proofs.Common.{◌≡◌, ℕ, ◌+◌, true, ◌==◌, ◌||◌, not, List, [], ◌∷◌, ◌++◌, map, take, drop, length, refl}
-use Rattle.std.proofs.Common.{sym, ap, subst, ◌∙◌, inl, inr, append_assoc, arith, Some}
+use Rattle.std.proofs.Common.{sym, ap, subst, ◌∙◌, inl, inr, append_assoc, arith}
 use Rattle.std.proofs.lemmas.Bool.{and_parts, or_cases, eqb-true}
 use Rattle.std.proofs.lemmas.List.{map-append, take-append-drop, length-map}
 use Rattle.bidi_class.specs.Class.{bidi_class}
@@ -17,7 +17,7 @@ use Rattle.bidi_order.proofs.RestoredStatus.Matched.{matched_end}
 use Rattle.bidi_order.proofs.DeletedContent.{around_values}
 
 -- the limit at a value's initiator
-within_from-at : (s : DirectionalStatus) (prefix : List LabelledCharacter) (m : LabelledCharacter)
+pub within_from-at : (s : DirectionalStatus) (prefix : List LabelledCharacter) (m : LabelledCharacter)
     (rest : List LabelledCharacter) → m.begins_value ≡ true → is_within_from s (prefix ++ m ∷ rest) ≡ true
     → is_within_depth (status_before s (line_characters prefix) (line_characters (m ∷ rest))) ≡ true
 within_from-at s [] m rest b h =
@@ -36,7 +36,7 @@ within_from-at s (n ∷ prefix) m rest b h =
     rest b now.1)
 
 -- the characters of a line around a value
-line_characters-value : (k i : ℕ) (v : List ℕ) (prefix back : List LabelledCharacter)
+pub line_characters-value : (k i : ℕ) (v : List ℕ) (prefix back : List LabelledCharacter)
     → line_characters (prefix ++ (value_characters k i v ++ back)) ≡ line_characters prefix ++ i
     ∷ (v ++ 0x2069 ∷ line_characters back)
 line_characters-value k i v prefix back =

@@ -15,15 +15,15 @@ use Rattle.bidi_order.proofs.SimilarLevels.{IsValue, Similar, resolved_level-ge,
 use Rattle.bidi_order.proofs.SimilarLevels.{levels_in-append, least-inside, past-append}
 use Rattle.bidi_order.proofs.SimilarLevels.Similar.{similar_end, similar_shared, similar_value}
 
-Above-one_line : (low : ℕ) (A T : List (Option KeptCharacter)) → Above low (A ++ T) → Above low A
-Above-one_line low [] T h = above_end
-Above-one_line low (None ∷ A) T (above_none h) = above_none (Above-one_line low A T h)
-Above-one_line low (Some k ∷ A) T (above_some l h) = above_some l (Above-one_line low A T h)
+Above-left : (low : ℕ) (A T : List (Option KeptCharacter)) → Above low (A ++ T) → Above low A
+Above-left low [] T h = above_end
+Above-left low (None ∷ A) T (above_none h) = above_none (Above-left low A T h)
+Above-left low (Some k ∷ A) T (above_some l h) = above_some l (Above-left low A T h)
 
-Above-other_line : (low : ℕ) (A T : List (Option KeptCharacter)) → Above low (A ++ T) → Above low T
-Above-other_line low [] T h = h
-Above-other_line low (None ∷ A) T (above_none h) = Above-other_line low A T h
-Above-other_line low (Some k ∷ A) T (above_some l h) = Above-other_line low A T h
+Above-right : (low : ℕ) (A T : List (Option KeptCharacter)) → Above low (A ++ T) → Above low T
+Above-right low [] T h = h
+Above-right low (None ∷ A) T (above_none h) = Above-right low A T h
+Above-right low (Some k ∷ A) T (above_some l h) = Above-right low A T h
 
 Above-first : (low : ℕ) (k : KeptCharacter) (T : List (Option KeptCharacter)) → Above low (Some k ∷ T) → low < k.level
 Above-first low k T (above_some l h) = l
@@ -141,8 +141,8 @@ value-starts base i p k prefix suffix back R u =
     let above : Above p.level (prefix ++ Some k ∷ suffix) = subst (λ l. Above l (prefix ++ Some k ∷ suffix)) u.same
     (Above-Within u.within) in
     from_there base (past (Some i ∷ back) prefix) suffix R k p
-    (Above-rest p.level k suffix (Above-other_line p.level prefix (Some k ∷ suffix) above))
-    (Above-first p.level k suffix (Above-other_line p.level prefix (Some k ∷ suffix) above)) u.steady_end
+    (Above-rest p.level k suffix (Above-right p.level prefix (Some k ∷ suffix) above))
+    (Above-first p.level k suffix (Above-right p.level prefix (Some k ∷ suffix) above)) u.steady_end
     ∙ ap (λ s. resolved_level base s p R) (sym (past-append (Some i ∷ back) prefix (Some k ∷ suffix)))
 
 value-finishes : (base n : ℕ) (i p k : KeptCharacter) (prefix suffix back R : List (Option KeptCharacter))
@@ -152,8 +152,8 @@ value-finishes : (base n : ℕ) (i p k : KeptCharacter) (prefix suffix back R : 
     ≡ min n (resolved_level base back i ((prefix ++ Some k ∷ suffix) ++ Some p ∷ R))
 value-finishes base n i p k prefix suffix back R u =
     let above : Above i.level (prefix ++ Some k ∷ suffix) = Above-Within u.within in
-    up_to base n back prefix ((suffix ++ Some p ∷ []) ++ R) i k (Above-one_line i.level prefix (Some k ∷ suffix) above)
-    (Above-first i.level k suffix (Above-other_line i.level prefix (Some k ∷ suffix) above)) u.steady
+    up_to base n back prefix ((suffix ++ Some p ∷ []) ++ R) i k (Above-left i.level prefix (Some k ∷ suffix) above)
+    (Above-first i.level k suffix (Above-right i.level prefix (Some k ∷ suffix) above)) u.steady
     ∙ ap (λ l. min n (resolved_level base back i l)) (regroup prefix suffix R k p)
 
 pub value-Spot : (base : ℕ) (i p k l : KeptCharacter)

@@ -26,8 +26,8 @@ use Rattle.bidi_order.proofs.SimilarLevels.{IsValue, Similar, Same-Similar, Same
 use Rattle.bidi_order.proofs.SimilarLevels.{least_level-append, levels_in-append, past-append}
 use Rattle.bidi_order.proofs.ResetOrder.{has_separator}
 use Rattle.bidi_order.proofs.SameOrder.{kinds, Held, Limited, Pieces, pieces, is_value, surrounding-text}
-use Rattle.bidi_order.proofs.SameOrder.{one_line-append, other_line-append, plain, next_level-explicit_character}
-use Rattle.bidi_order.proofs.SameOrder.{next_level-limited, order_in_line, same_separators, Held-one_line}
+use Rattle.bidi_order.proofs.SameOrder.{one_line-append, other_line-append, plain, surrounding-explicit}
+use Rattle.bidi_order.proofs.SameOrder.{limited-rest, order_in_line, same_separators, Held-left}
 use Rattle.bidi_order.proofs.SameOrder.{has_separator-append, initiator-apart}
 use Rattle.bidi_order.proofs.SameOrder.Held.{held_shared, held_value}
 use Rattle.bidi_order.proofs.SameOrder.Limited.{limited_value}
@@ -71,7 +71,7 @@ inner s i p y one_begin one_end back sy u =
     here_before tail =
     sym (ap (drop 1) u.is) ∙ ap (explicit_from inside) (append_assoc one_begin (y ∷ one_end) (p ∷ back))
     ∙ explicit_from-prefix inside one_begin (y ∷ tail)
-    ∙ ap (λ l. prefix ++ l) (next_level-explicit_character here_before y tail sy) in
+    ∙ ap (λ l. prefix ++ l) (surrounding-explicit here_before y tail sy) in
     let short : length prefix < length u.slots =
     omega (arith, length-explicit_in inside one_begin (y ∷ tail), u.long, length-append one_begin (y ∷ one_end)) in
     let c : Cut u.slots prefix (Some (plain here_before y)) = cut u.slots (Some (closing s) ∷ explicit_from s back)
@@ -131,16 +131,16 @@ chosen base s (Outside c) Z sl sr (held_shared h) l = record {
   l = plain s c;
   other_suffix = [];
   spot = shared-Spot base (plain s c);
-  left_is = next_level-explicit_character s c (one_line Z) sl;
-  right_is = next_level-explicit_character s c (other_line Z) sr;
+  left_is = surrounding-explicit s c (one_line Z) sl;
+  right_is = surrounding-explicit s c (other_line Z) sr;
   long_one_prefix = refl;
   long_one_suffix = refl;
   long_other_prefix = refl;
   long_other_suffix = refl;
   held = h;
-  limited = next_level-limited s c Z sl l;
+  limited = limited-rest s c Z sl l;
 }
-chosen base s (Inside i j one_begin y one_end other_begin z other_end) Z sl sr (held_value bi bj mv mw sv sw h)
+chosen base s (Inside k i j one_begin y one_end other_begin z other_end) Z sl sr (held_value bi bj mv mw sv sw h)
     (limited_value room l) =
     let one : Value s i 0x2069 (one_begin ++ y ∷ one_end) (one_line Z) = value s i 0x2069 (one_begin ++ y ∷ one_end)
     (one_line Z) bi
@@ -188,14 +188,14 @@ chosen base s (Inside i j one_begin y one_end other_begin z other_end) Z sl sr (
 one_line-chosen : (E : Chosen) (Z : List Both) → one_line (chosen_part E ∷ Z) ≡ one_before E ++ one_character E
     ∷ (one_after E ++ one_line Z)
 one_line-chosen (Outside c) Z = refl
-one_line-chosen (Inside i j one_begin y one_end other_begin z other_end) Z =
+one_line-chosen (Inside k i j one_begin y one_end other_begin z other_end) Z =
     ap (λ l. i ∷ l) (append_assoc one_begin (y ∷ one_end) (0x2069 ∷ one_line Z)
     ∙ ap (λ l. one_begin ++ y ∷ l) (sym (append_assoc one_end (0x2069 ∷ []) (one_line Z))))
 
 other_line-chosen : (E : Chosen) (Z : List Both) → other_line (chosen_part E ∷ Z) ≡ other_before E ++ other_character
     E ∷ (other_after E ++ other_line Z)
 other_line-chosen (Outside c) Z = refl
-other_line-chosen (Inside i j one_begin y one_end other_begin z other_end) Z =
+other_line-chosen (Inside k i j one_begin y one_end other_begin z other_end) Z =
     ap (λ l. j ∷ l) (append_assoc other_begin (z ∷ other_end) (0x2069 ∷ other_line Z)
     ∙ ap (λ l. other_begin ++ z ∷ l) (sym (append_assoc other_end (0x2069 ∷ []) (other_line Z))))
 
@@ -253,7 +253,7 @@ record Apart (E : Chosen) : Type 0 where
 
 apart : (E : Chosen) (Z : List Both) → Held (chosen_part E ∷ Z) → Apart E
 apart (Outside c) Z h = record { lb = refl; la = refl; rb = refl; ra = refl }
-apart (Inside i j one_begin y one_end other_begin z other_end) Z (held_value bi bj mv mw sv sw h) =
+apart (Inside k i j one_begin y one_end other_begin z other_end) Z (held_value bi bj mv mw sv sw h) =
     let l = inside-apart i y one_begin one_end bi sv in
     let r = inside-apart j z other_begin other_end bj sw in
     record { lb = l.0; la = l.1; rb = r.0; ra = r.1 }
@@ -425,7 +425,7 @@ other_apart E M F = length (other_after E ++ (other_line M ++ other_before F))
 line_of : List Both → Chosen → List Both → Chosen → List Both → List Both
 line_of A E M F Z = A ++ chosen_part E ∷ (M ++ chosen_part F ∷ Z)
 
-one_line-line : (A : List Both) (E : Chosen) (M : List Both) (F : Chosen) (Z : List Both)
+pub one_line-line : (A : List Both) (E : Chosen) (M : List Both) (F : Chosen) (Z : List Both)
     → one_line (A ++ chosen_part E ∷ (M ++ chosen_part F ∷ Z)) ≡ (one_line A ++ one_before E) ++ one_character E
     ∷ ((one_after E ++ (one_line M ++ one_before F)) ++ one_character F ∷ (one_after F ++ one_line Z))
 one_line-line A E M F Z =
@@ -436,7 +436,7 @@ one_line-line A E M F Z =
     ∙ parted_line (one_line A) (one_before E) (one_character E) (one_after E) (one_line M) (one_before F)
     (one_character F) (one_after F) (one_line Z)
 
-other_line-line : (A : List Both) (E : Chosen) (M : List Both) (F : Chosen) (Z : List Both)
+pub other_line-line : (A : List Both) (E : Chosen) (M : List Both) (F : Chosen) (Z : List Both)
     → other_line (A ++ chosen_part E ∷ (M ++ chosen_part F ∷ Z)) ≡ (other_line A ++ other_before E) ++ other_character
     E ∷ ((other_after E ++ (other_line M ++ other_before F)) ++ other_character F ∷ (other_after F ++ other_line Z))
 other_line-line A E M F Z =
@@ -506,7 +506,7 @@ chosen_order base A E M F Z sle sre slf srf held limited =
     let separated : has_separator (kinds (one_after E ++ (one_line M ++ one_before F)))
     ≡ has_separator (kinds (other_after E ++ (other_line M ++ other_before F))) =
     between_apart (one_after E) (one_line M) (one_before F) ae.la af.lb
-    ∙ same_separators M (Held-one_line M (chosen_part F ∷ Z) ce.held)
+    ∙ same_separators M (Held-left M (chosen_part F ∷ Z) ce.held)
     ∙ sym (between_apart (other_after E) (other_line M) (other_before F) ae.ra af.rb) in
     let one_long : length (pa.first ++ ce.one_prefix) ≡ length (one_line A ++ one_before E) =
     omega (
@@ -550,7 +550,7 @@ chosen_order base A E M F Z sle sre slf srf held limited =
       pm.long_second,
       cf.long_other_prefix,
     ) in
-    separator_class (has_separator (kinds (one_after E ++ (one_line M ++ one_before F))))
+    same_parity (has_separator (kinds (one_after E ++ (one_line M ++ one_before F))))
     (has_separator (kinds (other_after E ++ (other_line M ++ other_before F)))) separated
     (between_from base ce.one_suffix pm.first cf.one_prefix ce.k cf.k (cf.one_suffix ++ T)
     (past [] (pa.first ++ ce.one_prefix)))
@@ -575,7 +575,7 @@ chosen_order base A E M F Z sle sre slf srf held limited =
     (ap (explicit_characters base) (sym (other_line-line A E M F Z)) ∙ right_is) other_long other_middle
     (surrounding-text (bidi_class (other_character E)) sre) (surrounding-text (bidi_class (other_character F)) srf))
   where
-    separator_class : (e f : Bool) → e ≡ f → (m n : ℕ) → m ≡ n → (x y : Bool)
+    same_parity : (e f : Bool) → e ≡ f → (m n : ℕ) → m ≡ n → (x y : Bool)
         → x ≡ not (is_odd (if e then base else m)) → y ≡ not (is_odd (if f then base else n)) → x ≡ y
-    separator_class e f ef m n mn x y p q = p ∙ ap (λ e. not (is_odd (if e then base else m))) ef
+    same_parity e f ef m n mn x y p q = p ∙ ap (λ e. not (is_odd (if e then base else m))) ef
         ∙ ap (λ m. not (is_odd (if f then base else m))) mn ∙ sym q

@@ -1,10 +1,10 @@
 -- The isolate controls of a cleaned text match: each of them is in a pair, so none is lone.
-use Rattle.std.proofs.Common.{◌≡◌, ℕ, suc, ◌+◌, ◌-◌, ◌<◌, ◌≤◌, true, false, ◌==◌, ◌||◌, nat_lt, inl, inr, List, [], ◌∷◌}
+use Rattle.std.proofs.Common.{◌≡◌, ℕ, suc, ◌+◌, ◌-◌, ◌≤◌, true, false, ◌==◌, nat_lt, inl, inr, List, [], ◌∷◌}
 use Rattle.std.proofs.Common.{take, drop, length, slice_index, refl, sym, subst, ◌∙◌, arith}
 use Rattle.std.proofs.lemmas.Bool.{cond-true, cond-false, cases_Bool, cases_lt, both_ways, eq-eqb, ltb-true, or_left}
 use Rattle.std.proofs.lemmas.Bool.{or_right}
 use Rattle.std.proofs.lemmas.List.{length-take-le, take-take}
-use Rattle.bidi_class.specs.Pairs.{is_initiator, is_closing, initiators, closings, is_in_pair}
+use Rattle.bidi_class.specs.Pairs.{is_initiator, is_closing, initiators, closings}
 use Rattle.bidi_text.specs.Clean.{cleaned_text, is_isolate_control}
 use Rattle.bidi_text.proofs.CleanedTwice.{cleaned_text-paired}
 use Rattle.bidi_text.proofs.Isolates.{role, lone_closings, lone_initiators, lone_closings-le, initiators-closings}

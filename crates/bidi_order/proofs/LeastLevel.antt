@@ -1,13 +1,15 @@
 -- A character stands left of a later one exactly where the least level between them is even.
 use Rattle.std.proofs.Common.{◌≡◌, ℕ, zero, suc, ◌+◌, ◌-◌, ◌%◌, ◌<◌, ◌≤◌, ◌≢◌, min, max, Bool, true, false, not, ◌==◌}
-use Rattle.std.proofs.Common.{◌&&◌, nat_lt, nat_le, inl, inr, List, [], ◌∷◌, ◌++◌, take, drop, get_or, refl, sym, ap}
+use Rattle.std.proofs.Common.{◌&&◌, ◌||◌, nat_lt, nat_le, inl, inr, List, [], ◌∷◌, ◌++◌, take, drop, get_or, refl, sym}
+use Rattle.std.proofs.Common.{ap}
 use Rattle.std.proofs.Common.{subst, ◌∙◌, arith, if◌then◌else◌, Option, Some, None, slice_range}
 use Rattle.std.proofs.lemmas.Bool.{cond-true, cond-false, cases_Bool, cases_lt, both_ways, ltb-true, eqb-true, eq-eqb}
 use Rattle.std.proofs.lemmas.Bool.{ne_eqb, and_parts, and_from, lt-ltb}
 use Rattle.std.proofs.lemmas.List.{get_or-drop}
 use Rattle.bidi_order.specs.DirectionalStatus.{is_odd}
 use Rattle.bidi_order.specs.VisualOrder.{LeveledCharacter, reversed_from, reordered, indexed_from, highest_level}
-use Rattle.bidi_order.specs.VisualOrder.{least_odd_level, visual_order, comes_first, is_left_of, least_level}
+use Rattle.bidi_order.specs.VisualOrder.{least_odd_level, visual_order, has_index, comes_first, is_left_of}
+use Rattle.bidi_order.specs.VisualOrder.{least_level}
 use Rattle.bidi_order.proofs.Reversals.{In, Before, Ordered, flips, least, least_of, least-first, around}
 use Rattle.bidi_order.proofs.Reversals.{reordered-Ordered}
 use Rattle.bidi_order.proofs.Reversals.In.{in_head, in_tail}
@@ -85,56 +87,92 @@ count-In x (y ∷ ys) in_head =
     )
 count-In x (y ∷ ys) (in_tail h) = omega (arith, count-cons x.index y ys, count-In x ys h)
 
--- which of two indexes comes first
-comes_first-Before : (x y : LeveledCharacter) (xs : List LeveledCharacter) → Before x y xs → count y.index xs ≤ 1
+-- which characters a list has
+has_index-In : (y : LeveledCharacter) (xs : List LeveledCharacter) → In y xs → has_index y.index xs ≡ true
+has_index-In y [] h = elim h [ ]
+has_index-In y (z ∷ zs) in_head = ap (λ b. b || has_index y.index zs) (eq-eqb y.index y.index refl)
+has_index-In y (z ∷ zs) (in_tail h) =
+    elim (cases_Bool (z.index == y.index)) [
+      | inl is ↦ ap (λ b. b || has_index y.index zs) is
+      | inr isn't ↦ ap (λ b. b || has_index y.index zs) isn't ∙ has_index-In y zs h
+    ]
+
+has_index-none : (p : ℕ) (xs : List LeveledCharacter) → count p xs ≡ 0 → has_index p xs ≡ false
+has_index-none p [] h = refl
+has_index-none p (x ∷ xs) h =
+    elim (cases_Bool (x.index == p)) [
+      | inl is ↦ absurd (omega (arith, cond-true (x.index == p) (count p xs + 1) (count p xs) is))
+      | inr isn't ↦ ap (λ b. b || has_index p xs) isn't ∙ has_index-none p xs (omega (arith, count-cons p x xs))
+    ]
+
+-- which of two indexes comes first: neither, where one of them is none of the list
+comes_first-no_second : (i j : ℕ) (xs : List LeveledCharacter) → count j xs ≡ 0 → comes_first i j xs ≡ false
+comes_first-no_second i j [] h = refl
+comes_first-no_second i j (x ∷ xs) h =
+    elim (cases_Bool (x.index == i)) [
+      | inl is ↦ cond-true _ _ _ is ∙ has_index-none j xs (omega (arith, count-cons j x xs))
+      | inr isn't ↦ cond-false _ _ _ isn't ∙ comes_first-no_second i j xs (omega (arith, count-cons j x xs))
+    ]
+
+comes_first-no_first : (i j : ℕ) (xs : List LeveledCharacter) → count i xs ≡ 0 → comes_first i j xs ≡ false
+comes_first-no_first i j [] h = refl
+comes_first-no_first i j (x ∷ xs) h =
+    elim (cases_Bool (x.index == i)) [
+      | inl is ↦ absurd (omega (arith, cond-true (x.index == i) (count i xs + 1) (count i xs) is))
+      | inr isn't ↦ cond-false _ _ _ isn't ∙ comes_first-no_first i j xs (omega (arith, count-cons i x xs))
+    ]
+
+comes_first-Before : (x y : LeveledCharacter) (xs : List LeveledCharacter) → Before x y xs → count x.index xs ≤ 1
     → comes_first x.index y.index xs ≡ true
 comes_first-Before x y [] h once = elim h [ ]
-comes_first-Before x y (z ∷ zs) (before_head h) once = cond-true _ _ _ (eq-eqb x.index x.index refl)
+comes_first-Before x y (z ∷ zs) (before_head h) once =
+    cond-true _ _ _ (eq-eqb x.index x.index refl) ∙ has_index-In y zs h
 comes_first-Before x y (z ∷ zs) (before_tail h) once =
-    elim (cases_Bool (z.index == x.index)) [
-      | inl is ↦ cond-true _ _ _ is
-      | inr isn't ↦ cond-false _ _ _ isn't ∙ elim (cases_Bool (z.index == y.index)) [
-        | inl twice ↦ absurd (omega (
-          arith,
-          cond-true (z.index == y.index) (count y.index zs + 1) (count y.index zs)
-              twice,
-          count-In y zs (second h),
-        ))
-        | inr once' ↦ cond-false _ _ _ once' ∙ comes_first-Before x y zs h (omega (arith, count-cons y.index z zs))
-      ]
-    ]
-  where
-    second : {zs : List LeveledCharacter} → Before x y zs → In y zs
-    second (before_head h) = in_tail h
-    second (before_tail h) = in_tail (second h)
-
-comes_first-After : (x y : LeveledCharacter) (xs : List LeveledCharacter) → x.index ≢ y.index → Before y x xs
-    → count x.index xs ≤ 1 → comes_first x.index y.index xs ≡ false
-comes_first-After x y [] apart h once = elim h [ ]
-comes_first-After x y (z ∷ zs) apart (before_head h) once =
-    cond-false _ _ _ (ne_eqb y.index x.index (λ e. apart (sym e))) ∙ cond-true _ _ _ (eq-eqb y.index y.index refl)
-comes_first-After x y (z ∷ zs) apart (before_tail h) once =
     elim (cases_Bool (z.index == x.index)) [
       | inl twice ↦ absurd (omega (
         arith,
-        cond-true (z.index == x.index) (count x.index zs + 1) (count x.index zs)
-            twice,
+        cond-true (z.index == x.index) (count x.index zs + 1) (count x.index zs) twice,
+        count-In x zs (first h),
+      ))
+      | inr isn't ↦ cond-false _ _ _ isn't ∙ comes_first-Before x y zs h (omega (arith, count-cons x.index z zs))
+    ]
+  where
+    first : {zs : List LeveledCharacter} → Before x y zs → In x zs
+    first (before_head h) = in_head
+    first (before_tail h) = in_tail (first h)
+
+comes_first-After : (x y : LeveledCharacter) (xs : List LeveledCharacter) → x.index ≢ y.index → Before y x xs
+    → count x.index xs ≤ 1 → count y.index xs ≤ 1 → comes_first x.index y.index xs ≡ false
+comes_first-After x y [] apart h once once' = elim h [ ]
+comes_first-After x y (z ∷ zs) apart (before_head h) once once' =
+    cond-false _ _ _ (ne_eqb y.index x.index (λ e. apart (sym e)))
+    ∙ comes_first-no_second x.index y.index zs (omega (
+      arith,
+      cond-true (y.index == y.index) (count y.index zs + 1) (count y.index zs) (eq-eqb y.index y.index refl),
+    ))
+comes_first-After x y (z ∷ zs) apart (before_tail h) once once' =
+    elim (cases_Bool (z.index == x.index)) [
+      | inl twice ↦ absurd (omega (
+        arith,
+        cond-true (z.index == x.index) (count x.index zs + 1) (count x.index zs) twice,
         count-In x zs (second h),
       ))
-      | inr isn't ↦ cond-false _ _ _ isn't ∙ elim (cases_Bool (z.index == y.index)) [
-        | inl is ↦ cond-true _ _ _ is
-        | inr other ↦ cond-false _ _ _ other ∙ comes_first-After x y zs apart h (omega (arith, count-cons x.index z zs))
-      ]
+      | inr isn't ↦ cond-false _ _ _ isn't ∙ comes_first-After x y zs apart h
+          (omega (arith, count-cons x.index z zs)) (omega (arith, count-cons y.index z zs))
     ]
   where
     second : {zs : List LeveledCharacter} → Before y x zs → In x zs
     second (before_head h) = in_tail h
     second (before_tail h) = in_tail (second h)
 
+-- by their order in the list the one comes first, or the other
 comes_first-Ordered : (e : Bool) (x y : LeveledCharacter) (xs : List LeveledCharacter) → x.index ≢ y.index
-    → Ordered e x y xs → count x.index xs ≤ 1 → count y.index xs ≤ 1 → comes_first x.index y.index xs ≡ e
-comes_first-Ordered true x y xs apart h once once' = comes_first-Before x y xs h once'
-comes_first-Ordered false x y xs apart h once once' = comes_first-After x y xs apart h once
+    → Ordered e x y xs → count x.index xs ≤ 1 → count y.index xs ≤ 1
+    → (comes_first x.index y.index xs ≡ e) × (comes_first y.index x.index xs ≡ not e)
+comes_first-Ordered true x y xs apart h once once' =
+    (comes_first-Before x y xs h once, comes_first-After y x xs (λ e. apart (sym e)) h once' once)
+comes_first-Ordered false x y xs apart h once once' =
+    (comes_first-After x y xs apart h once once', comes_first-Before y x xs h once')
 
 -- a character in the list of those with their indexes
 indexed_from-split : (n i level : ℕ) (levels : List (Option ℕ)) → get_or levels i None ≡ Some level
@@ -198,7 +236,7 @@ Every-drop P (suc n) [] h = every_end
 Every-drop P (suc n) (l ∷ ls) (every_none h) = Every-drop P n ls h
 Every-drop P (suc n) (l ∷ ls) (every_some p h) = Every-drop P n ls h
 
-Every-get_or : (P : ℕ → Type 0) (i level : ℕ) (levels : List (Option ℕ)) → Every P levels
+pub Every-get_or : (P : ℕ → Type 0) (i level : ℕ) (levels : List (Option ℕ)) → Every P levels
     → get_or levels i None ≡ Some level → P level
 Every-get_or P i level [] h e = absurd (some e)
   where
@@ -212,7 +250,7 @@ Every-get_or P zero level (l ∷ ls) (every_some {level = m} p h) e = let same :
 Every-get_or P (suc i) level (l ∷ ls) (every_none h) e = Every-get_or P i level ls h e
 Every-get_or P (suc i) level (l ∷ ls) (every_some p h) e = Every-get_or P i level ls h e
 
-Every-least_level : (P : ℕ → Type 0) (n : ℕ) (levels : List (Option ℕ)) → P n → Every P levels
+pub Every-least_level : (P : ℕ → Type 0) (n : ℕ) (levels : List (Option ℕ)) → P n → Every P levels
     → P (least_level n levels)
 Every-least_level P n [] p h = p
 Every-least_level P n (l ∷ ls) p (every_none h) = Every-least_level P n ls p h
@@ -305,11 +343,13 @@ flips-parity m lowest high low =
           subst (λ m. flips (suc m - lowest) ≡ not (is_odd m)) e (flips-odd (m - lowest) lowest (high more))
     ]
 
-pub is_left_of-least : (levels : List (Option ℕ)) (i j first last : ℕ) → i < j → get_or levels i None ≡ Some first
+-- the order of two characters by the least level between them, and that the other way is the contrary
+is_left_of-ways : (levels : List (Option ℕ)) (i j first last : ℕ) → i < j → get_or levels i None ≡ Some first
     → get_or levels j None ≡ Some last
-    → is_left_of levels i j ≡ not (is_odd (least_level first (slice_range levels (i + 1) (j + 1))))
+    → (is_left_of levels i j ≡ not (is_odd (least_level first (slice_range levels (i + 1) (j + 1)))))
+    × (is_left_of levels j i ≡ not (is_left_of levels i j))
 unfolding is_left_of
-is_left_of-least levels i j first last less at_i at_j =
+is_left_of-ways levels i j first last less at_i at_j =
     let d : ℕ = j - suc i in
     let rest : List (Option ℕ) = drop (suc i) levels in
     let to_j : suc i + d ≡ j = omega arith in
@@ -353,12 +393,19 @@ is_left_of-least levels i j first last less at_i at_j =
     ) in
     let at_x : 0 + i ≡ i = omega arith in
     let at_y : suc (0 + i) + d ≡ j = omega arith in
-    let comes : comes_first (0 + i) (suc (0 + i) + d) (visual_order levels) ≡ flips (suc m - lowest) =
+    let comes : (comes_first (0 + i) (suc (0 + i) + d) (visual_order levels) ≡ flips (suc m - lowest))
+    × (comes_first (suc (0 + i) + d) (0 + i) (visual_order levels) ≡ not (flips (suc m - lowest))) =
     comes_first-Ordered (flips (suc m - lowest)) x y (visual_order levels) (λ e. omega arith) visually (once (0 + i))
     (once (suc (0 + i) + d)) in
-    ap (λ k. comes_first k j (visual_order levels)) (sym at_x) ∙ ap (λ k. comes_first (0 + i) k (visual_order levels))
-    (sym at_y)
-    ∙ comes ∙ flips-parity m lowest (λ h. odd.odd (omega arith)) even_below ∙ ap (λ k. not (is_odd k)) m_is
+    let one : comes_first i j (visual_order levels) ≡ flips (suc m - lowest) =
+    ap (λ k. comes_first k j (visual_order levels)) (sym at_x)
+    ∙ ap (λ k. comes_first (0 + i) k (visual_order levels)) (sym at_y) ∙ comes.0 in
+    let other : comes_first j i (visual_order levels) ≡ not (flips (suc m - lowest)) =
+    ap (λ k. comes_first j k (visual_order levels)) (sym at_x)
+    ∙ ap (λ k. comes_first k (0 + i) (visual_order levels)) (sym at_y) ∙ comes.1 in (
+      one ∙ flips-parity m lowest (λ h. odd.odd (omega arith)) even_below ∙ ap (λ k. not (is_odd k)) m_is,
+      other ∙ ap not (sym one),
+    )
   where
     same_slice : (i j d : ℕ) (levels : List (Option ℕ)) → suc i + d ≡ j → take (suc d) (drop (suc i) levels)
         ≡ slice_range levels (i + 1) (j + 1)
@@ -366,3 +413,41 @@ is_left_of-least levels i j first last less at_i at_j =
         let n : suc d ≡ j + 1 - (i + 1) = omega arith in
         let k : suc i ≡ i + 1 = omega arith in
         ap (λ n. take n (drop (suc i) levels)) n ∙ ap (λ k. take (j + 1 - (i + 1)) (drop k levels)) k
+
+pub is_left_of-least : (levels : List (Option ℕ)) (i j first last : ℕ) → i < j → get_or levels i None ≡ Some first
+    → get_or levels j None ≡ Some last
+    → is_left_of levels i j ≡ not (is_odd (least_level first (slice_range levels (i + 1) (j + 1))))
+is_left_of-least levels i j first last less at_i at_j = (is_left_of-ways levels i j first last less at_i at_j).0
+
+pub is_left_of-contrary : (levels : List (Option ℕ)) (i j first last : ℕ) → i < j → get_or levels i None ≡ Some first
+    → get_or levels j None ≡ Some last → is_left_of levels j i ≡ not (is_left_of levels i j)
+is_left_of-contrary levels i j first last less at_i at_j = (is_left_of-ways levels i j first last less at_i at_j).1
+
+-- a character that is removed stands nowhere
+count-removed : (n i : ℕ) (levels : List (Option ℕ)) → get_or levels i None ≡ None
+    → count (n + i) (indexed_from n levels) ≡ 0
+count-removed n i [] e = refl
+count-removed n zero (None ∷ levels) e = count-early (n + 0) (suc n) levels (omega arith)
+count-removed n (suc i) (None ∷ levels) e =
+    let at : suc n + i ≡ n + suc i = omega arith in
+    subst (λ p. count p (indexed_from (suc n) levels) ≡ 0) at (count-removed (suc n) i levels e)
+count-removed n zero (Some level ∷ levels) e = absurd (none e)
+  where
+    none : {k : ℕ} → Some k ≡ None → ⊥
+    none e = cc
+count-removed n (suc i) (Some level ∷ levels) e =
+    let at : suc n + i ≡ n + suc i = omega arith in
+    cond-false _ _ _ (ne_eqb n (n + suc i) (λ e. omega arith))
+    ∙ subst (λ p. count p (indexed_from (suc n) levels) ≡ 0) at (count-removed (suc n) i levels e)
+
+pub is_left_of-removed : (levels : List (Option ℕ)) (i j : ℕ) → get_or levels i None ≡ None
+    → (is_left_of levels i j ≡ false) × (is_left_of levels j i ≡ false)
+unfolding is_left_of
+is_left_of-removed levels i j e =
+    let above : ℕ = highest_level levels + 1 in
+    let lowest : ℕ = least_odd_level above levels in
+    let at : 0 + i ≡ i = omega arith in
+    let none : count i (visual_order levels) ≡ 0 =
+    count-reordered i lowest (above - lowest) (indexed_from 0 levels)
+    ∙ subst (λ p. count p (indexed_from 0 levels) ≡ 0) at (count-removed 0 i levels e) in
+    (comes_first-no_first i j (visual_order levels) none, comes_first-no_second j i (visual_order levels) none)

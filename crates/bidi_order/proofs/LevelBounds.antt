@@ -302,35 +302,36 @@ Steady-weak_types sos cs i h =
     (Steady-map w3 steady-w3 (w2 sos (w1 sos cs)) i (Steady-w2 sos (w1 sos cs) i (Steady-w1 sos cs i h))))))
 
 -- the level of each character of a sequence
-pub resolve-ge : (level : ℕ) (sos eos : Class) (signs : List SequenceCharacter) (i : ℕ) → i < length signs
-    → level ≤ get_or (resolve level sos eos signs) i 0
+pub resolve-ge : (level : ℕ) (sos eos : Class) (characters : List SequenceCharacter) (i : ℕ) → i < length characters
+    → level ≤ get_or (resolve level sos eos characters) i 0
 unfolding resolve
-resolve-ge level sos eos signs i within =
-    let given : List Class = map (λ (s : SequenceCharacter). s.class) signs in
+resolve-ge level sos eos characters i within =
+    let given : List Class = map (λ (s : SequenceCharacter). s.class) characters in
     let weakened : List Class = weak_types sos given in
-    let pairs : List (ℕ × ℕ) = pairs_in_order (bracket_pairs_from 0 [] (brackets_of weakened signs)) in
+    let pairs : List (ℕ × ℕ) = pairs_in_order (bracket_pairs_from 0 [] (brackets_of weakened characters)) in
     let paired : List Class = n0 (is_odd level) (is_right_to_left sos) (map is_nonspacing given) pairs weakened in
     let done : List Class = n1 (is_odd level) (is_right_to_left sos) (is_right_to_left eos) paired in
-    let long : length done ≡ length signs =
+    let long : length done ≡ length characters =
     length-n1 (is_odd level) (is_right_to_left sos) (is_right_to_left eos) paired
     ∙ length-n0 (is_odd level) (is_right_to_left sos) (map is_nonspacing given) pairs weakened
-    ∙ length-weak_types sos given ∙ length-map signs (λ (s : SequenceCharacter). s.class) in
+    ∙ length-weak_types sos given ∙ length-map characters (λ (s : SequenceCharacter). s.class) in
     subst (λ n. level ≤ n) (sym (get_or-map (implicit level) done i ON 0 (omega arith)))
     (implicit-ge level (get_or done i ON))
 
-pub resolve-le : (level : ℕ) (sos eos : Class) (signs : List SequenceCharacter) (i : ℕ) → i < length signs
-    → Steady i (map (λ (s : SequenceCharacter). s.class) signs) → get_or (resolve level sos eos signs) i 0 ≤ level + 1
+pub resolve-le : (level : ℕ) (sos eos : Class) (characters : List SequenceCharacter) (i : ℕ) → i < length characters
+    → Steady i (map (λ (s : SequenceCharacter). s.class) characters)
+    → get_or (resolve level sos eos characters) i 0 ≤ level + 1
 unfolding resolve
-resolve-le level sos eos signs i within steady =
-    let given : List Class = map (λ (s : SequenceCharacter). s.class) signs in
+resolve-le level sos eos characters i within steady =
+    let given : List Class = map (λ (s : SequenceCharacter). s.class) characters in
     let weakened : List Class = weak_types sos given in
-    let pairs : List (ℕ × ℕ) = pairs_in_order (bracket_pairs_from 0 [] (brackets_of weakened signs)) in
+    let pairs : List (ℕ × ℕ) = pairs_in_order (bracket_pairs_from 0 [] (brackets_of weakened characters)) in
     let paired : List Class = n0 (is_odd level) (is_right_to_left sos) (map is_nonspacing given) pairs weakened in
     let done : List Class = n1 (is_odd level) (is_right_to_left sos) (is_right_to_left eos) paired in
-    let long : length done ≡ length signs =
+    let long : length done ≡ length characters =
     length-n1 (is_odd level) (is_right_to_left sos) (is_right_to_left eos) paired
     ∙ length-n0 (is_odd level) (is_right_to_left sos) (map is_nonspacing given) pairs weakened
-    ∙ length-weak_types sos given ∙ length-map signs (λ (s : SequenceCharacter). s.class) in
+    ∙ length-weak_types sos given ∙ length-map characters (λ (s : SequenceCharacter). s.class) in
     subst (λ n. n ≤ level + 1) (sym (get_or-map (implicit level) done i ON 0 (omega arith)))
     (implicit-le level (get_or done i ON) (strong-n1 (is_odd level) (is_right_to_left sos) (is_right_to_left eos)
     paired i (Steady-n0 (is_odd level) (is_right_to_left sos) (map is_nonspacing given) pairs weakened i

@@ -11,7 +11,9 @@ pub mod SimilarLevels
 pub mod LevelsAboveBase
 pub mod ResetOrder
 pub mod SameOrder
+pub mod KeptCharacters
 pub mod SameLine
+pub mod LeastAcross
 pub mod Blocks
 pub mod ChosenParts
 pub mod NestedLines

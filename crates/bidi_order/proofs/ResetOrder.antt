@@ -59,14 +59,15 @@ not-is_trailing (Text ∷ kinds) after h = refl
 not-is_trailing (Whitespace ∷ kinds) after h = not-is_trailing kinds after h
 not-is_trailing (Removed ∷ kinds) after h = not-is_trailing kinds after h
 
-not-reset_levels : (kind : ResetKind) (kinds after : List ResetKind) → has_separator (kind ∷ kinds) ≡ false
+not-is_reset : (kind : ResetKind) (kinds after : List ResetKind) → has_separator (kind ∷ kinds) ≡ false
     → is_reset kind (kinds ++ Text ∷ after) ≡ false
-not-reset_levels Separator kinds after h = absurd (both_ways _ h refl)
-not-reset_levels Whitespace kinds after h = not-is_trailing kinds after h
-not-reset_levels Removed kinds after h = refl
-not-reset_levels Text kinds after h = refl
+not-is_reset Separator kinds after h = absurd (both_ways _ h refl)
+not-is_reset Whitespace kinds after h = not-is_trailing kinds after h
+not-is_reset Removed kinds after h = refl
+not-is_reset Text kinds after h = refl
 
-later : (kind : ResetKind) (kinds : List ResetKind) → has_separator (kind ∷ kinds) ≡ false → has_separator kinds ≡ false
+pub later : (kind : ResetKind) (kinds : List ResetKind) → has_separator (kind ∷ kinds) ≡ false
+    → has_separator kinds ≡ false
 later Separator kinds h = absurd (both_ways _ h refl)
 later Whitespace kinds h = h
 later Removed kinds h = h
@@ -77,13 +78,13 @@ reset_in-none : (base : ℕ) (kinds after : List ResetKind) (ls : List (Option �
 reset_in-none base kinds after ls fits_end h = refl
 reset_in-none base kinds after ls (fits_some {kind = kind} {kinds = kinds'} {l = l} {ls = ls'} f) h =
     ap (λ n. Some n ∷ reset_in base kinds' (Text ∷ after) ls')
-    (cond-false _ _ _ (not-reset_levels kind kinds' after h))
+    (cond-false _ _ _ (not-is_reset kind kinds' after h))
     ∙ ap (λ r. Some l ∷ r) (reset_in-none base kinds' after ls' f (later kind kinds' h))
 reset_in-none base kinds after ls (fits_none {kind = kind} {kinds = kinds'} {ls = ls'} n f) h =
     ap (λ r. None ∷ r) (reset_in-none base kinds' after ls' f (later kind kinds' h))
 
 -- where a separator comes, the least level is the base
-reset_levels-ge : (base : ℕ) (b : Bool) (l : ℕ) → base ≤ l → base ≤ (if b then base else l)
+pub reset_levels-ge : (base : ℕ) (b : Bool) (l : ℕ) → base ≤ l → base ≤ (if b then base else l)
 reset_levels-ge base true l h = omega arith
 reset_levels-ge base false l h = h
 
@@ -112,6 +113,27 @@ reset_in-some base n (kind ∷ kinds) after (Some l ∷ ls) (fits_some f) h (eve
 reset_in-some base n (kind ∷ kinds) after (None ∷ ls) (fits_none apart f) h (every_none e) low =
     reset_in-some base n kinds after ls f h e low
 
+-- two levels of a list, and those from behind the first to the second
+pub second-at : (RA RM RB : List (Option ℕ)) (x y : Option ℕ)
+    → get_or (RA ++ x ∷ (RM ++ y ∷ RB)) (length RA + 1 + length RM) None ≡ y
+second-at RA RM RB x y =
+    let j : ℕ = length RA + 1 + length RM in
+    let longer : length (RA ++ x ∷ RM) ≡ j = omega (arith, length-append RA (x ∷ RM)) in
+    ap (λ l. get_or l j None) (sym (append_assoc RA (x ∷ RM) (y ∷ RB)))
+    ∙ get_or_at (RA ++ x ∷ RM) y RB None j longer
+
+pub slice-between : (RA RM RB : List (Option ℕ)) (x y : Option ℕ)
+    → slice_range (RA ++ x ∷ (RM ++ y ∷ RB)) (length RA + 1) (length RA + 1 + length RM + 1) ≡ RM ++ y ∷ []
+slice-between RA RM RB x y =
+    let i : ℕ = length RA in
+    let j : ℕ = length RA + 1 + length RM in
+    let longer : length (RA ++ x ∷ []) ≡ i + 1 = length-append RA (x ∷ []) in
+    let n : j + 1 - (i + 1) ≡ length (RM ++ y ∷ []) = omega (arith, length-append RM (y ∷ [])) in
+    ap (λ l. take (j + 1 - (i + 1)) (drop (i + 1) l)) (sym (append_assoc RA (x ∷ []) (RM ++ y ∷ RB)))
+    ∙ ap (take (j + 1 - (i + 1))) (drop_at (RA ++ x ∷ []) (RM ++ y ∷ RB) (i + 1) longer)
+    ∙ ap (take (j + 1 - (i + 1))) (sym (append_assoc RM (y ∷ []) RB))
+    ∙ take_at (RM ++ y ∷ []) RB (j + 1 - (i + 1)) (sym n)
+
 -- the order of two characters in a list of levels
 pub order-at : (RA RM RB : List (Option ℕ)) (lx ly : ℕ) → is_left_of (RA ++ Some lx ∷ (RM ++ Some ly ∷ RB))
     (length RA) (length RA + 1 + length RM) ≡ not (is_odd (least_level lx (RM ++ Some ly ∷ [])))
@@ -119,19 +141,9 @@ order-at RA RM RB lx ly =
     let line : List (Option ℕ) = RA ++ Some lx ∷ (RM ++ Some ly ∷ RB) in
     let i : ℕ = length RA in
     let j : ℕ = length RA + 1 + length RM in
-    let longer : length (RA ++ Some lx ∷ RM) ≡ j = omega (arith, length-append RA (Some lx ∷ RM)) in
-    let at_j : get_or line j None ≡ Some ly =
-    ap (λ l. get_or l j None) (sym (append_assoc RA (Some lx ∷ RM) (Some ly ∷ RB)))
-    ∙ get_or_at (RA ++ Some lx ∷ RM) (Some ly) RB None j longer in
-    let longer_first : length (RA ++ Some lx ∷ []) ≡ i + 1 = length-append RA (Some lx ∷ []) in
-    let n : j + 1 - (i + 1) ≡ length (RM ++ Some ly ∷ []) = omega (arith, length-append RM (Some ly ∷ [])) in
-    let slice : slice_range line (i + 1) (j + 1) ≡ RM ++ Some ly ∷ [] =
-    ap (λ l. take (j + 1 - (i + 1)) (drop (i + 1) l)) (sym (append_assoc RA (Some lx ∷ []) (RM ++ Some ly ∷ RB)))
-    ∙ ap (take (j + 1 - (i + 1))) (drop_at (RA ++ Some lx ∷ []) (RM ++ Some ly ∷ RB) (i + 1) longer_first)
-    ∙ ap (take (j + 1 - (i + 1))) (sym (append_assoc RM (Some ly ∷ []) RB))
-    ∙ take_at (RM ++ Some ly ∷ []) RB (j + 1 - (i + 1)) (sym n) in
-    is_left_of-least line i j lx ly (omega arith) (get_or_at RA (Some lx) (RM ++ Some ly ∷ RB) None i refl) at_j
-    ∙ ap (λ l. not (is_odd (least_level lx l))) slice
+    is_left_of-least line i j lx ly (omega arith) (get_or_at RA (Some lx) (RM ++ Some ly ∷ RB) None i refl)
+    (second-at RA RM RB (Some lx) (Some ly))
+    ∙ ap (λ l. not (is_odd (least_level lx l))) (slice-between RA RM RB (Some lx) (Some ly))
 
 -- what counts between two characters: the base where a separator stands there, and else their least level
 abbrev pub least_between : ℕ → Bool → ℕ → List (Option ℕ) → ℕ → ℕ

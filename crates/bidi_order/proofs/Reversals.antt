@@ -149,7 +149,7 @@ reordered-split lowest (suc n) a z b low =
     ap (reversed_from lowest []) (reordered-split (lowest + 1) n a z b (omega arith))
     ∙ reversed_from-split lowest [] (reordered (lowest + 1) n a) z (reordered (lowest + 1) n b) low
 
--- the order of two characters: as it was, or turned
+-- the order of two characters: unchanged, or turned
 abbrev pub Ordered : Bool → LeveledCharacter → LeveledCharacter → List LeveledCharacter → Type 0
 Ordered true x y xs = Before x y xs
 Ordered false x y xs = Before y x xs

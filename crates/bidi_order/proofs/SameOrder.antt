@@ -44,17 +44,17 @@ kinds line = map (λ (c : ℕ). reset_kind (bidi_class c)) line
 pub data Held : List Both → Type 0 where
   held_end : Held []
   held_shared : {c : ℕ} {line : List Both} → Held line → Held (Shared c ∷ line)
-  held_value : {i j : ℕ} {v w : List ℕ} {line : List Both} → is_initiator i ≡ true → is_initiator j ≡ true
+  held_value : {k i j : ℕ} {v w : List ℕ} {line : List Both} → is_initiator i ≡ true → is_initiator j ≡ true
       → Matched 0 v → Matched 0 w
-      → has_separator (kinds v) ≡ false → has_separator (kinds w) ≡ false → Held line → Held (Values i j v w ∷ line)
+      → has_separator (kinds v) ≡ false → has_separator (kinds w) ≡ false → Held line → Held (Values k i j v w ∷ line)
 
 -- the limit at each value of the one line
 pub data Limited : DirectionalStatus → List Both → Type 0 where
   limited_end : {s : DirectionalStatus} → Limited s []
   limited_shared : {s : DirectionalStatus} {c : ℕ} {line : List Both}
       → Limited (status_after (act_of_character c (one_line line)) s) line → Limited s (Shared c ∷ line)
-  limited_value : {s : DirectionalStatus} {i j : ℕ} {v w : List ℕ} {line : List Both} → is_within_depth s ≡ true
-      → Limited s line → Limited s (Values i j v w ∷ line)
+  limited_value : {s : DirectionalStatus} {k i j : ℕ} {v w : List ℕ} {line : List Both} → is_within_depth s ≡ true
+      → Limited s line → Limited s (Values k i j v w ∷ line)
 
 pub Alike-both : (line : List Both) → Held line → Alike (one_line line) (other_line line)
 Alike-both line held_end n = refl
@@ -141,7 +141,7 @@ pieces s (Shared c ∷ A) Z (held_shared h) (limited_shared l) =
       limited = rest.limited;
       held = rest.held;
     }
-pieces s (Values i j v w ∷ A) Z (held_value bi bj mv mw sv sw h) (limited_value room l) =
+pieces s (Values k i j v w ∷ A) Z (held_value bi bj mv mw sv sw h) (limited_value room l) =
     let rest : Pieces s A Z = pieces s A Z h l in
     let one : Value s i 0x2069 v (one_line (A ++ Z)) = value s i 0x2069 v (one_line (A ++ Z)) bi closing-pdi mv room in
     let two : Value s j 0x2069 w (other_line (A ++ Z)) = value s j 0x2069 w (other_line (A ++ Z)) bj closing-pdi mw
@@ -228,7 +228,7 @@ fits-explicit_character base c kind IsRemoved s back K ss stands rest =
 fits-explicit_character base c kind Stays s back K ss stands rest =
     fits_some (rest (explicit_character c Stays s ∷ back))
 
-fits-line : (base : ℕ) (s : DirectionalStatus) (back : List (Option KeptCharacter)) (line : List ℕ)
+pub fits-line : (base : ℕ) (s : DirectionalStatus) (back : List (Option KeptCharacter)) (line : List ℕ)
     → Fits (kinds line) (resolved_levels_from base back (explicit_from s line))
 fits-line base s back [] = fits_end
 fits-line base s back (c ∷ cs) =
@@ -237,36 +237,36 @@ fits-line base s back (c ∷ cs) =
     (separator-stands (bidi_class c) (map bidi_class cs))
     (λ back. fits-line base (status_after (act_of_character c cs) s) back cs)
 
-Fits-tail : {kind : ResetKind} {ss : List ResetKind} {l : Option ℕ} {ls : List (Option ℕ)} → Fits (kind ∷ ss) (l ∷ ls)
-    → Fits ss ls
+pub Fits-tail : {kind : ResetKind} {ss : List ResetKind} {l : Option ℕ} {ls : List (Option ℕ)}
+    → Fits (kind ∷ ss) (l ∷ ls) → Fits ss ls
 Fits-tail (fits_some f) = f
 Fits-tail (fits_none n f) = f
 
-Fits-one_line : (a b : List ResetKind) (A T : List (Option ℕ)) → length a ≡ length A → Fits (a ++ b) (A ++ T) → Fits a A
-Fits-one_line [] b [] T e f = fits_end
-Fits-one_line [] b (l ∷ A) T e f = absurd (omega arith)
-Fits-one_line (kind ∷ a) b [] T e f = absurd (omega arith)
-Fits-one_line (kind ∷ a) b (Some l ∷ A) T e (fits_some f) = fits_some (Fits-one_line a b A T (omega arith) f)
-Fits-one_line (kind ∷ a) b (None ∷ A) T e (fits_none n f) = fits_none n (Fits-one_line a b A T (omega arith) f)
+pub Fits-left : (a b : List ResetKind) (A T : List (Option ℕ)) → length a ≡ length A → Fits (a ++ b) (A ++ T) → Fits a A
+Fits-left [] b [] T e f = fits_end
+Fits-left [] b (l ∷ A) T e f = absurd (omega arith)
+Fits-left (kind ∷ a) b [] T e f = absurd (omega arith)
+Fits-left (kind ∷ a) b (Some l ∷ A) T e (fits_some f) = fits_some (Fits-left a b A T (omega arith) f)
+Fits-left (kind ∷ a) b (None ∷ A) T e (fits_none n f) = fits_none n (Fits-left a b A T (omega arith) f)
 
-Fits-other_line : (a b : List ResetKind) (A T : List (Option ℕ)) → length a ≡ length A → Fits (a ++ b) (A ++ T)
+pub Fits-right : (a b : List ResetKind) (A T : List (Option ℕ)) → length a ≡ length A → Fits (a ++ b) (A ++ T)
     → Fits b T
-Fits-other_line [] b [] T e f = f
-Fits-other_line [] b (l ∷ A) T e f = absurd (omega arith)
-Fits-other_line (kind ∷ a) b [] T e f = absurd (omega arith)
-Fits-other_line (kind ∷ a) b (l ∷ A) T e f = Fits-other_line a b A T (omega arith) (Fits-tail f)
+Fits-right [] b [] T e f = f
+Fits-right [] b (l ∷ A) T e f = absurd (omega arith)
+Fits-right (kind ∷ a) b [] T e f = absurd (omega arith)
+Fits-right (kind ∷ a) b (l ∷ A) T e f = Fits-right a b A T (omega arith) (Fits-tail f)
 
-Every-other_line : (P : ℕ → Type 0) (A T : List (Option ℕ)) → Every P (A ++ T) → Every P T
-Every-other_line P [] T h = h
-Every-other_line P (None ∷ A) T (every_none h) = Every-other_line P A T h
-Every-other_line P (Some l ∷ A) T (every_some p h) = Every-other_line P A T h
+pub Every-right : (P : ℕ → Type 0) (A T : List (Option ℕ)) → Every P (A ++ T) → Every P T
+Every-right P [] T h = h
+Every-right P (None ∷ A) T (every_none h) = Every-right P A T h
+Every-right P (Some l ∷ A) T (every_some p h) = Every-right P A T h
 
-Every-one_line : (P : ℕ → Type 0) (A T : List (Option ℕ)) → Every P (A ++ T) → Every P A
-Every-one_line P [] T h = every_end
-Every-one_line P (None ∷ A) T (every_none h) = every_none (Every-one_line P A T h)
-Every-one_line P (Some l ∷ A) T (every_some p h) = every_some p (Every-one_line P A T h)
+pub Every-left : (P : ℕ → Type 0) (A T : List (Option ℕ)) → Every P (A ++ T) → Every P A
+Every-left P [] T h = every_end
+Every-left P (None ∷ A) T (every_none h) = every_none (Every-left P A T h)
+Every-left P (Some l ∷ A) T (every_some p h) = every_some p (Every-left P A T h)
 
-Every-first : (P : ℕ → Type 0) (l : ℕ) (T : List (Option ℕ)) → Every P (Some l ∷ T) → P l
+pub Every-first : (P : ℕ → Type 0) (l : ℕ) (T : List (Option ℕ)) → Every P (Some l ∷ T) → P l
 Every-first P l T (every_some p h) = p
 
 -- the order of two surrounding characters of one line
@@ -307,14 +307,14 @@ module _ (base : ℕ) (a m b : List ℕ) (x y : ℕ) (SA SM TB : List (Option Ke
       ∙ sym (length-levels_in base [] SA (Some kx ∷ (SM ++ Some ky ∷ TB))) in
       let k : length (kinds m) ≡ length in_m = length-map m (λ (c : ℕ). reset_kind (bidi_class c)) ∙ sym long_m
       ∙ sym (length-levels_in base (Some kx ∷ past [] SA) SM (Some ky ∷ TB)) in
-      let fits_a : Fits (kinds a) LA = Fits-one_line (kinds a) (Text ∷ (kinds m ++ Text ∷ kinds b)) LA
+      let fits_a : Fits (kinds a) LA = Fits-left (kinds a) (Text ∷ (kinds m ++ Text ∷ kinds b)) LA
       (Some at_x ∷ (in_m ++ Some at_y ∷ LB)) n fits in
-      let fits_m : Fits (kinds m) in_m = Fits-one_line (kinds m) (Text ∷ kinds b) in_m (Some at_y ∷ LB) k
-      (Fits-tail (Fits-other_line (kinds a) (Text ∷ (kinds m ++ Text ∷ kinds b)) LA
+      let fits_m : Fits (kinds m) in_m = Fits-left (kinds m) (Text ∷ kinds b) in_m (Some at_y ∷ LB) k
+      (Fits-tail (Fits-right (kinds a) (Text ∷ (kinds m ++ Text ∷ kinds b)) LA
       (Some at_x ∷ (in_m ++ Some at_y ∷ LB)) n fits)) in
       let every_x : Every (λ l. base ≤ l) (Some at_x ∷ (in_m ++ Some at_y ∷ LB)) =
-      Every-other_line (λ l. base ≤ l) LA (Some at_x ∷ (in_m ++ Some at_y ∷ LB)) every in
-      let every_m : Every (λ l. base ≤ l) (in_m ++ Some at_y ∷ LB) = Every-other_line (λ l. base ≤ l) (Some at_x ∷ [])
+      Every-right (λ l. base ≤ l) LA (Some at_x ∷ (in_m ++ Some at_y ∷ LB)) every in
+      let every_m : Every (λ l. base ≤ l) (in_m ++ Some at_y ∷ LB) = Every-right (λ l. base ≤ l) (Some at_x ∷ [])
       (in_m ++ Some at_y ∷ LB) every_x in
       ap (λ i. is_left_of (line_levels base line) i (i + 1 + length m))
       (sym (length-map a (λ (c : ℕ). reset_kind (bidi_class c))))
@@ -324,21 +324,21 @@ module _ (base : ℕ) (a m b : List ℕ) (x y : ℕ) (SA SM TB : List (Option Ke
       (length (kinds a) + 1 + length (kinds m))) levels
       ∙ ap (λ s. is_left_of (reset_levels base s L) (length (kinds a)) (length (kinds a) + 1 + length (kinds m))) split
       ∙ order-reset_levels base (kinds a) (kinds m) (kinds b) LA in_m LB at_x at_y fits_a fits_m
-      (Every-one_line (λ l. base ≤ l) in_m (Some at_y ∷ LB) every_m)
+      (Every-left (λ l. base ≤ l) in_m (Some at_y ∷ LB) every_m)
       (Every-first (λ l. base ≤ l) at_x (in_m ++ Some at_y ∷ LB) every_x)
-      (Every-first (λ l. base ≤ l) at_y LB (Every-other_line (λ l. base ≤ l) in_m (Some at_y ∷ LB) every_m))
+      (Every-first (λ l. base ≤ l) at_y LB (Every-right (λ l. base ≤ l) in_m (Some at_y ∷ LB) every_m))
 
 -- the two sides of a line
 pub one_line-append : (A Z : List Both) → one_line (A ++ Z) ≡ one_line A ++ one_line Z
 one_line-append [] Z = refl
 one_line-append (Shared c ∷ A) Z = ap (λ l. c ∷ l) (one_line-append A Z)
-one_line-append (Values i j v w ∷ A) Z = ap (λ l. i ∷ (v ++ 0x2069 ∷ l)) (one_line-append A Z)
+one_line-append (Values k i j v w ∷ A) Z = ap (λ l. i ∷ (v ++ 0x2069 ∷ l)) (one_line-append A Z)
     ∙ ap (λ l. i ∷ l) (sym (append_assoc v (0x2069 ∷ one_line A) (one_line Z)))
 
 pub other_line-append : (A Z : List Both) → other_line (A ++ Z) ≡ other_line A ++ other_line Z
 other_line-append [] Z = refl
 other_line-append (Shared c ∷ A) Z = ap (λ l. c ∷ l) (other_line-append A Z)
-other_line-append (Values i j v w ∷ A) Z = ap (λ l. j ∷ (w ++ 0x2069 ∷ l)) (other_line-append A Z)
+other_line-append (Values k i j v w ∷ A) Z = ap (λ l. j ∷ (w ++ 0x2069 ∷ l)) (other_line-append A Z)
     ∙ ap (λ l. j ∷ l) (sym (append_assoc w (0x2069 ∷ other_line A) (other_line Z)))
 
 -- the same separators stand in both
@@ -379,19 +379,19 @@ same_separators line (held_value {i = i} {j = j} {v = v} {w = w} {line = rest} b
     of_value i v (one_line rest) bi sv ∙ has_separator-more (reset_kind (bidi_class 0x2069)) (kinds (one_line rest))
     (kinds (other_line rest)) (same_separators rest h) ∙ sym (of_value j w (other_line rest) bj sw)
 
-pub Held-one_line : (A Z : List Both) → Held (A ++ Z) → Held A
-Held-one_line [] Z h = held_end
-Held-one_line (Shared c ∷ A) Z (held_shared h) = held_shared (Held-one_line A Z h)
-Held-one_line (Values i j v w ∷ A) Z (held_value bi bj mv mw sv sw h) =
-    held_value bi bj mv mw sv sw (Held-one_line A Z h)
+pub Held-left : (A Z : List Both) → Held (A ++ Z) → Held A
+Held-left [] Z h = held_end
+Held-left (Shared c ∷ A) Z (held_shared h) = held_shared (Held-left A Z h)
+Held-left (Values k i j v w ∷ A) Z (held_value bi bj mv mw sv sw h) =
+    held_value bi bj mv mw sv sw (Held-left A Z h)
 
 -- a surrounding character that comes next
-pub next_level-held : {c : ℕ} {line : List Both} → Held (Shared c ∷ line) → Held line
-next_level-held (held_shared h) = h
+pub held-rest : {c : ℕ} {line : List Both} → Held (Shared c ∷ line) → Held line
+held-rest (held_shared h) = h
 
-pub next_level-limited : (s : DirectionalStatus) (c : ℕ) (line : List Both) → is_surrounding (bidi_class c) ≡ true
+pub limited-rest : (s : DirectionalStatus) (c : ℕ) (line : List Both) → is_surrounding (bidi_class c) ≡ true
     → Limited s (Shared c ∷ line) → Limited s line
-next_level-limited s c line sc (limited_shared l) = subst (λ a. Limited (status_after a s) line)
+limited-rest s c line sc (limited_shared l) = subst (λ a. Limited (status_after a s) line)
     (surrounding-stands (bidi_class c) (map bidi_class (one_line line)) sc) l
 
 unfoldable pub plain : DirectionalStatus → ℕ → KeptCharacter
@@ -404,8 +404,8 @@ plain s c = record {
   };
 }
 
-pub next_level-explicit_character : (s : DirectionalStatus) (c : ℕ) (rest : List ℕ) → is_surrounding (bidi_class c)
+pub surrounding-explicit : (s : DirectionalStatus) (c : ℕ) (rest : List ℕ) → is_surrounding (bidi_class c)
     ≡ true → explicit_from s (c ∷ rest) ≡ Some (plain s c) ∷ explicit_from s rest
 unfolding plain
-next_level-explicit_character s c rest sc = ap (λ a. explicit_character c a s ∷ explicit_from (status_after a s) rest)
+surrounding-explicit s c rest sc = ap (λ a. explicit_character c a s ∷ explicit_from (status_after a s) rest)
     (surrounding-stands (bidi_class c) (map bidi_class rest) sc)

@@ -5,7 +5,7 @@
 -- odd or even level, up to 125, and what finds no room is counted, so that its end ends nothing else.
 --
 -- After `a`, RLE, LRI from the base 0 the stack has an entry of level 2, an isolate, above one of level 1; a PDF leaves
--- it as it is, since the last entry is an isolate, and a PDI takes both the isolate and what was pushed in it.
+-- it unchanged, since the last entry is an isolate, and a PDI takes both the isolate and what was pushed in it.
 use Rattle.std.specs.Prelude.{ℕ, zero, suc, ◌+◌, ◌-◌, ◌%◌, Bool, true, false, ◌==◌, ◌&&◌, nat_lt, nat_le, List, []}
 use Rattle.std.specs.Prelude.{◌∷◌, if◌then◌else◌, Option, Some, None}
 use Rattle.bidi_class.specs.declared.class.Class.{Class}

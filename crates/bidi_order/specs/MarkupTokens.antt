@@ -5,10 +5,10 @@
 -- for the value of number k. A `<` that begins no tag, comment or DOCTYPE is text too. Of a start tag its name is known
 -- and the value of its first attribute `dir`, of an end tag its name; names are whole and in lower case. RCDATA,
 -- RAWTEXT, scripts, comments, DOCTYPEs and `</>` give nothing, nor does a tag that the pieces' end cuts off. What
--- follows a character that is a fault is left out.
+-- follows a character that is a fault is left out, and what follows a static text whose end is one, as that of `a&`.
 --
 -- `a<B DIR=rtl>` gives the character `a` and the start tag `b` with the `dir` `rtl`.
-use Rattle.std.specs.Prelude.{ℕ, suc, Bool, true, false, ◌==◌, ◌&&◌, if◌then◌else◌, List, [], ◌∷◌, ◌++◌, map, Option}
+use Rattle.std.specs.Prelude.{ℕ, suc, ◌==◌, if◌then◌else◌, List, [], ◌∷◌, ◌++◌, map, Option}
 use Rattle.std.specs.Prelude.{Some}
 use Rattle.std.specs.Prelude.{None, Result, Ok, Err, codes}
 use Rattle.std.specs.Char.{to_ascii_lowercase}
@@ -27,7 +27,7 @@ use Rattle.html_state.specs.declared.row.TagRow.{TagRow}
 use Rattle.html_state.specs.declared.row.TagRow.TheVariants as tag_row
 use Rattle.html_state.specs.ElementNamed.{element_name}
 use Rattle.html_state.specs.Leads.{marked}
-use Rattle.html_state.specs.Next.{next, value_character_next}
+use Rattle.html_state.specs.Next.{next, text_end, value_character_next}
 use Rattle.html_state.specs.AfterPieces.{Piece}
 use Rattle.html_state.specs.AfterPieces.Piece.{Static, Value}
 use Rattle.html_state.specs.Start.{start}
@@ -170,18 +170,26 @@ read_all label r (c ∷ cs) = elim (next_by_label label r.state c) [
   | Err code ↦ ([], None)
 ]
 
--- the tokens of pieces, their values numbered from a number on. A value leaves its mark on the state
+-- the tokens of pieces, their values numbered from a number on. A static text that ends in a reference that isn't
+-- decided is a fault. What such characters of a value are is text of the value: no reference goes on in the next piece.
+-- A value leaves its mark on the state
 abbrev pub tokens_from : ℕ → PageReading → List Piece → List MarkupToken
 tokens_from k r [] = []
 tokens_from k r (Static text ∷ pieces) =
     let read = read_all None r text in
-    read.0 ++ elim read.1 [ None ↦ [] | Some now ↦ tokens_from k now pieces ]
+    read.0
+    ++ elim read.1 [
+      | None ↦ []
+      | Some now ↦ elim (text_end now.state) [ Ok state ↦ tokens_from k now pieces | Err code ↦ [] ]
+    ]
 tokens_from k r (Value out ∷ pieces) =
     let read = read_all (Some k) r out in
     read.0
     ++ elim read.1 [
       | None ↦ []
-      | Some now ↦ tokens_from (suc k) (record now { state = marked r.state now.state }) pieces
+      | Some now ↦
+          labelled_characters (Some k) (pending_text now.reference)
+          ++ tokens_from (suc k) (record now { state = marked r.state now.state; reference = None }) pieces
     ]
 
 abbrev pub tokens_of : List Piece → List MarkupToken

@@ -61,7 +61,7 @@ abbrev pub unmatched_level : Scan → ℕ → ℕ → ℕ
 unmatched_level Forward base level = base
 unmatched_level Backward base level = level
 
--- the level beside the sequence where the line ends
+-- the level beside the sequence at the end of the line
 abbrev pub line_end_level : ℕ → Following → ℕ
 line_end_level base (Taking _) = base
 line_end_level base (Passing n other) = other

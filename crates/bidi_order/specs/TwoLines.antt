@@ -1,39 +1,40 @@
 -- Two lines that differ in what their values hold, as one list, and two characters of both lines that are compared.
 --
--- `a`, LRI, `c`, PDI, `b` and `a`, RLI, U+05D0, PDI, `b` are Shared `a`, Values LRI RLI `c` U+05D0, Shared `b`. The two
--- `a` and the two `b` may be compared; or the `c` with U+05D0 and the two `b`.
-use Rattle.std.specs.Prelude.{ℕ, suc, ◌+◌, ◌≡◌, Bool, true, false, ◌&&◌, List, [], ◌∷◌, ◌++◌, length, None, IsTrue}
+-- `a`, LRI, `c`, PDI, `b` and `a`, RLI, U+05D0, PDI, `b`, where the value is that of number 3, are Shared `a`, Values 3
+-- LRI RLI `c` U+05D0, Shared `b`. The two `a` and the two `b` may be compared; or the `c` with U+05D0 and the two `b`.
+-- Values may have any numbers: in a page a line begins with some value, and those of attributes stand in none.
+use Rattle.std.specs.Prelude.{ℕ, ◌+◌, ◌≡◌, Bool, true, false, ◌&&◌, List, [], ◌∷◌, ◌++◌, length, IsTrue}
 use Rattle.bidi_class.specs.Class.{bidi_class}
 use Rattle.bidi_text.specs.Clean.{cleaned_text}
 use Rattle.bidi_class.specs.declared.class.Class.{Class}
 use Rattle.bidi_class.specs.declared.class.Class.TheVariants.{B, S, WS, BN, LRE, LRO, RLE, RLO, PDF, LRI, RLI, FSI, PDI}
 use Rattle.bidi_order.specs.WithinLimit.{LabelledCharacter, static_character, value_characters, is_value_initiator}
 
--- a static character of both lines, or a value: its initiators and its contents on the one and on the other
+-- a static character of both lines, or a value: its number, its initiators and its contents on the one and on the other
 pub data Both : Type 0 where
   Shared : ℕ → Both
-  Values : ℕ → ℕ → List ℕ → List ℕ → Both
+  Values : ℕ → ℕ → ℕ → List ℕ → List ℕ → Both
 
 abbrev pub one_line : List Both → List ℕ
 one_line [] = []
 one_line (Shared c ∷ line) = c ∷ one_line line
-one_line (Values i j v w ∷ line) = i ∷ (v ++ 0x2069 ∷ one_line line)
+one_line (Values k i j v w ∷ line) = i ∷ (v ++ 0x2069 ∷ one_line line)
 
 abbrev pub other_line : List Both → List ℕ
 other_line [] = []
 other_line (Shared c ∷ line) = c ∷ other_line line
-other_line (Values i j v w ∷ line) = j ∷ (w ++ 0x2069 ∷ other_line line)
+other_line (Values k i j v w ∷ line) = j ∷ (w ++ 0x2069 ∷ other_line line)
 
--- the two lines with labels, their values numbered from a number on
-abbrev pub one_labelled : ℕ → List Both → List LabelledCharacter
-one_labelled n [] = []
-one_labelled n (Shared c ∷ line) = static_character c ∷ one_labelled n line
-one_labelled n (Values i j v w ∷ line) = value_characters n i v ++ one_labelled (suc n) line
+-- the two lines with labels
+abbrev pub one_labelled : List Both → List LabelledCharacter
+one_labelled [] = []
+one_labelled (Shared c ∷ line) = static_character c ∷ one_labelled line
+one_labelled (Values k i j v w ∷ line) = value_characters k i v ++ one_labelled line
 
-abbrev pub other_labelled : ℕ → List Both → List LabelledCharacter
-other_labelled n [] = []
-other_labelled n (Shared c ∷ line) = static_character c ∷ other_labelled n line
-other_labelled n (Values i j v w ∷ line) = value_characters n j w ++ other_labelled (suc n) line
+abbrev pub other_labelled : List Both → List LabelledCharacter
+other_labelled [] = []
+other_labelled (Shared c ∷ line) = static_character c ∷ other_labelled line
+other_labelled (Values k i j v w ∷ line) = value_characters k j w ++ other_labelled line
 
 -- the class of a character that is seen: not WS, S, B or BN, nor that of an embedding, an override or an isolate. The
 -- characters of such a class are a line's surrounding characters, and in a value its block
@@ -53,49 +54,49 @@ is_surrounding FSI = false
 is_surrounding PDI = false
 is_surrounding _ = true
 
--- a character that is compared: a static one of both lines; or of a value one on each line, with the value's
--- initiators, and what stands in it before and after the character, on the one line and on the other
+-- a character that is compared: a static one of both lines; or of a value one on each line, with the value's number
+-- and initiators, and what stands in it before and after the character, on the one line and on the other
 pub data Chosen : Type 0 where
   Outside : ℕ → Chosen
-  Inside : ℕ → ℕ → List ℕ → ℕ → List ℕ → List ℕ → ℕ → List ℕ → Chosen
+  Inside : ℕ → ℕ → ℕ → List ℕ → ℕ → List ℕ → List ℕ → ℕ → List ℕ → Chosen
 
 -- the part of the lines that it stands in
 abbrev pub chosen_part : Chosen → Both
 chosen_part (Outside c) = Shared c
-chosen_part (Inside i j one_begin y one_end other_begin z other_end) =
-    Values i j (one_begin ++ y ∷ one_end) (other_begin ++ z ∷ other_end)
+chosen_part (Inside k i j one_begin y one_end other_begin z other_end) =
+    Values k i j (one_begin ++ y ∷ one_end) (other_begin ++ z ∷ other_end)
 
 -- on the one line: what stands in this part before the character, the character, and what stands after it
 abbrev pub one_before : Chosen → List ℕ
 one_before (Outside c) = []
-one_before (Inside i j one_begin y one_end other_begin z other_end) = i ∷ one_begin
+one_before (Inside k i j one_begin y one_end other_begin z other_end) = i ∷ one_begin
 
 abbrev pub one_character : Chosen → ℕ
 one_character (Outside c) = c
-one_character (Inside i j one_begin y one_end other_begin z other_end) = y
+one_character (Inside k i j one_begin y one_end other_begin z other_end) = y
 
 abbrev pub one_after : Chosen → List ℕ
 one_after (Outside c) = []
-one_after (Inside i j one_begin y one_end other_begin z other_end) = one_end ++ 0x2069 ∷ []
+one_after (Inside k i j one_begin y one_end other_begin z other_end) = one_end ++ 0x2069 ∷ []
 
 -- the same on the other line
 abbrev pub other_before : Chosen → List ℕ
 other_before (Outside c) = []
-other_before (Inside i j one_begin y one_end other_begin z other_end) = j ∷ other_begin
+other_before (Inside k i j one_begin y one_end other_begin z other_end) = j ∷ other_begin
 
 abbrev pub other_character : Chosen → ℕ
 other_character (Outside c) = c
-other_character (Inside i j one_begin y one_end other_begin z other_end) = z
+other_character (Inside k i j one_begin y one_end other_begin z other_end) = z
 
 abbrev pub other_after : Chosen → List ℕ
 other_after (Outside c) = []
-other_after (Inside i j one_begin y one_end other_begin z other_end) = other_end ++ 0x2069 ∷ []
+other_after (Inside k i j one_begin y one_end other_begin z other_end) = other_end ++ 0x2069 ∷ []
 
--- each value begins with LRI or RLI and holds a cleaned text: one that cleaning leaves as it is
+-- each value begins with LRI or RLI and holds a cleaned text: one that cleaning leaves unchanged
 abbrev pub HoldsCleaned : List Both → Type 0
 HoldsCleaned [] = Unit {0}
 HoldsCleaned (Shared c ∷ line) = HoldsCleaned line
-HoldsCleaned (Values i j v w ∷ line) =
+HoldsCleaned (Values k i j v w ∷ line) =
     (IsTrue (is_value_initiator i) × IsTrue (is_value_initiator j) × (cleaned_text v ≡ v) × (cleaned_text w ≡ w))
     × HoldsCleaned line
 

@@ -2,9 +2,9 @@
 -- characters at that level or a higher one is reversed.
 --
 -- Of three characters with the levels 0, 1, 2 the last alone is reversed at level 2, and the last two at level 1: from
--- left to right they are the first, the third, the second.
-use Rattle.std.specs.Prelude.{ℕ, zero, suc, ◌+◌, ◌-◌, max, min, Bool, true, false, ◌==◌, ◌&&◌, nat_lt, nat_le, List, []}
-use Rattle.std.specs.Prelude.{◌∷◌, ◌++◌, if◌then◌else◌, Option, Some, None}
+-- left to right they are the first, the third, the second. So the third stands left of the second.
+use Rattle.std.specs.Prelude.{ℕ, zero, suc, ◌+◌, ◌-◌, max, min, Bool, false, ◌==◌, ◌&&◌, ◌||◌, nat_lt, nat_le, List}
+use Rattle.std.specs.Prelude.{[], ◌∷◌, ◌++◌, if◌then◌else◌, Option, Some, None}
 use Rattle.bidi_order.specs.DirectionalStatus.{is_odd}
 
 -- a character by its index in the line, with its level
@@ -48,13 +48,18 @@ visual_order levels =
     let lowest = least_odd_level above levels in
     reordered lowest (above - lowest) (indexed_from 0 levels)
 
--- the one index comes before the other
+-- one of the characters stands at the index
+abbrev pub has_index : ℕ → List LeveledCharacter → Bool
+has_index j [] = false
+has_index j (x ∷ xs) = x.index == j || has_index j xs
+
+-- the character at the one index is followed by that at the other
 abbrev pub comes_first : ℕ → ℕ → List LeveledCharacter → Bool
 comes_first i j [] = false
-comes_first i j (x ∷ xs) = if x.index == i then true else if x.index == j then false else comes_first i j xs
+comes_first i j (x ∷ xs) = if x.index == i then has_index j xs else comes_first i j xs
 
--- of a line with these levels the character at the one index stands left of that at the other, where these are two
--- characters that are kept
+-- of a line with these levels the character at the one index stands left of that at the other. A character that is
+-- removed stands nowhere: it is left of none, and none is left of it. None is left of itself
 unfoldable pub is_left_of : List (Option ℕ) → ℕ → ℕ → Bool
 is_left_of levels i j = comes_first i j (visual_order levels)
 

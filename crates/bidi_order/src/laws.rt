@@ -1,10 +1,11 @@
 //! What holds of levels and order, for every line: functions with an empty body, whose contracts are the laws.
 ghost use Rattle.std.specs.Prelude.{◌≡◌, ℕ, ◌<◌, ◌+◌, false, not, List, [], ◌∷◌, ◌++◌, length, Option, Some, None};
-ghost use Rattle.std.specs.Prelude.{slice_range, slice_index, slice_index_or, IsTrue};
+ghost use Rattle.std.specs.Prelude.{min, slice_range, slice_index, slice_index_or, IsTrue};
 ghost use Rattle.bidi_text.specs.Clean.{cleaned_text};
 ghost use Rattle.bidi_order.specs.DirectionalStatus.{is_odd};
 ghost use Rattle.bidi_order.specs.Levels.{line_levels};
 ghost use Rattle.bidi_class.specs.Class.{bidi_class};
+ghost use Rattle.bidi_class.specs.declared.class.Class.TheVariants.{S};
 ghost use Rattle.bidi_order.specs.Reset.{ResetKind, can_reset, is_reset_class, reset_levels};
 ghost use Rattle.bidi_order.specs.Reset.ResetKind.{Separator};
 ghost use Rattle.bidi_order.specs.Sequences.{levels_before_reset};
@@ -47,11 +48,33 @@ pub fn law_reset()
 {}
 
 /// A character stands left of a later one exactly where the least level from the one to the other, these two included,
-/// is even.
+/// is even; of two characters that are kept one stands left of the other; one that is removed stands nowhere. From a
+/// value's initiator to its PDI the least level is that of one of the two, on a line within the limit; where a
+/// separator stands between, it is the base.
 pub fn law_order()
-    ensures { (levels : List (Option ℕ)) (i j first last : ℕ) → i < j
+    ensures by_least { (levels : List (Option ℕ)) (i j first last : ℕ) → i < j
         → slice_index_or levels i None ≡ Some first → slice_index_or levels j None ≡ Some last
         → is_left_of levels i j ≡ not (is_odd (least_level first (slice_range levels (i + 1) (j + 1)))) }
+    ensures contrary { (levels : List (Option ℕ)) (i j first last : ℕ) → i < j
+        → slice_index_or levels i None ≡ Some first → slice_index_or levels j None ≡ Some last
+        → is_left_of levels j i ≡ not (is_left_of levels i j) }
+    ensures at_value { (base k i first last : ℕ) (text : List ℕ) (prefix suffix : List LabelledCharacter)
+        → IsTrue (is_value_initiator i)
+        → IsTrue (is_within_limit base (prefix ++ (value_characters k i (cleaned_text text) ++ suffix)))
+        → slice_index_or (line_levels base
+        (line_characters (prefix ++ (value_characters k i (cleaned_text text) ++ suffix)))) (length prefix) None
+        ≡ Some first
+        → slice_index_or (line_levels base
+        (line_characters (prefix ++ (value_characters k i (cleaned_text text) ++ suffix))))
+        (length prefix + 1 + length (cleaned_text text)) None ≡ Some last
+        → least_level first (slice_range (line_levels base
+        (line_characters (prefix ++ (value_characters k i (cleaned_text text) ++ suffix))))
+        (length prefix + 1) (length prefix + 1 + length (cleaned_text text) + 1)) ≡ min first last }
+    ensures at_separator { (base : ℕ) (line : List ℕ) (i m j first : ℕ) → i < m → m < j → j < length line
+        → slice_index_or (line_levels base line) i None ≡ Some first → bidi_class (slice_index line m) ≡ S
+        → least_level first (slice_range (line_levels base line) (i + 1) (j + 1)) ≡ base }
+    ensures removed { (levels : List (Option ℕ)) (i j : ℕ) → slice_index_or levels i None ≡ None
+        → (is_left_of levels i j ≡ false) × (is_left_of levels j i ≡ false) }
 {}
 
 /// Two lines that differ in what their values hold, and in the directions of these, are both within the limit or
@@ -60,13 +83,17 @@ pub fn law_order()
 /// of another block, so that none of these stands between them.
 pub fn law_same_line()
     ensures within { (base : ℕ) (line : List Both) → HoldsCleaned line
-        → is_within_limit base (one_labelled 0 line) ≡ is_within_limit base (other_labelled 0 line) }
+        → is_within_limit base (one_labelled line) ≡ is_within_limit base (other_labelled line) }
     ensures order { (base : ℕ) (c : ComparedLines) → HoldsCleaned (whole_line c) → IsTrue (are_surrounding c)
-        → IsTrue (is_within_limit base (one_labelled 0 (whole_line c)))
+        → IsTrue (is_within_limit base (one_labelled (whole_line c)))
         → is_left_of (line_levels base (one_line (whole_line c))) (one_first c) (one_second c)
         ≡ is_left_of (line_levels base (other_line (whole_line c))) (other_first c) (other_second c) }
+    ensures order_back { (base : ℕ) (c : ComparedLines) → HoldsCleaned (whole_line c) → IsTrue (are_surrounding c)
+        → IsTrue (is_within_limit base (one_labelled (whole_line c)))
+        → is_left_of (line_levels base (one_line (whole_line c))) (one_second c) (one_first c)
+        ≡ is_left_of (line_levels base (other_line (whole_line c))) (other_second c) (other_first c) }
     ensures block { (base : ℕ) (c : ComparedLines) → HoldsCleaned (whole_line c) → IsTrue (are_surrounding c)
-        → IsTrue (is_within_limit base (one_labelled 0 (whole_line c)))
+        → IsTrue (is_within_limit base (one_labelled (whole_line c)))
         → one_line (whole_line c) ≡ other_line (whole_line c)
         → is_left_of (line_levels base (one_line (whole_line c))) (one_first c) (one_second c)
         ≡ is_left_of (line_levels base (one_line (whole_line c))) (other_first c) (other_second c) }

@@ -5,8 +5,9 @@
 //! is the levels of a line by UAX #9, `is_left_of` its visual order, and `is_within_limit` the depth up to which the
 //! laws on values speak.
 //!
-//! Depends on `bidi_class` for the classes of characters, on `bidi_text` for cleaned texts, and on `html_state` for the
-//! tokenizer's states.
+//! Depends on `soy_base`, on `script_state` and `html_state` for the tokenizer's states, on `bidi_class` for the
+//! classes of characters, on `bidi_text` for cleaned and wrapped texts, and, in proofs of worked lines, on the kit's
+//! `ucd_category` and `ucd_table`.
 #![tactic(auto)]
 
 mod laws;
