@@ -1,0 +1,7 @@
+mod Growth
+mod Indexes
+mod Keys
+mod Refusals
+mod Spans
+mod Types
+mod Undoing
