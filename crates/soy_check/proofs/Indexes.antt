@@ -1,11 +1,30 @@
 -- The template of a full name, by the place of the name among all.
-use Rattle.std.proofs.Common.{◌≡◌, ℕ, zero, suc, ◌+◌, ◌≤◌, Bool, true, false, not, cond, List, [], ◌∷◌, refl, ap, sym, ◌∙◌}
-use Rattle.std.proofs.Common.{Option, Some, None, option_map, length, slice_get, arith}
+use Rattle.std.proofs.Common.{
+  ◌≡◌,
+  ℕ,
+  zero,
+  suc,
+  ◌+◌,
+  ◌≤◌,
+  Bool,
+  true,
+  false,
+  not,
+  cond,
+  List,
+  [],
+  ◌∷◌,
+  refl,
+  ap,
+  sym,
+  ◌∙◌,
+}
+use Rattle.std.proofs.Common.{Bor, Option, Some, None, option_map, length, reverse, slice_get, arith}
 use Rattle.std.specs.Prelude.{if◌then◌else◌, nat_lt}
 use Rattle.std.specs.List.{position, prefix_len}
 use Rattle.std.specs.Str.{bytes_eq}
 use Rattle.std.proofs.lemmas.Bool.Decides.{nat_tests, same_from_decides}
-use Rattle.std.proofs.lemmas.List.{length-map}
+use Rattle.std.proofs.lemmas.List.{length-map, reverse-reverse}
 use Rattle.std.proofs.lemmas.Option.{slice_get_past}
 use Rattle.std.proofs.lemmas.Slice.Eq.{bytes_eq-Decides}
 use Rattle.soy_tree.specs.Types.{Name}
@@ -24,7 +43,8 @@ names_before name all = prefix_len (λ other. not (bytes_eq name other)) (full_n
 
 at_head : (b : Bool) (d : code.Declared) (all : List code.Declared) (n : ℕ) (rest : Option Declared)
     → rest ≡ option_map view_declared (slice_get all n)
-    → (if b then Some (view_declared d) else rest) ≡ option_map view_declared (slice_get (d ∷ all) (cond (not b) (1 + n) 0))
+    → (if b then Some (view_declared d) else rest) ≡ option_map view_declared (slice_get (d ∷ all) (cond (not b) (1 +
+    n) 0))
 at_head true d all n rest h = refl
 at_head false d all n rest h = let e : 1 + n ≡ suc n = omega arith in rw e h
 
@@ -35,7 +55,8 @@ template_at name (d ∷ all) =
     let e : bytes_eq (full_name (view_declared d)) name ≡ bytes_eq name d.full =
     ap (λ (n : Name). bytes_eq n name) (sym d.named) ∙ bytes_eq-turned d.full name in
     ap (λ b. if b then Some (view_declared d) else template_of name (view_all all)) e
-    ∙ at_head (bytes_eq name d.full) d all (names_before name all) (template_of name (view_all all)) (template_at name all)
+    ∙ at_head (bytes_eq name d.full) d all (names_before name all) (template_of name (view_all all)) (template_at name
+    all)
 
 pub some_is : (b : Bool) (n at : ℕ) → cond b (Some n) None ≡ Some at → n ≡ at
 some_is true n at h = cc
@@ -60,7 +81,19 @@ pub template_missing : (name : Name) (all : List code.Declared) → position (by
     → template_of name (view_all all) ≡ None
 template_missing name all h =
     let over : length all ≤ names_before name all =
-    rw (← length-map full all)
+    rw (← length-map all full)
     (past (names_before name all) (length (full_names all))
     (none_is (nat_lt (names_before name all) (length (full_names all))) (names_before name all) h)) in
     template_at name all ∙ ap (option_map view_declared) (slice_get_past all (names_before name all) over)
+
+-- a name stands among the full names where it stands among them in turn
+pub indexed_position : (name : Name) (names : List Name) (all : List code.Declared) (at : Option ℕ)
+    → names ≡ reverse (full_names all) → at ≡ position (bytes_eq name) (reverse names)
+    → position (bytes_eq name) (full_names all) ≡ at
+indexed_position name names all at indexed is =
+    ap (position (bytes_eq name)) (sym (reverse-reverse (full_names all)) ∙ ap reverse (sym indexed)) ∙ sym is
+
+pub seen_through : (found : Option (Bor code.Declared))
+    → option_map (λ d. view_declared d.now) found ≡ option_map view_declared (option_map (λ d. d.now) found)
+seen_through None = refl
+seen_through (Some d) = refl

@@ -116,5 +116,5 @@ position-names keys bytes text all =
     ap (λ n. cond (nat_lt n (length keys)) (Some n) None) (before_key keys bytes text all)
     ∙ ap (λ len. cond (nat_lt (prefix_len (λ name. not (bytes_eq (chars bytes) name)) (key_names keys)) len)
     (Some (prefix_len (λ name. not (bytes_eq (chars bytes) name)) (key_names keys))) None)
-    (sym (length-map (λ key. chars key.now) keys))
+    (sym (length-map keys (λ key. chars key.now)))
     ∙ ap (position (bytes_eq (chars bytes))) (sym (reverse-reverse (key_names keys)))

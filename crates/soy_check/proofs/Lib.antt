@@ -1,6 +1,8 @@
 mod Growth
 mod Indexes
 mod Keys
+mod Loops
+mod Passing
 mod Refusals
 mod Spans
 mod Types

@@ -22,9 +22,9 @@ pub refused_type : {B : Type 0} (r : Result SoyType TypeFault) (next : SoyType �
 refused_type r next (refusal.Because f) h = rw h refl
 refused_type r next refusal.OutOfMemory h = tt
 
-pub kept : {A : Type 0} (f : TypeFault) (e : Refusal code.TypeFault) → Keeps f e → Refuses {A = A} (Err f) e
-kept f (refusal.Because g) h = ap Err h
-kept f refusal.OutOfMemory h = tt
+pub kept : (A : Type 0) (f : TypeFault) (e : Refusal code.TypeFault) → Keeps f e → Refuses {A = A} (Err f) e
+kept A f (refusal.Because g) h = ap Err h
+kept A f refusal.OutOfMemory h = tt
 
 pub kept_fault : (f : TypeFault) (e : Refusal code.TypeFault) → Keeps f e → KeepsFault (Some f) e
 kept_fault f (refusal.Because g) h = ap Some h

@@ -1,6 +1,18 @@
 -- Variables whose types are changed and put back.
 use Rattle.std.proofs.Common.{◌≡◌, ℕ, zero, suc, ◌+◌, ◌<◌, Bool, true, false, not, cond, List, [], ◌∷◌, ◌++◌, refl, ap}
-use Rattle.std.proofs.Common.{sym, ◌∙◌, ◌≤◌, Option, Some, None, option_map, length, slice_get, slice_index_or, slice_set}
+use Rattle.std.proofs.Common.{
+  sym,
+  ◌∙◌,
+  ◌≤◌,
+  Option,
+  Some,
+  None,
+  option_map,
+  length,
+  slice_get,
+  slice_index_or,
+  slice_set,
+}
 use Rattle.std.proofs.Common.{arith}
 use Rattle.std.specs.Prelude.{if◌then◌else◌, nat_lt, bytes_eq}
 use Rattle.std.specs.List.{position, prefix_len}
@@ -20,10 +32,10 @@ use Rattle.soy_check.specs.Visible.{variable}
 use Rattle.soy_check.proofs.Indexes.{none_is, past, some_is}
 
 -- what is put back last stands at the end
-pub put_back-append : (outside : List code_outside.Outside) (o : code_outside.Outside) (vars : List code_field.Field)
+pub put_back_last : (outside : List code_outside.Outside) (o : code_outside.Outside) (vars : List code_field.Field)
     → put_back (outside ++ (o ∷ [])) vars ≡ put_back outside (with_type o.at o.of vars)
-put_back-append [] o vars = refl
-put_back-append (p ∷ outside) o vars = ap (with_type p.at p.of) (put_back-append outside o vars)
+put_back_last [] o vars = refl
+put_back_last (p ∷ outside) o vars = ap (with_type p.at p.of) (put_back_last outside o vars)
 
 -- a type that is put back where it was changes nothing else
 pub with_type-back : (vars : List code_field.Field) (at : ℕ) (of old : code.SoyType) → type_at vars at ≡ Some old
@@ -36,12 +48,12 @@ with_type-back (v ∷ vars) (suc at) of old h =
     ap (λ (l : List code_field.Field). v ∷ l) (with_type-back vars at of old h)
 
 -- past the end there is nothing to change
-pub with_type-past : (vars : List code_field.Field) (at : ℕ) (of : code.SoyType) → length vars ≤ at
+pub with_type_past : (vars : List code_field.Field) (at : ℕ) (of : code.SoyType) → length vars ≤ at
     → with_type at of vars ≡ vars
-with_type-past [] at of over = refl
-with_type-past (v ∷ vars) zero of over = absurd (omega arith)
-with_type-past (v ∷ vars) (suc at) of over =
-    ap (λ (l : List code_field.Field). v ∷ l) (with_type-past vars at of (omega arith))
+with_type_past [] at of over = refl
+with_type_past (v ∷ vars) zero of over = absurd (omega arith)
+with_type_past (v ∷ vars) (suc at) of over =
+    ap (λ (l : List code_field.Field). v ∷ l) (with_type_past vars at of (omega arith))
 
 -- a write of the type is a change of it
 pub with_type-set : (vars : List code_field.Field) (at : ℕ) (of : code.SoyType) (v : code_field.Field)
@@ -64,7 +76,8 @@ before_name name vars = prefix_len (λ v. not (is_variable name v)) vars
 
 abbrev narrowed_head : Bool → code_field.Field → Name → Scope → Scope
 narrowed_head b v name scope =
-    if b then (v.name, type_without_null (view_type v.of)) ∷ scope else (v.name, view_type v.of) ∷ name_narrowed name scope
+    if b then (v.name, type_without_null (view_type v.of)) ∷ scope else (v.name, view_type v.of) ∷ name_narrowed name
+    scope
 
 head_view : (v : code_field.Field) (name : Name) (scope : Scope)
     → name_narrowed name (view_field v ∷ scope) ≡ narrowed_head (bytes_eq v.name name) v name scope
@@ -73,7 +86,8 @@ head_view v name scope = ap (λ (x : Name × SoyType). name_narrowed name (x ∷
 narrowed_step : (b : Bool) (v : code_field.Field) (vars : List code_field.Field) (name : Name) (n m : ℕ)
     (of old : code.SoyType) → m ≡ cond (not b) (1 + n) 0 → type_at (v ∷ vars) m ≡ Some old
     → view_type of ≡ type_without_null (view_type old)
-    → ((k : ℕ) → k ≡ n → type_at vars k ≡ Some old → name_narrowed name (view_vars vars) ≡ view_vars (with_type k of vars))
+    → ((k : ℕ) → k ≡ n → type_at vars k ≡ Some old → name_narrowed name (view_vars vars) ≡ view_vars (with_type k of
+    vars))
     → narrowed_head b v name (view_vars vars) ≡ view_vars (with_type m of (v ∷ vars))
 narrowed_step true v vars name n zero of old is at e rest =
     let same : v.of ≡ old = cc in

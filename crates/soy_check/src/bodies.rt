@@ -26,6 +26,7 @@ use std::alloc::Global;
 
 /// Nodes, whose variables are visible up to the last of them.
 #[cycle(checking)]
+#[tactic(auto, using(crate::proofs::Refusals::refused_first, crate::proofs::Growth::grown_same, crate::proofs::Growth::grown_further, crate::proofs::Growth::grown_left))]
 pub(crate) fn check_nodes(
     alloc: Global,
     around: &Around,
@@ -45,6 +46,7 @@ pub(crate) fn check_nodes(
 
 /// A node, after which a variable more may be visible.
 #[cycle(checking)]
+#[tactic(auto, using(crate::proofs::Refusals::refused_first, crate::proofs::Growth::grown_same, crate::proofs::Growth::grown_one, crate::proofs::Growth::grown_left, crate::proofs::Loops::loop_is))]
 fn check_node(
     alloc: Global,
     around: &Around,
@@ -59,19 +61,25 @@ fn check_node(
     match &node.form {
         Form::Text(_) => Ok(()),
         Form::Print(expr, _) => check_print(alloc, expr, span, vars.as_slice()),
-        Form::If(arms, None) => check_arms(alloc, around, arms.items(), vars),
+        Form::If(arms, None) => {
+            check_arms(alloc, around, arms.items(), vars)?;
+            Ok(())
+        }
         Form::If(arms, Some(other)) => {
             check_arms(alloc, around, arms.items(), vars)?;
-            check_nodes(alloc, around, other.items(), vars)
+            check_nodes(alloc, around, other.items(), vars)?;
+            Ok(())
         }
         Form::Switch(subject, cases, None) => {
             check_expr(alloc, Takes::Simple, subject, vars.as_slice())?;
-            check_cases(alloc, around, cases.items(), vars)
+            check_cases(alloc, around, cases.items(), vars)?;
+            Ok(())
         }
         Form::Switch(subject, cases, Some(other)) => {
             check_expr(alloc, Takes::Simple, subject, vars.as_slice())?;
             check_cases(alloc, around, cases.items(), vars)?;
-            check_nodes(alloc, around, other.items(), vars)
+            check_nodes(alloc, around, other.items(), vars)?;
+            Ok(())
         }
         Form::For(name, index, list, body) => {
             let mark = vars.len();
@@ -84,24 +92,31 @@ fn check_node(
         Form::LetBlock(name, kind, body) => {
             check_new(alloc, name, span, vars.as_slice())?;
             check_nodes(alloc, around, body.items(), vars)?;
-            Ok(declare(alloc, name, kind_type(*kind), vars)?)
+            declare(alloc, name, kind_type(*kind), vars)?;
+            Ok(())
         }
         Form::Call(name, all, given) => {
             let params = callee_params(alloc, around, name, span)?;
             let given = given.items();
             check_demands(alloc, around, *all, given, span, params, vars.as_slice())?;
-            check_arguments(alloc, around, given, params, vars)
+            check_arguments(alloc, around, given, params, vars)?;
+            Ok(())
         }
-        Form::Message(message, None) => check_body(alloc, around, &message.body, vars),
+        Form::Message(message, None) => {
+            check_body(alloc, around, &message.body, vars)?;
+            Ok(())
+        }
         Form::Message(message, Some(other)) => {
             check_body(alloc, around, &message.body, vars)?;
-            check_body(alloc, around, &other.body, vars)
+            check_body(alloc, around, &other.body, vars)?;
+            Ok(())
         }
     }
 }
 
 /// The arms of an if. In its branch a condition takes null away.
 #[cycle(checking)]
+#[tactic(auto, using(crate::proofs::Refusals::refused_first, crate::proofs::Refusals::refused_type))]
 fn check_arms(
     alloc: Global,
     around: &Around,
@@ -124,6 +139,7 @@ fn check_arms(
 
 /// The cases of a switch.
 #[cycle(checking)]
+#[tactic(auto, using(crate::proofs::Refusals::refused_first))]
 fn check_cases(
     alloc: Global,
     around: &Around,
@@ -143,6 +159,7 @@ fn check_cases(
 
 /// The params of a call.
 #[cycle(checking)]
+#[tactic(auto, using(crate::proofs::Refusals::refused_first))]
 fn check_arguments(
     alloc: Global,
     around: &Around,
@@ -165,6 +182,7 @@ fn check_arguments(
 
 /// What a param of a call is given.
 #[cycle(checking)]
+#[tactic(auto, using(crate::proofs::Refusals::refused_first))]
 fn check_given(
     alloc: Global,
     around: &Around,
@@ -181,13 +199,15 @@ fn check_given(
         Given::Plain(expr) => check_plain(alloc, expr, param, vars.as_slice()),
         Given::Block(kind, body) => {
             check_accepted(alloc, &param_type(alloc, param)?, span, &kind_type(*kind))?;
-            check_nodes(alloc, around, body.items(), vars)
+            check_nodes(alloc, around, body.items(), vars)?;
+            Ok(())
         }
     }
 }
 
 /// What a message holds.
 #[cycle(checking)]
+#[tactic(auto, using(crate::proofs::Refusals::refused_first))]
 fn check_body(
     alloc: Global,
     around: &Around,
@@ -199,22 +219,28 @@ fn check_body(
     ensures unchanged { OnOk result (vars.new.items ≡ vars.old.items) }
 {
     match body {
-        MessageBody::Parts(nodes) => check_nodes(alloc, around, nodes.items(), vars),
+        MessageBody::Parts(nodes) => {
+            check_nodes(alloc, around, nodes.items(), vars)?;
+            Ok(())
+        }
         MessageBody::Plural(selector, _, cases, other) => {
             check_expr(alloc, Takes::Int, selector, vars.as_slice())?;
             check_plural_cases(alloc, around, cases.items(), vars)?;
-            check_body(alloc, around, other.get(), vars)
+            check_body(alloc, around, other.get(), vars)?;
+            Ok(())
         }
         MessageBody::Select(selector, cases, other) => {
             check_expr(alloc, Takes::Str, selector, vars.as_slice())?;
             check_select_cases(alloc, around, cases.items(), vars)?;
-            check_body(alloc, around, other.get(), vars)
+            check_body(alloc, around, other.get(), vars)?;
+            Ok(())
         }
     }
 }
 
 /// The cases of a plural.
 #[cycle(checking)]
+#[tactic(auto, using(crate::proofs::Refusals::refused_first))]
 fn check_plural_cases(
     alloc: Global,
     around: &Around,
@@ -233,6 +259,7 @@ fn check_plural_cases(
 
 /// The cases of a select.
 #[cycle(checking)]
+#[tactic(auto, using(crate::proofs::Refusals::refused_first))]
 fn check_select_cases(
     alloc: Global,
     around: &Around,

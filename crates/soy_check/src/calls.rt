@@ -1,12 +1,14 @@
 //! The demands on calls.
 
-ghost use Rattle.std.specs.Prelude.{◌≡◌, ◌∷◌, ◌==◌, OnOk, IfOk, option_map};
+ghost use Rattle.std.specs.Prelude.{◌≡◌, ◌∷◌, ◌==◌, OnOk, IfOk, option_map, slice_get};
 ghost use Rattle.std.specs.List.{list_any};
+ghost use Rattle.std.specs.Str.{chars};
 ghost use Rattle.soy_base.specs.Characters.{full_stop};
-ghost use Rattle.soy_tree.specs.Bodies.{callee_params, hands_on, named_param, names_given, param_demand, param_demands};
-ghost use Rattle.soy_tree.specs.Bodies.{param_of, unnamed_demand};
+ghost use Rattle.soy_tree.specs.Bodies.{callee_params, handed, hands_on, named_param, names_given, param_demand};
+ghost use Rattle.soy_tree.specs.Bodies.{param_demands, param_of, unnamed_demand};
 ghost use Rattle.soy_tree.specs.Declarations.{is_among};
-ghost use Rattle.soy_tree.specs.Templates.{called_name, template_of, visible};
+ghost use Rattle.soy_tree.specs.Templates.{called_name, param_type, template_of, visible};
+ghost use Rattle.soy_tree.specs.TypeOf.{variable_type};
 ghost use Rattle.soy_tree.specs.ViewNodes.{view_arguments};
 ghost use Rattle.soy_tree.specs.ViewTrees.{view_param, view_params};
 ghost use Rattle.soy_expr.specs.ViewScope.{view_vars};
@@ -59,9 +61,15 @@ fn template_of<'a, 't>(around: &Around<'_, 'a, 't>, full: &Text) -> Option<&'a D
     ensures { option_map (λ d. view_declared d.now) result ≡ template_of full.now (view_all around.now.declared.now) }
 {
     match around.names.position(full) {
-        Some(at) => around.declared.get(at),
+        Some(at) => declared_at(around.declared, at),
         None => None,
     }
+}
+
+fn declared_at<'a, 't>(all: &'a [Declared<'t>], at: usize) -> Option<&'a Declared<'t>>
+    ensures { option_map (λ d. d.now) result ≡ slice_get all.now at }
+{
+    all.get(at)
 }
 
 /// What the callee's parameters demand of a call.
@@ -100,10 +108,7 @@ fn check_unnamed(
         (view_vars vars.now) result }
 {
     if all && param_of(&param.name, around.params).is_some() {
-        return match variable_of(vars, &param.name) {
-            Some(given) => check_accepted(alloc, &param_type(alloc, param)?, span, given),
-            None => Ok(()),
-        };
+        return check_handed(alloc, span, param, vars);
     }
     if param.required {
         return Err(misnamed(alloc, Code::Argument, span, &param.name));
@@ -111,11 +116,28 @@ fn check_unnamed(
     Ok(())
 }
 
+/// Refuses a variable that is handed on and that its parameter doesn't accept.
+fn check_handed(
+    alloc: Global,
+    span: Span,
+    param: &Param,
+    vars: &[Field],
+) -> Result<(), Refusal<TypeFault>>
+    ensures { Passes (handed (param_type (view_param param.now)) span (variable_type param.now.name (view_vars vars.now))
+        (view_vars vars.now)) (view_vars vars.now) result }
+{
+    let to = param_type(alloc, param)?;
+    match variable_of(vars, &param.name) {
+        Some(given) => check_accepted(alloc, &to, span, given),
+        None => Ok(()),
+    }
+}
+
 /// The full name that a call means.
 fn called_name(alloc: Global, namespace: &Text, name: &Text) -> Result<Text, OutOfMemory>
     ensures { IfOk result (λ full. full ≡ called_name namespace.now name.now) }
 {
-    if is_dotted(name) {
+    if is_dotted(name.text()) {
         name.copy(alloc)
     } else {
         joined_name(alloc, namespace, name)
@@ -123,10 +145,16 @@ fn called_name(alloc: Global, namespace: &Text, name: &Text) -> Result<Text, Out
 }
 
 /// Whether there is a `.` in a name.
-fn is_dotted(name: &Text) -> bool
-    ensures { result ≡ list_any (λ c. c == full_stop) name.now }
+fn is_dotted(name: &str) -> bool
+    ensures { result ≡ list_any (λ c. c == full_stop) (chars name.now) }
 {
-    name.text().chars().any(|c| c == '.')
+    name.chars().any(is_full_stop)
+}
+
+fn is_full_stop(c: char) -> bool
+    ensures { result ≡ (c == full_stop) }
+{
+    c == '.'
 }
 
 /// Whether a param names a parameter.

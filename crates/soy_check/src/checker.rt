@@ -1,7 +1,8 @@
 //! The check of the trees of all files.
 
-ghost use Rattle.std.specs.Prelude.{◌≡◌, ◌<◌, ◌^◌, [], length, IfOk, reverse};
-ghost use Rattle.soy_tree.specs.Demands.{bodies_fault, body_fault, check_fault, declarations_fault};
+ghost use Rattle.std.specs.Prelude.{◌≡◌, ◌∷◌, ◌<◌, ◌^◌, [], length, option_map, IfOk, OnOk, reverse};
+ghost use Rattle.soy_tree.specs.Declarations.{declaration_fault};
+ghost use Rattle.soy_tree.specs.Demands.{bodies_fault, body_fault, check_fault, declarations_fault, in_file};
 ghost use Rattle.soy_tree.specs.Formed.{AreFormed};
 ghost use Rattle.soy_tree.specs.ViewTrees.{view_trees};
 ghost use Rattle.soy_check.specs.Answers.{Checks, Finds, FindsInFile};
@@ -11,7 +12,7 @@ ghost use Rattle.soy_check.specs.ViewAround.{view_all, view_declared};
 use crate::around::Around;
 use crate::bodies::check_nodes;
 use crate::declarations::check_declaration;
-use crate::faults::found_in;
+use crate::faults::refused_in;
 use crate::names::Names;
 use crate::template::Declared;
 use crate::templates::all_templates;
@@ -41,6 +42,7 @@ pub fn check(alloc: Global, trees: Vec<Tree>) -> Result<Typed, Refusal<CheckFaul
 }
 
 /// The two passes: declarations, and then bodies.
+#[tactic(auto, using(crate::proofs::Refusals::found_first_in_file))]
 pub(crate) fn check_trees(alloc: Global, trees: &[Tree]) -> Result<(), Refusal<CheckFault>>
     requires { length trees.now < 2 ^ 32 }
     ensures { FindsInFile (check_fault (view_trees trees.now)) result }
@@ -52,6 +54,7 @@ pub(crate) fn check_trees(alloc: Global, trees: &[Tree]) -> Result<(), Refusal<C
 }
 
 /// The pass over declarations, which gives the full names.
+#[tactic(auto, using(crate::proofs::Refusals::found_first_in_file))]
 fn check_declarations<'a, 't>(
     alloc: Global,
     all: &'a [Declared<'t>],
@@ -61,15 +64,29 @@ fn check_declarations<'a, 't>(
 {
     let mut names = Names::new(alloc);
     for declared in all {
-        found_in(
-            declared.file,
-            check_declaration(alloc, declared, &mut names),
-        )?;
+        check_declared(alloc, declared, &mut names)?;
     }
     Ok(names)
 }
 
+/// The declaration of a template in its file.
+fn check_declared<'a, 't>(
+    alloc: Global,
+    declared: &'a Declared<'t>,
+    before: &mut Names<'a>,
+) -> Result<(), Refusal<CheckFault>>
+    ensures found { FindsInFile (option_map (in_file declared.now.file)
+        (declaration_fault (view_declared declared.now) before.old)) result }
+    ensures names { OnOk result (before.new ≡ declared.now.full ∷ before.old) }
+{
+    match check_declaration(alloc, declared, before) {
+        Ok(_) => Ok(()),
+        Err(refusal) => Err(refused_in(declared.file, refusal)),
+    }
+}
+
 /// The pass over bodies.
+#[tactic(auto, using(crate::proofs::Refusals::found_first_in_file))]
 fn check_bodies<'n, 'a, 't>(
     alloc: Global,
     all: &'a [Declared<'t>],
@@ -79,9 +96,26 @@ fn check_bodies<'n, 'a, 't>(
     ensures { FindsInFile (bodies_fault (view_all all.now) (view_all all.now)) result }
 {
     for declared in all {
-        found_in(declared.file, check_body(alloc, all, names, declared))?;
+        check_template(alloc, all, names, declared)?;
     }
     Ok(())
+}
+
+/// The body of a template in its file.
+fn check_template<'n, 'a, 't>(
+    alloc: Global,
+    all: &'a [Declared<'t>],
+    names: &'n Names<'a>,
+    declared: &'a Declared<'t>,
+) -> Result<(), Refusal<CheckFault>>
+    requires { names.now ≡ reverse (full_names all.now) }
+    ensures { FindsInFile (option_map (in_file declared.now.file)
+        (body_fault (view_all all.now) (view_declared declared.now))) result }
+{
+    match check_body(alloc, all, names, declared) {
+        Ok(_) => Ok(()),
+        Err(refusal) => Err(refused_in(declared.file, refusal)),
+    }
 }
 
 /// The body of a template.

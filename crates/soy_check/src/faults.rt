@@ -6,7 +6,7 @@ ghost use Rattle.soy_tree.specs.Demands.{in_file};
 ghost use Rattle.soy_tree.specs.TypeText.{type_text};
 ghost use Rattle.soy_tree.specs.ViewTypes.{view_type};
 ghost use Rattle.soy_expr.specs.ViewTypeFault.{Keeps};
-ghost use Rattle.soy_check.specs.Answers.{Finds, FindsInFile, MaybeFault};
+ghost use Rattle.soy_check.specs.Answers.{KeepsFault, KeepsInFile, MaybeFault};
 
 use crate::checker::CheckFault;
 use soy_base::{Code, Fault, Refusal, Span, Text};
@@ -72,17 +72,14 @@ pub(crate) fn unaccepted(
     }
 }
 
-/// What was found in a file.
-pub(crate) fn found_in(
-    file: u32,
-    found: Result<(), Refusal<TypeFault>>,
-) -> Result<(), Refusal<CheckFault>>
-    ensures { (wanted : MaybeFault) → Finds wanted found → FindsInFile (option_map (in_file file) wanted) result }
+/// The refusal in a file.
+pub(crate) fn refused_in(file: u32, refusal: Refusal<TypeFault>) -> Refusal<CheckFault>
+    ensures { (wanted : MaybeFault) → KeepsFault wanted refusal.entry
+        → KeepsInFile (option_map (in_file file) wanted) result }
 {
-    match found {
-        Ok(_) => Ok(()),
-        Err(Refusal::OutOfMemory) => Err(Refusal::OutOfMemory),
-        Err(Refusal::Because(found)) => Err(Refusal::Because(CheckFault {
+    match refusal {
+        Refusal::OutOfMemory => Refusal::OutOfMemory,
+        Refusal::Because(found) => Refusal::Because(CheckFault {
             fault: Fault {
                 code: found.code,
                 file,
@@ -90,6 +87,6 @@ pub(crate) fn found_in(
             },
             left: found.left,
             right: found.right,
-        })),
+        }),
     }
 }

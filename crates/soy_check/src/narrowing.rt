@@ -101,13 +101,22 @@ fn replace_type(vars: &mut Vec<Field>, at: usize, of: SoyType) -> SoyType
 }
 
 /// Gives the variables the types that they have outside the branch.
+#[tactic(auto, using(crate::proofs::Undoing::put_back_last))]
 pub(crate) fn restore(vars: &mut Vec<Field>, outside: Vec<Outside>)
     ensures { vars.new.items ≡ put_back outside.items vars.old.items }
 {
     let mut outside = outside;
     while let Some(Outside { at, of }) = outside.pop() {
-        if at < vars.len() {
-            replace_type(vars, at, of);
-        }
+        put_type(vars, at, of);
+    }
+}
+
+/// Gives a variable another type, if there is one there.
+#[tactic(auto, using(crate::proofs::Undoing::with_type_past))]
+fn put_type(vars: &mut Vec<Field>, at: usize, of: SoyType)
+    ensures { vars.new.items ≡ with_type at of vars.old.items }
+{
+    if at < vars.len() {
+        replace_type(vars, at, of);
     }
 }

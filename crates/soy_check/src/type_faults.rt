@@ -85,6 +85,7 @@ fn check_place(alloc: Global, at: u64, of: &SoyType, fails: bool) -> Result<(), 
 }
 
 /// Whether html or attributes stands beside another member than null.
+#[tactic(auto, using(crate::proofs::Types::mixed, crate::proofs::Types::unmixed))]
 fn mixes_blocks(alloc: Global, of: &SoyType) -> Result<bool, OutOfMemory>
     ensures { IfOk result (λ mixes. mixes ≡ mixes_blocks (view_type of.now)) }
 {

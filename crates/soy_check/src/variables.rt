@@ -12,7 +12,7 @@ ghost use Rattle.soy_tree.specs.ViewTypes.{view_type};
 ghost use Rattle.soy_expr.specs.ViewScope.{view_vars};
 ghost use Rattle.soy_check.specs.Answers.{Passes};
 ghost use Rattle.soy_check.specs.Grows.{Grows};
-ghost use Rattle.soy_check.specs.Rules.{let_scope, loop_start};
+ghost use Rattle.soy_check.specs.Rules.{item_type, let_scope, loop_start, with_pair};
 ghost use Rattle.soy_check.specs.Visible.{variable};
 
 use crate::faults::{misnamed, untyped};
@@ -91,7 +91,8 @@ pub(crate) fn declare(
     of: SoyType,
     vars: &mut Vec<Field>,
 ) -> Result<(), OutOfMemory>
-    ensures { OnOk result (vars.new.items ≡ variable name.now of ∷ vars.old.items) }
+    ensures scope { OnOk result (vars.new.items ≡ variable name.now of ∷ vars.old.items) }
+    ensures grown { OnOk result (Grows vars.old.items vars.new.items) }
 {
     let name = name.copy(alloc)?;
     vars.insert(0, Field { name, of })?;
@@ -129,7 +130,7 @@ pub(crate) fn check_let(
 }
 
 /// The variables of a loop, which are visible in its body.
-#[tactic(auto, using(crate::proofs::Refusals::refused_first, crate::proofs::Refusals::refused_type, crate::proofs::Refusals::kept, crate::proofs::Spans::span_of_view))]
+#[tactic(auto, using(crate::proofs::Refusals::refused_first, crate::proofs::Refusals::refused_type, crate::proofs::Spans::span_of_view, crate::proofs::Loops::scope_of_items, crate::proofs::Loops::no_items))]
 pub(crate) fn enter_loop(
     alloc: Global,
     name: &Text,
@@ -144,14 +145,42 @@ pub(crate) fn enter_loop(
 {
     check_new_pair(alloc, name, index, span, vars.as_slice())?;
     let of = type_among(alloc, list, vars.as_slice())?;
-    let SoyType::List(item) = &of else {
+    let Some(item) = item_of(&of) else {
         return Err(untyped(alloc, Code::Mistyped, list.span.start, &of));
     };
-    declare(alloc, name, item.get().copy(alloc)?, vars)?;
-    if let Some(index) = index {
-        declare(alloc, index, SoyType::Int, vars)?;
+    Ok(declare_pair(alloc, name, index, item.copy(alloc)?, vars)?)
+}
+
+/// The type of the items, if it is a list's.
+fn item_of(of: &SoyType) -> Option<&SoyType>
+    ensures { option_map (λ t. view_type t.now) result ≡ item_type (view_type of.now) }
+{
+    match of {
+        SoyType::List(item) => Some(item.get()),
+        _ => None,
     }
-    Ok(())
+}
+
+/// Makes the variables of a loop visible.
+fn declare_pair(
+    alloc: Global,
+    name: &Text,
+    index: &Option<Text>,
+    item: SoyType,
+    vars: &mut Vec<Field>,
+) -> Result<(), OutOfMemory>
+    ensures scope { OnOk result (view_vars vars.new.items
+        ≡ with_pair name.now index.now (view_type item) (view_vars vars.old.items)) }
+    ensures grown { OnOk result (Grows vars.old.items vars.new.items) }
+{
+    declare(alloc, name, item, vars)?;
+    match index {
+        Some(index) => {
+            declare(alloc, index, SoyType::Int, vars)?;
+            Ok(())
+        }
+        None => Ok(()),
+    }
 }
 
 /// Refuses variables of a loop that are already visible, or one name for both.
