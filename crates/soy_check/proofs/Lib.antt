@@ -4,6 +4,7 @@ mod Keys
 mod Loops
 mod Passing
 mod Refusals
+mod Rows
 mod Spans
 mod Types
 mod Undoing
