@@ -128,13 +128,14 @@ fn check_body<'n, 'a, 't>(
     requires { names.now ≡ reverse (full_names all.now) }
     ensures { Finds (body_fault (view_all all.now) (view_declared declared.now)) result }
 {
-    let template = declared.template;
+    let params = declared.template.params.items();
+    let body = declared.template.body.items();
     let around = Around {
         declared: all,
         names,
         namespace: declared.namespace,
-        params: template.params.items(),
+        params,
     };
-    let mut vars = param_variables(alloc, around.params)?;
-    check_nodes(alloc, &around, template.body.items(), &mut vars)
+    let mut vars = param_variables(alloc, params)?;
+    check_nodes(alloc, &around, body, &mut vars)
 }

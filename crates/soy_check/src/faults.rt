@@ -74,7 +74,7 @@ pub(crate) fn unaccepted(
 
 /// The refusal in a file.
 pub(crate) fn refused_in(file: u32, refusal: Refusal<TypeFault>) -> Refusal<CheckFault>
-    ensures { (wanted : MaybeFault) → KeepsFault wanted refusal.entry
+    ensures { (wanted : MaybeFault) → KeepsFault wanted refusal
         → KeepsInFile (option_map (in_file file) wanted) result }
 {
     match refusal {
