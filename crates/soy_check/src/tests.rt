@@ -6,8 +6,7 @@ use crate::check;
 use crate::checker::check_trees;
 use soy_base::{Boxed, Kind, OutOfMemory, Refusal, Seq, Span, Text};
 use soy_tree::{
-    Argument, Arm, BinaryOp, Expr, ExprNode, Field, Form, Given, Message, MessageBody, Node, Param,
-    SoyType, Template, Tree,
+    Argument, Arm, Expr, ExprNode, Field, Form, Given, Node, Param, SoyType, Template, Tree,
 };
 use std::alloc::Global;
 
@@ -152,17 +151,12 @@ enum Case {
     PrintedList,
     LoopOverInt,
     LoopNamedTwice,
-    NullInItsCondition,
-    NoNullInItsBranch,
     NullAfterItsBranch,
-    PluralOfString,
     UnknownTemplate,
     ParameterLeftOut,
     AllHandedOn,
     UnknownParam,
-    ParamTwice,
     MistypedParam,
-    MistypedBlock,
 }
 
 /// Each case with the failure that it has.
@@ -173,17 +167,12 @@ const CASES: &[(Case, u32, u64, &str, &str)] = &[
     (Case::PrintedList, 20, 30, "list<int>", ""),
     (Case::LoopOverInt, 8, 40, "int", ""),
     (Case::LoopNamedTwice, 6, 30, "x", ""),
-    (Case::NullInItsCondition, 8, 41, "[x: int]|null", ""),
-    (Case::NoNullInItsBranch, 0, 0, "", ""),
     (Case::NullAfterItsBranch, 8, 41, "[x: int]|null", ""),
-    (Case::PluralOfString, 8, 40, "string", ""),
     (Case::UnknownTemplate, 7, 30, "a.z", ""),
     (Case::ParameterLeftOut, 9, 30, "n", ""),
     (Case::AllHandedOn, 0, 0, "", ""),
     (Case::UnknownParam, 9, 50, "z", ""),
-    (Case::ParamTwice, 6, 50, "n", ""),
     (Case::MistypedParam, 8, 60, "int", "string"),
-    (Case::MistypedBlock, 8, 50, "int", "html"),
 ];
 
 fn body(alloc: Global, case: Case) -> Result<Seq<Node>, OutOfMemory> {
@@ -194,17 +183,12 @@ fn body(alloc: Global, case: Case) -> Result<Seq<Node>, OutOfMemory> {
         Case::PrintedList => one(alloc, print(variable(alloc, "l", 40)?)),
         Case::LoopOverInt => loop_over(alloc, "n", "i"),
         Case::LoopNamedTwice => loop_over(alloc, "l", "x"),
-        Case::NullInItsCondition => branch(alloc, true),
-        Case::NoNullInItsBranch => branch(alloc, false),
         Case::NullAfterItsBranch => after_branch(alloc),
-        Case::PluralOfString => plural(alloc),
         Case::UnknownTemplate => call(alloc, "z", false, none(alloc)),
         Case::ParameterLeftOut => call(alloc, "m", false, none(alloc)),
         Case::AllHandedOn => call(alloc, "a.m", true, none(alloc)),
         Case::UnknownParam => call_with(alloc, "z", "n"),
-        Case::ParamTwice => call_twice(alloc),
         Case::MistypedParam => call_with(alloc, "n", "s"),
-        Case::MistypedBlock => call_with_block(alloc),
     }
 }
 
@@ -214,33 +198,15 @@ fn let_of(alloc: Global, name: &str, of: &str) -> Result<Seq<Node>, OutOfMemory>
     one(alloc, command(Form::Let(text_of(alloc, name)?, of)))
 }
 
-/// `{for $x, $index in $list}{$x}{/for}`
+/// `{for $x, $index in $list}{/for}`
 fn loop_over(alloc: Global, list: &str, index: &str) -> Result<Seq<Node>, OutOfMemory> {
+    let name = text_of(alloc, "x")?;
+    let index = text_of(alloc, index)?;
     let list = variable(alloc, list, 40)?;
-    let index = Some(text_of(alloc, index)?);
-    let body = one(alloc, print(variable(alloc, "x", 41)?))?;
     one(
         alloc,
-        command(Form::For(text_of(alloc, "x")?, index, list, body)),
+        command(Form::For(name, Some(index), list, none(alloc))),
     )
-}
-
-/// `{if $r and $r.x}{$r.x}{/if}`, or `{if $r}{$r.x}{/if}`
-fn branch(alloc: Global, both: bool) -> Result<Seq<Node>, OutOfMemory> {
-    let first = variable(alloc, "r", 40)?;
-    let body = one(alloc, print(field(alloc, 42)?))?;
-    if !both {
-        return if_of(alloc, first, body);
-    }
-    let second = Boxed::new(alloc, field(alloc, 41)?)?;
-    let first = Boxed::new(alloc, first)?;
-    let when = expr(ExprNode::Binary(BinaryOp::And, first, second), 40);
-    if_of(alloc, when, body)
-}
-
-fn if_of(alloc: Global, when: Expr, body: Seq<Node>) -> Result<Seq<Node>, OutOfMemory> {
-    let arms = one(alloc, Arm { when, body })?;
-    one(alloc, command(Form::If(arms, None)))
 }
 
 /// `{if $r}{/if}{$r.x}`
@@ -250,19 +216,6 @@ fn after_branch(alloc: Global) -> Result<Seq<Node>, OutOfMemory> {
     let arms = one(alloc, Arm { when, body })?;
     let after = print(field(alloc, 41)?);
     two(alloc, command(Form::If(arms, None)), after)
-}
-
-/// `{msg desc=""}{plural $s}{default}{/plural}{/msg}`
-fn plural(alloc: Global) -> Result<Seq<Node>, OutOfMemory> {
-    let selector = variable(alloc, "s", 40)?;
-    let other = Boxed::new(alloc, MessageBody::Parts(none(alloc)))?;
-    let message = Message {
-        desc: Text::empty(alloc),
-        meaning: Text::empty(alloc),
-        body: MessageBody::Plural(selector, 0, none(alloc), other),
-        span: at(30),
-    };
-    one(alloc, command(Form::Message(message, None)))
 }
 
 fn call(
@@ -289,19 +242,6 @@ fn argument(alloc: Global, name: &str, given: Given) -> Result<Argument, OutOfMe
 fn call_with(alloc: Global, name: &str, of: &str) -> Result<Seq<Node>, OutOfMemory> {
     let given = Given::Plain(variable(alloc, of, 60)?);
     let argument = argument(alloc, name, given)?;
-    call(alloc, "m", true, one(alloc, argument)?)
-}
-
-/// `{call m data="all"}{param n: $n /}{param n: $n /}{/call}`
-fn call_twice(alloc: Global) -> Result<Seq<Node>, OutOfMemory> {
-    let first = argument(alloc, "n", Given::Plain(variable(alloc, "n", 60)?))?;
-    let second = argument(alloc, "n", Given::Plain(variable(alloc, "n", 60)?))?;
-    call(alloc, "m", true, two(alloc, first, second)?)
-}
-
-/// `{call m data="all"}{param n kind="html"}{/param}{/call}`
-fn call_with_block(alloc: Global) -> Result<Seq<Node>, OutOfMemory> {
-    let argument = argument(alloc, "n", Given::Block(Kind::Html, none(alloc)))?;
     call(alloc, "m", true, one(alloc, argument)?)
 }
 
