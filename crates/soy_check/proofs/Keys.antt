@@ -1,6 +1,6 @@
 -- Names as the keys of a set.
 use Rattle.std.proofs.Common.{◌≡◌, ℕ, ◌+◌, Bool, true, false, not, ◌||◌, ◌&&◌, cond, List, [], ◌∷◌, ◌++◌, map, refl, ap}
-use Rattle.std.proofs.Common.{sym, ◌∙◌, Bor, MatchBool, Option, Some, None, length, reverse}
+use Rattle.std.proofs.Common.{sym, ◌∙◌, Bor, MatchBool, Some, None, length, reverse}
 use Rattle.std.specs.Prelude.{nat_lt}
 use Rattle.std.specs.List.{list_all, list_any, position, prefix_len}
 use Rattle.std.specs.Str.{bytes_eq, chars, is_utf8, IsUtf8}

@@ -15,7 +15,7 @@ use Rattle.std.specs.Prelude.{
   if◌then◌else◌,
   is_some,
 }
-use mathlib.Core.Path.{refl, sym, ap, ◌∙◌}
+use mathlib.Core.Path.{refl, ◌∙◌}
 use Rattle.soy_base.specs.declared.code.Code.TheVariants as code
 use Rattle.soy_base.specs.declared.fault.Span.{Span}
 use Rattle.soy_tree.specs.Types.{Name, SoyType, NullType, BoolType, IntType, StringType, HtmlType, AttributesType}

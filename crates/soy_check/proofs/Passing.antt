@@ -1,6 +1,6 @@
 -- An answer that passes one thing passes what is the same.
 use Rattle.std.specs.Prelude.{◌≡◌, List, Option, Some, Result, Ok, Err}
-use mathlib.Core.Path.{refl, sym, ap, ◌∙◌}
+use mathlib.Core.Path.{sym, ap, ◌∙◌}
 use Rattle.soy_base.specs.declared.fault.Span.{Span}
 use Rattle.soy_base.specs.declared.memory.Refusal.{Refusal}
 use Rattle.soy_base.specs.declared.memory.Refusal.TheVariants as refusal

@@ -1,18 +1,6 @@
 -- Variables whose types are changed and put back.
 use Rattle.std.proofs.Common.{◌≡◌, ℕ, zero, suc, ◌+◌, ◌<◌, Bool, true, false, not, cond, List, [], ◌∷◌, ◌++◌, refl, ap}
-use Rattle.std.proofs.Common.{
-  sym,
-  ◌∙◌,
-  ◌≤◌,
-  Option,
-  Some,
-  None,
-  option_map,
-  length,
-  slice_get,
-  slice_index_or,
-  slice_set,
-}
+use Rattle.std.proofs.Common.{sym, ◌∙◌, ◌≤◌, Some, None, length, slice_index_or, slice_set}
 use Rattle.std.proofs.Common.{arith}
 use Rattle.std.specs.Prelude.{if◌then◌else◌, nat_lt, bytes_eq}
 use Rattle.std.specs.List.{position, prefix_len}

@@ -1,6 +1,6 @@
-use Rattle.std.proofs.Common.{◌∙◌, sym, ap, ℕ, List, reverse}
+use Rattle.std.proofs.Common.{◌∙◌, ap, ℕ, List, reverse}
 use Rattle.std.specs.List.{position}
-use Rattle.std.specs.Str.{bytes_eq, chars}
+use Rattle.std.specs.Str.{bytes_eq}
 use Rattle.soy_check.proofs.Keys.{position-names, seen}
 use Rattle.soy_check.proofs.names.Names.position.Goals as goal
 
