@@ -11,7 +11,7 @@ use soy_tree::{Field, SoyType};
 use std::alloc::Global;
 
 /// The left type joined with the right one.
-pub(crate) fn joined(alloc: Global, left: &SoyType, right: &SoyType) -> Result<SoyType, OutOfMemory>
+pub fn joined(alloc: Global, left: &SoyType, right: &SoyType) -> Result<SoyType, OutOfMemory>
     ensures { IfOk result (λ t. view_type t ≡ joined (view_type left.now) (view_type right.now)) }
 {
     let mut kept = Vec::new(alloc);

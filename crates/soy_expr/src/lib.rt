@@ -31,11 +31,14 @@ pub use calls::{eval, test};
 pub use env::{Binding, Bound, Env, Unnamed};
 pub use evaluated::{Evaluated, Made};
 pub use evaluation::evaluate;
+pub use joining::joined;
 pub use laws::law_forgotten;
+pub use member_kind::{has_block, is_int, is_simple, is_string};
 pub use scope::Scope;
 pub use shallow::Shallow;
 pub use type_fault::TypeFault;
-pub use typing::type_of;
+pub use type_text::text_of;
+pub use typing::{type_among, type_of};
 pub use variables::Variables;
 
 #[cfg(test)]

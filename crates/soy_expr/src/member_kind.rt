@@ -28,7 +28,7 @@ pub(crate) fn has_null(of: &SoyType) -> bool
 }
 
 /// Whether html or attributes is among the members.
-pub(crate) fn has_block(of: &SoyType) -> bool
+pub fn has_block(of: &SoyType) -> bool
     ensures { result ≡ has_block (view_type of.now) }
 {
     has_member(of, MemberKind::Block)
@@ -36,7 +36,7 @@ pub(crate) fn has_block(of: &SoyType) -> bool
 
 /// Whether the type is made of null, bool, int and string alone.
 #[tactic(auto, using(crate::proofs::TypeSearch::none_other))]
-pub(crate) fn is_simple(of: &SoyType) -> bool
+pub fn is_simple(of: &SoyType) -> bool
     ensures { result ≡ is_simple (view_type of.now) }
 {
     !has_member(of, MemberKind::Other)
@@ -111,7 +111,7 @@ fn is_plain(of: &SoyType) -> bool
 }
 
 /// Whether the type is exactly int.
-pub(crate) fn is_int(of: &SoyType) -> bool
+pub fn is_int(of: &SoyType) -> bool
     ensures { result ≡ is_int (view_type of.now) }
 {
     match of {
@@ -121,7 +121,7 @@ pub(crate) fn is_int(of: &SoyType) -> bool
 }
 
 /// Whether the type is exactly string.
-pub(crate) fn is_string(of: &SoyType) -> bool
+pub fn is_string(of: &SoyType) -> bool
     ensures { result ≡ is_string (view_type of.now) }
 {
     match of {

@@ -13,7 +13,7 @@ use soy_tree::{Field, SoyType};
 use std::alloc::Global;
 
 /// The text of a type.
-pub(crate) fn text_of(alloc: Global, of: &SoyType) -> Result<Text, OutOfMemory>
+pub fn text_of(alloc: Global, of: &SoyType) -> Result<Text, OutOfMemory>
     ensures { IfOk result (λ t. t ≡ type_text (view_type of.now)) }
 {
     let mut text = String::new(alloc);

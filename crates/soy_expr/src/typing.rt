@@ -52,7 +52,15 @@ impl<'a> Typing<'a> {
 pub fn type_of(alloc: Global, expr: &Expr, scope: &Scope) -> Result<SoyType, Refusal<TypeFault>>
     ensures { Types view_type (type_of (view_expr expr.now) (view_scope scope.now)) result }
 {
-    let typing = type_in(alloc, expr, scope.vars.items())?;
+    type_among(alloc, expr, scope.vars.items())
+}
+
+/// The type of an expression among the variables that are visible, of which the first of a name counts; where it has
+/// none, its first fault.
+pub fn type_among(alloc: Global, expr: &Expr, vars: &[Field]) -> Result<SoyType, Refusal<TypeFault>>
+    ensures { Types view_type (type_of (view_expr expr.now) (view_vars vars.now)) result }
+{
+    let typing = type_in(alloc, expr, vars)?;
     Ok(typing.owned(alloc)?)
 }
 

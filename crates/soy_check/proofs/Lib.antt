@@ -1,0 +1,10 @@
+mod Growth
+mod Indexes
+mod Keys
+mod Loops
+mod Passing
+mod Refusals
+mod Rows
+mod Spans
+mod Types
+mod Undoing

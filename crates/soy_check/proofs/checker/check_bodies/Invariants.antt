@@ -1,0 +1,9 @@
+use Rattle.std.proofs.Common.{◌≡◌, drop}
+use Rattle.soy_tree.specs.Demands.{bodies_fault}
+use Rattle.soy_check.specs.ViewAround.{view_all}
+use Rattle.soy_check.proofs.checker.check_bodies.Given as goal
+
+abbrev pub invariant-loop-declared : goal.invariant-loop-declared
+invariant-loop-declared l =
+    bodies_fault (view_all l.all) (view_all l.all)
+    ≡ bodies_fault (view_all l.all) (view_all (drop l.declared-index l.all))

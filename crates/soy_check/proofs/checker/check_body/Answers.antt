@@ -1,0 +1,25 @@
+use Rattle.std.specs.Prelude.{List}
+use Rattle.soy_tree.specs.declared.node.Node as code_node
+use Rattle.soy_tree.specs.declared.tree.Param as code_param
+use Rattle.soy_tree.specs.Bodies.{Around, Checked, after_nodes}
+use Rattle.soy_tree.specs.TypeOf.{Scope}
+use Rattle.soy_tree.specs.ViewNodes.{view_nodes}
+use Rattle.soy_tree.specs.ViewTrees.{view_params}
+use Rattle.soy_expr.specs.ViewScope.{view_vars}
+use Rattle.soy_check.specs.ViewAround.{view_all}
+use Rattle.soy_check.specs.declared.template.Declared as code
+use Rattle.soy_check.proofs.Passing.{body_finds}
+use Rattle.soy_check.proofs.checker.check_body.Goals as goal
+
+abbrev wanted : List code.Declared → code.Declared → List code_param.Param → List code_node.Node → Scope → Checked
+wanted all d params nodes scope =
+    let around : Around =
+    record { declared = view_all all; namespace = d.namespace.now; params = view_params params } in
+    after_nodes around (view_nodes nodes) scope
+
+pub returns : goal.returns
+returns c =
+    let d = c.args.declared.now in
+    body_finds (wanted c.args.all.now d) c.items-params.result.now d.template.now.params c.items-body.result.now
+    d.template.now.body (view_vars c.in_ok-vars.vars.items) c.check_nodes.result c.items-params.ensures
+    c.items-body.ensures c.in_ok-vars.ensures c.check_nodes.ensures.ends

@@ -1,0 +1,12 @@
+use Rattle.std.proofs.Common.{◌≡◌, ◌++◌, [], drop, reverse}
+use Rattle.soy_tree.specs.Demands.{declarations_fault}
+use Rattle.soy_check.specs.FullNames.{full_names}
+use Rattle.soy_check.specs.ViewAround.{view_all}
+use Rattle.soy_check.proofs.checker.check_declarations.Given as goal
+
+abbrev pub invariant-loop-declared : goal.invariant-loop-declared
+invariant-loop-declared l = record {
+  found : declarations_fault (view_all l.all) []
+      ≡ declarations_fault (view_all (drop l.declared-index l.all)) l.names;
+  names : reverse (full_names (drop l.declared-index l.all)) ++ l.names ≡ reverse (full_names l.all);
+}

@@ -1,0 +1,7 @@
+use Rattle.soy_check.proofs.Growth.{grown_further}
+use Rattle.soy_check.proofs.variables.declare_pair.Goals as goal
+
+pub returns-in_ok-declare-in-Some-clause-grown : goal.returns-in_ok-declare-in-Some-clause-grown
+returns-in_ok-declare-in-Some-clause-grown c =
+    grown_further c.args.vars.now.items c.declare.new.vars.items c.declare-in-Some.new.vars.items
+    c.in_ok-declare.ensures.grown c.in_ok-declare-in-Some.ensures.grown

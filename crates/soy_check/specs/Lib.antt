@@ -1,0 +1,7 @@
+pub mod Answers
+pub mod FullNames
+pub mod Grows
+pub mod PutBack
+pub mod Rules
+pub mod ViewAround
+pub mod Visible

@@ -1,0 +1,203 @@
+//! The demands on calls.
+
+ghost use Rattle.std.specs.Prelude.{◌≡◌, ◌∷◌, ◌==◌, OnOk, IfOk, option_map, slice_get};
+ghost use Rattle.std.specs.List.{list_any};
+ghost use Rattle.std.specs.Str.{chars};
+ghost use Rattle.soy_base.specs.Characters.{full_stop};
+ghost use Rattle.soy_tree.specs.Bodies.{callee_params, handed, hands_on, named_param, names_given, param_demand};
+ghost use Rattle.soy_tree.specs.Bodies.{param_demands, param_of, unnamed_demand};
+ghost use Rattle.soy_tree.specs.Declarations.{is_among};
+ghost use Rattle.soy_tree.specs.Templates.{called_name, param_type, template_of, visible};
+ghost use Rattle.soy_tree.specs.TypeOf.{variable_type};
+ghost use Rattle.soy_tree.specs.ViewNodes.{view_arguments};
+ghost use Rattle.soy_tree.specs.ViewTrees.{view_param, view_params};
+ghost use Rattle.soy_expr.specs.ViewScope.{view_vars};
+ghost use Rattle.soy_check.specs.Answers.{Answers, Passes};
+ghost use Rattle.soy_check.specs.ViewAround.{view_all, view_around, view_declared};
+
+use crate::around::Around;
+use crate::commands::check_accepted;
+use crate::faults::misnamed;
+use crate::names::Names;
+use crate::template::Declared;
+use crate::templates::joined_name;
+use crate::variables::{param_type, variable_of};
+use soy_base::{Code, OutOfMemory, Refusal, Span, Text};
+use soy_expr::TypeFault;
+use soy_tree::{Argument, Field, Param};
+use std::alloc::Global;
+
+/// The parameters of the template that a call means by a name.
+#[tactic(auto, using(crate::proofs::Refusals::kept))]
+pub(crate) fn callee_params<'a, 't>(
+    alloc: Global,
+    around: &Around<'_, 'a, 't>,
+    name: &Text,
+    span: Span,
+) -> Result<&'t [Param], Refusal<TypeFault>>
+    ensures { Answers (λ ps. view_params ps.now) (callee_params (view_around around.now) name.now span) result }
+{
+    let full = called_name(alloc, around.namespace, name)?;
+    match visible_template(around, &full) {
+        Some(declared) => Ok(declared.template.params.items()),
+        None => Err(misnamed(alloc, Code::Unknown, span, &full)),
+    }
+}
+
+/// The template of a full name, where the namespace sees it.
+fn visible_template<'a, 't>(around: &Around<'_, 'a, 't>, full: &Text) -> Option<&'a Declared<'t>>
+    ensures { option_map (λ d. view_declared d.now) result
+        ≡ visible around.now.namespace.now (template_of full.now (view_all around.now.declared.now)) }
+{
+    let declared = template_of(around, full)?;
+    if declared.template.private && !declared.namespace.is(around.namespace.text()) {
+        return None;
+    }
+    Some(declared)
+}
+
+/// The template of a full name.
+fn template_of<'a, 't>(around: &Around<'_, 'a, 't>, full: &Text) -> Option<&'a Declared<'t>>
+    ensures { option_map (λ d. view_declared d.now) result ≡ template_of full.now (view_all around.now.declared.now) }
+{
+    match around.names.position(full) {
+        Some(at) => declared_at(around.declared, at),
+        None => None,
+    }
+}
+
+fn declared_at<'a, 't>(all: &'a [Declared<'t>], at: usize) -> Option<&'a Declared<'t>>
+    ensures { option_map (λ d. d.now) result ≡ slice_get all.now at }
+{
+    all.get(at)
+}
+
+/// What the callee's parameters demand of a call.
+#[tactic(auto, using(crate::proofs::Refusals::refused_first))]
+pub(crate) fn check_demands(
+    alloc: Global,
+    around: &Around,
+    all: bool,
+    given: &[Argument],
+    span: Span,
+    params: &[Param],
+    vars: &[Field],
+) -> Result<(), Refusal<TypeFault>>
+    ensures { Passes (param_demands (view_around around.now) all (names_given (view_arguments given.now)) span
+        (view_params params.now) (view_vars vars.now)) (view_vars vars.now) result }
+{
+    for param in params {
+        if !is_given(&param.name, given) {
+            check_unnamed(alloc, around, all, span, param, vars)?;
+        }
+    }
+    Ok(())
+}
+
+/// What a parameter demands that no param names: that what is handed on fits, or that it may be left out.
+#[tactic(auto, using(crate::proofs::Refusals::kept))]
+fn check_unnamed(
+    alloc: Global,
+    around: &Around,
+    all: bool,
+    span: Span,
+    param: &Param,
+    vars: &[Field],
+) -> Result<(), Refusal<TypeFault>>
+    ensures { Passes (unnamed_demand (view_around around.now) all span (view_param param.now) (view_vars vars.now))
+        (view_vars vars.now) result }
+{
+    if all && param_of(&param.name, around.params).is_some() {
+        return check_handed(alloc, span, param, vars);
+    }
+    if param.required {
+        return Err(misnamed(alloc, Code::Argument, span, &param.name));
+    }
+    Ok(())
+}
+
+/// Refuses a variable that is handed on and that its parameter doesn't accept.
+fn check_handed(
+    alloc: Global,
+    span: Span,
+    param: &Param,
+    vars: &[Field],
+) -> Result<(), Refusal<TypeFault>>
+    ensures { Passes (handed (param_type (view_param param.now)) span (variable_type param.now.name (view_vars vars.now))
+        (view_vars vars.now)) (view_vars vars.now) result }
+{
+    let to = param_type(alloc, param)?;
+    match variable_of(vars, &param.name) {
+        Some(given) => check_accepted(alloc, &to, span, given),
+        None => Ok(()),
+    }
+}
+
+/// The full name that a call means.
+fn called_name(alloc: Global, namespace: &Text, name: &Text) -> Result<Text, OutOfMemory>
+    ensures { IfOk result (λ full. full ≡ called_name namespace.now name.now) }
+{
+    if is_dotted(name.text()) {
+        name.copy(alloc)
+    } else {
+        joined_name(alloc, namespace, name)
+    }
+}
+
+/// Whether there is a `.` in a name.
+fn is_dotted(name: &str) -> bool
+    ensures { result ≡ list_any (λ c. c == full_stop) (chars name.now) }
+{
+    name.chars().any(is_full_stop)
+}
+
+fn is_full_stop(c: char) -> bool
+    ensures { result ≡ (c == full_stop) }
+{
+    c == '.'
+}
+
+/// Whether a param names a parameter.
+fn is_given(name: &Text, given: &[Argument]) -> bool
+    ensures { result ≡ is_among name.now (names_given (view_arguments given.now)) }
+{
+    for argument in given {
+        if name.is(argument.name.text()) {
+            return true;
+        }
+    }
+    false
+}
+
+/// The first parameter of a name.
+fn param_of<'p>(name: &Text, params: &'p [Param]) -> Option<&'p Param>
+    ensures { option_map (λ p. view_param p.now) result ≡ param_of name.now (view_params params.now) }
+{
+    for param in params {
+        if param.name.is(name.text()) {
+            return Some(param);
+        }
+    }
+    None
+}
+
+/// The callee's parameter that a param names, given once, after params of these names, to which its own is added.
+#[tactic(auto, using(crate::proofs::Refusals::kept))]
+pub(crate) fn named_param<'b, 'p>(
+    alloc: Global,
+    name: &'b Text,
+    span: Span,
+    before: &mut Names<'b>,
+    params: &'p [Param],
+) -> Result<&'p Param, Refusal<TypeFault>>
+    ensures param { Answers (λ p. view_param p.now) (named_param name.now span before.old (view_params params.now)) result }
+    ensures names { OnOk result (before.new ≡ name.now ∷ before.old) }
+{
+    if !before.insert(name)? {
+        return Err(misnamed(alloc, Code::Twice, span, name));
+    }
+    match param_of(name, params) {
+        Some(param) => Ok(param),
+        None => Err(misnamed(alloc, Code::Argument, span, name)),
+    }
+}
