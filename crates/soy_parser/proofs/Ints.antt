@@ -1,0 +1,23 @@
+-- Numbers that decimal digits write.
+use Rattle.std.proofs.Common.{◌≡◌, ℕ, ◌+◌, ◌-◌, ◌*◌, ◌≤◌, ◌<◌, ◌&&◌, Bool, true, false, List, [], ◌∷◌, arith, refl}
+use Rattle.std.specs.Prelude.{Option, Some, None, nat_le, if◌then◌else◌}
+use Rattle.std.proofs.lemmas.Bool.Decides.{nat_tests}
+use Rattle.std.specs.Char.{is_ascii_digit}
+use Rattle.std.specs.List.{list_all}
+use Rattle.soy_lexer.specs.CommandSegment.{number_after, largest_int}
+use Rattle.soy_parser.specs.Heads.{digits_value}
+
+-- more digits write no smaller number
+number_grows : (n : ℕ) (cs : List ℕ) → n ≤ number_after n cs
+number_grows n [] = omega arith
+number_grows n (c ∷ cs) = let more = number_grows (10 * n + (c - 48)) cs in omega arith
+
+no_larger : (b : Bool) (n m : ℕ) → largest_int < n → n ≤ m
+    → (if b && nat_le m largest_int then Some m else None) ≡ None
+no_larger false n m large grows = refl
+no_larger true n m large grows =
+    let over : nat_le m largest_int ≡ false = grind (arith, nat_tests, large, grows) in rw over refl
+
+-- digits after those of a number that is over the largest int write none
+pub digits_too_large : (n : ℕ) (cs : List ℕ) → largest_int < n → digits_value n cs ≡ None
+digits_too_large n cs large = no_larger (list_all is_ascii_digit cs) n (number_after n cs) large (number_grows n cs)
