@@ -26,6 +26,3 @@ pub use parse::{parse_expr, parse_type};
 pub use state::{ExprState, ExprStep};
 pub use type_frame::TypeOperand;
 pub use type_state::{TypeState, TypeStep};
-
-#[cfg(test)]
-mod tests;

@@ -35,6 +35,3 @@ pub use laws::{law_file_machine, law_one_answer, law_one_file};
 pub use reading::parse;
 pub use spot::{CommandSpot, DottedUse, FileState, Spot, Use};
 pub use terminal::{BlockName, CommandTerminal, CommandWord};
-
-#[cfg(test)]
-mod tests;

@@ -1,6 +1,6 @@
 //! Rows of the grammar of expressions and types, over the tokens of the lexer.
 
-use crate::{ExprState, ExprStep, TypeState, TypeStep, parse_expr, parse_type};
+use expr_parser::{ExprState, ExprStep, TypeState, TypeStep, parse_expr, parse_type};
 use soy_base::{Code, Fault, OutOfMemory, Refusal, Span, push_text};
 use soy_lexer::{Token, lex};
 use soy_tree::{BinaryOp, Expr, ExprNode, Field, SoyType};

@@ -1,8 +1,8 @@
 //! Rows of the grammar of files, over the tokens of the lexer.
 
-use crate::parse;
 use soy_base::{Code, Fault, OutOfMemory, Refusal, push_text};
 use soy_lexer::lex;
+use soy_parser::parse;
 use soy_tree::{Form, Given, MessageBody, Node, Tree};
 use std::alloc::Global;
 
@@ -226,7 +226,7 @@ const FAULTS: &[(&str, Code, u64)] = &[
         56,
     ),
     // Messages.
-    ("{msg desc=\"d\"}<b title=\"'>{/msg}", Code::Syntax, 53),
+    ("{msg desc=\"d\"}<b title=\"'>{/msg}", Code::Syntax, 52),
     ("{msg desc=\"d\"}{if 1}{/if}{/msg}", Code::Syntax, 40),
     (
         "{msg desc=\"d\"}{plural 1}{/plural}{/msg}",
