@@ -1,8 +1,12 @@
 -- Cases, one for each value, and what a test of an empty list is.
-use Rattle.std.proofs.Common.{◌≡◌, ℕ, ◌&&◌, ◌==◌, Bool, true, false, List, [], ◌∷◌, ◌++◌, length, refl, ap}
-use Rattle.std.specs.Prelude.{ℤ, not, Option, Some, None, if◌then◌else◌}
+use Rattle.std.proofs.Common.{◌≡◌, ℕ, ◌&&◌, ◌==◌, Bool, true, false, List, [], ◌∷◌, ◌++◌, length, arith, refl, ap, sym}
+use Rattle.std.proofs.lemmas.Bool.Decides.{nat_tests}
+use Rattle.std.specs.Prelude.{ℤ, not, codes, Option, Some, None, if◌then◌else◌}
+use Rattle.std.specs.List.{list_all}
+use Rattle.std.specs.Str.{bytes_eq}
 use Rattle.soy_base.specs.Cuts.{is_nil}
 use Rattle.soy_base.specs.declared.fault.Span.{Span}
+use Rattle.soy_tree.specs.Formed.{is_case_word, is_word_character}
 use Rattle.soy_tree.specs.declared.node.MessageBody.{MessageBody}
 use Rattle.soy_tree.specs.declared.node.Node.{Node}
 use Rattle.soy_tree.specs.declared.node.PluralCase.{PluralCase}
@@ -46,4 +50,10 @@ text_start_by_empty (c ∷ text) more a b = refl
 -- whether there are no nodes, by their number
 pub empty_by_length : (ns : List Node) → is_empty_of ns None ≡ (length ns == 0)
 empty_by_length [] = refl
-empty_by_length (n ∷ ns) = refl
+empty_by_length (n ∷ ns) = let some : (length (n ∷ ns) == 0) ≡ false = grind (arith, nat_tests) in sym some
+
+-- a word of a select's case, by its tests
+pub case_word_by_parts : (word : List ℕ) → is_case_word word ≡
+    (not (is_nil word) && (list_all is_word_character word && not (bytes_eq word (codes "other"))))
+case_word_by_parts [] = refl
+case_word_by_parts (c ∷ word) = refl

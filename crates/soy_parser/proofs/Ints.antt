@@ -1,5 +1,5 @@
 -- Numbers that decimal digits write.
-use Rattle.std.proofs.Common.{◌≡◌, ℕ, ◌+◌, ◌-◌, ◌*◌, ◌≤◌, ◌<◌, ◌&&◌, Bool, true, false, List, [], ◌∷◌, arith, refl}
+use Rattle.std.proofs.Common.{◌≡◌, ℕ, ◌+◌, ◌-◌, ◌*◌, ◌≤◌, ◌<◌, ◌&&◌, Bool, true, false, List, [], ◌∷◌, arith, ap, refl}
 use Rattle.std.specs.Prelude.{Option, Some, None, nat_le, if◌then◌else◌}
 use Rattle.std.proofs.lemmas.Bool.Decides.{nat_tests}
 use Rattle.std.specs.Char.{is_ascii_digit}
@@ -17,6 +17,25 @@ no_larger : (b : Bool) (n m : ℕ) → largest_int < n → n ≤ m
 no_larger false n m large grows = refl
 no_larger true n m large grows =
     let over : nat_le m largest_int ≡ false = grind (arith, nat_tests, large, grows) in rw over refl
+
+-- the digits, by whether the first of them is one
+abbrev by_first : ℕ → ℕ → List ℕ → Bool → Option ℕ
+by_first n c cs b =
+    if (b && list_all is_ascii_digit cs) && nat_le (number_after n (c ∷ cs)) largest_int
+    then Some (number_after n (c ∷ cs)) else None
+
+-- no number goes on with a character that is no digit
+pub digits_stop : (n c : ℕ) (cs : List ℕ) → is_ascii_digit c ≡ false → digits_value n (c ∷ cs) ≡ None
+digits_stop n c cs none = ap (by_first n c cs) none
+
+pub digits_step : (n c : ℕ) (cs : List ℕ) → is_ascii_digit c ≡ true
+    → digits_value n (c ∷ cs) ≡ digits_value (10 * n + (c - 48)) cs
+digits_step n c cs digit = ap (by_first n c cs) digit
+
+pub digits_end : (n : ℕ) → n ≤ largest_int → digits_value n [] ≡ Some n
+digits_end n within =
+    let fits : nat_le n largest_int ≡ true = grind (arith, nat_tests, within) in
+    ap (λ b. if true && b then Some n else None) fits
 
 -- digits after those of a number that is over the largest int write none
 pub digits_too_large : (n : ℕ) (cs : List ℕ) → largest_int < n → digits_value n cs ≡ None

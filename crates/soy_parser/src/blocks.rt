@@ -1,6 +1,6 @@
 //! What goes on with a block that has a body, and what closes it.
 
-ghost use Rattle.std.specs.Prelude.{◌≡◌, ◌++◌, ◌∷◌, [], IfOk};
+ghost use Rattle.std.specs.Prelude.{◌≡◌, ◌++◌, ◌∷◌, [], IfOk, None};
 ghost use Rattle.soy_parser.specs.CommandSteps.{adds, arm_goes_on, begins, begins_parts, body_closes, body_goes_on};
 ghost use Rattle.soy_parser.specs.CommandSteps.{case_goes_on, closed_body, closed_if, closed_switch, closed_template};
 ghost use Rattle.soy_parser.specs.CommandSteps.{closes_body, state, with_arm, with_case, with_param};
@@ -132,7 +132,11 @@ fn block_goes_on(
     match block {
         Block::Arm(part, when) => arm_ends(alloc, blocks, part, when, nodes, of),
         Block::Case(part, values) => case_ends(alloc, blocks, part, values, nodes, of),
-        _ => Ok(None),
+        block => {
+            drop(nodes);
+            drop(of);
+            Ok(refused(blocks, block))
+        }
     }
 }
 
@@ -264,8 +268,20 @@ fn closed_body(
             closed_switch(blocks, part.with_case(values, nodes)?, None, end)
         }
         Block::SwitchDefault(part) => closed_switch(blocks, part, Some(nodes.done()), end),
-        _ => Ok(None),
+        block => {
+            drop(nodes);
+            Ok(refused(blocks, block))
+        }
     }
+}
+
+/// A block in which no file goes on.
+pub(crate) fn refused(blocks: Stack<Block>, block: Block) -> Option<CommandState>
+    ensures { result ≡ None }
+{
+    drop(blocks);
+    drop(block);
+    None
 }
 
 /// A param of a call has come.

@@ -1,9 +1,10 @@
 //! The machine that reads commands: what each does between templates, in a body and in a call.
 
-ghost use Rattle.std.specs.Prelude.{◌≡◌, ◌∷◌, IfOk};
+ghost use Rattle.std.specs.Prelude.{◌≡◌, ◌∷◌, IfOk, None, if◌then◌else◌};
 ghost use Rattle.soy_parser.specs.CommandSteps.{argument_opens, argument_single, arguments_step, before_cases_step};
 ghost use Rattle.soy_parser.specs.CommandSteps.{body_step, cases_begin, closed_bare_switch, closed_call};
-ghost use Rattle.soy_parser.specs.CommandSteps.{command_start, command_step, head_param_step, opening_step};
+ghost use Rattle.soy_parser.specs.CommandSteps.{command_start, command_step, head_param_step, is_call, is_switch};
+ghost use Rattle.soy_parser.specs.CommandSteps.{opening_step};
 ghost use Rattle.soy_parser.specs.CommandSteps.{single_step, state, template_opens, templates_step, white_step, with_text};
 ghost use Rattle.soy_parser.specs.declared.block.Content.TheVariants as content;
 
@@ -13,7 +14,7 @@ use crate::block::{
 };
 use crate::blocks::{
     adds, adds_argument, begins, begins_parts, body_closes, body_goes_on, case_goes_on,
-    closed_switch,
+    closed_switch, refused,
 };
 use crate::command::{Command, Middle, Opening, Single, Tag};
 use crate::messages::{choice, parts, plural_goes_on, select_goes_on};
@@ -213,7 +214,10 @@ fn block_param(
             let template = template.with_param(param)?;
             begins(alloc, blocks, Block::Template(template))
         }
-        _ => Ok(None),
+        block => {
+            drop(param);
+            Ok(refused(blocks, block))
+        }
     }
 }
 
@@ -320,8 +324,24 @@ fn in_call(
         }
         Tag::Single(of) => single_argument(blocks, arguments, of, span),
         Tag::Opens(of) => opens_argument(alloc, blocks, arguments, of, span),
-        Tag::Closes(BlockName::Call) => call_closes(blocks, arguments, span),
+        Tag::Closes(name) => argument_closes(blocks, arguments, name, span),
         _ => Ok(None),
+    }
+}
+
+/// A command that closes a block, in a call.
+fn argument_closes(
+    blocks: Stack<Block>,
+    arguments: Row<Argument>,
+    name: BlockName,
+    end: Span,
+) -> Result<Option<CommandState>, OutOfMemory>
+    ensures { IfOk result (λ to. to ≡ (if is_call name then closed_call blocks arguments end else None)) }
+{
+    if matches!(name, BlockName::Call) {
+        call_closes(blocks, arguments, end)
+    } else {
+        Ok(None)
     }
 }
 
@@ -389,7 +409,10 @@ fn closed_call(
             let form = Form::Call(name, all, arguments.done());
             adds(blocks, before, form, joined(start, end))
         }
-        _ => Ok(None),
+        block => {
+            drop(arguments);
+            Ok(refused(blocks, block))
+        }
     }
 }
 
@@ -414,8 +437,24 @@ fn before_cases(
             }
         }
         Tag::GoesOn(of) => cases_begin(alloc, blocks, of),
-        Tag::Closes(BlockName::Switch) => bare_switch_closes(alloc, blocks, span),
+        Tag::Closes(name) => bare_closes(alloc, blocks, name, span),
         _ => Ok(None),
+    }
+}
+
+/// A command that closes a block, before the first case.
+fn bare_closes(
+    alloc: Global,
+    blocks: Stack<Block>,
+    name: BlockName,
+    end: Span,
+) -> Result<Option<CommandState>, OutOfMemory>
+    ensures { IfOk result (λ to. to ≡ (if is_switch name then closed_bare_switch blocks end else None)) }
+{
+    if matches!(name, BlockName::Switch) {
+        bare_switch_closes(alloc, blocks, end)
+    } else {
+        Ok(None)
     }
 }
 
@@ -467,7 +506,10 @@ fn block_cases_begin(
             let cases = Row::empty(alloc);
             select_goes_on(alloc, blocks, OpenSelect { selector, cases }, of)
         }
-        _ => Ok(None),
+        block => {
+            drop(of);
+            Ok(refused(blocks, block))
+        }
     }
 }
 
@@ -506,6 +548,6 @@ fn closed_bare_switch(
             };
             closed_switch(blocks, part, None, end)
         }
-        _ => Ok(None),
+        block => Ok(refused(blocks, block)),
     }
 }

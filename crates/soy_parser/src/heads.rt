@@ -234,7 +234,7 @@ impl Head {
         match self {
             Head::Alone(single) => Some(Tag::Single(single)),
             Head::Call(name) => Some(Tag::Single(Single::Call(name, attributes.all))),
-            _ => None,
+            head => no_tag(head, attributes),
         }
     }
 
@@ -375,7 +375,14 @@ fn or_empty(alloc: Global, text: Option<Text>) -> Text
 fn character(alloc: Global, c: char) -> Result<Option<Head>, OutOfMemory>
     ensures { IfOk result (λ found. found ≡ Some (head.Whole (tag.Character (c ∷ [])))) }
 {
+    Ok(Some(Head::Whole(Tag::Character(text_of(alloc, c)?))))
+}
+
+/// The text of one character.
+pub(crate) fn text_of(alloc: Global, c: char) -> Result<Text, OutOfMemory>
+    ensures { IfOk result (λ text. text ≡ c ∷ []) }
+{
     let mut text = String::new(alloc);
     push_char(&mut text, c)?;
-    Ok(Some(Head::Whole(Tag::Character(Text::new(text)))))
+    Ok(Text::new(text))
 }

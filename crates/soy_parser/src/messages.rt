@@ -1,6 +1,6 @@
 //! What each command does in a message.
 
-ghost use Rattle.std.specs.Prelude.{◌≡◌, ◌++◌, ◌∷◌, [], IfOk};
+ghost use Rattle.std.specs.Prelude.{◌≡◌, ◌++◌, ◌∷◌, [], IfOk, None};
 ghost use Rattle.soy_parser.specs.CommandSteps.{choice_opens, choice_step, closed_message, closes_message};
 ghost use Rattle.soy_parser.specs.CommandSteps.{fallback_begins, message_closes, message_goes_on, part_single, parts_step};
 ghost use Rattle.soy_parser.specs.CommandSteps.{plural_goes_on, select_goes_on, with_plural_cases, with_select_cases};
@@ -11,7 +11,7 @@ ghost use Rattle.soy_parser.specs.declared.block.Content.TheVariants as content;
 use crate::block::{
     Block, CommandState, Content, Nodes, OpenFallback, OpenMessage, OpenPlural, OpenSelect,
 };
-use crate::blocks::{adds, begins_parts};
+use crate::blocks::{adds, begins_parts, refused};
 use crate::command::{Middle, Opening, Single, Tag};
 use crate::commands::opens_with;
 use crate::nodes::{is_white, joined, with_node};
@@ -141,8 +141,29 @@ pub(crate) fn choice(
         }
         Tag::GoesOn(of) => message_goes_on(alloc, blocks, message, of, span),
         Tag::Closes(name) => message_closes(alloc, blocks, message, name, span),
-        _ => Ok(None),
+        tag => {
+            drop(message);
+            Ok(refused_tag(blocks, tag))
+        }
     }
+}
+
+/// A command with which no file goes on.
+fn refused_tag(blocks: Stack<Block>, tag: Tag) -> Option<CommandState>
+    ensures { result ≡ None }
+{
+    drop(blocks);
+    drop(tag);
+    None
+}
+
+/// A command with which no block goes on.
+fn refused_middle(blocks: Stack<Block>, of: Middle) -> Option<CommandState>
+    ensures { result ≡ None }
+{
+    drop(blocks);
+    drop(of);
+    None
 }
 
 /// A message, or a case of one, goes on after its body.
@@ -179,10 +200,10 @@ fn block_message_goes_on(
             plural_case_ends(alloc, blocks, part, values, body, of)
         }
         Block::SelectCase(part, words) => { select_case_ends(alloc, blocks, part, words, body, of) }
-        _ => {
+        block => {
             drop(body);
             drop(of);
-            Ok(None)
+            Ok(refused(blocks, block))
         }
     }
 }
@@ -237,7 +258,11 @@ fn fallback_begins(
             };
             begins_parts(alloc, blocks, Block::Fallback(message, body, fallback))
         }
-        _ => Ok(None),
+        of => {
+            drop(message);
+            drop(body);
+            Ok(refused_middle(blocks, of))
+        }
     }
 }
 
@@ -453,7 +478,10 @@ fn closed_message(
                 content: Content::Choice(body),
             }))
         }
-        _ => Ok(None),
+        block => {
+            drop(body);
+            Ok(refused(blocks, block))
+        }
     }
 }
 

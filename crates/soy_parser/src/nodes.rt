@@ -1,6 +1,7 @@
 //! Nodes that are read, and the text after them that may go on.
 
 ghost use Rattle.std.specs.Prelude.{◌≡◌, ◌++◌, ◌∷◌, [], IfOk, Some};
+ghost use Rattle.std.specs.Str.{chars};
 ghost use Rattle.expr_parser.specs.Operands.{joined};
 ghost use Rattle.soy_base.specs.WhiteSpace.{is_template_space};
 ghost use Rattle.soy_parser.specs.CommandSteps.{ended, has_whole_tags, is_empty, is_white, no_nodes, text_run, with_text};
@@ -36,7 +37,13 @@ pub(crate) fn up_to(from: Span, to: Span) -> Span
 pub(crate) fn is_white(text: &Text) -> bool
     ensures { result ≡ is_white text.now }
 {
-    text.text().chars().all(is_space)
+    is_white_text(text.text())
+}
+
+fn is_white_text(text: &str) -> bool
+    ensures { result ≡ is_white (chars text.now) }
+{
+    text.chars().all(is_space)
 }
 
 fn is_space(c: char) -> bool

@@ -19,11 +19,12 @@ use crate::block::CommandState;
 use crate::command::{Middle, Tag};
 use crate::files::{ended_command, stands};
 use crate::head::Head;
+use crate::heads::text_of;
 use crate::spot::{DottedUse, FileState, Spot, Use};
 use crate::terminal::{CommandTerminal, CommandWord};
 use crate::values::{int_of, is_case_word};
 use expr_parser::{ExprState, ExprStep, Operand, TypeState, TypeStep};
-use soy_base::{OutOfMemory, Row, Span, Text, push_char};
+use soy_base::{OutOfMemory, Row, Span, Text};
 use soy_lexer::Token;
 use soy_tree::Expr;
 use std::alloc::Global;
@@ -288,10 +289,9 @@ fn dotted(
 fn with_dot(alloc: Global, text: Text) -> Result<Text, OutOfMemory>
     ensures { IfOk result (λ to. to ≡ text ++ (46 ∷ [])) }
 {
-    let mut dot = String::new(alloc);
-    push_char(&mut dot, '.')?;
+    let dot = text_of(alloc, '.')?;
     let mut text = text;
-    text.append(&Text::new(dot))?;
+    text.append(&dot)?;
     Ok(text)
 }
 

@@ -1,6 +1,7 @@
 //! Ints, and the words of a select's cases.
 
 ghost use Rattle.std.specs.Prelude.{◌≡◌, Some, None, if◌then◌else◌};
+ghost use Rattle.std.specs.List.{list_all};
 ghost use Rattle.std.specs.Str.{chars};
 ghost use Rattle.soy_parser.specs.Heads.{digits_value, int_of};
 ghost use Rattle.soy_tree.specs.Formed.{is_case_word, is_word_character};
@@ -39,11 +40,18 @@ fn digits_value(digits: &str) -> Option<u64>
 }
 
 /// Whether a text is a word of a select's case.
-#[tactic(auto, using(crate::proofs::Literals::chars_other))]
+#[tactic(auto, using(crate::proofs::Literals::chars_other, crate::proofs::Cases::case_word_by_parts))]
 pub(crate) fn is_case_word(word: &Text) -> bool
     ensures { result ≡ is_case_word word.now }
 {
-    !word.is_empty() && word.text().chars().all(is_word_character) && !word.is("other")
+    !word.is_empty() && has_word_characters(word.text()) && !word.is("other")
+}
+
+/// Whether a word of a select's case may have all characters of the text.
+fn has_word_characters(text: &str) -> bool
+    ensures { result ≡ list_all is_word_character (chars text.now) }
+{
+    text.chars().all(is_word_character)
 }
 
 fn is_word_character(c: char) -> bool
