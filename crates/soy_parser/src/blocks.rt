@@ -228,14 +228,27 @@ pub(crate) fn body_closes(
 {
     let mut blocks = blocks;
     match blocks.pop() {
-        Some(block) => {
-            if closes_body(&block, name) {
-                closed_body(blocks, block, nodes, end)
-            } else {
-                Ok(None)
-            }
-        }
+        Some(block) => block_closes(blocks, block, nodes, name, end),
         None => Ok(None),
+    }
+}
+
+/// A command that closes this block.
+fn block_closes(
+    blocks: Stack<Block>,
+    block: Block,
+    nodes: Row<Node>,
+    name: BlockName,
+    end: Span,
+) -> Result<Option<CommandState>, OutOfMemory>
+    ensures { IfOk result (λ to. to ≡ body_closes (block ∷ blocks) nodes name end) }
+{
+    if closes_body(&block, name) {
+        closed_body(blocks, block, nodes, end)
+    } else {
+        drop(block);
+        drop(nodes);
+        Ok(None)
     }
 }
 

@@ -4,7 +4,7 @@ ghost use Rattle.std.specs.Prelude.{◌≡◌, ◌∷◌, IfOk, None, if◌then�
 ghost use Rattle.soy_parser.specs.CommandSteps.{argument_opens, argument_single, arguments_step, before_cases_step};
 ghost use Rattle.soy_parser.specs.CommandSteps.{body_step, cases_begin, closed_bare_switch, closed_call};
 ghost use Rattle.soy_parser.specs.CommandSteps.{command_start, command_step, head_param_step, is_call, is_switch};
-ghost use Rattle.soy_parser.specs.CommandSteps.{opening_step};
+ghost use Rattle.soy_parser.specs.CommandSteps.{is_empty, opening_step};
 ghost use Rattle.soy_parser.specs.CommandSteps.{single_step, state, template_opens, templates_step, white_step, with_text};
 ghost use Rattle.soy_parser.specs.declared.block.Content.TheVariants as content;
 
@@ -17,7 +17,7 @@ use crate::blocks::{
     closed_switch, refused,
 };
 use crate::command::{Command, Middle, Opening, Single, Tag};
-use crate::messages::{choice, parts, plural_goes_on, select_goes_on};
+use crate::messages::{choice, parts, plural_goes_on, refused_tag, select_goes_on};
 use crate::nodes::{is_white, joined};
 use crate::terminal::BlockName;
 use soy_base::{OutOfMemory, Row, Seq, Span, Stack, Text};
@@ -78,7 +78,7 @@ fn white(alloc: Global, blocks: Stack<Block>, command: Command) -> Option<Comman
             blocks,
             content: Content::Templates(namespace, Row::empty(alloc)),
         }),
-        _ => None,
+        tag => refused_tag(blocks, tag),
     }
 }
 
@@ -105,7 +105,11 @@ fn between_templates(
             }
         }
         Tag::Opens(of) => opens_template(alloc, blocks, namespace, templates, of, span),
-        _ => Ok(None),
+        tag => {
+            drop(namespace);
+            drop(templates);
+            Ok(refused_tag(blocks, tag))
+        }
     }
 }
 
@@ -150,17 +154,13 @@ fn body(
         Tag::Character(text) => text_in_body(blocks, nodes, text, span),
         Tag::Namespace(_) => Ok(None),
         Tag::HeadParam(name, required, of) => {
-            if nodes.is_empty() {
-                let param = Param {
-                    name,
-                    of,
-                    required,
-                    span,
-                };
-                head_param(alloc, blocks, param)
-            } else {
-                Ok(None)
-            }
+            let param = Param {
+                name,
+                of,
+                required,
+                span,
+            };
+            param_in_body(alloc, blocks, nodes, param)
         }
         Tag::Single(of) => single_in_body(alloc, blocks, nodes.ended()?, of, span),
         Tag::Opens(of) => opens_in_body(alloc, blocks, nodes.ended()?, of, span),
@@ -183,6 +183,24 @@ fn text_in_body(
         blocks,
         content: Content::Body(nodes),
     }))
+}
+
+/// A parameter, after these nodes.
+fn param_in_body(
+    alloc: Global,
+    blocks: Stack<Block>,
+    nodes: Nodes,
+    param: Param,
+) -> Result<Option<CommandState>, OutOfMemory>
+    ensures { IfOk result (λ to. to ≡ (if is_empty nodes then head_param_step blocks param else None)) }
+{
+    if nodes.is_empty() {
+        head_param(alloc, blocks, param)
+    } else {
+        drop(nodes);
+        drop(param);
+        Ok(None)
+    }
 }
 
 /// A parameter, at the head of a template.
@@ -284,8 +302,20 @@ fn opens_in_body(
             };
             begins_parts(alloc, blocks, Block::Message(part))
         }
-        _ => Ok(None),
+        of => {
+            drop(nodes);
+            Ok(refused_opening(blocks, of))
+        }
     }
+}
+
+/// A block that doesn't open there.
+fn refused_opening(blocks: Stack<Block>, of: Opening) -> Option<CommandState>
+    ensures { result ≡ None }
+{
+    drop(blocks);
+    drop(of);
+    None
 }
 
 /// A block opens, and this is its content.
@@ -438,7 +468,7 @@ fn before_cases(
         }
         Tag::GoesOn(of) => cases_begin(alloc, blocks, of),
         Tag::Closes(name) => bare_closes(alloc, blocks, name, span),
-        _ => Ok(None),
+        tag => Ok(refused_tag(blocks, tag)),
     }
 }
 

@@ -1,10 +1,10 @@
 //! What each command does in a message.
 
-ghost use Rattle.std.specs.Prelude.{◌≡◌, ◌++◌, ◌∷◌, [], IfOk, None};
+ghost use Rattle.std.specs.Prelude.{◌≡◌, ◌++◌, ◌∷◌, [], IfOk, None, if◌then◌else◌};
 ghost use Rattle.soy_parser.specs.CommandSteps.{choice_opens, choice_step, closed_message, closes_message};
 ghost use Rattle.soy_parser.specs.CommandSteps.{fallback_begins, message_closes, message_goes_on, part_single, parts_step};
 ghost use Rattle.soy_parser.specs.CommandSteps.{plural_goes_on, select_goes_on, with_plural_cases, with_select_cases};
-ghost use Rattle.soy_parser.specs.CommandSteps.{state, with_text};
+ghost use Rattle.soy_parser.specs.CommandSteps.{has_whole_tags, parts_of, state, with_text};
 ghost use Rattle.soy_parser.specs.Nodes.{message_of, plural_cases, select_cases};
 ghost use Rattle.soy_parser.specs.declared.block.Content.TheVariants as content;
 
@@ -40,27 +40,64 @@ pub(crate) fn parts(
         Tag::Namespace(_) => Ok(None),
         Tag::HeadParam(_, _, _) => Ok(None),
         Tag::Single(of) => single_part(blocks, nodes.ended()?, of, span),
-        Tag::Opens(of) => {
-            if white {
-                choice_opens(blocks, of)
-            } else {
-                Ok(None)
-            }
-        }
-        Tag::GoesOn(of) => {
-            if nodes.has_whole_tags() {
-                message_goes_on(alloc, blocks, nodes.parts()?, of, span)
-            } else {
-                Ok(None)
-            }
-        }
-        Tag::Closes(name) => {
-            if nodes.has_whole_tags() {
-                message_closes(alloc, blocks, nodes.parts()?, name, span)
-            } else {
-                Ok(None)
-            }
-        }
+        Tag::Opens(of) => parts_open(blocks, white, of),
+        Tag::GoesOn(of) => parts_go_on(alloc, blocks, nodes, of, span),
+        Tag::Closes(name) => parts_close(alloc, blocks, nodes, name, span),
+    }
+}
+
+/// A block opens after these texts and prints of a message.
+fn parts_open(
+    blocks: Stack<Block>,
+    white: bool,
+    of: Opening,
+) -> Result<Option<CommandState>, OutOfMemory>
+    ensures { IfOk result (λ to. to ≡ (if white then choice_opens blocks of else None)) }
+{
+    if white {
+        choice_opens(blocks, of)
+    } else {
+        drop(of);
+        Ok(None)
+    }
+}
+
+/// A message, or a case of one, goes on after these texts and prints.
+fn parts_go_on(
+    alloc: Global,
+    blocks: Stack<Block>,
+    nodes: Nodes,
+    of: Middle,
+    span: Span,
+) -> Result<Option<CommandState>, OutOfMemory>
+    ensures { IfOk result (λ to. to ≡
+        (if has_whole_tags nodes then message_goes_on blocks (parts_of nodes) of span else None)) }
+{
+    if nodes.has_whole_tags() {
+        message_goes_on(alloc, blocks, nodes.parts()?, of, span)
+    } else {
+        drop(nodes);
+        drop(of);
+        Ok(None)
+    }
+}
+
+/// A command that closes a block of a message after these texts and prints.
+fn parts_close(
+    alloc: Global,
+    blocks: Stack<Block>,
+    nodes: Nodes,
+    name: BlockName,
+    end: Span,
+) -> Result<Option<CommandState>, OutOfMemory>
+    ensures { IfOk result (λ to. to ≡
+        (if has_whole_tags nodes then message_closes blocks (parts_of nodes) name end else None)) }
+{
+    if nodes.has_whole_tags() {
+        message_closes(alloc, blocks, nodes.parts()?, name, end)
+    } else {
+        drop(nodes);
+        Ok(None)
     }
 }
 
@@ -149,7 +186,7 @@ pub(crate) fn choice(
 }
 
 /// A command with which no file goes on.
-fn refused_tag(blocks: Stack<Block>, tag: Tag) -> Option<CommandState>
+pub(crate) fn refused_tag(blocks: Stack<Block>, tag: Tag) -> Option<CommandState>
     ensures { result ≡ None }
 {
     drop(blocks);
@@ -357,15 +394,28 @@ impl OpenSelect {
         let mut part = self;
         match words.split_last() {
             Some((last, others)) => {
-                let is = last.copy(alloc)?;
-                let mut cases = with_select_copies(alloc, part.cases, others, &body)?;
-                cases.push(SelectCase { is, body })?;
-                part.cases = cases;
+                let cases = with_select_copies(alloc, part.cases, others, &body)?;
+                part.cases = with_select_case(alloc, cases, last, body)?;
                 Ok(part)
             }
             None => Ok(part),
         }
     }
+}
+
+/// One more case.
+fn with_select_case(
+    alloc: Global,
+    cases: Row<SelectCase>,
+    word: &Text,
+    body: MessageBody,
+) -> Result<Row<SelectCase>, OutOfMemory>
+    ensures { IfOk result (λ cs. cs ≡ cases ++ (record { is = word.now; body = body } ∷ [])) }
+{
+    let is = word.copy(alloc)?;
+    let mut cases = cases;
+    cases.push(SelectCase { is, body })?;
+    Ok(cases)
 }
 
 /// A case for each of the words, with equal bodies.
