@@ -4,7 +4,7 @@ ghost use Rattle.std.specs.Prelude.{◌≡◌, ◌∷◌, IfOk, None, if◌then�
 ghost use Rattle.soy_parser.specs.CommandSteps.{argument_opens, argument_single, arguments_step, before_cases_step};
 ghost use Rattle.soy_parser.specs.CommandSteps.{body_step, cases_begin, closed_bare_switch, closed_call};
 ghost use Rattle.soy_parser.specs.CommandSteps.{command_start, command_step, head_param_step, is_call, is_switch};
-ghost use Rattle.soy_parser.specs.CommandSteps.{is_empty, opening_step};
+ghost use Rattle.soy_parser.specs.CommandSteps.{body_closes, body_goes_on, ended, is_empty, opening_step};
 ghost use Rattle.soy_parser.specs.CommandSteps.{single_step, state, template_opens, templates_step, white_step, with_text};
 ghost use Rattle.soy_parser.specs.declared.block.Content.TheVariants as content;
 
@@ -162,11 +162,65 @@ fn body(
             };
             param_in_body(alloc, blocks, nodes, param)
         }
-        Tag::Single(of) => single_in_body(alloc, blocks, nodes.ended()?, of, span),
-        Tag::Opens(of) => opens_in_body(alloc, blocks, nodes.ended()?, of, span),
-        Tag::GoesOn(of) => body_goes_on(alloc, blocks, nodes.ended()?, of),
-        Tag::Closes(name) => body_closes(blocks, nodes.ended()?, name, span),
+        Tag::Single(of) => single_after(alloc, blocks, nodes, of, span),
+        Tag::Opens(of) => opens_after(alloc, blocks, nodes, of, span),
+        Tag::GoesOn(of) => goes_on_after(alloc, blocks, nodes, of),
+        Tag::Closes(name) => closes_after(blocks, nodes, name, span),
     }
+}
+
+/// A command that holds no block, after these nodes.
+fn single_after(
+    alloc: Global,
+    blocks: Stack<Block>,
+    nodes: Nodes,
+    of: Single,
+    span: Span,
+) -> Result<Option<CommandState>, OutOfMemory>
+    ensures { IfOk result (λ to. to ≡ single_step blocks (ended nodes) of span) }
+{
+    let nodes = nodes.ended()?;
+    single_in_body(alloc, blocks, nodes, of, span)
+}
+
+/// A command that opens a block, after these nodes.
+fn opens_after(
+    alloc: Global,
+    blocks: Stack<Block>,
+    nodes: Nodes,
+    of: Opening,
+    span: Span,
+) -> Result<Option<CommandState>, OutOfMemory>
+    ensures { IfOk result (λ to. to ≡ opening_step blocks (ended nodes) of span) }
+{
+    let nodes = nodes.ended()?;
+    opens_in_body(alloc, blocks, nodes, of, span)
+}
+
+/// A command with which a block goes on, after these nodes.
+fn goes_on_after(
+    alloc: Global,
+    blocks: Stack<Block>,
+    nodes: Nodes,
+    of: Middle,
+) -> Result<Option<CommandState>, OutOfMemory>
+    ensures { IfOk result (λ to. to ≡ body_goes_on blocks (ended nodes) of) }
+{
+    let nodes = nodes.ended()?;
+    body_goes_on(alloc, blocks, nodes, of)
+}
+
+/// A command that closes a block, after these nodes.
+fn closes_after(
+    blocks: Stack<Block>,
+    nodes: Nodes,
+    name: BlockName,
+    end: Span,
+) -> Result<Option<CommandState>, OutOfMemory>
+    ensures { IfOk result (λ to. to ≡ body_closes blocks (ended nodes) name end) }
+{
+    let nodes = nodes.ended()?;
+    body_closes(blocks, nodes, name, end)
 }
 
 /// A text of a body has come.
