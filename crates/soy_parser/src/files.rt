@@ -1,9 +1,10 @@
 //! The machine that reads a file, a token a step: what is between commands, and how a command begins.
 
-ghost use Rattle.std.specs.Prelude.{◌≡◌, IfOk};
+ghost use Rattle.std.specs.Prelude.{◌≡◌, IfOk, Some, None};
 ghost use Rattle.soy_parser.specs.FileSteps.{bare_expr, bare_opens, between_step, case_opens, ended_command};
 ghost use Rattle.soy_parser.specs.FileSteps.{file_start, file_step, opened_step, opens_if, print_opens, print_use};
 ghost use Rattle.soy_parser.specs.FileSteps.{depth_in, stands, taken, tree_of, unknown_in, whole_file};
+ghost use Rattle.soy_parser.specs.SpellsHead.{bare_head};
 ghost use Rattle.expr_parser.specs.ExprRuns.{expr_start};
 ghost use Rattle.soy_parser.specs.declared.spot.Spot.TheVariants as spot;
 ghost use Rattle.soy_parser.specs.declared.terminal.CommandTerminal.TheVariants as terminal;
@@ -184,8 +185,22 @@ fn opened(
     match terminal {
         CommandTerminal::At => Ok(opens_if(commands, from, HeadKind::HeadParam, Spot::HeadParam)),
         CommandTerminal::Word(word) => opened_word(alloc, commands, from, token, word),
-        _ => bare_opens(alloc, commands, from, Head::bare(alloc, terminal)?, token),
+        terminal => opens_bare(alloc, commands, from, token, terminal),
     }
+}
+
+/// A head of one token, or an expression, directly after the `{` of a command.
+fn opens_bare(
+    alloc: Global,
+    commands: CommandState,
+    from: Span,
+    token: &Token,
+    terminal: CommandTerminal,
+) -> Result<Option<FileState>, OutOfMemory>
+    ensures { IfOk result (λ to. to ≡ bare_opens commands from (bare_head terminal) token.now) }
+{
+    let head = Head::bare(alloc, terminal)?;
+    bare_opens(alloc, commands, from, head, token)
 }
 
 /// A word directly after the `{` of a command.
@@ -243,10 +258,7 @@ fn opened_word(
         CommandWord::Param => Ok(opens_if(commands, from, HeadKind::Param, Spot::Param)),
         CommandWord::Print => Ok(print_opens(alloc, commands, from)),
         CommandWord::Case => Ok(case_opens(alloc, commands, from)),
-        _ => {
-            let head = Head::bare(alloc, CommandTerminal::Word(word))?;
-            bare_opens(alloc, commands, from, head, token)
-        }
+        word => opens_bare(alloc, commands, from, token, CommandTerminal::Word(word)),
     }
 }
 
@@ -310,11 +322,21 @@ fn bare_opens(
             let spot = Spot::Attributes(head, Attributes::none());
             Ok(opens_if(commands, from, kind, spot))
         }
-        None => {
-            let step = ExprState::start(alloc).step(alloc, token)?;
-            Ok(bare_expr(commands, from, step))
-        }
+        None => opens_expr(alloc, commands, from, token),
     }
+}
+
+/// A token that begins an expression, if one may stand there.
+fn opens_expr(
+    alloc: Global,
+    commands: CommandState,
+    from: Span,
+    token: &Token,
+) -> Result<Option<FileState>, OutOfMemory>
+    ensures { IfOk result (λ to. to ≡ bare_opens commands from None token.now) }
+{
+    let step = ExprState::start(alloc).step(alloc, token)?;
+    Ok(bare_expr(commands, from, step))
 }
 
 /// A command that begins with an expression.
@@ -322,10 +344,26 @@ fn bare_expr(commands: CommandState, from: Span, step: ExprStep) -> Option<FileS
     ensures { result ≡ bare_expr commands from (print_use commands) step }
 {
     match print_use(&commands) {
-        Some(of) => match step {
-            ExprStep::Next(state) => stands(commands, from, Spot::Expr(of, state)),
-            ExprStep::End(_) => None,
-        },
-        None => None,
+        Some(of) => expr_opens(commands, from, of, step),
+        None => {
+            drop(commands);
+            drop(step);
+            None
+        }
+    }
+}
+
+/// A command that begins with an expression for this use.
+fn expr_opens(commands: CommandState, from: Span, of: Use, step: ExprStep) -> Option<FileState>
+    ensures { result ≡ bare_expr commands from (Some of) step }
+{
+    match step {
+        ExprStep::Next(state) => stands(commands, from, Spot::Expr(of, state)),
+        ExprStep::End(operand) => {
+            drop(operand);
+            drop(of);
+            drop(commands);
+            None
+        }
     }
 }

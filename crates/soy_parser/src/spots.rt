@@ -7,7 +7,7 @@ ghost use Rattle.expr_parser.specs.TypeRuns.{type_start};
 ghost use Rattle.expr_parser.specs.TypeSteps.{type_step};
 ghost use Rattle.soy_parser.specs.FileSteps.{after_case_word_step, after_int_step, attributes_step, call_step};
 ghost use Rattle.soy_parser.specs.FileSteps.{dotted_step, for_in_step, head_done, head_param_step, head_param_word_step};
-ghost use Rattle.soy_parser.specs.FileSteps.{in_expr, in_type, let_colon_step, next_value, param_colon_step, spot_step};
+ghost use Rattle.soy_parser.specs.FileSteps.{head_of, in_expr, in_type, let_colon_step, next_value, param_colon_step, spot_step};
 ghost use Rattle.soy_parser.specs.FileSteps.{dotted_head, if_colon, if_equals, if_in, stands, template_step, value_step};
 ghost use Rattle.soy_parser.specs.CommandTerminals.{command_terminal_of};
 ghost use Rattle.soy_parser.specs.Heads.{allows};
@@ -171,9 +171,29 @@ fn in_type(
 ) -> Result<Option<FileState>, OutOfMemory>
     ensures { IfOk result (λ to. to ≡ in_type commands from name required token.now (type_step state token.now)) }
 {
-    match state.step(alloc, token)? {
+    let step = state.step(alloc, token)?;
+    after_type_step(alloc, commands, from, name, required, step, token)
+}
+
+/// Where the type of a parameter goes on or has ended.
+fn after_type_step(
+    alloc: Global,
+    commands: CommandState,
+    from: Span,
+    name: Text,
+    required: bool,
+    step: TypeStep,
+    token: &Token,
+) -> Result<Option<FileState>, OutOfMemory>
+    ensures { IfOk result (λ to. to ≡ in_type commands from name required token.now step) }
+{
+    match step {
         TypeStep::Next(state) => Ok(stands(commands, from, Spot::Type(name, required, state))),
-        TypeStep::End(None) => Ok(None),
+        TypeStep::End(None) => {
+            drop(commands);
+            drop(name);
+            Ok(None)
+        }
         TypeStep::End(Some(operand)) => {
             let head = Head::Whole(Tag::HeadParam(name, required, operand.of));
             head_done(alloc, commands, from, head, token)
@@ -519,15 +539,30 @@ fn case_word(
     match terminal {
         CommandTerminal::Str => {
             if is_case_word(&token.text) {
-                let mut words = words;
-                words.push(token.text.copy(alloc)?)?;
+                let words = with_word(alloc, words, &token.text)?;
                 Ok(stands(commands, from, Spot::AfterCaseWord(words)))
             } else {
+                drop(commands);
+                drop(words);
                 Ok(None)
             }
         }
-        _ => Ok(None),
+        _ => {
+            drop(commands);
+            drop(words);
+            Ok(None)
+        }
     }
+}
+
+/// The words and one more.
+fn with_word(alloc: Global, words: Row<Text>, word: &Text) -> Result<Row<Text>, OutOfMemory>
+    ensures { IfOk result (λ more. more ≡ words ++ (word.now ∷ [])) }
+{
+    let word = word.copy(alloc)?;
+    let mut words = words;
+    words.push(word)?;
+    Ok(words)
 }
 
 /// After a word of a select's case.
@@ -561,9 +596,28 @@ fn in_expr(
 ) -> Result<Option<FileState>, OutOfMemory>
     ensures { IfOk result (λ to. to ≡ in_expr commands from of token.now (expr_step state token.now)) }
 {
-    match state.step(alloc, token)? {
+    let step = state.step(alloc, token)?;
+    after_expr_step(alloc, commands, from, of, step, token)
+}
+
+/// Where an expression goes on or has ended.
+fn after_expr_step(
+    alloc: Global,
+    commands: CommandState,
+    from: Span,
+    of: Use,
+    step: ExprStep,
+    token: &Token,
+) -> Result<Option<FileState>, OutOfMemory>
+    ensures { IfOk result (λ to. to ≡ in_expr commands from of token.now step) }
+{
+    match step {
         ExprStep::Next(state) => Ok(stands(commands, from, Spot::Expr(of, state))),
-        ExprStep::End(None) => Ok(None),
+        ExprStep::End(None) => {
+            drop(commands);
+            drop(of);
+            Ok(None)
+        }
         ExprStep::End(Some(operand)) => after_expr(alloc, commands, from, of, operand, token),
     }
 }
@@ -581,8 +635,23 @@ fn after_expr(
 {
     match of {
         Use::Case(values) => after_case_value(alloc, commands, from, values, operand, token),
-        of => head_done(alloc, commands, from, Head::of_use(of, operand)?, token),
+        of => after_used(alloc, commands, from, of, operand, token),
     }
+}
+
+/// After an expression that ends a head.
+fn after_used(
+    alloc: Global,
+    commands: CommandState,
+    from: Span,
+    of: Use,
+    operand: Operand,
+    token: &Token,
+) -> Result<Option<FileState>, OutOfMemory>
+    ensures { IfOk result (λ to. to ≡ head_done commands from (head_of of operand) token.now) }
+{
+    let head = Head::of_use(of, operand)?;
+    head_done(alloc, commands, from, head, token)
 }
 
 /// After a value of a case.
