@@ -1,6 +1,6 @@
 -- Numbers that decimal digits write.
 use Rattle.std.proofs.Common.{◌≡◌, ℕ, ◌+◌, ◌-◌, ◌*◌, ◌≤◌, ◌<◌, ◌&&◌, Bool, true, false, List, [], ◌∷◌, arith, ap, refl}
-use Rattle.std.specs.Prelude.{Option, Some, None, nat_le, if◌then◌else◌}
+use Rattle.std.specs.Prelude.{IfSome, Option, Some, None, nat_le, if◌then◌else◌}
 use Rattle.std.proofs.lemmas.Bool.Decides.{nat_tests}
 use Rattle.std.specs.Char.{is_ascii_digit}
 use Rattle.std.specs.List.{list_all}
@@ -40,3 +40,12 @@ digits_end n within =
 -- digits after those of a number that is over the largest int write none
 pub digits_too_large : (n : ℕ) (cs : List ℕ) → largest_int < n → digits_value n cs ≡ None
 digits_too_large n cs large = no_larger (list_all is_ascii_digit cs) n (number_after n cs) large (number_grows n cs)
+
+bounded : (b d : Bool) (n : ℕ) → nat_le n largest_int ≡ d → IfSome (if b && d then Some n else None) (λ n. n ≤ largest_int)
+bounded true true n within = grind (arith, nat_tests, within)
+bounded true false n within = tt
+bounded false d n within = tt
+
+-- the number that digits write is none over the largest int
+pub digits_bounded : (n : ℕ) (cs : List ℕ) → IfSome (digits_value n cs) (λ n. n ≤ largest_int)
+digits_bounded n cs = bounded (list_all is_ascii_digit cs) _ (number_after n cs) refl

@@ -1,6 +1,8 @@
 //! What a token does in a command, by where its reading stands.
 
-ghost use Rattle.std.specs.Prelude.{◌≡◌, ◌++◌, ◌∷◌, [], IfOk, Some, None, if◌then◌else◌};
+ghost use Rattle.std.specs.Prelude.{◌≡◌, ◌++◌, ◌∷◌, [], IfOk, Some, None, pos, if◌then◌else◌};
+ghost use Rattle.std.specs.Str.{chars};
+ghost use Rattle.soy_lexer.specs.CommandSegment.{number_after};
 ghost use Rattle.expr_parser.specs.ExprRuns.{expr_start};
 ghost use Rattle.expr_parser.specs.ExprSteps.{expr_step};
 ghost use Rattle.expr_parser.specs.TypeRuns.{type_start};
@@ -8,11 +10,13 @@ ghost use Rattle.expr_parser.specs.TypeSteps.{type_step};
 ghost use Rattle.soy_parser.specs.FileSteps.{after_case_word_step, after_int_step, attributes_step, call_step};
 ghost use Rattle.soy_parser.specs.FileSteps.{dotted_step, for_in_step, head_done, head_param_step, head_param_word_step};
 ghost use Rattle.soy_parser.specs.FileSteps.{head_of, in_expr, in_type, let_colon_step, next_value, param_colon_step, spot_step};
-ghost use Rattle.soy_parser.specs.FileSteps.{dotted_head, if_colon, if_equals, if_in, stands, template_step, value_step};
+ghost use Rattle.soy_parser.specs.FileSteps.{dotted_head, if_colon, if_equals, if_in, if_int, stands, template_step};
+ghost use Rattle.soy_parser.specs.FileSteps.{value_step};
 ghost use Rattle.soy_parser.specs.CommandTerminals.{command_terminal_of};
 ghost use Rattle.soy_parser.specs.Heads.{allows};
 ghost use Rattle.soy_parser.specs.declared.spot.Spot.TheVariants as spot;
 ghost use Rattle.soy_parser.specs.declared.spot.Use.TheVariants as use_;
+ghost use Rattle.soy_parser.specs.declared.terminal.CommandTerminal.TheVariants as terminal;
 
 use crate::attributes::{AttributeName, Attributes};
 use crate::block::CommandState;
@@ -22,7 +26,7 @@ use crate::head::Head;
 use crate::heads::text_of;
 use crate::spot::{DottedUse, FileState, Spot, Use};
 use crate::terminal::{CommandTerminal, CommandWord};
-use crate::values::{int_of, is_case_word};
+use crate::values::{int_of, is_case_word, with_int, with_word};
 use expr_parser::{ExprState, ExprStep, Operand, TypeState, TypeStep};
 use soy_base::{OutOfMemory, Row, Span, Text};
 use soy_lexer::Token;
@@ -493,15 +497,35 @@ fn int_value(
     ensures { IfOk result (λ to. to ≡ spot_step commands from (spot.IntValue values) token.now terminal) }
 {
     match terminal {
-        CommandTerminal::Int => match int_of(token.text.text()) {
-            Some(value) => {
-                let mut values = values;
-                values.push(value as i64)?;
-                Ok(stands(commands, from, Spot::AfterInt(values)))
-            }
-            None => Ok(None),
-        },
-        _ => Ok(None),
+        CommandTerminal::Int => int_of_case(commands, from, values, token.text.text()),
+        _ => {
+            drop(commands);
+            drop(values);
+            Ok(None)
+        }
+    }
+}
+
+/// An int of a plural's case, if the text is one.
+fn int_of_case(
+    commands: CommandState,
+    from: Span,
+    values: Row<i64>,
+    text: &str,
+) -> Result<Option<FileState>, OutOfMemory>
+    ensures { IfOk result (λ to. to ≡ if_int terminal.Int (chars text.now)
+        (stands commands from (spot.AfterInt (values ++ (pos (number_after 0 (chars text.now)) ∷ []))))) }
+{
+    match int_of(text) {
+        Some(value) => {
+            let values = with_int(values, value as i64)?;
+            Ok(stands(commands, from, Spot::AfterInt(values)))
+        }
+        None => {
+            drop(commands);
+            drop(values);
+            Ok(None)
+        }
     }
 }
 
@@ -553,16 +577,6 @@ fn case_word(
             Ok(None)
         }
     }
-}
-
-/// The words and one more.
-fn with_word(alloc: Global, words: Row<Text>, word: &Text) -> Result<Row<Text>, OutOfMemory>
-    ensures { IfOk result (λ more. more ≡ words ++ (word.now ∷ [])) }
-{
-    let word = word.copy(alloc)?;
-    let mut words = words;
-    words.push(word)?;
-    Ok(words)
 }
 
 /// After a word of a select's case.
@@ -635,7 +649,18 @@ fn after_expr(
 {
     match of {
         Use::Case(values) => after_case_value(alloc, commands, from, values, operand, token),
-        of => after_used(alloc, commands, from, of, operand, token),
+        Use::Print => after_used(alloc, commands, from, Use::Print, operand, token),
+        Use::MessagePrint => after_used(alloc, commands, from, Use::MessagePrint, operand, token),
+        Use::If => after_used(alloc, commands, from, Use::If, operand, token),
+        Use::ElseIf => after_used(alloc, commands, from, Use::ElseIf, operand, token),
+        Use::Switch => after_used(alloc, commands, from, Use::Switch, operand, token),
+        Use::Plural => after_used(alloc, commands, from, Use::Plural, operand, token),
+        Use::Select => after_used(alloc, commands, from, Use::Select, operand, token),
+        Use::For(name, index) => {
+            after_used(alloc, commands, from, Use::For(name, index), operand, token)
+        }
+        Use::Let(name) => after_used(alloc, commands, from, Use::Let(name), operand, token),
+        Use::Param(name) => after_used(alloc, commands, from, Use::Param(name), operand, token),
     }
 }
 

@@ -1,18 +1,22 @@
 //! Ints, and the words of a select's cases.
 
-ghost use Rattle.std.specs.Prelude.{◌≡◌, Some, None, if◌then◌else◌};
+ghost use Rattle.std.specs.Prelude.{◌≡◌, ◌≤◌, ◌++◌, ◌∷◌, [], IfOk, IfSome, Some, None, if◌then◌else◌};
 ghost use Rattle.std.specs.List.{list_all};
 ghost use Rattle.std.specs.Str.{chars};
+ghost use Rattle.soy_lexer.specs.CommandSegment.{largest_int};
 ghost use Rattle.soy_parser.specs.Heads.{digits_value, int_of};
 ghost use Rattle.soy_tree.specs.Formed.{is_case_word, is_word_character};
 
-use soy_base::{Text, first, is_empty};
+use soy_base::{OutOfMemory, Row, Text, first, is_empty};
+use std::alloc::Global;
 
 const LARGEST_INT: u64 = 9007199254740991;
 
 /// The int that a text is, if it is one.
+#[tactic(auto, using(crate::proofs::Ints::digits_bounded))]
 pub(crate) fn int_of(text: &str) -> Option<u64>
-    ensures { result ≡ int_of (chars text.now) }
+    ensures value { result ≡ int_of (chars text.now) }
+    ensures bound { IfSome result (λ n. n ≤ largest_int) }
 {
     match first(text) {
         Some(('0', rest)) => { if is_empty(rest) { Some(0) } else { None } }
@@ -58,4 +62,27 @@ fn is_word_character(c: char) -> bool
     ensures { result ≡ is_word_character c }
 {
     c.is_ascii_alphabetic() || c.is_ascii_digit() || c == '_' || c == '-'
+}
+
+/// The ints and one more.
+pub(crate) fn with_int(values: Row<i64>, value: i64) -> Result<Row<i64>, OutOfMemory>
+    ensures { IfOk result (λ more. more ≡ values ++ (value ∷ [])) }
+{
+    let mut values = values;
+    values.push(value)?;
+    Ok(values)
+}
+
+/// The words and one more.
+pub(crate) fn with_word(
+    alloc: Global,
+    words: Row<Text>,
+    word: &Text,
+) -> Result<Row<Text>, OutOfMemory>
+    ensures { IfOk result (λ more. more ≡ words ++ (word.now ∷ [])) }
+{
+    let word = word.copy(alloc)?;
+    let mut words = words;
+    words.push(word)?;
+    Ok(words)
 }
