@@ -26,3 +26,4 @@ pub mod FileAnswers
 pub mod Ints
 pub mod Cases
 pub mod Literals
+pub mod ReadingSteps
