@@ -43,16 +43,5 @@ pub row_is : (desc meaning : List ℕ) (body : MessageBody) (span : Span) (ps qs
       selects = selects;
     } ≡ listed (message desc meaning body span)
 row_is desc meaning body span ps qs rs ss id text copied meant placeholders plurals selects e1 e2 e3 e4 t i d m p l s =
-    rw (
-      i,
-      t,
-      d,
-      m,
-      p,
-      l,
-      s,
-      text_is body ps e1,
-      names_are kind.Placeholder body qs e2,
-      names_are kind.Plural body rs e3,
-      names_are kind.Select body ss e4,
-    ) refl
+    rw (i, t, d, m, p, l, s, text_is body ps e1, names_are kind.Placeholder body qs e2, names_are kind.Plural body rs e3,
+    names_are kind.Select body ss e4) refl

@@ -2,13 +2,16 @@ pub mod Ascii
 pub mod CanonicalText
 pub mod Catalogue
 pub mod CatalogueText
+pub mod ContentHash
 pub mod Extracts
 pub mod Fits
+pub mod ListedIds
 pub mod MessageId
 pub mod MessagesIn
-pub mod NameSteps
+pub mod NameGroups
 pub mod Pieces
 pub mod PlaceholderNodes
+pub mod PlaceholderRows
 pub mod QuotedRuns
 pub mod RoleNames
 pub mod SourceParts

@@ -1,7 +1,7 @@
 //! Messages as a translator is given them: placeholders with their names, canonical texts, ids and the catalogue.
 //!
-//! `extract` lists the messages of files, `write_catalogue` writes them as JSON, and `placeholders` and `message_id`
-//! say the same of one message. The text of a message, read as a pattern, gives the parts of its source:
+//! `extract` lists the messages of files, `write_catalogue` writes them as JSON, and `placeholders` and `message_id` say
+//! the same of one message. The text of a message, read as a pattern, gives the parts of its source:
 //! `law_canonical_text`. Depends on soy_base, soy_tree and plural_rules, and on sha2, hex and serde_json.
 #![tactic(auto)]
 
@@ -9,10 +9,12 @@ mod ascii;
 mod base_name;
 mod canonical;
 mod catalogue;
+mod content_key;
 mod cut;
 mod item;
 mod laws;
 mod messages;
+mod name_key;
 mod names;
 mod piece;
 mod placeholder;

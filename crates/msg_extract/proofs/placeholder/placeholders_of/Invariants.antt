@@ -1,12 +1,15 @@
 use Rattle.std.proofs.Common.{◌≡◌, [], drop, map}
 use Rattle.msg_extract.specs.Pieces.{uses_in}
 use Rattle.msg_extract.specs.PlaceholderNodes.{rows_after}
+use Rattle.msg_extract.specs.PlaceholderRows.{HasNames}
 use Rattle.msg_extract.specs.ViewPieces.{view_piece}
 use Rattle.msg_extract.specs.ViewPlaceholders.{view_placeholder}
 use Rattle.msg_extract.proofs.placeholder.placeholders_of.Given as goal
 
 abbrev pub invariant-loop-piece : goal.invariant-loop-piece
-invariant-loop-piece l =
-    rows_after (uses_in (map view_piece l.pieces)) (map view_placeholder l.rows)
-    (uses_in (map view_piece (drop l.piece-index l.pieces)))
-    ≡ rows_after (uses_in (map view_piece l.pieces)) [] (uses_in (map view_piece l.pieces))
+invariant-loop-piece l = record {
+  names : HasNames l.found;
+  same : rows_after l.names (map view_placeholder l.found.rows)
+      (uses_in (map view_piece (drop l.piece-index l.pieces)))
+      ≡ rows_after l.names [] (uses_in (map view_piece l.pieces));
+}

@@ -6,5 +6,5 @@ use Rattle.msg_extract.proofs.role_names.role_names.Given as goal
 
 abbrev pub invariant-loop-piece : goal.invariant-loop-piece
 invariant-loop-piece l =
-    names_after l.kind (uses_in (map view_piece l.pieces)) l.names (uses_in (map view_piece (drop l.piece-index l.pieces)))
-    ≡ role_names l.kind (uses_in (map view_piece l.pieces))
+    names_after l.kind l.names l.found.keys (uses_in (map view_piece (drop l.piece-index l.pieces)))
+    ≡ role_names l.kind l.names
