@@ -20,8 +20,8 @@ use soy_base::{Code, Fault, OutOfMemory, Refusal, Row, Seq, Text};
 use soy_tree::{Message, Tree};
 use std::alloc::Global;
 
-/// A message of a catalogue: its id, what a translator is told of it, its canonical text, and the names of its
-/// placeholders, plurals and selects, each once in order of first appearance.
+/// A message of a catalogue: its id, its description and meaning for a translator, its canonical text, and the names of
+/// its placeholders, plurals and selects, each once in order of first appearance.
 #[derive(Drop)]
 pub struct Listed {
     pub id: Text,

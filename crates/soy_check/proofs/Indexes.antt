@@ -74,7 +74,7 @@ pub indexed_position : (name : Name) (names : List Name) (all : List code.Declar
 indexed_position name names all at indexed is =
     ap (position (bytes_eq name)) (sym (reverse-reverse (full_names all)) ∙ ap reverse (sym indexed)) ∙ sym is
 
-pub seen_through : (found : Option (Bor code.Declared))
+pub view_through : (found : Option (Bor code.Declared))
     → option_map (λ d. view_declared d.now) found ≡ option_map view_declared (option_map (λ d. d.now) found)
-seen_through None = refl
-seen_through (Some d) = refl
+view_through None = refl
+view_through (Some d) = refl

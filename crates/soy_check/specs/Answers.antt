@@ -17,7 +17,7 @@ abbrev pub view_check_fault : code.CheckFault → CheckFault
 view_check_fault f =
     in_file f.fault.file (record { code = f.fault.code; at = f.fault.at; left = f.left; right = f.right })
 
--- what `check` answers: the trees as they were, where there is no failure, or the first one
+-- what `check` answers: the trees unchanged, where there is no failure, or the first one
 abbrev pub Checks : List code_tree.Tree → Result (List code_tree.Tree) (Refusal code.CheckFault) → Type 0
 Checks trees (Ok typed) = (typed ≡ trees) × (check_fault (view_trees trees) ≡ None)
 Checks trees (Err (refusal.Because f)) = check_fault (view_trees trees) ≡ Some (view_check_fault f)

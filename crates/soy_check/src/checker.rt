@@ -30,7 +30,7 @@ pub struct CheckFault {
     pub right: Text,
 }
 
-/// The trees as they were, where every demand holds of them; else the first failure. Files are counted from 0 in the
+/// The trees unchanged, where every demand holds of them; else the first failure. Files are counted from 0 in the
 /// order of the trees. On a refusal the trees are dropped.
 pub fn check(alloc: Global, trees: Vec<Tree>) -> Result<Typed, Refusal<CheckFault>>
     requires formed { AreFormed (view_trees trees.items) }
