@@ -11,10 +11,10 @@ ghost use Rattle.soy_expr.specs.ViewScope.{view_vars};
 ghost use Rattle.soy_check.specs.Answers.{Passes};
 ghost use Rattle.soy_check.specs.Rules.{is_taken, printed};
 
-use crate::faults::{unaccepted, untyped};
+use crate::faults::untyped;
 use crate::variables::param_type;
 use soy_base::{Code, Refusal, Span};
-use soy_expr::{TypeFault, is_int, is_simple, is_string, type_among};
+use soy_expr::{TypeFault, both_mistyped, is_int, is_simple, is_string, type_among};
 use soy_tree::{Expr, Field, Param, SoyType, accepts};
 use std::alloc::Global;
 
@@ -147,7 +147,7 @@ pub(crate) fn check_accepted(
     ensures { (scope : Scope) → Passes (accepted (view_type to.now) span (view_type given.now) scope) scope result }
 {
     if !accepts(to, given) {
-        return Err(unaccepted(alloc, span, to, given));
+        return Err(both_mistyped(alloc, span, to, given));
     }
     Ok(())
 }

@@ -1,7 +1,6 @@
 //! Refusals of what fails a demand.
 
 ghost use Rattle.std.specs.Prelude.{[], option_map};
-ghost use Rattle.soy_base.specs.declared.code.Code.TheVariants as code;
 ghost use Rattle.soy_tree.specs.Demands.{in_file};
 ghost use Rattle.soy_tree.specs.TypeText.{type_text};
 ghost use Rattle.soy_tree.specs.ViewTypes.{view_type};
@@ -39,34 +38,6 @@ pub(crate) fn untyped(alloc: Global, code: Code, at: u64, of: &SoyType) -> Refus
             at,
             left,
             right: Text::empty(alloc),
-        }),
-        Err(_) => Refusal::OutOfMemory,
-    }
-}
-
-/// The refusal of a type that another one doesn't accept.
-pub(crate) fn unaccepted(
-    alloc: Global,
-    span: Span,
-    to: &SoyType,
-    given: &SoyType,
-) -> Refusal<TypeFault>
-    ensures { Keeps (record {
-      code = code.Mistyped;
-      at = span.start;
-      left = type_text (view_type to.now);
-      right = type_text (view_type given.now);
-    }) result }
-{
-    let Ok(left) = text_of(alloc, to) else {
-        return Refusal::OutOfMemory;
-    };
-    match text_of(alloc, given) {
-        Ok(right) => Refusal::Because(TypeFault {
-            code: Code::Mistyped,
-            at: span.start,
-            left,
-            right,
         }),
         Err(_) => Refusal::OutOfMemory,
     }

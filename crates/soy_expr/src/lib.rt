@@ -36,7 +36,7 @@ pub use laws::law_forgotten;
 pub use member_kind::{has_block, is_int, is_simple, is_string};
 pub use scope::Scope;
 pub use shallow::Shallow;
-pub use type_fault::TypeFault;
+pub use type_fault::{TypeFault, both_mistyped};
 pub use type_text::text_of;
 pub use typing::{type_among, type_of};
 pub use variables::Variables;

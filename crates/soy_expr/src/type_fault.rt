@@ -55,8 +55,9 @@ pub(crate) fn mistyped(alloc: Global, span: Span, left: &SoyType) -> Refusal<Typ
     }
 }
 
-/// The refusal of a type rule that was asked of two types.
-pub(crate) fn both_mistyped(
+/// The refusal of a type rule that was asked of two types: 8 at the start of `span`, in bytes, with the texts of `left`
+/// and `right`; or that memory ran out.
+pub fn both_mistyped(
     alloc: Global,
     span: Span,
     left: &SoyType,
