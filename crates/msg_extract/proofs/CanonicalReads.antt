@@ -28,16 +28,16 @@ use Rattle.soy_tree.specs.IcuText.{PatternMode, AtTop, InPlural, InSelect, begin
 use Rattle.soy_tree.specs.IcuText.{IsSpacedName, IsSpacedKeyword, IsNumber, IsOffset, IsKey, IsWord, Key, Exact, Named}
 use Rattle.soy_tree.specs.IcuText.{PluralArms, WordArms, is_other, exact_arms, named_arms, select_arms, with_text}
 use Rattle.soy_tree.specs.IcuText.{IsPattern}
-use Rattle.msg_extract.specs.CanonicalText.{text_of_items, written_text, written_name, written_cuts, written_found}
-use Rattle.msg_extract.specs.CanonicalText.{written_offset, written_case, written_body, written_plural_cases}
-use Rattle.msg_extract.specs.CanonicalText.{written_select_cases, canonical_text}
+use Rattle.msg_extract.specs.CanonicalText.{is_in_plural, text_of_items, written_text, written_name, written_cuts}
+use Rattle.msg_extract.specs.CanonicalText.{written_found, written_offset, written_case, written_body}
+use Rattle.msg_extract.specs.CanonicalText.{written_plural_cases, written_select_cases, canonical_text}
 use Rattle.msg_extract.specs.SourceParts.{cut_parts, found_parts, body_parts, plural_case_parts, select_case_parts}
 use Rattle.msg_extract.specs.SourceParts.{source_parts}
 use Rattle.msg_extract.proofs.MessageNames.{base_tag, name_is}
 use Rattle.msg_extract.proofs.MessageCuts.{Holds, AreCuts, text_cuts, expr_base}
 use Rattle.msg_extract.proofs.JoinedTests.{and_left, and_right}
 use Rattle.msg_extract.proofs.Decimals.{decimal_passes}
-use Rattle.msg_extract.proofs.WrittenText.{in_plural, text_reads}
+use Rattle.msg_extract.proofs.WrittenText.{text_reads}
 
 spaced_name : (name : Name) → IsTrue (is_name name) → IsSpacedName name name
 spaced_name name h =
@@ -61,7 +61,7 @@ module _ (uses : List Use) where
   cuts_no_quote flag (PrintCut e phname span ∷ cuts) h rest q = refl
   cuts_no_quote flag (TagCut tag ∷ cuts) h rest q = refl
 
-  cuts_weaker : (first : Bool) (cuts : List Cut) → AreCuts first cuts → AreCuts true cuts
+  pub cuts_weaker : (first : Bool) (cuts : List Cut) → AreCuts first cuts → AreCuts true cuts
   cuts_weaker true cuts h = h
   cuts_weaker false [] h = tt
   cuts_weaker false (TextCut items ∷ cuts) h = absurd h
@@ -70,33 +70,33 @@ module _ (uses : List Use) where
 
   cuts_reads : (mode : PatternMode) (n : ℕ) (cuts : List Cut) → AreCuts true cuts → (rest : List ℕ)
       → begins_with_quote rest ≡ false
-      → Reads mode (suc n) (written_cuts uses (in_plural mode) cuts ++ rest) (cut_parts uses cuts) rest
+      → Reads mode (suc n) (written_cuts uses (is_in_plural mode) cuts ++ rest) (cut_parts uses cuts) rest
   cuts_reads mode n [] h rest q = icu.stop rest
   cuts_reads mode n (TextCut items ∷ cuts) h rest q =
       subst (λ t. Reads mode (suc n) t (cut_parts uses (TextCut items ∷ cuts)) rest)
-      (sym (append_assoc (written_text (in_plural mode) (text_of_items items)) (written_cuts uses (in_plural mode) cuts)
+      (sym (append_assoc (written_text (is_in_plural mode) (text_of_items items)) (written_cuts uses (is_in_plural mode) cuts)
       rest))
-      (text_reads mode (suc n) (written_cuts uses (in_plural mode) cuts ++ rest) (cut_parts uses cuts) rest
-      (cuts_no_quote (in_plural mode) cuts h rest q)
+      (text_reads mode (suc n) (written_cuts uses (is_in_plural mode) cuts ++ rest) (cut_parts uses cuts) rest
+      (cuts_no_quote (is_in_plural mode) cuts h rest q)
       (cuts_reads mode n cuts (cuts_weaker false cuts h) rest q) (text_of_items items))
   cuts_reads mode n (PrintCut e phname span ∷ cuts) h rest q =
       let name : Name = name_of uses (base_of_print e phname) (ExprContent e) in
       subst (λ t. Reads mode (suc n) t (cut_parts uses (PrintCut e phname span ∷ cuts)) rest)
-      (sym (append_assoc (written_name name) (written_cuts uses (in_plural mode) cuts) rest))
+      (sym (append_assoc (written_name name) (written_cuts uses (is_in_plural mode) cuts) rest))
       (name_reads mode n name (name_is uses (base_of_print e phname) (ExprContent e) h.0)
-      (written_cuts uses (in_plural mode) cuts ++ rest) rest (cut_parts uses cuts)
+      (written_cuts uses (is_in_plural mode) cuts ++ rest) rest (cut_parts uses cuts)
       (cuts_reads mode n cuts h.1 rest q))
   cuts_reads mode n (TagCut tag ∷ cuts) h rest q =
       let name : Name = name_of uses (base_of_tag tag) (TagContent tag) in
       subst (λ t. Reads mode (suc n) t (cut_parts uses (TagCut tag ∷ cuts)) rest)
-      (sym (append_assoc (written_name name) (written_cuts uses (in_plural mode) cuts) rest))
+      (sym (append_assoc (written_name name) (written_cuts uses (is_in_plural mode) cuts) rest))
       (name_reads mode n name (name_is uses (base_of_tag tag) (TagContent tag) (base_tag tag h.0))
-      (written_cuts uses (in_plural mode) cuts ++ rest) rest (cut_parts uses cuts)
+      (written_cuts uses (is_in_plural mode) cuts ++ rest) rest (cut_parts uses cuts)
       (cuts_reads mode n cuts h.1 rest q))
 
   found_reads : (mode : PatternMode) (n : ℕ) (found : Option (List Cut)) → Holds (AreCuts true) found → (rest : List ℕ)
       → begins_with_quote rest ≡ false
-      → Reads mode (suc n) (written_found uses (in_plural mode) found ++ rest) (found_parts uses found) rest
+      → Reads mode (suc n) (written_found uses (is_in_plural mode) found ++ rest) (found_parts uses found) rest
   found_reads mode n None h rest q = icu.stop rest
   found_reads mode n (Some cuts) h rest q = cuts_reads mode n cuts h rest q
 
@@ -184,7 +184,7 @@ case_then key text rest =
     append_assoc key (space ∷ (left_brace ∷ (text ++ right_brace ∷ []))) rest
     ∙ ap (λ t. key ++ (space ∷ (left_brace ∷ t))) (append_assoc text (right_brace ∷ []) rest)
 
-three_parts : (a b c : Bool) → (a && b && c) ≡ true → (a ≡ true) × (b ≡ true) × (c ≡ true)
+pub three_parts : (a b c : Bool) → (a && b && c) ≡ true → (a ≡ true) × (b ≡ true) × (c ≡ true)
 three_parts true true true e = (refl, refl, refl)
 three_parts true true false e = absurd (cc e)
 three_parts true false true e = absurd (cc e)
@@ -192,7 +192,7 @@ three_parts true false false e = absurd (cc e)
 three_parts false b true e = absurd (cc e)
 three_parts false b false e = absurd (cc e)
 
-four_parts : (a b c d : Bool) → (a && b && c && d) ≡ true → (a ≡ true) × (b ≡ true) × (c ≡ true) × (d ≡ true)
+pub four_parts : (a b c d : Bool) → (a && b && c && d) ≡ true → (a ≡ true) × (b ≡ true) × (c ≡ true) × (d ≡ true)
 four_parts a b c true e = let p = three_parts a b c (and_left (a && b && c) true e) in (p.0, p.1, p.2, refl)
 four_parts a b c false e = absurd (cc (and_right (a && b && c) false e))
 
@@ -206,7 +206,7 @@ module _ (uses : List Use) where
   mutual
     pub body_reads : (mode : PatternMode) (n : ℕ) (body : MessageBody) → is_formed_body body ≡ true → nesting body < n
         → (rest : List ℕ) → begins_with_quote rest ≡ false
-        → Reads mode n (written_body uses (in_plural mode) body ++ rest) (body_parts uses body) rest
+        → Reads mode n (written_body uses (is_in_plural mode) body ++ rest) (body_parts uses body) rest
     body_reads mode zero body f h rest q = absurd (omega (arith, h))
     body_reads mode (suc n) (Parts ns) f h rest q =
         found_reads uses mode n (cuts_of (message_items ns))

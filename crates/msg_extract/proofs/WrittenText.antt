@@ -10,18 +10,13 @@ use Rattle.soy_tree.specs.IcuText as icu
 use Rattle.soy_tree.specs.IcuText.{PatternMode, AtTop, InPlural, InSelect, is_quotable, begins_with_quote, is_plain}
 use Rattle.soy_tree.specs.IcuText.{Quoted, Reads, with_text}
 use Rattle.msg_extract.proofs.JoinedTests.{holds_or}
-use Rattle.msg_extract.specs.CanonicalText.{is_special, written_text, written_run}
-
--- whether a text of this mode stands directly in a plural's case
-abbrev pub in_plural : PatternMode → Bool
-in_plural InPlural = true
-in_plural _ = false
+use Rattle.msg_extract.specs.CanonicalText.{is_in_plural, is_special, written_text, written_run}
 
 or_false : (a : Bool) → (a || false) ≡ a
 or_false true = refl
 or_false false = refl
 
-special_is : (mode : PatternMode) (c : ℕ) → is_special (in_plural mode) c ≡ is_quotable mode c
+special_is : (mode : PatternMode) (c : ℕ) → is_special (is_in_plural mode) c ≡ is_quotable mode c
 special_is AtTop c = or_false (c == left_brace || c == right_brace)
 special_is InPlural c = refl
 special_is InSelect c = or_false (c == left_brace || c == right_brace)
@@ -77,10 +72,10 @@ record Run (mode : PatternMode) (n : ℕ) (text : List ℕ) (parts : MsgParts) (
 module _ (mode : PatternMode) (n : ℕ) (rest : List ℕ) (ps : MsgParts) (end : List ℕ)
     (no_quote : begins_with_quote rest ≡ false) (reads : Reads mode n rest ps end) where
   abbrev written : List ℕ → List ℕ
-  written text = written_text (in_plural mode) text ++ rest
+  written text = written_text (is_in_plural mode) text ++ rest
 
   abbrev run : List ℕ → List ℕ
-  run text = written_run (in_plural mode) text ++ rest
+  run text = written_run (is_in_plural mode) text ++ rest
 
   more : (c : ℕ) (cs : List ℕ) (text : List ℕ) → c ≢ single_quote → Run mode n text (with_text cs ps) end
       → Run mode n (c ∷ text) (with_text (c ∷ cs) ps) end
@@ -124,9 +119,9 @@ module _ (mode : PatternMode) (n : ℕ) (rest : List ℕ) (ps : MsgParts) (end :
     text_reads [] = reads
     text_reads (c ∷ cs) =
         holds_or _ (is_quotable mode c)
-        (λ h. let s : is_special (in_plural mode) c ≡ true = special_is mode c ∙ h in rw s
+        (λ h. let s : is_special (is_in_plural mode) c ≡ true = special_is mode c ∙ h in rw s
         (special_reads c cs h (run_reads cs)))
-        (λ h. let s : is_special (in_plural mode) c ≡ false = special_is mode c ∙ h in
+        (λ h. let s : is_special (is_in_plural mode) c ≡ false = special_is mode c ∙ h in
         holds_or _ (c == single_quote)
         (λ q. rw (s, q) (subst (λ d. Reads mode n (single_quote ∷ (single_quote ∷ written cs)) (with_text (d ∷ cs) ps)
         end) (sym (eqb-true c 39 q))
@@ -139,9 +134,9 @@ module _ (mode : PatternMode) (n : ℕ) (rest : List ℕ) (ps : MsgParts) (end :
         record { chars = []; after = rest; left = ps; quoted = icu.closed rest no_quote; reads = reads; whole = refl }
     run_reads (c ∷ cs) =
         holds_or _ (is_quotable mode c)
-        (λ h. let s : is_special (in_plural mode) c ≡ true = special_is mode c ∙ h in
+        (λ h. let s : is_special (is_in_plural mode) c ≡ true = special_is mode c ∙ h in
         rw s (more c cs (run cs) (other_than c 39 (not_quote mode c h)) (run_reads cs)))
-        (λ h. let s : is_special (in_plural mode) c ≡ false = special_is mode c ∙ h in
+        (λ h. let s : is_special (is_in_plural mode) c ≡ false = special_is mode c ∙ h in
         holds_or _ (c == single_quote)
         (λ q. rw (s, q) (subst (λ d. Run mode n (single_quote ∷ (single_quote ∷ run cs)) (with_text (d ∷ cs) ps) end)
         (sym (eqb-true c 39 q)) (twice cs (run cs) (run_reads cs))))

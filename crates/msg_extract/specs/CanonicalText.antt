@@ -15,6 +15,13 @@ use Rattle.soy_tree.specs.MessageText.{MessageItem, Character, Printed, Cut, Tex
 use Rattle.soy_tree.specs.MessageText.{message_items}
 use Rattle.soy_tree.specs.BaseNames.{base_of_expr, base_of_print, base_of_tag}
 use Rattle.soy_tree.specs.Placeholders.{Use, ExprContent, TagContent, name_of, body_uses}
+use Rattle.soy_tree.specs.IcuText.{PatternMode, AtTop, InPlural, InSelect}
+
+-- whether a text stands directly in a plural's case
+abbrev pub is_in_plural : PatternMode → Bool
+is_in_plural AtTop = false
+is_in_plural InPlural = true
+is_in_plural InSelect = false
 
 -- whether a character has to be quoted; the flag says that it stands directly in a plural's case
 abbrev pub is_special : Bool → ℕ → Bool

@@ -22,7 +22,7 @@ mod same;
 
 pub use canonical::message_id;
 pub use catalogue::{Catalogue, Listed, extract, write_catalogue};
-pub use laws::{law_canonical_text, law_fits, law_written_text};
+pub use laws::{law_canonical_text, law_equal_parts, law_fits, law_written_text};
 pub use placeholder::{Placeholder, placeholders};
 
 #[cfg(test)]

@@ -1,21 +1,14 @@
 use Rattle.std.proofs.Common.{ℕ, List, [], refl, subst, append-nil}
 use Rattle.soy_tree.specs.MessageParts.{no_part}
-use Rattle.soy_tree.specs.IcuText.{PatternMode, AtTop, InPlural, InSelect, Reads, stop, with_text}
+use Rattle.soy_tree.specs.IcuText.{AtTop, Reads, stop, with_text}
 use Rattle.msg_extract.specs.CanonicalText.{written_text}
-use Rattle.msg_extract.proofs.WrittenText.{text_reads, in_plural}
+use Rattle.msg_extract.proofs.WrittenText.{text_reads}
 use Rattle.msg_extract.proofs.laws.law_written_text.Goals as goal
 
-alone : (mode : PatternMode) (n : ℕ) (text : List ℕ)
-    → Reads mode n (written_text (in_plural mode) text) (with_text text no_part) []
-alone mode n text =
-    subst (λ t. Reads mode n t (with_text text no_part) []) (append-nil (written_text (in_plural mode) text))
-    (text_reads mode n [] no_part [] refl (stop []) text)
+pub returns-clause-before_more : goal.returns-clause-before_more
+returns-clause-before_more c = λ mode n text rest end ps no_quote reads. text_reads mode n rest ps end no_quote reads text
 
 pub returns-clause-pattern : goal.returns-clause-pattern
-returns-clause-pattern c = λ text. alone AtTop 64 text
-
-pub returns-clause-in_plural : goal.returns-clause-in_plural
-returns-clause-in_plural c = λ text n. alone InPlural n text
-
-pub returns-clause-in_select : goal.returns-clause-in_select
-returns-clause-in_select c = λ text n. alone InSelect n text
+returns-clause-pattern c = λ text.
+    subst (λ t. Reads AtTop 64 t (with_text text no_part) []) (append-nil (written_text false text))
+    (text_reads AtTop 64 [] no_part [] refl (stop []) text)
