@@ -19,6 +19,3 @@ mod state;
 
 pub use laws::law_one_pattern;
 pub use parse::parse_message;
-
-#[cfg(test)]
-mod tests;

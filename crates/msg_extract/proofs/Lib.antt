@@ -17,5 +17,6 @@ pub mod PluralPieces
 pub mod QuotedRuns
 pub mod RoleNames
 pub mod TagNames
+pub mod TextOfParts
 pub mod ViewBodies
 pub mod WrittenText

@@ -10,6 +10,7 @@ pub mod NameSteps
 pub mod Pieces
 pub mod PlaceholderNodes
 pub mod QuotedRuns
+pub mod RepeatedCases
 pub mod RoleNames
 pub mod SourceParts
 pub mod TagNames

@@ -1,6 +1,5 @@
 mod AsciiTexts
 mod Forgetting
-mod IntRow
 mod Nearest
 mod PartRows
 mod Refusals

@@ -40,6 +40,3 @@ pub use type_fault::{TypeFault, both_mistyped};
 pub use type_text::text_of;
 pub use typing::{type_among, type_of};
 pub use variables::Variables;
-
-#[cfg(test)]
-mod tests;

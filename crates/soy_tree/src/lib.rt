@@ -37,6 +37,3 @@ pub use soy_type::{Field, SoyType};
 pub use tree::{Param, Template, Tree};
 pub use typed::Typed;
 pub use value::{Entry, Value};
-
-#[cfg(test)]
-mod tests;

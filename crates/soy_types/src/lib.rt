@@ -14,6 +14,3 @@ mod reading;
 pub use data::read_data;
 pub use fault::DataFault;
 pub use laws::law_read;
-
-#[cfg(test)]
-mod tests;

@@ -1,10 +1,10 @@
 //! Tests of what is read: values, paths and codes, as texts.
 
-use crate::read_data;
 use soy_base::{
     Boxed, Code, OutOfMemory, PathStep, Refusal, Seq, Span, Text, push_char, push_text,
 };
 use soy_tree::{Entry, Field, Param, SoyType, Value};
+use soy_types::read_data;
 use std::alloc::Global;
 
 /// The types of the rows.

@@ -1,7 +1,7 @@
 //! Rows of patterns with the parts that they mean, and of texts that are none with the length of their longest prefix
 //! that begins one.
 
-use crate::parse_message;
+use icu_text::parse_message;
 use plural_rules::Category;
 use soy_base::{OutOfMemory, Refusal, push_text};
 use soy_tree::{ExactArm, MsgPart, NamedArm, SelectArm};

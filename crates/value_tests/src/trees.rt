@@ -1,9 +1,9 @@
 //! Tests of what no clause says: with ample memory each call succeeds.
-use crate::{
+use soy_base::{Boxed, Dir, OutOfMemory, Seq, Span, Text};
+use soy_tree::{
     BinaryOp, Bundle, Entry, Expr, ExprNode, Field, Form, Node, Param, SoyType, Typed, Value,
     accepts, is_message_text, narrow,
 };
-use soy_base::{Boxed, Dir, OutOfMemory, Seq, Span, Text};
 use std::alloc::Global;
 
 const SPAN: Span = Span { start: 3, end: 9 };

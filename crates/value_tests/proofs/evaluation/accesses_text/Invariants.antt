@@ -1,4 +1,4 @@
-use Rattle.soy_expr.proofs.tests.accesses_text.Given as goal
+use Rattle.value_tests.proofs.evaluation.accesses_text.Given as goal
 
 abbrev pub ghosts-value_text : goal.ghosts-value_text
 ghosts-value_text a = record { name = a.blank.name; parts = a.blank.parts }

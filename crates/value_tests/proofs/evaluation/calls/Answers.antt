@@ -1,5 +1,5 @@
-use Rattle.soy_expr.proofs.IntRow.{seven_formed, seven_typed}
-use Rattle.soy_expr.proofs.tests.calls.Goals as goal
+use Rattle.value_tests.proofs.IntRow.{seven_formed, seven_typed}
+use Rattle.value_tests.proofs.evaluation.calls.Goals as goal
 
 pub eval-requires-clause-formed : goal.eval-requires-clause-formed
 eval-requires-clause-formed g c = seven_formed _ _ c.seven.ensures

@@ -4,8 +4,8 @@ ghost use Rattle.soy_tree.specs.Expressions.{IntLiteral};
 ghost use Rattle.soy_tree.specs.ViewExpressions.{view_expr};
 ghost use Rattle.soy_expr.specs.ViewEnv.{view_env};
 
-use crate::{Binding, Bound, Env, Evaluated, Made, Scope, eval, evaluate, test, type_of};
 use soy_base::{Boxed, OutOfMemory, Refusal, Seq, Span, Steps, Text};
+use soy_expr::{Binding, Bound, Env, Evaluated, Made, Scope, eval, evaluate, test, type_of};
 use soy_tree::{BinaryOp, Entry, Expr, ExprNode, Field, SoyType, Value};
 use std::alloc::Global;
 use std::marker::Brand;
