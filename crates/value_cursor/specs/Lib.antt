@@ -3,3 +3,4 @@ pub mod BytesLeft
 pub mod EscapedForm
 pub mod Gives
 pub mod Joined
+pub mod Shares
