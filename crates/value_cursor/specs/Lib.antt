@@ -1,3 +1,4 @@
+pub mod AsciiForms
 pub mod Cleaned
 pub mod BytesLeft
 pub mod EscapedForm

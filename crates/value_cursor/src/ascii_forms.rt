@@ -1,6 +1,7 @@
 //! The escaped forms of the characters of ASCII.
-ghost use Rattle.std.specs.Prelude.{◌≡◌, ◌<◌, IfSome, encode_utf8_all};
+ghost use Rattle.std.specs.Prelude.{◌≡◌, ◌<◌, IfSome, encode_utf8_all, map};
 ghost use Rattle.escapers.specs.Esc.{escaped_character};
+ghost use Rattle.value_cursor.specs.AsciiForms.{ascii_forms};
 
 use escapers::Escaper;
 
@@ -110,11 +111,11 @@ pub(crate) fn ascii_form(how: Escaper, c: u8) -> Option<&'static str>
     ensures { IfSome result (λ form. form.now ≡ encode_utf8_all (escaped_character how c)) }
 {
     match how {
-        Escaper::Html => Some(HTML[c as usize]),
-        Escaper::UriNormal => Some(URI_NORMAL[c as usize]),
-        Escaper::UriComponent => Some(URI_COMPONENT[c as usize]),
-        Escaper::JsString => Some(JS_STRING[c as usize]),
-        Escaper::CssString => Some(CSS_STRING[c as usize]),
+        Escaper::Html => Some(text_of(how, &HTML, c)),
+        Escaper::UriNormal => Some(text_of(how, &URI_NORMAL, c)),
+        Escaper::UriComponent => Some(text_of(how, &URI_COMPONENT, c)),
+        Escaper::JsString => Some(text_of(how, &JS_STRING, c)),
+        Escaper::CssString => Some(text_of(how, &CSS_STRING, c)),
         Escaper::Wrap
         | Escaper::UriStart
         | Escaper::JsValue
@@ -122,4 +123,13 @@ pub(crate) fn ascii_form(how: Escaper, c: u8) -> Option<&'static str>
         | Escaper::Plain
         | Escaper::AsIs => None,
     }
+}
+
+/// The text of a character of ASCII in an escaper's table.
+fn text_of(_how: Escaper, texts: &[&'static str; 128], c: u8) -> &'static str
+    requires low { c < 0x80 }
+    requires texts { map (λ text. text.now) texts.now ≡ ascii_forms _how }
+    ensures { result.now ≡ encode_utf8_all (escaped_character _how c) }
+{
+    texts[c as usize]
 }
