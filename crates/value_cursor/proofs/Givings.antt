@@ -34,19 +34,6 @@ gives_pending pending pending_after after room room_after count is given rest =
     (given ∙ ap (λ n. take n pending ++ drop n room) (sym is)) in
     record { within = gives.within; size = gives.size; given = gives.given ∙ whole; behind = gives.behind }
 
--- and into what stands behind the bytes that a room was given before
-pub gives_pending_behind : (pending pending_after after room room_after : List ℕ) (before count : ℕ)
-    → count ≡ min (length pending) (length (take (length room - before) (drop before room)))
-    → room_after ≡ take (min (length pending) (length (take (length room - before) (drop before room)))) pending
-    ++ drop (min (length pending) (length (take (length room - before) (drop before room))))
-    (take (length room - before) (drop before room))
-    → pending_after ≡ drop (min (length pending) (length (take (length room - before) (drop before room)))) pending
-    → Gives (pending ++ after) (pending_after ++ after) (drop before room) room_after count
-gives_pending_behind pending pending_after after room room_after before count is given rest =
-    subst (λ part. Gives (pending ++ after) (pending_after ++ after) part room_after count) (take_rest room before)
-    (gives_pending pending pending_after after (take (length room - before) (drop before room)) room_after count is
-    given rest)
-
 -- nothing stands behind the end of a room
 pub room_end : (room part : List ℕ) (n : ℕ)
     → take n room ++ (part ++ drop (length room - n) (drop n room)) ≡ take n room ++ part

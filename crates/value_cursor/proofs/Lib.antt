@@ -1,3 +1,4 @@
+mod AsciiForms
 mod Closed
 mod Enclosed
 mod Forms
@@ -8,4 +9,7 @@ mod Marked
 mod PlainRuns
 mod Rooms
 mod RunSoFar
+mod SharedRuns
+mod ShareTables
+mod Totals
 mod Wrapped

@@ -81,14 +81,18 @@ prefix_and_after test (c ∷ cs) =
     ]
 
 -- what is only escaped
-pub escaped_run : (plan : Plan) (run cs : List ℕ) → plan.cleaning ≡ cleaning.Nothing → run ≡ plain_prefix plan.how cs
-    → (offset : ℕ) → forms plan offset run ≡ run
-escaped_run plan run cs nothing is =
+pub prefix_plain : (how : Escaper) (run cs : List ℕ) → run ≡ plain_prefix how cs
+    → list_all (stands_for_itself how) run ≡ true
+prefix_plain how run cs is =
+    subst (λ l. list_all (stands_for_itself how) l ≡ true) (sym is) (prefix_all (stands_for_itself how) cs)
+
+pub escaped_run : (plan : Plan) (run : List ℕ) → plan.cleaning ≡ cleaning.Nothing
+    → list_all (stands_for_itself plan.how) run ≡ true → (offset : ℕ) → forms plan offset run ≡ run
+escaped_run plan run nothing plain =
     forms_themselves plan (stands_for_itself plan.how)
     (λ offset c own. ap (λ what. option_map_or (escaped_character plan.how) (cleaned what offset c) []) nothing
     ∙ own_form plan.how c own)
-    run (subst (λ l. list_all (stands_for_itself plan.how) l ≡ true) (sym is)
-    (prefix_all (stands_for_itself plan.how) cs))
+    run plain
 
 -- what is cleaned and escaped
 module _ (plan : Plan) (text window plain others behind more cs : List ℕ) (utf8 : IsUtf8 text)

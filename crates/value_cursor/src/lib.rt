@@ -9,12 +9,14 @@
 //! Depends on `soy_base`, `esc_table`, `escapers`, `bidi_class` and `bidi_text`.
 #![tactic(auto)]
 
+mod ascii_forms;
 mod cleaning;
 mod cursor;
 mod laws;
 mod plan;
 mod progress;
 mod runs;
+mod shares;
 
 pub use cursor::Cursor;
 pub use laws::law_rooms_joined;

@@ -1,10 +1,14 @@
 //! How the escaped form of a text is made, and how long it is.
-ghost use Rattle.std.specs.Prelude.{◌≡◌, ◌≤◌, ◌*◌, ◌^◌, [], None, length, encode_utf8_all};
+ghost use Rattle.std.specs.Prelude.{◌≡◌, ◌≤◌, ◌*◌, ◌^◌, ℕ, List, [], ◌∷◌, None, IfSome, length, encode_utf8_all};
+ghost use Rattle.std.specs.Char.{len_utf8};
+ghost use Rattle.std.specs.Str.{chars};
 ghost use Rattle.soy_base.specs.ByteLength.{byte_len};
 ghost use Rattle.value_cursor.specs.BytesLeft.{bytes_from, form, source, IsPlan};
 
+use crate::ascii_forms::ascii_form;
 use crate::cleaning::Cleaning;
 use crate::runs::plain_run;
+use crate::shares::{shares_by, total_share};
 use esc_table::Tail;
 use escapers::{Escaper, escaped_char_len, put_char};
 use soy_base::first;
@@ -55,6 +59,20 @@ impl Plan {
         }
     }
 
+    /// The form of the text's first character, where it is of ASCII and nothing is cleaned.
+    pub(crate) fn ascii_form(&self, text: &str) -> Option<&'static str>
+        ensures { IfSome result (λ bytes. (c : ℕ) × (others : List ℕ) × (chars text.now ≡ c ∷ chars others)
+            × (len_utf8 c ≡ 1) × ((offset : ℕ) → bytes.now ≡ encode_utf8_all (form self.now offset c))) }
+    {
+        match self.cleaning {
+            Cleaning::Nothing => match text.as_bytes().first() {
+                Some(byte) if *byte < 0x80 => ascii_form(self.how, *byte),
+                _ => None,
+            },
+            Cleaning::Unpaired | Cleaning::Marked(_) => None,
+        }
+    }
+
     /// How many bytes the form of the character at an offset takes.
     fn char_len(&self, offset: usize, c: char) -> usize
         requires { IsPlan self.now }
@@ -68,6 +86,32 @@ impl Plan {
 
     /// How many bytes the forms of all characters of the source take.
     pub(crate) fn len(&self, source: &str) -> u128
+        requires { IsPlan self.now }
+        ensures count { result ≡ length (bytes_from self.now source.now 0) }
+        ensures bound { result ≤ 2 ^ 64 * length source.now }
+    {
+        match self.len_by_bytes(source) {
+            Some(len) => len,
+            None => self.len_by_runs(source),
+        }
+    }
+
+    /// The same by the shares of all bytes, where they say it.
+    fn len_by_bytes(&self, source: &str) -> Option<u128>
+        ensures count { IfSome result (λ len. len ≡ length (bytes_from self.now source.now 0)) }
+        ensures bound { IfSome result (λ len. len ≤ 2 ^ 64 * length source.now) }
+    {
+        match self.cleaning {
+            Cleaning::Nothing => match shares_by(self.how) {
+                Some(shares) => total_share(shares, source.as_bytes()),
+                None => None,
+            },
+            Cleaning::Unpaired | Cleaning::Marked(_) => None,
+        }
+    }
+
+    /// The same run by run.
+    fn len_by_runs(&self, source: &str) -> u128
         requires { IsPlan self.now }
         ensures count { result ≡ length (bytes_from self.now source.now 0) }
         ensures bound { result ≤ 2 ^ 64 * length source.now }

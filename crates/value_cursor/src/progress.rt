@@ -48,9 +48,9 @@ impl Progress {
         ensures full { result < length room.old → self.new.pending ≡ [] }
     {
         let copied = self.copy_run(plan, source, room);
-        self.put_next(plan, source);
-        copied + self.pending.take(&mut room[copied..])
+        copied + self.give_next(plan, source, &mut room[copied..])
     }
+
     /// Gives the run of characters that stand for themselves, as much of it as the room takes.
     fn copy_run(&mut self, plan: &Plan, source: &str, room: &mut [u8]) -> usize
         requires plan { IsPlan plan.now }
@@ -67,6 +67,33 @@ impl Progress {
         room[..run.len()].copy_from_slice(run.as_bytes());
         self.offset += run.len();
         run.len()
+    }
+
+    /// Gives what the room takes of the form of the next character. A form of ASCII that it takes whole doesn't become
+    /// pending.
+    fn give_next(&mut self, plan: &Plan, source: &str, room: &mut [u8]) -> usize
+        requires plan { IsPlan plan.now }
+        requires boundary { IsCharBoundary source.now self.old.offset }
+        requires none_pending { self.old.pending ≡ [] }
+        ensures gives { Gives (bytes_after plan.now source.now self.old) (bytes_after plan.now source.now self.new)
+            room.old room.new result }
+        ensures boundary { IsCharBoundary source.now self.new.offset }
+        ensures later { self.old.offset ≤ self.new.offset }
+        ensures further { self.old.offset < length source.now → self.old.offset < self.new.offset }
+        ensures full { result < length room.old → self.new.pending ≡ [] }
+    {
+        let (_, rest) = source.split_at(self.offset);
+        match plan.ascii_form(rest) {
+            Some(form) if form.len() <= room.len() => {
+                room[..form.len()].copy_from_slice(form.as_bytes());
+                self.offset += 1;
+                form.len()
+            }
+            _ => {
+                self.put_next(plan, source);
+                self.pending.take(room)
+            }
+        }
     }
 
     /// Makes the form of the next character pending, if there is one.

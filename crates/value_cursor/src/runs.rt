@@ -1,10 +1,13 @@
 //! Runs of characters that stand for themselves.
-ghost use Rattle.std.specs.Prelude.{◌≡◌, ◌≤◌, ◌++◌, ℕ, List, length};
+ghost use Rattle.std.specs.Prelude.{◌≡◌, ◌≤◌, ◌++◌, ℕ, List, length, true};
+ghost use Rattle.std.specs.List.{list_all};
 ghost use Rattle.std.specs.Str.{chars, IsUtf8};
+ghost use Rattle.escapers.specs.PlainPrefix.{stands_for_itself};
 ghost use Rattle.value_cursor.specs.BytesLeft.{forms, IsPlan};
 
 use crate::cleaning::{Cleaning, is_clean};
 use crate::plan::Plan;
+use crate::shares::{first_other, shares_by};
 use escapers::plain_prefix;
 use soy_base::split_while;
 
@@ -21,12 +24,29 @@ pub(crate) fn plain_run<'a>(plan: &Plan, text: &'a str) -> (&'a str, &'a str)
     ensures plain { (offset : ℕ) → forms plan.now offset (chars result.0.now) ≡ chars result.0.now }
 {
     match plan.cleaning {
-        Cleaning::Nothing => plain_prefix(plan.how, text),
+        Cleaning::Nothing => plain_bytes(plan, text),
         Cleaning::Unpaired | Cleaning::Marked(_) => {
             let (plain, _) = plain_prefix(plan.how, clipped(text, WINDOW));
             let (_, others) = split_while(plain, is_clean);
             text.split_at(plain.len() - others.len())
         }
+    }
+}
+
+/// A prefix of the text whose characters stand for themselves by the plan's escaper, and the rest.
+fn plain_bytes<'a>(plan: &Plan, text: &'a str) -> (&'a str, &'a str)
+    requires { IsPlan plan.now }
+    ensures whole { text.now ≡ result.0.now ++ result.1.now }
+    ensures run_utf8 { IsUtf8 result.0.now }
+    ensures rest_utf8 { IsUtf8 result.1.now }
+    ensures plain { list_all (stands_for_itself plan.now.how) (chars result.0.now) ≡ true }
+{
+    match shares_by(plan.how) {
+        Some(shares) => match first_other(shares, text.as_bytes()) {
+            Some(at) => text.split_at(at),
+            None => (text, ""),
+        },
+        None => plain_prefix(plan.how, text),
     }
 }
 

@@ -1,7 +1,7 @@
 use Rattle.std.proofs.Common.{◌+◌, length, sym, arith}
 use Rattle.value_cursor.proofs.Forms.{no_character, past}
 use Rattle.value_cursor.proofs.LenSoFar.{all_counted, char_counted, none_counted, run_counted}
-use Rattle.value_cursor.proofs.plan.Plan.len.Goals as goal
+use Rattle.value_cursor.proofs.plan.Plan.len_by_runs.Goals as goal
 
 pub loop-offset-init : goal.loop-offset-init
 loop-offset-init c = none_counted c.args.self.now c.args.source.now c.utf8.source

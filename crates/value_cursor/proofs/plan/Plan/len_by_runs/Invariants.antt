@@ -1,6 +1,6 @@
 use Rattle.std.proofs.Common.{length, ◌-◌}
 use Rattle.value_cursor.proofs.LenSoFar.{LenSoFar}
-use Rattle.value_cursor.proofs.plan.Plan.len.Given as goal
+use Rattle.value_cursor.proofs.plan.Plan.len_by_runs.Given as goal
 
 abbrev pub invariant-loop-offset : goal.invariant-loop-offset
 invariant-loop-offset l = LenSoFar l.self l.source l.len l.offset
