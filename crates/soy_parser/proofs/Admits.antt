@@ -15,25 +15,25 @@ use Rattle.soy_parser.specs.declared.command.Middle.{Middle}
 use Rattle.soy_parser.specs.declared.command.Middle.TheVariants as middle
 use Rattle.soy_parser.specs.declared.command.Opening.TheVariants as opening
 use Rattle.soy_parser.specs.declared.command.Single.TheVariants as single
-use Rattle.soy_parser.specs.declared.command.Tag.{Tag}
-use Rattle.soy_parser.specs.declared.command.Tag.TheVariants as tag
+use Rattle.soy_parser.specs.declared.command.CommandForm.{CommandForm}
+use Rattle.soy_parser.specs.declared.command.CommandForm.TheVariants as says
 use Rattle.soy_parser.specs.declared.head.HeadKind.TheVariants as kind
 use Rattle.soy_parser.specs.declared.terminal.BlockName.{BlockName}
 use Rattle.soy_parser.specs.declared.terminal.BlockName.TheVariants as name
 use Rattle.soy_parser.specs.CommandSteps.{ended, is_empty, closes_body, closed_body, body_closes, body_goes_on}
-use Rattle.soy_parser.specs.CommandSteps.{head_param_step, closes_message, closed_message, message_closes}
+use Rattle.soy_parser.specs.CommandSteps.{template_param_step, closes_message, closed_message, message_closes}
 use Rattle.soy_parser.specs.CommandSteps.{message_goes_on}
 use Rattle.soy_parser.specs.CommandSteps.{cases_begin, closed_bare_switch, is_switch, is_call, closed_call}
 use Rattle.soy_parser.specs.CommandSteps.{choice_opens}
-use Rattle.soy_parser.specs.CommandSteps.{has_whole_tags, parts_of, step_at}
-use Rattle.soy_parser.specs.FileSteps.{middle_kind, tag_kind, body_admits, message_admits, cases_admit, top_admits}
+use Rattle.soy_parser.specs.CommandSteps.{has_whole_tags, body_of_parts, step_at}
+use Rattle.soy_parser.specs.FileSteps.{middle_kind, form_kind, body_admits, message_admits, cases_admit, top_admits}
 use Rattle.soy_parser.specs.FileSteps.{is_template}
 use Rattle.soy_parser.specs.FileSteps.{in_body_admits, in_parts_admits, admits_at}
 use Rattle.soy_parser.specs.SpellsTree.{param_of}
 
 -- it isn't a text, which has no head
-abbrev pub HasHead : Tag → Type 0
-HasHead (tag.Text text) = ⊥
+abbrev pub HasHead : CommandForm → Type 0
+HasHead (says.Text text) = ⊥
 HasHead _ = Unit {0}
 
 -- a step that is taken where a test holds
@@ -111,10 +111,10 @@ bare_switch_admits (block.Switch before start e ∷ bs) name.Switch span to q h 
 bare_switch_admits (block.Switch before start e ∷ bs) _ span to q h = absurd (cc q)
 bare_switch_admits _ n span to q h = absurd (cc h)
 
-head_param_admits : (bs : List Block) (p : Param) (to : CommandState) → head_param_step bs p ≡ Some to →
-    top_admits is_template bs kind.HeadParam ≡ true
-head_param_admits (block.Template t ∷ bs) p to h = refl
-head_param_admits _ p to h = absurd (cc h)
+template_param_admits : (bs : List Block) (p : Param) (to : CommandState) → template_param_step bs p ≡ Some to →
+    top_admits is_template bs kind.TemplateParam ≡ true
+template_param_admits (block.Template t ∷ bs) p to h = refl
+template_param_admits _ p to h = absurd (cc h)
 
 pub both : (a b : Bool) → a ≡ true → b ≡ true → (a && b) ≡ true
 both a b e f = rw (e, f) refl
@@ -143,82 +143,85 @@ middle_in_parts bs nodes white (middle.SelectCase values) w h = both _ _ w h
 middle_in_parts bs nodes white middle.Default w h = both _ _ w h
 middle_in_parts bs nodes white (middle.Fallback desc meaning) w h = both _ _ w h
 
-body_step_admits : (bs : List Block) (nodes : Nodes) (of : Tag) (span : Span) (to : CommandState) → HasHead of →
-    step_at (content.Body nodes) bs of span ≡ Some to → in_body_admits bs nodes (tag_kind of) ≡ true
-body_step_admits bs nodes (tag.Text text) span to i h = absurd i
-body_step_admits bs nodes (tag.Character text) span to i h = refl
-body_step_admits bs nodes (tag.Namespace n) span to i h = absurd (cc h)
-body_step_admits bs nodes (tag.HeadParam n required of) span to i h =
+body_step_admits : (bs : List Block) (nodes : Nodes) (of : CommandForm) (span : Span) (to : CommandState) → HasHead of →
+    step_at (content.Body nodes) bs of span ≡ Some to → in_body_admits bs nodes (form_kind of) ≡ true
+body_step_admits bs nodes (says.Text text) span to i h = absurd i
+body_step_admits bs nodes (says.Character text) span to i h = refl
+body_step_admits bs nodes (says.Namespace n) span to i h = absurd (cc h)
+body_step_admits bs nodes (says.TemplateParam n required of) span to i h =
     let p = param_of n of required span in
-    both _ _ (if_some (is_empty nodes) (head_param_step bs p) to h)
-    (head_param_admits bs p to (if_step (is_empty nodes) (head_param_step bs p) to h))
-body_step_admits bs nodes (tag.Single (single.Print e)) span to i h = refl
-body_step_admits bs nodes (tag.Single (single.Let n e)) span to i h = refl
-body_step_admits bs nodes (tag.Single (single.Call n all)) span to i h = refl
-body_step_admits bs nodes (tag.Single _) span to i h = absurd (cc h)
-body_step_admits bs nodes (tag.Opens (opening.If e)) span to i h = refl
-body_step_admits bs nodes (tag.Opens (opening.Switch e)) span to i h = refl
-body_step_admits bs nodes (tag.Opens (opening.For n index e)) span to i h = refl
-body_step_admits bs nodes (tag.Opens (opening.Let n of)) span to i h = refl
-body_step_admits bs nodes (tag.Opens (opening.Call n all)) span to i h = refl
-body_step_admits bs nodes (tag.Opens (opening.Message desc meaning)) span to i h = refl
-body_step_admits bs nodes (tag.Opens _) span to i h = absurd (cc h)
-body_step_admits bs nodes (tag.GoesOn m) span to i h =
+    both _ _ (if_some (is_empty nodes) (template_param_step bs p) to h)
+    (template_param_admits bs p to (if_step (is_empty nodes) (template_param_step bs p) to h))
+body_step_admits bs nodes (says.Single (single.Print e)) span to i h = refl
+body_step_admits bs nodes (says.Single (single.Let n e)) span to i h = refl
+body_step_admits bs nodes (says.Single (single.Call n all)) span to i h = refl
+body_step_admits bs nodes (says.Single _) span to i h = absurd (cc h)
+body_step_admits bs nodes (says.Opens (opening.If e)) span to i h = refl
+body_step_admits bs nodes (says.Opens (opening.Switch e)) span to i h = refl
+body_step_admits bs nodes (says.Opens (opening.For n index e)) span to i h = refl
+body_step_admits bs nodes (says.Opens (opening.Let n of)) span to i h = refl
+body_step_admits bs nodes (says.Opens (opening.Call n all)) span to i h = refl
+body_step_admits bs nodes (says.Opens (opening.Message desc meaning)) span to i h = refl
+body_step_admits bs nodes (says.Opens _) span to i h = absurd (cc h)
+body_step_admits bs nodes (says.GoesOn m) span to i h =
     middle_in_body bs nodes m (body_goes_admits bs (ended nodes) m to h)
-body_step_admits bs nodes (tag.Closes n) span to i h = body_closes_admits bs (ended nodes) n span to h
+body_step_admits bs nodes (says.Closes n) span to i h = body_closes_admits bs (ended nodes) n span to h
 
-parts_step_admits : (bs : List Block) (nodes : Nodes) (white : Bool) (of : Tag) (span : Span) (to : CommandState) →
+parts_step_admits : (bs : List Block) (nodes : Nodes) (white : Bool) (of : CommandForm) (span : Span)
+    (to : CommandState) →
     HasHead of → step_at (content.Parts nodes white) bs of span ≡ Some to →
-    in_parts_admits bs nodes white (tag_kind of) ≡ true
-parts_step_admits bs nodes white (tag.Text text) span to i h = absurd i
-parts_step_admits bs nodes white (tag.Character text) span to i h = refl
-parts_step_admits bs nodes white (tag.Namespace n) span to i h = absurd (cc h)
-parts_step_admits bs nodes white (tag.HeadParam n required of) span to i h = absurd (cc h)
-parts_step_admits bs nodes white (tag.Single (single.MessagePrint e phname)) span to i h = refl
-parts_step_admits bs nodes white (tag.Single _) span to i h = absurd (cc h)
-parts_step_admits bs nodes white (tag.Opens (opening.Plural e offset)) span to i h =
+    in_parts_admits bs nodes white (form_kind of) ≡ true
+parts_step_admits bs nodes white (says.Text text) span to i h = absurd i
+parts_step_admits bs nodes white (says.Character text) span to i h = refl
+parts_step_admits bs nodes white (says.Namespace n) span to i h = absurd (cc h)
+parts_step_admits bs nodes white (says.TemplateParam n required of) span to i h = absurd (cc h)
+parts_step_admits bs nodes white (says.Single (single.MessagePrint e phname)) span to i h = refl
+parts_step_admits bs nodes white (says.Single _) span to i h = absurd (cc h)
+parts_step_admits bs nodes white (says.Opens (opening.Plural e offset)) span to i h =
     if_some white (choice_opens bs (opening.Plural e offset)) to h
-parts_step_admits bs nodes white (tag.Opens (opening.Select e)) span to i h =
+parts_step_admits bs nodes white (says.Opens (opening.Select e)) span to i h =
     if_some white (choice_opens bs (opening.Select e)) to h
-parts_step_admits bs nodes white (tag.Opens (opening.Template of)) span to i h =
+parts_step_admits bs nodes white (says.Opens (opening.Template of)) span to i h =
     absurd (no_choice (if_step white None to h))
-parts_step_admits bs nodes white (tag.Opens (opening.If e)) span to i h =
+parts_step_admits bs nodes white (says.Opens (opening.If e)) span to i h =
     absurd (no_choice (if_step white None to h))
-parts_step_admits bs nodes white (tag.Opens (opening.Switch e)) span to i h =
+parts_step_admits bs nodes white (says.Opens (opening.Switch e)) span to i h =
     absurd (no_choice (if_step white None to h))
-parts_step_admits bs nodes white (tag.Opens (opening.For n index e)) span to i h =
+parts_step_admits bs nodes white (says.Opens (opening.For n index e)) span to i h =
     absurd (no_choice (if_step white None to h))
-parts_step_admits bs nodes white (tag.Opens (opening.Let n of)) span to i h =
+parts_step_admits bs nodes white (says.Opens (opening.Let n of)) span to i h =
     absurd (no_choice (if_step white None to h))
-parts_step_admits bs nodes white (tag.Opens (opening.Call n all)) span to i h =
+parts_step_admits bs nodes white (says.Opens (opening.Call n all)) span to i h =
     absurd (no_choice (if_step white None to h))
-parts_step_admits bs nodes white (tag.Opens (opening.Param n of)) span to i h =
+parts_step_admits bs nodes white (says.Opens (opening.Param n of)) span to i h =
     absurd (no_choice (if_step white None to h))
-parts_step_admits bs nodes white (tag.Opens (opening.Message desc meaning)) span to i h =
+parts_step_admits bs nodes white (says.Opens (opening.Message desc meaning)) span to i h =
     absurd (no_choice (if_step white None to h))
-parts_step_admits bs nodes white (tag.GoesOn m) span to i h =
-    middle_in_parts bs nodes white m (if_some (has_whole_tags nodes) (message_goes_on bs (parts_of nodes) m span) to h)
-    (message_goes_admits bs (parts_of nodes) m span to
-    (if_step (has_whole_tags nodes) (message_goes_on bs (parts_of nodes) m span) to h))
-parts_step_admits bs nodes white (tag.Closes n) span to i h =
-    both _ _ (if_some (has_whole_tags nodes) (message_closes bs (parts_of nodes) n span) to h)
-    (message_closes_admits bs (parts_of nodes) n span to
-    (if_step (has_whole_tags nodes) (message_closes bs (parts_of nodes) n span) to h))
+parts_step_admits bs nodes white (says.GoesOn m) span to i h =
+    middle_in_parts bs nodes white m (if_some (has_whole_tags nodes)
+    (message_goes_on bs (body_of_parts nodes) m span) to h)
+    (message_goes_admits bs (body_of_parts nodes) m span to
+    (if_step (has_whole_tags nodes) (message_goes_on bs (body_of_parts nodes) m span) to h))
+parts_step_admits bs nodes white (says.Closes n) span to i h =
+    both _ _ (if_some (has_whole_tags nodes) (message_closes bs (body_of_parts nodes) n span) to h)
+    (message_closes_admits bs (body_of_parts nodes) n span to
+    (if_step (has_whole_tags nodes) (message_closes bs (body_of_parts nodes) n span) to h))
 
-cases_step_admits : (bs : List Block) (of : Tag) (span : Span) (to : CommandState) → HasHead of →
-    step_at content.BeforeCases bs of span ≡ Some to → top_admits cases_admit bs (tag_kind of) ≡ true
-cases_step_admits bs (tag.Text text) span to i h = absurd i
-cases_step_admits bs (tag.GoesOn m) span to i h = cases_begin_admits bs m to h
-cases_step_admits bs (tag.Closes n) span to i h =
+cases_step_admits : (bs : List Block) (of : CommandForm) (span : Span) (to : CommandState) → HasHead of →
+    step_at content.BeforeCases bs of span ≡ Some to → top_admits cases_admit bs (form_kind of) ≡ true
+cases_step_admits bs (says.Text text) span to i h = absurd i
+cases_step_admits bs (says.GoesOn m) span to i h = cases_begin_admits bs m to h
+cases_step_admits bs (says.Closes n) span to i h =
     bare_switch_admits bs n span to (if_some (is_switch n) (closed_bare_switch bs span) to h)
     (if_step (is_switch n) (closed_bare_switch bs span) to h)
 cases_step_admits bs _ span to i h = absurd (cc h)
 
-choice_step_admits : (bs : List Block) (body : MessageBody) (of : Tag) (span : Span) (to : CommandState) → HasHead of →
-    step_at (content.Choice body) bs of span ≡ Some to → top_admits message_admits bs (tag_kind of) ≡ true
-choice_step_admits bs body (tag.Text text) span to i h = absurd i
-choice_step_admits bs body (tag.GoesOn m) span to i h = message_goes_admits bs body m span to h
-choice_step_admits bs body (tag.Closes n) span to i h = message_closes_admits bs body n span to h
+choice_step_admits : (bs : List Block) (body : MessageBody) (of : CommandForm) (span : Span) (to : CommandState)
+    → HasHead of →
+    step_at (content.Choice body) bs of span ≡ Some to → top_admits message_admits bs (form_kind of) ≡ true
+choice_step_admits bs body (says.Text text) span to i h = absurd i
+choice_step_admits bs body (says.GoesOn m) span to i h = message_goes_admits bs body m span to h
+choice_step_admits bs body (says.Closes n) span to i h = message_closes_admits bs body n span to h
 choice_step_admits bs body _ span to i h = absurd (cc h)
 
 call_admits : (n : BlockName) (bs : List Block) (k : Content) → is_call n ≡ true →
@@ -227,19 +230,19 @@ call_admits name.Call bs k e = refl
 call_admits _ bs k e = absurd (cc e)
 
 -- **A command with a step has an admitted head.**
-pub step_admits : (k : Content) (bs : List Block) (of : Tag) (span : Span) (to : CommandState) → HasHead of →
-    step_at k bs of span ≡ Some to → admits_at k bs (tag_kind of) ≡ true
-step_admits content.White bs (tag.Text text) span to i h = absurd i
-step_admits content.White bs (tag.Namespace n) span to i h = refl
+pub step_admits : (k : Content) (bs : List Block) (of : CommandForm) (span : Span) (to : CommandState) → HasHead of →
+    step_at k bs of span ≡ Some to → admits_at k bs (form_kind of) ≡ true
+step_admits content.White bs (says.Text text) span to i h = absurd i
+step_admits content.White bs (says.Namespace n) span to i h = refl
 step_admits content.White bs _ span to i h = absurd (cc h)
-step_admits (content.Templates n templates) bs (tag.Text text) span to i h = absurd i
-step_admits (content.Templates n templates) bs (tag.Opens (opening.Template of)) span to i h = refl
+step_admits (content.Templates n templates) bs (says.Text text) span to i h = absurd i
+step_admits (content.Templates n templates) bs (says.Opens (opening.Template of)) span to i h = refl
 step_admits (content.Templates n templates) bs _ span to i h = absurd (cc h)
 step_admits (content.Body nodes) bs of span to i h = body_step_admits bs nodes of span to i h
-step_admits (content.Arguments arguments) bs (tag.Text text) span to i h = absurd i
-step_admits (content.Arguments arguments) bs (tag.Single (single.Param n e)) span to i h = refl
-step_admits (content.Arguments arguments) bs (tag.Opens (opening.Param n of)) span to i h = refl
-step_admits (content.Arguments arguments) bs (tag.Closes n) span to i h =
+step_admits (content.Arguments arguments) bs (says.Text text) span to i h = absurd i
+step_admits (content.Arguments arguments) bs (says.Single (single.Param n e)) span to i h = refl
+step_admits (content.Arguments arguments) bs (says.Opens (opening.Param n of)) span to i h = refl
+step_admits (content.Arguments arguments) bs (says.Closes n) span to i h =
     call_admits n bs (content.Arguments arguments) (if_some (is_call n) (closed_call bs arguments span) to h)
 step_admits (content.Arguments arguments) bs _ span to i h = absurd (cc h)
 step_admits content.BeforeCases bs of span to i h = cases_step_admits bs of span to i h

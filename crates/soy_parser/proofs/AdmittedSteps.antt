@@ -21,20 +21,20 @@ use Rattle.soy_parser.specs.declared.command.Opening.{Opening}
 use Rattle.soy_parser.specs.declared.command.Opening.TheVariants as opening
 use Rattle.soy_parser.specs.declared.command.Single.{Single}
 use Rattle.soy_parser.specs.declared.command.Single.TheVariants as single
-use Rattle.soy_parser.specs.declared.command.Tag.{Tag}
-use Rattle.soy_parser.specs.declared.command.Tag.TheVariants as tag
+use Rattle.soy_parser.specs.declared.command.CommandForm.{CommandForm}
+use Rattle.soy_parser.specs.declared.command.CommandForm.TheVariants as says
 use Rattle.soy_parser.specs.declared.head.HeadKind.{HeadKind}
 use Rattle.soy_parser.specs.declared.head.HeadKind.TheVariants as kind
 use Rattle.soy_parser.specs.declared.terminal.BlockName.{BlockName}
 use Rattle.soy_parser.specs.declared.terminal.BlockName.TheVariants as name
 use Rattle.soy_parser.specs.CommandSteps.{ended, is_empty, closes_body, closed_body, body_closes, body_goes_on}
-use Rattle.soy_parser.specs.CommandSteps.{head_param_step}
+use Rattle.soy_parser.specs.CommandSteps.{template_param_step}
 use Rattle.soy_parser.specs.CommandSteps.{closes_message, closed_message, message_closes, message_goes_on, cases_begin}
 use Rattle.soy_parser.specs.CommandSteps.{closed_call}
-use Rattle.soy_parser.specs.CommandSteps.{has_whole_tags, parts_of, step_at}
+use Rattle.soy_parser.specs.CommandSteps.{has_whole_tags, body_of_parts, step_at}
 use Rattle.soy_parser.specs.CommandSteps.{command_step, command_run}
 use Rattle.soy_parser.specs.CommandSteps.{command_start}
-use Rattle.soy_parser.specs.FileSteps.{middle_kind, opening_kind, single_kind, tag_kind, body_admits, message_admits}
+use Rattle.soy_parser.specs.FileSteps.{middle_kind, opening_kind, single_kind, form_kind, body_admits, message_admits}
 use Rattle.soy_parser.specs.FileSteps.{cases_admit}
 use Rattle.soy_parser.specs.FileSteps.{top_admits, is_template, in_body_admits, in_parts_admits, admits_at, admits}
 use Rattle.soy_parser.specs.SpellsTree.{param_of}
@@ -203,37 +203,37 @@ middle_of_body bs nodes (middle.SelectCase values) h = h
 middle_of_body bs nodes middle.Default h = h
 middle_of_body bs nodes (middle.Fallback desc meaning) h = h
 
-head_param_steps : (bs : List Block) (p : Param) → top_admits is_template bs kind.HeadParam ≡ true →
-    HasStep (head_param_step bs p)
-head_param_steps (block.Template t ∷ bs) p e = stepped _
-head_param_steps _ p e = absurd (cc e)
+template_param_steps : (bs : List Block) (p : Param) → top_admits is_template bs kind.TemplateParam ≡ true →
+    HasStep (template_param_step bs p)
+template_param_steps (block.Template t ∷ bs) p e = stepped _
+template_param_steps _ p e = absurd (cc e)
 
-body_steps : (bs : List Block) (nodes : Nodes) (of : Tag) (span : Span) → HasHead of →
-    in_body_admits bs nodes (tag_kind of) ≡ true → HasStep (step_at (content.Body nodes) bs of span)
-body_steps bs nodes (tag.Text text) span i e = absurd i
-body_steps bs nodes (tag.Character text) span i e = stepped _
-body_steps bs nodes (tag.Namespace n) span i e = absurd (clash refl (in_body bs kind.Namespace e))
-body_steps bs nodes (tag.HeadParam n required of) span i e =
+body_steps : (bs : List Block) (nodes : Nodes) (of : CommandForm) (span : Span) → HasHead of →
+    in_body_admits bs nodes (form_kind of) ≡ true → HasStep (step_at (content.Body nodes) bs of span)
+body_steps bs nodes (says.Text text) span i e = absurd i
+body_steps bs nodes (says.Character text) span i e = stepped _
+body_steps bs nodes (says.Namespace n) span i e = absurd (clash refl (in_body bs kind.Namespace e))
+body_steps bs nodes (says.TemplateParam n required of) span i e =
     when (is_empty nodes) _ (first_true (is_empty nodes) _ e)
-    (head_param_steps bs (param_of n of required span) (second_true (is_empty nodes) _ e))
-body_steps bs nodes (tag.Single (single.Print x)) span i e = stepped _
-body_steps bs nodes (tag.Single (single.Let n x)) span i e = stepped _
-body_steps bs nodes (tag.Single (single.Call n all)) span i e = stepped _
-body_steps bs nodes (tag.Single (single.MessagePrint x phname)) span i e =
+    (template_param_steps bs (param_of n of required span) (second_true (is_empty nodes) _ e))
+body_steps bs nodes (says.Single (single.Print x)) span i e = stepped _
+body_steps bs nodes (says.Single (single.Let n x)) span i e = stepped _
+body_steps bs nodes (says.Single (single.Call n all)) span i e = stepped _
+body_steps bs nodes (says.Single (single.MessagePrint x phname)) span i e =
     absurd (clash refl (in_body bs kind.MessagePrint e))
-body_steps bs nodes (tag.Single (single.Param n x)) span i e = absurd (clash refl (in_body bs kind.Param e))
-body_steps bs nodes (tag.Opens (opening.If x)) span i e = stepped _
-body_steps bs nodes (tag.Opens (opening.Switch x)) span i e = stepped _
-body_steps bs nodes (tag.Opens (opening.For n index x)) span i e = stepped _
-body_steps bs nodes (tag.Opens (opening.Let n of)) span i e = stepped _
-body_steps bs nodes (tag.Opens (opening.Call n all)) span i e = stepped _
-body_steps bs nodes (tag.Opens (opening.Message desc meaning)) span i e = stepped _
-body_steps bs nodes (tag.Opens (opening.Template h)) span i e = absurd (clash refl (in_body bs kind.Template e))
-body_steps bs nodes (tag.Opens (opening.Param n of)) span i e = absurd (clash refl (in_body bs kind.Param e))
-body_steps bs nodes (tag.Opens (opening.Plural x offset)) span i e = absurd (clash refl (in_body bs kind.Plural e))
-body_steps bs nodes (tag.Opens (opening.Select x)) span i e = absurd (clash refl (in_body bs kind.Select e))
-body_steps bs nodes (tag.GoesOn m) span i e = body_goes_steps bs (ended nodes) m (middle_of_body bs nodes m e)
-body_steps bs nodes (tag.Closes n) span i e = body_closes_steps bs (ended nodes) n span e
+body_steps bs nodes (says.Single (single.Param n x)) span i e = absurd (clash refl (in_body bs kind.Param e))
+body_steps bs nodes (says.Opens (opening.If x)) span i e = stepped _
+body_steps bs nodes (says.Opens (opening.Switch x)) span i e = stepped _
+body_steps bs nodes (says.Opens (opening.For n index x)) span i e = stepped _
+body_steps bs nodes (says.Opens (opening.Let n of)) span i e = stepped _
+body_steps bs nodes (says.Opens (opening.Call n all)) span i e = stepped _
+body_steps bs nodes (says.Opens (opening.Message desc meaning)) span i e = stepped _
+body_steps bs nodes (says.Opens (opening.Template h)) span i e = absurd (clash refl (in_body bs kind.Template e))
+body_steps bs nodes (says.Opens (opening.Param n of)) span i e = absurd (clash refl (in_body bs kind.Param e))
+body_steps bs nodes (says.Opens (opening.Plural x offset)) span i e = absurd (clash refl (in_body bs kind.Plural e))
+body_steps bs nodes (says.Opens (opening.Select x)) span i e = absurd (clash refl (in_body bs kind.Select e))
+body_steps bs nodes (says.GoesOn m) span i e = body_goes_steps bs (ended nodes) m (middle_of_body bs nodes m e)
+body_steps bs nodes (says.Closes n) span i e = body_closes_steps bs (ended nodes) n span e
 
 -- in a message
 
@@ -294,47 +294,50 @@ not_in_parts : (bs : List Block) (nodes : Nodes) (k : HeadKind) → goes_on k �
     (has_whole_tags nodes && top_admits message_admits bs k) ≡ true → ⊥
 not_in_parts bs nodes k f e = clash f (in_message bs k (second_true (has_whole_tags nodes) _ e))
 
-parts_steps : (bs : List Block) (nodes : Nodes) (white : Bool) (of : Tag) (span : Span) → HasHead of →
-    in_parts_admits bs nodes white (tag_kind of) ≡ true → HasStep (step_at (content.Parts nodes white) bs of span)
-parts_steps bs nodes white (tag.Text text) span i e = absurd i
-parts_steps bs nodes white (tag.Character text) span i e = stepped _
-parts_steps bs nodes white (tag.Namespace n) span i e = absurd (not_in_parts bs nodes kind.Namespace refl e)
-parts_steps bs nodes white (tag.HeadParam n required of) span i e = absurd (not_in_parts bs nodes kind.HeadParam refl e)
-parts_steps bs nodes white (tag.Single (single.MessagePrint x phname)) span i e = stepped _
-parts_steps bs nodes white (tag.Single (single.Print x)) span i e = absurd (not_in_parts bs nodes kind.Print refl e)
-parts_steps bs nodes white (tag.Single (single.Let n x)) span i e = absurd (not_in_parts bs nodes kind.Let refl e)
-parts_steps bs nodes white (tag.Single (single.Call n all)) span i e = absurd (not_in_parts bs nodes kind.Call refl e)
-parts_steps bs nodes white (tag.Single (single.Param n x)) span i e = absurd (not_in_parts bs nodes kind.Param refl e)
-parts_steps bs nodes white (tag.Opens (opening.Plural x offset)) span i e = when white _ e (stepped _)
-parts_steps bs nodes white (tag.Opens (opening.Select x)) span i e = when white _ e (stepped _)
-parts_steps bs nodes white (tag.Opens (opening.Template h)) span i e =
+parts_steps : (bs : List Block) (nodes : Nodes) (white : Bool) (of : CommandForm) (span : Span) → HasHead of →
+    in_parts_admits bs nodes white (form_kind of) ≡ true → HasStep (step_at (content.Parts nodes white) bs of span)
+parts_steps bs nodes white (says.Text text) span i e = absurd i
+parts_steps bs nodes white (says.Character text) span i e = stepped _
+parts_steps bs nodes white (says.Namespace n) span i e = absurd (not_in_parts bs nodes kind.Namespace refl e)
+parts_steps bs nodes white (says.TemplateParam n required of) span i e =
+    absurd (not_in_parts bs nodes kind.TemplateParam refl e)
+parts_steps bs nodes white (says.Single (single.MessagePrint x phname)) span i e = stepped _
+parts_steps bs nodes white (says.Single (single.Print x)) span i e = absurd (not_in_parts bs nodes kind.Print refl e)
+parts_steps bs nodes white (says.Single (single.Let n x)) span i e = absurd (not_in_parts bs nodes kind.Let refl e)
+parts_steps bs nodes white (says.Single (single.Call n all)) span i e = absurd (not_in_parts bs nodes kind.Call refl e)
+parts_steps bs nodes white (says.Single (single.Param n x)) span i e = absurd (not_in_parts bs nodes kind.Param refl e)
+parts_steps bs nodes white (says.Opens (opening.Plural x offset)) span i e = when white _ e (stepped _)
+parts_steps bs nodes white (says.Opens (opening.Select x)) span i e = when white _ e (stepped _)
+parts_steps bs nodes white (says.Opens (opening.Template h)) span i e =
     absurd (not_in_parts bs nodes kind.Template refl e)
-parts_steps bs nodes white (tag.Opens (opening.If x)) span i e = absurd (not_in_parts bs nodes kind.If refl e)
-parts_steps bs nodes white (tag.Opens (opening.Switch x)) span i e = absurd (not_in_parts bs nodes kind.Switch refl e)
-parts_steps bs nodes white (tag.Opens (opening.For n index x)) span i e = absurd (not_in_parts bs nodes kind.For refl e)
-parts_steps bs nodes white (tag.Opens (opening.Let n of)) span i e = absurd (not_in_parts bs nodes kind.Let refl e)
-parts_steps bs nodes white (tag.Opens (opening.Call n all)) span i e = absurd (not_in_parts bs nodes kind.Call refl e)
-parts_steps bs nodes white (tag.Opens (opening.Param n of)) span i e = absurd (not_in_parts bs nodes kind.Param refl e)
-parts_steps bs nodes white (tag.Opens (opening.Message desc meaning)) span i e =
+parts_steps bs nodes white (says.Opens (opening.If x)) span i e = absurd (not_in_parts bs nodes kind.If refl e)
+parts_steps bs nodes white (says.Opens (opening.Switch x)) span i e = absurd (not_in_parts bs nodes kind.Switch refl e)
+parts_steps bs nodes white (says.Opens (opening.For n index x)) span i e =
+    absurd (not_in_parts bs nodes kind.For refl e)
+parts_steps bs nodes white (says.Opens (opening.Let n of)) span i e = absurd (not_in_parts bs nodes kind.Let refl e)
+parts_steps bs nodes white (says.Opens (opening.Call n all)) span i e = absurd (not_in_parts bs nodes kind.Call refl e)
+parts_steps bs nodes white (says.Opens (opening.Param n of)) span i e = absurd (not_in_parts bs nodes kind.Param refl e)
+parts_steps bs nodes white (says.Opens (opening.Message desc meaning)) span i e =
     absurd (not_in_parts bs nodes kind.Message refl e)
-parts_steps bs nodes white (tag.GoesOn m) span i e =
+parts_steps bs nodes white (says.GoesOn m) span i e =
     let both = middle_of_parts bs nodes white m e in
     when (has_whole_tags nodes) _ (first_true (has_whole_tags nodes) _ both)
-    (message_goes_steps bs (parts_of nodes) m span (second_true (has_whole_tags nodes) _ both))
-parts_steps bs nodes white (tag.Closes n) span i e =
+    (message_goes_steps bs (body_of_parts nodes) m span (second_true (has_whole_tags nodes) _ both))
+parts_steps bs nodes white (says.Closes n) span i e =
     when (has_whole_tags nodes) _ (first_true (has_whole_tags nodes) _ e)
-    (message_closes_steps bs (parts_of nodes) n span (second_true (has_whole_tags nodes) _ e))
+    (message_closes_steps bs (body_of_parts nodes) n span (second_true (has_whole_tags nodes) _ e))
 
-choice_steps : (bs : List Block) (body : MessageBody) (of : Tag) (span : Span) → HasHead of →
-    top_admits message_admits bs (tag_kind of) ≡ true → HasStep (step_at (content.Choice body) bs of span)
-choice_steps bs body (tag.Text text) span i e = absurd i
-choice_steps bs body (tag.GoesOn m) span i e = message_goes_steps bs body m span e
-choice_steps bs body (tag.Closes n) span i e = message_closes_steps bs body n span e
-choice_steps bs body (tag.Character text) span i e = absurd (clash refl (in_message bs kind.Character e))
-choice_steps bs body (tag.Namespace n) span i e = absurd (clash refl (in_message bs kind.Namespace e))
-choice_steps bs body (tag.HeadParam n required of) span i e = absurd (clash refl (in_message bs kind.HeadParam e))
-choice_steps bs body (tag.Single of) span i e = absurd (clash (single_no of) (in_message bs (single_kind of) e))
-choice_steps bs body (tag.Opens of) span i e = absurd (clash (opening_no of) (in_message bs (opening_kind of) e))
+choice_steps : (bs : List Block) (body : MessageBody) (of : CommandForm) (span : Span) → HasHead of →
+    top_admits message_admits bs (form_kind of) ≡ true → HasStep (step_at (content.Choice body) bs of span)
+choice_steps bs body (says.Text text) span i e = absurd i
+choice_steps bs body (says.GoesOn m) span i e = message_goes_steps bs body m span e
+choice_steps bs body (says.Closes n) span i e = message_closes_steps bs body n span e
+choice_steps bs body (says.Character text) span i e = absurd (clash refl (in_message bs kind.Character e))
+choice_steps bs body (says.Namespace n) span i e = absurd (clash refl (in_message bs kind.Namespace e))
+choice_steps bs body (says.TemplateParam n required of) span i e =
+    absurd (clash refl (in_message bs kind.TemplateParam e))
+choice_steps bs body (says.Single of) span i e = absurd (clash (single_no of) (in_message bs (single_kind of) e))
+choice_steps bs body (says.Opens of) span i e = absurd (clash (opening_no of) (in_message bs (opening_kind of) e))
 
 -- before the first case
 
@@ -352,21 +355,22 @@ begin_steps (block.Select s ∷ bs) _ e = absurd (cc e)
 begin_steps _ m e = absurd (cc e)
 
 switch_steps : (bs : List Block) (n : BlockName) (span : Span) → top_admits cases_admit bs (kind.Closes n) ≡ true →
-    HasStep (step_at content.BeforeCases bs (tag.Closes n) span)
+    HasStep (step_at content.BeforeCases bs (says.Closes n) span)
 switch_steps (block.Switch before start s ∷ bs) name.Switch span e = stepped _
 switch_steps (block.Switch before start s ∷ bs) _ span e = absurd (cc e)
 switch_steps _ n span e = absurd (cc e)
 
-cases_steps : (bs : List Block) (of : Tag) (span : Span) → HasHead of → top_admits cases_admit bs (tag_kind of) ≡ true →
+cases_steps : (bs : List Block) (of : CommandForm) (span : Span) → HasHead of
+    → top_admits cases_admit bs (form_kind of) ≡ true →
     HasStep (step_at content.BeforeCases bs of span)
-cases_steps bs (tag.Text text) span i e = absurd i
-cases_steps bs (tag.GoesOn m) span i e = begin_steps bs m e
-cases_steps bs (tag.Closes n) span i e = switch_steps bs n span e
-cases_steps bs (tag.Character text) span i e = absurd (clash refl (in_cases bs kind.Character e))
-cases_steps bs (tag.Namespace n) span i e = absurd (clash refl (in_cases bs kind.Namespace e))
-cases_steps bs (tag.HeadParam n required of) span i e = absurd (clash refl (in_cases bs kind.HeadParam e))
-cases_steps bs (tag.Single of) span i e = absurd (clash (single_no of) (in_cases bs (single_kind of) e))
-cases_steps bs (tag.Opens of) span i e = absurd (clash (opening_no of) (in_cases bs (opening_kind of) e))
+cases_steps bs (says.Text text) span i e = absurd i
+cases_steps bs (says.GoesOn m) span i e = begin_steps bs m e
+cases_steps bs (says.Closes n) span i e = switch_steps bs n span e
+cases_steps bs (says.Character text) span i e = absurd (clash refl (in_cases bs kind.Character e))
+cases_steps bs (says.Namespace n) span i e = absurd (clash refl (in_cases bs kind.Namespace e))
+cases_steps bs (says.TemplateParam n required of) span i e = absurd (clash refl (in_cases bs kind.TemplateParam e))
+cases_steps bs (says.Single of) span i e = absurd (clash (single_no of) (in_cases bs (single_kind of) e))
+cases_steps bs (says.Opens of) span i e = absurd (clash (opening_no of) (in_cases bs (opening_kind of) e))
 
 -- what is innermost, by what the blocks hold
 
@@ -406,88 +410,89 @@ top_is _ _ _ (Opened.select_ bs xs ys c e o v hc) = refl
 top_is _ _ _ (Opened.select_case_ bs xs ys ws zs c d e cases values o v hc w a hd) = MessageTop.default_ _ refl
 top_is _ _ _ (Opened.select_default_ bs xs ys ws zs c d e cases o v hc w a hd) = MessageTop.select_ _ refl
 
-call_steps : (bs : List Block) (arguments : List Argument) (of : Tag) (span : Span) → HasHead of →
-    admits_at (content.Arguments arguments) bs (tag_kind of) ≡ true → HasStep (closed_call bs arguments span) →
+call_steps : (bs : List Block) (arguments : List Argument) (of : CommandForm) (span : Span) → HasHead of →
+    admits_at (content.Arguments arguments) bs (form_kind of) ≡ true → HasStep (closed_call bs arguments span) →
     HasStep (step_at (content.Arguments arguments) bs of span)
-call_steps bs arguments (tag.Text text) span i e h = absurd i
-call_steps bs arguments (tag.Single (single.Param n x)) span i e h = stepped _
-call_steps bs arguments (tag.Single (single.Print x)) span i e h = absurd (cc e)
-call_steps bs arguments (tag.Single (single.MessagePrint x phname)) span i e h = absurd (cc e)
-call_steps bs arguments (tag.Single (single.Let n x)) span i e h = absurd (cc e)
-call_steps bs arguments (tag.Single (single.Call n all)) span i e h = absurd (cc e)
-call_steps bs arguments (tag.Opens (opening.Param n of)) span i e h = stepped _
-call_steps bs arguments (tag.Opens _) span i e h = absurd (cc e)
-call_steps bs arguments (tag.GoesOn (middle.ElseIf x)) span i e h = absurd (cc e)
-call_steps bs arguments (tag.GoesOn middle.Else) span i e h = absurd (cc e)
-call_steps bs arguments (tag.GoesOn (middle.Case values)) span i e h = absurd (cc e)
-call_steps bs arguments (tag.GoesOn (middle.PluralCase values)) span i e h = absurd (cc e)
-call_steps bs arguments (tag.GoesOn (middle.SelectCase values)) span i e h = absurd (cc e)
-call_steps bs arguments (tag.GoesOn middle.Default) span i e h = absurd (cc e)
-call_steps bs arguments (tag.GoesOn (middle.Fallback desc meaning)) span i e h = absurd (cc e)
-call_steps bs arguments (tag.Closes name.Call) span i e h = h
-call_steps bs arguments (tag.Closes _) span i e h = absurd (cc e)
-call_steps bs arguments (tag.Character text) span i e h = absurd (cc e)
-call_steps bs arguments (tag.Namespace n) span i e h = absurd (cc e)
-call_steps bs arguments (tag.HeadParam n required of) span i e h = absurd (cc e)
+call_steps bs arguments (says.Text text) span i e h = absurd i
+call_steps bs arguments (says.Single (single.Param n x)) span i e h = stepped _
+call_steps bs arguments (says.Single (single.Print x)) span i e h = absurd (cc e)
+call_steps bs arguments (says.Single (single.MessagePrint x phname)) span i e h = absurd (cc e)
+call_steps bs arguments (says.Single (single.Let n x)) span i e h = absurd (cc e)
+call_steps bs arguments (says.Single (single.Call n all)) span i e h = absurd (cc e)
+call_steps bs arguments (says.Opens (opening.Param n of)) span i e h = stepped _
+call_steps bs arguments (says.Opens _) span i e h = absurd (cc e)
+call_steps bs arguments (says.GoesOn (middle.ElseIf x)) span i e h = absurd (cc e)
+call_steps bs arguments (says.GoesOn middle.Else) span i e h = absurd (cc e)
+call_steps bs arguments (says.GoesOn (middle.Case values)) span i e h = absurd (cc e)
+call_steps bs arguments (says.GoesOn (middle.PluralCase values)) span i e h = absurd (cc e)
+call_steps bs arguments (says.GoesOn (middle.SelectCase values)) span i e h = absurd (cc e)
+call_steps bs arguments (says.GoesOn middle.Default) span i e h = absurd (cc e)
+call_steps bs arguments (says.GoesOn (middle.Fallback desc meaning)) span i e h = absurd (cc e)
+call_steps bs arguments (says.Closes name.Call) span i e h = h
+call_steps bs arguments (says.Closes _) span i e h = absurd (cc e)
+call_steps bs arguments (says.Character text) span i e h = absurd (cc e)
+call_steps bs arguments (says.Namespace n) span i e h = absurd (cc e)
+call_steps bs arguments (says.TemplateParam n required of) span i e h = absurd (cc e)
 
 -- in white text alone, and between templates
 
-white_steps : (bs : List Block) (of : Tag) (span : Span) → HasHead of → admits_at content.White bs (tag_kind of)
+white_steps : (bs : List Block) (of : CommandForm) (span : Span) → HasHead of
+    → admits_at content.White bs (form_kind of)
     ≡ true →
     HasStep (step_at content.White bs of span)
-white_steps bs (tag.Text text) span i e = absurd i
-white_steps bs (tag.Namespace n) span i e = stepped _
-white_steps bs (tag.Character text) span i e = absurd (cc e)
-white_steps bs (tag.HeadParam n required of) span i e = absurd (cc e)
-white_steps bs (tag.Single (single.Print x)) span i e = absurd (cc e)
-white_steps bs (tag.Single (single.MessagePrint x phname)) span i e = absurd (cc e)
-white_steps bs (tag.Single (single.Let n x)) span i e = absurd (cc e)
-white_steps bs (tag.Single (single.Call n all)) span i e = absurd (cc e)
-white_steps bs (tag.Single (single.Param n x)) span i e = absurd (cc e)
-white_steps bs (tag.Opens (opening.Template h)) span i e = absurd (cc e)
-white_steps bs (tag.Opens (opening.If x)) span i e = absurd (cc e)
-white_steps bs (tag.Opens (opening.Switch x)) span i e = absurd (cc e)
-white_steps bs (tag.Opens (opening.For n index x)) span i e = absurd (cc e)
-white_steps bs (tag.Opens (opening.Let n of)) span i e = absurd (cc e)
-white_steps bs (tag.Opens (opening.Call n all)) span i e = absurd (cc e)
-white_steps bs (tag.Opens (opening.Param n of)) span i e = absurd (cc e)
-white_steps bs (tag.Opens (opening.Message desc meaning)) span i e = absurd (cc e)
-white_steps bs (tag.Opens (opening.Plural x offset)) span i e = absurd (cc e)
-white_steps bs (tag.Opens (opening.Select x)) span i e = absurd (cc e)
-white_steps bs (tag.GoesOn (middle.ElseIf x)) span i e = absurd (cc e)
-white_steps bs (tag.GoesOn middle.Else) span i e = absurd (cc e)
-white_steps bs (tag.GoesOn (middle.Case values)) span i e = absurd (cc e)
-white_steps bs (tag.GoesOn (middle.PluralCase values)) span i e = absurd (cc e)
-white_steps bs (tag.GoesOn (middle.SelectCase values)) span i e = absurd (cc e)
-white_steps bs (tag.GoesOn middle.Default) span i e = absurd (cc e)
-white_steps bs (tag.GoesOn (middle.Fallback desc meaning)) span i e = absurd (cc e)
-white_steps bs (tag.Closes n) span i e = absurd (cc e)
+white_steps bs (says.Text text) span i e = absurd i
+white_steps bs (says.Namespace n) span i e = stepped _
+white_steps bs (says.Character text) span i e = absurd (cc e)
+white_steps bs (says.TemplateParam n required of) span i e = absurd (cc e)
+white_steps bs (says.Single (single.Print x)) span i e = absurd (cc e)
+white_steps bs (says.Single (single.MessagePrint x phname)) span i e = absurd (cc e)
+white_steps bs (says.Single (single.Let n x)) span i e = absurd (cc e)
+white_steps bs (says.Single (single.Call n all)) span i e = absurd (cc e)
+white_steps bs (says.Single (single.Param n x)) span i e = absurd (cc e)
+white_steps bs (says.Opens (opening.Template h)) span i e = absurd (cc e)
+white_steps bs (says.Opens (opening.If x)) span i e = absurd (cc e)
+white_steps bs (says.Opens (opening.Switch x)) span i e = absurd (cc e)
+white_steps bs (says.Opens (opening.For n index x)) span i e = absurd (cc e)
+white_steps bs (says.Opens (opening.Let n of)) span i e = absurd (cc e)
+white_steps bs (says.Opens (opening.Call n all)) span i e = absurd (cc e)
+white_steps bs (says.Opens (opening.Param n of)) span i e = absurd (cc e)
+white_steps bs (says.Opens (opening.Message desc meaning)) span i e = absurd (cc e)
+white_steps bs (says.Opens (opening.Plural x offset)) span i e = absurd (cc e)
+white_steps bs (says.Opens (opening.Select x)) span i e = absurd (cc e)
+white_steps bs (says.GoesOn (middle.ElseIf x)) span i e = absurd (cc e)
+white_steps bs (says.GoesOn middle.Else) span i e = absurd (cc e)
+white_steps bs (says.GoesOn (middle.Case values)) span i e = absurd (cc e)
+white_steps bs (says.GoesOn (middle.PluralCase values)) span i e = absurd (cc e)
+white_steps bs (says.GoesOn (middle.SelectCase values)) span i e = absurd (cc e)
+white_steps bs (says.GoesOn middle.Default) span i e = absurd (cc e)
+white_steps bs (says.GoesOn (middle.Fallback desc meaning)) span i e = absurd (cc e)
+white_steps bs (says.Closes n) span i e = absurd (cc e)
 
-templates_steps : (bs : List Block) (n : List ℕ) (ts : List Template) (of : Tag) (span : Span) → HasHead of →
-    admits_at (content.Templates n ts) bs (tag_kind of) ≡ true → HasStep (step_at (content.Templates n ts) bs of span)
-templates_steps bs n ts (tag.Text text) span i e = absurd i
-templates_steps bs n ts (tag.Opens (opening.Template h)) span i e = stepped _
-templates_steps bs n ts (tag.Namespace m) span i e = absurd (cc e)
-templates_steps bs n ts (tag.Character text) span i e = absurd (cc e)
-templates_steps bs n ts (tag.HeadParam m required of) span i e = absurd (cc e)
-templates_steps bs n ts (tag.Single (single.Print x)) span i e = absurd (cc e)
-templates_steps bs n ts (tag.Single (single.MessagePrint x phname)) span i e = absurd (cc e)
-templates_steps bs n ts (tag.Single (single.Let m x)) span i e = absurd (cc e)
-templates_steps bs n ts (tag.Single (single.Call m all)) span i e = absurd (cc e)
-templates_steps bs n ts (tag.Single (single.Param m x)) span i e = absurd (cc e)
-templates_steps bs n ts (tag.Opens _) span i e = absurd (cc e)
-templates_steps bs n ts (tag.GoesOn (middle.ElseIf x)) span i e = absurd (cc e)
-templates_steps bs n ts (tag.GoesOn middle.Else) span i e = absurd (cc e)
-templates_steps bs n ts (tag.GoesOn (middle.Case values)) span i e = absurd (cc e)
-templates_steps bs n ts (tag.GoesOn (middle.PluralCase values)) span i e = absurd (cc e)
-templates_steps bs n ts (tag.GoesOn (middle.SelectCase values)) span i e = absurd (cc e)
-templates_steps bs n ts (tag.GoesOn middle.Default) span i e = absurd (cc e)
-templates_steps bs n ts (tag.GoesOn (middle.Fallback desc meaning)) span i e = absurd (cc e)
-templates_steps bs n ts (tag.Closes m) span i e = absurd (cc e)
+templates_steps : (bs : List Block) (n : List ℕ) (ts : List Template) (of : CommandForm) (span : Span) → HasHead of →
+    admits_at (content.Templates n ts) bs (form_kind of) ≡ true → HasStep (step_at (content.Templates n ts) bs of span)
+templates_steps bs n ts (says.Text text) span i e = absurd i
+templates_steps bs n ts (says.Opens (opening.Template h)) span i e = stepped _
+templates_steps bs n ts (says.Namespace m) span i e = absurd (cc e)
+templates_steps bs n ts (says.Character text) span i e = absurd (cc e)
+templates_steps bs n ts (says.TemplateParam m required of) span i e = absurd (cc e)
+templates_steps bs n ts (says.Single (single.Print x)) span i e = absurd (cc e)
+templates_steps bs n ts (says.Single (single.MessagePrint x phname)) span i e = absurd (cc e)
+templates_steps bs n ts (says.Single (single.Let m x)) span i e = absurd (cc e)
+templates_steps bs n ts (says.Single (single.Call m all)) span i e = absurd (cc e)
+templates_steps bs n ts (says.Single (single.Param m x)) span i e = absurd (cc e)
+templates_steps bs n ts (says.Opens _) span i e = absurd (cc e)
+templates_steps bs n ts (says.GoesOn (middle.ElseIf x)) span i e = absurd (cc e)
+templates_steps bs n ts (says.GoesOn middle.Else) span i e = absurd (cc e)
+templates_steps bs n ts (says.GoesOn (middle.Case values)) span i e = absurd (cc e)
+templates_steps bs n ts (says.GoesOn (middle.PluralCase values)) span i e = absurd (cc e)
+templates_steps bs n ts (says.GoesOn (middle.SelectCase values)) span i e = absurd (cc e)
+templates_steps bs n ts (says.GoesOn middle.Default) span i e = absurd (cc e)
+templates_steps bs n ts (says.GoesOn (middle.Fallback desc meaning)) span i e = absurd (cc e)
+templates_steps bs n ts (says.Closes m) span i e = absurd (cc e)
 
-held_steps : (k : Content) (bs : List Block) (cs : List Command) → Held_at k bs cs → (of : Tag) (span : Span)
+held_steps : (k : Content) (bs : List Block) (cs : List Command) → Held_at k bs cs → (of : CommandForm) (span : Span)
     → HasHead of →
-    admits_at k bs (tag_kind of) ≡ true → HasStep (step_at k bs of span)
+    admits_at k bs (form_kind of) ≡ true → HasStep (step_at k bs of span)
 held_steps content.White bs cs h of span i e = white_steps bs of span i e
 held_steps (content.Templates n ts) bs cs h of span i e = templates_steps bs n ts of span i e
 held_steps (content.Body nodes) bs cs h of span i e = body_steps bs nodes of span i e
@@ -499,6 +504,6 @@ held_steps (content.Choice body) bs cs h of span i e = choice_steps bs body of s
 
 -- **A command whose head is admitted has a step.**
 pub admitted_steps : (cs : List Command) (s : CommandState) → command_run cs command_start ≡ Some s
-    → (of : Tag) (span : Span) →
-    HasHead of → admits s (tag_kind of) ≡ true → HasStep (command_step s (record { tag = of; span = span }))
+    → (of : CommandForm) (span : Span) →
+    HasHead of → admits s (form_kind of) ≡ true → HasStep (command_step s (record { form = of; span = span }))
 admitted_steps cs s r of span i e = held_steps s.content s.blocks cs (start_run_held cs s r) of span i e

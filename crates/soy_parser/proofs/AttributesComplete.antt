@@ -8,7 +8,7 @@ use Rattle.expr_parser.specs.Operands.{joined}
 use Rattle.soy_parser.specs.declared.attributes.AttributeName.{AttributeName}
 use Rattle.soy_parser.specs.declared.attributes.Attributes.{Attributes}
 use Rattle.soy_parser.specs.declared.block.CommandState.{CommandState}
-use Rattle.soy_parser.specs.declared.command.Tag.{Tag}
+use Rattle.soy_parser.specs.declared.command.CommandForm.{CommandForm}
 use Rattle.soy_parser.specs.declared.head.Head.{Head}
 use Rattle.soy_parser.specs.declared.spot.CommandSpot.TheVariants as where_
 use Rattle.soy_parser.specs.declared.spot.FileState.{FileState}
@@ -18,11 +18,12 @@ use Rattle.soy_parser.specs.declared.terminal.CommandTerminal.{CommandTerminal}
 use Rattle.soy_parser.specs.declared.terminal.CommandTerminal.TheVariants as terminal
 use Rattle.soy_parser.specs.CommandSteps.{command_step}
 use Rattle.soy_parser.specs.CommandTerminals.{command_terminal_of}
-use Rattle.soy_parser.specs.Depth.{none_deep, no_words}
+use Rattle.soy_parser.specs.Depth.{none_deep}
+use Rattle.soy_parser.specs.TypeWords.{no_words}
 use Rattle.soy_parser.specs.FileSteps.{stands, attributes_step, attribute_step, ended_command, taken, if_equals}
 use Rattle.soy_parser.specs.FileSteps.{value_step, with_value}
 use Rattle.soy_parser.specs.FileSteps.{file_step, token_depth, word_in}
-use Rattle.soy_parser.specs.Heads.{no_attributes, attribute_name, allows, SpellsAttributes, tag_at}
+use Rattle.soy_parser.specs.Heads.{no_attributes, attribute_name, allows, SpellsAttributes, form_at}
 use Rattle.soy_parser.proofs.CommandRunning.{map_append}
 use Rattle.soy_parser.proofs.FileRunning.{Leads, none_leads, step_leads, then_leads}
 
@@ -100,15 +101,16 @@ attributes_lead s from h st has _ _ (SpellsAttributes.more_ _ ts a b name equals
     }
 
 -- the end of a command
-pub end_follows : (h : Head) (a : Attributes) (m : CommandTerminal) (of : Tag) → tag_at h a m ≡ Some of →
+pub end_follows : (h : Head) (a : Attributes) (m : CommandTerminal) (of : CommandForm) → form_at h a m ≡ Some of →
     FollowsHead m × (attribute_name m ≡ None)
 end_follows h a terminal.End of e = (FollowsHead.end_, refl)
 end_follows h a terminal.SlashEnd of e = (FollowsHead.slash_end_, refl)
 end_follows h a _ of e = absurd (cc e)
 
-pub end_step : (s m : CommandState) (from : Span) (h : Head) (a : Attributes) (st : FileState) (z : Token) (of : Tag) →
-    HasHead s from h a st → tag_at h a (command_terminal_of z) ≡ Some of →
-    command_step s (record { tag = of; span = joined from z.span }) ≡ Some m → file_step st z ≡ Some (between m)
+pub end_step : (s m : CommandState) (from : Span) (h : Head) (a : Attributes) (st : FileState) (z : Token)
+    (of : CommandForm) →
+    HasHead s from h a st → form_at h a (command_terminal_of z) ≡ Some of →
+    command_step s (record { form = of; span = joined from z.span }) ≡ Some m → file_step st z ≡ Some (between m)
 end_step s m from h a st z of has e step =
     let f = end_follows h a (command_terminal_of z) of e in
     has.takes z f.0

@@ -3,16 +3,16 @@ use Rattle.std.proofs.Common.{◌≡◌, ℕ, suc, ◌+◌, List, [], ◌∷◌,
 use Rattle.std.proofs.Common.{ap, arith}
 use Rattle.soy_parser.specs.declared.block.CommandState.{CommandState}
 use Rattle.soy_parser.specs.declared.command.Command.{Command}
-use Rattle.soy_parser.specs.CommandLevels.{levels_from, command_levels}
+use Rattle.soy_parser.proofs.CommandLevels.{levels_from, command_levels}
 use Rattle.soy_parser.specs.CommandSteps.{command_step, commands_from, command_run}
-use Rattle.soy_parser.specs.Depth.{inside}
+use Rattle.soy_parser.specs.Depth.{inside_blocks}
 
 pub map_append : {A B : Type 0} (f : A → B) (xs ys : List A) → map f (xs ++ ys) ≡ map f xs ++ map f ys
 map_append f [] ys = refl
 map_append f (x ∷ xs) ys = ap (λ l. f x ∷ l) (map_append f xs ys)
 
 -- inside one more block
-pub inside_one : (n : ℕ) (ls : List ℕ) → inside (suc n) ls ≡ inside n (inside 1 ls)
+pub inside_one : (n : ℕ) (ls : List ℕ) → inside_blocks (suc n) ls ≡ inside_blocks n (inside_blocks 1 ls)
 inside_one n [] = refl
 inside_one n (l ∷ ls) = let e : suc n + l ≡ n + (1 + l) = omega arith in rw (e, inside_one n ls) refl
 
@@ -50,7 +50,7 @@ levels_append (c ∷ cs) ds s s' e =
 -- from one state commands lead to another, and these are their levels inside so many blocks
 pub record Goes (n : ℕ) (s : CommandState) (cs : List Command) (ls : List ℕ) (s' : CommandState) : Type 0 where
   pub runs : command_run cs s ≡ Some s'
-  pub deep : command_levels cs s ≡ inside n ls
+  pub deep : command_levels cs s ≡ inside_blocks n ls
 
 pub none_goes : (n : ℕ) (s : CommandState) → Goes n s [] [] s
 none_goes n s = record { runs = refl; deep = refl }
@@ -70,5 +70,5 @@ then_goes {n} {s} {m} {s'} {cs} {ds} {ls} {ks} a b = record {
 }
 
 pub inside_goes : {n : ℕ} {s s' : CommandState} {cs : List Command} {ls : List ℕ} → Goes (suc n) s cs ls s' →
-    Goes n s cs (inside 1 ls) s'
+    Goes n s cs (inside_blocks 1 ls) s'
 inside_goes {n} {ls = ls} a = record { runs = a.runs; deep = a.deep ∙ inside_one n ls }

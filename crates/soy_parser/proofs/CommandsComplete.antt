@@ -35,19 +35,19 @@ use Rattle.soy_parser.specs.declared.block.TextRun.{TextRun}
 use Rattle.soy_parser.specs.declared.command.Command.{Command}
 use Rattle.soy_parser.specs.declared.command.Middle.{Middle}
 use Rattle.soy_parser.specs.declared.command.Middle.TheVariants as middle
-use Rattle.soy_parser.specs.declared.command.Tag.{Tag}
-use Rattle.soy_parser.specs.declared.command.Tag.TheVariants as tag
-use Rattle.soy_parser.specs.declared.command.TemplateHead.{TemplateHead}
+use Rattle.soy_parser.specs.declared.command.CommandForm.{CommandForm}
+use Rattle.soy_parser.specs.declared.command.CommandForm.TheVariants as says
+use Rattle.soy_parser.specs.declared.command.TemplateOpening.{TemplateOpening}
 use Rattle.soy_parser.specs.declared.terminal.BlockName.{BlockName}
 use Rattle.soy_parser.specs.declared.terminal.BlockName.TheVariants as name
 use Rattle.soy_parser.specs.CommandSteps.{is_white, nodes_with, no_nodes, with_text, ended, has_whole_tags}
-use Rattle.soy_parser.specs.CommandSteps.{parts_of}
+use Rattle.soy_parser.specs.CommandSteps.{body_of_parts}
 use Rattle.soy_parser.specs.CommandSteps.{with_arm, with_case, arm_goes_on}
 use Rattle.soy_parser.specs.CommandSteps.{case_goes_on}
 use Rattle.soy_parser.specs.CommandSteps.{plural_goes_on, select_goes_on, message_goes_on, message_closes}
 use Rattle.soy_parser.specs.CommandSteps.{closes_body, closed_body, body_closes, closed_if, closed_switch, body_step}
 use Rattle.soy_parser.specs.CommandSteps.{parts_step, step_at, command_step, command_start}
-use Rattle.soy_parser.specs.Depth.{inside}
+use Rattle.soy_parser.specs.Depth.{inside_blocks}
 use Rattle.soy_parser.specs.Nodes.{node_of}
 use Rattle.soy_parser.specs.SpellsTree.{SpellsWhite, text_of, SpellsText, SpellsPrints, SpellsParts, SpellsMessageBody}
 use Rattle.soy_parser.specs.SpellsTree.{SpellsChoice, SpellsPluralCases, SpellsSelectCases, SpellsNodes, SpellsBody}
@@ -59,10 +59,10 @@ use Rattle.soy_parser.proofs.CommandRunning.{Goes, none_goes, step_goes, then_go
 abbrev pub at : List Block → Content → CommandState
 at blocks content = record { blocks = blocks; content = content }
 
--- a command does what its tag does
-tag_step : (s : CommandState) (c : Command) (of : Tag) (to : Option CommandState) → c.tag ≡ of →
+-- a command does what it says
+form_step : (s : CommandState) (c : Command) (of : CommandForm) (to : Option CommandState) → c.form ≡ of →
     step_at s.content s.blocks of c.span ≡ to → command_step s c ≡ to
-tag_step s c of to h e = ap (λ t. step_at s.content s.blocks t c.span) h ∙ e
+form_step s c of to h e = ap (λ t. step_at s.content s.blocks t c.span) h ∙ e
 
 -- one command at the level of the blocks
 one_goes : (bs : List Block) (k : Content) (c : Command) (s' : CommandState) → command_step (at bs k) c ≡ Some s' →
@@ -78,17 +78,17 @@ further_goes bs s c s' long e = step_goes (length bs) 1 s c s' e (long ∙ omega
 -- a command and what follows inside its block
 opens_goes : (bs : List Block) (k : Content) (c : Command) (m s' : CommandState) (cs : List Command) (ls : List ℕ) →
     command_step (at bs k) c ≡ Some m → Goes (suc (length bs)) m cs ls s' →
-    Goes (length bs) (at bs k) (c ∷ cs) (0 ∷ inside 1 ls) s'
+    Goes (length bs) (at bs k) (c ∷ cs) (0 ∷ inside_blocks 1 ls) s'
 opens_goes bs k c m s' cs ls e g = then_goes (one_goes bs k c m e) (inside_goes g)
 
 -- white text where it stands alone
 white_goes : (bs : List Block) (k : Content) →
-    ((text : List ℕ) (span : Span) → is_white text ≡ true → step_at k bs (tag.Text text) span ≡ Some (at bs k)) →
+    ((text : List ℕ) (span : Span) → is_white text ≡ true → step_at k bs (says.Text text) span ≡ Some (at bs k)) →
     (cs : List Command) (ls : List ℕ) → SpellsWhite cs ls → Goes (length bs) (at bs k) cs ls (at bs k)
 white_goes bs k stays _ _ SpellsWhite.none_ = none_goes (length bs) (at bs k)
 white_goes bs k stays _ _ (SpellsWhite.more_ cs ls c text s h w) =
     then_goes (white_goes bs k stays cs ls s)
-    (one_goes bs k c (at bs k) (tag_step (at bs k) c (tag.Text text) (Some (at bs k)) h (stays text c.span w)))
+    (one_goes bs k c (at bs k) (form_step (at bs k) c (says.Text text) (Some (at bs k)) h (stays text c.span w)))
 
 when_true : (b : Bool) (to : Option CommandState) → b ≡ true → (if b then to else None) ≡ to
 when_true b to h = rw h refl
@@ -102,11 +102,12 @@ text_same t u e = ap unwrap e
     unwrap None = t
     unwrap (Some x) = x
 
-text_step : (bs : List Block) (nodes : Nodes) (of : Tag) (text : List ℕ) (span : Span) → text_of of ≡ Some text →
+text_step : (bs : List Block) (nodes : Nodes) (of : CommandForm) (text : List ℕ) (span : Span)
+    → text_of of ≡ Some text →
     body_step bs nodes of span ≡ Some (at bs (content.Body (with_text nodes text span)))
-text_step bs nodes (tag.Text t) text span h =
+text_step bs nodes (says.Text t) text span h =
     ap (λ l. Some (at bs (content.Body (with_text nodes l span)))) (text_same t text h)
-text_step bs nodes (tag.Character t) text span h =
+text_step bs nodes (says.Character t) text span h =
     ap (λ l. Some (at bs (content.Body (with_text nodes l span)))) (text_same t text h)
 text_step bs nodes _ text span h = absurd (cc h)
 
@@ -118,11 +119,11 @@ text_goes : (bs : List Block) (items : List Node) (cs : List Command) (ls text :
     Goes (length bs) (at bs (content.Body (nodes_with items None))) cs ls
     (at bs (content.Body (nodes_with items (run_of text span))))
 text_goes bs items _ _ _ _ (SpellsText.first_ c text h) =
-    one_goes bs (content.Body (nodes_with items None)) c _ (text_step bs (nodes_with items None) c.tag text c.span h)
+    one_goes bs (content.Body (nodes_with items None)) c _ (text_step bs (nodes_with items None) c.form text c.span h)
 text_goes bs items _ _ _ _ (SpellsText.next_ cs ls c text more span s h) =
     then_goes (text_goes bs items cs ls text span s)
     (one_goes bs (content.Body (nodes_with items (run_of text span))) c _
-    (text_step bs (nodes_with items (run_of text span)) c.tag more c.span h))
+    (text_step bs (nodes_with items (run_of text span)) c.form more c.span h))
 
 -- the same in a message
 
@@ -137,17 +138,18 @@ record PrintsGo (bs : List Block) (cs : List Command) (ls : List ℕ) (ns : List
   pub goes : Goes (length bs) (at bs (content.Parts no_nodes true)) cs ls
       (at bs (content.Parts (nodes_with ns None) white))
 
-record PartStep (bs : List Block) (nodes : Nodes) (white : Bool) (of : Tag) (text : List ℕ) (span : Span) : Type 0 where
+record PartStep (bs : List Block) (nodes : Nodes) (white : Bool) (of : CommandForm) (text : List ℕ)
+    (span : Span) : Type 0 where
   pub white_then : Bool
   pub is : parts_step bs nodes white of span ≡ Some (at bs (content.Parts (with_text nodes text span) white_then))
 
-part_step : (bs : List Block) (nodes : Nodes) (white : Bool) (of : Tag) (text : List ℕ) (span : Span) →
+part_step : (bs : List Block) (nodes : Nodes) (white : Bool) (of : CommandForm) (text : List ℕ) (span : Span) →
     text_of of ≡ Some text → PartStep bs nodes white of text span
-part_step bs nodes white (tag.Text t) text span h = record {
+part_step bs nodes white (says.Text t) text span h = record {
   white_then = white && is_white t;
   is = ap (λ l. Some (at bs (content.Parts (with_text nodes l span) (white && is_white t)))) (text_same t text h);
 }
-part_step bs nodes white (tag.Character t) text span h = record {
+part_step bs nodes white (says.Character t) text span h = record {
   white_then = false;
   is = ap (λ l. Some (at bs (content.Parts (with_text nodes l span) false))) (text_same t text h);
 }
@@ -163,14 +165,14 @@ record RunGo (bs : List Block) (items : List Node) (white : Bool) (cs : List Com
 run_goes : (bs : List Block) (items : List Node) (white : Bool) (cs : List Command) (ls text : List ℕ) (span : Span) →
     SpellsText cs ls text span → RunGo bs items white cs ls text span
 run_goes bs items white _ _ _ _ (SpellsText.first_ c text h) =
-    let p = part_step bs (nodes_with items None) white c.tag text c.span h in
+    let p = part_step bs (nodes_with items None) white c.form text c.span h in
     record {
       white_then = p.white_then;
       goes = one_goes bs (content.Parts (nodes_with items None) white) c _ p.is;
     }
 run_goes bs items white _ _ _ _ (SpellsText.next_ cs ls c text more span s h) =
     let r = run_goes bs items white cs ls text span s in
-    let p = part_step bs (nodes_with items (run_of text span)) r.white_then c.tag more c.span h in
+    let p = part_step bs (nodes_with items (run_of text span)) r.white_then c.form more c.span h in
     record {
       white_then = p.white_then;
       goes = then_goes r.goes (one_goes bs (content.Parts (nodes_with items (run_of text span)) r.white_then) c _ p.is);
@@ -186,7 +188,7 @@ mutual
       record {
         white = false;
         goes = then_goes p.goes (one_goes bs (content.Parts p.nodes p.white) c _
-            (tag_step (at bs (content.Parts p.nodes p.white)) c _ _ h
+            (form_step (at bs (content.Parts p.nodes p.white)) c _ _ h
             (ap (λ l. Some (at bs (content.Parts (nodes_with (l ++ (node_of (form.Print e phname) c.span ∷ [])) None)
             false)))
             p.ends)));
@@ -216,17 +218,17 @@ record BodyGoes (bs : List Block) (cs : List Command) (ls : List ℕ) (ns : List
 
 -- a block closes after its body
 closes_step : (bs : List Block) (b : Block) (nodes : Nodes) (ns : List Node) (z : Command) (n : BlockName)
-    (to : Option CommandState) → ended nodes ≡ ns → z.tag ≡ tag.Closes n → closes_body b n ≡ true →
+    (to : Option CommandState) → ended nodes ≡ ns → z.form ≡ says.Closes n → closes_body b n ≡ true →
     closed_body bs b ns z.span ≡ to → command_step (at (b ∷ bs) (content.Body nodes)) z ≡ to
 closes_step bs b nodes ns z n to ends h closes e =
-    tag_step (at (b ∷ bs) (content.Body nodes)) z (tag.Closes n) to h
+    form_step (at (b ∷ bs) (content.Body nodes)) z (says.Closes n) to h
     (ap (λ l. body_closes (b ∷ bs) l n z.span) ends ∙ (when_true (closes_body b n) (closed_body bs b ns z.span) closes
     ∙ e))
 
 -- a body inside a block, and the end of the block
 body_closed : (bs : List Block) (b : Block) (cs : List Command) (ls : List ℕ) (ns : List Node) (z : Command)
     (n : BlockName)
-    (s' : CommandState) → BodyGoes (b ∷ bs) cs ls ns → z.tag ≡ tag.Closes n → closes_body b n ≡ true →
+    (s' : CommandState) → BodyGoes (b ∷ bs) cs ls ns → z.form ≡ says.Closes n → closes_body b n ≡ true →
     closed_body bs b ns z.span ≡ Some s' →
     Goes (suc (length bs)) (at (b ∷ bs) (content.Body no_nodes)) (cs ++ (z ∷ [])) (ls ++ (0 ∷ [])) s'
 body_closed bs b cs ls ns z n s' g h closes e =
@@ -237,9 +239,9 @@ body_closed bs b cs ls ns z n s' g h closes e =
 
 record HasMessage (b : Block) (bs : List Block) (body : MessageBody) (s : CommandState) : Type 0 where
   pub long : length s.blocks ≡ suc (length bs)
-  pub goes_on : (m : Middle) (span : Span) → step_at s.content s.blocks (tag.GoesOn m) span ≡
+  pub goes_on : (m : Middle) (span : Span) → step_at s.content s.blocks (says.GoesOn m) span ≡
       message_goes_on (b ∷ bs) body m span
-  pub closes : (n : BlockName) (span : Span) → step_at s.content s.blocks (tag.Closes n) span ≡
+  pub closes : (n : BlockName) (span : Span) → step_at s.content s.blocks (says.Closes n) span ≡
       message_closes (b ∷ bs) body n span
 
 record MessageGoes (b : Block) (bs : List Block) (cs : List Command) (ls : List ℕ) (body : MessageBody) : Type 0 where
@@ -254,9 +256,9 @@ has_parts b bs nodes white ns ends whole =
     let tags : has_whole_tags nodes ≡ true = ap (λ l. is_message_text (view_nodes l)) ends ∙ whole in
     record {
       long = refl;
-      goes_on = λ m span. when_true (has_whole_tags nodes) (message_goes_on (b ∷ bs) (parts_of nodes) m span) tags
+      goes_on = λ m span. when_true (has_whole_tags nodes) (message_goes_on (b ∷ bs) (body_of_parts nodes) m span) tags
           ∙ ap (λ l. message_goes_on (b ∷ bs) (message_body.Parts l) m span) ends;
-      closes = λ n span. when_true (has_whole_tags nodes) (message_closes (b ∷ bs) (parts_of nodes) n span) tags
+      closes = λ n span. when_true (has_whole_tags nodes) (message_closes (b ∷ bs) (body_of_parts nodes) n span) tags
           ∙ ap (λ l. message_closes (b ∷ bs) (message_body.Parts l) n span) ends;
     }
 
@@ -273,7 +275,7 @@ white_parts bs _ _ (SpellsWhite.more_ cs ls c text s h w) =
     record {
       nodes = with_text g.nodes text c.span;
       goes = then_goes g.goes (one_goes bs (content.Parts g.nodes true) c _
-          (tag_step (at bs (content.Parts g.nodes true)) c (tag.Text text) _ h
+          (form_step (at bs (content.Parts g.nodes true)) c (says.Text text) _ h
           (ap (λ t. Some (at bs (content.Parts (with_text g.nodes text c.span) t))) w)));
     }
 
@@ -281,7 +283,7 @@ white_parts bs _ _ (SpellsWhite.more_ cs ls c text s h w) =
 
 record HasPlural (bs : List Block) (p : OpenPlural) (s : CommandState) : Type 0 where
   pub long : length s.blocks ≡ suc (length bs)
-  pub goes_on : (m : Middle) (span : Span) → step_at s.content s.blocks (tag.GoesOn m) span ≡ plural_goes_on bs p m
+  pub goes_on : (m : Middle) (span : Span) → step_at s.content s.blocks (says.GoesOn m) span ≡ plural_goes_on bs p m
 
 record PluralGoes (bs : List Block) (from : CommandState) (cs : List Command) (ls : List ℕ) (p : OpenPlural) : Type 0
   where
@@ -291,7 +293,7 @@ record PluralGoes (bs : List Block) (from : CommandState) (cs : List Command) (l
 
 record HasSelect (bs : List Block) (p : OpenSelect) (s : CommandState) : Type 0 where
   pub long : length s.blocks ≡ suc (length bs)
-  pub goes_on : (m : Middle) (span : Span) → step_at s.content s.blocks (tag.GoesOn m) span ≡ select_goes_on bs p m
+  pub goes_on : (m : Middle) (span : Span) → step_at s.content s.blocks (says.GoesOn m) span ≡ select_goes_on bs p m
 
 record SelectGoes (bs : List Block) (from : CommandState) (cs : List Command) (ls : List ℕ) (p : OpenSelect) : Type 0
   where
@@ -312,11 +314,11 @@ at_goes : (n : ℕ) (s : CommandState) (c : Command) (s' : CommandState) → len
 at_goes n s c s' long e = step_goes n 0 s c s' e (long ∙ omega arith)
 
 white_stays : (bs : List Block) (text : List ℕ) (span : Span) → is_white text ≡ true →
-    step_at content.BeforeCases bs (tag.Text text) span ≡ Some (at bs content.BeforeCases)
+    step_at content.BeforeCases bs (says.Text text) span ≡ Some (at bs content.BeforeCases)
 white_stays bs text span w = when_true (is_white text) (Some (at bs content.BeforeCases)) w
 
 choice_stays : (bs : List Block) (body : MessageBody) (text : List ℕ) (span : Span) → is_white text ≡ true →
-    step_at (content.Choice body) bs (tag.Text text) span ≡ Some (at bs (content.Choice body))
+    step_at (content.Choice body) bs (says.Text text) span ≡ Some (at bs (content.Choice body))
 choice_stays bs body text span w = when_true (is_white text) (Some (at bs (content.Choice body))) w
 
 mutual
@@ -347,26 +349,26 @@ mutual
       let default_ = block.PluralDefault (open_plural e offset cases) in
       let m = message_goes default_ bs os ks other so in
       opens_goes bs (content.Parts nodes true) c (at (open_ ∷ bs) content.BeforeCases) (at bs (content.Choice _)) _ _
-      (tag_step (at bs (content.Parts nodes true)) c _ _ hc refl)
+      (form_step (at bs (content.Parts nodes true)) c _ _ hc refl)
       (then_goes (white_goes (open_ ∷ bs) content.BeforeCases (white_stays (open_ ∷ bs)) ds ms w)
       (then_goes g.goes
       (then_goes {cs = d ∷ []} {ls = 0 ∷ []} (at_goes (suc (length bs)) g.to d _ g.has.long
-      (tag_step g.to d _ _ hd (g.has.goes_on middle.Default d.span)))
+      (form_step g.to d _ _ hd (g.has.goes_on middle.Default d.span)))
       (then_goes m.goes (at_goes (suc (length bs)) m.to z _ m.has.long
-      (tag_step m.to z _ _ hz (m.has.closes name.Plural z.span)))))))
+      (form_step m.to z _ _ hz (m.has.closes name.Plural z.span)))))))
   choice_goes bs nodes _ _ _ (SpellsChoice.select_ c d z cs os ds ls ks ms e cases other hc w s hd so hz) =
       let open_ = block.Select e in
       let g = select_cases_go bs e cs ls cases s in
       let default_ = block.SelectDefault (open_select e cases) in
       let m = message_goes default_ bs os ks other so in
       opens_goes bs (content.Parts nodes true) c (at (open_ ∷ bs) content.BeforeCases) (at bs (content.Choice _)) _ _
-      (tag_step (at bs (content.Parts nodes true)) c _ _ hc refl)
+      (form_step (at bs (content.Parts nodes true)) c _ _ hc refl)
       (then_goes (white_goes (open_ ∷ bs) content.BeforeCases (white_stays (open_ ∷ bs)) ds ms w)
       (then_goes g.goes
       (then_goes {cs = d ∷ []} {ls = 0 ∷ []} (at_goes (suc (length bs)) g.to d _ g.has.long
-      (tag_step g.to d _ _ hd (g.has.goes_on middle.Default d.span)))
+      (form_step g.to d _ _ hd (g.has.goes_on middle.Default d.span)))
       (then_goes m.goes (at_goes (suc (length bs)) m.to z _ m.has.long
-      (tag_step m.to z _ _ hz (m.has.closes name.Select z.span)))))))
+      (form_step m.to z _ _ hz (m.has.closes name.Select z.span)))))))
 
   plural_cases_go : (bs : List Block) (e : Expr) (offset : ℕ) (cs : List Command) (ls : List ℕ)
       (cases : List PluralCase) →
@@ -385,7 +387,7 @@ mutual
         to = m.to;
         goes = then_goes g.goes
             (then_goes {cs = c ∷ []} {ls = 0 ∷ []} (at_goes (suc (length bs)) g.to c _ g.has.long
-            (tag_step g.to c _ _ h (g.has.goes_on (middle.PluralCase values) c.span))) m.goes);
+            (form_step g.to c _ _ h (g.has.goes_on (middle.PluralCase values) c.span))) m.goes);
         has = record { long = m.has.long; goes_on = λ n span. m.has.goes_on n span };
       }
 
@@ -405,7 +407,7 @@ mutual
         to = m.to;
         goes = then_goes g.goes
             (then_goes {cs = c ∷ []} {ls = 0 ∷ []} (at_goes (suc (length bs)) g.to c _ g.has.long
-            (tag_step g.to c _ _ h (g.has.goes_on (middle.SelectCase values) c.span))) m.goes);
+            (form_step g.to c _ _ h (g.has.goes_on (middle.SelectCase values) c.span))) m.goes);
         has = record { long = m.has.long; goes_on = λ n span. m.has.goes_on n span };
       }
 
@@ -413,8 +415,8 @@ mutual
 
 record HasArms (bs : List Block) (i : OpenIf) (s : CommandState) : Type 0 where
   pub long : length s.blocks ≡ suc (length bs)
-  pub goes_on : (m : Middle) (span : Span) → step_at s.content s.blocks (tag.GoesOn m) span ≡ arm_goes_on bs i m
-  pub closes : (span : Span) → step_at s.content s.blocks (tag.Closes name.If) span ≡ closed_if bs i None span
+  pub goes_on : (m : Middle) (span : Span) → step_at s.content s.blocks (says.GoesOn m) span ≡ arm_goes_on bs i m
+  pub closes : (span : Span) → step_at s.content s.blocks (says.Closes name.If) span ≡ closed_if bs i None span
 
 record ArmsGo (bs : List Block) (from : CommandState) (cs : List Command) (ls : List ℕ) (i : OpenIf) : Type 0 where
   pub to : CommandState
@@ -436,8 +438,8 @@ has_arm bs i when nodes ns ends = record {
 
 record HasCases (bs : List Block) (o : OpenSwitch) (s : CommandState) : Type 0 where
   pub long : length s.blocks ≡ suc (length bs)
-  pub goes_on : (m : Middle) (span : Span) → step_at s.content s.blocks (tag.GoesOn m) span ≡ case_goes_on bs o m
-  pub closes : (span : Span) → step_at s.content s.blocks (tag.Closes name.Switch) span ≡ closed_switch bs o None span
+  pub goes_on : (m : Middle) (span : Span) → step_at s.content s.blocks (says.GoesOn m) span ≡ case_goes_on bs o m
+  pub closes : (span : Span) → step_at s.content s.blocks (says.Closes name.Switch) span ≡ closed_switch bs o None span
 
 record CasesGo (bs : List Block) (from : CommandState) (cs : List Command) (ls : List ℕ) (o : OpenSwitch) : Type 0 where
   pub to : CommandState
@@ -456,7 +458,7 @@ has_case bs o values nodes ns ends = record {
 }
 
 argument_stays : (bs : List Block) (arguments : List Argument) (text : List ℕ) (span : Span) → is_white text ≡ true →
-    step_at (content.Arguments arguments) bs (tag.Text text) span ≡ Some (at bs (content.Arguments arguments))
+    step_at (content.Arguments arguments) bs (says.Text text) span ≡ Some (at bs (content.Arguments arguments))
 argument_stays bs arguments text span w = when_true (is_white text) (Some (at bs (content.Arguments arguments))) w
 
 abbrev pub open_message : List Node → Span → List ℕ → List ℕ → OpenMessage
@@ -492,14 +494,14 @@ mutual
   node_goes : (bs : List Block) (nodes : Nodes) (cs : List Command) (ls : List ℕ) (n : Node) → SpellsNode cs ls n →
       Goes (length bs) (at bs (content.Body nodes)) cs ls (with_node bs (ended nodes) n)
   node_goes bs nodes _ _ _ (SpellsNode.print_ c e h) =
-      one_goes bs (content.Body nodes) c _ (tag_step (at bs (content.Body nodes)) c _ _ h refl)
+      one_goes bs (content.Body nodes) c _ (form_step (at bs (content.Body nodes)) c _ _ h refl)
   node_goes bs nodes _ _ _ (SpellsNode.let_ c n e h) =
-      one_goes bs (content.Body nodes) c _ (tag_step (at bs (content.Body nodes)) c _ _ h refl)
+      one_goes bs (content.Body nodes) c _ (form_step (at bs (content.Body nodes)) c _ _ h refl)
   node_goes bs nodes _ _ _ (SpellsNode.call_alone_ c n all h) =
-      one_goes bs (content.Body nodes) c _ (tag_step (at bs (content.Body nodes)) c _ _ h refl)
+      one_goes bs (content.Body nodes) c _ (form_step (at bs (content.Body nodes)) c _ _ h refl)
   node_goes bs nodes _ _ _ (SpellsNode.if_ z cs ls arms start s h) =
       let g = arms_go bs nodes cs ls arms start s in
-      then_goes g.goes (further_goes bs g.to z _ g.has.long (tag_step g.to z _ _ h (g.has.closes z.span)))
+      then_goes g.goes (further_goes bs g.to z _ g.has.long (form_step g.to z _ _ h (g.has.closes z.span)))
   node_goes bs nodes _ _ _ (SpellsNode.if_else_ d z cs os ls ks arms body start s hd so hz) =
       let g = arms_go bs nodes cs ls arms start s in
       let i = open_if (ended nodes) start arms in
@@ -507,54 +509,54 @@ mutual
       (inside_goes
       (then_goes {cs = d ∷ []} {ls = 0 ∷ []}
       (at_goes (suc (length bs)) g.to d (at (block.Else i ∷ bs) (content.Body no_nodes))
-      g.has.long (tag_step g.to d _ _ hd (g.has.goes_on middle.Else d.span)))
+      g.has.long (form_step g.to d _ _ hd (g.has.goes_on middle.Else d.span)))
       (body_closed bs (block.Else i) os ks body z name.If _ (body_goes (block.Else i ∷ bs) os ks body so) hz refl
       refl)))
   node_goes bs nodes _ _ _ (SpellsNode.switch_ c z ds cs ms ls e cases hc w s hz) =
       let open_ = block.Switch (ended nodes) c.span e in
       let g = cases_go bs (ended nodes) c.span e cs ls cases s in
       opens_goes bs (content.Body nodes) c (at (open_ ∷ bs) content.BeforeCases) (with_node bs (ended nodes) _) _ _
-      (tag_step (at bs (content.Body nodes)) c _ _ hc refl)
+      (form_step (at bs (content.Body nodes)) c _ _ hc refl)
       (then_goes (white_goes (open_ ∷ bs) content.BeforeCases (white_stays (open_ ∷ bs)) ds ms w)
       (then_goes g.goes
-      (at_goes (suc (length bs)) g.to z _ g.has.long (tag_step g.to z _ _ hz (g.has.closes z.span)))))
+      (at_goes (suc (length bs)) g.to z _ g.has.long (form_step g.to z _ _ hz (g.has.closes z.span)))))
   node_goes bs nodes _ _ _ (SpellsNode.switch_default_ c d z ds cs os ms ls ks e cases body hc w s hd so hz) =
       let open_ = block.Switch (ended nodes) c.span e in
       let default_ = block.SwitchDefault (open_switch (ended nodes) c.span e cases) in
       let g = cases_go bs (ended nodes) c.span e cs ls cases s in
       opens_goes bs (content.Body nodes) c (at (open_ ∷ bs) content.BeforeCases) (with_node bs (ended nodes) _) _ _
-      (tag_step (at bs (content.Body nodes)) c _ _ hc refl)
+      (form_step (at bs (content.Body nodes)) c _ _ hc refl)
       (then_goes (white_goes (open_ ∷ bs) content.BeforeCases (white_stays (open_ ∷ bs)) ds ms w)
       (then_goes g.goes
       (then_goes {cs = d ∷ []} {ls = 0 ∷ []}
       (at_goes (suc (length bs)) g.to d (at (default_ ∷ bs) (content.Body no_nodes))
-      g.has.long (tag_step g.to d _ _ hd (g.has.goes_on middle.Default d.span)))
+      g.has.long (form_step g.to d _ _ hd (g.has.goes_on middle.Default d.span)))
       (body_closed bs default_ os ks body z name.Switch _ (body_goes (default_ ∷ bs) os ks body so) hz refl refl))))
   node_goes bs nodes _ _ _ (SpellsNode.for_ c z os ks n index e body hc so hz) =
       let open_ = block.For (ended nodes) c.span n index e in
       opens_goes bs (content.Body nodes) c (at (open_ ∷ bs) (content.Body no_nodes)) (with_node bs (ended nodes) _) _ _
-      (tag_step (at bs (content.Body nodes)) c _ _ hc refl)
+      (form_step (at bs (content.Body nodes)) c _ _ hc refl)
       (body_closed bs open_ os ks body z name.For _ (body_goes (open_ ∷ bs) os ks body so) hz refl refl)
   node_goes bs nodes _ _ _ (SpellsNode.let_block_ c z os ks n kind body hc so hz) =
       let open_ = block.Let (ended nodes) c.span n kind in
       opens_goes bs (content.Body nodes) c (at (open_ ∷ bs) (content.Body no_nodes)) (with_node bs (ended nodes) _) _ _
-      (tag_step (at bs (content.Body nodes)) c _ _ hc refl)
+      (form_step (at bs (content.Body nodes)) c _ _ hc refl)
       (body_closed bs open_ os ks body z name.Let _ (body_goes (open_ ∷ bs) os ks body so) hz refl refl)
   node_goes bs nodes _ _ _ (SpellsNode.call_ c z cs ls n all arguments hc s hz) =
       let open_ = block.Call (ended nodes) c.span n all in
       opens_goes bs (content.Body nodes) c (at (open_ ∷ bs) (content.Arguments [])) (with_node bs (ended nodes) _) _ _
-      (tag_step (at bs (content.Body nodes)) c _ _ hc refl)
+      (form_step (at bs (content.Body nodes)) c _ _ hc refl)
       (then_goes (arguments_go (open_ ∷ bs) cs ls arguments s)
       (one_goes (open_ ∷ bs) (content.Arguments arguments) z _
-      (tag_step (at (open_ ∷ bs) (content.Arguments arguments)) z _ _ hz refl)))
+      (form_step (at (open_ ∷ bs) (content.Arguments arguments)) z _ _ hz refl)))
   node_goes bs nodes _ _ _ (SpellsNode.message_ c z os ks desc meaning body hc so hz) =
       let open_ = block.Message (open_message (ended nodes) c.span desc meaning) in
       let m = message_goes open_ bs os ks body so in
       opens_goes bs (content.Body nodes) c (at (open_ ∷ bs) (content.Parts no_nodes true))
       (with_node bs (ended nodes) _) _ _
-      (tag_step (at bs (content.Body nodes)) c _ _ hc refl)
+      (form_step (at bs (content.Body nodes)) c _ _ hc refl)
       (then_goes m.goes
-      (at_goes (suc (length bs)) m.to z _ m.has.long (tag_step m.to z _ _ hz (m.has.closes name.Msg z.span))))
+      (at_goes (suc (length bs)) m.to z _ m.has.long (form_step m.to z _ _ hz (m.has.closes name.Msg z.span))))
   node_goes bs nodes _ _ _ (SpellsNode.message_fallback_ c d z os es ks js desc meaning older older_meaning body other
       hc so hd se
       hz) =
@@ -564,12 +566,12 @@ mutual
       let k = message_goes fallback_ bs es js other se in
       opens_goes bs (content.Body nodes) c (at (block.Message first_ ∷ bs) (content.Parts no_nodes true))
       (with_node bs (ended nodes) _) _ _
-      (tag_step (at bs (content.Body nodes)) c _ _ hc refl)
+      (form_step (at bs (content.Body nodes)) c _ _ hc refl)
       (then_goes m.goes
       (then_goes {cs = d ∷ []} {ls = 0 ∷ []} (at_goes (suc (length bs)) m.to d _ m.has.long
-      (tag_step m.to d _ _ hd (m.has.goes_on (middle.Fallback older older_meaning) d.span)))
+      (form_step m.to d _ _ hd (m.has.goes_on (middle.Fallback older older_meaning) d.span)))
       (then_goes k.goes
-      (at_goes (suc (length bs)) k.to z _ k.has.long (tag_step k.to z _ _ hz (k.has.closes name.Msg z.span))))))
+      (at_goes (suc (length bs)) k.to z _ k.has.long (form_step k.to z _ _ hz (k.has.closes name.Msg z.span))))))
 
   arms_go : (bs : List Block) (nodes : Nodes) (cs : List Command) (ls : List ℕ) (arms : List Arm) (start : Span) →
       SpellsArms cs ls arms start →
@@ -580,7 +582,7 @@ mutual
       record {
         to = at (block.Arm i e ∷ bs) (content.Body g.nodes);
         goes = opens_goes bs (content.Body nodes) c (at (block.Arm i e ∷ bs) (content.Body no_nodes)) _ os ks
-            (tag_step (at bs (content.Body nodes)) c _ _ h refl) g.goes;
+            (form_step (at bs (content.Body nodes)) c _ _ h refl) g.goes;
         has = has_arm bs i e g.nodes body g.ends;
       }
   arms_go bs nodes _ _ _ _ (SpellsArms.next_arm_ cs os ls ks arms start d e body s h so) =
@@ -592,7 +594,7 @@ mutual
         goes = then_goes a.goes
             (inside_goes (then_goes {cs = d ∷ []} {ls = 0 ∷ []} (at_goes (suc (length bs)) a.to d
             (at (block.Arm i e ∷ bs) (content.Body no_nodes)) a.has.long
-            (tag_step a.to d _ _ h (a.has.goes_on (middle.ElseIf e) d.span))) g.goes));
+            (form_step a.to d _ _ h (a.has.goes_on (middle.ElseIf e) d.span))) g.goes));
         has = has_arm bs i e g.nodes body g.ends;
       }
 
@@ -613,7 +615,7 @@ mutual
         goes = then_goes a.goes
             (then_goes {cs = c ∷ []} {ls = 0 ∷ []} (at_goes (suc (length bs)) a.to c
             (at (block.Case o values ∷ bs) (content.Body no_nodes)) a.has.long
-            (tag_step a.to c _ _ h (a.has.goes_on (middle.Case values) c.span))) g.goes);
+            (form_step a.to c _ _ h (a.has.goes_on (middle.Case values) c.span))) g.goes);
         has = has_case bs o values g.nodes body g.ends;
       }
 
@@ -624,25 +626,25 @@ mutual
   arguments_go bs _ _ _ (SpellsArguments.white_ cs ls arguments c text s h w) =
       then_goes (arguments_go bs cs ls arguments s)
       (one_goes bs (content.Arguments arguments) c _
-      (tag_step (at bs (content.Arguments arguments)) c _ _ h (argument_stays bs arguments text c.span w)))
+      (form_step (at bs (content.Arguments arguments)) c _ _ h (argument_stays bs arguments text c.span w)))
   arguments_go bs _ _ _ (SpellsArguments.param_ cs ls arguments c n e s h) =
       then_goes (arguments_go bs cs ls arguments s)
-      (one_goes bs (content.Arguments arguments) c _ (tag_step (at bs (content.Arguments arguments)) c _ _ h refl))
+      (one_goes bs (content.Arguments arguments) c _ (form_step (at bs (content.Arguments arguments)) c _ _ h refl))
   arguments_go bs _ _ _ (SpellsArguments.param_block_ cs os ls ks arguments c z n kind body s hc so hz) =
       let open_ = block.Param arguments c.span n kind in
       then_goes (arguments_go bs cs ls arguments s)
       (opens_goes bs (content.Arguments arguments) c (at (open_ ∷ bs) (content.Body no_nodes))
       (at bs (content.Arguments _)) _ _
-      (tag_step (at bs (content.Arguments arguments)) c _ _ hc refl)
+      (form_step (at bs (content.Arguments arguments)) c _ _ hc refl)
       (body_closed bs open_ os ks body z name.Param _ (body_goes (open_ ∷ bs) os ks body so) hz refl refl))
 
 -- templates and files
 
-abbrev pub open_template : List ℕ → List Template → TemplateHead → Span → List Param → OpenTemplate
+abbrev pub open_template : List ℕ → List Template → TemplateOpening → Span → List Param → OpenTemplate
 open_template namespace templates h start params =
     record { namespace = namespace; templates = templates; head = h; start = start; params = params }
 
-params_go : (bs : List Block) (namespace : List ℕ) (templates : List Template) (h : TemplateHead) (start : Span)
+params_go : (bs : List Block) (namespace : List ℕ) (templates : List Template) (h : TemplateOpening) (start : Span)
     (cs : List Command) (ls : List ℕ) (params : List Param) → SpellsParams cs ls params →
     Goes (suc (length bs)) (at (block.Template (open_template namespace templates h start []) ∷ bs)
     (content.Body no_nodes)) cs ls
@@ -652,10 +654,10 @@ params_go bs namespace templates h start _ _ _ (SpellsParams.param_ cs ls params
     let open_ = block.Template (open_template namespace templates h start params) in
     then_goes (params_go bs namespace templates h start cs ls params s)
     (one_goes (open_ ∷ bs) (content.Body no_nodes) c _
-    (tag_step (at (open_ ∷ bs) (content.Body no_nodes)) c _ _ hc refl))
+    (form_step (at (open_ ∷ bs) (content.Body no_nodes)) c _ _ hc refl))
 
 templates_stay : (namespace : List ℕ) (templates : List Template) (text : List ℕ) (span : Span) → is_white text ≡ true →
-    step_at (content.Templates namespace templates) [] (tag.Text text) span
+    step_at (content.Templates namespace templates) [] (says.Text text) span
     ≡ Some (at [] (content.Templates namespace templates))
 templates_stay namespace templates text span w =
     when_true (is_white text) (Some (at [] (content.Templates namespace templates))) w
@@ -667,7 +669,7 @@ templates_go namespace _ _ _ SpellsTemplates.none_ = none_goes 0 (at [] (content
 templates_go namespace _ _ _ (SpellsTemplates.white_ cs ls templates c text s h w) =
     then_goes (templates_go namespace cs ls templates s)
     (one_goes [] (content.Templates namespace templates) c _
-    (tag_step (at [] (content.Templates namespace templates)) c _ _ h
+    (form_step (at [] (content.Templates namespace templates)) c _ _ h
     (templates_stay namespace templates text c.span w)))
 templates_go namespace _ _ _ (SpellsTemplates.template_ cs ps os ls ms ks templates c z h params body s hc sp so hz) =
     let open_ = block.Template (open_template namespace templates h c.span params) in
@@ -675,12 +677,12 @@ templates_go namespace _ _ _ (SpellsTemplates.template_ cs ps os ls ms ks templa
     (opens_goes [] (content.Templates namespace templates) c
     (at (block.Template (open_template namespace templates h c.span []) ∷ []) (content.Body no_nodes))
     (at [] (content.Templates namespace _)) _ _
-    (tag_step (at [] (content.Templates namespace templates)) c _ _ hc refl)
+    (form_step (at [] (content.Templates namespace templates)) c _ _ hc refl)
     (then_goes (params_go [] namespace templates h c.span ps ms params sp)
     (body_closed [] open_ os ks body z name.Template _ (body_goes (open_ ∷ []) os ks body so) hz refl refl)))
 
 start_stays : (text : List ℕ) (span : Span) → is_white text ≡ true →
-    step_at content.White [] (tag.Text text) span ≡ Some (at [] content.White)
+    step_at content.White [] (says.Text text) span ≡ Some (at [] content.White)
 start_stays text span w = when_true (is_white text) (Some (at [] content.White)) w
 
 -- **Commands that are a file are read to its templates, at their levels.**
@@ -689,5 +691,5 @@ pub tree_goes : (cs : List Command) (ls : List ℕ) (tree : Tree) → SpellsTree
 tree_goes _ _ _ (SpellsTree.tree_ ds cs ms ls c n templates w h s) =
     then_goes (white_goes [] content.White start_stays ds ms w)
     (then_goes {cs = c ∷ []} {ls = 0 ∷ []} (one_goes [] content.White c (at [] (content.Templates n []))
-    (tag_step (at [] content.White) c _ _ h refl))
+    (form_step (at [] content.White) c _ _ h refl))
     (templates_go n cs ls templates s))

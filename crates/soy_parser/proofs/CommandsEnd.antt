@@ -16,11 +16,11 @@ use Rattle.soy_parser.specs.declared.block.Nodes.{Nodes}
 use Rattle.soy_parser.specs.declared.command.Command.{Command}
 use Rattle.soy_parser.specs.declared.command.Middle.{Middle}
 use Rattle.soy_parser.specs.declared.command.Middle.TheVariants as middle
-use Rattle.soy_parser.specs.declared.command.Tag.{Tag}
-use Rattle.soy_parser.specs.declared.command.Tag.TheVariants as tag
+use Rattle.soy_parser.specs.declared.command.CommandForm.{CommandForm}
+use Rattle.soy_parser.specs.declared.command.CommandForm.TheVariants as says
 use Rattle.soy_parser.specs.declared.terminal.BlockName.{BlockName}
 use Rattle.soy_parser.specs.declared.terminal.BlockName.TheVariants as name
-use Rattle.soy_parser.specs.CommandSteps.{nodes_with, no_nodes, with_text, has_whole_tags, parts_of}
+use Rattle.soy_parser.specs.CommandSteps.{nodes_with, no_nodes, with_text, has_whole_tags, body_of_parts}
 use Rattle.soy_parser.specs.CommandSteps.{message_goes_on}
 use Rattle.soy_parser.specs.CommandSteps.{message_closes, step_at, commands_from, command_run}
 use Rattle.soy_parser.specs.CommandSteps.{command_start}
@@ -35,8 +35,8 @@ use Rattle.soy_parser.proofs.CommandsSound.{HeldParts, start_run_held, run_tree}
 abbrev pub no_span : Span
 no_span = record { start = 0; end = 0 }
 
-abbrev pub written : Tag → Command
-written of = record { tag = of; span = no_span }
+abbrev pub written : CommandForm → Command
+written of = record { form = of; span = no_span }
 
 -- it names a block
 abbrev pub IsBlock : BlockName → Type 0
@@ -44,15 +44,15 @@ IsBlock name.Other = ⊥
 IsBlock _ = Unit {0}
 
 -- commands that close what is open, for which there are tokens
-pub data IsWritten : Tag → Type 0 where
-  text_ : (text : List ℕ) → IsWritten (tag.Text text)
-  default_ : IsWritten (tag.GoesOn middle.Default)
-  closes_ : (n : BlockName) → IsBlock n → IsWritten (tag.Closes n)
-  namespace_ : IsWritten (tag.Namespace (codes "x"))
+pub data IsWritten : CommandForm → Type 0 where
+  text_ : (text : List ℕ) → IsWritten (says.Text text)
+  default_ : IsWritten (says.GoesOn middle.Default)
+  closes_ : (n : BlockName) → IsBlock n → IsWritten (says.Closes n)
+  namespace_ : IsWritten (says.Namespace (codes "x"))
 
 pub data AllWritten : List Command → Type 0 where
   none_ : AllWritten []
-  more_ : (of : Tag) (cs : List Command) → IsWritten of → AllWritten cs → AllWritten (written of ∷ cs)
+  more_ : (of : CommandForm) (cs : List Command) → IsWritten of → AllWritten cs → AllWritten (written of ∷ cs)
 
 -- further commands lead to the templates of a file
 pub record Ends (s : CommandState) : Type 0 where
@@ -62,7 +62,8 @@ pub record Ends (s : CommandState) : Type 0 where
   pub templates : List Template
   pub runs : command_run more s ≡ Some (at [] (content.Templates namespace templates))
 
-then_ends : (s m : CommandState) (of : Tag) → IsWritten of → step_at s.content s.blocks of no_span ≡ Some m → Ends m
+then_ends : (s m : CommandState) (of : CommandForm) → IsWritten of
+    → step_at s.content s.blocks of no_span ≡ Some m → Ends m
     → Ends s
 then_ends s m of w e h = record {
   more = written of ∷ h.more;
@@ -74,9 +75,9 @@ then_ends s m of w e h = record {
 
 -- a message's content, as what follows it sees it
 pub record IsMessage (bs : List Block) (body : MessageBody) (s : CommandState) : Type 0 where
-  pub goes_on : (m : Middle) (span : Span) → step_at s.content s.blocks (tag.GoesOn m) span ≡ message_goes_on bs body
+  pub goes_on : (m : Middle) (span : Span) → step_at s.content s.blocks (says.GoesOn m) span ≡ message_goes_on bs body
       m span
-  pub closes : (n : BlockName) (span : Span) → step_at s.content s.blocks (tag.Closes n) span ≡ message_closes bs body
+  pub closes : (n : BlockName) (span : Span) → step_at s.content s.blocks (says.Closes n) span ≡ message_closes bs body
       n span
 
 -- whatever a block holds, it can be closed
@@ -97,83 +98,83 @@ nothing_is bs = record { goes_on = λ m span. refl; closes = λ n span. refl }
 
 opened_ends : (k : Inside) (bs : List Block) (xs : List Command) → Opened k bs xs → EndsAt k bs
 opened_ends _ _ _ (Opened.template_ ds cs ps c d n templates h params w hc t hd p) = λ nodes. record {
-  more = written (tag.Closes name.Template) ∷ [];
+  more = written (says.Closes name.Template) ∷ [];
   are = AllWritten.more_ _ [] (IsWritten.closes_ name.Template tt) AllWritten.none_;
   namespace = n;
   templates = _;
   runs = refl;
 }
 opened_ends _ _ _ (Opened.arm_ bs xs ys zs before arms start e o b a) =
-    λ nodes. then_ends _ _ (tag.Closes name.If) (IsWritten.closes_ name.If tt) refl
+    λ nodes. then_ends _ _ (says.Closes name.If) (IsWritten.closes_ name.If tt) refl
     (opened_ends ABody bs xs o (nodes_with _ None))
 opened_ends _ _ _ (Opened.else_ bs xs ys zs d before arms start o b a hd) =
-    λ nodes. then_ends _ _ (tag.Closes name.If) (IsWritten.closes_ name.If tt) refl
+    λ nodes. then_ends _ _ (says.Closes name.If) (IsWritten.closes_ name.If tt) refl
     (opened_ends ABody bs xs o (nodes_with _ None))
 opened_ends _ _ _ (Opened.for_ bs xs ys c before n index e o b hc) =
-    λ nodes. then_ends _ _ (tag.Closes name.For) (IsWritten.closes_ name.For tt) refl
+    λ nodes. then_ends _ _ (says.Closes name.For) (IsWritten.closes_ name.For tt) refl
     (opened_ends ABody bs xs o (nodes_with _ None))
 opened_ends _ _ _ (Opened.let_ bs xs ys c before n kind o b hc) =
-    λ nodes. then_ends _ _ (tag.Closes name.Let) (IsWritten.closes_ name.Let tt) refl
+    λ nodes. then_ends _ _ (says.Closes name.Let) (IsWritten.closes_ name.Let tt) refl
     (opened_ends ABody bs xs o (nodes_with _ None))
 opened_ends _ _ _ (Opened.call_ bs xs ys c before n all o b hc) =
-    λ arguments. then_ends _ _ (tag.Closes name.Call) (IsWritten.closes_ name.Call tt) refl
+    λ arguments. then_ends _ _ (says.Closes name.Call) (IsWritten.closes_ name.Call tt) refl
     (opened_ends ABody bs xs o (nodes_with _ None))
 opened_ends _ _ _ (Opened.param_ bs xs ys c arguments n kind o a hc) =
-    λ nodes. then_ends _ _ (tag.Closes name.Param) (IsWritten.closes_ name.Param tt) refl (opened_ends ACall bs xs o _)
+    λ nodes. then_ends _ _ (says.Closes name.Param) (IsWritten.closes_ name.Param tt) refl (opened_ends ACall bs xs o _)
 opened_ends _ _ _ (Opened.switch_ bs xs ys c before e o b hc) =
-    then_ends _ _ (tag.Closes name.Switch) (IsWritten.closes_ name.Switch tt) refl
+    then_ends _ _ (says.Closes name.Switch) (IsWritten.closes_ name.Switch tt) refl
     (opened_ends ABody bs xs o (nodes_with _ None))
 opened_ends _ _ _ (Opened.case_ bs xs ys ws zs c d before e cases values o b hc w a hd) =
-    λ nodes. then_ends _ _ (tag.Closes name.Switch) (IsWritten.closes_ name.Switch tt) refl
+    λ nodes. then_ends _ _ (says.Closes name.Switch) (IsWritten.closes_ name.Switch tt) refl
     (opened_ends ABody bs xs o (nodes_with _ None))
 opened_ends _ _ _ (Opened.switch_default_ bs xs ys ws zs c d before e cases o b hc w a hd) =
-    λ nodes. then_ends _ _ (tag.Closes name.Switch) (IsWritten.closes_ name.Switch tt) refl
+    λ nodes. then_ends _ _ (says.Closes name.Switch) (IsWritten.closes_ name.Switch tt) refl
     (opened_ends ABody bs xs o (nodes_with _ None))
 opened_ends _ _ _ (Opened.message_ bs xs ys c before desc meaning o b hc) =
-    λ body s is. then_ends s _ (tag.Closes name.Msg) (IsWritten.closes_ name.Msg tt) (is.closes name.Msg no_span)
+    λ body s is. then_ends s _ (says.Closes name.Msg) (IsWritten.closes_ name.Msg tt) (is.closes name.Msg no_span)
     (opened_ends ABody bs xs o (nodes_with _ None))
 opened_ends _ _ _ (Opened.fallback_ bs xs ys zs c d before first desc meaning older older_meaning o b hc a hd) =
-    λ body s is. then_ends s _ (tag.Closes name.Msg) (IsWritten.closes_ name.Msg tt) (is.closes name.Msg no_span)
+    λ body s is. then_ends s _ (says.Closes name.Msg) (IsWritten.closes_ name.Msg tt) (is.closes name.Msg no_span)
     (opened_ends ABody bs xs o (nodes_with _ None))
 opened_ends _ _ _ (Opened.plural_ bs xs ys c e offset o v hc) =
-    then_ends _ _ (tag.GoesOn middle.Default) IsWritten.default_ refl
-    (then_ends _ _ (tag.Closes name.Plural) (IsWritten.closes_ name.Plural tt) refl
+    then_ends _ _ (says.GoesOn middle.Default) IsWritten.default_ refl
+    (then_ends _ _ (says.Closes name.Plural) (IsWritten.closes_ name.Plural tt) refl
     (opened_ends AMessage bs xs o _ _ (choice_is bs _)))
 opened_ends _ _ _ (Opened.plural_case_ bs xs ys ws zs c d e offset cases values o v hc w a hd) =
-    λ body s is. then_ends s _ (tag.GoesOn middle.Default) IsWritten.default_ (is.goes_on middle.Default no_span)
-    (then_ends _ _ (tag.Closes name.Plural) (IsWritten.closes_ name.Plural tt) refl
+    λ body s is. then_ends s _ (says.GoesOn middle.Default) IsWritten.default_ (is.goes_on middle.Default no_span)
+    (then_ends _ _ (says.Closes name.Plural) (IsWritten.closes_ name.Plural tt) refl
     (opened_ends AMessage bs xs o _ _ (choice_is bs _)))
 opened_ends _ _ _ (Opened.plural_default_ bs xs ys ws zs c d e offset cases o v hc w a hd) =
-    λ body s is. then_ends s _ (tag.Closes name.Plural) (IsWritten.closes_ name.Plural tt)
+    λ body s is. then_ends s _ (says.Closes name.Plural) (IsWritten.closes_ name.Plural tt)
     (is.closes name.Plural no_span)
     (opened_ends AMessage bs xs o _ _ (choice_is bs _))
 opened_ends _ _ _ (Opened.select_ bs xs ys c e o v hc) =
-    then_ends _ _ (tag.GoesOn middle.Default) IsWritten.default_ refl
-    (then_ends _ _ (tag.Closes name.Select) (IsWritten.closes_ name.Select tt) refl
+    then_ends _ _ (says.GoesOn middle.Default) IsWritten.default_ refl
+    (then_ends _ _ (says.Closes name.Select) (IsWritten.closes_ name.Select tt) refl
     (opened_ends AMessage bs xs o _ _ (choice_is bs _)))
 opened_ends _ _ _ (Opened.select_case_ bs xs ys ws zs c d e cases values o v hc w a hd) =
-    λ body s is. then_ends s _ (tag.GoesOn middle.Default) IsWritten.default_ (is.goes_on middle.Default no_span)
-    (then_ends _ _ (tag.Closes name.Select) (IsWritten.closes_ name.Select tt) refl
+    λ body s is. then_ends s _ (says.GoesOn middle.Default) IsWritten.default_ (is.goes_on middle.Default no_span)
+    (then_ends _ _ (says.Closes name.Select) (IsWritten.closes_ name.Select tt) refl
     (opened_ends AMessage bs xs o _ _ (choice_is bs _)))
 opened_ends _ _ _ (Opened.select_default_ bs xs ys ws zs c d e cases o v hc w a hd) =
-    λ body s is. then_ends s _ (tag.Closes name.Select) (IsWritten.closes_ name.Select tt)
+    λ body s is. then_ends s _ (says.Closes name.Select) (IsWritten.closes_ name.Select tt)
     (is.closes name.Select no_span)
     (opened_ends AMessage bs xs o _ _ (choice_is bs _))
 
 -- texts and prints of a message, whose tags are whole
 parts_is : (bs : List Block) (nodes : Nodes) (white : Bool) → has_whole_tags nodes ≡ true →
-    IsMessage bs (parts_of nodes) (at bs (content.Parts nodes white))
+    IsMessage bs (body_of_parts nodes) (at bs (content.Parts nodes white))
 parts_is bs nodes white e = record {
-  goes_on = λ m span. ap (λ b. if b then message_goes_on bs (parts_of nodes) m span else None) e;
-  closes = λ n span. ap (λ b. if b then message_closes bs (parts_of nodes) n span else None) e;
+  goes_on = λ m span. ap (λ b. if b then message_goes_on bs (body_of_parts nodes) m span else None) e;
+  closes = λ n span. ap (λ b. if b then message_closes bs (body_of_parts nodes) n span else None) e;
 }
 
 parts_ends : (bs : List Block) (nodes : Nodes) (white : Bool) (cs : List Command) → HeldParts bs nodes white cs →
     Ends (at bs (content.Parts nodes white))
 parts_ends bs nodes white cs h =
     let e = parts_end h.back nodes.items nodes.run no_span h.parts in
-    then_ends (at bs (content.Parts nodes white)) _ (tag.Text e.text) (IsWritten.text_ e.text) refl
-    (opened_ends AMessage bs h.front h.opened (parts_of (with_text nodes e.text no_span)) _
+    then_ends (at bs (content.Parts nodes white)) _ (says.Text e.text) (IsWritten.text_ e.text) refl
+    (opened_ends AMessage bs h.front h.opened (body_of_parts (with_text nodes e.text no_span)) _
     (parts_is bs (with_text nodes e.text no_span) _ e.whole))
 
 cases_ends : (k : Inside) → HasCases k → (bs : List Block) → EndsAt k bs → Ends (at bs content.BeforeCases)
@@ -186,7 +187,7 @@ pub held_ends : (k : Content) (bs : List Block) (cs : List Command) → Held_at 
 held_ends content.White bs cs h =
     subst (λ l. Ends (at l content.White)) (sym h.none)
     (record {
-      more = written (tag.Namespace (codes "x")) ∷ [];
+      more = written (says.Namespace (codes "x")) ∷ [];
       are = AllWritten.more_ _ [] IsWritten.namespace_ AllWritten.none_;
       namespace = codes "x";
       templates = [];

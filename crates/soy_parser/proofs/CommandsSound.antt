@@ -29,25 +29,26 @@ use Rattle.soy_parser.specs.declared.command.Opening.{Opening}
 use Rattle.soy_parser.specs.declared.command.Opening.TheVariants as opening
 use Rattle.soy_parser.specs.declared.command.Single.{Single}
 use Rattle.soy_parser.specs.declared.command.Single.TheVariants as single
-use Rattle.soy_parser.specs.declared.command.Tag.{Tag}
-use Rattle.soy_parser.specs.declared.command.Tag.TheVariants as tag
-use Rattle.soy_parser.specs.declared.command.TemplateHead.{TemplateHead}
+use Rattle.soy_parser.specs.declared.command.CommandForm.{CommandForm}
+use Rattle.soy_parser.specs.declared.command.CommandForm.TheVariants as says
+use Rattle.soy_parser.specs.declared.command.TemplateOpening.{TemplateOpening}
 use Rattle.soy_parser.specs.declared.terminal.BlockName.{BlockName}
 use Rattle.soy_parser.specs.declared.terminal.BlockName.TheVariants as name
 use Rattle.soy_parser.specs.CommandSteps.{state, is_white, text_run, with_text, ended, ended_run}
 use Rattle.soy_parser.specs.CommandSteps.{adds, begins, begins_parts, single_step, opening_step, with_arm}
 use Rattle.soy_parser.specs.CommandSteps.{arm_goes_on, case_goes_on, body_goes_on, closes_body, closed_body}
 use Rattle.soy_parser.specs.CommandSteps.{body_closes}
-use Rattle.soy_parser.specs.CommandSteps.{is_empty, is_empty_of, head_param_step, body_step, white_step, template_opens}
+use Rattle.soy_parser.specs.CommandSteps.{is_empty, is_empty_of, template_param_step, body_step, white_step}
+use Rattle.soy_parser.specs.CommandSteps.{template_opens}
 use Rattle.soy_parser.specs.CommandSteps.{templates_step, argument_single, argument_opens, closed_call, is_call}
 use Rattle.soy_parser.specs.CommandSteps.{arguments_step}
 use Rattle.soy_parser.specs.CommandSteps.{plural_goes_on, select_goes_on, cases_begin, is_switch, closed_bare_switch}
 use Rattle.soy_parser.specs.CommandSteps.{before_cases_step, message_goes_on}
 use Rattle.soy_parser.specs.CommandSteps.{fallback_begins, closes_message, closed_message, message_closes, choice_opens}
 use Rattle.soy_parser.specs.CommandSteps.{part_single}
-use Rattle.soy_parser.specs.CommandSteps.{has_whole_tags, parts_of, parts_step, choice_step, step_at, command_step}
+use Rattle.soy_parser.specs.CommandSteps.{has_whole_tags, body_of_parts, parts_step, choice_step, step_at, command_step}
 use Rattle.soy_parser.specs.CommandSteps.{commands_from, command_run, command_start}
-use Rattle.soy_parser.specs.Depth.{inside}
+use Rattle.soy_parser.specs.Depth.{inside_blocks}
 use Rattle.soy_parser.specs.Nodes.{case_of, plural_cases, select_cases}
 use Rattle.soy_parser.specs.SpellsTree.{param_of, SpellsWhite, text_of, SpellsText, SpellsPrints, SpellsParts}
 use Rattle.soy_parser.specs.SpellsTree.{SpellsMessageBody}
@@ -119,89 +120,89 @@ pub data Inside : Type 0 where
 
 -- an if up to the condition of an arm
 pub data ArmOpens : List Command → List Arm → Span → Expr → Type 0 where
-  first_ : (c : Command) (e : Expr) → c.tag ≡ tag.Opens (opening.If e) → ArmOpens (c ∷ []) [] c.span e
+  first_ : (c : Command) (e : Expr) → c.form ≡ says.Opens (opening.If e) → ArmOpens (c ∷ []) [] c.span e
   next_ : (cs : List Command) (arms : List Arm) (start : Span) (d : Command) (e : Expr) → ArmsOf cs arms start
-      → d.tag ≡ tag.GoesOn (middle.ElseIf e) → ArmOpens (cs ++ (d ∷ [])) arms start e
+      → d.form ≡ says.GoesOn (middle.ElseIf e) → ArmOpens (cs ++ (d ∷ [])) arms start e
 
 -- commands lead into these blocks, the innermost of which holds this
 pub data Opened : Inside → List Block → List Command → Type 0 where
-  template_ : (ds cs ps : List Command) (c d : Command) (n : List ℕ) (templates : List Template) (h : TemplateHead)
-      (params : List Param) → WhiteOf ds → c.tag ≡ tag.Namespace n → TemplatesOf cs templates
-      → d.tag ≡ tag.Opens (opening.Template h) → ParamsOf ps params
+  template_ : (ds cs ps : List Command) (c d : Command) (n : List ℕ) (templates : List Template) (h : TemplateOpening)
+      (params : List Param) → WhiteOf ds → c.form ≡ says.Namespace n → TemplatesOf cs templates
+      → d.form ≡ says.Opens (opening.Template h) → ParamsOf ps params
       → Opened ABody (block.Template (open_template n templates h d.span params) ∷ []) (ds ++ (c ∷ (cs ++ (d ∷ ps))))
   arm_ : (bs : List Block) (xs ys zs : List Command) (before : List Node) (arms : List Arm) (start : Span) (e : Expr)
       → Opened ABody bs xs → BodyOf ys before → ArmOpens zs arms start e
       → Opened ABody (block.Arm (open_if before start arms) e ∷ bs) (xs ++ (ys ++ zs))
   else_ : (bs : List Block) (xs ys zs : List Command) (d : Command) (before : List Node) (arms : List Arm)
       (start : Span)
-      → Opened ABody bs xs → BodyOf ys before → ArmsOf zs arms start → d.tag ≡ tag.GoesOn middle.Else
+      → Opened ABody bs xs → BodyOf ys before → ArmsOf zs arms start → d.form ≡ says.GoesOn middle.Else
       → Opened ABody (block.Else (open_if before start arms) ∷ bs) (xs ++ (ys ++ (zs ++ (d ∷ []))))
   for_ : (bs : List Block) (xs ys : List Command) (c : Command) (before : List Node) (n : List ℕ)
       (index : Option (List ℕ))
-      (e : Expr) → Opened ABody bs xs → BodyOf ys before → c.tag ≡ tag.Opens (opening.For n index e)
+      (e : Expr) → Opened ABody bs xs → BodyOf ys before → c.form ≡ says.Opens (opening.For n index e)
       → Opened ABody (block.For before c.span n index e ∷ bs) (xs ++ (ys ++ (c ∷ [])))
   let_ : (bs : List Block) (xs ys : List Command) (c : Command) (before : List Node) (n : List ℕ) (kind : Kind)
-      → Opened ABody bs xs → BodyOf ys before → c.tag ≡ tag.Opens (opening.Let n kind)
+      → Opened ABody bs xs → BodyOf ys before → c.form ≡ says.Opens (opening.Let n kind)
       → Opened ABody (block.Let before c.span n kind ∷ bs) (xs ++ (ys ++ (c ∷ [])))
   call_ : (bs : List Block) (xs ys : List Command) (c : Command) (before : List Node) (n : List ℕ) (all : Bool)
-      → Opened ABody bs xs → BodyOf ys before → c.tag ≡ tag.Opens (opening.Call n all)
+      → Opened ABody bs xs → BodyOf ys before → c.form ≡ says.Opens (opening.Call n all)
       → Opened ACall (block.Call before c.span n all ∷ bs) (xs ++ (ys ++ (c ∷ [])))
   param_ : (bs : List Block) (xs ys : List Command) (c : Command) (arguments : List Argument) (n : List ℕ) (kind : Kind)
-      → Opened ACall bs xs → ArgumentsOf ys arguments → c.tag ≡ tag.Opens (opening.Param n kind)
+      → Opened ACall bs xs → ArgumentsOf ys arguments → c.form ≡ says.Opens (opening.Param n kind)
       → Opened ABody (block.Param arguments c.span n kind ∷ bs) (xs ++ (ys ++ (c ∷ [])))
   switch_ : (bs : List Block) (xs ys : List Command) (c : Command) (before : List Node) (e : Expr)
-      → Opened ABody bs xs → BodyOf ys before → c.tag ≡ tag.Opens (opening.Switch e)
+      → Opened ABody bs xs → BodyOf ys before → c.form ≡ says.Opens (opening.Switch e)
       → Opened ASwitch (block.Switch before c.span e ∷ bs) (xs ++ (ys ++ (c ∷ [])))
   case_ : (bs : List Block) (xs ys ws zs : List Command) (c d : Command) (before : List Node) (e : Expr)
       (cases : List Case)
       (values : List Expr)
-      → Opened ABody bs xs → BodyOf ys before → c.tag ≡ tag.Opens (opening.Switch e) → WhiteOf ws → CasesOf zs cases
-      → d.tag ≡ tag.GoesOn (middle.Case values)
+      → Opened ABody bs xs → BodyOf ys before → c.form ≡ says.Opens (opening.Switch e) → WhiteOf ws → CasesOf zs cases
+      → d.form ≡ says.GoesOn (middle.Case values)
       → Opened ABody (block.Case (open_switch before c.span e cases) values ∷ bs)
       (xs ++ (ys ++ (c ∷ (ws ++ (zs ++ (d ∷ []))))))
   switch_default_ : (bs : List Block) (xs ys ws zs : List Command) (c d : Command) (before : List Node) (e : Expr)
       (cases : List Case)
-      → Opened ABody bs xs → BodyOf ys before → c.tag ≡ tag.Opens (opening.Switch e) → WhiteOf ws → CasesOf zs cases
-      → d.tag ≡ tag.GoesOn middle.Default
+      → Opened ABody bs xs → BodyOf ys before → c.form ≡ says.Opens (opening.Switch e) → WhiteOf ws → CasesOf zs cases
+      → d.form ≡ says.GoesOn middle.Default
       → Opened ABody (block.SwitchDefault (open_switch before c.span e cases) ∷ bs)
       (xs ++ (ys ++ (c ∷ (ws ++ (zs ++ (d ∷ []))))))
   message_ : (bs : List Block) (xs ys : List Command) (c : Command) (before : List Node) (desc meaning : List ℕ)
-      → Opened ABody bs xs → BodyOf ys before → c.tag ≡ tag.Opens (opening.Message desc meaning)
+      → Opened ABody bs xs → BodyOf ys before → c.form ≡ says.Opens (opening.Message desc meaning)
       → Opened AMessage (block.Message (open_message before c.span desc meaning) ∷ bs) (xs ++ (ys ++ (c ∷ [])))
   fallback_ : (bs : List Block) (xs ys zs : List Command) (c d : Command) (before : List Node) (body : MessageBody)
       (desc meaning older older_meaning : List ℕ)
-      → Opened ABody bs xs → BodyOf ys before → c.tag ≡ tag.Opens (opening.Message desc meaning) → MessageOf zs body
-      → d.tag ≡ tag.GoesOn (middle.Fallback older older_meaning)
+      → Opened ABody bs xs → BodyOf ys before → c.form ≡ says.Opens (opening.Message desc meaning) → MessageOf zs body
+      → d.form ≡ says.GoesOn (middle.Fallback older older_meaning)
       → Opened AMessage (block.Fallback (open_message before c.span desc meaning) body
       (open_fallback d.span older older_meaning)
       ∷ bs) (xs ++ (ys ++ (c ∷ (zs ++ (d ∷ [])))))
   plural_ : (bs : List Block) (xs ys : List Command) (c : Command) (e : Expr) (offset : ℕ)
-      → Opened AMessage bs xs → WhiteOf ys → c.tag ≡ tag.Opens (opening.Plural e offset)
+      → Opened AMessage bs xs → WhiteOf ys → c.form ≡ says.Opens (opening.Plural e offset)
       → Opened APlural (block.Plural e offset ∷ bs) (xs ++ (ys ++ (c ∷ [])))
   plural_case_ : (bs : List Block) (xs ys ws zs : List Command) (c d : Command) (e : Expr) (offset : ℕ)
       (cases : List PluralCase) (values : List ℤ)
-      → Opened AMessage bs xs → WhiteOf ys → c.tag ≡ tag.Opens (opening.Plural e offset) → WhiteOf ws
-      → PluralCasesOf zs cases → d.tag ≡ tag.GoesOn (middle.PluralCase values)
+      → Opened AMessage bs xs → WhiteOf ys → c.form ≡ says.Opens (opening.Plural e offset) → WhiteOf ws
+      → PluralCasesOf zs cases → d.form ≡ says.GoesOn (middle.PluralCase values)
       → Opened AMessage (block.PluralCase (open_plural e offset cases) values ∷ bs)
       (xs ++ (ys ++ (c ∷ (ws ++ (zs ++ (d ∷ []))))))
   plural_default_ : (bs : List Block) (xs ys ws zs : List Command) (c d : Command) (e : Expr) (offset : ℕ)
       (cases : List PluralCase)
-      → Opened AMessage bs xs → WhiteOf ys → c.tag ≡ tag.Opens (opening.Plural e offset) → WhiteOf ws
-      → PluralCasesOf zs cases → d.tag ≡ tag.GoesOn middle.Default
+      → Opened AMessage bs xs → WhiteOf ys → c.form ≡ says.Opens (opening.Plural e offset) → WhiteOf ws
+      → PluralCasesOf zs cases → d.form ≡ says.GoesOn middle.Default
       → Opened AMessage (block.PluralDefault (open_plural e offset cases) ∷ bs)
       (xs ++ (ys ++ (c ∷ (ws ++ (zs ++ (d ∷ []))))))
   select_ : (bs : List Block) (xs ys : List Command) (c : Command) (e : Expr)
-      → Opened AMessage bs xs → WhiteOf ys → c.tag ≡ tag.Opens (opening.Select e)
+      → Opened AMessage bs xs → WhiteOf ys → c.form ≡ says.Opens (opening.Select e)
       → Opened ASelect (block.Select e ∷ bs) (xs ++ (ys ++ (c ∷ [])))
   select_case_ : (bs : List Block) (xs ys ws zs : List Command) (c d : Command) (e : Expr) (cases : List SelectCase)
       (values : List (List ℕ))
-      → Opened AMessage bs xs → WhiteOf ys → c.tag ≡ tag.Opens (opening.Select e) → WhiteOf ws
-      → SelectCasesOf zs cases → d.tag ≡ tag.GoesOn (middle.SelectCase values)
+      → Opened AMessage bs xs → WhiteOf ys → c.form ≡ says.Opens (opening.Select e) → WhiteOf ws
+      → SelectCasesOf zs cases → d.form ≡ says.GoesOn (middle.SelectCase values)
       → Opened AMessage (block.SelectCase (open_select e cases) values ∷ bs)
       (xs ++ (ys ++ (c ∷ (ws ++ (zs ++ (d ∷ []))))))
   select_default_ : (bs : List Block) (xs ys ws zs : List Command) (c d : Command) (e : Expr) (cases : List SelectCase)
-      → Opened AMessage bs xs → WhiteOf ys → c.tag ≡ tag.Opens (opening.Select e) → WhiteOf ws
-      → SelectCasesOf zs cases → d.tag ≡ tag.GoesOn middle.Default
+      → Opened AMessage bs xs → WhiteOf ys → c.form ≡ says.Opens (opening.Select e) → WhiteOf ws
+      → SelectCasesOf zs cases → d.form ≡ says.GoesOn middle.Default
       → Opened AMessage (block.SelectDefault (open_select e cases) ∷ bs)
       (xs ++ (ys ++ (c ∷ (ws ++ (zs ++ (d ∷ []))))))
 
@@ -248,7 +249,7 @@ pub record HeldTemplates (bs : List Block) (n : List ℕ) (templates : List Temp
   pub back : List Command
   pub whole : cs ≡ front ++ (command ∷ back)
   pub white : WhiteOf front
-  pub is_namespace : command.tag ≡ tag.Namespace n
+  pub is_namespace : command.form ≡ says.Namespace n
   pub are : TemplatesOf back templates
 
 pub record HeldBody (bs : List Block) (nodes : Nodes) (cs : List Command) : Type 0 where
@@ -324,7 +325,7 @@ moved {o} f e = record { fine = subst (Fine o) e f.fine }
 no_white : WhiteOf []
 no_white = ([], SpellsWhite.none_)
 
-white_more : (cs : List Command) (c : Command) (text : List ℕ) → WhiteOf cs → c.tag ≡ tag.Text text
+white_more : (cs : List Command) (c : Command) (text : List ℕ) → WhiteOf cs → c.form ≡ says.Text text
     → is_white text ≡ true →
     WhiteOf (cs ++ (c ∷ []))
 white_more cs c text w h s = (w.0 ++ (0 ∷ []), SpellsWhite.more_ cs w.0 c text w.1 h s)
@@ -337,7 +338,7 @@ body_of ys items (Some r) b =
     (b.nodes.0 ++ b.text.0, SpellsBody.text_ b.front b.back b.nodes.0 b.text.0 items r.text r.span b.nodes.1 b.text.1)
 
 body_text : (ys : List Command) (items : List Node) (run : Option TextRun) (c : Command) (text : List ℕ) →
-    BodyAt_run ys items run → text_of c.tag ≡ Some text →
+    BodyAt_run ys items run → text_of c.form ≡ Some text →
     BodyAt_run (ys ++ (c ∷ [])) items (Some (text_run run text c.span))
 body_text ys items None c text b h = record {
   front = ys;
@@ -362,7 +363,7 @@ parts_at ys items (Some r) b =
     (b.nodes.0 ++ b.text.0, SpellsParts.text_ b.front b.back b.nodes.0 b.text.0 items r.text r.span b.nodes.1 b.text.1)
 
 parts_text : (ys : List Command) (items : List Node) (run : Option TextRun) (c : Command) (text : List ℕ) →
-    PartsAt_run ys items run → text_of c.tag ≡ Some text →
+    PartsAt_run ys items run → text_of c.form ≡ Some text →
     PartsAt_run (ys ++ (c ∷ [])) items (Some (text_run run text c.span))
 parts_text ys items None c text b h = record {
   front = ys;
@@ -441,7 +442,7 @@ module _ (bs : List Block) (nodes : Nodes) (cs : List Command) (c : Command) (h 
   body_is : BodyOf h.back (ended nodes)
   body_is = body_of h.back nodes.items nodes.run h.body
 
-  body_text_fine : (text : List ℕ) → text_of c.tag ≡ Some text →
+  body_text_fine : (text : List ℕ) → text_of c.form ≡ Some text →
       IsFine (state bs (content.Body (with_text nodes text c.span))) (cs ++ (c ∷ []))
   body_text_fine text e = record {
     fine = record {
@@ -459,14 +460,15 @@ module _ (bs : List Block) (nodes : Nodes) (cs : List Command) (c : Command) (h 
       (adds_fine bs h.front h.back (c ∷ []) (ended nodes) n h.opened (body_of h.back nodes.items nodes.run h.body) i)
       (on_whole cs h.front h.back (c ∷ []) h.whole)
 
-  single_fine : (of : Single) → c.tag ≡ tag.Single of → IsFine (single_step bs (ended nodes) of c.span) (cs ++ (c ∷ []))
+  single_fine : (of : Single) → c.form ≡ says.Single of
+      → IsFine (single_step bs (ended nodes) of c.span) (cs ++ (c ∷ []))
   single_fine (single.Print e) t = node_fine _ (0 ∷ [], SpellsNode.print_ c e t)
   single_fine (single.Let n e) t = node_fine _ (0 ∷ [], SpellsNode.let_ c n e t)
   single_fine (single.Call n all) t = node_fine _ (0 ∷ [], SpellsNode.call_alone_ c n all t)
   single_fine (single.MessagePrint e phname) t = record { fine = tt }
   single_fine (single.Param n e) t = record { fine = tt }
 
-  opening_fine : (of : Opening) → c.tag ≡ tag.Opens of → IsFine (opening_step bs (ended nodes) of c.span)
+  opening_fine : (of : Opening) → c.form ≡ says.Opens of → IsFine (opening_step bs (ended nodes) of c.span)
       (cs ++ (c ∷ []))
   opening_fine (opening.If e) t =
       moved
@@ -516,22 +518,22 @@ module _ (bs : List Block) (nodes : Nodes) (cs : List Command) (c : Command) (h 
 arms_more : (zs ys : List Command) (arms : List Arm) (start : Span) (e : Expr) (ns : List Node)
     → ArmOpens zs arms start e →
     BodyOf ys ns → ArmsOf (zs ++ ys) (with_arm (open_if [] start arms) e ns).arms start
-arms_more _ ys _ _ _ ns (ArmOpens.first_ c e h) b = (0 ∷ inside 1 b.0, SpellsArms.first_arm_ c ys b.0 e ns h b.1)
+arms_more _ ys _ _ _ ns (ArmOpens.first_ c e h) b = (0 ∷ inside_blocks 1 b.0, SpellsArms.first_arm_ c ys b.0 e ns h b.1)
 arms_more _ ys _ _ _ ns (ArmOpens.next_ cs arms start d e a h) b =
     subst (λ l. ArmsOf l (with_arm (open_if [] start arms) e ns).arms start) (sym (append_assoc cs (d ∷ []) ys))
-    (a.0 ++ inside 1 (0 ∷ b.0), SpellsArms.next_arm_ cs ys a.0 b.0 arms start d e ns a.1 h b.1)
+    (a.0 ++ inside_blocks 1 (0 ∷ b.0), SpellsArms.next_arm_ cs ys a.0 b.0 arms start d e ns a.1 h b.1)
 
 -- a case has its body
 cases_more : (zs ys : List Command) (cases : List Case) (d : Command) (values : List Expr) (ns : List Node)
     → CasesOf zs cases →
-    d.tag ≡ tag.GoesOn (middle.Case values) → BodyOf ys ns
+    d.form ≡ says.GoesOn (middle.Case values) → BodyOf ys ns
     → CasesOf (zs ++ (d ∷ ys)) (cases ++ (case_of values ns ∷ []))
 cases_more zs ys cases d values ns k h b =
     (k.0 ++ (0 ∷ b.0), SpellsCases.case_ zs ys k.0 b.0 cases d values ns k.1 h b.1)
 
 arm_goes_on_fine : (bs : List Block) (xs ys zs : List Command) (before : List Node) (arms : List Arm) (start : Span)
     (m : Middle)
-    (d : Command) → Opened ABody bs xs → BodyOf ys before → ArmsOf zs arms start → d.tag ≡ tag.GoesOn m →
+    (d : Command) → Opened ABody bs xs → BodyOf ys before → ArmsOf zs arms start → d.form ≡ says.GoesOn m →
     IsFine (arm_goes_on bs (open_if before start arms) m) (xs ++ (ys ++ (zs ++ (d ∷ []))))
 arm_goes_on_fine bs xs ys zs before arms start (middle.ElseIf e) d o b a h =
     begun (block.Arm (open_if before start arms) e) bs (xs ++ (ys ++ (zs ++ (d ∷ []))))
@@ -543,7 +545,7 @@ arm_goes_on_fine bs xs ys zs before arms start _ d o b a h = record { fine = tt 
 
 case_goes_on_fine : (bs : List Block) (xs ys ws zs : List Command) (c : Command) (before : List Node) (e : Expr)
     (cases : List Case) (m : Middle) (d : Command) → Opened ABody bs xs → BodyOf ys before →
-    c.tag ≡ tag.Opens (opening.Switch e) → WhiteOf ws → CasesOf zs cases → d.tag ≡ tag.GoesOn m →
+    c.form ≡ says.Opens (opening.Switch e) → WhiteOf ws → CasesOf zs cases → d.form ≡ says.GoesOn m →
     IsFine (case_goes_on bs (open_switch before c.span e cases) m) (xs ++ (ys ++ (c ∷ (ws ++ (zs ++ (d ∷ []))))))
 case_goes_on_fine bs xs ys ws zs c before e cases (middle.Case values) d o b hc w k h =
     begun (block.Case (open_switch before c.span e cases) values) bs (xs ++ (ys ++ (c ∷ (ws ++ (zs ++ (d ∷ []))))))
@@ -554,7 +556,7 @@ case_goes_on_fine bs xs ys ws zs c before e cases middle.Default d o b hc w k h 
 case_goes_on_fine bs xs ys ws zs c before e cases _ d o b hc w k h = record { fine = tt }
 
 goes_on_fine : (bs : List Block) (xs : List Command) → Opened ABody bs xs → (ys : List Command) (ns : List Node) →
-    BodyOf ys ns → (d : Command) (m : Middle) → d.tag ≡ tag.GoesOn m
+    BodyOf ys ns → (d : Command) (m : Middle) → d.form ≡ says.GoesOn m
     → IsFine (body_goes_on bs ns m) ((xs ++ ys) ++ (d ∷ []))
 goes_on_fine _ _ (Opened.template_ ds cs ps c k n templates of params w hc t hk p) ys ns b d m h = record { fine = tt }
 goes_on_fine _ _ (Opened.arm_ bs xs us zs before arms start e o v a) ys ns b d m h =
@@ -597,7 +599,7 @@ closes_name (block.SwitchDefault s) name.Switch e = refl
 closes_name _ _ e = absurd (cc e)
 
 closed_fine : (b : Block) (bs : List Block) (xs : List Command) → Opened ABody (b ∷ bs) xs → (ys : List Command)
-    (ns : List Node) → BodyOf ys ns → (z : Command) → z.tag ≡ tag.Closes (body_name b) →
+    (ns : List Node) → BodyOf ys ns → (z : Command) → z.form ≡ says.Closes (body_name b) →
     IsFine (closed_body bs b ns z.span) ((xs ++ ys) ++ (z ∷ []))
 closed_fine _ _ _ (Opened.template_ ds cs ps c k n templates of params w hc t hk p) ys ns b z h = record {
   fine = record {
@@ -609,7 +611,7 @@ closed_fine _ _ _ (Opened.template_ ds cs ps c k n templates of params w hc t hk
     white = w;
     is_namespace = hc;
     are = (
-      t.0 ++ (0 ∷ inside 1 (p.0 ++ (b.0 ++ (0 ∷ [])))),
+      t.0 ++ (0 ∷ inside_blocks 1 (p.0 ++ (b.0 ++ (0 ∷ [])))),
       SpellsTemplates.template_ cs ps ys t.0 p.0 b.0 templates k z of params ns t.1 hk p.1 b.1 h,
     );
   };
@@ -623,17 +625,17 @@ closed_fine _ _ _ (Opened.arm_ bs xs us zs before arms start e o v a) ys ns b z 
 closed_fine _ _ _ (Opened.else_ bs xs us zs k before arms start o v a hk) ys ns b z h =
     moved
     (adds_fine bs xs us (zs ++ (k ∷ (ys ++ (z ∷ [])))) before _ o v
-    (a.0 ++ inside 1 (0 ∷ (b.0 ++ (0 ∷ []))), SpellsNode.if_else_ k z zs ys a.0 b.0 arms ns start a.1 hk b.1 h))
+    (a.0 ++ inside_blocks 1 (0 ∷ (b.0 ++ (0 ∷ []))), SpellsNode.if_else_ k z zs ys a.0 b.0 arms ns start a.1 hk b.1 h))
     (simp append_assoc)
 closed_fine _ _ _ (Opened.for_ bs xs us c before n index e o v hc) ys ns b z h =
     moved
     (adds_fine bs xs us (c ∷ (ys ++ (z ∷ []))) before _ o v
-    (0 ∷ inside 1 (b.0 ++ (0 ∷ [])), SpellsNode.for_ c z ys b.0 n index e ns hc b.1 h))
+    (0 ∷ inside_blocks 1 (b.0 ++ (0 ∷ [])), SpellsNode.for_ c z ys b.0 n index e ns hc b.1 h))
     (simp append_assoc)
 closed_fine _ _ _ (Opened.let_ bs xs us c before n kind o v hc) ys ns b z h =
     moved
     (adds_fine bs xs us (c ∷ (ys ++ (z ∷ []))) before _ o v
-    (0 ∷ inside 1 (b.0 ++ (0 ∷ [])), SpellsNode.let_block_ c z ys b.0 n kind ns hc b.1 h))
+    (0 ∷ inside_blocks 1 (b.0 ++ (0 ∷ [])), SpellsNode.let_block_ c z ys b.0 n kind ns hc b.1 h))
     (simp append_assoc)
 closed_fine _ _ _ (Opened.param_ bs xs us c arguments n kind o a hc) ys ns b z h = record {
   fine = record {
@@ -642,7 +644,7 @@ closed_fine _ _ _ (Opened.param_ bs xs us c arguments n kind o a hc) ys ns b z h
     whole = simp append_assoc;
     opened = o;
     are = (
-      a.0 ++ (0 ∷ inside 1 (b.0 ++ (0 ∷ []))),
+      a.0 ++ (0 ∷ inside_blocks 1 (b.0 ++ (0 ∷ []))),
       SpellsArguments.param_block_ us ys a.0 b.0 arguments c z n kind ns a.1 hc b.1 h,
     );
   };
@@ -650,26 +652,28 @@ closed_fine _ _ _ (Opened.param_ bs xs us c arguments n kind o a hc) ys ns b z h
 closed_fine _ _ _ (Opened.case_ bs xs us ws zs c k before e cases values o v hc w a hk) ys ns b z h =
     let m = cases_more zs ys cases k values ns a hk b in
     moved
-    (adds_fine bs xs us (c ∷ (ws ++ ((zs ++ (k ∷ ys)) ++ (z ∷ [])))) before _ o v
-    (0 ∷ inside 1 (w.0 ++ (m.0 ++ (0 ∷ []))), SpellsNode.switch_ c z ws (zs ++ (k ∷ ys)) w.0 m.0 e _ hc w.1 m.1 h))
+    (adds_fine bs xs us (c ∷ (ws ++ ((zs ++ (k ∷ ys)) ++ (z ∷ [])))) before _ o v (
+      0 ∷ inside_blocks 1 (w.0 ++ (m.0 ++ (0 ∷ []))),
+      SpellsNode.switch_ c z ws (zs ++ (k ∷ ys)) w.0 m.0 e _ hc w.1 m.1 h,
+    ))
     (simp append_assoc)
 closed_fine _ _ _ (Opened.switch_default_ bs xs us ws zs c k before e cases o v hc w a hk) ys ns b z h =
     moved
     (adds_fine bs xs us (c ∷ (ws ++ (zs ++ (k ∷ (ys ++ (z ∷ [])))))) before _ o v (
-      0 ∷ inside 1 (w.0 ++ (a.0 ++ (0 ∷ (b.0 ++ (0 ∷ []))))),
+      0 ∷ inside_blocks 1 (w.0 ++ (a.0 ++ (0 ∷ (b.0 ++ (0 ∷ []))))),
       SpellsNode.switch_default_ c k z ws zs ys w.0 a.0 b.0 e cases ns hc w.1 a.1 hk b.1 h,
     ))
     (simp append_assoc)
 
 closes_fine : (bs : List Block) (xs : List Command) → Opened ABody bs xs → (ys : List Command) (ns : List Node) →
-    BodyOf ys ns → (z : Command) (n : BlockName) → z.tag ≡ tag.Closes n →
+    BodyOf ys ns → (z : Command) (n : BlockName) → z.form ≡ says.Closes n →
     IsFine (body_closes bs ns n z.span) ((xs ++ ys) ++ (z ∷ []))
 closes_fine [] xs o ys ns b z n h = record { fine = tt }
 closes_fine (k ∷ bs) xs o ys ns b z n h = over (closes_body k n) refl
   where
     over : (t : Bool) → closes_body k n ≡ t →
         IsFine (if t then closed_body bs k ns z.span else None) ((xs ++ ys) ++ (z ∷ []))
-    over true e = closed_fine k bs xs o ys ns b z (h ∙ ap tag.Closes (closes_name k n e))
+    over true e = closed_fine k bs xs o ys ns b z (h ∙ ap says.Closes (closes_name k n e))
     over false e = record { fine = tt }
 
 -- a parameter at the head of a template
@@ -679,11 +683,11 @@ none_spelled _ _ _ SpellsNodes.no_node_ e = refl
 none_spelled _ _ _ (SpellsNodes.node_ cs ds ls ms ns n s i) e =
     absurd (omega (arith, simp length-append at (ap length e)))
 
-head_param_fine : (bs : List Block) (xs : List Command) → Opened ABody bs xs
+template_param_fine : (bs : List Block) (xs : List Command) → Opened ABody bs xs
     → (c : Command) (n : List ℕ) (required : Bool)
-    (of : SoyType) → c.tag ≡ tag.HeadParam n required of →
-    IsFine (head_param_step bs (param_of n of required c.span)) (xs ++ (c ∷ []))
-head_param_fine _ _ (Opened.template_ ds cs ps k d n templates of params w hk t hd p) c m required kind h =
+    (of : SoyType) → c.form ≡ says.TemplateParam n required of →
+    IsFine (template_param_step bs (param_of n of required c.span)) (xs ++ (c ∷ []))
+template_param_fine _ _ (Opened.template_ ds cs ps k d n templates of params w hk t hd p) c m required kind h =
     moved
     (begun (block.Template (open_template n templates of d.span (params ++ (param_of m kind required c.span ∷ [])))) []
     (ds ++ (k ∷ (cs ++ (d ∷ (ps ++ (c ∷ []))))))
@@ -691,14 +695,15 @@ head_param_fine _ _ (Opened.template_ ds cs ps k d n templates of params w hk t 
     hk t hd
     (p.0 ++ (0 ∷ []), SpellsParams.param_ ps p.0 params c m required kind p.1 h)))
     (simp append_assoc)
-head_param_fine _ _ (Opened.arm_ bs xs us zs before arms start e o v a) c m required kind h = record { fine = tt }
-head_param_fine _ _ (Opened.else_ bs xs us zs k before arms start o v a hk) c m required kind h = record { fine = tt }
-head_param_fine _ _ (Opened.for_ bs xs us k before n index e o v hc) c m required kind h = record { fine = tt }
-head_param_fine _ _ (Opened.let_ bs xs us k before n of o v hc) c m required kind h = record { fine = tt }
-head_param_fine _ _ (Opened.param_ bs xs us k arguments n of o a hc) c m required kind h = record { fine = tt }
-head_param_fine _ _ (Opened.case_ bs xs us ws zs k d before e cases values o v hc w a hk) c m required kind h =
+template_param_fine _ _ (Opened.arm_ bs xs us zs before arms start e o v a) c m required kind h = record { fine = tt }
+template_param_fine _ _ (Opened.else_ bs xs us zs k before arms start o v a hk) c m required kind h =
     record { fine = tt }
-head_param_fine _ _ (Opened.switch_default_ bs xs us ws zs k d before e cases o v hc w a hk) c m required kind h =
+template_param_fine _ _ (Opened.for_ bs xs us k before n index e o v hc) c m required kind h = record { fine = tt }
+template_param_fine _ _ (Opened.let_ bs xs us k before n of o v hc) c m required kind h = record { fine = tt }
+template_param_fine _ _ (Opened.param_ bs xs us k arguments n of o a hc) c m required kind h = record { fine = tt }
+template_param_fine _ _ (Opened.case_ bs xs us ws zs k d before e cases values o v hc w a hk) c m required kind h =
+    record { fine = tt }
+template_param_fine _ _ (Opened.switch_default_ bs xs us ws zs k d before e cases o v hc w a hk) c m required kind h =
     record { fine = tt }
 
 empty_back : (ys : List Command) (items : List Node) (run : Option TextRun) → BodyAt_run ys items run →
@@ -707,41 +712,41 @@ empty_back ys [] None b e = none_spelled ys b.0 [] b.1 refl
 empty_back ys [] (Some r) b e = absurd (cc e)
 empty_back ys (n ∷ ns) run b e = absurd (cc e)
 
-body_fine : (bs : List Block) (nodes : Nodes) (cs : List Command) (c : Command) (of : Tag) → c.tag ≡ of →
+body_fine : (bs : List Block) (nodes : Nodes) (cs : List Command) (c : Command) (of : CommandForm) → c.form ≡ of →
     HeldBody bs nodes cs → IsFine (body_step bs nodes of c.span) (cs ++ (c ∷ []))
-body_fine bs nodes cs c (tag.Text text) e h = body_text_fine bs nodes cs c h text (ap text_of e)
-body_fine bs nodes cs c (tag.Character text) e h = body_text_fine bs nodes cs c h text (ap text_of e)
-body_fine bs nodes cs c (tag.Namespace n) e h = record { fine = tt }
-body_fine bs nodes cs c (tag.HeadParam n required of) e h = over (is_empty nodes) refl
+body_fine bs nodes cs c (says.Text text) e h = body_text_fine bs nodes cs c h text (ap text_of e)
+body_fine bs nodes cs c (says.Character text) e h = body_text_fine bs nodes cs c h text (ap text_of e)
+body_fine bs nodes cs c (says.Namespace n) e h = record { fine = tt }
+body_fine bs nodes cs c (says.TemplateParam n required of) e h = over (is_empty nodes) refl
   where
     over : (t : Bool) → is_empty nodes ≡ t →
-        IsFine (if t then head_param_step bs (param_of n of required c.span) else None) (cs ++ (c ∷ []))
+        IsFine (if t then template_param_step bs (param_of n of required c.span) else None) (cs ++ (c ∷ []))
     over true q =
         let none = empty_back h.back nodes.items nodes.run h.body q in
-        moved (head_param_fine bs h.front h.opened c n required of e)
+        moved (template_param_fine bs h.front h.opened c n required of e)
         (ap (λ l. l ++ (c ∷ [])) (sym (append-nil h.front) ∙ (ap (λ l. h.front ++ l) (sym none) ∙ sym h.whole)))
     over false q = record { fine = tt }
-body_fine bs nodes cs c (tag.Single of) e h = single_fine bs nodes cs c h of e
-body_fine bs nodes cs c (tag.Opens of) e h = opening_fine bs nodes cs c h of e
-body_fine bs nodes cs c (tag.GoesOn m) e h =
+body_fine bs nodes cs c (says.Single of) e h = single_fine bs nodes cs c h of e
+body_fine bs nodes cs c (says.Opens of) e h = opening_fine bs nodes cs c h of e
+body_fine bs nodes cs c (says.GoesOn m) e h =
     moved
     (goes_on_fine bs h.front h.opened h.back (ended nodes) (body_of h.back nodes.items nodes.run h.body) c m e)
     (ap (λ l. l ++ (c ∷ [])) (sym h.whole))
-body_fine bs nodes cs c (tag.Closes n) e h =
+body_fine bs nodes cs c (says.Closes n) e h =
     moved
     (closes_fine bs h.front h.opened h.back (ended nodes) (body_of h.back nodes.items nodes.run h.body) c n e)
     (ap (λ l. l ++ (c ∷ [])) (sym h.whole))
 
 -- between templates
 
-white_fine : (bs : List Block) (cs : List Command) (c : Command) (of : Tag) → c.tag ≡ of → HeldWhite bs cs →
+white_fine : (bs : List Block) (cs : List Command) (c : Command) (of : CommandForm) → c.form ≡ of → HeldWhite bs cs →
     IsFine (white_step bs of c.span) (cs ++ (c ∷ []))
-white_fine bs cs c (tag.Text text) e h = over (is_white text) refl
+white_fine bs cs c (says.Text text) e h = over (is_white text) refl
   where
     over : (t : Bool) → is_white text ≡ t → IsFine (if t then state bs content.White else None) (cs ++ (c ∷ []))
     over true w = record { fine = record { none = h.none; white = white_more cs c text h.white e w } }
     over false w = record { fine = tt }
-white_fine bs cs c (tag.Namespace n) e h = record {
+white_fine bs cs c (says.Namespace n) e h = record {
   fine = record {
     none = h.none;
     front = cs;
@@ -757,7 +762,7 @@ white_fine bs cs c _ e h = record { fine = tt }
 
 template_opens_fine : (bs : List Block) (n : List ℕ) (templates : List Template) (cs : List Command) (c : Command)
     (of : Opening) →
-    c.tag ≡ tag.Opens of → HeldTemplates bs n templates cs →
+    c.form ≡ says.Opens of → HeldTemplates bs n templates cs →
     IsFine (template_opens bs n templates of c.span) (cs ++ (c ∷ []))
 template_opens_fine bs n templates cs c (opening.Template of) e h =
     subst (λ l. IsFine (template_opens l n templates (opening.Template of) c.span) (cs ++ (c ∷ []))) (sym h.none)
@@ -769,9 +774,9 @@ template_opens_fine bs n templates cs c (opening.Template of) e h =
 template_opens_fine bs n templates cs c _ e h = record { fine = tt }
 
 templates_fine : (bs : List Block) (n : List ℕ) (templates : List Template) (cs : List Command) (c : Command)
-    (of : Tag) →
-    c.tag ≡ of → HeldTemplates bs n templates cs → IsFine (templates_step bs n templates of c.span) (cs ++ (c ∷ []))
-templates_fine bs n templates cs c (tag.Text text) e h = over (is_white text) refl
+    (of : CommandForm) →
+    c.form ≡ of → HeldTemplates bs n templates cs → IsFine (templates_step bs n templates of c.span) (cs ++ (c ∷ []))
+templates_fine bs n templates cs c (says.Text text) e h = over (is_white text) refl
   where
     over : (t : Bool) → is_white text ≡ t →
         IsFine (if t then state bs (content.Templates n templates) else None) (cs ++ (c ∷ []))
@@ -788,13 +793,13 @@ templates_fine bs n templates cs c (tag.Text text) e h = over (is_white text) re
       };
     }
     over false w = record { fine = tt }
-templates_fine bs n templates cs c (tag.Opens of) e h = template_opens_fine bs n templates cs c of e h
+templates_fine bs n templates cs c (says.Opens of) e h = template_opens_fine bs n templates cs c of e h
 templates_fine bs n templates cs c _ e h = record { fine = tt }
 
 -- in a call
 
 argument_single_fine : (bs : List Block) (arguments : List Argument) (cs : List Command) (c : Command) (of : Single) →
-    c.tag ≡ tag.Single of → HeldArguments bs arguments cs →
+    c.form ≡ says.Single of → HeldArguments bs arguments cs →
     IsFine (argument_single bs arguments of c.span) (cs ++ (c ∷ []))
 argument_single_fine bs arguments cs c (single.Param n e) t h = record {
   fine = record {
@@ -808,7 +813,7 @@ argument_single_fine bs arguments cs c (single.Param n e) t h = record {
 argument_single_fine bs arguments cs c _ t h = record { fine = tt }
 
 argument_opens_fine : (bs : List Block) (arguments : List Argument) (cs : List Command) (c : Command) (of : Opening) →
-    c.tag ≡ tag.Opens of → HeldArguments bs arguments cs →
+    c.form ≡ says.Opens of → HeldArguments bs arguments cs →
     IsFine (argument_opens bs arguments of c.span) (cs ++ (c ∷ []))
 argument_opens_fine bs arguments cs c (opening.Param n kind) t h =
     moved
@@ -818,22 +823,22 @@ argument_opens_fine bs arguments cs c (opening.Param n kind) t h =
 argument_opens_fine bs arguments cs c _ t h = record { fine = tt }
 
 closed_call_fine : (bs : List Block) (xs : List Command) → Opened ACall bs xs → (ys : List Command)
-    (arguments : List Argument) → ArgumentsOf ys arguments → (z : Command) → z.tag ≡ tag.Closes name.Call →
+    (arguments : List Argument) → ArgumentsOf ys arguments → (z : Command) → z.form ≡ says.Closes name.Call →
     IsFine (closed_call bs arguments z.span) ((xs ++ ys) ++ (z ∷ []))
 closed_call_fine _ _ (Opened.call_ bs xs us c before n all o v hc) ys arguments a z h =
     moved
     (adds_fine bs xs us (c ∷ (ys ++ (z ∷ []))) before _ o v
-    (0 ∷ inside 1 (a.0 ++ (0 ∷ [])), SpellsNode.call_ c z ys a.0 n all arguments hc a.1 h))
+    (0 ∷ inside_blocks 1 (a.0 ++ (0 ∷ [])), SpellsNode.call_ c z ys a.0 n all arguments hc a.1 h))
     (simp append_assoc)
 
 call_name : (n : BlockName) → is_call n ≡ true → n ≡ name.Call
 call_name name.Call e = refl
 call_name _ e = absurd (cc e)
 
-arguments_fine : (bs : List Block) (arguments : List Argument) (cs : List Command) (c : Command) (of : Tag)
-    → c.tag ≡ of →
+arguments_fine : (bs : List Block) (arguments : List Argument) (cs : List Command) (c : Command) (of : CommandForm)
+    → c.form ≡ of →
     HeldArguments bs arguments cs → IsFine (arguments_step bs arguments of c.span) (cs ++ (c ∷ []))
-arguments_fine bs arguments cs c (tag.Text text) e h = over (is_white text) refl
+arguments_fine bs arguments cs c (says.Text text) e h = over (is_white text) refl
   where
     over : (t : Bool) → is_white text ≡ t →
         IsFine (if t then state bs (content.Arguments arguments) else None) (cs ++ (c ∷ []))
@@ -847,14 +852,14 @@ arguments_fine bs arguments cs c (tag.Text text) e h = over (is_white text) refl
       };
     }
     over false w = record { fine = tt }
-arguments_fine bs arguments cs c (tag.Single of) e h = argument_single_fine bs arguments cs c of e h
-arguments_fine bs arguments cs c (tag.Opens of) e h = argument_opens_fine bs arguments cs c of e h
-arguments_fine bs arguments cs c (tag.Closes n) e h = over (is_call n) refl
+arguments_fine bs arguments cs c (says.Single of) e h = argument_single_fine bs arguments cs c of e h
+arguments_fine bs arguments cs c (says.Opens of) e h = argument_opens_fine bs arguments cs c of e h
+arguments_fine bs arguments cs c (says.Closes n) e h = over (is_call n) refl
   where
     over : (t : Bool) → is_call n ≡ t → IsFine (if t then closed_call bs arguments c.span else None) (cs ++ (c ∷ []))
     over true q =
         moved
-        (closed_call_fine bs h.front h.opened h.back arguments h.are c (e ∙ ap tag.Closes (call_name n q)))
+        (closed_call_fine bs h.front h.opened h.back arguments h.are c (e ∙ ap says.Closes (call_name n q)))
         (ap (λ l. l ++ (c ∷ [])) (sym h.whole))
     over false q = record { fine = tt }
 arguments_fine bs arguments cs c _ e h = record { fine = tt }
@@ -863,7 +868,7 @@ arguments_fine bs arguments cs c _ e h = record { fine = tt }
 
 plural_goes_on_fine : (bs : List Block) (xs ys ws zs : List Command) (c : Command) (e : Expr) (offset : ℕ)
     (cases : List PluralCase) (m : Middle) (d : Command) → Opened AMessage bs xs → WhiteOf ys →
-    c.tag ≡ tag.Opens (opening.Plural e offset) → WhiteOf ws → PluralCasesOf zs cases → d.tag ≡ tag.GoesOn m →
+    c.form ≡ says.Opens (opening.Plural e offset) → WhiteOf ws → PluralCasesOf zs cases → d.form ≡ says.GoesOn m →
     IsFine (plural_goes_on bs (open_plural e offset cases) m) (xs ++ (ys ++ (c ∷ (ws ++ (zs ++ (d ∷ []))))))
 plural_goes_on_fine bs xs ys ws zs c e offset cases (middle.PluralCase values) d o v hc w k h =
     begun_parts (block.PluralCase (open_plural e offset cases) values) bs (xs ++ (ys ++ (c ∷ (ws ++ (zs ++ (d ∷ []))))))
@@ -875,7 +880,7 @@ plural_goes_on_fine bs xs ys ws zs c e offset cases _ d o v hc w k h = record { 
 
 select_goes_on_fine : (bs : List Block) (xs ys ws zs : List Command) (c : Command) (e : Expr)
     (cases : List SelectCase) (m : Middle) (d : Command) → Opened AMessage bs xs → WhiteOf ys →
-    c.tag ≡ tag.Opens (opening.Select e) → WhiteOf ws → SelectCasesOf zs cases → d.tag ≡ tag.GoesOn m →
+    c.form ≡ says.Opens (opening.Select e) → WhiteOf ws → SelectCasesOf zs cases → d.form ≡ says.GoesOn m →
     IsFine (select_goes_on bs (open_select e cases) m) (xs ++ (ys ++ (c ∷ (ws ++ (zs ++ (d ∷ []))))))
 select_goes_on_fine bs xs ys ws zs c e cases (middle.SelectCase values) d o v hc w k h =
     begun_parts (block.SelectCase (open_select e cases) values) bs (xs ++ (ys ++ (c ∷ (ws ++ (zs ++ (d ∷ []))))))
@@ -887,7 +892,8 @@ select_goes_on_fine bs xs ys ws zs c e cases _ d o v hc w k h = record { fine = 
 
 cases_begin_fine : (k : Inside) → HasCases k → (bs : List Block) (xs : List Command) → Opened k bs xs
     → (ws : List Command) →
-    WhiteOf ws → (d : Command) (m : Middle) → d.tag ≡ tag.GoesOn m → IsFine (cases_begin bs m) ((xs ++ ws) ++ (d ∷ []))
+    WhiteOf ws → (d : Command) (m : Middle) → d.form ≡ says.GoesOn m
+    → IsFine (cases_begin bs m) ((xs ++ ws) ++ (d ∷ []))
 cases_begin_fine _ HasCases.switch_ _ _ (Opened.switch_ bs xs us c before e o v hc) ws w d m h =
     moved (case_goes_on_fine bs xs us ws [] c before e [] m d o v hc w ([], SpellsCases.no_case_) h) (simp append_assoc)
 cases_begin_fine _ HasCases.plural_ _ _ (Opened.plural_ bs xs us c e offset o v hc) ws w d m h =
@@ -899,12 +905,12 @@ cases_begin_fine _ HasCases.select_ _ _ (Opened.select_ bs xs us c e o v hc) ws 
 
 closed_bare_fine : (k : Inside) → HasCases k → (bs : List Block) (xs : List Command) → Opened k bs xs
     → (ws : List Command) →
-    WhiteOf ws → (z : Command) → z.tag ≡ tag.Closes name.Switch →
+    WhiteOf ws → (z : Command) → z.form ≡ says.Closes name.Switch →
     IsFine (closed_bare_switch bs z.span) ((xs ++ ws) ++ (z ∷ []))
 closed_bare_fine _ HasCases.switch_ _ _ (Opened.switch_ bs xs us c before e o v hc) ws w z h =
     moved
     (adds_fine bs xs us (c ∷ (ws ++ ([] ++ (z ∷ [])))) before _ o v
-    (0 ∷ inside 1 (w.0 ++ (0 ∷ [])), SpellsNode.switch_ c z ws [] w.0 [] e [] hc w.1 SpellsCases.no_case_ h))
+    (0 ∷ inside_blocks 1 (w.0 ++ (0 ∷ [])), SpellsNode.switch_ c z ws [] w.0 [] e [] hc w.1 SpellsCases.no_case_ h))
     (simp append_assoc)
 closed_bare_fine _ HasCases.plural_ _ _ (Opened.plural_ bs xs us c e offset o v hc) ws w z h = record { fine = tt }
 closed_bare_fine _ HasCases.select_ _ _ (Opened.select_ bs xs us c e o v hc) ws w z h = record { fine = tt }
@@ -913,10 +919,10 @@ switch_name : (n : BlockName) → is_switch n ≡ true → n ≡ name.Switch
 switch_name name.Switch e = refl
 switch_name _ e = absurd (cc e)
 
-before_cases_fine : (bs : List Block) (cs : List Command) (c : Command) (of : Tag) → c.tag ≡ of
+before_cases_fine : (bs : List Block) (cs : List Command) (c : Command) (of : CommandForm) → c.form ≡ of
     → HeldBeforeCases bs cs →
     IsFine (before_cases_step bs of c.span) (cs ++ (c ∷ []))
-before_cases_fine bs cs c (tag.Text text) e h = over (is_white text) refl
+before_cases_fine bs cs c (says.Text text) e h = over (is_white text) refl
   where
     over : (t : Bool) → is_white text ≡ t → IsFine (if t then state bs content.BeforeCases else None) (cs ++ (c ∷ []))
     over true w = record {
@@ -931,15 +937,15 @@ before_cases_fine bs cs c (tag.Text text) e h = over (is_white text) refl
       };
     }
     over false w = record { fine = tt }
-before_cases_fine bs cs c (tag.GoesOn m) e h =
+before_cases_fine bs cs c (says.GoesOn m) e h =
     moved (cases_begin_fine h.inside h.has bs h.front h.opened h.back h.white c m e)
     (ap (λ l. l ++ (c ∷ [])) (sym h.whole))
-before_cases_fine bs cs c (tag.Closes n) e h = over (is_switch n) refl
+before_cases_fine bs cs c (says.Closes n) e h = over (is_switch n) refl
   where
     over : (t : Bool) → is_switch n ≡ t → IsFine (if t then closed_bare_switch bs c.span else None) (cs ++ (c ∷ []))
     over true q =
         moved
-        (closed_bare_fine h.inside h.has bs h.front h.opened h.back h.white c (e ∙ ap tag.Closes (switch_name n q)))
+        (closed_bare_fine h.inside h.has bs h.front h.opened h.back h.white c (e ∙ ap says.Closes (switch_name n q)))
         (ap (λ l. l ++ (c ∷ [])) (sym h.whole))
     over false q = record { fine = tt }
 before_cases_fine bs cs c _ e h = record { fine = tt }
@@ -947,21 +953,21 @@ before_cases_fine bs cs c _ e h = record { fine = tt }
 -- in a message
 
 plural_more : (zs ys : List Command) (cases : List PluralCase) (d : Command) (values : List ℤ) (body : MessageBody) →
-    PluralCasesOf zs cases → d.tag ≡ tag.GoesOn (middle.PluralCase values) → MessageOf ys body →
+    PluralCasesOf zs cases → d.form ≡ says.GoesOn (middle.PluralCase values) → MessageOf ys body →
     PluralCasesOf (zs ++ (d ∷ ys)) (cases ++ plural_cases values body)
 plural_more zs ys cases d values body k h b =
     (k.0 ++ (0 ∷ b.0), SpellsPluralCases.plural_case_ zs ys k.0 b.0 cases d values body k.1 h b.1)
 
 select_more : (zs ys : List Command) (cases : List SelectCase) (d : Command) (values : List (List ℕ))
     (body : MessageBody) →
-    SelectCasesOf zs cases → d.tag ≡ tag.GoesOn (middle.SelectCase values) → MessageOf ys body →
+    SelectCasesOf zs cases → d.form ≡ says.GoesOn (middle.SelectCase values) → MessageOf ys body →
     SelectCasesOf (zs ++ (d ∷ ys)) (cases ++ select_cases values body)
 select_more zs ys cases d values body k h b =
     (k.0 ++ (0 ∷ b.0), SpellsSelectCases.select_case_ zs ys k.0 b.0 cases d values body k.1 h b.1)
 
 fallback_fine : (bs : List Block) (xs us ys : List Command) (c : Command) (before : List Node) (desc meaning : List ℕ)
     (body : MessageBody) (m : Middle) (d : Command) → Opened ABody bs xs → BodyOf us before →
-    c.tag ≡ tag.Opens (opening.Message desc meaning) → MessageOf ys body → d.tag ≡ tag.GoesOn m →
+    c.form ≡ says.Opens (opening.Message desc meaning) → MessageOf ys body → d.form ≡ says.GoesOn m →
     IsFine (fallback_begins bs (open_message before c.span desc meaning) body m d.span)
     (xs ++ (us ++ (c ∷ (ys ++ (d ∷ [])))))
 fallback_fine bs xs us ys c before desc meaning body (middle.Fallback older older_meaning) d o v hc b h =
@@ -972,7 +978,7 @@ fallback_fine bs xs us ys c before desc meaning body (middle.Fallback older olde
 fallback_fine bs xs us ys c before desc meaning body _ d o v hc b h = record { fine = tt }
 
 message_goes_on_fine : (bs : List Block) (xs : List Command) → Opened AMessage bs xs → (ys : List Command)
-    (body : MessageBody) → MessageOf ys body → (d : Command) (m : Middle) → d.tag ≡ tag.GoesOn m →
+    (body : MessageBody) → MessageOf ys body → (d : Command) (m : Middle) → d.form ≡ says.GoesOn m →
     IsFine (message_goes_on bs body m d.span) ((xs ++ ys) ++ (d ∷ []))
 message_goes_on_fine _ _ (Opened.message_ bs xs us c before desc meaning o v hc) ys body b d m h =
     moved (fallback_fine bs xs us ys c before desc meaning body m d o v hc b h) (simp append_assoc)
@@ -1011,19 +1017,19 @@ closes_message_name _ _ e = absurd (cc e)
 
 closed_message_fine : (b : Block) (bs : List Block) (xs : List Command) → Opened AMessage (b ∷ bs) xs
     → (ys : List Command)
-    (body : MessageBody) → MessageOf ys body → (z : Command) → z.tag ≡ tag.Closes (message_name b) →
+    (body : MessageBody) → MessageOf ys body → (z : Command) → z.form ≡ says.Closes (message_name b) →
     IsFine (closed_message bs b body z.span) ((xs ++ ys) ++ (z ∷ []))
 closed_message_fine _ _ _ (Opened.message_ bs xs us c before desc meaning o v hc) ys body m z h =
     moved
     (adds_fine bs xs us (c ∷ (ys ++ (z ∷ []))) before _ o v
-    (0 ∷ inside 1 (m.0 ++ (0 ∷ [])), SpellsNode.message_ c z ys m.0 desc meaning body hc m.1 h))
+    (0 ∷ inside_blocks 1 (m.0 ++ (0 ∷ [])), SpellsNode.message_ c z ys m.0 desc meaning body hc m.1 h))
     (simp append_assoc)
 closed_message_fine _ _ _ (Opened.fallback_ bs xs us zs c k before first desc meaning older older_meaning o v hc a hk)
     ys body m z
     h =
     moved
     (adds_fine bs xs us (c ∷ (zs ++ (k ∷ (ys ++ (z ∷ []))))) before _ o v (
-      0 ∷ inside 1 (a.0 ++ (0 ∷ (m.0 ++ (0 ∷ [])))),
+      0 ∷ inside_blocks 1 (a.0 ++ (0 ∷ (m.0 ++ (0 ∷ [])))),
       SpellsNode.message_fallback_ c k z zs ys a.0 m.0 desc meaning older older_meaning first body hc a.1 hk m.1 h,
     ))
     (simp append_assoc)
@@ -1040,7 +1046,7 @@ closed_message_fine _ _ _ (Opened.plural_default_ bs xs us ws zs c k e offset ca
         opened = o;
         white_before = v;
         choice = (
-          0 ∷ inside 1 (w.0 ++ (a.0 ++ (0 ∷ (m.0 ++ (0 ∷ []))))),
+          0 ∷ inside_blocks 1 (w.0 ++ (a.0 ++ (0 ∷ (m.0 ++ (0 ∷ []))))),
           SpellsChoice.plural_ c k z zs ys ws a.0 m.0 w.0 e offset cases body hc w.1 a.1 hk m.1 h,
         );
         white_after = no_white;
@@ -1059,7 +1065,7 @@ closed_message_fine _ _ _ (Opened.select_default_ bs xs us ws zs c k e cases o v
         opened = o;
         white_before = v;
         choice = (
-          0 ∷ inside 1 (w.0 ++ (a.0 ++ (0 ∷ (m.0 ++ (0 ∷ []))))),
+          0 ∷ inside_blocks 1 (w.0 ++ (a.0 ++ (0 ∷ (m.0 ++ (0 ∷ []))))),
           SpellsChoice.select_ c k z zs ys ws a.0 m.0 w.0 e cases body hc w.1 a.1 hk m.1 h,
         );
         white_after = no_white;
@@ -1067,17 +1073,17 @@ closed_message_fine _ _ _ (Opened.select_default_ bs xs us ws zs c k e cases o v
     }
 
 message_closes_fine : (bs : List Block) (xs : List Command) → Opened AMessage bs xs → (ys : List Command)
-    (body : MessageBody) → MessageOf ys body → (z : Command) (n : BlockName) → z.tag ≡ tag.Closes n →
+    (body : MessageBody) → MessageOf ys body → (z : Command) (n : BlockName) → z.form ≡ says.Closes n →
     IsFine (message_closes bs body n z.span) ((xs ++ ys) ++ (z ∷ []))
 message_closes_fine [] xs o ys body m z n h = record { fine = tt }
 message_closes_fine (k ∷ bs) xs o ys body m z n h = over (closes_message k n) refl
   where
     over : (t : Bool) → closes_message k n ≡ t →
         IsFine (if t then closed_message bs k body z.span else None) ((xs ++ ys) ++ (z ∷ []))
-    over true e = closed_message_fine k bs xs o ys body m z (h ∙ ap tag.Closes (closes_message_name k n e))
+    over true e = closed_message_fine k bs xs o ys body m z (h ∙ ap says.Closes (closes_message_name k n e))
     over false e = record { fine = tt }
 
-choice_opens_fine : (bs : List Block) (xs ys : List Command) (c : Command) (of : Opening) → c.tag ≡ tag.Opens of →
+choice_opens_fine : (bs : List Block) (xs ys : List Command) (c : Command) (of : Opening) → c.form ≡ says.Opens of →
     Opened AMessage bs xs → WhiteOf ys → IsFine (choice_opens bs of) (xs ++ (ys ++ (c ∷ [])))
 choice_opens_fine bs xs ys c (opening.Plural e offset) h o w =
     begun_cases APlural (block.Plural e offset) bs (xs ++ (ys ++ (c ∷ []))) HasCases.plural_
@@ -1093,7 +1099,7 @@ both_true true false e = absurd (cc e)
 both_true false b e = absurd (cc e)
 
 part_single_fine : (bs : List Block) (nodes : Nodes) (white : Bool) (cs : List Command) (c : Command) (of : Single) →
-    c.tag ≡ tag.Single of → HeldParts bs nodes white cs → IsFine (part_single bs (ended nodes) of c.span)
+    c.form ≡ says.Single of → HeldParts bs nodes white cs → IsFine (part_single bs (ended nodes) of c.span)
     (cs ++ (c ∷ []))
 part_single_fine bs nodes white cs c (single.MessagePrint e phname) t h =
     let p = parts_at h.back nodes.items nodes.run h.parts in
@@ -1109,10 +1115,10 @@ part_single_fine bs nodes white cs c (single.MessagePrint e phname) t h =
     }
 part_single_fine bs nodes white cs c _ t h = record { fine = tt }
 
-parts_fine : (bs : List Block) (nodes : Nodes) (white : Bool) (cs : List Command) (c : Command) (of : Tag)
-    → c.tag ≡ of →
+parts_fine : (bs : List Block) (nodes : Nodes) (white : Bool) (cs : List Command) (c : Command) (of : CommandForm)
+    → c.form ≡ of →
     HeldParts bs nodes white cs → IsFine (parts_step bs nodes white of c.span) (cs ++ (c ∷ []))
-parts_fine bs nodes white cs c (tag.Text text) e h = record {
+parts_fine bs nodes white cs c (says.Text text) e h = record {
   fine = record {
     front = h.front;
     back = h.back ++ (c ∷ []);
@@ -1123,7 +1129,7 @@ parts_fine bs nodes white cs c (tag.Text text) e h = record {
         both.1;
   };
 }
-parts_fine bs nodes white cs c (tag.Character text) e h = record {
+parts_fine bs nodes white cs c (says.Character text) e h = record {
   fine = record {
     front = h.front;
     back = h.back ++ (c ∷ []);
@@ -1133,35 +1139,35 @@ parts_fine bs nodes white cs c (tag.Character text) e h = record {
     are_white = λ q. absurd (cc q);
   };
 }
-parts_fine bs nodes white cs c (tag.Namespace n) e h = record { fine = tt }
-parts_fine bs nodes white cs c (tag.HeadParam n required of) e h = record { fine = tt }
-parts_fine bs nodes white cs c (tag.Single of) e h = part_single_fine bs nodes white cs c of e h
-parts_fine bs nodes white cs c (tag.Opens of) e h = over white refl
+parts_fine bs nodes white cs c (says.Namespace n) e h = record { fine = tt }
+parts_fine bs nodes white cs c (says.TemplateParam n required of) e h = record { fine = tt }
+parts_fine bs nodes white cs c (says.Single of) e h = part_single_fine bs nodes white cs c of e h
+parts_fine bs nodes white cs c (says.Opens of) e h = over white refl
   where
     over : (t : Bool) → white ≡ t → IsFine (if t then choice_opens bs of else None) (cs ++ (c ∷ []))
     over true q =
         moved (choice_opens_fine bs h.front h.back c of e h.opened (h.are_white q))
         (on_whole cs h.front h.back (c ∷ []) h.whole)
     over false q = record { fine = tt }
-parts_fine bs nodes white cs c (tag.GoesOn m) e h = over (has_whole_tags nodes) refl
+parts_fine bs nodes white cs c (says.GoesOn m) e h = over (has_whole_tags nodes) refl
   where
     over : (t : Bool) → has_whole_tags nodes ≡ t →
-        IsFine (if t then message_goes_on bs (parts_of nodes) m c.span else None) (cs ++ (c ∷ []))
+        IsFine (if t then message_goes_on bs (body_of_parts nodes) m c.span else None) (cs ++ (c ∷ []))
     over true q =
         let p = parts_at h.back nodes.items nodes.run h.parts in
         moved
-        (message_goes_on_fine bs h.front h.opened h.back (parts_of nodes)
+        (message_goes_on_fine bs h.front h.opened h.back (body_of_parts nodes)
         (p.0, SpellsMessageBody.parts_ h.back p.0 (ended nodes) p.1 q) c m e)
         (ap (λ l. l ++ (c ∷ [])) (sym h.whole))
     over false q = record { fine = tt }
-parts_fine bs nodes white cs c (tag.Closes n) e h = over (has_whole_tags nodes) refl
+parts_fine bs nodes white cs c (says.Closes n) e h = over (has_whole_tags nodes) refl
   where
     over : (t : Bool) → has_whole_tags nodes ≡ t →
-        IsFine (if t then message_closes bs (parts_of nodes) n c.span else None) (cs ++ (c ∷ []))
+        IsFine (if t then message_closes bs (body_of_parts nodes) n c.span else None) (cs ++ (c ∷ []))
     over true q =
         let p = parts_at h.back nodes.items nodes.run h.parts in
         moved
-        (message_closes_fine bs h.front h.opened h.back (parts_of nodes)
+        (message_closes_fine bs h.front h.opened h.back (body_of_parts nodes)
         (p.0, SpellsMessageBody.parts_ h.back p.0 (ended nodes) p.1 q) c n e)
         (ap (λ l. l ++ (c ∷ [])) (sym h.whole))
     over false q = record { fine = tt }
@@ -1173,9 +1179,10 @@ choice_message : (body : MessageBody) (us os ws : List Command) → WhiteOf us �
 choice_message body us os ws u o w =
     (u.0 ++ (o.0 ++ w.0), SpellsMessageBody.choice_ us os ws u.0 o.0 w.0 body u.1 o.1 w.1)
 
-choice_fine : (bs : List Block) (body : MessageBody) (cs : List Command) (c : Command) (of : Tag) → c.tag ≡ of →
+choice_fine : (bs : List Block) (body : MessageBody) (cs : List Command) (c : Command) (of : CommandForm)
+    → c.form ≡ of →
     HeldChoice bs body cs → IsFine (choice_step bs body of c.span) (cs ++ (c ∷ []))
-choice_fine bs body cs c (tag.Text text) e h = over (is_white text) refl
+choice_fine bs body cs c (says.Text text) e h = over (is_white text) refl
   where
     over : (t : Bool) → is_white text ≡ t → IsFine (if t then state bs (content.Choice body) else None) (cs ++ (c ∷ []))
     over true w = record {
@@ -1192,12 +1199,12 @@ choice_fine bs body cs c (tag.Text text) e h = over (is_white text) refl
       };
     }
     over false w = record { fine = tt }
-choice_fine bs body cs c (tag.GoesOn m) e h =
+choice_fine bs body cs c (says.GoesOn m) e h =
     moved
     (message_goes_on_fine bs h.front h.opened (h.before ++ (h.own ++ h.after)) body
     (choice_message body h.before h.own h.after h.white_before h.choice h.white_after) c m e)
     (ap (λ l. l ++ (c ∷ [])) (sym h.whole))
-choice_fine bs body cs c (tag.Closes n) e h =
+choice_fine bs body cs c (says.Closes n) e h =
     moved
     (message_closes_fine bs h.front h.opened (h.before ++ (h.own ++ h.after)) body
     (choice_message body h.before h.own h.after h.white_before h.choice h.white_after) c n e)
@@ -1206,14 +1213,14 @@ choice_fine bs body cs c _ e h = record { fine = tt }
 
 -- **A command keeps what was read.**
 pub step_fine : (k : Content) (bs : List Block) (cs : List Command) (c : Command) → Held_at k bs cs →
-    IsFine (step_at k bs c.tag c.span) (cs ++ (c ∷ []))
-step_fine content.White bs cs c h = white_fine bs cs c c.tag refl h
-step_fine (content.Templates n templates) bs cs c h = templates_fine bs n templates cs c c.tag refl h
-step_fine (content.Body nodes) bs cs c h = body_fine bs nodes cs c c.tag refl h
-step_fine (content.Arguments arguments) bs cs c h = arguments_fine bs arguments cs c c.tag refl h
-step_fine content.BeforeCases bs cs c h = before_cases_fine bs cs c c.tag refl h
-step_fine (content.Parts nodes white) bs cs c h = parts_fine bs nodes white cs c c.tag refl h
-step_fine (content.Choice body) bs cs c h = choice_fine bs body cs c c.tag refl h
+    IsFine (step_at k bs c.form c.span) (cs ++ (c ∷ []))
+step_fine content.White bs cs c h = white_fine bs cs c c.form refl h
+step_fine (content.Templates n templates) bs cs c h = templates_fine bs n templates cs c c.form refl h
+step_fine (content.Body nodes) bs cs c h = body_fine bs nodes cs c c.form refl h
+step_fine (content.Arguments arguments) bs cs c h = arguments_fine bs arguments cs c c.form refl h
+step_fine content.BeforeCases bs cs c h = before_cases_fine bs cs c c.form refl h
+step_fine (content.Parts nodes white) bs cs c h = parts_fine bs nodes white cs c c.form refl h
+step_fine (content.Choice body) bs cs c h = choice_fine bs body cs c c.form refl h
 
 -- so do commands one after the other
 pub run_held : (cs ds : List Command) (s s' : CommandState) → Held_at s.content s.blocks ds

@@ -17,7 +17,8 @@ use Rattle.expr_parser.proofs.Longest.{Ends, same_longest, same_bad, longest_goo
 use Rattle.expr_parser.proofs.Prefixes.{same_prefix, same_last, within_prefix, within_last}
 use Rattle.soy_parser.specs.FileRuns.{file_depths, file_words}
 use Rattle.soy_parser.specs.FileSteps.{file_start}
-use Rattle.soy_parser.specs.ParsesFile.{IsFile, NoFileGoesOn, IsNoFile, BeginsFault, IsTooDeep, IsUnknown, RefusesFile}
+use Rattle.soy_parser.specs.ParsesFile.{IsFile, NoFileGoesOn, IsNoFile, BeginsFileFault, IsTooDeep, IsUnknown}
+use Rattle.soy_parser.specs.ParsesFile.{RefusesTokens}
 use Rattle.soy_parser.specs.ParsesFile.{ParsesFile}
 use Rattle.soy_parser.specs.SpellsFile.{SpellsFile, BeginsFile}
 use Rattle.soy_parser.proofs.FileMachine.{BeginsFile-run, run-BeginsFile, before, depths_length, words_length}
@@ -128,7 +129,7 @@ module _ (tokens : List Token) where
   }
 
   -- the tokens before the fault are good
-  before_fault : {offset : ℕ} (i : BeginsFault tokens offset) → Good i.prefix (i.token ∷ i.rest)
+  before_fault : {offset : ℕ} (i : BeginsFileFault tokens offset) → Good i.prefix (i.token ∷ i.rest)
   before_fault i =
       let r = BeginsFile-run (i.prefix ++ (i.token ∷ [])) (i.depths ++ (i.depth ∷ [])) (i.words ++ (i.word ∷ []))
       i.begins in
@@ -155,7 +156,7 @@ module _ (tokens : List Token) where
             (r.words_are ∙ words_append i.prefix (i.token ∷ []) file_start m.state m.is)) i.known;
       }
 
-  bad_deep : {offset : ℕ} (i : BeginsFault tokens offset) → depth_limit < i.depth →
+  bad_deep : {offset : ℕ} (i : BeginsFileFault tokens offset) → depth_limit < i.depth →
       Good (i.prefix ++ (i.token ∷ [])) i.rest → ⊥
   bad_deep i deep g =
       let e = begun_depths (i.prefix ++ (i.token ∷ [])) g.depths (i.depths ++ (i.depth ∷ [])) g.words
@@ -163,7 +164,7 @@ module _ (tokens : List Token) where
       let w = within_last 0 i.depths i.depth (subst (AreWithin 0) e g.within) in
       omega (arith, w, deep)
 
-  bad_name : {offset : ℕ} (i : BeginsFault tokens offset) → i.word ≡ true → is_type_name i.token i.rest ≡ false →
+  bad_name : {offset : ℕ} (i : BeginsFileFault tokens offset) → i.word ≡ true → is_type_name i.token i.rest ≡ false →
       Good (i.prefix ++ (i.token ∷ [])) i.rest → ⊥
   bad_name i stands unknown g =
       let e = begun_words (i.prefix ++ (i.token ∷ [])) g.depths (i.depths ++ (i.depth ∷ [])) g.words
@@ -238,7 +239,7 @@ module _ (tokens : List Token) where
   start_same a b p q = sym p ∙ (ap (λ t. t.span.start) (one_bad a b).1 ∙ q)
 
   -- two faults are the same
-  refused_same : (c d : Code) (m n : ℕ) → RefusesFile tokens c m → RefusesFile tokens d n → (c ≡ d) × (m ≡ n)
+  refused_same : (c d : Code) (m n : ℕ) → RefusesTokens tokens c m → RefusesTokens tokens d n → (c ≡ d) × (m ≡ n)
   refused_same code.Syntax code.Syntax m n p q =
       let e = one_longest (longest_none p) (longest_none q) in
       (refl, sym p.offset_is ∙ (ap (λ l. offset_after l p.rest) e.0 ∙ (ap (offset_after q.prefix) e.1 ∙ q.offset_is)))
@@ -264,7 +265,7 @@ module _ (tokens : List Token) where
   not_whole prefix (t ∷ rest) h e ds ws tree p = absurd (cc e)
 
   -- no fault beside a file
-  never_refused : (d : Code) (n : ℕ) {tree : Tree} → IsFile tokens tree → RefusesFile tokens d n → ⊥
+  never_refused : (d : Code) (n : ℕ) {tree : Tree} → IsFile tokens tree → RefusesTokens tokens d n → ⊥
   never_refused code.Syntax n {tree} p q =
       let e = one_longest (longest_file p) (longest_none q) in
       not_whole q.prefix q.rest q.longest (sym e.1) p.depths p.words tree

@@ -36,8 +36,8 @@ use Rattle.soy_parser.specs.FileRuns.{file_run, file_run_from, file_depths, file
 use Rattle.soy_parser.specs.FileRuns.{file_words_from}
 use Rattle.soy_parser.specs.FileSteps.{file_step, file_start, token_depth, word_in, unknown_in}
 use Rattle.soy_parser.specs.FileSteps.{whole_file}
-use Rattle.soy_parser.specs.ReadsFile.{ReadsFile}
-use Rattle.soy_parser.specs.ParsesFile.{IsFile, NoFileGoesOn, BeginsFault, IsUnknown, RefusesFile}
+use Rattle.soy_parser.proofs.ReadsFile.{ReadsFile}
+use Rattle.soy_parser.specs.ParsesFile.{IsFile, NoFileGoesOn, BeginsFileFault, IsUnknown, RefusesTokens}
 use Rattle.soy_parser.specs.ParsesFile.{ParsesFile}
 use Rattle.soy_parser.specs.SpellsFile.{SpellsFile, BeginsFile}
 use Rattle.soy_parser.proofs.FileMachine.{BeginsFile-run, run-BeginsFile, same_state, whole-spelled, words_length}
@@ -50,7 +50,7 @@ use Rattle.soy_parser.proofs.HeadsBegun.{Begun}
 -- what is read, of the tokens
 abbrev pub Answers : ℕ → List Token → Result Tree Fault → Type 0
 Answers file tokens (Ok tree) = IsFile tokens tree
-Answers file tokens (Err fault) = (fault.file ≡ file) × RefusesFile tokens fault.code fault.at
+Answers file tokens (Err fault) = (fault.file ≡ file) × RefusesTokens tokens fault.code fault.at
 
 -- words that name types, and one more token after them
 names_append : (us : List Token) (ws : List Bool) (t : Token) (w : Bool) (ts : List Token) → length ws ≡ length us →
@@ -303,7 +303,7 @@ module _ (file : ℕ) where
 
       -- the tokens up to this one, as a fault at it has them
       fault_to : (offset : ℕ) (m : FileState) → file_step s t ≡ Some m → t.span.start ≡ offset →
-          BeginsFault (us ++ t ∷ ts) offset
+          BeginsFileFault (us ++ t ∷ ts) offset
       fault_to offset m e at = record {
         prefix = us;
         token = t;
@@ -326,7 +326,8 @@ module _ (file : ℕ) where
       last_word : (m : FileState) → file_step s t ≡ Some m → WordIs m.spot t ts
       last_word m e = held_word m.spot m.commands us t ts (start_run_held (us ++ t ∷ []) m (read_to m e))
 
-      known_to : (m : FileState) → file_step s t ≡ Some m → 0 + token_depth s m ≤ depth_limit → Known (us ++ t ∷ []) ts m
+      known_to : (m : FileState) → file_step s t ≡ Some m → 0 + token_depth s m ≤ depth_limit
+          → Known (us ++ t ∷ []) ts m
       unfolding fault_to
       known_to m e small = let w = last_word m e in record {
         known = λ none. subst (λ ws. NameTypes (us ++ t ∷ []) ws ts) (sym (words_to m e))

@@ -3,7 +3,7 @@ use Rattle.std.proofs.Common.{◌≡◌, ℕ, ◌+◌, Bool, List, [], ◌∷◌
 use Rattle.std.proofs.Common.{ap}
 use Rattle.soy_lexer.specs.declared.token.Token.{Token}
 use Rattle.soy_parser.specs.declared.spot.FileState.{FileState}
-use Rattle.soy_parser.specs.Depth.{inside}
+use Rattle.soy_parser.specs.Depth.{inside_blocks}
 use Rattle.soy_parser.specs.FileRuns.{file_run, file_run_from, file_depths, file_depths_from, file_words}
 use Rattle.soy_parser.specs.FileRuns.{file_words_from}
 use Rattle.soy_parser.specs.FileSteps.{file_step, token_depth, word_in}
@@ -53,7 +53,7 @@ words_append (t ∷ ts) us s s' e = over (file_step s t) e (λ m. words_append t
 pub record Leads (n : ℕ) (s : FileState) (ts : List Token) (ds : List ℕ) (ws : List Bool) (s' : FileState) : Type 0
   where
     pub runs : file_run ts s ≡ Some s'
-    pub deep : file_depths ts s ≡ inside n ds
+    pub deep : file_depths ts s ≡ inside_blocks n ds
     pub words : file_words ts s ≡ ws
 
 pub none_leads : (n : ℕ) (s : FileState) → Leads n s [] [] [] s

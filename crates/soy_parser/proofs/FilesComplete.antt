@@ -12,8 +12,8 @@ use Rattle.soy_parser.specs.declared.block.Content.TheVariants as content
 use Rattle.soy_parser.specs.declared.command.Command.{Command}
 use Rattle.soy_parser.specs.declared.command.Middle.TheVariants as middle
 use Rattle.soy_parser.specs.declared.command.Opening.TheVariants as opening
-use Rattle.soy_parser.specs.declared.command.Tag.{Tag}
-use Rattle.soy_parser.specs.declared.command.Tag.TheVariants as tag
+use Rattle.soy_parser.specs.declared.command.CommandForm.{CommandForm}
+use Rattle.soy_parser.specs.declared.command.CommandForm.TheVariants as says
 use Rattle.soy_parser.specs.declared.head.Head.{Head}
 use Rattle.soy_parser.specs.declared.head.Head.TheVariants as head
 use Rattle.soy_parser.specs.declared.spot.FileState.{FileState}
@@ -21,13 +21,13 @@ use Rattle.soy_parser.specs.declared.terminal.BlockName.TheVariants as name
 use Rattle.soy_parser.specs.declared.terminal.CommandTerminal.{CommandTerminal}
 use Rattle.soy_parser.specs.declared.terminal.CommandTerminal.TheVariants as terminal
 use Rattle.soy_parser.specs.declared.terminal.CommandWord.TheVariants as word
-use Rattle.soy_parser.specs.CommandLevels.{levels_from, command_levels}
+use Rattle.soy_parser.proofs.CommandLevels.{levels_from, command_levels}
 use Rattle.soy_parser.specs.CommandSteps.{command_step, commands_from, command_run, command_start}
 use Rattle.soy_parser.specs.CommandTerminals.{command_terminal_of}
-use Rattle.soy_parser.specs.Depth.{inside}
+use Rattle.soy_parser.specs.Depth.{inside_blocks}
 use Rattle.soy_parser.specs.FileRuns.{file_run, file_depths, file_words}
-use Rattle.soy_parser.specs.FileSteps.{admits, between_step, taken, tag_kind, head_kind, file_start, whole_file}
-use Rattle.soy_parser.specs.Heads.{tag_at, plain_tag, slash_tag}
+use Rattle.soy_parser.specs.FileSteps.{admits, between_step, taken, form_kind, head_kind, file_start, whole_file}
+use Rattle.soy_parser.specs.Heads.{form_at, plain_form, slash_form}
 use Rattle.soy_parser.specs.SpellsCommand.{SpellsCommand, SpellsCommands}
 use Rattle.soy_parser.specs.SpellsFile.{SpellsFile}
 use Rattle.soy_parser.specs.SpellsHead.{SpellsHead, bare_head, expr_head}
@@ -49,45 +49,48 @@ IfHead None = Unit {0}
 IfHead (Some h) = IsHead h
 
 -- what is said is of the kind of the head
-abbrev pub Fits : Head → Option Tag → Type 0
+abbrev pub Fits : Head → Option CommandForm → Type 0
 Fits h None = Unit {0}
-Fits h (Some of) = (tag_kind of ≡ head_kind h) × admit.HasHead of
+Fits h (Some of) = (form_kind of ≡ head_kind h) × admit.HasHead of
 
-map_fits : {A : Type 0} (h : Head) (f : A → Tag) → ((x : A) → (tag_kind (f x) ≡ head_kind h) × admit.HasHead (f x)) →
+map_fits : {A : Type 0} (h : Head) (f : A → CommandForm)
+    → ((x : A) → (form_kind (f x) ≡ head_kind h) × admit.HasHead (f x)) →
     (o : Option A) → Fits h (option_map f o)
 map_fits h f fits None = tt
 map_fits h f fits (Some x) = fits x
 
-plain_fits : (h : Head) (a : Attributes) → IsHead h → Fits h (plain_tag h a)
+plain_fits : (h : Head) (a : Attributes) → IsHead h → Fits h (plain_form h a)
 plain_fits (head.Whole of) a i = (refl, i)
 plain_fits (head.Alone of) a i = tt
 plain_fits (head.Template n) a i = (refl, tt)
 plain_fits (head.MessagePrint e) a i = (refl, tt)
-plain_fits (head.Let n) a i = map_fits (head.Let n) (λ kind. tag.Opens (opening.Let n kind)) (λ kind. (refl, tt)) a.kind
+plain_fits (head.Let n) a i = map_fits (head.Let n) (λ kind. says.Opens (opening.Let n kind))
+    (λ kind. (refl, tt)) a.kind
 plain_fits (head.Param n) a i =
-    map_fits (head.Param n) (λ kind. tag.Opens (opening.Param n kind)) (λ kind. (refl, tt)) a.kind
+    map_fits (head.Param n) (λ kind. says.Opens (opening.Param n kind)) (λ kind. (refl, tt)) a.kind
 plain_fits (head.Call n) a i = (refl, tt)
 plain_fits head.Message a i =
-    map_fits head.Message (λ desc. tag.Opens (opening.Message desc (unwrap_or a.meaning []))) (λ desc. (refl, tt))
+    map_fits head.Message (λ desc. says.Opens (opening.Message desc (unwrap_or a.meaning []))) (λ desc. (refl, tt))
     a.desc
 plain_fits head.Fallback a i =
-    map_fits head.Fallback (λ desc. tag.GoesOn (middle.Fallback desc (unwrap_or a.meaning []))) (λ desc. (refl, tt))
+    map_fits head.Fallback (λ desc. says.GoesOn (middle.Fallback desc (unwrap_or a.meaning []))) (λ desc. (refl, tt))
     a.desc
 plain_fits (head.Plural e) a i = (refl, tt)
 
-slash_fits : (h : Head) (a : Attributes) → Fits h (slash_tag h a)
+slash_fits : (h : Head) (a : Attributes) → Fits h (slash_form h a)
 slash_fits (head.Alone of) a = (refl, tt)
 slash_fits (head.Call n) a = (refl, tt)
 slash_fits _ a = tt
 
-tag_fits : (h : Head) (a : Attributes) (m : CommandTerminal) → IsHead h → Fits h (tag_at h a m)
-tag_fits h a terminal.End i = plain_fits h a i
-tag_fits h a terminal.SlashEnd i = slash_fits h a
-tag_fits h a _ i = tt
+form_fits : (h : Head) (a : Attributes) (m : CommandTerminal) → IsHead h → Fits h (form_at h a m)
+form_fits h a terminal.End i = plain_fits h a i
+form_fits h a terminal.SlashEnd i = slash_fits h a
+form_fits h a _ i = tt
 
-pub said_fits : (h : Head) (a : Attributes) (m : CommandTerminal) (of : Tag) → IsHead h → tag_at h a m ≡ Some of →
-    (tag_kind of ≡ head_kind h) × admit.HasHead of
-said_fits h a m of i e = subst (Fits h) e (tag_fits h a m i)
+pub said_fits : (h : Head) (a : Attributes) (m : CommandTerminal) (of : CommandForm) → IsHead h
+    → form_at h a m ≡ Some of →
+    (form_kind of ≡ head_kind h) × admit.HasHead of
+said_fits h a m of i e = subst (Fits h) e (form_fits h a m i)
 
 -- a head says no text
 
@@ -135,7 +138,7 @@ spelled_is_head _ _ _ _ (SpellsHead.param_ t n colon w ts ds x ht hn hc p) = tt
 spelled_is_head _ _ _ _ (SpellsHead.param_block_ t n w ht hn) = tt
 spelled_is_head _ _ _ _ (SpellsHead.namespace_ t ts n ht p) = tt
 spelled_is_head _ _ _ _ (SpellsHead.template_ t n w ts ht d hn) = tt
-spelled_is_head _ _ _ _ (SpellsHead.head_param_ sign t n colon w ts us ds ws required x hs ht q hn hc p) = tt
+spelled_is_head _ _ _ _ (SpellsHead.template_param_ sign t n colon w ts us ds ws required x hs ht q hn hc p) = tt
 
 -- **A command with a step is read.**
 pub command_leads : (ts : List Token) (ds : List ℕ) (ws : List Bool) (c : Command) → SpellsCommand ts ds ws c →
@@ -156,16 +159,16 @@ command_leads _ _ _ _ (SpellsCommand.command_ b z ts us ds ws h a of hb p q hz) 
     (then_leads g.leads (none_then {us = z ∷ []} k.leads last))
 
 -- inside no block
-inside_none : (ds : List ℕ) → inside 0 ds ≡ ds
+inside_none : (ds : List ℕ) → inside_blocks 0 ds ≡ ds
 inside_none [] = refl
 inside_none (d ∷ ds) =
-    let e : 0 + d ≡ d = omega arith in ap (λ k. k ∷ inside 0 ds) e ∙ ap (λ l. d ∷ l) (inside_none ds)
+    let e : 0 + d ≡ d = omega arith in ap (λ k. k ∷ inside_blocks 0 ds) e ∙ ap (λ l. d ∷ l) (inside_none ds)
 
 inside_leads : {n : ℕ} {a b : FileState} {ts : List Token} {ds : List ℕ} {ws : List Bool} (level : ℕ) → n ≡ level →
-    Leads n a ts ds ws b → Leads 0 a ts (inside level ds) ws b
+    Leads n a ts ds ws b → Leads 0 a ts (inside_blocks level ds) ws b
 inside_leads {n} {a} {b} {ts} {ds} {ws} level e p = record {
   runs = p.runs;
-  deep = p.deep ∙ (ap (λ k. inside k ds) e ∙ sym (inside_none (inside level ds)));
+  deep = p.deep ∙ (ap (λ k. inside_blocks k ds) e ∙ sym (inside_none (inside_blocks level ds)));
   words = p.words;
 }
 
@@ -197,7 +200,7 @@ commands_lead _ _ _ _ _ (SpellsCommands.more_ ts us ds es ws vs c cs level level
         levels_from (command_levels cs) to ≡ levels →
         ((k : CommandState) → command_run cs k ≡ Some m → command_levels cs k ≡ levels →
         Leads 0 (between k) us es vs (between m)) →
-        Leads 0 (between s) (ts ++ us) (inside level ds ++ es) (ws ++ vs) (between m)
+        Leads 0 (between s) (ts ++ us) (inside_blocks level ds ++ es) (ws ++ vs) (between m)
     over None h r l inside_ = absurd (cc r)
     over (Some k) h r l inside_ =
         then_leads (inside_leads level (ap first_of long) (command_leads ts ds ws c p s k h)) (inside_ k r l)

@@ -15,7 +15,7 @@ use Rattle.soy_parser.specs.declared.block.Content.{Content}
 use Rattle.soy_parser.specs.declared.block.Content.TheVariants as content
 use Rattle.soy_parser.specs.declared.command.Command.{Command}
 use Rattle.soy_parser.specs.declared.command.Middle.TheVariants as middle
-use Rattle.soy_parser.specs.declared.command.Tag.TheVariants as tag
+use Rattle.soy_parser.specs.declared.command.CommandForm.TheVariants as says
 use Rattle.soy_parser.specs.declared.head.Head.{Head}
 use Rattle.soy_parser.specs.declared.head.Head.TheVariants as head
 use Rattle.soy_parser.specs.declared.head.HeadKind.{HeadKind}
@@ -84,7 +84,7 @@ inside_completes s front begin own k heard begins c ok =
     let fits = said_fits c.head_ c.attributes (command_terminal_of c.close) c.said
     (spelled_is_head c.head_tokens of.depths of.words c.head_ of.spells) c.ends in
     let span = joined begin.span c.close.span in
-    let said : Command = record { tag = c.said; span = span } in
+    let said : Command = record { form = c.said; span = span } in
     let step = admitted_steps heard.commands s heard.runs c.said span fits.1
     (subst (λ k. admits s k ≡ true) (sym (fits.0 ∙ of.kind_is)) ok) in
     let own_tokens = begin ∷ (c.head_tokens ++ (c.attribute_tokens ++ (c.close ∷ []))) in
@@ -122,7 +122,7 @@ template_is : command_terminal_of (word_token (codes "template")) ≡ terminal.W
 unfolding lib.Utf8.encode
 template_is = refl
 
-nil_is : bare_head (command_terminal_of (word_token (codes "nil"))) ≡ Some (head.Whole (tag.Character []))
+nil_is : bare_head (command_terminal_of (word_token (codes "nil"))) ≡ Some (head.Whole (says.Character []))
 unfolding lib.Utf8.encode
 nil_is = refl
 
@@ -132,16 +132,16 @@ bare_begins k bs t h e ok = record { kind_ = head_kind h; first = t; ends = bare
 
 choice_begins : (body : MessageBody) (bs : List Block) → MessageTop bs → CanBegin (content.Choice body) bs
 choice_begins body _ (MessageTop.default_ bs e) =
-    bare_begins (content.Choice body) bs (word_token (codes "default")) (head.Whole (tag.GoesOn middle.Default))
+    bare_begins (content.Choice body) bs (word_token (codes "default")) (head.Whole (says.GoesOn middle.Default))
     default_is e
 choice_begins body _ (MessageTop.msg_ bs e) =
-    bare_begins (content.Choice body) bs (closing_token name.Msg) (head.Whole (tag.Closes name.Msg))
+    bare_begins (content.Choice body) bs (closing_token name.Msg) (head.Whole (says.Closes name.Msg))
     (closing_is name.Msg tt) e
 choice_begins body _ (MessageTop.plural_ bs e) =
-    bare_begins (content.Choice body) bs (closing_token name.Plural) (head.Whole (tag.Closes name.Plural))
+    bare_begins (content.Choice body) bs (closing_token name.Plural) (head.Whole (says.Closes name.Plural))
     (closing_is name.Plural tt) e
 choice_begins body _ (MessageTop.select_ bs e) =
-    bare_begins (content.Choice body) bs (closing_token name.Select) (head.Whole (tag.Closes name.Select))
+    bare_begins (content.Choice body) bs (closing_token name.Select) (head.Whole (says.Closes name.Select))
     (closing_is name.Select tt) e
 
 cases_default : (k : Inside) → HasCases k → (bs : List Block) (xs : List Command) → Opened k bs xs →
@@ -167,16 +167,16 @@ can_begin (content.Templates n ts) bs cs h =
       admitted = refl;
     }
 can_begin (content.Body nodes) bs cs h =
-    bare_begins (content.Body nodes) bs (word_token (codes "nil")) (head.Whole (tag.Character [])) nil_is refl
+    bare_begins (content.Body nodes) bs (word_token (codes "nil")) (head.Whole (says.Character [])) nil_is refl
 can_begin (content.Arguments arguments) bs cs h =
-    bare_begins (content.Arguments arguments) bs (closing_token name.Call) (head.Whole (tag.Closes name.Call))
+    bare_begins (content.Arguments arguments) bs (closing_token name.Call) (head.Whole (says.Closes name.Call))
     (closing_is name.Call tt) refl
 can_begin content.BeforeCases bs cs h =
-    bare_begins content.BeforeCases bs (word_token (codes "default")) (head.Whole (tag.GoesOn middle.Default))
+    bare_begins content.BeforeCases bs (word_token (codes "default")) (head.Whole (says.GoesOn middle.Default))
     default_is
     (cases_default h.inside h.has bs h.front h.opened)
 can_begin (content.Parts nodes white) bs cs h =
-    bare_begins (content.Parts nodes white) bs (word_token (codes "nil")) (head.Whole (tag.Character [])) nil_is refl
+    bare_begins (content.Parts nodes white) bs (word_token (codes "nil")) (head.Whole (says.Character [])) nil_is refl
 can_begin (content.Choice body) bs cs h = choice_begins body bs (top_is AMessage bs h.front h.opened)
 
 opened_completes : (s : CommandState) (front : List Token) (begin : Token) → Heard s front →

@@ -27,8 +27,8 @@ use Rattle.soy_parser.specs.declared.attributes.Attributes.{Attributes}
 use Rattle.soy_parser.specs.declared.block.CommandState.{CommandState}
 use Rattle.soy_parser.specs.declared.command.Command.{Command}
 use Rattle.soy_parser.specs.declared.command.Middle.TheVariants as middle
-use Rattle.soy_parser.specs.declared.command.Tag.{Tag}
-use Rattle.soy_parser.specs.declared.command.Tag.TheVariants as tag
+use Rattle.soy_parser.specs.declared.command.CommandForm.{CommandForm}
+use Rattle.soy_parser.specs.declared.command.CommandForm.TheVariants as says
 use Rattle.soy_parser.specs.declared.head.Head.{Head}
 use Rattle.soy_parser.specs.declared.head.Head.TheVariants as head
 use Rattle.soy_parser.specs.declared.head.HeadKind.{HeadKind}
@@ -53,14 +53,15 @@ use Rattle.soy_parser.specs.FileSteps.{stands, taken, admits, ended_command, att
 use Rattle.soy_parser.specs.FileSteps.{with_value}
 use Rattle.soy_parser.specs.FileSteps.{value_step, head_of, head_kind, next_value, in_expr, in_type, dotted_head}
 use Rattle.soy_parser.specs.FileSteps.{dotted_step, if_word}
-use Rattle.soy_parser.specs.FileSteps.{if_variable, if_in, if_colon, if_equals, if_int, if_case_word, head_param_step}
-use Rattle.soy_parser.specs.FileSteps.{head_param_word_step, template_step, call_step, for_in_step, let_colon_step}
+use Rattle.soy_parser.specs.FileSteps.{if_variable, if_in, if_colon, if_equals, if_int, if_case_word}
+use Rattle.soy_parser.specs.FileSteps.{template_param_step}
+use Rattle.soy_parser.specs.FileSteps.{template_param_word_step, template_step, call_step, for_in_step, let_colon_step}
 use Rattle.soy_parser.specs.FileSteps.{param_colon_step}
 use Rattle.soy_parser.specs.FileSteps.{after_int_step, after_case_word_step, spot_step, opens_if, print_use}
 use Rattle.soy_parser.specs.FileSteps.{print_opens, case_opens}
 use Rattle.soy_parser.specs.FileSteps.{bare_expr, bare_opens, opened_step, between_step, file_step_at, file_step}
 use Rattle.soy_parser.specs.FileSteps.{file_start}
-use Rattle.soy_parser.specs.Heads.{no_attributes, attribute_name, allows, with_attribute, SpellsAttributes, tag_at}
+use Rattle.soy_parser.specs.Heads.{no_attributes, attribute_name, allows, with_attribute, SpellsAttributes, form_at}
 use Rattle.soy_parser.specs.SpellsCommand.{SpellsCommand}
 use Rattle.soy_parser.specs.SpellsHead.{SpellsHead, SpellsDotted, SpellsInts, SpellsCaseWords, SpellsDot}
 use Rattle.soy_parser.specs.SpellsHead.{SpellsRequired, SpellsVariables, bare_head}
@@ -203,7 +204,7 @@ module _ (s : CommandState) (front : List Token) (begin : Token) (heard : Heard 
         Goes (attributes_step s begin.span h a t) (ts ++ (us ++ (t ∷ [])))
     attributes_fine us a t p = over (attribute_name (command_terminal_of t)) refl
       where
-        ends : (o : Option Tag) → tag_at h a (command_terminal_of t) ≡ o →
+        ends : (o : Option CommandForm) → form_at h a (command_terminal_of t) ≡ o →
             Goes (ended_command s begin.span o t) (ts ++ (us ++ (t ∷ [])))
         ends None e = tt
         ends (Some said) e =
@@ -215,7 +216,7 @@ module _ (s : CommandState) (front : List Token) (begin : Token) (heard : Heard 
         over (Some n) e =
             if_goes (allows h a n) (stands s begin.span (spot.Equals h a n)) (ts ++ (us ++ (t ∷ [])))
             (λ al. stand (spot.Equals h a n) (ts ++ (us ++ (t ∷ []))) k (Begun.equals_ ts us t h k a n of p e al) ok)
-        over None e = ends (tag_at h a (command_terminal_of t)) refl
+        over None e = ends (form_at h a (command_terminal_of t)) refl
 
     done_fine : (t : Token) → Goes (head_done s begin.span h t) (ts ++ (t ∷ []))
     done_fine t = attributes_fine [] no_attributes t (SpellsAttributes.none_ h)
@@ -241,30 +242,30 @@ module _ (s : CommandState) (front : List Token) (begin : Token) (heard : Heard 
 
   -- at the head of a template
 
-  head_param_fine : (t sign : Token) (m : CommandTerminal) → command_terminal_of t ≡ m →
-      command_terminal_of sign ≡ terminal.At → admits s kind.HeadParam ≡ true →
-      Goes (head_param_step s begin.span m) (sign ∷ (t ∷ []))
-  head_param_fine t sign (terminal.Word word.Param) e hs ok =
-      stand spot.HeadParamWord _ kind.HeadParam (Begun.head_param_word_ sign t hs e) ok
-  head_param_fine t sign _ e hs ok = tt
+  template_param_fine : (t sign : Token) (m : CommandTerminal) → command_terminal_of t ≡ m →
+      command_terminal_of sign ≡ terminal.At → admits s kind.TemplateParam ≡ true →
+      Goes (template_param_step s begin.span m) (sign ∷ (t ∷ []))
+  template_param_fine t sign (terminal.Word word.Param) e hs ok =
+      stand spot.TemplateParamWord _ kind.TemplateParam (Begun.template_param_word_ sign t hs e) ok
+  template_param_fine t sign _ e hs ok = tt
 
-  head_param_word_fine : (t sign u : Token) (m : CommandTerminal) → command_terminal_of t ≡ m →
+  template_param_word_fine : (t sign u : Token) (m : CommandTerminal) → command_terminal_of t ≡ m →
       command_terminal_of sign ≡ terminal.At → command_terminal_of u ≡ terminal.Word word.Param →
-      admits s kind.HeadParam ≡ true → Goes (head_param_word_step s begin.span t m) (sign ∷ (u ∷ (t ∷ [])))
-  head_param_word_fine t sign u terminal.Question e hs hu ok =
-      stand spot.HeadParamName _ kind.HeadParam (Begun.head_param_name_ sign u t hs hu e) ok
-  head_param_word_fine t sign u (terminal.Word w) e hs hu ok =
-      stand (spot.HeadParamColon t.text true) _ kind.HeadParam
-      (Begun.head_param_colon_ sign u t w [] true hs hu SpellsRequired.required_ e) ok
-  head_param_word_fine t sign u _ e hs hu ok = tt
+      admits s kind.TemplateParam ≡ true → Goes (template_param_word_step s begin.span t m) (sign ∷ (u ∷ (t ∷ [])))
+  template_param_word_fine t sign u terminal.Question e hs hu ok =
+      stand spot.TemplateParamName _ kind.TemplateParam (Begun.template_param_name_ sign u t hs hu e) ok
+  template_param_word_fine t sign u (terminal.Word w) e hs hu ok =
+      stand (spot.TemplateParamColon t.text true) _ kind.TemplateParam
+      (Begun.template_param_colon_ sign u t w [] true hs hu SpellsRequired.required_ e) ok
+  template_param_word_fine t sign u _ e hs hu ok = tt
 
   -- names
 
-  template_head : (t n : Token) (w : CommandWord) (ts : List Token)
+  template_opening : (t n : Token) (w : CommandWord) (ts : List Token)
       → command_terminal_of t ≡ terminal.Word word.Template →
       SpellsDot ts → command_terminal_of n ≡ terminal.Word w → admits s kind.Template ≡ true →
       Goes (stands s begin.span (spot.Attributes (head.Template n.text) no_attributes)) (t ∷ (ts ++ (n ∷ [])))
-  template_head t n w ts ht d hn ok =
+  template_opening t n w ts ht d hn ok =
       again (stands s begin.span (spot.Attributes (head.Template n.text) no_attributes)) _ _
       (append-nil (t ∷ (ts ++ (n ∷ []))))
       (stand (spot.Attributes (head.Template n.text) no_attributes) ((t ∷ (ts ++ (n ∷ []))) ++ []) kind.Template
@@ -276,7 +277,7 @@ module _ (s : CommandState) (front : List Token) (begin : Token) (heard : Heard 
       command_terminal_of u ≡ terminal.Word word.Template → admits s kind.Template ≡ true →
       Goes (template_step s begin.span t m) (u ∷ (t ∷ []))
   template_fine t u terminal.Dot e hu ok = stand spot.TemplateName _ kind.Template (Begun.template_name_ u t hu e) ok
-  template_fine t u (terminal.Word w) e hu ok = template_head u t w [] hu SpellsDot.without_ e ok
+  template_fine t u (terminal.Word w) e hu ok = template_opening u t w [] hu SpellsDot.without_ e ok
   template_fine t u _ e hu ok = tt
 
   call_fine : (t u : Token) (m : CommandTerminal) → command_terminal_of t ≡ m →
@@ -346,7 +347,7 @@ module _ (s : CommandState) (front : List Token) (begin : Token) (heard : Heard 
   after_int_fine t u us values terminal.Comma e hu p ok =
       stand (spot.IntValue values) _ kind.PluralCase (Begun.int_next_ u t us values hu p e) ok
   after_int_fine t u us values m e hu p ok =
-      done_fine (u ∷ us) (head.Whole (tag.GoesOn (middle.PluralCase values))) kind.PluralCase
+      done_fine (u ∷ us) (head.Whole (says.GoesOn (middle.PluralCase values))) kind.PluralCase
       (record { depths = _; words = _; spells = SpellsHead.plural_case_ u us values hu p; kind_is = refl }) ok t
 
   after_case_word_fine : (t u : Token) (us : List Token) (values : List (List ℕ)) (m : CommandTerminal) →
@@ -355,7 +356,7 @@ module _ (s : CommandState) (front : List Token) (begin : Token) (heard : Heard 
   after_case_word_fine t u us values terminal.Comma e hu p ok =
       stand (spot.CaseWord values) _ kind.SelectCase (Begun.case_word_next_ u t us values hu p e) ok
   after_case_word_fine t u us values m e hu p ok =
-      done_fine (u ∷ us) (head.Whole (tag.GoesOn (middle.SelectCase values))) kind.SelectCase
+      done_fine (u ∷ us) (head.Whole (says.GoesOn (middle.SelectCase values))) kind.SelectCase
       (record { depths = _; words = _; spells = SpellsHead.select_case_ u us values hu p; kind_is = refl }) ok t
 
   -- expressions and types
@@ -445,7 +446,7 @@ module _ (s : CommandState) (front : List Token) (begin : Token) (heard : Heard 
       command_terminal_of sign ≡ terminal.At → command_terminal_of u ≡ terminal.Word word.Param
       → SpellsRequired ts required →
       command_terminal_of n ≡ terminal.Word w → command_terminal_of colon ≡ terminal.Colon →
-      type_run us type_start ≡ Some r → admits s kind.HeadParam ≡ true →
+      type_run us type_start ≡ Some r → admits s kind.TemplateParam ≡ true →
       Goes (in_type s begin.span n.text required t (type_step r t))
       (sign ∷ (u ∷ (ts ++ (n ∷ (colon ∷ (us ++ (t ∷ [])))))))
   type_fine t sign u n colon w ts us required r hs hu hq hn hc q ok = over (type_next r t) refl
@@ -456,14 +457,15 @@ module _ (s : CommandState) (front : List Token) (begin : Token) (heard : Heard 
       ends None e = tt
       ends (Some x) e =
           let p = whole_type-SpellsType us r x q e in
-          again (head_done s begin.span (head.Whole (tag.HeadParam n.text required x.of)) t) _ _
+          again (head_done s begin.span (head.Whole (says.TemplateParam n.text required x.of)) t) _ _
           (ap (λ l. sign ∷ (u ∷ l)) (append_assoc ts (n ∷ (colon ∷ us)) (t ∷ [])))
-          (done_fine (sign ∷ (u ∷ (ts ++ (n ∷ (colon ∷ us))))) (head.Whole (tag.HeadParam n.text required x.of))
-          kind.HeadParam
+          (done_fine (sign ∷ (u ∷ (ts ++ (n ∷ (colon ∷ us))))) (head.Whole (says.TemplateParam n.text required x.of))
+          kind.TemplateParam
           (record {
             depths = _;
             words = _;
-            spells = SpellsHead.head_param_ sign u n colon w ts us p.depths p.words required x hs hu hq hn hc p.spells;
+            spells = SpellsHead.template_param_ sign u n colon w ts us p.depths p.words required x hs hu hq
+                hn hc p.spells;
             kind_is = refl;
           }) ok t)
 
@@ -471,26 +473,26 @@ module _ (s : CommandState) (front : List Token) (begin : Token) (heard : Heard 
           Goes (in_type s begin.span n.text required t (type_step_of to (whole_type r)))
           (sign ∷ (u ∷ (ts ++ (n ∷ (colon ∷ (us ++ (t ∷ [])))))))
       over (Some m) e =
-          stand (spot.Type n.text required m) _ kind.HeadParam
+          stand (spot.Type n.text required m) _ kind.TemplateParam
           (Begun.type_ sign u n colon w ts (us ++ (t ∷ [])) required m hs hu hq hn hc (on_type us t r m q e)) ok
       over None e = ends (whole_type r) refl
 
   -- **A token in a command keeps what was read.**
   spot_fine : (at : Spot) (own : List Token) (k : HeadKind) (t : Token) → Begun at own k → admits s k ≡ true →
       Goes (spot_step s begin.span at t (command_terminal_of t)) (own ++ (t ∷ []))
-  spot_fine _ _ _ t (Begun.head_param_ sign hs) ok = head_param_fine t sign (command_terminal_of t) refl hs ok
-  spot_fine _ _ _ t (Begun.head_param_word_ sign u hs hu) ok =
-      head_param_word_fine t sign u (command_terminal_of t) refl hs hu ok
-  spot_fine _ _ _ t (Begun.head_param_name_ sign u q hs hu hq) ok =
+  spot_fine _ _ _ t (Begun.template_param_ sign hs) ok = template_param_fine t sign (command_terminal_of t) refl hs ok
+  spot_fine _ _ _ t (Begun.template_param_word_ sign u hs hu) ok =
+      template_param_word_fine t sign u (command_terminal_of t) refl hs hu ok
+  spot_fine _ _ _ t (Begun.template_param_name_ sign u q hs hu hq) ok =
       word_goes (command_terminal_of t) _ _
-      (λ w e. stand (spot.HeadParamColon t.text false) _ kind.HeadParam
-      (Begun.head_param_colon_ sign u t w (q ∷ []) false hs hu (SpellsRequired.optional_ q hq) e) ok)
-  spot_fine _ _ _ t (Begun.head_param_colon_ sign u n w ts required hs hu hq hn) ok =
+      (λ w e. stand (spot.TemplateParamColon t.text false) _ kind.TemplateParam
+      (Begun.template_param_colon_ sign u t w (q ∷ []) false hs hu (SpellsRequired.optional_ q hq) e) ok)
+  spot_fine _ _ _ t (Begun.template_param_colon_ sign u n w ts required hs hu hq hn) ok =
       again (if_colon (command_terminal_of t) (stands s begin.span (spot.Type n.text required type_start))) _ _
       (sym (ap (λ l. sign ∷ (u ∷ l)) (append_assoc ts (n ∷ []) (t ∷ []))))
       (colon_goes (command_terminal_of t) (stands s begin.span (spot.Type n.text required type_start))
       (sign ∷ (u ∷ (ts ++ (n ∷ (t ∷ [])))))
-      (λ e. stand (spot.Type n.text required type_start) (sign ∷ (u ∷ (ts ++ (n ∷ (t ∷ []))))) kind.HeadParam
+      (λ e. stand (spot.Type n.text required type_start) (sign ∷ (u ∷ (ts ++ (n ∷ (t ∷ []))))) kind.TemplateParam
       (Begun.type_ sign u n t w ts [] required type_start hs hu hq hn e refl) ok))
   spot_fine _ _ _ t (Begun.type_ sign u n colon w ts us required r hs hu hq hn hc q) ok =
       again (in_type s begin.span n.text required t (type_step r t)) _ _
@@ -498,7 +500,7 @@ module _ (s : CommandState) (front : List Token) (begin : Token) (heard : Heard 
       (type_fine t sign u n colon w ts us required r hs hu hq hn hc q ok)
   spot_fine _ _ _ t (Begun.template_ u hu) ok = template_fine t u (command_terminal_of t) refl hu ok
   spot_fine _ _ _ t (Begun.template_name_ u d hu hd) ok =
-      word_goes (command_terminal_of t) _ _ (λ w e. template_head u t w (d ∷ []) hu (SpellsDot.with_ d hd) e ok)
+      word_goes (command_terminal_of t) _ _ (λ w e. template_opening u t w (d ∷ []) hu (SpellsDot.with_ d hd) e ok)
   spot_fine _ _ _ t (Begun.call_ u hu) ok = call_fine t u (command_terminal_of t) refl hu ok
   spot_fine _ _ _ t (Begun.dotted_first_ ts of k d) ok =
       word_goes (command_terminal_of t) _ _
@@ -662,7 +664,7 @@ module _ (s : CommandState) (front : List Token) (begin : Token) (heard : Heard 
 
   opened_fine : (t : Token) (m : CommandTerminal) → command_terminal_of t ≡ m
       → Goes (opened_step s begin.span t m) (t ∷ [])
-  opened_fine t terminal.At e = opens_fine kind.HeadParam spot.HeadParam (t ∷ []) (Begun.head_param_ t e)
+  opened_fine t terminal.At e = opens_fine kind.TemplateParam spot.TemplateParam (t ∷ []) (Begun.template_param_ t e)
   opened_fine t (terminal.Word word.Namespace) e =
       opens_fine kind.Namespace (spot.DottedName dotted.Namespace []) (t ∷ [])
       (Begun.dotted_first_ (t ∷ []) dotted.Namespace kind.Namespace (DottedBegins.namespace_ t e))

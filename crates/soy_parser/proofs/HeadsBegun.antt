@@ -27,7 +27,8 @@ use Rattle.soy_parser.specs.declared.terminal.CommandTerminal.TheVariants as ter
 use Rattle.soy_parser.specs.declared.terminal.CommandWord.{CommandWord}
 use Rattle.soy_parser.specs.declared.terminal.CommandWord.TheVariants as word
 use Rattle.soy_parser.specs.CommandTerminals.{command_terminal_of}
-use Rattle.soy_parser.specs.Depth.{none_deep, no_words}
+use Rattle.soy_parser.specs.Depth.{none_deep}
+use Rattle.soy_parser.specs.TypeWords.{no_words}
 use Rattle.soy_parser.specs.FileSteps.{head_kind, head_of, head_done, next_value, dotted_head}
 use Rattle.soy_parser.specs.Heads.{SpellsAttributes, allows, attribute_name}
 use Rattle.soy_parser.specs.SpellsHead.{SpellsHead, SpellsDotted, SpellsValues, SpellsInts, SpellsCaseWords, SpellsDot}
@@ -79,23 +80,24 @@ pub record HeadOf (ts : List Token) (h : Head) (k : HeadKind) : Type 0 where
 
 -- the tokens after a `{` lead to this spot, in a head of this kind
 pub data Begun : Spot → List Token → HeadKind → Type 0 where
-  head_param_ : (sign : Token) → command_terminal_of sign ≡ terminal.At
-      → Begun spot.HeadParam (sign ∷ []) kind.HeadParam
-  head_param_word_ : (sign t : Token) → command_terminal_of sign ≡ terminal.At
-      → command_terminal_of t ≡ terminal.Word word.Param → Begun spot.HeadParamWord (sign ∷ (t ∷ [])) kind.HeadParam
-  head_param_name_ : (sign t q : Token) → command_terminal_of sign ≡ terminal.At
+  template_param_ : (sign : Token) → command_terminal_of sign ≡ terminal.At
+      → Begun spot.TemplateParam (sign ∷ []) kind.TemplateParam
+  template_param_word_ : (sign t : Token) → command_terminal_of sign ≡ terminal.At
+      → command_terminal_of t ≡ terminal.Word word.Param
+      → Begun spot.TemplateParamWord (sign ∷ (t ∷ [])) kind.TemplateParam
+  template_param_name_ : (sign t q : Token) → command_terminal_of sign ≡ terminal.At
       → command_terminal_of t ≡ terminal.Word word.Param → command_terminal_of q ≡ terminal.Question
-      → Begun spot.HeadParamName (sign ∷ (t ∷ (q ∷ []))) kind.HeadParam
-  head_param_colon_ : (sign t n : Token) (w : CommandWord) (ts : List Token) (required : Bool)
+      → Begun spot.TemplateParamName (sign ∷ (t ∷ (q ∷ []))) kind.TemplateParam
+  template_param_colon_ : (sign t n : Token) (w : CommandWord) (ts : List Token) (required : Bool)
       → command_terminal_of sign ≡ terminal.At → command_terminal_of t ≡ terminal.Word word.Param
       → SpellsRequired ts required → command_terminal_of n ≡ terminal.Word w
-      → Begun (spot.HeadParamColon n.text required) (sign ∷ (t ∷ (ts ++ (n ∷ [])))) kind.HeadParam
+      → Begun (spot.TemplateParamColon n.text required) (sign ∷ (t ∷ (ts ++ (n ∷ [])))) kind.TemplateParam
   type_ : (sign t n colon : Token) (w : CommandWord) (ts us : List Token) (required : Bool) (r : TypeState)
       → command_terminal_of sign ≡ terminal.At → command_terminal_of t ≡ terminal.Word word.Param
       → SpellsRequired ts required → command_terminal_of n ≡ terminal.Word w
       → command_terminal_of colon ≡ terminal.Colon
       → type_run us type_start ≡ Some r
-      → Begun (spot.Type n.text required r) (sign ∷ (t ∷ (ts ++ (n ∷ (colon ∷ us))))) kind.HeadParam
+      → Begun (spot.Type n.text required r) (sign ∷ (t ∷ (ts ++ (n ∷ (colon ∷ us))))) kind.TemplateParam
   template_ : (t : Token) → command_terminal_of t ≡ terminal.Word word.Template
       → Begun spot.Template (t ∷ []) kind.Template
   template_name_ : (t d : Token) → command_terminal_of t ≡ terminal.Word word.Template

@@ -23,7 +23,7 @@ use Rattle.soy_parser.specs.declared.terminal.CommandTerminal.TheVariants as ter
 use Rattle.soy_parser.specs.declared.terminal.CommandWord.{CommandWord}
 use Rattle.soy_parser.specs.declared.terminal.CommandWord.TheVariants as word
 use Rattle.soy_parser.specs.CommandTerminals.{command_terminal_of}
-use Rattle.soy_parser.specs.Depth.{no_words}
+use Rattle.soy_parser.specs.TypeWords.{no_words}
 use Rattle.soy_parser.specs.FileSteps.{stands, admits, opens_if, in_expr, next_value, head_of, head_done}
 use Rattle.soy_parser.specs.FileSteps.{file_step}
 use Rattle.soy_parser.specs.FileSteps.{opened_step, if_variable, if_word, let_colon_step, param_colon_step}

@@ -17,8 +17,8 @@ use Rattle.soy_parser.specs.declared.attributes.AttributeName.TheVariants as att
 use Rattle.soy_parser.specs.declared.attributes.Attributes.{Attributes}
 use Rattle.soy_parser.specs.declared.command.Middle.TheVariants as middle
 use Rattle.soy_parser.specs.declared.command.Opening.TheVariants as opening
-use Rattle.soy_parser.specs.declared.command.Tag.{Tag}
-use Rattle.soy_parser.specs.declared.command.Tag.TheVariants as tag
+use Rattle.soy_parser.specs.declared.command.CommandForm.{CommandForm}
+use Rattle.soy_parser.specs.declared.command.CommandForm.TheVariants as says
 use Rattle.soy_parser.specs.declared.head.Head.{Head}
 use Rattle.soy_parser.specs.declared.head.Head.TheVariants as head
 use Rattle.soy_parser.specs.declared.head.HeadKind.{HeadKind}
@@ -33,7 +33,7 @@ use Rattle.soy_parser.specs.declared.terminal.CommandWord.{CommandWord}
 use Rattle.soy_parser.specs.declared.terminal.CommandWord.TheVariants as word
 use Rattle.soy_parser.specs.CommandTerminals.{command_terminal_of}
 use Rattle.soy_parser.specs.FileSteps.{dotted_head, head_of}
-use Rattle.soy_parser.specs.Heads.{no_attributes, attribute_name, allows, with_attribute, SpellsAttributes, tag_at}
+use Rattle.soy_parser.specs.Heads.{no_attributes, attribute_name, allows, with_attribute, SpellsAttributes, form_at}
 use Rattle.soy_parser.specs.SpellsHead.{SpellsHead, SpellsDotted, SpellsInts, SpellsCaseWords, SpellsDot}
 use Rattle.soy_parser.specs.SpellsHead.{SpellsRequired}
 use Rattle.soy_parser.specs.SpellsHead.{SpellsVariables}
@@ -49,11 +49,11 @@ pub record Completes (own : List Token) (k : HeadKind) : Type 0 where
   pub close : Token
   pub head_ : Head
   pub attributes : Attributes
-  pub said : Tag
+  pub said : CommandForm
   pub whole : own ++ more ≡ head_tokens ++ (attribute_tokens ++ (close ∷ []))
   pub of : HeadOf head_tokens head_ k
   pub spells : SpellsAttributes head_ attribute_tokens attributes
-  pub ends : tag_at head_ attributes (command_terminal_of close) ≡ Some said
+  pub ends : form_at head_ attributes (command_terminal_of close) ≡ Some said
 
 -- what can be completed, can still be without its last tokens
 shorter : (own us : List Token) (k : HeadKind) → Completes (own ++ us) k → Completes own k
@@ -139,8 +139,8 @@ has_value a attribute.Phname = record { text = codes "x"; with_it = _; is = refl
 -- after attributes
 
 module _ (ts : List Token) (h : Head) (k : HeadKind) (of : HeadOf ts h k) where
-  closed : (us : List Token) (a : Attributes) (z : Token) (said : Tag) → SpellsAttributes h us a →
-      tag_at h a (command_terminal_of z) ≡ Some said → Completes (ts ++ us) k
+  closed : (us : List Token) (a : Attributes) (z : Token) (said : CommandForm) → SpellsAttributes h us a →
+      form_at h a (command_terminal_of z) ≡ Some said → Completes (ts ++ us) k
   closed us a z said p e = record {
     more = z ∷ [];
     head_tokens = ts;
@@ -157,9 +157,9 @@ module _ (ts : List Token) (h : Head) (k : HeadKind) (of : HeadOf ts h k) where
 
   -- with a further attribute
   then_attribute : (us : List Token) (a b : Attributes) (name : Token) (n : AttributeName) (text : List ℕ)
-      (said : Tag) →
+      (said : CommandForm) →
       SpellsAttributes h us a → attribute_name (command_terminal_of name) ≡ Some n → allows h a n ≡ true →
-      with_attribute a n text ≡ Some b → tag_at h b terminal.End ≡ Some said → Completes (ts ++ us) k
+      with_attribute a n text ≡ Some b → form_at h b terminal.End ≡ Some said → Completes (ts ++ us) k
   then_attribute us a b name n text said p hn al w e =
       let three = name ∷ (equals_token ∷ (value_token text ∷ [])) in
       shorter (ts ++ us) three k
@@ -173,7 +173,7 @@ pub attributes_end : (ts us : List Token) (h : Head) (k : HeadKind) (a : Attribu
     Completes (ts ++ us) k
 attributes_end ts us (head.Whole said) k a of p = closed ts (head.Whole said) k of us a end_token said p refl
 attributes_end ts us (head.Alone said) k a of p =
-    closed ts (head.Alone said) k of us a slash_end_token (tag.Single said) p refl
+    closed ts (head.Alone said) k of us a slash_end_token (says.Single said) p refl
 attributes_end ts us (head.Template n) k a of p = closed ts (head.Template n) k of us a end_token _ p refl
 attributes_end ts us (head.MessagePrint e) k a of p = closed ts (head.MessagePrint e) k of us a end_token _ p refl
 attributes_end ts us (head.Call n) k a of p = closed ts (head.Call n) k of us a end_token _ p refl
@@ -182,8 +182,8 @@ attributes_end ts us (head.Let n) k a of p = over a.kind refl
   where
     over : (o : Option Kind) → a.kind ≡ o → Completes (ts ++ us) k
     over (Some of_kind) e =
-        closed ts (head.Let n) k of us a end_token (tag.Opens (opening.Let n of_kind)) p
-        (ap (option_map (λ given. tag.Opens (opening.Let n given))) e)
+        closed ts (head.Let n) k of us a end_token (says.Opens (opening.Let n of_kind)) p
+        (ap (option_map (λ given. says.Opens (opening.Let n given))) e)
     over None e =
         let v = has_value a attribute.Kind in
         then_attribute ts (head.Let n) k of us a v.with_it (word_token (codes "kind")) attribute.Kind v.text _ p is_kind
@@ -192,8 +192,8 @@ attributes_end ts us (head.Param n) k a of p = over a.kind refl
   where
     over : (o : Option Kind) → a.kind ≡ o → Completes (ts ++ us) k
     over (Some of_kind) e =
-        closed ts (head.Param n) k of us a end_token (tag.Opens (opening.Param n of_kind)) p
-        (ap (option_map (λ given. tag.Opens (opening.Param n given))) e)
+        closed ts (head.Param n) k of us a end_token (says.Opens (opening.Param n of_kind)) p
+        (ap (option_map (λ given. says.Opens (opening.Param n given))) e)
     over None e =
         let v = has_value a attribute.Kind in
         then_attribute ts (head.Param n) k of us a v.with_it (word_token (codes "kind")) attribute.Kind v.text _ p
@@ -203,8 +203,8 @@ attributes_end ts us head.Message k a of p = over a.desc refl
   where
     over : (o : Option (List ℕ)) → a.desc ≡ o → Completes (ts ++ us) k
     over (Some desc) e =
-        closed ts head.Message k of us a end_token (tag.Opens (opening.Message desc (unwrap_or a.meaning []))) p
-        (ap (option_map (λ desc. tag.Opens (opening.Message desc (unwrap_or a.meaning [])))) e)
+        closed ts head.Message k of us a end_token (says.Opens (opening.Message desc (unwrap_or a.meaning []))) p
+        (ap (option_map (λ desc. says.Opens (opening.Message desc (unwrap_or a.meaning [])))) e)
     over None e =
         let v = has_value a attribute.Desc in
         then_attribute ts head.Message k of us a v.with_it (word_token (codes "desc")) attribute.Desc v.text _ p is_desc
@@ -213,8 +213,8 @@ attributes_end ts us head.Fallback k a of p = over a.desc refl
   where
     over : (o : Option (List ℕ)) → a.desc ≡ o → Completes (ts ++ us) k
     over (Some desc) e =
-        closed ts head.Fallback k of us a end_token (tag.GoesOn (middle.Fallback desc (unwrap_or a.meaning []))) p
-        (ap (option_map (λ desc. tag.GoesOn (middle.Fallback desc (unwrap_or a.meaning [])))) e)
+        closed ts head.Fallback k of us a end_token (says.GoesOn (middle.Fallback desc (unwrap_or a.meaning []))) p
+        (ap (option_map (λ desc. says.GoesOn (middle.Fallback desc (unwrap_or a.meaning [])))) e)
     over None e =
         let v = has_value a attribute.Desc in
         then_attribute ts head.Fallback k of us a v.with_it (word_token (codes "desc")) attribute.Desc v.text _ p
@@ -247,7 +247,7 @@ case_ends t us vs values r h b q =
     shorter (t ∷ (us ++ vs)) c.more kind.Case
     (moved kind.Case (t ∷ (us ++ (vs ++ c.more))) (t ∷ ((us ++ vs) ++ c.more))
     (ap (λ l. t ∷ l) (sym (append_assoc us vs c.more)))
-    (head_ends (t ∷ (us ++ (vs ++ c.more))) (head.Whole (tag.GoesOn (middle.Case next))) kind.Case
+    (head_ends (t ∷ (us ++ (vs ++ c.more))) (head.Whole (says.GoesOn (middle.Case next))) kind.Case
     (record {
       depths = _;
       words = _;
@@ -266,19 +266,20 @@ type_ends : (sign t n colon : Token) (w : CommandWord) (ts us : List Token) (req
     → SpellsRequired ts required →
     command_terminal_of n ≡ terminal.Word w → command_terminal_of colon ≡ terminal.Colon
     → type_run us type_start ≡ Some r →
-    Completes (sign ∷ (t ∷ (ts ++ (n ∷ (colon ∷ us))))) kind.HeadParam
+    Completes (sign ∷ (t ∷ (ts ++ (n ∷ (colon ∷ us))))) kind.TemplateParam
 type_ends sign t n colon w ts us required r hs ht hq hn hc q =
     let c = type_exact.run-Completes us r q in
-    shorter (sign ∷ (t ∷ (ts ++ (n ∷ (colon ∷ us))))) c.more kind.HeadParam
-    (moved kind.HeadParam (sign ∷ (t ∷ (ts ++ (n ∷ (colon ∷ (us ++ c.more))))))
+    shorter (sign ∷ (t ∷ (ts ++ (n ∷ (colon ∷ us))))) c.more kind.TemplateParam
+    (moved kind.TemplateParam (sign ∷ (t ∷ (ts ++ (n ∷ (colon ∷ (us ++ c.more))))))
     (sign ∷ (t ∷ ((ts ++ (n ∷ (colon ∷ us))) ++ c.more)))
     (ap (λ l. sign ∷ (t ∷ l)) (sym (append_assoc ts (n ∷ (colon ∷ us)) c.more)))
     (head_ends (sign ∷ (t ∷ (ts ++ (n ∷ (colon ∷ (us ++ c.more))))))
-    (head.Whole (tag.HeadParam n.text required c.operand.of)) kind.HeadParam
+    (head.Whole (says.TemplateParam n.text required c.operand.of)) kind.TemplateParam
     (record {
       depths = _;
       words = _;
-      spells = SpellsHead.head_param_ sign t n colon w ts (us ++ c.more) c.depths c.words required c.operand hs ht hq
+      spells = SpellsHead.template_param_ sign t n colon w ts
+          (us ++ c.more) c.depths c.words required c.operand hs ht hq
           hn hc
           c.spells;
       kind_is = refl;
@@ -287,19 +288,19 @@ type_ends sign t n colon w ts us required r hs ht hq hn hc q =
 colon_ends : (sign t n : Token) (w : CommandWord) (ts : List Token) (required : Bool) →
     command_terminal_of sign ≡ terminal.At → command_terminal_of t ≡ terminal.Word word.Param
     → SpellsRequired ts required →
-    command_terminal_of n ≡ terminal.Word w → Completes (sign ∷ (t ∷ (ts ++ (n ∷ [])))) kind.HeadParam
+    command_terminal_of n ≡ terminal.Word w → Completes (sign ∷ (t ∷ (ts ++ (n ∷ [])))) kind.TemplateParam
 colon_ends sign t n w ts required hs ht hq hn =
-    shorter (sign ∷ (t ∷ (ts ++ (n ∷ [])))) (colon_token ∷ []) kind.HeadParam
-    (moved kind.HeadParam (sign ∷ (t ∷ (ts ++ (n ∷ (colon_token ∷ [])))))
+    shorter (sign ∷ (t ∷ (ts ++ (n ∷ [])))) (colon_token ∷ []) kind.TemplateParam
+    (moved kind.TemplateParam (sign ∷ (t ∷ (ts ++ (n ∷ (colon_token ∷ [])))))
     (sign ∷ (t ∷ ((ts ++ (n ∷ [])) ++ (colon_token ∷ []))))
     (ap (λ l. sign ∷ (t ∷ l)) (sym (append_assoc ts (n ∷ []) (colon_token ∷ []))))
     (type_ends sign t n colon_token w ts [] required type_start hs ht hq hn is_colon refl))
 
 name_ends : (sign t : Token) (ts : List Token) (required : Bool) → command_terminal_of sign ≡ terminal.At →
     command_terminal_of t ≡ terminal.Word word.Param → SpellsRequired ts required →
-    Completes (sign ∷ (t ∷ ts)) kind.HeadParam
+    Completes (sign ∷ (t ∷ ts)) kind.TemplateParam
 name_ends sign t ts required hs ht hq =
-    shorter (sign ∷ (t ∷ ts)) (name_token ∷ []) kind.HeadParam
+    shorter (sign ∷ (t ∷ ts)) (name_token ∷ []) kind.TemplateParam
     (colon_ends sign t name_token _ ts required hs ht hq refl)
 
 -- names
@@ -328,14 +329,14 @@ int_token = token token_kind.Int (codes "1")
 ints_end : (t : Token) (us : List Token) (values : List ℤ) → command_terminal_of t ≡ terminal.Word word.Case →
     SpellsInts us values → Completes (t ∷ us) kind.PluralCase
 ints_end t us values h p =
-    head_ends (t ∷ us) (head.Whole (tag.GoesOn (middle.PluralCase values))) kind.PluralCase
+    head_ends (t ∷ us) (head.Whole (says.GoesOn (middle.PluralCase values))) kind.PluralCase
     (record { depths = _; words = _; spells = SpellsHead.plural_case_ t us values h p; kind_is = refl })
 
 case_words_end : (t : Token) (us : List Token) (values : List (List ℕ))
     → command_terminal_of t ≡ terminal.Word word.Case →
     SpellsCaseWords us values → Completes (t ∷ us) kind.SelectCase
 case_words_end t us values h p =
-    head_ends (t ∷ us) (head.Whole (tag.GoesOn (middle.SelectCase values))) kind.SelectCase
+    head_ends (t ∷ us) (head.Whole (says.GoesOn (middle.SelectCase values))) kind.SelectCase
     (record { depths = _; words = _; spells = SpellsHead.select_case_ t us values h p; kind_is = refl })
 
 abbrev string_token : Token
@@ -352,13 +353,13 @@ in_ends t ts n index h v =
 
 -- **So it is at each spot.**
 pub begun_ends : (at : Spot) (own : List Token) (k : HeadKind) → Begun at own k → Completes own k
-begun_ends _ _ _ (Begun.head_param_ sign hs) =
-    shorter (sign ∷ []) (word_token (codes "param") ∷ []) kind.HeadParam
+begun_ends _ _ _ (Begun.template_param_ sign hs) =
+    shorter (sign ∷ []) (word_token (codes "param") ∷ []) kind.TemplateParam
     (name_ends sign (word_token (codes "param")) [] true hs is_param SpellsRequired.required_)
-begun_ends _ _ _ (Begun.head_param_word_ sign t hs ht) = name_ends sign t [] true hs ht SpellsRequired.required_
-begun_ends _ _ _ (Begun.head_param_name_ sign t q hs ht hq) =
+begun_ends _ _ _ (Begun.template_param_word_ sign t hs ht) = name_ends sign t [] true hs ht SpellsRequired.required_
+begun_ends _ _ _ (Begun.template_param_name_ sign t q hs ht hq) =
     name_ends sign t (q ∷ []) false hs ht (SpellsRequired.optional_ q hq)
-begun_ends _ _ _ (Begun.head_param_colon_ sign t n w ts required hs ht hq hn) =
+begun_ends _ _ _ (Begun.template_param_colon_ sign t n w ts required hs ht hq hn) =
     colon_ends sign t n w ts required hs ht hq hn
 begun_ends _ _ _ (Begun.type_ sign t n colon w ts us required r hs ht hq hn hc q) =
     type_ends sign t n colon w ts us required r hs ht hq hn hc q

@@ -24,7 +24,7 @@ use Rattle.soy_parser.specs.declared.block.CommandState.{CommandState}
 use Rattle.soy_parser.specs.declared.block.Content.{Content}
 use Rattle.soy_parser.specs.declared.block.Content.TheVariants as content
 use Rattle.soy_parser.specs.declared.command.Middle.TheVariants as middle
-use Rattle.soy_parser.specs.declared.command.Tag.TheVariants as tag
+use Rattle.soy_parser.specs.declared.command.CommandForm.TheVariants as says
 use Rattle.soy_parser.specs.declared.head.Head.{Head}
 use Rattle.soy_parser.specs.declared.head.Head.TheVariants as head
 use Rattle.soy_parser.specs.declared.head.HeadKind.{HeadKind}
@@ -42,14 +42,16 @@ use Rattle.soy_parser.specs.declared.terminal.CommandWord.{CommandWord}
 use Rattle.soy_parser.specs.declared.terminal.CommandWord.TheVariants as word
 use Rattle.soy_parser.specs.CommandSteps.{has_whole_tags}
 use Rattle.soy_parser.specs.CommandTerminals.{command_terminal_of}
-use Rattle.soy_parser.specs.Depth.{none_deep, no_words}
+use Rattle.soy_parser.specs.Depth.{none_deep}
+use Rattle.soy_parser.specs.TypeWords.{no_words}
 use Rattle.soy_parser.specs.FileSteps.{stands, admits, admits_at, body_admits, message_admits, cases_admit, top_admits}
 use Rattle.soy_parser.specs.FileSteps.{opens_if}
 use Rattle.soy_parser.specs.FileSteps.{bare_expr, bare_opens, case_opens, print_opens, print_use, head_kind, head_of}
 use Rattle.soy_parser.specs.FileSteps.{head_done}
 use Rattle.soy_parser.specs.FileSteps.{opened_step, file_step, in_expr, next_value, dotted_step, dotted_head, if_word}
 use Rattle.soy_parser.specs.FileSteps.{if_variable}
-use Rattle.soy_parser.specs.FileSteps.{if_in, if_int, if_case_word, if_colon, head_param_step, head_param_word_step}
+use Rattle.soy_parser.specs.FileSteps.{if_in, if_int, if_case_word, if_colon, template_param_step}
+use Rattle.soy_parser.specs.FileSteps.{template_param_word_step}
 use Rattle.soy_parser.specs.FileSteps.{template_step}
 use Rattle.soy_parser.specs.FileSteps.{call_step, spot_depth, spot_word, for_in_step, let_colon_step, param_colon_step}
 use Rattle.soy_parser.specs.FileSteps.{after_int_step, after_case_word_step}
@@ -429,7 +431,7 @@ from_word s from t m at to ht e f = ap (opened_step s from t) ht ∙ (e ∙ f)
 case_leads : (s : CommandState) (from : Span) (t : Token) (us : List Token) (ds : List ℕ) (values : List Expr) →
     command_terminal_of t ≡ terminal.Word word.Case → admits s kind.Case ≡ true → SpellsValues us ds values →
     HeadLeads s from (opened s from) (t ∷ us) (0 ∷ ds) (false ∷ no_words us)
-    (head.Whole (tag.GoesOn (middle.Case values)))
+    (head.Whole (says.GoesOn (middle.Case values)))
 case_leads s from t us ds values ht ok p =
     let g = values_lead s from us ds values p in
     let to = in_at s from (spot.Expr (use_.Case g.before) g.state) in
@@ -443,7 +445,7 @@ case_leads s from t us ds values ht ok p =
         commands_are = refl;
         takes = λ z f. ap (in_expr s from (use_.Case g.before) z) (whole_ends g.state z g.last g.whole f)
             ∙ (next_is_head s from (use_.Case g.before) g.last z (command_terminal_of z) f
-            ∙ ap (λ l. head_done s from (head.Whole (tag.GoesOn (middle.Case l))) z) g.are);
+            ∙ ap (λ l. head_done s from (head.Whole (says.GoesOn (middle.Case l))) z) g.are);
       };
     }
 
@@ -485,14 +487,14 @@ ints_lead s from _ _ (SpellsInts.more_ ts values comma t p hc h w) =
     (int_taken (command_terminal_of t) t.text (stands s from next) h w) refl refl))
 
 after_int_takes : (s : CommandState) (from : Span) (values : List ℤ) (t : Token) (m : CommandTerminal) → FollowsHead m →
-    after_int_step s from values t m ≡ head_done s from (head.Whole (tag.GoesOn (middle.PluralCase values))) t
+    after_int_step s from values t m ≡ head_done s from (head.Whole (says.GoesOn (middle.PluralCase values))) t
 after_int_takes s from values t terminal.Comma f = absurd (comma_ f)
 after_int_takes s from values t m f = refl
 
 plural_case_leads : (s : CommandState) (from : Span) (t : Token) (us : List Token) (values : List ℤ) →
     command_terminal_of t ≡ terminal.Word word.Case → admits s kind.PluralCase ≡ true → SpellsInts us values →
     HeadLeads s from (opened s from) (t ∷ us) (none_deep (t ∷ us)) (no_words (t ∷ us))
-    (head.Whole (tag.GoesOn (middle.PluralCase values)))
+    (head.Whole (says.GoesOn (middle.PluralCase values)))
 plural_case_leads s from t us values ht ok p = record {
   to = in_at s from (spot.AfterInt values);
   leads = then_leads {ts = t ∷ []} {ds = 0 ∷ []} {ws = false ∷ []}
@@ -525,14 +527,14 @@ case_words_lead s from _ _ (SpellsCaseWords.more_ ts values comma t p hc h w) =
 
 after_case_word_takes : (s : CommandState) (from : Span) (values : List (List ℕ)) (t : Token) (m : CommandTerminal) →
     FollowsHead m →
-    after_case_word_step s from values t m ≡ head_done s from (head.Whole (tag.GoesOn (middle.SelectCase values))) t
+    after_case_word_step s from values t m ≡ head_done s from (head.Whole (says.GoesOn (middle.SelectCase values))) t
 after_case_word_takes s from values t terminal.Comma f = absurd (comma_ f)
 after_case_word_takes s from values t m f = refl
 
 select_case_leads : (s : CommandState) (from : Span) (t : Token) (us : List Token) (values : List (List ℕ)) →
     command_terminal_of t ≡ terminal.Word word.Case → admits s kind.SelectCase ≡ true → SpellsCaseWords us values →
     HeadLeads s from (opened s from) (t ∷ us) (none_deep (t ∷ us)) (no_words (t ∷ us))
-    (head.Whole (tag.GoesOn (middle.SelectCase values)))
+    (head.Whole (says.GoesOn (middle.SelectCase values)))
 select_case_leads s from t us values ht ok p = record {
   to = in_at s from (spot.AfterCaseWord values);
   leads = then_leads {ts = t ∷ []} {ds = 0 ∷ []} {ws = false ∷ []}
@@ -667,7 +669,7 @@ after_dot_first s from for_ t w h = ap (λ m. if_word m (stands s from (spot.Dot
 
 namespace_leads : (s : CommandState) (from : Span) (t : Token) (ts : List Token) (n : List ℕ) →
     command_terminal_of t ≡ terminal.Word word.Namespace → admits s kind.Namespace ≡ true → SpellsDotted ts n →
-    HeadLeads s from (opened s from) (t ∷ ts) (none_deep (t ∷ ts)) (no_words (t ∷ ts)) (head.Whole (tag.Namespace n))
+    HeadLeads s from (opened s from) (t ∷ ts) (none_deep (t ∷ ts)) (no_words (t ∷ ts)) (head.Whole (says.Namespace n))
 namespace_leads s from t ts n ht ok p = record {
   to = in_at s from (spot.Dotted dotted.Namespace n);
   leads = then_leads {ts = t ∷ []} {ds = 0 ∷ []} {ws = false ∷ []}
@@ -731,50 +733,56 @@ template_leads s from t n w _ ht ok (SpellsDot.with_ d hd) hn =
 
 -- a parameter of a template
 
-head_param_leads : (s : CommandState) (from : Span) (sign t n colon : Token) (w : CommandWord) (ts us : List Token)
+template_param_leads : (s : CommandState) (from : Span) (sign t n colon : Token) (w : CommandWord) (ts us : List Token)
     (ds : List ℕ)
     (ws : List Bool) (required : Bool) (x : TypeOperand) → command_terminal_of sign ≡ terminal.At →
     command_terminal_of t ≡ terminal.Word word.Param → SpellsRequired ts required
     → command_terminal_of n ≡ terminal.Word w →
-    command_terminal_of colon ≡ terminal.Colon → SpellsType us ds ws x → admits s kind.HeadParam ≡ true →
+    command_terminal_of colon ≡ terminal.Colon → SpellsType us ds ws x → admits s kind.TemplateParam ≡ true →
     HeadLeads s from (opened s from) (sign ∷ (t ∷ (ts ++ (n ∷ (colon ∷ us)))))
     (none_deep (sign ∷ (t ∷ ts)) ++ (0 ∷ (0 ∷ ds))) (no_words (sign ∷ (t ∷ ts)) ++ (false ∷ (false ∷ ws)))
-    (head.Whole (tag.HeadParam n.text required x.of))
-head_param_leads s from sign t n colon w _ us ds ws _ x hs ht SpellsRequired.required_ hn hc p ok =
-    before_head s from (opened s from) spot.HeadParam sign (t ∷ (n ∷ (colon ∷ us))) (0 ∷ (0 ∷ (0 ∷ ds)))
+    (head.Whole (says.TemplateParam n.text required x.of))
+template_param_leads s from sign t n colon w _ us ds ws _ x hs ht SpellsRequired.required_ hn hc p ok =
+    before_head s from (opened s from) spot.TemplateParam sign (t ∷ (n ∷ (colon ∷ us))) (0 ∷ (0 ∷ (0 ∷ ds)))
     (false ∷ (false ∷ (false ∷ ws))) _
-    (opened_leads s from spot.HeadParam sign
-    (from_word s from sign terminal.At _ _ hs refl (opens s from kind.HeadParam _ ok)) refl refl)
-    (before_head s from (in_at s from spot.HeadParam) spot.HeadParamWord t (n ∷ (colon ∷ us)) (0 ∷ (0 ∷ ds))
+    (opened_leads s from spot.TemplateParam sign
+    (from_word s from sign terminal.At _ _ hs refl (opens s from kind.TemplateParam _ ok)) refl refl)
+    (before_head s from (in_at s from spot.TemplateParam) spot.TemplateParamWord t (n ∷ (colon ∷ us)) (0 ∷ (0 ∷ ds))
     (false ∷ (false ∷ ws)) _
-    (token_leads s from spot.HeadParam spot.HeadParamWord t (ap (head_param_step s from) ht) refl refl)
-    (before_head s from (in_at s from spot.HeadParamWord) (spot.HeadParamColon n.text true) n (colon ∷ us) (0 ∷ ds)
+    (token_leads s from spot.TemplateParam spot.TemplateParamWord t (ap (template_param_step s from) ht) refl refl)
+    (before_head s from (in_at s from spot.TemplateParamWord) (spot.TemplateParamColon n.text true) n
+    (colon ∷ us) (0 ∷ ds)
     (false ∷ ws) _
-    (token_leads s from spot.HeadParamWord (spot.HeadParamColon n.text true) n (ap (head_param_word_step s from n) hn)
+    (token_leads s from spot.TemplateParamWord (spot.TemplateParamColon n.text true) n
+    (ap (template_param_word_step s from n) hn)
     refl refl)
-    (before_head s from (in_at s from (spot.HeadParamColon n.text true)) (spot.Type n.text true type_start) colon us
+    (before_head s from (in_at s from (spot.TemplateParamColon n.text true)) (spot.Type n.text true type_start) colon us
     ds ws _
-    (token_leads s from (spot.HeadParamColon n.text true) (spot.Type n.text true type_start) colon
+    (token_leads s from (spot.TemplateParamColon n.text true) (spot.Type n.text true type_start) colon
     (ap (λ m. if_colon m (stands s from (spot.Type n.text true type_start))) hc) refl refl)
     (type_head_leads s from n.text true us ds ws x p))))
-head_param_leads s from sign t n colon w _ us ds ws _ x hs ht (SpellsRequired.optional_ q hq) hn hc p ok =
-    before_head s from (opened s from) spot.HeadParam sign (t ∷ (q ∷ (n ∷ (colon ∷ us)))) (0 ∷ (0 ∷ (0 ∷ (0 ∷ ds))))
+template_param_leads s from sign t n colon w _ us ds ws _ x hs ht (SpellsRequired.optional_ q hq) hn hc p ok =
+    before_head s from (opened s from) spot.TemplateParam sign (t ∷ (q ∷ (n ∷ (colon ∷ us)))) (0 ∷ (0 ∷ (0 ∷ (0 ∷ ds))))
     (false ∷ (false ∷ (false ∷ (false ∷ ws)))) _
-    (opened_leads s from spot.HeadParam sign
-    (from_word s from sign terminal.At _ _ hs refl (opens s from kind.HeadParam _ ok)) refl refl)
-    (before_head s from (in_at s from spot.HeadParam) spot.HeadParamWord t (q ∷ (n ∷ (colon ∷ us))) (0 ∷ (0 ∷ (0 ∷ ds)))
+    (opened_leads s from spot.TemplateParam sign
+    (from_word s from sign terminal.At _ _ hs refl (opens s from kind.TemplateParam _ ok)) refl refl)
+    (before_head s from (in_at s from spot.TemplateParam) spot.TemplateParamWord t (q ∷ (n ∷ (colon ∷ us)))
+    (0 ∷ (0 ∷ (0 ∷ ds)))
     (false ∷ (false ∷ (false ∷ ws))) _
-    (token_leads s from spot.HeadParam spot.HeadParamWord t (ap (head_param_step s from) ht) refl refl)
-    (before_head s from (in_at s from spot.HeadParamWord) spot.HeadParamName q (n ∷ (colon ∷ us)) (0 ∷ (0 ∷ ds))
+    (token_leads s from spot.TemplateParam spot.TemplateParamWord t (ap (template_param_step s from) ht) refl refl)
+    (before_head s from (in_at s from spot.TemplateParamWord) spot.TemplateParamName q (n ∷ (colon ∷ us)) (0 ∷ (0 ∷ ds))
     (false ∷ (false ∷ ws)) _
-    (token_leads s from spot.HeadParamWord spot.HeadParamName q (ap (head_param_word_step s from q) hq) refl refl)
-    (before_head s from (in_at s from spot.HeadParamName) (spot.HeadParamColon n.text false) n (colon ∷ us) (0 ∷ ds)
+    (token_leads s from spot.TemplateParamWord spot.TemplateParamName q
+    (ap (template_param_word_step s from q) hq) refl refl)
+    (before_head s from (in_at s from spot.TemplateParamName) (spot.TemplateParamColon n.text false) n
+    (colon ∷ us) (0 ∷ ds)
     (false ∷ ws) _
-    (token_leads s from spot.HeadParamName (spot.HeadParamColon n.text false) n
-    (ap (λ m. if_word m (stands s from (spot.HeadParamColon n.text false))) hn) refl refl)
-    (before_head s from (in_at s from (spot.HeadParamColon n.text false)) (spot.Type n.text false type_start) colon us
+    (token_leads s from spot.TemplateParamName (spot.TemplateParamColon n.text false) n
+    (ap (λ m. if_word m (stands s from (spot.TemplateParamColon n.text false))) hn) refl refl)
+    (before_head s from (in_at s from (spot.TemplateParamColon n.text false))
+    (spot.Type n.text false type_start) colon us
     ds ws _
-    (token_leads s from (spot.HeadParamColon n.text false) (spot.Type n.text false type_start) colon
+    (token_leads s from (spot.TemplateParamColon n.text false) (spot.Type n.text false type_start) colon
     (ap (λ m. if_colon m (stands s from (spot.Type n.text false type_start))) hc) refl refl)
     (type_head_leads s from n.text false us ds ws x p)))))
 
@@ -804,5 +812,5 @@ head_leads s from _ _ _ _ (SpellsHead.param_ t n colon w ts ds x ht hn hc p) ok 
 head_leads s from _ _ _ _ (SpellsHead.param_block_ t n w ht hn) ok = param_block_leads s from t n w ht hn ok
 head_leads s from _ _ _ _ (SpellsHead.namespace_ t ts n ht p) ok = namespace_leads s from t ts n ht ok p
 head_leads s from _ _ _ _ (SpellsHead.template_ t n w ts ht d hn) ok = template_leads s from t n w ts ht ok d hn
-head_leads s from _ _ _ _ (SpellsHead.head_param_ sign t n colon w ts us ds ws required x hs ht q hn hc p) ok =
-    head_param_leads s from sign t n colon w ts us ds ws required x hs ht q hn hc p ok
+head_leads s from _ _ _ _ (SpellsHead.template_param_ sign t n colon w ts us ds ws required x hs ht q hn hc p) ok =
+    template_param_leads s from sign t n colon w ts us ds ws required x hs ht q hn hc p ok

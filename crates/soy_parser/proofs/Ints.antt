@@ -41,7 +41,8 @@ digits_end n within =
 pub digits_too_large : (n : ℕ) (cs : List ℕ) → largest_int < n → digits_value n cs ≡ None
 digits_too_large n cs large = no_larger (list_all is_ascii_digit cs) n (number_after n cs) large (number_grows n cs)
 
-bounded : (b d : Bool) (n : ℕ) → nat_le n largest_int ≡ d → IfSome (if b && d then Some n else None) (λ n. n ≤ largest_int)
+bounded : (b d : Bool) (n : ℕ) → nat_le n largest_int ≡ d
+    → IfSome (if b && d then Some n else None) (λ n. n ≤ largest_int)
 bounded true true n within = grind (arith, nat_tests, within)
 bounded true false n within = tt
 bounded false d n within = tt

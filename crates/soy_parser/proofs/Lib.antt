@@ -1,3 +1,5 @@
+pub mod CommandLevels
+pub mod ReadsFile
 pub mod CommandRunning
 pub mod CommandsComplete
 pub mod CommandsSound

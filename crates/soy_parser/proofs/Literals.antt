@@ -42,7 +42,8 @@ none_is_less false false false false true f = refl
 none_is_less false false false false false true = refl
 none_is_less false false false false false false = refl
 
-first_is_less : (a : Bool) (rest : TypeTerminal) → is_less rest ≡ false → is_less (if a then terminal.Less else rest) ≡ a
+first_is_less : (a : Bool) (rest : TypeTerminal) → is_less rest ≡ false
+    → is_less (if a then terminal.Less else rest) ≡ a
 first_is_less true rest e = refl
 first_is_less false rest e = e
 

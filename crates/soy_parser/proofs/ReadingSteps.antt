@@ -1,5 +1,6 @@
 -- What reading the next token of a file does, by what the machine does with it.
-use Rattle.std.proofs.Common.{◌≡◌, ℕ, ◌+◌, ◌<◌, ◌∙◌, Bool, true, false, List, ◌∷◌, length, drop, slice_index_or, ap, sym}
+use Rattle.std.proofs.Common.{◌≡◌, ℕ, ◌+◌, ◌<◌, ◌∙◌, Bool, true, false, List, ◌∷◌, length, drop, slice_index_or, ap}
+use Rattle.std.proofs.Common.{sym}
 use Rattle.std.specs.Prelude.{Some, None, Result, Ok, Err, if◌then◌else◌}
 use Rattle.std.proofs.lemmas.List.{drop_more}
 use Rattle.soy_base.specs.declared.code.Code.TheVariants as code
@@ -34,7 +35,8 @@ module _ (file end i : ℕ) (tokens : List Token) (t : Token) (s : FileState) (w
 
   -- what is read where a file goes on with the token
   goes_on : (to : FileState) → file_step s t ≡ Some to → (b : Bool) → is_within 0 (token_depth s to) ≡ b
-      → (if b then reading_file file t.span.end (drop (i + 1) tokens) to else Err (fault_at file code.Nesting t.span.start))
+      → (if b then reading_file file t.span.end (drop (i + 1) tokens) to
+      else Err (fault_at file code.Nesting t.span.start))
       ≡ whole
   goes_on to stepped b deep =
       sym (ap (λ b. if b then reading_file file t.span.end (drop (i + 1) tokens) to

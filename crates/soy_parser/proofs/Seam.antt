@@ -27,7 +27,7 @@ use Rattle.soy_parser.specs.declared.spot.Use.{Use}
 use Rattle.soy_parser.specs.declared.terminal.CommandTerminal.{CommandTerminal}
 use Rattle.soy_parser.specs.declared.terminal.CommandTerminal.TheVariants as terminal
 use Rattle.soy_parser.specs.CommandTerminals.{command_terminal, command_terminal_of, command_word, command_symbol}
-use Rattle.soy_parser.specs.Depth.{no_words}
+use Rattle.soy_parser.specs.TypeWords.{no_words}
 use Rattle.soy_parser.specs.FileSteps.{in_expr}
 use Rattle.soy_parser.specs.Heads.{attribute_name}
 use Rattle.soy_parser.proofs.AttributesComplete.{in_at, FollowsHead}

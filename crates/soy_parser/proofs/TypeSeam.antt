@@ -25,7 +25,7 @@ use Rattle.expr_parser.proofs.TypeExact.{SpellsType-whole_type}
 use Rattle.expr_parser.proofs.TypeMachine.{spelled_depths, spelled_words}
 use Rattle.soy_parser.specs.declared.block.CommandState.{CommandState}
 use Rattle.soy_parser.specs.declared.head.Head.TheVariants as head
-use Rattle.soy_parser.specs.declared.command.Tag.TheVariants as tag
+use Rattle.soy_parser.specs.declared.command.CommandForm.TheVariants as says
 use Rattle.soy_parser.specs.declared.spot.Spot.TheVariants as spot
 use Rattle.soy_parser.specs.CommandTerminals.{command_terminal, command_terminal_of}
 use Rattle.soy_parser.specs.FileSteps.{in_type}
@@ -103,7 +103,7 @@ type_leads s from n required (t ∷ us) r r' e = over (type_next r t) refl e (λ
 pub type_head_leads : (s : CommandState) (from : Span) (n : List ℕ) (required : Bool) (us : List Token) (ds : List ℕ)
     (ws : List Bool) (x : TypeOperand) → SpellsType us ds ws x →
     HeadLeads s from (in_at s from (spot.Type n required type_start)) us ds ws
-    (head.Whole (tag.HeadParam n required x.of))
+    (head.Whole (says.TemplateParam n required x.of))
 type_head_leads s from n required us ds ws x p =
     let i = SpellsType-whole_type us ds ws x p in
     let to = in_at s from (spot.Type n required i.state) in

@@ -9,17 +9,17 @@ use Rattle.soy_tree.specs.declared.tree.Tree.{Tree}
 use Rattle.soy_parser.specs.declared.block.CommandState.{CommandState}
 use Rattle.soy_parser.specs.declared.command.Command.{Command}
 use Rattle.soy_parser.specs.declared.command.Middle.TheVariants as middle
-use Rattle.soy_parser.specs.declared.command.Tag.{Tag}
-use Rattle.soy_parser.specs.declared.command.Tag.TheVariants as tag
+use Rattle.soy_parser.specs.declared.command.CommandForm.{CommandForm}
+use Rattle.soy_parser.specs.declared.command.CommandForm.TheVariants as says
 use Rattle.soy_parser.specs.declared.head.Head.TheVariants as head
 use Rattle.soy_parser.specs.declared.terminal.BlockName.{BlockName}
 use Rattle.soy_parser.specs.declared.terminal.BlockName.TheVariants as name
 use Rattle.soy_parser.specs.declared.terminal.CommandTerminal.TheVariants as terminal
 use Rattle.soy_parser.specs.declared.terminal.CommandWord.TheVariants as word
-use Rattle.soy_parser.specs.CommandLevels.{command_levels, levels_from}
+use Rattle.soy_parser.proofs.CommandLevels.{command_levels, levels_from}
 use Rattle.soy_parser.specs.CommandSteps.{command_step, commands_from, command_run, command_start}
 use Rattle.soy_parser.specs.CommandTerminals.{command_terminal_of}
-use Rattle.soy_parser.specs.Depth.{inside}
+use Rattle.soy_parser.specs.Depth.{inside_blocks}
 use Rattle.soy_parser.specs.Heads.{no_attributes, SpellsAttributes}
 use Rattle.soy_parser.specs.SpellsCommand.{SpellsCommand, SpellsCommands}
 use Rattle.soy_parser.specs.SpellsFile.{SpellsFile}
@@ -67,7 +67,7 @@ abbrev pub closing_token : BlockName → Token
 closing_token n = token token_kind.BeginClose (closing_text n)
 
 pub closing_is : (n : BlockName) → IsBlock n →
-    bare_head (command_terminal_of (closing_token n)) ≡ Some (head.Whole (tag.Closes n))
+    bare_head (command_terminal_of (closing_token n)) ≡ Some (head.Whole (says.Closes n))
 unfolding lib.Utf8.encode
 closing_is name.Template i = refl
 closing_is name.If i = refl
@@ -82,7 +82,7 @@ closing_is name.Select i = refl
 closing_is name.Other i = absurd i
 
 pub default_is : bare_head (command_terminal_of (word_token (codes "default")))
-    ≡ Some (head.Whole (tag.GoesOn middle.Default))
+    ≡ Some (head.Whole (says.GoesOn middle.Default))
 unfolding lib.Utf8.encode
 default_is = refl
 
@@ -90,7 +90,8 @@ pub namespace_is : command_terminal_of (word_token (codes "namespace")) ≡ term
 unfolding lib.Utf8.encode
 namespace_is = refl
 
-spelled_end : (of : Tag) (ts : List Token) (ds : List ℕ) (ws : List Bool) → SpellsHead ts ds ws (head.Whole of) →
+spelled_end : (of : CommandForm) (ts : List Token) (ds : List ℕ) (ws : List Bool)
+    → SpellsHead ts ds ws (head.Whole of) →
     SpelledCommand (written of)
 spelled_end of ts ds ws p = record {
   tokens = begin_token ∷ (ts ++ (end_token ∷ []));
@@ -100,7 +101,7 @@ spelled_end of ts ds ws p = record {
       (SpellsAttributes.none_ (head.Whole of)) refl;
 }
 
-pub written_spelled : (of : Tag) → IsWritten of → SpelledCommand (written of)
+pub written_spelled : (of : CommandForm) → IsWritten of → SpelledCommand (written of)
 written_spelled _ (IsWritten.text_ text) = record {
   tokens = token token_kind.Text text ∷ [];
   depths = 0 ∷ [];
@@ -161,7 +162,7 @@ with_levels _ _ (Speaks.more_ ts us ds ws c cs p q) [] e = absurd (cc e)
 with_levels _ _ (Speaks.more_ ts us ds ws c cs p q) (l ∷ ls) e =
     let r = with_levels us cs q ls (omega (arith, e)) in
     record {
-      depths = inside l ds ++ r.depths;
+      depths = inside_blocks l ds ++ r.depths;
       words = ws ++ r.words;
       spell = SpellsCommands.more_ ts us ds r.depths ws r.words c cs l ls p r.spell;
     }
@@ -177,7 +178,7 @@ levels_length (c ∷ cs) s m e = ap (λ n. suc n) (over (command_step s c) e (λ
     over None q inside_ = absurd (cc q)
     over (Some k) q inside_ = inside_ k q
 
-inside_length : (n : ℕ) (ls : List ℕ) → length (inside n ls) ≡ length ls
+inside_length : (n : ℕ) (ls : List ℕ) → length (inside_blocks n ls) ≡ length ls
 inside_length n [] = refl
 inside_length n (l ∷ ls) = ap (λ k. suc k) (inside_length n ls)
 

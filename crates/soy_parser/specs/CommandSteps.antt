@@ -1,4 +1,4 @@
--- The machine of commands: what a command does to what was read. It has no step at a command with which no file goes on.
+-- The machine of commands: what a command does to what was read. It has no step at one with which no file goes on.
 -- Example: after `{if $x}a` an `{else}` opens another body in the same block, and a `{case 1}` has no step.
 use Rattle.std.specs.Prelude.{ℕ, ℤ, Bool, true, false, ◌&&◌, List, [], ◌∷◌, ◌++◌, Option, Some, None, if◌then◌else◌}
 use Rattle.std.specs.List.{list_all}
@@ -36,11 +36,11 @@ use Rattle.soy_parser.specs.declared.command.Opening.{Opening}
 use Rattle.soy_parser.specs.declared.command.Opening.TheVariants as opening
 use Rattle.soy_parser.specs.declared.command.Single.{Single}
 use Rattle.soy_parser.specs.declared.command.Single.TheVariants as single
-use Rattle.soy_parser.specs.declared.command.Tag.{Tag}
-use Rattle.soy_parser.specs.declared.command.Tag.TheVariants as tag
+use Rattle.soy_parser.specs.declared.command.CommandForm.{CommandForm}
+use Rattle.soy_parser.specs.declared.command.CommandForm.TheVariants as says
 use Rattle.soy_parser.specs.declared.terminal.BlockName.{BlockName}
 use Rattle.soy_parser.specs.declared.terminal.BlockName.TheVariants as name
-use Rattle.soy_parser.specs.Nodes.{node_of, arm_of, case_of, argument_of, message_of, plural_cases, select_cases}
+use Rattle.soy_parser.specs.Nodes.{node_of, arm_of, case_of, argument_of, whole_message, plural_cases, select_cases}
 use Rattle.soy_parser.specs.Nodes.{text_span, up_to}
 use Rattle.soy_parser.specs.SpellsTree.{param_of, template_of}
 
@@ -102,11 +102,13 @@ single_step blocks ns (single.MessagePrint e phname) span = None
 single_step blocks ns (single.Param name e) span = None
 
 abbrev pub opening_step : List Block → List Node → Opening → Span → Option CommandState
-opening_step blocks ns (opening.If e) span = begins blocks (block.Arm (record { before = ns; start = span; arms = [] }) e)
+opening_step blocks ns (opening.If e) span =
+    begins blocks (block.Arm (record { before = ns; start = span; arms = [] }) e)
 opening_step blocks ns (opening.Switch e) span = state (block.Switch ns span e ∷ blocks) content.BeforeCases
 opening_step blocks ns (opening.For name index e) span = begins blocks (block.For ns span name index e)
 opening_step blocks ns (opening.Let name kind) span = begins blocks (block.Let ns span name kind)
-opening_step blocks ns (opening.Call name all) span = state (block.Call ns span name all ∷ blocks) (content.Arguments [])
+opening_step blocks ns (opening.Call name all) span =
+    state (block.Call ns span name all ∷ blocks) (content.Arguments [])
 opening_step blocks ns (opening.Message desc meaning) span =
     begins_parts blocks (block.Message (record { before = ns; start = span; desc = desc; meaning = meaning }))
 opening_step blocks ns (opening.Template h) span = None
@@ -153,11 +155,13 @@ abbrev pub closed_if : List Block → OpenIf → Option (List Node) → Span →
 closed_if blocks i other end = adds blocks i.before (node_of (form.If i.arms other) (joined i.start end))
 
 abbrev pub closed_switch : List Block → OpenSwitch → Option (List Node) → Span → Option CommandState
-closed_switch blocks s other end = adds blocks s.before (node_of (form.Switch s.subject s.cases other) (joined s.start end))
+closed_switch blocks s other end =
+    adds blocks s.before (node_of (form.Switch s.subject s.cases other) (joined s.start end))
 
 abbrev pub closed_template : List Block → OpenTemplate → List Node → Span → Option CommandState
 closed_template blocks t body end =
-    state blocks (content.Templates t.namespace (t.templates ++ (template_of t.head t.params body (up_to t.start end) ∷ [])))
+    state blocks (content.Templates t.namespace (t.templates
+    ++ (template_of t.head t.params body (up_to t.start end) ∷ [])))
 
 abbrev pub closed_body : List Block → Block → List Node → Span → Option CommandState
 closed_body blocks (block.Template t) ns end = closed_template blocks t ns end
@@ -180,28 +184,34 @@ body_closes (b ∷ blocks) ns n end = if closes_body b n then closed_body blocks
 -- a parameter, at the head of a template
 abbrev pub with_param : OpenTemplate → Param → OpenTemplate
 with_param t param =
-    record { namespace = t.namespace; templates = t.templates; head = t.head; start = t.start; params = t.params ++ (param ∷ []) }
+    record {
+      namespace = t.namespace;
+      templates = t.templates;
+      head = t.head;
+      start = t.start;
+      params = t.params ++ (param ∷ []);
+    }
 
-abbrev pub head_param_step : List Block → Param → Option CommandState
-head_param_step (block.Template t ∷ blocks) param = begins blocks (block.Template (with_param t param))
-head_param_step _ param = None
+abbrev pub template_param_step : List Block → Param → Option CommandState
+template_param_step (block.Template t ∷ blocks) param = begins blocks (block.Template (with_param t param))
+template_param_step _ param = None
 
-abbrev pub body_step : List Block → Nodes → Tag → Span → Option CommandState
-body_step blocks nodes (tag.Text text) span = state blocks (content.Body (with_text nodes text span))
-body_step blocks nodes (tag.Character text) span = state blocks (content.Body (with_text nodes text span))
-body_step blocks nodes (tag.Namespace n) span = None
-body_step blocks nodes (tag.HeadParam n required of) span =
-    if is_empty nodes then head_param_step blocks (param_of n of required span) else None
-body_step blocks nodes (tag.Single of) span = single_step blocks (ended nodes) of span
-body_step blocks nodes (tag.Opens of) span = opening_step blocks (ended nodes) of span
-body_step blocks nodes (tag.GoesOn m) span = body_goes_on blocks (ended nodes) m
-body_step blocks nodes (tag.Closes n) span = body_closes blocks (ended nodes) n span
+abbrev pub body_step : List Block → Nodes → CommandForm → Span → Option CommandState
+body_step blocks nodes (says.Text text) span = state blocks (content.Body (with_text nodes text span))
+body_step blocks nodes (says.Character text) span = state blocks (content.Body (with_text nodes text span))
+body_step blocks nodes (says.Namespace n) span = None
+body_step blocks nodes (says.TemplateParam n required of) span =
+    if is_empty nodes then template_param_step blocks (param_of n of required span) else None
+body_step blocks nodes (says.Single of) span = single_step blocks (ended nodes) of span
+body_step blocks nodes (says.Opens of) span = opening_step blocks (ended nodes) of span
+body_step blocks nodes (says.GoesOn m) span = body_goes_on blocks (ended nodes) m
+body_step blocks nodes (says.Closes n) span = body_closes blocks (ended nodes) n span
 
 -- between the templates of a file
 
-abbrev pub white_step : List Block → Tag → Span → Option CommandState
-white_step blocks (tag.Text text) span = if is_white text then state blocks content.White else None
-white_step blocks (tag.Namespace n) span = state blocks (content.Templates n [])
+abbrev pub white_step : List Block → CommandForm → Span → Option CommandState
+white_step blocks (says.Text text) span = if is_white text then state blocks content.White else None
+white_step blocks (says.Namespace n) span = state blocks (content.Templates n [])
 white_step blocks _ span = None
 
 abbrev pub template_opens : List Block → List ℕ → List Template → Opening → Span → Option CommandState
@@ -209,10 +219,10 @@ template_opens blocks namespace templates (opening.Template h) span = begins blo
     (block.Template (record { namespace = namespace; templates = templates; head = h; start = span; params = [] }))
 template_opens blocks namespace templates _ span = None
 
-abbrev pub templates_step : List Block → List ℕ → List Template → Tag → Span → Option CommandState
-templates_step blocks namespace templates (tag.Text text) span =
+abbrev pub templates_step : List Block → List ℕ → List Template → CommandForm → Span → Option CommandState
+templates_step blocks namespace templates (says.Text text) span =
     if is_white text then state blocks (content.Templates namespace templates) else None
-templates_step blocks namespace templates (tag.Opens of) span = template_opens blocks namespace templates of span
+templates_step blocks namespace templates (says.Opens of) span = template_opens blocks namespace templates of span
 templates_step blocks namespace templates _ span = None
 
 -- in a call
@@ -235,12 +245,12 @@ abbrev pub is_call : BlockName → Bool
 is_call name.Call = true
 is_call _ = false
 
-abbrev pub arguments_step : List Block → List Argument → Tag → Span → Option CommandState
-arguments_step blocks arguments (tag.Text text) span =
+abbrev pub arguments_step : List Block → List Argument → CommandForm → Span → Option CommandState
+arguments_step blocks arguments (says.Text text) span =
     if is_white text then state blocks (content.Arguments arguments) else None
-arguments_step blocks arguments (tag.Single of) span = argument_single blocks arguments of span
-arguments_step blocks arguments (tag.Opens of) span = argument_opens blocks arguments of span
-arguments_step blocks arguments (tag.Closes n) span = if is_call n then closed_call blocks arguments span else None
+arguments_step blocks arguments (says.Single of) span = argument_single blocks arguments of span
+arguments_step blocks arguments (says.Opens of) span = argument_opens blocks arguments of span
+arguments_step blocks arguments (says.Closes n) span = if is_call n then closed_call blocks arguments span else None
 arguments_step blocks arguments _ span = None
 
 -- before the first case of a switch, plural or select
@@ -261,7 +271,8 @@ select_goes_on blocks s _ = None
 
 abbrev pub cases_begin : List Block → Middle → Option CommandState
 cases_begin (block.Switch before start e ∷ blocks) m = switch_begins blocks before start e m
-cases_begin (block.Plural e offset ∷ blocks) m = plural_goes_on blocks (record { selector = e; offset = offset; cases = [] }) m
+cases_begin (block.Plural e offset ∷ blocks) m =
+    plural_goes_on blocks (record { selector = e; offset = offset; cases = [] }) m
 cases_begin (block.Select e ∷ blocks) m = select_goes_on blocks (record { selector = e; cases = [] }) m
 cases_begin _ m = None
 
@@ -274,10 +285,10 @@ closed_bare_switch (block.Switch before start e ∷ blocks) end =
     closed_switch blocks (record { before = before; start = start; subject = e; cases = [] }) None end
 closed_bare_switch _ end = None
 
-abbrev pub before_cases_step : List Block → Tag → Span → Option CommandState
-before_cases_step blocks (tag.Text text) span = if is_white text then state blocks content.BeforeCases else None
-before_cases_step blocks (tag.GoesOn m) span = cases_begin blocks m
-before_cases_step blocks (tag.Closes n) span = if is_switch n then closed_bare_switch blocks span else None
+abbrev pub before_cases_step : List Block → CommandForm → Span → Option CommandState
+before_cases_step blocks (says.Text text) span = if is_white text then state blocks content.BeforeCases else None
+before_cases_step blocks (says.GoesOn m) span = cases_begin blocks m
+before_cases_step blocks (says.Closes n) span = if is_switch n then closed_bare_switch blocks span else None
 before_cases_step blocks _ span = None
 
 -- in a message
@@ -311,9 +322,10 @@ closes_message _ _ = false
 
 abbrev pub closed_message : List Block → Block → MessageBody → Span → Option CommandState
 closed_message blocks (block.Message m) body end = adds blocks m.before
-    (node_of (form.Message (message_of m.desc m.meaning body m.start) None) (joined m.start end))
+    (node_of (form.Message (whole_message m.desc m.meaning body m.start) None) (joined m.start end))
 closed_message blocks (block.Fallback m first f) body end = adds blocks m.before
-    (node_of (form.Message (message_of m.desc m.meaning first m.start) (Some (message_of f.desc f.meaning body f.start)))
+    (node_of (form.Message (whole_message m.desc m.meaning first m.start)
+    (Some (whole_message f.desc f.meaning body f.start)))
     (joined m.start end))
 closed_message blocks (block.PluralDefault p) body end =
     state blocks (content.Choice (message_body.Plural p.selector p.offset p.cases body))
@@ -338,29 +350,30 @@ part_single blocks ns _ span = None
 abbrev pub has_whole_tags : Nodes → Bool
 has_whole_tags nodes = is_message_text (view_nodes (ended nodes))
 
-abbrev pub parts_of : Nodes → MessageBody
-parts_of nodes = message_body.Parts (ended nodes)
+abbrev pub body_of_parts : Nodes → MessageBody
+body_of_parts nodes = message_body.Parts (ended nodes)
 
-abbrev pub parts_step : List Block → Nodes → Bool → Tag → Span → Option CommandState
-parts_step blocks nodes white (tag.Text text) span =
+abbrev pub parts_step : List Block → Nodes → Bool → CommandForm → Span → Option CommandState
+parts_step blocks nodes white (says.Text text) span =
     state blocks (content.Parts (with_text nodes text span) (white && is_white text))
-parts_step blocks nodes white (tag.Character text) span = state blocks (content.Parts (with_text nodes text span) false)
-parts_step blocks nodes white (tag.Namespace n) span = None
-parts_step blocks nodes white (tag.HeadParam n required of) span = None
-parts_step blocks nodes white (tag.Single of) span = part_single blocks (ended nodes) of span
-parts_step blocks nodes white (tag.Opens of) span = if white then choice_opens blocks of else None
-parts_step blocks nodes white (tag.GoesOn m) span =
-    if has_whole_tags nodes then message_goes_on blocks (parts_of nodes) m span else None
-parts_step blocks nodes white (tag.Closes n) span =
-    if has_whole_tags nodes then message_closes blocks (parts_of nodes) n span else None
+parts_step blocks nodes white (says.Character text) span =
+    state blocks (content.Parts (with_text nodes text span) false)
+parts_step blocks nodes white (says.Namespace n) span = None
+parts_step blocks nodes white (says.TemplateParam n required of) span = None
+parts_step blocks nodes white (says.Single of) span = part_single blocks (ended nodes) of span
+parts_step blocks nodes white (says.Opens of) span = if white then choice_opens blocks of else None
+parts_step blocks nodes white (says.GoesOn m) span =
+    if has_whole_tags nodes then message_goes_on blocks (body_of_parts nodes) m span else None
+parts_step blocks nodes white (says.Closes n) span =
+    if has_whole_tags nodes then message_closes blocks (body_of_parts nodes) n span else None
 
-abbrev pub choice_step : List Block → MessageBody → Tag → Span → Option CommandState
-choice_step blocks body (tag.Text text) span = if is_white text then state blocks (content.Choice body) else None
-choice_step blocks body (tag.GoesOn m) span = message_goes_on blocks body m span
-choice_step blocks body (tag.Closes n) span = message_closes blocks body n span
+abbrev pub choice_step : List Block → MessageBody → CommandForm → Span → Option CommandState
+choice_step blocks body (says.Text text) span = if is_white text then state blocks (content.Choice body) else None
+choice_step blocks body (says.GoesOn m) span = message_goes_on blocks body m span
+choice_step blocks body (says.Closes n) span = message_closes blocks body n span
 choice_step blocks body _ span = None
 
-abbrev pub step_at : Content → List Block → Tag → Span → Option CommandState
+abbrev pub step_at : Content → List Block → CommandForm → Span → Option CommandState
 step_at content.White blocks of span = white_step blocks of span
 step_at (content.Templates namespace templates) blocks of span = templates_step blocks namespace templates of span
 step_at (content.Body nodes) blocks of span = body_step blocks nodes of span
@@ -370,7 +383,7 @@ step_at (content.Parts nodes white) blocks of span = parts_step blocks nodes whi
 step_at (content.Choice body) blocks of span = choice_step blocks body of span
 
 abbrev pub command_step : CommandState → Command → Option CommandState
-command_step s c = step_at s.content s.blocks c.tag c.span
+command_step s c = step_at s.content s.blocks c.form c.span
 
 -- the state after commands
 abbrev pub commands_from : (CommandState → Option CommandState) → Option CommandState → Option CommandState

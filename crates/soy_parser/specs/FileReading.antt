@@ -1,6 +1,7 @@
--- How `parse` reads: token by token, until one has no step, lies too deep or shows that the word before it names no type, or
--- the tokens run out.
--- Example: `{namespace a}{` ends between its third token and its end, and no file is read there, so it is refused at its end.
+-- How `parse` reads: token by token, until one has no step, lies too deep or shows that the word before it names no
+-- type, or the tokens run out.
+-- Example: each of the five tokens of `{namespace a}{` has a step, and what was read at their end is no whole file, so
+-- it is refused there.
 use Rattle.std.specs.Prelude.{ℕ, false, List, [], ◌∷◌, Option, Some, None, Result, Ok, Err, if◌then◌else◌}
 use Rattle.soy_base.specs.declared.code.Code.{Code}
 use Rattle.soy_base.specs.declared.code.Code.TheVariants as code

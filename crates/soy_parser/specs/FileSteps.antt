@@ -1,8 +1,9 @@
--- The machine of files: what a token does to what was read. Between commands it is a text or a `{`; in a command its head
--- is read, then its attributes, and at its end the machine of commands takes it. It has no step at a token with which no
--- file goes on.
+-- The machine of files: what a token does to what was read. Between commands it is a text or a `{`; in a command its
+-- head is read, then its attributes, and at its end the machine of commands takes it. It has no step at a token with
+-- which no file goes on.
 -- Example: after `{if $x` a `}` ends the command, and a `+` goes on with its expression.
-use Rattle.std.specs.Prelude.{ℕ, ◌+◌, ℤ, pos, Bool, true, false, ◌&&◌, List, [], ◌∷◌, ◌++◌, Option, Some, None, length, if◌then◌else◌}
+use Rattle.std.specs.Prelude.{ℕ, ◌+◌, ℤ, pos, Bool, true, false, ◌&&◌, List, [], ◌∷◌, ◌++◌, Option, Some, None, length}
+use Rattle.std.specs.Prelude.{if◌then◌else◌}
 use Rattle.soy_base.specs.declared.fault.Span.{Span}
 use Rattle.soy_lexer.specs.CommandSegment.{number_after}
 use Rattle.soy_lexer.specs.LongestToken.{is_int}
@@ -33,8 +34,8 @@ use Rattle.soy_parser.specs.declared.command.Opening.{Opening}
 use Rattle.soy_parser.specs.declared.command.Opening.TheVariants as opening
 use Rattle.soy_parser.specs.declared.command.Single.{Single}
 use Rattle.soy_parser.specs.declared.command.Single.TheVariants as single
-use Rattle.soy_parser.specs.declared.command.Tag.{Tag}
-use Rattle.soy_parser.specs.declared.command.Tag.TheVariants as tag
+use Rattle.soy_parser.specs.declared.command.CommandForm.{CommandForm}
+use Rattle.soy_parser.specs.declared.command.CommandForm.TheVariants as says
 use Rattle.soy_parser.specs.declared.head.Head.{Head}
 use Rattle.soy_parser.specs.declared.head.HeadKind.{HeadKind}
 use Rattle.soy_parser.specs.declared.head.HeadKind.TheVariants as kind
@@ -52,9 +53,10 @@ use Rattle.soy_parser.specs.declared.terminal.BlockName.TheVariants as name
 use Rattle.soy_parser.specs.declared.terminal.CommandTerminal.{CommandTerminal}
 use Rattle.soy_parser.specs.declared.terminal.CommandTerminal.TheVariants as terminal
 use Rattle.soy_parser.specs.declared.terminal.CommandWord.TheVariants as word
-use Rattle.soy_parser.specs.CommandSteps.{command_step, command_start, closes_body, closes_message, has_whole_tags, is_empty}
+use Rattle.soy_parser.specs.CommandSteps.{command_step, command_start, closes_body, closes_message, has_whole_tags}
+use Rattle.soy_parser.specs.CommandSteps.{is_empty}
 use Rattle.soy_parser.specs.CommandTerminals.{command_terminal_of}
-use Rattle.soy_parser.specs.Heads.{no_attributes, attribute_name, allows, with_attribute, tag_at}
+use Rattle.soy_parser.specs.Heads.{no_attributes, attribute_name, allows, with_attribute, form_at}
 use Rattle.soy_parser.specs.SpellsHead.{bare_head}
 
 abbrev pub file_at : CommandState → CommandSpot → Option FileState
@@ -94,18 +96,18 @@ middle_kind middle.Default = kind.Default
 middle_kind (middle.Fallback desc meaning) = kind.Fallback
 
 -- a text has no head; it stands here as a character command does
-abbrev pub tag_kind : Tag → HeadKind
-tag_kind (tag.Text text) = kind.Character
-tag_kind (tag.Character text) = kind.Character
-tag_kind (tag.Namespace n) = kind.Namespace
-tag_kind (tag.HeadParam n required of) = kind.HeadParam
-tag_kind (tag.Single of) = single_kind of
-tag_kind (tag.Opens of) = opening_kind of
-tag_kind (tag.GoesOn m) = middle_kind m
-tag_kind (tag.Closes n) = kind.Closes n
+abbrev pub form_kind : CommandForm → HeadKind
+form_kind (says.Text text) = kind.Character
+form_kind (says.Character text) = kind.Character
+form_kind (says.Namespace n) = kind.Namespace
+form_kind (says.TemplateParam n required of) = kind.TemplateParam
+form_kind (says.Single of) = single_kind of
+form_kind (says.Opens of) = opening_kind of
+form_kind (says.GoesOn m) = middle_kind m
+form_kind (says.Closes n) = kind.Closes n
 
 abbrev pub head_kind : Head → HeadKind
-head_kind (head.Whole of) = tag_kind of
+head_kind (head.Whole of) = form_kind of
 head_kind (head.Alone of) = single_kind of
 head_kind (head.Template n) = kind.Template
 head_kind (head.MessagePrint e) = kind.MessagePrint
@@ -163,7 +165,7 @@ in_body_admits blocks nodes kind.For = true
 in_body_admits blocks nodes kind.Let = true
 in_body_admits blocks nodes kind.Call = true
 in_body_admits blocks nodes kind.Message = true
-in_body_admits blocks nodes kind.HeadParam = is_empty nodes && top_admits is_template blocks kind.HeadParam
+in_body_admits blocks nodes kind.TemplateParam = is_empty nodes && top_admits is_template blocks kind.TemplateParam
 in_body_admits blocks nodes k = top_admits body_admits blocks k
 
 abbrev pub in_parts_admits : List Block → Nodes → Bool → HeadKind → Bool
@@ -204,13 +206,13 @@ abbrev pub taken : Option CommandState → Option FileState
 taken None = None
 taken (Some s) = file_at s where_.Between
 
-abbrev pub ended_command : CommandState → Span → Option Tag → Token → Option FileState
+abbrev pub ended_command : CommandState → Span → Option CommandForm → Token → Option FileState
 ended_command s from None t = None
-ended_command s from (Some of) t = taken (command_step s (record { tag = of; span = joined from t.span }))
+ended_command s from (Some of) t = taken (command_step s (record { form = of; span = joined from t.span }))
 
 abbrev pub attribute_step : CommandState → Span → Head → Attributes → Option AttributeName → Token → Option FileState
 attribute_step s from h a (Some n) t = if allows h a n then stands s from (spot.Equals h a n) else None
-attribute_step s from h a None t = ended_command s from (tag_at h a (command_terminal_of t)) t
+attribute_step s from h a None t = ended_command s from (form_at h a (command_terminal_of t)) t
 
 abbrev pub attributes_step : CommandState → Span → Head → Attributes → Token → Option FileState
 attributes_step s from h a t = attribute_step s from h a (attribute_name (command_terminal_of t)) t
@@ -222,22 +224,23 @@ abbrev pub with_value : CommandState → Span → Head → Option Attributes →
 with_value s from h None = None
 with_value s from h (Some a) = stands s from (spot.Attributes h a)
 
-abbrev pub value_step : CommandState → Span → Head → Attributes → AttributeName → Token → CommandTerminal → Option FileState
+abbrev pub value_step : CommandState → Span → Head → Attributes → AttributeName → Token → CommandTerminal
+    → Option FileState
 value_step s from h a n t terminal.Attribute = with_value s from h (with_attribute a n t.text)
 value_step s from h a n t _ = None
 
 -- an expression ends before a token
 
 abbrev pub head_of : Use → Operand → Head
-head_of use_.Print x = head.Whole (tag.Single (single.Print x.expr))
+head_of use_.Print x = head.Whole (says.Single (single.Print x.expr))
 head_of use_.MessagePrint x = head.MessagePrint x.expr
-head_of use_.If x = head.Whole (tag.Opens (opening.If x.expr))
-head_of use_.ElseIf x = head.Whole (tag.GoesOn (middle.ElseIf x.expr))
-head_of use_.Switch x = head.Whole (tag.Opens (opening.Switch x.expr))
+head_of use_.If x = head.Whole (says.Opens (opening.If x.expr))
+head_of use_.ElseIf x = head.Whole (says.GoesOn (middle.ElseIf x.expr))
+head_of use_.Switch x = head.Whole (says.Opens (opening.Switch x.expr))
 head_of use_.Plural x = head.Plural x.expr
-head_of use_.Select x = head.Whole (tag.Opens (opening.Select x.expr))
-head_of (use_.Case values) x = head.Whole (tag.GoesOn (middle.Case (values ++ (x.expr ∷ []))))
-head_of (use_.For n index) x = head.Whole (tag.Opens (opening.For n index x.expr))
+head_of use_.Select x = head.Whole (says.Opens (opening.Select x.expr))
+head_of (use_.Case values) x = head.Whole (says.GoesOn (middle.Case (values ++ (x.expr ∷ []))))
+head_of (use_.For n index) x = head.Whole (says.Opens (opening.For n index x.expr))
 head_of (use_.Let n) x = head.Alone (single.Let n x.expr)
 head_of (use_.Param n) x = head.Alone (single.Param n x.expr)
 
@@ -255,12 +258,12 @@ abbrev pub in_type : CommandState → Span → List ℕ → Bool → Token → T
 in_type s from n required t (type_does.Next r) = stands s from (spot.Type n required r)
 in_type s from n required t (type_does.End None) = None
 in_type s from n required t (type_does.End (Some x)) =
-    head_done s from (head.Whole (tag.HeadParam n required x.of)) t
+    head_done s from (head.Whole (says.TemplateParam n required x.of)) t
 
 -- a name joined by dots
 
 abbrev pub dotted_head : DottedUse → List ℕ → Head
-dotted_head dotted.Namespace text = head.Whole (tag.Namespace text)
+dotted_head dotted.Namespace text = head.Whole (says.Namespace text)
 dotted_head dotted.Call text = head.Call text
 
 abbrev pub dotted_step : CommandState → Span → DottedUse → List ℕ → Token → CommandTerminal → Option FileState
@@ -297,14 +300,14 @@ abbrev pub if_case_word : CommandTerminal → List ℕ → Option FileState → 
 if_case_word terminal.Str text to = if is_case_word text then to else None
 if_case_word _ text to = None
 
-abbrev pub head_param_step : CommandState → Span → CommandTerminal → Option FileState
-head_param_step s from (terminal.Word word.Param) = stands s from spot.HeadParamWord
-head_param_step s from _ = None
+abbrev pub template_param_step : CommandState → Span → CommandTerminal → Option FileState
+template_param_step s from (terminal.Word word.Param) = stands s from spot.TemplateParamWord
+template_param_step s from _ = None
 
-abbrev pub head_param_word_step : CommandState → Span → Token → CommandTerminal → Option FileState
-head_param_word_step s from t terminal.Question = stands s from spot.HeadParamName
-head_param_word_step s from t (terminal.Word w) = stands s from (spot.HeadParamColon t.text true)
-head_param_word_step s from t _ = None
+abbrev pub template_param_word_step : CommandState → Span → Token → CommandTerminal → Option FileState
+template_param_word_step s from t terminal.Question = stands s from spot.TemplateParamName
+template_param_word_step s from t (terminal.Word w) = stands s from (spot.TemplateParamColon t.text true)
+template_param_word_step s from t _ = None
 
 abbrev pub template_step : CommandState → Span → Token → CommandTerminal → Option FileState
 template_step s from t terminal.Dot = stands s from spot.TemplateName
@@ -331,27 +334,29 @@ param_colon_step s from n t _ = head_done s from (head.Param n) t
 
 abbrev pub after_int_step : CommandState → Span → List ℤ → Token → CommandTerminal → Option FileState
 after_int_step s from values t terminal.Comma = stands s from (spot.IntValue values)
-after_int_step s from values t _ = head_done s from (head.Whole (tag.GoesOn (middle.PluralCase values))) t
+after_int_step s from values t _ = head_done s from (head.Whole (says.GoesOn (middle.PluralCase values))) t
 
 abbrev pub after_case_word_step : CommandState → Span → List (List ℕ) → Token → CommandTerminal → Option FileState
 after_case_word_step s from values t terminal.Comma = stands s from (spot.CaseWord values)
-after_case_word_step s from values t _ = head_done s from (head.Whole (tag.GoesOn (middle.SelectCase values))) t
+after_case_word_step s from values t _ = head_done s from (head.Whole (says.GoesOn (middle.SelectCase values))) t
 
 abbrev pub spot_step : CommandState → Span → Spot → Token → CommandTerminal → Option FileState
-spot_step s from spot.HeadParam t m = head_param_step s from m
-spot_step s from spot.HeadParamWord t m = head_param_word_step s from t m
-spot_step s from spot.HeadParamName t m = if_word m (stands s from (spot.HeadParamColon t.text false))
-spot_step s from (spot.HeadParamColon n required) t m = if_colon m (stands s from (spot.Type n required type_start))
+spot_step s from spot.TemplateParam t m = template_param_step s from m
+spot_step s from spot.TemplateParamWord t m = template_param_word_step s from t m
+spot_step s from spot.TemplateParamName t m = if_word m (stands s from (spot.TemplateParamColon t.text false))
+spot_step s from (spot.TemplateParamColon n required) t m = if_colon m (stands s from (spot.Type n required type_start))
 spot_step s from (spot.Type n required r) t m = in_type s from n required t (type_step r t)
 spot_step s from spot.Template t m = template_step s from t m
-spot_step s from spot.TemplateName t m = if_word m (stands s from (spot.Attributes (head.Template t.text) no_attributes))
+spot_step s from spot.TemplateName t m =
+    if_word m (stands s from (spot.Attributes (head.Template t.text) no_attributes))
 spot_step s from spot.Call t m = call_step s from t m
 spot_step s from (spot.DottedName for_ text) t m = if_word m (stands s from (spot.Dotted for_ (text ++ t.text)))
 spot_step s from (spot.Dotted for_ text) t m = dotted_step s from for_ text t m
 spot_step s from spot.For t m = if_variable m (stands s from (spot.ForIn t.text))
 spot_step s from (spot.ForIn n) t m = for_in_step s from n m
 spot_step s from (spot.ForIndex n) t m = if_variable m (stands s from (spot.ForIndexIn n t.text))
-spot_step s from (spot.ForIndexIn n index) t m = if_in m (stands s from (spot.Expr (use_.For n (Some index)) expr_start))
+spot_step s from (spot.ForIndexIn n index) t m =
+    if_in m (stands s from (spot.Expr (use_.For n (Some index)) expr_start))
 spot_step s from spot.Let t m = if_variable m (stands s from (spot.LetColon t.text))
 spot_step s from (spot.LetColon n) t m = let_colon_step s from n t m
 spot_step s from spot.Param t m = if_word m (stands s from (spot.ParamColon t.text))
@@ -375,7 +380,8 @@ opens_if s from k at = if admits s k then stands s from at else None
 -- the use of an expression that begins a command, where a print may stand
 abbrev pub print_use : CommandState → Option Use
 print_use s =
-    if admits s kind.Print then Some use_.Print else (if admits s kind.MessagePrint then Some use_.MessagePrint else None)
+    if admits s kind.Print then Some use_.Print else
+    (if admits s kind.MessagePrint then Some use_.MessagePrint else None)
 
 abbrev pub print_opens : CommandState → Span → Option Use → Option FileState
 print_opens s from None = None
@@ -396,8 +402,9 @@ bare_opens s from (Some h) t = opens_if s from (head_kind h) (spot.Attributes h 
 bare_opens s from None t = bare_expr s from (print_use s) (expr_step expr_start t)
 
 abbrev pub opened_step : CommandState → Span → Token → CommandTerminal → Option FileState
-opened_step s from t terminal.At = opens_if s from kind.HeadParam spot.HeadParam
-opened_step s from t (terminal.Word word.Namespace) = opens_if s from kind.Namespace (spot.DottedName dotted.Namespace [])
+opened_step s from t terminal.At = opens_if s from kind.TemplateParam spot.TemplateParam
+opened_step s from t (terminal.Word word.Namespace) =
+    opens_if s from kind.Namespace (spot.DottedName dotted.Namespace [])
 opened_step s from t (terminal.Word word.Template) = opens_if s from kind.Template spot.Template
 opened_step s from t (terminal.Word word.Print) = print_opens s from (print_use s)
 opened_step s from t (terminal.Word word.If) = opens_if s from kind.If (spot.Expr use_.If expr_start)
@@ -414,7 +421,7 @@ opened_step s from t m = bare_opens s from (bare_head m) t
 
 -- a token between commands
 abbrev pub between_step : CommandState → Token → CommandTerminal → Option FileState
-between_step s t terminal.Text = taken (command_step s (record { tag = tag.Text t.text; span = t.span }))
+between_step s t terminal.Text = taken (command_step s (record { form = says.Text t.text; span = t.span }))
 between_step s t terminal.Begin = file_at s (where_.Opened t.span)
 between_step s t _ = None
 

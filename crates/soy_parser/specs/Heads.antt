@@ -1,7 +1,8 @@
 -- The attributes that a command takes after its head, and what it says with them and its end.
--- Example: `{msg desc="a"}` has the head `{msg`, an attribute and an end; `{let $x: 1 /}` has no attribute, and `/}` as its
--- end.
-use Rattle.std.specs.Prelude.{◌≡◌, ℕ, nat_le, Bool, true, false, not, ◌&&◌, List, [], ◌∷◌, ◌++◌, Option, Some, None, option_map, unwrap_or, is_some, codes, if◌then◌else◌}
+-- Example: `{msg desc="a"}` has the head `msg`, an attribute and an end; `{let $x: 1 /}` has no attribute, and `/}` as
+-- its end.
+use Rattle.std.specs.Prelude.{◌≡◌, ℕ, nat_le, Bool, true, false, not, ◌&&◌, List, [], ◌∷◌, ◌++◌, Option, Some, None}
+use Rattle.std.specs.Prelude.{option_map, unwrap_or, is_some, codes, if◌then◌else◌}
 use Rattle.std.specs.Str.{bytes_eq}
 use Rattle.soy_base.specs.Names.{is_name}
 use Rattle.soy_base.specs.declared.kind.Kind.{Kind}
@@ -17,8 +18,8 @@ use Rattle.soy_parser.specs.declared.attributes.Attributes.{Attributes}
 use Rattle.soy_parser.specs.declared.command.Middle.TheVariants as middle
 use Rattle.soy_parser.specs.declared.command.Opening.TheVariants as opening
 use Rattle.soy_parser.specs.declared.command.Single.TheVariants as single
-use Rattle.soy_parser.specs.declared.command.Tag.{Tag}
-use Rattle.soy_parser.specs.declared.command.Tag.TheVariants as tag
+use Rattle.soy_parser.specs.declared.command.CommandForm.{CommandForm}
+use Rattle.soy_parser.specs.declared.command.CommandForm.TheVariants as says
 use Rattle.soy_parser.specs.declared.head.Head.{Head}
 use Rattle.soy_parser.specs.declared.head.Head.TheVariants as head
 use Rattle.soy_parser.specs.declared.terminal.CommandTerminal.{CommandTerminal}
@@ -27,7 +28,15 @@ use Rattle.soy_parser.specs.declared.terminal.CommandWord.TheVariants as word
 use Rattle.soy_parser.specs.CommandTerminals.{command_terminal_of}
 
 abbrev pub no_attributes : Attributes
-no_attributes = record { kind = None; private = false; all = false; desc = None; meaning = None; offset = None; phname = None }
+no_attributes = record {
+  kind = None;
+  private = false;
+  all = false;
+  desc = None;
+  meaning = None;
+  offset = None;
+  phname = None;
+}
 
 -- the attribute that a token names
 abbrev pub attribute_name : CommandTerminal → Option AttributeName
@@ -65,14 +74,15 @@ kind_named text =
 abbrev pub with_kind : Attributes → Kind → Attributes
 with_kind a k = record a { kind = Some k }
 
--- the number that decimal digits write after those of n, if it is none over the largest int
+-- the number that decimal digits write after those of n, if it isn't over the largest int
 abbrev pub digits_value : ℕ → List ℕ → Option ℕ
 digits_value n digits =
-    if list_all is_ascii_digit digits && nat_le (number_after n digits) largest_int then Some (number_after n digits) else None
+    if list_all is_ascii_digit digits && nat_le (number_after n digits) largest_int then
+    Some (number_after n digits) else None
 
--- the int that a text is
-abbrev pub int_of : List ℕ → Option ℕ
-int_of text = if is_int text then Some (number_after 0 text) else None
+-- the int that a text writes, if it writes one
+abbrev pub written_int : List ℕ → Option ℕ
+written_int text = if is_int text then Some (number_after 0 text) else None
 
 abbrev pub with_offset : Attributes → List ℕ → Option Attributes
 with_offset a text = if is_int text then Some (record a { offset = Some (number_after 0 text) }) else None
@@ -83,7 +93,8 @@ with_phname a text = if is_name text then Some (record a { phname = Some text })
 -- the attributes with this one, whose value is this; none where it isn't allowed there
 abbrev pub with_attribute : Attributes → AttributeName → List ℕ → Option Attributes
 with_attribute a attribute.Kind text = option_map (with_kind a) (kind_named text)
-with_attribute a attribute.Visibility text = if bytes_eq text (codes "private") then Some (record a { private = true }) else None
+with_attribute a attribute.Visibility text =
+    if bytes_eq text (codes "private") then Some (record a { private = true }) else None
 with_attribute a attribute.Data text = if bytes_eq text (codes "all") then Some (record a { all = true }) else None
 with_attribute a attribute.Desc text = Some (record a { desc = Some text })
 with_attribute a attribute.Meaning text = Some (record a { meaning = Some text })
@@ -101,32 +112,32 @@ pub data SpellsAttributes : Head → List Token → Attributes → Type 0 where
 
 -- what a command says that ends with `}`
 
-abbrev pub message_tag : (List ℕ → List ℕ → Tag) → Attributes → Option Tag
-message_tag make a = option_map (λ desc. make desc (unwrap_or a.meaning [])) a.desc
+abbrev pub message_form : (List ℕ → List ℕ → CommandForm) → Attributes → Option CommandForm
+message_form make a = option_map (λ desc. make desc (unwrap_or a.meaning [])) a.desc
 
-abbrev pub template_tag : List ℕ → Attributes → Tag
-template_tag name a =
-    tag.Opens (opening.Template (record { name = name; kind = unwrap_or a.kind block_kind.Html; private = a.private }))
+abbrev pub template_form : List ℕ → Attributes → CommandForm
+template_form name a =
+    says.Opens (opening.Template (record { name = name; kind = unwrap_or a.kind block_kind.Html; private = a.private }))
 
-abbrev pub plain_tag : Head → Attributes → Option Tag
-plain_tag (head.Whole of) a = Some of
-plain_tag (head.Alone of) a = None
-plain_tag (head.Template name) a = Some (template_tag name a)
-plain_tag (head.MessagePrint e) a = Some (tag.Single (single.MessagePrint e a.phname))
-plain_tag (head.Let name) a = option_map (λ kind. tag.Opens (opening.Let name kind)) a.kind
-plain_tag (head.Param name) a = option_map (λ kind. tag.Opens (opening.Param name kind)) a.kind
-plain_tag (head.Call name) a = Some (tag.Opens (opening.Call name a.all))
-plain_tag head.Message a = message_tag (λ desc meaning. tag.Opens (opening.Message desc meaning)) a
-plain_tag head.Fallback a = message_tag (λ desc meaning. tag.GoesOn (middle.Fallback desc meaning)) a
-plain_tag (head.Plural e) a = Some (tag.Opens (opening.Plural e (unwrap_or a.offset 0)))
+abbrev pub plain_form : Head → Attributes → Option CommandForm
+plain_form (head.Whole of) a = Some of
+plain_form (head.Alone of) a = None
+plain_form (head.Template name) a = Some (template_form name a)
+plain_form (head.MessagePrint e) a = Some (says.Single (single.MessagePrint e a.phname))
+plain_form (head.Let name) a = option_map (λ kind. says.Opens (opening.Let name kind)) a.kind
+plain_form (head.Param name) a = option_map (λ kind. says.Opens (opening.Param name kind)) a.kind
+plain_form (head.Call name) a = Some (says.Opens (opening.Call name a.all))
+plain_form head.Message a = message_form (λ desc meaning. says.Opens (opening.Message desc meaning)) a
+plain_form head.Fallback a = message_form (λ desc meaning. says.GoesOn (middle.Fallback desc meaning)) a
+plain_form (head.Plural e) a = Some (says.Opens (opening.Plural e (unwrap_or a.offset 0)))
 
 -- and one that ends with `/}`
-abbrev pub slash_tag : Head → Attributes → Option Tag
-slash_tag (head.Alone of) a = Some (tag.Single of)
-slash_tag (head.Call name) a = Some (tag.Single (single.Call name a.all))
-slash_tag _ a = None
+abbrev pub slash_form : Head → Attributes → Option CommandForm
+slash_form (head.Alone of) a = Some (says.Single of)
+slash_form (head.Call name) a = Some (says.Single (single.Call name a.all))
+slash_form _ a = None
 
-abbrev pub tag_at : Head → Attributes → CommandTerminal → Option Tag
-tag_at h a terminal.End = plain_tag h a
-tag_at h a terminal.SlashEnd = slash_tag h a
-tag_at h a _ = None
+abbrev pub form_at : Head → Attributes → CommandTerminal → Option CommandForm
+form_at h a terminal.End = plain_form h a
+form_at h a terminal.SlashEnd = slash_form h a
+form_at h a _ = None

@@ -1,5 +1,6 @@
 pub mod CommandTerminals
 pub mod Depth
+pub mod TypeWords
 pub mod Heads
 pub mod SpellsHead
 pub mod SpellsCommand
@@ -7,9 +8,7 @@ pub mod Nodes
 pub mod SpellsTree
 pub mod SpellsFile
 pub mod CommandSteps
-pub mod CommandLevels
 pub mod FileSteps
 pub mod ParsesFile
 pub mod FileRuns
 pub mod FileReading
-pub mod ReadsFile

@@ -27,8 +27,8 @@ case_of values body = roll-Case (record { values = values; body = body })
 abbrev pub argument_of : List ℕ → Given → Span → Argument
 argument_of name given span = record { name = name; given = given; span = span }
 
-abbrev pub message_of : List ℕ → List ℕ → MessageBody → Span → Message
-message_of desc meaning body span = record { desc = desc; meaning = meaning; body = body; span = span }
+abbrev pub whole_message : List ℕ → List ℕ → MessageBody → Span → Message
+whole_message desc meaning body span = record { desc = desc; meaning = meaning; body = body; span = span }
 
 -- a case for each of the values
 abbrev pub plural_cases : List ℤ → MessageBody → List PluralCase
@@ -37,7 +37,7 @@ plural_cases values body = map (λ n. record { is = n; body = body }) values
 abbrev pub select_cases : List (List ℕ) → MessageBody → List SelectCase
 select_cases values body = map (λ word. record { is = word; body = body }) values
 
--- where two neighbouring texts stand as one
+-- where the one text begins that two neighbouring texts are
 abbrev pub text_start : List ℕ → List ℕ → Span → Span → ℕ
 text_start [] (c ∷ cs) a b = b.start
 text_start _ _ a b = a.start
@@ -45,6 +45,6 @@ text_start _ _ a b = a.start
 abbrev pub text_span : List ℕ → List ℕ → Span → Span → Span
 text_span text more a b = record { start = text_start text more a b; end = b.end }
 
--- a block that a refusal of its end names by the offset of its closing command ends where that command begins
+-- the span of a template, and of a let or param that is a block: up to its closing command, where a fault of its end is
 abbrev pub up_to : Span → Span → Span
 up_to a b = record { start = a.start; end = b.start }

@@ -1,5 +1,5 @@
--- What `parse` answers for tokens: the tree that they all spell, or the first token with which no file goes on, that lies
--- too deep or that names no type.
+-- What `parse` answers for tokens: the tree that they all spell, or the first token with which no file goes on, that
+-- lies too deep or that names no type.
 -- Example: the tokens of `{namespace a` are refused with 4 at their end, and `{namespace a}{` there too.
 use Rattle.std.specs.Prelude.{◌≡◌, ℕ, ◌<◌, Bool, true, false, List, [], ◌∷◌, ◌++◌, Result, Ok, Err}
 use Rattle.soy_base.specs.declared.code.Code.{Code}
@@ -28,7 +28,7 @@ abbrev pub NoFileGoesOn : List Token → List Token → Type 0
 NoFileGoesOn prefix [] = (depths : List ℕ) (words : List Bool) (tree : Tree) → SpellsFile prefix depths words tree → ⊥
 NoFileGoesOn prefix (t ∷ rest) = (depths : List ℕ) (words : List Bool) → BeginsFile (prefix ++ t ∷ []) depths words → ⊥
 
--- refusal 4: some file begins with these tokens, of which none lies too deep and whose words name types, and none goes on
+-- refusal 4: some file begins with the prefix, of which no token lies too deep and whose words name types; none goes on
 pub record IsNoFile (tokens : List Token) (offset : ℕ) : Type 0 where
   pub prefix : List Token
   pub rest : List Token
@@ -41,8 +41,9 @@ pub record IsNoFile (tokens : List Token) (offset : ℕ) : Type 0 where
   pub known : NameTypes prefix words rest
   pub offset_is : offset_after prefix rest ≡ offset
 
--- refusals 5 and 8: some file begins with these tokens, and before the last of them none lies too deep or is an unknown name
-pub record BeginsFault (tokens : List Token) (offset : ℕ) : Type 0 where
+-- refusals 5 and 8: some file begins with the prefix and the token, and before the token none lies too deep or is an
+-- unknown name
+pub record BeginsFileFault (tokens : List Token) (offset : ℕ) : Type 0 where
   pub prefix : List Token
   pub token : Token
   pub rest : List Token
@@ -56,26 +57,26 @@ pub record BeginsFault (tokens : List Token) (offset : ℕ) : Type 0 where
   pub known : NameTypes prefix words (token ∷ rest)
   pub offset_is : token.span.start ≡ offset
 
--- the last of them lies too deep
+-- the token lies too deep
 pub record IsTooDeep (tokens : List Token) (offset : ℕ) : Type 0 where
-  pub fault : BeginsFault tokens offset
+  pub fault : BeginsFileFault tokens offset
   pub deep : depth_limit < fault.depth
 
 -- or it doesn't, stands as a type and names none
 pub record IsUnknown (tokens : List Token) (offset : ℕ) : Type 0 where
-  pub fault : BeginsFault tokens offset
+  pub fault : BeginsFileFault tokens offset
   pub shallow : AreWithin 0 (fault.depth ∷ [])
   pub stands : fault.word ≡ true
   pub unknown : is_type_name fault.token fault.rest ≡ false
 
 -- why no file is read, and where
-abbrev pub RefusesFile : List Token → Code → ℕ → Type 0
-RefusesFile tokens code.Syntax offset = IsNoFile tokens offset
-RefusesFile tokens code.Nesting offset = IsTooDeep tokens offset
-RefusesFile tokens code.Mistyped offset = IsUnknown tokens offset
-RefusesFile tokens _ offset = ⊥
+abbrev pub RefusesTokens : List Token → Code → ℕ → Type 0
+RefusesTokens tokens code.Syntax offset = IsNoFile tokens offset
+RefusesTokens tokens code.Nesting offset = IsTooDeep tokens offset
+RefusesTokens tokens code.Mistyped offset = IsUnknown tokens offset
+RefusesTokens tokens _ offset = ⊥
 
 abbrev pub ParsesFile : ℕ → List Token → Result Tree (Refusal Fault) → Type 0
 ParsesFile file tokens (Ok tree) = IsFile tokens tree
-ParsesFile file tokens (Err (refusal.Because fault)) = (fault.file ≡ file) × RefusesFile tokens fault.code fault.at
+ParsesFile file tokens (Err (refusal.Because fault)) = (fault.file ≡ file) × RefusesTokens tokens fault.code fault.at
 ParsesFile file tokens (Err refusal.OutOfMemory) = Unit {0}

@@ -1,6 +1,7 @@
--- Which tokens are a file, and which tree it is: the commands that they spell are one. And which tokens some file begins with.
--- `SpellsFile ts ds ws tree`: the depths at the tokens ts are ds, and ws are true at the words that stand as types. Neither
--- limits the depth nor asks whether a word names a type.
+-- Which tokens are a file, and which tree it is: the commands that they spell are one. And which tokens some file
+-- begins with.
+-- `SpellsFile ts ds ws tree`: the depths at the tokens ts are ds, and ws are true at the words that stand as types.
+-- Neither limits the depth nor asks whether a word names a type.
 -- Example: `{namespace a}` is a file without templates, and some file begins with `{namespace a`.
 use Rattle.std.specs.Prelude.{◌≡◌, ℕ, Bool, List, ◌++◌, length}
 use Rattle.soy_lexer.specs.declared.token.Token.{Token}

@@ -5,11 +5,11 @@ ghost use Rattle.soy_base.specs.Stacks.{top_of};
 ghost use Rattle.soy_parser.specs.FileSteps.{admits, body_admits, cases_admit, head_kind, in_body_admits};
 ghost use Rattle.soy_parser.specs.FileSteps.{in_call_admits, in_parts_admits, in_templates_admits, in_white_admits};
 ghost use Rattle.soy_parser.specs.FileSteps.{is_template, message_admits, middle_kind, opening_kind, single_kind};
-ghost use Rattle.soy_parser.specs.FileSteps.{tag_kind, top_admits};
+ghost use Rattle.soy_parser.specs.FileSteps.{form_kind, top_admits};
 
 use crate::block::{Block, CommandState, Content, Nodes};
 use crate::blocks::closes_body;
-use crate::command::{Middle, Opening, Single, Tag};
+use crate::command::{CommandForm, Middle, Opening, Single};
 use crate::head::{Head, HeadKind};
 use crate::messages::closes_message;
 use crate::terminal::BlockName;
@@ -64,18 +64,18 @@ impl Middle {
     }
 }
 
-impl Tag {
+impl CommandForm {
     fn kind(&self) -> HeadKind
-        ensures { result ≡ tag_kind self.now }
+        ensures { result ≡ form_kind self.now }
     {
         match self {
-            Tag::Text(_) | Tag::Character(_) => HeadKind::Character,
-            Tag::Namespace(_) => HeadKind::Namespace,
-            Tag::HeadParam(_, _, _) => HeadKind::HeadParam,
-            Tag::Single(of) => of.kind(),
-            Tag::Opens(of) => of.kind(),
-            Tag::GoesOn(of) => of.kind(),
-            Tag::Closes(name) => HeadKind::Closes(*name),
+            CommandForm::Text(_) | CommandForm::Character(_) => HeadKind::Character,
+            CommandForm::Namespace(_) => HeadKind::Namespace,
+            CommandForm::TemplateParam(_, _, _) => HeadKind::TemplateParam,
+            CommandForm::Single(of) => of.kind(),
+            CommandForm::Opens(of) => of.kind(),
+            CommandForm::GoesOn(of) => of.kind(),
+            CommandForm::Closes(name) => HeadKind::Closes(*name),
         }
     }
 }
@@ -175,7 +175,7 @@ fn top_cases_admit(blocks: &Stack<Block>, kind: HeadKind) -> bool
 
 /// Whether the innermost block is a template.
 fn is_in_template(blocks: &Stack<Block>) -> bool
-    ensures { result ≡ top_admits is_template blocks.now HeadKind.HeadParam }
+    ensures { result ≡ top_admits is_template blocks.now HeadKind.TemplateParam }
 {
     match blocks.top() {
         Some(block) => is_template(block),
@@ -184,7 +184,7 @@ fn is_in_template(blocks: &Stack<Block>) -> bool
 }
 
 fn is_template(block: &Block) -> bool
-    ensures { result ≡ is_template block.now HeadKind.HeadParam }
+    ensures { result ≡ is_template block.now HeadKind.TemplateParam }
 {
     matches!(block, Block::Template(_))
 }
@@ -202,7 +202,7 @@ fn in_body_admits(blocks: &Stack<Block>, nodes: &Nodes, kind: HeadKind) -> bool
         HeadKind::Let => true,
         HeadKind::Call => true,
         HeadKind::Message => true,
-        HeadKind::HeadParam => nodes.is_empty() && is_in_template(blocks),
+        HeadKind::TemplateParam => nodes.is_empty() && is_in_template(blocks),
         _ => top_body_admits(blocks, kind),
     }
 }

@@ -1,6 +1,6 @@
 //! What is open around the commands to come.
 
-use crate::command::TemplateHead;
+use crate::command::TemplateOpening;
 use soy_base::{Kind, Row, Span, Stack, Text};
 use soy_tree::{
     Argument, Arm, Case, Expr, MessageBody, Node, Param, PluralCase, SelectCase, Template,
@@ -11,7 +11,7 @@ use soy_tree::{
 pub struct OpenTemplate {
     pub namespace: Text,
     pub templates: Row<Template>,
-    pub head: TemplateHead,
+    pub head: TemplateOpening,
     pub start: Span,
     pub params: Row<Param>,
 }

@@ -9,7 +9,7 @@ ghost use Rattle.soy_parser.specs.SpellsTree.{template_of};
 ghost use Rattle.soy_parser.specs.declared.block.Content.TheVariants as content;
 
 use crate::block::{Block, CommandState, Content, Nodes, OpenIf, OpenSwitch, OpenTemplate};
-use crate::command::{Middle, TemplateHead};
+use crate::command::{Middle, TemplateOpening};
 use crate::nodes::{joined, up_to, with_node};
 use crate::terminal::BlockName;
 use soy_base::{OutOfMemory, Row, Seq, Span, Stack, Text};
@@ -305,7 +305,8 @@ pub(crate) fn adds_argument(
     given: Given,
     span: Span,
 ) -> Result<Option<CommandState>, OutOfMemory>
-    ensures { IfOk result (λ to. to ≡ state blocks (content.Arguments (arguments ++ (argument_of name given span ∷ [])))) }
+    ensures { IfOk result (λ to. to ≡ state blocks (content.Arguments
+        (arguments ++ (argument_of name given span ∷ [])))) }
 {
     let mut arguments = arguments;
     arguments.push(Argument { name, given, span })?;
@@ -367,7 +368,7 @@ fn closed_template(
 }
 
 /// The template of these parts.
-fn template_of(head: TemplateHead, params: Row<Param>, body: Row<Node>, span: Span) -> Template
+fn template_of(head: TemplateOpening, params: Row<Param>, body: Row<Node>, span: Span) -> Template
     ensures { result ≡ template_of head params body span }
 {
     Template {

@@ -6,7 +6,7 @@ use soy_tree::{Expr, SoyType};
 
 /// What the opening command of a template says.
 #[derive(Drop)]
-pub struct TemplateHead {
+pub struct TemplateOpening {
     pub name: Text,
     pub kind: Kind,
     pub private: bool,
@@ -27,7 +27,7 @@ pub enum Single {
 /// A command that opens a block.
 #[derive(Drop)]
 pub enum Opening {
-    Template(TemplateHead),
+    Template(TemplateOpening),
     If(Expr),
     Switch(Expr),
     /// The variable of a loop, that of its index, and the list.
@@ -57,13 +57,13 @@ pub enum Middle {
 
 /// What a command says. A text run or a literal is a command too.
 #[derive(Drop)]
-pub enum Tag {
+pub enum CommandForm {
     Text(Text),
     /// A character command, with its text.
     Character(Text),
     Namespace(Text),
     /// A parameter's name, whether it is required, and its type.
-    HeadParam(Text, bool, SoyType),
+    TemplateParam(Text, bool, SoyType),
     Single(Single),
     Opens(Opening),
     GoesOn(Middle),
@@ -73,6 +73,6 @@ pub enum Tag {
 /// A command, and where it stands.
 #[derive(Drop)]
 pub struct Command {
-    pub tag: Tag,
+    pub form: CommandForm,
     pub span: Span,
 }

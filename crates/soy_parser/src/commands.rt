@@ -3,9 +3,10 @@
 ghost use Rattle.std.specs.Prelude.{◌≡◌, ◌∷◌, IfOk, None, if◌then◌else◌};
 ghost use Rattle.soy_parser.specs.CommandSteps.{argument_opens, argument_single, arguments_step, before_cases_step};
 ghost use Rattle.soy_parser.specs.CommandSteps.{body_step, cases_begin, closed_bare_switch, closed_call};
-ghost use Rattle.soy_parser.specs.CommandSteps.{command_start, command_step, head_param_step, is_call, is_switch};
+ghost use Rattle.soy_parser.specs.CommandSteps.{command_start, command_step, template_param_step, is_call, is_switch};
 ghost use Rattle.soy_parser.specs.CommandSteps.{body_closes, body_goes_on, ended, is_empty, opening_step};
-ghost use Rattle.soy_parser.specs.CommandSteps.{single_step, state, template_opens, templates_step, white_step, with_text};
+ghost use Rattle.soy_parser.specs.CommandSteps.{single_step, state, template_opens, templates_step, white_step};
+ghost use Rattle.soy_parser.specs.CommandSteps.{with_text};
 ghost use Rattle.soy_parser.specs.declared.block.Content.TheVariants as content;
 
 use crate::block::{
@@ -16,8 +17,8 @@ use crate::blocks::{
     adds, adds_argument, begins, begins_parts, body_closes, body_goes_on, case_goes_on,
     closed_switch, refused,
 };
-use crate::command::{Command, Middle, Opening, Single, Tag};
-use crate::messages::{choice, parts, plural_goes_on, refused_tag, select_goes_on};
+use crate::command::{Command, CommandForm, Middle, Opening, Single};
+use crate::messages::{choice, parts, plural_goes_on, refused_form, select_goes_on};
 use crate::nodes::{is_white, joined};
 use crate::terminal::BlockName;
 use soy_base::{OutOfMemory, Row, Seq, Span, Stack, Text};
@@ -44,27 +45,27 @@ impl CommandState {
         ensures { IfOk result (λ to. to ≡ command_step self command) }
     {
         let CommandState { blocks, content } = self;
-        let Command { tag, span } = command;
+        let Command { form, span } = command;
         match content {
-            Content::White => Ok(white(alloc, blocks, Command { tag, span })),
+            Content::White => Ok(white(alloc, blocks, Command { form, span })),
             Content::Templates(namespace, templates) => between_templates(
-                alloc, blocks, namespace, templates, tag, span,
+                alloc, blocks, namespace, templates, form, span,
             ),
-            Content::Body(nodes) => body(alloc, blocks, nodes, tag, span),
-            Content::Arguments(arguments) => in_call(alloc, blocks, arguments, tag, span),
-            Content::BeforeCases => before_cases(alloc, blocks, tag, span),
-            Content::Parts(nodes, white) => parts(alloc, blocks, nodes, white, tag, span),
-            Content::Choice(message) => choice(alloc, blocks, message, tag, span),
+            Content::Body(nodes) => body(alloc, blocks, nodes, form, span),
+            Content::Arguments(arguments) => in_call(alloc, blocks, arguments, form, span),
+            Content::BeforeCases => before_cases(alloc, blocks, form, span),
+            Content::Parts(nodes, white) => parts(alloc, blocks, nodes, white, form, span),
+            Content::Choice(message) => choice(alloc, blocks, message, form, span),
         }
     }
 }
 
 /// Before the namespace.
 fn white(alloc: Global, blocks: Stack<Block>, command: Command) -> Option<CommandState>
-    ensures { result ≡ white_step blocks command.tag command.span }
+    ensures { result ≡ white_step blocks command.form command.span }
 {
-    match command.tag {
-        Tag::Text(text) => {
+    match command.form {
+        CommandForm::Text(text) => {
             if is_white(&text) {
                 Some(CommandState {
                     blocks,
@@ -74,11 +75,11 @@ fn white(alloc: Global, blocks: Stack<Block>, command: Command) -> Option<Comman
                 None
             }
         }
-        Tag::Namespace(namespace) => Some(CommandState {
+        CommandForm::Namespace(namespace) => Some(CommandState {
             blocks,
             content: Content::Templates(namespace, Row::empty(alloc)),
         }),
-        tag => refused_tag(blocks, tag),
+        form => refused_form(blocks, form),
     }
 }
 
@@ -88,13 +89,13 @@ fn between_templates(
     blocks: Stack<Block>,
     namespace: Text,
     templates: Row<Template>,
-    tag: Tag,
+    form: CommandForm,
     span: Span,
 ) -> Result<Option<CommandState>, OutOfMemory>
-    ensures { IfOk result (λ to. to ≡ templates_step blocks namespace templates tag span) }
+    ensures { IfOk result (λ to. to ≡ templates_step blocks namespace templates form span) }
 {
-    match tag {
-        Tag::Text(text) => {
+    match form {
+        CommandForm::Text(text) => {
             if is_white(&text) {
                 Ok(Some(CommandState {
                     blocks,
@@ -104,11 +105,11 @@ fn between_templates(
                 Ok(None)
             }
         }
-        Tag::Opens(of) => opens_template(alloc, blocks, namespace, templates, of, span),
-        tag => {
+        CommandForm::Opens(of) => opens_template(alloc, blocks, namespace, templates, of, span),
+        form => {
             drop(namespace);
             drop(templates);
-            Ok(refused_tag(blocks, tag))
+            Ok(refused_form(blocks, form))
         }
     }
 }
@@ -144,16 +145,16 @@ fn body(
     alloc: Global,
     blocks: Stack<Block>,
     nodes: Nodes,
-    tag: Tag,
+    form: CommandForm,
     span: Span,
 ) -> Result<Option<CommandState>, OutOfMemory>
-    ensures { IfOk result (λ to. to ≡ body_step blocks nodes tag span) }
+    ensures { IfOk result (λ to. to ≡ body_step blocks nodes form span) }
 {
-    match tag {
-        Tag::Text(text) => text_in_body(blocks, nodes, text, span),
-        Tag::Character(text) => text_in_body(blocks, nodes, text, span),
-        Tag::Namespace(_) => Ok(None),
-        Tag::HeadParam(name, required, of) => {
+    match form {
+        CommandForm::Text(text) => text_in_body(blocks, nodes, text, span),
+        CommandForm::Character(text) => text_in_body(blocks, nodes, text, span),
+        CommandForm::Namespace(_) => Ok(None),
+        CommandForm::TemplateParam(name, required, of) => {
             let param = Param {
                 name,
                 of,
@@ -162,10 +163,10 @@ fn body(
             };
             param_in_body(alloc, blocks, nodes, param)
         }
-        Tag::Single(of) => single_after(alloc, blocks, nodes, of, span),
-        Tag::Opens(of) => opens_after(alloc, blocks, nodes, of, span),
-        Tag::GoesOn(of) => goes_on_after(alloc, blocks, nodes, of),
-        Tag::Closes(name) => closes_after(blocks, nodes, name, span),
+        CommandForm::Single(of) => single_after(alloc, blocks, nodes, of, span),
+        CommandForm::Opens(of) => opens_after(alloc, blocks, nodes, of, span),
+        CommandForm::GoesOn(of) => goes_on_after(alloc, blocks, nodes, of),
+        CommandForm::Closes(name) => closes_after(blocks, nodes, name, span),
     }
 }
 
@@ -246,10 +247,10 @@ fn param_in_body(
     nodes: Nodes,
     param: Param,
 ) -> Result<Option<CommandState>, OutOfMemory>
-    ensures { IfOk result (λ to. to ≡ (if is_empty nodes then head_param_step blocks param else None)) }
+    ensures { IfOk result (λ to. to ≡ (if is_empty nodes then template_param_step blocks param else None)) }
 {
     if nodes.is_empty() {
-        head_param(alloc, blocks, param)
+        template_param(alloc, blocks, param)
     } else {
         drop(nodes);
         drop(param);
@@ -258,12 +259,12 @@ fn param_in_body(
 }
 
 /// A parameter, at the head of a template.
-fn head_param(
+fn template_param(
     alloc: Global,
     blocks: Stack<Block>,
     param: Param,
 ) -> Result<Option<CommandState>, OutOfMemory>
-    ensures { IfOk result (λ to. to ≡ head_param_step blocks param) }
+    ensures { IfOk result (λ to. to ≡ template_param_step blocks param) }
 {
     let mut blocks = blocks;
     match blocks.pop() {
@@ -279,7 +280,7 @@ fn block_param(
     block: Block,
     param: Param,
 ) -> Result<Option<CommandState>, OutOfMemory>
-    ensures { IfOk result (λ to. to ≡ head_param_step (block ∷ blocks) param) }
+    ensures { IfOk result (λ to. to ≡ template_param_step (block ∷ blocks) param) }
 {
     match block {
         Block::Template(template) => {
@@ -390,13 +391,13 @@ fn in_call(
     alloc: Global,
     blocks: Stack<Block>,
     arguments: Row<Argument>,
-    tag: Tag,
+    form: CommandForm,
     span: Span,
 ) -> Result<Option<CommandState>, OutOfMemory>
-    ensures { IfOk result (λ to. to ≡ arguments_step blocks arguments tag span) }
+    ensures { IfOk result (λ to. to ≡ arguments_step blocks arguments form span) }
 {
-    match tag {
-        Tag::Text(text) => {
+    match form {
+        CommandForm::Text(text) => {
             if is_white(&text) {
                 Ok(Some(CommandState {
                     blocks,
@@ -406,9 +407,9 @@ fn in_call(
                 Ok(None)
             }
         }
-        Tag::Single(of) => single_argument(blocks, arguments, of, span),
-        Tag::Opens(of) => opens_argument(alloc, blocks, arguments, of, span),
-        Tag::Closes(name) => argument_closes(blocks, arguments, name, span),
+        CommandForm::Single(of) => single_argument(blocks, arguments, of, span),
+        CommandForm::Opens(of) => opens_argument(alloc, blocks, arguments, of, span),
+        CommandForm::Closes(name) => argument_closes(blocks, arguments, name, span),
         _ => Ok(None),
     }
 }
@@ -504,13 +505,13 @@ fn closed_call(
 fn before_cases(
     alloc: Global,
     blocks: Stack<Block>,
-    tag: Tag,
+    form: CommandForm,
     span: Span,
 ) -> Result<Option<CommandState>, OutOfMemory>
-    ensures { IfOk result (λ to. to ≡ before_cases_step blocks tag span) }
+    ensures { IfOk result (λ to. to ≡ before_cases_step blocks form span) }
 {
-    match tag {
-        Tag::Text(text) => {
+    match form {
+        CommandForm::Text(text) => {
             if is_white(&text) {
                 Ok(Some(CommandState {
                     blocks,
@@ -520,9 +521,9 @@ fn before_cases(
                 Ok(None)
             }
         }
-        Tag::GoesOn(of) => cases_begin(alloc, blocks, of),
-        Tag::Closes(name) => bare_closes(alloc, blocks, name, span),
-        tag => Ok(refused_tag(blocks, tag)),
+        CommandForm::GoesOn(of) => cases_begin(alloc, blocks, of),
+        CommandForm::Closes(name) => bare_closes(alloc, blocks, name, span),
+        form => Ok(refused_form(blocks, form)),
     }
 }
 

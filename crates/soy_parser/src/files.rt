@@ -11,7 +11,7 @@ ghost use Rattle.soy_parser.specs.declared.terminal.CommandTerminal.TheVariants 
 
 use crate::attributes::Attributes;
 use crate::block::{CommandState, Content};
-use crate::command::{Command, Tag};
+use crate::command::{Command, CommandForm};
 use crate::head::{Head, HeadKind};
 use crate::nodes::joined;
 use crate::spot::{CommandSpot, DottedUse, FileState, Spot, Use};
@@ -124,15 +124,15 @@ pub(crate) fn ended_command(
     alloc: Global,
     commands: CommandState,
     from: Span,
-    tag: Option<Tag>,
+    form: Option<CommandForm>,
     token: &Token,
 ) -> Result<Option<FileState>, OutOfMemory>
-    ensures { IfOk result (λ to. to ≡ ended_command commands from tag token.now) }
+    ensures { IfOk result (λ to. to ≡ ended_command commands from form token.now) }
 {
-    match tag {
-        Some(tag) => {
+    match form {
+        Some(form) => {
             let span = joined(from, token.span);
-            Ok(taken(commands.step(alloc, Command { tag, span })?))
+            Ok(taken(commands.step(alloc, Command { form, span })?))
         }
         None => Ok(None),
     }
@@ -149,9 +149,9 @@ fn between(
 {
     match terminal {
         CommandTerminal::Text => {
-            let tag = Tag::Text(token.text.copy(alloc)?);
+            let form = CommandForm::Text(token.text.copy(alloc)?);
             let span = token.span;
-            Ok(taken(commands.step(alloc, Command { tag, span })?))
+            Ok(taken(commands.step(alloc, Command { form, span })?))
         }
         CommandTerminal::Begin => Ok(Some(FileState {
             commands,
@@ -183,7 +183,12 @@ fn opened(
     ensures { IfOk result (λ to. to ≡ opened_step commands from token.now terminal) }
 {
     match terminal {
-        CommandTerminal::At => Ok(opens_if(commands, from, HeadKind::HeadParam, Spot::HeadParam)),
+        CommandTerminal::At => Ok(opens_if(
+            commands,
+            from,
+            HeadKind::TemplateParam,
+            Spot::TemplateParam,
+        )),
         CommandTerminal::Word(word) => opened_word(alloc, commands, from, token, word),
         terminal => opens_bare(alloc, commands, from, token, terminal),
     }

@@ -1,6 +1,6 @@
 //! What a command says before its attributes.
 
-use crate::command::{Single, Tag};
+use crate::command::{CommandForm, Single};
 use crate::terminal::BlockName;
 use soy_base::Text;
 use soy_tree::Expr;
@@ -9,7 +9,7 @@ use soy_tree::Expr;
 #[derive(Drop)]
 pub enum Head {
     /// A command without attributes, before its `}`.
-    Whole(Tag),
+    Whole(CommandForm),
     /// One before its `/}`.
     Alone(Single),
     Template(Text),
@@ -28,7 +28,7 @@ pub enum HeadKind {
     Character,
     Namespace,
     Template,
-    HeadParam,
+    TemplateParam,
     Print,
     MessagePrint,
     If,

@@ -2,20 +2,21 @@
 
 ghost use Rattle.std.specs.Prelude.{◌≡◌, ◌∷◌, [], IfOk, Some, None, option_map, unwrap_or, true, if◌then◌else◌};
 ghost use Rattle.soy_parser.specs.FileSteps.{head_of};
-ghost use Rattle.soy_parser.specs.Heads.{allows, attribute_name, kind_named, no_attributes, plain_tag, slash_tag, tag_at};
-ghost use Rattle.soy_parser.specs.Heads.{template_tag, with_attribute, with_kind, with_offset, with_phname};
+ghost use Rattle.soy_parser.specs.Heads.{allows, attribute_name, kind_named, no_attributes, plain_form, slash_form};
+ghost use Rattle.soy_parser.specs.Heads.{form_at};
+ghost use Rattle.soy_parser.specs.Heads.{template_form, with_attribute, with_kind, with_offset, with_phname};
 ghost use Rattle.soy_parser.specs.SpellsHead.{bare_head};
 ghost use Rattle.soy_parser.specs.declared.command.Opening.TheVariants as opening;
-ghost use Rattle.soy_parser.specs.declared.command.Tag.TheVariants as tag;
+ghost use Rattle.soy_parser.specs.declared.command.CommandForm.TheVariants as says;
 ghost use Rattle.soy_parser.specs.declared.head.Head.TheVariants as head;
 ghost use Rattle.soy_parser.specs.declared.terminal.CommandTerminal.TheVariants as terminal;
 
 use crate::attributes::{AttributeName, Attributes};
-use crate::command::{Middle, Opening, Single, Tag, TemplateHead};
+use crate::command::{CommandForm, Middle, Opening, Single, TemplateOpening};
 use crate::head::Head;
 use crate::spot::Use;
 use crate::terminal::{BlockName, CommandTerminal, CommandWord};
-use crate::values::int_of;
+use crate::values::written_int;
 use expr_parser::Operand;
 use soy_base::{Kind, OutOfMemory, Text, is_name, push_char};
 use std::alloc::Global;
@@ -127,7 +128,7 @@ impl Attributes {
     fn with_offset(self, value: &Text) -> Option<Attributes>
         ensures { result ≡ with_offset self value.now }
     {
-        match int_of(value.text()) {
+        match written_int(value.text()) {
             Some(offset) => {
                 let mut attributes = self;
                 attributes.offset = Some(offset);
@@ -189,38 +190,38 @@ impl Head {
     }
 
     /// What the command says with its attributes and this end, if it may end so.
-    pub(crate) fn tag(
+    pub(crate) fn form(
         self,
         alloc: Global,
         attributes: Attributes,
         terminal: CommandTerminal,
-    ) -> Option<Tag>
-        ensures { result ≡ tag_at self attributes terminal }
+    ) -> Option<CommandForm>
+        ensures { result ≡ form_at self attributes terminal }
     {
         match terminal {
-            CommandTerminal::End => self.plain_tag(alloc, attributes),
-            CommandTerminal::SlashEnd => self.slash_tag(attributes),
-            _ => no_tag(self, attributes),
+            CommandTerminal::End => self.plain_form(alloc, attributes),
+            CommandTerminal::SlashEnd => self.slash_form(attributes),
+            _ => no_form(self, attributes),
         }
     }
 
     /// What the command says that ends with `}`.
-    fn plain_tag(self, alloc: Global, attributes: Attributes) -> Option<Tag>
-        ensures { result ≡ plain_tag self attributes }
+    fn plain_form(self, alloc: Global, attributes: Attributes) -> Option<CommandForm>
+        ensures { result ≡ plain_form self attributes }
     {
         match self {
-            Head::Whole(tag) => Some(tag),
+            Head::Whole(form) => Some(form),
             Head::Alone(_) => None,
-            Head::Template(name) => Some(template_tag(name, attributes)),
+            Head::Template(name) => Some(template_form(name, attributes)),
             Head::MessagePrint(expr) => {
-                Some(Tag::Single(Single::MessagePrint(expr, attributes.phname)))
+                Some(CommandForm::Single(Single::MessagePrint(expr, attributes.phname)))
             }
-            Head::Let(name) => let_tag(name, attributes.kind),
-            Head::Param(name) => param_tag(name, attributes.kind),
-            Head::Call(name) => Some(Tag::Opens(Opening::Call(name, attributes.all))),
-            Head::Message => message_tag(alloc, attributes),
-            Head::Fallback => fallback_tag(alloc, attributes),
-            Head::Plural(selector) => Some(Tag::Opens(Opening::Plural(
+            Head::Let(name) => let_form(name, attributes.kind),
+            Head::Param(name) => param_form(name, attributes.kind),
+            Head::Call(name) => Some(CommandForm::Opens(Opening::Call(name, attributes.all))),
+            Head::Message => message_form(alloc, attributes),
+            Head::Fallback => fallback_form(alloc, attributes),
+            Head::Plural(selector) => Some(CommandForm::Opens(Opening::Plural(
                 selector,
                 attributes.offset.unwrap_or(0),
             ))),
@@ -228,13 +229,13 @@ impl Head {
     }
 
     /// What the command says that ends with `/}`.
-    fn slash_tag(self, attributes: Attributes) -> Option<Tag>
-        ensures { result ≡ slash_tag self attributes }
+    fn slash_form(self, attributes: Attributes) -> Option<CommandForm>
+        ensures { result ≡ slash_form self attributes }
     {
         match self {
-            Head::Alone(single) => Some(Tag::Single(single)),
-            Head::Call(name) => Some(Tag::Single(Single::Call(name, attributes.all))),
-            head => no_tag(head, attributes),
+            Head::Alone(single) => Some(CommandForm::Single(single)),
+            Head::Call(name) => Some(CommandForm::Single(Single::Call(name, attributes.all))),
+            head => no_form(head, attributes),
         }
     }
 
@@ -251,7 +252,7 @@ impl Head {
             CommandTerminal::CarriageReturn => character(alloc, '\r'),
             CommandTerminal::Tab => character(alloc, '\t'),
             CommandTerminal::Close(BlockName::Other) => Ok(None),
-            CommandTerminal::Close(name) => Ok(Some(Head::Whole(Tag::Closes(name)))),
+            CommandTerminal::Close(name) => Ok(Some(Head::Whole(CommandForm::Closes(name)))),
             _ => Ok(None),
         }
     }
@@ -262,12 +263,12 @@ impl Head {
     {
         match word {
             CommandWord::Space => character(alloc, ' '),
-            CommandWord::Nil => Ok(Some(Head::Whole(Tag::Character(Text::empty(alloc))))),
+            CommandWord::Nil => Ok(Some(Head::Whole(CommandForm::Character(Text::empty(alloc))))),
             CommandWord::LeftBrace => character(alloc, '{'),
             CommandWord::RightBrace => character(alloc, '}'),
             CommandWord::NoBreakSpace => character(alloc, '\u{a0}'),
-            CommandWord::Else => Ok(Some(Head::Whole(Tag::GoesOn(Middle::Else)))),
-            CommandWord::Default => Ok(Some(Head::Whole(Tag::GoesOn(Middle::Default)))),
+            CommandWord::Else => Ok(Some(Head::Whole(CommandForm::GoesOn(Middle::Else)))),
+            CommandWord::Default => Ok(Some(Head::Whole(CommandForm::GoesOn(Middle::Default)))),
             CommandWord::Msg => Ok(Some(Head::Message)),
             CommandWord::FallbackMsg => Ok(Some(Head::Fallback)),
             _ => Ok(None),
@@ -280,19 +281,21 @@ impl Head {
     {
         let expr = operand.expr;
         Ok(match of {
-            Use::Print => Head::Whole(Tag::Single(Single::Print(expr))),
+            Use::Print => Head::Whole(CommandForm::Single(Single::Print(expr))),
             Use::MessagePrint => Head::MessagePrint(expr),
-            Use::If => Head::Whole(Tag::Opens(Opening::If(expr))),
-            Use::ElseIf => Head::Whole(Tag::GoesOn(Middle::ElseIf(expr))),
-            Use::Switch => Head::Whole(Tag::Opens(Opening::Switch(expr))),
+            Use::If => Head::Whole(CommandForm::Opens(Opening::If(expr))),
+            Use::ElseIf => Head::Whole(CommandForm::GoesOn(Middle::ElseIf(expr))),
+            Use::Switch => Head::Whole(CommandForm::Opens(Opening::Switch(expr))),
             Use::Plural => Head::Plural(expr),
-            Use::Select => Head::Whole(Tag::Opens(Opening::Select(expr))),
+            Use::Select => Head::Whole(CommandForm::Opens(Opening::Select(expr))),
             Use::Case(values) => {
                 let mut values = values;
                 values.push(expr)?;
-                Head::Whole(Tag::GoesOn(Middle::Case(values)))
+                Head::Whole(CommandForm::GoesOn(Middle::Case(values)))
             }
-            Use::For(name, index) => Head::Whole(Tag::Opens(Opening::For(name, index, expr))),
+            Use::For(name, index) => Head::Whole(CommandForm::Opens(Opening::For(
+                name, index, expr,
+            ))),
             Use::Let(name) => Head::Alone(Single::Let(name, expr)),
             Use::Param(name) => Head::Alone(Single::Param(name, expr)),
         })
@@ -300,7 +303,7 @@ impl Head {
 }
 
 /// A command that has no such end.
-fn no_tag(head: Head, attributes: Attributes) -> Option<Tag>
+fn no_form(head: Head, attributes: Attributes) -> Option<CommandForm>
     ensures { result ≡ None }
 {
     drop(head);
@@ -309,52 +312,52 @@ fn no_tag(head: Head, attributes: Attributes) -> Option<Tag>
 }
 
 /// What a let with a block says, if its kind is there.
-fn let_tag(name: Text, kind: Option<Kind>) -> Option<Tag>
-    ensures { result ≡ option_map (λ kind. tag.Opens (opening.Let name kind)) kind }
+fn let_form(name: Text, kind: Option<Kind>) -> Option<CommandForm>
+    ensures { result ≡ option_map (λ kind. says.Opens (opening.Let name kind)) kind }
 {
     match kind {
-        Some(kind) => Some(Tag::Opens(Opening::Let(name, kind))),
+        Some(kind) => Some(CommandForm::Opens(Opening::Let(name, kind))),
         None => None,
     }
 }
 
 /// What a param with a block says, if its kind is there.
-fn param_tag(name: Text, kind: Option<Kind>) -> Option<Tag>
-    ensures { result ≡ option_map (λ kind. tag.Opens (opening.Param name kind)) kind }
+fn param_form(name: Text, kind: Option<Kind>) -> Option<CommandForm>
+    ensures { result ≡ option_map (λ kind. says.Opens (opening.Param name kind)) kind }
 {
     match kind {
-        Some(kind) => Some(Tag::Opens(Opening::Param(name, kind))),
+        Some(kind) => Some(CommandForm::Opens(Opening::Param(name, kind))),
         None => None,
     }
 }
 
 /// What a message says, if its `desc` is there.
-fn message_tag(alloc: Global, attributes: Attributes) -> Option<Tag>
-    ensures { result ≡ plain_tag head.Message attributes }
+fn message_form(alloc: Global, attributes: Attributes) -> Option<CommandForm>
+    ensures { result ≡ plain_form head.Message attributes }
 {
     let Attributes { desc, meaning, .. } = attributes;
     match desc {
-        Some(desc) => Some(Tag::Opens(Opening::Message(desc, or_empty(alloc, meaning)))),
+        Some(desc) => Some(CommandForm::Opens(Opening::Message(desc, or_empty(alloc, meaning)))),
         None => None,
     }
 }
 
 /// What a fallback says, if its `desc` is there.
-fn fallback_tag(alloc: Global, attributes: Attributes) -> Option<Tag>
-    ensures { result ≡ plain_tag head.Fallback attributes }
+fn fallback_form(alloc: Global, attributes: Attributes) -> Option<CommandForm>
+    ensures { result ≡ plain_form head.Fallback attributes }
 {
     let Attributes { desc, meaning, .. } = attributes;
     match desc {
-        Some(desc) => Some(Tag::GoesOn(Middle::Fallback(desc, or_empty(alloc, meaning)))),
+        Some(desc) => Some(CommandForm::GoesOn(Middle::Fallback(desc, or_empty(alloc, meaning)))),
         None => None,
     }
 }
 
 /// What the opening command of a template says.
-fn template_tag(name: Text, attributes: Attributes) -> Tag
-    ensures { result ≡ template_tag name attributes }
+fn template_form(name: Text, attributes: Attributes) -> CommandForm
+    ensures { result ≡ template_form name attributes }
 {
-    Tag::Opens(Opening::Template(TemplateHead {
+    CommandForm::Opens(Opening::Template(TemplateOpening {
         name,
         kind: attributes.kind.unwrap_or(Kind::Html),
         private: attributes.private,
@@ -373,9 +376,9 @@ fn or_empty(alloc: Global, text: Option<Text>) -> Text
 
 /// A character command.
 fn character(alloc: Global, c: char) -> Result<Option<Head>, OutOfMemory>
-    ensures { IfOk result (λ found. found ≡ Some (head.Whole (tag.Character (c ∷ [])))) }
+    ensures { IfOk result (λ found. found ≡ Some (head.Whole (says.Character (c ∷ [])))) }
 {
-    Ok(Some(Head::Whole(Tag::Character(text_of(alloc, c)?))))
+    Ok(Some(Head::Whole(CommandForm::Character(text_of(alloc, c)?))))
 }
 
 /// The text of one character.

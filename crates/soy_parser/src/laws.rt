@@ -1,4 +1,5 @@
-//! What holds of the grammar and of the machine: functions that take nothing and do nothing, whose contracts are the laws.
+//! What holds of the grammar and of the machine: functions that take nothing and do nothing, whose contracts are the
+//! laws.
 
 ghost use Rattle.std.specs.Prelude.{◌≡◌, ◌≢◌, ℕ, Bool, List, Some, Result, Err};
 ghost use Rattle.soy_base.specs.declared.fault.Fault.{Fault};
@@ -28,8 +29,8 @@ pub fn law_one_file()
         BeginsFile tokens ds ws → BeginsFile tokens es vs → ws ≡ vs }
 {}
 
-/// The machine has a state after tokens exactly where some file begins with them, its depths are those at the tokens and
-/// its words those that stand as types, and what it has read is a whole file exactly where they spell one.
+/// The machine has a state after tokens exactly where some file begins with them, its depths are those at the tokens
+/// and its words those that stand as types, and what it has read is a whole file exactly where they spell one.
 pub fn law_file_machine()
     ensures runs { (tokens : List Token) (ds : List ℕ) (ws : List Bool) → BeginsFile tokens ds ws →
         (s : FileState) × (file_run tokens file_start ≡ Some s) × (ds ≡ file_depths tokens file_start)

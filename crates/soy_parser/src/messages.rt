@@ -2,17 +2,18 @@
 
 ghost use Rattle.std.specs.Prelude.{◌≡◌, ◌++◌, ◌∷◌, [], IfOk, None, if◌then◌else◌};
 ghost use Rattle.soy_parser.specs.CommandSteps.{choice_opens, choice_step, closed_message, closes_message};
-ghost use Rattle.soy_parser.specs.CommandSteps.{fallback_begins, message_closes, message_goes_on, part_single, parts_step};
+ghost use Rattle.soy_parser.specs.CommandSteps.{fallback_begins, message_closes, message_goes_on, part_single};
+ghost use Rattle.soy_parser.specs.CommandSteps.{parts_step};
 ghost use Rattle.soy_parser.specs.CommandSteps.{plural_goes_on, select_goes_on, with_plural_cases, with_select_cases};
-ghost use Rattle.soy_parser.specs.CommandSteps.{has_whole_tags, parts_of, state, with_text};
-ghost use Rattle.soy_parser.specs.Nodes.{message_of, plural_cases, select_cases};
+ghost use Rattle.soy_parser.specs.CommandSteps.{has_whole_tags, body_of_parts, state, with_text};
+ghost use Rattle.soy_parser.specs.Nodes.{whole_message, plural_cases, select_cases};
 ghost use Rattle.soy_parser.specs.declared.block.Content.TheVariants as content;
 
 use crate::block::{
     Block, CommandState, Content, Nodes, OpenFallback, OpenMessage, OpenPlural, OpenSelect,
 };
 use crate::blocks::{adds, begins_parts, refused};
-use crate::command::{Middle, Opening, Single, Tag};
+use crate::command::{CommandForm, Middle, Opening, Single};
 use crate::commands::opens_with;
 use crate::nodes::{is_white, joined, with_node};
 use crate::terminal::BlockName;
@@ -26,23 +27,23 @@ pub(crate) fn parts(
     blocks: Stack<Block>,
     nodes: Nodes,
     white: bool,
-    tag: Tag,
+    form: CommandForm,
     span: Span,
 ) -> Result<Option<CommandState>, OutOfMemory>
-    ensures { IfOk result (λ to. to ≡ parts_step blocks nodes white tag span) }
+    ensures { IfOk result (λ to. to ≡ parts_step blocks nodes white form span) }
 {
-    match tag {
-        Tag::Text(text) => {
+    match form {
+        CommandForm::Text(text) => {
             let white = white && is_white(&text);
             with_text(blocks, nodes, white, text, span)
         }
-        Tag::Character(text) => with_text(blocks, nodes, false, text, span),
-        Tag::Namespace(_) => Ok(None),
-        Tag::HeadParam(_, _, _) => Ok(None),
-        Tag::Single(of) => single_part(blocks, nodes.ended()?, of, span),
-        Tag::Opens(of) => parts_open(blocks, white, of),
-        Tag::GoesOn(of) => parts_go_on(alloc, blocks, nodes, of, span),
-        Tag::Closes(name) => parts_close(alloc, blocks, nodes, name, span),
+        CommandForm::Character(text) => with_text(blocks, nodes, false, text, span),
+        CommandForm::Namespace(_) => Ok(None),
+        CommandForm::TemplateParam(_, _, _) => Ok(None),
+        CommandForm::Single(of) => single_part(blocks, nodes.ended()?, of, span),
+        CommandForm::Opens(of) => parts_open(blocks, white, of),
+        CommandForm::GoesOn(of) => parts_go_on(alloc, blocks, nodes, of, span),
+        CommandForm::Closes(name) => parts_close(alloc, blocks, nodes, name, span),
     }
 }
 
@@ -71,7 +72,7 @@ fn parts_go_on(
     span: Span,
 ) -> Result<Option<CommandState>, OutOfMemory>
     ensures { IfOk result (λ to. to ≡
-        (if has_whole_tags nodes then message_goes_on blocks (parts_of nodes) of span else None)) }
+        (if has_whole_tags nodes then message_goes_on blocks (body_of_parts nodes) of span else None)) }
 {
     if nodes.has_whole_tags() {
         message_goes_on(alloc, blocks, nodes.parts()?, of, span)
@@ -91,7 +92,7 @@ fn parts_close(
     end: Span,
 ) -> Result<Option<CommandState>, OutOfMemory>
     ensures { IfOk result (λ to. to ≡
-        (if has_whole_tags nodes then message_closes blocks (parts_of nodes) name end else None)) }
+        (if has_whole_tags nodes then message_closes blocks (body_of_parts nodes) name end else None)) }
 {
     if nodes.has_whole_tags() {
         message_closes(alloc, blocks, nodes.parts()?, name, end)
@@ -160,13 +161,13 @@ pub(crate) fn choice(
     alloc: Global,
     blocks: Stack<Block>,
     message: MessageBody,
-    tag: Tag,
+    form: CommandForm,
     span: Span,
 ) -> Result<Option<CommandState>, OutOfMemory>
-    ensures { IfOk result (λ to. to ≡ choice_step blocks message tag span) }
+    ensures { IfOk result (λ to. to ≡ choice_step blocks message form span) }
 {
-    match tag {
-        Tag::Text(text) => {
+    match form {
+        CommandForm::Text(text) => {
             if is_white(&text) {
                 Ok(Some(CommandState {
                     blocks,
@@ -176,21 +177,21 @@ pub(crate) fn choice(
                 Ok(None)
             }
         }
-        Tag::GoesOn(of) => message_goes_on(alloc, blocks, message, of, span),
-        Tag::Closes(name) => message_closes(alloc, blocks, message, name, span),
-        tag => {
+        CommandForm::GoesOn(of) => message_goes_on(alloc, blocks, message, of, span),
+        CommandForm::Closes(name) => message_closes(alloc, blocks, message, name, span),
+        form => {
             drop(message);
-            Ok(refused_tag(blocks, tag))
+            Ok(refused_form(blocks, form))
         }
     }
 }
 
 /// A command with which no file goes on.
-pub(crate) fn refused_tag(blocks: Stack<Block>, tag: Tag) -> Option<CommandState>
+pub(crate) fn refused_form(blocks: Stack<Block>, form: CommandForm) -> Option<CommandState>
     ensures { result ≡ None }
 {
     drop(blocks);
-    drop(tag);
+    drop(form);
     None
 }
 
@@ -539,7 +540,7 @@ impl OpenMessage {
     /// The nodes before the message, and the message.
     fn with_body(self, body: MessageBody) -> (Row<Node>, Message)
         ensures before { result.0 ≡ self.before }
-        ensures message { result.1 ≡ message_of self.desc self.meaning body self.start }
+        ensures message { result.1 ≡ whole_message self.desc self.meaning body self.start }
     {
         let message = Message {
             desc: self.desc,
@@ -554,7 +555,7 @@ impl OpenMessage {
 impl OpenFallback {
     /// The fallback as a message.
     fn with_body(self, body: MessageBody) -> Message
-        ensures { result ≡ message_of self.desc self.meaning body self.start }
+        ensures { result ≡ whole_message self.desc self.meaning body self.start }
     {
         Message {
             desc: self.desc,

@@ -4,8 +4,9 @@ ghost use Rattle.std.specs.Prelude.{◌≡◌, ◌++◌, ◌∷◌, [], IfOk, So
 ghost use Rattle.std.specs.Str.{chars};
 ghost use Rattle.expr_parser.specs.Operands.{joined};
 ghost use Rattle.soy_base.specs.WhiteSpace.{is_template_space};
-ghost use Rattle.soy_parser.specs.CommandSteps.{ended, has_whole_tags, is_empty, is_white, no_nodes, text_run, with_text};
-ghost use Rattle.soy_parser.specs.CommandSteps.{parts_of};
+ghost use Rattle.soy_parser.specs.CommandSteps.{ended, has_whole_tags, is_empty, is_white, no_nodes, text_run};
+ghost use Rattle.soy_parser.specs.CommandSteps.{with_text};
+ghost use Rattle.soy_parser.specs.CommandSteps.{body_of_parts};
 ghost use Rattle.soy_parser.specs.Nodes.{node_of, text_span, up_to};
 
 use crate::block::{Nodes, TextRun};
@@ -137,7 +138,7 @@ impl Nodes {
 
     /// The nodes as what a message holds.
     pub(crate) fn parts(self) -> Result<MessageBody, OutOfMemory>
-        ensures { IfOk result (λ body. body ≡ parts_of self) }
+        ensures { IfOk result (λ body. body ≡ body_of_parts self) }
     {
         let nodes = self.ended()?;
         Ok(MessageBody::Parts(nodes.done()))

@@ -83,10 +83,10 @@ fn read(alloc: Global, tokens: &[Token], file: u32) -> Result<Result<Tree, Fault
     Ok(answer(state.finish(), file, end))
 }
 
-/// The tree that the tokens of a file spell; `file` is the number of the file that faults name. Otherwise 4 at the first
-/// token with which no file goes on, or at the end of the last token where more are needed; 5 at the first token whose
-/// depth is over 64; or 8 at the first word that stands as a type and names none. The first in the order of the tokens;
-/// at one token 4, then 5, then 8.
+/// The tree that the tokens of a file spell; `file` is the number of the file that faults name. Otherwise 4 at the
+/// first token with which no file goes on, or at the end of the last token where more are needed; 5 at the first token
+/// whose depth is over 64; or 8 at the first word that stands as a type and names none. The first in the order of the
+/// tokens; at one token 4, then 5, then 8.
 pub fn parse(alloc: Global, tokens: &[Token], file: u32) -> Result<Tree, Refusal<Fault>>
     ensures { ParsesFile file tokens.now result }
 {

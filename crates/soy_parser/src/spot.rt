@@ -36,10 +36,10 @@ pub enum DottedUse {
 #[derive(Drop)]
 pub enum Spot {
     /// After the `@` of a parameter, after its word, after a `?`, and after its name.
-    HeadParam,
-    HeadParamWord,
-    HeadParamName,
-    HeadParamColon(Text, bool),
+    TemplateParam,
+    TemplateParamWord,
+    TemplateParamName,
+    TemplateParamColon(Text, bool),
     Type(Text, bool, TypeState),
     /// After the word `template`, and after a dot there.
     Template,

@@ -5,13 +5,10 @@ ghost use Rattle.std.specs.Str.{chars};
 ghost use Rattle.soy_lexer.specs.CommandSegment.{number_after};
 ghost use Rattle.expr_parser.specs.ExprRuns.{expr_start};
 ghost use Rattle.expr_parser.specs.ExprSteps.{expr_step};
-ghost use Rattle.expr_parser.specs.TypeRuns.{type_start};
-ghost use Rattle.expr_parser.specs.TypeSteps.{type_step};
 ghost use Rattle.soy_parser.specs.FileSteps.{after_case_word_step, after_int_step, attributes_step, call_step};
-ghost use Rattle.soy_parser.specs.FileSteps.{dotted_step, for_in_step, head_done, head_param_step, head_param_word_step};
-ghost use Rattle.soy_parser.specs.FileSteps.{head_of, in_expr, in_type, let_colon_step, next_value, param_colon_step, spot_step};
-ghost use Rattle.soy_parser.specs.FileSteps.{dotted_head, if_colon, if_equals, if_in, if_int, stands, template_step};
-ghost use Rattle.soy_parser.specs.FileSteps.{value_step};
+ghost use Rattle.soy_parser.specs.FileSteps.{dotted_head, dotted_step, for_in_step, head_done, head_of, if_equals};
+ghost use Rattle.soy_parser.specs.FileSteps.{if_in, if_int, in_expr, let_colon_step, next_value, param_colon_step};
+ghost use Rattle.soy_parser.specs.FileSteps.{spot_step, stands, template_step, value_step};
 ghost use Rattle.soy_parser.specs.CommandTerminals.{command_terminal_of};
 ghost use Rattle.soy_parser.specs.Heads.{allows};
 ghost use Rattle.soy_parser.specs.declared.spot.Spot.TheVariants as spot;
@@ -20,14 +17,17 @@ ghost use Rattle.soy_parser.specs.declared.terminal.CommandTerminal.TheVariants 
 
 use crate::attributes::{AttributeName, Attributes};
 use crate::block::CommandState;
-use crate::command::{Middle, Tag};
+use crate::command::{CommandForm, Middle};
 use crate::files::{ended_command, stands};
 use crate::head::Head;
 use crate::heads::text_of;
+use crate::params::{
+    in_type, template_param, template_param_colon, template_param_name, template_param_word,
+};
 use crate::spot::{DottedUse, FileState, Spot, Use};
 use crate::terminal::{CommandTerminal, CommandWord};
-use crate::values::{int_of, is_case_word, with_int, with_word};
-use expr_parser::{ExprState, ExprStep, Operand, TypeState, TypeStep};
+use crate::values::{is_case_word, with_int, with_word, written_int};
+use expr_parser::{ExprState, ExprStep, Operand};
 use soy_base::{OutOfMemory, Row, Span, Text};
 use soy_lexer::Token;
 use soy_tree::Expr;
@@ -45,11 +45,11 @@ pub(crate) fn inside(
     ensures { IfOk result (λ to. to ≡ spot_step commands from spot token.now terminal) }
 {
     match spot {
-        Spot::HeadParam => Ok(head_param(commands, from, terminal)),
-        Spot::HeadParamWord => head_param_word(alloc, commands, from, token, terminal),
-        Spot::HeadParamName => head_param_name(alloc, commands, from, token, terminal),
-        Spot::HeadParamColon(name, required) => {
-            Ok(head_param_colon(alloc, commands, from, name, required, terminal))
+        Spot::TemplateParam => Ok(template_param(commands, from, terminal)),
+        Spot::TemplateParamWord => template_param_word(alloc, commands, from, token, terminal),
+        Spot::TemplateParamName => template_param_name(alloc, commands, from, token, terminal),
+        Spot::TemplateParamColon(name, required) => {
+            Ok(template_param_colon(alloc, commands, from, name, required, terminal))
         }
         Spot::Type(name, required, state) => {
             in_type(alloc, commands, from, name, required, state, token)
@@ -87,120 +87,6 @@ pub(crate) fn inside(
             value(
                 alloc, commands, from, head, attributes, name, token, terminal,
             )
-        }
-    }
-}
-
-/// After the `@` of a parameter.
-fn head_param(commands: CommandState, from: Span, terminal: CommandTerminal) -> Option<FileState>
-    ensures { result ≡ head_param_step commands from terminal }
-{
-    match terminal {
-        CommandTerminal::Word(CommandWord::Param) => stands(commands, from, Spot::HeadParamWord),
-        _ => None,
-    }
-}
-
-/// After the word of a parameter.
-fn head_param_word(
-    alloc: Global,
-    commands: CommandState,
-    from: Span,
-    token: &Token,
-    terminal: CommandTerminal,
-) -> Result<Option<FileState>, OutOfMemory>
-    ensures { IfOk result (λ to. to ≡ head_param_word_step commands from token.now terminal) }
-{
-    match terminal {
-        CommandTerminal::Question => Ok(stands(commands, from, Spot::HeadParamName)),
-        CommandTerminal::Word(_) => {
-            let name = token.text.copy(alloc)?;
-            Ok(stands(commands, from, Spot::HeadParamColon(name, true)))
-        }
-        _ => Ok(None),
-    }
-}
-
-/// After the `?` of a parameter.
-fn head_param_name(
-    alloc: Global,
-    commands: CommandState,
-    from: Span,
-    token: &Token,
-    terminal: CommandTerminal,
-) -> Result<Option<FileState>, OutOfMemory>
-    ensures { IfOk result (λ to. to ≡ spot_step commands from spot.HeadParamName token.now terminal) }
-{
-    match terminal {
-        CommandTerminal::Word(_) => {
-            let name = token.text.copy(alloc)?;
-            Ok(stands(commands, from, Spot::HeadParamColon(name, false)))
-        }
-        _ => Ok(None),
-    }
-}
-
-/// After the name of a parameter.
-fn head_param_colon(
-    alloc: Global,
-    commands: CommandState,
-    from: Span,
-    name: Text,
-    required: bool,
-    terminal: CommandTerminal,
-) -> Option<FileState>
-    ensures { result ≡ if_colon terminal (stands commands from (spot.Type name required type_start)) }
-{
-    match terminal {
-        CommandTerminal::Colon => {
-            stands(
-                commands,
-                from,
-                Spot::Type(name, required, TypeState::start(alloc)),
-            )
-        }
-        _ => None,
-    }
-}
-
-/// In the type of a parameter.
-fn in_type(
-    alloc: Global,
-    commands: CommandState,
-    from: Span,
-    name: Text,
-    required: bool,
-    state: TypeState,
-    token: &Token,
-) -> Result<Option<FileState>, OutOfMemory>
-    ensures { IfOk result (λ to. to ≡ in_type commands from name required token.now (type_step state token.now)) }
-{
-    let step = state.step(alloc, token)?;
-    after_type_step(alloc, commands, from, name, required, step, token)
-}
-
-/// Where the type of a parameter goes on or has ended.
-fn after_type_step(
-    alloc: Global,
-    commands: CommandState,
-    from: Span,
-    name: Text,
-    required: bool,
-    step: TypeStep,
-    token: &Token,
-) -> Result<Option<FileState>, OutOfMemory>
-    ensures { IfOk result (λ to. to ≡ in_type commands from name required token.now step) }
-{
-    match step {
-        TypeStep::Next(state) => Ok(stands(commands, from, Spot::Type(name, required, state))),
-        TypeStep::End(None) => {
-            drop(commands);
-            drop(name);
-            Ok(None)
-        }
-        TypeStep::End(Some(operand)) => {
-            let head = Head::Whole(Tag::HeadParam(name, required, operand.of));
-            head_done(alloc, commands, from, head, token)
         }
     }
 }
@@ -324,7 +210,7 @@ fn dotted_head(of: DottedUse, text: Text) -> Head
     ensures { result ≡ dotted_head of text }
 {
     match of {
-        DottedUse::Namespace => Head::Whole(Tag::Namespace(text)),
+        DottedUse::Namespace => Head::Whole(CommandForm::Namespace(text)),
         DottedUse::Call => Head::Call(text),
     }
 }
@@ -516,7 +402,7 @@ fn int_of_case(
     ensures { IfOk result (λ to. to ≡ if_int terminal.Int (chars text.now)
         (stands commands from (spot.AfterInt (values ++ (pos (number_after 0 (chars text.now)) ∷ []))))) }
 {
-    match int_of(text) {
+    match written_int(text) {
         Some(value) => {
             let values = with_int(values, value as i64)?;
             Ok(stands(commands, from, Spot::AfterInt(values)))
@@ -543,7 +429,7 @@ fn after_int(
     match terminal {
         CommandTerminal::Comma => Ok(stands(commands, from, Spot::IntValue(values))),
         _ => {
-            let head = Head::Whole(Tag::GoesOn(Middle::PluralCase(values)));
+            let head = Head::Whole(CommandForm::GoesOn(Middle::PluralCase(values)));
             head_done(alloc, commands, from, head, token)
         }
     }
@@ -593,7 +479,7 @@ fn after_case_word(
     match terminal {
         CommandTerminal::Comma => Ok(stands(commands, from, Spot::CaseWord(words))),
         _ => {
-            let head = Head::Whole(Tag::GoesOn(Middle::SelectCase(words)));
+            let head = Head::Whole(CommandForm::GoesOn(Middle::SelectCase(words)));
             head_done(alloc, commands, from, head, token)
         }
     }
@@ -699,14 +585,14 @@ fn after_case_value(
             Ok(stands(commands, from, Spot::Expr(of, ExprState::start(alloc))))
         }
         _ => {
-            let head = Head::Whole(Tag::GoesOn(Middle::Case(values)));
+            let head = Head::Whole(CommandForm::GoesOn(Middle::Case(values)));
             head_done(alloc, commands, from, head, token)
         }
     }
 }
 
 /// After a head.
-fn head_done(
+pub(crate) fn head_done(
     alloc: Global,
     commands: CommandState,
     from: Span,
@@ -733,8 +619,8 @@ fn attributes_go_on(
     match AttributeName::of(terminal) {
         Some(name) => Ok(attribute(commands, from, head, attributes, name)),
         None => {
-            let tag = head.tag(alloc, attributes, terminal);
-            ended_command(alloc, commands, from, tag, token)
+            let form = head.form(alloc, attributes, terminal);
+            ended_command(alloc, commands, from, form, token)
         }
     }
 }
@@ -747,7 +633,8 @@ fn attribute(
     attributes: Attributes,
     name: AttributeName,
 ) -> Option<FileState>
-    ensures { result ≡ (if allows head attributes name then stands commands from (spot.Equals head attributes name) else None) }
+    ensures { result ≡ (if allows head attributes name then stands commands from
+        (spot.Equals head attributes name) else None) }
 {
     let allowed = head.allows(&attributes, name);
     only_if(

@@ -4,7 +4,7 @@ ghost use Rattle.std.specs.Prelude.{◌≡◌, ◌≤◌, ◌++◌, ◌∷◌, [
 ghost use Rattle.std.specs.List.{list_all};
 ghost use Rattle.std.specs.Str.{chars};
 ghost use Rattle.soy_lexer.specs.CommandSegment.{largest_int};
-ghost use Rattle.soy_parser.specs.Heads.{digits_value, int_of};
+ghost use Rattle.soy_parser.specs.Heads.{digits_value, written_int};
 ghost use Rattle.soy_tree.specs.Formed.{is_case_word, is_word_character};
 
 use soy_base::{OutOfMemory, Row, Text, first, is_empty};
@@ -12,10 +12,10 @@ use std::alloc::Global;
 
 const LARGEST_INT: u64 = 9007199254740991;
 
-/// The int that a text is, if it is one.
+/// The int that a text writes, if it writes one.
 #[tactic(auto, using(crate::proofs::Ints::digits_bounded))]
-pub(crate) fn int_of(text: &str) -> Option<u64>
-    ensures value { result ≡ int_of (chars text.now) }
+pub(crate) fn written_int(text: &str) -> Option<u64>
+    ensures value { result ≡ written_int (chars text.now) }
     ensures bound { IfSome result (λ n. n ≤ largest_int) }
 {
     match first(text) {
@@ -25,7 +25,7 @@ pub(crate) fn int_of(text: &str) -> Option<u64>
     }
 }
 
-/// The number that decimal digits write, if it is none over the largest int.
+/// The number that decimal digits write, if it isn't over the largest int.
 #[tactic(auto, using(crate::proofs::Ints::digits_too_large))]
 fn digits_value(digits: &str) -> Option<u64>
     ensures { result ≡ digits_value 0 (chars digits.now) }
