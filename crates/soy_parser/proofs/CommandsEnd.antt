@@ -174,7 +174,7 @@ parts_ends : (bs : List Block) (nodes : Nodes) (white : Bool) (cs : List Command
 parts_ends bs nodes white cs h =
     let e = parts_end h.back nodes.items nodes.run no_span h.parts in
     then_ends (at bs (content.Parts nodes white)) _ (says.Text e.text) (IsWritten.text_ e.text) refl
-    (opened_ends AMessage bs h.front h.opened (body_of_parts (with_text nodes e.text no_span)) _
+    (opened_ends AMessage bs h.prefix h.opened (body_of_parts (with_text nodes e.text no_span)) _
     (parts_is bs (with_text nodes e.text no_span) _ e.whole))
 
 cases_ends : (k : Inside) → HasCases k → (bs : List Block) → EndsAt k bs → Ends (at bs content.BeforeCases)
@@ -196,11 +196,11 @@ held_ends content.White bs cs h =
 held_ends (content.Templates n templates) bs cs h =
     subst (λ l. Ends (at l (content.Templates n templates))) (sym h.none)
     (record { more = []; are = AllWritten.none_; namespace = n; templates = templates; runs = refl })
-held_ends (content.Body nodes) bs cs h = opened_ends ABody bs h.front h.opened nodes
-held_ends (content.Arguments arguments) bs cs h = opened_ends ACall bs h.front h.opened arguments
-held_ends content.BeforeCases bs cs h = cases_ends h.inside h.has bs (opened_ends h.inside bs h.front h.opened)
+held_ends (content.Body nodes) bs cs h = opened_ends ABody bs h.prefix h.opened nodes
+held_ends (content.Arguments arguments) bs cs h = opened_ends ACall bs h.prefix h.opened arguments
+held_ends content.BeforeCases bs cs h = cases_ends h.inside h.has bs (opened_ends h.inside bs h.prefix h.opened)
 held_ends (content.Parts nodes white) bs cs h = parts_ends bs nodes white cs h
-held_ends (content.Choice body) bs cs h = opened_ends AMessage bs h.front h.opened body _ (choice_is bs body)
+held_ends (content.Choice body) bs cs h = opened_ends AMessage bs h.prefix h.opened body _ (choice_is bs body)
 
 -- further commands complete these to a file
 pub record CompletesTree (cs : List Command) : Type 0 where

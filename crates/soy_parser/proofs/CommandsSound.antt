@@ -209,10 +209,10 @@ pub data Opened : Inside → List Block → List Command → Type 0 where
 -- nodes, and the text after them
 
 pub record TextAfter (ys : List Command) (items : List Node) (r : TextRun) : Type 0 where
-  pub front : List Command
+  pub prefix : List Command
   pub back : List Command
-  pub whole : ys ≡ front ++ back
-  pub nodes : NodesOf front items
+  pub whole : ys ≡ prefix ++ back
+  pub nodes : NodesOf prefix items
   pub text : TextOf back r.text r.span
 
 abbrev pub BodyAt_run : List Command → List Node → Option TextRun → Type 0
@@ -223,10 +223,10 @@ abbrev pub BodyAt : List Command → Nodes → Type 0
 BodyAt ys nodes = BodyAt_run ys nodes.items nodes.run
 
 pub record TextAfterPrints (ys : List Command) (items : List Node) (r : TextRun) : Type 0 where
-  pub front : List Command
+  pub prefix : List Command
   pub back : List Command
-  pub whole : ys ≡ front ++ back
-  pub nodes : PrintsOf front items
+  pub whole : ys ≡ prefix ++ back
+  pub nodes : PrintsOf prefix items
   pub text : TextOf back r.text r.span
 
 abbrev pub PartsAt_run : List Command → List Node → Option TextRun → Type 0
@@ -244,26 +244,26 @@ pub record HeldWhite (bs : List Block) (cs : List Command) : Type 0 where
 
 pub record HeldTemplates (bs : List Block) (n : List ℕ) (templates : List Template) (cs : List Command) : Type 0 where
   pub none : bs ≡ []
-  pub front : List Command
+  pub prefix : List Command
   pub command : Command
   pub back : List Command
-  pub whole : cs ≡ front ++ (command ∷ back)
-  pub white : WhiteOf front
+  pub whole : cs ≡ prefix ++ (command ∷ back)
+  pub white : WhiteOf prefix
   pub is_namespace : command.form ≡ says.Namespace n
   pub are : TemplatesOf back templates
 
 pub record HeldBody (bs : List Block) (nodes : Nodes) (cs : List Command) : Type 0 where
-  pub front : List Command
+  pub prefix : List Command
   pub back : List Command
-  pub whole : cs ≡ front ++ back
-  pub opened : Opened ABody bs front
+  pub whole : cs ≡ prefix ++ back
+  pub opened : Opened ABody bs prefix
   pub body : BodyAt back nodes
 
 pub record HeldArguments (bs : List Block) (arguments : List Argument) (cs : List Command) : Type 0 where
-  pub front : List Command
+  pub prefix : List Command
   pub back : List Command
-  pub whole : cs ≡ front ++ back
-  pub opened : Opened ACall bs front
+  pub whole : cs ≡ prefix ++ back
+  pub opened : Opened ACall bs prefix
   pub are : ArgumentsOf back arguments
 
 -- what has cases
@@ -275,27 +275,27 @@ pub data HasCases : Inside → Type 0 where
 pub record HeldBeforeCases (bs : List Block) (cs : List Command) : Type 0 where
   pub inside : Inside
   pub has : HasCases inside
-  pub front : List Command
+  pub prefix : List Command
   pub back : List Command
-  pub whole : cs ≡ front ++ back
-  pub opened : Opened inside bs front
+  pub whole : cs ≡ prefix ++ back
+  pub opened : Opened inside bs prefix
   pub white : WhiteOf back
 
 pub record HeldParts (bs : List Block) (nodes : Nodes) (white : Bool) (cs : List Command) : Type 0 where
-  pub front : List Command
+  pub prefix : List Command
   pub back : List Command
-  pub whole : cs ≡ front ++ back
-  pub opened : Opened AMessage bs front
+  pub whole : cs ≡ prefix ++ back
+  pub opened : Opened AMessage bs prefix
   pub parts : PartsAt back nodes
   pub are_white : white ≡ true → WhiteOf back
 
 pub record HeldChoice (bs : List Block) (body : MessageBody) (cs : List Command) : Type 0 where
-  pub front : List Command
+  pub prefix : List Command
   pub before : List Command
   pub own : List Command
   pub after : List Command
-  pub whole : cs ≡ front ++ (before ++ (own ++ after))
-  pub opened : Opened AMessage bs front
+  pub whole : cs ≡ prefix ++ (before ++ (own ++ after))
+  pub opened : Opened AMessage bs prefix
   pub white_before : WhiteOf before
   pub choice : ChoiceOf own body
   pub white_after : WhiteOf after
@@ -335,22 +335,22 @@ body_of : (ys : List Command) (items : List Node) (run : Option TextRun) → Bod
 body_of ys items None b = (b.0, SpellsBody.plain_ ys b.0 items b.1)
 body_of ys items (Some r) b =
     subst (λ l. BodyOf l (ended_run items (Some r))) (sym b.whole)
-    (b.nodes.0 ++ b.text.0, SpellsBody.text_ b.front b.back b.nodes.0 b.text.0 items r.text r.span b.nodes.1 b.text.1)
+    (b.nodes.0 ++ b.text.0, SpellsBody.text_ b.prefix b.back b.nodes.0 b.text.0 items r.text r.span b.nodes.1 b.text.1)
 
 body_text : (ys : List Command) (items : List Node) (run : Option TextRun) (c : Command) (text : List ℕ) →
     BodyAt_run ys items run → text_of c.form ≡ Some text →
     BodyAt_run (ys ++ (c ∷ [])) items (Some (text_run run text c.span))
 body_text ys items None c text b h = record {
-  front = ys;
+  prefix = ys;
   back = c ∷ [];
   whole = refl;
   nodes = b;
   text = (0 ∷ [], SpellsText.first_ c text h);
 }
 body_text ys items (Some r) c text b h = record {
-  front = b.front;
+  prefix = b.prefix;
   back = b.back ++ (c ∷ []);
-  whole = ap (λ l. l ++ (c ∷ [])) b.whole ∙ append_assoc b.front b.back (c ∷ []);
+  whole = ap (λ l. l ++ (c ∷ [])) b.whole ∙ append_assoc b.prefix b.back (c ∷ []);
   nodes = b.nodes;
   text = (b.text.0 ++ (0 ∷ []), SpellsText.next_ b.back b.text.0 c r.text text r.span b.text.1 h);
 }
@@ -360,22 +360,22 @@ parts_at : (ys : List Command) (items : List Node) (run : Option TextRun) → Pa
 parts_at ys items None b = (b.0, SpellsParts.plain_ ys b.0 items b.1)
 parts_at ys items (Some r) b =
     subst (λ l. PartsOf l (ended_run items (Some r))) (sym b.whole)
-    (b.nodes.0 ++ b.text.0, SpellsParts.text_ b.front b.back b.nodes.0 b.text.0 items r.text r.span b.nodes.1 b.text.1)
+    (b.nodes.0 ++ b.text.0, SpellsParts.text_ b.prefix b.back b.nodes.0 b.text.0 items r.text r.span b.nodes.1 b.text.1)
 
 parts_text : (ys : List Command) (items : List Node) (run : Option TextRun) (c : Command) (text : List ℕ) →
     PartsAt_run ys items run → text_of c.form ≡ Some text →
     PartsAt_run (ys ++ (c ∷ [])) items (Some (text_run run text c.span))
 parts_text ys items None c text b h = record {
-  front = ys;
+  prefix = ys;
   back = c ∷ [];
   whole = refl;
   nodes = b;
   text = (0 ∷ [], SpellsText.first_ c text h);
 }
 parts_text ys items (Some r) c text b h = record {
-  front = b.front;
+  prefix = b.prefix;
   back = b.back ++ (c ∷ []);
-  whole = ap (λ l. l ++ (c ∷ [])) b.whole ∙ append_assoc b.front b.back (c ∷ []);
+  whole = ap (λ l. l ++ (c ∷ [])) b.whole ∙ append_assoc b.prefix b.back (c ∷ []);
   nodes = b.nodes;
   text = (b.text.0 ++ (0 ∷ []), SpellsText.next_ b.back b.text.0 c r.text text r.span b.text.1 h);
 }
@@ -389,7 +389,7 @@ adds_fine : (bs : List Block) (xs ys zs : List Command) (before : List Node) (n 
     BodyOf ys before → NodeOf zs n → IsFine (adds bs before n) (xs ++ (ys ++ zs))
 adds_fine bs xs ys zs before n o b i = record {
   fine = record {
-    front = xs;
+    prefix = xs;
     back = ys ++ zs;
     whole = refl;
     opened = o;
@@ -401,7 +401,7 @@ adds_fine bs xs ys zs before n o b i = record {
 begun : (b : Block) (bs : List Block) (xs : List Command) → Opened ABody (b ∷ bs) xs → IsFine (begins bs b) xs
 begun b bs xs o = record {
   fine = record {
-    front = xs;
+    prefix = xs;
     back = [];
     whole = sym (append-nil xs);
     opened = o;
@@ -413,7 +413,7 @@ begun_parts : (b : Block) (bs : List Block) (xs : List Command) → Opened AMess
     → IsFine (begins_parts bs b) xs
 begun_parts b bs xs o = record {
   fine = record {
-    front = xs;
+    prefix = xs;
     back = [];
     whole = sym (append-nil xs);
     opened = o;
@@ -428,7 +428,7 @@ begun_cases k b bs xs has o = record {
   fine = record {
     inside = k;
     has = has;
-    front = xs;
+    prefix = xs;
     back = [];
     whole = sym (append-nil xs);
     opened = o;
@@ -446,9 +446,9 @@ module _ (bs : List Block) (nodes : Nodes) (cs : List Command) (c : Command) (h 
       IsFine (state bs (content.Body (with_text nodes text c.span))) (cs ++ (c ∷ []))
   body_text_fine text e = record {
     fine = record {
-      front = h.front;
+      prefix = h.prefix;
       back = h.back ++ (c ∷ []);
-      whole = sym (on_whole cs h.front h.back (c ∷ []) h.whole);
+      whole = sym (on_whole cs h.prefix h.back (c ∷ []) h.whole);
       opened = h.opened;
       body = body_text h.back nodes.items nodes.run c text h.body e;
     };
@@ -457,8 +457,8 @@ module _ (bs : List Block) (nodes : Nodes) (cs : List Command) (c : Command) (h 
   node_fine : (n : Node) → NodeOf (c ∷ []) n → IsFine (adds bs (ended nodes) n) (cs ++ (c ∷ []))
   node_fine n i =
       moved
-      (adds_fine bs h.front h.back (c ∷ []) (ended nodes) n h.opened (body_of h.back nodes.items nodes.run h.body) i)
-      (on_whole cs h.front h.back (c ∷ []) h.whole)
+      (adds_fine bs h.prefix h.back (c ∷ []) (ended nodes) n h.opened (body_of h.back nodes.items nodes.run h.body) i)
+      (on_whole cs h.prefix h.back (c ∷ []) h.whole)
 
   single_fine : (of : Single) → c.form ≡ says.Single of
       → IsFine (single_step bs (ended nodes) of c.span) (cs ++ (c ∷ []))
@@ -472,43 +472,44 @@ module _ (bs : List Block) (nodes : Nodes) (cs : List Command) (c : Command) (h 
       (cs ++ (c ∷ []))
   opening_fine (opening.If e) t =
       moved
-      (begun (block.Arm (open_if (ended nodes) c.span []) e) bs (h.front ++ (h.back ++ (c ∷ [])))
-      (Opened.arm_ bs h.front h.back (c ∷ []) (ended nodes) [] c.span e h.opened
+      (begun (block.Arm (open_if (ended nodes) c.span []) e) bs (h.prefix ++ (h.back ++ (c ∷ [])))
+      (Opened.arm_ bs h.prefix h.back (c ∷ []) (ended nodes) [] c.span e h.opened
       (body_of h.back nodes.items nodes.run h.body)
       (ArmOpens.first_ c e t)))
-      (on_whole cs h.front h.back (c ∷ []) h.whole)
+      (on_whole cs h.prefix h.back (c ∷ []) h.whole)
   opening_fine (opening.Switch e) t =
       moved
-      (begun_cases ASwitch (block.Switch (ended nodes) c.span e) bs (h.front ++ (h.back ++ (c ∷ []))) HasCases.switch_
-      (Opened.switch_ bs h.front h.back c (ended nodes) e h.opened (body_of h.back nodes.items nodes.run h.body) t))
-      (on_whole cs h.front h.back (c ∷ []) h.whole)
+      (begun_cases ASwitch (block.Switch (ended nodes) c.span e) bs (h.prefix ++ (h.back ++ (c ∷ []))) HasCases.switch_
+      (Opened.switch_ bs h.prefix h.back c (ended nodes) e h.opened (body_of h.back nodes.items nodes.run h.body) t))
+      (on_whole cs h.prefix h.back (c ∷ []) h.whole)
   opening_fine (opening.For n index e) t =
       moved
-      (begun (block.For (ended nodes) c.span n index e) bs (h.front ++ (h.back ++ (c ∷ [])))
-      (Opened.for_ bs h.front h.back c (ended nodes) n index e h.opened (body_of h.back nodes.items nodes.run h.body)
+      (begun (block.For (ended nodes) c.span n index e) bs (h.prefix ++ (h.back ++ (c ∷ [])))
+      (Opened.for_ bs h.prefix h.back c (ended nodes) n index e h.opened (body_of h.back nodes.items nodes.run h.body)
       t))
-      (on_whole cs h.front h.back (c ∷ []) h.whole)
+      (on_whole cs h.prefix h.back (c ∷ []) h.whole)
   opening_fine (opening.Let n kind) t =
       moved
-      (begun (block.Let (ended nodes) c.span n kind) bs (h.front ++ (h.back ++ (c ∷ [])))
-      (Opened.let_ bs h.front h.back c (ended nodes) n kind h.opened (body_of h.back nodes.items nodes.run h.body) t))
-      (on_whole cs h.front h.back (c ∷ []) h.whole)
+      (begun (block.Let (ended nodes) c.span n kind) bs (h.prefix ++ (h.back ++ (c ∷ [])))
+      (Opened.let_ bs h.prefix h.back c (ended nodes) n kind h.opened (body_of h.back nodes.items nodes.run h.body) t))
+      (on_whole cs h.prefix h.back (c ∷ []) h.whole)
   opening_fine (opening.Call n all) t = record {
     fine = record {
-      front = h.front ++ (h.back ++ (c ∷ []));
+      prefix = h.prefix ++ (h.back ++ (c ∷ []));
       back = [];
-      whole = sym (append-nil (h.front ++ (h.back ++ (c ∷ []))) ∙ on_whole cs h.front h.back (c ∷ []) h.whole);
-      opened = Opened.call_ bs h.front h.back c (ended nodes) n all h.opened
+      whole = sym (append-nil (h.prefix ++ (h.back ++ (c ∷ []))) ∙ on_whole cs h.prefix h.back (c ∷ []) h.whole);
+      opened = Opened.call_ bs h.prefix h.back c (ended nodes) n all h.opened
           (body_of h.back nodes.items nodes.run h.body) t;
       are = ([], SpellsArguments.no_argument_);
     };
   }
   opening_fine (opening.Message desc meaning) t =
       moved
-      (begun_parts (block.Message (open_message (ended nodes) c.span desc meaning)) bs (h.front ++ (h.back ++ (c ∷ [])))
-      (Opened.message_ bs h.front h.back c (ended nodes) desc meaning h.opened
+      (begun_parts (block.Message (open_message (ended nodes) c.span desc meaning)) bs
+      (h.prefix ++ (h.back ++ (c ∷ [])))
+      (Opened.message_ bs h.prefix h.back c (ended nodes) desc meaning h.opened
       (body_of h.back nodes.items nodes.run h.body) t))
-      (on_whole cs h.front h.back (c ∷ []) h.whole)
+      (on_whole cs h.prefix h.back (c ∷ []) h.whole)
   opening_fine (opening.Template of) t = record { fine = tt }
   opening_fine (opening.Param n kind) t = record { fine = tt }
   opening_fine (opening.Plural e offset) t = record { fine = tt }
@@ -604,7 +605,7 @@ closed_fine : (b : Block) (bs : List Block) (xs : List Command) → Opened ABody
 closed_fine _ _ _ (Opened.template_ ds cs ps c k n templates of params w hc t hk p) ys ns b z h = record {
   fine = record {
     none = refl;
-    front = ds;
+    prefix = ds;
     command = c;
     back = cs ++ (k ∷ (ps ++ (ys ++ (z ∷ []))));
     whole = simp append_assoc;
@@ -639,7 +640,7 @@ closed_fine _ _ _ (Opened.let_ bs xs us c before n kind o v hc) ys ns b z h =
     (simp append_assoc)
 closed_fine _ _ _ (Opened.param_ bs xs us c arguments n kind o a hc) ys ns b z h = record {
   fine = record {
-    front = xs;
+    prefix = xs;
     back = us ++ (c ∷ (ys ++ (z ∷ [])));
     whole = simp append_assoc;
     opened = o;
@@ -723,18 +724,18 @@ body_fine bs nodes cs c (says.TemplateParam n required of) e h = over (is_empty 
         IsFine (if t then template_param_step bs (param_of n of required c.span) else None) (cs ++ (c ∷ []))
     over true q =
         let none = empty_back h.back nodes.items nodes.run h.body q in
-        moved (template_param_fine bs h.front h.opened c n required of e)
-        (ap (λ l. l ++ (c ∷ [])) (sym (append-nil h.front) ∙ (ap (λ l. h.front ++ l) (sym none) ∙ sym h.whole)))
+        moved (template_param_fine bs h.prefix h.opened c n required of e)
+        (ap (λ l. l ++ (c ∷ [])) (sym (append-nil h.prefix) ∙ (ap (λ l. h.prefix ++ l) (sym none) ∙ sym h.whole)))
     over false q = record { fine = tt }
 body_fine bs nodes cs c (says.Single of) e h = single_fine bs nodes cs c h of e
 body_fine bs nodes cs c (says.Opens of) e h = opening_fine bs nodes cs c h of e
 body_fine bs nodes cs c (says.GoesOn m) e h =
     moved
-    (goes_on_fine bs h.front h.opened h.back (ended nodes) (body_of h.back nodes.items nodes.run h.body) c m e)
+    (goes_on_fine bs h.prefix h.opened h.back (ended nodes) (body_of h.back nodes.items nodes.run h.body) c m e)
     (ap (λ l. l ++ (c ∷ [])) (sym h.whole))
 body_fine bs nodes cs c (says.Closes n) e h =
     moved
-    (closes_fine bs h.front h.opened h.back (ended nodes) (body_of h.back nodes.items nodes.run h.body) c n e)
+    (closes_fine bs h.prefix h.opened h.back (ended nodes) (body_of h.back nodes.items nodes.run h.body) c n e)
     (ap (λ l. l ++ (c ∷ [])) (sym h.whole))
 
 -- between templates
@@ -749,7 +750,7 @@ white_fine bs cs c (says.Text text) e h = over (is_white text) refl
 white_fine bs cs c (says.Namespace n) e h = record {
   fine = record {
     none = h.none;
-    front = cs;
+    prefix = cs;
     command = c;
     back = [];
     whole = refl;
@@ -767,10 +768,10 @@ template_opens_fine : (bs : List Block) (n : List ℕ) (templates : List Templat
 template_opens_fine bs n templates cs c (opening.Template of) e h =
     subst (λ l. IsFine (template_opens l n templates (opening.Template of) c.span) (cs ++ (c ∷ []))) (sym h.none)
     (moved
-    (begun (block.Template (open_template n templates of c.span [])) [] (h.front ++ (h.command ∷ (h.back ++ (c ∷ []))))
-    (Opened.template_ h.front h.back [] h.command c n templates of [] h.white h.is_namespace h.are e
+    (begun (block.Template (open_template n templates of c.span [])) [] (h.prefix ++ (h.command ∷ (h.back ++ (c ∷ []))))
+    (Opened.template_ h.prefix h.back [] h.command c n templates of [] h.white h.is_namespace h.are e
     ([], SpellsParams.none_)))
-    (sym (append_assoc h.front (h.command ∷ h.back) (c ∷ [])) ∙ ap (λ l. l ++ (c ∷ [])) (sym h.whole)))
+    (sym (append_assoc h.prefix (h.command ∷ h.back) (c ∷ [])) ∙ ap (λ l. l ++ (c ∷ [])) (sym h.whole)))
 template_opens_fine bs n templates cs c _ e h = record { fine = tt }
 
 templates_fine : (bs : List Block) (n : List ℕ) (templates : List Template) (cs : List Command) (c : Command)
@@ -783,10 +784,10 @@ templates_fine bs n templates cs c (says.Text text) e h = over (is_white text) r
     over true w = record {
       fine = record {
         none = h.none;
-        front = h.front;
+        prefix = h.prefix;
         command = h.command;
         back = h.back ++ (c ∷ []);
-        whole = ap (λ l. l ++ (c ∷ [])) h.whole ∙ append_assoc h.front (h.command ∷ h.back) (c ∷ []);
+        whole = ap (λ l. l ++ (c ∷ [])) h.whole ∙ append_assoc h.prefix (h.command ∷ h.back) (c ∷ []);
         white = h.white;
         is_namespace = h.is_namespace;
         are = (h.are.0 ++ (0 ∷ []), SpellsTemplates.white_ h.back h.are.0 templates c text h.are.1 e w);
@@ -803,9 +804,9 @@ argument_single_fine : (bs : List Block) (arguments : List Argument) (cs : List 
     IsFine (argument_single bs arguments of c.span) (cs ++ (c ∷ []))
 argument_single_fine bs arguments cs c (single.Param n e) t h = record {
   fine = record {
-    front = h.front;
+    prefix = h.prefix;
     back = h.back ++ (c ∷ []);
-    whole = sym (on_whole cs h.front h.back (c ∷ []) h.whole);
+    whole = sym (on_whole cs h.prefix h.back (c ∷ []) h.whole);
     opened = h.opened;
     are = (h.are.0 ++ (0 ∷ []), SpellsArguments.param_ h.back h.are.0 arguments c n e h.are.1 t);
   };
@@ -817,9 +818,9 @@ argument_opens_fine : (bs : List Block) (arguments : List Argument) (cs : List C
     IsFine (argument_opens bs arguments of c.span) (cs ++ (c ∷ []))
 argument_opens_fine bs arguments cs c (opening.Param n kind) t h =
     moved
-    (begun (block.Param arguments c.span n kind) bs (h.front ++ (h.back ++ (c ∷ [])))
-    (Opened.param_ bs h.front h.back c arguments n kind h.opened h.are t))
-    (on_whole cs h.front h.back (c ∷ []) h.whole)
+    (begun (block.Param arguments c.span n kind) bs (h.prefix ++ (h.back ++ (c ∷ [])))
+    (Opened.param_ bs h.prefix h.back c arguments n kind h.opened h.are t))
+    (on_whole cs h.prefix h.back (c ∷ []) h.whole)
 argument_opens_fine bs arguments cs c _ t h = record { fine = tt }
 
 closed_call_fine : (bs : List Block) (xs : List Command) → Opened ACall bs xs → (ys : List Command)
@@ -844,9 +845,9 @@ arguments_fine bs arguments cs c (says.Text text) e h = over (is_white text) ref
         IsFine (if t then state bs (content.Arguments arguments) else None) (cs ++ (c ∷ []))
     over true w = record {
       fine = record {
-        front = h.front;
+        prefix = h.prefix;
         back = h.back ++ (c ∷ []);
-        whole = sym (on_whole cs h.front h.back (c ∷ []) h.whole);
+        whole = sym (on_whole cs h.prefix h.back (c ∷ []) h.whole);
         opened = h.opened;
         are = (h.are.0 ++ (0 ∷ []), SpellsArguments.white_ h.back h.are.0 arguments c text h.are.1 e w);
       };
@@ -859,7 +860,7 @@ arguments_fine bs arguments cs c (says.Closes n) e h = over (is_call n) refl
     over : (t : Bool) → is_call n ≡ t → IsFine (if t then closed_call bs arguments c.span else None) (cs ++ (c ∷ []))
     over true q =
         moved
-        (closed_call_fine bs h.front h.opened h.back arguments h.are c (e ∙ ap says.Closes (call_name n q)))
+        (closed_call_fine bs h.prefix h.opened h.back arguments h.are c (e ∙ ap says.Closes (call_name n q)))
         (ap (λ l. l ++ (c ∷ [])) (sym h.whole))
     over false q = record { fine = tt }
 arguments_fine bs arguments cs c _ e h = record { fine = tt }
@@ -929,23 +930,23 @@ before_cases_fine bs cs c (says.Text text) e h = over (is_white text) refl
       fine = record {
         inside = h.inside;
         has = h.has;
-        front = h.front;
+        prefix = h.prefix;
         back = h.back ++ (c ∷ []);
-        whole = sym (on_whole cs h.front h.back (c ∷ []) h.whole);
+        whole = sym (on_whole cs h.prefix h.back (c ∷ []) h.whole);
         opened = h.opened;
         white = white_more h.back c text h.white e w;
       };
     }
     over false w = record { fine = tt }
 before_cases_fine bs cs c (says.GoesOn m) e h =
-    moved (cases_begin_fine h.inside h.has bs h.front h.opened h.back h.white c m e)
+    moved (cases_begin_fine h.inside h.has bs h.prefix h.opened h.back h.white c m e)
     (ap (λ l. l ++ (c ∷ [])) (sym h.whole))
 before_cases_fine bs cs c (says.Closes n) e h = over (is_switch n) refl
   where
     over : (t : Bool) → is_switch n ≡ t → IsFine (if t then closed_bare_switch bs c.span else None) (cs ++ (c ∷ []))
     over true q =
         moved
-        (closed_bare_fine h.inside h.has bs h.front h.opened h.back h.white c (e ∙ ap says.Closes (switch_name n q)))
+        (closed_bare_fine h.inside h.has bs h.prefix h.opened h.back h.white c (e ∙ ap says.Closes (switch_name n q)))
         (ap (λ l. l ++ (c ∷ [])) (sym h.whole))
     over false q = record { fine = tt }
 before_cases_fine bs cs c _ e h = record { fine = tt }
@@ -1038,7 +1039,7 @@ closed_message_fine _ _ _ (Opened.plural_case_ bs xs us ws zs c k e offset cases
 closed_message_fine _ _ _ (Opened.plural_default_ bs xs us ws zs c k e offset cases o v hc w a hk) ys body m z h =
     record {
       fine = record {
-        front = xs;
+        prefix = xs;
         before = us;
         own = c ∷ (ws ++ (zs ++ (k ∷ (ys ++ (z ∷ [])))));
         after = [];
@@ -1057,7 +1058,7 @@ closed_message_fine _ _ _ (Opened.select_case_ bs xs us ws zs c k e cases values
 closed_message_fine _ _ _ (Opened.select_default_ bs xs us ws zs c k e cases o v hc w a hk) ys body m z h =
     record {
       fine = record {
-        front = xs;
+        prefix = xs;
         before = us;
         own = c ∷ (ws ++ (zs ++ (k ∷ (ys ++ (z ∷ [])))));
         after = [];
@@ -1105,9 +1106,9 @@ part_single_fine bs nodes white cs c (single.MessagePrint e phname) t h =
     let p = parts_at h.back nodes.items nodes.run h.parts in
     record {
       fine = record {
-        front = h.front;
+        prefix = h.prefix;
         back = h.back ++ (c ∷ []);
-        whole = sym (on_whole cs h.front h.back (c ∷ []) h.whole);
+        whole = sym (on_whole cs h.prefix h.back (c ∷ []) h.whole);
         opened = h.opened;
         parts = (p.0 ++ (0 ∷ []), SpellsPrints.print_ h.back p.0 (ended nodes) c e phname p.1 t);
         are_white = λ q. absurd (cc q);
@@ -1120,9 +1121,9 @@ parts_fine : (bs : List Block) (nodes : Nodes) (white : Bool) (cs : List Command
     HeldParts bs nodes white cs → IsFine (parts_step bs nodes white of c.span) (cs ++ (c ∷ []))
 parts_fine bs nodes white cs c (says.Text text) e h = record {
   fine = record {
-    front = h.front;
+    prefix = h.prefix;
     back = h.back ++ (c ∷ []);
-    whole = sym (on_whole cs h.front h.back (c ∷ []) h.whole);
+    whole = sym (on_whole cs h.prefix h.back (c ∷ []) h.whole);
     opened = h.opened;
     parts = parts_text h.back nodes.items nodes.run c text h.parts (ap text_of e);
     are_white = λ q. let both = both_true white (is_white text) q in white_more h.back c text (h.are_white both.0) e
@@ -1131,9 +1132,9 @@ parts_fine bs nodes white cs c (says.Text text) e h = record {
 }
 parts_fine bs nodes white cs c (says.Character text) e h = record {
   fine = record {
-    front = h.front;
+    prefix = h.prefix;
     back = h.back ++ (c ∷ []);
-    whole = sym (on_whole cs h.front h.back (c ∷ []) h.whole);
+    whole = sym (on_whole cs h.prefix h.back (c ∷ []) h.whole);
     opened = h.opened;
     parts = parts_text h.back nodes.items nodes.run c text h.parts (ap text_of e);
     are_white = λ q. absurd (cc q);
@@ -1146,8 +1147,8 @@ parts_fine bs nodes white cs c (says.Opens of) e h = over white refl
   where
     over : (t : Bool) → white ≡ t → IsFine (if t then choice_opens bs of else None) (cs ++ (c ∷ []))
     over true q =
-        moved (choice_opens_fine bs h.front h.back c of e h.opened (h.are_white q))
-        (on_whole cs h.front h.back (c ∷ []) h.whole)
+        moved (choice_opens_fine bs h.prefix h.back c of e h.opened (h.are_white q))
+        (on_whole cs h.prefix h.back (c ∷ []) h.whole)
     over false q = record { fine = tt }
 parts_fine bs nodes white cs c (says.GoesOn m) e h = over (has_whole_tags nodes) refl
   where
@@ -1156,7 +1157,7 @@ parts_fine bs nodes white cs c (says.GoesOn m) e h = over (has_whole_tags nodes)
     over true q =
         let p = parts_at h.back nodes.items nodes.run h.parts in
         moved
-        (message_goes_on_fine bs h.front h.opened h.back (body_of_parts nodes)
+        (message_goes_on_fine bs h.prefix h.opened h.back (body_of_parts nodes)
         (p.0, SpellsMessageBody.parts_ h.back p.0 (ended nodes) p.1 q) c m e)
         (ap (λ l. l ++ (c ∷ [])) (sym h.whole))
     over false q = record { fine = tt }
@@ -1167,7 +1168,7 @@ parts_fine bs nodes white cs c (says.Closes n) e h = over (has_whole_tags nodes)
     over true q =
         let p = parts_at h.back nodes.items nodes.run h.parts in
         moved
-        (message_closes_fine bs h.front h.opened h.back (body_of_parts nodes)
+        (message_closes_fine bs h.prefix h.opened h.back (body_of_parts nodes)
         (p.0, SpellsMessageBody.parts_ h.back p.0 (ended nodes) p.1 q) c n e)
         (ap (λ l. l ++ (c ∷ [])) (sym h.whole))
     over false q = record { fine = tt }
@@ -1187,7 +1188,7 @@ choice_fine bs body cs c (says.Text text) e h = over (is_white text) refl
     over : (t : Bool) → is_white text ≡ t → IsFine (if t then state bs (content.Choice body) else None) (cs ++ (c ∷ []))
     over true w = record {
       fine = record {
-        front = h.front;
+        prefix = h.prefix;
         before = h.before;
         own = h.own;
         after = h.after ++ (c ∷ []);
@@ -1201,12 +1202,12 @@ choice_fine bs body cs c (says.Text text) e h = over (is_white text) refl
     over false w = record { fine = tt }
 choice_fine bs body cs c (says.GoesOn m) e h =
     moved
-    (message_goes_on_fine bs h.front h.opened (h.before ++ (h.own ++ h.after)) body
+    (message_goes_on_fine bs h.prefix h.opened (h.before ++ (h.own ++ h.after)) body
     (choice_message body h.before h.own h.after h.white_before h.choice h.white_after) c m e)
     (ap (λ l. l ++ (c ∷ [])) (sym h.whole))
 choice_fine bs body cs c (says.Closes n) e h =
     moved
-    (message_closes_fine bs h.front h.opened (h.before ++ (h.own ++ h.after)) body
+    (message_closes_fine bs h.prefix h.opened (h.before ++ (h.own ++ h.after)) body
     (choice_message body h.before h.own h.after h.white_before h.choice h.white_after) c n e)
     (ap (λ l. l ++ (c ∷ [])) (sym h.whole))
 choice_fine bs body cs c _ e h = record { fine = tt }
@@ -1253,5 +1254,5 @@ run_tree cs n templates e =
     let h = start_run_held cs _ e in
     subst (λ l. (ls : List ℕ) × SpellsTree l ls (record { namespace = n; templates = templates })) (sym h.whole) (
       h.white.0 ++ (0 ∷ h.are.0),
-      SpellsTree.tree_ h.front h.back h.white.0 h.are.0 h.command n templates h.white.1 h.is_namespace h.are.1,
+      SpellsTree.tree_ h.prefix h.back h.white.0 h.are.0 h.command n templates h.white.1 h.is_namespace h.are.1,
     )

@@ -77,20 +77,20 @@ abbrev IfLast : ExpectedInType → List Token → Type 0
 IfLast (expected.AfterName n offset) own = LastIs (IfNamed (expected.AfterName n offset)) own
 IfLast _ own = Unit {0}
 
-type_last : (p : ExpectedInType) (fs : List TypeFrame) (us front : List Token) → Holds_at p fs us
-    → IfLast p (front ++ us)
-type_last (expected.AfterName n offset) fs us front h = record {
-  prefix = front ++ h.prefix;
+type_last : (p : ExpectedInType) (fs : List TypeFrame) (us earlier : List Token) → Holds_at p fs us
+    → IfLast p (earlier ++ us)
+type_last (expected.AfterName n offset) fs us earlier h = record {
+  prefix = earlier ++ h.prefix;
   token = h.token;
-  whole = ap (λ l. front ++ l) h.whole ∙ sym (append_assoc front h.prefix (h.token ∷ []));
+  whole = ap (λ l. earlier ++ l) h.whole ∙ sym (append_assoc earlier h.prefix (h.token ∷ []));
   is = (h.is_name, h.offset_is);
 }
-type_last expected.Type fs us front h = tt
-type_last (expected.Delimiter x) fs us front h = tt
-type_last expected.Key fs us front h = tt
-type_last expected.KeyComma fs us front h = tt
-type_last (expected.FieldName fields n) fs us front h = tt
-type_last (expected.FieldColon fields n name) fs us front h = tt
+type_last expected.Type fs us earlier h = tt
+type_last (expected.Delimiter x) fs us earlier h = tt
+type_last expected.Key fs us earlier h = tt
+type_last expected.KeyComma fs us earlier h = tt
+type_last (expected.FieldName fields n) fs us earlier h = tt
+type_last (expected.FieldColon fields n name) fs us earlier h = tt
 
 moved_last : (p : ExpectedInType) (us vs : List Token) → us ≡ vs → IfLast p us → IfLast p vs
 moved_last p us vs e h = subst (IfLast p) e h
@@ -108,18 +108,18 @@ spot_last _ _ _ (Begun.type_ sign t n colon w ts us required r hs ht hq hn hc q)
 spot_last _ _ _ _ = tt
 
 -- it is the last of all tokens
-named_last : (p : ExpectedInType) (front own us : List Token) (t : Token) → us ++ (t ∷ []) ≡ front ++ own
+named_last : (p : ExpectedInType) (earlier own us : List Token) (t : Token) → us ++ (t ∷ []) ≡ earlier ++ own
     → IfLast p own →
     IfNamed p t
-named_last (expected.AfterName n offset) front own us t e h =
-    let whole = e ∙ (ap (λ l. front ++ l) h.whole ∙ sym (append_assoc front h.prefix (h.token ∷ []))) in
-    subst (IfNamed (expected.AfterName n offset)) (sym (same_last us (front ++ h.prefix) t h.token whole)) h.is
-named_last expected.Type front own us t e h = tt
-named_last (expected.Delimiter x) front own us t e h = tt
-named_last expected.Key front own us t e h = tt
-named_last expected.KeyComma front own us t e h = tt
-named_last (expected.FieldName fields n) front own us t e h = tt
-named_last (expected.FieldColon fields n name) front own us t e h = tt
+named_last (expected.AfterName n offset) earlier own us t e h =
+    let whole = e ∙ (ap (λ l. earlier ++ l) h.whole ∙ sym (append_assoc earlier h.prefix (h.token ∷ []))) in
+    subst (IfNamed (expected.AfterName n offset)) (sym (same_last us (earlier ++ h.prefix) t h.token whole)) h.is
+named_last expected.Type earlier own us t e h = tt
+named_last (expected.Delimiter x) earlier own us t e h = tt
+named_last expected.Key earlier own us t e h = tt
+named_last expected.KeyComma earlier own us t e h = tt
+named_last (expected.FieldName fields n) earlier own us t e h = tt
+named_last (expected.FieldColon fields n name) earlier own us t e h = tt
 
 -- whether it names a type
 named_known : (p : ExpectedInType) (t : Token) (ts : List Token) → IfNamed p t → unknown_at p (begins_with_less ts)
@@ -186,23 +186,23 @@ no_word p t ts w u = record {
     clash : {n : ℕ} → None ≡ Some n → ⊥
     clash e = cc e
 
-inside_word : (from : Span) (at : Spot) (front own us : List Token) (t : Token) (ts : List Token) →
-    us ++ (t ∷ []) ≡ front ++ own → IfSpot at own → WordIs (where_.Inside from at) t ts
-inside_word from (spot.Type n required r) front own us t ts e h =
-    let i = named_last r.expected front own us t e h in
+inside_word : (from : Span) (at : Spot) (earlier own us : List Token) (t : Token) (ts : List Token) →
+    us ++ (t ∷ []) ≡ earlier ++ own → IfSpot at own → WordIs (where_.Inside from at) t ts
+inside_word from (spot.Type n required r) earlier own us t ts e h =
+    let i = named_last r.expected earlier own us t e h in
     record {
       known = λ q. named_known r.expected t ts i q;
       unknown = λ offset q. named_unknown r.expected t ts offset i q;
     }
-inside_word from _ front own us t ts e h = no_word _ t ts refl refl
+inside_word from _ earlier own us t ts e h = no_word _ t ts refl refl
 
 held_word : (p : CommandSpot) (s : CommandState) (us : List Token) (t : Token) (ts : List Token) →
     files.Held_at p s (us ++ (t ∷ [])) → WordIs p t ts
 held_word where_.Between s us t ts h = no_word _ t ts refl refl
 held_word (where_.Opened from) s us t ts h = no_word _ t ts refl refl
 held_word (where_.Inside from at) s us t ts h =
-    inside_word from at (h.front ++ (h.begin ∷ [])) h.own us t ts
-    (h.whole ∙ sym (append_assoc h.front (h.begin ∷ []) h.own)) (spot_last at h.own h.kind_ h.begun)
+    inside_word from at (h.earlier ++ (h.begin ∷ [])) h.own us t ts
+    (h.whole ∙ sym (append_assoc h.earlier (h.begin ∷ []) h.own)) (spot_last at h.own h.kind_ h.begun)
 
 -- the tokens that were read, and one more
 one_more : (us : List Token) (t : Token) (s : FileState) → file_run us file_start ≡ Some s →

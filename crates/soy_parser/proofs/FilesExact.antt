@@ -75,11 +75,11 @@ heard_completes s ts h =
     }
 
 -- in a command
-inside_completes : (s : CommandState) (front : List Token) (begin : Token) (own : List Token) (k : HeadKind)
-    → Heard s front →
+inside_completes : (s : CommandState) (prefix : List Token) (begin : Token) (own : List Token) (k : HeadKind)
+    → Heard s prefix →
     command_terminal_of begin ≡ terminal.Begin → Completes own k → admits s k ≡ true →
-    CompletesFile (front ++ (begin ∷ own))
-inside_completes s front begin own k heard begins c ok =
+    CompletesFile (prefix ++ (begin ∷ own))
+inside_completes s prefix begin own k heard begins c ok =
     let of = c.of in
     let fits = said_fits c.head_ c.attributes (command_terminal_of c.close) c.said
     (spelled_is_head c.head_tokens of.depths of.words c.head_ of.spells) c.ends in
@@ -93,16 +93,16 @@ inside_completes s front begin own k heard begins c ok =
     (SpellsCommand.command_ begin c.close c.head_tokens c.attribute_tokens of.depths of.words c.head_ c.attributes
     c.said
     begins of.spells c.spells c.ends) in
-    let next : Heard step.to (front ++ own_tokens) = record {
+    let next : Heard step.to (prefix ++ own_tokens) = record {
       commands = heard.commands ++ (said ∷ []);
-      speaks = speaks_append front own_tokens heard.commands (said ∷ []) heard.speaks spoken;
+      speaks = speaks_append prefix own_tokens heard.commands (said ∷ []) heard.speaks spoken;
       runs = run_append heard.commands (said ∷ []) command_start
           ∙ (ap (commands_from (command_run (said ∷ []))) heard.runs ∙ ap (commands_from (command_run [])) step.is);
     } in
-    shorter (front ++ (begin ∷ own)) c.more
+    shorter (prefix ++ (begin ∷ own)) c.more
     (subst (λ l. CompletesFile l)
-    (ap (λ l. front ++ (begin ∷ l)) (sym c.whole) ∙ sym (append_assoc front (begin ∷ own) c.more))
-    (heard_completes step.to (front ++ own_tokens) next))
+    (ap (λ l. prefix ++ (begin ∷ l)) (sym c.whole) ∙ sym (append_assoc prefix (begin ∷ own) c.more))
+    (heard_completes step.to (prefix ++ own_tokens) next))
 
 -- directly after a `{`
 
@@ -174,26 +174,27 @@ can_begin (content.Arguments arguments) bs cs h =
 can_begin content.BeforeCases bs cs h =
     bare_begins content.BeforeCases bs (word_token (codes "default")) (head.Whole (says.GoesOn middle.Default))
     default_is
-    (cases_default h.inside h.has bs h.front h.opened)
+    (cases_default h.inside h.has bs h.prefix h.opened)
 can_begin (content.Parts nodes white) bs cs h =
     bare_begins (content.Parts nodes white) bs (word_token (codes "nil")) (head.Whole (says.Character [])) nil_is refl
-can_begin (content.Choice body) bs cs h = choice_begins body bs (top_is AMessage bs h.front h.opened)
+can_begin (content.Choice body) bs cs h = choice_begins body bs (top_is AMessage bs h.prefix h.opened)
 
-opened_completes : (s : CommandState) (front : List Token) (begin : Token) → Heard s front →
-    command_terminal_of begin ≡ terminal.Begin → CompletesFile (front ++ (begin ∷ []))
-opened_completes s front begin heard begins =
+opened_completes : (s : CommandState) (prefix : List Token) (begin : Token) → Heard s prefix →
+    command_terminal_of begin ≡ terminal.Begin → CompletesFile (prefix ++ (begin ∷ []))
+opened_completes s prefix begin heard begins =
     let c = can_begin s.content s.blocks heard.commands (commands.start_run_held heard.commands s heard.runs) in
-    shorter (front ++ (begin ∷ [])) (c.first ∷ [])
-    (subst (λ l. CompletesFile l) (sym (append_assoc front (begin ∷ []) (c.first ∷ [])))
-    (inside_completes s front begin (c.first ∷ []) c.kind_ heard begins c.ends c.admitted))
+    shorter (prefix ++ (begin ∷ [])) (c.first ∷ [])
+    (subst (λ l. CompletesFile l) (sym (append_assoc prefix (begin ∷ []) (c.first ∷ [])))
+    (inside_completes s prefix begin (c.first ∷ []) c.kind_ heard begins c.ends c.admitted))
 
 held_completes : (at : CommandSpot) (s : CommandState) (ts : List Token) → files.Held_at at s ts → CompletesFile ts
 held_completes where_.Between s ts h = heard_completes s ts h
 held_completes (where_.Opened from) s ts h =
-    subst (λ l. CompletesFile l) (sym h.whole) (opened_completes s h.front h.begin h.heard h.begins)
+    subst (λ l. CompletesFile l) (sym h.whole) (opened_completes s h.prefix h.begin h.heard h.begins)
 held_completes (where_.Inside from at) s ts h =
     subst (λ l. CompletesFile l) (sym h.whole)
-    (inside_completes s h.front h.begin h.own h.kind_ h.heard h.begins (begun_ends at h.own h.kind_ h.begun) h.admitted)
+    (inside_completes s h.prefix h.begin h.own h.kind_ h.heard h.begins
+    (begun_ends at h.own h.kind_ h.begun) h.admitted)
 
 -- **Some file begins with what is read.**
 pub run-CompletesFile : (ts : List Token) (st : FileState) → file_run ts file_start ≡ Some st → CompletesFile ts

@@ -79,21 +79,21 @@ pub record Heard (s : CommandState) (ts : List Token) : Type 0 where
 
 -- directly after a `{`
 pub record HeldOpened (s : CommandState) (from : Span) (ts : List Token) : Type 0 where
-  pub front : List Token
+  pub prefix : List Token
   pub begin : Token
-  pub whole : ts ≡ front ++ (begin ∷ [])
-  pub heard : Heard s front
+  pub whole : ts ≡ prefix ++ (begin ∷ [])
+  pub heard : Heard s prefix
   pub begins : command_terminal_of begin ≡ terminal.Begin
   pub starts : begin.span ≡ from
 
 -- further on in a command
 pub record HeldInside (s : CommandState) (from : Span) (at : Spot) (ts : List Token) : Type 0 where
-  pub front : List Token
+  pub prefix : List Token
   pub begin : Token
   pub own : List Token
   pub kind_ : HeadKind
-  pub whole : ts ≡ front ++ (begin ∷ own)
-  pub heard : Heard s front
+  pub whole : ts ≡ prefix ++ (begin ∷ own)
+  pub heard : Heard s prefix
   pub begins : command_terminal_of begin ≡ terminal.Begin
   pub starts : begin.span ≡ from
   pub begun : Begun at own kind_
@@ -112,15 +112,15 @@ Fine None ts = Unit {0}
 Fine (Some st) ts = Held st ts
 
 -- a command has been read
-taken_fine : (s : CommandState) (front us : List Token) (ds : List ℕ) (ws : List Bool) (c : Command) → Heard s front →
-    SpellsCommand us ds ws c → Fine (taken (command_step s c)) (front ++ us)
-taken_fine s front us ds ws c h p = over (command_step s c) refl
+taken_fine : (s : CommandState) (prefix us : List Token) (ds : List ℕ) (ws : List Bool) (c : Command) → Heard s prefix →
+    SpellsCommand us ds ws c → Fine (taken (command_step s c)) (prefix ++ us)
+taken_fine s prefix us ds ws c h p = over (command_step s c) refl
   where
-    over : (to : Option CommandState) → command_step s c ≡ to → Fine (taken to) (front ++ us)
+    over : (to : Option CommandState) → command_step s c ≡ to → Fine (taken to) (prefix ++ us)
     over None e = tt
     over (Some m) e = record {
       commands = h.commands ++ (c ∷ []);
-      speaks = speaks_append front us h.commands (c ∷ []) h.speaks (speaks_one us ds ws c p);
+      speaks = speaks_append prefix us h.commands (c ∷ []) h.speaks (speaks_one us ds ws c p);
       runs = command_running.run_append h.commands (c ∷ []) command_start
           ∙ (ap (commands_from (command_run (c ∷ []))) h.runs ∙ ap (commands_from (command_run [])) e);
     }
@@ -129,23 +129,23 @@ between_fine : (s : CommandState) (ts : List Token) (t : Token) (m : CommandTerm
     Heard s ts → Fine (between_step s t m) (ts ++ (t ∷ []))
 between_fine s ts t terminal.Text e h = taken_fine s ts (t ∷ []) _ _ _ h (SpellsCommand.text_ t e)
 between_fine s ts t terminal.Begin e h =
-    record { front = ts; begin = t; whole = refl; heard = h; begins = e; starts = refl }
+    record { prefix = ts; begin = t; whole = refl; heard = h; begins = e; starts = refl }
 between_fine s ts t _ e h = tt
 
 -- in a command that was begun
-module _ (s : CommandState) (front : List Token) (begin : Token) (heard : Heard s front)
+module _ (s : CommandState) (prefix : List Token) (begin : Token) (heard : Heard s prefix)
     (begins : command_terminal_of begin ≡ terminal.Begin) where
   -- a state after these tokens of the command
   abbrev Goes : Option FileState → List Token → Type 0
-  Goes o own = Fine o (front ++ (begin ∷ own))
+  Goes o own = Fine o (prefix ++ (begin ∷ own))
 
   again : (o : Option FileState) (us vs : List Token) → us ≡ vs → Goes o us → Goes o vs
-  again o us vs e g = subst (λ l. Fine o (front ++ (begin ∷ l))) e g
+  again o us vs e g = subst (λ l. Fine o (prefix ++ (begin ∷ l))) e g
 
   stand : (at : Spot) (own : List Token) (k : HeadKind) → Begun at own k → admits s k ≡ true →
       Goes (stands s begin.span at) own
   stand at own k b ok = record {
-    front = front;
+    prefix = prefix;
     begin = begin;
     own = own;
     kind_ = k;
@@ -208,7 +208,7 @@ module _ (s : CommandState) (front : List Token) (begin : Token) (heard : Heard 
             Goes (ended_command s begin.span o t) (ts ++ (us ++ (t ∷ [])))
         ends None e = tt
         ends (Some said) e =
-            taken_fine s front (begin ∷ (ts ++ (us ++ (t ∷ [])))) _ _ _ heard
+            taken_fine s prefix (begin ∷ (ts ++ (us ++ (t ∷ [])))) _ _ _ heard
             (SpellsCommand.command_ begin t ts us of.depths of.words h a said begins of.spells p e)
 
         over : (o : Option AttributeName) → attribute_name (command_terminal_of t) ≡ o →
@@ -689,13 +689,13 @@ step_fine where_.Between s ts t h = between_fine s ts t (command_terminal_of t) 
 step_fine (where_.Opened from) s ts t h =
     subst (λ f. Fine (opened_step s f t (command_terminal_of t)) (ts ++ (t ∷ []))) h.starts
     (subst (λ l. Fine (opened_step s h.begin.span t (command_terminal_of t)) l)
-    (sym (ap (λ l. l ++ (t ∷ [])) h.whole ∙ append_assoc h.front (h.begin ∷ []) (t ∷ [])))
-    (opened_fine s h.front h.begin h.heard h.begins t (command_terminal_of t) refl))
+    (sym (ap (λ l. l ++ (t ∷ [])) h.whole ∙ append_assoc h.prefix (h.begin ∷ []) (t ∷ [])))
+    (opened_fine s h.prefix h.begin h.heard h.begins t (command_terminal_of t) refl))
 step_fine (where_.Inside from at) s ts t h =
     subst (λ f. Fine (spot_step s f at t (command_terminal_of t)) (ts ++ (t ∷ []))) h.starts
     (subst (λ l. Fine (spot_step s h.begin.span at t (command_terminal_of t)) l)
-    (sym (ap (λ l. l ++ (t ∷ [])) h.whole ∙ append_assoc h.front (h.begin ∷ h.own) (t ∷ [])))
-    (spot_fine s h.front h.begin h.heard h.begins at h.own h.kind_ t h.begun h.admitted))
+    (sym (ap (λ l. l ++ (t ∷ [])) h.whole ∙ append_assoc h.prefix (h.begin ∷ h.own) (t ∷ [])))
+    (spot_fine s h.prefix h.begin h.heard h.begins at h.own h.kind_ t h.begun h.admitted))
 
 -- so do tokens one after the other
 pub run_held : (ts us : List Token) (st st' : FileState) → Held st us → file_run ts st ≡ Some st' → Held st' (us ++ ts)

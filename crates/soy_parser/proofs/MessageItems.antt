@@ -135,7 +135,7 @@ parts_end ys items None span p =
     let k = closed_by i.0 span in
     record { text = closer k.quote; whole = text_ends items i.0 (closer k.quote) span i.1 k.is_closed.closed }
 parts_end ys items (Some r) span p =
-    let i = prints_items p.front p.nodes.0 items p.nodes.1 in
+    let i = prints_items p.prefix p.nodes.0 items p.nodes.1 in
     let at : Span = text_span r.text (62 ∷ []) r.span span in
     let k = closed_by (i.0 ++ characters r.text at) at in
     record {
