@@ -30,7 +30,7 @@ use Rattle.soy_parser.proofs.CommandsSound.{PartsAt_run}
 
 -- what a node stands for, by its form
 
-view_by_form : (f : Form) (s : Span) → view_node (node_of f s) ≡ view_form f s
+pub view_by_form : (f : Form) (s : Span) → view_node (node_of f s) ≡ view_form f s
 view_by_form f s =
     code.fold_out-Node (Span → tree.Node) tree.Given tree.MessageBody (Name × tree.Given × Span) (Expr × tree.Nodes)
     (List Expr × tree.Nodes) tree.Message tree.Node (ℤ × tree.MessageBody) (List ℕ × tree.MessageBody) form_layer
@@ -38,7 +38,7 @@ view_by_form f s =
     body_layer argument_layer arm_layer case_layer message_layer node_layer plural_case_layer select_case_layer
     (node_of f s)
 
-view_text : (t : List ℕ) (s : Span) → view_node (node_of (form.Text t) s) ≡ tree.TextNode t s
+pub view_text : (t : List ℕ) (s : Span) → view_node (node_of (form.Text t) s) ≡ tree.TextNode t s
 unfolding code_form.out-Form denote.Hole.Carrier.out
 view_text t s =
     let h = code_form.fold_out-Form (Span → tree.Node) tree.Given tree.MessageBody (Name × tree.Given × Span)
@@ -47,7 +47,7 @@ view_text t s =
     node_layer plural_case_layer select_case_layer (form.Text t) in
     view_by_form (form.Text t) s ∙ ap (λ (g : Span → tree.Node). g s) h
 
-view_print : (e : code_expr.Expr) (phname : Option (List ℕ)) (s : Span) →
+pub view_print : (e : code_expr.Expr) (phname : Option (List ℕ)) (s : Span) →
     view_node (node_of (form.Print e phname) s) ≡ tree.Print (view_expr e) phname s
 unfolding code_form.out-Form denote.Hole.Carrier.out
 view_print e phname s =
