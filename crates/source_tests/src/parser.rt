@@ -1,9 +1,9 @@
 //! Rows of the grammar of files, over the tokens of the lexer.
 
-use soy_base::{Code, Fault, OutOfMemory, Refusal, push_text};
+use soy_base::{Code, Fault, Kind, OutOfMemory, Refusal, push_text};
 use soy_lexer::lex;
 use soy_parser::parse;
-use soy_tree::{Form, Given, MessageBody, Node, Tree};
+use soy_tree::{Form, Given, Message, MessageBody, Node, Tree};
 use std::alloc::Global;
 
 /// Writes nodes, the bodies of commands in parentheses.
@@ -216,6 +216,32 @@ const FAULTS: &[(&str, Code, u64)] = &[
     ("{msg}a{/msg}", Code::Syntax, 29),
     ("{msg desc=\"a\" desc=\"b\"}{/msg}", Code::Syntax, 39),
     ("{call a data=\"some\" /}", Code::Syntax, 38),
+    ("{call a data=\"all\" data=\"all\" /}", Code::Syntax, 44),
+    (
+        "{let $x kind=\"html\" data=\"all\"}{/let}",
+        Code::Syntax,
+        45,
+    ),
+    (
+        "{let $x kind=\"text\" kind=\"html\"}{/let}",
+        Code::Syntax,
+        45,
+    ),
+    (
+        "{msg desc=\"d\" meaning=\"m\" meaning=\"n\"}{/msg}",
+        Code::Syntax,
+        51,
+    ),
+    (
+        "{msg desc=\"d\"}{plural 1 offset=\"1\" offset=\"2\"}{default}{/plural}{/msg}",
+        Code::Syntax,
+        60,
+    ),
+    (
+        "{msg desc=\"d\"}{$a phname=\"A\" phname=\"B\"}{/msg}",
+        Code::Syntax,
+        54,
+    ),
     ("{let $x /}", Code::Syntax, 33),
     ("{let $x kind=\"js\"}{/let}", Code::Syntax, 38),
     ("{$a phname=\"A\"}", Code::Syntax, 29),
@@ -296,6 +322,18 @@ const NO_FILES: &[(&str, u64)] = &[
     ("{namespace t}{if 1}{/if}", 14),
     ("{namespace t}{template m}", 25),
     ("{namespace t}{template m kind=\"css\"}{/template}", 30),
+    (
+        "{namespace t}{template m kind=\"text\" kind=\"text\"}{/template}",
+        37,
+    ),
+    (
+        "{namespace t}{template m visibility=\"public\"}{/template}",
+        36,
+    ),
+    (
+        "{namespace t}{template m visibility=\"private\" visibility=\"private\"}{/template}",
+        46,
+    ),
     ("{namespace t}{template m}{/template}{/template}", 37),
 ];
 
@@ -385,5 +423,151 @@ fn spans_of_blocks_end_before_their_closing_command(rt: HostRuntime) {
             }
         }
         Err(_) => assert!(rt; false),
+    }
+}
+
+/// A body, and where its first node begins and ends.
+const TEXT_SPANS: &[(&str, u64, u64)] = &[
+    ("a{$x}", 25, 26),
+    ("  \n a", 29, 30),
+    ("{sp}a", 25, 30),
+    ("{lb}{rb}", 25, 33),
+    ("{literal}ab{/literal}", 34, 46),
+    // Without characters, and what follows those.
+    ("{nil}{nil}", 25, 35),
+    ("{nil}a", 30, 31),
+    ("{nil}{literal}{/literal}a", 49, 50),
+];
+
+/// Whether the first node of a file of one template has this span.
+fn has_span(alloc: Global, body: &str, start: u64, end: u64) -> Result<bool, OutOfMemory> {
+    let text = file(alloc, body)?;
+    if let Ok(tree) = read(alloc, text.as_str()) {
+        for template in tree.templates.items() {
+            for node in template.body.items() {
+                return Ok(node.span.start == start && node.span.end == end);
+            }
+        }
+    }
+    Ok(false)
+}
+
+#[test]
+fn texts_begin_at_their_first_character(rt: HostRuntime) {
+    for (body, start, end) in TEXT_SPANS {
+        match has_span(rt.alloc(), body, *start, *end) {
+            Ok(found) => assert!(rt; found, "{body}"),
+            Err(_) => assert!(rt; false, "{body}"),
+        }
+    }
+}
+
+fn kind_text(kind: Kind) -> &'static str {
+    match kind {
+        Kind::Html => "html ",
+        Kind::Attributes => "attributes ",
+        Kind::Text => "text ",
+    }
+}
+
+/// Writes the attributes of a message, and of the prints and the plural in it.
+fn write_named(out: &mut String, message: &Message) -> Result<(), OutOfMemory> {
+    push_text(out, message.desc.text())?;
+    push_text(out, "|")?;
+    push_text(out, message.meaning.text())?;
+    push_text(out, "|")?;
+    match &message.body {
+        MessageBody::Parts(nodes) => {
+            for node in nodes.items() {
+                if let Form::Print(_, Some(name)) = &node.form {
+                    push_text(out, name.text())?;
+                }
+            }
+            Ok(())
+        }
+        MessageBody::Plural(_, offset, _, _) => {
+            push_text(out, if *offset == 12 { "12" } else { "0" })
+        }
+        MessageBody::Select(_, _, _) => Ok(()),
+    }
+}
+
+/// Writes the attributes of nodes.
+fn write_attributes(out: &mut String, nodes: &[Node]) -> Result<(), OutOfMemory> {
+    for node in nodes {
+        match &node.form {
+            Form::LetBlock(_, kind, _) => push_text(out, kind_text(*kind))?,
+            Form::Call(_, all, given) => {
+                push_text(out, if *all { "all " } else { "given " })?;
+                for argument in given.items() {
+                    if let Given::Block(kind, _) = &argument.given {
+                        push_text(out, kind_text(*kind))?;
+                    }
+                }
+            }
+            Form::Message(message, None) => write_named(out, message)?,
+            Form::Message(message, Some(other)) => {
+                write_named(out, message)?;
+                write_named(out, other)?;
+            }
+            _ => {}
+        }
+    }
+    Ok(())
+}
+
+/// A file of one template, and the attributes there.
+const ATTRIBUTES: &[(&str, &str)] = &[
+    ("{namespace t}{template m}{/template}", "html "),
+    (
+        "{namespace t}{template m visibility=\"private\" kind=\"text\"}{/template}",
+        "private text ",
+    ),
+    (
+        "{namespace t}{template m kind=\"attributes\"}{let $x kind=\"html\"}{/let}{/template}",
+        "attributes html ",
+    ),
+    (
+        "{namespace t}{template m}{call a data=\"all\"}{param p kind=\"text\"}{/param}{/call}{call b /}{/template}",
+        "html all text given ",
+    ),
+    (
+        "{namespace t}{template m}{msg desc=\"d\"}{$x phname=\"A_1\"}{/msg}{/template}",
+        "html d||A_1",
+    ),
+    (
+        "{namespace t}{template m}{msg meaning=\"m\" desc=\"\"}{fallbackmsg desc=\"e\" meaning=\"n\"}{/msg}{/template}",
+        "html |m|e|n|",
+    ),
+    (
+        "{namespace t}{template m}{msg desc=\"\"}{plural 1 offset=\"12\"}{default}{/plural}{/msg}{/template}",
+        "html ||12",
+    ),
+    (
+        "{namespace t}{template m}{msg desc=\"\"}{plural 1}{default}{/plural}{/msg}{/template}",
+        "html ||0",
+    ),
+];
+
+/// Whether a file has these attributes.
+fn has_attributes(alloc: Global, text: &str, attributes: &str) -> Result<bool, OutOfMemory> {
+    let mut out = String::new(alloc);
+    if let Ok(tree) = read(alloc, text) {
+        for template in tree.templates.items() {
+            push_text(&mut out, if template.private { "private " } else { "" })?;
+            push_text(&mut out, kind_text(template.kind))?;
+            write_attributes(&mut out, template.body.items())?;
+        }
+    }
+    Ok(out.as_str() == attributes)
+}
+
+#[test]
+fn attributes_have_their_values(rt: HostRuntime) {
+    for (text, attributes) in ATTRIBUTES {
+        match has_attributes(rt.alloc(), text, attributes) {
+            Ok(found) => assert!(rt; found, "{text}"),
+            Err(_) => assert!(rt; false, "{text}"),
+        }
     }
 }
