@@ -4,6 +4,7 @@ pub mod CommandRunning
 pub mod CommandsComplete
 pub mod CommandsSound
 pub mod ClosingText
+pub mod NodeViews
 pub mod MessageItems
 pub mod CommandsEnd
 pub mod Admits

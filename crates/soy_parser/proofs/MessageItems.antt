@@ -1,23 +1,14 @@
 -- The texts and prints of a message have items, and with some further text they are a message.
-use Rattle.std.proofs.Common.{◌≡◌, ℕ, ℤ, true, List, [], ◌∷◌, ◌++◌, Option, Some, None, refl, sym}
+use Rattle.std.proofs.Common.{◌≡◌, ℕ, true, List, [], ◌∷◌, ◌++◌, Option, Some, None, refl, sym}
 use Rattle.std.proofs.Common.{◌∙◌, ap, subst, append_assoc, append-nil}
 use Rattle.std.specs.Prelude.{is_some}
 use Rattle.soy_base.specs.declared.fault.Span.{Span}
-use Rattle.soy_tree.specs.Expressions.{Expr}
 use Rattle.soy_tree.specs.Formed.{is_message_text}
 use Rattle.soy_tree.specs.MessageText.{MessageItem, characters, node_message_items, joined_items, message_items, cuts}
 use Rattle.soy_tree.specs.MessageText.{cuts_of}
 use Rattle.soy_tree.specs.MessageText.MessageItem.{Character, Printed}
-use Rattle.soy_tree.specs.Nodes as tree
-use Rattle.soy_tree.specs.Types.{Name}
 use Rattle.soy_tree.specs.ViewExpressions.{view_expr}
-use Rattle.soy_tree.specs.ViewNodes.{view_node, view_form, view_nodes, form_layer, given_layer, body_layer}
-use Rattle.soy_tree.specs.ViewNodes.{argument_layer}
-use Rattle.soy_tree.specs.ViewNodes.{arm_layer, case_layer, message_layer, node_layer, plural_case_layer}
-use Rattle.soy_tree.specs.ViewNodes.{select_case_layer}
-use Rattle.soy_tree.specs.declared.expr.Expr as code_expr
-use Rattle.soy_tree.specs.declared.node.Form as code_form
-use Rattle.soy_tree.specs.declared.node.Form.{Form}
+use Rattle.soy_tree.specs.ViewNodes.{view_node, view_nodes}
 use Rattle.soy_tree.specs.declared.node.Form.TheVariants as form
 use Rattle.soy_tree.specs.declared.node.Node as code
 use Rattle.soy_parser.specs.declared.block.TextRun.{TextRun}
@@ -27,35 +18,7 @@ use Rattle.soy_parser.specs.Nodes.{node_of, text_span}
 use Rattle.soy_parser.specs.SpellsTree.{SpellsPrints, SpellsParts}
 use Rattle.soy_parser.proofs.ClosingText.{closer, closed_by}
 use Rattle.soy_parser.proofs.CommandsSound.{PartsAt_run}
-
--- what a node stands for, by its form
-
-pub view_by_form : (f : Form) (s : Span) → view_node (node_of f s) ≡ view_form f s
-view_by_form f s =
-    code.fold_out-Node (Span → tree.Node) tree.Given tree.MessageBody (Name × tree.Given × Span) (Expr × tree.Nodes)
-    (List Expr × tree.Nodes) tree.Message tree.Node (ℤ × tree.MessageBody) (List ℕ × tree.MessageBody) form_layer
-    given_layer
-    body_layer argument_layer arm_layer case_layer message_layer node_layer plural_case_layer select_case_layer
-    (node_of f s)
-
-pub view_text : (t : List ℕ) (s : Span) → view_node (node_of (form.Text t) s) ≡ tree.TextNode t s
-unfolding code_form.out-Form denote.Hole.Carrier.out
-view_text t s =
-    let h = code_form.fold_out-Form (Span → tree.Node) tree.Given tree.MessageBody (Name × tree.Given × Span)
-    (Expr × tree.Nodes) (List Expr × tree.Nodes) tree.Message tree.Node (ℤ × tree.MessageBody)
-    (List ℕ × tree.MessageBody) form_layer given_layer body_layer argument_layer arm_layer case_layer message_layer
-    node_layer plural_case_layer select_case_layer (form.Text t) in
-    view_by_form (form.Text t) s ∙ ap (λ (g : Span → tree.Node). g s) h
-
-pub view_print : (e : code_expr.Expr) (phname : Option (List ℕ)) (s : Span) →
-    view_node (node_of (form.Print e phname) s) ≡ tree.Print (view_expr e) phname s
-unfolding code_form.out-Form denote.Hole.Carrier.out
-view_print e phname s =
-    let h = code_form.fold_out-Form (Span → tree.Node) tree.Given tree.MessageBody (Name × tree.Given × Span)
-    (Expr × tree.Nodes) (List Expr × tree.Nodes) tree.Message tree.Node (ℤ × tree.MessageBody)
-    (List ℕ × tree.MessageBody) form_layer given_layer body_layer argument_layer arm_layer case_layer message_layer
-    node_layer plural_case_layer select_case_layer (form.Print e phname) in
-    view_by_form (form.Print e phname) s ∙ ap (λ (g : Span → tree.Node). g s) h
+use Rattle.soy_parser.proofs.NodeViews.{view_text, view_print}
 
 -- items of a list of nodes
 
