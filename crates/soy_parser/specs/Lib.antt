@@ -1,0 +1,14 @@
+pub mod CommandTerminals
+pub mod Depth
+pub mod TypeWords
+pub mod Heads
+pub mod SpellsHead
+pub mod SpellsCommand
+pub mod Nodes
+pub mod SpellsTree
+pub mod SpellsFile
+pub mod CommandSteps
+pub mod FileSteps
+pub mod ParsesFile
+pub mod FileRuns
+pub mod FileReading

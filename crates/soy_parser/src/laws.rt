@@ -1,0 +1,44 @@
+//! What holds of the grammar and of the machine: functions that take nothing and do nothing, whose contracts are the
+//! laws.
+
+ghost use Rattle.std.specs.Prelude.{◌≡◌, ◌≢◌, ℕ, Bool, List, Some, Result, Err};
+ghost use Rattle.soy_base.specs.declared.fault.Fault.{Fault};
+ghost use Rattle.soy_base.specs.declared.memory.Refusal.{Refusal};
+ghost use Rattle.soy_base.specs.declared.memory.Refusal.TheVariants.{OutOfMemory};
+ghost use Rattle.soy_lexer.specs.declared.token.Token.{Token};
+ghost use Rattle.soy_tree.specs.declared.tree.Tree.{Tree};
+ghost use Rattle.soy_parser.specs.FileRuns.{file_run, file_depths, file_words};
+ghost use Rattle.soy_parser.specs.FileSteps.{file_start, whole_file};
+ghost use Rattle.soy_parser.specs.ParsesFile.{ParsesFile};
+ghost use Rattle.soy_parser.specs.SpellsFile.{SpellsFile, BeginsFile};
+ghost use Rattle.soy_parser.specs.declared.spot.FileState.{FileState};
+
+/// A list of tokens has one answer as a file, but where memory runs out.
+pub fn law_one_answer()
+    ensures { (file : ℕ) (tokens : List Token) (a b : Result Tree (Refusal Fault)) →
+        ParsesFile file tokens a → ParsesFile file tokens b → a ≢ Err OutOfMemory → b ≢ Err OutOfMemory → a ≡ b }
+{}
+
+/// A list of tokens spells one file at most, and has one depth at each token and one set of words that stand as types.
+pub fn law_one_file()
+    ensures one_file { (tokens : List Token) (ds es : List ℕ) (ws vs : List Bool) (x y : Tree) →
+        SpellsFile tokens ds ws x → SpellsFile tokens es vs y → x ≡ y }
+    ensures one_depth { (tokens : List Token) (ds es : List ℕ) (ws vs : List Bool) →
+        BeginsFile tokens ds ws → BeginsFile tokens es vs → ds ≡ es }
+    ensures one_word { (tokens : List Token) (ds es : List ℕ) (ws vs : List Bool) →
+        BeginsFile tokens ds ws → BeginsFile tokens es vs → ws ≡ vs }
+{}
+
+/// The machine has a state after tokens exactly where some file begins with them, its depths are those at the tokens
+/// and its words those that stand as types, and what it has read is a whole file exactly where they spell one.
+pub fn law_file_machine()
+    ensures runs { (tokens : List Token) (ds : List ℕ) (ws : List Bool) → BeginsFile tokens ds ws →
+        (s : FileState) × (file_run tokens file_start ≡ Some s) × (ds ≡ file_depths tokens file_start)
+        × (ws ≡ file_words tokens file_start) }
+    ensures begins { (tokens : List Token) (s : FileState) → file_run tokens file_start ≡ Some s →
+        BeginsFile tokens (file_depths tokens file_start) (file_words tokens file_start) }
+    ensures whole { (tokens : List Token) (s : FileState) (x : Tree) → file_run tokens file_start ≡ Some s →
+        whole_file s ≡ Some x → SpellsFile tokens (file_depths tokens file_start) (file_words tokens file_start) x }
+    ensures spelled { (tokens : List Token) (ds : List ℕ) (ws : List Bool) (x : Tree) → SpellsFile tokens ds ws x →
+        (s : FileState) × (file_run tokens file_start ≡ Some s) × (whole_file s ≡ Some x) }
+{}

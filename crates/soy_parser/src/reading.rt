@@ -1,0 +1,97 @@
+//! A file from all its tokens.
+
+ghost use Rattle.std.specs.Prelude.{◌≡◌, ◌+◌, IfOk};
+ghost use Rattle.expr_parser.specs.Depths.{is_within};
+ghost use Rattle.expr_parser.specs.TypeTerminals.{is_less, type_terminal_of};
+ghost use Rattle.soy_parser.specs.FileReading.{file_answer, reading_file};
+ghost use Rattle.soy_parser.specs.FileSteps.{depth_in, file_start};
+ghost use Rattle.soy_parser.specs.ParsesFile.{ParsesFile};
+
+use crate::spot::FileState;
+use soy_base::{Code, Fault, OutOfMemory, Refusal};
+use soy_lexer::{Token, TokenKind};
+use soy_tree::Tree;
+use std::alloc::Global;
+
+const DEPTH_LIMIT: usize = 64;
+
+/// Whether the token that led to a state lies within the limit, where so many block commands were open before it.
+fn is_within(blocks: usize, to: &FileState) -> bool
+    ensures { result ≡ is_within 0 (blocks + depth_in to.now.spot) }
+{
+    blocks.saturating_add(to.spot.depth() as usize) <= DEPTH_LIMIT
+}
+
+/// Whether a token is a `<`.
+#[tactic(auto, using(crate::proofs::Literals::less_by_text))]
+fn is_less(token: &Token) -> bool
+    ensures { result ≡ is_less (type_terminal_of token.now) }
+{
+    match token.kind {
+        TokenKind::Symbol => token.text.text() == "<",
+        _ => false,
+    }
+}
+
+/// What was read before the offset, if it is a whole file.
+fn answer(read: Option<Tree>, file: u32, at: u64) -> Result<Tree, Fault>
+    ensures { result ≡ file_answer file at read }
+{
+    match read {
+        Some(tree) => Ok(tree),
+        None => Err(Fault {
+            code: Code::Syntax,
+            file,
+            at,
+        }),
+    }
+}
+
+/// What is read of the tokens, one after the other.
+fn read(alloc: Global, tokens: &[Token], file: u32) -> Result<Result<Tree, Fault>, OutOfMemory>
+    ensures { IfOk result (λ tree. tree ≡ reading_file file 0 tokens.now file_start) }
+{
+    let mut state = FileState::start(alloc);
+    let mut end = 0;
+    for token in tokens {
+        if let Some(at) = state.spot.unknown(is_less(token)) {
+            let code = Code::Mistyped;
+            return Ok(Err(Fault { code, file, at }));
+        }
+        let at = token.span.start;
+        let blocks = state.commands.blocks.len();
+        match state.step(alloc, token)? {
+            Some(to) => {
+                if is_within(blocks, &to) {
+                    state = to;
+                } else {
+                    let code = Code::Nesting;
+                    return Ok(Err(Fault { code, file, at }));
+                }
+            }
+            None => {
+                let code = Code::Syntax;
+                return Ok(Err(Fault { code, file, at }));
+            }
+        }
+        end = token.span.end;
+    }
+    if let Some(at) = state.spot.unknown(false) {
+        let code = Code::Mistyped;
+        return Ok(Err(Fault { code, file, at }));
+    }
+    Ok(answer(state.finish(), file, end))
+}
+
+/// The tree that the tokens of a file spell; `file` is the number of the file that faults name. Otherwise 4 at the
+/// first token with which no file goes on, or at the end of the last token where more are needed; 5 at the first token
+/// whose depth is over 64; or 8 at the first word that stands as a type and names none. The first in the order of the
+/// tokens; at one token 4, then 5, then 8.
+pub fn parse(alloc: Global, tokens: &[Token], file: u32) -> Result<Tree, Refusal<Fault>>
+    ensures { ParsesFile file tokens.now result }
+{
+    match read(alloc, tokens, file)? {
+        Ok(tree) => Ok(tree),
+        Err(fault) => Err(Refusal::Because(fault)),
+    }
+}
