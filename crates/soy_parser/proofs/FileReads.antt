@@ -201,8 +201,8 @@ held_word : (p : CommandSpot) (s : CommandState) (us : List Token) (t : Token) (
 held_word where_.Between s us t ts h = no_word _ t ts refl refl
 held_word (where_.Opened from) s us t ts h = no_word _ t ts refl refl
 held_word (where_.Inside from at) s us t ts h =
-    inside_word from at (h.earlier ++ (h.begin ∷ [])) h.own us t ts
-    (h.whole ∙ sym (append_assoc h.earlier (h.begin ∷ []) h.own)) (spot_last at h.own h.kind_ h.begun)
+    inside_word from at (h.prefix ++ (h.begin ∷ [])) h.own us t ts
+    (h.whole ∙ sym (append_assoc h.prefix (h.begin ∷ []) h.own)) (spot_last at h.own h.kind_ h.begun)
 
 -- the tokens that were read, and one more
 one_more : (us : List Token) (t : Token) (s : FileState) → file_run us file_start ≡ Some s →
