@@ -24,7 +24,8 @@ use Rattle.soy_meaning.specs.Pieces.{RunContext}
 use Rattle.soy_meaning.specs.PathParts.{IsPath, PathPart, empty_path, hole, met, static_text}
 use Rattle.soy_meaning.specs.Plan.{Site, Plan, Hole, Nothing, Nowhere, arms_meet}
 use Rattle.soy_meaning.specs.PlanOfParts.{text_plan}
-use Rattle.soy_meaning.specs.RunsAlong.{BlockRuns, FilledByRuns, IsFrameWithin, IsPathUpTo, RunsAlong}
+use Rattle.soy_meaning.specs.PlanOfNodes.{kind_class}
+use Rattle.soy_meaning.specs.RunsAlong.{BlockRuns, FilledByRuns, FitsClasses, IsFrameWithin, IsPathUpTo, RunsAlong}
 use Rattle.soy_meaning.specs.RunsAlong.{RunsInFrame, end_before}
 use Rattle.soy_meaning.specs.States.{IsMember}
 use Rattle.soy_meaning.proofs.RunPieces.{ComesBehind, Halts, IsGathered, IsSilent, SameRun, StopsOnlyAt, filled_then}
@@ -94,6 +95,17 @@ module _ (c : RunContext) (whole : Plan) where
         runs_then end f g q h.2 k,
       )
 
+fits_then : (f g : Filled) → FitsClasses f → FitsClasses g → FitsClasses (filled_then f g)
+fits_then filled_end g h k = k
+fits_then (text_before text f) g h k = fits_then f g h k
+fits_then (value_before at classes value text f) g h k = (h.0, fits_then f g h.1 k)
+fits_then (frame_before at classes kind inner f) g h k = (h.0, h.1, fits_then f g h.2 k)
+
+-- what is printed has one of the classes
+abbrev pub HasClass : Binding BoundBlock → List ValueClass → Type 0
+HasClass (Known v) classes = IsMember (value_class v) classes
+HasClass (BlockOf block) classes = IsMember (kind_class block.kind) classes
+
 abbrev stop_call : RunEnd → Site → Site
 stop_call WholeRun other = other
 stop_call (StopsAt call) other = call
@@ -106,19 +118,22 @@ abbrev bound_end : Binding BoundBlock → RunEnd
 bound_end (Known v) = WholeRun
 bound_end (BlockOf block) = end_of_outcome block.outcome
 
--- a block that is bound runs along a path of a frame of the whole plan, and stops at one of these calls alone
-module _ (c : RunContext) (whole : Plan) (IsStop : Site → Type 0) where
+-- a block that is bound runs along a path of a frame of the whole plan, and stops at one of these calls alone; under
+-- the claim what is in its holes has their classes
+module _ (c : RunContext) (whole : Plan) (Claim : Type 0) (IsStop : Site → Type 0) where
   abbrev pub IsGood : Binding BoundBlock → Type 0
   IsGood (Known v) = Unit {0}
-  IsGood (BlockOf block) = BlockRuns c whole block × StopsOnlyAt IsStop block.outcome
+  IsGood (BlockOf block) =
+      (r : BlockRuns c whole block) × StopsOnlyAt IsStop block.outcome × (Claim → FitsClasses r.runs.filled)
 
   -- what is run of a frame
   pub record Ran (q : FrameRun) : Type 0 where
     pub within : IsFrameWithin whole q.kind (run_plan c q)
     pub runs : RunsAlong c whole q
     pub stops : StopsOnlyAt IsStop (run_outcome c q)
+    pub fits : Claim → FitsClasses runs.filled
 
-module _ (c : RunContext) (whole : Plan) (IsStop : Site → Type 0) (run : FrameRun) where
+module _ (c : RunContext) (whole : Plan) (Claim : Type 0) (IsStop : Site → Type 0) (run : FrameRun) where
   abbrev context : Dir
   context = c.direction
 
@@ -134,6 +149,7 @@ module _ (c : RunContext) (whole : Plan) (IsStop : Site → Type 0) (run : Frame
     pub filled : Filled
     pub path : IsPath p (parts_of_filled filled)
     pub runs : FilledByRuns c whole run WholeRun filled
+    pub fits : Claim → FitsClasses filled
     pub pieces : before ++ pieces_of_outcome o ≡ filled_pieces context filled kind before ++ pieces_of_outcome
         (on (after_so_far (filled_pieces context filled kind before)))
     pub ends : end_of_outcome o ≡ end_of_outcome (on (after_so_far (filled_pieces context filled kind before)))
@@ -145,6 +161,7 @@ module _ (c : RunContext) (whole : Plan) (IsStop : Site → Type 0) (run : Frame
     pub more : List PathPart
     pub path : IsPath p (parts_of_filled filled ++ more)
     pub runs : FilledByRuns c whole run (StopsAt call) filled
+    pub fits : Claim → FitsClasses filled
     pub pieces : before ++ pieces_of_outcome o ≡ filled_pieces context filled kind before
     pub ends : end_of_outcome o ≡ StopsAt call
     pub stops : IsStop call
@@ -159,6 +176,7 @@ module _ (c : RunContext) (whole : Plan) (IsStop : Site → Type 0) (run : Frame
         filled = t.filled;
         path = t.path;
         runs = t.runs;
+        fits = t.fits;
         pieces = ap (λ l. before ++ l) same.pieces
             ∙ t.pieces;
         ends = same.ends ∙ t.ends;
@@ -170,6 +188,7 @@ module _ (c : RunContext) (whole : Plan) (IsStop : Site → Type 0) (run : Frame
         more = s.more;
         path = s.path;
         runs = s.runs;
+        fits = s.fits;
         pieces = ap (λ l. before ++ l) same.pieces ∙ s.pieces;
         ends = same.ends ∙ s.ends;
         stops = s.stops;
@@ -183,6 +202,7 @@ module _ (c : RunContext) (whole : Plan) (IsStop : Site → Type 0) (run : Frame
         filled = t.filled;
         path = has (parts_of_filled t.filled) t.path;
         runs = t.runs;
+        fits = t.fits;
         pieces = t.pieces;
         ends = t.ends;
       })
@@ -194,6 +214,7 @@ module _ (c : RunContext) (whole : Plan) (IsStop : Site → Type 0) (run : Frame
         path = has (parts_of_filled s.filled ++ s.more)
             s.path;
         runs = s.runs;
+        fits = s.fits;
         pieces = s.pieces;
         ends = s.ends;
         stops = s.stops;
@@ -217,6 +238,7 @@ module _ (c : RunContext) (whole : Plan) (IsStop : Site → Type 0) (run : Frame
         path = subst (λ l. IsPath r l) (sym (parts_then t.filled u.filled))
             (joins (parts_of_filled t.filled) (parts_of_filled u.filled) t.path u.path);
         runs = runs_then c whole WholeRun t.filled u.filled run t.runs u.runs;
+        fits = λ k. fits_then t.filled u.filled (t.fits k) (u.fits k);
         pieces = t.pieces ∙ (u.pieces ∙ ap (λ l. l ++ pieces_of_outcome (next (after_so_far l))) is);
         ends = t.ends ∙ (u.ends ∙ ap (λ l. end_of_outcome (next (after_so_far l))) is);
       }
@@ -234,6 +256,7 @@ module _ (c : RunContext) (whole : Plan) (IsStop : Site → Type 0) (run : Frame
         (parts_of_filled s.filled) s.more))
         (joins (parts_of_filled t.filled) (parts_of_filled s.filled ++ s.more) t.path s.path);
     runs = runs_then c whole (StopsAt s.call) t.filled s.filled run t.runs s.runs;
+    fits = λ k. fits_then t.filled s.filled (t.fits k) (s.fits k);
     pieces = t.pieces ∙ (s.pieces ∙ sym (pieces_then context t.filled s.filled kind before));
     ends = t.ends ∙ s.ends;
     stops = s.stops;
@@ -248,6 +271,7 @@ module _ (c : RunContext) (whole : Plan) (IsStop : Site → Type 0) (run : Frame
     path = subst (λ l. IsPath r l) (append_assoc (parts_of_filled s.filled) s.more has.parts)
         (joins (parts_of_filled s.filled ++ s.more) has.parts s.path has.path);
     runs = s.runs;
+    fits = s.fits;
     pieces = s.pieces;
     ends = s.ends;
     stops = s.stops;
@@ -272,7 +296,7 @@ module _ (c : RunContext) (whole : Plan) (IsStop : Site → Type 0) (run : Frame
 
   pub passes : (p : Plan) (before : List Piece) (on : StateSoFar → Outcome) → IsPath p []
       → Goes p before (on (after_so_far before)) on
-  passes p before on path = inl (record { filled = filled_end; path = path; runs = tt; pieces = refl; ends = refl })
+  passes p before on path = inl (record { filled = filled_end; path = path; runs = tt; fits = λ k. tt; pieces = refl; ends = refl })
 
   pub halts_stopped : (p : Plan) (before : List Piece) (o : Outcome) → HasPath p → Halts IsStop o → Stopped p before o
   halts_stopped p before o has h = record {
@@ -281,6 +305,7 @@ module _ (c : RunContext) (whole : Plan) (IsStop : Site → Type 0) (run : Frame
     more = has.parts;
     path = has.path;
     runs = tt;
+    fits = λ k. tt;
     pieces = ap (λ l. before ++ l) h.pieces ∙ append-nil before;
     ends = h.ends;
     stops = h.stops;
@@ -317,13 +342,15 @@ module _ (c : RunContext) (whole : Plan) (IsStop : Site → Type 0) (run : Frame
         filled = text_before (c ∷ text) filled_end;
         path = static_text;
         runs = tt;
+        fits = λ k. tt;
         pieces = piece_pieces before (Static (c ∷ text)) on;
         ends = piece_ends before (Static (c ∷ text)) on;
       })
 
   pub value_goes : (at : Site) (classes : List ValueClass) (v : values.Value) (before : List Piece)
-      (on : StateSoFar → Outcome) → Goes (Hole at classes) before (value_means context v (after_so_far before) on) on
-  value_goes at classes v before on =
+      (on : StateSoFar → Outcome) → (Claim → IsMember (value_class v) classes)
+      → Goes (Hole at classes) before (value_means context v (after_so_far before) on) on
+  value_goes at classes v before on fits =
       let form : List ℕ = value_form (placing_after kind before) (value_class v) (value_text v) context in
       let is : form ≡ value_form (placing_so_far (after_so_far before)) (value_class v) (value_text v) context =
       ap (λ r. value_form r (value_class v) (value_text v) context) (sym (placing_is kind before)) in
@@ -331,6 +358,7 @@ module _ (c : RunContext) (whole : Plan) (IsStop : Site → Type 0) (run : Frame
         filled = value_before at classes (value_class v) (value_text v) filled_end;
         path = hole;
         runs = (text_of_value v, tt);
+        fits = λ k. (fits k, tt);
         pieces = piece_pieces before (Value form) on;
         ends = piece_ends before (Value form) on;
       }) in
@@ -338,9 +366,13 @@ module _ (c : RunContext) (whole : Plan) (IsStop : Site → Type 0) (run : Frame
 
   -- ---- frames
 
+  -- under the claim the frame has a class of the hole
+  abbrev FrameFits : FrameRun → List ValueClass → Type 0
+  FrameFits inner classes = Claim → IsMember (kind_class inner.kind) classes
+
   -- the frame that fills a hole
   frame_fills : (at : Site) (classes : List ValueClass) (inner : FrameRun) → IsBlockKind inner.kind
-      → IsGivenAt c run at inner → (r : Ran c whole IsStop inner) (end : RunEnd)
+      → IsGivenAt c run at inner → (r : Ran c whole Claim IsStop inner) (end : RunEnd)
       → end_of_outcome (run_outcome c inner) ≡ end →
       FilledByRuns c whole run end (frame_before at classes inner.kind r.runs.filled filled_end)
   frame_fills at classes inner is_block given r end ends = (
@@ -359,10 +391,10 @@ module _ (c : RunContext) (whole : Plan) (IsStop : Site → Type 0) (run : Frame
   )
 
   frame_whole : (at : Site) (classes : List ValueClass) (inner : FrameRun) (before : List Piece)
-      (on : StateSoFar → Outcome) → IsBlockKind inner.kind → IsGivenAt c run at inner → (r : Ran c whole IsStop inner)
+      (on : StateSoFar → Outcome) → FrameFits inner classes → IsBlockKind inner.kind → IsGivenAt c run at inner → (r : Ran c whole Claim IsStop inner)
       → end_of_outcome (run_outcome c inner) ≡ WholeRun
       → Goes (Hole at classes) before (frame_means (run_outcome c inner) (after_so_far before) on) on
-  frame_whole at classes inner before on is_block given r ends =
+  frame_whole at classes inner before on fits is_block given r ends =
       let o : Outcome = run_outcome c inner in
       let filled : Filled = r.runs.filled in
       let rest : Outcome = on (read_outcome (after_so_far before) o) in
@@ -374,6 +406,7 @@ module _ (c : RunContext) (whole : Plan) (IsStop : Site → Type 0) (run : Frame
         filled = frame_before at classes inner.kind filled filled_end;
         path = hole;
         runs = frame_fills at classes inner is_block given r WholeRun ends;
+        fits = λ k. (fits k, r.fits k, tt);
         pieces = ap (λ l. before ++ l) behind.pieces
             ∙ (sym (append_assoc before (pieces_of_outcome o) (pieces_of_outcome rest))
             ∙ (ap (λ l. (before ++ l) ++ pieces_of_outcome rest) r.runs.pieces
@@ -382,10 +415,10 @@ module _ (c : RunContext) (whole : Plan) (IsStop : Site → Type 0) (run : Frame
       })
 
   frame_stops : (at : Site) (classes : List ValueClass) (inner : FrameRun) (before : List Piece)
-      (on : StateSoFar → Outcome) → IsBlockKind inner.kind → IsGivenAt c run at inner → (r : Ran c whole IsStop inner)
+      (on : StateSoFar → Outcome) → FrameFits inner classes → IsBlockKind inner.kind → IsGivenAt c run at inner → (r : Ran c whole Claim IsStop inner)
       (call : Site) → end_of_outcome (run_outcome c inner) ≡ StopsAt call
       → Goes (Hole at classes) before (frame_means (run_outcome c inner) (after_so_far before) on) on
-  frame_stops at classes inner before on is_block given r call ends =
+  frame_stops at classes inner before on fits is_block given r call ends =
       let o : Outcome = run_outcome c inner in
       let rest : Outcome = on (read_outcome (after_so_far before) o) in
       let same : SameRun (continued_by o rest) o = stop_followed o rest call ends in
@@ -395,66 +428,73 @@ module _ (c : RunContext) (whole : Plan) (IsStop : Site → Type 0) (run : Frame
         more = [];
         path = hole;
         runs = frame_fills at classes inner is_block given r (StopsAt call) ends;
+        fits = λ k. (fits k, r.fits k, tt);
         pieces = ap (λ l. before ++ l) (same.pieces ∙ r.runs.pieces);
         ends = same.ends ∙ ends;
         stops = r.stops call ends;
       })
 
   frame_by_end : (at : Site) (classes : List ValueClass) (inner : FrameRun) (before : List Piece)
-      (on : StateSoFar → Outcome) → IsBlockKind inner.kind → IsGivenAt c run at inner → Ran c whole IsStop inner
+      (on : StateSoFar → Outcome) → FrameFits inner classes → IsBlockKind inner.kind → IsGivenAt c run at inner → Ran c whole Claim IsStop inner
       → (end : RunEnd) → end_of_outcome (run_outcome c inner) ≡ end
       → Goes (Hole at classes) before (frame_means (run_outcome c inner) (after_so_far before) on) on
-  frame_by_end at classes inner before on is_block given r WholeRun ends =
-      frame_whole at classes inner before on is_block given r ends
-  frame_by_end at classes inner before on is_block given r (StopsAt call) ends =
-      frame_stops at classes inner before on is_block given r call ends
+  frame_by_end at classes inner before on fits is_block given r WholeRun ends =
+      frame_whole at classes inner before on fits is_block given r ends
+  frame_by_end at classes inner before on fits is_block given r (StopsAt call) ends =
+      frame_stops at classes inner before on fits is_block given r call ends
 
   pub frame_goes : (at : Site) (classes : List ValueClass) (inner : FrameRun) (before : List Piece)
-      (on : StateSoFar → Outcome) → IsBlockKind inner.kind → IsGivenAt c run at inner → Ran c whole IsStop inner
+      (on : StateSoFar → Outcome) → FrameFits inner classes → IsBlockKind inner.kind → IsGivenAt c run at inner → Ran c whole Claim IsStop inner
       → Goes (Hole at classes) before (frame_means (run_outcome c inner) (after_so_far before) on) on
-  frame_goes at classes inner before on is_block given r =
-      frame_by_end at classes inner before on is_block given r (end_of_outcome (run_outcome c inner)) refl
+  frame_goes at classes inner before on fits is_block given r =
+      frame_by_end at classes inner before on fits is_block given r (end_of_outcome (run_outcome c inner)) refl
 
   -- what is printed of a block, where the block's frame is given
   abbrev pub GivesBlocks : Site → Binding BoundBlock → Type 0
   GivesBlocks at b = (inner : FrameRun) → IsBlockOf c b inner → IsGivenAt c run at inner
 
   pub printed_goes : (at : Site) (classes : List ValueClass) (b : Binding BoundBlock) (before : List Piece)
-      (on : StateSoFar → Outcome) → IsGood c whole IsStop b → GivesBlocks at b →
+      (on : StateSoFar → Outcome) → IsGood c whole Claim IsStop b → GivesBlocks at b → (Claim → HasClass b classes) →
       Goes (Hole at classes) before (printed_means context b (after_so_far before) on) on
-  printed_goes at classes (Known v) before on good given = value_goes at classes v before on
-  printed_goes at classes (BlockOf block) before on good given =
+  printed_goes at classes (Known v) before on good given fits = value_goes at classes v before on fits
+  printed_goes at classes (BlockOf block) before on good given fits =
       let inner : FrameRun = good.0.frame in
       let is : BlockOf block ≡ BlockOf (record { kind = inner.kind; outcome = run_outcome c inner }) = good.0.is_its in
       subst (λ b. Goes (Hole at classes) before (printed_means context b (after_so_far before) on) on) (sym is)
-      (frame_goes at classes inner before on good.0.is_block (given inner is)
+      (frame_goes at classes inner before on (λ k. subst (λ b. HasClass b classes) is (fits k)) good.0.is_block
+      (given inner is)
       (record {
         within = good.0.within;
         runs = good.0.runs;
         stops = λ call ends. good.1 call (ap (λ b. bound_end b) is ∙ ends);
+        fits = good.2;
       }))
 
   hole_path : (at : Site) (classes : List ValueClass) → HasPath (Hole at classes)
   hole_path at classes = record { parts = _; path = hole }
 
   called_as : (at : Site) (classes : List ValueClass) (inner : FrameRun) (before : List Piece)
-      (on : StateSoFar → Outcome) → IsGivenAt c run at inner → Ran c whole IsStop inner → (k : Kind) → inner.kind ≡ k
+      (on : StateSoFar → Outcome) → FrameFits inner classes → IsGivenAt c run at inner
+      → Ran c whole Claim IsStop inner → (k : Kind) → inner.kind ≡ k
       → Goes (Hole at classes) before (called_means context k (run_outcome c inner) (after_so_far before) on) on
-  called_as at classes inner before on given r kinds.Html is =
-      frame_goes at classes inner before on (subst IsBlockKind (sym is) tt) given r
-  called_as at classes inner before on given r kinds.Attributes is =
-      frame_goes at classes inner before on (subst IsBlockKind (sym is) tt) given r
-  called_as at classes inner before on given r kinds.Text is =
+  called_as at classes inner before on fits given r kinds.Html is =
+      frame_goes at classes inner before on fits (subst IsBlockKind (sym is) tt) given r
+  called_as at classes inner before on fits given r kinds.Attributes is =
+      frame_goes at classes inner before on fits (subst IsBlockKind (sym is) tt) given r
+  called_as at classes inner before on fits given r kinds.Text is =
       let o : Outcome = run_outcome c inner in
       let next : List ℕ → Outcome = λ text. value_means context (StringValue text) (after_so_far before) on in
       silent_goes (IsGathered [] o) (Hole at classes) before (gathered [] o next) next on (hole_path at classes)
-      (gathered_silent IsStop [] o next r.stops) (λ text good. value_goes at classes (StringValue text) before on)
+      (gathered_silent IsStop [] o next r.stops)
+      (λ text good. value_goes at classes (StringValue text) before on
+      (λ k. subst (λ z. IsMember (kind_class z) classes) is (fits k)))
 
   pub called_goes : (at : Site) (classes : List ValueClass) (inner : FrameRun) (before : List Piece)
-      (on : StateSoFar → Outcome) → IsGivenAt c run at inner → Ran c whole IsStop inner
+      (on : StateSoFar → Outcome) → FrameFits inner classes → IsGivenAt c run at inner → Ran c whole Claim IsStop inner
       → Goes (Hole at classes) before (called_means context inner.kind (run_outcome c inner) (after_so_far before) on)
       on
-  called_goes at classes inner before on given r = called_as at classes inner before on given r inner.kind refl
+  called_goes at classes inner before on fits given r =
+      called_as at classes inner before on fits given r inner.kind refl
 
   -- a call that may not be opened
   pub refused_goes : (at : Site) (classes : List ValueClass) (k : Kind) (before : List Piece)
@@ -474,7 +514,7 @@ module _ (c : RunContext) (whole : Plan) (IsStop : Site → Type 0) (run : Frame
   -- a whole frame
   pub goes_whole : (on : StateSoFar → Outcome) → ((s : StateSoFar) → on s ≡ gives_nothing)
       → Goes (run_plan c run) [] (run_outcome c run) on
-      → RunsAlong c whole run × StopsOnlyAt IsStop (run_outcome c run)
+      → (r : RunsAlong c whole run) × StopsOnlyAt IsStop (run_outcome c run) × (Claim → FitsClasses r.filled)
   goes_whole on nothing (inl t) =
       let p : Plan = run_plan c run in
       let o : Outcome = run_outcome c run in
@@ -489,6 +529,7 @@ module _ (c : RunContext) (whole : Plan) (IsStop : Site → Type 0) (run : Frame
           runs = subst (λ e. FilledByRuns c whole run e t.filled) (sym ends) t.runs;
         },
         (λ call stops. absurd (stop_not_whole call (sym stops ∙ ends))),
+        t.fits,
       )
   goes_whole on nothing (inr s) =
       let p : Plan = run_plan c run in (
@@ -499,6 +540,7 @@ module _ (c : RunContext) (whole : Plan) (IsStop : Site → Type 0) (run : Frame
           runs = subst (λ e. FilledByRuns c whole run e s.filled) (sym s.ends) s.runs;
         },
         (λ call stops. subst IsStop (same_stop s.call call (sym s.ends ∙ stops)) s.stops),
+        s.fits,
       )
 
   -- ---- arms that stand side by side
@@ -523,8 +565,9 @@ module _ (c : RunContext) (whole : Plan) (IsStop : Site → Type 0) (run : Frame
       record { plan = some.plan; member = some.member; goes = same_goes some.plan before o other on same some.goes }
 
   pub some_if : (ps : List Plan) (before : List Piece) (test : Bool) (o other : Outcome) (on : StateSoFar → Outcome)
-      → GoesSome ps before o on → GoesSome ps before other on → GoesSome ps before (if test then o else other) on
-  some_if ps before true o other on one two = one
+      → (test ≡ true → GoesSome ps before o on) → GoesSome ps before other on
+      → GoesSome ps before (if test then o else other) on
+  some_if ps before true o other on one two = one refl
   some_if ps before false o other on one two = two
 
   pub some_meets : (at : Site) (ps : List Plan) (before : List Piece) (o : Outcome) (on : StateSoFar → Outcome)
@@ -533,12 +576,12 @@ module _ (c : RunContext) (whole : Plan) (IsStop : Site → Type 0) (run : Frame
       along some.plan (arms_meet at ps) before o on (λ l h. met (any_member Nowhere ps some.plan l some.member h))
       some.goes
 
-module _ (c : RunContext) (whole : Plan) (IsStop : Site → Type 0) where
+module _ (c : RunContext) (whole : Plan) (Claim : Type 0) (IsStop : Site → Type 0) where
   -- a block as what is bound to a name
   abbrev pub BindsBlock : FrameRun → Kind → Binding BoundBlock → Type 0
-  BindsBlock q k b = IsGood c whole IsStop b × (b ≡ bound_as k (run_outcome c q))
+  BindsBlock q k b = IsGood c whole Claim IsStop b × (b ≡ bound_as k (run_outcome c q))
 
-  binds_as : (q : FrameRun) (next : Binding BoundBlock → Outcome) → Ran c whole IsStop q → (k : Kind) → q.kind ≡ k
+  binds_as : (q : FrameRun) (next : Binding BoundBlock → Outcome) → Ran c whole Claim IsStop q → (k : Kind) → q.kind ≡ k
       → IsSilent IsStop (BindsBlock q k) (block_bound k (run_outcome c q) next) next
   binds_as q next r kinds.Html is =
       inl (record {
@@ -553,6 +596,7 @@ module _ (c : RunContext) (whole : Plan) (IsStop : Site → Type 0) where
               runs = r.runs;
             },
             r.stops,
+            r.fits,
           ),
           refl,
         );
@@ -571,6 +615,7 @@ module _ (c : RunContext) (whole : Plan) (IsStop : Site → Type 0) where
               runs = r.runs;
             },
             r.stops,
+            r.fits,
           ),
           refl,
         );
@@ -591,6 +636,6 @@ module _ (c : RunContext) (whole : Plan) (IsStop : Site → Type 0) where
           })
       text_binds (inr h) = inr h
 
-  pub block_binds : (q : FrameRun) (next : Binding BoundBlock → Outcome) → Ran c whole IsStop q
+  pub block_binds : (q : FrameRun) (next : Binding BoundBlock → Outcome) → Ran c whole Claim IsStop q
       → IsSilent IsStop (BindsBlock q q.kind) (block_bound q.kind (run_outcome c q) next) next
   block_binds q next r = binds_as q next r q.kind refl

@@ -5,7 +5,7 @@ use Rattle.std.specs.Prelude.{◌&&◌, ◌||◌, ◌-ℤ◌, bytes_eq, codes, i
 use Rattle.std.specs.Option.{option_or}
 use Rattle.std.proofs.lemmas.Bool.{and_parts}
 use Rattle.soy_base.specs.declared.direction.Dir.{Dir}
-use Rattle.soy_base.specs.declared.place.ValueClass.{ValueClass}
+use Rattle.soy_base.specs.declared.place.ValueClass.TheVariants as class
 use Rattle.plural_rules.specs.Category.{is_same}
 use Rattle.plural_rules.specs.declared.category.Category.{Category}
 use Rattle.plural_rules.specs.declared.category.Category.TheVariants as category
@@ -37,7 +37,7 @@ use Rattle.soy_meaning.specs.PlanOfParts.{printed_classes, select_arm_plans, tag
 use Rattle.soy_meaning.specs.States.{IsMember}
 use Rattle.soy_meaning.specs.TranslationFits.{exact_fit, has_other, has_other_word}
 use Rattle.soy_meaning.specs.TranslationFits.{named_fit, part_fits, parts_fit, select_fit}
-use Rattle.soy_meaning.proofs.Goings.{GivesBlocks, Goes, GoesSome, after_so_far, goes_both}
+use Rattle.soy_meaning.proofs.Goings.{GivesBlocks, Goes, GoesSome, HasClass, after_so_far, goes_both}
 use Rattle.soy_meaning.proofs.Goings.{passes, printed_goes, same_goes}
 use Rattle.soy_meaning.proofs.Goings.{some_meets, some_same, text_goes, value_goes}
 use Rattle.soy_meaning.proofs.Members.{mem_left, mem_right}
@@ -54,9 +54,10 @@ choice_same choice o = spent_same (record { cost = 0; work = 1; choices = choice
 
 -- ---- translations
 
-module _ (c : RunContext) (whole : Plan) (IsStop : Site → Type 0) (q : FrameRun) (uses : List Use) (scope : Scope)
-    (at : Site) (env : RunEnv) (runs : AllRun c whole IsStop env)
-    (given : (e : Expr) → HasPlaceholderOf uses e → GivesBlocks c whole IsStop q at (val e env)) where
+module _ (c : RunContext) (whole : Plan) (Claim : Type 0) (IsStop : Site → Type 0) (q : FrameRun) (uses : List Use) (scope : Scope)
+    (at : Site) (env : RunEnv) (runs : AllRun c whole Claim IsStop env)
+    (given : (e : Expr) → HasPlaceholderOf uses e → GivesBlocks c whole Claim IsStop q at (val e env))
+    (fits : Claim → (e : Expr) → HasPlaceholderOf uses e → HasClass (val e env) (printed_classes e scope)) where
   abbrev context : Dir
   context = c.direction
 
@@ -64,58 +65,63 @@ module _ (c : RunContext) (whole : Plan) (IsStop : Site → Type 0) (q : FrameRu
   category_of = c.category
 
   abbrev At : List Piece → StateSoFar
-  At before = after_so_far c whole IsStop q before
+  At before = after_so_far c whole Claim IsStop q before
 
-  print_goes : (classes : List ValueClass) (e : Expr) → GivesBlocks c whole IsStop q at (val e env)
-      → (before : List Piece) (on : StateSoFar → Outcome) →
-      Goes c whole IsStop q (Hole at classes) before (print_means context category_of uses env e (At before) on) on
-  print_goes classes e gives before on =
-      same_goes c whole IsStop q (Hole at classes) before
+  -- what is printed of an expression: its block is given, and under the claim it has a class of the hole
+  abbrev IsPrintedRight : Expr → Type 0
+  IsPrintedRight e =
+      GivesBlocks c whole Claim IsStop q at (val e env) × (Claim → HasClass (val e env) (printed_classes e scope))
+
+  print_goes : (e : Expr) → IsPrintedRight e → (before : List Piece) (on : StateSoFar → Outcome) →
+      Goes c whole Claim IsStop q (Hole at (printed_classes e scope)) before
+      (print_means context category_of uses env e (At before) on) on
+  print_goes e right before on =
+      same_goes c whole Claim IsStop q (Hole at (printed_classes e scope)) before
       (print_means context category_of uses env e (At before) on)
       (printed_means context (val e env) (At before) on) on
       (cost_same (cost e env) (printed_means context (val e env) (At before) on))
-      (printed_goes c whole IsStop q at classes (val e env) before on (val_runs c whole IsStop e env runs) gives)
+      (printed_goes c whole Claim IsStop q at (printed_classes e scope) (val e env) before on
+      (val_runs c whole Claim IsStop e env runs) right.0 right.1)
 
-  -- the blocks of these expressions are given
   abbrev AllGiven : List Expr → Type 0
-  AllGiven es = (e : Expr) → IsMember e es → GivesBlocks c whole IsStop q at (val e env)
+  AllGiven es = (e : Expr) → IsMember e es → IsPrintedRight e
 
   tag_goes : (text : List ℕ) (tag : List MessageItem) → AllGiven (tag_prints tag)
       → (before : List Piece) (on : StateSoFar → Outcome) →
-      Goes c whole IsStop q (tag_plan scope at text tag) before
+      Goes c whole Claim IsStop q (tag_plan scope at text tag) before
       (tag_means context category_of uses env text tag (At before) on) on
-  tag_goes text [] all before on = text_goes c whole IsStop q at text before on
+  tag_goes text [] all before on = text_goes c whole Claim IsStop q at text before on
   tag_goes text (Character code span ∷ rest) all before on = tag_goes (text ++ (code ∷ [])) rest all before on
   tag_goes text (Printed e phname span ∷ rest) all before on =
       let print : Plan = Hole at (printed_classes e scope) in
       let following : Plan = tag_plan scope at [] rest in
       let printed : StateSoFar → Outcome = λ now. print_means context category_of uses env e now
       (λ past. tag_means context category_of uses env [] rest past on) in
-      goes_both c whole IsStop q (text_plan at text) (Then print following)
+      goes_both c whole Claim IsStop q (text_plan at text) (Then print following)
       (Then (text_plan at text) (Then print following)) before (text_means text (At before) printed) printed on
       (λ a b h k. both h k)
       (record { parts = _; path = both hole (tag_path scope at [] rest).path })
-      (text_goes c whole IsStop q at text before printed)
-      (λ more. goes_both c whole IsStop q print following (Then print following) more (printed (At more))
+      (text_goes c whole Claim IsStop q at text before printed)
+      (λ more. goes_both c whole Claim IsStop q print following (Then print following) more (printed (At more))
       (λ past. tag_means context category_of uses env [] rest past on) on (λ a b h k. both h k)
       (tag_path scope at [] rest)
-      (print_goes (printed_classes e scope) e (all e (inl refl)) more
+      (print_goes e (all e (inl refl)) more
       (λ past. tag_means context category_of uses env [] rest past on))
       (λ further. tag_goes [] rest (λ other member. all other (inr member)) further on))
 
   cut_goes : (cut : Option Cut) → AllGiven (cut_prints cut) → (before : List Piece) (on : StateSoFar → Outcome)
-      → Goes c whole IsStop q (cut_plan scope at cut) before
+      → Goes c whole Claim IsStop q (cut_plan scope at cut) before
       (cut_means context category_of uses env cut (At before) on) on
-  cut_goes None all before on = passes c whole IsStop q Nothing before on empty_path
-  cut_goes (Some (TextCut text)) all before on = passes c whole IsStop q Nothing before on empty_path
+  cut_goes None all before on = passes c whole Claim IsStop q Nothing before on empty_path
+  cut_goes (Some (TextCut text)) all before on = passes c whole Claim IsStop q Nothing before on empty_path
   cut_goes (Some (PrintCut e phname span)) all before on =
-      print_goes (printed_classes e scope) e (all e (inl refl)) before on
+      print_goes e (all e (inl refl)) before on
   cut_goes (Some (TagCut tag)) all before on = tag_goes [] tag all before on
 
   -- the parts of an arm, whatever the number, go along one of these plans
   abbrev ArmGoes : List Plan → PartMeans → Type 0
   ArmGoes ps means = (n : ℤ) (before : List Piece) (on : StateSoFar → Outcome)
-      → GoesSome c whole IsStop q ps before (means n (At before) on) on
+      → GoesSome c whole Claim IsStop q ps before (means n (At before) on) on
 
   abbrev RowsGo : {A : Type 0} → List Plan → List (A × PartMeans) → Type 0
   RowsGo ps [] = Unit {0}
@@ -182,16 +188,16 @@ module _ (c : RunContext) (whole : Plan) (IsStop : Site → Type 0) (q : FrameRu
 
   arm_goes : (ps : List Plan) (found : Option (ℕ × PartMeans)) → is_some found ≡ true → ChosenGoes ps found
       → (n : ℤ) (before : List Piece) (on : StateSoFar → Outcome)
-      → GoesSome c whole IsStop q ps before (arm_means found n (At before) on) on
+      → GoesSome c whole Claim IsStop q ps before (arm_means found n (At before) on) on
   arm_goes ps None there goes n before on = let no : ⊥ = cc in absurd no
   arm_goes ps (Some taken) there goes n before on =
-      some_same c whole IsStop q ps before (arm_means (Some taken) n (At before) on) (taken.1 n (At before) on) on
+      some_same c whole Claim IsStop q ps before (arm_means (Some taken) n (At before) on) (taken.1 n (At before) on) on
       (choice_same (ArmTaken (Some taken.0)) (taken.1 n (At before) on)) (goes n before on)
 
   plural_goes : (ps : List Plan) (ordinal : Bool) (selects : Option Expr) (offset : ℕ) (exact : List (ℤ × PartMeans))
       (arms : NamedArms) → is_some selects ≡ true → has_other arms ≡ true → RowsGo ps exact →
       RowsGo ps (named_rows context category_of uses env arms) → (before : List Piece) (on : StateSoFar → Outcome) →
-      Goes c whole IsStop q (arms_meet at ps) before
+      Goes c whole Claim IsStop q (arms_meet at ps) before
       (plural_means context category_of uses env ordinal selects offset exact
       (named_rows context category_of uses env arms) (At before) on) on
   plural_goes ps ordinal None offset exact arms there has e_go n_go before on = let no : ⊥ = cc in absurd no
@@ -208,14 +214,14 @@ module _ (c : RunContext) (whole : Plan) (IsStop : Site → Type 0) (q : FrameRu
       (exact_chosen ps n 0 exact e_go)
       (chosen_or ps one other (named_chosen ps (category_of ordinal rest) (row_count exact) named n_go)
       (named_chosen ps category.Other (row_count exact) named n_go)) in
-      some_meets c whole IsStop q at ps before (with_cost (cost e env) (arm_means chosen rest (At before) on)) on
-      (some_same c whole IsStop q ps before (with_cost (cost e env) (arm_means chosen rest (At before) on))
+      some_meets c whole Claim IsStop q at ps before (with_cost (cost e env) (arm_means chosen rest (At before) on)) on
+      (some_same c whole Claim IsStop q ps before (with_cost (cost e env) (arm_means chosen rest (At before) on))
       (arm_means chosen rest (At before) on) on (cost_same (cost e env) (arm_means chosen rest (At before) on))
       (arm_goes ps chosen is_there goes rest before on))
 
   select_goes : (ps : List Plan) (selects : Option Expr) (arms : SelectArms) → is_some selects ≡ true
       → has_other_word arms ≡ true → RowsGo ps (select_rows context category_of uses env arms) →
-      (before : List Piece) (on : StateSoFar → Outcome) → Goes c whole IsStop q (arms_meet at ps) before
+      (before : List Piece) (on : StateSoFar → Outcome) → Goes c whole Claim IsStop q (arms_meet at ps) before
       (select_means context category_of uses env selects (select_rows context category_of uses env arms)
       (At before) on) on
   select_goes ps None arms there has rows_go before on = let no : ⊥ = cc in absurd no
@@ -227,8 +233,8 @@ module _ (c : RunContext) (whole : Plan) (IsStop : Site → Type 0) (q : FrameRu
       (word_found arms 0 has) in
       let goes : ChosenGoes ps chosen = chosen_or ps (select_of word 0 rows) (select_of (codes "other") 0 rows)
       (select_chosen ps word 0 rows rows_go) (select_chosen ps (codes "other") 0 rows rows_go) in
-      some_meets c whole IsStop q at ps before (with_cost (cost e env) (arm_means chosen (pos 0) (At before) on)) on
-      (some_same c whole IsStop q ps before (with_cost (cost e env) (arm_means chosen (pos 0) (At before) on))
+      some_meets c whole Claim IsStop q at ps before (with_cost (cost e env) (arm_means chosen (pos 0) (At before) on)) on
+      (some_same c whole Claim IsStop q ps before (with_cost (cost e env) (arm_means chosen (pos 0) (At before) on))
       (arm_means chosen (pos 0) (At before) on) on
       (cost_same (cost e env) (arm_means chosen (pos 0) (At before) on))
       (arm_goes ps chosen is_there goes (pos 0) before on))
@@ -238,12 +244,14 @@ module _ (c : RunContext) (whole : Plan) (IsStop : Site → Type 0) (q : FrameRu
 
   mutual
     part_goes : (p : MsgPart) → part_fits uses p ≡ true → (n : ℤ) (before : List Piece) (on : StateSoFar → Outcome) →
-        Goes c whole IsStop q (part_plan uses scope at p) before
+        Goes c whole Claim IsStop q (part_plan uses scope at p) before
         (part_means context category_of uses env p n (At before) on) on
-    part_goes (TextPart text) fits n before on = text_goes c whole IsStop q at text before on
-    part_goes (Placeholder name) fits n before on =
-        cut_goes (placeholder_cut name uses uses) (λ e member. given e (name, member)) before on
-    part_goes NumberPart fits n before on = value_goes c whole IsStop q at _ (IntValue n) before on
+    part_goes (TextPart text) fit n before on = text_goes c whole Claim IsStop q at text before on
+    part_goes (Placeholder name) fit n before on =
+        cut_goes (placeholder_cut name uses uses) (λ e member. (given e (name, member), (λ k. fits k e (name, member))))
+        before on
+    part_goes NumberPart fit n before on =
+        value_goes c whole Claim IsStop q at (class.Int ∷ []) (IntValue n) before on (λ k. inl refl)
     part_goes (PluralPart ordinal name offset exact named) fits n before on =
         let parts = and_parts (is_some (selector true name uses uses) && has_other named) (exact_fit uses exact
         && named_fit uses named) fits in
@@ -266,13 +274,13 @@ module _ (c : RunContext) (whole : Plan) (IsStop : Site → Type 0) (q : FrameRu
 
     pub parts_go : (ps : MsgParts) → parts_fit uses ps ≡ true
         → (n : ℤ) (before : List Piece) (on : StateSoFar → Outcome) →
-        Goes c whole IsStop q (parts_plan uses scope at ps) before
+        Goes c whole Claim IsStop q (parts_plan uses scope at ps) before
         (parts_means context category_of uses env ps n (At before) on) on
-    parts_go no_part fits n before on = passes c whole IsStop q Nothing before on empty_path
+    parts_go no_part fits n before on = passes c whole Claim IsStop q Nothing before on empty_path
     parts_go (part p ps) fits n before on =
         let fit = and_parts (part_fits uses p) (parts_fit uses ps) fits in
         let following : StateSoFar → Outcome = λ now. parts_means context category_of uses env ps n now on in
-        goes_both c whole IsStop q (part_plan uses scope at p) (parts_plan uses scope at ps)
+        goes_both c whole Claim IsStop q (part_plan uses scope at p) (parts_plan uses scope at ps)
         (Then (part_plan uses scope at p) (parts_plan uses scope at ps)) before
         (part_means context category_of uses env p n (At before) following) following on
         (λ a b h k. both h k) (parts_path uses scope at ps fit.1) (part_goes p fit.0 n before following)

@@ -52,7 +52,7 @@ simple_class : (v : Value) (t : SoyType) → (has_member (members t) && is_simpl
 simple_class v t printed h =
     any_class v (members t) (and_parts (has_member (members t)) (is_simple t) printed).1 (has_members v t h)
 
-printed_class : (v : Value) (t : SoyType) → is_printed t ≡ true → Has v t
+pub printed_class : (v : Value) (t : SoyType) → is_printed t ≡ true → Has v t
     → IsMember (value_class v) (classes_of_all (members t))
 printed_class v HtmlType printed h = absurd h
 printed_class v AttributesType printed h = absurd h

@@ -74,7 +74,7 @@ path_goes_on WholeRun p parts h = record { more = []; path = subst (λ l. IsPath
 path_goes_on (StopsAt call) p parts h = record { more = h.0; path = h.1 }
 
 module _ (c : RunContext) (whole : Plan) (accepted : AcceptedPaths page_machine whole) where
-  frame_of : (kind : Kind) (p : Plan) (parts : List PathPart) → IsFrameWithin whole kind p → IsPath p parts
+  pub frame_of : (kind : Kind) (p : Plan) (parts : List PathPart) → IsFrameWithin whole kind p → IsPath p parts
       → IsFrameOf kind parts
   frame_of kind p parts within path =
       let found : IsAcceptedFrame (kind, p) = accepted_frame whole accepted within.0 (kind, p) within.1 in

@@ -53,19 +53,20 @@ frames_right whole (p ∷ ps) qs h = frames_right whole ps qs h.1
 
 -- ---- values of variables and of expressions
 
-module _ (c : RunContext) (whole : Plan) (IsStop : Site → Type 0) where
+module _ (c : RunContext) (whole : Plan) (Claim : Type 0) (IsStop : Site → Type 0) where
   abbrev Runs : Binding BoundBlock → Type 0
-  Runs = IsGood c whole IsStop
+  Runs = IsGood c whole Claim IsStop
 
   abbrev pub AllRun : RunEnv → Type 0
   AllRun [] = Unit {0}
   AllRun (v ∷ env) = Runs v.1 × AllRun env
 
-  -- where the calls at which a block may stop aren't asked, and where no variable is a block
-  pub env_runs : ((at : Site) → IsStop at) → (env : RunEnv) → EnvRuns c whole env → AllRun env
-  env_runs any [] h = tt
-  env_runs any ((name, Known v) ∷ env) h = (tt, env_runs any env h.1)
-  env_runs any ((name, BlockOf block) ∷ env) h = ((h.0, (λ call ends. any call)), env_runs any env h.1)
+  -- where nothing is claimed and the calls at which a block may stop aren't asked, and where no variable is a block
+  pub env_runs : (Claim → ⊥) → ((at : Site) → IsStop at) → (env : RunEnv) → EnvRuns c whole env → AllRun env
+  env_runs none any [] h = tt
+  env_runs none any ((name, Known v) ∷ env) h = (tt, env_runs none any env h.1)
+  env_runs none any ((name, BlockOf block) ∷ env) h =
+      ((h.0, (λ call ends. any call), (λ k. absurd (none k))), env_runs none any env h.1)
 
   pub values_run : (env : RunEnv) → BindsValues env → AllRun env
   values_run [] h = tt

@@ -25,6 +25,8 @@ pub mod ComesNext
 pub mod GivenAt
 pub mod StopsWithin
 pub mod RunsAlong
+pub mod TypedData
+pub mod RunPlaces
 pub mod PicksValues
 pub mod EqualChoices
 pub mod Ways

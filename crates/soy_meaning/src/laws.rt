@@ -30,6 +30,7 @@ ghost use Rattle.soy_tree.specs.TypeOf.{Scope, type_of};
 ghost use Rattle.soy_tree.specs.Bodies.{is_printed};
 ghost use Rattle.soy_tree.specs.Expressions.{Expr};
 ghost use Rattle.soy_tree.specs.Fits.{Fits};
+ghost use Rattle.soy_tree.specs.Has.{IsWithinRange};
 ghost use Rattle.soy_tree.specs.Formed.{is_formed_expr};
 ghost use Rattle.soy_tree.specs.Types.{SoyType};
 ghost use Rattle.soy_tree.specs.Trees.{Tree};
@@ -43,6 +44,8 @@ ghost use Rattle.soy_meaning.specs.FrameRun.{FrameRun, entry_frame, run_outcome,
 ghost use Rattle.soy_meaning.specs.RunsAlong.{BindsValues, EnvRuns, FilledByRuns, FitsClasses, IsFrameWithin};
 ghost use Rattle.soy_meaning.specs.RunsAlong.{RunsAlong};
 ghost use Rattle.soy_meaning.specs.StopsWithin.{StopsWithin};
+ghost use Rattle.soy_meaning.specs.TypedData.{AreTypedTrees, FitsData};
+ghost use Rattle.soy_meaning.specs.RunPlaces.{ArePlaced, FrameWithin};
 ghost use Rattle.soy_meaning.specs.TranslationFits.{TranslationsFit};
 ghost use Rattle.soy_meaning.specs.EqualChoices.{AlikeByChoices, AlikeRuns, EnvsAlike};
 ghost use Rattle.soy_meaning.specs.PicksValues.{TemplatesPick, param_marks};
@@ -73,7 +76,7 @@ ghost use Rattle.soy_meaning.specs.RunRows.{MeetsPremises, attributes_block, att
 ghost use Rattle.soy_meaning.specs.RunRows.{block_pieces, block_twice, calls, calls_body, input_pieces, number_env};
 ghost use Rattle.soy_meaning.specs.RunRows.{number_param, offset_part, offset_translation, pieces_and_end};
 ghost use Rattle.soy_meaning.specs.RunRows.{plural_part, plural_source, plural_translation, row_context};
-ghost use Rattle.soy_meaning.specs.RunRows.{row_template, source_body, source_plural, text_param};
+ghost use Rattle.soy_meaning.specs.RunRows.{row_template, row_trees, source_body, source_plural, text_env, text_param};
 ghost use Rattle.soy_meaning.specs.RunRows.{translated_context, translated_meaning};
 ghost use Rattle.soy_meaning.specs.Walk.{Walked, mixed_at, walk, walk_fault, walked};
 
@@ -205,6 +208,44 @@ pub fn law_runs_are_read()
         × (after_pieces (start q.kind) (pieces_of_outcome (run_outcome c q)) ≡ Ok now) }
 {}
 
+/// A template of typed trees, under data that fit it and a bundle whose translations fit their messages, runs along a
+/// path in whose holes each value and each frame, at any depth, has one of the hole's classes. So under accepted paths
+/// its pieces are read without a fault, and where the walk meets none, the place of each of them, by the pieces of its
+/// frame so far, is the one that the walk gave.
+pub fn law_typed_runs()
+    ensures classes { (c : RunContext) (trees : List Tree) (d : Declared) (env : RunEnv) →
+        c.declared ≡ declared trees → IsMember d c.declared → AreTypedTrees trees →
+        TranslationsFit c.translation c.declared → FitsData d env →
+        (r : RunsAlong c (trees_plan c.translation trees) (entry_frame d env)) × FitsClasses r.filled }
+    ensures read { (c : RunContext) (trees : List Tree) (d : Declared) (env : RunEnv) →
+        c.declared ≡ declared trees → IsMember d c.declared → AreTypedTrees trees →
+        TranslationsFit c.translation c.declared → FitsData d env → AcceptedTrees c.translation trees →
+        (now : State) × (after_pieces (start d.template.kind) (pieces_of_outcome (template_run c d env)) ≡ Ok now) }
+    ensures places { (c : RunContext) (trees : List Tree) (d : Declared) (env : RunEnv) →
+        c.declared ≡ declared trees → IsMember d c.declared → AreTypedTrees trees →
+        TranslationsFit c.translation c.declared → FitsData d env →
+        (v : Walked State) → walk_trees c.translation trees ≡ Ok v →
+        (r : RunsAlong c (trees_plan c.translation trees) (entry_frame d env)) × FitsClasses r.filled
+        × (q : FrameWithin (trees_plan c.translation trees) d.template.kind)
+        × ArePlaced (trees_plan c.translation trees) v.places c.direction d.template.kind q [] [] r.filled }
+{}
+
+/// In typed trees expressions pick values alone. So two runs of a template with the same choices, each under data that
+/// fit it, are alike, and the choices of neither begin those of the other.
+pub fn law_typed_choices()
+    ensures picks { (c : RunContext) (trees : List Tree) → c.declared ≡ declared trees → AreTypedTrees trees →
+        TemplatesPick c c.declared }
+    ensures alike { (c : RunContext) (trees : List Tree) (d : Declared) (env other : RunEnv) →
+        c.declared ≡ declared trees → IsMember d c.declared → AreTypedTrees trees →
+        TranslationsFit c.translation c.declared → FitsData d env → FitsData d other →
+        choices_of_outcome (template_run c d env) ≡ choices_of_outcome (template_run c d other) →
+        AlikeRuns (template_run c d env) (template_run c d other) }
+    ensures no_beginning { (c : RunContext) (trees : List Tree) (d : Declared) (env other : RunEnv) →
+        c.declared ≡ declared trees → IsMember d c.declared → AreTypedTrees trees →
+        TranslationsFit c.translation c.declared → FitsData d env → FitsData d other →
+        AlikeByChoices (template_run c d env) (template_run c d other) }
+{}
+
 /// Outcomes follow one another as lists do, and what is gathered from two that follow one another is gathered from the
 /// one and then from the other.
 pub fn law_outcomes()
@@ -305,4 +346,17 @@ pub fn law_row_premises()
     ensures values { (n : ℤ) → BindsValues (number_env n) }
     ensures alike { (n m : ℤ) (body : List Node) →
         EnvsAlike (param_marks (row_template number_param body).template.params) (number_env n) (number_env m) }
+{}
+
+/// The files of the rows are typed, and their data fit.
+pub fn law_typed_rows()
+    ensures block { AreTypedTrees (row_trees (text_param (codes "x")) block_body) }
+    ensures attributes { AreTypedTrees (row_trees (text_param (codes "k")) attributes_body) }
+    ensures calls { AreTypedTrees (row_trees number_param calls_body) }
+    ensures source { AreTypedTrees (row_trees number_param source_body) }
+    ensures plural { AreTypedTrees (row_trees number_param plural_source) }
+    ensures number { (n : ℤ) (body : List Node) → IsWithinRange n →
+        FitsData (row_template number_param body) (number_env n) }
+    ensures text { (name text : List ℕ) (body : List Node) →
+        FitsData (row_template (text_param name) body) (text_env name text) }
 {}

@@ -1,0 +1,86 @@
+-- What typed and accepted trees give under data that fit.
+use Rattle.std.proofs.Common.{◌≡◌, List, [], Ok, sym, subst}
+use Rattle.soy_base.specs.declared.place.Place.{Place}
+use Rattle.html_state.specs.AfterPieces.{after_pieces}
+use Rattle.html_state.specs.Start.{start}
+use Rattle.html_state.specs.declared.row.State.{State}
+use Rattle.soy_tree.specs.Templates.{Declared, declared}
+use Rattle.soy_tree.specs.Trees.{Tree}
+use Rattle.soy_meaning.specs.AcceptedTrees.{AcceptedTrees, walk_trees}
+use Rattle.soy_meaning.specs.EqualChoices.{AlikeByChoices, AlikeRuns}
+use Rattle.soy_meaning.specs.FrameRun.{entry_frame, run_plan}
+use Rattle.soy_meaning.specs.Giving.{RunEnv}
+use Rattle.soy_meaning.specs.Outcome.{choices_of_outcome, end_of_outcome, pieces_of_outcome}
+use Rattle.soy_meaning.specs.PageMachine.{page_machine}
+use Rattle.soy_meaning.specs.Pieces.{RunContext, template_run}
+use Rattle.soy_meaning.specs.Plan.{Plan}
+use Rattle.soy_meaning.specs.PlanOfNodes.{trees_plan}
+use Rattle.soy_meaning.specs.RunPlaces.{ArePlaced, FrameWithin}
+use Rattle.soy_meaning.specs.RunsAlong.{FitsClasses, IsFrameWithin, RunsAlong}
+use Rattle.soy_meaning.specs.States.{IsMember}
+use Rattle.soy_meaning.specs.TranslationFits.{TranslationsFit}
+use Rattle.soy_meaning.specs.TypedData.{AreTypedTrees, FitsData}
+use Rattle.soy_meaning.specs.Walk.{Walked, walked}
+use Rattle.soy_meaning.proofs.AlikeRuns.{runs_alike, templates_alike}
+use Rattle.soy_meaning.proofs.CheckedTrees.{TemplateTyped, templates_typed}
+use Rattle.soy_meaning.proofs.PagePlaces.{static_places}
+use Rattle.soy_meaning.proofs.PageStates.{page_compares}
+use Rattle.soy_meaning.proofs.PlacedRuns.{run_placed}
+use Rattle.soy_meaning.proofs.ReadRuns.{runs_are_read}
+use Rattle.soy_meaning.proofs.RunPaths.{entry_fits, frame_stands, whole_of}
+use Rattle.soy_meaning.proofs.TypedEnvs.{data_typed}
+use Rattle.soy_meaning.proofs.TypedPicks.{fitting_data_alike, typed_templates_pick}
+use Rattle.soy_meaning.proofs.Walks.{accepted_when_walked}
+
+module _ (c : RunContext) (trees : List Tree) (d : Declared) (env : RunEnv) (are : c.declared ≡ declared trees)
+    (member : IsMember d c.declared) (typed : AreTypedTrees trees) (fits : TranslationsFit c.translation c.declared)
+    (data_ : FitsData d env) where
+  abbrev whole : Plan
+  whole = trees_plan c.translation trees
+
+  all_typed : (e : Declared) → IsMember e c.declared → TemplateTyped c.declared e
+  all_typed e among =
+      subst (λ ds. TemplateTyped ds e) (sym are)
+      (templates_typed trees typed e (subst (λ ds. IsMember e ds) are among))
+
+  pub typed_run_fits : (r : RunsAlong c whole (entry_frame d env)) × FitsClasses r.filled
+  typed_run_fits =
+      subst (λ ds. (r : RunsAlong c (whole_of c ds) (entry_frame d env)) × FitsClasses r.filled) are
+      (entry_fits c fits all_typed d env member data_.values (data_typed d env data_))
+
+  stands : IsFrameWithin whole d.template.kind (run_plan c (entry_frame d env))
+  stands = frame_stands c trees d env are member
+
+  pub typed_run_is_read : AcceptedTrees c.translation trees → (now : State)
+      × (after_pieces (start d.template.kind) (pieces_of_outcome (template_run c d env)) ≡ Ok now)
+  typed_run_is_read accepted =
+      runs_are_read c whole accepted (entry_frame d env) stands typed_run_fits.0 typed_run_fits.1
+
+  pub typed_run_is_placed : (v : Walked State) → walk_trees c.translation trees ≡ Ok v
+      → (r : RunsAlong c whole (entry_frame d env)) × FitsClasses r.filled
+      × (q : FrameWithin whole d.template.kind)
+      × ArePlaced whole v.places c.direction d.template.kind q [] [] r.filled
+  typed_run_is_placed v walks =
+      let found = static_places whole (walked [] []) v walks in
+      let placed = run_placed c whole (accepted_when_walked page_machine page_compares whole (walked [] []) v walks) found.0 found.3
+      typed_run_fits.0.filled (end_of_outcome (template_run c d env)) (entry_frame d env) stands
+      typed_run_fits.0.runs typed_run_fits.1 typed_run_fits.0.path in
+      let moved : (q : FrameWithin whole d.template.kind)
+      × ArePlaced whole v.places c.direction d.template.kind q [] [] typed_run_fits.0.filled =
+      subst (λ (places : List Place). (q : FrameWithin whole d.template.kind)
+      × ArePlaced whole places c.direction d.template.kind q [] [] typed_run_fits.0.filled) (sym found.1) placed in
+      (typed_run_fits.0, typed_run_fits.1, moved.0, moved.1)
+
+module _ (c : RunContext) (trees : List Tree) (are : c.declared ≡ declared trees) (typed : AreTypedTrees trees)
+    (fits : TranslationsFit c.translation c.declared) (d : Declared) (env other : RunEnv)
+    (member : IsMember d c.declared) (one : FitsData d env) (two : FitsData d other) where
+  pub typed_runs_alike : choices_of_outcome (template_run c d env) ≡ choices_of_outcome (template_run c d other)
+      → AlikeRuns (template_run c d env) (template_run c d other)
+  typed_runs_alike same =
+      runs_alike c fits (typed_templates_pick c trees are typed) d env other member
+      (fitting_data_alike d env other one two) same
+
+  pub typed_templates_alike : AlikeByChoices (template_run c d env) (template_run c d other)
+  typed_templates_alike =
+      templates_alike c fits (typed_templates_pick c trees are typed) d env other member
+      (fitting_data_alike d env other one two)

@@ -1,0 +1,51 @@
+-- The places of what fills the holes of a run, by its pieces and by the walk.
+--
+-- Behind the parts and the pieces of a frame so far stands a hole of the frame's plan. Its place by those pieces, the
+-- characters of values and of nested frames among them, is the one that the walk gave it among all places of the whole
+-- plan. So it is for each value and frame of a run, and within each frame.
+-- Example: in `<p title="{$x}">{$x}`, run with `$x` bound to `<`, the first value stands at the place of an attribute's
+-- value and the second at that of text.
+use Rattle.std.specs.Prelude.{◌≡◌, ◌+◌, List, [], ◌∷◌, ◌++◌, Some, Ok, get_or}
+use Rattle.soy_base.specs.declared.direction.Dir.{Dir}
+use Rattle.soy_base.specs.declared.kind.Kind.{Kind}
+use Rattle.soy_base.specs.declared.place.Place.{Place}
+use Rattle.soy_base.specs.declared.place.Placing.TheVariants.{Takes}
+use Rattle.soy_base.specs.declared.place.ValueClass.{ValueClass}
+use Rattle.html_state.specs.AfterPieces.{Piece, Static, Value, placing_after}
+use Rattle.soy_meaning.specs.Filled.{Filled, filled_end, filled_pieces, frame_before, text_before, value_before}
+use Rattle.soy_meaning.specs.Filled.{value_form}
+use Rattle.soy_meaning.specs.Holes.{holes_before}
+use Rattle.soy_meaning.specs.PathParts.{HolePart, PathPart, StaticPart}
+use Rattle.soy_meaning.specs.Plan.{Plan}
+use Rattle.soy_meaning.specs.Points.{Address, AtHole, LeadsTo, frame_at, point_at}
+
+-- a frame of the whole plan, at an address
+pub record FrameWithin (whole : Plan) (kind : Kind) : Type 0 where
+  pub address : Address
+  pub plan : Plan
+  pub within : frame_at whole address ≡ Some (kind, plan)
+
+module _ (whole : Plan) (places : List Place) (context : Dir) where
+  -- a hole behind these parts and pieces of the frame
+  pub record IsPlaced (kind : Kind) (q : FrameWithin whole kind) (classes : List ValueClass) (parts : List PathPart)
+      (so_far : List Piece) : Type 0 where
+    pub hole : Address
+    pub point : point_at q.plan hole ≡ Some (AtHole classes)
+    pub leads : LeadsTo q.plan parts hole
+    pub place : (d : Place) → placing_after kind so_far
+        ≡ Ok (Takes (get_or places (holes_before whole q.address + holes_before q.plan hole) d))
+
+  -- what fills the rest of the frame behind these parts and pieces
+  abbrev pub ArePlaced : (kind : Kind) → FrameWithin whole kind → List PathPart → List Piece → Filled → Type 0
+  ArePlaced kind q parts so_far filled_end = Unit {0}
+  ArePlaced kind q parts so_far (text_before text f) =
+      ArePlaced kind q (parts ++ (StaticPart text ∷ [])) (so_far ++ (Static text ∷ [])) f
+  ArePlaced kind q parts so_far (value_before at classes value text f) =
+      IsPlaced kind q classes parts so_far
+      × ArePlaced kind q (parts ++ (HolePart at classes ∷ []))
+      (so_far ++ (Value (value_form (placing_after kind so_far) value text context) ∷ [])) f
+  ArePlaced kind q parts so_far (frame_before at classes inner_kind inner f) =
+      IsPlaced kind q classes parts so_far
+      × ((r : FrameWithin whole inner_kind) × ArePlaced inner_kind r [] [] inner)
+      × ArePlaced kind q (parts ++ (HolePart at classes ∷ []))
+      (so_far ++ filled_pieces context inner inner_kind []) f
