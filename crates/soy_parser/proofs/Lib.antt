@@ -30,3 +30,7 @@ pub mod Ints
 pub mod Cases
 pub mod Literals
 pub mod ReadingSteps
+pub mod DottedNames
+pub mod ViewForms
+pub mod FormedCommands
+pub mod FormedTrees

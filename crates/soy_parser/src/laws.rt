@@ -1,15 +1,20 @@
 //! What holds of the grammar and of the machine: functions that take nothing and do nothing, whose contracts are the
 //! laws.
 
-ghost use Rattle.std.specs.Prelude.{◌≡◌, ◌≢◌, ℕ, Bool, List, Some, Result, Err};
+ghost use Rattle.std.specs.Prelude.{◌≡◌, ◌≢◌, ℕ, Bool, true, List, Some, Result, Err};
 ghost use Rattle.soy_base.specs.declared.fault.Fault.{Fault};
 ghost use Rattle.soy_base.specs.declared.memory.Refusal.{Refusal};
 ghost use Rattle.soy_base.specs.declared.memory.Refusal.TheVariants.{OutOfMemory};
+ghost use Rattle.soy_lexer.specs.Tokens.{Tokens};
 ghost use Rattle.soy_lexer.specs.declared.token.Token.{Token};
+ghost use Rattle.soy_tree.specs.Formed.{is_formed_tree};
+ghost use Rattle.soy_tree.specs.ViewTrees.{view_tree};
 ghost use Rattle.soy_tree.specs.declared.tree.Tree.{Tree};
+ghost use Rattle.expr_parser.specs.AreNamed.{AreNamed};
+ghost use Rattle.expr_parser.specs.Depths.{AreWithin};
 ghost use Rattle.soy_parser.specs.FileRuns.{file_run, file_depths, file_words};
 ghost use Rattle.soy_parser.specs.FileSteps.{file_start, whole_file};
-ghost use Rattle.soy_parser.specs.ParsesFile.{ParsesFile};
+ghost use Rattle.soy_parser.specs.ParsesFile.{IsFile, ParsesFile};
 ghost use Rattle.soy_parser.specs.SpellsFile.{SpellsFile, BeginsFile};
 ghost use Rattle.soy_parser.specs.declared.spot.FileState.{FileState};
 
@@ -41,4 +46,13 @@ pub fn law_file_machine()
         whole_file s ≡ Some x → SpellsFile tokens (file_depths tokens file_start) (file_words tokens file_start) x }
     ensures spelled { (tokens : List Token) (ds : List ℕ) (ws : List Bool) (x : Tree) → SpellsFile tokens ds ws x →
         (s : FileState) × (file_run tokens file_start ≡ Some s) × (whole_file s ≡ Some x) }
+{}
+
+/// The tree of a file is formed, as the grammar has its ints, names, texts and messages: where the words and variables of
+/// the tokens are names and none lies too deep, and so for each tree that `parse` answers for the tokens of a text.
+pub fn law_formed_file()
+    ensures formed { (tokens : List Token) (ds : List ℕ) (ws : List Bool) (x : Tree) → AreNamed tokens →
+        AreWithin 0 ds → SpellsFile tokens ds ws x → is_formed_tree (view_tree x) ≡ true }
+    ensures of_a_text { (text : List ℕ) (tokens : List Token) (x : Tree) → Tokens text tokens → IsFile tokens x →
+        is_formed_tree (view_tree x) ≡ true }
 {}

@@ -20,7 +20,7 @@ use Rattle.soy_lexer.specs.declared.token.Token.{Token}
 use Rattle.soy_lexer.proofs.SomeSegments.{fault_within, tokens_or_fault}
 use Rattle.soy_parser.specs.FileReading.{fault_at, reading_file}
 use Rattle.soy_parser.specs.FileSteps.{file_start}
-use Rattle.soy_parser.specs.ParsesFile.{ParsesFile, RefusesFile}
+use Rattle.soy_parser.specs.ParsesFile.{ParsesFile, RefusesTokens}
 use Rattle.soy_parser.proofs.FileAnswers.{one_file_answer}
 use Rattle.soy_parser.proofs.FileReads.{read-ParsesFile, refused-ParsesFile}
 use Rattle.soy_tree.specs.declared.tree.Tree.{Tree}
@@ -108,7 +108,7 @@ unlexed-reads text OutOfMemory h = tt
 -- where the faults lie
 
 code_within : (to : ℕ) (tokens : List Token) (c : Code) (offset : ℕ) → InOrder 0 to tokens
-    → RefusesFile tokens c offset → offset ≤ to
+    → RefusesTokens tokens c offset → offset ≤ to
 code_within to tokens code.Syntax offset o p =
     let h = offset_within to p.prefix p.rest (subst (InOrder 0 to) p.whole o) in
     omega (arith, h, p.offset_is)
