@@ -127,7 +127,7 @@ not_other (c ∷ cs) h =
     off false e = refl
 
 equal_bytes : (a b : List ℕ) → bytes_eq a b ≡ true → bytes_eq b a ≡ true
-equal_bytes a b h = grind (bytes_eq-Decides a b, bytes_eq-Decides b a, h)
+equal_bytes a b h = (bytes_eq-Decides b a).1 (sym ((bytes_eq-Decides a b).0 h))
 
 other_than_word : (word : List ℕ) → is_case_word word ≡ true → bytes_eq (codes "other") word ≡ false
 other_than_word word h = by_value (bytes_eq (codes "other") word) refl

@@ -1,4 +1,4 @@
-use Rattle.std.proofs.Common.{ℕ, List, [], refl, subst, append-nil}
+use Rattle.std.proofs.Common.{ℕ, false, List, [], refl, subst, append-nil}
 use Rattle.soy_tree.specs.MessageParts.{no_part}
 use Rattle.soy_tree.specs.IcuText.{AtTop, Reads, stop, with_text}
 use Rattle.msg_extract.specs.CanonicalText.{written_text}
