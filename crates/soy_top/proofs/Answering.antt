@@ -11,8 +11,10 @@ use Rattle.soy_top.specs.declared.ending.Ending.{Ending}
 use Rattle.soy_top.specs.declared.ending.Ending.TheVariants as ending
 use Rattle.soy_top.specs.Accepts.{Refuses}
 use Rattle.soy_top.specs.Answer.{Answer, Usage, Read, Refused, not_yet, page_answer, form_answer, render_answer}
-use Rattle.soy_top.specs.Answer.{contents_answer, limits_answer, asked_answer, answer, known_answer}
+use Rattle.soy_top.specs.Answer.{contents_answer, limits_answer, asked_answer, answer, known_answer, first_fault_line}
+use Rattle.soy_top.specs.Answer.{is_rendered, last, parsed_answer}
 use Rattle.soy_top.specs.Asked.{Asked, Render, Check, Extract, Gen, Play, Preview, Format, asked_by_words}
+use Rattle.soy_top.specs.Asked.{template_files}
 use Rattle.soy_top.specs.Concludes.{MayEnd}
 use Rattle.soy_top.specs.Fetched.{AreContents, FetchesAll, IsNotHeld}
 use Rattle.soy_top.specs.FilesWanted.{FileWanted, asked_files, wanted_files, file_names, known_files, first_not_held}
@@ -52,14 +54,29 @@ render_not_usage template (json ∷ []) e = cc
 render_not_usage template (json ∷ file ∷ []) e = form_not_usage template json (first_form file) e
 render_not_usage template (json ∷ file ∷ other ∷ files) e = cc
 
+rendered_not_usage : (b : Bool) (a : Answer) → (a ≡ Usage → ⊥) → cond b a (not_yet (codes "render")) ≡ Usage → ⊥
+rendered_not_usage true a never e = never e
+rendered_not_usage false a never e = cc
+
+parsed_not_usage : (asked : Asked) (fetched : List (List ℕ)) → parsed_answer asked fetched ≡ Usage → ⊥
+parsed_not_usage (Render template json bundle files) fetched e =
+    rendered_not_usage (is_rendered bundle files) (render_answer template fetched)
+    (λ e. render_not_usage template fetched e) e
+parsed_not_usage (Check bundle files) fetched e = cc
+parsed_not_usage (Extract files) fetched e = cc
+parsed_not_usage (Gen number) fetched e = cc
+parsed_not_usage (Play script first second files) fetched e = cc
+parsed_not_usage (Preview template json bundle files) fetched e = cc
+parsed_not_usage (Format file) fetched e = cc
+
+faultless_not_usage : (line : Option (List ℕ)) (a : Answer) → (a ≡ Usage → ⊥) → option_map_or Refused line a ≡ Usage → ⊥
+faultless_not_usage None a never e = never e
+faultless_not_usage (Some line) a never e = cc
+
 contents_not_usage : (asked : Asked) (fetched : List (List ℕ)) → contents_answer asked fetched ≡ Usage → ⊥
-contents_not_usage (Render template json bundle files) fetched e = render_not_usage template fetched e
-contents_not_usage (Check bundle files) fetched e = cc
-contents_not_usage (Extract files) fetched e = cc
-contents_not_usage (Gen number) fetched e = cc
-contents_not_usage (Play script first second files) fetched e = cc
-contents_not_usage (Preview template json bundle files) fetched e = cc
-contents_not_usage (Format file) fetched e = cc
+contents_not_usage asked fetched e =
+    faultless_not_usage (first_fault_line (template_files asked) (last (length (template_files asked)) fetched))
+    (parsed_answer asked fetched) (λ e. parsed_not_usage asked fetched e) e
 
 limits_not_usage : (over : Option Word) (a : Answer) → (a ≡ Usage → ⊥)
     → option_map_or (λ file. Refused (too_large_line file)) over a ≡ Usage → ⊥

@@ -1,3 +1,4 @@
+pub mod Accepting
 pub mod Answering
 pub mod Courses
 pub mod Cuts
@@ -9,6 +10,9 @@ pub mod Pages
 pub mod ReadForm
 pub mod ReadLines
 pub mod Reading
+pub mod SourceAnswers
+pub mod SourceLaws
+pub mod SourceTokens
 pub mod Spaces
 pub mod SpelledForm
 pub mod SpelledLines

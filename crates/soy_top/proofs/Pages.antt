@@ -7,11 +7,12 @@ use Rattle.std.specs.Str.{bytes_eq}
 use Rattle.std.proofs.lemmas.Slice.Eq.{bytes_eq-Decides}
 use Rattle.soy_io.specs.FileOf.{Files, file_of}
 use Rattle.soy_top.specs.Answer.{Answer, Usage, Read, Refused, Done, page_answer, form_answer, render_answer}
-use Rattle.soy_top.specs.Answer.{contents_answer, asked_answer, limits_answer, answer}
+use Rattle.soy_top.specs.Answer.{contents_answer, asked_answer, limits_answer, answer, is_rendered, not_yet}
+use Rattle.soy_top.specs.Answer.{parsed_answer}
 use Rattle.soy_top.specs.Asked.{Asked, Render, Check, Extract, Gen, Play, Preview, Format, has_file_count, render_asked}
 use Rattle.soy_top.specs.Asked.{check_asked, extract_asked, gen_asked, play_asked, preview_asked, format_asked}
 use Rattle.soy_top.specs.Asked.{number_of, asked_by_words}
-use Rattle.soy_top.specs.FilesWanted.{FileWanted, data_file, source_file, is_rendered, render_files, asked_files}
+use Rattle.soy_top.specs.FilesWanted.{FileWanted, data_file, source_file, render_files, asked_files}
 use Rattle.soy_top.specs.FilesWanted.{first_not_held, first_over_limit, content, contents}
 use Rattle.soy_top.specs.FirstForm.{FirstFile, first_form, full_name}
 use Rattle.soy_top.specs.FirstPage.{page_of, first_page}
@@ -179,11 +180,17 @@ one_page files words template json bundle file text wanted are words_are dash he
           (ap (λ w. render_answer template (contents files w)) (sym are) ∙ h);
     }
 
+-- a text is no refusal by a fault of a file
+faultless : (line : Option (List ℕ)) (a : Answer) (text : List ℕ) → option_map_or Refused line a ≡ Done text
+    → a ≡ Done text
+faultless None a text h = h
+faultless (Some line) a text h = cc
+
 render_page : (files : Files) (words : List Word) (template json bundle : Word) (names : List Word) (b : Bool)
     (text : List ℕ) → words ≡ codes "render" ∷ template ∷ json ∷ bundle ∷ names → is_rendered bundle names ≡ b
-    → first_not_held files (cond b (render_files json bundle names) []) ≡ None
-    → render_answer template (contents files (cond b (render_files json bundle names) [])) ≡ Done text
-    → IsPage files words text
+    → first_not_held files (render_files json bundle names) ≡ None
+    → cond b (render_answer template (contents files (render_files json bundle names))) (not_yet (codes "render"))
+    ≡ Done text → IsPage files words text
 render_page files words template json bundle names false text words_are e held h = cc
 render_page files words template json bundle [] true text words_are e held h = let f : false ≡ true = e in cc
 render_page files words template json bundle (file ∷ other ∷ names) true text words_are e held h =
@@ -193,18 +200,24 @@ render_page files words template json bundle (file ∷ []) true text words_are e
     one_page files words template json bundle file text (render_files json bundle (file ∷ [])) one words_are
     ((bytes_eq-Decides bundle (codes "-")).0 e) held h
 
+parsed_page : (files : Files) (words : List Word) (asked : Asked) (text : List ℕ) → asked_by_words words ≡ Some asked
+    → first_not_held files (asked_files asked) ≡ None
+    → parsed_answer asked (contents files (asked_files asked)) ≡ Done text → IsPage files words text
+parsed_page files words (Render template json bundle names) text is held h =
+    render_page files words template json bundle names (is_rendered bundle names) text
+    (words_of_render template json bundle names words is) refl held h
+parsed_page files words (Check bundle names) text is held h = cc
+parsed_page files words (Extract names) text is held h = cc
+parsed_page files words (Gen number) text is held h = cc
+parsed_page files words (Play script first second names) text is held h = cc
+parsed_page files words (Preview template json bundle names) text is held h = cc
+parsed_page files words (Format file) text is held h = cc
+
 asked_page : (files : Files) (words : List Word) (asked : Asked) (text : List ℕ) → asked_by_words words ≡ Some asked
     → first_not_held files (asked_files asked) ≡ None
     → contents_answer asked (contents files (asked_files asked)) ≡ Done text → IsPage files words text
-asked_page files words (Render template json bundle names) text is held h =
-    render_page files words template json bundle names (is_rendered bundle names) text
-    (words_of_render template json bundle names words is) refl held h
-asked_page files words (Check bundle names) text is held h = cc
-asked_page files words (Extract names) text is held h = cc
-asked_page files words (Gen number) text is held h = cc
-asked_page files words (Play script first second names) text is held h = cc
-asked_page files words (Preview template json bundle names) text is held h = cc
-asked_page files words (Format file) text is held h = cc
+asked_page files words asked text is held h =
+    parsed_page files words asked text is held (faultless _ _ text h)
 
 answered_page : (files : Files) (words : List Word) (asked : Option Asked) (text : List ℕ)
     → asked_by_words words ≡ asked → option_map_or (asked_answer files) asked Usage ≡ Done text

@@ -1,7 +1,7 @@
 -- What is said of inputs that were fetched: they are an output, or they are refused.
 --
 -- Example: data without a value for a parameter are refused.
-use Rattle.std.specs.Prelude.{◌≡◌, ℕ, List, Result, Ok, Err}
+use Rattle.std.specs.Prelude.{◌≡◌, ℕ, List, Option, None, Some, Result, Ok, Err}
 use Rattle.std.specs.String.{string_bytes}
 use Rattle.soy_top.specs.declared.ending.Ending.{Ending}
 use Rattle.soy_top.specs.declared.ending.Ending.TheVariants as ending
@@ -27,3 +27,15 @@ Accepts answer (Err ending) = Refuses answer ending
 abbrev pub AcceptsPage : Answer → Result Page Ending → Type 0
 AcceptsPage answer (Ok page) = answer ≡ output_answer (view_page page)
 AcceptsPage answer (Err ending) = Refuses answer ending
+
+-- the ending is the line of a first fault, or out of memory
+abbrev pub RefusesSources : Option (List ℕ) → Ending → Type 0
+RefusesSources first ending.Usage = ⊥
+RefusesSources first (ending.Read text) = ⊥
+RefusesSources first (ending.Refused text) = (line : List ℕ) × (first ≡ Some line) × (string_bytes text ≡ ended line)
+RefusesSources first ending.Memory = Unit {0}
+
+-- what is said of template files by the line of their first fault, if there is one
+abbrev pub AcceptsSources : Option (List ℕ) → Result (Unit {0}) Ending → Type 0
+AcceptsSources first (Ok done) = first ≡ None
+AcceptsSources first (Err ending) = RefusesSources first ending

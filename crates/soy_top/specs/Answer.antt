@@ -2,21 +2,27 @@
 --
 -- The cases are tried in this order. Words that are no command get the usage text. The first file that the words want
 -- and that isn't held can't be read. The first file over its limit is refused, in the order of the words. The rest is
--- answered by the contents: what the program doesn't do yet is refused, which is every command but a `render` of one
--- file in the source language; and so are, in this order, a file that isn't of the first form, a template's name that
--- the file doesn't have, and data that aren't of the first form. Else the answer is the page.
+-- answered by the contents: the first template file that has a fault is refused, in the order of the words. What the
+-- program doesn't do yet is refused, which is every command but a `render` of one file in the source language; and so
+-- are, in this order, a file that isn't of the first form, a template's name that the file doesn't have, and data that
+-- aren't of the first form. Else the answer is the page.
 -- Example: the words `render t.zz d.json - t.soy` with a file of t.m are refused by `t.zz: 29 Entry`.
-use Rattle.std.specs.Prelude.{ℕ, List, [], ◌∷◌, Option, None, Some, option_map, if◌then◌else◌, codes, String}
+use Rattle.std.specs.Prelude.{ℕ, ◌-◌, List, [], ◌∷◌, length, drop, Option, None, Some, option_map, Result, Ok, Err}
+use Rattle.std.specs.Prelude.{Bool, false, if◌then◌else◌, codes, String}
 use Rattle.std.specs.Option.{option_map_or}
 use Rattle.std.specs.Str.{bytes_eq}
+use Rattle.soy_base.specs.declared.fault.Fault.{Fault}
 use Rattle.soy_io.specs.FileOf.{Files}
 use Rattle.soy_top.specs.Asked.{Asked, Render, Check, Extract, Gen, Play, Preview, Format, asked_by_words}
+use Rattle.soy_top.specs.Asked.{template_files}
 use Rattle.soy_top.specs.FilesWanted.{FileWanted, asked_files, wanted_files, known_files, first_not_held}
-use Rattle.soy_top.specs.FilesWanted.{first_over_limit, contents}
+use Rattle.soy_top.specs.FilesWanted.{first_over_limit, contents, is_source_language}
 use Rattle.soy_top.specs.FirstForm.{FirstFile, first_form, full_name}
 use Rattle.soy_top.specs.FirstPage.{page_of}
-use Rattle.soy_top.specs.Line.{not_yet_line, too_large_line, entry_line, read_line, usage_text, ended}
+use Rattle.soy_top.specs.Line.{not_yet_line, too_large_line, fault_line, entry_line, read_line, usage_text, ended}
+use Rattle.soy_top.specs.Sources.{source_answer}
 use Rattle.soy_top.specs.Words.{Word, command_words}
+use Rattle.soy_tree.specs.declared.tree.Tree.{Tree}
 
 pub data Answer : Type 0 where
   -- the usage text
@@ -49,22 +55,51 @@ abbrev pub form_answer : Word → List ℕ → Option FirstFile → Answer
 form_answer template json None = not_yet (codes "render")
 form_answer template json (Some form) = named_answer template json form
 
--- the answer to a `render` by its contents, which are none where the program doesn't do it yet
+-- whether the program does a `render` of these
+abbrev pub is_rendered : Word → List Word → Bool
+is_rendered bundle [] = false
+is_rendered bundle (file ∷ []) = is_source_language bundle
+is_rendered bundle (file ∷ other ∷ files) = false
+
+-- the answer to a `render` of one file in the source language by its contents
 abbrev pub render_answer : Word → List (List ℕ) → Answer
 render_answer template [] = not_yet (codes "render")
 render_answer template (json ∷ []) = not_yet (codes "render")
 render_answer template (json ∷ file ∷ []) = form_answer template json (first_form file)
 render_answer template (json ∷ file ∷ other ∷ files) = not_yet (codes "render")
 
--- the answer to what is asked by the contents of the files that it wants
+-- the answer to what is asked, where no template file has a fault
+abbrev pub parsed_answer : Asked → List (List ℕ) → Answer
+parsed_answer (Render template json bundle files) contents =
+    if is_rendered bundle files then render_answer template contents else not_yet (codes "render")
+parsed_answer (Check bundle files) contents = not_yet (codes "check")
+parsed_answer (Extract files) contents = not_yet (codes "extract")
+parsed_answer (Gen number) contents = not_yet (codes "gen")
+parsed_answer (Play script first second files) contents = not_yet (codes "play")
+parsed_answer (Preview template json bundle files) contents = not_yet (codes "preview")
+parsed_answer (Format file) contents = not_yet (codes "format")
+
+-- the line of a file's fault, or what follows where it has none
+abbrev pub unless_fault : Word → List ℕ → Result Tree Fault → Option (List ℕ) → Option (List ℕ)
+unless_fault name bytes (Ok tree) otherwise = otherwise
+unless_fault name bytes (Err fault) otherwise = Some (fault_line name bytes fault)
+
+-- the line of the first fault of template files of these names and contents
+abbrev pub first_fault_line : List Word → List (List ℕ) → Option (List ℕ)
+first_fault_line (name ∷ names) (bytes ∷ contents) =
+    unless_fault name bytes (source_answer bytes) (first_fault_line names contents)
+first_fault_line [] contents = None
+first_fault_line (name ∷ names) [] = None
+
+-- the last so many of a list
+abbrev pub last : {A : Type 0} → ℕ → List A → List A
+last n xs = drop (length xs - n) xs
+
+-- the answer to what is asked by the contents of the files that it wants, of which its template files are the last
 abbrev pub contents_answer : Asked → List (List ℕ) → Answer
-contents_answer (Render template json bundle files) contents = render_answer template contents
-contents_answer (Check bundle files) contents = not_yet (codes "check")
-contents_answer (Extract files) contents = not_yet (codes "extract")
-contents_answer (Gen number) contents = not_yet (codes "gen")
-contents_answer (Play script first second files) contents = not_yet (codes "play")
-contents_answer (Preview template json bundle files) contents = not_yet (codes "preview")
-contents_answer (Format file) contents = not_yet (codes "format")
+contents_answer asked contents =
+    let names : List Word = template_files asked in
+    option_map_or Refused (first_fault_line names (last (length names) contents)) (parsed_answer asked contents)
 
 -- the answer by the limits of the files
 abbrev pub limits_answer : Files → Asked → List FileWanted → Answer

@@ -95,3 +95,13 @@ command_asked command words =
 abbrev pub asked_by_words : List Word → Option Asked
 asked_by_words [] = None
 asked_by_words (command ∷ words) = command_asked command words
+
+-- the template files
+abbrev pub template_files : Asked → List Word
+template_files (Render template json bundle files) = files
+template_files (Check bundle files) = files
+template_files (Extract files) = files
+template_files (Gen number) = []
+template_files (Play script first second files) = files
+template_files (Preview template json bundle files) = files
+template_files (Format file) = file ∷ []

@@ -1,9 +1,8 @@
 -- The files that are fetched for what the words ask for, in the order of the words, and what a library holds of them.
 --
--- DATA and BUNDLE may have 4 MiB, and a FILE 1 MiB. The bundle `-` is no file. What the program doesn't do yet wants no
--- files: it does a `render` of one FILE in the source language.
+-- DATA, BUNDLE and SCRIPT may have 4 MiB, and a FILE 1 MiB. The bundle `-` is no file.
 -- Example: `render t.m d.json - t.soy` wants d.json and then t.soy; where neither is held, d.json is the first.
-use Rattle.std.specs.Prelude.{ℕ, List, [], ◌∷◌, ◌++◌, map, length, Bool, false, nat_lt, Option, None, Some, is_some}
+use Rattle.std.specs.Prelude.{ℕ, List, [], ◌∷◌, ◌++◌, map, length, Bool, nat_lt, Option, None, Some, is_some}
 use Rattle.std.specs.Prelude.{unwrap_or, if◌then◌else◌, codes, String}
 use Rattle.std.specs.Option.{option_map_or}
 use Rattle.std.specs.Str.{bytes_eq}
@@ -20,7 +19,7 @@ pub record FileWanted : Type 0 where
 abbrev pub source_file : Word → FileWanted
 source_file name = record { name = name; limit = 1048576 }
 
--- a DATA or a BUNDLE
+-- a DATA, a BUNDLE or a SCRIPT
 abbrev pub data_file : Word → FileWanted
 data_file name = record { name = name; limit = 4194304 }
 
@@ -30,25 +29,23 @@ is_source_language bundle = bytes_eq bundle (codes "-")
 abbrev pub bundle_files : Word → List FileWanted
 bundle_files bundle = if is_source_language bundle then [] else data_file bundle ∷ []
 
--- the files of a `render`
+-- the files of a `render` or `preview`
 abbrev pub render_files : Word → Word → List Word → List FileWanted
 render_files json bundle files = data_file json ∷ (bundle_files bundle ++ map source_file files)
 
--- whether the program does a `render` of these
-abbrev pub is_rendered : Word → List Word → Bool
-is_rendered bundle [] = false
-is_rendered bundle (file ∷ []) = is_source_language bundle
-is_rendered bundle (file ∷ other ∷ files) = false
+-- the files of a `play`
+abbrev pub play_files : Word → Word → Word → List Word → List FileWanted
+play_files script first second files =
+    data_file script ∷ (bundle_files first ++ (bundle_files second ++ map source_file files))
 
 abbrev pub asked_files : Asked → List FileWanted
-asked_files (Render template json bundle files) =
-    if is_rendered bundle files then render_files json bundle files else []
-asked_files (Check bundle files) = []
-asked_files (Extract files) = []
+asked_files (Render template json bundle files) = render_files json bundle files
+asked_files (Check bundle files) = bundle_files bundle ++ map source_file files
+asked_files (Extract files) = map source_file files
 asked_files (Gen number) = []
-asked_files (Play script first second files) = []
-asked_files (Preview template json bundle files) = []
-asked_files (Format file) = []
+asked_files (Play script first second files) = play_files script first second files
+asked_files (Preview template json bundle files) = render_files json bundle files
+asked_files (Format file) = source_file file ∷ []
 
 -- the files that the words want
 abbrev pub wanted_files : List Word → List FileWanted

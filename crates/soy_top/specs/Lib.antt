@@ -6,6 +6,7 @@ pub mod Change
 pub mod Concludes
 pub mod Course
 pub mod Data
+pub mod Deserves
 pub mod Due
 pub mod Ending
 pub mod Fetched
@@ -15,6 +16,8 @@ pub mod FirstPage
 pub mod IsPage
 pub mod Line
 pub mod Output
+pub mod ReadsSource
+pub mod Sources
 pub mod Spells
 pub mod View
 pub mod ViewForm

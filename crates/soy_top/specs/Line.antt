@@ -4,11 +4,13 @@
 -- digits, a space and the code's word. What it speaks of is a file with a place, a template, or the
 -- command where the program doesn't do yet what is asked.
 -- Example: `t.zz: 29 Entry`.
-use Rattle.std.specs.Prelude.{ℕ, List, [], ◌∷◌, ◌++◌, codes}
+use Rattle.std.specs.Prelude.{ℕ, ◌+◌, List, [], ◌∷◌, ◌++◌, codes}
 use Rattle.std.specs.Fmt.{decimal}
 use Rattle.soy_base.specs.declared.code.Code.{Code}
 use Rattle.soy_base.specs.declared.code.Code.TheVariants.{NotYet, TooLarge, Entry}
+use Rattle.soy_base.specs.declared.fault.Fault.{Fault}
 use Rattle.soy_base.specs.Code.{code_number, code_word}
+use Rattle.soy_base.specs.Position.{breaks_within, characters_before}
 use Rattle.soy_top.specs.Words.{Word}
 
 abbrev pub refusal_line : List ℕ → Code → List ℕ
@@ -22,6 +24,12 @@ not_yet_line command = refusal_line command NotYet
 -- the file is longer than its limit, which is shown at its first line and column
 abbrev pub too_large_line : Word → List ℕ
 too_large_line file = refusal_line (file ++ codes ":1:1") TooLarge
+
+-- the fault of a file, shown at its line and column
+abbrev pub fault_line : Word → List ℕ → Fault → List ℕ
+fault_line file bytes fault =
+    refusal_line (file ++ (codes ":" ++ (decimal (breaks_within bytes fault.at + 1)
+    ++ (codes ":" ++ decimal (characters_before bytes fault.at + 1))))) fault.code
 
 -- the template may not be rendered
 abbrev pub entry_line : Word → List ℕ

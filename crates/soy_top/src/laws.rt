@@ -1,13 +1,17 @@
-//! The laws of the answer and of the first form. Each is a contract with an empty body, so it holds
+//! The laws of the answer, of template files and of the first form. Each is a contract with an empty body, so it holds
 //! of the definitions that the code follows.
 
-ghost use Rattle.std.specs.Prelude.{◌≡◌, ℕ, List, Some};
+ghost use Rattle.std.specs.Prelude.{◌≡◌, ℕ, List, Result, Some};
+ghost use Rattle.soy_base.specs.declared.fault.Fault.{Fault};
 ghost use Rattle.soy_io.specs.FileOf.{Files};
 ghost use Rattle.soy_top.specs.Answer.{Done, answer};
+ghost use Rattle.soy_top.specs.Deserves.{Deserves};
 ghost use Rattle.soy_top.specs.FirstForm.{FirstFile, first_form};
 ghost use Rattle.soy_top.specs.IsPage.{IsPage};
+ghost use Rattle.soy_top.specs.Sources.{source_answer};
 ghost use Rattle.soy_top.specs.Spells.{Spells};
 ghost use Rattle.soy_top.specs.Words.{Word};
+ghost use Rattle.soy_tree.specs.declared.tree.Tree.{Tree};
 
 /// A text that is the answer is the page of the words and of the files that are held.
 pub fn law_answer_is_page()
@@ -19,4 +23,12 @@ pub fn law_answer_is_page()
 pub fn law_first_form()
     ensures found { (file : List ℕ) (form : FirstFile) → first_form file ≡ Some form → Spells file form }
     ensures spelled { (file : List ℕ) (form : FirstFile) → Spells file form → first_form file ≡ Some form }
+{}
+
+/// What a template file is answered by is its tree or its first fault by the rules of its text, its tokens and the
+/// grammar, and nothing else.
+pub fn law_source_answer()
+    ensures deserved { (bytes : List ℕ) → Deserves bytes (source_answer bytes) }
+    ensures only { (bytes : List ℕ) (answer : Result Tree Fault) → Deserves bytes answer →
+        source_answer bytes ≡ answer }
 {}

@@ -2,11 +2,12 @@
 //!
 //! `run` goes by `answered`, a function of the words and of the files that the library is known to
 //! hold. Its clauses say of each status exactly when it comes, what each sink took, and what is
-//! unchanged; running out of memory alone is free. So far `run` renders pages of the first form,
-//! which is one file of plain markup with prints of ASCII text; the module `first_form` reads it.
+//! unchanged; running out of memory alone is free. Each command fetches its files and refuses the first
+//! template file that has a fault. So far `run` renders pages of the first form, which is one file of
+//! plain markup with prints of ASCII text; the module `first_form` reads it.
 //!
-//! Depends on soy_base, soy_io and esc_table, and on serde_json for the data and indexmap for the
-//! parameters in their order.
+//! Depends on soy_base, soy_io and esc_table; on soy_lexer, soy_tree, expr_parser and soy_parser for the
+//! template files; and on serde_json for the data and indexmap for the parameters in their order.
 #![tactic(auto)]
 
 mod accept;
@@ -22,11 +23,12 @@ mod output;
 mod page;
 mod params;
 mod program;
+mod sources;
 mod status;
 mod text;
 mod wanted;
 
-pub use laws::{law_answer_is_page, law_first_form};
+pub use laws::{law_answer_is_page, law_first_form, law_source_answer};
 pub use program::run;
 pub use status::Status;
 

@@ -1,10 +1,11 @@
 //! The lines that the program writes for people.
 
-ghost use Rattle.std.specs.Prelude.{◌≡◌, IfOk};
+ghost use Rattle.std.specs.Prelude.{◌≡◌, ◌≤◌, length, IfOk};
 ghost use Rattle.std.specs.String.{string_bytes};
-ghost use Rattle.soy_top.specs.Line.{refusal_line, not_yet_line, too_large_line, entry_line, read_line, ended};
+ghost use Rattle.soy_top.specs.Line.{refusal_line, not_yet_line, too_large_line, fault_line, entry_line, read_line};
+ghost use Rattle.soy_top.specs.Line.{ended};
 
-use soy_base::{Code, OutOfMemory};
+use soy_base::{Code, Fault, OutOfMemory, Position, line_of};
 use std::alloc::Global;
 
 /// The usage text.
@@ -39,6 +40,21 @@ pub(crate) fn too_large_line(alloc: Global, file: &str) -> Result<String, OutOfM
 {
     let position = format!(in alloc; "{file}:1:1")?;
     refusal_line(alloc, position.as_str(), Code::TooLarge)
+}
+
+/// The line of a fault of a file.
+pub(crate) fn fault_line(
+    alloc: Global,
+    name: &str,
+    bytes: &[u8],
+    fault: Fault,
+) -> Result<String, OutOfMemory>
+    requires { fault.at ≤ length bytes.now }
+    ensures { IfOk result (λ line. string_bytes line ≡ ended (fault_line name.now bytes.now fault)) }
+{
+    let Position { line, column } = line_of(bytes, fault.at);
+    let position = format!(in alloc; "{name}:{line}:{column}")?;
+    refusal_line(alloc, position.as_str(), fault.code)
 }
 
 /// The line of a template that may not be rendered.

@@ -8,6 +8,7 @@ use std::alloc::Global;
 mod faults;
 mod forms;
 mod rows;
+mod sources;
 
 use forms::FORMS;
 use rows::{DATA, WORDS};
@@ -116,69 +117,63 @@ fn rows_of_data(rt: HostRuntime) {
     }
 }
 
-/// A file of the first form whose whole length is this many bytes.
-fn file_of_length(alloc: Global, length: usize) -> Option<Vec<u8>> {
+/// A file of the first form of 1,048,577 bytes, which is one without its last byte too.
+fn longest_file(alloc: Global) -> Option<Vec<u8>> {
     let mut file = Vec::from_slice(alloc, b"{namespace t}\n{template m}\n").ok()?;
-    for _ in 0..length {
-        if file.len() + 12 < length {
-            file.push(b'a').ok()?;
-        }
-    }
-    file.extend_from_slice(b"\n{/template}").ok()?;
+    file.resize(1_048_564, b'a').ok()?;
+    file.extend_from_slice(b"\n{/template}\n").ok()?;
     Some(file)
 }
 
-/// `{}` with spaces before it, this many bytes long.
-fn data_of_length(alloc: Global, length: usize) -> Option<Vec<u8>> {
-    let mut json = Vec::new(alloc);
-    for _ in 0..length {
-        if json.len() + 2 < length {
-            json.push(b' ').ok()?;
-        }
-    }
-    json.extend_from_slice(b"{}").ok()?;
+/// `{}` with spaces after it, of 4,194,305 bytes.
+fn longest_data(alloc: Global) -> Option<Vec<u8>> {
+    let mut json = Vec::from_slice(alloc, b"{}").ok()?;
+    json.resize(4_194_305, b' ').ok()?;
     Some(json)
 }
 
-/// Whether a file and data of these lengths are answered so.
-fn is_limited(alloc: Global, row: &(usize, usize, Status, &str)) -> bool {
-    let (file, json, status, text) = *row;
-    let (Some(file), Some(json)) = (file_of_length(alloc, file), data_of_length(alloc, json)) else {
+/// Whether so many bytes of the file and of the data are answered so.
+fn is_limited(alloc: Global, file: &[u8], json: &[u8], row: &(usize, usize, Status, &str)) -> bool {
+    let (file_length, json_length, status, text) = *row;
+    let (Some(file), Some(json)) = (file.get(..file_length), json.get(..json_length)) else {
         return false;
     };
-    let line = "render t.m d.json - t.soy";
-    match run_line(alloc, line, file.as_slice(), json.as_slice()) {
+    match run_line(alloc, "render t.m d.json - t.soy", file, json) {
         Some(ended) => ended.status == status && ended.err.as_slice() == text.as_bytes(),
         None => false,
     }
 }
 
+/// The lengths of the file and of the data, the status and the text of standard error.
+const LIMITS: &[(usize, usize, Status, &str)] = &[
+    (1_048_576, 4_194_304, Status::Done, ""),
+    (
+        1_048_577,
+        4_194_304,
+        Status::Refused,
+        "t.soy:1:1: 2 TooLarge\n",
+    ),
+    (
+        1_048_576,
+        4_194_305,
+        Status::Refused,
+        "d.json:1:1: 2 TooLarge\n",
+    ),
+    (
+        1_048_577,
+        4_194_305,
+        Status::Refused,
+        "d.json:1:1: 2 TooLarge\n",
+    ),
+];
+
 #[test]
 fn rows_of_limits(rt: HostRuntime) {
-    let rows = [
-        (1_048_576, 4_194_304, Status::Done, ""),
-        (
-            1_048_577,
-            4_194_304,
-            Status::Refused,
-            "t.soy:1:1: 2 TooLarge\n",
-        ),
-        (
-            1_048_576,
-            4_194_305,
-            Status::Refused,
-            "d.json:1:1: 2 TooLarge\n",
-        ),
-        (
-            1_048_577,
-            4_194_305,
-            Status::Refused,
-            "d.json:1:1: 2 TooLarge\n",
-        ),
-    ];
-    for row in &rows {
+    let (file, json) = (longest_file(rt.alloc()), longest_data(rt.alloc()));
+    let (file, json) = (text_of(&file), text_of(&json));
+    for row in LIMITS {
         assert!(rt;
-            is_limited(rt.alloc(), row),
+            is_limited(rt.alloc(), file, json, row),
             "{} and {} bytes",
             row.0,
             row.1
@@ -186,12 +181,18 @@ fn rows_of_limits(rt: HostRuntime) {
     }
 }
 
+/// The bytes that were made, and none where memory ran out.
+fn text_of(bytes: &Option<Vec<u8>>) -> &[u8] {
+    match bytes {
+        Some(bytes) => bytes.as_slice(),
+        None => b"",
+    }
+}
+
 /// So many times the byte `[`.
 fn brackets(alloc: Global, length: usize) -> Option<Vec<u8>> {
     let mut json = Vec::new(alloc);
-    for _ in 0..length {
-        json.push(b'[').ok()?;
-    }
+    json.resize(length, b'[').ok()?;
     Some(json)
 }
 
@@ -211,21 +212,8 @@ fn is_refused(alloc: Global, file: &[u8], json: &[u8], line: &str) -> bool {
 fn rows_of_bytes(rt: HostRuntime) {
     let file = rows::FILE.as_bytes();
     let deep = brackets(rt.alloc(), 4_194_304);
-    let deep = match &deep {
-        Some(deep) => deep.as_slice(),
-        None => b"",
-    };
-    let rows: [(&str, &[u8], &[u8]); 5] = [
-        (
-            "FILE with a byte 255",
-            b"{namespace t}\n{template m}\n\xff\n{/template}\n",
-            b"{}",
-        ),
-        (
-            "FILE cut within a character",
-            b"{namespace t}\n{template m}\na\n{/template}\n\xc3",
-            b"{}",
-        ),
+    let deep = text_of(&deep);
+    let rows: [(&str, &[u8], &[u8]); 3] = [
         ("DATA with a byte 255", file, b"{\"x\":\"\xff\"}"),
         ("DATA cut within a character", file, b"{\"x\":\"a\"}\xc3"),
         ("4 MiB of brackets as DATA", file, deep),
@@ -273,8 +261,8 @@ fn status_with_files(alloc: Global, command: &str, count: usize) -> Option<Statu
 fn rows_of_file_counts(rt: HostRuntime) {
     let counts = [
         (0, Status::Usage),
-        (1, Status::Refused),
-        (64, Status::Refused),
+        (1, Status::Read),
+        (64, Status::Read),
         (65, Status::Usage),
     ];
     for command in [

@@ -227,7 +227,7 @@ fn a_library_that_is_refused_memory(rt: HostRuntime) {
     for (left, status, text) in [
         (0, Status::Memory, ""),
         (1, Status::Memory, ""),
-        (2, Status::Refused, "render: 30 NotYet\n"),
+        (2, Status::Refused, "t.soy:1:2: 4 Syntax\n"),
     ] {
         let ended = with_scarce_files(rt.alloc(), left);
         assert!(rt; has_said(ended, status, text), "{left} fetches");

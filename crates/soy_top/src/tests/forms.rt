@@ -75,7 +75,7 @@ pub(super) const FORMS: &[Row] = &[
         "",
         JSON,
         Status::Refused,
-        NOT_YET,
+        "t.soy:1:1: 4 Syntax\n",
     ),
     (
         "line breaks of two bytes",
@@ -91,7 +91,7 @@ pub(super) const FORMS: &[Row] = &[
         "{namespacet}\n{template m}\n{@param x: string}\nx\n{/template}\n",
         JSON,
         Status::Refused,
-        NOT_YET,
+        "t.soy:1:2: 4 Syntax\n",
     ),
     (
         "a number for a namespace",
@@ -99,7 +99,7 @@ pub(super) const FORMS: &[Row] = &[
         "{namespace 1}\n{template m}\n{@param x: string}\nx\n{/template}\n",
         JSON,
         Status::Refused,
-        NOT_YET,
+        "t.soy:1:12: 4 Syntax\n",
     ),
     (
         "a namespace with a dot last",
@@ -107,7 +107,7 @@ pub(super) const FORMS: &[Row] = &[
         "{namespace a.}\n{template m}\n{@param x: string}\nx\n{/template}\n",
         JSON,
         Status::Refused,
-        NOT_YET,
+        "t.soy:1:14: 4 Syntax\n",
     ),
     (
         "an empty namespace",
@@ -115,7 +115,7 @@ pub(super) const FORMS: &[Row] = &[
         "{namespace }\n{template m}\n{@param x: string}\nx\n{/template}\n",
         JSON,
         Status::Refused,
-        NOT_YET,
+        "t.soy:1:12: 4 Syntax\n",
     ),
     (
         "a namespace with a hyphen",
@@ -123,7 +123,7 @@ pub(super) const FORMS: &[Row] = &[
         "{namespace a-b}\n{template m}\n{@param x: string}\nx\n{/template}\n",
         JSON,
         Status::Refused,
-        NOT_YET,
+        "t.soy:1:13: 4 Syntax\n",
     ),
     (
         "a template with a dot",
@@ -179,7 +179,7 @@ pub(super) const FORMS: &[Row] = &[
         "{namespace t}\n{template m}\n{@param 1x: string}\nx\n{/template}\n",
         JSON,
         Status::Refused,
-        NOT_YET,
+        "t.soy:3:9: 4 Syntax\n",
     ),
     (
         "a parameter after a space",
@@ -299,7 +299,7 @@ pub(super) const FORMS: &[Row] = &[
         "{namespace t}\n{template m}\n{@param x: string}\n{x}\n{/template}\n",
         JSON,
         Status::Refused,
-        NOT_YET,
+        "t.soy:4:2: 4 Syntax\n",
     ),
     (
         "an undeclared print",
@@ -315,7 +315,7 @@ pub(super) const FORMS: &[Row] = &[
         "{namespace t}\n{template m}\n{@param x: string}\n{$x\n{/template}\n",
         JSON,
         Status::Refused,
-        NOT_YET,
+        "t.soy:5:1: 3 Lex\n",
     ),
     (
         "a brace alone",
@@ -323,7 +323,7 @@ pub(super) const FORMS: &[Row] = &[
         "{namespace t}\n{template m}\n{@param x: string}\na } b\n{/template}\n",
         JSON,
         Status::Refused,
-        NOT_YET,
+        "t.soy:4:3: 3 Lex\n",
     ),
     (
         "a print after a space",
@@ -331,7 +331,7 @@ pub(super) const FORMS: &[Row] = &[
         "{namespace t}\n{template m}\n{@param x: string}\n{ $x}\n{/template}\n",
         JSON,
         Status::Refused,
-        NOT_YET,
+        "t.soy:4:1: 3 Lex\n",
     ),
     (
         "a print before a space",
@@ -347,7 +347,7 @@ pub(super) const FORMS: &[Row] = &[
         "{namespace t}\n{template m}\n{@param x: string}\n{$}\n{/template}\n",
         JSON,
         Status::Refused,
-        NOT_YET,
+        "t.soy:4:2: 3 Lex\n",
     ),
     (
         "a tab",
@@ -379,7 +379,7 @@ pub(super) const FORMS: &[Row] = &[
         "{namespace t}\n{template m}\n{@param x: string}\n<b>{$x}</b>\n{/template}\nx",
         JSON,
         Status::Refused,
-        NOT_YET,
+        "t.soy:6:1: 4 Syntax\n",
     ),
     (
         "two line breaks at the end",
@@ -395,7 +395,7 @@ pub(super) const FORMS: &[Row] = &[
         "{namespace t}\n{template m}\n{@param x: string}\n<b>{$x}</b>\n",
         JSON,
         Status::Refused,
-        NOT_YET,
+        "t.soy:4:12: 4 Syntax\n",
     ),
     (
         "an end with a space",
