@@ -11,10 +11,10 @@ use Rattle.soy_top.specs.declared.ending.Ending.{Ending}
 use Rattle.soy_top.specs.declared.ending.Ending.TheVariants as ending
 use Rattle.soy_top.specs.Accepts.{Refuses}
 use Rattle.soy_top.specs.Answer.{Answer, Usage, Read, Refused, not_yet, page_answer, form_answer, render_answer}
-use Rattle.soy_top.specs.Answer.{contents_answer, limits_answer, asked_answer, answer, known_answer, first_fault_line}
+use Rattle.soy_top.specs.Answer.{contents_answer, limits_answer, asked_answer, answer, known_answer}
 use Rattle.soy_top.specs.Answer.{is_rendered, last, parsed_answer}
 use Rattle.soy_top.specs.Asked.{Asked, Render, Check, Extract, Gen, Play, Preview, Format, asked_by_words}
-use Rattle.soy_top.specs.Asked.{template_files}
+use Rattle.soy_top.specs.Asked.{is_checked, template_files}
 use Rattle.soy_top.specs.Concludes.{MayEnd}
 use Rattle.soy_top.specs.Fetched.{AreContents, FetchesAll, IsNotHeld}
 use Rattle.soy_top.specs.FilesWanted.{FileWanted, asked_files, wanted_files, file_names, known_files, first_not_held}
@@ -22,6 +22,7 @@ use Rattle.soy_top.specs.FilesWanted.{first_over_limit, contents}
 use Rattle.soy_top.specs.FirstForm.{FirstFile, first_form, full_name}
 use Rattle.soy_top.specs.FirstPage.{page_of}
 use Rattle.soy_top.specs.Line.{too_large_line}
+use Rattle.soy_top.specs.SourceFiles.{refusing_line}
 use Rattle.soy_top.specs.View.{view_contents}
 use Rattle.soy_top.specs.Words.{Word}
 
@@ -75,7 +76,8 @@ faultless_not_usage (Some line) a never e = cc
 
 contents_not_usage : (asked : Asked) (fetched : List (List ℕ)) → contents_answer asked fetched ≡ Usage → ⊥
 contents_not_usage asked fetched e =
-    faultless_not_usage (first_fault_line (template_files asked) (last (length (template_files asked)) fetched))
+    faultless_not_usage
+    (refusing_line (is_checked asked) (template_files asked) (last (length (template_files asked)) fetched))
     (parsed_answer asked fetched) (λ e. parsed_not_usage asked fetched e) e
 
 limits_not_usage : (over : Option Word) (a : Answer) → (a ≡ Usage → ⊥)

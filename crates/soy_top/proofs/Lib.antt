@@ -4,9 +4,13 @@ pub mod Courses
 pub mod Cuts
 pub mod Delimiters
 pub mod Fetching
+pub mod FewFiles
+pub mod FileFaults
+pub mod FormedSources
 pub mod Keys
 pub mod Numbers
 pub mod Pages
+pub mod PastEnd
 pub mod ReadForm
 pub mod ReadLines
 pub mod Reading

@@ -1,8 +1,10 @@
 -- What is said of inputs that were fetched: they are an output, or they are refused.
 --
 -- Example: data without a value for a parameter are refused.
-use Rattle.std.specs.Prelude.{◌≡◌, ℕ, List, Option, None, Some, Result, Ok, Err}
+use Rattle.std.specs.Prelude.{◌≡◌, ℕ, List, Option, None, Some, Result, Ok, Err, Vec}
 use Rattle.std.specs.String.{string_bytes}
+use Rattle.std.specs.declared.alloc.Global.{Global}
+use Rattle.soy_base.specs.declared.fault.Fault.{Fault}
 use Rattle.soy_top.specs.declared.ending.Ending.{Ending}
 use Rattle.soy_top.specs.declared.ending.Ending.TheVariants as ending
 use Rattle.soy_top.specs.declared.output.Output.{Output}
@@ -10,7 +12,10 @@ use Rattle.soy_top.specs.declared.page.Page.{Page}
 use Rattle.soy_top.specs.Answer.{Answer, Refused}
 use Rattle.soy_top.specs.Line.{ended}
 use Rattle.soy_top.specs.Output.{output_answer}
+use Rattle.soy_top.specs.SourceFiles.{unless_fault}
 use Rattle.soy_top.specs.ViewOutput.{view_output, view_page}
+use Rattle.soy_top.specs.Words.{Word}
+use Rattle.soy_tree.specs.declared.tree.Tree.{Tree}
 
 -- the ending is the refusal that the answer is, or out of memory
 abbrev pub Refuses : Answer → Ending → Type 0
@@ -39,3 +44,13 @@ RefusesSources first ending.Memory = Unit {0}
 abbrev pub AcceptsSources : Option (List ℕ) → Result (Unit {0}) Ending → Type 0
 AcceptsSources first (Ok done) = first ≡ None
 AcceptsSources first (Err ending) = RefusesSources first ending
+
+-- a template file is its tree, or it is refused by its first fault
+abbrev pub AcceptsSource : Word → List ℕ → Result Tree Fault → Result Tree Ending → Type 0
+AcceptsSource name bytes answer (Ok tree) = answer ≡ Ok tree
+AcceptsSource name bytes answer (Err ending) = RefusesSources (unless_fault name bytes answer None) ending
+
+-- template files are their trees, or they are refused by the first fault that one of them has by itself
+abbrev pub ReadsSources : Option (List ℕ) → List Tree → Result (Vec Tree Global) Ending → Type 0
+ReadsSources first trees (Ok read) = (first ≡ None) × (read.items ≡ trees)
+ReadsSources first trees (Err ending) = RefusesSources first ending

@@ -2,27 +2,25 @@
 --
 -- The cases are tried in this order. Words that are no command get the usage text. The first file that the words want
 -- and that isn't held can't be read. The first file over its limit is refused, in the order of the words. The rest is
--- answered by the contents: the first template file that has a fault is refused, in the order of the words. What the
--- program doesn't do yet is refused, which is every command but a `render` of one file in the source language; and so
+-- answered by the contents: the template files are refused by their first fault, if they have one. What the program
+-- doesn't do yet is refused, which is every command but a `render` of one file in the source language; and so
 -- are, in this order, a file that isn't of the first form, a template's name that the file doesn't have, and data that
 -- aren't of the first form. Else the answer is the page.
 -- Example: the words `render t.zz d.json - t.soy` with a file of t.m are refused by `t.zz: 29 Entry`.
-use Rattle.std.specs.Prelude.{ℕ, ◌-◌, List, [], ◌∷◌, length, drop, Option, None, Some, option_map, Result, Ok, Err}
+use Rattle.std.specs.Prelude.{ℕ, ◌-◌, List, [], ◌∷◌, length, drop, Option, None, Some, option_map}
 use Rattle.std.specs.Prelude.{Bool, false, if◌then◌else◌, codes, String}
 use Rattle.std.specs.Option.{option_map_or}
 use Rattle.std.specs.Str.{bytes_eq}
-use Rattle.soy_base.specs.declared.fault.Fault.{Fault}
 use Rattle.soy_io.specs.FileOf.{Files}
 use Rattle.soy_top.specs.Asked.{Asked, Render, Check, Extract, Gen, Play, Preview, Format, asked_by_words}
-use Rattle.soy_top.specs.Asked.{template_files}
+use Rattle.soy_top.specs.Asked.{is_checked, template_files}
 use Rattle.soy_top.specs.FilesWanted.{FileWanted, asked_files, wanted_files, known_files, first_not_held}
 use Rattle.soy_top.specs.FilesWanted.{first_over_limit, contents, is_source_language}
 use Rattle.soy_top.specs.FirstForm.{FirstFile, first_form, full_name}
 use Rattle.soy_top.specs.FirstPage.{page_of}
-use Rattle.soy_top.specs.Line.{not_yet_line, too_large_line, fault_line, entry_line, read_line, usage_text, ended}
-use Rattle.soy_top.specs.Sources.{source_answer}
+use Rattle.soy_top.specs.Line.{not_yet_line, too_large_line, entry_line, read_line, usage_text, ended}
+use Rattle.soy_top.specs.SourceFiles.{refusing_line}
 use Rattle.soy_top.specs.Words.{Word, command_words}
-use Rattle.soy_tree.specs.declared.tree.Tree.{Tree}
 
 pub data Answer : Type 0 where
   -- the usage text
@@ -79,18 +77,6 @@ parsed_answer (Play script first second files) contents = not_yet (codes "play")
 parsed_answer (Preview template json bundle files) contents = not_yet (codes "preview")
 parsed_answer (Format file) contents = not_yet (codes "format")
 
--- the line of a file's fault, or what follows where it has none
-abbrev pub unless_fault : Word → List ℕ → Result Tree Fault → Option (List ℕ) → Option (List ℕ)
-unless_fault name bytes (Ok tree) otherwise = otherwise
-unless_fault name bytes (Err fault) otherwise = Some (fault_line name bytes fault)
-
--- the line of the first fault of template files of these names and contents
-abbrev pub first_fault_line : List Word → List (List ℕ) → Option (List ℕ)
-first_fault_line (name ∷ names) (bytes ∷ contents) =
-    unless_fault name bytes (source_answer bytes) (first_fault_line names contents)
-first_fault_line [] contents = None
-first_fault_line (name ∷ names) [] = None
-
 -- the last so many of a list
 abbrev pub last : {A : Type 0} → ℕ → List A → List A
 last n xs = drop (length xs - n) xs
@@ -99,7 +85,8 @@ last n xs = drop (length xs - n) xs
 abbrev pub contents_answer : Asked → List (List ℕ) → Answer
 contents_answer asked contents =
     let names : List Word = template_files asked in
-    option_map_or Refused (first_fault_line names (last (length names) contents)) (parsed_answer asked contents)
+    option_map_or Refused (refusing_line (is_checked asked) names (last (length names) contents))
+    (parsed_answer asked contents)
 
 -- the answer by the limits of the files
 abbrev pub limits_answer : Files → Asked → List FileWanted → Answer

@@ -10,6 +10,7 @@ pub mod Deserves
 pub mod Due
 pub mod Ending
 pub mod Fetched
+pub mod FilesDeserve
 pub mod FilesWanted
 pub mod FirstForm
 pub mod FirstPage
@@ -17,6 +18,7 @@ pub mod IsPage
 pub mod Line
 pub mod Output
 pub mod ReadsSource
+pub mod SourceFiles
 pub mod Sources
 pub mod Spells
 pub mod View

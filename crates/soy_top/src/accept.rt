@@ -1,14 +1,13 @@
 //! Accepts what was fetched, or refuses it.
 
-ghost use Rattle.std.specs.Prelude.{◌≡◌, [], ◌∷◌, length, None};
+ghost use Rattle.std.specs.Prelude.{◌≡◌, ◌≤◌, length};
 ghost use Rattle.serde_json.specs.View.{view};
-ghost use Rattle.soy_top.specs.Accepts.{Accepts, AcceptsPage, AcceptsSources, Refuses};
-ghost use Rattle.soy_top.specs.Answer.{contents_answer, first_fault_line, form_answer, is_rendered, last};
-ghost use Rattle.soy_top.specs.Answer.{named_answer, not_yet, page_answer, parsed_answer, render_answer, unless_fault};
+ghost use Rattle.soy_top.specs.Accepts.{Accepts, AcceptsPage, Refuses};
+ghost use Rattle.soy_top.specs.Answer.{contents_answer, form_answer, is_rendered, named_answer, not_yet};
+ghost use Rattle.soy_top.specs.Answer.{page_answer, parsed_answer, render_answer};
 ghost use Rattle.soy_top.specs.Asked.{template_files};
 ghost use Rattle.soy_top.specs.FirstForm.{first_form};
 ghost use Rattle.soy_top.specs.FirstPage.{page_of, page_with};
-ghost use Rattle.soy_top.specs.Sources.{source_answer};
 ghost use Rattle.soy_top.specs.View.{view_command, view_contents};
 ghost use Rattle.soy_top.specs.ViewForm.{view_form};
 ghost use Rattle.soy_top.specs.Words.{command_words};
@@ -17,13 +16,12 @@ use crate::command::Command;
 use crate::data::{has_values, read_data};
 use crate::ending::Ending;
 use crate::first_form::{FirstFile, read_form};
-use crate::line::{entry_line, fault_line, not_yet_line};
+use crate::line::{entry_line, not_yet_line};
 use crate::output::Output;
 use crate::page::Page;
-use crate::sources::read_source;
+use crate::source_files::accept_sources;
 use crate::wanted::is_source_language;
 use serde_json::Value;
-use soy_base::Refusal;
 use std::alloc::Global;
 
 /// What is to be written for a command with the contents of the files that it wants.
@@ -32,83 +30,15 @@ pub(crate) fn accept<'a>(
     command: Command<'_>,
     contents: &'a [Vec<u8>],
 ) -> Result<Output<'a>, Ending>
+    requires { length (template_files (view_command command)) ≤ 64 }
     ensures { Accepts (contents_answer (view_command command.entry) (view_contents contents.now)) result }
 {
     accept_sources(alloc, command, contents)?;
     accept_parsed(alloc, command, contents)
 }
 
-/// Reads the template files of a command, which are the last of its contents.
-fn accept_sources(alloc: Global, command: Command<'_>, contents: &[Vec<u8>]) -> Result<(), Ending>
-    ensures { AcceptsSources (first_fault_line (template_files (view_command command.entry))
-        (last (length (template_files (view_command command.entry))) (view_contents contents.now))) result }
-{
-    match command {
-        Command::Render { files, .. } => accept_files(alloc, files, contents),
-        Command::Check { files, .. } => accept_files(alloc, files, contents),
-        Command::Extract { files } => accept_files(alloc, files, contents),
-        Command::Gen { .. } => Ok(()),
-        Command::Play { files, .. } => accept_files(alloc, files, contents),
-        Command::Preview { files, .. } => accept_files(alloc, files, contents),
-        Command::Format { file } => accept_last(alloc, file, contents),
-    }
-}
-
-/// The last so many contents, or all where there are fewer.
-fn last(contents: &[Vec<u8>], count: usize) -> &[Vec<u8>]
-    ensures { view_contents result.now ≡ last count (view_contents contents.now) }
-{
-    &contents[contents.len().saturating_sub(count)..]
-}
-
-/// Reads the files of these names, whose contents are the last.
-fn accept_files(alloc: Global, names: &[String], contents: &[Vec<u8>]) -> Result<(), Ending>
-    ensures { AcceptsSources (first_fault_line (command_words names.now)
-        (last (length (command_words names.now)) (view_contents contents.now))) result }
-{
-    accept_each(alloc, names, last(contents, names.len()))
-}
-
-/// Reads the file of this name, whose content is the last.
-fn accept_last(alloc: Global, name: &str, contents: &[Vec<u8>]) -> Result<(), Ending>
-    ensures { AcceptsSources (first_fault_line (name.now ∷ []) (last 1 (view_contents contents.now))) result }
-{
-    match last(contents, 1) {
-        [] => Ok(()),
-        [bytes, ..] => accept_source(alloc, name, bytes.as_slice()),
-    }
-}
-
-/// Reads the files of these names and contents.
-fn accept_each(alloc: Global, names: &[String], contents: &[Vec<u8>]) -> Result<(), Ending>
-    ensures { AcceptsSources (first_fault_line (command_words names.now) (view_contents contents.now)) result }
-{
-    let mut rest = contents;
-    for name in names {
-        let Some((bytes, others)) = rest.split_first() else {
-            return Ok(());
-        };
-        accept_source(alloc, name.as_str(), bytes.as_slice())?;
-        rest = others;
-    }
-    Ok(())
-}
-
-/// Reads a file, and refuses it by its first fault.
-fn accept_source(alloc: Global, name: &str, bytes: &[u8]) -> Result<(), Ending>
-    ensures { AcceptsSources (unless_fault name.now bytes.now (source_answer bytes.now) None) result }
-{
-    match read_source(alloc, bytes) {
-        Ok(_) => Ok(()),
-        Err(Refusal::Because(fault)) => {
-            Err(Ending::Refused(fault_line(alloc, name, bytes, fault)?))
-        }
-        Err(Refusal::OutOfMemory) => Err(Ending::Memory),
-    }
-}
-
-/// What is to be written for a command with the contents of the files that it wants, where no template file has a
-/// fault.
+/// What is to be written for a command with the contents of the files that it wants, where no template file is
+/// refused.
 fn accept_parsed<'a>(
     alloc: Global,
     command: Command<'_>,

@@ -1,13 +1,15 @@
 //! The laws of the answer, of template files and of the first form. Each is a contract with an empty body, so it holds
 //! of the definitions that the code follows.
 
-ghost use Rattle.std.specs.Prelude.{◌≡◌, ℕ, List, Result, Some};
+ghost use Rattle.std.specs.Prelude.{◌≡◌, ℕ, true, List, length, Option, Result, Some};
 ghost use Rattle.soy_base.specs.declared.fault.Fault.{Fault};
 ghost use Rattle.soy_io.specs.FileOf.{Files};
 ghost use Rattle.soy_top.specs.Answer.{Done, answer};
 ghost use Rattle.soy_top.specs.Deserves.{Deserves};
+ghost use Rattle.soy_top.specs.FilesDeserve.{FilesDeserve};
 ghost use Rattle.soy_top.specs.FirstForm.{FirstFile, first_form};
 ghost use Rattle.soy_top.specs.IsPage.{IsPage};
+ghost use Rattle.soy_top.specs.SourceFiles.{refusing_line};
 ghost use Rattle.soy_top.specs.Sources.{source_answer};
 ghost use Rattle.soy_top.specs.Spells.{Spells};
 ghost use Rattle.soy_top.specs.Words.{Word};
@@ -31,4 +33,14 @@ pub fn law_source_answer()
     ensures deserved { (bytes : List ℕ) → Deserves bytes (source_answer bytes) }
     ensures only { (bytes : List ℕ) (answer : Result Tree Fault) → Deserves bytes answer →
         source_answer bytes ≡ answer }
+{}
+
+/// What template files are refused by is what they deserve together, by the rules of each file and what is demanded of
+/// their trees, and nothing else.
+pub fn law_source_files()
+    ensures deserved { (names : List Word) (contents : List (List ℕ)) → length names ≡ length contents →
+        FilesDeserve names contents (refusing_line true names contents) }
+    ensures only { (names : List Word) (contents : List (List ℕ)) (line : Option (List ℕ)) →
+        length names ≡ length contents → FilesDeserve names contents line →
+        refusing_line true names contents ≡ line }
 {}

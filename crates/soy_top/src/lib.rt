@@ -3,11 +3,12 @@
 //! `run` goes by `answered`, a function of the words and of the files that the library is known to
 //! hold. Its clauses say of each status exactly when it comes, what each sink took, and what is
 //! unchanged; running out of memory alone is free. Each command fetches its files and refuses the first
-//! template file that has a fault. So far `run` renders pages of the first form, which is one file of
+//! template file that has a fault, and then, but for `format`, what the trees of all template files may not
+//! have together. So far `run` renders pages of the first form, which is one file of
 //! plain markup with prints of ASCII text; the module `first_form` reads it.
 //!
-//! Depends on soy_base, soy_io and esc_table; on soy_lexer, soy_tree, expr_parser and soy_parser for the
-//! template files; and on serde_json for the data and indexmap for the parameters in their order.
+//! Depends on soy_base, soy_io and esc_table; on soy_lexer, soy_tree, expr_parser, soy_parser and soy_check for
+//! the template files; and on serde_json for the data and indexmap for the parameters in their order.
 #![tactic(auto)]
 
 mod accept;
@@ -23,12 +24,13 @@ mod output;
 mod page;
 mod params;
 mod program;
+mod source_files;
 mod sources;
 mod status;
 mod text;
 mod wanted;
 
-pub use laws::{law_answer_is_page, law_first_form, law_source_answer};
+pub use laws::{law_answer_is_page, law_first_form, law_source_answer, law_source_files};
 pub use program::run;
 pub use status::Status;
 

@@ -5,6 +5,7 @@ use crate::{Status, run};
 use soy_io::{NamedFile, PlainLibrary, PlainSink};
 use std::alloc::Global;
 
+mod checks;
 mod faults;
 mod forms;
 mod rows;
@@ -133,12 +134,7 @@ fn longest_data(alloc: Global) -> Option<Vec<u8>> {
 }
 
 /// Whether so many bytes of the file and of the data are answered so.
-fn is_limited(
-    alloc: Global,
-    file: &[u8],
-    json: &[u8],
-    row: &(usize, usize, Status, &str),
-) -> bool {
+fn is_limited(alloc: Global, file: &[u8], json: &[u8], row: &(usize, usize, Status, &str)) -> bool {
     let (file_length, json_length, status, text) = *row;
     let (Some(file), Some(json)) = (file.get(..file_length), json.get(..json_length)) else {
         return false;

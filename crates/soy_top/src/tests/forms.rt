@@ -155,7 +155,7 @@ pub(super) const FORMS: &[Row] = &[
         "{namespace t}\n{template m}\n{@param x: string}\n{@param x: string}\nx\n{/template}\n",
         JSON,
         Status::Refused,
-        NOT_YET,
+        "t.soy:4:1: 6 Twice\n",
     ),
     (
         "a parameter of another type",
@@ -307,7 +307,7 @@ pub(super) const FORMS: &[Row] = &[
         "{namespace t}\n{template m}\n{@param x: string}\n{$y}\n{/template}\n",
         JSON,
         Status::Refused,
-        NOT_YET,
+        "t.soy:4:2: 7 Unknown\n",
     ),
     (
         "an open print",

@@ -174,9 +174,9 @@ pub(super) const WORDS: &[Row] = &[
     ),
     (
         "two files",
-        "render t.m d.json - t.soy t.soy",
+        "render t.m d.json - t.soy d.json",
         FILE,
-        JSON,
+        "{namespace u}\n",
         Status::Refused,
         NOT_YET,
     ),

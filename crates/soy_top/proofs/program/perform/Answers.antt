@@ -4,7 +4,12 @@ use Rattle.soy_top.specs.View.{view_command, view_contents, view_files}
 use Rattle.soy_top.specs.ViewOutput.{view_output}
 use Rattle.soy_top.specs.Words.{command_words}
 use Rattle.soy_top.proofs.Answering.{answer-fetched, answer-same, may_end-fetched, may_end-refusal}
+use Rattle.soy_top.proofs.FewFiles.{few-files}
 use Rattle.soy_top.proofs.program.perform.Goals as goal
+
+pub accept-requires : goal.accept-requires
+accept-requires g c =
+    few-files (command_words c.args.words.now) (view_command c.in-Some.command) c.in-Some.ensures
 
 pub returns-in_err-contents-clause-may_end : goal.returns-in_err-contents-clause-may_end
 returns-in_err-contents-clause-may_end g c =

@@ -2,7 +2,7 @@ use Rattle.std.proofs.Common.{ap, ◌∙◌}
 use Rattle.std.proofs.lemmas.List.{take_rest}
 use Rattle.soy_top.specs.View.{view_contents}
 use Rattle.soy_top.proofs.Accepting.{view_last}
-use Rattle.soy_top.proofs.accept.last.Goals as goal
+use Rattle.soy_top.proofs.source_files.last.Goals as goal
 
 pub returns : goal.returns
 returns c =
