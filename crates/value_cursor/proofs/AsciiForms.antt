@@ -1,13 +1,11 @@
 -- Tables of the forms of ASCII, and the first character of a text by one.
-use Rattle.std.proofs.Common.{◌≡◌, ℕ, zero, suc, ◌+◌, ◌<◌, Bool, true, ◌&&◌, Bor, List, [], ◌∷◌, ◌++◌, length, get_or}
-use Rattle.std.proofs.Common.{drop, None, Option, Some, refl, sym, ap, ◌∙◌, encode_utf8_all, unwrap_or, arith}
+use Rattle.std.proofs.Common.{◌≡◌, ℕ, zero, suc, ◌+◌, ◌<◌, Bor, List, [], ◌∷◌, ◌++◌, get_or}
+use Rattle.std.proofs.Common.{drop, None, Option, Some, sym, ap, ◌∙◌, encode_utf8_all, unwrap_or, arith}
 use Rattle.std.specs.List.{slice_get}
 use Rattle.std.specs.Char.{len_utf8}
 use Rattle.std.specs.Option.{option_map_or}
 use Rattle.std.specs.Prelude.{IfSome, map}
-use Rattle.std.specs.Str.{bytes_eq, chars, IsUtf8}
-use Rattle.std.proofs.lemmas.Bool.{and_parts}
-use Rattle.std.proofs.lemmas.Slice.Eq.{bytes_eq-Decides}
+use Rattle.std.specs.Str.{chars, IsUtf8}
 use Rattle.std.proofs.lemmas.Str.{chars_past_char, encode_ascii, len_utf8_ascii}
 use Rattle.escapers.specs.declared.escaper.Escaper.{Escaper}
 use Rattle.escapers.specs.Esc.{escaped_character}

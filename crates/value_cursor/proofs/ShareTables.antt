@@ -1,7 +1,7 @@
 -- The tables of shares: they are what the forms of characters take. For ASCII it is computed, character by character;
 -- above it the tables have one share for all bytes, or the rows begin with bytes whose shares say nothing.
 use Rattle.std.proofs.Common.{◌≡◌, ℕ, ◌+◌, ◌*◌, ◌-◌, ◌/◌, ◌%◌, ◌<◌, ◌≤◌, Bool, true, false, not, ◌&&◌, ◌||◌, eqb, List}
-use Rattle.std.proofs.Common.{[], ◌∷◌, ◌++◌, None, Some, length, drop, refl, sym, ap, subst, ◌∙◌, ⊎_elim, unwrap_or}
+use Rattle.std.proofs.Common.{[], ◌∷◌, None, Some, length, drop, refl, sym, ap, subst, ◌∙◌, ⊎_elim, unwrap_or}
 use Rattle.std.proofs.Common.{if◌then◌else◌, codes, encode_utf8, nat_lt, arith}
 use Rattle.std.specs.Char.{IsScalar, len_utf8}
 use Rattle.std.specs.List.{AllByRecursion, flat_map, list_all, slice_index_or}
@@ -18,7 +18,6 @@ use Rattle.esc_table.specs.EscapedText.{escaped_character as row_or_character}
 use Rattle.esc_table.specs.HtmlRows.{html_rows}
 use Rattle.esc_table.specs.LeadBytes.{lead_byte}
 use Rattle.esc_table.specs.RowText.{row_text}
-use Rattle.escapers.specs.declared.escaper.Escaper.{Escaper}
 use Rattle.escapers.specs.declared.escaper.Escaper.TheVariants as escaper
 use Rattle.escapers.specs.CssRows.{css_rows}
 use Rattle.escapers.specs.Esc.{escaped_character}

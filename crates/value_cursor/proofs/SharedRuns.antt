@@ -1,14 +1,15 @@
 -- Up to its first byte with another share than 1 a text has whole characters, which stand for themselves.
-use Rattle.std.proofs.Common.{◌≡◌, ℕ, zero, suc, ◌+◌, ◌-◌, ◌<◌, ◌≤◌, Bool, true, false, not, ◌&&◌, List, [], ◌∷◌, ◌++◌}
-use Rattle.std.proofs.Common.{length, take, drop, get_or, refl, sym, ap, subst, ◌∙◌, ⊎_elim, encode_utf8, encode_utf8_all}
+use Rattle.std.proofs.Common.{◌≡◌, ℕ, zero, suc, ◌+◌, ◌-◌, ◌<◌, ◌≤◌, Bool, true, false, not, List, [], ◌∷◌, ◌++◌}
+use Rattle.std.proofs.Common.{length, take, get_or, refl, sym, ap, subst, ◌∙◌, ⊎_elim, encode_utf8, encode_utf8_all}
 use Rattle.std.proofs.Common.{All, length-append, arith}
 use Rattle.std.specs.List.{list_all, slice_index_or}
 use Rattle.std.specs.Str.{all_scalars, chars, IsCharBoundary, IsUtf8}
 use Rattle.std.proofs.lemmas.Bool.{and_from, and_parts, both_ways, cases_lt, not-true}
-use Rattle.std.proofs.lemmas.List.{get_or_append_left, get_or-append-add, get_or-take, take_at, length-take-le}
+use Rattle.std.proofs.lemmas.List.{get_or_append_left, get_or-append-add, get_or-append_right, get_or-take, take_at, length-take-le}
 use Rattle.std.proofs.lemmas.Slice.Eq.{bytes_eq-Decides}
 use Rattle.std.proofs.lemmas.Str.{chars_from_encodes, encodes-append, encodes-chars, length-encode, len_utf8_bounds}
 use Rattle.std.proofs.lemmas.Str.{IsCharBoundary-at_seam, IsUtf8-take, scalars-chars}
+use lib.Utf8.{scalar}
 use Rattle.esc_table.specs.LeadBytes.{lead_byte}
 use Rattle.escapers.specs.declared.escaper.Escaper.{Escaper}
 use Rattle.escapers.specs.Esc.{escaped_character}
@@ -37,6 +38,13 @@ pub record RunOf (how : Escaper) (cs : List ℕ) (at : ℕ) : Type 0 where
   pub plain : list_all (stands_for_itself how) run ≡ true
 
 module _ (how : Escaper) (shares : List ℕ) (are : AreShares how shares) where
+  -- where the search stops, seen from behind a prefix
+  stops : (bytes rest : List ℕ) (at : ℕ) → length bytes ≤ at → at < length (bytes ++ rest)
+      → (at < length (bytes ++ rest) → is_other shares (get_or (bytes ++ rest) at 0) ≡ true)
+      → is_other shares (get_or rest (at - length bytes) 0) ≡ true
+  stops bytes rest at past under stop =
+      ap (is_other shares) (sym (get_or-append_right bytes rest (length bytes) at 0 refl past)) ∙ stop under
+
   run_of : (cs : List ℕ) (at : ℕ) → all_scalars cs ≡ true → at ≤ length (encode_utf8_all cs)
       → ((i : ℕ) → i < at → is_other shares (get_or (encode_utf8_all cs) i 0) ≡ false)
       → (at < length (encode_utf8_all cs) → is_other shares (get_or (encode_utf8_all cs) at 0) ≡ true)
@@ -48,7 +56,7 @@ module _ (how : Escaper) (shares : List ℕ) (are : AreShares how shares) where
   run_of (c ∷ cs) (suc n) scalars within before stop =
       let bytes : List ℕ = encode_utf8 c in
       let rest : List ℕ = encode_utf8_all cs in
-      let parts = and_parts _ _ scalars in
+      let parts = and_parts (scalar c) (all_scalars cs) scalars in
       let size : length (bytes ++ rest) ≡ length bytes + length rest = length-append bytes rest in
       let first : is_other shares (lead_byte c) ≡ false =
       ap (is_other shares) (sym (get_or_append_left bytes rest 0 0 (begins c))) ∙ before 0 (omega arith) in
@@ -60,12 +68,10 @@ module _ (how : Escaper) (shares : List ℕ) (are : AreShares how shares) where
       (ap (is_other shares) (sym (get_or_append_left bytes rest 0 (suc n) short)) ∙ stop (omega (arith, short, size)))))
       (λ long. long)
       (cases_lt (suc n) (length bytes)) in
-      let at : length bytes + (suc n - length bytes) ≡ suc n = omega (arith, past) in
       let more = run_of cs (suc n - length bytes) parts.1 (omega (arith, within, size, past))
       (λ i under. ap (is_other shares) (sym (get_or-append-add bytes rest i 0))
       ∙ before (length bytes + i) (omega (arith, under, past)))
-      (λ under. ap (is_other shares) (sym (get_or-append-add bytes rest (suc n - length bytes) 0)
-      ∙ ap (λ k. get_or (bytes ++ rest) k 0) at) ∙ stop (omega (arith, under, size, past))) in
+      (λ under. stops bytes rest (suc n) past (omega (arith, under, size, past)) stop) in
       record {
         run = c ∷ more.run;
         others = more.others;

@@ -1,5 +1,5 @@
 -- The shares of all bytes of a text together.
-use Rattle.std.proofs.Common.{◌≡◌, ℕ, ◌+◌, ◌*◌, ◌<◌, ◌≤◌, true, ◌&&◌, List, [], ◌∷◌, ◌++◌, length, take, drop, refl, sym}
+use Rattle.std.proofs.Common.{◌≡◌, ℕ, ◌+◌, ◌*◌, ◌<◌, ◌≤◌, true, ◌&&◌, List, [], ◌∷◌, ◌++◌, length, refl, sym}
 use Rattle.std.proofs.Common.{ap, ◌∙◌, ◌^◌, None, Option, Some, encode_utf8, encode_utf8_all, length-append, nat_lt, arith}
 use Rattle.std.specs.Prelude.{IfSome}
 use Rattle.std.specs.List.{flat_map, list_all}
@@ -7,7 +7,8 @@ use Rattle.std.specs.Str.{all_scalars, chars, IsUtf8}
 use Rattle.std.proofs.lemmas.Bool.{and_from, and_parts}
 use Rattle.std.proofs.lemmas.Bool.Decides.{nat_tests}
 use Rattle.std.proofs.lemmas.List.Folds.{list_all-append}
-use Rattle.std.proofs.lemmas.Str.{encodes-append, encodes-chars, scalars-chars}
+use Rattle.std.proofs.lemmas.Str.{encodes-chars, scalars-chars}
+use lib.Utf8.{scalar}
 use Rattle.soy_base.specs.ByteLength.{byte_len}
 use Rattle.escapers.specs.declared.escaper.Escaper.{Escaper}
 use Rattle.escapers.specs.Esc.{escaped_character}
@@ -68,7 +69,7 @@ module _ (how : Escaper) (shares : List ℕ) (are : AreShares how shares) where
       → total_share shares (encode_utf8_all cs) ≡ byte_len (flat_map (escaped_character how) cs)
   total_forms [] scalars known = refl
   total_forms (c ∷ cs) scalars known =
-      let both = and_parts _ _ scalars in
+      let both = and_parts (scalar c) (all_scalars cs) scalars in
       let parts = and_parts (list_all (is_known shares) (encode_utf8 c))
       (list_all (is_known shares) (encode_utf8_all cs))
       (sym (list_all-append (is_known shares) (encode_utf8 c) (encode_utf8_all cs)) ∙ known) in

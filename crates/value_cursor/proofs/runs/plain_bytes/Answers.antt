@@ -1,5 +1,4 @@
 use Rattle.std.specs.Str.{chars}
-use Rattle.std.proofs.lemmas.Str.{IsUtf8-drop, IsUtf8-take}
 use Rattle.value_cursor.proofs.PlainRuns.{prefix_plain}
 use Rattle.value_cursor.proofs.SharedRuns.{found_boundary, found_plain, whole_plain}
 use Rattle.value_cursor.proofs.runs.plain_bytes.Goals as goal

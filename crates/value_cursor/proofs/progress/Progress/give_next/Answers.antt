@@ -1,7 +1,7 @@
-use Rattle.std.proofs.Common.{◌≡◌, ℕ, ◌+◌, ◌∙◌, ◌++◌, ap, drop, encode_utf8_all, length, refl, subst, sym}
+use Rattle.std.proofs.Common.{◌≡◌, ℕ, ◌+◌, ◌∙◌, ◌++◌, ap, drop, length, refl, subst, sym}
 use Rattle.std.specs.Char.{len_utf8}
 use Rattle.std.specs.Str.{IsCharBoundary}
-use Rattle.value_cursor.specs.BytesLeft.{bytes_from, form}
+use Rattle.value_cursor.specs.BytesLeft.{bytes_from}
 use Rattle.value_cursor.proofs.Forms.{char_boundary, char_bytes}
 use Rattle.value_cursor.proofs.Givings.{all_given, gives_pending, gives_prefix, gives_same}
 use Rattle.value_cursor.proofs.progress.Progress.give_next.Goals as goal
