@@ -1,0 +1,194 @@
+-- The same for nodes, one after the other and in the arms of an if.
+use Rattle.std.proofs.Common.{◌≡◌, ◌+◌, ◌≤◌, ℕ, ℤ, pos, Bool, true, false, List, [], ◌∷◌, Option, Some, None, Ok}
+use Rattle.std.proofs.Common.{if◌then◌else◌, refl, sym, ap, ◌∙◌, subst, arith, take}
+use Rattle.soy_base.specs.declared.place.Place.{Place}
+use Rattle.soy_tree.specs.Cost.{cost}
+use Rattle.soy_tree.specs.Nodes.{Node, Nodes, Otherwise, Arms, TextNode, Print, If, Let, no_node, node, no_otherwise}
+use Rattle.soy_tree.specs.Nodes.{otherwise, no_arm, arm}
+use Rattle.soy_tree.specs.Templates.{Declared}
+use Rattle.soy_tree.specs.Val.{is_truthy, val}
+use Rattle.soy_meaning.specs.Giving.{RunEnv, StateSoFar, with_choice, with_cost}
+use Rattle.soy_meaning.specs.Outcome.{ArmTaken, Outcome, Spent, continued_by, gives_nothing, spent_first}
+use Rattle.soy_meaning.specs.Pieces.{RunContext, arms_mean, node_means, nodes_mean, otherwise_means, unbound}
+use Rattle.soy_meaning.specs.Plan.{Site}
+use Rattle.soy_meaning.proofs.Outcomes.{first_followed, first_none}
+use Rattle.template_ir.specs.Compiles.{StandsArms, StandsNode, StandsNodes, StandsOther}
+use Rattle.template_ir.specs.HoleCounts.{arm_holes, node_holes, nodes_holes}
+use Rattle.template_ir.specs.Ops.{Branch, IfOp, Program}
+use Rattle.template_ir.specs.Run.{OpMeans, block_gives, branches_give, one_step, ops_give, rest_gives}
+use Rattle.template_ir.specs.declared.op.Block as code_block
+use Rattle.template_ir.proofs.Core.{GoesOn, all_means, context, free_step, from_here, let_law, op_first, print_law}
+use Rattle.template_ir.proofs.Core.{text_law}
+use Rattle.template_ir.proofs.Forward.{nodes_forward}
+use Rattle.template_ir.proofs.Matching.{EnvsMatch, cost_match, truth_match}
+use Rattle.template_ir.proofs.Placed.{ArmsPlaced, NodePlaced, NodesPlaced, OtherPlaced, Picks}
+use Rattle.template_ir.proofs.Plain.{Same, plain, same_first, same_free}
+use Rattle.template_ir.proofs.Tables.{part, part_none, part_take}
+
+-- the commands of this trial
+abbrev mutual
+  IsCore : Node → Type 0
+  IsCore (TextNode text span) = Unit {0}
+  IsCore (Print e phname span) = Unit {0}
+  IsCore (If arms other span) = AreCoreArms arms × IsCoreOther other
+  IsCore (Let name e span) = Unit {0}
+  IsCore _ = ⊥
+
+  AreCore : Nodes → Type 0
+  AreCore no_node = Unit {0}
+  AreCore (node n ns) = IsCore n × AreCore ns
+
+  IsCoreOther : Otherwise → Type 0
+  IsCoreOther no_otherwise = Unit {0}
+  IsCoreOther (otherwise body) = AreCore body
+
+  AreCoreArms : Arms → Type 0
+  AreCoreArms no_arm = Unit {0}
+  AreCoreArms (arm e body arms) = AreCore body × AreCoreArms arms
+
+behind : {a b c : ℕ} → a ≤ b → b ≤ c → a ≤ c
+behind h k = omega (arith, h, k)
+
+picked : (t u : Bool) → t ≡ u → (X Y : Type 0) → Picks t X Y → (a b c d z : Outcome)
+    → (X → Same a (continued_by c z)) → (Y → Same b (continued_by d z))
+    → Same (if t then a else b) (continued_by (if u then c else d) z)
+picked true true same X Y h a b c d z f g = f h
+picked true false same X Y h a b c d z f g = let no : ⊥ = cc in absurd no
+picked false true same X Y h a b c d z f g = let no : ⊥ = cc in absurd no
+picked false false same X Y h a b c d z f g = g h
+
+priced : (m n : ℕ) (a o z : Outcome) → m ≡ n → Same a (continued_by o z)
+    → Same (with_cost m a) (continued_by (with_cost n o) z)
+priced m n a o z h k =
+    same_first (record { cost = m; work = 0; choices = [] }) (record { cost = n; work = 0; choices = [] }) a
+    (continued_by o z) h k
+    ∙ ap plain (sym (first_followed (record { cost = n; work = 0; choices = [] }) o z))
+
+module _ (c : RunContext) (p : Program) (places : List Place) (called : Site → Declared → RunEnv → Outcome)
+    (opens : Site → ℕ → RunEnv → Outcome) (Opened : Declared → RunEnv → Type 0)
+    (direction : p.direction ≡ c.direction) where
+  -- at the end of a block
+  block_end : (end : ℕ) (k : ℤ) (other : RunEnv) (a z : Outcome) → Same a z
+      → Same a (from_here c p places called opens Opened direction end end k other z)
+  block_end end k other a z h =
+      h ∙ (sym (same_free (one_step 0) z refl)
+      ∙ ap (λ ms. plain (continued_by (ops_give ms k other) z))
+      (sym (part_none (all_means c p places called opens Opened direction) end end (omega arith))))
+
+  mutual
+    node_law : (n : Node) → IsCore n → (hole at past : ℕ)
+        → StandsNode (context c p places called opens Opened direction) n hole at past
+        → (end : ℕ) (k : ℤ) (rest : Outcome) → past ≤ end → (env other : RunEnv) → EnvsMatch env other
+        → (so_far : StateSoFar) (next : RunEnv → StateSoFar → Outcome) (Next : RunEnv → StateSoFar → Type 0)
+        → NodePlaced c places called Opened n hole env so_far Next
+        → GoesOn c p places called opens Opened direction Next next past end k rest
+        → Same (node_means c called n env so_far next)
+        (from_here c p places called opens Opened direction at end k other rest)
+    node_law (TextNode text span) core hole at past h end k rest l env other all so_far next Next placed goes =
+        text_law c p places called opens Opened direction text at past end k rest h l other so_far (next env) (Next env)
+        placed (λ now x. goes env other now all x)
+    node_law (Print e phname span) core hole at past h end k rest l env other all so_far next Next placed goes =
+        print_law c p places called opens Opened direction e hole at past end k rest h l env other all so_far (next env)
+        (Next env) placed (λ now x. goes env other now all x)
+    node_law (Let name e span) core hole at past h end k rest l env other all so_far next Next placed goes =
+        let_law c p places called opens Opened direction name e at past end k rest h l env other all so_far next Next
+        placed goes
+    node_law (If arms last span) core hole at past h end k rest l env other all so_far next Next placed goes =
+        let z : Outcome = from_here c p places called opens Opened direction past end k other rest in
+        free_step (node_means c called (If arms last span) env so_far next)
+        (branches_give (take at (all_means c p places called opens Opened direction)) h.0 h.1 other) z
+        (arms_law arms core.0 h.0 hole at h.2 last core.1 h.1 (hole + arm_holes c.translation arms) h.3 0 env other all
+        so_far (next env) (Next env) z placed (λ now x. goes env other now all x))
+        ∙ ap plain (sym (op_first c p places called opens Opened direction (IfOp h.0 h.1) at past end k other rest h.4 l))
+    node_law n core hole at past h end k rest l env other all so_far next Next placed goes = absurd core
+
+    nodes_law : (ns : Nodes) → AreCore ns → (hole at past : ℕ)
+        → StandsNodes (context c p places called opens Opened direction) ns hole at past
+        → (end : ℕ) (k : ℤ) (rest : Outcome) → past ≤ end → (env other : RunEnv) → EnvsMatch env other
+        → (so_far : StateSoFar) (next : RunEnv → StateSoFar → Outcome) (Next : RunEnv → StateSoFar → Type 0)
+        → NodesPlaced c places called Opened ns hole env so_far Next
+        → GoesOn c p places called opens Opened direction Next next past end k rest
+        → Same (nodes_mean c called ns env so_far next)
+        (from_here c p places called opens Opened direction at end k other rest)
+    nodes_law no_node core hole at past h end k rest l env other all so_far next Next placed goes =
+        goes env other so_far all placed
+        ∙ ap (λ n. plain (from_here c p places called opens Opened direction n end k other rest)) h
+    nodes_law (node n ns) core hole at past h end k rest l env other all so_far next Next placed goes =
+        node_law n core.0 hole at h.0 h.1 end k rest (behind (nodes_forward (context c p places called opens Opened direction)
+        ns (hole + node_holes c.translation n) h.0 past h.2) l) env other all so_far
+        (λ inner now. nodes_mean c called ns inner now next)
+        (λ inner now. NodesPlaced c places called Opened ns (hole + node_holes c.translation n) inner now Next) placed
+        (λ inner within now same x. nodes_law ns core.1 (hole + node_holes c.translation n) h.0 past h.2 end k rest l
+        inner within same now next Next x goes)
+
+    block_law : (body : Nodes) → AreCore body → (b : code_block.Block) (hole before : ℕ)
+        → b.end ≤ before
+        → StandsNodes (context c p places called opens Opened direction) body hole b.first b.end
+        → (env other : RunEnv) → EnvsMatch env other
+        → (so_far : StateSoFar) (on : StateSoFar → Outcome) (Next : StateSoFar → Type 0) (z : Outcome)
+        → NodesPlaced c places called Opened body hole env so_far (λ inner now. Next now)
+        → ((now : StateSoFar) → Next now → Same (on now) z)
+        → Same (nodes_mean c called body env so_far (unbound on))
+        (continued_by (block_gives (take before (all_means c p places called opens Opened direction)) b (pos 0) other) z)
+    block_law body core b hole before l h env other all so_far on Next z placed next =
+        nodes_law body core hole b.first b.end h b.end (pos 0) z (omega arith) env other all so_far (unbound on)
+        (λ inner now. Next now) placed
+        (λ inner within now same x. block_end b.end (pos 0) within (on now) z (next now x))
+        ∙ ap (λ ms. plain (continued_by (ops_give ms (pos 0) other) z))
+        (sym (part_take (all_means c p places called opens Opened direction) before b.first b.end l))
+
+    other_law : (last : Otherwise) → IsCoreOther last → (b : Option code_block.Block) (hole before : ℕ)
+        → StandsOther (context c p places called opens Opened direction) last b hole before
+        → (k : ℕ) (env other : RunEnv) → EnvsMatch env other
+        → (so_far : StateSoFar) (on : StateSoFar → Outcome) (Next : StateSoFar → Type 0) (z : Outcome)
+        → OtherPlaced c places called Opened last hole env so_far Next
+        → ((now : StateSoFar) → Next now → Same (on now) z)
+        → Same (otherwise_means c called last k env so_far on)
+        (continued_by (rest_gives (take before (all_means c p places called opens Opened direction)) b other) z)
+    other_law no_otherwise core None hole before h k env other all so_far on Next z placed next =
+        same_free (record { cost = 0; work = 1; choices = ArmTaken None ∷ [] }) (on so_far) refl
+        ∙ (next so_far placed ∙ ap plain (sym (first_none z)))
+    other_law no_otherwise core (Some b) hole before h k env other all so_far on Next z placed next = absurd h
+    other_law (otherwise body) core None hole before h k env other all so_far on Next z placed next = absurd h
+    other_law (otherwise body) core (Some b) hole before h k env other all so_far on Next z placed next =
+        same_free (record { cost = 0; work = 1; choices = ArmTaken (Some k) ∷ [] })
+        (nodes_mean c called body env so_far (unbound on)) refl
+        ∙ block_law body core b hole before h.0 h.1 env other all so_far on Next z placed next
+
+    arms_law : (arms : Arms) → AreCoreArms arms → (branches : List Branch) (hole before : ℕ)
+        → StandsArms (context c p places called opens Opened direction) arms branches hole before
+        → (last : Otherwise) → IsCoreOther last → (b : Option code_block.Block) (behind : ℕ)
+        → StandsOther (context c p places called opens Opened direction) last b behind before
+        → (k : ℕ) (env other : RunEnv) → EnvsMatch env other
+        → (so_far : StateSoFar) (on : StateSoFar → Outcome) (Next : StateSoFar → Type 0) (z : Outcome)
+        → ArmsPlaced c places called Opened arms (OtherPlaced c places called Opened last behind env so_far Next) hole
+        env so_far Next
+        → ((now : StateSoFar) → Next now → Same (on now) z)
+        → Same (arms_mean c called arms (λ j. otherwise_means c called last j env) k env so_far on)
+        (continued_by (branches_give (take before (all_means c p places called opens Opened direction)) branches b other)
+        z)
+    arms_law no_arm core [] hole before h last lasts b behind s k env other all so_far on Next z placed next =
+        other_law last lasts b behind before s k env other all so_far on Next z placed next
+    arms_law no_arm core (x ∷ branches) hole before h last lasts b behind s k env other all so_far on Next z placed
+        next = absurd h
+    arms_law (arm e body arms) core [] hole before h last lasts b behind s k env other all so_far on Next z placed
+        next = absurd h
+    arms_law (arm e body arms) core (x ∷ branches) hole before h last lasts b behind s k env other all so_far on Next z
+        placed next =
+        let ms : List OpMeans = take before (all_means c p places called opens Opened direction) in
+        let taken : Outcome = nodes_mean c called body env so_far (unbound on) in
+        priced (cost e env) (cost x.when other)
+        (if is_truthy (val e env) then with_choice (ArmTaken (Some k)) taken
+        else arms_mean c called arms (λ j. otherwise_means c called last j env) (k + 1) env so_far on)
+        (if is_truthy (val x.when other) then block_gives ms x.body (pos 0) other
+        else branches_give ms branches b other) z
+        (cost_match env other all e ∙ ap (λ d. cost d other) (sym h.0))
+        (picked (is_truthy (val e env)) (is_truthy (val x.when other))
+        (truth_match env other all e ∙ ap (λ d. is_truthy (val d other)) (sym h.0)) _ _ placed
+        (with_choice (ArmTaken (Some k)) taken)
+        (arms_mean c called arms (λ j. otherwise_means c called last j env) (k + 1) env so_far on)
+        (block_gives ms x.body (pos 0) other) (branches_give ms branches b other) z
+        (λ here. same_free (record { cost = 0; work = 1; choices = ArmTaken (Some k) ∷ [] }) taken refl
+        ∙ block_law body core.0 x.body hole before h.1 h.2 env other all so_far on Next z here next)
+        (λ there. arms_law arms core.1 branches (hole + nodes_holes c.translation body) before h.3 last lasts b behind s
+        (k + 1) env other all so_far on Next z there next))
