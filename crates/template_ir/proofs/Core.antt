@@ -44,13 +44,13 @@ use Rattle.template_ir.proofs.Tables.{get_table, part, part_cons, part_none, par
 -- ---- outcomes
 
 -- a step of this cost, and what is given in it, before what comes next
-costed : (m n : ℕ) (a o z : Outcome) → m ≡ n → Same a (continued_by o z)
+pub costed : (m n : ℕ) (a o z : Outcome) → m ≡ n → Same a (continued_by o z)
     → Same (with_cost m a) (continued_by (spent_first (one_step n) o) z)
 costed m n a o z h k =
     same_first (record { cost = m; work = 0; choices = [] }) (one_step n) a (continued_by o z) h k
     ∙ ap plain (sym (first_followed (one_step n) o z))
 
-free_step : (a o z : Outcome) → Same a (continued_by o z) → Same a (continued_by (spent_first (one_step 0) o) z)
+pub free_step : (a o z : Outcome) → Same a (continued_by o z) → Same a (continued_by (spent_first (one_step 0) o) z)
 free_step a o z k =
     k ∙ (sym (same_free (one_step 0) (continued_by o z) refl) ∙ ap plain (sym (first_followed (one_step 0) o z)))
 
@@ -67,7 +67,7 @@ with_rest rest (RunEnds s end) = RunEnds s end
 with_rest rest (GivesPiece s piece o) = GivesPiece s piece rest
 
 -- the one, and where it ends whole what comes next
-same_then : (a b x y : Outcome) → Same a b → (end_of_outcome a ≡ WholeRun → Same x y)
+pub same_then : (a b x y : Outcome) → Same a b → (end_of_outcome a ≡ WholeRun → Same x y)
     → Same (continued_by a x) (continued_by b y)
 same_then (RunEnds s WholeRun) (RunEnds t WholeRun) x y h k = same_first s t x y (ap first_spent h) (k refl)
 same_then (RunEnds s WholeRun) (RunEnds t (StopsAt call)) x y h k = let no : ⊥ = cc in absurd no
@@ -79,7 +79,7 @@ same_then (GivesPiece s piece o) (GivesPiece t other q) x y h k =
     ap (GivesPiece (plain_spent s) piece) (same_then o q x y (ap past_piece h) k)
     ∙ ap (with_rest (plain (continued_by q y))) h
 
-given_piece : (s : Spent) (piece : Piece) (rest z : Outcome) → s.cost ≡ 0 → Same rest z
+pub given_piece : (s : Spent) (piece : Piece) (rest z : Outcome) → s.cost ≡ 0 → Same rest z
     → Same (GivesPiece s piece rest) (continued_by (GivesPiece none_spent piece gives_nothing) z)
 given_piece s piece rest z h k =
     ap (λ n. GivesPiece (record { cost = n; work = 0; choices = [] }) piece (plain rest)) h
@@ -88,7 +88,7 @@ given_piece s piece rest z h k =
 module _ (c : RunContext) (p : Program) (places : List Place) (called : Site → Declared → RunEnv → Outcome)
     (opens : Site → ℕ → RunEnv → Outcome) (Opened : Declared → RunEnv → Type 0)
     (direction : p.direction ≡ c.direction) where
-  abbrev context : CompileContext
+  abbrev pub context : CompileContext
   context = record {
     file = c.file;
     namespace = c.namespace;
@@ -99,15 +99,15 @@ module _ (c : RunContext) (p : Program) (places : List Place) (called : Site →
     ops = p.ops;
   }
 
-  abbrev all_means : List OpMeans
+  abbrev pub all_means : List OpMeans
   all_means = table (op_gives p opens) p.ops
 
   -- the ops from a position up to an end, and then the rest
-  abbrev from_here : ℕ → ℕ → ℤ → RunEnv → Outcome → Outcome
+  abbrev pub from_here : ℕ → ℕ → ℤ → RunEnv → Outcome → Outcome
   from_here at end k env rest = continued_by (ops_give (part all_means at end) k env) rest
 
   -- an op, and the ops behind it
-  op_first : (o : Op) (at past end : ℕ) (k : ℤ) (env : RunEnv) (rest : Outcome) → StandsOp places p.ops o at past
+  pub op_first : (o : Op) (at past end : ℕ) (k : ℤ) (env : RunEnv) (rest : Outcome) → StandsOp places p.ops o at past
       → past ≤ end → from_here at end k env rest
       ≡ continued_by (op_gives p opens (take at all_means) o k env).0
       (from_here past end k (op_gives p opens (take at all_means) o k env).1 rest)
@@ -121,7 +121,7 @@ module _ (c : RunContext) (p : Program) (places : List Place) (called : Site →
 
   -- ---- values
 
-  value_same : (v : values.Value) (hole : ℕ) (so_far : StateSoFar) (on : StateSoFar → Outcome)
+  pub value_same : (v : values.Value) (hole : ℕ) (so_far : StateSoFar) (on : StateSoFar → Outcome)
       (Next : StateSoFar → Type 0) (z : Outcome) → ValuePlaced c places called Opened v hole so_far Next
       → ((now : StateSoFar) → Next now → Same (on now) z)
       → Same (value_means c.direction v so_far on) (continued_by (value_gives p.direction (place_of places hole) v) z)
@@ -135,7 +135,7 @@ module _ (c : RunContext) (p : Program) (places : List Place) (called : Site →
       ap (λ text. GivesPiece none_spent (Value text) (plain (on now))) form
       ∙ given_piece none_spent (Value (value_at p.direction (place_of places hole) v)) (on now) z refl (next now h.1)
 
-  print_same : (a b : Binding BoundBlock) → Matches a b → (hole : ℕ) (so_far : StateSoFar)
+  pub print_same : (a b : Binding BoundBlock) → Matches a b → (hole : ℕ) (so_far : StateSoFar)
       (on : StateSoFar → Outcome) (Next : StateSoFar → Type 0) (z : Outcome)
       → PrintPlaced c places called Opened a hole so_far Next → ((now : StateSoFar) → Next now → Same (on now) z)
       → Same (printed_means c.direction a so_far on) (continued_by (print_gives p.direction (place_of places hole) b) z)
@@ -151,11 +151,11 @@ module _ (c : RunContext) (p : Program) (places : List Place) (called : Site →
   -- ---- nodes
 
   -- what comes next goes on as the ops behind
-  abbrev GoesOn : (RunEnv → StateSoFar → Type 0) → (RunEnv → StateSoFar → Outcome) → ℕ → ℕ → ℤ → Outcome → Type 0
+  abbrev pub GoesOn : (RunEnv → StateSoFar → Type 0) → (RunEnv → StateSoFar → Outcome) → ℕ → ℕ → ℤ → Outcome → Type 0
   GoesOn Next next past end k rest = (env other : RunEnv) (now : StateSoFar) → EnvsMatch env other → Next env now
       → Same (next env now) (from_here past end k other rest)
 
-  text_law : (text : List ℕ) (at past end : ℕ) (k : ℤ) (rest : Outcome) → StandsText places p.ops text at past
+  pub text_law : (text : List ℕ) (at past end : ℕ) (k : ℤ) (rest : Outcome) → StandsText places p.ops text at past
       → past ≤ end → (other : RunEnv) (so_far : StateSoFar) (on : StateSoFar → Outcome) (Next : StateSoFar → Type 0)
       → TextPlaced text so_far Next → ((now : StateSoFar) → Next now → Same (on now) (from_here past end k other rest))
       → Same (text_means text so_far on) (from_here at end k other rest)
@@ -169,7 +169,7 @@ module _ (c : RunContext) (p : Program) (places : List Place) (called : Site →
       (from_here past end k other rest) refl (next now placed))
       ∙ ap plain (sym (op_first (StaticOp (x ∷ text)) at past end k other rest h l))
 
-  print_law : (e : Expr) (hole at past end : ℕ) (k : ℤ) (rest : Outcome)
+  pub print_law : (e : Expr) (hole at past end : ℕ) (k : ℤ) (rest : Outcome)
       → StandsOp places p.ops (PrintOp e (place_of places hole)) at past → past ≤ end
       → (env other : RunEnv) → EnvsMatch env other → (so_far : StateSoFar) (on : StateSoFar → Outcome)
       (Next : StateSoFar → Type 0) → PrintPlaced c places called Opened (val e env) hole so_far Next
@@ -183,7 +183,7 @@ module _ (c : RunContext) (p : Program) (places : List Place) (called : Site →
       (from_here past end k other rest) placed next)
       ∙ ap plain (sym (op_first (PrintOp e (place_of places hole)) at past end k other rest h l))
 
-  let_law : (name : Name) (e : Expr) (at past end : ℕ) (k : ℤ) (rest : Outcome)
+  pub let_law : (name : Name) (e : Expr) (at past end : ℕ) (k : ℤ) (rest : Outcome)
       → StandsOp places p.ops (LetOp name e) at past → past ≤ end → (env other : RunEnv) → EnvsMatch env other
       → (so_far : StateSoFar) (next : RunEnv → StateSoFar → Outcome) (Next : RunEnv → StateSoFar → Type 0)
       → Next ((name, val e env) ∷ env) so_far → GoesOn Next next past end k rest

@@ -7,7 +7,7 @@ use Rattle.soy_tree.specs.Nodes.{Node, Nodes, Otherwise, Arms, TextNode, Print, 
 use Rattle.soy_tree.specs.Nodes.{otherwise, no_arm, arm}
 use Rattle.soy_tree.specs.Templates.{Declared}
 use Rattle.soy_tree.specs.Val.{is_truthy, val}
-use Rattle.soy_meaning.specs.Giving.{RunEnv, StateSoFar, with_choice, with_cost}
+use Rattle.soy_meaning.specs.Giving.{Means, RunEnv, StateSoFar, with_choice, with_cost}
 use Rattle.soy_meaning.specs.Outcome.{ArmTaken, Outcome, Spent, continued_by, gives_nothing, spent_first}
 use Rattle.soy_meaning.specs.Pieces.{RunContext, arms_mean, node_means, nodes_mean, otherwise_means, unbound}
 use Rattle.soy_meaning.specs.Plan.{Site}
@@ -27,14 +27,14 @@ use Rattle.template_ir.proofs.Tables.{part, part_none, part_take}
 
 -- the commands of this trial
 abbrev mutual
-  IsCore : Node → Type 0
+  pub IsCore : Node → Type 0
   IsCore (TextNode text span) = Unit {0}
   IsCore (Print e phname span) = Unit {0}
   IsCore (If arms other span) = AreCoreArms arms × IsCoreOther other
   IsCore (Let name e span) = Unit {0}
   IsCore _ = ⊥
 
-  AreCore : Nodes → Type 0
+  pub AreCore : Nodes → Type 0
   AreCore no_node = Unit {0}
   AreCore (node n ns) = IsCore n × AreCore ns
 
@@ -75,8 +75,18 @@ module _ (c : RunContext) (p : Program) (places : List Place) (called : Site →
       ∙ ap (λ ms. plain (continued_by (ops_give ms k other) z))
       (sym (part_none (all_means c p places called opens Opened direction) end end (omega arith))))
 
+  -- a body as a block, where its nodes go on as its ops do
+  block_of : (b : code_block.Block) (before : ℕ) → b.end ≤ before → (other : RunEnv) (a z : Outcome)
+      → Same a (from_here c p places called opens Opened direction b.first b.end (pos 0) other z)
+      → Same a
+      (continued_by (block_gives (take before (all_means c p places called opens Opened direction)) b (pos 0) other) z)
+  block_of b before l other a z h =
+      h
+      ∙ ap (λ ms. plain (continued_by (ops_give ms (pos 0) other) z))
+      (sym (part_take (all_means c p places called opens Opened direction) before b.first b.end l))
+
   mutual
-    node_law : (n : Node) → IsCore n → (hole at past : ℕ)
+    pub node_law : (n : Node) → IsCore n → (hole at past : ℕ)
         → StandsNode (context c p places called opens Opened direction) n hole at past
         → (end : ℕ) (k : ℤ) (rest : Outcome) → past ≤ end → (env other : RunEnv) → EnvsMatch env other
         → (so_far : StateSoFar) (next : RunEnv → StateSoFar → Outcome) (Next : RunEnv → StateSoFar → Type 0)
@@ -97,12 +107,15 @@ module _ (c : RunContext) (p : Program) (places : List Place) (called : Site →
         let z : Outcome = from_here c p places called opens Opened direction past end k other rest in
         free_step (node_means c called (If arms last span) env so_far next)
         (branches_give (take at (all_means c p places called opens Opened direction)) h.0 h.1 other) z
-        (arms_law arms core.0 h.0 hole at h.2 last core.1 h.1 (hole + arm_holes c.translation arms) h.3 0 env other all
-        so_far (next env) (Next env) z placed (λ now x. goes env other now all x))
+        (arms_law arms core.0 h.0 hole at h.2 h.1 0 env other all so_far (next env) (Next env) z
+        (λ j. otherwise_means c called last j env)
+        (OtherPlaced c places called Opened last (hole + arm_holes c.translation arms) env so_far (Next env))
+        (λ j x. other_law last core.1 h.1 (hole + arm_holes c.translation arms) at h.3 j env other all so_far (next env)
+        (Next env) z x (λ now y. goes env other now all y)) placed (λ now x. goes env other now all x))
         ∙ ap plain (sym (op_first c p places called opens Opened direction (IfOp h.0 h.1) at past end k other rest h.4 l))
     node_law n core hole at past h end k rest l env other all so_far next Next placed goes = absurd core
 
-    nodes_law : (ns : Nodes) → AreCore ns → (hole at past : ℕ)
+    pub nodes_law : (ns : Nodes) → AreCore ns → (hole at past : ℕ)
         → StandsNodes (context c p places called opens Opened direction) ns hole at past
         → (end : ℕ) (k : ℤ) (rest : Outcome) → past ≤ end → (env other : RunEnv) → EnvsMatch env other
         → (so_far : StateSoFar) (next : RunEnv → StateSoFar → Outcome) (Next : RunEnv → StateSoFar → Type 0)
@@ -121,22 +134,6 @@ module _ (c : RunContext) (p : Program) (places : List Place) (called : Site →
         (λ inner within now same x. nodes_law ns core.1 (hole + node_holes c.translation n) h.0 past h.2 end k rest l
         inner within same now next Next x goes)
 
-    block_law : (body : Nodes) → AreCore body → (b : code_block.Block) (hole before : ℕ)
-        → b.end ≤ before
-        → StandsNodes (context c p places called opens Opened direction) body hole b.first b.end
-        → (env other : RunEnv) → EnvsMatch env other
-        → (so_far : StateSoFar) (on : StateSoFar → Outcome) (Next : StateSoFar → Type 0) (z : Outcome)
-        → NodesPlaced c places called Opened body hole env so_far (λ inner now. Next now)
-        → ((now : StateSoFar) → Next now → Same (on now) z)
-        → Same (nodes_mean c called body env so_far (unbound on))
-        (continued_by (block_gives (take before (all_means c p places called opens Opened direction)) b (pos 0) other) z)
-    block_law body core b hole before l h env other all so_far on Next z placed next =
-        nodes_law body core hole b.first b.end h b.end (pos 0) z (omega arith) env other all so_far (unbound on)
-        (λ inner now. Next now) placed
-        (λ inner within now same x. block_end b.end (pos 0) within (on now) z (next now x))
-        ∙ ap (λ ms. plain (continued_by (ops_give ms (pos 0) other) z))
-        (sym (part_take (all_means c p places called opens Opened direction) before b.first b.end l))
-
     other_law : (last : Otherwise) → IsCoreOther last → (b : Option code_block.Block) (hole before : ℕ)
         → StandsOther (context c p places called opens Opened direction) last b hole before
         → (k : ℕ) (env other : RunEnv) → EnvsMatch env other
@@ -153,42 +150,47 @@ module _ (c : RunContext) (p : Program) (places : List Place) (called : Site →
     other_law (otherwise body) core (Some b) hole before h k env other all so_far on Next z placed next =
         same_free (record { cost = 0; work = 1; choices = ArmTaken (Some k) ∷ [] })
         (nodes_mean c called body env so_far (unbound on)) refl
-        ∙ block_law body core b hole before h.0 h.1 env other all so_far on Next z placed next
+        ∙ block_of b before h.0 other (nodes_mean c called body env so_far (unbound on)) z
+        (nodes_law body core hole b.first b.end h.1 b.end (pos 0) z (omega arith) env other all so_far (unbound on)
+        (λ inner now. Next now) placed
+        (λ inner within now same x. block_end b.end (pos 0) within (on now) z (next now x)))
 
     arms_law : (arms : Arms) → AreCoreArms arms → (branches : List Branch) (hole before : ℕ)
         → StandsArms (context c p places called opens Opened direction) arms branches hole before
-        → (last : Otherwise) → IsCoreOther last → (b : Option code_block.Block) (behind : ℕ)
-        → StandsOther (context c p places called opens Opened direction) last b behind before
-        → (k : ℕ) (env other : RunEnv) → EnvsMatch env other
+        → (b : Option code_block.Block) (k : ℕ) (env other : RunEnv) → EnvsMatch env other
         → (so_far : StateSoFar) (on : StateSoFar → Outcome) (Next : StateSoFar → Type 0) (z : Outcome)
-        → ArmsPlaced c places called Opened arms (OtherPlaced c places called Opened last behind env so_far Next) hole
-        env so_far Next
+        → (last : ℕ → Means) (Last : Type 0)
+        → ((j : ℕ) → Last → Same (last j so_far on)
+        (continued_by (rest_gives (take before (all_means c p places called opens Opened direction)) b other) z))
+        → ArmsPlaced c places called Opened arms Last hole env so_far Next
         → ((now : StateSoFar) → Next now → Same (on now) z)
-        → Same (arms_mean c called arms (λ j. otherwise_means c called last j env) k env so_far on)
+        → Same (arms_mean c called arms last k env so_far on)
         (continued_by (branches_give (take before (all_means c p places called opens Opened direction)) branches b other)
         z)
-    arms_law no_arm core [] hole before h last lasts b behind s k env other all so_far on Next z placed next =
-        other_law last lasts b behind before s k env other all so_far on Next z placed next
-    arms_law no_arm core (x ∷ branches) hole before h last lasts b behind s k env other all so_far on Next z placed
-        next = absurd h
-    arms_law (arm e body arms) core [] hole before h last lasts b behind s k env other all so_far on Next z placed
-        next = absurd h
-    arms_law (arm e body arms) core (x ∷ branches) hole before h last lasts b behind s k env other all so_far on Next z
+    arms_law no_arm core [] hole before h b k env other all so_far on Next z last Last lasts placed next =
+        lasts k placed
+    arms_law no_arm core (x ∷ branches) hole before h b k env other all so_far on Next z last Last lasts placed next =
+        absurd h
+    arms_law (arm e body arms) core [] hole before h b k env other all so_far on Next z last Last lasts placed next =
+        absurd h
+    arms_law (arm e body arms) core (x ∷ branches) hole before h b k env other all so_far on Next z last Last lasts
         placed next =
         let ms : List OpMeans = take before (all_means c p places called opens Opened direction) in
         let taken : Outcome = nodes_mean c called body env so_far (unbound on) in
         priced (cost e env) (cost x.when other)
         (if is_truthy (val e env) then with_choice (ArmTaken (Some k)) taken
-        else arms_mean c called arms (λ j. otherwise_means c called last j env) (k + 1) env so_far on)
+        else arms_mean c called arms last (k + 1) env so_far on)
         (if is_truthy (val x.when other) then block_gives ms x.body (pos 0) other
         else branches_give ms branches b other) z
         (cost_match env other all e ∙ ap (λ d. cost d other) (sym h.0))
         (picked (is_truthy (val e env)) (is_truthy (val x.when other))
         (truth_match env other all e ∙ ap (λ d. is_truthy (val d other)) (sym h.0)) _ _ placed
-        (with_choice (ArmTaken (Some k)) taken)
-        (arms_mean c called arms (λ j. otherwise_means c called last j env) (k + 1) env so_far on)
+        (with_choice (ArmTaken (Some k)) taken) (arms_mean c called arms last (k + 1) env so_far on)
         (block_gives ms x.body (pos 0) other) (branches_give ms branches b other) z
         (λ here. same_free (record { cost = 0; work = 1; choices = ArmTaken (Some k) ∷ [] }) taken refl
-        ∙ block_law body core.0 x.body hole before h.1 h.2 env other all so_far on Next z here next)
-        (λ there. arms_law arms core.1 branches (hole + nodes_holes c.translation body) before h.3 last lasts b behind s
-        (k + 1) env other all so_far on Next z there next))
+        ∙ block_of x.body before h.1 other taken z
+        (nodes_law body core.0 hole x.body.first x.body.end h.2 x.body.end (pos 0) z (omega arith) env other all so_far
+        (unbound on) (λ inner now. Next now) here
+        (λ inner within now same y. block_end x.body.end (pos 0) within (on now) z (next now y))))
+        (λ there. arms_law arms core.1 branches (hole + nodes_holes c.translation body) before h.3 b (k + 1) env other
+        all so_far on Next z last Last lasts there next))

@@ -55,37 +55,37 @@ match_more name a b env other h k wanted =
     (k wanted)
 
 module _ (env other : RunEnv) (all : EnvsMatch env other) where
-  mutual
-    pub val_match : (e : Expr) → Matches (val e env) (val e other)
-    val_match (NullLiteral span) = refl
-    val_match (BoolLiteral b span) = refl
-    val_match (IntLiteral n span) = refl
-    val_match (StringLiteral text span) = refl
-    val_match (Variable name span) = all name
-    val_match (Member e name takes_null span) = ap (member_value name) (operand_match e)
-    val_match (Index e i takes_null span) =
-        ap (λ v. index_value v (operand (val i env))) (operand_match e)
-        ∙ ap (λ v. index_value (operand (val e other)) v) (operand_match i)
-    val_match (Minus e span) = ap negated (operand_match e)
-    val_match (Not e span) = ap (λ b. BoolValue (not b)) (truth_match e)
-    val_match (Binary op a b span) =
-        ap (λ v. binary_value op v (operand (val b env))) (operand_match a)
-        ∙ ap (λ v. binary_value op (operand (val a other)) v) (operand_match b)
-    val_match (Coalesce a b span) =
-        match_if (is_null (val a env)) (is_null (val a other)) (val b env) (val a env) (val b other) (val a other)
-        (null_match a) (val_match b) (val_match a)
-    val_match (Conditional c a b span) =
-        match_if (is_truthy (val c env)) (is_truthy (val c other)) (val a env) (val b env) (val a other) (val b other)
-        (truth_match c) (val_match a) (val_match b)
+  pub val_match : (e : Expr) → Matches (val e env) (val e other)
+  val_match (NullLiteral span) = refl
+  val_match (BoolLiteral b span) = refl
+  val_match (IntLiteral n span) = refl
+  val_match (StringLiteral text span) = refl
+  val_match (Variable name span) = all name
+  val_match (Member e name takes_null span) =
+      ap (member_value name) (same_operand (val e env) (val e other) (val_match e))
+  val_match (Index e i takes_null span) =
+      ap (λ v. index_value v (operand (val i env))) (same_operand (val e env) (val e other) (val_match e))
+      ∙ ap (λ v. index_value (operand (val e other)) v) (same_operand (val i env) (val i other) (val_match i))
+  val_match (Minus e span) = ap negated (same_operand (val e env) (val e other) (val_match e))
+  val_match (Not e span) = ap (λ b. BoolValue (not b)) (same_truth (val e env) (val e other) (val_match e))
+  val_match (Binary op a b span) =
+      ap (λ v. binary_value op v (operand (val b env))) (same_operand (val a env) (val a other) (val_match a))
+      ∙ ap (λ v. binary_value op (operand (val a other)) v) (same_operand (val b env) (val b other) (val_match b))
+  val_match (Coalesce a b span) =
+      match_if (is_null (val a env)) (is_null (val a other)) (val b env) (val a env) (val b other) (val a other)
+      (same_null (val a env) (val a other) (val_match a)) (val_match b) (val_match a)
+  val_match (Conditional c a b span) =
+      match_if (is_truthy (val c env)) (is_truthy (val c other)) (val a env) (val b env) (val a other) (val b other)
+      (same_truth (val c env) (val c other) (val_match c)) (val_match a) (val_match b)
 
-    pub operand_match : (e : Expr) → operand (val e env) ≡ operand (val e other)
-    operand_match e = same_operand (val e env) (val e other) (val_match e)
+  pub operand_match : (e : Expr) → operand (val e env) ≡ operand (val e other)
+  operand_match e = same_operand (val e env) (val e other) (val_match e)
 
-    pub truth_match : (e : Expr) → is_truthy (val e env) ≡ is_truthy (val e other)
-    truth_match e = same_truth (val e env) (val e other) (val_match e)
+  pub truth_match : (e : Expr) → is_truthy (val e env) ≡ is_truthy (val e other)
+  truth_match e = same_truth (val e env) (val e other) (val_match e)
 
-    null_match : (e : Expr) → is_null (val e env) ≡ is_null (val e other)
-    null_match e = same_null (val e env) (val e other) (val_match e)
+  null_match : (e : Expr) → is_null (val e env) ≡ is_null (val e other)
+  null_match e = same_null (val e env) (val e other) (val_match e)
 
   pub cost_match : (e : Expr) → cost e env ≡ cost e other
   cost_match (NullLiteral span) = refl

@@ -153,12 +153,12 @@ abbrev pub is_one_expr : Expr
 is_one_expr = Binary binary.Eq (variable 0 (codes "n")) one (span_at 0)
 
 abbrev pub words : List Expr
-words = StringLiteral (codes "p") (span_at 0) ∷ StringLiteral (codes "q") (span_at 0) ∷ []
+words = StringLiteral (codes "7") (span_at 0) ∷ StringLiteral (codes "8") (span_at 0) ∷ []
 
--- `{if $n == 1}a{else}b{/if}{switch $x}{case 'p', 'q'}c{default}d{/switch}{for $s, $i in $l}{$i}{$s}{/for}`
--- `{let $k: $n /}{let $t kind="text"}{$k}!{/let}{$t}`, then a call of c with `data="all"` and with
+-- `{if $n == 1}a{else}b{/if}{switch $x}{case '7', '8'}c{default}d{/switch}{for $s, $i in $l}{$i}{$s}{/for}`
+-- `{let $k: $n /}{let $t kind="text"}{$k}2{/let}{$t}`, then a call of c with `data="all"` and with
 -- `{param p kind="html"}<i>{$x}</i>{/param}{param q kind="text"}{$n}{/param}`, then
--- `{msg}{select $x}{case 'p'}P{default}D{/select}{/msg}{call u}{param n: 1 /}{/call}`
+-- `{msg}{select $x}{case '7'}P{default}D{/select}{/msg}{call u}{param n: 1 /}{/call}`
 abbrev pub main_body : List Node
 main_body =
     If (arm is_one_expr (all_nodes (text_node 0 (codes "a") ∷ [])) no_arm)
@@ -168,7 +168,7 @@ main_body =
     ∷ For (codes "s") (Some (codes "i")) (variable 0 (codes "l"))
     (all_nodes (print_node 0 (codes "i") ∷ print_node 0 (codes "s") ∷ [])) (span_at 0)
     ∷ Let (codes "k") (variable 0 (codes "n")) (span_at 0)
-    ∷ LetBlock (codes "t") kind.Text (all_nodes (print_node 0 (codes "k") ∷ text_node 0 (codes "!") ∷ [])) (span_at 0)
+    ∷ LetBlock (codes "t") kind.Text (all_nodes (print_node 0 (codes "k") ∷ text_node 0 (codes "2") ∷ [])) (span_at 0)
     ∷ print_node 0 (codes "t")
     ∷ Call (codes "c") true
     (argument (codes "p") (Block kind.Html (all_nodes (text_node 0 (codes "<i>") ∷ print_node 0 (codes "x")
@@ -176,7 +176,7 @@ main_body =
     (argument (codes "q") (Block kind.Text (all_nodes (print_node 0 (codes "n") ∷ []))) (span_at 0) no_argument))
     (span_at 40)
     ∷ message_of (Select (variable 0 (codes "x"))
-    (select_case (codes "p") (Parts (all_nodes (text_node 0 (codes "P") ∷ []))) no_select_case)
+    (select_case (codes "7") (Parts (all_nodes (text_node 0 (codes "P") ∷ []))) no_select_case)
     (Parts (all_nodes (text_node 0 (codes "D") ∷ []))))
     ∷ Call (codes "u") false (argument (codes "n") (Plain one) (span_at 0) no_argument) (span_at 60) ∷ []
 
@@ -220,7 +220,7 @@ every_handed =
     ∷ record { name = codes "n"; by = HandedSame } ∷ []
 
 abbrev pub every_words : List WordBlock
-every_words = record { is = codes "p"; body = block 12 13 } ∷ []
+every_words = record { is = codes "7"; body = block 12 13 } ∷ []
 
 abbrev pub every_program : Program
 every_program = program_of dir.Ltr []
@@ -229,7 +229,7 @@ every_program = program_of dir.Ltr []
     ∷ routine (codes "u") kind.Text number_param (block 26 27) ∷ [])
     (StaticOp (codes "a") ∷ StaticOp (codes "b") ∷ StaticOp (codes "c") ∷ StaticOp (codes "d")
     ∷ print_op (codes "i") place.Text ∷ print_op (codes "s") place.Text
-    ∷ print_op (codes "k") place.Plain ∷ StaticOp (codes "!")
+    ∷ print_op (codes "k") place.Plain ∷ StaticOp (codes "2")
     ∷ StaticOp (codes "<i>") ∷ print_op (codes "x") place.Text ∷ StaticOp (codes "</i>")
     ∷ print_op (codes "n") place.Plain
     ∷ StaticOp (codes "P") ∷ StaticOp (codes "D")
@@ -252,8 +252,8 @@ every_program = program_of dir.Ltr []
 
 abbrev pub every_env : RunEnv
 every_env =
-    (codes "x", Known (StringValue (codes "p"))) ∷ (codes "n", Known (IntValue (pos 1)))
-    ∷ (codes "l", Known (ListValue (item (StringValue (codes "v")) (item (StringValue (codes "w")) no_item)))) ∷ []
+    (codes "x", Known (StringValue (codes "7"))) ∷ (codes "n", Known (IntValue (pos 1)))
+    ∷ (codes "l", Known (ListValue (item (StringValue (codes "7")) (item (StringValue (codes "8")) no_item)))) ∷ []
 
 abbrev pub every_context : RunContext
 every_context = record {
