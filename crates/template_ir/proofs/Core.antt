@@ -54,11 +54,11 @@ pub free_step : (a o z : Outcome) → Same a (continued_by o z) → Same a (cont
 free_step a o z k =
     k ∙ (sym (same_free (one_step 0) (continued_by o z) refl) ∙ ap plain (sym (first_followed (one_step 0) o z)))
 
-abbrev first_spent : Outcome → ℕ
+abbrev pub first_spent : Outcome → ℕ
 first_spent (RunEnds s end) = s.cost
 first_spent (GivesPiece s piece o) = s.cost
 
-abbrev past_piece : Outcome → Outcome
+abbrev pub past_piece : Outcome → Outcome
 past_piece (RunEnds s end) = RunEnds s end
 past_piece (GivesPiece s piece o) = o
 

@@ -6,4 +6,5 @@ pub mod Matching
 pub mod Forward
 pub mod Placed
 pub mod Core
+pub mod GatheredTexts
 pub mod CoreNodes
