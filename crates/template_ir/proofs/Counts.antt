@@ -1,5 +1,5 @@
 -- The holes that are counted in a tree are those of its plan.
-use Rattle.std.proofs.Common.{◌≡◌, ℕ, ◌+◌, List, [], ◌∷◌, ◌++◌, Option, Some, None, refl, sym, ap, ◌∙◌, arith}
+use Rattle.std.proofs.Common.{◌≡◌, ℕ, ◌+◌, List, [], ◌∷◌, ◌++◌, Option, Some, None, refl, ◌∙◌, arith}
 use Rattle.soy_tree.specs.MessageParts.{MsgPart, MsgParts, ExactArms, NamedArms, SelectArms, TextPart, Placeholder}
 use Rattle.soy_tree.specs.MessageParts.{NumberPart, PluralPart, SelectPart, no_part, part, no_exact_arm, exact_arm}
 use Rattle.soy_tree.specs.MessageParts.{no_named_arm, named_arm, no_select_arm, select_arm}
@@ -12,7 +12,6 @@ use Rattle.soy_tree.specs.Nodes.{no_argument, argument, Plain, Block, message, n
 use Rattle.soy_tree.specs.Nodes.{Select, no_plural_case, plural_case, no_select_case, select_case}
 use Rattle.soy_tree.specs.Placeholders.{Use}
 use Rattle.soy_tree.specs.TypeOf.{Scope, type_of}
-use Rattle.soy_tree.specs.Templates.{callee}
 use Rattle.soy_base.specs.declared.fault.Span.{Span}
 use Rattle.soy_meaning.specs.Holes.{hole_count}
 use Rattle.soy_meaning.specs.Plan.{Site, Plan, Either, Nowhere, arms_meet, any_of}

@@ -1,10 +1,2 @@
 pub mod Counts
 pub mod Stay
-pub mod Tables
-pub mod Plain
-pub mod Matching
-pub mod Forward
-pub mod Placed
-pub mod Core
-pub mod GatheredTexts
-pub mod CoreNodes

@@ -1,8 +1,7 @@
 -- What stands for nodes still stands where ops are added at the end.
-use Rattle.std.proofs.Common.{◌≡◌, ℕ, zero, suc, ◌+◌, ◌≤◌, Bool, true, false, List, [], ◌∷◌, ◌++◌, Option, Some, None, refl, slice_get}
+use Rattle.std.proofs.Common.{◌≡◌, ℕ, zero, suc, ◌+◌, true, false, List, [], ◌∷◌, ◌++◌, Option, Some, None, slice_get}
 use Rattle.soy_base.specs.declared.place.Place.{Place}
 use Rattle.soy_tree.specs.Types.{Name}
-use Rattle.soy_tree.specs.Bodies.{names_given}
 use Rattle.soy_tree.specs.Expressions.{Expr}
 use Rattle.soy_tree.specs.MessageParts.{MsgPart, MsgParts, ExactArms, NamedArms, SelectArms, TextPart, Placeholder}
 use Rattle.soy_tree.specs.MessageParts.{NumberPart, PluralPart, SelectPart, no_part, part, no_exact_arm, exact_arm}
@@ -18,7 +17,7 @@ use Rattle.soy_meaning.specs.Branch.{selector}
 use Rattle.soy_meaning.specs.Pieces.{ChosenText, TheFallback, TheOwn, TheSource, chosen_text}
 use Rattle.soy_meaning.specs.PlanOfNodes.{uses_of}
 use Rattle.soy_meaning.specs.PlanOfParts.{placeholder_cut}
-use Rattle.template_ir.specs.Compiles.{CompileContext, StandsArms, StandsCases, StandsGiven}
+use Rattle.template_ir.specs.Compiles.{CompileContext, with_more, StandsArms, StandsCases, StandsGiven}
 use Rattle.template_ir.specs.Compiles.{StandsHanded, StandsMessage, StandsNode, StandsNodes, StandsOther}
 use Rattle.template_ir.specs.Compiles.{StandsPluralCases, StandsSelectCases, StandsSource}
 use Rattle.template_ir.specs.HoleCounts.{arm_holes, body_holes, case_holes, exact_holes, given_holes, node_holes}
@@ -26,7 +25,7 @@ use Rattle.template_ir.specs.HoleCounts.{nodes_holes, part_holes, parts_holes, p
 use Rattle.template_ir.specs.HoleCounts.{translation_holes}
 use Rattle.template_ir.specs.Ops.{Branch, Choice, Handed, HandedBy, HandedBlock, HandedSame, HandedValue, Op, PluralOp, PrintOp, SelectOp}
 use Rattle.template_ir.specs.StandFor.{StandsCut, StandsExact, StandsNamed, StandsOp, StandsPart, StandsParts}
-use Rattle.template_ir.specs.StandFor.{StandsPrint, StandsSelected, StandsTag, StandsText, StandsWords}
+use Rattle.template_ir.specs.StandFor.{StandsSelected, StandsTag, StandsText, StandsWords}
 use Rattle.template_ir.specs.StandFor.{place_of}
 use Rattle.template_ir.specs.declared.op.Block as ops_block
 use Rattle.template_ir.specs.declared.op.ExactBlock.{ExactBlock}
@@ -135,9 +134,6 @@ module _ (places : List Place) (ops more : List Op) where
         parts_stay ps hole b.body.first b.body.end h.2,
         words_stay arms blocks (hole + parts_holes uses ps) before h.3,
       )
-
-abbrev pub with_more : CompileContext → List Op → CompileContext
-with_more c more = record c { ops = c.ops ++ more }
 
 module _ (c : CompileContext) (more : List Op) where
   mutual

@@ -11,7 +11,6 @@
 use Rattle.std.specs.Prelude.{◌≡◌, ℕ, ◌+◌, ◌≤◌, Bool, false, not, ◌&&◌, List, [], ◌∷◌, ◌++◌, Option, Some, None}
 use Rattle.std.specs.Prelude.{if◌then◌else◌, bytes_eq, codes, is_some, length, map}
 use Rattle.soy_base.specs.declared.direction.Dir.{Dir}
-use Rattle.soy_base.specs.declared.kind.Kind.{Kind}
 use Rattle.soy_base.specs.declared.place.Place.{Place}
 use Rattle.plural_rules.specs.Condition.{Alternatives}
 use Rattle.plural_rules.specs.declared.category.Category.{Category}
@@ -19,7 +18,6 @@ use Rattle.plural_rules.specs.declared.category.Category.TheVariants as category
 use Rattle.soy_tree.specs.Types.{Name}
 use Rattle.soy_tree.specs.Bodies.{names_given, param_of}
 use Rattle.soy_tree.specs.Declarations.{is_among}
-use Rattle.soy_tree.specs.Expressions.{Expr}
 use Rattle.soy_tree.specs.MessageParts.{MsgParts}
 use Rattle.soy_tree.specs.Nodes.{Node, Nodes, Otherwise, Arms, Cases, Arguments, Given, Message, Fallback, MessageBody}
 use Rattle.soy_tree.specs.Nodes.{PluralCases, SelectCases, TextNode, Print, If, Switch, For, Let, LetBlock, Call}
@@ -58,6 +56,10 @@ pub record CompileContext : Type 0 where
   pub translation : Message → Option MsgParts
   pub places : List Place
   pub ops : List Op
+
+-- the same with more ops at the end
+abbrev pub with_more : CompileContext → List Op → CompileContext
+with_more c more = record c { ops = c.ops ++ more }
 
 -- ---- calls
 

@@ -5,7 +5,7 @@
 -- then those of its fallback's translation, whichever of the three is chosen. Arms come in their order and the else or
 -- default last.
 -- Example: `{if $x}{$y}{/if}{call m}{param p kind="html"}{$z}{/param}{/call}` has three holes: `{$y}`, the call, `{$z}`.
-use Rattle.std.specs.Prelude.{ℕ, ◌+◌, List, [], ◌∷◌, ◌++◌, Option, Some, None}
+use Rattle.std.specs.Prelude.{ℕ, ◌+◌, List, [], ◌∷◌, Option, Some, None}
 use Rattle.soy_tree.specs.MessageParts.{MsgPart, MsgParts, ExactArms, NamedArms, SelectArms, TextPart, Placeholder}
 use Rattle.soy_tree.specs.MessageParts.{NumberPart, PluralPart, SelectPart, no_part, part, no_exact_arm, exact_arm}
 use Rattle.soy_tree.specs.MessageParts.{no_named_arm, named_arm, no_select_arm, select_arm}

@@ -3,7 +3,7 @@
 -- Each is compiled from the file of a row of what templates give, with its places. The last has every command, in three
 -- templates.
 -- Example: the program of `{let $b kind="html"}<i>{$x}</i>{/let}{$b}{$b}` has six ops, three of them the block.
-use Rattle.std.specs.Prelude.{◌≡◌, ℕ, ℤ, pos, true, false, List, [], ◌∷◌, ◌++◌, Option, Some, None, codes, map}
+use Rattle.std.specs.Prelude.{ℕ, pos, true, false, List, [], ◌∷◌, ◌++◌, Option, Some, None, codes, map}
 use Rattle.soy_base.specs.declared.direction.Dir.{Dir}
 use Rattle.soy_base.specs.declared.direction.Dir.TheVariants as dir
 use Rattle.soy_base.specs.declared.kind.Kind.{Kind}
@@ -21,15 +21,15 @@ use Rattle.soy_tree.specs.Expressions.{Expr, Binary, IntLiteral, StringLiteral}
 use Rattle.soy_tree.specs.MessageParts.{MsgParts, no_part, part}
 use Rattle.soy_tree.specs.Nodes.{Node, Block, Call, For, If, Let, LetBlock, Parts, Plain, Select, Switch, argument, arm}
 use Rattle.soy_tree.specs.Nodes.{case, no_argument, no_arm, no_case, no_select_case, otherwise, select_case}
-use Rattle.soy_tree.specs.Templates.{Declared, declared}
-use Rattle.soy_tree.specs.Trees.{Param, Template, Tree}
+use Rattle.soy_tree.specs.Templates.{declared}
+use Rattle.soy_tree.specs.Trees.{Template, Tree}
 use Rattle.soy_tree.specs.Values.{IntValue, ListValue, StringValue, item, no_item}
 use Rattle.soy_tree.specs.Val.{Known}
 use Rattle.soy_meaning.specs.Giving.{RunEnv}
 use Rattle.soy_meaning.specs.Outcome.{Outcome, RunEnd, costs_of_outcome, end_of_outcome, pieces_of_outcome}
 use Rattle.soy_meaning.specs.Pieces.{RunContext, template_run}
 use Rattle.soy_meaning.specs.Rows.{all_nodes, print_node, row_param, site_at, span_at, text_node, variable}
-use Rattle.soy_meaning.specs.RunRows.{message_of, number_param, offset_part, row_rules, row_trees, text_param}
+use Rattle.soy_meaning.specs.RunRows.{message_of, number_param, offset_part, row_rules, text_param}
 use Rattle.template_ir.specs.Compiles.{Language, other_arm, other_word}
 use Rattle.template_ir.specs.Ops.{Branch, Choice, Handed, Op, Program, Routine, CallOp, ForOp, HandedBlock, HandedSame}
 use Rattle.template_ir.specs.Ops.{HandedValue, IfOp, LetBlockOp, LetOp, NumberOp, PluralOp, PrintOp, SelectOp, StaticOp}

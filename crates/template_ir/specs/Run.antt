@@ -9,7 +9,7 @@
 -- Where a program names what it hasn't, as a template, nothing is given, or null: so there is a run of any parts.
 -- Example: the ops `Static "a"` and `Print $x`, the block of both, with x the string `<`, give the static piece `a` at
 -- no cost, and then the value of `<` at the cost 1.
-use Rattle.std.specs.Prelude.{ℕ, zero, suc, ◌+◌, ◌-◌, ℤ, pos, ◌-ℤ◌, Bool, List, [], ◌∷◌, ◌++◌, Option, Some, None}
+use Rattle.std.specs.Prelude.{ℕ, zero, suc, ◌+◌, ◌-◌, ℤ, pos, ◌-ℤ◌, Bool, List, [], ◌∷◌, Option, Some, None}
 use Rattle.std.specs.Prelude.{if◌then◌else◌, bytes_eq, codes, drop, map, option_map, slice_get, take, unwrap_or}
 use Rattle.std.specs.Option.{option_or}
 use Rattle.soy_base.specs.declared.direction.Dir.{Dir}
@@ -25,7 +25,6 @@ use Rattle.soy_tree.specs.Values.{Items, IntValue, NullValue, StringValue, no_it
 use Rattle.soy_tree.specs.Values as values
 use Rattle.soy_tree.specs.Val.{Binding, BlockOf, Known, binding, is_same_int, is_truthy, member_value, val, value_text}
 use Rattle.soy_tree.specs.Cost.{cost}
-use Rattle.soy_tree.specs.Expressions.{Expr}
 use Rattle.soy_tree.specs.Trees.{Param}
 use Rattle.soy_meaning.specs.Branch.{int_of, word_of}
 use Rattle.soy_meaning.specs.EscapedAt.{escaped_at}

@@ -5,7 +5,7 @@
 -- and prints of a tag, each text of its own. The blocks of arms stand before the op that names them.
 -- Example: in the translation `{START_LINK}a`, with START_LINK for `<a href="{$u}">`, four ops stand one after the
 -- other: the text `<a href="`, the print, the text `">` and the text `a`.
-use Rattle.std.specs.Prelude.{◌≡◌, ℕ, ◌+◌, ◌≤◌, Bool, true, false, List, [], ◌∷◌, ◌++◌, Option, Some, None, get_or, slice_get}
+use Rattle.std.specs.Prelude.{◌≡◌, ℕ, ◌+◌, ◌≤◌, true, false, List, [], ◌∷◌, ◌++◌, Option, Some, None, get_or, slice_get}
 use Rattle.soy_base.specs.declared.place.Place.{Place}
 use Rattle.soy_base.specs.declared.place.Place.TheVariants as place
 use Rattle.soy_tree.specs.Expressions.{Expr}
@@ -18,7 +18,6 @@ use Rattle.soy_meaning.specs.Branch.{selector}
 use Rattle.soy_meaning.specs.PlanOfParts.{placeholder_cut}
 use Rattle.template_ir.specs.HoleCounts.{exact_holes, part_holes, parts_holes}
 use Rattle.template_ir.specs.Ops.{Op, NumberOp, PluralOp, PrintOp, SelectOp, StaticOp}
-use Rattle.template_ir.specs.declared.op.Block.{Block}
 use Rattle.template_ir.specs.declared.op.ExactBlock.{ExactBlock}
 use Rattle.template_ir.specs.declared.op.NamedBlock.{NamedBlock}
 use Rattle.template_ir.specs.declared.op.WordBlock.{WordBlock}

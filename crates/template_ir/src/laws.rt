@@ -1,6 +1,6 @@
 //! What the definitions come to. Each law is a contract with an empty body.
 
-ghost use Rattle.std.specs.Prelude.{◌≡◌, [], ◌∷◌, true, pos, codes};
+ghost use Rattle.std.specs.Prelude.{◌≡◌, ℕ, List, [], ◌∷◌, true, pos, codes};
 ghost use Rattle.soy_base.specs.declared.place.Place.TheVariants as place;
 ghost use Rattle.soy_tree.specs.Nodes.{Nodes};
 ghost use Rattle.soy_tree.specs.TypeOf.{Scope};
@@ -9,7 +9,8 @@ ghost use Rattle.soy_meaning.specs.PlanOfNodes.{PlanContext, nodes_plan};
 ghost use Rattle.soy_meaning.specs.RunRows.{attributes_block, attributes_body, block_body, block_twice, calls};
 ghost use Rattle.soy_meaning.specs.RunRows.{calls_body, number_env, number_param, offset_translation, plural_source};
 ghost use Rattle.soy_meaning.specs.RunRows.{row_trees, source_body, source_plural, text_env, text_param};
-ghost use Rattle.template_ir.specs.Compiles.{Compiles};
+ghost use Rattle.template_ir.specs.Compiles.{CompileContext, Compiles, StandsNodes, with_more};
+ghost use Rattle.template_ir.specs.Ops.{Op};
 ghost use Rattle.template_ir.specs.HoleCounts.{nodes_holes};
 ghost use Rattle.template_ir.specs.ProgramRows.{attributes_program, block_program, calls_program, every_env};
 ghost use Rattle.template_ir.specs.ProgramRows.{every_outcome, every_places, every_program, every_trees};
@@ -22,6 +23,12 @@ ghost use Rattle.template_ir.specs.Sound.{is_sound};
 pub fn law_hole_counts()
     ensures { (c : PlanContext) (ns : Nodes) (scope : Scope) →
         hole_count (nodes_plan c ns scope) ≡ nodes_holes c.translation ns }
+{}
+
+/// Ops that stand for nodes still do where more ops are added at the end.
+pub fn law_ops_stay()
+    ensures { (c : CompileContext) (more : List Op) (ns : Nodes) (hole at end : ℕ) →
+        StandsNodes c ns hole at end → StandsNodes (with_more c more) ns hole at end }
 {}
 
 /// Rows that the checker computes: programs written by hand stand for the trees of their rows, they are sound, and they

@@ -1,5 +1,4 @@
 use Rattle.template_ir.proofs.Counts.{nodes_count}
-use Rattle.template_ir.proofs.CoreNodes.{nodes_law}
 use Rattle.template_ir.proofs.laws.law_hole_counts.Goals as goal
 
 pub returns : goal.returns
