@@ -5,5 +5,6 @@ pub mod Run
 pub mod HoleCounts
 pub mod StandFor
 pub mod Compiles
+pub mod Placed
 pub mod Sound
 pub mod ProgramRows

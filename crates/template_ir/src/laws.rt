@@ -1,16 +1,22 @@
 //! What the definitions come to. Each law is a contract with an empty body.
 
-ghost use Rattle.std.specs.Prelude.{◌≡◌, ℕ, List, [], ◌∷◌, true, pos, codes};
+ghost use Rattle.std.specs.Prelude.{◌≡◌, ℕ, List, [], ◌∷◌, Some, true, pos, codes, slice_get};
 ghost use Rattle.soy_base.specs.declared.place.Place.TheVariants as place;
+ghost use Rattle.soy_base.specs.declared.place.Place.{Place};
 ghost use Rattle.soy_tree.specs.Nodes.{Nodes};
+ghost use Rattle.soy_tree.specs.Templates.{Declared, declared};
+ghost use Rattle.soy_tree.specs.Trees.{Tree};
 ghost use Rattle.soy_tree.specs.TypeOf.{Scope};
+ghost use Rattle.soy_meaning.specs.Giving.{RunEnv};
+ghost use Rattle.soy_meaning.specs.Pieces.{template_run};
 ghost use Rattle.soy_meaning.specs.Holes.{hole_count};
 ghost use Rattle.soy_meaning.specs.PlanOfNodes.{PlanContext, nodes_plan};
 ghost use Rattle.soy_meaning.specs.RunRows.{attributes_block, attributes_body, block_body, block_twice, calls};
 ghost use Rattle.soy_meaning.specs.RunRows.{calls_body, number_env, number_param, offset_translation, plural_source};
 ghost use Rattle.soy_meaning.specs.RunRows.{row_trees, source_body, source_plural, text_env, text_param};
-ghost use Rattle.template_ir.specs.Compiles.{CompileContext, Compiles, StandsNodes, with_more};
-ghost use Rattle.template_ir.specs.Ops.{Op};
+ghost use Rattle.template_ir.specs.Compiles.{CompileContext, Compiles, Language, StandsNodes, with_more};
+ghost use Rattle.template_ir.specs.Ops.{Op, Program};
+ghost use Rattle.template_ir.specs.Placed.{EntryPlaced, language_context};
 ghost use Rattle.template_ir.specs.HoleCounts.{nodes_holes};
 ghost use Rattle.template_ir.specs.ProgramRows.{attributes_program, block_program, calls_program, every_env};
 ghost use Rattle.template_ir.specs.ProgramRows.{every_outcome, every_places, every_program, every_trees};
@@ -31,6 +37,16 @@ pub fn law_ops_stay()
         StandsNodes c ns hole at end → StandsNodes (with_more c more) ns hole at end }
 {}
 
+/// A program gives what the trees give that it stands for, with the same costs and the same end, where their run is as
+/// the checks leave it: where the place of each value is the one that is kept for its hole.
+pub fn law_run_is_pieces()
+    ensures { (trees : List Tree) (places : List Place) (l : Language) (p : Program) → Compiles trees places l p →
+        (number : ℕ) (d : Declared) → slice_get (declared trees) number ≡ Some d → (env : RunEnv) →
+        EntryPlaced (language_context l (declared trees)) places number env →
+        pieces_end_costs (template_gives p number env)
+        ≡ pieces_end_costs (template_run (language_context l (declared trees)) d env) }
+{}
+
 /// Rows that the checker computes: programs written by hand stand for the trees of their rows, they are sound, and they
 /// give the pieces, the end and the costs that the trees give. The last has every command.
 pub fn law_program_rows()
@@ -43,6 +59,9 @@ pub fn law_program_rows()
     ensures offset_compiles { Compiles (row_trees number_param plural_source) (place.Text ∷ []) offset_language
         offset_program }
     ensures every_compiles { Compiles every_trees every_places source_language every_program }
+    ensures block_placed { EntryPlaced
+        (language_context source_language (declared (row_trees (text_param (codes "x")) block_body)))
+        (place.Text ∷ place.Text ∷ place.Text ∷ []) 0 (text_env (codes "x") (codes "q")) }
     ensures block_sound { is_sound block_program ≡ true }
     ensures attributes_sound { is_sound attributes_program ≡ true }
     ensures calls_sound { is_sound calls_program ≡ true }

@@ -63,6 +63,9 @@ pub returns-clause-every_runs : goal.returns-clause-every_runs
 unfolding called_within called_at all_give digits first_strong is_address word_kind bidi_class
 returns-clause-every_runs c = refl
 
+pub returns-clause-block_placed : goal.returns-clause-block_placed
+returns-clause-block_placed c = ((refl, tt), λ whole again. tt)
+
 pub returns-clause-block_compiles : goal.returns-clause-block_compiles
 returns-clause-block_compiles c = record {
   templates = (
