@@ -1,5 +1,5 @@
 -- What is handed to a callee, and what a call gives.
-use Rattle.std.proofs.Common.{◌≡◌, ◌+◌, ◌≤◌, ℕ, Bool, true, false, List, [], ◌∷◌, ◌++◌, Option, Some, None, map}
+use Rattle.std.proofs.Common.{◌≡◌, ℕ, Bool, true, false, List, [], ◌∷◌, ◌++◌, Option, Some, None, map}
 use Rattle.std.proofs.Common.{if◌then◌else◌, refl, sym, ap, ◌∙◌, subst, bytes_eq}
 use Rattle.std.proofs.lemmas.Slice.Eq.{bytes_eq-Decides}
 use Rattle.soy_base.specs.declared.kind.Kind.{Kind}
@@ -11,7 +11,7 @@ use Rattle.soy_tree.specs.Val.{Binding, Known, binding}
 use Rattle.soy_tree.specs.Values.{NullValue, StringValue}
 use Rattle.soy_meaning.specs.Giving.{BoundBlock, RunEnv, StateSoFar, called_means, read_outcome, value_means}
 use Rattle.soy_meaning.specs.Meaning.{joined_pieces}
-use Rattle.soy_meaning.specs.Outcome.{Outcome, WholeRun, continued_by, gives_nothing, pieces_of_outcome}
+use Rattle.soy_meaning.specs.Outcome.{Outcome, continued_by, gives_nothing, pieces_of_outcome}
 use Rattle.soy_meaning.specs.Pieces.{GivenArguments, RunContext, given_binding, param_binding}
 use Rattle.soy_meaning.specs.Plan.{Site}
 use Rattle.soy_meaning.proofs.Outcomes.{first_none}
@@ -20,10 +20,10 @@ use Rattle.template_ir.specs.Ops.{Program}
 use Rattle.template_ir.specs.Run.{OpMeans, all_handed_give, handed_env, opened_gives, value_gives}
 use Rattle.template_ir.specs.StandFor.{place_of}
 use Rattle.template_ir.proofs.Core.{same_then, value_same}
-use Rattle.template_ir.proofs.GatheredTexts.{gathered_both, pieces_same}
+use Rattle.template_ir.proofs.GatheredTexts.{gathered_both}
 use Rattle.template_ir.proofs.Matching.{EnvsMatch, Matches}
 use Rattle.template_ir.specs.Placed.{BindsGiven, CalledPlaced, IsFresh, has_name}
-use Rattle.template_ir.proofs.Plain.{Same, plain}
+use Rattle.template_ir.proofs.Plain.{Same}
 
 -- ---- variables
 

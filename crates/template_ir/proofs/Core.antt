@@ -1,45 +1,35 @@
 -- What a program gives for texts, prints and control flow is what the trees give, where the places are those of the
 -- holes.
-use Rattle.std.proofs.Common.{◌≡◌, ◌+◌, ◌≤◌, ℕ, zero, suc, ℤ, pos, Bool, true, false, List, [], ◌∷◌, ◌++◌, Option, Some}
-use Rattle.std.proofs.Common.{None, Ok, if◌then◌else◌, refl, sym, ap, ◌∙◌, subst, arith, take, bytes_eq}
-use Rattle.std.specs.List.{slice_get}
-use Rattle.soy_base.specs.declared.direction.Dir.{Dir}
-use Rattle.soy_base.specs.declared.kind.Kind.{Kind}
-use Rattle.soy_base.specs.declared.kind.Kind.TheVariants as kind
+use Rattle.std.proofs.Common.{◌≡◌, ◌+◌, ◌≤◌, ℕ, ℤ, List, [], ◌∷◌}
+use Rattle.std.proofs.Common.{refl, sym, ap, ◌∙◌, arith, take}
 use Rattle.soy_base.specs.declared.place.Place.{Place}
-use Rattle.soy_base.specs.declared.place.Placing.TheVariants.{Takes}
 use Rattle.html_state.specs.AfterPieces.{Piece, Static, Value}
-use Rattle.html_state.specs.Start.{start}
 use Rattle.soy_tree.specs.Types.{Name}
 use Rattle.soy_tree.specs.Cost.{cost}
 use Rattle.soy_tree.specs.Expressions.{Expr}
-use Rattle.soy_tree.specs.Nodes.{Node, Nodes, Otherwise, Arms, Cases, TextNode, Print, If, Switch, For, Let, LetBlock}
-use Rattle.soy_tree.specs.Nodes.{no_node, node, no_otherwise, otherwise, no_arm, arm, no_case, case}
 use Rattle.soy_tree.specs.Templates.{Declared}
-use Rattle.soy_tree.specs.Val.{Binding, BlockOf, Known, is_truthy, val, value_text}
+use Rattle.soy_tree.specs.Val.{Binding, BlockOf, Known, val, value_text}
 use Rattle.soy_tree.specs.Values.{Items, no_item, item}
 use Rattle.soy_tree.specs.Values as values
 use Rattle.soy_meaning.specs.Filled.{value_form}
-use Rattle.soy_meaning.specs.Giving.{BoundBlock, Means, RunEnv, StateSoFar, piece_means, placing_so_far, printed_means}
-use Rattle.soy_meaning.specs.Giving.{read_outcome, read_piece, text_means, value_class, value_means, with_choice, with_cost}
-use Rattle.soy_meaning.specs.Outcome.{ArmTaken, ChoiceMade, GivesPiece, Outcome, RunEnds, Spent, Turns, WholeRun}
+use Rattle.soy_meaning.specs.Giving.{BoundBlock, RunEnv, StateSoFar, placing_so_far, printed_means}
+use Rattle.soy_meaning.specs.Giving.{read_outcome, read_piece, text_means, value_class, value_means, with_cost}
+use Rattle.soy_meaning.specs.Outcome.{GivesPiece, Outcome, RunEnds, Spent, WholeRun}
 use Rattle.soy_meaning.specs.Outcome.{StopsAt, continued_by, end_of_outcome, gives_nothing, none_spent, spent_first}
-use Rattle.soy_meaning.specs.Pieces.{RunContext, arms_mean, node_means, nodes_mean, otherwise_means, unbound}
+use Rattle.soy_meaning.specs.Pieces.{RunContext}
 use Rattle.soy_meaning.specs.Plan.{Site}
-use Rattle.soy_meaning.proofs.Outcomes.{first_followed, first_none, followed_joined, followed_nothing}
-use Rattle.template_ir.specs.Compiles.{CompileContext, StandsArms, StandsNode, StandsNodes, StandsOther}
-use Rattle.template_ir.specs.HoleCounts.{arm_holes, node_holes, nodes_holes}
-use Rattle.template_ir.specs.Ops.{Branch, IfOp, LetOp, Op, PrintOp, Program, StaticOp}
-use Rattle.template_ir.specs.Run.{OpMeans, block_gives, branches_give, one_step, op_gives, ops_give, print_gives}
-use Rattle.template_ir.specs.Run.{rest_gives, value_at, value_gives}
+use Rattle.soy_meaning.proofs.Outcomes.{first_followed, first_none, followed_joined}
+use Rattle.template_ir.specs.Compiles.{CompileContext}
+use Rattle.template_ir.specs.Ops.{LetOp, Op, PrintOp, Program, StaticOp}
+use Rattle.template_ir.specs.Run.{OpMeans, one_step, op_gives, ops_give, print_gives}
+use Rattle.template_ir.specs.Run.{value_at, value_gives}
 use Rattle.template_ir.specs.StandFor.{StandsOp, StandsText, place_of}
 use Rattle.template_ir.specs.Table.{table}
-use Rattle.template_ir.specs.declared.op.Block as code_block
-use Rattle.template_ir.proofs.Matching.{EnvsMatch, Matches, cost_match, match_more, truth_match, val_match}
-use Rattle.template_ir.specs.Placed.{ArmsPlaced, NodePlaced, NodesPlaced, OtherPlaced, Picks, PrintPlaced, TextPlaced}
+use Rattle.template_ir.proofs.Matching.{EnvsMatch, Matches, cost_match, match_more, val_match}
+use Rattle.template_ir.specs.Placed.{PrintPlaced, TextPlaced}
 use Rattle.template_ir.specs.Placed.{ValuePlaced}
-use Rattle.template_ir.proofs.Plain.{Same, plain, plain_spent, same_first, same_followed, same_free}
-use Rattle.template_ir.proofs.Tables.{get_table, part, part_cons, part_none, part_take}
+use Rattle.template_ir.proofs.Plain.{Same, plain, plain_spent, same_first, same_free}
+use Rattle.template_ir.proofs.Tables.{get_table, part, part_cons}
 
 -- ---- outcomes
 

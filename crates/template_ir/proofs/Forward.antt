@@ -1,8 +1,8 @@
 -- What stands for nodes ends at or behind the position where it begins.
-use Rattle.std.proofs.Common.{◌≡◌, ◌+◌, ◌≤◌, ℕ, Bool, true, false, List, [], ◌∷◌, ◌++◌, Option, Some, None, arith}
+use Rattle.std.proofs.Common.{◌≡◌, ◌+◌, ◌≤◌, ℕ, true, false, List, [], ◌∷◌, ◌++◌, Option, Some, None, arith}
 use Rattle.soy_base.specs.declared.place.Place.{Place}
 use Rattle.soy_tree.specs.Expressions.{Expr}
-use Rattle.soy_tree.specs.MessageParts.{MsgPart, MsgParts, ExactArms, NamedArms, SelectArms, TextPart, Placeholder}
+use Rattle.soy_tree.specs.MessageParts.{MsgPart, MsgParts, TextPart, Placeholder}
 use Rattle.soy_tree.specs.MessageParts.{NumberPart, PluralPart, SelectPart, no_part, part}
 use Rattle.soy_tree.specs.MessageText.{MessageItem, Character, Printed, Cut, PrintCut, TagCut, TextCut}
 use Rattle.soy_tree.specs.Nodes.{Node, Nodes, Message, MessageBody, TextNode, Print, If, Switch, For, Let, LetBlock, Call}

@@ -1,10 +1,10 @@
 -- Blocks that are bound: what is gathered of two that give the same.
-use Rattle.std.proofs.Common.{◌≡◌, ◌+◌, ℕ, List, [], ◌∷◌, ◌++◌, refl, sym, ap, ◌∙◌, append_assoc, subst}
+use Rattle.std.proofs.Common.{◌≡◌, ℕ, List, [], ◌∷◌, ◌++◌, refl, sym, ap, ◌∙◌, append_assoc, subst}
 use Rattle.std.proofs.lemmas.List.{append-nil}
 use Rattle.soy_base.specs.declared.kind.Kind.{Kind}
 use Rattle.soy_base.specs.declared.kind.Kind.TheVariants as kind
 use Rattle.html_state.specs.AfterPieces.{Piece, Static, Value}
-use Rattle.soy_tree.specs.Val.{Binding, BlockOf, Known}
+use Rattle.soy_tree.specs.Val.{Binding, Known}
 use Rattle.soy_tree.specs.Values.{StringValue}
 use Rattle.soy_meaning.specs.FrameRun.{bound_as}
 use Rattle.soy_meaning.specs.Giving.{BoundBlock, block_bound}

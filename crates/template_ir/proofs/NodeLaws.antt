@@ -35,7 +35,7 @@ use Rattle.soy_tree.specs.Templates.{Declared, callee}
 use Rattle.soy_tree.specs.Val.{Binding, Known, is_same_value, is_truthy, val}
 use Rattle.soy_meaning.specs.FrameRun.{bound_as}
 use Rattle.soy_meaning.specs.Giving.{Means, RunEnv, StateSoFar, block_bound, with_choice, with_cost}
-use Rattle.soy_meaning.specs.Outcome.{ArmTaken, Outcome, Turns, continued_by, gives_nothing, spent_first}
+use Rattle.soy_meaning.specs.Outcome.{ArmTaken, Outcome, Turns, continued_by, gives_nothing}
 use Rattle.soy_meaning.specs.Pieces.{RunContext, arms_mean, at_end, cases_mean, frame_outcome, is_one, item_count}
 use Rattle.soy_meaning.specs.Pieces.{listed_items, node_means, nodes_mean, otherwise_means, turns_mean, unbound, valued}
 use Rattle.soy_meaning.specs.Pieces.{with_index}
@@ -54,7 +54,7 @@ use Rattle.template_ir.proofs.Forward.{nodes_forward}
 use Rattle.template_ir.proofs.Matching.{EnvsMatch, cost_match, match_more, operand_match, truth_match}
 use Rattle.template_ir.specs.Placed.{ArmsPlaced, CasesPlaced, NodePlaced, NodesPlaced, OtherPlaced, Picks, TurnsPlaced}
 use Rattle.template_ir.proofs.Plain.{Same, plain, same_first, same_free}
-use Rattle.template_ir.proofs.Tables.{part, part_none, part_take}
+use Rattle.template_ir.proofs.Tables.{part_none, part_take}
 
 behind : {a b c : ℕ} → a ≤ b → b ≤ c → a ≤ c
 behind h k = omega (arith, h, k)

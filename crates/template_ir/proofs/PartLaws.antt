@@ -15,12 +15,12 @@ use Rattle.soy_tree.specs.MessageParts.{no_named_arm, named_arm, no_select_arm, 
 use Rattle.soy_tree.specs.MessageText.{MessageItem, Character, Printed, Cut, PrintCut, TagCut, TextCut}
 use Rattle.soy_tree.specs.Placeholders.{Use}
 use Rattle.soy_tree.specs.Templates.{Declared}
-use Rattle.soy_tree.specs.Val.{is_same_int, val}
+use Rattle.soy_tree.specs.Val.{is_same_int}
 use Rattle.soy_tree.specs.Values.{IntValue}
 use Rattle.soy_meaning.specs.Branch.{PartMeans, arm_means, cut_means, exact_of, exact_rows, int_of, named_of, named_rows}
 use Rattle.soy_meaning.specs.Branch.{part_means, parts_means, plural_means, row_count, select_means, select_of, select_rows}
 use Rattle.soy_meaning.specs.Branch.{selector, tag_means, word_of}
-use Rattle.soy_meaning.specs.Giving.{RunEnv, StateSoFar, with_choice}
+use Rattle.soy_meaning.specs.Giving.{RunEnv, StateSoFar}
 use Rattle.soy_meaning.specs.Outcome.{ArmTaken, Outcome, continued_by}
 use Rattle.soy_meaning.specs.Pieces.{RunContext, valued}
 use Rattle.soy_meaning.specs.Plan.{Site}
@@ -39,7 +39,7 @@ use Rattle.template_ir.specs.declared.op.WordBlock.{WordBlock}
 use Rattle.template_ir.proofs.Core.{all_means, costed, free_step, from_here, op_first, print_law, text_law, value_same}
 use Rattle.template_ir.proofs.Forward.{op_forward, parts_forward, tag_forward}
 use Rattle.template_ir.proofs.Matching.{EnvsMatch, cost_match, operand_match}
-use Rattle.template_ir.specs.Placed.{CutPlaced, ExactPlaced, NamedPlaced, PartPlaced, PartsPlaced, Picks, PrintPlaced}
+use Rattle.template_ir.specs.Placed.{CutPlaced, ExactPlaced, NamedPlaced, PartPlaced, PartsPlaced, Picks}
 use Rattle.template_ir.specs.Placed.{SelectedPlaced, TagPlaced, WordsPlaced}
 use Rattle.template_ir.proofs.Plain.{Same, plain, same_free}
 use Rattle.template_ir.proofs.Tables.{part_none, part_take}

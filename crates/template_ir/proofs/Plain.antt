@@ -1,11 +1,10 @@
 -- Outcomes without their choices and their work.
-use Rattle.std.proofs.Common.{◌≡◌, ◌+◌, ℕ, List, [], ◌∷◌, ◌++◌, refl, sym, ap, ◌∙◌, arith}
+use Rattle.std.proofs.Common.{◌≡◌, ℕ, List, [], ◌∷◌, ◌++◌, refl, sym, ap, ◌∙◌}
 use Rattle.html_state.specs.AfterPieces.{Static, Value}
-use Rattle.soy_meaning.specs.Outcome.{Outcome, RunEnds, GivesPiece, Spent, StopsAt, WholeRun, and_spent, continued_by}
-use Rattle.soy_meaning.specs.Outcome.{costs_of_outcome, end_of_outcome, gathered, gives_nothing, none_spent}
+use Rattle.soy_meaning.specs.Outcome.{Outcome, RunEnds, GivesPiece, Spent, StopsAt, WholeRun, continued_by}
+use Rattle.soy_meaning.specs.Outcome.{costs_of_outcome, end_of_outcome, gathered}
 use Rattle.soy_meaning.specs.Outcome.{pieces_of_outcome, spent_first}
-use Rattle.soy_meaning.proofs.Outcomes.{first_followed, first_gathered, first_none, first_twice}
-use Rattle.soy_meaning.specs.Meaning.{joined_pieces}
+use Rattle.soy_meaning.proofs.Outcomes.{first_none}
 
 abbrev pub plain_spent : Spent → Spent
 plain_spent a = record { cost = a.cost; work = 0; choices = [] }

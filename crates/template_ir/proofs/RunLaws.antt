@@ -1,11 +1,11 @@
 -- What a program gives for a template is what its trees give, where the places are those of the holes.
-use Rattle.std.proofs.Common.{◌≡◌, ◌+◌, ◌≤◌, ℕ, zero, suc, ℤ, pos, Bool, true, false, List, [], ◌∷◌, Option, Some, None}
+use Rattle.std.proofs.Common.{◌≡◌, ◌+◌, ℕ, zero, suc, ℤ, pos, Bool, true, false, List, [], ◌∷◌, Option, Some, None}
 use Rattle.std.proofs.Common.{Ok, if◌then◌else◌, refl, sym, ap, ◌∙◌, subst, arith, length, bytes_eq}
 use Rattle.std.specs.Prelude.{option_map, slice_get}
 use Rattle.soy_base.specs.declared.place.Place.{Place}
 use Rattle.plural_rules.specs.Category.{category_of}
 use Rattle.html_state.specs.Start.{start}
-use Rattle.soy_tree.specs.Templates.{Declared, callee, called_name, full_name, is_visible_from, template_of, visible}
+use Rattle.soy_tree.specs.Templates.{Declared, called_name, full_name, is_visible_from, template_of, visible}
 use Rattle.soy_tree.specs.Types.{Name}
 use Rattle.soy_tree.specs.Val.{Binding, BlockOf, Known, binding}
 use Rattle.soy_meaning.specs.Giving.{BoundBlock, RunEnv}
@@ -17,7 +17,7 @@ use Rattle.template_ir.specs.Compiles.{Language, StandsNodes, StandsTemplate, St
 use Rattle.template_ir.specs.Compiles.{context_of_template}
 use Rattle.template_ir.specs.HoleCounts.{nodes_holes}
 use Rattle.template_ir.specs.Ops.{Op, Program, Routine}
-use Rattle.template_ir.specs.Run.{all_give, block_gives, body_there, called_at, category_in, kind_of_template, op_gives}
+use Rattle.template_ir.specs.Run.{all_give, block_gives, body_there, called_at, category_in, op_gives}
 use Rattle.template_ir.specs.Run.{template_gives}
 use Rattle.template_ir.specs.Table.{table}
 use Rattle.template_ir.proofs.Matching.{EnvsMatch, Matches}

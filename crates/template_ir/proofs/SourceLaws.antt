@@ -12,7 +12,7 @@ use Rattle.soy_tree.specs.Nodes.{Nodes, MessageBody, PluralCases, SelectCases, T
 use Rattle.soy_tree.specs.Nodes.{LetBlock, Call, MessageNode, no_node, node, Parts, Plural, Select, no_plural_case}
 use Rattle.soy_tree.specs.Nodes.{plural_case, no_select_case, select_case}
 use Rattle.soy_tree.specs.Templates.{Declared}
-use Rattle.soy_tree.specs.Val.{is_same_int, val}
+use Rattle.soy_tree.specs.Val.{is_same_int}
 use Rattle.soy_meaning.specs.Branch.{int_of, word_of}
 use Rattle.soy_meaning.specs.Giving.{Means, RunEnv, StateSoFar, with_choice}
 use Rattle.soy_meaning.specs.Outcome.{ArmTaken, Outcome, continued_by}
@@ -21,9 +21,9 @@ use Rattle.soy_meaning.specs.Pieces.{valued}
 use Rattle.soy_meaning.specs.Plan.{Site}
 use Rattle.template_ir.specs.Compiles.{StandsNodes, StandsPluralCases, StandsSelectCases, StandsSource, other_arm}
 use Rattle.template_ir.specs.Compiles.{other_word}
-use Rattle.template_ir.specs.HoleCounts.{body_holes, node_holes, plural_holes, select_holes}
+use Rattle.template_ir.specs.HoleCounts.{body_holes, plural_holes, select_holes}
 use Rattle.template_ir.specs.Ops.{PluralOp, Program, SelectOp}
-use Rattle.template_ir.specs.Run.{OpMeans, arm_gives, block_gives, category_in, exact_block, named_block, plural_gives}
+use Rattle.template_ir.specs.Run.{OpMeans, arm_gives, block_gives, category_in, exact_block, plural_gives}
 use Rattle.template_ir.specs.Run.{select_block, word_block}
 use Rattle.template_ir.specs.declared.op.Block as code_block
 use Rattle.template_ir.specs.declared.op.ExactBlock.{ExactBlock}
