@@ -5,7 +5,8 @@ use Rattle.soy_tree.specs.Expressions.{Expr}
 use Rattle.soy_tree.specs.MessageParts.{MsgPart, MsgParts, TextPart, Placeholder}
 use Rattle.soy_tree.specs.MessageParts.{NumberPart, PluralPart, SelectPart, no_part, part}
 use Rattle.soy_tree.specs.MessageText.{MessageItem, Character, Printed, Cut, PrintCut, TagCut, TextCut}
-use Rattle.soy_tree.specs.Nodes.{Node, Nodes, Message, MessageBody, TextNode, Print, If, Switch, For, Let, LetBlock, Call}
+use Rattle.soy_tree.specs.Nodes.{Node, Nodes, Message, MessageBody, TextNode, Print, If, Switch, For, Let, LetBlock}
+use Rattle.soy_tree.specs.Nodes.{Call}
 use Rattle.soy_tree.specs.Nodes.{MessageNode, no_node, node, message, Parts, Plural, Select}
 use Rattle.soy_tree.specs.Placeholders.{Use}
 use Rattle.soy_meaning.specs.Branch.{selector}

@@ -9,7 +9,8 @@ use Rattle.soy_tree.specs.Values.{StringValue}
 use Rattle.soy_meaning.specs.FrameRun.{bound_as}
 use Rattle.soy_meaning.specs.Giving.{BoundBlock, block_bound}
 use Rattle.soy_meaning.specs.Meaning.{joined_pieces}
-use Rattle.soy_meaning.specs.Outcome.{GivesPiece, Outcome, RunEnds, Spent, StopsAt, WholeRun, continued_by, end_of_outcome}
+use Rattle.soy_meaning.specs.Outcome.{GivesPiece, Outcome, RunEnds, Spent, StopsAt, WholeRun, continued_by}
+use Rattle.soy_meaning.specs.Outcome.{end_of_outcome}
 use Rattle.soy_meaning.specs.Outcome.{gathered, gives_nothing, pieces_of_outcome, spent_first}
 use Rattle.soy_meaning.proofs.Outcomes.{first_followed, first_none}
 use Rattle.template_ir.specs.Run.{bound_gives}

@@ -8,7 +8,8 @@ use Rattle.soy_tree.specs.Expressions.{Expr}
 use Rattle.soy_tree.specs.Nodes.{Arguments, Given, Message, Plain, Block, no_argument, argument, message}
 use Rattle.soy_meaning.specs.Giving.{BoundBlock}
 use Rattle.soy_meaning.specs.Outcome.{FallbackTranslation, OwnTranslation, SourceText, TextTaken}
-use Rattle.soy_meaning.specs.Pieces.{ChosenText, GivenArguments, TheFallback, TheOwn, TheSource, arguments_mean, callee_env}
+use Rattle.soy_meaning.specs.Pieces.{ChosenText, GivenArguments, TheFallback, TheOwn, TheSource, arguments_mean}
+use Rattle.soy_meaning.specs.Pieces.{callee_env}
 use Rattle.soy_meaning.specs.Pieces.{chosen_text, given_means, message_means, opened_means, source_means}
 use Rattle.soy_meaning.specs.Pieces.{translated_means}
 use Rattle.soy_meaning.specs.PlanOfNodes.{starts_at, uses_of}
@@ -16,7 +17,8 @@ use Rattle.template_ir.specs.Compiles.{StandsGiven, StandsHanded, StandsMessage,
 use Rattle.template_ir.specs.Compiles.{params_there, same_handed}
 use Rattle.template_ir.specs.HoleCounts.{given_holes}
 use Rattle.template_ir.specs.Ops.{Handed, HandedBy, HandedBlock, HandedSame, HandedValue}
-use Rattle.template_ir.specs.Run.{all_handed_give, category_in, handed_binding, handed_env, handed_gives, kind_of_template}
+use Rattle.template_ir.specs.Run.{all_handed_give, category_in, handed_binding, handed_env, handed_gives}
+use Rattle.template_ir.specs.Run.{kind_of_template}
 use Rattle.template_ir.specs.Run.{opened_gives}
 use Rattle.template_ir.specs.StandFor.{place_of}
 use Rattle.template_ir.proofs.CallLaws.{HandsMatch, callee_match, called_same, hands_more, same_give}
@@ -47,7 +49,8 @@ use Rattle.template_ir.specs.Ops.{Branch, Choice, ForOp, IfOp, LetBlockOp, Progr
 use Rattle.template_ir.specs.Run.{OpMeans, block_gives, bound_gives, branches_give, choices_give, one_step, ops_give}
 use Rattle.template_ir.specs.Run.{rest_gives, turns_give}
 use Rattle.template_ir.specs.declared.op.Block as code_block
-use Rattle.template_ir.proofs.Core.{GoesOn, all_means, context, costed, free_step, from_here, let_law, op_first, print_law}
+use Rattle.template_ir.proofs.Core.{GoesOn, all_means, context, costed, free_step, from_here, let_law, op_first}
+use Rattle.template_ir.proofs.Core.{print_law}
 use Rattle.template_ir.proofs.Core.{text_law}
 use Rattle.template_ir.proofs.GatheredTexts.{bound_match, bound_same}
 use Rattle.template_ir.proofs.Forward.{nodes_forward}
@@ -97,12 +100,14 @@ turn_match name (Some index) n v env other all =
 turns_same : (body : RunEnv → Means) (block : RunEnv → Outcome) (name : Name) (index : Option Name)
     (Body : RunEnv → StateSoFar → (StateSoFar → Type 0) → Type 0)
     → ((inner within : RunEnv) → EnvsMatch inner within → (now : StateSoFar) (on : StateSoFar → Outcome)
-    (Next : StateSoFar → Type 0) (z : Outcome) → Body inner now Next → ((past : StateSoFar) → Next past → Same (on past) z)
+    (Next : StateSoFar → Type 0) (z : Outcome) → Body inner now Next → ((past : StateSoFar) → Next past → Same (on
+    past) z)
     → Same (body inner now on) (continued_by (block within) z))
     → (env other : RunEnv) → EnvsMatch env other → (n : ℕ) (items : Items) (so_far : StateSoFar)
     (on : StateSoFar → Outcome) (Next : StateSoFar → Type 0) (z : Outcome)
     → TurnsPlaced Body name index env n items so_far Next → ((past : StateSoFar) → Next past → Same (on past) z)
-    → Same (turns_mean body name index env n items so_far on) (continued_by (turns_give block name index other n items) z)
+    → Same (turns_mean body name index env n items so_far on) (continued_by (turns_give block name index other n
+    items) z)
 turns_same body block name index Body bodies env other all n no_item so_far on Next z placed next =
     next so_far placed ∙ sym (same_free (one_step 0) z refl)
 turns_same body block name index Body bodies env other all n (item v vs) so_far on Next z placed next =
@@ -180,13 +185,16 @@ module _ (c : RunContext) (p : Program) (places : List Place) (called : Site →
         → Same (node_means c called n env so_far next)
         (from_here c p places called opens Opened direction at end (pos 0) other rest)
     node_law (TextNode text span) hole at past h end rest l env other all so_far next Next placed goes =
-        text_law c p places called opens Opened direction text at past end (pos 0) rest h l other so_far (next env) (Next env)
+        text_law c p places called opens Opened direction text at past end (pos 0) rest h l other so_far (next env)
+        (Next env)
         placed (λ now x. goes env other now all x)
     node_law (Print e phname span) hole at past h end rest l env other all so_far next Next placed goes =
-        print_law c p places called opens Opened direction e hole at past end (pos 0) rest h l env other all so_far (next env)
+        print_law c p places called opens Opened direction e hole at past end (pos 0) rest h l env other all so_far
+        (next env)
         (Next env) placed (λ now x. goes env other now all x)
     node_law (Let name e span) hole at past h end rest l env other all so_far next Next placed goes =
-        let_law c p places called opens Opened direction name e at past end (pos 0) rest h l env other all so_far next Next
+        let_law c p places called opens Opened direction name e at past end (pos 0) rest h l env other all so_far next
+        Next
         placed goes
     node_law (If arms last span) hole at past h end rest l env other all so_far next Next placed goes =
         let z : Outcome = from_here c p places called opens Opened direction past end (pos 0) other rest in
@@ -197,7 +205,8 @@ module _ (c : RunContext) (p : Program) (places : List Place) (called : Site →
         (OtherPlaced c places called Opened last (hole + arm_holes c.translation arms) env so_far (Next env))
         (λ j x. other_law last h.1 (hole + arm_holes c.translation arms) at h.3 j env other all so_far (next env)
         (Next env) z x (λ now y. goes env other now all y)) placed (λ now x. goes env other now all x))
-        ∙ ap plain (sym (op_first c p places called opens Opened direction (IfOp h.0 h.1) at past end (pos 0) other rest h.4 l))
+        ∙ ap plain (sym (op_first c p places called opens Opened direction (IfOp h.0 h.1) at past end (pos 0) other
+        rest h.4 l))
     node_law (Switch e cases last span) hole at past h end rest l env other all so_far next Next placed goes =
         let z : Outcome = from_here c p places called opens Opened direction past end (pos 0) other rest in
         let ms : List OpMeans = take at (all_means c p places called opens Opened direction) in
@@ -210,16 +219,19 @@ module _ (c : RunContext) (p : Program) (places : List Place) (called : Site →
         (λ j x. other_law last h.1 (hole + case_holes c.translation cases) at h.3 j env other all so_far
         (next env) (Next env) z x (λ now y. goes env other now all y)) placed (λ now x. goes env other now all x))
         ∙ ap plain
-        (sym (op_first c p places called opens Opened direction (SwitchOp e h.0 h.1) at past end (pos 0) other rest h.4 l))
+        (sym (op_first c p places called opens Opened direction (SwitchOp e h.0 h.1) at past end (pos 0) other rest
+        h.4 l))
     node_law (For name index e body span) hole at past h end rest l env other all so_far next Next placed goes =
         let z : Outcome = from_here c p places called opens Opened direction past end (pos 0) other rest in
         let ms : List OpMeans = take at (all_means c p places called opens Opened direction) in
-        let turns : Outcome = turns_mean (λ inner now after. nodes_mean c called body inner now (unbound after)) name index
+        let turns : Outcome = turns_mean (λ inner now after. nodes_mean c called body inner now (unbound after)) name
+        index
         env 0 (listed_items (valued e env)) so_far (next env) in
         costed (cost e env) (cost e other) (with_choice (Turns (item_count (listed_items (valued e env)))) turns)
         (turns_give (block_gives ms h.0 (pos 0)) name index other 0 (listed_items (valued e other))) z
         (cost_match env other all e)
-        (same_free (record { cost = 0; work = 1; choices = Turns (item_count (listed_items (valued e env))) ∷ [] }) turns
+        (same_free (record { cost = 0; work = 1; choices = Turns (item_count (listed_items (valued e env))) ∷ [] })
+        turns
         refl
         ∙ (turns_same (λ inner now after. nodes_mean c called body inner now (unbound after))
         (block_gives ms h.0 (pos 0)) name index
@@ -233,7 +245,8 @@ module _ (c : RunContext) (p : Program) (places : List Place) (called : Site →
         ∙ ap (λ v. plain (continued_by (turns_give (block_gives ms h.0 (pos 0)) name index other 0 (listed_items v)) z))
         (operand_match env other all e)))
         ∙ ap plain
-        (sym (op_first c p places called opens Opened direction (ForOp name index e h.0) at past end (pos 0) other rest h.3 l))
+        (sym (op_first c p places called opens Opened direction (ForOp name index e h.0) at past end (pos 0) other
+        rest h.3 l))
     node_law (LetBlock name kind body span) hole at past h end rest l env other all so_far next Next placed goes =
         let ms : List OpMeans = take at (all_means c p places called opens Opened direction) in
         let block : Outcome = block_gives ms h.0 (pos 0) other in
@@ -250,9 +263,11 @@ module _ (c : RunContext) (p : Program) (places : List Place) (called : Site →
         (bound_same kind frame block same (λ bound. next ((name, bound) ∷ env) so_far) z
         (Next ((name, bound_as kind frame) ∷ env) so_far) placed.1
         (λ x. goes ((name, bound_as kind frame) ∷ env) ((name, bound_as kind block) ∷ other) so_far
-        (match_more name (bound_as kind frame) (bound_as kind block) env other (bound_match kind frame block same) all) x))
+        (match_more name (bound_as kind frame) (bound_as kind block) env other (bound_match kind frame block same)
+        all) x))
         ∙ ap plain
-        (sym (op_first c p places called opens Opened direction (LetBlockOp name kind h.0) at past end (pos 0) other rest h.3 l))
+        (sym (op_first c p places called opens Opened direction (LetBlockOp name kind h.0) at past end (pos 0) other
+        rest h.3 l))
     node_law (Call name given handed span) hole at past h end rest l env other all so_far next Next placed goes =
         let ms : List OpMeans = take at (all_means c p places called opens Opened direction) in
         let z : Outcome = from_here c p places called opens Opened direction past end (pos 0) other rest in
@@ -263,7 +278,8 @@ module _ (c : RunContext) (p : Program) (places : List Place) (called : Site →
         free_step (node_means c called (Call name given handed span) env so_far next) _ z
         (arguments_law handed h.0 same (hole + 1) at h.1 [] [] (λ x. refl) env other all
         (λ arguments. opened_means c called site found arguments given env so_far (next env))
-        (λ arguments. OpenedPlaced c places called Opened site found number same arguments given env hole so_far (Next env))
+        (λ arguments. OpenedPlaced c places called Opened site found number same arguments given env hole so_far (Next
+        env))
         (λ inner. continued_by (opened_gives p.direction (place_of places hole) (kind_of_template p number)
         (opens site number inner)) z) placed
         (λ arguments inner hands x. opened_law name arguments inner hands same given hole env other all ms site so_far
@@ -324,7 +340,8 @@ module _ (c : RunContext) (p : Program) (places : List Place) (called : Site →
         → ArmsPlaced c places called Opened arms Last hole env so_far Next
         → ((now : StateSoFar) → Next now → Same (on now) z)
         → Same (arms_mean c called arms last k env so_far on)
-        (continued_by (branches_give (take before (all_means c p places called opens Opened direction)) branches b other)
+        (continued_by (branches_give (take before (all_means c p places called opens Opened direction)) branches b
+        other)
         z)
     arms_law no_arm [] hole before h b k env other all so_far on Next z last Last lasts placed next =
         lasts k placed
@@ -365,7 +382,8 @@ module _ (c : RunContext) (p : Program) (places : List Place) (called : Site →
         → CasesPlaced c places called Opened v cases Last hole env so_far Next
         → ((now : StateSoFar) → Next now → Same (on now) z)
         → Same (cases_mean c called v cases last k env so_far on)
-        (continued_by (choices_give (take before (all_means c p places called opens Opened direction)) w choices b other)
+        (continued_by (choices_give (take before (all_means c p places called opens Opened direction)) w choices b
+        other)
         z)
     cases_law v w same no_case [] hole before h b k env other all so_far on Next z last Last lasts placed next =
         lasts k placed
@@ -409,13 +427,15 @@ module _ (c : RunContext) (p : Program) (places : List Place) (called : Site →
         next =
         same_free (record { cost = 0; work = 1; choices = TextTaken SourceText ∷ [] })
         (source_means c called body env so_far on) refl
-        ∙ source_law c p places called opens Opened direction env other all body hole at past h end (pos 0) rest l so_far on
+        ∙ source_law c p places called opens Opened direction env other all body hole at past h end (pos 0) rest l
+        so_far on
         Next placed next
     message_law (message desc meaning body span) (TheOwn parts) hole at past h end rest l env other all so_far on Next
         placed next =
         same_free (record { cost = 0; work = 1; choices = TextTaken OwnTranslation ∷ [] })
         (translated_means c called env (message desc meaning body span) parts so_far on) refl
-        ∙ parts_law c p places called opens Opened direction categories (uses_of (message desc meaning body span)) env other
+        ∙ parts_law c p places called opens Opened direction categories (uses_of (message desc meaning body span)) env
+        other
         all parts _ at past h end (pos 0) rest l so_far on Next placed next
     message_law (message desc meaning body span) (TheFallback m parts) hole at past h end rest l env other all so_far on
         Next placed next =
@@ -441,18 +461,22 @@ module _ (c : RunContext) (p : Program) (places : List Place) (called : Site →
         ∙ (ap (λ hs. plain (Z (handed_env ms hs other inner))) (sym h)
         ∙ (ap plain (sym (first_none (Z (handed_env ms handed other inner))))
         ∙ (ap (λ o. plain (continued_by o (Z (handed_env ms handed other inner)))) (sym (same_give ms same other))
-        ∙ ap (λ hs. plain (continued_by (all_handed_give ms hs other) (Z (handed_env ms handed other inner)))) (sym h))))
+        ∙ ap (λ hs. plain (continued_by (all_handed_give ms hs other) (Z (handed_env ms handed other inner)))) (sym
+        h))))
     arguments_law (argument name given span more) [] same hole before h so inner hands env other all next Next Z placed
         goes = absurd h
-    arguments_law (argument name given span more) (x ∷ handed) same hole before h so inner hands env other all next Next Z
+    arguments_law (argument name given span more) (x ∷ handed) same hole before h so inner hands env other all next
+        Next Z
         placed goes =
         let ms : List OpMeans = take before (all_means c p places called opens Opened direction) in
         let bound : Binding BoundBlock = handed_binding ms x.name x.by other in
         given_law given x.name x.by hole before h.1 env other all
         (λ a. arguments_mean c called more (so ++ ((name, a) ∷ [])) env next)
-        (λ a. ArgumentsPlaced c places called Opened more (so ++ ((name, a) ∷ [])) (hole + given_holes c.translation given)
+        (λ a. ArgumentsPlaced c places called Opened more (so ++ ((name, a) ∷ [])) (hole + given_holes c.translation
+        given)
         env Next)
-        (continued_by (all_handed_give ms handed other) (Z (handed_env ms handed other ((x.name, bound) ∷ inner)))) placed.1
+        (continued_by (all_handed_give ms handed other) (Z (handed_env ms handed other ((x.name, bound) ∷ inner))))
+        placed.1
         (λ a matched y. arguments_law more handed same (hole + given_holes c.translation given) before h.2
         (so ++ ((name, a) ∷ [])) ((x.name, bound) ∷ inner)
         (subst (λ n. HandsMatch (so ++ ((name, a) ∷ [])) ((n, bound) ∷ inner)) (sym h.0)

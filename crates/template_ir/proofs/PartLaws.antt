@@ -17,8 +17,10 @@ use Rattle.soy_tree.specs.Placeholders.{Use}
 use Rattle.soy_tree.specs.Templates.{Declared}
 use Rattle.soy_tree.specs.Val.{is_same_int}
 use Rattle.soy_tree.specs.Values.{IntValue}
-use Rattle.soy_meaning.specs.Branch.{PartMeans, arm_means, cut_means, exact_of, exact_rows, int_of, named_of, named_rows}
-use Rattle.soy_meaning.specs.Branch.{part_means, parts_means, plural_means, row_count, select_means, select_of, select_rows}
+use Rattle.soy_meaning.specs.Branch.{PartMeans, arm_means, cut_means, exact_of, exact_rows, int_of, named_of}
+use Rattle.soy_meaning.specs.Branch.{named_rows}
+use Rattle.soy_meaning.specs.Branch.{part_means, parts_means, plural_means, row_count, select_means, select_of}
+use Rattle.soy_meaning.specs.Branch.{select_rows}
 use Rattle.soy_meaning.specs.Branch.{selector, tag_means, word_of}
 use Rattle.soy_meaning.specs.Giving.{RunEnv, StateSoFar}
 use Rattle.soy_meaning.specs.Outcome.{ArmTaken, Outcome, continued_by}
@@ -30,7 +32,8 @@ use Rattle.template_ir.specs.HoleCounts.{exact_holes, part_holes, parts_holes}
 use Rattle.template_ir.specs.Ops.{NumberOp, PluralOp, PrintOp, Program, SelectOp}
 use Rattle.template_ir.specs.Run.{OpMeans, arm_gives, block_gives, category_in, exact_block, named_block, ops_give}
 use Rattle.template_ir.specs.Run.{plural_gives, select_block, value_gives, word_block}
-use Rattle.template_ir.specs.StandFor.{StandsCut, StandsExact, StandsNamed, StandsOp, StandsPart, StandsParts, StandsSelected}
+use Rattle.template_ir.specs.StandFor.{StandsCut, StandsExact, StandsNamed, StandsOp, StandsPart, StandsParts}
+use Rattle.template_ir.specs.StandFor.{StandsSelected}
 use Rattle.template_ir.specs.StandFor.{StandsTag, StandsWords, place_of}
 use Rattle.template_ir.specs.declared.op.Block as code_block
 use Rattle.template_ir.specs.declared.op.ExactBlock.{ExactBlock}
@@ -193,7 +196,8 @@ module _ (c : RunContext) (p : Program) (places : List Place) (called : Site →
           (NamedPlaced c places called Opened uses env category.Other (int_of v -ℤ pos offset) named
           (hole + exact_holes uses exact) so_far Next (Next so_far)))) (Next so_far)
           → Same (plural_means c.direction c.category uses env ordinal chosen offset
-          (exact_rows c.direction c.category uses env exact) (named_rows c.direction c.category uses env named) so_far on)
+          (exact_rows c.direction c.category uses env exact) (named_rows c.direction c.category uses env named) so_far
+          on)
           (from_here c p places called opens Opened direction at end k other rest))
           (λ h placed. goes_here at past end k other rest (on so_far) h (next so_far placed))
           (λ e h placed.
@@ -219,7 +223,8 @@ module _ (c : RunContext) (p : Program) (places : List Place) (called : Site →
           ∙ ap (λ v. plain (continued_by (plural_gives p opens ms (int_of v) offset ordinal h.0 h.1 other) z))
           (operand_match env other all e)))
           ∙ ap plain
-          (sym (op_first c p places called opens Opened direction (PluralOp e offset ordinal h.0 h.1) at past end k other
+          (sym (op_first c p places called opens Opened direction (PluralOp e offset ordinal h.0 h.1) at past end k
+          other
           rest h.4 l)))
           (selector true name uses uses) h placed
       part_law (SelectPart name arms) hole at past h end k rest l so_far on Next placed next =
@@ -232,7 +237,8 @@ module _ (c : RunContext) (p : Program) (places : List Place) (called : Site →
           past
           → SelectedPlaced c places called Opened env chosen (λ v.
           WordsPlaced c places called Opened uses env (word_of v) arms hole so_far Next
-          (WordsPlaced c places called Opened uses env (codes "other") arms hole so_far Next (Next so_far))) (Next so_far)
+          (WordsPlaced c places called Opened uses env (codes "other") arms hole so_far Next (Next so_far))) (Next
+          so_far)
           → Same (select_means c.direction c.category uses env chosen (select_rows c.direction c.category uses env arms)
           so_far on)
           (from_here c p places called opens Opened direction at end k other rest))
@@ -310,7 +316,8 @@ module _ (c : RunContext) (p : Program) (places : List Place) (called : Site →
       named_law (named_arm m ps arms) (x ∷ blocks) hole before h wanted r i e b so_far on Next z Last last placed next =
           arm_or before other r so_far on z (is_same m wanted) (is_same x.category wanted)
           (ap (λ y. is_same y wanted) (sym h.0)) _ _ placed i (parts_means c.direction c.category uses env ps)
-          (named_of wanted (i + 1) (named_rows c.direction c.category uses env arms)) e x.body (named_block wanted blocks)
+          (named_of wanted (i + 1) (named_rows c.direction c.category uses env arms)) e x.body (named_block wanted
+          blocks)
           b
           (λ here. as_block x.body before h.1 r other (parts_means c.direction c.category uses env ps r so_far on) z
           (parts_law ps hole x.body.first x.body.end h.2 x.body.end r z (omega arith) so_far on Next here
@@ -340,18 +347,21 @@ module _ (c : RunContext) (p : Program) (places : List Place) (called : Site →
           (λ here. as_block x.body before h.1 r other (parts_means c.direction c.category uses env ps r so_far on) z
           (parts_law ps hole x.body.first x.body.end h.2 x.body.end r z (omega arith) so_far on Next here
           (λ now y. end_of_block x.body.end r other (on now) z (next now y))))
-          (λ there. last_named arms blocks (hole + parts_holes uses ps) before h.3 r (i + 1) so_far on Next z there next)
+          (λ there. last_named arms blocks (hole + parts_holes uses ps) before h.3 r (i + 1) so_far on Next z there
+          next)
 
       words_law : (arms : SelectArms) (blocks : List WordBlock) (hole before : ℕ)
           → StandsWords places p.ops uses arms blocks hole before → (word : List ℕ) (i : ℕ)
           → (e : Option (ℕ × PartMeans)) (b : Option code_block.Block)
           → (so_far : StateSoFar) (on : StateSoFar → Outcome) (Next : StateSoFar → Type 0) (z : Outcome) (Last : Type 0)
           → (Last → Same (arm_means e (pos 0) so_far on)
-          (continued_by (arm_gives (take before (all_means c p places called opens Opened direction)) b (pos 0) other) z))
+          (continued_by (arm_gives (take before (all_means c p places called opens Opened direction)) b (pos 0) other)
+          z))
           → WordsPlaced c places called Opened uses env word arms hole so_far Next Last
           → ((now : StateSoFar) → Next now → Same (on now) z)
           → Same
-          (arm_means (option_or (select_of word i (select_rows c.direction c.category uses env arms)) e) (pos 0) so_far on)
+          (arm_means (option_or (select_of word i (select_rows c.direction c.category uses env arms)) e) (pos 0)
+          so_far on)
           (continued_by (arm_gives (take before (all_means c p places called opens Opened direction))
           (option_or (word_block word blocks) b) (pos 0) other) z)
       words_law no_select_arm [] hole before h word i e b so_far on Next z Last last placed next = last placed
@@ -360,7 +370,8 @@ module _ (c : RunContext) (p : Program) (places : List Place) (called : Site →
       words_law (select_arm m ps arms) (x ∷ blocks) hole before h word i e b so_far on Next z Last last placed next =
           arm_or before other (pos 0) so_far on z (bytes_eq m word) (bytes_eq x.is word)
           (ap (λ y. bytes_eq y word) (sym h.0)) _ _ placed i (parts_means c.direction c.category uses env ps)
-          (select_of word (i + 1) (select_rows c.direction c.category uses env arms)) e x.body (word_block word blocks) b
+          (select_of word (i + 1) (select_rows c.direction c.category uses env arms)) e x.body (word_block word
+          blocks) b
           (λ here. as_block x.body before h.1 (pos 0) other
           (parts_means c.direction c.category uses env ps (pos 0) so_far on) z
           (parts_law ps hole x.body.first x.body.end h.2 x.body.end (pos 0) z (omega arith) so_far on Next here

@@ -67,4 +67,5 @@ same_free s a h =
 
 pub same_followed : (a b c d : Outcome) → Same a b → Same c d → Same (continued_by a c) (continued_by b d)
 same_followed a b c d h k =
-    plain_followed a c ∙ (ap (λ o. continued_by o (plain c)) h ∙ (ap (continued_by (plain b)) k ∙ sym (plain_followed b d)))
+    plain_followed a c ∙ (ap (λ o. continued_by o (plain c)) h ∙ (ap (continued_by (plain b)) k ∙ sym (plain_followed
+    b d)))

@@ -9,7 +9,8 @@ use Rattle.soy_tree.specs.Templates.{Declared, called_name, full_name, is_visibl
 use Rattle.soy_tree.specs.Types.{Name}
 use Rattle.soy_tree.specs.Val.{Binding, BlockOf, Known, binding}
 use Rattle.soy_meaning.specs.Giving.{BoundBlock, RunEnv}
-use Rattle.soy_meaning.specs.Outcome.{Outcome, RunEnd, costs_of_outcome, end_of_outcome, gives_nothing, pieces_of_outcome}
+use Rattle.soy_meaning.specs.Outcome.{Outcome, RunEnd, costs_of_outcome, end_of_outcome, gives_nothing}
+use Rattle.soy_meaning.specs.Outcome.{pieces_of_outcome}
 use Rattle.soy_meaning.specs.Pieces.{RunContext, at_end, called_within, context_in, frame_outcome, template_run}
 use Rattle.soy_meaning.specs.Plan.{Site}
 use Rattle.soy_meaning.proofs.Outcomes.{followed_nothing}
@@ -81,7 +82,8 @@ module _ (l : Language) (all : List Declared) (places : List Place) (ops : List 
           ≡ option_map (λ (x : Declared). x.template.kind) (visible namespace (template_of full ds))
           → option_map (λ (x : Routine). x.kind) (slice_get (r ∷ rs)
           (if t then (if is_visible_from namespace d then 0 else 1 + length ds) else 1 + number_of namespace full ds))
-          ≡ option_map (λ (x : Declared). x.template.kind) (visible namespace (if t then Some d else template_of full ds))
+          ≡ option_map (λ (x : Declared). x.template.kind) (visible namespace (if t then Some d else template_of full
+          ds))
       by_test false more =
           ap (option_map (λ (x : Routine). x.kind)) (get_next r rs (number_of namespace full ds)) ∙ more
       by_test true more = seen (is_visible_from namespace d)
@@ -139,19 +141,24 @@ module _ (l : Language) (all : List Declared) (places : List Place) (p : Program
       let none_before : 0 + hole ≡ hole = omega arith in
       let body = subst (λ h. StandsNodes (context_of_template l all places p.ops d) d.template.body h
       there.0.body.first there.0.body.end) none_before there.2.body in
-      let here = subst (λ (f : Option Declared). PlacedAt c places (called_within c left) (TemplatePlaced c places left) f
+      let here = subst (λ (f : Option Declared). PlacedAt c places (called_within c left) (TemplatePlaced c places
+      left) f
       hole env) found placed in
-      nodes_law (context_in c d) p places (called_within c left) (called_at p left) (TemplatePlaced c places left) direction
+      nodes_law (context_in c d) p places (called_within c left) (called_at p left) (TemplatePlaced c places left)
+      direction
       categories (λ name. kind_found l all places p.ops d.namespace (called_name d.namespace name) all p.templates 0
       stands)
       (λ at name e h inner within same x. deeper at (callee_number all d.namespace name) e
       (found_at d.namespace (called_name d.namespace name) all e h) inner within same x)
-      d.template.body hole there.0.body.first there.0.body.end body there.0.body.end gives_nothing (omega arith) env other
+      d.template.body hole there.0.body.first there.0.body.end body there.0.body.end gives_nothing (omega arith) env
+      other
       match (Ok (start d.template.kind)) at_end (λ u v. Unit {0}) here
       (λ u v x s w. end_of_block (context_in c d) p places (called_within c left) (called_at p left)
       (TemplatePlaced c places left) direction there.0.body.end (pos 0) v gives_nothing gives_nothing refl)
-      ∙ (ap plain (followed_nothing (block_gives (table (op_gives p (called_at p left)) p.ops) there.0.body (pos 0) other))
-      ∙ ap (λ (r : Option Routine). plain (block_gives (table (op_gives p (called_at p left)) p.ops) (body_there r) (pos 0)
+      ∙ (ap plain (followed_nothing (block_gives (table (op_gives p (called_at p left)) p.ops) there.0.body (pos 0)
+      other))
+      ∙ ap (λ (r : Option Routine). plain (block_gives (table (op_gives p (called_at p left)) p.ops) (body_there r)
+      (pos 0)
       other)) (sym there.1))
 
   run_law : (left : ℕ) → Deeper left

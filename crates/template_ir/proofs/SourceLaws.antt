@@ -16,7 +16,8 @@ use Rattle.soy_tree.specs.Val.{is_same_int}
 use Rattle.soy_meaning.specs.Branch.{int_of, word_of}
 use Rattle.soy_meaning.specs.Giving.{Means, RunEnv, StateSoFar, with_choice}
 use Rattle.soy_meaning.specs.Outcome.{ArmTaken, Outcome, continued_by}
-use Rattle.soy_meaning.specs.Pieces.{RunContext, nodes_mean, plural_cases_mean, select_cases_mean, source_means, unbound}
+use Rattle.soy_meaning.specs.Pieces.{RunContext, nodes_mean, plural_cases_mean, select_cases_mean, source_means}
+use Rattle.soy_meaning.specs.Pieces.{unbound}
 use Rattle.soy_meaning.specs.Pieces.{valued}
 use Rattle.soy_meaning.specs.Plan.{Site}
 use Rattle.template_ir.specs.Compiles.{StandsNodes, StandsPluralCases, StandsSelectCases, StandsSource, other_arm}
@@ -66,7 +67,8 @@ module _ (c : RunContext) (p : Program) (places : List Place) (called : Site →
       (λ now x. texts_law ns texts (hole + 0) h.0 past h.2 end k rest l now on Next x next)
   texts_law (node (Print e phname span) ns) texts hole at past h end k rest l so_far on Next placed next =
       print_law c p places called opens Opened direction e hole at h.0 end k rest h.1
-      (no_later (nodes_forward (context c p places called opens Opened direction) ns (hole + 1) h.0 past h.2) l) env other
+      (no_later (nodes_forward (context c p places called opens Opened direction) ns (hole + 1) h.0 past h.2) l) env
+      other
       all so_far (λ now. nodes_mean c called ns env now (unbound on))
       (λ now. NodesPlaced c places called Opened ns (hole + 1) env now (λ inner after. Next after)) placed
       (λ now x. texts_law ns texts (hole + 1) h.0 past h.2 end k rest l now on Next x next)
@@ -135,23 +137,28 @@ module _ (c : RunContext) (p : Program) (places : List Place) (called : Site →
         (plural_law cases h.0 hole at h.2 n r 0 (source_means c called last env) h.1 so_far on Next z _
         (λ x. as_block c p places called opens Opened direction h.1 at h.3 r other
         (source_means c called last env so_far on) z
-        (source_law last (hole + plural_holes c.translation cases) h.1.first h.1.end h.4 h.1.end r z (omega arith) so_far
-        on Next x (λ now y. end_of_block c p places called opens Opened direction h.1.end r other (on now) z (next now y))))
+        (source_law last (hole + plural_holes c.translation cases) h.1.first h.1.end h.4 h.1.end r z (omega arith)
+        so_far
+        on Next x (λ now y. end_of_block c p places called opens Opened direction h.1.end r other (on now) z (next now
+        y))))
         placed next
         ∙ (ap (λ b. plain (continued_by (arm_gives ms (option_or (exact_block n h.0) b) r other) z))
         (sym (the_last (is_same category.Other q) h.1))
         ∙ ap (λ v. plain (continued_by (plural_gives p opens ms (int_of v) offset false h.0 (other_arm h.1 ∷ []) other)
         z)) (operand_match env other all e)))
         ∙ ap plain
-        (sym (op_first c p places called opens Opened direction (PluralOp e offset false h.0 (other_arm h.1 ∷ [])) at past
+        (sym (op_first c p places called opens Opened direction (PluralOp e offset false h.0 (other_arm h.1 ∷ [])) at
+        past
         end k other rest h.5 l))
     source_law (Select e cases last) hole at past h end k rest l so_far on Next placed next =
         let ms : List OpMeans = take at (all_means c p places called opens Opened direction) in
         let z : Outcome = from_here c p places called opens Opened direction past end k other rest in
         let words : List WordBlock = h.0 ++ (other_word h.1 ∷ []) in
-        costed (cost e env) (cost e other) _ (arm_gives ms (select_block (word_of (valued e other)) words) (pos 0) other) z
+        costed (cost e env) (cost e other) _ (arm_gives ms (select_block (word_of (valued e other)) words) (pos 0)
+        other) z
         (cost_match env other all e)
-        (select_law cases h.0 hole at h.2 (word_of (valued e env)) 0 (source_means c called last env) h.1 so_far on Next z _
+        (select_law cases h.0 hole at h.2 (word_of (valued e env)) 0 (source_means c called last env) h.1 so_far on
+        Next z _
         (λ x. as_block c p places called opens Opened direction h.1 at h.3 (pos 0) other
         (source_means c called last env so_far on) z
         (source_law last (hole + select_holes c.translation cases) h.1.first h.1.end h.4 h.1.end (pos 0) z (omega arith)
@@ -179,10 +186,13 @@ module _ (c : RunContext) (p : Program) (places : List Place) (called : Site →
     plural_law no_plural_case [] hole before h n r i last b so_far on Next z Last lasts placed next =
         same_free (record { cost = 0; work = 1; choices = ArmTaken (Some i) ∷ [] }) (last so_far on) refl ∙ lasts placed
     plural_law no_plural_case (x ∷ blocks) hole before h n r i last b so_far on Next z Last lasts placed next = absurd h
-    plural_law (plural_case m body cases) [] hole before h n r i last b so_far on Next z Last lasts placed next = absurd h
-    plural_law (plural_case m body cases) (x ∷ blocks) hole before h n r i last b so_far on Next z Last lasts placed next =
+    plural_law (plural_case m body cases) [] hole before h n r i last b so_far on Next z Last lasts placed next =
+        absurd h
+    plural_law (plural_case m body cases) (x ∷ blocks) hole before h n r i last b so_far on Next z Last lasts placed
+        next =
         case_or before r z (is_same_int m n) (is_same_int x.is n) (ap (λ y. is_same_int y n) (sym h.0)) _ _ placed i
-        (source_means c called body env so_far on) (plural_cases_mean c called n cases last (i + 1) env so_far on) x.body
+        (source_means c called body env so_far on) (plural_cases_mean c called n cases last (i + 1) env so_far on)
+        x.body
         (exact_block n blocks) (Some b)
         (λ here. as_block c p places called opens Opened direction x.body before h.1 r other
         (source_means c called body env so_far on) z
@@ -196,7 +206,8 @@ module _ (c : RunContext) (p : Program) (places : List Place) (called : Site →
         → (word : List ℕ) (i : ℕ) (last : Means) (b : code_block.Block)
         → (so_far : StateSoFar) (on : StateSoFar → Outcome) (Next : StateSoFar → Type 0) (z : Outcome) (Last : Type 0)
         → (Last → Same (last so_far on)
-        (continued_by (block_gives (take before (all_means c p places called opens Opened direction)) b (pos 0) other) z))
+        (continued_by (block_gives (take before (all_means c p places called opens Opened direction)) b (pos 0) other)
+        z))
         → SelectPlaced c places called Opened word cases Last hole env so_far Next
         → ((now : StateSoFar) → Next now → Same (on now) z)
         → Same (select_cases_mean c called word cases last i env so_far on)
@@ -207,16 +218,21 @@ module _ (c : RunContext) (p : Program) (places : List Place) (called : Site →
         ∙ (lasts placed
         ∙ ap (λ q. plain (continued_by (arm_gives (take before (all_means c p places called opens Opened direction)) q
         (pos 0) other) z)) (sym (the_last (bytes_eq (codes "other") word) b)))
-    select_law no_select_case (x ∷ blocks) hole before h word i last b so_far on Next z Last lasts placed next = absurd h
-    select_law (select_case m body cases) [] hole before h word i last b so_far on Next z Last lasts placed next = absurd h
+    select_law no_select_case (x ∷ blocks) hole before h word i last b so_far on Next z Last lasts placed next =
+        absurd h
+    select_law (select_case m body cases) [] hole before h word i last b so_far on Next z Last lasts placed next =
+        absurd h
     select_law (select_case m body cases) (x ∷ blocks) hole before h word i last b so_far on Next z Last lasts placed
         next =
-        case_or before (pos 0) z (bytes_eq m word) (bytes_eq x.is word) (ap (λ y. bytes_eq y word) (sym h.0)) _ _ placed i
+        case_or before (pos 0) z (bytes_eq m word) (bytes_eq x.is word) (ap (λ y. bytes_eq y word) (sym h.0)) _ _
+        placed i
         (source_means c called body env so_far on) (select_cases_mean c called word cases last (i + 1) env so_far on)
         x.body (word_block word (blocks ++ (other_word b ∷ []))) (Some b)
         (λ here. as_block c p places called opens Opened direction x.body before h.1 (pos 0) other
         (source_means c called body env so_far on) z
         (source_law body hole x.body.first x.body.end h.2 x.body.end (pos 0) z (omega arith) so_far on Next here
-        (λ now y. end_of_block c p places called opens Opened direction x.body.end (pos 0) other (on now) z (next now y))))
-        (λ there. select_law cases blocks (hole + body_holes c.translation body) before h.3 word (i + 1) last b so_far on
+        (λ now y. end_of_block c p places called opens Opened direction x.body.end (pos 0) other (on now) z (next now
+        y))))
+        (λ there. select_law cases blocks (hole + body_holes c.translation body) before h.3 word (i + 1) last b so_far
+        on
         Next z Last lasts there next)

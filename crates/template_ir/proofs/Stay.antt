@@ -23,7 +23,8 @@ use Rattle.template_ir.specs.Compiles.{StandsPluralCases, StandsSelectCases, Sta
 use Rattle.template_ir.specs.HoleCounts.{arm_holes, body_holes, case_holes, exact_holes, given_holes, node_holes}
 use Rattle.template_ir.specs.HoleCounts.{nodes_holes, part_holes, parts_holes, plural_holes, select_holes, source_holes}
 use Rattle.template_ir.specs.HoleCounts.{translation_holes}
-use Rattle.template_ir.specs.Ops.{Branch, Choice, Handed, HandedBy, HandedBlock, HandedSame, HandedValue, Op, PluralOp, PrintOp, SelectOp}
+use Rattle.template_ir.specs.Ops.{Branch, Choice, Handed, HandedBy, HandedBlock, HandedSame, HandedValue, Op}
+use Rattle.template_ir.specs.Ops.{PluralOp, PrintOp, SelectOp}
 use Rattle.template_ir.specs.StandFor.{StandsCut, StandsExact, StandsNamed, StandsOp, StandsPart, StandsParts}
 use Rattle.template_ir.specs.StandFor.{StandsSelected, StandsTag, StandsText, StandsWords}
 use Rattle.template_ir.specs.StandFor.{place_of}

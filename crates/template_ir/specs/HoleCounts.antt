@@ -4,7 +4,8 @@
 -- and each print of each use of a placeholder. A message has the holes of its source, then those of its translation,
 -- then those of its fallback's translation, whichever of the three is chosen. Arms come in their order and the else or
 -- default last.
--- Example: `{if $x}{$y}{/if}{call m}{param p kind="html"}{$z}{/param}{/call}` has three holes: `{$y}`, the call, `{$z}`.
+-- Example: `{if $x}{$y}{/if}{call m}{param p kind="html"}{$z}{/param}{/call}` has three holes: `{$y}`, the call,
+-- `{$z}`.
 use Rattle.std.specs.Prelude.{ℕ, ◌+◌, List, [], ◌∷◌, Option, Some, None}
 use Rattle.soy_tree.specs.MessageParts.{MsgPart, MsgParts, ExactArms, NamedArms, SelectArms, TextPart, Placeholder}
 use Rattle.soy_tree.specs.MessageParts.{NumberPart, PluralPart, SelectPart, no_part, part, no_exact_arm, exact_arm}

@@ -27,10 +27,12 @@ use Rattle.soy_tree.specs.MessageText.{MessageItem, Character, Printed, Cut, Pri
 use Rattle.soy_tree.specs.Placeholders.{Use}
 use Rattle.soy_meaning.specs.Branch.{int_of, selector, word_of}
 use Rattle.soy_meaning.specs.PlanOfParts.{placeholder_cut}
-use Rattle.soy_tree.specs.Nodes.{Node, Nodes, Otherwise, Arms, Cases, Arguments, Given, TextNode, Print, If, Switch, For}
+use Rattle.soy_tree.specs.Nodes.{Node, Nodes, Otherwise, Arms, Cases, Arguments, Given, TextNode, Print, If, Switch}
+use Rattle.soy_tree.specs.Nodes.{For}
 use Rattle.soy_tree.specs.Nodes.{Let, LetBlock, Call, MessageNode, no_node, node, no_otherwise, otherwise, no_arm, arm}
 use Rattle.soy_tree.specs.Nodes.{no_case, case, no_argument, argument, Plain, Block, Message, MessageBody, PluralCases}
-use Rattle.soy_tree.specs.Nodes.{SelectCases, message, Parts, Plural, Select, no_plural_case, plural_case, no_select_case}
+use Rattle.soy_tree.specs.Nodes.{SelectCases, message, Parts, Plural, Select, no_plural_case, plural_case}
+use Rattle.soy_tree.specs.Nodes.{no_select_case}
 use Rattle.soy_tree.specs.Nodes.{select_case}
 use Rattle.soy_tree.specs.Templates.{Declared, callee}
 use Rattle.soy_tree.specs.Val.{Binding, BlockOf, Known, binding, is_same_int, is_truthy, val, value_text}
@@ -38,7 +40,8 @@ use Rattle.soy_tree.specs.Values.{IntValue, Items, NullValue, StringValue, no_it
 use Rattle.soy_tree.specs.Values as values
 use Rattle.soy_meaning.specs.Filled.{value_form}
 use Rattle.soy_meaning.specs.FrameRun.{bound_as}
-use Rattle.soy_meaning.specs.Giving.{BoundBlock, RunEnv, StateSoFar, placing_so_far, read_outcome, read_piece, value_class}
+use Rattle.soy_meaning.specs.Giving.{BoundBlock, RunEnv, StateSoFar, placing_so_far, read_outcome, read_piece}
+use Rattle.soy_meaning.specs.Giving.{value_class}
 use Rattle.soy_meaning.specs.Meaning.{joined_pieces}
 use Rattle.soy_meaning.specs.Outcome.{Outcome, WholeRun, end_of_outcome, pieces_of_outcome}
 use Rattle.soy_meaning.specs.Pieces.{ChosenText, GivenArguments, RunContext, TheFallback, TheOwn, TheSource, callee_env}
@@ -124,7 +127,8 @@ module _ (c : RunContext) (places : List Place) (called : Site → Declared → 
   OpenedPlaced at (Some d) number same given all env hole so_far Next =
       BindsGiven same given (callee_env d.template.params given all c.params env) env
       × Opened number (callee_env d.template.params given all c.params env)
-      × CalledPlaced d.template.kind (called at d (callee_env d.template.params given all c.params env)) hole so_far Next
+      × CalledPlaced d.template.kind (called at d (callee_env d.template.params given all c.params env)) hole so_far
+      Next
 
   -- ---- translations
 

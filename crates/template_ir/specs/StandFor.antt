@@ -71,7 +71,8 @@ module _ (places : List Place) (ops : List Op) where
       StandsPart (Placeholder name) hole at end = StandsCut (placeholder_cut name uses uses) hole at end
       StandsPart NumberPart hole at end = StandsOp (NumberOp (place_of places hole)) at end
       StandsPart (PluralPart ordinal name offset exact named) hole at end =
-          StandsSelected (selector true name uses uses) (λ e. (numbers : List ExactBlock) × (categories : List NamedBlock)
+          StandsSelected (selector true name uses uses) (λ e. (numbers : List ExactBlock) × (categories : List
+          NamedBlock)
           × StandsExact exact numbers hole at × StandsNamed named categories (hole + exact_holes uses exact) at
           × StandsOp (PluralOp e offset ordinal numbers categories) at end) at end
       StandsPart (SelectPart name arms) hole at end =

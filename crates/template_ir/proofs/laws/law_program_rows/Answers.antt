@@ -75,7 +75,19 @@ returns-clause-block_compiles c = record {
       private = refl;
       params = refl;
       within = omega arith;
-      body = (4, (block 0 3, omega arith, (1, (refl, refl), (2, (refl, refl), (3, (refl, refl), refl))), (refl, refl)), (5, (refl, refl), (6, (refl, refl), refl)));
+      body = (
+        4,
+        (
+          block 0 3,
+          omega arith,
+          (1, (refl, refl), (2, (refl, refl), (3, (refl, refl), refl))),
+          (
+            refl,
+            refl,
+          ),
+        ),
+        (5, (refl, refl), (6, (refl, refl), refl)),
+      );
     },
     tt,
   );
@@ -93,7 +105,38 @@ returns-clause-calls_compile c = record {
       private = refl;
       params = refl;
       within = omega arith;
-      body = (3, (if_some, None, (refl, omega arith, (1, (refl, refl), (2, (handed_value (codes "n") one_less, (refl, refl, refl), (refl, refl)), refl)), tt), tt, (refl, refl)), refl);
+      body = (
+        3,
+        (
+          if_some,
+          None,
+          (
+            refl,
+            omega arith,
+            (
+              1,
+              (refl, refl),
+              (
+                2,
+                (
+                  handed_value (codes "n") one_less,
+                  (
+                    refl,
+                    refl,
+                    refl,
+                  ),
+                  (refl, refl),
+                ),
+                refl,
+              ),
+            ),
+            tt,
+          ),
+          tt,
+          (refl, refl),
+        ),
+        refl,
+      );
     },
     tt,
   );
@@ -111,7 +154,25 @@ returns-clause-plural_compiles c = record {
       private = refl;
       params = refl;
       within = omega arith;
-      body = (4, (only_one, block 1 3, (refl, omega arith, (1, (refl, refl), refl), tt), omega arith, (2, (refl, refl), (3, (refl, refl), refl)), (refl, refl)), refl);
+      body = (
+        4,
+        (
+          only_one,
+          block 1 3,
+          (refl, omega arith, (1, (refl, refl), refl), tt),
+          omega arith,
+          (
+            2,
+            (
+              refl,
+              refl,
+            ),
+            (3, (refl, refl), refl),
+          ),
+          (refl, refl),
+        ),
+        refl,
+      );
     },
     tt,
   );
@@ -129,7 +190,35 @@ returns-clause-offset_compiles c = record {
       private = refl;
       params = refl;
       within = omega arith;
-      body = (6, (6, (only_one, named_arms, (refl, omega arith, (1, (refl, refl), refl), tt), (refl, omega arith, (2, (refl, refl), (3, (refl, refl), (4, (refl, refl), refl))), (refl, omega arith, (5, (refl, refl), refl), tt)), (refl, refl)), refl), refl);
+      body = (
+        6,
+        (
+          6,
+          (
+            only_one,
+            named_arms,
+            (refl, omega arith, (1, (refl, refl), refl), tt),
+            (
+              refl,
+              omega arith,
+              (
+                2,
+                (refl, refl),
+                (3, (refl, refl), (4, (refl, refl), refl)),
+              ),
+              (
+                refl,
+                omega arith,
+                (5, (refl, refl), refl),
+                tt,
+              ),
+            ),
+            (refl, refl),
+          ),
+          refl,
+        ),
+        refl,
+      );
     },
     tt,
   );
@@ -147,7 +236,108 @@ returns-clause-every_compiles c = record {
       private = refl;
       params = refl;
       within = omega arith;
-      body = (15, (every_branches, Some (block 1 2), (refl, omega arith, (1, (refl, refl), refl), tt), (omega arith, (2, (refl, refl), refl)), (refl, refl)), (16, (every_choices, Some (block 3 4), (refl, omega arith, (3, (refl, refl), refl), tt), (omega arith, (4, (refl, refl), refl)), (refl, refl)), (17, (block 4 6, omega arith, (5, (refl, refl), (6, (refl, refl), refl)), (refl, refl)), (18, (refl, refl), (19, (block 6 8, omega arith, (7, (refl, refl), (8, (refl, refl), refl)), (refl, refl)), (20, (refl, refl), (21, (every_handed, (refl, (refl, omega arith, (9, (refl, refl), (10, (refl, refl), (11, (refl, refl), refl)))), (refl, (refl, omega arith, (12, (refl, refl), refl)), refl)), (refl, refl)), (22, (every_words, block 13 14, (refl, omega arith, (13, (refl, refl), refl), tt), omega arith, (14, (refl, refl), refl), (refl, refl)), (23, (handed_value (codes "n") one, (refl, refl, refl), (refl, refl)), refl)))))))));
+      body = (
+        15,
+        (
+          every_branches,
+          Some (block 1 2),
+          (refl, omega arith, (1, (refl, refl), refl), tt),
+          (
+            omega arith,
+            (2, (refl, refl), refl),
+          ),
+          (refl, refl),
+        ),
+        (
+          16,
+          (
+            every_choices,
+            Some (block 3 4),
+            (
+              refl,
+              omega arith,
+              (
+                3,
+                (refl, refl),
+                refl,
+              ),
+              tt,
+            ),
+            (omega arith, (4, (refl, refl), refl)),
+            (refl, refl),
+          ),
+          (
+            17,
+            (
+              block 4 6,
+              omega
+                  arith,
+              (5, (refl, refl), (6, (refl, refl), refl)),
+              (refl, refl),
+            ),
+            (
+              18,
+              (refl, refl),
+              (
+                19,
+                (
+                  block 6 8,
+                  omega
+                      arith,
+                  (7, (refl, refl), (8, (refl, refl), refl)),
+                  (refl, refl),
+                ),
+                (
+                  20,
+                  (refl, refl),
+                  (
+                    21,
+                    (
+                      every_handed,
+                      (
+                        refl,
+                        (refl, omega arith, (9, (refl, refl), (10, (refl, refl), (11, (refl, refl), refl)))),
+                        (
+                          refl,
+                          (
+                            refl,
+                            omega arith,
+                            (12, (refl, refl), refl),
+                          ),
+                          refl,
+                        ),
+                      ),
+                      (refl, refl),
+                    ),
+                    (
+                      22,
+                      (
+                        every_words,
+                        block 13 14,
+                        (
+                          refl,
+                          omega
+                              arith,
+                          (13, (refl, refl), refl),
+                          tt,
+                        ),
+                        omega arith,
+                        (14, (refl, refl), refl),
+                        (refl, refl),
+                      ),
+                      (
+                        23,
+                        (handed_value (codes "n") one, (refl, refl, refl), (refl, refl)),
+                        refl,
+                      ),
+                    ),
+                  ),
+                ),
+              ),
+            ),
+          ),
+        ),
+      );
     },
     (
       record {
