@@ -1,0 +1,13 @@
+pub mod Counts
+pub mod Stay
+pub mod Tables
+pub mod Plain
+pub mod Matching
+pub mod Forward
+pub mod Core
+pub mod GatheredTexts
+pub mod PartLaws
+pub mod SourceLaws
+pub mod CallLaws
+pub mod NodeLaws
+pub mod RunLaws

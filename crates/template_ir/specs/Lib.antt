@@ -1,0 +1,10 @@
+pub mod Ops
+pub mod ViewOps
+pub mod Table
+pub mod Run
+pub mod HoleCounts
+pub mod StandFor
+pub mod Compiles
+pub mod Placed
+pub mod Sound
+pub mod ProgramRows

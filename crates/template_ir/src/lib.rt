@@ -1,0 +1,19 @@
+//! The compiled form of templates, which the builder makes and the renderer reads.
+//!
+//! A `Program` is a flat list of ops; each template, arm, loop and block is a range of it. `Compiles` says when a
+//! program stands for trees, and `run` what it gives. `Places` has the place of each hole of trees.
+//! Depends on soy_base, soy_tree, plural_rules, html_state and soy_meaning, and in proofs on bidi_class and bidi_text.
+#![tactic(auto)]
+
+mod laws;
+mod op;
+mod places;
+mod program;
+
+pub use laws::{law_hole_counts, law_ops_stay, law_program_rows, law_run_is_pieces};
+pub use op::{
+    Block, Branch, Callee, Choice, ExactBlock, Handed, HandedBy, NamedBlock, Op, PluralOp,
+    SelectOp, WordBlock,
+};
+pub use places::Places;
+pub use program::{Program, ProgramParts, Routine};
