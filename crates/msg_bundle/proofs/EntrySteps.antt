@@ -1,0 +1,63 @@
+-- The entries of a bundle's messages, one after another.
+use Rattle.std.proofs.Common.{◌≡◌, ℕ, List, [], ◌∷◌, ◌++◌, Option, Some, None, refl, sym, ap, ◌∙◌, append_assoc, inl}
+use Rattle.std.proofs.Common.{inr, String, Global, string_bytes, subst, append-nil}
+use Rattle.std.specs.Prelude.{Result, Ok, Err}
+use Rattle.std.specs.Str.{chars}
+use Rattle.serde_json.specs.View.{members_view, view}
+use Rattle.serde_json.specs.declared.value.Value as json
+use Rattle.soy_tree.specs.declared.bundle.Translation.{Translation}
+use Rattle.soy_tree.specs.ViewMessageParts.{view_parts}
+use Rattle.msg_extract.specs.Catalogue.{find_listed}
+use Rattle.msg_extract.specs.declared.catalogue.Listed.{Listed}
+use Rattle.msg_bundle.specs.declared.fault.BundleFault.{BundleFault}
+use Rattle.msg_bundle.specs.Translations.{AreTranslations, HasTextFault, HasTranslationFault, IsTranslationUnder}
+use Rattle.msg_bundle.specs.Translations.{text_of}
+
+abbrev pub Entries : Type 0
+Entries = List (String Global × json.Value)
+
+module _ (rows : List Listed) (whole left rest : Entries) (key : String Global) (entry : json.Value)
+    (is : left ≡ (key, entry) ∷ rest) where
+  abbrev Id : List ℕ
+  Id = chars (string_bytes key)
+
+  -- under an id that the catalogue lacks
+  pub reads_none : (done : List Translation) → find_listed Id rows ≡ None
+      → ((ts : List Translation) → AreTranslations rows (members_view left) ts
+      → AreTranslations rows (members_view whole) (done ++ ts))
+      → (ts : List Translation) → AreTranslations rows (members_view rest) ts
+      → AreTranslations rows (members_view whole) (done ++ ts)
+  reads_none done none so_far ts are = so_far ts (rw (is, none) are)
+
+  pub faults_none : find_listed Id rows ≡ None
+      → ((f : BundleFault) → HasTranslationFault rows (members_view left) f
+      → HasTranslationFault rows (members_view whole) f)
+      → (f : BundleFault) → HasTranslationFault rows (members_view rest) f
+      → HasTranslationFault rows (members_view whole) f
+  faults_none none so_far f has = so_far f (rw (is, none) has)
+
+  -- under an id of the catalogue
+  module _ (source : Listed) (found : find_listed Id rows ≡ Some source) where
+    pub reads_some : (done now : List Translation) (t : Translation)
+        → IsTranslationUnder source (string_bytes key) (text_of (view entry)) t → now ≡ done ++ t ∷ []
+        → ((ts : List Translation) → AreTranslations rows (members_view left) ts
+        → AreTranslations rows (members_view whole) (done ++ ts))
+        → (ts : List Translation) → AreTranslations rows (members_view rest) ts
+        → AreTranslations rows (members_view whole) (now ++ ts)
+    reads_some done now t this now_is so_far ts are =
+        subst (AreTranslations rows (members_view whole))
+        (sym (ap (λ n. n ++ ts) now_is ∙ append_assoc done (t ∷ []) ts))
+        (so_far (t ∷ ts) (rw (is, found) (this, are)))
+
+    pub faults_some : (t : Translation) → IsTranslationUnder source (string_bytes key) (text_of (view entry)) t
+        → ((f : BundleFault) → HasTranslationFault rows (members_view left) f
+        → HasTranslationFault rows (members_view whole) f)
+        → (f : BundleFault) → HasTranslationFault rows (members_view rest) f
+        → HasTranslationFault rows (members_view whole) f
+    faults_some t this so_far f has = so_far f (rw (is, found) (inr ((view_parts t.parts, this.1), has)))
+
+    pub fault_here : (f : BundleFault) → HasTextFault source (string_bytes key) (text_of (view entry)) f
+        → ((g : BundleFault) → HasTranslationFault rows (members_view left) g
+        → HasTranslationFault rows (members_view whole) g)
+        → HasTranslationFault rows (members_view whole) f
+    fault_here f here so_far = so_far f (rw (is, found) (inl here))
