@@ -30,14 +30,14 @@ rows_joined (row ∷ rows) more h k = (h.0, rows_joined rows more h.1 k)
 pub row_found : (id : List ℕ) (rows : List Listed) (row : Listed) → AreRows rows → find_listed id rows ≡ Some row
     → IsRow row
 row_found id [] row h e = absurd (cc e)
-row_found id (r ∷ rows) row h e = at (bytes_eq r.id id) refl
+row_found id (r ∷ rows) row h e = at (row_found id rows row h.1) (bytes_eq r.id id) refl
   where
-    at : (b : Bool) → bytes_eq r.id id ≡ b → IsRow row
-    at true k = subst IsRow (same (rw k at e)) h.0
+    at : (find_listed id rows ≡ Some row → IsRow row) → (b : Bool) → bytes_eq r.id id ≡ b → IsRow row
+    at more true k = subst IsRow (same (rw k at e)) h.0
       where
         same : (Some r) ≡ Some row → r ≡ row
         same q = cc q
-    at false k = row_found id rows row h.1 (rw k at e)
+    at more false k = more (rw k at e)
 
 -- the row of a message, which says the same
 abbrev pub HasRow : List Listed → Message → Type 0
@@ -53,11 +53,12 @@ Grows done rows = (more : List Listed) × (rows ≡ done ++ more)
 found_stays : (id : List ℕ) (done more : List Listed) (row : Listed) → find_listed id done ≡ Some row
     → find_listed id (done ++ more) ≡ Some row
 found_stays id [] more row e = absurd (cc e)
-found_stays id (r ∷ done) more row e = at (bytes_eq r.id id) refl
+found_stays id (r ∷ done) more row e = at (found_stays id done more row) (bytes_eq r.id id) refl
   where
-    at : (b : Bool) → bytes_eq r.id id ≡ b → find_listed id (r ∷ (done ++ more)) ≡ Some row
-    at true k = rw k (rw k at e)
-    at false k = rw k (found_stays id done more row (rw k at e))
+    at : (find_listed id done ≡ Some row → find_listed id (done ++ more) ≡ Some row) → (b : Bool)
+        → bytes_eq r.id id ≡ b → find_listed id (r ∷ (done ++ more)) ≡ Some row
+    at later true k = rw k (rw k at e)
+    at later false k = rw k (later (rw k at e))
 
 id_same : (id : List ℕ) → bytes_eq id id ≡ true
 id_same id = (bytes_eq-Decides id id).1 refl
@@ -65,11 +66,12 @@ id_same id = (bytes_eq-Decides id id).1 refl
 found_last : (row : Listed) (done : List Listed) → find_listed row.id done ≡ None
     → find_listed row.id (done ++ row ∷ []) ≡ Some row
 found_last row [] e = rw (id_same row.id) refl
-found_last row (r ∷ done) e = at (bytes_eq r.id row.id) refl
+found_last row (r ∷ done) e = at (found_last row done) (bytes_eq r.id row.id) refl
   where
-    at : (b : Bool) → bytes_eq r.id row.id ≡ b → find_listed row.id (r ∷ (done ++ row ∷ [])) ≡ Some row
-    at true k = absurd (cc (rw k at e))
-    at false k = rw k (found_last row done (rw k at e))
+    at : (find_listed row.id done ≡ None → find_listed row.id (done ++ row ∷ []) ≡ Some row) → (b : Bool)
+        → bytes_eq r.id row.id ≡ b → find_listed row.id (r ∷ (done ++ row ∷ [])) ≡ Some row
+    at later true k = absurd (cc (rw k at e))
+    at later false k = rw k (later (rw k at e))
 
 has_more : (done rows : List Listed) (m : Message) → Grows done rows → HasRow done m → HasRow rows m
 has_more done rows m g h = (h.0, rw g.1 (found_stays (listed m).id done g.0 h.0 h.1), h.2)
@@ -114,7 +116,10 @@ then_grows : (done now rows : List Listed) → Grows done now → Grows now rows
 then_grows done now rows g h =
     (g.0 ++ h.0, h.1 ∙ (ap (λ t. t ++ h.0) g.1 ∙ append_assoc done g.0 h.0))
 
-none_listed : (done rows : List Listed) → (Ok {_} {Fault} done) ≡ Ok rows → Lists done rows []
+abbrev these : List Listed → Result (List Listed) Fault
+these rows = Ok rows
+
+none_listed : (done rows : List Listed) → these done ≡ these rows → Lists done rows []
 none_listed done rows e =
     let is : done ≡ rows = cc e in
     record { grows = ([], sym is ∙ sym (append-nil done)); has = tt; are = λ a f. rw (sym is) a }
@@ -122,19 +127,21 @@ none_listed done rows e =
 several_listed : (done rows : List Listed) (file : ℕ) (ms : List Message) → all_listed done file ms ≡ Ok rows
     → Lists done rows ms
 several_listed done rows file [] e = none_listed done rows e
-several_listed done rows file (m ∷ ms) e = at (with_listed done file m) refl e
+several_listed done rows file (m ∷ ms) e =
+    at (λ now k. several_listed now rows file ms k) (with_listed done file m) refl e
   where
-    at : (r : Result (List Listed) Fault) → with_listed done file m ≡ r
+    at : ((now : List Listed) → all_listed now file ms ≡ Ok rows → Lists now rows ms)
+        → (r : Result (List Listed) Fault) → with_listed done file m ≡ r
         → then_listed r (λ now. all_listed now file ms) ≡ Ok rows → Lists done rows (m ∷ ms)
-    at (Ok now) is k =
+    at more (Ok now) is k =
         let one = one_listed done now file m is in
-        let rest = several_listed now rows file ms k in
+        let rest = more now k in
         record {
           grows = then_grows done now rows one.grows rest.grows;
           has = (has_more now rows m rest.grows one.has.0, rest.has);
           are = λ a f. rest.are (one.are a (f.0, tt)) f.1;
         }
-    at (Err fault) is k = absurd (cc k)
+    at more (Err fault) is k = absurd (cc k)
 
 -- ---- files
 
@@ -152,13 +159,15 @@ files_listed : (done rows : List Listed) (file : ℕ) (trees : List Tree) → tr
 files_listed done rows file [] e =
     let none = none_listed done rows e in
     record { grows = none.grows; has = tt; are = λ a f. none.are a tt }
-files_listed done rows file (tree ∷ trees) e = at (all_listed done file (tree_messages tree)) refl e
+files_listed done rows file (tree ∷ trees) e =
+    at (λ now k. files_listed now rows (file + 1) trees k) (all_listed done file (tree_messages tree)) refl e
   where
-    at : (r : Result (List Listed) Fault) → all_listed done file (tree_messages tree) ≡ r
+    at : ((now : List Listed) → trees_listed now (file + 1) trees ≡ Ok rows → ListsTrees now rows trees)
+        → (r : Result (List Listed) Fault) → all_listed done file (tree_messages tree) ≡ r
         → then_listed r (λ now. trees_listed now (file + 1) trees) ≡ Ok rows → ListsTrees done rows (tree ∷ trees)
-    at (Ok now) is k =
+    at more (Ok now) is k =
         let one = several_listed done now file (tree_messages tree) is in
-        let rest = files_listed now rows (file + 1) trees k in
+        let rest = more now k in
         record {
           grows = then_grows done now rows one.grows rest.grows;
           has = (have_more now rows (tree_messages tree) rest.grows one.has, rest.has);
@@ -166,7 +175,7 @@ files_listed done rows file (tree ∷ trees) e = at (all_listed done file (tree_
               (one.are a (tree_formed tree (and_left (is_formed_tree tree) (list_all is_formed_tree trees) f)))
               (and_right (is_formed_tree tree) (list_all is_formed_tree trees) f);
         }
-    at (Err fault) is k = absurd (cc k)
+    at more (Err fault) is k = absurd (cc k)
 
 -- the messages of files have rows
 pub catalogue_has : (trees : List Tree) (rows : List Listed) → catalogue_of trees ≡ Ok rows → HaveRowsOf rows trees

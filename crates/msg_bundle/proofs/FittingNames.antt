@@ -84,7 +84,8 @@ translates : (rows : List Listed) (ms : Members) (ts : List Translation) (id : L
     → IsTranslation row parts
 translates rows no_members [] id parts row h e found = absurd (cc e)
 translates rows no_members (t ∷ ts) id parts row h e found = absurd h
-translates rows (member key json ms) ts id parts row h e found = at (find_listed (chars key) rows) refl ts h e
+translates rows (member key json ms) ts id parts row h e found =
+    at (λ us k f. translates rows ms us id parts row k f found) (find_listed (chars key) rows) refl ts h e
   where
     this : (s : Listed) (t : Translation) → find_listed (chars key) rows ≡ Some s → t.id ≡ chars key
         → Translates s (text_of json) (view_parts t.parts) → t.id ≡ id → (Some (view_parts t.parts)) ≡ Some parts
@@ -95,16 +96,17 @@ translates rows (member key json ms) ts id parts row h e found = at (find_listed
         (subst (λ l. IsTranslation l (view_parts t.parts)) row_is
         (record { text = text_of json; pattern = translation.pattern; names = translation.names }))
 
-    at : (o : Option Listed) → find_listed (chars key) rows ≡ o → (us : List Translation)
+    at : ((us : List Translation) → AreTranslations rows ms us → translation_of us id ≡ Some parts
+        → IsTranslation row parts) → (o : Option Listed) → find_listed (chars key) rows ≡ o → (us : List Translation)
         → IsNext o key (text_of json) (AreTranslations rows ms) us → translation_of us id ≡ Some parts
         → IsTranslation row parts
-    at None is us k f = translates rows ms us id parts row k f found
-    at (Some s) is [] k f = absurd k
-    at (Some s) is (t ∷ us) k f = by (bytes_eq t.id id) refl
+    at more None is us k f = more us k f
+    at more (Some s) is [] k f = absurd k
+    at more (Some s) is (t ∷ us) k f = by (bytes_eq t.id id) refl
       where
         by : (b : Bool) → bytes_eq t.id id ≡ b → IsTranslation row parts
         by true d = this s t is k.0.0 k.0.1 ((bytes_eq-Decides t.id id).0 d) (rw d at f)
-        by false d = translates rows ms us id parts row k.1 (rw d at f) found
+        by false d = more us k.1 (rw d at f)
 
 -- ---- messages and files
 

@@ -4,5 +4,6 @@ pub mod FittingNames
 pub mod FormedMessages
 pub mod OneAnswer
 pub mod OneEach
+pub mod ReadSteps
 pub mod SourceSteps
 pub mod TextNames

@@ -40,14 +40,15 @@ text_apart source key text parts fault is (inr other) =
 texts_apart : (rows : List Listed) (ms : Members) (ts : List Translation) (fault : BundleFault)
     → AreTranslations rows ms ts → HasTranslationFault rows ms fault → ⊥
 texts_apart rows no_members ts fault are has = has
-texts_apart rows (member key json ms) ts fault are has = at (find_listed (chars key) rows) ts are has
+texts_apart rows (member key json ms) ts fault are has =
+    at (λ us k f. texts_apart rows ms us fault k f) (find_listed (chars key) rows) ts are has
   where
-    at : (o : Option Listed) (us : List Translation) → IsNext o key (text_of json) (AreTranslations rows ms) us
+    at : ((us : List Translation) → AreTranslations rows ms us → HasTranslationFault rows ms fault → ⊥) → (o : Option Listed) (us : List Translation) → IsNext o key (text_of json) (AreTranslations rows ms) us
         → IsFirstFault o key (text_of json) (HasTranslationFault rows ms) fault → ⊥
-    at None us k f = texts_apart rows ms us fault k f
-    at (Some source) [] k f = k
-    at (Some source) (t ∷ us) k (inl here) = text_apart source key (text_of json) (view_parts t.parts) fault k.0.1 here
-    at (Some source) (t ∷ us) k (inr later) = texts_apart rows ms us fault k.1 later.1
+    at more None us k f = more us k f
+    at more (Some source) [] k f = k
+    at more (Some source) (t ∷ us) k (inl here) = text_apart source key (text_of json) (view_parts t.parts) fault k.0.1 here
+    at more (Some source) (t ∷ us) k (inr later) = more us k.1 later.1
 
 json_apart : (json : Data) (rows : List Listed) (bundle : Bundle) (fault : BundleFault) → IsBundle json rows bundle
     → IsFaultOf json rows fault → ⊥

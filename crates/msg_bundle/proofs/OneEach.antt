@@ -46,29 +46,31 @@ module _ (rows : List Listed) where
       → AreTranslations rows (members_view entries) ts → is_translated ts (chars (string_bytes key)) ≡ false
   none_later key [] [] above are = refl
   none_later key [] (t ∷ ts) above are = absurd are
-  none_later key (e ∷ entries) ts above are = at (find_listed (chars (string_bytes e.0)) rows) ts are
+  none_later key (e ∷ entries) ts above are =
+      at (λ us k. none_later key entries us above.1 k) (find_listed (chars (string_bytes e.0)) rows) ts are
     where
-      at : (o : Option Listed) (us : List Translation)
+      at : ((us : List Translation) → AreTranslations rows (members_view entries) us
+          → is_translated us (chars (string_bytes key)) ≡ false) → (o : Option Listed) (us : List Translation)
           → IsNext o (string_bytes e.0) (text_of (view e.1)) (AreTranslations rows (members_view entries)) us
           → is_translated us (chars (string_bytes key)) ≡ false
-      at None us k = none_later key entries us above.1 k
-      at (Some source) [] k = absurd k
-      at (Some source) (t ∷ us) k =
-          rw (k.0.0, keys_apart key e.0 above.0) (none_later key entries us above.1 k.1)
+      at more None us k = more us k
+      at more (Some source) [] k = absurd k
+      at more (Some source) (t ∷ us) k = rw (k.0.0, keys_apart key e.0 above.0) (more us k.1)
 
   pub one_each : (entries : List Entry) (ts : List Translation) → IsStrictlySortedBy string_cmp (keys_of entries)
       → AreTranslations rows (members_view entries) ts → AreOfOneEach ts
   unfolding IsStrictlySortedBy
   one_each [] [] ascend are = tt
   one_each [] (t ∷ ts) ascend are = absurd are
-  one_each (e ∷ entries) ts ascend are = at (find_listed (chars (string_bytes e.0)) rows) ts are
+  one_each (e ∷ entries) ts ascend are =
+      at (λ us k. one_each entries us ascend.1 k) (λ us k. none_later e.0 entries us ascend.0 k)
+      (find_listed (chars (string_bytes e.0)) rows) ts are
     where
-      at : (o : Option Listed) (us : List Translation)
+      at : ((us : List Translation) → AreTranslations rows (members_view entries) us → AreOfOneEach us)
+          → ((us : List Translation) → AreTranslations rows (members_view entries) us
+          → is_translated us (chars (string_bytes e.0)) ≡ false) → (o : Option Listed) (us : List Translation)
           → IsNext o (string_bytes e.0) (text_of (view e.1)) (AreTranslations rows (members_view entries)) us
           → AreOfOneEach us
-      at None us k = one_each entries us ascend.1 k
-      at (Some source) [] k = absurd k
-      at (Some source) (t ∷ us) k = (
-        rw k.0.0 (none_later e.0 entries us ascend.0 k.1),
-        one_each entries us ascend.1 k.1,
-      )
+      at more none None us k = more us k
+      at more none (Some source) [] k = absurd k
+      at more none (Some source) (t ∷ us) k = (rw k.0.0 (none us k.1), more us k.1)

@@ -1,6 +1,6 @@
 -- A map of rows by their ids, and what it finds after one more.
 use Rattle.std.proofs.Common.{◌≡◌, ℕ, Bool, true, false, cond, List, [], ◌∷◌, Option, Some, None, option_map, refl, sym}
-use Rattle.std.proofs.Common.{ap, ◌∙◌, Bor, bytes_eq}
+use Rattle.std.proofs.Common.{ap, ◌∙◌, Bor, bytes_eq, zero, suc, ◌+◌, ◌<◌, length, drop, slice_index_or, arith}
 use Rattle.std.proofs.lemmas.Map.Text.{hash_map_updates_str}
 use Rattle.std.specs.HashMap.{HashMap, UpdatesBy, get_by}
 use Rattle.std.specs.Str.{IsUtf8, chars}
@@ -31,3 +31,9 @@ row_added old new key row rows utf8 id updates finds = λ given given_utf8.
             ≡ cond b (Some row.now) (find_listed (chars given) rows)
         by true = refl
         by false = finds given given_utf8
+
+pub row_drop : (rows : List Listed) (i : ℕ) (row : Listed) → i < length rows → row ≡ slice_index_or rows i row
+    → drop i rows ≡ row ∷ drop (i + 1) rows
+row_drop [] i row below is = absurd (omega arith)
+row_drop (x ∷ rows) zero row below is = rw is refl
+row_drop (x ∷ rows) (suc i) row below is = row_drop rows i row (omega arith) is

@@ -1,7 +1,7 @@
 -- The names that a canonical text has, by which formed messages of one text have the same names.
 -- A reader goes over the text: an apostrophe with one after it is text, and with another character it begins a run; a
 -- brace in a text begins a name, behind which a comma and the letter p or s say that it is a selector's.
-use Rattle.std.proofs.Common.{◌≡◌, ℕ, ◌==◌, ◌&&◌, ◌||◌, not, Bool, true, false, List, [], ◌∷◌, ◌++◌, Option, Some, None}
+use Rattle.std.proofs.Common.{◌≡◌, ℕ, ◌+◌, ◌==◌, ◌&&◌, ◌||◌, not, Bool, true, false, List, [], ◌∷◌, ◌++◌, Option, Some, None}
 use Rattle.std.proofs.Common.{map, refl, sym, ap, ◌∙◌, IsTrue, append_assoc, append-nil, arith, nat_le}
 use Rattle.std.specs.Prelude.{codes, if◌then◌else◌}
 use Rattle.std.specs.List.{list_all}

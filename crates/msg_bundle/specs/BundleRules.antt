@@ -2,7 +2,7 @@
 -- `plural` and `ordinal` bring rules under the keywords of their categories; where one is left out there are none. They
 -- are asked in the order zero, one, two, few, many, other.
 -- Example: `{"plural":{"one":"n = 1","few":"n is 2"}}` is refused at `plural`, `few`.
-use Rattle.std.specs.Prelude.{◌≡◌, ℕ, List, [], ◌∷◌, Option, Some, None, Result, Ok, Err, option_and_then}
+use Rattle.std.specs.Prelude.{◌≡◌, ℕ, List, [], ◌∷◌, ◌++◌, Option, Some, None, Result, Ok, Err, option_and_then}
 use Rattle.std.specs.Str.{chars}
 use Rattle.serde_json.specs.Data.{Data}
 use Rattle.serde_json.specs.Find.{get, as_str}
@@ -19,15 +19,15 @@ use Rattle.msg_bundle.specs.declared.fault.BundleFault.{BundleFault}
 use Rattle.msg_bundle.specs.BundleFault.{entry_path, fault_at}
 use Rattle.msg_bundle.specs.BundleForm.{categories}
 
--- a category with its rule, if there is one, before others
-abbrev pub with_rule : Category → Option (List ℕ) → List (Category × List ℕ) → List (Category × List ℕ)
-with_rule c None rest = rest
-with_rule c (Some text) rest = (c, chars text) ∷ rest
+-- the rule of a category, if there is one
+abbrev pub rule_under : Category → Option (List ℕ) → List (Category × List ℕ)
+rule_under c None = []
+rule_under c (Some text) = (c, chars text) ∷ []
 
 -- the rules of an object under the keywords of these categories
 abbrev pub rules_under : List Category → Data → List (Category × List ℕ)
 rules_under [] json = []
-rules_under (c ∷ cs) json = with_rule c (option_and_then as_str (get (keyword c) json)) (rules_under cs json)
+rules_under (c ∷ cs) json = rule_under c (option_and_then as_str (get (keyword c) json)) ++ rules_under cs json
 
 abbrev pub rules_in : Option Data → List (Category × List ℕ)
 rules_in None = []

@@ -94,7 +94,7 @@ fn object_fault(
     object: Option<&Map<String, Json>>,
 ) -> Result<Option<Path>, OutOfMemory>
     ensures { IfOk result (λ fault. fault
-        ≡ form.object_fault only_keywords name.now (option_map (λ m. members_view m.now.entries) object)) }
+        ≡ form.object_fault only_keywords name.now (option_map (λ m. members_view m.now.entries) object.entry)) }
 {
     match object {
         Some(entries) => entries_fault(alloc, only_keywords, name, entries),
@@ -108,7 +108,7 @@ fn rules_fault(
     name: &str,
     rules: Option<&Json>,
 ) -> Result<Option<Path>, OutOfMemory>
-    ensures { IfOk result (λ fault. fault ≡ form.rules_fault name.now (option_map (λ r. view r.now) rules)) }
+    ensures { IfOk result (λ fault. fault ≡ form.rules_fault name.now (option_map (λ r. view r.now) rules.entry)) }
 {
     match rules {
         Some(rules) => object_fault(alloc, true, name, rules.as_object()),
@@ -118,7 +118,7 @@ fn rules_fault(
 
 /// The fault of a locale, which may be left out.
 fn locale_fault(alloc: Global, locale: Option<&Json>) -> Result<Option<Path>, OutOfMemory>
-    ensures { IfOk result (λ fault. fault ≡ form.locale_fault (option_map (λ l. view l.now) locale)) }
+    ensures { IfOk result (λ fault. fault ≡ form.locale_fault (option_map (λ l. view l.now) locale.entry)) }
 {
     match locale {
         Some(locale) if !locale.is_string() => Ok(Some(member_path(alloc, "locale")?)),

@@ -1,39 +1,57 @@
 //! The plural rules of a bundle.
 
-ghost use Rattle.std.specs.Prelude.{◌≡◌, IfOk, option_map};
+ghost use Rattle.std.specs.Prelude.{◌≡◌, ◌++◌, IfOk, OnOk, option_map};
 ghost use Rattle.serde_json.specs.View.{view};
-ghost use Rattle.msg_bundle.specs.BundleRules.{ReadsRules, rule_texts, rules_in, rules_under};
-ghost use Rattle.msg_bundle.specs.BundleForm.{categories};
+ghost use Rattle.msg_bundle.specs.BundleRules.{ReadsRules, rule_texts, rule_under, rules_in, rules_under};
 
 use crate::fault::{BundleFault, entry_fault};
 use crate::form::{CATEGORIES, keyword};
-use plural_rules::{RuleRefusal, RuleText, Rules};
+use plural_rules::{Category, RuleRefusal, RuleText, Rules};
 use serde_json::Value as Json;
 use soy_base::{Code, OutOfMemory, Refusal};
 use std::alloc::Global;
 
-/// The rules of an object, in the order of the categories.
-fn texts_of(alloc: Global, rules: &Json) -> Result<Vec<RuleText>, OutOfMemory>
-    ensures { IfOk result (λ texts. texts.items ≡ rules_under categories (view rules.now)) }
+/// Adds the rule of a category, if there is one.
+fn push_rule(
+    alloc: Global,
+    texts: &mut Vec<RuleText>,
+    category: Category,
+    text: Option<&str>,
+) -> Result<(), OutOfMemory>
+    ensures { OnOk result (texts.new.items
+        ≡ texts.old.items ++ rule_under category (option_map (λ t. t.now) text.entry)) }
+{
+    match text {
+        Some(text) => {
+            let text = String::from_str(alloc, text)?;
+            Ok(texts.push(RuleText { category, text })?)
+        }
+        None => Ok(()),
+    }
+}
+
+/// The rules of an object under the keywords of these categories.
+fn texts_under(
+    alloc: Global,
+    categories: &[Category],
+    rules: &Json,
+) -> Result<Vec<RuleText>, OutOfMemory>
+    ensures { IfOk result (λ texts. texts.items ≡ rules_under categories.now (view rules.now)) }
 {
     let mut texts = Vec::new(alloc);
-    for category in &CATEGORIES {
-        if let Some(text) = rules.get(keyword(*category)).and_then(Json::as_str) {
-            texts.push(RuleText {
-                category: *category,
-                text: String::from_str(alloc, text)?,
-            })?;
-        }
+    for category in categories {
+        let text = rules.get(keyword(*category)).and_then(Json::as_str);
+        push_rule(alloc, &mut texts, *category, text)?;
     }
     Ok(texts)
 }
 
 /// The rules that are given, if any are.
 fn given_texts(alloc: Global, rules: Option<&Json>) -> Result<Vec<RuleText>, OutOfMemory>
-    ensures { IfOk result (λ texts. texts.items ≡ rules_in (option_map (λ r. view r.now) rules)) }
+    ensures { IfOk result (λ texts. texts.items ≡ rules_in (option_map (λ r. view r.now) rules.entry)) }
 {
     match rules {
-        Some(rules) => texts_of(alloc, rules),
+        Some(rules) => texts_under(alloc, &CATEGORIES, rules),
         None => Ok(Vec::new(alloc)),
     }
 }

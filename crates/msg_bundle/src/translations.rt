@@ -47,7 +47,7 @@ fn read_next(
     id: &str,
     text: &str,
 ) -> Result<(), Refusal<BundleFault>>
-    ensures { ReadsNext (option_map (λ row. row.now) source) id.now (chars text.now)
+    ensures { ReadsNext (option_map (λ row. row.now) source.entry) id.now (chars text.now)
         translations.old translations.new result }
 {
     match source {
