@@ -36,4 +36,5 @@ pub row_drop : (rows : List Listed) (i : ℕ) (row : Listed) → i < length rows
     → drop i rows ≡ row ∷ drop (i + 1) rows
 row_drop [] i row below is = absurd (omega arith)
 row_drop (x ∷ rows) zero row below is = rw is refl
-row_drop (x ∷ rows) (suc i) row below is = row_drop rows i row (omega arith) is
+row_drop (x ∷ rows) (suc i) row below is =
+    let e : suc i + 1 ≡ suc (i + 1) = omega arith in rw e (row_drop rows i row (omega arith) is)
