@@ -34,32 +34,32 @@ use Rattle.msg_bundle.proofs.TextNames.{same_names}
 
 -- rows of the same names refuse the same parts
 module _ (l k : Listed) (p : l.placeholders ≡ k.placeholders) (q : l.plurals ≡ k.plurals) (r : l.selects ≡ k.selects)
-    where
-  mutual
-    same_part : (x : MsgPart) → part_fault l x ≡ part_fault k x
-    same_part (TextPart text) = refl
-    same_part (Placeholder name) = ap (λ names. unless_among names name code.Placeholder) p
-    same_part NumberPart = refl
-    same_part (PluralPart ordinal name by exact named) =
-        λ i. option_or (unless_among (q i) name code.Selector) (option_or (same_exact exact i) (same_named named i))
-    same_part (SelectPart name arms) =
-        λ i. option_or (unless_among (r i) name code.Selector) (same_select arms i)
+  where
+    mutual
+      same_part : (x : MsgPart) → part_fault l x ≡ part_fault k x
+      same_part (TextPart text) = refl
+      same_part (Placeholder name) = ap (λ names. unless_among names name code.Placeholder) p
+      same_part NumberPart = refl
+      same_part (PluralPart ordinal name by exact named) =
+          λ i. option_or (unless_among (q i) name code.Selector) (option_or (same_exact exact i) (same_named named i))
+      same_part (SelectPart name arms) =
+          λ i. option_or (unless_among (r i) name code.Selector) (same_select arms i)
 
-    same_parts : (ps : MsgParts) → parts_fault l ps ≡ parts_fault k ps
-    same_parts no_part = refl
-    same_parts (part x ps) = λ i. option_or (same_part x i) (same_parts ps i)
+      same_parts : (ps : MsgParts) → parts_fault l ps ≡ parts_fault k ps
+      same_parts no_part = refl
+      same_parts (part x ps) = λ i. option_or (same_part x i) (same_parts ps i)
 
-    same_exact : (arms : ExactArms) → exact_fault l arms ≡ exact_fault k arms
-    same_exact no_exact_arm = refl
-    same_exact (exact_arm n ps arms) = λ i. option_or (same_parts ps i) (same_exact arms i)
+      same_exact : (arms : ExactArms) → exact_fault l arms ≡ exact_fault k arms
+      same_exact no_exact_arm = refl
+      same_exact (exact_arm n ps arms) = λ i. option_or (same_parts ps i) (same_exact arms i)
 
-    same_named : (arms : NamedArms) → named_fault l arms ≡ named_fault k arms
-    same_named no_named_arm = refl
-    same_named (named_arm category ps arms) = λ i. option_or (same_parts ps i) (same_named arms i)
+      same_named : (arms : NamedArms) → named_fault l arms ≡ named_fault k arms
+      same_named no_named_arm = refl
+      same_named (named_arm category ps arms) = λ i. option_or (same_parts ps i) (same_named arms i)
 
-    same_select : (arms : SelectArms) → select_fault l arms ≡ select_fault k arms
-    same_select no_select_arm = refl
-    same_select (select_arm word ps arms) = λ i. option_or (same_parts ps i) (same_select arms i)
+      same_select : (arms : SelectArms) → select_fault l arms ≡ select_fault k arms
+      same_select no_select_arm = refl
+      same_select (select_arm word ps arms) = λ i. option_or (same_parts ps i) (same_select arms i)
 
 same_text : (l k : Listed) → is_same_listed l k ≡ true → l.text ≡ k.text
 same_text l k h = (bytes_eq-Decides l.text k.text).0 (and_right (bytes_eq l.meaning k.meaning) (bytes_eq l.text k.text) h)
@@ -141,7 +141,7 @@ module _ (rows : List Listed) (are : AreRows rows) (ms : Members) (ts : List Tra
   files_fit [] f has = tt
   files_fit (tree ∷ trees) f has = (
     all_fit (tree_messages tree)
-    (tree_formed tree (and_left (is_formed_tree tree) (list_all is_formed_tree trees) f)) has.0,
+        (tree_formed tree (and_left (is_formed_tree tree) (list_all is_formed_tree trees) f)) has.0,
     files_fit trees (and_right (is_formed_tree tree) (list_all is_formed_tree trees) f) has.1,
   )
 

@@ -44,12 +44,7 @@ pub(crate) fn entry_path(alloc: Global, name: &str, key: &str) -> Result<Path, O
 }
 
 /// The refusal of an entry of a member.
-pub(crate) fn entry_fault(
-    alloc: Global,
-    code: Code,
-    name: &str,
-    key: &str,
-) -> Refusal<BundleFault>
+pub(crate) fn entry_fault(alloc: Global, code: Code, name: &str, key: &str) -> Refusal<BundleFault>
     ensures { IsBecauseOf (fault_at code (entry_path name.now key.now)) result }
 {
     match entry_path(alloc, name, key) {

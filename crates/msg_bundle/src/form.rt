@@ -103,11 +103,7 @@ fn object_fault(
 }
 
 /// The fault of rules, which may be left out.
-fn rules_fault(
-    alloc: Global,
-    name: &str,
-    rules: Option<&Json>,
-) -> Result<Option<Path>, OutOfMemory>
+fn rules_fault(alloc: Global, name: &str, rules: Option<&Json>) -> Result<Option<Path>, OutOfMemory>
     ensures { IfOk result (λ fault. fault ≡ form.rules_fault name.now (option_map (λ r. view r.now) rules.entry)) }
 {
     match rules {
@@ -136,7 +132,12 @@ fn object_members_fault(alloc: Global, json: &Json) -> Result<Option<Path>, OutO
     if let Some(fault) = rules_fault(alloc, "ordinal", json.get("ordinal"))? {
         return Ok(Some(fault));
     }
-    object_fault(alloc, false, "messages", json.get("messages").and_then(Json::as_object))
+    object_fault(
+        alloc,
+        false,
+        "messages",
+        json.get("messages").and_then(Json::as_object),
+    )
 }
 
 /// The first member of a bundle that is missing or of another form, or the first such entry of one.

@@ -16,11 +16,7 @@ use soy_tree::Bundle;
 use std::alloc::Global;
 
 /// The bundle that a JSON value stands for, or its first fault.
-fn bundle_of(
-    alloc: Global,
-    json: &Json,
-    rows: &[Listed],
-) -> Result<Bundle, Refusal<BundleFault>>
+fn bundle_of(alloc: Global, json: &Json, rows: &[Listed]) -> Result<Bundle, Refusal<BundleFault>>
     ensures read { ReadsJson (view json.now) rows.now result }
     ensures one_each { IfOk result (λ bundle. AreOfOneEach bundle.messages) }
 {

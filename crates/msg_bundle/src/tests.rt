@@ -3,8 +3,9 @@
 use crate::read_bundle;
 use msg_extract::{Catalogue, Listed, extract};
 use plural_rules::Category;
-use soy_base::{Code, Dir, Fault, Kind, OutOfMemory, PathStep, Refusal, Seq, Span, Text};
-use soy_base::{push_char, push_text};
+use soy_base::{
+    Code, Dir, Fault, Kind, OutOfMemory, PathStep, Refusal, Seq, Span, Text, push_char, push_text,
+};
 use soy_tree::{Bundle, Expr, ExprNode, Form, Message, MessageBody, Node, Template, Tree};
 use std::alloc::Global;
 
@@ -97,8 +98,14 @@ fn answer(alloc: Global, bytes: &[u8]) -> Result<String, OutOfMemory> {
 /// Bundles with what is answered: the form.
 const FORMS: &[(&str, &str)] = &[
     ("{\"dir\":\"ltr\",\"messages\":{}}", "ltr"),
-    ("{\"messages\":{},\"dir\":\"rtl\",\"locale\":\"ar\",\"x\":null}", "rtl"),
-    ("{\"dir\":\"x\",\"dir\":\"rtl\",\"messages\":1,\"messages\":{}}", "rtl"),
+    (
+        "{\"messages\":{},\"dir\":\"rtl\",\"locale\":\"ar\",\"x\":null}",
+        "rtl",
+    ),
+    (
+        "{\"dir\":\"x\",\"dir\":\"rtl\",\"messages\":1,\"messages\":{}}",
+        "rtl",
+    ),
     // the whole
     ("", "Bundle"),
     ("{", "Bundle"),
@@ -109,9 +116,18 @@ const FORMS: &[(&str, &str)] = &[
     ("{}", "Bundle/dir"),
     ("{\"dir\":\"up\",\"locale\":1,\"messages\":1}", "Bundle/dir"),
     ("{\"dir\":null,\"messages\":{}}", "Bundle/dir"),
-    ("{\"dir\":\"ltr\",\"locale\":null,\"plural\":1}", "Bundle/locale"),
-    ("{\"dir\":\"ltr\",\"plural\":null,\"ordinal\":1}", "Bundle/plural"),
-    ("{\"dir\":\"ltr\",\"ordinal\":[],\"messages\":1}", "Bundle/ordinal"),
+    (
+        "{\"dir\":\"ltr\",\"locale\":null,\"plural\":1}",
+        "Bundle/locale",
+    ),
+    (
+        "{\"dir\":\"ltr\",\"plural\":null,\"ordinal\":1}",
+        "Bundle/plural",
+    ),
+    (
+        "{\"dir\":\"ltr\",\"ordinal\":[],\"messages\":1}",
+        "Bundle/ordinal",
+    ),
     ("{\"dir\":\"ltr\"}", "Bundle/messages"),
     ("{\"dir\":\"ltr\",\"messages\":[]}", "Bundle/messages"),
     // entries in the order of their keys' bytes
@@ -119,7 +135,10 @@ const FORMS: &[(&str, &str)] = &[
         "{\"dir\":\"ltr\",\"plural\":{\"zero\":1,\"few\":2,\"one\":\"\"}}",
         "Bundle/plural/few",
     ),
-    ("{\"dir\":\"ltr\",\"plural\":{\"One\":\"n = 1\"}}", "Bundle/plural/One"),
+    (
+        "{\"dir\":\"ltr\",\"plural\":{\"One\":\"n = 1\"}}",
+        "Bundle/plural/One",
+    ),
     (
         "{\"dir\":\"ltr\",\"plural\":{\"one\":\"\"},\"ordinal\":{\"two\":null}}",
         "Bundle/ordinal/two",
@@ -153,7 +172,10 @@ const RULES: &[(&str, &str)] = &[
         "Rule/plural/other",
     ),
     // the form of the messages is asked before the rules, and the rules before the translations
-    ("{\"dir\":\"ltr\",\"plural\":{\"one\":\"\"}}", "Bundle/messages"),
+    (
+        "{\"dir\":\"ltr\",\"plural\":{\"one\":\"\"}}",
+        "Bundle/messages",
+    ),
     (
         "{\"dir\":\"ltr\",\"ordinal\":{\"one\":\"\"},\"messages\":{\"ab\":\"{\"}}",
         "Rule/ordinal/one",
@@ -184,13 +206,19 @@ const MESSAGES: &[(&str, &str)] = &[
     ("{\"ab\":\"{S, plural, other {}}\"}", "Selector/messages/ab"),
     ("{\"ab\":\"{N, select, other {}}\"}", "Selector/messages/ab"),
     // in the order of the parts: a selector before its arms, those for numbers before the others
-    ("{\"ab\":\"{A, plural, other {{X}}}\"}", "Selector/messages/ab"),
+    (
+        "{\"ab\":\"{A, plural, other {{X}}}\"}",
+        "Selector/messages/ab",
+    ),
     (
         "{\"ab\":\"{N, plural, other {{X}} =2 {{X, select, other {}}}}\"}",
         "Selector/messages/ab",
     ),
     // arms that aren't kept aren't asked
-    ("{\"ab\":\"{N, plural, =1 {} =01 {{X}} other {}}\"}", "ltr ab"),
+    (
+        "{\"ab\":\"{N, plural, =1 {} =01 {{X}} other {}}\"}",
+        "ltr ab",
+    ),
 ];
 
 #[test]
@@ -234,7 +262,10 @@ fn message_translation(rt: HostRuntime) {
 
 #[test]
 fn bytes_that_are_no_utf8_are_no_bundle(rt: HostRuntime) {
-    match answer(rt.alloc(), b"{\"dir\":\"ltr\",\"messages\":{},\"x\":\"\xff\"}") {
+    match answer(
+        rt.alloc(),
+        b"{\"dir\":\"ltr\",\"messages\":{},\"x\":\"\xff\"}",
+    ) {
         Ok(text) => assert_eq!(rt; text.as_str(), "Bundle"),
         Err(_) => assert!(rt; false),
     }

@@ -76,7 +76,13 @@ fn read_entries(
     let mut translations = Row::empty(alloc);
     for (id, entry) in entries.iter() {
         let source = source_of(&sources, id.as_str());
-        read_next(alloc, &mut translations, source, id.as_str(), text_in(entry))?;
+        read_next(
+            alloc,
+            &mut translations,
+            source,
+            id.as_str(),
+            text_in(entry),
+        )?;
     }
     Ok(translations.done())
 }
