@@ -18,6 +18,10 @@ use Rattle.msg_bundle.specs.Translations.{ReadsNext, ReadsTranslations, text_of}
 abbrev pub Entries : Type 0
 Entries = List (String Global × json.Value)
 
+-- no entry is left
+pub none_left : (rows : List Listed) (left : Entries) → left ≡ [] → AreTranslations rows (members_view left) []
+none_left rows left is = rw is tt
+
 module _ (rows : List Listed) (whole left rest : Entries) (key : String Global) (entry : json.Value)
     (is : left ≡ (key, entry) ∷ rest) where
   abbrev Id : List ℕ

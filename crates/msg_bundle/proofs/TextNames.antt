@@ -1,7 +1,7 @@
 -- The names that a canonical text has, by which formed messages of one text have the same names.
 -- A reader goes over the text: an apostrophe with one after it is text, and with another character it begins a run; a
 -- brace in a text begins a name, behind which a comma and the letter p or s say that it is a selector's.
-use Rattle.std.proofs.Common.{◌≡◌, ℕ, ◌+◌, ◌==◌, ◌&&◌, ◌||◌, not, Bool, true, false, List, [], ◌∷◌, ◌++◌, Option, Some, None}
+use Rattle.std.proofs.Common.{◌≡◌, ℕ, suc, ◌==◌, ◌&&◌, ◌||◌, not, Bool, true, false, List, [], ◌∷◌, ◌++◌, Option, Some, None}
 use Rattle.std.proofs.Common.{map, refl, sym, ap, ◌∙◌, IsTrue, append_assoc, append-nil, arith, nat_le}
 use Rattle.std.specs.Prelude.{codes, if◌then◌else◌}
 use Rattle.std.specs.List.{list_all}
@@ -170,7 +170,7 @@ decimal_braceless n = decimal_passes is_braceless digit_braceless n
 
 int_braceless : (n : ℤ) → list_all is_braceless (equals_sign ∷ signed_decimal n) ≡ true
 int_braceless (pos n) = decimal_braceless n
-int_braceless (negsuc n) = decimal_braceless (1 + n)
+int_braceless (negsuc n) = decimal_braceless (suc n)
 
 word_character : (c : ℕ) → is_word_character c ≡ true → is_braceless c ≡ true
 word_character c h = grind (arith, nat_tests)

@@ -2,7 +2,7 @@ use Rattle.std.proofs.Common.{[], append-nil, sym, ◌∙◌, subst}
 use Rattle.std.proofs.lemmas.Result.{err_from_is_err_and}
 use Rattle.serde_json.specs.View.{members_view}
 use Rattle.msg_bundle.specs.Translations.{AreTranslations}
-use Rattle.msg_bundle.proofs.EntrySteps.{next_faults, next_reads, next_refused}
+use Rattle.msg_bundle.proofs.EntrySteps.{next_faults, next_reads, next_refused, none_left}
 use Rattle.msg_bundle.proofs.OneEach.{one_each}
 use Rattle.msg_bundle.proofs.translations.read_entries.Goals as goal
 
@@ -34,7 +34,7 @@ read_all : goal.returns-clause-read
 read_all c =
     subst (AreTranslations c.args.rows.now (members_view c.args.entries.now.entries))
     (append-nil c.loop-id.translations ∙ sym c.done.ensures)
-    (c.loop-id.invariant.read [] (rw c.in-None.ensures.steps tt))
+    (c.loop-id.invariant.read [] (none_left c.args.rows.now c.loop-id.id-iterator c.in-None.ensures.steps.0))
 
 pub returns-clause-read : goal.returns-clause-read
 returns-clause-read c = read_all c
