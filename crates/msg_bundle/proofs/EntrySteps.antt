@@ -1,6 +1,6 @@
 -- The entries of a bundle's messages, one after another.
-use Rattle.std.proofs.Common.{◌≡◌, ℕ, List, [], ◌∷◌, ◌++◌, Option, Some, None, refl, sym, ap, ◌∙◌, append_assoc, inl}
-use Rattle.std.proofs.Common.{inr, String, Global, string_bytes, subst, append-nil}
+use Rattle.std.proofs.Common.{◌≡◌, ℕ, List, [], ◌∷◌, ◌++◌, Option, Some, None, sym, ap, ◌∙◌, append_assoc, inl}
+use Rattle.std.proofs.Common.{inr, String, Global, string_bytes, subst}
 use Rattle.std.specs.Prelude.{Result, Ok, Err}
 use Rattle.std.specs.Str.{chars}
 use Rattle.serde_json.specs.View.{members_view, view}

@@ -1,13 +1,12 @@
 -- The translations of a bundle fit the messages of the files that its catalogue lists.
-use Rattle.std.proofs.Common.{◌≡◌, ℕ, ◌&&◌, Bool, true, false, List, [], ◌∷◌, Option, Some, None, refl, sym, ap, ◌∙◌}
-use Rattle.std.proofs.Common.{IsTrue, bytes_eq, subst}
-use Rattle.std.specs.Prelude.{Ok, if◌then◌else◌}
+use Rattle.std.proofs.Common.{◌≡◌, ℕ, Bool, true, false, List, [], ◌∷◌, Option, Some, None, refl, sym, ap, ◌∙◌}
+use Rattle.std.proofs.Common.{bytes_eq, subst}
+use Rattle.std.specs.Prelude.{Ok}
 use Rattle.std.specs.List.{list_all}
 use Rattle.std.specs.Option.{option_or}
 use Rattle.std.specs.Str.{chars}
 use Rattle.std.proofs.lemmas.Slice.Eq.{bytes_eq-Decides}
 use Rattle.serde_json.specs.Data.{Members, no_members, member}
-use Rattle.soy_base.specs.declared.code.Code.{Code}
 use Rattle.soy_base.specs.declared.code.Code.TheVariants as code
 use Rattle.soy_tree.specs.declared.bundle.Translation.{Translation}
 use Rattle.soy_tree.specs.Formed.{AreFormed, is_formed_body, is_formed_message, is_formed_tree}
@@ -27,7 +26,7 @@ use Rattle.msg_extract.specs.declared.role_names.NameKind.TheVariants as kind
 use Rattle.msg_extract.proofs.JoinedTests.{and_left, and_right}
 use Rattle.msg_bundle.specs.BundleFits.{translation_of}
 use Rattle.msg_bundle.specs.Translations.{AreTranslations, IsNext, Translates, text_of}
-use Rattle.msg_bundle.proofs.CatalogueRows.{AreRows, HasRow, HaveRows, HaveRowsOf, IsRow, catalogue_are, catalogue_has}
+use Rattle.msg_bundle.proofs.CatalogueRows.{AreRows, HasRow, HaveRows, HaveRowsOf, catalogue_are, catalogue_has}
 use Rattle.msg_bundle.proofs.CatalogueRows.{row_found}
 use Rattle.msg_bundle.proofs.FormedMessages.{AllFormed, tree_formed}
 use Rattle.msg_bundle.proofs.TextNames.{same_names}

@@ -1,5 +1,5 @@
 -- The messages of formed trees are formed.
-use Rattle.std.proofs.Common.{◌≡◌, ◌&&◌, not, Bool, true, false, List, [], ◌∷◌, ◌++◌, Option, IsTrue}
+use Rattle.std.proofs.Common.{◌≡◌, ◌&&◌, not, Bool, true, List, [], ◌∷◌, ◌++◌}
 use Rattle.std.specs.List.{list_all}
 use Rattle.soy_base.specs.Names.{is_name, is_dotted_name}
 use Rattle.soy_tree.specs.Nodes.{Node, Nodes, Otherwise, Arms, Cases, Arguments, Given, Message, Fallback, TextNode}

@@ -1,5 +1,5 @@
 -- A JSON value that was read, and what is said of it.
-use Rattle.std.proofs.Common.{◌≡◌, ℕ, List}
+use Rattle.std.proofs.Common.{ℕ, List}
 use Rattle.std.specs.Prelude.{Result, Ok, Err}
 use Rattle.serde_json.specs.Data.{Data}
 use Rattle.soy_base.specs.declared.memory.Refusal.{Refusal}

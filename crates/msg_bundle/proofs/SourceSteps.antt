@@ -1,5 +1,5 @@
 -- A map of rows by their ids, and what it finds after one more.
-use Rattle.std.proofs.Common.{◌≡◌, ℕ, Bool, true, false, cond, List, [], ◌∷◌, Option, Some, None, option_map, refl, sym}
+use Rattle.std.proofs.Common.{◌≡◌, ℕ, Bool, true, false, cond, List, [], ◌∷◌, Some, option_map, refl, sym}
 use Rattle.std.proofs.Common.{ap, ◌∙◌, Bor, bytes_eq, zero, suc, ◌+◌, ◌<◌, length, drop, slice_index_or, arith}
 use Rattle.std.proofs.lemmas.Map.Text.{hash_map_updates_str}
 use Rattle.std.specs.HashMap.{HashMap, UpdatesBy, get_by}

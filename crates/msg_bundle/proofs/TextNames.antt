@@ -9,7 +9,7 @@ use Rattle.std.specs.Fmt.{decimal, digit_glyph, signed_decimal}
 use Rattle.std.specs.Prelude.{ℤ, pos, negsuc, ◌%◌}
 use Rattle.std.proofs.lemmas.List.{map-append}
 use Rattle.std.proofs.lemmas.Bool.Decides.{nat_tests}
-use Rattle.soy_base.specs.Characters.{single_quote, left_brace, right_brace, number_sign, comma, space, equals_sign}
+use Rattle.soy_base.specs.Characters.{single_quote, left_brace, right_brace, comma, space, equals_sign}
 use Rattle.soy_base.specs.Names.{begins_name, continues_name, is_name}
 use Rattle.soy_tree.specs.Types.{Name}
 use Rattle.soy_tree.specs.Ints.{largest}

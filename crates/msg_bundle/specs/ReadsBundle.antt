@@ -3,7 +3,7 @@
 -- before those of `ordinal` (23); and then its translations (22, 24, 25). The first fault is answered.
 -- Example: `[]` is refused with 21 and an empty path, and `{"dir":"ltr","plural":{"one":"n % 0 = 1"},"messages":{}}`
 -- with 23 at `plural`, `one`.
-use Rattle.std.specs.Prelude.{◌≡◌, ℕ, List, [], Option, Some, None, Result, Ok, Err, codes}
+use Rattle.std.specs.Prelude.{◌≡◌, ℕ, List, [], Some, None, Result, Ok, Err, codes}
 use Rattle.std.specs.Str.{IsUtf8}
 use Rattle.serde_json.specs.Data.{Data}
 use Rattle.serde_json.specs.Read.{read}

@@ -2,8 +2,8 @@
 -- For each id of the bundle that the catalogue has, in the order of their bytes, the text is a pattern (22) that names
 -- what the message has (24, 25). Texts under other ids are passed over unread.
 -- Example: `{"ab":"{WHO","zz":"{"}` is refused with 22 at `messages`, `ab` where the catalogue has the id `ab`.
-use Rattle.std.specs.Prelude.{◌≡◌, ℕ, List, [], ◌∷◌, ◌++◌, Option, Some, None, Result, Ok, Err, ◌⊎◌, unwrap_or, bytes_eq}
-use Rattle.std.specs.Prelude.{if◌then◌else◌, option_and_then, codes}
+use Rattle.std.specs.Prelude.{◌≡◌, ℕ, List, [], ◌∷◌, ◌++◌, Option, Some, None, Result, Ok, Err, ◌⊎◌, unwrap_or}
+use Rattle.std.specs.Prelude.{option_and_then, codes}
 use Rattle.std.specs.Str.{chars}
 use Rattle.serde_json.specs.Data.{Data, Members, no_members, member}
 use Rattle.serde_json.specs.Find.{get, as_str, as_object}

@@ -1,6 +1,6 @@
 //! The form of a bundle as JSON.
 
-ghost use Rattle.std.specs.Prelude.{◌≡◌, ◌&&◌, IfOk, codes, option_map, false, true};
+ghost use Rattle.std.specs.Prelude.{◌≡◌, ◌&&◌, IfOk, option_map, false, true};
 ghost use Rattle.serde_json.specs.View.{members_view, view};
 ghost use Rattle.soy_tree.specs.IcuText.{keyword};
 ghost use Rattle.msg_bundle.specs.BundleForm as form;

@@ -1,7 +1,6 @@
 //! What a translation names.
 
 ghost use Rattle.std.specs.Prelude.{◌≡◌, map};
-ghost use Rattle.std.specs.Option.{option_or};
 ghost use Rattle.soy_base.specs.Among.{is_among};
 ghost use Rattle.soy_tree.specs.ViewMessageParts.{exact_arms_of, named_arms_of, select_arms_of, view_exact, view_named};
 ghost use Rattle.soy_tree.specs.ViewMessageParts.{view_part, view_parts, view_select_arm};

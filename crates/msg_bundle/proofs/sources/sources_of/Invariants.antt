@@ -1,4 +1,4 @@
-use Rattle.std.proofs.Common.{◌≡◌, ◌≤◌, drop, length}
+use Rattle.std.proofs.Common.{◌≤◌, drop, length}
 use Rattle.msg_bundle.specs.Sources.{FindsRows}
 use Rattle.msg_bundle.proofs.sources.sources_of.Given as goal
 
