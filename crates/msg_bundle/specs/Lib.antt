@@ -1,0 +1,7 @@
+pub mod BundleFault
+pub mod BundleForm
+pub mod BundleRules
+pub mod Sources
+pub mod Translations
+pub mod ReadsBundle
+pub mod BundleFits

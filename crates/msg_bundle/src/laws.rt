@@ -1,0 +1,28 @@
+//! What holds of bundles: functions that take nothing and do nothing, whose contracts are the laws.
+
+ghost use Rattle.std.specs.Prelude.{◌≡◌, ℕ, List, [], Ok};
+ghost use Rattle.soy_base.specs.declared.direction.Dir.TheVariants as dir;
+ghost use Rattle.soy_tree.specs.declared.bundle.Bundle.{Bundle};
+ghost use Rattle.soy_tree.specs.Formed.{AreFormed};
+ghost use Rattle.soy_tree.specs.Trees.{Tree};
+ghost use Rattle.msg_extract.specs.Catalogue.{catalogue_of};
+ghost use Rattle.msg_extract.specs.declared.catalogue.Listed.{Listed};
+ghost use Rattle.msg_bundle.specs.declared.fault.BundleFault.{BundleFault};
+ghost use Rattle.msg_bundle.specs.BundleFits.{BundleFits};
+ghost use Rattle.msg_bundle.specs.ReadsBundle.{BringsBundle, RefusesBundle};
+
+/// Bytes that bring a bundle aren't refused: so each answer comes exactly where it is said.
+pub fn law_bundle()
+    ensures { (bytes : List ℕ) (rows : List Listed) (bundle : Bundle) (fault : BundleFault)
+        → BringsBundle bytes rows bundle → RefusesBundle bytes rows fault → ⊥ }
+{}
+
+/// A bundle that is read beside the catalogue of formed trees fits them: the translation of each of their messages is
+/// the parts of a pattern and names what that message has, also where a message of the same meaning and canonical text
+/// stands for it in the catalogue. The bundle of the source language fits all trees.
+pub fn law_fits()
+    ensures read { (bytes : List ℕ) (rows : List Listed) (bundle : Bundle) (trees : List Tree)
+        → BringsBundle bytes rows bundle → catalogue_of trees ≡ Ok rows → AreFormed trees → BundleFits bundle trees }
+    ensures source { (trees : List Tree)
+        → BundleFits (record { dir = dir.Ltr; plural = []; ordinal = []; messages = [] }) trees }
+{}
