@@ -1,0 +1,11 @@
+pub mod ChosenTranslation
+pub mod Infers
+pub mod JoinedArms
+pub mod NarrowedVariable
+pub mod PlacedNodes
+pub mod PlacesOfHoles
+pub mod TakenClass
+pub mod ViewDeclared
+pub mod ViewParts
+pub mod ViewWalker
+pub mod Walks
