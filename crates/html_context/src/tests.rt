@@ -2,9 +2,11 @@
 
 use crate::inferring::infer_trees;
 use crate::PlaceFault;
+use msg_extract::message_id;
 use soy_base::{Code, Kind, OutOfMemory, Place, Placing, Refusal, Seq, Span, Text};
 use soy_tree::{
-    Arm, Bundle, Case, Expr, ExprNode, Form, Node, Param, SoyType, Template, Tree,
+    Arm, Bundle, Case, Expr, ExprNode, Form, Message, MessageBody, MsgPart, Node, Param, SoyType,
+    Template, Translation, Tree,
 };
 use std::alloc::Global;
 use template_ir::Places;
@@ -21,6 +23,8 @@ enum Piece {
     Block(u64, u64, &'static str),
     /// A switch with so many cases, each with `<` and a letter of its own.
     Switch(u64, u32),
+    /// A message of a text.
+    Message(u64, &'static str),
 }
 
 fn text_of(alloc: Global, text: &str) -> Result<Text, OutOfMemory> {
@@ -96,6 +100,31 @@ fn switch_node(alloc: Global, start: u64, count: u32) -> Result<Node, OutOfMemor
     Ok(node(Form::Switch(subject, Seq::new(cases), None), start, start))
 }
 
+fn message_of(alloc: Global, start: u64, text: &str) -> Result<Message, OutOfMemory> {
+    let nodes = one(alloc, text_node(alloc, start, text)?)?;
+    Ok(Message {
+        desc: text_of(alloc, "d")?,
+        meaning: Text::empty(alloc),
+        body: MessageBody::Parts(nodes),
+        span: Span { start, end: start },
+    })
+}
+
+/// A bundle with a text as the translation of a message of a text.
+fn bundle_of(alloc: Global, source: &str, text: &str) -> Result<Bundle, OutOfMemory> {
+    let id = message_id(alloc, &message_of(alloc, 0, source)?)?;
+    let mut parts = Vec::new(alloc);
+    parts.push(MsgPart::Text(text_of(alloc, text)?))?;
+    let mut messages = Vec::new(alloc);
+    messages.push(Translation {
+        id,
+        parts: Seq::new(parts),
+    })?;
+    let mut bundle = Bundle::source(alloc);
+    bundle.messages = Seq::new(messages);
+    Ok(bundle)
+}
+
 fn node_of(alloc: Global, piece: &Piece) -> Result<Node, OutOfMemory> {
     match piece {
         Piece::Text(start, text) => text_node(alloc, *start, text),
@@ -104,6 +133,10 @@ fn node_of(alloc: Global, piece: &Piece) -> Result<Node, OutOfMemory> {
         Piece::Loop(start, name) => loop_node(alloc, *start, name),
         Piece::Block(start, end, name) => block_node(alloc, *start, *end, name),
         Piece::Switch(start, count) => switch_node(alloc, *start, *count),
+        Piece::Message(start, text) => {
+            let message = message_of(alloc, *start, text)?;
+            Ok(node(Form::Message(message, None), *start, *start))
+        }
     }
 }
 
@@ -211,6 +244,16 @@ const FAULTS: &[(&str, &[Piece], u32, u64)] = &[
         0,
     ),
     (
+        "source without its translation",
+        &[
+            Piece::Text(0, "<p title=\""),
+            Piece::Message(10, "a&b"),
+            Piece::Text(40, "\">x</p>"),
+        ],
+        16,
+        10,
+    ),
+    (
         "print in a tag's name",
         &[Piece::Text(0, "<b"), Piece::Print(2, "x")],
         14,
@@ -244,6 +287,43 @@ fn both_placings_of_a_mixed_hole(rt: HostRuntime) {
     assert!(rt; found.fault.code == Code::Mixed);
     assert!(rt; found.first == Some(Placing::Takes(Place::UriStart)));
     assert!(rt; found.second == Some(Placing::Takes(Place::Tag)));
+}
+
+#[test]
+fn fault_of_a_translation(rt: HostRuntime) {
+    let alloc = rt.alloc();
+    let pieces = [
+        Piece::Text(0, "<p title=\""),
+        Piece::Message(10, "a"),
+        Piece::Text(40, "\">x</p>"),
+    ];
+    for (translation, is_refused) in [("a&b", true), ("b", false)] {
+        let (Ok(tree), Ok(bundle)) =
+            (tree_of(alloc, &pieces), bundle_of(alloc, "a", translation))
+        else {
+            assert!(rt; false);
+            return;
+        };
+        match infer_trees(alloc, &[tree], &bundle) {
+            Ok(_) => assert!(rt; !is_refused),
+            Err(Refusal::Because(found)) => {
+                assert!(rt; is_refused);
+                assert_eq!(rt; found.fault.code.number(), 16);
+                assert_eq!(rt; found.fault.at, 10);
+            }
+            Err(Refusal::OutOfMemory) => assert!(rt; false),
+        }
+    }
+}
+
+#[test]
+fn optional_attribute(rt: HostRuntime) {
+    let pieces = [
+        Piece::Text(0, "<input "),
+        Piece::If(7, "disabled"),
+        Piece::Text(30, ">"),
+    ];
+    assert!(rt; inferred(rt.alloc(), &pieces).is_ok());
 }
 
 #[test]
