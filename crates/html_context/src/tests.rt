@@ -12,6 +12,7 @@ use std::alloc::Global;
 use template_ir::Places;
 
 /// A node, where it stands.
+#[derive(Clone, Copy)]
 enum Piece {
     Text(u64, &'static str),
     Print(u64, &'static str),
@@ -341,5 +342,5 @@ fn places_in_the_order_of_the_holes(rt: HostRuntime) {
         assert!(rt; false);
         return;
     };
-    assert!(rt; places.prints.items() == [Place::Attr, Place::Text, Place::Text]);
+    assert!(rt; places.prints.items() == [Place::Attr, Place::Text, Place::Text].as_slice());
 }
