@@ -37,7 +37,7 @@ places_of : (p : Plan) (places : List Place) → walk page_machine p (walked [] 
     → PlacesOfHoles p places
 places_of p places is =
     let w = walked_places page_machine page_compares p (walked [] []) (walked [] places) is in
-    subst (λ (l : List Place). PlacesOfHoles p l) (sym w.1) (record { count = w.2; placed = w.3; })
+    subst (λ (l : List Place). PlacesOfHoles p l) (sym w.1) (record { count = w.2; placed = w.3 })
 
 pub placed : (translation : Message → Option MsgParts) (trees : List Tree) (answer : Result Places (Refusal PlaceFault))
     → Infers (walk_trees translation trees) answer

@@ -32,9 +32,11 @@ abbrev pub items_of : Vec State Global → List State
 items_of v = v.items
 
 -- the states after a part of a plan, with the places that are there then
-abbrev pub Walks : Result (Walked State) WalkFault → List Place → Result (Vec State Global) (Refusal FirstFault) → Type 0
+abbrev pub Walks :
+    Result (Walked State) WalkFault → List Place → Result (Vec State Global) (Refusal FirstFault) → Type 0
 Walks wanted places result = Gives (λ v. walked v.items places) wanted result
 
 -- the same where no state stands after the part
-abbrev pub WalksAll : {A : Type 0} → Result (Walked State) WalkFault → List Place → Result A (Refusal FirstFault) → Type 0
+abbrev pub WalksAll :
+    {A : Type 0} → Result (Walked State) WalkFault → List Place → Result A (Refusal FirstFault) → Type 0
 WalksAll wanted places result = Gives (λ done. walked [] places) wanted result

@@ -31,7 +31,8 @@ fn template(
     bundle: &Bundle,
     places: &mut Vec<Place>,
 ) -> Result<(), Stop>
-    ensures { WalksAll (walk page_machine (declared_plan (chosen_translation bundle.now.messages) (view_all all.now) (view_declared one.now))
+    ensures { WalksAll (walk page_machine
+        (declared_plan (chosen_translation bundle.now.messages) (view_all all.now) (view_declared one.now))
         (walked [] places.old.items)) places.new.items result }
 {
     let walker = Walker {
@@ -58,7 +59,8 @@ fn templates(
     bundle: &Bundle,
     places: &mut Vec<Place>,
 ) -> Result<(), Stop>
-    ensures { WalksAll (walk page_machine (in_turn (map (declared_plan (chosen_translation bundle.now.messages) (view_all all.now)) (view_all all.now)))
+    ensures { WalksAll (walk page_machine
+        (in_turn (map (declared_plan (chosen_translation bundle.now.messages) (view_all all.now)) (view_all all.now)))
         (walked [] places.old.items)) places.new.items result }
 {
     for one in all {
@@ -106,15 +108,11 @@ pub(crate) fn infer_trees(
     }
 }
 
-/// The place of each hole of typed trees under a bundle, in the order in which the walk over all their paths first meets
-/// it, or the first fault of that walk: its code, file and offset in bytes, and for 12 both placings. It is `Ok` exactly
-/// where what is demanded of all paths holds.
+/// The place of each hole of typed trees under a bundle, in the order in which the walk over all their paths first
+/// meets it, or the first fault of that walk: its code, file and offset in bytes, and for 12 both placings. It is `Ok`
+/// exactly where what is demanded of all paths holds.
 #[tactic(auto, using(crate::proofs::Verdicts::decided, crate::proofs::Verdicts::placed))]
-pub fn infer(
-    alloc: Global,
-    typed: &Typed,
-    bundle: &Bundle,
-) -> Result<Places, Refusal<PlaceFault>>
+pub fn infer(alloc: Global, typed: &Typed, bundle: &Bundle) -> Result<Places, Refusal<PlaceFault>>
     ensures walk { Infers (walk_trees (chosen_translation bundle.now.messages) (view_trees typed.now)) result }
     ensures places { IfOk result (λ places.
         PlacesOfHoles (trees_plan (chosen_translation bundle.now.messages) (view_trees typed.now)) places.prints) }

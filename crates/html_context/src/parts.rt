@@ -123,7 +123,13 @@ fn one_part(
         MsgPart::Placeholder(name) => placeholder(source, name, states, places),
         MsgPart::Number => hole(source.alloc, source.at, &[ValueClass::Int], &states, places),
         MsgPart::Plural(plural) => {
-            plural_arms(source, plural.exact.items(), plural.named.items(), &states, places)
+            plural_arms(
+                source,
+                plural.exact.items(),
+                plural.named.items(),
+                &states,
+                places,
+            )
         }
         MsgPart::Select(select) => select_arms(source, select.arms.items(), &states, places),
     }

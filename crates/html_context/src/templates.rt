@@ -3,7 +3,8 @@
 ghost use Rattle.std.specs.Prelude.{◌≡◌, ◌<◌, ◌^◌, ◌++◌, ◌==◌, IfOk, OnOk, length, map, option_map};
 ghost use Rattle.std.specs.List.{list_any};
 ghost use Rattle.soy_base.specs.Characters.{full_stop};
-ghost use Rattle.soy_tree.specs.Templates.{called_name, callee, declared, declared_in, joined_name, template_of, visible};
+ghost use Rattle.soy_tree.specs.Templates.{called_name, callee, declared, declared_in, joined_name, template_of};
+ghost use Rattle.soy_tree.specs.Templates.{visible};
 ghost use Rattle.soy_tree.specs.ViewTrees.{view_template, view_trees};
 ghost use Rattle.html_context.specs.ViewDeclared.{view_all, view_declared};
 
@@ -97,7 +98,8 @@ fn visible_template<'d, 'a>(
     namespace: &Text,
     full: &Text,
 ) -> Option<&'d Declared<'a>>
-    ensures { option_map (λ d. view_declared d.now) result ≡ visible namespace.now (template_of full.now (view_all all.now)) }
+    ensures { option_map (λ d. view_declared d.now) result
+        ≡ visible namespace.now (template_of full.now (view_all all.now)) }
 {
     let declared = template_of(all, full)?;
     if declared.template.private && !declared.namespace.is(namespace.text()) {

@@ -1,7 +1,7 @@
 //! Tests of what no clause says: rows of the rules on paths, with ample memory.
 
-use crate::inferring::infer_trees;
 use crate::PlaceFault;
+use crate::inferring::infer_trees;
 use msg_extract::message_id;
 use soy_base::{Code, Kind, OutOfMemory, Place, Placing, Refusal, Seq, Span, Text};
 use soy_tree::{
@@ -299,8 +299,7 @@ fn fault_of_a_translation(rt: HostRuntime) {
         Piece::Text(40, "\">x</p>"),
     ];
     for (translation, is_refused) in [("a&b", true), ("b", false)] {
-        let (Ok(tree), Ok(bundle)) =
-            (tree_of(alloc, &pieces), bundle_of(alloc, "a", translation))
+        let (Ok(tree), Ok(bundle)) = (tree_of(alloc, &pieces), bundle_of(alloc, "a", translation))
         else {
             assert!(rt; false);
             return;

@@ -62,7 +62,8 @@ fn ended(alloc: Global, at: Site, states: &[State]) -> Result<Vec<State>, Stop>
 
 /// The states after the characters of a static text and its end.
 fn together(alloc: Global, at: Site, text: &str, states: Vec<State>) -> Result<Vec<State>, Stop>
-    ensures { Gives items_of (met_at (view_site at) (states_after_text page_machine (chars text.now) states.items)) result }
+    ensures { Gives items_of
+        (met_at (view_site at) (states_after_text page_machine (chars text.now) states.items)) result }
 {
     let mut now = states;
     for c in text.chars() {
@@ -73,7 +74,8 @@ fn together(alloc: Global, at: Site, text: &str, states: Vec<State>) -> Result<V
 
 /// The states after the characters of a static text and its end. One state, as most texts have, is read alone.
 fn after_text(alloc: Global, at: Site, text: &str, states: Vec<State>) -> Result<Vec<State>, Stop>
-    ensures { Gives items_of (met_at (view_site at) (states_after_text page_machine (chars text.now) states.items)) result }
+    ensures { Gives items_of
+        (met_at (view_site at) (states_after_text page_machine (chars text.now) states.items)) result }
 {
     if let [state] = states.as_slice() {
         let after = alone(at, text, *state)?;

@@ -21,17 +21,18 @@ use crate::fault::{Site, Stop, stop};
 use crate::hole::{hole, print, within_limit};
 use crate::parts::branch;
 use crate::scope::{body_vars, copied_vars, narrowed, pass};
+use crate::source::Source;
 use crate::states::{copied, join};
 use crate::template::Declared;
 use crate::templates::callee;
-use crate::source::Source;
 use crate::text::text;
 use crate::translations::chosen;
 use html_state::State;
 use msg_extract::placeholders;
 use soy_base::{Code, Kind, Place, Text};
 use soy_tree::{
-    Argument, Arm, Bundle, Case, Field, Form, Given, Message, MessageBody, Node, PluralCase, SelectCase,
+    Argument, Arm, Bundle, Case, Field, Form, Given, Message, MessageBody, Node, PluralCase,
+    SelectCase,
 };
 use std::alloc::Global;
 
@@ -133,7 +134,8 @@ impl<'a> Walker<'a> {
     ) -> Result<Vec<State>, Stop>
         ensures { Walks (followed_by (joined_arms before.now (walked joined.items places.old.items)
             (translation_plans (plan_context self.now) (view_message message.now) (view_vars vars.now) (view_site at)
-            ++ fallback_plans (plan_context self.now) (fallback_of (option_map view_message other.now)) (view_vars vars.now) (view_site at)))
+            ++ fallback_plans (plan_context self.now) (fallback_of (option_map view_message other.now)) (view_vars vars.now)
+            (view_site at)))
             (λ v. within_limit page_machine (view_site at) v)) places.new.items result }
     {
         let joined = self.translation(at, message, vars, before, joined, places)?;
@@ -383,7 +385,8 @@ impl<'a> Walker<'a> {
         ensures { Walks (walk page_machine (arms_meet (view_site at)
             (body_plan (plan_context self.now) (view_body message.now.body) (view_vars vars.now) (view_site at)
             ∷ (translation_plans (plan_context self.now) (view_message message.now) (view_vars vars.now) (view_site at)
-            ++ fallback_plans (plan_context self.now) (fallback_of (option_map view_message other.now)) (view_vars vars.now) (view_site at))))
+            ++ fallback_plans (plan_context self.now) (fallback_of (option_map view_message other.now)) (view_vars vars.now)
+            (view_site at))))
             (walked before.now places.old.items)) places.new.items result }
     {
         let joined = Vec::new(self.alloc);
