@@ -73,7 +73,7 @@ fn report(rt: &(impl Print + Clock), alloc: Global, name: &str, text: &str) -> i
     let mut lexed = u128::MAX;
     let mut parsed = u128::MAX;
     let mut count = 0;
-    let mut answer = "refused";
+    let mut is_read = false;
     for _ in 0..5u32 {
         let start = Instant::now(rt)?;
         let tokens = lex(alloc, text, 0);
@@ -83,9 +83,10 @@ fn report(rt: &(impl Print + Clock), alloc: Global, name: &str, text: &str) -> i
             let start = Instant::now(rt)?;
             let tree = parse(alloc, tokens.as_slice(), 0);
             parsed = parsed.min(start.elapsed(rt)?.as_nanos());
-            answer = if tree.is_ok() { "a tree" } else { "refused" };
+            is_read = tree.is_ok();
         }
     }
+    let answer = if is_read { "a tree" } else { "refused" };
     let each = parsed / (count as u128).max(1);
     let (lexed, parsed) = (lexed / 1000, parsed / 1000);
     println!(rt; "{name}: lex {lexed} us, parse {parsed} us ({answer}, {count} tokens, {each} ns a token)")
