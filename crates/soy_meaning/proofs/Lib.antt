@@ -45,6 +45,7 @@ pub mod AlikeRuns
 pub mod NestOutcomes
 pub mod NestParts
 pub mod NestNodes
+pub mod NestRuns
 pub mod ReadRuns
 pub mod PlacedRuns
 pub mod TypedPicks

@@ -47,7 +47,7 @@ ghost use Rattle.soy_meaning.specs.StopsWithin.{StopsWithin};
 ghost use Rattle.soy_meaning.specs.TypedData.{AreTypedTrees, FitsData};
 ghost use Rattle.soy_meaning.specs.RunPlaces.{ArePlaced, FrameWithin};
 ghost use Rattle.soy_meaning.specs.TranslationFits.{TranslationsFit};
-ghost use Rattle.soy_meaning.specs.EqualChoices.{AlikeByChoices, AlikeRuns, EnvsAlike};
+ghost use Rattle.soy_meaning.specs.EqualChoices.{AlikeByChoices, AlikeRuns, EnvsAlike, FilledAlike, NestAlike};
 ghost use Rattle.soy_meaning.specs.PicksValues.{TemplatesPick, param_marks};
 ghost use Rattle.soy_meaning.specs.AcceptedTrees.{AcceptedTrees, walk_trees};
 ghost use Rattle.soy_meaning.specs.EscapedAt.{escaped_where, is_text_of};
@@ -244,6 +244,26 @@ pub fn law_typed_choices()
         c.declared ≡ declared trees → IsMember d c.declared → AreTypedTrees trees →
         TranslationsFit c.translation c.declared → FitsData d env → FitsData d other →
         AlikeByChoices (template_run c d env) (template_run c d other) }
+{}
+
+/// Two runs of a template with the same choices, under data, nest their frames alike: they go along one path of the
+/// template's plan, with values in the same holes of it, and in each other hole two frames of one kind, which go along
+/// one path of their plan in their turn. Where they stop, that is the path up to the stop. In typed trees each value
+/// and each frame of both has one of its hole's classes.
+pub fn law_alike_nests()
+    ensures alike { (c : RunContext) (trees : List Tree) (d : Declared) (env other : RunEnv) →
+        c.declared ≡ declared trees → IsMember d c.declared → TranslationsFit c.translation c.declared →
+        TemplatesPick c c.declared → EnvsAlike (param_marks d.template.params) env other → BindsValues env →
+        BindsValues other →
+        choices_of_outcome (template_run c d env) ≡ choices_of_outcome (template_run c d other) →
+        NestAlike c (trees_plan c.translation trees) (entry_frame d env) (entry_frame d other) }
+    ensures classes { (c : RunContext) (trees : List Tree) (d : Declared) (env other : RunEnv) →
+        c.declared ≡ declared trees → IsMember d c.declared → AreTypedTrees trees →
+        TranslationsFit c.translation c.declared → FitsData d env → FitsData d other →
+        choices_of_outcome (template_run c d env) ≡ choices_of_outcome (template_run c d other) →
+        (n : NestAlike c (trees_plan c.translation trees) (entry_frame d env) (entry_frame d other))
+        × FitsClasses n.one.filled × FitsClasses n.two.filled }
+    ensures path { (f g : Filled) → FilledAlike f g → parts_of_filled f ≡ parts_of_filled g }
 {}
 
 /// Outcomes follow one another as lists do, and what is gathered from two that follow one another is gathered from the
