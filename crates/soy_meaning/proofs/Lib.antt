@@ -44,6 +44,7 @@ pub mod AlikeNodes
 pub mod AlikeRuns
 pub mod NestOutcomes
 pub mod NestParts
+pub mod NestFrames
 pub mod NestNodes
 pub mod NestRuns
 pub mod ReadRuns

@@ -77,35 +77,8 @@ use Rattle.soy_meaning.proofs.TypedEnvs.{placeholders_have_classes, printed_has_
 use Rattle.soy_meaning.proofs.TypedNodes.{ArgumentsTyped, ArmsTyped, BodyTyped, CalleeTakes, CasesTyped, FallbackTyped}
 use Rattle.soy_meaning.proofs.TypedNodes.{GivenTyped, NodeTyped, NodesTyped, OtherTyped, PluralTyped, SelectTyped}
 use Rattle.soy_meaning.proofs.TypedNodes.{UsesPrintable}
-
--- one frame, begun with the variables of two runs
-pub record Pair : Type 0 where
-  pub kind : Kind
-  pub body : Nodes
-  pub scope : Scope
-  pub env : RunEnv
-  pub other : RunEnv
-
--- ---- loops
-
-joins_turn : (at : Site) (p : Plan) (P : List PathPart → Type 0) → Joins p (Behind (Loop at p) P) (Behind (Loop at p) P)
-joins_turn at p P a b h k = record {
-  first = a ++ k.first;
-  last = k.last;
-  path = turn h k.path;
-  rest = k.rest;
-  is = ap (λ l. a ++ l) k.is ∙ sym (append_assoc a k.first k.last);
-}
-
-joins_end : (p : Plan) → Joins p (λ l. l ≡ []) (IsPath p)
-joins_end p a b h k = subst (IsPath p) (sym (append-nil a) ∙ ap (λ l. a ++ l) (sym k)) h
-
-turn_env : (Blocks : BoundBlock → BoundBlock → Type 0) (name : Name) (index : Option Name) (marks : Marks)
-    (env other : RunEnv) (n : ℕ) (v w : Value) → EnvsBy Blocks marks env other
-    → EnvsBy Blocks (turn_marks name index marks) (with_index index n ((name, Known v) ∷ env))
-    (with_index index n ((name, Known w) ∷ other))
-turn_env Blocks name None marks env other n v w alike = (refl, refl, tt, alike)
-turn_env Blocks name (Some index) marks env other n v w alike = (refl, refl, tt, (refl, refl, tt, alike))
+use Rattle.soy_meaning.proofs.NestFrames as pair
+use Rattle.soy_meaning.proofs.NestFrames.{Pair, joins_end, joins_turn, turn_env}
 
 module _ (c : RunContext) (whole : Plan) (Claim : Type 0) (t : Declared) (left : ℕ)
     (deeper : (fewer : ℕ) → left ≡ suc fewer → (d : Declared) (env other : RunEnv) → IsMember d c.declared
@@ -117,294 +90,50 @@ module _ (c : RunContext) (whole : Plan) (Claim : Type 0) (t : Declared) (left :
   Blocks = TwinBlocks c whole Claim
 
   abbrev own : RunContext
-  own = context_in c t
+  own = pair.own c whole Claim t left
 
   abbrev called : Site → Declared → RunEnv → Outcome
-  called = called_within c left
+  called = pair.called c whole Claim t left
 
   abbrev of_context : PlanContext
-  of_context = plan_context own
+  of_context = pair.of_context c whole Claim t left
 
   abbrev around : Around
-  around = around_template c.declared t
+  around = pair.around c whole Claim t left
 
-  abbrev pub first : Pair → FrameRun
-  first w = record {
-    template = t;
-    left = left;
-    kind = w.kind;
-    body = w.body;
-    scope = w.scope;
-    env = w.env;
-  }
+  abbrev first : Pair → FrameRun
+  first = pair.first c whole Claim t left
 
-  abbrev pub second : Pair → FrameRun
-  second w = record {
-    template = t;
-    left = left;
-    kind = w.kind;
-    body = w.body;
-    scope = w.scope;
-    env = w.other;
-  }
+  abbrev second : Pair → FrameRun
+  second = pair.second c whole Claim t left
 
   abbrev First : Pair → List Piece → StateSoFar
-  First w before = At c whole Claim (first w) before
+  First = pair.First c whole Claim t left
 
   abbrev Second : Pair → List Piece → StateSoFar
-  Second w after = At c whole Claim (second w) after
+  Second = pair.Second c whole Claim t left
 
   abbrev By : Pair → (List PathPart → Type 0) → List Piece → List Piece → Outcome → Outcome → Type 0
-  By w P before after o two = TwinBy c whole Claim (first w) (second w) P before after o two
+  By = pair.By c whole Claim t left
 
   abbrev On : Pair → (List PathPart → Type 0) → (StateSoFar → Outcome) → (StateSoFar → Outcome) → Type 0
-  On w P on following = OnTwin c whole Claim (first w) (second w) P on following
+  On = pair.On c whole Claim t left
 
-  -- these nodes come next in both
   abbrev Come : Pair → Nodes → RunEnv → RunEnv → Type 0
-  Come w ns env other = ComesNext c (first w) ns env × ComesNext c (second w) ns other
+  Come = pair.Come c whole Claim t left
 
   abbrev AllCome : Pair → List Nodes → RunEnv → RunEnv → Type 0
-  AllCome w bodies env other = (body : Nodes) → IsMember body bodies → Come w body env other
+  AllCome = pair.AllCome c whole Claim t left
 
-  come_left : (w : Pair) (bodies others : List Nodes) (env other : RunEnv) → AllCome w (bodies ++ others) env other
-      → AllCome w bodies env other
-  come_left w bodies others env other all body member = all body (mem_left body bodies others member)
-
-  come_right : (w : Pair) (bodies others : List Nodes) (env other : RunEnv) → AllCome w (bodies ++ others) env other
-      → AllCome w others env other
-  come_right w bodies others env other all body member = all body (mem_right body bodies others member)
-
-  -- what the variables are bound to, in both
-  pub record Envs (marks : Marks) (scope : Scope) (env other : RunEnv) : Type 0 where
-    pub alike : EnvsBy Blocks marks env other
-    pub one : Claim → EnvTyped scope env
-    pub two : Claim → EnvTyped scope other
+  abbrev Envs : Marks → Scope → RunEnv → RunEnv → Type 0
+  Envs = pair.Envs c whole Claim t left
 
   abbrev NextTwin : Pair → Nodes → Marks → Scope → (List PathPart → Type 0) → (RunEnv → StateSoFar → Outcome)
       → (RunEnv → StateSoFar → Outcome) → Type 0
-  NextTwin w ns marks scope P next following = (env other : RunEnv) → Come w ns env other → Envs marks scope env other
-      → (x y : List Piece) → By w P x y (next env (First w x)) (following other (Second w y))
+  NextTwin = pair.NextTwin c whole Claim t left
 
-  -- each plan's paths, and then what comes next
   abbrev AllJoin : List Plan → (List PathPart → Type 0) → (List PathPart → Type 0) → Type 0
-  AllJoin ps P Q = (r : Plan) → IsMember r ps → Joins r P Q
-
-  join_left : (ps qs : List Plan) (P Q : List PathPart → Type 0) → AllJoin (ps ++ qs) P Q → AllJoin ps P Q
-  join_left ps qs P Q all r member = all r (mem_left r ps qs member)
-
-  join_last : (ps : List Plan) (last : Plan) (P Q : List PathPart → Type 0) → AllJoin (ps ++ (last ∷ [])) P Q
-      → Joins last P Q
-  join_last ps last P Q all = all last (mem_right last ps (last ∷ []) (inl refl))
-
-  -- a frame by itself
-  whole_twins : (w : Pair) → IsFrameWithin whole w.kind (nodes_plan of_context w.body w.scope)
-      → By w (IsPath (nodes_plan of_context w.body w.scope)) [] [] (run_outcome c (first w))
-      (run_outcome c (second w)) → Twins c whole Claim (first w) (second w)
-  whole_twins w within twin =
-      twin_whole c whole Claim (first w) (second w) (nodes_plan of_context w.body w.scope) refl refl within within twin
-
-  -- ---- calls
-
-  opened_at : (w : Pair) (name : Name) (all : Bool) (given : Arguments) (span : Span) (ns : Nodes) (env other : RunEnv)
-      → Come w (node (Call name all given span) ns) env other → (d : Declared)
-      → callee c.declared t.namespace name ≡ Some d → IsMember d c.declared
-      → EnvsBy Blocks (param_marks d.template.params)
-      (callee_env d.template.params (given_bindings c (first w) given env) all t.template.params env)
-      (callee_env d.template.params (given_bindings c (second w) given other) all t.template.params other)
-      → (Claim → EnvTyped (param_scope d.template.params)
-      (callee_env d.template.params (given_bindings c (first w) given env) all t.template.params env))
-      → (Claim → EnvTyped (param_scope d.template.params)
-      (callee_env d.template.params (given_bindings c (second w) given other) all t.template.params other))
-      → (P Q : List PathPart → Type 0) → HasSome P
-      → ((l : List PathPart) → P l → Q (HolePart (starts_at t.file span) (kind_class d.template.kind ∷ []) ∷ l))
-      → (before after : List Piece) (on following : StateSoFar → Outcome) → On w P on following
-      → (n : ℕ) → left ≡ n →
-      By w Q before after
-      (called_means c.direction d.template.kind (called_within c n (starts_at t.file span) d
-      (callee_env d.template.params (given_bindings c (first w) given env) all t.template.params env))
-      (First w before) on)
-      (called_means c.direction d.template.kind (called_within c n (starts_at t.file span) d
-      (callee_env d.template.params (given_bindings c (second w) given other) all t.template.params other))
-      (Second w after) following)
-  opened_at w name all given span ns env other here d found member alike one two P Q some into before after on
-      following twin zero none =
-      let at : Site = starts_at t.file span in
-      let inner : RunEnv = callee_env d.template.params (given_bindings c (first w) given env) all t.template.params
-      env in
-      let within : RunEnv = callee_env d.template.params (given_bindings c (second w) given other) all
-      t.template.params other in
-      subst (λ o. By w Q before after (called_means c.direction d.template.kind o (First w before) on)
-      (called_means c.direction d.template.kind (called_within c zero at d within) (Second w after) following))
-      (sym (called_none c at d inner))
-      (subst (λ o. By w Q before after
-      (called_means c.direction d.template.kind (RunEnds none_spent (StopsAt at)) (First w before) on)
-      (called_means c.direction d.template.kind o (Second w after) following)) (sym (called_none c at d within))
-      (twin_refused c whole Claim (first w) (second w) Q at d.template.kind
-      (HolePart at (kind_class d.template.kind ∷ []) ∷ some.0, into some.0 some.1) before after on following))
-  opened_at w name all given span ns env other here d found member alike one two P Q some into before after on
-      following twin (suc fewer) less =
-      let at : Site = starts_at t.file span in
-      let inner : RunEnv = callee_env d.template.params (given_bindings c (first w) given env) all t.template.params
-      env in
-      let within : RunEnv = callee_env d.template.params (given_bindings c (second w) given other) all
-      t.template.params other in
-      let a : FrameRun = template_frame fewer d inner in
-      let b : FrameRun = template_frame fewer d within in
-      let opens : OpensCall c (first w) name all given env a =
-      record { template = d; found = found; left = fewer; one_less = less; frame = refl } in
-      let also_opens : OpensCall c (second w) name all given other b =
-      record { template = d; found = found; left = fewer; one_less = less; frame = refl } in
-      let there : IsGivenAt c (first w) at a =
-      record { command = Call name all given span; rest = ns; env = env; comes = here.0; gives = (refl, opens) } in
-      let also : IsGivenAt c (second w) at b =
-      record {
-        command = Call name all given span;
-        rest = ns;
-        env = other;
-        comes = here.1;
-        gives = (refl, also_opens);
-      } in
-      subst (λ o. By w Q before after (called_means c.direction d.template.kind o (First w before) on)
-      (called_means c.direction d.template.kind (called_within c (suc fewer) at d within) (Second w after) following))
-      (sym (called_more c fewer at d inner))
-      (subst (λ o. By w Q before after
-      (called_means c.direction d.template.kind (run_outcome c a) (First w before) on)
-      (called_means c.direction d.template.kind o (Second w after) following)) (sym (called_more c fewer at d within))
-      (twin_called c whole Claim (first w) (second w) P Q at (kind_class d.template.kind ∷ []) d.template.kind a b refl
-      refl there also (λ k. inl refl) (deeper fewer less d inner within member alike one two) some into before after on
-      following twin))
-
-  opened_twin : (w : Pair) (name : Name) (all : Bool) (given : Arguments) (span : Span) (ns : Nodes)
-      (marks : Marks) (scope : Scope) (env other : RunEnv) → Come w (node (Call name all given span) ns) env other
-      → Envs marks scope env other → (found : Option Declared)
-      → callee c.declared t.namespace name ≡ found → IsAmong c.declared found
-      → callee_takes found (argument_marks given marks) all t.template.params marks ≡ true
-      → EnvsBy Blocks (argument_marks given marks) (given_bindings c (first w) given env)
-      (given_bindings c (second w) given other)
-      → (Claim → CalleeTakes found given all t.template.params scope)
-      → (P Q : List PathPart → Type 0) → HasSome P
-      → ((l : List PathPart) → P l → Q (HolePart (starts_at t.file span) (called_classes found) ∷ l))
-      → (before after : List Piece) (on following : StateSoFar → Outcome) → On w P on following →
-      By w Q before after
-      (opened_means own called (starts_at t.file span) found (given_bindings c (first w) given env) all env
-      (First w before) on)
-      (opened_means own called (starts_at t.file span) found (given_bindings c (second w) given other) all other
-      (Second w after) following)
-  opened_twin w name all given span ns marks scope env other here envs None found among takes givens typed P Q some into
-      before after on following twin =
-      twin_value c whole Claim (first w) (second w) P Q (starts_at t.file span) [] NullValue NullValue
-      (λ k. absurd (typed k)) (λ k. absurd (typed k)) into before after on following twin
-  opened_twin w name all given span ns marks scope env other here envs (Some d) found among takes givens typed P Q some
-      into before after on following twin =
-      opened_at w name all given span ns env other here d found among
-      (callee_alike Blocks (argument_marks given marks) marks (given_bindings c (first w) given env)
-      (given_bindings c (second w) given other) env other all t.template.params givens envs.alike d.template.params
-      takes)
-      (λ k. callee_typed c (first w) scope env (envs.one k) d.template.params given all t.template.params (typed k))
-      (λ k. callee_typed c (second w) scope other (envs.two k) d.template.params given all t.template.params (typed k))
-      P Q some into before after on following twin left refl
-
-  -- ---- loops
-
-  turns_twin : (w : Pair) (at : Site) (p : Plan) (P : List PathPart → Type 0) → HasSome P
-      → (body : RunEnv → Means) (name : Name) (index : Option Name) (env other : RunEnv) (n : ℕ) (items others : Items)
-      → item_count items ≡ item_count others
-      → ((k : ℕ) (v u : Value) → IsItem n items k v → IsItem n others k u
-      → (before after : List Piece) (on following : StateSoFar → Outcome) → On w (Behind (Loop at p) P) on following
-      → By w (Behind (Loop at p) P) before after
-      (body (with_index index k ((name, Known v) ∷ env)) (First w before) on)
-      (body (with_index index k ((name, Known u) ∷ other)) (Second w after) following))
-      → (before after : List Piece) (on following : StateSoFar → Outcome) → On w P on following →
-      By w (Behind (Loop at p) P) before after (turns_mean body name index env n items (First w before) on)
-      (turns_mean body name index other n others (Second w after) following)
-  turns_twin w at p P some body name index env other n no_item no_item same bodies before after on following twin =
-      twin_wider c whole Claim (first w) (second w) P (Behind (Loop at p) P) before after (on (First w before))
-      (following (Second w after)) (λ l j. joins_behind (Loop at p) P [] l no_turn j) (twin before after)
-  turns_twin w at p P some body name index env other n no_item (item u us) same bodies before after on following twin =
-      absurd (one_more (item_count us) same)
-  turns_twin w at p P some body name index env other n (item v vs) no_item same bodies before after on following twin =
-      absurd (one_more (item_count vs) (sym same))
-  turns_twin w at p P some body name index env other n (item v vs) (item u us) same bodies before after on following
-      twin =
-      bodies n v u (inl (refl, refl)) (inl (refl, refl)) before after
-      (λ now. turns_mean body name index env (n + 1) vs now on)
-      (λ now. turns_mean body name index other (n + 1) us now following)
-      (λ x y. turns_twin w at p P some body name index env other (n + 1) vs us
-      (fewer (item_count vs) (item_count us) same) (λ k i j h m. bodies k i j (inr h) (inr m)) x y on following twin)
-
-  -- ---- messages
-
-  abbrev AllGiven : Pair → Site → RunEnv → RunEnv → (Expr → Type 0) → Type 0
-  AllGiven w at env other IsPrinted = (e : Expr) → IsPrinted e
-      → GivesBlocks c whole Claim AnyStop (first w) at (val e env)
-      × GivesBlocks c whole Claim AnyStop (second w) at (val e other)
-
-  translated_twin : (w : Pair) (m : Message) (parts : MsgParts) (marks : Marks) (scope : Scope) (at : Site)
-      (env other : RunEnv) → Envs marks scope env other → uses_pick (uses_of m) marks ≡ true
-      → FitsMessage (uses_of m) (Some parts) → AllGiven w at env other (HasPlaceholderOf (uses_of m))
-      → (Claim → UsesPrintable (uses_of m) scope) → (P Q : List PathPart → Type 0) → HasSome P
-      → Joins (parts_plan (uses_of m) scope at parts) P Q
-      → (before after : List Piece) (on following : StateSoFar → Outcome) → On w P on following →
-      By w Q before after (translated_means own called env m parts (First w before) on)
-      (translated_means own called other m parts (Second w after) following)
-  translated_twin w m parts marks scope at env other envs picks fit given uses P Q some joins before after on following
-      twin =
-      parts_twin c whole Claim (first w) (second w) (uses_of m) scope at marks env other envs.alike picks
-      (λ e is. (given e is).0) (λ e is. (given e is).1)
-      (λ k. placeholders_have_classes (uses_of m) scope env (uses k) (envs.one k))
-      (λ k. placeholders_have_classes (uses_of m) scope other (uses k) (envs.two k)) parts fit P Q some joins (pos 0)
-      (pos 0) before after on following twin
-
-  after_twin : (w : Pair) (m : Message) (marks : Marks) (scope : Scope) (at : Site) (env other : RunEnv)
-      → Envs marks scope env other → (P Q : List PathPart → Type 0) → HasSome P
-      → (before after : List Piece) (on following : StateSoFar → Outcome) → On w P on following →
-      By w Q before after (message_means own called TheSource m env (First w before) on)
-      (message_means own called TheSource m other (Second w after) following)
-      → (last : Message) (found : Option MsgParts) → FitsMessage (uses_of last) found
-      → uses_pick (uses_of last) marks ≡ true → AllGiven w at env other (HasPlaceholderOf (uses_of last))
-      → (Claim → UsesPrintable (uses_of last) scope)
-      → AllJoin (translated_plan (uses_of last) scope at found) P Q →
-      By w Q before after (message_means own called (chosen_after last found) m env (First w before) on)
-      (message_means own called (chosen_after last found) m other (Second w after) following)
-  after_twin w m marks scope at env other envs P Q some before after on following twin source last None fit picks given
-      uses into = source
-  after_twin w m marks scope at env other envs P Q some before after on following twin source last (Some parts) fit
-      picks given uses into =
-      twin_chosen c whole Claim (first w) (second w) Q before after (TextTaken FallbackTranslation)
-      (translated_means own called env last parts (First w before) on)
-      (translated_means own called other last parts (Second w after) following)
-      (translated_twin w last parts marks scope at env other envs picks fit given uses P Q some
-      (into (parts_plan (uses_of last) scope at parts) (inl refl)) before after on following twin)
-
-  own_twin : (w : Pair) (m : Message) (marks : Marks) (scope : Scope) (at : Site) (env other : RunEnv)
-      → Envs marks scope env other → (P Q : List PathPart → Type 0) → HasSome P
-      → (before after : List Piece) (on following : StateSoFar → Outcome) → On w P on following →
-      By w Q before after (message_means own called TheSource m env (First w before) on)
-      (message_means own called TheSource m other (Second w after) following)
-      → (found : Option MsgParts) → FitsMessage (uses_of m) found → uses_pick (uses_of m) marks ≡ true
-      → AllGiven w at env other (HasPlaceholderOf (uses_of m)) → (Claim → UsesPrintable (uses_of m) scope)
-      → (last : Fallback) → FallbackFits c.translation last → FallbackPicks last marks
-      → AllGiven w at env other (FallbackPrints last) → (Claim → FallbackTyped around last scope)
-      → AllJoin (translated_plan (uses_of m) scope at found ++ fallback_plans of_context last scope at) P Q →
-      By w Q before after
-      (message_means own called (chosen_of found (fallback_text c.translation last)) m env (First w before) on)
-      (message_means own called (chosen_of found (fallback_text c.translation last)) m other (Second w after)
-      following)
-  own_twin w m marks scope at env other envs P Q some before after on following twin source None fit picks given uses
-      no_fallback last_fit last_picks last_given last_typed into = source
-  own_twin w m marks scope at env other envs P Q some before after on following twin source None fit picks given uses
-      (fallback last) last_fit last_picks last_given last_typed into =
-      after_twin w m marks scope at env other envs P Q some before after on following twin source last
-      (c.translation last) last_fit last_picks last_given
-      (λ k. message_printable around last scope (last_typed k)) into
-  own_twin w m marks scope at env other envs P Q some before after on following twin source (Some parts) fit picks
-      given uses last last_fit last_picks last_given last_typed into =
-      twin_chosen c whole Claim (first w) (second w) Q before after (TextTaken OwnTranslation)
-      (translated_means own called env m parts (First w before) on)
-      (translated_means own called other m parts (Second w after) following)
-      (translated_twin w m parts marks scope at env other envs picks fit given uses P Q some
-      (into (parts_plan (uses_of m) scope at parts) (inl refl)) before after on following twin)
+  AllJoin = pair.AllJoin c whole Claim t left
 
   -- ---- nodes
 
@@ -457,16 +186,16 @@ module _ (c : RunContext) (whole : Plan) (Claim : Type 0) (t : Declared) (left :
         λ body member. (in_an_arm here.0 member, in_an_arm here.1 member) in
         let into : AllJoin ps P Q = λ r member. joins_arm at ps r P Q member joins in
         let on : On w P (next env) (following other) = h env other (past here.0, past here.1) envs in
-        arms_twin w arms marks scope env other (come_left w (arm_bodies arms) (other_bodies last) env other come) envs
+        arms_twin w arms marks scope env other (pair.come_left c whole Claim t left w (arm_bodies arms) (other_bodies last) env other come) envs
         (frames_left whole (arm_plans of_context arms scope) (rest ∷ []) all.1) picks.0 fit.0 (λ k. (typed k).0) P Q
-        some (join_left (arm_plans of_context arms scope) (rest ∷ []) P Q into)
+        some (pair.join_left c whole Claim t left (arm_plans of_context arms scope) (rest ∷ []) P Q into)
         (λ k. otherwise_means own called last k env) (λ k. otherwise_means own called last k other) 0 before after
         (next env) (following other) on (λ k. otherwise_from own called last k env (First w before) (next env))
         (λ k. otherwise_from own called last k other (Second w after) (following other))
         (λ k. otherwise_twin w last k marks scope env other
-        (come_right w (arm_bodies arms) (other_bodies last) env other come) envs
+        (pair.come_right c whole Claim t left w (arm_bodies arms) (other_bodies last) env other come) envs
         (frames_right whole (arm_plans of_context arms scope) (rest ∷ []) all.1).0 picks.1 fit.1 (λ j. (typed j).1) P Q
-        some (join_last (arm_plans of_context arms scope) rest P Q into) before after (next env) (following other) on)
+        some (pair.join_last c whole Claim t left (arm_plans of_context arms scope) rest P Q into) before after (next env) (following other) on)
     node_twin w (Switch e cases last span) ns marks scope env other here envs frames picks fit typed P Q some joins
         before after next following h =
         let at : Site = starts_at t.file span in
@@ -483,16 +212,16 @@ module _ (c : RunContext) (whole : Plan) (Claim : Type 0) (t : Declared) (left :
         (cases_mean own called (valued e other) cases (λ k. otherwise_means own called last k other) 0 other
         (Second w after) (following other))
         (cases_twin w (valued e env) (valued e other) cases marks scope env other
-        (come_left w (case_bodies cases) (other_bodies last) env other come) envs
+        (pair.come_left c whole Claim t left w (case_bodies cases) (other_bodies last) env other come) envs
         (frames_left whole (case_plans of_context cases scope) (rest ∷ []) all.1) picks.0 fit.0 (λ k. (typed k).0) P Q
-        some (join_left (case_plans of_context cases scope) (rest ∷ []) P Q into)
+        some (pair.join_left c whole Claim t left (case_plans of_context cases scope) (rest ∷ []) P Q into)
         (λ k. otherwise_means own called last k env) (λ k. otherwise_means own called last k other) 0 before after
         (next env) (following other) on (λ k. otherwise_from own called last k env (First w before) (next env))
         (λ k. otherwise_from own called last k other (Second w after) (following other))
         (λ k. otherwise_twin w last k marks scope env other
-        (come_right w (case_bodies cases) (other_bodies last) env other come) envs
+        (pair.come_right c whole Claim t left w (case_bodies cases) (other_bodies last) env other come) envs
         (frames_right whole (case_plans of_context cases scope) (rest ∷ []) all.1).0 picks.1 fit.1 (λ j. (typed j).1) P
-        Q some (join_last (case_plans of_context cases scope) rest P Q into) before after (next env) (following other)
+        Q some (pair.join_last c whole Claim t left (case_plans of_context cases scope) rest P Q into) before after (next env) (following other)
         on))
     node_twin w (For name index e body span) ns marks scope env other here envs frames picks fit typed P Q some joins
         before after next following h =
@@ -510,7 +239,7 @@ module _ (c : RunContext) (whole : Plan) (Claim : Type 0) (t : Declared) (left :
         (twin_turns c whole Claim (first w) (second w) Q before after (item_count items) (item_count others) one two
         (λ same. twin_wider c whole Claim (first w) (second w) (Behind loop P) Q before after one two
         (λ l j. subst Q (sym j.is) (joins j.first j.last j.path j.rest))
-        (turns_twin w at p P some turn_of name index env other 0 items others same
+        (pair.turns_twin c whole Claim t left w at p P some turn_of name index env other 0 items others same
         (λ k v u there also x y on past_it on_twin. nodes_twin w body (turn_marks name index marks) inside
         (with_index index k ((name, Known v) ∷ env)) (with_index index k ((name, Known u) ∷ other))
         (in_a_turn k v here.0 there, in_a_turn k u here.1 also)
@@ -542,7 +271,7 @@ module _ (c : RunContext) (whole : Plan) (Claim : Type 0) (t : Declared) (left :
         before after next following h =
         let p : Plan = nodes_plan of_context body scope in
         let v : Pair = record { kind = k; body = body; scope = scope; env = env; other = other } in
-        let twins : Twins c whole Claim (first v) (second v) = whole_twins v (frames Here k p refl)
+        let twins : Twins c whole Claim (first v) (second v) = pair.whole_twins c whole Claim t left v (frames Here k p refl)
         (nodes_twin v body marks scope env other (at_first, at_first) envs (λ y g f e. frames (Inside y) g f e) picks
         fit typed (λ l. l ≡ []) (IsPath p) ([], refl) (joins_end p) [] [] at_end at_end
         (λ i j x y. twin_nothing c whole Claim (first v) (second v) x y)) in
@@ -579,7 +308,7 @@ module _ (c : RunContext) (whole : Plan) (Claim : Type 0) (t : Declared) (left :
         (λ a b both_alike a_is b_is.
         subst (λ z. By w Q before after (opens z) (also_opens b)) (sym a_is)
         (subst (λ z. By w Q before after (opens (given_bindings c (first w) given env)) (also_opens z)) (sym b_is)
-        (opened_twin w name all given span ns marks scope env other here envs found refl
+        (pair.opened_twin c whole Claim t left deeper w name all given span ns marks scope env other here envs found refl
         (callee_among c.declared t.namespace name) picks.0
         (subst (λ z. EnvsBy Blocks (argument_marks given marks) z (given_bindings c (second w) given other)) a_is
         (subst (λ z. EnvsBy Blocks (argument_marks given marks) a z) b_is both_alike))
@@ -595,7 +324,7 @@ module _ (c : RunContext) (whole : Plan) (Claim : Type 0) (t : Declared) (left :
         let all = any_frames whole Nowhere ps (λ y k f e. frames (Inside y) k f e) in
         let into : AllJoin ps P Q = λ r member. joins_arm at ps r P Q member joins in
         let on : On w P (next env) (following other) = h env other (past here.0, past here.1) envs in
-        own_twin w m marks scope at env other envs P Q some before after (next env) (following other) on
+        pair.own_twin c whole Claim t left w m marks scope at env other envs P Q some before after (next env) (following other) on
         (twin_chosen c whole Claim (first w) (second w) Q before after (TextTaken SourceText)
         (source_means own called body env (First w before) (next env))
         (source_means own called body other (Second w after) (following other))
@@ -809,7 +538,7 @@ module _ (c : RunContext) (whole : Plan) (Claim : Type 0) (t : Declared) (left :
         h =
         let p : Plan = nodes_plan of_context body scope in
         let v : Pair = record { kind = k; body = body; scope = scope; env = env; other = other } in
-        let twins : Twins c whole Claim (first v) (second v) = whole_twins v (frames Here k p refl)
+        let twins : Twins c whole Claim (first v) (second v) = pair.whole_twins c whole Claim t left v (frames Here k p refl)
         (nodes_twin v body marks scope env other (at_first, at_first) envs (λ y g f e. frames (Inside y) g f e) picks
         fit typed (λ l. l ≡ []) (IsPath p) ([], refl) (joins_end p) [] [] at_end at_end
         (λ i j x y. twin_nothing c whole Claim (first v) (second v) x y)) in
@@ -840,14 +569,14 @@ module _ (c : RunContext) (whole : Plan) (Claim : Type 0) (t : Declared) (left :
         (plural_cases_mean own called n cases (source_means own called last env) 0 env (First w before) on)
         (plural_cases_mean own called m cases (source_means own called last other) 0 other (Second w after) following)
         (plural_twin w n m cases marks scope at env other
-        (come_left w (plural_bodies cases) (source_bodies last) env other come) envs
+        (pair.come_left c whole Claim t left w (plural_bodies cases) (source_bodies last) env other come) envs
         (frames_left whole (plural_plans of_context cases scope at) (rest ∷ []) all.1) picks.0 fit.0 (λ j. (typed j).0)
-        P Q some (join_left (plural_plans of_context cases scope at) (rest ∷ []) P Q into)
+        P Q some (pair.join_left c whole Claim t left (plural_plans of_context cases scope at) (rest ∷ []) P Q into)
         (source_means own called last env) (source_means own called last other) 0 before after on following twin
         (body_twin w last marks scope at env other
-        (come_right w (plural_bodies cases) (source_bodies last) env other come) envs
+        (pair.come_right c whole Claim t left w (plural_bodies cases) (source_bodies last) env other come) envs
         (frames_right whole (plural_plans of_context cases scope at) (rest ∷ []) all.1).0 picks.1 fit.1
-        (λ j. (typed j).1) P Q some (join_last (plural_plans of_context cases scope at) rest P Q into) before after on
+        (λ j. (typed j).1) P Q some (pair.join_last c whole Claim t left (plural_plans of_context cases scope at) rest P Q into) before after on
         following twin))
     body_twin w (Select e cases last) marks scope at env other come envs frames picks fit typed P Q some joins before
         after on following twin =
@@ -862,14 +591,14 @@ module _ (c : RunContext) (whole : Plan) (Claim : Type 0) (t : Declared) (left :
         (select_cases_mean own called term cases (source_means own called last other) 0 other (Second w after)
         following)
         (select_twin w word term cases marks scope at env other
-        (come_left w (select_bodies cases) (source_bodies last) env other come) envs
+        (pair.come_left c whole Claim t left w (select_bodies cases) (source_bodies last) env other come) envs
         (frames_left whole (select_plans of_context cases scope at) (rest ∷ []) all.1) picks.0 fit.0 (λ j. (typed j).0)
-        P Q some (join_left (select_plans of_context cases scope at) (rest ∷ []) P Q into)
+        P Q some (pair.join_left c whole Claim t left (select_plans of_context cases scope at) (rest ∷ []) P Q into)
         (source_means own called last env) (source_means own called last other) 0 before after on following twin
         (body_twin w last marks scope at env other
-        (come_right w (select_bodies cases) (source_bodies last) env other come) envs
+        (pair.come_right c whole Claim t left w (select_bodies cases) (source_bodies last) env other come) envs
         (frames_right whole (select_plans of_context cases scope at) (rest ∷ []) all.1).0 picks.1 fit.1
-        (λ j. (typed j).1) P Q some (join_last (select_plans of_context cases scope at) rest P Q into) before after on
+        (λ j. (typed j).1) P Q some (pair.join_last c whole Claim t left (select_plans of_context cases scope at) rest P Q into) before after on
         following twin))
 
     plural_twin : (w : Pair) (n m : ℤ) (cases : PluralCases) (marks : Marks) (scope : Scope) (at : Site)
@@ -894,13 +623,13 @@ module _ (c : RunContext) (whole : Plan) (Claim : Type 0) (t : Declared) (left :
         (plural_cases_mean own called n cases one (k + 1) env (First w before) on)
         (plural_cases_mean own called m cases two (k + 1) other (Second w after) following)
         (λ holds also. body_twin w body marks scope at env other
-        (come_left w (source_bodies body) (plural_bodies cases) env other come) envs frames.0 picks.0 fit.0
+        (pair.come_left c whole Claim t left w (source_bodies body) (plural_bodies cases) env other come) envs frames.0 picks.0 fit.0
         (λ j. (typed j).0) P Q some (into (body_plan of_context body scope at) (inl refl)) before after on following
         twin)
         (plural_from own called n cases env one (k + 1) (First w before) on)
         (plural_from own called m cases other two (k + 1) (Second w after) following)
         (plural_twin w n m cases marks scope at env other
-        (come_right w (source_bodies body) (plural_bodies cases) env other come) envs frames.1 picks.1 fit.1
+        (pair.come_right c whole Claim t left w (source_bodies body) (plural_bodies cases) env other come) envs frames.1 picks.1 fit.1
         (λ j. (typed j).1) P Q some (λ r member. into r (inr member)) one two (k + 1) before after on following twin
         others)
 
@@ -926,13 +655,13 @@ module _ (c : RunContext) (whole : Plan) (Claim : Type 0) (t : Declared) (left :
         (select_cases_mean own called word cases one (k + 1) env (First w before) on)
         (select_cases_mean own called term cases two (k + 1) other (Second w after) following)
         (λ holds also. body_twin w body marks scope at env other
-        (come_left w (source_bodies body) (select_bodies cases) env other come) envs frames.0 picks.0 fit.0
+        (pair.come_left c whole Claim t left w (source_bodies body) (select_bodies cases) env other come) envs frames.0 picks.0 fit.0
         (λ j. (typed j).0) P Q some (into (body_plan of_context body scope at) (inl refl)) before after on following
         twin)
         (select_from own called word cases env one (k + 1) (First w before) on)
         (select_from own called term cases other two (k + 1) (Second w after) following)
         (select_twin w word term cases marks scope at env other
-        (come_right w (source_bodies body) (select_bodies cases) env other come) envs frames.1 picks.1 fit.1
+        (pair.come_right c whole Claim t left w (source_bodies body) (select_bodies cases) env other come) envs frames.1 picks.1 fit.1
         (λ j. (typed j).1) P Q some (λ r member. into r (inr member)) one two (k + 1) before after on following twin
         others)
 
@@ -943,7 +672,7 @@ module _ (c : RunContext) (whole : Plan) (Claim : Type 0) (t : Declared) (left :
       → NodesFit c.translation w.body → (Claim → NodesTyped around w.body w.scope)
       → Twins c whole Claim (first w) (second w)
   frames_twin w marks envs within frames picks fit typed =
-      whole_twins w within
+      pair.whole_twins c whole Claim t left w within
       (nodes_twin w w.body marks w.scope w.env w.other (at_first, at_first) envs frames picks fit typed (λ l. l ≡ [])
       (IsPath (nodes_plan of_context w.body w.scope)) ([], refl)
       (joins_end (nodes_plan of_context w.body w.scope)) [] [] at_end at_end

@@ -117,7 +117,7 @@ module _ (c : RunContext) (fits : TranslationsFit c.translation c.declared) (pic
       (values_by (TwinBlocks c (whole c) Claim) (param_marks d.template.params) env other alike values also) one two []
       [] (ap (λ l. l ++ []) same) in
       (
-        record { one = t.one.runs; two = t.two.runs; alike = t.alike },
+        record { one = t.one.runs; two = t.two.runs; alike = t.alike; ends = t.ends },
         (λ k. (t.one.fits k, t.two.fits k)),
       )
 

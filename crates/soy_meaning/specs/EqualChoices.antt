@@ -9,7 +9,7 @@ use Rattle.std.specs.Prelude.{◌≡◌, Bool, true, List, [], ◌∷◌, ◌++�
 use Rattle.html_state.specs.AfterPieces.{Piece, Static, Value}
 use Rattle.soy_tree.specs.Val.{Binding, BlockOf, Known}
 use Rattle.soy_meaning.specs.Filled.{Filled, filled_end, frame_before, text_before, value_before}
-use Rattle.soy_meaning.specs.FrameRun.{FrameRun}
+use Rattle.soy_meaning.specs.FrameRun.{FrameRun, run_outcome}
 use Rattle.soy_meaning.specs.Giving.{BoundBlock, RunEnv}
 use Rattle.soy_meaning.specs.Outcome.{ChoiceMade, Outcome, choices_of_outcome, end_of_outcome, pieces_of_outcome}
 use Rattle.soy_meaning.specs.PicksValues.{Marks}
@@ -68,8 +68,9 @@ FilledAlike (frame_before at classes kind inner f) (frame_before site others k w
     (at ≡ site) × (classes ≡ others) × (kind ≡ k) × FilledAlike inner within × FilledAlike f g
 FilledAlike _ _ = ⊥
 
--- two frames run along one path, filled alike
+-- two frames run along one path, filled alike, up to one end
 pub record NestAlike (c : RunContext) (whole : Plan) (q p : FrameRun) : Type 0 where
   pub one : RunsAlong c whole q
   pub two : RunsAlong c whole p
   pub alike : FilledAlike one.filled two.filled
+  pub ends : end_of_outcome (run_outcome c q) ≡ end_of_outcome (run_outcome c p)
