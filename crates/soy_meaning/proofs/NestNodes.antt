@@ -281,8 +281,7 @@ module _ (c : RunContext) (whole : Plan) (Claim : Type 0) (t : Declared) (left :
         (λ x y x_is y_is bound. twin_wider c whole Claim (first w) (second w) P Q before after
         (next ((name, x) ∷ env) (First w before)) (following ((name, y) ∷ other) (Second w after))
         (λ l j. joins [] l passed_by j)
-        (h ((name, x) ∷ env) ((name, y) ∷ other)
-        (
+        (h ((name, x) ∷ env) ((name, y) ∷ other) (
           subst (λ z. ComesNext c (first w) ns ((name, z) ∷ env)) (sym x_is) (past here.0),
           subst (λ z. ComesNext c (second w) ns ((name, z) ∷ other)) (sym y_is) (past here.1),
         )

@@ -115,8 +115,7 @@ module _ (c : RunContext) (fits : TranslationsFit c.translation c.declared) (pic
       let t : TwinRun c (whole c) Claim (entry_frame d env) (entry_frame d other) =
       templates_twin 100 d env other member
       (values_by (TwinBlocks c (whole c) Claim) (param_marks d.template.params) env other alike values also) one two []
-      [] (ap (λ l. l ++ []) same) in
-      (
+      [] (ap (λ l. l ++ []) same) in (
         record { one = t.one.runs; two = t.two.runs; alike = t.alike; ends = t.ends },
         (λ k. (t.one.fits k, t.two.fits k)),
       )

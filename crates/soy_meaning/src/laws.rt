@@ -9,6 +9,7 @@ ghost use Rattle.soy_base.specs.declared.direction.Dir.TheVariants as dir;
 ghost use Rattle.soy_base.specs.declared.direction.Dir.{Dir};
 ghost use Rattle.bidi_text.specs.Wrap.{wrapped_text};
 ghost use Rattle.soy_base.specs.declared.kind.Kind.{Kind};
+ghost use Rattle.soy_base.specs.declared.kind.Kind.TheVariants as kind;
 ghost use Rattle.soy_base.specs.declared.place.Place.TheVariants as place;
 ghost use Rattle.soy_base.specs.declared.place.Place.{Place};
 ghost use Rattle.soy_base.specs.declared.place.Placing.TheVariants.{Refuses, Takes};
@@ -73,6 +74,7 @@ ghost use Rattle.soy_meaning.specs.Rows.{open_tag_in_param, optional_attribute, 
 ghost use Rattle.soy_meaning.specs.Rows.{second_uri_value, seventeen_states, site_at, sixteen_states};
 ghost use Rattle.soy_meaning.specs.Rows.{tag_in_translation};
 ghost use Rattle.soy_meaning.specs.RunRows.{MeetsPremises, attributes_block, attributes_body, block_body};
+ghost use Rattle.soy_meaning.specs.RunRows.{blocks_filled, flat_filled};
 ghost use Rattle.soy_meaning.specs.RunRows.{block_pieces, block_twice, calls, calls_body, input_pieces, number_env};
 ghost use Rattle.soy_meaning.specs.RunRows.{number_param, offset_part, offset_translation, pieces_and_end};
 ghost use Rattle.soy_meaning.specs.RunRows.{plural_part, plural_source, plural_translation, row_context};
@@ -350,6 +352,20 @@ pub fn law_run_rows()
     ensures offset_costs { costs_of_outcome (offset_translation (pos 2)) ≡ 1 ∷ 0 ∷ 0 ∷ 0 ∷ [] }
     ensures offset_choices { choices_of_outcome (offset_translation (pos 2))
         ≡ outcome.TextTaken outcome.OwnTranslation ∷ outcome.ArmTaken (Some 1) ∷ [] }
+{}
+
+/// Rows that the checker computes: what fills the path of a template that prints a block twice. Two runs of it nest
+/// their frames alike, and a template with the same pieces and no block doesn't nest as it does.
+pub fn law_nest_rows()
+    ensures pieces { filled_pieces dir.Ltr (blocks_filled (codes "q")) kind.Html []
+        ≡ pieces_of_outcome (block_twice (codes "q")) }
+    ensures path { IsPath (run_plan (row_context (text_param (codes "x")) block_body)
+        (entry_frame (row_template (text_param (codes "x")) block_body) (text_env (codes "x") (codes "q"))))
+        (parts_of_filled (blocks_filled (codes "q"))) }
+    ensures alike { FilledAlike (blocks_filled (codes "q")) (blocks_filled (codes "<7")) }
+    ensures same_pieces { filled_pieces dir.Ltr (flat_filled (codes "7")) kind.Html []
+        ≡ filled_pieces dir.Ltr (blocks_filled (codes "7")) kind.Html [] }
+    ensures apart { FilledAlike (blocks_filled (codes "7")) (flat_filled (codes "7")) → ⊥ }
 {}
 
 /// The files of the rows meet what the laws on runs ask, and their variables what those on choices do: data bind no
