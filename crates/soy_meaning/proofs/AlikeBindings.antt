@@ -19,8 +19,8 @@ use Rattle.soy_meaning.specs.PicksValues.{params_take, picks_values}
 module _ (Blocks : BoundBlock → BoundBlock → Type 0) where
   -- ---- variables
 
-  pub envs_more : (marks more : Marks) (env other one two : RunEnv) → EnvsBy Blocks marks env other → EnvsBy Blocks more one two
-      → EnvsBy Blocks (marks ++ more) (env ++ one) (other ++ two)
+  pub envs_more : (marks more : Marks) (env other one two : RunEnv) → EnvsBy Blocks marks env other
+      → EnvsBy Blocks more one two → EnvsBy Blocks (marks ++ more) (env ++ one) (other ++ two)
   envs_more [] more [] [] one two h k = k
   envs_more [] more [] (w ∷ other) one two h k = absurd h
   envs_more [] more (v ∷ env) [] one two h k = absurd h
@@ -189,12 +189,14 @@ module _ (Blocks : BoundBlock → BoundBlock → Type 0) where
   module _ (given_marks marks : Marks) (given others : GivenArguments) (env other : RunEnv) (all : Bool)
       (own : List Param) (givens : EnvsBy Blocks given_marks given others) (alike : EnvsBy Blocks marks env other) where
     pub callee_alike : (params : List Param) → params_take params given_marks all own marks ≡ true
-        → EnvsBy Blocks (param_marks params) (callee_env params given all own env) (callee_env params others all own other)
+        → EnvsBy Blocks (param_marks params) (callee_env params given all own env)
+        (callee_env params others all own other)
     callee_alike [] takes = tt
     callee_alike (p ∷ ps) takes =
         let hands : Bool = all && is_some (param_of p.name own) in
         let may : Bool = param_mark (mark_of p.name given_marks) (hands && is_marked p.name marks) in
-        let parts = and_parts (not may || has_block (param_type p)) (params_take ps given_marks all own marks) takes in (
+        let fits : Bool = not may || has_block (param_type p) in
+        let parts = and_parts fits (params_take ps given_marks all own marks) takes in (
           refl,
           refl,
           raised may (has_block (param_type p))

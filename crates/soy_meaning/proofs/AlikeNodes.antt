@@ -156,8 +156,8 @@ module _ (c : RunContext) (called : Site → Declared → RunEnv → Outcome)
       let within : RunEnv = callee_env d.template.params others all c.params other in
       called_alike c.direction d.template.kind (called at d inner) (called at d within)
       (calls at d inner within among
-      (callee_alike BlocksAlike given_marks marks given others env other all c.params givens alike d.template.params takes)) s t on
-      after next
+      (callee_alike BlocksAlike given_marks marks given others env other all c.params givens alike d.template.params
+      takes)) s t on after next
 
   -- ---- messages
 
@@ -212,7 +212,8 @@ module _ (c : RunContext) (called : Site → Declared → RunEnv → Outcome)
     node_alike (If arms last span) marks env other alike picks fit s t next after h =
         arms_alike arms marks env other alike picks.0 fit.0 (λ k. otherwise_means c called last k env)
         (λ k. otherwise_means c called last k other) 0 s t (next env) (after other) (h env other alike)
-        (λ k. otherwise_from c called last k env s (next env)) (λ k. otherwise_from c called last k other t (after other))
+        (λ k. otherwise_from c called last k env s (next env))
+        (λ k. otherwise_from c called last k other t (after other))
         (λ k. otherwise_alike last k marks env other alike picks.1 fit.1 s t (next env) (after other)
         (h env other alike))
     node_alike (Switch e cases last span) marks env other alike picks fit s t next after h =
@@ -328,7 +329,8 @@ module _ (c : RunContext) (called : Site → Declared → RunEnv → Outcome)
         (if (is_one w es other).0 then with_choice (ArmTaken (Some k)) right else past)
         (alike_if k (is_one v es env).0 (is_one w es other).0 left right following past
         (nodes_alike body marks env other alike picks.0 fit.0 s t (unbound on) (unbound after) (λ u v2 x y. h x y))
-        (cases_from c called v cases env one (k + 1) s on first) (cases_from c called w cases other two (k + 1) t after second)
+        (cases_from c called v cases env one (k + 1) s on first)
+        (cases_from c called w cases other two (k + 1) t after second)
         (cases_alike v w cases marks env other alike picks.1 fit.1 one two (k + 1) s t on after h first second
         others))
 
@@ -348,8 +350,8 @@ module _ (c : RunContext) (called : Site → Declared → RunEnv → Outcome)
         (λ bound. arguments_mean c called rest (before ++ ((name, bound) ∷ [])) env next)
         (λ bound. arguments_mean c called rest (past ++ ((name, bound) ∷ [])) other after)
         (λ a b k. arguments_alike rest (before ++ ((name, a) ∷ [])) (past ++ ((name, b) ∷ [])) (so_far ++ mark)
-        (envs_more BlocksAlike so_far mark before past ((name, a) ∷ []) ((name, b) ∷ []) both (refl, refl, k, tt)) marks env other
-        alike picks.1 fit.1 next after
+        (envs_more BlocksAlike so_far mark before past ((name, a) ∷ []) ((name, b) ∷ []) both (refl, refl, k, tt))
+        marks env other alike picks.1 fit.1 next after
         (λ x y all. h x y (subst (λ l. EnvsAlike l x y) (append_assoc so_far mark (argument_marks rest marks)) all)))
 
     given_alike : (given : Given) (marks : Marks) (env other : RunEnv) → EnvsAlike marks env other
@@ -421,7 +423,8 @@ module _ (c : RunContext) (called : Site → Declared → RunEnv → Outcome)
         (source_means c called body other t after) (select_cases_mean c called word cases one (k + 1) env s on)
         (select_cases_mean c called term cases two (k + 1) other t after)
         (body_alike body marks env other alike picks.0 fit.0 s t on after h)
-        (select_from c called word cases env one (k + 1) s on) (select_from c called term cases other two (k + 1) t after)
+        (select_from c called word cases env one (k + 1) s on)
+        (select_from c called term cases other two (k + 1) t after)
         (select_alike word term cases marks env other alike picks.1 fit.1 one two (k + 1) s t on after h others)
 
   -- a frame by itself

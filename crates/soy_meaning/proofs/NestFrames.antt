@@ -31,7 +31,8 @@ use Rattle.soy_meaning.specs.GivenAt.{FallbackPrints, HasPlaceholderOf, IsGivenA
 use Rattle.soy_meaning.specs.GivenAt.{given_bindings}
 use Rattle.soy_meaning.specs.Giving.{BoundBlock, Means, RunEnv, StateSoFar, block_bound, called_means, printed_means}
 use Rattle.soy_meaning.specs.Giving.{with_choice}
-use Rattle.soy_meaning.specs.Outcome.{ArmTaken, FallbackTranslation, Outcome, OwnTranslation, RunEnds, SourceText, StopsAt}
+use Rattle.soy_meaning.specs.Outcome.{ArmTaken, FallbackTranslation, Outcome, OwnTranslation, RunEnds, SourceText}
+use Rattle.soy_meaning.specs.Outcome.{StopsAt}
 use Rattle.soy_meaning.specs.Outcome.{TextTaken, Turns, none_spent}
 use Rattle.soy_meaning.specs.PathParts.{HolePart, IsPath, PathPart, both, empty_path, hole, no_turn, passed_by, turn}
 use Rattle.soy_meaning.specs.PicksValues.{ArgumentsPick, ArmsPick, BodyPicks, CasesPick, FallbackPicks, GivenPicks}
@@ -46,7 +47,8 @@ use Rattle.soy_meaning.specs.Pieces.{plural_cases_mean, select_cases_mean, sourc
 use Rattle.soy_meaning.specs.Pieces.{unbound, valued, with_index}
 use Rattle.soy_meaning.specs.Plan.{Frame, Hole, Loop, Nothing, Nowhere, Plan, Site, Then, arms_meet}
 use Rattle.soy_meaning.specs.PlanOfNodes.{PlanContext, arm_plans, argument_frames, body_plan, body_scope}
-use Rattle.soy_meaning.specs.PlanOfNodes.{called_classes, case_plans, fallback_plans, given_frame, kind_class, node_plan}
+use Rattle.soy_meaning.specs.PlanOfNodes.{called_classes, case_plans, fallback_plans, given_frame, kind_class}
+use Rattle.soy_meaning.specs.PlanOfNodes.{node_plan}
 use Rattle.soy_meaning.specs.PlanOfNodes.{nodes_plan, other_plan, plural_plans, scope_past, select_plans, starts_at}
 use Rattle.soy_meaning.specs.PlanOfNodes.{translated_plan, translation_plans, uses_of}
 use Rattle.soy_meaning.specs.PlanOfParts.{parts_plan, printed_classes}
@@ -88,7 +90,8 @@ pub record Pair : Type 0 where
 
 -- ---- loops
 
-pub joins_turn : (at : Site) (p : Plan) (P : List PathPart → Type 0) → Joins p (Behind (Loop at p) P) (Behind (Loop at p) P)
+pub joins_turn : (at : Site) (p : Plan) (P : List PathPart → Type 0)
+    → Joins p (Behind (Loop at p) P) (Behind (Loop at p) P)
 joins_turn at p P a b h k = record {
   first = a ++ k.first;
   last = k.last;
@@ -307,8 +310,8 @@ module _ (c : RunContext) (whole : Plan) (Claim : Type 0) (t : Declared) (left :
       → (Claim → EnvTyped (param_scope d.template.params) env)
       → (Claim → EnvTyped (param_scope d.template.params) other)
       → Twins c whole Claim (template_frame fewer d env) (template_frame fewer d other)) where
-    opened_at : (w : Pair) (name : Name) (all : Bool) (given : Arguments) (span : Span) (ns : Nodes) (env other : RunEnv)
-        → Come w (node (Call name all given span) ns) env other → (d : Declared)
+    opened_at : (w : Pair) (name : Name) (all : Bool) (given : Arguments) (span : Span) (ns : Nodes)
+        (env other : RunEnv) → Come w (node (Call name all given span) ns) env other → (d : Declared)
         → callee c.declared t.namespace name ≡ Some d → IsMember d c.declared
         → EnvsBy Blocks (param_marks d.template.params)
         (callee_env d.template.params (given_bindings c (first w) given env) all t.template.params env)
@@ -372,9 +375,9 @@ module _ (c : RunContext) (whole : Plan) (Claim : Type 0) (t : Declared) (left :
         (subst (λ o. By w Q before after
         (called_means c.direction d.template.kind (run_outcome c a) (First w before) on)
         (called_means c.direction d.template.kind o (Second w after) following)) (sym (called_more c fewer at d within))
-        (twin_called c whole Claim (first w) (second w) P Q at (kind_class d.template.kind ∷ []) d.template.kind a b refl
-        refl there also (λ k. inl refl) (deeper fewer less d inner within member alike one two) some into before after on
-        following twin))
+        (twin_called c whole Claim (first w) (second w) P Q at (kind_class d.template.kind ∷ []) d.template.kind a b
+        refl refl there also (λ k. inl refl) (deeper fewer less d inner within member alike one two) some into before after
+        on following twin))
 
     pub opened_twin : (w : Pair) (name : Name) (all : Bool) (given : Arguments) (span : Span) (ns : Nodes)
         (marks : Marks) (scope : Scope) (env other : RunEnv) → Come w (node (Call name all given span) ns) env other
@@ -392,16 +395,16 @@ module _ (c : RunContext) (whole : Plan) (Claim : Type 0) (t : Declared) (left :
         (First w before) on)
         (opened_means own called (starts_at t.file span) found (given_bindings c (second w) given other) all other
         (Second w after) following)
-    opened_twin w name all given span ns marks scope env other here envs None found among takes givens typed P Q some into
-        before after on following twin =
+    opened_twin w name all given span ns marks scope env other here envs None found among takes givens typed P Q some
+        into before after on following twin =
         twin_value c whole Claim (first w) (second w) P Q (starts_at t.file span) [] NullValue NullValue
         (λ k. absurd (typed k)) (λ k. absurd (typed k)) into before after on following twin
-    opened_twin w name all given span ns marks scope env other here envs (Some d) found among takes givens typed P Q some
-        into before after on following twin =
+    opened_twin w name all given span ns marks scope env other here envs (Some d) found among takes givens typed P Q
+        some into before after on following twin =
         opened_at w name all given span ns env other here d found among
         (callee_alike Blocks (argument_marks given marks) marks (given_bindings c (first w) given env)
         (given_bindings c (second w) given other) env other all t.template.params givens envs.alike d.template.params
         takes)
         (λ k. callee_typed c (first w) scope env (envs.one k) d.template.params given all t.template.params (typed k))
-        (λ k. callee_typed c (second w) scope other (envs.two k) d.template.params given all t.template.params (typed k))
-        P Q some into before after on following twin left refl
+        (λ k. callee_typed c (second w) scope other (envs.two k) d.template.params given all t.template.params (typed
+        k)) P Q some into before after on following twin left refl

@@ -31,7 +31,8 @@ use Rattle.soy_meaning.specs.GivenAt.{FallbackPrints, HasPlaceholderOf, IsGivenA
 use Rattle.soy_meaning.specs.GivenAt.{given_bindings}
 use Rattle.soy_meaning.specs.Giving.{BoundBlock, Means, RunEnv, StateSoFar, block_bound, called_means, printed_means}
 use Rattle.soy_meaning.specs.Giving.{with_choice}
-use Rattle.soy_meaning.specs.Outcome.{ArmTaken, FallbackTranslation, Outcome, OwnTranslation, RunEnds, SourceText, StopsAt}
+use Rattle.soy_meaning.specs.Outcome.{ArmTaken, FallbackTranslation, Outcome, OwnTranslation, RunEnds, SourceText}
+use Rattle.soy_meaning.specs.Outcome.{StopsAt}
 use Rattle.soy_meaning.specs.Outcome.{TextTaken, Turns, none_spent}
 use Rattle.soy_meaning.specs.PathParts.{HolePart, IsPath, PathPart, both, empty_path, hole, no_turn, passed_by, turn}
 use Rattle.soy_meaning.specs.PicksValues.{ArgumentsPick, ArmsPick, BodyPicks, CasesPick, FallbackPicks, GivenPicks}
@@ -46,7 +47,8 @@ use Rattle.soy_meaning.specs.Pieces.{plural_cases_mean, select_cases_mean, sourc
 use Rattle.soy_meaning.specs.Pieces.{unbound, valued, with_index}
 use Rattle.soy_meaning.specs.Plan.{Frame, Hole, Loop, Nothing, Nowhere, Plan, Site, Then, arms_meet}
 use Rattle.soy_meaning.specs.PlanOfNodes.{PlanContext, arm_plans, argument_frames, body_plan, body_scope}
-use Rattle.soy_meaning.specs.PlanOfNodes.{called_classes, case_plans, fallback_plans, given_frame, kind_class, node_plan}
+use Rattle.soy_meaning.specs.PlanOfNodes.{called_classes, case_plans, fallback_plans, given_frame, kind_class}
+use Rattle.soy_meaning.specs.PlanOfNodes.{node_plan}
 use Rattle.soy_meaning.specs.PlanOfNodes.{nodes_plan, other_plan, plural_plans, scope_past, select_plans, starts_at}
 use Rattle.soy_meaning.specs.PlanOfNodes.{translated_plan, translation_plans, uses_of}
 use Rattle.soy_meaning.specs.PlanOfParts.{parts_plan, printed_classes}
@@ -186,7 +188,8 @@ module _ (c : RunContext) (whole : Plan) (Claim : Type 0) (t : Declared) (left :
         λ body member. (in_an_arm here.0 member, in_an_arm here.1 member) in
         let into : AllJoin ps P Q = λ r member. joins_arm at ps r P Q member joins in
         let on : On w P (next env) (following other) = h env other (past here.0, past here.1) envs in
-        arms_twin w arms marks scope env other (pair.come_left c whole Claim t left w (arm_bodies arms) (other_bodies last) env other come) envs
+        arms_twin w arms marks scope env other (pair.come_left c whole Claim t left w (arm_bodies arms) (other_bodies
+        last) env other come) envs
         (frames_left whole (arm_plans of_context arms scope) (rest ∷ []) all.1) picks.0 fit.0 (λ k. (typed k).0) P Q
         some (pair.join_left c whole Claim t left (arm_plans of_context arms scope) (rest ∷ []) P Q into)
         (λ k. otherwise_means own called last k env) (λ k. otherwise_means own called last k other) 0 before after
@@ -195,7 +198,8 @@ module _ (c : RunContext) (whole : Plan) (Claim : Type 0) (t : Declared) (left :
         (λ k. otherwise_twin w last k marks scope env other
         (pair.come_right c whole Claim t left w (arm_bodies arms) (other_bodies last) env other come) envs
         (frames_right whole (arm_plans of_context arms scope) (rest ∷ []) all.1).0 picks.1 fit.1 (λ j. (typed j).1) P Q
-        some (pair.join_last c whole Claim t left (arm_plans of_context arms scope) rest P Q into) before after (next env) (following other) on)
+        some (pair.join_last c whole Claim t left (arm_plans of_context arms scope) rest P Q into) before after (next
+        env) (following other) on)
     node_twin w (Switch e cases last span) ns marks scope env other here envs frames picks fit typed P Q some joins
         before after next following h =
         let at : Site = starts_at t.file span in
@@ -221,8 +225,8 @@ module _ (c : RunContext) (whole : Plan) (Claim : Type 0) (t : Declared) (left :
         (λ k. otherwise_twin w last k marks scope env other
         (pair.come_right c whole Claim t left w (case_bodies cases) (other_bodies last) env other come) envs
         (frames_right whole (case_plans of_context cases scope) (rest ∷ []) all.1).0 picks.1 fit.1 (λ j. (typed j).1) P
-        Q some (pair.join_last c whole Claim t left (case_plans of_context cases scope) rest P Q into) before after (next env) (following other)
-        on))
+        Q some (pair.join_last c whole Claim t left (case_plans of_context cases scope) rest P Q into) before after
+        (next env) (following other) on))
     node_twin w (For name index e body span) ns marks scope env other here envs frames picks fit typed P Q some joins
         before after next following h =
         let at : Site = starts_at t.file span in
@@ -271,7 +275,8 @@ module _ (c : RunContext) (whole : Plan) (Claim : Type 0) (t : Declared) (left :
         before after next following h =
         let p : Plan = nodes_plan of_context body scope in
         let v : Pair = record { kind = k; body = body; scope = scope; env = env; other = other } in
-        let twins : Twins c whole Claim (first v) (second v) = pair.whole_twins c whole Claim t left v (frames Here k p refl)
+        let twins : Twins c whole Claim (first v) (second v) = pair.whole_twins c whole Claim t left v (frames Here k p
+        refl)
         (nodes_twin v body marks scope env other (at_first, at_first) envs (λ y g f e. frames (Inside y) g f e) picks
         fit typed (λ l. l ≡ []) (IsPath p) ([], refl) (joins_end p) [] [] at_end at_end
         (λ i j x y. twin_nothing c whole Claim (first v) (second v) x y)) in
@@ -307,8 +312,8 @@ module _ (c : RunContext) (whole : Plan) (Claim : Type 0) (t : Declared) (left :
         (λ a b both_alike a_is b_is.
         subst (λ z. By w Q before after (opens z) (also_opens b)) (sym a_is)
         (subst (λ z. By w Q before after (opens (given_bindings c (first w) given env)) (also_opens z)) (sym b_is)
-        (pair.opened_twin c whole Claim t left deeper w name all given span ns marks scope env other here envs found refl
-        (callee_among c.declared t.namespace name) picks.0
+        (pair.opened_twin c whole Claim t left deeper w name all given span ns marks scope env other here envs found
+        refl (callee_among c.declared t.namespace name) picks.0
         (subst (λ z. EnvsBy Blocks (argument_marks given marks) z (given_bindings c (second w) given other)) a_is
         (subst (λ z. EnvsBy Blocks (argument_marks given marks) a z) b_is both_alike))
         (λ k. (typed k).0) P Q some into before after (next env) (following other)
@@ -323,8 +328,8 @@ module _ (c : RunContext) (whole : Plan) (Claim : Type 0) (t : Declared) (left :
         let all = any_frames whole Nowhere ps (λ y k f e. frames (Inside y) k f e) in
         let into : AllJoin ps P Q = λ r member. joins_arm at ps r P Q member joins in
         let on : On w P (next env) (following other) = h env other (past here.0, past here.1) envs in
-        pair.own_twin c whole Claim t left w m marks scope at env other envs P Q some before after (next env) (following other) on
-        (twin_chosen c whole Claim (first w) (second w) Q before after (TextTaken SourceText)
+        pair.own_twin c whole Claim t left w m marks scope at env other envs P Q some before after (next env)
+        (following other) on (twin_chosen c whole Claim (first w) (second w) Q before after (TextTaken SourceText)
         (source_means own called body env (First w before) (next env))
         (source_means own called body other (Second w after) (following other))
         (body_twin w body marks scope at env other
@@ -533,11 +538,12 @@ module _ (c : RunContext) (whole : Plan) (Claim : Type 0) (t : Declared) (left :
         twin_costs c whole Claim (first w) (second w) Q before after (cost e env) (cost e other) (next (val e env))
         (following (val e other))
         (h (val e env) (val e other) (val_alike Blocks marks env other envs.alike e picks) refl refl)
-    given_twin w (Block k body) span marks scope env other envs frames picks fit typed Q some before after next following
-        h =
+    given_twin w (Block k body) span marks scope env other envs frames picks fit typed Q some before after next
+        following h =
         let p : Plan = nodes_plan of_context body scope in
         let v : Pair = record { kind = k; body = body; scope = scope; env = env; other = other } in
-        let twins : Twins c whole Claim (first v) (second v) = pair.whole_twins c whole Claim t left v (frames Here k p refl)
+        let twins : Twins c whole Claim (first v) (second v) = pair.whole_twins c whole Claim t left v (frames Here k p
+        refl)
         (nodes_twin v body marks scope env other (at_first, at_first) envs (λ y g f e. frames (Inside y) g f e) picks
         fit typed (λ l. l ≡ []) (IsPath p) ([], refl) (joins_end p) [] [] at_end at_end
         (λ i j x y. twin_nothing c whole Claim (first v) (second v) x y)) in
@@ -575,8 +581,8 @@ module _ (c : RunContext) (whole : Plan) (Claim : Type 0) (t : Declared) (left :
         (body_twin w last marks scope at env other
         (pair.come_right c whole Claim t left w (plural_bodies cases) (source_bodies last) env other come) envs
         (frames_right whole (plural_plans of_context cases scope at) (rest ∷ []) all.1).0 picks.1 fit.1
-        (λ j. (typed j).1) P Q some (pair.join_last c whole Claim t left (plural_plans of_context cases scope at) rest P Q into) before after on
-        following twin))
+        (λ j. (typed j).1) P Q some (pair.join_last c whole Claim t left (plural_plans of_context cases scope at) rest
+        P Q into) before after on following twin))
     body_twin w (Select e cases last) marks scope at env other come envs frames picks fit typed P Q some joins before
         after on following twin =
         let rest : Plan = body_plan of_context last scope at in
@@ -597,8 +603,8 @@ module _ (c : RunContext) (whole : Plan) (Claim : Type 0) (t : Declared) (left :
         (body_twin w last marks scope at env other
         (pair.come_right c whole Claim t left w (select_bodies cases) (source_bodies last) env other come) envs
         (frames_right whole (select_plans of_context cases scope at) (rest ∷ []) all.1).0 picks.1 fit.1
-        (λ j. (typed j).1) P Q some (pair.join_last c whole Claim t left (select_plans of_context cases scope at) rest P Q into) before after on
-        following twin))
+        (λ j. (typed j).1) P Q some (pair.join_last c whole Claim t left (select_plans of_context cases scope at) rest
+        P Q into) before after on following twin))
 
     plural_twin : (w : Pair) (n m : ℤ) (cases : PluralCases) (marks : Marks) (scope : Scope) (at : Site)
         (env other : RunEnv) → AllCome w (plural_bodies cases) env other → Envs marks scope env other
@@ -622,13 +628,15 @@ module _ (c : RunContext) (whole : Plan) (Claim : Type 0) (t : Declared) (left :
         (plural_cases_mean own called n cases one (k + 1) env (First w before) on)
         (plural_cases_mean own called m cases two (k + 1) other (Second w after) following)
         (λ holds also. body_twin w body marks scope at env other
-        (pair.come_left c whole Claim t left w (source_bodies body) (plural_bodies cases) env other come) envs frames.0 picks.0 fit.0
+        (pair.come_left c whole Claim t left w (source_bodies body) (plural_bodies cases) env other come) envs frames.0
+        picks.0 fit.0
         (λ j. (typed j).0) P Q some (into (body_plan of_context body scope at) (inl refl)) before after on following
         twin)
         (plural_from own called n cases env one (k + 1) (First w before) on)
         (plural_from own called m cases other two (k + 1) (Second w after) following)
         (plural_twin w n m cases marks scope at env other
-        (pair.come_right c whole Claim t left w (source_bodies body) (plural_bodies cases) env other come) envs frames.1 picks.1 fit.1
+        (pair.come_right c whole Claim t left w (source_bodies body) (plural_bodies cases) env other come) envs
+        frames.1 picks.1 fit.1
         (λ j. (typed j).1) P Q some (λ r member. into r (inr member)) one two (k + 1) before after on following twin
         others)
 
@@ -654,13 +662,15 @@ module _ (c : RunContext) (whole : Plan) (Claim : Type 0) (t : Declared) (left :
         (select_cases_mean own called word cases one (k + 1) env (First w before) on)
         (select_cases_mean own called term cases two (k + 1) other (Second w after) following)
         (λ holds also. body_twin w body marks scope at env other
-        (pair.come_left c whole Claim t left w (source_bodies body) (select_bodies cases) env other come) envs frames.0 picks.0 fit.0
+        (pair.come_left c whole Claim t left w (source_bodies body) (select_bodies cases) env other come) envs frames.0
+        picks.0 fit.0
         (λ j. (typed j).0) P Q some (into (body_plan of_context body scope at) (inl refl)) before after on following
         twin)
         (select_from own called word cases env one (k + 1) (First w before) on)
         (select_from own called term cases other two (k + 1) (Second w after) following)
         (select_twin w word term cases marks scope at env other
-        (pair.come_right c whole Claim t left w (source_bodies body) (select_bodies cases) env other come) envs frames.1 picks.1 fit.1
+        (pair.come_right c whole Claim t left w (source_bodies body) (select_bodies cases) env other come) envs
+        frames.1 picks.1 fit.1
         (λ j. (typed j).1) P Q some (λ r member. into r (inr member)) one two (k + 1) before after on following twin
         others)
 

@@ -1,5 +1,6 @@
 -- Two runs of a translation side by side.
-use Rattle.std.proofs.Common.{◌≡◌, ℕ, ℤ, pos, Bool, true, false, List, [], ◌∷◌, ◌++◌, inl, inr, Option, Some, None, refl}
+use Rattle.std.proofs.Common.{◌≡◌, ℕ, ℤ, pos, Bool, true, false, List, [], ◌∷◌, ◌++◌, inl, inr, Option, Some, None}
+use Rattle.std.proofs.Common.{refl}
 use Rattle.std.proofs.Common.{sym, ap, ◌∙◌, subst}
 use Rattle.std.specs.Prelude.{◌&&◌, ◌-ℤ◌, codes, is_some}
 use Rattle.std.specs.Option.{option_or}
@@ -90,8 +91,8 @@ module _ (c : RunContext) (whole : Plan) (Claim : Type 0) (q p : FrameRun) (uses
       (print_means context category_of uses other e (Second after) following)
   print_twin e values right P Q some into before after on following twin =
       twin_costs c whole Claim q p Q before after (cost e env) (cost e other)
-      (printed_means context (val e env) (First before) on) (printed_means context (val e other) (Second after) following)
-      (twin_printed c whole Claim q p P Q at (printed_classes e scope) (may_give_block e marks) (val e env)
+      (printed_means context (val e env) (First before) on) (printed_means context (val e other) (Second after)
+      following) (twin_printed c whole Claim q p P Q at (printed_classes e scope) (may_give_block e marks) (val e env)
       (val e other) (val_alike (TwinBlocks c whole Claim) marks env other alike e values) right.0 right.1 right.2
       right.3 some into before after on following twin)
 

@@ -143,7 +143,7 @@ module _ (c : RunContext) (trees : List Tree) (are : c.declared ≡ declared tre
       → (n : NestAlike c (trees_plan c.translation trees) (entry_frame d env) (entry_frame d other))
       × FitsClasses n.one.filled × FitsClasses n.two.filled
   typed_runs_nest same =
-      let n = runs_nest c fits (typed_templates_pick c trees are typed) (Unit {0}) (λ k. all_typed) trees d env other are
-      member (fitting_data_alike d env other one two) one.values two.values (λ k. data_typed d env one)
+      let n = runs_nest c fits (typed_templates_pick c trees are typed) (Unit {0}) (λ k. all_typed) trees d env other
+      are member (fitting_data_alike d env other one two) one.values two.values (λ k. data_typed d env one)
       (λ k. data_typed d other two) same in
       (n.0, (n.1 tt).0, (n.1 tt).1)

@@ -33,20 +33,19 @@ abbrev pub AlikeByChoices : Outcome → Outcome → Type 0
 AlikeByChoices o other =
     (rest more : List ChoiceMade) → choices_of_outcome o ++ rest ≡ choices_of_outcome other ++ more → AlikeRuns o other
 
--- two values, or, where there may be blocks, two that are so
+-- two values, or, where there may be blocks, two blocks that are as is asked
 abbrev pub BindingsBy : (BoundBlock → BoundBlock → Type 0) → Bool → Binding BoundBlock → Binding BoundBlock → Type 0
 BindingsBy Blocks may (Known v) (Known w) = Unit {0}
 BindingsBy Blocks true (BlockOf a) (BlockOf b) = Blocks a b
 BindingsBy Blocks _ _ _ = ⊥
 
--- of the same variables, in the same order, each so
+-- of the same variables, in the same order, each bound so
 abbrev pub EnvsBy : (BoundBlock → BoundBlock → Type 0) → Marks → RunEnv → RunEnv → Type 0
 EnvsBy Blocks [] [] [] = Unit {0}
 EnvsBy Blocks (m ∷ marks) (v ∷ env) (w ∷ other) =
     (v.0 ≡ m.0) × (w.0 ≡ m.0) × BindingsBy Blocks m.1 v.1 w.1 × EnvsBy Blocks marks env other
 EnvsBy Blocks _ _ _ = ⊥
 
--- alike by their choices
 abbrev pub BlocksAlike : BoundBlock → BoundBlock → Type 0
 BlocksAlike a b = AlikeByChoices a.outcome b.outcome
 

@@ -346,7 +346,8 @@ pub fn law_run_rows()
         ≡ (page.Static (codes "only") ∷ [], outcome.WholeRun) }
     ensures offset_number { pieces_and_end (offset_translation (pos 2))
         ≡ (
-          page.Static (codes "and ") ∷ page.Value (codes "<span dir=\"ltr\">1</span>") ∷ page.Static (codes " more") ∷ [],
+          page.Static (codes "and ") ∷ page.Value (codes "<span dir=\"ltr\">1</span>")
+              ∷ page.Static (codes " more") ∷ [],
           outcome.WholeRun,
         ) }
     ensures offset_costs { costs_of_outcome (offset_translation (pos 2)) ≡ 1 ∷ 0 ∷ 0 ∷ 0 ∷ [] }
