@@ -1,31 +1,27 @@
 -- What the parts of a translation give is alike where the choices are the same.
-use Rattle.std.proofs.Common.{◌≡◌, ◌≤◌, ℕ, ◌+◌, ℤ, pos, Bool, true, false, List, [], ◌∷◌, ◌++◌, ◌⊎◌, inl, inr, Option}
-use Rattle.std.proofs.Common.{Some, None, if◌then◌else◌, refl, sym, ap, ◌∙◌, subst, arith}
-use Rattle.std.specs.Prelude.{◌&&◌, ◌||◌, ◌-ℤ◌, bytes_eq, codes, is_some}
-use Rattle.std.specs.Option.{option_or}
+use Rattle.std.proofs.Common.{◌≡◌, ℕ, ℤ, pos, Bool, true, false, List, [], ◌∷◌, ◌++◌, Option}
+use Rattle.std.proofs.Common.{Some, None, sym, ap, ◌∙◌, subst}
+use Rattle.std.specs.Prelude.{◌&&◌, ◌-ℤ◌, codes, is_some}
 use Rattle.std.proofs.lemmas.Bool.{and_parts}
 use Rattle.soy_base.specs.declared.direction.Dir.{Dir}
-use Rattle.plural_rules.specs.Category.{is_same}
 use Rattle.plural_rules.specs.declared.category.Category.{Category}
-use Rattle.plural_rules.specs.declared.category.Category.TheVariants as category
-use Rattle.soy_tree.specs.Types.{Name}
 use Rattle.soy_tree.specs.Cost.{cost}
 use Rattle.soy_tree.specs.Expressions.{Expr}
 use Rattle.soy_tree.specs.MessageParts.{MsgPart, MsgParts, ExactArms, NamedArms, SelectArms, TextPart, Placeholder}
 use Rattle.soy_tree.specs.MessageParts.{NumberPart, PluralPart, SelectPart, no_part, part, no_exact_arm, exact_arm}
 use Rattle.soy_tree.specs.MessageParts.{no_named_arm, named_arm, no_select_arm, select_arm}
 use Rattle.soy_tree.specs.MessageText.{MessageItem, Character, Printed, Cut, TextCut, PrintCut, TagCut}
-use Rattle.soy_tree.specs.Placeholders.{Use, name_of}
-use Rattle.soy_tree.specs.Val.{is_same_int, operand, val}
+use Rattle.soy_tree.specs.Placeholders.{Use}
+use Rattle.soy_tree.specs.Val.{operand, val}
 use Rattle.soy_tree.specs.Values.{IntValue}
-use Rattle.soy_meaning.specs.Branch.{PartMeans, arm_means, cut_means, exact_of, exact_rows, int_of, named_of}
-use Rattle.soy_meaning.specs.Branch.{named_rows, part_means, parts_means, plural_means, print_means, row_count}
+use Rattle.soy_meaning.specs.Branch.{PartMeans, arm_means, cut_means, exact_rows, int_of}
+use Rattle.soy_meaning.specs.Branch.{named_rows, part_means, parts_means, plural_means, print_means}
 use Rattle.soy_meaning.specs.Branch.{select_means, select_of, select_rows, selector, tag_means, word_of}
 use Rattle.soy_meaning.specs.EqualChoices.{AlikeByChoices, BlocksAlike, EnvsAlike}
 use Rattle.soy_meaning.specs.Giving.{RunEnv, StateSoFar, printed_means, with_choice}
 use Rattle.soy_meaning.specs.Outcome.{ArmTaken, Outcome, choices_of_outcome}
 use Rattle.soy_meaning.specs.PicksValues.{Marks, cut_picks, may_give_block, picks_values, tag_picks, uses_pick}
-use Rattle.soy_meaning.specs.PlanOfParts.{cut_of_role, placeholder_cut}
+use Rattle.soy_meaning.specs.PlanOfParts.{placeholder_cut}
 use Rattle.soy_meaning.specs.TranslationFits.{exact_fit, has_other, has_other_word, named_fit, part_fits, parts_fit}
 use Rattle.soy_meaning.specs.TranslationFits.{select_fit}
 use Rattle.soy_meaning.proofs.AlikeBindings.{val_alike}

@@ -1,7 +1,7 @@
 -- Which arm of a translation is chosen, and what its placeholders pick.
 use Rattle.std.proofs.Common.{◌≡◌, ◌≤◌, ℕ, ◌+◌, ℤ, pos, Bool, true, false, List, [], ◌∷◌, ◌++◌, ◌⊎◌, inl, inr, Option}
-use Rattle.std.proofs.Common.{Some, None, if◌then◌else◌, refl, sym, ap, ◌∙◌, subst, arith}
-use Rattle.std.specs.Prelude.{◌&&◌, ◌||◌, ◌-ℤ◌, bytes_eq, codes, is_some}
+use Rattle.std.proofs.Common.{Some, None, if◌then◌else◌, refl, sym, subst, arith}
+use Rattle.std.specs.Prelude.{◌||◌, ◌-ℤ◌, bytes_eq, codes, is_some}
 use Rattle.std.specs.Option.{option_or}
 use Rattle.std.proofs.lemmas.Bool.{and_parts}
 use Rattle.soy_base.specs.declared.direction.Dir.{Dir}
@@ -9,29 +9,18 @@ use Rattle.plural_rules.specs.Category.{is_same}
 use Rattle.plural_rules.specs.declared.category.Category.{Category}
 use Rattle.plural_rules.specs.declared.category.Category.TheVariants as category
 use Rattle.soy_tree.specs.Types.{Name}
-use Rattle.soy_tree.specs.Cost.{cost}
-use Rattle.soy_tree.specs.Expressions.{Expr}
-use Rattle.soy_tree.specs.MessageParts.{MsgPart, MsgParts, ExactArms, NamedArms, SelectArms, TextPart, Placeholder}
-use Rattle.soy_tree.specs.MessageParts.{NumberPart, PluralPart, SelectPart, no_part, part, no_exact_arm, exact_arm}
+use Rattle.soy_tree.specs.MessageParts.{ExactArms, NamedArms, SelectArms}
 use Rattle.soy_tree.specs.MessageParts.{no_named_arm, named_arm, no_select_arm, select_arm}
-use Rattle.soy_tree.specs.MessageText.{MessageItem, Character, Printed, Cut, TextCut, PrintCut, TagCut}
+use Rattle.soy_tree.specs.MessageText.{Cut}
 use Rattle.soy_tree.specs.Placeholders.{Use, name_of}
-use Rattle.soy_tree.specs.Val.{is_same_int, operand, val}
-use Rattle.soy_tree.specs.Values.{IntValue}
-use Rattle.soy_meaning.specs.Branch.{PartMeans, arm_means, cut_means, exact_of, exact_rows, int_of, named_of}
-use Rattle.soy_meaning.specs.Branch.{named_rows, part_means, parts_means, plural_means, print_means, row_count}
-use Rattle.soy_meaning.specs.Branch.{select_means, select_of, select_rows, selector, tag_means, word_of}
-use Rattle.soy_meaning.specs.EqualChoices.{AlikeByChoices, EnvsAlike}
-use Rattle.soy_meaning.specs.Giving.{RunEnv, StateSoFar, printed_means, with_choice}
-use Rattle.soy_meaning.specs.Outcome.{ArmTaken, Outcome, choices_of_outcome}
-use Rattle.soy_meaning.specs.PicksValues.{Marks, cut_picks, may_give_block, picks_values, tag_picks, uses_pick}
+use Rattle.soy_tree.specs.Val.{is_same_int}
+use Rattle.soy_meaning.specs.Branch.{PartMeans, exact_of, exact_rows, named_of}
+use Rattle.soy_meaning.specs.Branch.{named_rows, parts_means, row_count}
+use Rattle.soy_meaning.specs.Branch.{select_of, select_rows}
+use Rattle.soy_meaning.specs.Giving.{RunEnv}
+use Rattle.soy_meaning.specs.PicksValues.{Marks, cut_picks, uses_pick}
 use Rattle.soy_meaning.specs.PlanOfParts.{cut_of_role, placeholder_cut}
-use Rattle.soy_meaning.specs.TranslationFits.{exact_fit, has_other, has_other_word, named_fit, part_fits, parts_fit}
-use Rattle.soy_meaning.specs.TranslationFits.{select_fit}
-use Rattle.soy_meaning.proofs.AlikeBindings.{val_alike}
-use Rattle.soy_meaning.proofs.AlikeOutcomes.{OnAlike, alike_behind, alike_costs, choice_of, first_choices}
-use Rattle.soy_meaning.proofs.AlikeOutcomes.{printed_alike, same_arm, text_alike, value_alike}
-use Rattle.soy_meaning.proofs.RunPieces.{spent_same}
+use Rattle.soy_meaning.specs.TranslationFits.{has_other, has_other_word}
 
 -- ---- the arm of a number
 

@@ -1,84 +1,72 @@
 -- Two runs of nodes side by side.
-use Rattle.std.proofs.Common.{◌≡◌, ℕ, zero, suc, ◌+◌, ℤ, pos, Bool, true, List, [], ◌∷◌, ◌++◌, inl, inr, Option, Some}
-use Rattle.std.proofs.Common.{None, Ok, if◌then◌else◌, refl, sym, ap, ◌∙◌, subst, append_assoc}
+use Rattle.std.proofs.Common.{◌≡◌, ℕ, suc, ◌+◌, ℤ, List, [], ◌∷◌, ◌++◌, inl, inr, Option, Some}
+use Rattle.std.proofs.Common.{None, if◌then◌else◌, refl, sym, ap, ◌∙◌, subst, append_assoc}
 use Rattle.std.specs.Prelude.{bytes_eq}
 use Rattle.std.proofs.lemmas.List.{append-nil}
 use Rattle.soy_base.specs.declared.fault.Span.{Span}
-use Rattle.soy_base.specs.declared.kind.Kind.{Kind}
 use Rattle.html_state.specs.AfterPieces.{Piece}
-use Rattle.html_state.specs.Start.{start}
-use Rattle.soy_tree.specs.Types.{Name}
 use Rattle.soy_tree.specs.Cost.{cost}
-use Rattle.soy_tree.specs.MessageParts.{MsgParts}
 use Rattle.soy_tree.specs.Narrowing.{narrowed}
-use Rattle.soy_tree.specs.Nodes.{Node, Nodes, Otherwise, Arms, Cases, Arguments, Given, Message, Fallback, MessageBody}
+use Rattle.soy_tree.specs.Nodes.{Node, Nodes, Otherwise, Arms, Cases, Arguments, Given, Message, MessageBody}
 use Rattle.soy_tree.specs.Nodes.{PluralCases, SelectCases, TextNode, Print, If, Switch, For, Let, LetBlock, Call}
 use Rattle.soy_tree.specs.Nodes.{MessageNode, no_node, node, no_otherwise, otherwise, no_arm, arm, no_case, case}
-use Rattle.soy_tree.specs.Nodes.{no_argument, argument, Plain, Block, message, no_fallback, fallback, Parts, Plural}
+use Rattle.soy_tree.specs.Nodes.{no_argument, argument, Plain, Block, message, Parts, Plural}
 use Rattle.soy_tree.specs.Nodes.{Select, no_plural_case, plural_case, no_select_case, select_case}
-use Rattle.soy_tree.specs.Expressions.{Expr}
 use Rattle.soy_tree.specs.Bodies.{Around}
-use Rattle.soy_tree.specs.Templates.{Declared, callee, kind_type, param_scope}
+use Rattle.soy_tree.specs.Templates.{Declared, callee, param_scope}
 use Rattle.soy_tree.specs.TypeOf.{Scope, type_of}
 use Rattle.soy_tree.specs.Val.{Binding, Known, is_same_int, is_truthy, val}
-use Rattle.soy_tree.specs.Values.{Items, NullValue, Value, item, no_item}
+use Rattle.soy_tree.specs.Values.{Items, Value}
 use Rattle.soy_meaning.specs.Branch.{int_of, word_of}
-use Rattle.soy_meaning.specs.ComesNext.{ComesNext, IsItem, arm_bodies, at_first, bodies_in, case_bodies, in_a_turn}
+use Rattle.soy_meaning.specs.ComesNext.{ComesNext, arm_bodies, at_first, case_bodies, in_a_turn}
 use Rattle.soy_meaning.specs.ComesNext.{in_an_arm, other_bodies, past, plural_bodies, select_bodies, source_bodies}
 use Rattle.soy_meaning.specs.EqualChoices.{BindingsBy, EnvsBy}
-use Rattle.soy_meaning.specs.FrameRun.{FrameRun, bound_as, plan_context, run_outcome, run_plan, template_frame}
-use Rattle.soy_meaning.specs.GivenAt.{FallbackPrints, HasPlaceholderOf, IsGivenAt, OpensCall, given_binding_of}
+use Rattle.soy_meaning.specs.FrameRun.{FrameRun, run_outcome, template_frame}
+use Rattle.soy_meaning.specs.GivenAt.{given_binding_of}
 use Rattle.soy_meaning.specs.GivenAt.{given_bindings}
-use Rattle.soy_meaning.specs.Giving.{BoundBlock, Means, RunEnv, StateSoFar, block_bound, called_means, printed_means}
+use Rattle.soy_meaning.specs.Giving.{BoundBlock, Means, RunEnv, StateSoFar, printed_means}
 use Rattle.soy_meaning.specs.Giving.{with_choice}
-use Rattle.soy_meaning.specs.Outcome.{ArmTaken, FallbackTranslation, Outcome, OwnTranslation, RunEnds, SourceText}
-use Rattle.soy_meaning.specs.Outcome.{StopsAt}
-use Rattle.soy_meaning.specs.Outcome.{TextTaken, Turns, none_spent}
-use Rattle.soy_meaning.specs.PathParts.{HolePart, IsPath, PathPart, both, empty_path, hole, no_turn, passed_by, turn}
-use Rattle.soy_meaning.specs.PicksValues.{ArgumentsPick, ArmsPick, BodyPicks, CasesPick, FallbackPicks, GivenPicks}
+use Rattle.soy_meaning.specs.Outcome.{ArmTaken, Outcome, SourceText}
+use Rattle.soy_meaning.specs.Outcome.{TextTaken, Turns}
+use Rattle.soy_meaning.specs.PathParts.{HolePart, IsPath, PathPart, both, empty_path, hole, no_turn, passed_by}
+use Rattle.soy_meaning.specs.PicksValues.{ArgumentsPick, ArmsPick, BodyPicks, CasesPick, GivenPicks}
 use Rattle.soy_meaning.specs.PicksValues.{Marks, NodePicks, NodesPick, OtherPicks, PluralPicks, SelectPicks}
-use Rattle.soy_meaning.specs.PicksValues.{argument_marks, callee_takes, given_mark, is_block_kind, marks_past}
-use Rattle.soy_meaning.specs.PicksValues.{may_give_block, param_marks, turn_marks, uses_pick}
-use Rattle.soy_meaning.specs.Pieces.{GivenArguments, RunContext, TheSource, arguments_mean, arms_mean, at_end}
-use Rattle.soy_meaning.specs.Pieces.{callee_env, called_within, cases_mean, chosen_after, chosen_of, chosen_text}
-use Rattle.soy_meaning.specs.Pieces.{context_in, fallback_text, given_means, is_one, item_count, listed_items}
-use Rattle.soy_meaning.specs.Pieces.{message_means, node_means, nodes_mean, opened_means, otherwise_means}
-use Rattle.soy_meaning.specs.Pieces.{plural_cases_mean, select_cases_mean, source_means, translated_means, turns_mean}
+use Rattle.soy_meaning.specs.PicksValues.{argument_marks, given_mark, marks_past}
+use Rattle.soy_meaning.specs.PicksValues.{may_give_block, param_marks, turn_marks}
+use Rattle.soy_meaning.specs.Pieces.{GivenArguments, RunContext, arguments_mean, arms_mean, at_end}
+use Rattle.soy_meaning.specs.Pieces.{cases_mean}
+use Rattle.soy_meaning.specs.Pieces.{given_means, is_one, item_count, listed_items}
+use Rattle.soy_meaning.specs.Pieces.{node_means, nodes_mean, opened_means, otherwise_means}
+use Rattle.soy_meaning.specs.Pieces.{plural_cases_mean, select_cases_mean, source_means, turns_mean}
 use Rattle.soy_meaning.specs.Pieces.{unbound, valued, with_index}
-use Rattle.soy_meaning.specs.Plan.{Frame, Hole, Loop, Nothing, Nowhere, Plan, Site, Then, arms_meet}
+use Rattle.soy_meaning.specs.Plan.{Loop, Nowhere, Plan, Site}
 use Rattle.soy_meaning.specs.PlanOfNodes.{PlanContext, arm_plans, argument_frames, body_plan, body_scope}
-use Rattle.soy_meaning.specs.PlanOfNodes.{called_classes, case_plans, fallback_plans, given_frame, kind_class}
+use Rattle.soy_meaning.specs.PlanOfNodes.{called_classes, case_plans, fallback_plans, given_frame}
 use Rattle.soy_meaning.specs.PlanOfNodes.{node_plan}
 use Rattle.soy_meaning.specs.PlanOfNodes.{nodes_plan, other_plan, plural_plans, scope_past, select_plans, starts_at}
-use Rattle.soy_meaning.specs.PlanOfNodes.{translated_plan, translation_plans, uses_of}
-use Rattle.soy_meaning.specs.PlanOfParts.{parts_plan, printed_classes}
+use Rattle.soy_meaning.specs.PlanOfNodes.{translation_plans}
+use Rattle.soy_meaning.specs.PlanOfParts.{printed_classes}
 use Rattle.soy_meaning.specs.Points.{Here, Inside, Left, Right}
 use Rattle.soy_meaning.specs.RunsAlong.{IsFrameWithin}
 use Rattle.soy_meaning.specs.States.{IsMember}
-use Rattle.soy_meaning.specs.TranslationFits.{ArgumentsFit, ArmsFit, BodyFits, CasesFit, FallbackFits, FitsMessage}
+use Rattle.soy_meaning.specs.TranslationFits.{ArgumentsFit, ArmsFit, BodyFits, CasesFit}
 use Rattle.soy_meaning.specs.TranslationFits.{GivenFits, NodeFits, NodesFit, OtherFits, PluralFits, SelectFits}
-use Rattle.soy_meaning.proofs.AlikeBindings.{callee_alike, envs_more, val_alike}
-use Rattle.soy_meaning.proofs.AlikeNodes.{arms_from, cases_from, fewer, one_more, otherwise_from, plural_from}
+use Rattle.soy_meaning.proofs.AlikeBindings.{envs_more, val_alike}
+use Rattle.soy_meaning.proofs.AlikeNodes.{arms_from, cases_from, otherwise_from, plural_from}
 use Rattle.soy_meaning.proofs.AlikeNodes.{select_from}
 use Rattle.soy_meaning.proofs.AlikeOutcomes.{BeginsFrom}
-use Rattle.soy_meaning.proofs.CheckedTrees.{around_template}
-use Rattle.soy_meaning.proofs.Goings.{GivesBlocks}
-use Rattle.soy_meaning.proofs.Members.{mem_left, mem_right}
-use Rattle.soy_meaning.proofs.NestOutcomes.{AnyStop, At, Behind, HasSome, Joins, OnTwin, TwinBlocks, TwinBy, Twins}
+use Rattle.soy_meaning.proofs.NestOutcomes.{Behind, HasSome, Joins, TwinBlocks, Twins}
 use Rattle.soy_meaning.proofs.NestOutcomes.{has_behind, joins_arm, joins_behind, joins_then, twin_bound}
-use Rattle.soy_meaning.proofs.NestOutcomes.{twin_called, twin_chosen, twin_costs, twin_if, twin_nothing, twin_printed}
-use Rattle.soy_meaning.proofs.NestOutcomes.{twin_refused, twin_text, twin_turns, twin_value, twin_whole, twin_wider}
-use Rattle.soy_meaning.proofs.NestParts.{parts_twin}
-use Rattle.soy_meaning.proofs.OpenedCalls.{called_more, called_none}
+use Rattle.soy_meaning.proofs.NestOutcomes.{twin_chosen, twin_costs, twin_if, twin_nothing, twin_printed}
+use Rattle.soy_meaning.proofs.NestOutcomes.{twin_text, twin_turns, twin_wider}
 use Rattle.soy_meaning.proofs.PrintableUses.{message_printable}
-use Rattle.soy_meaning.proofs.RunBindings.{AllFramesIn, FramesIn, IsAmong, any_frames, callee_among, frames_left}
+use Rattle.soy_meaning.proofs.RunBindings.{AllFramesIn, FramesIn, any_frames, callee_among, frames_left}
 use Rattle.soy_meaning.proofs.RunBindings.{frames_right}
-use Rattle.soy_meaning.proofs.SomePaths.{HasPath, frames_path, nodes_path}
-use Rattle.soy_meaning.proofs.TypedEnvs.{EnvTyped, arm_typed, callee_typed, let_block_typed, let_typed, loop_typed}
-use Rattle.soy_meaning.proofs.TypedEnvs.{placeholders_have_classes, printed_has_class}
-use Rattle.soy_meaning.proofs.TypedNodes.{ArgumentsTyped, ArmsTyped, BodyTyped, CalleeTakes, CasesTyped, FallbackTyped}
+use Rattle.soy_meaning.proofs.SomePaths.{frames_path, nodes_path}
+use Rattle.soy_meaning.proofs.TypedEnvs.{EnvTyped, arm_typed, let_block_typed, let_typed, loop_typed}
+use Rattle.soy_meaning.proofs.TypedEnvs.{printed_has_class}
+use Rattle.soy_meaning.proofs.TypedNodes.{ArgumentsTyped, ArmsTyped, BodyTyped, CasesTyped}
 use Rattle.soy_meaning.proofs.TypedNodes.{GivenTyped, NodeTyped, NodesTyped, OtherTyped, PluralTyped, SelectTyped}
-use Rattle.soy_meaning.proofs.TypedNodes.{UsesPrintable}
 use Rattle.soy_meaning.proofs.NestFrames as pair
 use Rattle.soy_meaning.proofs.NestFrames.{Pair, joins_end, joins_turn, turn_env}
 

@@ -1,5 +1,5 @@
 -- Two runs of a frame side by side: what fills their paths is alike where their choices are the same.
-use Rattle.std.proofs.Common.{◌≡◌, ℕ, ◌+◌, Bool, true, false, List, [], ◌∷◌, ◌++◌, inl, inr, Option, Some, None}
+use Rattle.std.proofs.Common.{◌≡◌, ℕ, ◌+◌, Bool, true, false, List, [], ◌∷◌, ◌++◌, inl, inr, Some}
 use Rattle.std.proofs.Common.{if◌then◌else◌, refl, sym, ap, ◌∙◌, subst, append_assoc}
 use Rattle.std.proofs.lemmas.List.{append-nil}
 use Rattle.soy_base.specs.declared.kind.Kind.{Kind}
@@ -16,19 +16,19 @@ use Rattle.soy_meaning.specs.Filled.{text_before, value_before, value_form}
 use Rattle.soy_meaning.specs.FrameRun.{FrameRun, IsBlockOf, bound_as, run_outcome, run_plan}
 use Rattle.soy_meaning.specs.GivenAt.{IsGivenAt}
 use Rattle.soy_meaning.specs.Giving.{BoundBlock, StateSoFar, block_bound, called_means, frame_means, piece_means}
-use Rattle.soy_meaning.specs.Giving.{placing_so_far, printed_means, read_outcome, read_piece, text_means, value_class}
+use Rattle.soy_meaning.specs.Giving.{printed_means, read_outcome, text_means, value_class}
 use Rattle.soy_meaning.specs.Giving.{value_means, with_choice, with_cost}
 use Rattle.soy_meaning.specs.Meaning.{joined_pieces}
 use Rattle.soy_meaning.specs.Outcome.{ArmTaken, ChoiceMade, GivesPiece, Outcome, RunEnd, RunEnds, Spent, StopsAt}
 use Rattle.soy_meaning.specs.Outcome.{Turns, WholeRun, choices_of_outcome, continued_by, end_of_outcome, gathered}
-use Rattle.soy_meaning.specs.Outcome.{gives_nothing, none_spent, pieces_of_outcome, spent_first}
+use Rattle.soy_meaning.specs.Outcome.{gives_nothing, none_spent, pieces_of_outcome}
 use Rattle.soy_meaning.specs.PathParts.{HolePart, IsPath, PathPart, StaticPart, both, empty_path, met, static_text}
 use Rattle.soy_meaning.specs.PicksValues.{is_block_kind}
 use Rattle.soy_meaning.specs.Pieces.{RunContext}
 use Rattle.soy_meaning.specs.Plan.{Nowhere, Plan, Site, Then, arms_meet}
 use Rattle.soy_meaning.specs.PlanOfNodes.{kind_class}
 use Rattle.soy_meaning.specs.PlanOfParts.{text_plan}
-use Rattle.soy_meaning.specs.RunsAlong.{FilledByRuns, FitsClasses, IsFrameWithin, IsPathUpTo, RunsAlong}
+use Rattle.soy_meaning.specs.RunsAlong.{FilledByRuns, FitsClasses, IsFrameWithin, IsPathUpTo}
 use Rattle.soy_meaning.specs.States.{IsMember}
 use Rattle.soy_meaning.proofs.AlikeNodes.{first_turns}
 use Rattle.soy_meaning.proofs.AlikeOutcomes.{BeginsFrom, Choices, Gathers, begins, choice_of, cost_of, first_choices}

@@ -1,18 +1,16 @@
 -- Runs of templates with the same choices nest their frames alike.
-use Rattle.std.proofs.Common.{◌≡◌, ℕ, zero, suc, true, false, List, [], ◌∷◌, ◌++◌, ap, subst, refl, sym, ◌∙◌, arith}
-use Rattle.soy_base.specs.declared.place.ValueClass.{ValueClass}
+use Rattle.std.proofs.Common.{◌≡◌, ℕ, zero, suc, List, [], ◌∷◌, ◌++◌, ap, subst, refl, sym, ◌∙◌, arith}
 use Rattle.soy_tree.specs.Templates.{Declared, declared, param_scope}
 use Rattle.soy_tree.specs.Trees.{Tree}
-use Rattle.soy_tree.specs.Val.{Binding, BlockOf, Known}
-use Rattle.soy_meaning.specs.EqualChoices.{BindingsAlike, BindingsBy, EnvsAlike, EnvsBy, FilledAlike, NestAlike}
+use Rattle.soy_tree.specs.Val.{BlockOf, Known}
+use Rattle.soy_meaning.specs.EqualChoices.{EnvsAlike, EnvsBy, FilledAlike, NestAlike}
 use Rattle.soy_meaning.specs.Filled.{Filled, filled_end, frame_before, parts_of_filled, text_before, value_before}
 use Rattle.soy_meaning.specs.FrameRun.{entry_frame, template_frame}
 use Rattle.soy_meaning.specs.Giving.{BoundBlock, RunEnv}
 use Rattle.soy_meaning.specs.Outcome.{choices_of_outcome}
-use Rattle.soy_meaning.specs.PathParts.{HolePart, PathPart, StaticPart}
+use Rattle.soy_meaning.specs.PathParts.{HolePart, StaticPart}
 use Rattle.soy_meaning.specs.PicksValues.{Marks, TemplatesPick, param_marks}
 use Rattle.soy_meaning.specs.Pieces.{RunContext, template_run}
-use Rattle.soy_meaning.specs.Plan.{Site}
 use Rattle.soy_meaning.specs.PlanOfNodes.{trees_plan}
 use Rattle.soy_meaning.specs.RunsAlong.{BindsValues, FitsClasses}
 use Rattle.soy_meaning.specs.States.{IsMember}
