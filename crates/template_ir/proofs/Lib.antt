@@ -11,3 +11,11 @@ pub mod SourceLaws
 pub mod CallLaws
 pub mod NodeLaws
 pub mod RunLaws
+pub mod Demands
+pub mod SeenHoles
+pub mod CalleeBindings
+pub mod PlacedHoles
+pub mod PlacedParts
+pub mod PlacedNodes
+pub mod CheckedTemplates
+pub mod PlacedRuns

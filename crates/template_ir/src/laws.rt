@@ -1,13 +1,18 @@
 //! What the definitions come to. Each law is a contract with an empty body.
 
-ghost use Rattle.std.specs.Prelude.{◌≡◌, ℕ, List, [], ◌∷◌, Some, true, pos, codes, slice_get};
+ghost use Rattle.std.specs.Prelude.{◌≡◌, ℕ, List, [], ◌∷◌, Some, Ok, true, pos, codes, slice_get};
 ghost use Rattle.soy_base.specs.declared.place.Place.TheVariants as place;
 ghost use Rattle.soy_base.specs.declared.place.Place.{Place};
+ghost use Rattle.html_state.specs.declared.row.State.{State};
 ghost use Rattle.soy_tree.specs.Nodes.{Nodes};
 ghost use Rattle.soy_tree.specs.Templates.{Declared, declared};
 ghost use Rattle.soy_tree.specs.Trees.{Tree};
 ghost use Rattle.soy_tree.specs.TypeOf.{Scope};
+ghost use Rattle.soy_meaning.specs.AcceptedTrees.{walk_trees};
 ghost use Rattle.soy_meaning.specs.Giving.{RunEnv};
+ghost use Rattle.soy_meaning.specs.TranslationFits.{TranslationsFit};
+ghost use Rattle.soy_meaning.specs.TypedData.{AreTypedTrees, FitsData};
+ghost use Rattle.soy_meaning.specs.Walk.{Walked};
 ghost use Rattle.soy_meaning.specs.Pieces.{template_run};
 ghost use Rattle.soy_meaning.specs.Holes.{hole_count};
 ghost use Rattle.soy_meaning.specs.PlanOfNodes.{PlanContext, nodes_plan};
@@ -45,6 +50,16 @@ pub fn law_run_is_pieces()
         EntryPlaced (language_context l (declared trees)) places number env →
         pieces_end_costs (template_gives p number env)
         ≡ pieces_end_costs (template_run (language_context l (declared trees)) d env) }
+{}
+
+/// A run of a template is as `law_run_is_pieces` asks, where the trees are typed, the translations fit, the walk over
+/// the trees meets no fault and the data fit: each value stands, by the pieces of its frame so far, at the place that
+/// the walk gave its hole.
+pub fn law_runs_are_placed()
+    ensures { (trees : List Tree) (l : Language) (v : Walked State) → AreTypedTrees trees →
+        TranslationsFit l.translation (declared trees) → walk_trees l.translation trees ≡ Ok v →
+        (number : ℕ) (d : Declared) → slice_get (declared trees) number ≡ Some d → (env : RunEnv) → FitsData d env →
+        EntryPlaced (language_context l (declared trees)) v.places number env }
 {}
 
 /// Rows that the checker computes: programs written by hand stand for the trees of their rows, they are sound, and they
