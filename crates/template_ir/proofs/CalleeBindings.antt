@@ -77,14 +77,14 @@ module _ (c : RunContext) (q : FrameRun) (env : RunEnv) where
 -- ---- which names are handed on
 
 module _ (hands : Bool) (own : List Param) (given : List Name) where
-  abbrev names_on : List Param → List Name
+  abbrev pub names_on : List Param → List Name
   names_on = handed_on_names hands own given
 
-  abbrev is_handed : Name → Bool
+  abbrev pub is_handed : Name → Bool
   is_handed x = hands && is_some (param_of x own) && not (is_among x given)
 
   -- a name that isn't handed on is none of these
-  not_handed : (x : Name) → is_handed x ≡ false → (ps : List Param) → has_name x (names_on ps) ≡ false
+  pub not_handed : (x : Name) → is_handed x ≡ false → (ps : List Param) → has_name x (names_on ps) ≡ false
   not_handed x h [] = refl
   not_handed x h (p ∷ ps) = by_test (not_handed x h ps) (is_handed p.name) refl
     where
@@ -119,7 +119,7 @@ module _ (hands : Bool) (own : List Param) (given : List Name) where
       by_name false e more k = seen e (more k) (is_handed p.name)
 
   -- a parameter's name is, where it is handed on
-  handed_there : (x : Name) → is_handed x ≡ true → (ps : List Param) → is_some (param_of x ps) ≡ true
+  pub handed_there : (x : Name) → is_handed x ≡ true → (ps : List Param) → is_some (param_of x ps) ≡ true
       → has_name x (names_on ps) ≡ true
   handed_there x h [] k = let no : ⊥ = cc in absurd no
   handed_there x h (p ∷ ps) k = by_name (bytes_eq p.name x) refl (λ j. handed_there x h ps j) k

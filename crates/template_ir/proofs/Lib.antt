@@ -19,3 +19,11 @@ pub mod PlacedParts
 pub mod PlacedNodes
 pub mod CheckedTemplates
 pub mod PlacedRuns
+pub mod TakenClasses
+pub mod SelectedUses
+pub mod Patterns
+pub mod SoundOps
+pub mod SoundParts
+pub mod SoundCalls
+pub mod SoundNodes
+pub mod SoundPrograms

@@ -20,6 +20,7 @@ ghost use Rattle.soy_meaning.specs.RunRows.{attributes_block, attributes_body, b
 ghost use Rattle.soy_meaning.specs.RunRows.{calls_body, number_env, number_param, offset_translation, plural_source};
 ghost use Rattle.soy_meaning.specs.RunRows.{row_trees, source_body, source_plural, text_env, text_param};
 ghost use Rattle.template_ir.specs.Compiles.{CompileContext, Compiles, Language, StandsNodes, with_more};
+ghost use Rattle.template_ir.specs.CompiledTrees.{ArePatterns};
 ghost use Rattle.template_ir.specs.Ops.{Op, Program};
 ghost use Rattle.template_ir.specs.Placed.{EntryPlaced, language_context};
 ghost use Rattle.template_ir.specs.HoleCounts.{nodes_holes};
@@ -60,6 +61,25 @@ pub fn law_runs_are_placed()
         TranslationsFit l.translation (declared trees) → walk_trees l.translation trees ≡ Ok v →
         (number : ℕ) (d : Declared) → slice_get (declared trees) number ≡ Some d → (env : RunEnv) → FitsData d env →
         EntryPlaced (language_context l (declared trees)) v.places number env }
+{}
+
+/// A program that stands for typed trees gives what they give, with the same costs and the same end, under data that
+/// fit, where the translations fit and the places are those that the walk gives, which meets no fault.
+pub fn law_compiled_run_is_pieces()
+    ensures { (trees : List Tree) (l : Language) (v : Walked State) (p : Program) → AreTypedTrees trees →
+        TranslationsFit l.translation (declared trees) → walk_trees l.translation trees ≡ Ok v →
+        Compiles trees v.places l p →
+        (number : ℕ) (d : Declared) → slice_get (declared trees) number ≡ Some d → (env : RunEnv) → FitsData d env →
+        pieces_end_costs (template_gives p number env)
+        ≡ pieces_end_costs (template_run (language_context l (declared trees)) d env) }
+{}
+
+/// A program that stands for trees can't go wrong, where the trees are typed, the translations are patterns and fit, and
+/// the places are those that the walk gives, which meets no fault.
+pub fn law_compiled_is_sound()
+    ensures { (trees : List Tree) (l : Language) (v : Walked State) (p : Program) → AreTypedTrees trees →
+        TranslationsFit l.translation (declared trees) → ArePatterns l.translation →
+        walk_trees l.translation trees ≡ Ok v → Compiles trees v.places l p → is_sound p ≡ true }
 {}
 
 /// Rows that the checker computes: programs written by hand stand for the trees of their rows, they are sound, and they
