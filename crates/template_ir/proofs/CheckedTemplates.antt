@@ -1,6 +1,6 @@
 -- What the checker demands of each template of typed trees.
-use Rattle.std.proofs.Common.{◌≡◌, ℕ, ◌+◌, Bool, true, false, List, [], ◌∷◌, ◌++◌, ◌⊎◌, inl, inr, Option, Some, None}
-use Rattle.std.proofs.Common.{Ok, Err, if◌then◌else◌, refl, sym, ◌∙◌, subst}
+use Rattle.std.proofs.Common.{◌≡◌, ℕ, ◌+◌, Bool, true, false, List, [], ◌∷◌, inl, inr, Option, Some, None}
+use Rattle.std.proofs.Common.{Ok, Err, if◌then◌else◌, refl, sym, subst}
 use Rattle.std.specs.Prelude.{option_map, ◌&&◌}
 use Rattle.std.specs.List.{list_all}
 use Rattle.std.specs.Option.{option_or}

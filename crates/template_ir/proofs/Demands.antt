@@ -7,7 +7,7 @@ use Rattle.std.proofs.lemmas.Bool.{and_parts}
 use Rattle.soy_base.specs.declared.fault.Span.{Span}
 use Rattle.soy_base.specs.Names.{is_dotted_name, is_name}
 use Rattle.soy_tree.specs.Accepts.{accepts}
-use Rattle.soy_tree.specs.Bodies.{Around, Checked, accepted, after_arguments, after_arms, after_body, after_cases}
+use Rattle.soy_tree.specs.Bodies.{Around, accepted, after_arguments, after_arms, after_body, after_cases}
 use Rattle.soy_tree.specs.Bodies.{after_fallback, after_given, after_message, after_node, after_nodes, after_otherwise}
 use Rattle.soy_tree.specs.Bodies.{after_plural_cases, after_select_cases, each_passing, known_param, loop_scope}
 use Rattle.soy_tree.specs.Bodies.{named_param, names_given, new_variable, new_variables, param_demands, param_of}
@@ -22,7 +22,7 @@ use Rattle.soy_tree.specs.Formed.{is_formed_int, is_formed_message, is_formed_no
 use Rattle.soy_tree.specs.Formed.{is_message_text, is_text, is_word_character, nesting}
 use Rattle.soy_tree.specs.Ints.{largest}
 use Rattle.soy_tree.specs.Members.{is_simple}
-use Rattle.soy_tree.specs.MessageText.{MessageItem, Cut, cuts_of, joined_items, message_items, node_message_items}
+use Rattle.soy_tree.specs.MessageText.{MessageItem, cuts_of, joined_items, message_items, node_message_items}
 use Rattle.soy_tree.specs.Narrowing.{narrowed}
 use Rattle.soy_tree.specs.Nodes.{Node, Nodes, Otherwise, Arms, Cases, Arguments, Given, Message, Fallback, MessageBody}
 use Rattle.soy_tree.specs.Nodes.{PluralCases, SelectCases, TextNode, Print, If, Switch, For, Let, LetBlock, Call}

@@ -1,6 +1,6 @@
 -- What stands in a hole of a run stands where the walk says: values, printed blocks and calls.
-use Rattle.std.proofs.Common.{◌≡◌, ℕ, zero, suc, ◌+◌, Bool, true, false, List, [], ◌∷◌, ◌++◌, inl, inr, Option, Some}
-use Rattle.std.proofs.Common.{None, Ok, refl, sym, ap, ◌∙◌, subst}
+use Rattle.std.proofs.Common.{◌≡◌, ℕ, zero, suc, List, [], ◌∷◌, ◌++◌}
+use Rattle.std.proofs.Common.{refl, sym, ap, ◌∙◌, subst}
 use Rattle.soy_base.specs.declared.kind.Kind.{Kind}
 use Rattle.soy_base.specs.declared.kind.Kind.TheVariants as kinds
 use Rattle.soy_base.specs.declared.place.Place.{Place}
@@ -23,7 +23,7 @@ use Rattle.soy_meaning.specs.Outcome.{pieces_of_outcome}
 use Rattle.soy_meaning.specs.PageMachine.{page_machine}
 use Rattle.soy_meaning.specs.PathParts.{IsPath, both, empty_path, hole, met, static_text, turn}
 use Rattle.soy_meaning.specs.Pieces.{RunContext, called_within, context_in}
-use Rattle.soy_meaning.specs.Plan.{Site, Plan, Hole, Loop, Nothing, Nowhere, Then, arms_meet}
+use Rattle.soy_meaning.specs.Plan.{Site, Plan, Hole, Loop, Nowhere, Then, arms_meet}
 use Rattle.soy_meaning.specs.PlanOfNodes.{kind_class}
 use Rattle.soy_meaning.specs.PlanOfParts.{text_plan}
 use Rattle.soy_meaning.specs.RunsAlong.{FilledByRuns, IsFrameWithin, IsPathUpTo}
@@ -43,7 +43,6 @@ use Rattle.soy_meaning.proofs.TypedEnvs.{EnvTyped}
 use Rattle.soy_meaning.proofs.TypedNodes.{NodesTyped}
 use Rattle.soy_meaning.proofs.ValueTexts.{text_of_value}
 use Rattle.template_ir.specs.Placed.{BoundPlaced, CalledPlaced, PrintPlaced, TextPlaced, ValuePlaced}
-use Rattle.template_ir.specs.StandFor.{place_of}
 use Rattle.template_ir.proofs.SeenHoles.{Seen, fills_both, hole_seen}
 
 -- past a block, where what comes next is as it should be

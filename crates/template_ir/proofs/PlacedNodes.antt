@@ -1,14 +1,13 @@
 -- What nodes give stands where the walk says, where they are typed and the variables are bound to what their types
 -- have.
-use Rattle.std.proofs.Common.{◌≡◌, ℕ, suc, ◌+◌, ℤ, Bool, true, false, List, [], ◌∷◌, ◌++◌, ◌⊎◌, inl, inr, Option, Some}
-use Rattle.std.proofs.Common.{None, Ok, refl, sym, ap, ◌∙◌, subst, append_assoc, arith}
+use Rattle.std.proofs.Common.{◌≡◌, ℕ, suc, ◌+◌, ℤ, Bool, true, false, List, [], ◌∷◌, ◌++◌, inl, inr, Option, Some}
+use Rattle.std.proofs.Common.{None, refl, sym, ap, ◌∙◌, subst, append_assoc, arith}
 use Rattle.std.specs.Prelude.{bytes_eq, is_some, pos, ◌||◌}
 use Rattle.std.proofs.lemmas.Bool.{or_parts}
 use Rattle.std.proofs.lemmas.List.{append-nil}
 use Rattle.soy_base.specs.declared.fault.Span.{Span}
 use Rattle.soy_base.specs.declared.kind.Kind.{Kind}
 use Rattle.soy_base.specs.declared.place.Place.{Place}
-use Rattle.soy_base.specs.declared.place.ValueClass.{ValueClass}
 use Rattle.html_state.specs.AfterPieces.{Piece}
 use Rattle.soy_tree.specs.Bodies.{Around, names_given, param_of}
 use Rattle.soy_tree.specs.Declarations.{is_among}
@@ -19,19 +18,18 @@ use Rattle.soy_tree.specs.Nodes.{PluralCases, SelectCases, TextNode, Print, If, 
 use Rattle.soy_tree.specs.Nodes.{MessageNode, no_node, node, no_otherwise, otherwise, no_arm, arm, no_case, case}
 use Rattle.soy_tree.specs.Nodes.{no_argument, argument, Plain, Block, message, no_fallback, fallback, Parts, Plural}
 use Rattle.soy_tree.specs.Nodes.{Select, no_plural_case, plural_case, no_select_case, select_case}
-use Rattle.soy_tree.specs.Templates.{Declared, callee, kind_type, param_scope}
+use Rattle.soy_tree.specs.Templates.{Declared, callee, param_scope}
 use Rattle.soy_tree.specs.Trees.{Param}
 use Rattle.soy_tree.specs.Types.{Name}
 use Rattle.soy_tree.specs.TypeOf.{Scope, type_of}
 use Rattle.soy_tree.proofs.SameTypes.{same_name}
 use Rattle.soy_tree.specs.Val.{Binding, Known, is_same_int, is_truthy, val}
-use Rattle.soy_tree.specs.Values as values
-use Rattle.soy_tree.specs.Values.{Items, NullValue, Value, item, no_item}
+use Rattle.soy_tree.specs.Values.{Items, Value, item, no_item}
 use Rattle.soy_meaning.specs.Branch.{int_of, word_of}
 use Rattle.soy_meaning.specs.ComesNext.{IsItem}
 use Rattle.soy_meaning.specs.Filled.{Filled, FillsHoles, filled_end, filled_pieces, parts_of_filled}
 use Rattle.soy_meaning.specs.FourPoints.{AcceptedPaths}
-use Rattle.soy_meaning.specs.FrameRun.{FrameRun, bound_as, inner_outcome, plan_context, run_outcome, template_frame}
+use Rattle.soy_meaning.specs.FrameRun.{FrameRun, bound_as, inner_outcome, plan_context, template_frame}
 use Rattle.soy_meaning.specs.GivenAt.{given_binding_of, given_bindings}
 use Rattle.soy_meaning.specs.Giving.{BoundBlock, RunEnv, StateSoFar}
 use Rattle.soy_meaning.specs.Holes.{hole_count}
@@ -40,13 +38,12 @@ use Rattle.soy_meaning.specs.PageMachine.{page_machine}
 use Rattle.soy_meaning.specs.PathParts.{IsPath, both, empty_path, no_turn, passed_by}
 use Rattle.soy_meaning.specs.Pieces.{GivenArguments, RunContext, callee_env, called_within, chosen_after, chosen_of}
 use Rattle.soy_meaning.specs.Pieces.{context_in, fallback_text, given_binding, is_one, listed_items, valued, with_index}
-use Rattle.soy_meaning.specs.Plan.{Site, Plan, Frame, Hole, Loop, Then, arms_meet}
+use Rattle.soy_meaning.specs.Plan.{Site, Plan, Frame, Hole, Loop, Then}
 use Rattle.soy_meaning.specs.PlanOfNodes.{PlanContext, arm_plans, argument_frames, body_plan, body_scope, called_classes}
-use Rattle.soy_meaning.specs.PlanOfNodes.{case_plans, closes_at, fallback_plans, given_frame, kind_class, node_plan}
+use Rattle.soy_meaning.specs.PlanOfNodes.{case_plans, closes_at, fallback_plans, given_frame, node_plan}
 use Rattle.soy_meaning.specs.PlanOfNodes.{nodes_plan, other_plan, plural_plans, scope_past, select_plans, starts_at}
 use Rattle.soy_meaning.specs.PlanOfNodes.{translated_plan, translation_plans, uses_of}
 use Rattle.soy_meaning.specs.PlanOfParts.{parts_plan, printed_classes}
-use Rattle.soy_meaning.specs.States.{IsMember}
 use Rattle.soy_meaning.specs.TranslationFits.{ArgumentsFit, ArmsFit, BodyFits, CasesFit, FallbackFits, FitsMessage}
 use Rattle.soy_meaning.specs.TranslationFits.{GivenFits, NodeFits, NodesFit, OtherFits, PluralFits, SelectFits}
 use Rattle.soy_meaning.specs.Points.{Inside}
@@ -63,21 +60,21 @@ use Rattle.soy_meaning.proofs.TypedNodes.{GivenTyped, MessageTyped, NodeTyped, N
 use Rattle.soy_meaning.proofs.TypedNodes.{SelectTyped}
 use Rattle.template_ir.specs.Compiles.{callee_number, handed_on_names, params_there}
 use Rattle.template_ir.specs.HoleCounts.{arm_holes, body_holes, case_holes, given_holes, node_holes, nodes_holes}
-use Rattle.template_ir.specs.HoleCounts.{plural_holes, select_holes, source_holes, translated_holes, translation_holes}
+use Rattle.template_ir.specs.HoleCounts.{plural_holes, select_holes, translated_holes, translation_holes}
 use Rattle.template_ir.specs.Placed.{ArgumentsPlaced, ArmsPlaced, CasesPlaced, GivenPlaced, IsFresh, MessagePlaced}
 use Rattle.template_ir.specs.Placed.{NodePlaced, NodesPlaced, OpenedPlaced, OtherPlaced, PluralPlaced, SelectPlaced}
 use Rattle.template_ir.specs.Placed.{PartsPlaced, SourcePlaced, TurnsPlaced}
 use Rattle.template_ir.proofs.CalleeBindings.{callee_binds, given_more}
-use Rattle.template_ir.proofs.Counts.{all_holes, arm_count, body_count, case_count, given_count, node_count}
-use Rattle.template_ir.proofs.Counts.{nodes_count, plural_count, select_count, translated_count}
-use Rattle.template_ir.proofs.Demands.{ArgumentsDemand, ArmsDemand, BodyDemands, CasesDemand, FallbackDemands}
-use Rattle.template_ir.proofs.Demands.{GivenDemands, MessageDemands, NodeDemands, NodesDemand, OtherDemands}
+use Rattle.template_ir.proofs.Counts.{arm_count, body_count, case_count, given_count, node_count}
+use Rattle.template_ir.proofs.Counts.{nodes_count, plural_count, select_count}
+use Rattle.template_ir.proofs.Demands.{ArgumentsDemand, ArmsDemand, BodyDemands, CasesDemand}
+use Rattle.template_ir.proofs.Demands.{GivenDemands, NodeDemands, NodesDemand, OtherDemands}
 use Rattle.template_ir.proofs.Demands.{PluralDemands, SelectDemands}
 use Rattle.template_ir.proofs.PlacedHoles.{AfterEach, Afterwards, AllGood, At, HasRun, IsGoodBinding, TemplatesRun}
 use Rattle.template_ir.proofs.PlacedHoles.{after_arms, after_then, after_turn, bound_good, bound_placed, call_placed}
-use Rattle.template_ir.proofs.PlacedHoles.{frame_has_run, print_placed, text_placed, value_placed}
+use Rattle.template_ir.proofs.PlacedHoles.{frame_has_run, print_placed, text_placed}
 use Rattle.template_ir.proofs.PlacedParts.{parts_placed, picks}
-use Rattle.template_ir.proofs.SeenHoles.{AllSeen, Seen, SeesFrames, all_at, all_split, arms_seen, body_seen}
+use Rattle.template_ir.proofs.SeenHoles.{AllSeen, Seen, SeesFrames, all_at, arms_seen, body_seen}
 use Rattle.template_ir.proofs.SeenHoles.{first_seen, frame_seen, frame_stands, frames_first, frames_second, last_seen}
 use Rattle.template_ir.proofs.SeenHoles.{second_seen, seen_at, turn_seen}
 

@@ -1,8 +1,7 @@
 -- The runs of typed and accepted trees stand where the walk says.
-use Rattle.std.proofs.Common.{◌≡◌, ℕ, zero, suc, ◌+◌, List, [], ◌∷◌, ◌++◌, ◌⊎◌, inl, inr, Option, Some, None, Ok}
-use Rattle.std.proofs.Common.{get_or, map, refl, sym, ap, ◌∙◌, subst, arith}
+use Rattle.std.proofs.Common.{◌≡◌, ℕ, zero, suc, ◌+◌, List, [], ◌∷◌, inl, inr, Some, Ok}
+use Rattle.std.proofs.Common.{get_or, map, sym, subst, arith}
 use Rattle.std.specs.Prelude.{slice_get}
-use Rattle.soy_base.specs.declared.kind.Kind.{Kind}
 use Rattle.soy_base.specs.declared.place.Place.{Place}
 use Rattle.soy_base.specs.declared.place.Place.TheVariants as place
 use Rattle.soy_base.specs.declared.place.Placing.TheVariants.{Takes}
@@ -13,7 +12,7 @@ use Rattle.soy_tree.specs.Trees.{Tree}
 use Rattle.soy_meaning.specs.AcceptedTrees.{walk_trees}
 use Rattle.soy_meaning.specs.Filled.{filled_pieces}
 use Rattle.soy_meaning.specs.FourPoints.{AcceptedPaths}
-use Rattle.soy_meaning.specs.FrameRun.{plan_context, run_plan, template_frame}
+use Rattle.soy_meaning.specs.FrameRun.{plan_context, template_frame}
 use Rattle.soy_meaning.specs.Giving.{RunEnv}
 use Rattle.soy_meaning.specs.Holes.{hole_count}
 use Rattle.soy_meaning.specs.Holes as plan

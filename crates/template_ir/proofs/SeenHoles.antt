@@ -1,11 +1,9 @@
 -- What the walk says of the holes of a plan that stands in a frame, behind the frame's pieces so far.
-use Rattle.std.proofs.Common.{◌≡◌, ℕ, ◌+◌, List, [], ◌∷◌, ◌++◌, ◌⊎◌, inl, inr, Option, Some, None, Result, Ok, refl}
-use Rattle.std.proofs.Common.{sym, ap, ◌∙◌, subst, append_assoc, arith}
-use Rattle.soy_base.specs.declared.code.Code.{Code}
+use Rattle.std.proofs.Common.{◌≡◌, ℕ, ◌+◌, List, [], ◌∷◌, ◌++◌, Option, Some, Ok, refl}
+use Rattle.std.proofs.Common.{sym, ap, subst, append_assoc, arith}
 use Rattle.soy_base.specs.declared.direction.Dir.{Dir}
 use Rattle.soy_base.specs.declared.kind.Kind.{Kind}
 use Rattle.soy_base.specs.declared.place.Place.{Place}
-use Rattle.soy_base.specs.declared.place.Placing.{Placing}
 use Rattle.soy_base.specs.declared.place.Placing.TheVariants.{Takes}
 use Rattle.soy_base.specs.declared.place.ValueClass.{ValueClass}
 use Rattle.html_state.specs.AfterPieces.{Piece, placing_after}

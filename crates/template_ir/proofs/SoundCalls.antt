@@ -1,23 +1,21 @@
 -- What a typed call hands on fits the callee's parameters, under names that it gives nothing under, and no parameter
 -- that is required is left out.
-use Rattle.std.proofs.Common.{◌≡◌, ℕ, ◌+◌, Bool, true, false, List, [], ◌∷◌, ◌++◌, ◌⊎◌, inl, inr, Option, Some, None}
+use Rattle.std.proofs.Common.{◌≡◌, ℕ, ◌+◌, Bool, true, false, List, [], ◌∷◌, ◌++◌, inl, inr, Option, Some, None}
 use Rattle.std.proofs.Common.{if◌then◌else◌, map, refl, sym, ap, ◌∙◌, subst}
 use Rattle.std.specs.Prelude.{bytes_eq, is_some, not, ◌&&◌, ◌||◌}
-use Rattle.std.specs.List.{list_all}
 use Rattle.std.proofs.lemmas.Bool.{and_parts, or_parts}
 use Rattle.std.proofs.lemmas.Slice.Eq.{bytes_eq-Decides}
-use Rattle.soy_tree.specs.Accepts.{accepts}
 use Rattle.soy_tree.specs.Bodies.{Around, names_given, param_of}
 use Rattle.soy_tree.specs.Declarations.{is_among}
 use Rattle.soy_tree.specs.Nodes.{Arguments, Given, no_argument, argument}
 use Rattle.soy_tree.specs.Templates.{param_type}
 use Rattle.soy_tree.specs.Trees.{Param}
 use Rattle.soy_tree.specs.Types.{Name}
-use Rattle.soy_tree.specs.TypeOf.{Scope, variable_type}
+use Rattle.soy_tree.specs.TypeOf.{Scope}
 use Rattle.soy_tree.proofs.SameTypes.{same_name}
 use Rattle.soy_meaning.specs.States.{IsMember}
 use Rattle.soy_meaning.proofs.CheckedNodes.{same_bytes}
-use Rattle.soy_meaning.proofs.TypedNodes.{HandsOn, LeftTo, ParamTakes, ParamsTake, given_of}
+use Rattle.soy_meaning.proofs.TypedNodes.{HandsOn, ParamTakes, ParamsTake, given_of}
 use Rattle.template_ir.specs.Compiles.{CompileContext, StandsGiven, handed_on_names, same_handed}
 use Rattle.template_ir.specs.HoleCounts.{given_holes}
 use Rattle.template_ir.specs.Ops.{Handed, HandedSame}

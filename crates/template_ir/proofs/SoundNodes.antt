@@ -1,7 +1,7 @@
 -- The ops of nodes pass their checks, where the nodes are typed and the places are those that the walk gives.
 use Rattle.std.proofs.Common.{◌≡◌, ℕ, ◌+◌, ◌≤◌, Bool, true, false, List, [], ◌∷◌, ◌++◌, Option, Some, None, Ok}
-use Rattle.std.proofs.Common.{if◌then◌else◌, length, map, take, refl, sym, ap, ◌∙◌, subst, arith}
-use Rattle.std.specs.Prelude.{bytes_eq, codes, nat_le, not, slice_get, ◌&&◌, ◌||◌}
+use Rattle.std.proofs.Common.{if◌then◌else◌, length, map, take, refl, sym, ap, ◌∙◌, arith}
+use Rattle.std.specs.Prelude.{bytes_eq, codes, nat_le, not, slice_get, ◌&&◌}
 use Rattle.std.specs.List.{list_all}
 use Rattle.std.proofs.lemmas.Bool.{and_parts}
 use Rattle.soy_base.specs.declared.fault.Span.{Span}
@@ -30,7 +30,7 @@ use Rattle.soy_meaning.specs.FourPoints.{takes_classes}
 use Rattle.soy_meaning.specs.Holes.{hole_count}
 use Rattle.soy_meaning.specs.PathParts.{IsPath, empty_path, hole, passed_by}
 use Rattle.soy_meaning.specs.Pieces.{chosen_after, chosen_of, fallback_text}
-use Rattle.soy_meaning.specs.Plan.{Site, Plan, Hole, Then}
+use Rattle.soy_meaning.specs.Plan.{Site, Plan, Hole}
 use Rattle.soy_meaning.specs.PlanOfNodes.{PlanContext, arm_plans, argument_frames, body_plan, body_scope, called_classes}
 use Rattle.soy_meaning.specs.PlanOfNodes.{case_plans, closes_at, fallback_plans, given_frame, kind_class, node_plan}
 use Rattle.soy_meaning.specs.PlanOfNodes.{nodes_plan, other_plan, plural_plans, scope_past, select_plans, starts_at}
@@ -40,9 +40,9 @@ use Rattle.soy_meaning.specs.TranslationFits.{ArgumentsFit, ArmsFit, BodyFits, C
 use Rattle.soy_meaning.specs.TranslationFits.{GivenFits, NodeFits, NodesFit, OtherFits, PluralFits, SelectFits}
 use Rattle.soy_meaning.proofs.CheckedTrees.{around_template}
 use Rattle.soy_meaning.proofs.PrintableUses.{message_printable}
-use Rattle.soy_meaning.proofs.SomePaths.{frames_path, node_path}
+use Rattle.soy_meaning.proofs.SomePaths.{node_path}
 use Rattle.soy_meaning.proofs.TypedNodes.{ArgumentsTyped, ArmsTyped, BodyTyped, CalleeTakes, CasesTyped, FallbackTyped}
-use Rattle.soy_meaning.proofs.TypedNodes.{GivenTaken, GivenTyped, HasType, MessageTyped, NodeTyped, NodesTyped}
+use Rattle.soy_meaning.proofs.TypedNodes.{GivenTaken, GivenTyped, MessageTyped, NodeTyped, NodesTyped}
 use Rattle.soy_meaning.proofs.TypedNodes.{OtherTyped, PluralTyped, SelectTyped}
 use Rattle.template_ir.specs.CompiledTrees.{ArePatterns}
 use Rattle.template_ir.specs.Compiles.{CompileContext, Language, StandsArms, StandsCases, StandsGiven, StandsHanded}
@@ -62,15 +62,14 @@ use Rattle.template_ir.specs.Sound.{scope_there}
 use Rattle.template_ir.specs.StandFor.{StandsParts, place_of}
 use Rattle.template_ir.specs.declared.op.Block as code_block
 use Rattle.template_ir.specs.declared.op.ExactBlock.{ExactBlock}
-use Rattle.template_ir.specs.declared.op.NamedBlock.{NamedBlock}
 use Rattle.template_ir.specs.declared.op.WordBlock.{WordBlock}
 use Rattle.template_ir.proofs.CheckedTemplates.{AreApart}
-use Rattle.template_ir.proofs.Counts.{all_holes, arm_count, body_count, case_count, given_count, node_count, nodes_count}
-use Rattle.template_ir.proofs.Counts.{plural_count, select_count, translated_count}
+use Rattle.template_ir.proofs.Counts.{arm_count, body_count, case_count, given_count, node_count, nodes_count}
+use Rattle.template_ir.proofs.Counts.{plural_count, select_count}
 use Rattle.template_ir.proofs.Demands.{AreSimple, ArgumentsDemand, ArmsDemand, BodyDemands, CasesDemand, FallbackDemands}
-use Rattle.template_ir.proofs.Demands.{GivenDemands, HasTypeOf, MessageDemands, NodeDemands, NodesDemand, OtherDemands}
+use Rattle.template_ir.proofs.Demands.{GivenDemands, MessageDemands, NodeDemands, NodesDemand, OtherDemands}
 use Rattle.template_ir.proofs.Demands.{PluralDemands, SelectDemands}
-use Rattle.template_ir.proofs.Forward.{node_forward, nodes_forward, source_forward}
+use Rattle.template_ir.proofs.Forward.{nodes_forward, source_forward}
 use Rattle.template_ir.proofs.Patterns.{numbered_anywhere, pattern_numbered}
 use Rattle.template_ir.proofs.SelectedUses.{message_selects}
 use Rattle.template_ir.proofs.SoundCalls.{all_named, among_neither, given_not_on, itself_among, later_free, or_later}

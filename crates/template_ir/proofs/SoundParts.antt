@@ -1,6 +1,6 @@
 -- The ops of a translation pass their checks.
 use Rattle.std.proofs.Common.{◌≡◌, ℕ, ◌+◌, ◌≤◌, Bool, true, false, List, [], ◌∷◌, ◌++◌, Option, Some, None}
-use Rattle.std.proofs.Common.{if◌then◌else◌, length, map, take, refl, sym, ap, ◌∙◌, subst, arith}
+use Rattle.std.proofs.Common.{if◌then◌else◌, length, map, take, refl, sym, ap, ◌∙◌, arith}
 use Rattle.std.specs.Prelude.{bytes_eq, codes, is_some, nat_le, ◌&&◌, ◌||◌}
 use Rattle.std.specs.Option.{option_or}
 use Rattle.std.proofs.lemmas.Bool.{and_parts}
@@ -27,11 +27,11 @@ use Rattle.soy_meaning.specs.PlanOfParts.{cut_of_role, cut_plan, exact_plans, na
 use Rattle.soy_meaning.specs.PlanOfParts.{placeholder_cut, printed_classes, select_arm_plans, tag_plan, text_plan}
 use Rattle.soy_meaning.specs.TranslationFits.{exact_fit, has_other, has_other_word, named_fit, part_fits, parts_fit}
 use Rattle.soy_meaning.specs.TranslationFits.{select_fit}
-use Rattle.soy_meaning.proofs.SomePaths.{HasPath, part_path, text_path}
+use Rattle.soy_meaning.proofs.SomePaths.{part_path, text_path}
 use Rattle.soy_meaning.proofs.TypedNodes.{CutPrintable, ItemsPrintable, UsesPrintable}
 use Rattle.template_ir.specs.HoleCounts.{exact_holes, part_holes, parts_holes}
 use Rattle.template_ir.specs.Ops.{NumberOp, Op, PluralOp, PrintOp, Routine, SelectOp}
-use Rattle.template_ir.specs.Sound.{are_sound_arms, has_named_other, has_word_other, is_sound_block, is_sound_expr}
+use Rattle.template_ir.specs.Sound.{are_sound_arms, has_named_other, has_word_other, is_sound_expr}
 use Rattle.template_ir.specs.Sound.{is_sound_plural, is_sound_select}
 use Rattle.template_ir.specs.StandFor.{StandsCut, StandsExact, StandsNamed, StandsOp, StandsPart, StandsParts}
 use Rattle.template_ir.specs.StandFor.{StandsSelected, StandsTag, StandsWords, place_of}

@@ -1,6 +1,6 @@
 -- A program that stands for typed and accepted trees can't go wrong.
-use Rattle.std.proofs.Common.{◌≡◌, ℕ, zero, suc, ◌+◌, ◌≤◌, true, false, List, [], ◌∷◌, ◌++◌, inl, inr, Option, Some, None}
-use Rattle.std.proofs.Common.{Ok, length, map, refl, sym, ap, ◌∙◌, subst, arith}
+use Rattle.std.proofs.Common.{◌≡◌, ℕ, ◌+◌, ◌≤◌, true, false, List, [], ◌∷◌, inl, inr, Option, Some}
+use Rattle.std.proofs.Common.{Ok, map, refl, ap, ◌∙◌, subst, arith}
 use Rattle.std.specs.Prelude.{slice_get}
 use Rattle.std.specs.List.{list_all}
 use Rattle.soy_base.specs.declared.kind.Kind.{Kind}

@@ -1,6 +1,6 @@
 -- The place that the walk gives to a hole takes the classes of the hole, of each hole to which a path leads.
-use Rattle.std.proofs.Common.{◌≡◌, ℕ, ◌+◌, true, List, [], ◌∷◌, ◌++◌, Option, Some, None, Ok, get_or, refl, sym, ap}
-use Rattle.std.proofs.Common.{◌∙◌, subst, arith}
+use Rattle.std.proofs.Common.{◌≡◌, ℕ, ◌+◌, true, List, [], ◌∷◌, ◌++◌, Option, Some, Ok, get_or, refl, sym, ap}
+use Rattle.std.proofs.Common.{subst, arith}
 use Rattle.soy_base.specs.declared.kind.Kind.{Kind}
 use Rattle.soy_base.specs.declared.place.Place.{Place}
 use Rattle.soy_base.specs.declared.place.Place.TheVariants as place
@@ -12,7 +12,7 @@ use Rattle.soy_meaning.specs.FourPoints.{OnePlacing, PointHolds, StartsAs, takes
 use Rattle.soy_meaning.specs.Holes.{hole_count, holes_before}
 use Rattle.soy_meaning.specs.PageMachine.{page_machine}
 use Rattle.soy_meaning.specs.PathParts.{PathPart, no_turn, state_after_parts}
-use Rattle.soy_meaning.specs.Plan.{Site, Plan, Either, Frame, Hole, Loop, Meet, Nowhere, Then, any_of, arms_meet}
+use Rattle.soy_meaning.specs.Plan.{Site, Plan, Either, Frame, Hole, Loop, Nowhere, Then, any_of, arms_meet}
 use Rattle.soy_meaning.specs.Points.{Address, AtHole, Here, Inside, LeadsTo, Left, Point, Right, StandsAt, frame_at}
 use Rattle.soy_meaning.specs.Points.{in_arms, in_body, one_way, other_way, point_at, to_first, to_hole, to_second}
 use Rattle.soy_meaning.specs.States.{IsMember}
