@@ -44,7 +44,8 @@ use Rattle.soy_meaning.proofs.SomePaths.{node_path}
 use Rattle.soy_meaning.proofs.TypedNodes.{ArgumentsTyped, ArmsTyped, BodyTyped, CalleeTakes, CasesTyped, FallbackTyped}
 use Rattle.soy_meaning.proofs.TypedNodes.{GivenTaken, GivenTyped, MessageTyped, NodeTyped, NodesTyped}
 use Rattle.soy_meaning.proofs.TypedNodes.{OtherTyped, PluralTyped, SelectTyped}
-use Rattle.template_ir.specs.CompiledTrees.{ArePatterns}
+use Rattle.template_ir.specs.CompiledTrees.{ArgumentPatterns, ArmPatterns, CasePatterns, FallbackPattern, GivenPatterns}
+use Rattle.template_ir.specs.CompiledTrees.{IsPatternThere, NodePatterns, NodesPatterns, OtherPatterns}
 use Rattle.template_ir.specs.Compiles.{CompileContext, Language, StandsArms, StandsCases, StandsGiven, StandsHanded}
 use Rattle.template_ir.specs.Compiles.{StandsMessage, StandsNode, StandsNodes, StandsOther, StandsPluralCases}
 use Rattle.template_ir.specs.Compiles.{StandsSelectCases, StandsSource, callee_number, context_of_template}
@@ -70,7 +71,7 @@ use Rattle.template_ir.proofs.Demands.{AreSimple, ArgumentsDemand, ArmsDemand, B
 use Rattle.template_ir.proofs.Demands.{GivenDemands, MessageDemands, NodeDemands, NodesDemand, OtherDemands}
 use Rattle.template_ir.proofs.Demands.{PluralDemands, SelectDemands}
 use Rattle.template_ir.proofs.Forward.{nodes_forward, source_forward}
-use Rattle.template_ir.proofs.Patterns.{numbered_anywhere, pattern_numbered}
+use Rattle.template_ir.proofs.Patterns.{whole_anywhere, pattern_whole}
 use Rattle.template_ir.proofs.SelectedUses.{message_selects}
 use Rattle.template_ir.proofs.SoundCalls.{all_named, among_neither, given_not_on, itself_among, later_free, or_later}
 use Rattle.template_ir.proofs.SoundCalls.{required_given, same_sound, stands_names}
@@ -122,7 +123,7 @@ module _ (l : Language) (all : List Declared) (places : List Place) (templates :
     → IsRoutineOf e (slice_get templates (callee_number all namespace name)))
     (apart : (namespace name : Name) (e : Declared) → callee all namespace name ≡ Some e
     → AreApart e.template.params [])
-    (patterns : ArePatterns l.translation) (d : Declared) where
+    (d : Declared) where
   abbrev cc : CompileContext
   cc = context_of_template l all places ops d
 
@@ -231,55 +232,56 @@ module _ (l : Language) (all : List Declared) (places : List Place) (templates :
     own = message desc meaning body within
 
     translated_sound : (m : Message) → MessageTyped around m scope → MessageDemands around m scope → (parts : MsgParts)
-        → l.translation m ≡ Some parts → FitsMessage (uses_of m) (Some parts) → (start_ : ℕ)
+        → IsPatternThere (Some parts) → FitsMessage (uses_of m) (Some parts) → (start_ : ℕ)
         → Taken places (parts_plan (uses_of m) scope at parts) start_
         → StandsParts places ops (uses_of m) parts start_ from past → Pass from end number scope
-    translated_sound m typed demands parts is fit start_ taken h =
-        let pattern = patterns m parts is in
+    translated_sound m typed demands parts pattern fit start_ taken h =
         parts_sound templates places ops (uses_of m) scope at (message_printable around m scope typed)
         (message_selects around m scope demands) parts fit number
-        (numbered_anywhere number parts (pattern_numbered pattern.0 parts pattern.1)) start_ from past end taken h le
+        (whole_anywhere number parts (pattern_whole pattern.0 parts pattern.1)) start_ from past end taken h le
         rest
 
     fallback_sound : (other : Message) → MessageTyped around other scope → MessageDemands around other scope
-        → (found : Option MsgParts) → l.translation other ≡ found → FitsMessage (uses_of other) found
+        → (found : Option MsgParts) → IsPatternThere found → FitsMessage (uses_of other) found
         → AllTaken places (translated_plan (uses_of other) scope at found)
         (first + (body_holes l.translation body + translation_holes l.translation own))
         → StandsMessage cc (chosen_after other found) own first from past → Pass from end number scope
-    fallback_sound other typed demands None is fit taken h = source h
-    fallback_sound other typed demands (Some parts) is fit taken h =
-        translated_sound other typed demands parts is fit
+    fallback_sound other typed demands None pattern fit taken h = source h
+    fallback_sound other typed demands (Some parts) pattern fit taken h =
+        translated_sound other typed demands parts pattern fit
         (first + (body_holes l.translation body + translation_holes l.translation own)) taken.0 h
 
     chosen_sound : (found : Option MsgParts) → l.translation own ≡ found → (other : Fallback)
         → AllTaken places (translated_plan (uses_of own) scope at found ++ fallback_plans pc other scope at)
         (first + body_holes l.translation body)
-        → FitsMessage (uses_of own) found → FallbackFits l.translation other → MessageTyped around own scope
+        → IsPatternThere found → FallbackPattern l.translation other → FitsMessage (uses_of own) found
+        → FallbackFits l.translation other → MessageTyped around own scope
         → MessageDemands around own scope → FallbackTyped around other scope → FallbackDemands around other scope
         → StandsMessage cc (chosen_of found (fallback_text l.translation other)) own first from past
         → Pass from end number scope
-    chosen_sound None is no_fallback taken fit other_fit typed demands other_typed other_demands h = source h
-    chosen_sound None is (fallback other) taken fit other_fit typed demands other_typed other_demands h =
+    chosen_sound None is no_fallback taken pattern other_pattern fit other_fit typed demands other_typed other_demands h = source h
+    chosen_sound None is (fallback other) taken pattern other_pattern fit other_fit typed demands other_typed other_demands h =
         let none : translation_holes l.translation own ≡ 0 = ap (translated_holes (uses_of own)) is in
-        fallback_sound other other_typed other_demands (l.translation other) refl other_fit
+        fallback_sound other other_typed other_demands (l.translation other) other_pattern other_fit
         (all_from places (translation_plans pc other scope at) (first + body_holes l.translation body)
         (first + (body_holes l.translation body + translation_holes l.translation own)) (omega (arith, none)) taken) h
-    chosen_sound (Some parts) is other taken fit other_fit typed demands other_typed other_demands h =
-        translated_sound own typed demands parts is fit (first + body_holes l.translation body) taken.0 h
+    chosen_sound (Some parts) is other taken pattern other_pattern fit other_fit typed demands other_typed other_demands h =
+        translated_sound own typed demands parts pattern fit (first + body_holes l.translation body) taken.0 h
 
   -- ---- nodes
 
   mutual
     node_sound : (n : Node) (first from past end : ℕ) (number : Bool) (scope : Scope)
-        → Taken places (node_plan pc n scope) first → NodeFits l.translation n → NodeTyped around n scope
+        → Taken places (node_plan pc n scope) first → NodePatterns l.translation n
+        → NodeFits l.translation n → NodeTyped around n scope
         → NodeDemands around n scope → StandsNode cc n first from past → past ≤ end
         → Pass past end number (scope_past n scope) → Pass from end number scope
-    node_sound (TextNode text span) first from past end number scope taken fit typed demands h le rest =
+    node_sound (TextNode text span) first from past end number scope taken patterns fit typed demands h le rest =
         text_sound templates places ops text from past end number scope h le rest
-    node_sound (Print e phname span) first from past end number scope taken fit typed demands h le rest =
+    node_sound (Print e phname span) first from past end number scope taken patterns fit typed demands h le rest =
         print_sound templates places ops e first from past end number scope typed
         (hole_taken places (starts_at d.file span) (printed_classes e scope) first taken) h le rest
-    node_sound (If arms other span) first from past end number scope taken fit typed demands h le rest =
+    node_sound (If arms other span) first from past end number scope taken patterns fit typed demands h le rest =
         let ps : List Plan = arm_plans pc arms scope in
         let last : Plan = other_plan pc other scope in
         let split = last_taken places ps last first (arm_holes l.translation arms) (arm_count pc arms scope)
@@ -288,10 +290,10 @@ module _ (l : Language) (all : List Declared) (places : List Place) (templates :
         op_passes templates places ops (IfOp h.0 h.1) from past end number scope scope h.4 le
         (passes_if _ scope
         (both_true (list_all (is_sound_branch (before_ from) scope) h.0) (is_sound_rest (before_ from) h.1 scope)
-        (arms_sound arms first from scope split.0 fit.0 typed.0 demands.0 inside h.0 h.2)
-        (other_sound other (first + arm_holes l.translation arms) from scope split.1 fit.1 typed.1 demands.1 inside h.1
+        (arms_sound arms first from scope split.0 patterns.0 fit.0 typed.0 demands.0 inside h.0 h.2)
+        (other_sound other (first + arm_holes l.translation arms) from scope split.1 patterns.1 fit.1 typed.1 demands.1 inside h.1
         h.3))) rest
-    node_sound (Switch e cases other span) first from past end number scope taken fit typed demands h le rest =
+    node_sound (Switch e cases other span) first from past end number scope taken patterns fit typed demands h le rest =
         let ps : List Plan = case_plans pc cases scope in
         let last : Plan = other_plan pc other scope in
         let split = last_taken places ps last first (case_holes l.translation cases) (case_count pc cases scope)
@@ -302,10 +304,10 @@ module _ (l : Language) (all : List Declared) (places : List Place) (templates :
         (both_true _ _
         (both_true (is_sound_expr is_simple e scope) (list_all (is_sound_choice (before_ from) scope) h.0)
         (expr_sound is_simple e scope demands.0)
-        (cases_sound cases first from scope split.0 fit.0 typed.0 demands.1 inside h.0 h.2))
-        (other_sound other (first + case_holes l.translation cases) from scope split.1 fit.1 typed.1 demands.2 inside
+        (cases_sound cases first from scope split.0 patterns.0 fit.0 typed.0 demands.1 inside h.0 h.2))
+        (other_sound other (first + case_holes l.translation cases) from scope split.1 patterns.1 fit.1 typed.1 demands.2 inside
         h.1 h.3))) rest
-    node_sound (For name index e body span) first from past end number scope taken fit typed demands h le rest =
+    node_sound (For name index e body span) first from past end number scope taken patterns fit typed demands h le rest =
         let within : Scope = body_scope name index (type_of e scope) scope in
         let o : Op = ForOp name index e h.0 in
         let inside : from ≤ length ops = op_within templates places ops o from past h.3 in
@@ -322,15 +324,15 @@ module _ (l : Language) (all : List Declared) (places : List Place) (templates :
         ∙ block_sound templates places ops h.0 from false within
         (nodes_forward cc body first h.0.first h.0.end h.2) h.1 inside
         (nodes_sound body first h.0.first h.0.end h.0.end false within
-        (body_taken places (starts_at d.file span) (nodes_plan pc body within) first taken) fit typed.1 demands h.2
+        (body_taken places (starts_at d.file span) (nodes_plan pc body within) first taken) patterns fit typed.1 demands h.2
         (to_itself h.0.end) (λ s. end_passes templates places ops h.0.end false s))))) rest
-    node_sound (Let name e span) first from past end number scope taken fit typed demands h le rest =
+    node_sound (Let name e span) first from past end number scope taken patterns fit typed demands h le rest =
         op_passes templates places ops (LetOp name e) from past end number scope
         (with_variable name (type_of e scope) scope) h le
         (ap (λ b. if b then scope_bound name (type_of e scope) scope else None) typed.formed
         ∙ (ap (λ r. scope_bound name r scope) typed.typed
         ∙ ap (λ r. Some (with_variable name r scope)) (sym typed.typed))) rest
-    node_sound (LetBlock name kind body span) first from past end number scope taken fit typed demands h le rest =
+    node_sound (LetBlock name kind body span) first from past end number scope taken patterns fit typed demands h le rest =
         let o : Op = LetBlockOp name kind h.0 in
         let inside : from ≤ length ops = op_within templates places ops o from past h.3 in
         op_passes templates places ops o from past end number scope ((name, kind_type kind) ∷ scope) h.3 le
@@ -338,9 +340,9 @@ module _ (l : Language) (all : List Declared) (places : List Place) (templates :
         (block_sound templates places ops h.0 from false scope
         (nodes_forward cc body first h.0.first h.0.end h.2) h.1 inside
         (nodes_sound body first h.0.first h.0.end h.0.end false scope
-        (frame_taken places (closes_at d.file span) kind (nodes_plan pc body scope) first taken) fit typed demands h.2
+        (frame_taken places (closes_at d.file span) kind (nodes_plan pc body scope) first taken) patterns fit typed demands h.2
         (to_itself h.0.end) (λ s. end_passes templates places ops h.0.end false s)))) rest
-    node_sound (Call name hands given span) first from past end number scope taken fit typed demands h le rest =
+    node_sound (Call name hands given span) first from past end number scope taken patterns fit typed demands h le rest =
         let site : Site = starts_at d.file span in
         let found : Option Declared = callee all d.namespace name in
         let one : Plan = Hole site (called_classes found) in
@@ -359,10 +361,10 @@ module _ (l : Language) (all : List Declared) (places : List Place) (templates :
         (hole_taken places site (called_classes found) first (first_taken places one frames first taken))
         (stands_names cc given same h.0 (first + 1) from h.1)
         (arguments_sound given given hands (params_there found) (params_there found) [] (first + 1) from scope
-        (second_taken places one frames first (record { parts = _; path = hole }) taken) fit typed.1 demands inside
+        (second_taken places one frames first (record { parts = _; path = hole }) taken) patterns fit typed.1 demands inside
         (λ x there. there) h.0 h.1
         (same_of_call name hands given scope (before_ from) found refl typed.0)))) rest
-    node_sound (MessageNode (message desc meaning body within) other span) first from past end number scope taken fit
+    node_sound (MessageNode (message desc meaning body within) other span) first from past end number scope taken patterns fit
         typed demands h le rest =
         let at : Site = starts_at d.file span in
         let m : Message = message desc meaning body within in
@@ -374,46 +376,49 @@ module _ (l : Language) (all : List Declared) (places : List Place) (templates :
         (λ stands. source_sound body first from past end number scope at every.0 fit.1 typed.0 demands.0 stands le rest)
         (l.translation m) refl other
         (all_from places behind (first + hole_count source) (first + body_holes l.translation body)
-        (ap (λ k. first + k) (body_count pc body scope at)) every.1) fit.0 fit.2 typed.0 demands.0 typed.1 demands.1 h
+        (ap (λ k. first + k) (body_count pc body scope at)) every.1) patterns.0 patterns.1 fit.0 fit.2 typed.0 demands.0 typed.1 demands.1 h
 
     pub nodes_sound : (ns : Nodes) (first from past end : ℕ) (number : Bool) (scope : Scope)
-        → Taken places (nodes_plan pc ns scope) first → NodesFit l.translation ns → NodesTyped around ns scope
+        → Taken places (nodes_plan pc ns scope) first → NodesPatterns l.translation ns
+        → NodesFit l.translation ns → NodesTyped around ns scope
         → NodesDemand around ns scope → StandsNodes cc ns first from past → past ≤ end
         → ((s : Scope) → Pass past end number s) → Pass from end number scope
-    nodes_sound no_node first from past end number scope taken fit typed demands h le rest =
+    nodes_sound no_node first from past end number scope taken patterns fit typed demands h le rest =
         nothing_passes templates places ops from past end number scope h (rest scope)
-    nodes_sound (node n ns) first from past end number scope taken fit typed demands h le rest =
+    nodes_sound (node n ns) first from past end number scope taken patterns fit typed demands h le rest =
         let one : Plan = node_plan pc n scope in
         let two : Plan = nodes_plan pc ns (scope_past n scope) in
         let middle : h.0 ≤ end =
         up_to (nodes_forward cc ns (first + node_holes l.translation n) h.0 past h.2) le in
-        node_sound n first from h.0 end number scope (first_taken places one two first taken) fit.0 typed.0 demands.0
+        node_sound n first from h.0 end number scope (first_taken places one two first taken) patterns.0 fit.0 typed.0 demands.0
         h.1 middle
         (nodes_sound ns (first + node_holes l.translation n) h.0 past end number (scope_past n scope)
         (taken_from places two (first + hole_count one) (first + node_holes l.translation n)
         (ap (λ k. first + k) (node_count pc n scope))
-        (second_taken places one two first (node_path pc n scope) taken)) fit.1 typed.1 demands.1 h.2 le rest)
+        (second_taken places one two first (node_path pc n scope) taken)) patterns.1 fit.1 typed.1 demands.1 h.2 le rest)
 
     other_sound : (other : Otherwise) (first before : ℕ) (scope : Scope) → Taken places (other_plan pc other scope) first
+        → OtherPatterns l.translation other
         → OtherFits l.translation other → OtherTyped around other scope → OtherDemands around other scope
         → before ≤ length ops → (b : Option code_block.Block) → StandsOther cc other b first before
         → is_sound_rest (before_ before) b scope ≡ true
-    other_sound no_otherwise first before scope taken fit typed demands inside None h = refl
-    other_sound no_otherwise first before scope taken fit typed demands inside (Some b) h = absurd h
-    other_sound (otherwise body) first before scope taken fit typed demands inside None h = absurd h
-    other_sound (otherwise body) first before scope taken fit typed demands inside (Some b) h =
+    other_sound no_otherwise first before scope taken patterns fit typed demands inside None h = refl
+    other_sound no_otherwise first before scope taken patterns fit typed demands inside (Some b) h = absurd h
+    other_sound (otherwise body) first before scope taken patterns fit typed demands inside None h = absurd h
+    other_sound (otherwise body) first before scope taken patterns fit typed demands inside (Some b) h =
         block_sound templates places ops b before false scope (nodes_forward cc body first b.first b.end h.1) h.0 inside
-        (nodes_sound body first b.first b.end b.end false scope taken fit typed demands h.1 (to_itself b.end)
+        (nodes_sound body first b.first b.end b.end false scope taken patterns fit typed demands h.1 (to_itself b.end)
         (λ s. end_passes templates places ops b.end false s))
 
     arms_sound : (arms : Arms) (first before : ℕ) (scope : Scope) → AllTaken places (arm_plans pc arms scope) first
+        → ArmPatterns l.translation arms
         → ArmsFit l.translation arms → ArmsTyped around arms scope → ArmsDemand around arms scope
         → before ≤ length ops → (branches : List Branch) → StandsArms cc arms branches first before
         → list_all (is_sound_branch (before_ before) scope) branches ≡ true
-    arms_sound no_arm first before scope taken fit typed demands inside [] h = refl
-    arms_sound no_arm first before scope taken fit typed demands inside (b ∷ branches) h = absurd h
-    arms_sound (arm e body arms) first before scope taken fit typed demands inside [] h = absurd h
-    arms_sound (arm e body arms) first before scope taken fit typed demands inside (b ∷ branches) h =
+    arms_sound no_arm first before scope taken patterns fit typed demands inside [] h = refl
+    arms_sound no_arm first before scope taken patterns fit typed demands inside (b ∷ branches) h = absurd h
+    arms_sound (arm e body arms) first before scope taken patterns fit typed demands inside [] h = absurd h
+    arms_sound (arm e body arms) first before scope taken patterns fit typed demands inside (b ∷ branches) h =
         let p : Plan = nodes_plan pc body (narrowed e scope) in
         both_true _ _
         (ap (λ z. is_sound_expr any_type z scope && is_sound_block (before_ before) b.body false (narrowed z scope)) h.0
@@ -422,36 +427,38 @@ module _ (l : Language) (all : List Declared) (places : List Place) (templates :
         (record { of = demands.0.of; formed = demands.0.formed; typed = demands.0.typed; passes = refl }))
         (block_sound templates places ops b.body before false (narrowed e scope)
         (nodes_forward cc body first b.body.first b.body.end h.2) h.1 inside
-        (nodes_sound body first b.body.first b.body.end b.body.end false (narrowed e scope) taken.0 fit.0 typed.0
+        (nodes_sound body first b.body.first b.body.end b.body.end false (narrowed e scope) taken.0 patterns.0 fit.0 typed.0
         demands.1 h.2 (to_itself b.body.end) (λ s. end_passes templates places ops b.body.end false s))))
         (arms_sound arms (first + nodes_holes l.translation body) before scope
         (all_from places (arm_plans pc arms scope) (first + hole_count p) (first + nodes_holes l.translation body)
-        (ap (λ k. first + k) (nodes_count pc body (narrowed e scope))) taken.1) fit.1 typed.1 demands.2 inside branches
+        (ap (λ k. first + k) (nodes_count pc body (narrowed e scope))) taken.1) patterns.1 fit.1 typed.1 demands.2 inside branches
         h.3)
 
     cases_sound : (cases : Cases) (first before : ℕ) (scope : Scope) → AllTaken places (case_plans pc cases scope) first
+        → CasePatterns l.translation cases
         → CasesFit l.translation cases → CasesTyped around cases scope → CasesDemand around cases scope
         → before ≤ length ops → (choices : List Choice) → StandsCases cc cases choices first before
         → list_all (is_sound_choice (before_ before) scope) choices ≡ true
-    cases_sound no_case first before scope taken fit typed demands inside [] h = refl
-    cases_sound no_case first before scope taken fit typed demands inside (b ∷ choices) h = absurd h
-    cases_sound (case values body cases) first before scope taken fit typed demands inside [] h = absurd h
-    cases_sound (case values body cases) first before scope taken fit typed demands inside (b ∷ choices) h =
+    cases_sound no_case first before scope taken patterns fit typed demands inside [] h = refl
+    cases_sound no_case first before scope taken patterns fit typed demands inside (b ∷ choices) h = absurd h
+    cases_sound (case values body cases) first before scope taken patterns fit typed demands inside [] h = absurd h
+    cases_sound (case values body cases) first before scope taken patterns fit typed demands inside (b ∷ choices) h =
         let p : Plan = nodes_plan pc body scope in
         both_true _ _
         (both_true (are_sound_values b.values scope) (is_sound_block (before_ before) b.body false scope)
         (ap (λ es. are_sound_values es scope) h.0 ∙ values_sound values scope demands.0)
         (block_sound templates places ops b.body before false scope
         (nodes_forward cc body first b.body.first b.body.end h.2) h.1 inside
-        (nodes_sound body first b.body.first b.body.end b.body.end false scope taken.0 fit.0 typed.0
+        (nodes_sound body first b.body.first b.body.end b.body.end false scope taken.0 patterns.0 fit.0 typed.0
         demands.1 h.2 (to_itself b.body.end) (λ s. end_passes templates places ops b.body.end false s))))
         (cases_sound cases (first + nodes_holes l.translation body) before scope
         (all_from places (case_plans pc cases scope) (first + hole_count p) (first + nodes_holes l.translation body)
-        (ap (λ k. first + k) (nodes_count pc body scope)) taken.1) fit.1 typed.1 demands.2 inside choices h.3)
+        (ap (λ k. first + k) (nodes_count pc body scope)) taken.1) patterns.1 fit.1 typed.1 demands.2 inside choices h.3)
 
     -- what a call gives; behind it stands what is handed on
     arguments_sound : (args every : Arguments) (hands : Bool) (ps params : List Param) (names : List Name)
         (first before : ℕ) (scope : Scope) → Taken places (argument_frames pc args scope) first
+        → ArgumentPatterns l.translation args
         → ArgumentsFit l.translation args → ArgumentsTyped around args scope
         → ArgumentsDemand around args names params scope → before ≤ length ops
         → ((x : Name) → is_among x (names_given args) ≡ true → is_among x (names_given every) ≡ true)
@@ -460,11 +467,11 @@ module _ (l : Language) (all : List Declared) (places : List Place) (templates :
         → are_sound_handed (before_ before) params
         (map same_handed (handed_on_names hands d.template.params (names_given every) ps)) scope ≡ true
         → are_sound_handed (before_ before) params handed scope ≡ true
-    arguments_sound no_argument every hands ps params names first before scope taken fit typed demands inside there
+    arguments_sound no_argument every hands ps params names first before scope taken patterns fit typed demands inside there
         handed h last = ap (λ hs. are_sound_handed (before_ before) params hs scope) h ∙ last
-    arguments_sound (argument name given span rest) every hands ps params names first before scope taken fit typed
+    arguments_sound (argument name given span rest) every hands ps params names first before scope taken patterns fit typed
         demands inside there [] h last = absurd h
-    arguments_sound (argument name given span rest) every hands ps params names first before scope taken fit typed
+    arguments_sound (argument name given span rest) every hands ps params names first before scope taken patterns fit typed
         demands inside there (one ∷ handed) h last =
         let same : List Name = handed_on_names hands d.template.params (names_given every) ps in
         let frame : Plan = given_frame pc given span scope in
@@ -474,7 +481,7 @@ module _ (l : Language) (all : List Declared) (places : List Place) (templates :
         ap (λ n. fits_param (λ to. is_sound_given (before_ before) n one.by to scope) (param_of n params)) h.0
         ∙ (ap (fits_param (λ to. is_sound_given (before_ before) name one.by to scope)) demands.0.named
         ∙ given_sound given one.by name (param_type demands.0.param) span first before scope
-        (first_taken places frame frames first taken) fit.0 typed.0 demands.1 demands.0.takes inside h.1) in
+        (first_taken places frame frames first taken) patterns.0 fit.0 typed.0 demands.1 demands.0.takes inside h.1) in
         let alone : not (is_among one.name (handed_names handed)) ≡ true =
         ap (λ n. not (is_among n (handed_names handed))) h.0
         ∙ (ap (λ ns. not (is_among name ns))
@@ -488,32 +495,33 @@ module _ (l : Language) (all : List Declared) (places : List Place) (templates :
         (taken_from places frames (first + hole_count frame) (first + given_holes l.translation given)
         (ap (λ k. first + k) (given_count pc given span scope))
         (second_taken places frame frames first (record { parts = []; path = given_passed given span scope }) taken))
-        fit.1 typed.1 demands.2 inside
+        patterns.1 fit.1 typed.1 demands.2 inside
         (λ x k. there x (or_later (bytes_eq x name) (is_among x (names_given rest)) k)) handed h.2 last)
 
     given_sound : (given : Given) (by : HandedBy) (name : Name) (to : SoyType) (span : Span) (first before : ℕ)
-        (scope : Scope) → Taken places (given_frame pc given span scope) first → GivenFits l.translation given
+        (scope : Scope) → Taken places (given_frame pc given span scope) first → GivenPatterns l.translation given
+        → GivenFits l.translation given
         → GivenTyped around given scope → GivenDemands around given scope → GivenTaken given to scope
         → before ≤ length ops → StandsHanded cc given by first before
         → is_sound_given (before_ before) name by to scope ≡ true
-    given_sound (Plain e) (HandedValue g) name to span first before scope taken fit typed demands takes inside h =
+    given_sound (Plain e) (HandedValue g) name to span first before scope taken patterns fit typed demands takes inside h =
         ap (λ z. is_sound_expr (accepts to) z scope) h
         ∙ expr_sound (accepts to) e scope
         (record { of = takes.of; formed = takes.formed; typed = takes.typed; passes = takes.takes })
-    given_sound (Plain e) (HandedBlock of b) name to span first before scope taken fit typed demands takes inside h =
+    given_sound (Plain e) (HandedBlock of b) name to span first before scope taken patterns fit typed demands takes inside h =
         absurd h
-    given_sound (Plain e) HandedSame name to span first before scope taken fit typed demands takes inside h = absurd h
-    given_sound (Block kind body) (HandedBlock of b) name to span first before scope taken fit typed demands takes
+    given_sound (Plain e) HandedSame name to span first before scope taken patterns fit typed demands takes inside h = absurd h
+    given_sound (Block kind body) (HandedBlock of b) name to span first before scope taken patterns fit typed demands takes
         inside h =
         both_true (is_sound_block (before_ before) b false scope) (accepts to (kind_type of))
         (block_sound templates places ops b before false scope (nodes_forward cc body first b.first b.end h.2) h.1 inside
         (nodes_sound body first b.first b.end b.end false scope
-        (frame_taken places (closes_at d.file span) kind (nodes_plan pc body scope) first taken) fit typed demands h.2
+        (frame_taken places (closes_at d.file span) kind (nodes_plan pc body scope) first taken) patterns fit typed demands h.2
         (to_itself b.end) (λ s. end_passes templates places ops b.end false s)))
         (ap (λ k. accepts to (kind_type k)) h.0 ∙ takes)
-    given_sound (Block kind body) (HandedValue g) name to span first before scope taken fit typed demands takes inside
+    given_sound (Block kind body) (HandedValue g) name to span first before scope taken patterns fit typed demands takes inside
         h = absurd h
-    given_sound (Block kind body) HandedSame name to span first before scope taken fit typed demands takes inside h =
+    given_sound (Block kind body) HandedSame name to span first before scope taken patterns fit typed demands takes inside h =
         absurd h
 
     source_sound : (body : MessageBody) (first from past end : ℕ) (number : Bool) (scope : Scope) (at : Site)

@@ -40,7 +40,7 @@ use Rattle.template_ir.specs.declared.op.NamedBlock.{NamedBlock}
 use Rattle.template_ir.specs.declared.op.WordBlock.{WordBlock}
 use Rattle.template_ir.proofs.Counts.{all_holes, exact_count, part_count, parts_count, text_count}
 use Rattle.template_ir.proofs.Forward.{op_forward, parts_forward, tag_forward}
-use Rattle.template_ir.proofs.Patterns.{AreNumbered, ExactNumbered, IsNumbered, NamedNumbered, WordsNumbered}
+use Rattle.template_ir.proofs.Patterns.{AreWhole, ExactWhole, IsWhole, NamedWhole, WordsWhole}
 use Rattle.template_ir.proofs.SelectedUses.{IsSelector, UsesSelect, selector_typed}
 use Rattle.template_ir.proofs.SoundOps.{Passes, block_sound, both_true, checks, end_passes, expr_sound, nothing_passes}
 use Rattle.template_ir.proofs.SoundOps.{op_passes, op_within, passes_if, print_sound, text_sound}
@@ -190,7 +190,7 @@ module _ (templates : List Routine) (places : List Place) (ops : List Op) (uses 
   -- ---- parts
 
   mutual
-    part_sound : (p : MsgPart) → part_fits uses p ≡ true → (number : Bool) → IsNumbered number p
+    part_sound : (p : MsgPart) → part_fits uses p ≡ true → (number : Bool) → IsWhole number p
         → (first from past end : ℕ) → Taken places (part_plan uses scope at p) first
         → StandsPart places ops uses p first from past → past ≤ end → Pass past end number → Pass from end number
     part_sound (TextPart text) fits number numbered first from past end taken h l rest =
@@ -233,7 +233,7 @@ module _ (templates : List Routine) (places : List Place) (ops : List Op) (uses 
         (λ blocks stands inside. words_sound arms parts.1 numbered first from all inside blocks stands)
         (λ blocks stands. word_other arms head.1 blocks first from stands) h l rest
 
-    pub parts_sound : (ps : MsgParts) → parts_fit uses ps ≡ true → (number : Bool) → AreNumbered number ps
+    pub parts_sound : (ps : MsgParts) → parts_fit uses ps ≡ true → (number : Bool) → AreWhole number ps
         → (first from past end : ℕ) → Taken places (parts_plan uses scope at ps) first
         → StandsParts places ops uses ps first from past → past ≤ end → Pass past end number → Pass from end number
     parts_sound no_part fits number numbered first from past end taken h l rest =
@@ -249,7 +249,7 @@ module _ (templates : List Routine) (places : List Place) (ops : List Op) (uses 
         (ap (λ k. first + k) (part_count uses scope at p))
         (second_taken places one two first (part_path uses scope at p fit.0) taken)) h.2 l rest)
 
-    exact_sound : (arms : ExactArms) → exact_fit uses arms ≡ true → ExactNumbered arms → (first before : ℕ)
+    exact_sound : (arms : ExactArms) → exact_fit uses arms ≡ true → ExactWhole arms → (first before : ℕ)
         → AllTaken places (exact_plans uses scope at arms) first → before ≤ length ops → (blocks : List ExactBlock)
         → StandsExact places ops uses arms blocks first before → ExactSound before blocks
     exact_sound no_exact_arm fits numbered first before taken l [] h = refl
@@ -266,7 +266,7 @@ module _ (templates : List Routine) (places : List Place) (ops : List Op) (uses 
         (all_from places (exact_plans uses scope at arms) (first + hole_count (parts_plan uses scope at ps))
         (first + parts_holes uses ps) (ap (λ k. first + k) (parts_count uses scope at ps)) taken.1) l blocks h.3)
 
-    named_sound : (arms : NamedArms) → named_fit uses arms ≡ true → NamedNumbered arms → (first before : ℕ)
+    named_sound : (arms : NamedArms) → named_fit uses arms ≡ true → NamedWhole arms → (first before : ℕ)
         → AllTaken places (named_plans uses scope at arms) first → before ≤ length ops → (blocks : List NamedBlock)
         → StandsNamed places ops uses arms blocks first before → NamedSound before blocks
     named_sound no_named_arm fits numbered first before taken l [] h = refl
@@ -283,7 +283,7 @@ module _ (templates : List Routine) (places : List Place) (ops : List Op) (uses 
         (all_from places (named_plans uses scope at arms) (first + hole_count (parts_plan uses scope at ps))
         (first + parts_holes uses ps) (ap (λ k. first + k) (parts_count uses scope at ps)) taken.1) l blocks h.3)
 
-    words_sound : (arms : SelectArms) → select_fit uses arms ≡ true → WordsNumbered arms → (first before : ℕ)
+    words_sound : (arms : SelectArms) → select_fit uses arms ≡ true → WordsWhole arms → (first before : ℕ)
         → AllTaken places (select_arm_plans uses scope at arms) first → before ≤ length ops
         → (blocks : List WordBlock) → StandsWords places ops uses arms blocks first before → WordsSound before blocks
     words_sound no_select_arm fits numbered first before taken l [] h = refl

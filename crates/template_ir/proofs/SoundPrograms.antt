@@ -1,6 +1,6 @@
 -- A program that stands for typed and accepted trees can't go wrong.
 use Rattle.std.proofs.Common.{◌≡◌, ℕ, ◌+◌, ◌≤◌, true, false, List, [], ◌∷◌, inl, inr, Option, Some}
-use Rattle.std.proofs.Common.{Ok, map, refl, ap, ◌∙◌, subst, arith}
+use Rattle.std.proofs.Common.{Ok, map, refl, sym, ap, ◌∙◌, subst, arith}
 use Rattle.std.specs.Prelude.{slice_get}
 use Rattle.std.specs.List.{list_all}
 use Rattle.soy_base.specs.declared.kind.Kind.{Kind}
@@ -23,7 +23,7 @@ use Rattle.soy_meaning.specs.TypedData.{AreTypedTrees}
 use Rattle.soy_meaning.specs.Walk.{Walked}
 use Rattle.soy_meaning.proofs.CheckedTrees.{templates_typed}
 use Rattle.soy_meaning.proofs.RunPaths.{member_fits}
-use Rattle.template_ir.specs.CompiledTrees.{ArePatterns}
+use Rattle.template_ir.specs.CompiledTrees.{ArePatterns, NodesPatterns}
 use Rattle.template_ir.specs.Compiles.{Compiles, Language, StandsTemplate, StandsTemplates, callee_number}
 use Rattle.template_ir.specs.Compiles.{context_of_template}
 use Rattle.template_ir.specs.HoleCounts.{nodes_holes}
@@ -37,6 +37,13 @@ use Rattle.template_ir.proofs.RunLaws.{found_at, template_there}
 use Rattle.template_ir.proofs.SoundNodes.{IsRoutineOf, nodes_sound}
 use Rattle.template_ir.proofs.SoundOps.{body_sound, both_true, checks, end_passes}
 use Rattle.template_ir.proofs.TakenClasses.{Taken, TakesHoles, first_taken, frame_taken, second_taken, taken_from, walk_takes}
+
+member_patterns : (translation : Message → Option MsgParts) (ds : List Declared) (d : Declared) → IsMember d ds
+    → ArePatterns translation ds → NodesPatterns translation d.template.body
+member_patterns translation [] d member h = absurd member
+member_patterns translation (first ∷ ds) d (inl same) h =
+    subst (λ z. NodesPatterns translation z.template.body) (sym same) h.0
+member_patterns translation (first ∷ ds) d (inr member) h = member_patterns translation ds d member h.1
 
 to_itself : (a : ℕ) → a ≤ a
 to_itself a = omega arith
@@ -65,7 +72,7 @@ no_hole translation all (d ∷ ds) (Right x) classes e = no_hole translation all
 no_hole translation all (d ∷ ds) (Inside x) classes e = let no : ⊥ = cc in no
 
 module _ (trees : List Tree) (l : Language) (v : Walked State) (p : Program) (typed : AreTypedTrees trees)
-    (fits : TranslationsFit l.translation (declared trees)) (patterns : ArePatterns l.translation)
+    (fits : TranslationsFit l.translation (declared trees)) (patterns : ArePatterns l.translation (declared trees))
     (walks : walk_trees l.translation trees ≡ Ok v) (compiles : Compiles trees v.places l p) where
   abbrev all : List Declared
   all = declared trees
@@ -109,10 +116,10 @@ module _ (trees : List Tree) (l : Language) (v : Walked State) (p : Program) (ty
       ∙ body_sound p.templates v.places p.ops r.body (param_scope d.template.params)
       (nodes_forward (context_of_template l all v.places p.ops d) d.template.body first r.body.first r.body.end h.body)
       h.within
-      (nodes_sound l all v.places p.templates p.ops routine_of callee_apart patterns d d.template.body first r.body.first
+      (nodes_sound l all v.places p.templates p.ops routine_of callee_apart d d.template.body first r.body.first
       r.body.end r.body.end false (param_scope d.template.params)
       (frame_taken v.places (closes_at d.file d.template.span) d.template.kind body first taken)
-      (member_fits l.translation all d member fits) (templates_typed trees typed d member)
+      (member_patterns l.translation all d member patterns) (member_fits l.translation all d member fits) (templates_typed trees typed d member)
       (template_demands trees typed d member) h.body (to_itself r.body.end)
       (λ s. end_passes p.templates v.places p.ops r.body.end false s))
 

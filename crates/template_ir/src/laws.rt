@@ -78,7 +78,7 @@ pub fn law_compiled_run_is_pieces()
 /// the places are those that the walk gives, which meets no fault.
 pub fn law_compiled_is_sound()
     ensures { (trees : List Tree) (l : Language) (v : Walked State) (p : Program) → AreTypedTrees trees →
-        TranslationsFit l.translation (declared trees) → ArePatterns l.translation →
+        TranslationsFit l.translation (declared trees) → ArePatterns l.translation (declared trees) →
         walk_trees l.translation trees ≡ Ok v → Compiles trees v.places l p → is_sound p ≡ true }
 {}
 
