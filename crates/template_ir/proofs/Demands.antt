@@ -179,7 +179,7 @@ names_param name span before params p h =
 none_there : {P : Type 0} → ◌≡◌ {A = Bool} false true → P
 none_there e = let no : ⊥ = cc in absurd no
 
-some_cuts : (found : Option (List MessageItem)) → is_some (cuts_of found) ≡ true → is_some found ≡ true
+pub some_cuts : (found : Option (List MessageItem)) → is_some (cuts_of found) ≡ true → is_some found ≡ true
 some_cuts None h = h
 some_cuts (Some items) h = refl
 
@@ -190,7 +190,7 @@ both_there None (Some more) h = none_there h
 both_there (Some first) None h = none_there h
 both_there (Some first) (Some more) h = (refl, refl)
 
-are_texts : (ns : Nodes) → is_some (message_items ns) ≡ true → AreTexts ns
+pub are_texts : (ns : Nodes) → is_some (message_items ns) ≡ true → AreTexts ns
 are_texts no_node h = tt
 are_texts (node (TextNode text span) ns) h =
     are_texts ns (both_there (node_message_items (TextNode text span)) (message_items ns) h).1

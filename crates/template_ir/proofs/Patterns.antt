@@ -1,7 +1,8 @@
 -- In the parts of a pattern numbers stand directly in arms of plurals alone, offsets are ints, and each plural and each
 -- select has an arm other.
-use Rattle.std.proofs.Common.{◌≡◌, ℕ, suc, ℤ, Bool, true, false, List, [], ◌∷◌, if◌then◌else◌, refl, sym, subst}
-use Rattle.std.specs.Prelude.{bytes_eq, nat_le}
+use Rattle.std.proofs.Common.{◌≡◌, ℕ, suc, ℤ, Bool, true, false, List, [], ◌∷◌, if◌then◌else◌, refl, sym, ap, ◌∙◌}
+use Rattle.std.proofs.Common.{subst}
+use Rattle.std.specs.Prelude.{bytes_eq, codes, nat_le, ◌||◌}
 use Rattle.std.specs.List.{list_any}
 use Rattle.std.proofs.lemmas.Bool.{le-leb}
 use Rattle.soy_base.specs.Characters.{single_quote}
@@ -11,13 +12,16 @@ use Rattle.plural_rules.specs.declared.category.Category.TheVariants as category
 use Rattle.soy_tree.specs.IcuText.{Exact, InPlural, IsArgument, IsOffset, IsPattern, Key, Named, PatternMode, PluralArms}
 use Rattle.soy_tree.specs.IcuText.{AtTop, InSelect, Reads, WordArms, argument, exact_arms, given, is_int_among, named_arms}
 use Rattle.soy_tree.specs.IcuText.{no_more, no_more_words, none, number, placeholder, plain, plural, plural_arm, quoted}
-use Rattle.soy_tree.specs.IcuText.{select, select_arms, single, stop, two, with_text, word_arm}
+use Rattle.soy_tree.specs.IcuText.{is_other, select, select_arms, single, stop, two, with_text, word_arm}
 use Rattle.soy_tree.specs.Ints.{largest}
 use Rattle.soy_tree.specs.MessageParts.{MsgPart, MsgParts, ExactArms, NamedArms, SelectArms, TextPart, Placeholder}
 use Rattle.soy_tree.specs.MessageParts.{NumberPart, PluralPart, SelectPart, no_part, part, no_exact_arm, exact_arm}
 use Rattle.soy_tree.specs.MessageParts.{no_named_arm, named_arm, no_select_arm, select_arm}
+use Rattle.soy_tree.proofs.SameTypes.{same_name}
+use Rattle.soy_meaning.specs.TranslationFits.{has_other, has_other_word}
+use Rattle.soy_meaning.proofs.CheckedNodes.{same_bytes}
 
--- whether a number may stand here
+-- by whether a number may stand here
 abbrev mutual
   pub IsWhole : Bool → MsgPart → Type 0
   IsWhole here NumberPart = here ≡ true
@@ -137,56 +141,56 @@ other_here true ps one more h = let no : ⊥ = cc in absurd no
 other_kept : (before : List Category) (arms : List (Key × MsgParts))
     → list_any (is_same category.Other) before ≡ false → list_any is_other arms ≡ true
     → has_other (named_arms before arms) ≡ true
-other_kept before [] none has = let no : ⊥ = cc in absurd no
-other_kept before ((Exact n, ps) ∷ arms) none has = other_kept before arms none has
-other_kept before ((Named category.Zero, ps) ∷ arms) none has =
+other_kept before [] free has = let no : ⊥ = cc in absurd no
+other_kept before ((Exact n, ps) ∷ arms) free has = other_kept before arms free has
+other_kept before ((Named category.Zero, ps) ∷ arms) free has =
     other_if (list_any (is_same category.Zero) before) category.Zero ps (named_arms before arms)
-    (named_arms (category.Zero ∷ before) arms) (other_kept before arms none has)
-    (other_kept (category.Zero ∷ before) arms none has)
-other_kept before ((Named category.One, ps) ∷ arms) none has =
+    (named_arms (category.Zero ∷ before) arms) (other_kept before arms free has)
+    (other_kept (category.Zero ∷ before) arms free has)
+other_kept before ((Named category.One, ps) ∷ arms) free has =
     other_if (list_any (is_same category.One) before) category.One ps (named_arms before arms)
-    (named_arms (category.One ∷ before) arms) (other_kept before arms none has)
-    (other_kept (category.One ∷ before) arms none has)
-other_kept before ((Named category.Two, ps) ∷ arms) none has =
+    (named_arms (category.One ∷ before) arms) (other_kept before arms free has)
+    (other_kept (category.One ∷ before) arms free has)
+other_kept before ((Named category.Two, ps) ∷ arms) free has =
     other_if (list_any (is_same category.Two) before) category.Two ps (named_arms before arms)
-    (named_arms (category.Two ∷ before) arms) (other_kept before arms none has)
-    (other_kept (category.Two ∷ before) arms none has)
-other_kept before ((Named category.Few, ps) ∷ arms) none has =
+    (named_arms (category.Two ∷ before) arms) (other_kept before arms free has)
+    (other_kept (category.Two ∷ before) arms free has)
+other_kept before ((Named category.Few, ps) ∷ arms) free has =
     other_if (list_any (is_same category.Few) before) category.Few ps (named_arms before arms)
-    (named_arms (category.Few ∷ before) arms) (other_kept before arms none has)
-    (other_kept (category.Few ∷ before) arms none has)
-other_kept before ((Named category.Many, ps) ∷ arms) none has =
+    (named_arms (category.Few ∷ before) arms) (other_kept before arms free has)
+    (other_kept (category.Few ∷ before) arms free has)
+other_kept before ((Named category.Many, ps) ∷ arms) free has =
     other_if (list_any (is_same category.Many) before) category.Many ps (named_arms before arms)
-    (named_arms (category.Many ∷ before) arms) (other_kept before arms none has)
-    (other_kept (category.Many ∷ before) arms none has)
-other_kept before ((Named category.Other, ps) ∷ arms) none has =
+    (named_arms (category.Many ∷ before) arms) (other_kept before arms free has)
+    (other_kept (category.Many ∷ before) arms free has)
+other_kept before ((Named category.Other, ps) ∷ arms) free has =
     other_here (list_any (is_same category.Other) before) ps (named_arms before arms)
-    (named_arms (category.Other ∷ before) arms) none
+    (named_arms (category.Other ∷ before) arms) free
 
-abbrev other : List ℕ
-other = codes "other"
+abbrev the_other : List ℕ
+the_other = codes "other"
 
 word_if_there : (test same : Bool) (word : List ℕ) (ps : MsgParts) (one more : SelectArms)
-    → bytes_eq word other ≡ same → (same ≡ true → test ≡ false)
+    → bytes_eq word the_other ≡ same → (same ≡ true → test ≡ false)
     → (same ≡ false → has_other_word one ≡ true) → (same ≡ false → has_other_word more ≡ true)
     → has_other_word (if test then one else select_arm word ps more) ≡ true
-word_if_there true true word ps one more e h k j = let no : true ≡ false = h refl in let none : ⊥ = cc in absurd none
+word_if_there true true word ps one more e h k j = let no : true ≡ false = h refl in let nothing : ⊥ = cc in absurd nothing
 word_if_there true false word ps one more e h k j = k refl
 word_if_there false true word ps one more e h k j = ap (λ t. t || has_other_word more) e
 word_if_there false false word ps one more e h k j = ap (λ t. t || has_other_word more) e ∙ j refl
 
-word_kept : (before : List (List ℕ)) (arms : List (List ℕ × MsgParts)) → list_any (bytes_eq other) before ≡ false
+word_kept : (before : List (List ℕ)) (arms : List (List ℕ × MsgParts)) → list_any (bytes_eq the_other) before ≡ false
     → list_any (λ arm. bytes_eq arm.0 (codes "other")) arms ≡ true → has_other_word (select_arms before arms) ≡ true
-word_kept before [] none has = let no : ⊥ = cc in absurd no
-word_kept before (arm ∷ arms) none has =
-    word_if_there (list_any (bytes_eq arm.0) before) (bytes_eq arm.0 other) arm.0 arm.1 (select_arms before arms)
+word_kept before [] free has = let no : ⊥ = cc in absurd no
+word_kept before (arm ∷ arms) free has =
+    word_if_there (list_any (bytes_eq arm.0) before) (bytes_eq arm.0 the_other) arm.0 arm.1 (select_arms before arms)
     (select_arms (arm.0 ∷ before) arms) refl
-    (λ same. ap (λ w. list_any (bytes_eq w) before) (same_name arm.0 other same) ∙ none)
-    (λ apart. word_kept before arms none
-    (or_rest (bytes_eq arm.0 other) (list_any (λ arm. bytes_eq arm.0 (codes "other")) arms) has apart))
+    (λ same. ap (λ w. list_any (bytes_eq w) before) (same_name arm.0 the_other same) ∙ free)
+    (λ apart. word_kept before arms free
+    (or_rest (bytes_eq arm.0 the_other) (list_any (λ arm. bytes_eq arm.0 (codes "other")) arms) has apart))
     (λ apart. word_kept (arm.0 ∷ before) arms
-    (ap (λ t. t || list_any (bytes_eq other) before) (same_bytes other arm.0 ∙ apart) ∙ none)
-    (or_rest (bytes_eq arm.0 other) (list_any (λ arm. bytes_eq arm.0 (codes "other")) arms) has apart))
+    (ap (λ t. t || list_any (bytes_eq the_other) before) (same_bytes the_other arm.0 ∙ apart) ∙ free)
+    (or_rest (bytes_eq arm.0 the_other) (list_any (λ arm. bytes_eq arm.0 (codes "other")) arms) has apart))
 
 offset_within : (text : List ℕ) (n : ℕ) → IsOffset text n → nat_le n largest ≡ true
 offset_within text n none = refl

@@ -230,7 +230,7 @@ module _ (templates : List Routine) (places : List Place) (ops : List Op) (uses 
         let all = arms_taken places at (select_arm_plans uses scope at arms) first taken in
         select_sound (selector false name uses uses) head.0 (selector_typed false name uses uses scope selects) from
         past end number (λ blocks. StandsWords places ops uses arms blocks first from)
-        (λ blocks stands inside. words_sound arms parts.1 numbered first from all inside blocks stands)
+        (λ blocks stands inside. words_sound arms parts.1 numbered.0 first from all inside blocks stands)
         (λ blocks stands. word_other arms head.1 blocks first from stands) h l rest
 
     pub parts_sound : (ps : MsgParts) → parts_fit uses ps ≡ true → (number : Bool) → AreWhole number ps
