@@ -169,7 +169,8 @@ module _ (c : PlanContext) where
         (nodes_holes c.translation body) (arm_holes c.translation arms) (nodes_count body (narrowed e scope))
         (arm_count arms scope)
 
-    pub case_count : (cases : Cases) (scope : Scope) → all_holes (case_plans c cases scope) ≡ case_holes c.translation cases
+    pub case_count : (cases : Cases) (scope : Scope) → all_holes (case_plans c cases scope) ≡ case_holes c.translation
+        cases
     case_count no_case scope = refl
     case_count (case values body cases) scope =
         both (hole_count (nodes_plan c body scope)) (all_holes (case_plans c cases scope))

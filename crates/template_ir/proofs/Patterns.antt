@@ -9,8 +9,10 @@ use Rattle.soy_base.specs.Characters.{single_quote}
 use Rattle.plural_rules.specs.Category.{is_same}
 use Rattle.plural_rules.specs.declared.category.Category.{Category}
 use Rattle.plural_rules.specs.declared.category.Category.TheVariants as category
-use Rattle.soy_tree.specs.IcuText.{Exact, InPlural, IsArgument, IsOffset, IsPattern, Key, Named, PatternMode, PluralArms}
-use Rattle.soy_tree.specs.IcuText.{AtTop, InSelect, Reads, WordArms, argument, exact_arms, given, is_int_among, named_arms}
+use Rattle.soy_tree.specs.IcuText.{Exact, InPlural, IsArgument, IsOffset, IsPattern, Key, Named, PatternMode}
+use Rattle.soy_tree.specs.IcuText.{PluralArms}
+use Rattle.soy_tree.specs.IcuText.{AtTop, InSelect, Reads, WordArms, argument, exact_arms, given, is_int_among}
+use Rattle.soy_tree.specs.IcuText.{named_arms}
 use Rattle.soy_tree.specs.IcuText.{no_more, no_more_words, none, number, placeholder, plain, plural, plural_arm, quoted}
 use Rattle.soy_tree.specs.IcuText.{is_other, select, select_arms, single, stop, two, with_text, word_arm}
 use Rattle.soy_tree.specs.Ints.{largest}
@@ -174,7 +176,8 @@ word_if_there : (test same : Bool) (word : List ℕ) (ps : MsgParts) (one more :
     → bytes_eq word the_other ≡ same → (same ≡ true → test ≡ false)
     → (same ≡ false → has_other_word one ≡ true) → (same ≡ false → has_other_word more ≡ true)
     → has_other_word (if test then one else select_arm word ps more) ≡ true
-word_if_there true true word ps one more e h k j = let no : true ≡ false = h refl in let nothing : ⊥ = cc in absurd nothing
+word_if_there true true word ps one more e h k j = let no : true ≡ false = h refl in let nothing : ⊥ = cc in absurd
+    nothing
 word_if_there true false word ps one more e h k j = k refl
 word_if_there false true word ps one more e h k j = ap (λ t. t || has_other_word more) e
 word_if_there false false word ps one more e h k j = ap (λ t. t || has_other_word more) e ∙ j refl

@@ -109,7 +109,8 @@ module _ (c : RunContext) (whole : Plan) (accepted : AcceptedPaths page_machine 
   -- what comes next behind each filling of a path
   abbrev pub Afterwards : Kind → Plan → List Piece → (StateSoFar → Type 0) → Type 0
   Afterwards kind p before Next =
-      (f : Filled) → FillsHoles f → IsPath p (parts_of_filled f) → Next (At kind (filled_pieces c.direction f kind before))
+      (f : Filled) → FillsHoles f → IsPath p (parts_of_filled f) → Next (At kind
+      (filled_pieces c.direction f kind before))
 
   pub after_then : (kind : Kind) (p q : Plan) (before : List Piece) (Next : StateSoFar → Type 0)
       → Afterwards kind (Then p q) before Next → (f : Filled) → FillsHoles f → IsPath p (parts_of_filled f)
@@ -162,12 +163,14 @@ module _ (c : RunContext) (whole : Plan) (accepted : AcceptedPaths page_machine 
         (after (value_before at classes (value_class v) (value_text v) filled_end) (member, text_of_value v, tt) hole)
         in (
           is ∙ hole_seen c.direction whole places kind at classes before number seen,
-          subst (λ r. Next (read_piece (At kind before) (Value (value_form r (value_class v) (value_text v) c.direction))))
+          subst (λ r. Next (read_piece (At kind before) (Value (value_form r (value_class v) (value_text v)
+              c.direction))))
               (sym is) next,
         )
 
     -- a frame that ends whole
-    pub frame_placed : (inner : FrameRun) → IsBlockKind inner.kind → HasRun inner → IsMember (kind_class inner.kind) classes
+    pub frame_placed : (inner : FrameRun) → IsBlockKind inner.kind → HasRun inner → IsMember (kind_class inner.kind)
+        classes
         → end_of_outcome (run_outcome c inner) ≡ WholeRun → Next (read_outcome (At kind before) (run_outcome c inner))
     frame_placed inner is_block ran member ends =
         let o : Outcome = run_outcome c inner in
@@ -190,7 +193,8 @@ module _ (c : RunContext) (whole : Plan) (accepted : AcceptedPaths page_machine 
     print_placed (Known v) good has = value_placed v has
     print_placed (BlockOf block) good has =
         let inner : FrameRun = good.0.frame in
-        let is : BlockOf block ≡ BlockOf (record { kind = inner.kind; outcome = run_outcome c inner }) = good.0.is_its in
+        let is : BlockOf block ≡ BlockOf (record { kind = inner.kind; outcome = run_outcome c inner }) = good.0.is_its
+        in
         subst (λ b. PrintPlaced own places called Opened b number (At kind before) Next) (sym is)
         (λ ends. frame_placed inner good.0.is_block
         (record {

@@ -39,7 +39,8 @@ use Rattle.soy_meaning.specs.PathParts.{IsPath, both, empty_path, no_turn, passe
 use Rattle.soy_meaning.specs.Pieces.{GivenArguments, RunContext, callee_env, called_within, chosen_after, chosen_of}
 use Rattle.soy_meaning.specs.Pieces.{context_in, fallback_text, given_binding, is_one, listed_items, valued, with_index}
 use Rattle.soy_meaning.specs.Plan.{Site, Plan, Frame, Hole, Loop, Then}
-use Rattle.soy_meaning.specs.PlanOfNodes.{PlanContext, arm_plans, argument_frames, body_plan, body_scope, called_classes}
+use Rattle.soy_meaning.specs.PlanOfNodes.{PlanContext, arm_plans, argument_frames, body_plan, body_scope}
+use Rattle.soy_meaning.specs.PlanOfNodes.{called_classes}
 use Rattle.soy_meaning.specs.PlanOfNodes.{case_plans, closes_at, fallback_plans, given_frame, node_plan}
 use Rattle.soy_meaning.specs.PlanOfNodes.{nodes_plan, other_plan, plural_plans, scope_past, select_plans, starts_at}
 use Rattle.soy_meaning.specs.PlanOfNodes.{translated_plan, translation_plans, uses_of}
@@ -135,7 +136,8 @@ module _ (c : RunContext) (whole : Plan) (accepted : AcceptedPaths page_machine 
   abbrev Behind : Node → Scope → Kind → List Piece → (RunEnv → StateSoFar → Type 0) → Type 0
   Behind n scope kind before Next =
       (f : Filled) → FillsHoles f → IsPath (node_plan of_context n scope) (parts_of_filled f) → (inner : RunEnv)
-      → Good inner → EnvTyped (scope_past n scope) inner → Next inner (Here kind (filled_pieces c.direction f kind before))
+      → Good inner → EnvTyped (scope_past n scope) inner → Next inner (Here kind
+      (filled_pieces c.direction f kind before))
 
   -- ---- calls
 
@@ -504,7 +506,8 @@ module _ (c : RunContext) (whole : Plan) (accepted : AcceptedPaths page_machine 
     source_placed : (body : MessageBody) (kind : Kind) (hole : ℕ) (env : RunEnv) (scope : Scope) (at : Site)
         (before : List Piece) → SeenAt kind (body_plan of_context body scope at) before hole
         → BodyFits c.translation body → BodyTyped around body scope → BodyDemands around body scope → Good env
-        → EnvTyped scope env → (Next : StateSoFar → Type 0) → After kind (body_plan of_context body scope at) before Next
+        → EnvTyped scope env → (Next : StateSoFar → Type 0) → After kind (body_plan of_context body scope at) before
+        Next
         → SourcePlaced own places called Opened body hole env (Here kind before) Next
     source_placed (Parts ns) kind hole env scope at before seen fit typed demands good fitting Next after = (
       demands.0,

@@ -88,7 +88,8 @@ module _ (c : RunContext) (whole : Plan) (accepted : AcceptedPaths page_machine 
       → AfterHere (Hole at (printed_classes e scope)) before Next
       → PrintPlaced own places called Opened (val e env) hole (Here before) Next
   printed_here e fits before hole seen Next after =
-      print_placed c whole accepted places called Opened of at (printed_classes e scope) kind before hole seen Next after
+      print_placed c whole accepted places called Opened of at (printed_classes e scope) kind before hole seen Next
+      after
       (val e env) (val_runs c whole (Unit {0}) (λ at. Unit {0}) e env good) fits
 
   tag_placed : (text : List ℕ) (tag : List MessageItem)

@@ -31,7 +31,8 @@ use Rattle.soy_meaning.specs.Holes.{hole_count}
 use Rattle.soy_meaning.specs.PathParts.{IsPath, empty_path, hole, passed_by}
 use Rattle.soy_meaning.specs.Pieces.{chosen_after, chosen_of, fallback_text}
 use Rattle.soy_meaning.specs.Plan.{Site, Plan, Hole}
-use Rattle.soy_meaning.specs.PlanOfNodes.{PlanContext, arm_plans, argument_frames, body_plan, body_scope, called_classes}
+use Rattle.soy_meaning.specs.PlanOfNodes.{PlanContext, arm_plans, argument_frames, body_plan, body_scope}
+use Rattle.soy_meaning.specs.PlanOfNodes.{called_classes}
 use Rattle.soy_meaning.specs.PlanOfNodes.{case_plans, closes_at, fallback_plans, given_frame, kind_class, node_plan}
 use Rattle.soy_meaning.specs.PlanOfNodes.{nodes_plan, other_plan, plural_plans, scope_past, select_plans, starts_at}
 use Rattle.soy_meaning.specs.PlanOfNodes.{translated_plan, translation_plans, uses_of, with_variable}
@@ -67,7 +68,8 @@ use Rattle.template_ir.specs.declared.op.WordBlock.{WordBlock}
 use Rattle.template_ir.proofs.CheckedTemplates.{AreApart}
 use Rattle.template_ir.proofs.Counts.{arm_count, body_count, case_count, given_count, node_count, nodes_count}
 use Rattle.template_ir.proofs.Counts.{plural_count, select_count}
-use Rattle.template_ir.proofs.Demands.{AreSimple, ArgumentsDemand, ArmsDemand, BodyDemands, CasesDemand, FallbackDemands}
+use Rattle.template_ir.proofs.Demands.{AreSimple, ArgumentsDemand, ArmsDemand, BodyDemands, CasesDemand}
+use Rattle.template_ir.proofs.Demands.{FallbackDemands}
 use Rattle.template_ir.proofs.Demands.{GivenDemands, MessageDemands, NodeDemands, NodesDemand, OtherDemands}
 use Rattle.template_ir.proofs.Demands.{PluralDemands, SelectDemands}
 use Rattle.template_ir.proofs.Forward.{nodes_forward, source_forward}
@@ -259,13 +261,16 @@ module _ (l : Language) (all : List Declared) (places : List Place) (templates :
         → MessageDemands around own scope → FallbackTyped around other scope → FallbackDemands around other scope
         → StandsMessage cc (chosen_of found (fallback_text l.translation other)) own first from past
         → Pass from end number scope
-    chosen_sound None is no_fallback taken pattern other_pattern fit other_fit typed demands other_typed other_demands h = source h
-    chosen_sound None is (fallback other) taken pattern other_pattern fit other_fit typed demands other_typed other_demands h =
+    chosen_sound None is no_fallback taken pattern other_pattern fit other_fit typed demands other_typed other_demands h
+        = source h
+    chosen_sound None is (fallback other) taken pattern other_pattern fit other_fit typed demands other_typed
+        other_demands h =
         let none : translation_holes l.translation own ≡ 0 = ap (translated_holes (uses_of own)) is in
         fallback_sound other other_typed other_demands (l.translation other) other_pattern other_fit
         (all_from places (translation_plans pc other scope at) (first + body_holes l.translation body)
         (first + (body_holes l.translation body + translation_holes l.translation own)) (omega (arith, none)) taken) h
-    chosen_sound (Some parts) is other taken pattern other_pattern fit other_fit typed demands other_typed other_demands h =
+    chosen_sound (Some parts) is other taken pattern other_pattern fit other_fit typed demands other_typed other_demands
+        h =
         translated_sound own typed demands parts pattern fit (first + body_holes l.translation body) taken.0 h
 
   -- ---- nodes
@@ -291,7 +296,8 @@ module _ (l : Language) (all : List Declared) (places : List Place) (templates :
         (passes_if _ scope
         (both_true (list_all (is_sound_branch (before_ from) scope) h.0) (is_sound_rest (before_ from) h.1 scope)
         (arms_sound arms first from scope split.0 patterns.0 fit.0 typed.0 demands.0 inside h.0 h.2)
-        (other_sound other (first + arm_holes l.translation arms) from scope split.1 patterns.1 fit.1 typed.1 demands.1 inside h.1
+        (other_sound other (first + arm_holes l.translation arms) from scope split.1 patterns.1 fit.1 typed.1 demands.1
+        inside h.1
         h.3))) rest
     node_sound (Switch e cases other span) first from past end number scope taken patterns fit typed demands h le rest =
         let ps : List Plan = case_plans pc cases scope in
@@ -305,9 +311,11 @@ module _ (l : Language) (all : List Declared) (places : List Place) (templates :
         (both_true (is_sound_expr is_simple e scope) (list_all (is_sound_choice (before_ from) scope) h.0)
         (expr_sound is_simple e scope demands.0)
         (cases_sound cases first from scope split.0 patterns.0 fit.0 typed.0 demands.1 inside h.0 h.2))
-        (other_sound other (first + case_holes l.translation cases) from scope split.1 patterns.1 fit.1 typed.1 demands.2 inside
+        (other_sound other (first + case_holes l.translation cases) from scope split.1 patterns.1 fit.1 typed.1
+        demands.2 inside
         h.1 h.3))) rest
-    node_sound (For name index e body span) first from past end number scope taken patterns fit typed demands h le rest =
+    node_sound (For name index e body span) first from past end number scope taken patterns fit typed demands h le rest
+        =
         let within : Scope = body_scope name index (type_of e scope) scope in
         let o : Op = ForOp name index e h.0 in
         let inside : from ≤ length ops = op_within templates places ops o from past h.3 in
@@ -324,7 +332,8 @@ module _ (l : Language) (all : List Declared) (places : List Place) (templates :
         ∙ block_sound templates places ops h.0 from false within
         (nodes_forward cc body first h.0.first h.0.end h.2) h.1 inside
         (nodes_sound body first h.0.first h.0.end h.0.end false within
-        (body_taken places (starts_at d.file span) (nodes_plan pc body within) first taken) patterns fit typed.1 demands h.2
+        (body_taken places (starts_at d.file span) (nodes_plan pc body within) first taken) patterns fit typed.1 demands
+        h.2
         (to_itself h.0.end) (λ s. end_passes templates places ops h.0.end false s))))) rest
     node_sound (Let name e span) first from past end number scope taken patterns fit typed demands h le rest =
         op_passes templates places ops (LetOp name e) from past end number scope
@@ -332,7 +341,8 @@ module _ (l : Language) (all : List Declared) (places : List Place) (templates :
         (ap (λ b. if b then scope_bound name (type_of e scope) scope else None) typed.formed
         ∙ (ap (λ r. scope_bound name r scope) typed.typed
         ∙ ap (λ r. Some (with_variable name r scope)) (sym typed.typed))) rest
-    node_sound (LetBlock name kind body span) first from past end number scope taken patterns fit typed demands h le rest =
+    node_sound (LetBlock name kind body span) first from past end number scope taken patterns fit typed demands h le
+        rest =
         let o : Op = LetBlockOp name kind h.0 in
         let inside : from ≤ length ops = op_within templates places ops o from past h.3 in
         op_passes templates places ops o from past end number scope ((name, kind_type kind) ∷ scope) h.3 le
@@ -340,9 +350,11 @@ module _ (l : Language) (all : List Declared) (places : List Place) (templates :
         (block_sound templates places ops h.0 from false scope
         (nodes_forward cc body first h.0.first h.0.end h.2) h.1 inside
         (nodes_sound body first h.0.first h.0.end h.0.end false scope
-        (frame_taken places (closes_at d.file span) kind (nodes_plan pc body scope) first taken) patterns fit typed demands h.2
+        (frame_taken places (closes_at d.file span) kind (nodes_plan pc body scope) first taken) patterns fit typed
+        demands h.2
         (to_itself h.0.end) (λ s. end_passes templates places ops h.0.end false s)))) rest
-    node_sound (Call name hands given span) first from past end number scope taken patterns fit typed demands h le rest =
+    node_sound (Call name hands given span) first from past end number scope taken patterns fit typed demands h le rest
+        =
         let site : Site = starts_at d.file span in
         let found : Option Declared = callee all d.namespace name in
         let one : Plan = Hole site (called_classes found) in
@@ -361,11 +373,12 @@ module _ (l : Language) (all : List Declared) (places : List Place) (templates :
         (hole_taken places site (called_classes found) first (first_taken places one frames first taken))
         (stands_names cc given same h.0 (first + 1) from h.1)
         (arguments_sound given given hands (params_there found) (params_there found) [] (first + 1) from scope
-        (second_taken places one frames first (record { parts = _; path = hole }) taken) patterns fit typed.1 demands inside
+        (second_taken places one frames first (record { parts = _; path = hole }) taken) patterns fit typed.1 demands
+        inside
         (λ x there. there) h.0 h.1
         (same_of_call name hands given scope (before_ from) found refl typed.0)))) rest
-    node_sound (MessageNode (message desc meaning body within) other span) first from past end number scope taken patterns fit
-        typed demands h le rest =
+    node_sound (MessageNode (message desc meaning body within) other span) first from past end number scope taken
+        patterns fit typed demands h le rest =
         let at : Site = starts_at d.file span in
         let m : Message = message desc meaning body within in
         let source : Plan = body_plan pc body scope at in
@@ -376,7 +389,8 @@ module _ (l : Language) (all : List Declared) (places : List Place) (templates :
         (λ stands. source_sound body first from past end number scope at every.0 fit.1 typed.0 demands.0 stands le rest)
         (l.translation m) refl other
         (all_from places behind (first + hole_count source) (first + body_holes l.translation body)
-        (ap (λ k. first + k) (body_count pc body scope at)) every.1) patterns.0 patterns.1 fit.0 fit.2 typed.0 demands.0 typed.1 demands.1 h
+        (ap (λ k. first + k) (body_count pc body scope at)) every.1) patterns.0 patterns.1 fit.0 fit.2 typed.0 demands.0
+        typed.1 demands.1 h
 
     pub nodes_sound : (ns : Nodes) (first from past end : ℕ) (number : Bool) (scope : Scope)
         → Taken places (nodes_plan pc ns scope) first → NodesPatterns l.translation ns
@@ -390,14 +404,17 @@ module _ (l : Language) (all : List Declared) (places : List Place) (templates :
         let two : Plan = nodes_plan pc ns (scope_past n scope) in
         let middle : h.0 ≤ end =
         up_to (nodes_forward cc ns (first + node_holes l.translation n) h.0 past h.2) le in
-        node_sound n first from h.0 end number scope (first_taken places one two first taken) patterns.0 fit.0 typed.0 demands.0
+        node_sound n first from h.0 end number scope (first_taken places one two first taken) patterns.0 fit.0 typed.0
+        demands.0
         h.1 middle
         (nodes_sound ns (first + node_holes l.translation n) h.0 past end number (scope_past n scope)
         (taken_from places two (first + hole_count one) (first + node_holes l.translation n)
         (ap (λ k. first + k) (node_count pc n scope))
-        (second_taken places one two first (node_path pc n scope) taken)) patterns.1 fit.1 typed.1 demands.1 h.2 le rest)
+        (second_taken places one two first (node_path pc n scope) taken)) patterns.1 fit.1 typed.1 demands.1 h.2 le
+        rest)
 
-    other_sound : (other : Otherwise) (first before : ℕ) (scope : Scope) → Taken places (other_plan pc other scope) first
+    other_sound : (other : Otherwise) (first before : ℕ) (scope : Scope) → Taken places (other_plan pc other scope)
+        first
         → OtherPatterns l.translation other
         → OtherFits l.translation other → OtherTyped around other scope → OtherDemands around other scope
         → before ≤ length ops → (b : Option code_block.Block) → StandsOther cc other b first before
@@ -427,11 +444,13 @@ module _ (l : Language) (all : List Declared) (places : List Place) (templates :
         (record { of = demands.0.of; formed = demands.0.formed; typed = demands.0.typed; passes = refl }))
         (block_sound templates places ops b.body before false (narrowed e scope)
         (nodes_forward cc body first b.body.first b.body.end h.2) h.1 inside
-        (nodes_sound body first b.body.first b.body.end b.body.end false (narrowed e scope) taken.0 patterns.0 fit.0 typed.0
+        (nodes_sound body first b.body.first b.body.end b.body.end false (narrowed e scope) taken.0 patterns.0 fit.0
+        typed.0
         demands.1 h.2 (to_itself b.body.end) (λ s. end_passes templates places ops b.body.end false s))))
         (arms_sound arms (first + nodes_holes l.translation body) before scope
         (all_from places (arm_plans pc arms scope) (first + hole_count p) (first + nodes_holes l.translation body)
-        (ap (λ k. first + k) (nodes_count pc body (narrowed e scope))) taken.1) patterns.1 fit.1 typed.1 demands.2 inside branches
+        (ap (λ k. first + k) (nodes_count pc body (narrowed e scope))) taken.1) patterns.1 fit.1 typed.1 demands.2
+        inside branches
         h.3)
 
     cases_sound : (cases : Cases) (first before : ℕ) (scope : Scope) → AllTaken places (case_plans pc cases scope) first
@@ -453,7 +472,8 @@ module _ (l : Language) (all : List Declared) (places : List Place) (templates :
         demands.1 h.2 (to_itself b.body.end) (λ s. end_passes templates places ops b.body.end false s))))
         (cases_sound cases (first + nodes_holes l.translation body) before scope
         (all_from places (case_plans pc cases scope) (first + hole_count p) (first + nodes_holes l.translation body)
-        (ap (λ k. first + k) (nodes_count pc body scope)) taken.1) patterns.1 fit.1 typed.1 demands.2 inside choices h.3)
+        (ap (λ k. first + k) (nodes_count pc body scope)) taken.1) patterns.1 fit.1 typed.1 demands.2 inside choices
+        h.3)
 
     -- what a call gives; behind it stands what is handed on
     arguments_sound : (args every : Arguments) (hands : Bool) (ps params : List Param) (names : List Name)
@@ -467,12 +487,12 @@ module _ (l : Language) (all : List Declared) (places : List Place) (templates :
         → are_sound_handed (before_ before) params
         (map same_handed (handed_on_names hands d.template.params (names_given every) ps)) scope ≡ true
         → are_sound_handed (before_ before) params handed scope ≡ true
-    arguments_sound no_argument every hands ps params names first before scope taken patterns fit typed demands inside there
-        handed h last = ap (λ hs. are_sound_handed (before_ before) params hs scope) h ∙ last
-    arguments_sound (argument name given span rest) every hands ps params names first before scope taken patterns fit typed
-        demands inside there [] h last = absurd h
-    arguments_sound (argument name given span rest) every hands ps params names first before scope taken patterns fit typed
-        demands inside there (one ∷ handed) h last =
+    arguments_sound no_argument every hands ps params names first before scope taken patterns fit typed demands inside
+        there handed h last = ap (λ hs. are_sound_handed (before_ before) params hs scope) h ∙ last
+    arguments_sound (argument name given span rest) every hands ps params names first before scope taken patterns fit
+        typed demands inside there [] h last = absurd h
+    arguments_sound (argument name given span rest) every hands ps params names first before scope taken patterns fit
+        typed demands inside there (one ∷ handed) h last =
         let same : List Name = handed_on_names hands d.template.params (names_given every) ps in
         let frame : Plan = given_frame pc given span scope in
         let frames : Plan = argument_frames pc rest scope in
@@ -491,7 +511,8 @@ module _ (l : Language) (all : List Declared) (places : List Place) (templates :
         (later_free around rest (name ∷ names) params scope demands.2 name (itself_among name names))
         (given_not_on hands d.template.params every name (there name (itself_among name (names_given rest))) ps))) in
         both_true _ _ (both_true _ _ fits alone)
-        (arguments_sound rest every hands ps params (name ∷ names) (first + given_holes l.translation given) before scope
+        (arguments_sound rest every hands ps params (name ∷ names) (first + given_holes l.translation given) before
+        scope
         (taken_from places frames (first + hole_count frame) (first + given_holes l.translation given)
         (ap (λ k. first + k) (given_count pc given span scope))
         (second_taken places frame frames first (record { parts = []; path = given_passed given span scope }) taken))
@@ -504,24 +525,30 @@ module _ (l : Language) (all : List Declared) (places : List Place) (templates :
         → GivenTyped around given scope → GivenDemands around given scope → GivenTaken given to scope
         → before ≤ length ops → StandsHanded cc given by first before
         → is_sound_given (before_ before) name by to scope ≡ true
-    given_sound (Plain e) (HandedValue g) name to span first before scope taken patterns fit typed demands takes inside h =
+    given_sound (Plain e) (HandedValue g) name to span first before scope taken patterns fit typed demands takes inside
+        h =
         ap (λ z. is_sound_expr (accepts to) z scope) h
         ∙ expr_sound (accepts to) e scope
         (record { of = takes.of; formed = takes.formed; typed = takes.typed; passes = takes.takes })
-    given_sound (Plain e) (HandedBlock of b) name to span first before scope taken patterns fit typed demands takes inside h =
-        absurd h
-    given_sound (Plain e) HandedSame name to span first before scope taken patterns fit typed demands takes inside h = absurd h
-    given_sound (Block kind body) (HandedBlock of b) name to span first before scope taken patterns fit typed demands takes
+    given_sound (Plain e) (HandedBlock of b) name to span first before scope taken patterns fit typed demands takes
         inside h =
+        absurd h
+    given_sound (Plain e) HandedSame name to span first before scope taken patterns fit typed demands takes inside h =
+        absurd h
+    given_sound (Block kind body) (HandedBlock of b) name to span first before scope taken patterns fit typed demands
+        takes inside h =
         both_true (is_sound_block (before_ before) b false scope) (accepts to (kind_type of))
-        (block_sound templates places ops b before false scope (nodes_forward cc body first b.first b.end h.2) h.1 inside
+        (block_sound templates places ops b before false scope (nodes_forward cc body first b.first b.end h.2) h.1
+        inside
         (nodes_sound body first b.first b.end b.end false scope
-        (frame_taken places (closes_at d.file span) kind (nodes_plan pc body scope) first taken) patterns fit typed demands h.2
+        (frame_taken places (closes_at d.file span) kind (nodes_plan pc body scope) first taken) patterns fit typed
+        demands h.2
         (to_itself b.end) (λ s. end_passes templates places ops b.end false s)))
         (ap (λ k. accepts to (kind_type k)) h.0 ∙ takes)
-    given_sound (Block kind body) (HandedValue g) name to span first before scope taken patterns fit typed demands takes inside
-        h = absurd h
-    given_sound (Block kind body) HandedSame name to span first before scope taken patterns fit typed demands takes inside h =
+    given_sound (Block kind body) (HandedValue g) name to span first before scope taken patterns fit typed demands
+        takes inside h = absurd h
+    given_sound (Block kind body) HandedSame name to span first before scope taken patterns fit typed demands takes
+        inside h =
         absurd h
 
     source_sound : (body : MessageBody) (first from past end : ℕ) (number : Bool) (scope : Scope) (at : Site)

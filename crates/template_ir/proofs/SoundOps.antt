@@ -94,7 +94,8 @@ module _ (templates : List Routine) (places : List Place) (ops : List Op) where
 
   -- ---- texts and prints
 
-  pub text_sound : (text : List ℕ) (at past end : ℕ) (number : Bool) (scope : Scope) → StandsText places ops text at past
+  pub text_sound : (text : List ℕ) (at past end : ℕ) (number : Bool) (scope : Scope) → StandsText places ops text at
+      past
       → past ≤ end → Passes past end number scope → Passes at end number scope
   text_sound [] at past end number scope h l rest = nothing_passes at past end number scope h rest
   text_sound (c ∷ text) at past end number scope h l rest =

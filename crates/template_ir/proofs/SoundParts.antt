@@ -113,17 +113,20 @@ module _ (templates : List Routine) (places : List Place) (ops : List Op) (uses 
 
   abbrev ExactSound : ℕ → List ExactBlock → Type 0
   ExactSound before blocks =
-      are_sound_arms (take before (checks templates places ops)) true (map (λ (arm : ExactBlock). arm.body) blocks) scope
+      are_sound_arms (take before (checks templates places ops)) true (map (λ (arm : ExactBlock). arm.body) blocks)
+      scope
       ≡ true
 
   abbrev NamedSound : ℕ → List NamedBlock → Type 0
   NamedSound before blocks =
-      are_sound_arms (take before (checks templates places ops)) true (map (λ (arm : NamedBlock). arm.body) blocks) scope
+      are_sound_arms (take before (checks templates places ops)) true (map (λ (arm : NamedBlock). arm.body) blocks)
+      scope
       ≡ true
 
   abbrev WordsSound : ℕ → List WordBlock → Type 0
   WordsSound before blocks =
-      are_sound_arms (take before (checks templates places ops)) false (map (λ (arm : WordBlock). arm.body) blocks) scope
+      are_sound_arms (take before (checks templates places ops)) false (map (λ (arm : WordBlock). arm.body) blocks)
+      scope
       ≡ true
 
   plural_sound : (chosen : Option Expr) → is_some chosen ≡ true → IsSelector true chosen scope → (ordinal : Bool)

@@ -36,7 +36,8 @@ use Rattle.template_ir.proofs.PlacedRuns.{found_member}
 use Rattle.template_ir.proofs.RunLaws.{found_at, template_there}
 use Rattle.template_ir.proofs.SoundNodes.{IsRoutineOf, nodes_sound}
 use Rattle.template_ir.proofs.SoundOps.{body_sound, both_true, checks, end_passes}
-use Rattle.template_ir.proofs.TakenClasses.{Taken, TakesHoles, first_taken, frame_taken, second_taken, taken_from, walk_takes}
+use Rattle.template_ir.proofs.TakenClasses.{Taken, TakesHoles, first_taken, frame_taken, second_taken, taken_from}
+use Rattle.template_ir.proofs.TakenClasses.{walk_takes}
 
 member_patterns : (translation : Message → Option MsgParts) (ds : List Declared) (d : Declared) → IsMember d ds
     → ArePatterns translation ds → NodesPatterns translation d.template.body
@@ -119,7 +120,8 @@ module _ (trees : List Tree) (l : Language) (v : Walked State) (p : Program) (ty
       (nodes_sound l all v.places p.templates p.ops routine_of callee_apart d d.template.body first r.body.first
       r.body.end r.body.end false (param_scope d.template.params)
       (frame_taken v.places (closes_at d.file d.template.span) d.template.kind body first taken)
-      (member_patterns l.translation all d member patterns) (member_fits l.translation all d member fits) (templates_typed trees typed d member)
+      (member_patterns l.translation all d member patterns) (member_fits l.translation all d member fits)
+      (templates_typed trees typed d member)
       (template_demands trees typed d member) h.body (to_itself r.body.end)
       (λ s. end_passes p.templates v.places p.ops r.body.end false s))
 

@@ -5,7 +5,8 @@
 use Rattle.std.specs.Prelude.{ℕ, List, [], ◌∷◌, Option, Some, None}
 use Rattle.soy_tree.specs.IcuText.{IsPattern}
 use Rattle.soy_tree.specs.MessageParts.{MsgParts}
-use Rattle.soy_tree.specs.Nodes.{Node, Nodes, Otherwise, Arms, Cases, Arguments, Given, Message, Fallback, If, Switch, For}
+use Rattle.soy_tree.specs.Nodes.{Node, Nodes, Otherwise, Arms, Cases, Arguments, Given, Message, Fallback, If, Switch}
+use Rattle.soy_tree.specs.Nodes.{For}
 use Rattle.soy_tree.specs.Nodes.{LetBlock, Call, MessageNode, no_node, node, no_otherwise, otherwise, no_arm, arm}
 use Rattle.soy_tree.specs.Nodes.{no_case, case, no_argument, argument, Plain, Block, no_fallback, fallback}
 use Rattle.soy_tree.specs.Templates.{Declared}

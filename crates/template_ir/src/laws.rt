@@ -74,8 +74,8 @@ pub fn law_compiled_run_is_pieces()
         ≡ pieces_end_costs (template_run (language_context l (declared trees)) d env) }
 {}
 
-/// A program that stands for trees can't go wrong, where the trees are typed, the translations are patterns and fit, and
-/// the places are those that the walk gives, which meets no fault.
+/// A program that stands for trees can't go wrong, where the trees are typed, the translations are patterns and fit,
+/// and the places are those that the walk gives, which meets no fault.
 pub fn law_compiled_is_sound()
     ensures { (trees : List Tree) (l : Language) (v : Walked State) (p : Program) → AreTypedTrees trees →
         TranslationsFit l.translation (declared trees) → ArePatterns l.translation (declared trees) →
