@@ -28,7 +28,7 @@ use Rattle.template_ir.specs.HoleCounts.{translated_holes, translation_holes, wo
 
 -- ---- plans side by side
 
-abbrev all_holes : List Plan → ℕ
+abbrev pub all_holes : List Plan → ℕ
 all_holes [] = 0
 all_holes (p ∷ ps) = hole_count p + all_holes ps
 
@@ -50,20 +50,20 @@ one_more : (ps : List Plan) (q : Plan) (m n : ℕ) → all_holes ps ≡ m → ho
     → all_holes (ps ++ (q ∷ [])) ≡ m + n
 one_more ps q m n h k = let j = joined_holes ps (q ∷ []) in omega (arith, h, k, j)
 
-text_count : (at : Site) (text : List ℕ) → hole_count (text_plan at text) ≡ 0
+pub text_count : (at : Site) (text : List ℕ) → hole_count (text_plan at text) ≡ 0
 text_count at [] = refl
 text_count at (c ∷ cs) = refl
 
 -- ---- translations
 
-tag_count : (scope : Scope) (at : Site) (text : List ℕ) (tag : List MessageItem)
+pub tag_count : (scope : Scope) (at : Site) (text : List ℕ) (tag : List MessageItem)
     → hole_count (tag_plan scope at text tag) ≡ tag_holes tag
 tag_count scope at text [] = text_count at text
 tag_count scope at text (Character c span ∷ rest) = tag_count scope at (text ++ (c ∷ [])) rest
 tag_count scope at text (Printed e phname span ∷ rest) =
     let h = tag_count scope at [] rest in let k = text_count at text in omega (arith, h, k)
 
-cut_count : (scope : Scope) (at : Site) (cut : Option Cut) → hole_count (cut_plan scope at cut) ≡ cut_holes cut
+pub cut_count : (scope : Scope) (at : Site) (cut : Option Cut) → hole_count (cut_plan scope at cut) ≡ cut_holes cut
 cut_count scope at None = refl
 cut_count scope at (Some (TextCut text)) = refl
 cut_count scope at (Some (PrintCut e phname span)) = refl
@@ -71,7 +71,7 @@ cut_count scope at (Some (TagCut tag)) = tag_count scope at [] tag
 
 module _ (uses : List Use) (scope : Scope) (at : Site) where
   mutual
-    part_count : (p : MsgPart) → hole_count (part_plan uses scope at p) ≡ part_holes uses p
+    pub part_count : (p : MsgPart) → hole_count (part_plan uses scope at p) ≡ part_holes uses p
     part_count (TextPart text) = text_count at text
     part_count (Placeholder name) = cut_count scope at (placeholder_cut name uses uses)
     part_count NumberPart = refl
@@ -88,25 +88,25 @@ module _ (uses : List Use) (scope : Scope) (at : Site) where
         both (hole_count (part_plan uses scope at p)) (hole_count (parts_plan uses scope at ps)) (part_holes uses p)
         (parts_holes uses ps) (part_count p) (parts_count ps)
 
-    exact_count : (arms : ExactArms) → all_holes (exact_plans uses scope at arms) ≡ exact_holes uses arms
+    pub exact_count : (arms : ExactArms) → all_holes (exact_plans uses scope at arms) ≡ exact_holes uses arms
     exact_count no_exact_arm = refl
     exact_count (exact_arm n ps arms) =
         both (hole_count (parts_plan uses scope at ps)) (all_holes (exact_plans uses scope at arms))
         (parts_holes uses ps) (exact_holes uses arms) (parts_count ps) (exact_count arms)
 
-    named_count : (arms : NamedArms) → all_holes (named_plans uses scope at arms) ≡ named_holes uses arms
+    pub named_count : (arms : NamedArms) → all_holes (named_plans uses scope at arms) ≡ named_holes uses arms
     named_count no_named_arm = refl
     named_count (named_arm category ps arms) =
         both (hole_count (parts_plan uses scope at ps)) (all_holes (named_plans uses scope at arms))
         (parts_holes uses ps) (named_holes uses arms) (parts_count ps) (named_count arms)
 
-    word_count : (arms : SelectArms) → all_holes (select_arm_plans uses scope at arms) ≡ word_holes uses arms
+    pub word_count : (arms : SelectArms) → all_holes (select_arm_plans uses scope at arms) ≡ word_holes uses arms
     word_count no_select_arm = refl
     word_count (select_arm word ps arms) =
         both (hole_count (parts_plan uses scope at ps)) (all_holes (select_arm_plans uses scope at arms))
         (parts_holes uses ps) (word_holes uses arms) (parts_count ps) (word_count arms)
 
-translated_count : (uses : List Use) (scope : Scope) (at : Site) (parts : Option MsgParts)
+pub translated_count : (uses : List Use) (scope : Scope) (at : Site) (parts : Option MsgParts)
     → all_holes (translated_plan uses scope at parts) ≡ translated_holes uses parts
 translated_count uses scope at None = refl
 translated_count uses scope at (Some parts) = let h = parts_count uses scope at parts in omega (arith, h)
@@ -114,7 +114,7 @@ translated_count uses scope at (Some parts) = let h = parts_count uses scope at 
 -- ---- nodes
 
 module _ (c : PlanContext) where
-  translation_count : (m : Message) (scope : Scope) (at : Site)
+  pub translation_count : (m : Message) (scope : Scope) (at : Site)
       → all_holes (translation_plans c m scope at) ≡ translation_holes c.translation m
   translation_count m scope at = translated_count (uses_of m) scope at (c.translation m)
 
@@ -124,7 +124,7 @@ module _ (c : PlanContext) where
   fallback_count (fallback m) scope at = translation_count m scope at
 
   mutual
-    node_count : (n : Node) (scope : Scope) → hole_count (node_plan c n scope) ≡ node_holes c.translation n
+    pub node_count : (n : Node) (scope : Scope) → hole_count (node_plan c n scope) ≡ node_holes c.translation n
     node_count (TextNode text span) scope = text_count (starts_at c.file span) text
     node_count (Print e phname span) scope = refl
     node_count (If arms other span) scope =
@@ -157,26 +157,27 @@ module _ (c : PlanContext) where
         (node_holes c.translation n) (nodes_holes c.translation ns) (node_count n scope)
         (nodes_count ns (scope_past n scope))
 
-    other_count : (other : Otherwise) (scope : Scope)
+    pub other_count : (other : Otherwise) (scope : Scope)
         → hole_count (other_plan c other scope) ≡ other_holes c.translation other
     other_count no_otherwise scope = refl
     other_count (otherwise body) scope = nodes_count body scope
 
-    arm_count : (arms : Arms) (scope : Scope) → all_holes (arm_plans c arms scope) ≡ arm_holes c.translation arms
+    pub arm_count : (arms : Arms) (scope : Scope) → all_holes (arm_plans c arms scope) ≡ arm_holes c.translation arms
     arm_count no_arm scope = refl
     arm_count (arm e body arms) scope =
         both (hole_count (nodes_plan c body (narrowed e scope))) (all_holes (arm_plans c arms scope))
         (nodes_holes c.translation body) (arm_holes c.translation arms) (nodes_count body (narrowed e scope))
         (arm_count arms scope)
 
-    case_count : (cases : Cases) (scope : Scope) → all_holes (case_plans c cases scope) ≡ case_holes c.translation cases
+    pub case_count : (cases : Cases) (scope : Scope) → all_holes (case_plans c cases scope) ≡ case_holes c.translation
+        cases
     case_count no_case scope = refl
     case_count (case values body cases) scope =
         both (hole_count (nodes_plan c body scope)) (all_holes (case_plans c cases scope))
         (nodes_holes c.translation body) (case_holes c.translation cases) (nodes_count body scope)
         (case_count cases scope)
 
-    argument_count : (given : Arguments) (scope : Scope)
+    pub argument_count : (given : Arguments) (scope : Scope)
         → hole_count (argument_frames c given scope) ≡ argument_holes c.translation given
     argument_count no_argument scope = refl
     argument_count (argument name given span rest) scope =
@@ -184,16 +185,16 @@ module _ (c : PlanContext) where
         (given_holes c.translation given) (argument_holes c.translation rest) (given_count given span scope)
         (argument_count rest scope)
 
-    given_count : (given : Given) (span : Span) (scope : Scope)
+    pub given_count : (given : Given) (span : Span) (scope : Scope)
         → hole_count (given_frame c given span scope) ≡ given_holes c.translation given
     given_count (Plain e) span scope = refl
     given_count (Block kind body) span scope = nodes_count body scope
 
-    source_count : (m : Message) (scope : Scope) (at : Site)
+    pub source_count : (m : Message) (scope : Scope) (at : Site)
         → hole_count (source_plan c m scope at) ≡ source_holes c.translation m
     source_count (message desc meaning body span) scope at = body_count body scope at
 
-    body_count : (body : MessageBody) (scope : Scope) (at : Site)
+    pub body_count : (body : MessageBody) (scope : Scope) (at : Site)
         → hole_count (body_plan c body scope at) ≡ body_holes c.translation body
     body_count (Parts ns) scope at = nodes_count ns scope
     body_count (Plural e offset cases other) scope at =
@@ -205,7 +206,7 @@ module _ (c : PlanContext) where
         ∙ one_more (select_plans c cases scope at) (body_plan c other scope at) (select_holes c.translation cases)
         (body_holes c.translation other) (select_count cases scope at) (body_count other scope at)
 
-    plural_count : (cases : PluralCases) (scope : Scope) (at : Site)
+    pub plural_count : (cases : PluralCases) (scope : Scope) (at : Site)
         → all_holes (plural_plans c cases scope at) ≡ plural_holes c.translation cases
     plural_count no_plural_case scope at = refl
     plural_count (plural_case n body cases) scope at =
@@ -213,7 +214,7 @@ module _ (c : PlanContext) where
         (body_holes c.translation body) (plural_holes c.translation cases) (body_count body scope at)
         (plural_count cases scope at)
 
-    select_count : (cases : SelectCases) (scope : Scope) (at : Site)
+    pub select_count : (cases : SelectCases) (scope : Scope) (at : Site)
         → all_holes (select_plans c cases scope at) ≡ select_holes c.translation cases
     select_count no_select_case scope at = refl
     select_count (select_case word body cases) scope at =

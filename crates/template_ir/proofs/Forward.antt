@@ -101,7 +101,7 @@ module _ (c : CompileContext) where
         parts_forward c.places c.ops (uses_of other) parts
         (hole + (source_holes c.translation m + translation_holes c.translation m)) at end h
 
-    source_forward : (body : MessageBody) (hole at end : ℕ) → StandsSource c body hole at end → at ≤ end
+    pub source_forward : (body : MessageBody) (hole at end : ℕ) → StandsSource c body hole at end → at ≤ end
     source_forward (Parts ns) hole at end h = nodes_forward ns hole at end h
     source_forward (Plural e offset cases other) hole at end h = op_forward c.places c.ops _ at end h.5
     source_forward (Select e cases other) hole at end h = op_forward c.places c.ops _ at end h.5

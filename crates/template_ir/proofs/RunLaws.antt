@@ -35,7 +35,7 @@ get_next x xs n = let e : 1 + n ≡ suc n = omega arith in ap (λ k. slice_get (
 -- ---- which template a number names
 
 module _ (namespace full : Name) where
-  found_at : (ds : List Declared) (d : Declared) → visible namespace (template_of full ds) ≡ Some d
+  pub found_at : (ds : List Declared) (d : Declared) → visible namespace (template_of full ds) ≡ Some d
       → slice_get ds (number_of namespace full ds) ≡ Some d
   found_at [] d h = let no : ⊥ = cc in absurd no
   found_at (x ∷ ds) d h = by_test (bytes_eq (full_name x) full) (found_at ds d) h
@@ -88,7 +88,7 @@ module _ (l : Language) (all : List Declared) (places : List Place) (ops : List 
           ap (option_map (λ (x : Routine). x.kind)) (get_next r rs (number_of namespace full ds)) ∙ more
       by_test true more = seen (is_visible_from namespace d)
 
-  template_there : (ds : List Declared) (rs : List Routine) (hole : ℕ) → StandsTemplates l all places ops ds rs hole
+  pub template_there : (ds : List Declared) (rs : List Routine) (hole : ℕ) → StandsTemplates l all places ops ds rs hole
       → (n : ℕ) (d : Declared) → slice_get ds n ≡ Some d
       → (r : Routine) × (slice_get rs n ≡ Some r)
       × StandsTemplate l all places ops d r (hole + holes_before l.translation ds n)

@@ -8,3 +8,4 @@ pub mod Compiles
 pub mod Placed
 pub mod Sound
 pub mod ProgramRows
+pub mod CompiledTrees

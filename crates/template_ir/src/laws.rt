@@ -1,13 +1,18 @@
 //! What the definitions come to. Each law is a contract with an empty body.
 
-ghost use Rattle.std.specs.Prelude.{◌≡◌, ℕ, List, [], ◌∷◌, Some, true, pos, codes, slice_get};
+ghost use Rattle.std.specs.Prelude.{◌≡◌, ℕ, List, [], ◌∷◌, Some, Ok, true, pos, codes, slice_get};
 ghost use Rattle.soy_base.specs.declared.place.Place.TheVariants as place;
 ghost use Rattle.soy_base.specs.declared.place.Place.{Place};
+ghost use Rattle.html_state.specs.declared.row.State.{State};
 ghost use Rattle.soy_tree.specs.Nodes.{Nodes};
 ghost use Rattle.soy_tree.specs.Templates.{Declared, declared};
 ghost use Rattle.soy_tree.specs.Trees.{Tree};
 ghost use Rattle.soy_tree.specs.TypeOf.{Scope};
+ghost use Rattle.soy_meaning.specs.AcceptedTrees.{walk_trees};
 ghost use Rattle.soy_meaning.specs.Giving.{RunEnv};
+ghost use Rattle.soy_meaning.specs.TranslationFits.{TranslationsFit};
+ghost use Rattle.soy_meaning.specs.TypedData.{AreTypedTrees, FitsData};
+ghost use Rattle.soy_meaning.specs.Walk.{Walked};
 ghost use Rattle.soy_meaning.specs.Pieces.{template_run};
 ghost use Rattle.soy_meaning.specs.Holes.{hole_count};
 ghost use Rattle.soy_meaning.specs.PlanOfNodes.{PlanContext, nodes_plan};
@@ -15,6 +20,7 @@ ghost use Rattle.soy_meaning.specs.RunRows.{attributes_block, attributes_body, b
 ghost use Rattle.soy_meaning.specs.RunRows.{calls_body, number_env, number_param, offset_translation, plural_source};
 ghost use Rattle.soy_meaning.specs.RunRows.{row_trees, source_body, source_plural, text_env, text_param};
 ghost use Rattle.template_ir.specs.Compiles.{CompileContext, Compiles, Language, StandsNodes, with_more};
+ghost use Rattle.template_ir.specs.CompiledTrees.{ArePatterns};
 ghost use Rattle.template_ir.specs.Ops.{Op, Program};
 ghost use Rattle.template_ir.specs.Placed.{EntryPlaced, language_context};
 ghost use Rattle.template_ir.specs.HoleCounts.{nodes_holes};
@@ -45,6 +51,35 @@ pub fn law_run_is_pieces()
         EntryPlaced (language_context l (declared trees)) places number env →
         pieces_end_costs (template_gives p number env)
         ≡ pieces_end_costs (template_run (language_context l (declared trees)) d env) }
+{}
+
+/// A run of a template is as `law_run_is_pieces` asks, where the trees are typed, the translations fit, the walk over
+/// the trees meets no fault and the data fit: each value stands, by the pieces of its frame so far, at the place that
+/// the walk gave its hole.
+pub fn law_runs_are_placed()
+    ensures { (trees : List Tree) (l : Language) (v : Walked State) → AreTypedTrees trees →
+        TranslationsFit l.translation (declared trees) → walk_trees l.translation trees ≡ Ok v →
+        (number : ℕ) (d : Declared) → slice_get (declared trees) number ≡ Some d → (env : RunEnv) → FitsData d env →
+        EntryPlaced (language_context l (declared trees)) v.places number env }
+{}
+
+/// A program that stands for typed trees gives what they give, with the same costs and the same end, under data that
+/// fit, where the translations fit and the places are those that the walk gives, which meets no fault.
+pub fn law_compiled_run_is_pieces()
+    ensures { (trees : List Tree) (l : Language) (v : Walked State) (p : Program) → AreTypedTrees trees →
+        TranslationsFit l.translation (declared trees) → walk_trees l.translation trees ≡ Ok v →
+        Compiles trees v.places l p →
+        (number : ℕ) (d : Declared) → slice_get (declared trees) number ≡ Some d → (env : RunEnv) → FitsData d env →
+        pieces_end_costs (template_gives p number env)
+        ≡ pieces_end_costs (template_run (language_context l (declared trees)) d env) }
+{}
+
+/// A program that stands for trees can't go wrong, where the trees are typed, the translations are patterns and fit,
+/// and the places are those that the walk gives, which meets no fault.
+pub fn law_compiled_is_sound()
+    ensures { (trees : List Tree) (l : Language) (v : Walked State) (p : Program) → AreTypedTrees trees →
+        TranslationsFit l.translation (declared trees) → ArePatterns l.translation (declared trees) →
+        walk_trees l.translation trees ≡ Ok v → Compiles trees v.places l p → is_sound p ≡ true }
 {}
 
 /// Rows that the checker computes: programs written by hand stand for the trees of their rows, they are sound, and they

@@ -10,7 +10,10 @@ mod op;
 mod places;
 mod program;
 
-pub use laws::{law_hole_counts, law_ops_stay, law_program_rows, law_run_is_pieces};
+pub use laws::{
+    law_compiled_is_sound, law_compiled_run_is_pieces, law_hole_counts, law_ops_stay,
+    law_program_rows, law_run_is_pieces, law_runs_are_placed,
+};
 pub use op::{
     Block, Branch, Callee, Choice, ExactBlock, Handed, HandedBy, NamedBlock, Op, PluralOp,
     SelectOp, WordBlock,
