@@ -1,0 +1,4 @@
+pub mod Encoded
+pub mod Items
+pub mod Lines
+pub mod TextAt

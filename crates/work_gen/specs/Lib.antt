@@ -1,0 +1,4 @@
+pub mod Data
+pub mod Draws
+pub mod Source
+pub mod Workload
