@@ -21,6 +21,3 @@ pub use dropped::Marks;
 pub use laws::law_cleaned;
 pub use words::estimate;
 pub use wrapping::wrap;
-
-#[cfg(test)]
-mod tests;

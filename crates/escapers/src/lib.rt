@@ -27,6 +27,3 @@ pub use css::is_css_value;
 pub use escaper::{Escaper, escaper_for};
 pub use escaping::escape;
 pub use uri::may_start_uri;
-
-#[cfg(test)]
-mod tests;

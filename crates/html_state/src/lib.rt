@@ -32,6 +32,3 @@ pub use laws::{
     law_plain_text, law_quoted_text,
 };
 pub use row::{Part, State};
-
-#[cfg(test)]
-mod tests;

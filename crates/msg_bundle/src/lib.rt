@@ -17,6 +17,3 @@ mod translations;
 pub use fault::BundleFault;
 pub use laws::{law_bundle, law_fits};
 pub use read::read_bundle;
-
-#[cfg(test)]
-mod tests;

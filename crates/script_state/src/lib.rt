@@ -24,6 +24,3 @@ pub use laws::{
     law_script_in_pieces, law_script_literal, law_style_comment, law_style_equality,
     law_style_in_pieces, law_style_string, law_style_value,
 };
-
-#[cfg(test)]
-mod tests;

@@ -17,7 +17,7 @@ use Rattle.soy_tree.specs.Templates.{Declared, callee}
 use Rattle.soy_tree.specs.Val.{Binding, Known, is_same_int, is_truthy, val}
 use Rattle.soy_tree.specs.Values.{Items, NullValue, Value, item, no_item}
 use Rattle.soy_meaning.specs.Branch.{int_of, word_of}
-use Rattle.soy_meaning.specs.EqualChoices.{AlikeByChoices, BindingsAlike, EnvsAlike}
+use Rattle.soy_meaning.specs.EqualChoices.{AlikeByChoices, BindingsAlike, BlocksAlike, EnvsAlike}
 use Rattle.soy_meaning.specs.Giving.{BoundBlock, Means, RunEnv, StateSoFar, printed_means, with_choice}
 use Rattle.soy_meaning.specs.Outcome.{ArmTaken, ChoiceMade, FallbackTranslation, Outcome, OwnTranslation, SourceText}
 use Rattle.soy_meaning.specs.Outcome.{TextTaken, Turns, choices_of_outcome, gives_nothing}
@@ -49,7 +49,7 @@ nothing_alike rest more h = record { choices = refl; pieces = tt; ends = refl }
 
 -- ---- loops
 
-abbrev first_turns : List ChoiceMade → ℕ
+abbrev pub first_turns : List ChoiceMade → ℕ
 first_turns (Turns n ∷ l) = n
 first_turns _ = 0
 
@@ -64,10 +64,10 @@ alike_turns n q one two alike rest more h =
     (first_choices (choice_of (Turns q)) two ∙ ap (λ j. Turns j ∷ choices_of_outcome two) (sym same))
     (spent_same (choice_of (Turns n)) one) (spent_same (choice_of (Turns q)) two) (alike same) rest more h
 
-one_more : (n : ℕ) → 0 ≡ 1 + n → ⊥
+pub one_more : (n : ℕ) → 0 ≡ 1 + n → ⊥
 one_more n e = omega (arith, e)
 
-fewer : (n q : ℕ) → 1 + n ≡ 1 + q → n ≡ q
+pub fewer : (n q : ℕ) → 1 + n ≡ 1 + q → n ≡ q
 fewer n q e = omega (arith, e)
 
 turn_env : (name : Name) (index : Option Name) (marks : Marks) (env other : RunEnv) (n : ℕ) (v w : Value)
@@ -96,17 +96,15 @@ turns_alike body name index marks bodies env other alike n (item v vs) (item w w
     (λ x y. turns_alike body name index marks bodies env other alike (n + 1) vs ws
     (fewer (item_count vs) (item_count ws) same) x y on after next)
 
-module _ (c : RunContext) (called : Site → Declared → RunEnv → Outcome)
-    (calls : (at : Site) (d : Declared) (env other : RunEnv) → IsMember d c.declared
-    → EnvsAlike (param_marks d.template.params) env other → AlikeByChoices (called at d env) (called at d other)) where
-  -- ---- where arms begin
+-- ---- where arms begin
 
-  otherwise_from : (other : Otherwise) (k : ℕ) (env : RunEnv) (s : StateSoFar) (on : StateSoFar → Outcome)
+module _ (c : RunContext) (called : Site → Declared → RunEnv → Outcome) where
+  pub otherwise_from : (other : Otherwise) (k : ℕ) (env : RunEnv) (s : StateSoFar) (on : StateSoFar → Outcome)
       → BeginsFrom k (otherwise_means c called other k env s on)
   otherwise_from no_otherwise k env s on = from_none k (on s)
   otherwise_from (otherwise body) k env s on = from_here k (nodes_mean c called body env s (unbound on))
 
-  arms_from : (arms : Arms) (env : RunEnv) (one : ℕ → Means) (k : ℕ) (s : StateSoFar) (on : StateSoFar → Outcome)
+  pub arms_from : (arms : Arms) (env : RunEnv) (one : ℕ → Means) (k : ℕ) (s : StateSoFar) (on : StateSoFar → Outcome)
       → ((j : ℕ) → BeginsFrom j (one j s on)) → BeginsFrom k (arms_mean c called arms one k env s on)
   arms_from no_arm env one k s on last = last k
   arms_from (arm e body arms) env one k s on last =
@@ -115,7 +113,7 @@ module _ (c : RunContext) (called : Site → Declared → RunEnv → Outcome)
       from_cost k (cost e env) (if is_truthy (val e env) then with_choice (ArmTaken (Some k)) taken else following)
       (from_if k (is_truthy (val e env)) taken following (arms_from arms env one (k + 1) s on last))
 
-  cases_from : (v : Value) (cases : Cases) (env : RunEnv) (one : ℕ → Means) (k : ℕ) (s : StateSoFar)
+  pub cases_from : (v : Value) (cases : Cases) (env : RunEnv) (one : ℕ → Means) (k : ℕ) (s : StateSoFar)
       (on : StateSoFar → Outcome) → ((j : ℕ) → BeginsFrom j (one j s on))
       → BeginsFrom k (cases_mean c called v cases one k env s on)
   cases_from v no_case env one k s on last = last k
@@ -126,20 +124,23 @@ module _ (c : RunContext) (called : Site → Declared → RunEnv → Outcome)
       (if (is_one v es env).0 then with_choice (ArmTaken (Some k)) taken else following)
       (from_if k (is_one v es env).0 taken following (cases_from v cases env one (k + 1) s on last))
 
-  plural_from : (n : ℤ) (cases : PluralCases) (env : RunEnv) (one : Means) (k : ℕ) (s : StateSoFar)
+  pub plural_from : (n : ℤ) (cases : PluralCases) (env : RunEnv) (one : Means) (k : ℕ) (s : StateSoFar)
       (on : StateSoFar → Outcome) → BeginsFrom k (plural_cases_mean c called n cases one k env s on)
   plural_from n no_plural_case env one k s on = from_here k (one s on)
   plural_from n (plural_case m body cases) env one k s on =
       from_if k (is_same_int m n) (source_means c called body env s on)
       (plural_cases_mean c called n cases one (k + 1) env s on) (plural_from n cases env one (k + 1) s on)
 
-  select_from : (word : List ℕ) (cases : SelectCases) (env : RunEnv) (one : Means) (k : ℕ) (s : StateSoFar)
+  pub select_from : (word : List ℕ) (cases : SelectCases) (env : RunEnv) (one : Means) (k : ℕ) (s : StateSoFar)
       (on : StateSoFar → Outcome) → BeginsFrom k (select_cases_mean c called word cases one k env s on)
   select_from word no_select_case env one k s on = from_here k (one s on)
   select_from word (select_case is body cases) env one k s on =
       from_if k (bytes_eq is word) (source_means c called body env s on)
       (select_cases_mean c called word cases one (k + 1) env s on) (select_from word cases env one (k + 1) s on)
 
+module _ (c : RunContext) (called : Site → Declared → RunEnv → Outcome)
+    (calls : (at : Site) (d : Declared) (env other : RunEnv) → IsMember d c.declared
+    → EnvsAlike (param_marks d.template.params) env other → AlikeByChoices (called at d env) (called at d other)) where
   -- ---- calls
 
   opened_alike : (at : Site) (found : Option Declared) → IsAmong c.declared found → (given_marks : Marks)
@@ -155,8 +156,8 @@ module _ (c : RunContext) (called : Site → Declared → RunEnv → Outcome)
       let within : RunEnv = callee_env d.template.params others all c.params other in
       called_alike c.direction d.template.kind (called at d inner) (called at d within)
       (calls at d inner within among
-      (callee_alike given_marks marks given others env other all c.params givens alike d.template.params takes)) s t on
-      after next
+      (callee_alike BlocksAlike given_marks marks given others env other all c.params givens alike d.template.params
+      takes)) s t on after next
 
   -- ---- messages
 
@@ -207,11 +208,12 @@ module _ (c : RunContext) (called : Site → Declared → RunEnv → Outcome)
         alike_costs (cost e env) (cost e other) (printed_means c.direction (val e env) s (next env))
         (printed_means c.direction (val e other) t (after other))
         (printed_alike c.direction (may_give_block e marks) (val e env) (val e other)
-        (val_alike marks env other alike e picks) s t (next env) (after other) (h env other alike))
+        (val_alike BlocksAlike marks env other alike e picks) s t (next env) (after other) (h env other alike))
     node_alike (If arms last span) marks env other alike picks fit s t next after h =
         arms_alike arms marks env other alike picks.0 fit.0 (λ k. otherwise_means c called last k env)
         (λ k. otherwise_means c called last k other) 0 s t (next env) (after other) (h env other alike)
-        (λ k. otherwise_from last k env s (next env)) (λ k. otherwise_from last k other t (after other))
+        (λ k. otherwise_from c called last k env s (next env))
+        (λ k. otherwise_from c called last k other t (after other))
         (λ k. otherwise_alike last k marks env other alike picks.1 fit.1 s t (next env) (after other)
         (h env other alike))
     node_alike (Switch e cases last span) marks env other alike picks fit s t next after h =
@@ -221,8 +223,8 @@ module _ (c : RunContext) (called : Site → Declared → RunEnv → Outcome)
         (after other))
         (cases_alike (valued e env) (valued e other) cases marks env other alike picks.0 fit.0
         (λ k. otherwise_means c called last k env) (λ k. otherwise_means c called last k other) 0 s t (next env)
-        (after other) (h env other alike) (λ k. otherwise_from last k env s (next env))
-        (λ k. otherwise_from last k other t (after other))
+        (after other) (h env other alike) (λ k. otherwise_from c called last k env s (next env))
+        (λ k. otherwise_from c called last k other t (after other))
         (λ k. otherwise_alike last k marks env other alike picks.1 fit.1 s t (next env) (after other)
         (h env other alike)))
     node_alike (For name index e body span) marks env other alike picks fit s t next after h =
@@ -242,7 +244,7 @@ module _ (c : RunContext) (called : Site → Declared → RunEnv → Outcome)
         alike_costs (cost e env) (cost e other) (next ((name, val e env) ∷ env) s)
         (after ((name, val e other) ∷ other) t)
         (h ((name, val e env) ∷ env) ((name, val e other) ∷ other)
-        (refl, refl, val_alike marks env other alike e picks, alike) s t)
+        (refl, refl, val_alike BlocksAlike marks env other alike e picks, alike) s t)
     node_alike (LetBlock name kind body span) marks env other alike picks fit s t next after h =
         bound_alike kind (nodes_mean c called body env (Ok (start kind)) at_end)
         (nodes_mean c called body other (Ok (start kind)) at_end) (λ bound. next ((name, bound) ∷ env) s)
@@ -306,7 +308,7 @@ module _ (c : RunContext) (called : Site → Declared → RunEnv → Outcome)
         (if is_truthy (val e other) then with_choice (ArmTaken (Some k)) right else past)
         (alike_if k (is_truthy (val e env)) (is_truthy (val e other)) left right following past
         (nodes_alike body marks env other alike picks.0 fit.0 s t (unbound on) (unbound after) (λ u v x y. h x y))
-        (arms_from arms env one (k + 1) s on first) (arms_from arms other two (k + 1) t after second)
+        (arms_from c called arms env one (k + 1) s on first) (arms_from c called arms other two (k + 1) t after second)
         (arms_alike arms marks env other alike picks.1 fit.1 one two (k + 1) s t on after h first second others))
 
     cases_alike : (v w : Value) (cases : Cases) (marks : Marks) (env other : RunEnv) → EnvsAlike marks env other
@@ -327,7 +329,8 @@ module _ (c : RunContext) (called : Site → Declared → RunEnv → Outcome)
         (if (is_one w es other).0 then with_choice (ArmTaken (Some k)) right else past)
         (alike_if k (is_one v es env).0 (is_one w es other).0 left right following past
         (nodes_alike body marks env other alike picks.0 fit.0 s t (unbound on) (unbound after) (λ u v2 x y. h x y))
-        (cases_from v cases env one (k + 1) s on first) (cases_from w cases other two (k + 1) t after second)
+        (cases_from c called v cases env one (k + 1) s on first)
+        (cases_from c called w cases other two (k + 1) t after second)
         (cases_alike v w cases marks env other alike picks.1 fit.1 one two (k + 1) s t on after h first second
         others))
 
@@ -347,8 +350,8 @@ module _ (c : RunContext) (called : Site → Declared → RunEnv → Outcome)
         (λ bound. arguments_mean c called rest (before ++ ((name, bound) ∷ [])) env next)
         (λ bound. arguments_mean c called rest (past ++ ((name, bound) ∷ [])) other after)
         (λ a b k. arguments_alike rest (before ++ ((name, a) ∷ [])) (past ++ ((name, b) ∷ [])) (so_far ++ mark)
-        (envs_more so_far mark before past ((name, a) ∷ []) ((name, b) ∷ []) both (refl, refl, k, tt)) marks env other
-        alike picks.1 fit.1 next after
+        (envs_more BlocksAlike so_far mark before past ((name, a) ∷ []) ((name, b) ∷ []) both (refl, refl, k, tt))
+        marks env other alike picks.1 fit.1 next after
         (λ x y all. h x y (subst (λ l. EnvsAlike l x y) (append_assoc so_far mark (argument_marks rest marks)) all)))
 
     given_alike : (given : Given) (marks : Marks) (env other : RunEnv) → EnvsAlike marks env other
@@ -358,7 +361,7 @@ module _ (c : RunContext) (called : Site → Declared → RunEnv → Outcome)
         AlikeByChoices (given_means c called given env next) (given_means c called given other after)
     given_alike (Plain e) marks env other alike picks fit next after h =
         alike_costs (cost e env) (cost e other) (next (val e env)) (after (val e other))
-        (h (val e env) (val e other) (val_alike marks env other alike e picks))
+        (h (val e env) (val e other) (val_alike BlocksAlike marks env other alike e picks))
     given_alike (Block kind body) marks env other alike picks fit next after h =
         bound_alike kind (nodes_mean c called body env (Ok (start kind)) at_end)
         (nodes_mean c called body other (Ok (start kind)) at_end) next after
@@ -403,7 +406,7 @@ module _ (c : RunContext) (called : Site → Declared → RunEnv → Outcome)
         (source_means c called body other t after) (plural_cases_mean c called n cases one (k + 1) env s on)
         (plural_cases_mean c called q cases two (k + 1) other t after)
         (body_alike body marks env other alike picks.0 fit.0 s t on after h)
-        (plural_from n cases env one (k + 1) s on) (plural_from q cases other two (k + 1) t after)
+        (plural_from c called n cases env one (k + 1) s on) (plural_from c called q cases other two (k + 1) t after)
         (plural_alike n q cases marks env other alike picks.1 fit.1 one two (k + 1) s t on after h others)
 
     select_alike : (word term : List ℕ) (cases : SelectCases) (marks : Marks) (env other : RunEnv)
@@ -420,7 +423,8 @@ module _ (c : RunContext) (called : Site → Declared → RunEnv → Outcome)
         (source_means c called body other t after) (select_cases_mean c called word cases one (k + 1) env s on)
         (select_cases_mean c called term cases two (k + 1) other t after)
         (body_alike body marks env other alike picks.0 fit.0 s t on after h)
-        (select_from word cases env one (k + 1) s on) (select_from term cases other two (k + 1) t after)
+        (select_from c called word cases env one (k + 1) s on)
+        (select_from c called term cases other two (k + 1) t after)
         (select_alike word term cases marks env other alike picks.1 fit.1 one two (k + 1) s t on after h others)
 
   -- a frame by itself

@@ -13,6 +13,7 @@ use Rattle.soy_meaning.specs.EqualChoices.{AlikeByChoices, AlikePieces, AlikeRun
 use Rattle.soy_meaning.specs.Giving.{BoundBlock, StateSoFar, block_bound, called_means, piece_means}
 use Rattle.soy_meaning.specs.Giving.{printed_means, read_outcome, read_piece, text_means, value_means, with_choice}
 use Rattle.soy_meaning.specs.Giving.{with_cost}
+use Rattle.soy_meaning.specs.Meaning.{joined_pieces}
 use Rattle.soy_meaning.specs.Outcome.{ArmTaken, ChoiceMade, GivesPiece, Outcome, RunEnd, RunEnds, Spent, StopsAt}
 use Rattle.soy_meaning.specs.Outcome.{WholeRun, choices_of_outcome, continued_by, end_of_outcome, gathered}
 use Rattle.soy_meaning.specs.Outcome.{pieces_of_outcome, spent_first}
@@ -20,7 +21,7 @@ use Rattle.soy_meaning.specs.PicksValues.{is_block_kind}
 use Rattle.soy_meaning.specs.Plan.{Site}
 use Rattle.soy_meaning.proofs.RunPieces.{ComesBehind, SameRun, same_run, spent_same, stop_not_whole, whole_followed}
 
-abbrev Choices : Type 0
+abbrev pub Choices : Type 0
 Choices = List ChoiceMade
 
 -- ---- choices first
@@ -31,7 +32,7 @@ first_choices a (RunEnds b end) = refl
 first_choices a (GivesPiece b piece o) = append_assoc a.choices b.choices (choices_of_outcome o)
 
 -- choices that begin two lists alike
-rest_same : (before c d : Choices) (one two rest more : Choices) → c ≡ before ++ one → d ≡ before ++ two
+pub rest_same : (before c d : Choices) (one two rest more : Choices) → c ≡ before ++ one → d ≡ before ++ two
     → c ++ rest ≡ d ++ more → one ++ rest ≡ two ++ more
 rest_same before c d one two rest more c_is d_is h =
     append_cancel_left before (one ++ rest) (two ++ more)
@@ -123,7 +124,7 @@ first_arm _ = None
 too_late : (k : ℕ) → k + 1 ≤ k → ⊥
 too_late k h = omega (arith, h)
 
-no_clash : (k : ℕ) (one other : Outcome) → BeginsFrom (k + 1) other → (rest more : Choices)
+pub no_clash : (k : ℕ) (one other : Outcome) → BeginsFrom (k + 1) other → (rest more : Choices)
     → choices_of_outcome (with_choice (ArmTaken (Some k)) one) ++ rest ≡ choices_of_outcome other ++ more → ⊥
 no_clash k one other b rest more h =
     let same : Some k ≡ b.taken = ap first_arm
@@ -182,7 +183,7 @@ value_alike context v w s t on other alike = valued_alike _ _ s t on other alike
 
 -- ---- one outcome and then another
 
-begins : (o rest : Outcome) → (tail : Choices)
+pub begins : (o rest : Outcome) → (tail : Choices)
     × (choices_of_outcome (continued_by o rest) ≡ choices_of_outcome o ++ tail)
 begins (RunEnds a WholeRun) rest = (choices_of_outcome rest, first_choices a rest)
 begins (RunEnds a (StopsAt call)) rest = ([], sym (append-nil a.choices))
@@ -191,7 +192,7 @@ begins (GivesPiece a piece o) rest =
     begins o rest in
     (b.0, ap (λ l. a.choices ++ l) b.1 ∙ sym (append_assoc a.choices (choices_of_outcome o) b.0))
 
-followed_choices : (o rest : Outcome) → end_of_outcome o ≡ WholeRun
+pub followed_choices : (o rest : Outcome) → end_of_outcome o ≡ WholeRun
     → choices_of_outcome (continued_by o rest) ≡ choices_of_outcome o ++ choices_of_outcome rest
 followed_choices (RunEnds a WholeRun) rest e = first_choices a rest
 followed_choices (RunEnds a (StopsAt call)) rest e = absurd (stop_not_whole call e)
@@ -199,7 +200,7 @@ followed_choices (GivesPiece a piece o) rest e =
     ap (λ l. a.choices ++ l) (followed_choices o rest e)
     ∙ sym (append_assoc a.choices (choices_of_outcome o) (choices_of_outcome rest))
 
-stop_is : (o rest : Outcome) (call : Site) → end_of_outcome o ≡ StopsAt call → continued_by o rest ≡ o
+pub stop_is : (o rest : Outcome) (call : Site) → end_of_outcome o ≡ StopsAt call → continued_by o rest ≡ o
 stop_is (RunEnds a WholeRun) rest call e = absurd (stop_not_whole call (sym e))
 stop_is (RunEnds a (StopsAt at)) rest call e = refl
 stop_is (GivesPiece a piece o) rest call e = ap (GivesPiece a piece) (stop_is o rest call e)
@@ -253,29 +254,32 @@ frame_alike o other one two alike past rest more h =
 
 -- ---- what is gathered
 
-record GathersWhole (text : List ℕ) (o : Outcome) (next : List ℕ → Outcome) : Type 0 where
+pub record GathersWhole (text : List ℕ) (o : Outcome) (next : List ℕ → Outcome) : Type 0 where
   pub value : List ℕ
+  pub is : value ≡ text ++ joined_pieces (pieces_of_outcome o)
   pub ends : end_of_outcome o ≡ WholeRun
   pub same : SameRun (gathered text o next) (next value)
   pub choices : choices_of_outcome (gathered text o next) ≡ choices_of_outcome o ++ choices_of_outcome (next value)
 
-record GathersStop (text : List ℕ) (o : Outcome) (next : List ℕ → Outcome) : Type 0 where
+pub record GathersStop (text : List ℕ) (o : Outcome) (next : List ℕ → Outcome) : Type 0 where
   pub call : Site
   pub ends : end_of_outcome o ≡ StopsAt call
   pub pieces : pieces_of_outcome (gathered text o next) ≡ []
   pub halts : end_of_outcome (gathered text o next) ≡ StopsAt call
   pub choices : choices_of_outcome (gathered text o next) ≡ choices_of_outcome o
 
-abbrev Gathers : List ℕ → Outcome → (List ℕ → Outcome) → Type 0
+abbrev pub Gathers : List ℕ → Outcome → (List ℕ → Outcome) → Type 0
 Gathers text o next = GathersWhole text o next ⊎ GathersStop text o next
 
 -- past a piece, which leaves this text
 gathers_past : (text : List ℕ) (a : Spent) (piece : Piece) (o : Outcome) (longer : List ℕ) (next : List ℕ → Outcome)
-    → gathered text (GivesPiece a piece o) next ≡ spent_first a (gathered longer o next) → Gathers longer o next
-    → Gathers text (GivesPiece a piece o) next
-gathers_past text a piece o longer next is (inl g) =
+    → gathered text (GivesPiece a piece o) next ≡ spent_first a (gathered longer o next)
+    → longer ++ joined_pieces (pieces_of_outcome o) ≡ text ++ joined_pieces (piece ∷ pieces_of_outcome o)
+    → Gathers longer o next → Gathers text (GivesPiece a piece o) next
+gathers_past text a piece o longer next is long (inl g) =
     inl (record {
       value = g.value;
+      is = g.is ∙ long;
       ends = g.ends;
       same = subst (λ x. SameRun x (next g.value)) (sym is)
           (same_run (spent_first a (gathered longer o next)) (gathered longer o next) (next g.value)
@@ -284,7 +288,7 @@ gathers_past text a piece o longer next is (inl g) =
           ∙ (ap (λ l. a.choices ++ l) g.choices
           ∙ sym (append_assoc a.choices (choices_of_outcome o) (choices_of_outcome (next g.value)))));
     })
-gathers_past text a piece o longer next is (inr g) =
+gathers_past text a piece o longer next is long (inr g) =
     inr (record {
       call = g.call;
       ends = g.ends;
@@ -294,10 +298,11 @@ gathers_past text a piece o longer next is (inr g) =
           ∙ ap (λ l. a.choices ++ l) g.choices);
     })
 
-gathers : (text : List ℕ) (o : Outcome) (next : List ℕ → Outcome) → Gathers text o next
+pub gathers : (text : List ℕ) (o : Outcome) (next : List ℕ → Outcome) → Gathers text o next
 gathers text (RunEnds a WholeRun) next =
     inl (record {
       value = text;
+      is = sym (append-nil text);
       ends = refl;
       same = spent_same a (next text);
       choices = first_choices a (next text);
@@ -305,11 +310,13 @@ gathers text (RunEnds a WholeRun) next =
 gathers text (RunEnds a (StopsAt call)) next =
     inr (record { call = call; ends = refl; pieces = refl; halts = refl; choices = refl })
 gathers text (GivesPiece a (Static more) o) next =
-    gathers_past text a (Static more) o (text ++ more) next refl (gathers (text ++ more) o next)
+    gathers_past text a (Static more) o (text ++ more) next refl
+    (append_assoc text more (joined_pieces (pieces_of_outcome o))) (gathers (text ++ more) o next)
 gathers text (GivesPiece a (Value more) o) next =
-    gathers_past text a (Value more) o (text ++ more) next refl (gathers (text ++ more) o next)
+    gathers_past text a (Value more) o (text ++ more) next refl
+    (append_assoc text more (joined_pieces (pieces_of_outcome o))) (gathers (text ++ more) o next)
 
-gathers_begins : (text : List ℕ) (o : Outcome) (next : List ℕ → Outcome) → Gathers text o next → (tail : Choices)
+pub gathers_begins : (text : List ℕ) (o : Outcome) (next : List ℕ → Outcome) → Gathers text o next → (tail : Choices)
     × (choices_of_outcome (gathered text o next) ≡ choices_of_outcome o ++ tail)
 gathers_begins text o next (inl g) = (choices_of_outcome (next g.value), g.choices)
 gathers_begins text o next (inr g) = ([], g.choices ∙ sym (append-nil (choices_of_outcome o)))

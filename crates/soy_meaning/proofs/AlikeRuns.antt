@@ -12,7 +12,7 @@ use Rattle.soy_meaning.specs.TranslationFits.{TranslationsFit}
 use Rattle.soy_meaning.proofs.AlikeNodes.{frames_alike}
 use Rattle.soy_meaning.proofs.RunPaths.{member_fits}
 
-member_picks : (c : RunContext) (ds : List Declared) (d : Declared) → IsMember d ds → TemplatesPick c ds
+pub member_picks : (c : RunContext) (ds : List Declared) (d : Declared) → IsMember d ds → TemplatesPick c ds
     → NodesPick (context_in c d) d.template.body (param_marks d.template.params)
 member_picks c [] d member picks = absurd member
 member_picks c (first ∷ ds) d (inl same) picks =

@@ -82,7 +82,7 @@ module _ (c : RunContext) (whole : Plan) where
         runs_up_to end f q h.2,
       )
 
-  runs_then : (end : RunEnd) (f g : Filled) (q : FrameRun) → FilledByRuns c whole q WholeRun f
+  pub runs_then : (end : RunEnd) (f g : Filled) (q : FrameRun) → FilledByRuns c whole q WholeRun f
       → FilledByRuns c whole q end g → FilledByRuns c whole q end (filled_then f g)
   runs_then end filled_end g q h k = k
   runs_then end (text_before text f) g q h k = runs_then end f g q h k
@@ -371,7 +371,7 @@ module _ (c : RunContext) (whole : Plan) (Claim : Type 0) (IsStop : Site → Typ
   FrameFits inner classes = Claim → IsMember (kind_class inner.kind) classes
 
   -- the frame that fills a hole
-  frame_fills : (at : Site) (classes : List ValueClass) (inner : FrameRun) → IsBlockKind inner.kind
+  pub frame_fills : (at : Site) (classes : List ValueClass) (inner : FrameRun) → IsBlockKind inner.kind
       → IsGivenAt c run at inner → (r : Ran c whole Claim IsStop inner) (end : RunEnd)
       → end_of_outcome (run_outcome c inner) ≡ end →
       FilledByRuns c whole run end (frame_before at classes inner.kind r.runs.filled filled_end)

@@ -38,9 +38,15 @@ pub mod NodeRuns
 pub mod RunPaths
 pub mod AlikeOutcomes
 pub mod AlikeBindings
+pub mod ChosenArms
 pub mod AlikeParts
 pub mod AlikeNodes
 pub mod AlikeRuns
+pub mod NestOutcomes
+pub mod NestParts
+pub mod NestFrames
+pub mod NestNodes
+pub mod NestRuns
 pub mod ReadRuns
 pub mod PlacedRuns
 pub mod TypedPicks

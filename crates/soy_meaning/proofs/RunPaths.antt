@@ -40,17 +40,17 @@ module _ (c : RunContext) where
   abbrev pub whole_of : List Declared → Plan
   whole_of ds = in_turn (map (declared_plan c.translation ds) ds)
 
-  abbrev whole : Plan
+  abbrev pub whole : Plan
   whole = whole_of c.declared
 
-  abbrev frame_plan : Declared → Plan
+  abbrev pub frame_plan : Declared → Plan
   frame_plan d = nodes_plan (plan_context (context_in c d)) d.template.body (param_scope d.template.params)
 
-  frame_within : (d : Declared) → IsMember d c.declared → IsFrameWithin whole d.template.kind (frame_plan d)
+  pub frame_within : (d : Declared) → IsMember d c.declared → IsFrameWithin whole d.template.kind (frame_plan d)
   frame_within d member = turn_frames (declared_plan c.translation c.declared) c.declared d member Here
       d.template.kind (frame_plan d) refl
 
-  frames_within : (d : Declared) → IsMember d c.declared → FramesIn whole (frame_plan d)
+  pub frames_within : (d : Declared) → IsMember d c.declared → FramesIn whole (frame_plan d)
   frames_within d member y kind q e = turn_frames (declared_plan c.translation c.declared) c.declared d member
       (Inside y) kind q e
 

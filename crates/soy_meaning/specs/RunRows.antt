@@ -14,6 +14,7 @@ use Rattle.plural_rules.specs.declared.category.Category.TheVariants as category
 use Rattle.plural_rules.specs.declared.condition.Comparison.{Comparison}
 use Rattle.plural_rules.specs.declared.condition.Operand.TheVariants as operand
 use Rattle.soy_base.specs.declared.place.Place.{Place}
+use Rattle.soy_base.specs.declared.place.ValueClass.TheVariants as class
 use Rattle.html_state.specs.AfterPieces.{Piece, Static, Value}
 use Rattle.soy_tree.specs.declared.expr.BinaryOp.TheVariants as op
 use Rattle.soy_tree.specs.Types.{Name, SoyType, IntType, StringType}
@@ -29,6 +30,7 @@ use Rattle.soy_tree.specs.MessageParts.{no_named_arm}
 use Rattle.soy_tree.specs.MessageParts.{named_arm, no_part, part}
 use Rattle.soy_tree.specs.Templates.{Declared, declared}
 use Rattle.soy_tree.specs.Trees.{Tree}
+use Rattle.soy_meaning.specs.Filled.{Filled, filled_end, frame_before, text_before, value_before}
 use Rattle.soy_meaning.specs.Giving.{RunEnv}
 use Rattle.soy_meaning.specs.Outcome.{Outcome, RunEnd, end_of_outcome, pieces_of_outcome}
 use Rattle.soy_meaning.specs.Meaning.{meaning}
@@ -38,7 +40,7 @@ use Rattle.soy_meaning.specs.PicksValues.{TemplatesPick}
 use Rattle.soy_meaning.specs.States.{IsMember}
 use Rattle.soy_meaning.specs.TranslationFits.{TranslationsFit}
 use Rattle.soy_meaning.specs.Walk.{walked}
-use Rattle.soy_meaning.specs.Rows.{all_nodes, print_node, row_param, span_at, text_node, variable}
+use Rattle.soy_meaning.specs.Rows.{all_nodes, print_node, row_param, site_at, span_at, text_node, variable}
 
 abbrev pub row_template : List (Name × SoyType) → List Node → Declared
 row_template params body = record {
@@ -106,6 +108,21 @@ block_twice text = row_outcome (text_param (codes "x")) block_body (text_env (co
 
 abbrev pub block_pieces : List ℕ → List Piece
 block_pieces value = Static (codes "<i>") ∷ Value value ∷ Static (codes "</i>") ∷ []
+
+-- what fills its path: the frame of the block in each of its two holes
+abbrev pub block_filled : List ℕ → Filled → Filled
+block_filled text rest =
+    text_before (codes "<i>") (value_before (site_at 0) (class.Text ∷ []) class.Text text
+    (text_before (codes "</i>") rest))
+
+abbrev pub blocks_filled : List ℕ → Filled
+blocks_filled text =
+    frame_before (site_at 0) (class.Html ∷ []) kind.Html (block_filled text filled_end)
+    (frame_before (site_at 0) (class.Html ∷ []) kind.Html (block_filled text filled_end) filled_end)
+
+-- the same pieces where nothing nests, `<i>{$x}</i><i>{$x}</i>`
+abbrev pub flat_filled : List ℕ → Filled
+flat_filled text = block_filled text (block_filled text filled_end)
 
 -- `{let $b kind="attributes"}class="{$k}" disabled{/let}<input {$b}>`
 abbrev pub attributes_body : List Node

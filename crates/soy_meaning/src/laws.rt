@@ -9,6 +9,7 @@ ghost use Rattle.soy_base.specs.declared.direction.Dir.TheVariants as dir;
 ghost use Rattle.soy_base.specs.declared.direction.Dir.{Dir};
 ghost use Rattle.bidi_text.specs.Wrap.{wrapped_text};
 ghost use Rattle.soy_base.specs.declared.kind.Kind.{Kind};
+ghost use Rattle.soy_base.specs.declared.kind.Kind.TheVariants as kind;
 ghost use Rattle.soy_base.specs.declared.place.Place.TheVariants as place;
 ghost use Rattle.soy_base.specs.declared.place.Place.{Place};
 ghost use Rattle.soy_base.specs.declared.place.Placing.TheVariants.{Refuses, Takes};
@@ -47,7 +48,7 @@ ghost use Rattle.soy_meaning.specs.StopsWithin.{StopsWithin};
 ghost use Rattle.soy_meaning.specs.TypedData.{AreTypedTrees, FitsData};
 ghost use Rattle.soy_meaning.specs.RunPlaces.{ArePlaced, FrameWithin};
 ghost use Rattle.soy_meaning.specs.TranslationFits.{TranslationsFit};
-ghost use Rattle.soy_meaning.specs.EqualChoices.{AlikeByChoices, AlikeRuns, EnvsAlike};
+ghost use Rattle.soy_meaning.specs.EqualChoices.{AlikeByChoices, AlikeRuns, EnvsAlike, FilledAlike, NestAlike};
 ghost use Rattle.soy_meaning.specs.PicksValues.{TemplatesPick, param_marks};
 ghost use Rattle.soy_meaning.specs.AcceptedTrees.{AcceptedTrees, walk_trees};
 ghost use Rattle.soy_meaning.specs.EscapedAt.{escaped_where, is_text_of};
@@ -73,6 +74,7 @@ ghost use Rattle.soy_meaning.specs.Rows.{open_tag_in_param, optional_attribute, 
 ghost use Rattle.soy_meaning.specs.Rows.{second_uri_value, seventeen_states, site_at, sixteen_states};
 ghost use Rattle.soy_meaning.specs.Rows.{tag_in_translation};
 ghost use Rattle.soy_meaning.specs.RunRows.{MeetsPremises, attributes_block, attributes_body, block_body};
+ghost use Rattle.soy_meaning.specs.RunRows.{blocks_filled, flat_filled};
 ghost use Rattle.soy_meaning.specs.RunRows.{block_pieces, block_twice, calls, calls_body, input_pieces, number_env};
 ghost use Rattle.soy_meaning.specs.RunRows.{number_param, offset_part, offset_translation, pieces_and_end};
 ghost use Rattle.soy_meaning.specs.RunRows.{plural_part, plural_source, plural_translation, row_context};
@@ -246,6 +248,26 @@ pub fn law_typed_choices()
         AlikeByChoices (template_run c d env) (template_run c d other) }
 {}
 
+/// Two runs of a template with the same choices, under data, nest their frames alike: they go along one path of the
+/// template's plan, with values in the same holes of it, and in each other hole two frames of one kind, which go along
+/// one path of their plan in their turn. Where they stop, that is the path up to the stop. In typed trees each value
+/// and each frame of both has one of its hole's classes.
+pub fn law_alike_nests()
+    ensures alike { (c : RunContext) (trees : List Tree) (d : Declared) (env other : RunEnv) →
+        c.declared ≡ declared trees → IsMember d c.declared → TranslationsFit c.translation c.declared →
+        TemplatesPick c c.declared → EnvsAlike (param_marks d.template.params) env other → BindsValues env →
+        BindsValues other →
+        choices_of_outcome (template_run c d env) ≡ choices_of_outcome (template_run c d other) →
+        NestAlike c (trees_plan c.translation trees) (entry_frame d env) (entry_frame d other) }
+    ensures classes { (c : RunContext) (trees : List Tree) (d : Declared) (env other : RunEnv) →
+        c.declared ≡ declared trees → IsMember d c.declared → AreTypedTrees trees →
+        TranslationsFit c.translation c.declared → FitsData d env → FitsData d other →
+        choices_of_outcome (template_run c d env) ≡ choices_of_outcome (template_run c d other) →
+        (n : NestAlike c (trees_plan c.translation trees) (entry_frame d env) (entry_frame d other))
+        × FitsClasses n.one.filled × FitsClasses n.two.filled }
+    ensures path { (f g : Filled) → FilledAlike f g → parts_of_filled f ≡ parts_of_filled g }
+{}
+
 /// Outcomes follow one another as lists do, and what is gathered from two that follow one another is gathered from the
 /// one and then from the other.
 pub fn law_outcomes()
@@ -324,12 +346,27 @@ pub fn law_run_rows()
         ≡ (page.Static (codes "only") ∷ [], outcome.WholeRun) }
     ensures offset_number { pieces_and_end (offset_translation (pos 2))
         ≡ (
-          page.Static (codes "and ") ∷ page.Value (codes "<span dir=\"ltr\">1</span>") ∷ page.Static (codes " more") ∷ [],
+          page.Static (codes "and ") ∷ page.Value (codes "<span dir=\"ltr\">1</span>")
+              ∷ page.Static (codes " more") ∷ [],
           outcome.WholeRun,
         ) }
     ensures offset_costs { costs_of_outcome (offset_translation (pos 2)) ≡ 1 ∷ 0 ∷ 0 ∷ 0 ∷ [] }
     ensures offset_choices { choices_of_outcome (offset_translation (pos 2))
         ≡ outcome.TextTaken outcome.OwnTranslation ∷ outcome.ArmTaken (Some 1) ∷ [] }
+{}
+
+/// Rows that the checker computes: what fills the path of a template that prints a block twice. Two runs of it nest
+/// their frames alike, and a template with the same pieces and no block doesn't nest as it does.
+pub fn law_nest_rows()
+    ensures pieces { filled_pieces dir.Ltr (blocks_filled (codes "q")) kind.Html []
+        ≡ pieces_of_outcome (block_twice (codes "q")) }
+    ensures path { IsPath (run_plan (row_context (text_param (codes "x")) block_body)
+        (entry_frame (row_template (text_param (codes "x")) block_body) (text_env (codes "x") (codes "q"))))
+        (parts_of_filled (blocks_filled (codes "q"))) }
+    ensures alike { FilledAlike (blocks_filled (codes "q")) (blocks_filled (codes "<7")) }
+    ensures same_pieces { filled_pieces dir.Ltr (flat_filled (codes "7")) kind.Html []
+        ≡ filled_pieces dir.Ltr (blocks_filled (codes "7")) kind.Html [] }
+    ensures apart { FilledAlike (blocks_filled (codes "7")) (flat_filled (codes "7")) → ⊥ }
 {}
 
 /// The files of the rows meet what the laws on runs ask, and their variables what those on choices do: data bind no

@@ -10,8 +10,8 @@
 mod laws;
 
 pub use laws::{
-    law_equal_choices, law_few_states, law_frame, law_hole, law_outcomes, law_places_are_static,
-    law_plan_is_of_tree, law_printed_classes, law_row_premises, law_rows, law_run_rows,
-    law_runs_are_paths, law_runs_are_read, law_typed_choices, law_typed_rows, law_typed_runs,
-    law_value_texts, law_walk,
+    law_alike_nests, law_equal_choices, law_few_states, law_frame, law_hole, law_nest_rows,
+    law_outcomes, law_places_are_static, law_plan_is_of_tree, law_printed_classes,
+    law_row_premises, law_rows, law_run_rows, law_runs_are_paths, law_runs_are_read,
+    law_typed_choices, law_typed_rows, law_typed_runs, law_value_texts, law_walk,
 };

@@ -20,6 +20,3 @@ mod shares;
 
 pub use cursor::Cursor;
 pub use laws::law_rooms_joined;
-
-#[cfg(test)]
-mod tests;

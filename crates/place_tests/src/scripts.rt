@@ -1,6 +1,6 @@
 //! Each row of both tables, and scripts and styles as authors write them.
 
-use super::*;
+use script_state::{Bad, CssState, JsState};
 use soy_base::{Code, Place, Placing};
 
 /// Stands for a printed value in the scripts and styles below.

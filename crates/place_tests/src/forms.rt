@@ -2,8 +2,8 @@
 ghost use Rattle.std.specs.Prelude.{IsTrue};
 ghost use Rattle.escapers.specs.Esc.{is_by_characters};
 
-use super::*;
 use esc_table::Tail;
+use escapers::{Escaper, escape, escaped_char_len, escaper_for, plain_prefix, put_char};
 use soy_base::{Dir, Place, ValueClass};
 use std::alloc::{AllocError, Global};
 use std::test::Fail;

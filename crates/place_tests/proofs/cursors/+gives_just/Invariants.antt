@@ -1,5 +1,5 @@
 use Rattle.std.proofs.Common.{length}
-use Rattle.value_cursor.proofs.tests.+gives_just.Given as goal
+use Rattle.place_tests.proofs.cursors.+gives_just.Given as goal
 
 abbrev pub decreases-gives_just : goal.decreases-gives_just
 decreases-gives_just l = length l.want.now

@@ -1,11 +1,11 @@
 //! Escaped forms given into rooms of many sizes.
 ghost use Rattle.value_cursor.specs.BytesLeft.{CursorFits};
 
-use super::*;
 use escapers::{Escaper, escaper_for};
 use soy_base::{Dir, Place, ValueClass};
 use std::alloc::Global;
 use std::test::Fail;
+use value_cursor::Cursor;
 
 // Texts that have every row of the escaper, the characters next to it and characters of two to four bytes, and their
 // forms.

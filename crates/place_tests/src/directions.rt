@@ -1,5 +1,5 @@
 //! Estimates, offsets and wrapped texts of worked rows.
-use crate::{estimate, law_cleaned, marks, wrap};
+use bidi_text::{estimate, law_cleaned, marks, wrap};
 use soy_base::Dir::{self, Ltr, Rtl};
 use soy_base::OutOfMemory;
 

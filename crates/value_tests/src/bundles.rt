@@ -1,6 +1,6 @@
 //! Bundles beside a small catalogue, and what is answered.
 
-use crate::read_bundle;
+use msg_bundle::read_bundle;
 use msg_extract::{Catalogue, Listed, extract};
 use plural_rules::Category;
 use soy_base::{

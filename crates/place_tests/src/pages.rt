@@ -1,6 +1,6 @@
 //! Rows of the tables, by the calls of a state.
 
-use crate::{Part, State};
+use html_state::{Part, State};
 use soy_base::{Code, Kind, Place, Placing, ValueClass};
 
 /// Where a value is printed.
