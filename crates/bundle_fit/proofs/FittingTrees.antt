@@ -1,5 +1,5 @@
 -- Translations that fit files fit each message of their templates.
-use Rattle.std.proofs.Common.{◌≡◌, ℕ, ◌+◌, Bool, true, List, [], ◌∷◌, ◌++◌, Option, refl}
+use Rattle.std.proofs.Common.{◌≡◌, ℕ, ◌+◌, true, List, [], ◌∷◌, ◌++◌, Option}
 use Rattle.std.specs.Prelude.{nat_le, not, ◌&&◌}
 use Rattle.std.specs.List.{list_all}
 use Rattle.std.proofs.lemmas.Bool.{and_parts}
@@ -22,7 +22,6 @@ use Rattle.soy_tree.specs.Templates.{Declared, declared_from, declared_in}
 use Rattle.soy_tree.specs.Trees.{Template, Tree}
 use Rattle.soy_tree.specs.Types.{Name}
 use Rattle.msg_extract.specs.Fits.{FitsMessages, FitsTrees}
-use Rattle.msg_extract.specs.MessageId.{id_of}
 use Rattle.msg_extract.specs.MessagesIn.{argument_messages, arm_messages, case_messages, fallback_messages}
 use Rattle.msg_extract.specs.MessagesIn.{given_messages, messages_in, node_messages, otherwise_messages}
 use Rattle.msg_extract.specs.MessagesIn.{template_messages}

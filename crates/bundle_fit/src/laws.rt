@@ -6,6 +6,7 @@ ghost use Rattle.soy_tree.specs.Formed.{AreFormed};
 ghost use Rattle.soy_tree.specs.MessageParts.{MsgParts};
 ghost use Rattle.soy_tree.specs.Templates.{Declared, declared};
 ghost use Rattle.soy_tree.specs.Trees.{Tree};
+ghost use Rattle.soy_tree.specs.Values.{Value};
 ghost use Rattle.msg_extract.specs.Fits.{FitsTrees};
 ghost use Rattle.soy_meaning.specs.AcceptedTrees.{walk_trees};
 ghost use Rattle.soy_meaning.specs.Giving.{RunEnv};
@@ -18,7 +19,7 @@ ghost use Rattle.template_ir.specs.Compiles.{Compiles};
 ghost use Rattle.template_ir.specs.Ops.{Program};
 ghost use Rattle.template_ir.specs.Placed.{language_context};
 ghost use Rattle.template_ir.specs.ProgramRows.{pieces_end_costs};
-ghost use Rattle.template_ir.specs.Run.{template_gives};
+ghost use Rattle.template_ir.specs.Run.{input_env, names_of, run, template_gives};
 ghost use Rattle.template_ir.specs.Sound.{is_sound};
 ghost use Rattle.bundle_fit.specs.Translated.{Brought, language_by, translated_by};
 
@@ -32,16 +33,24 @@ pub fn law_fitting_translations()
 {}
 
 /// Of typed trees that a bundle fits and that the walk goes through, a program that stands for them with the places
-/// that the walk gives can't go wrong; and under data that fit it gives what the trees give, with the same costs and
-/// the same end.
+/// that the walk gives can't go wrong; and under data that fit, or an input whose members are the parameters and fit,
+/// it gives what the trees give, with the same costs and the same end.
 pub fn law_fitting_program()
     ensures sound { (b : Brought) (trees : List Tree) (v : Walked State) (p : Program) → AreTypedTrees trees →
         FitsTrees b.translation trees → walk_trees (translated_by b.translation) trees ≡ Ok v →
         Compiles trees v.places (language_by b) p → is_sound p ≡ true }
-    ensures runs { (b : Brought) (trees : List Tree) (v : Walked State) (p : Program) → AreTypedTrees trees →
+    ensures variables { (b : Brought) (trees : List Tree) (v : Walked State) (p : Program) → AreTypedTrees trees →
         FitsTrees b.translation trees → walk_trees (translated_by b.translation) trees ≡ Ok v →
         Compiles trees v.places (language_by b) p →
         (number : ℕ) (d : Declared) → slice_get (declared trees) number ≡ Some d → (env : RunEnv) → FitsData d env →
         pieces_end_costs (template_gives p number env)
         ≡ pieces_end_costs (template_run (language_context (language_by b) (declared trees)) d env) }
+    ensures input { (b : Brought) (trees : List Tree) (v : Walked State) (p : Program) → AreTypedTrees trees →
+        FitsTrees b.translation trees → walk_trees (translated_by b.translation) trees ≡ Ok v →
+        Compiles trees v.places (language_by b) p →
+        (number : ℕ) (d : Declared) → slice_get (declared trees) number ≡ Some d →
+        (input : Value) → FitsData d (input_env (names_of d.template.params) input) →
+        pieces_end_costs (run p number input)
+        ≡ pieces_end_costs (template_run (language_context (language_by b) (declared trees)) d
+        (input_env (names_of d.template.params) input)) }
 {}

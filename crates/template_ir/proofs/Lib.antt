@@ -27,3 +27,4 @@ pub mod SoundParts
 pub mod SoundCalls
 pub mod SoundNodes
 pub mod SoundPrograms
+pub mod CompiledRuns

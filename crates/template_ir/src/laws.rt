@@ -8,6 +8,7 @@ ghost use Rattle.soy_tree.specs.Nodes.{Nodes};
 ghost use Rattle.soy_tree.specs.Templates.{Declared, declared};
 ghost use Rattle.soy_tree.specs.Trees.{Tree};
 ghost use Rattle.soy_tree.specs.TypeOf.{Scope};
+ghost use Rattle.soy_tree.specs.Values.{Value};
 ghost use Rattle.soy_meaning.specs.AcceptedTrees.{walk_trees};
 ghost use Rattle.soy_meaning.specs.Giving.{RunEnv};
 ghost use Rattle.soy_meaning.specs.TranslationFits.{TranslationsFit};
@@ -28,7 +29,7 @@ ghost use Rattle.template_ir.specs.ProgramRows.{attributes_program, block_progra
 ghost use Rattle.template_ir.specs.ProgramRows.{every_outcome, every_places, every_program, every_trees};
 ghost use Rattle.template_ir.specs.ProgramRows.{offset_language, offset_program, pieces_end_costs, plural_program};
 ghost use Rattle.template_ir.specs.ProgramRows.{source_language};
-ghost use Rattle.template_ir.specs.Run.{template_gives};
+ghost use Rattle.template_ir.specs.Run.{input_env, names_of, run, template_gives};
 ghost use Rattle.template_ir.specs.Sound.{is_sound};
 
 /// The holes that are counted in nodes are those of their plan, whatever the variables are.
@@ -64,14 +65,23 @@ pub fn law_runs_are_placed()
 {}
 
 /// A program that stands for typed trees gives what they give, with the same costs and the same end, under data that
-/// fit, where the translations fit and the places are those that the walk gives, which meets no fault.
+/// fit, where the translations fit and the places are those that the walk gives, which meets no fault. So it does under
+/// an input whose members are the template's parameters.
 pub fn law_compiled_run_is_pieces()
-    ensures { (trees : List Tree) (l : Language) (v : Walked State) (p : Program) → AreTypedTrees trees →
+    ensures variables { (trees : List Tree) (l : Language) (v : Walked State) (p : Program) → AreTypedTrees trees →
         TranslationsFit l.translation (declared trees) → walk_trees l.translation trees ≡ Ok v →
         Compiles trees v.places l p →
         (number : ℕ) (d : Declared) → slice_get (declared trees) number ≡ Some d → (env : RunEnv) → FitsData d env →
         pieces_end_costs (template_gives p number env)
         ≡ pieces_end_costs (template_run (language_context l (declared trees)) d env) }
+    ensures input { (trees : List Tree) (l : Language) (v : Walked State) (p : Program) → AreTypedTrees trees →
+        TranslationsFit l.translation (declared trees) → walk_trees l.translation trees ≡ Ok v →
+        Compiles trees v.places l p →
+        (number : ℕ) (d : Declared) → slice_get (declared trees) number ≡ Some d →
+        (input : Value) → FitsData d (input_env (names_of d.template.params) input) →
+        pieces_end_costs (run p number input)
+        ≡ pieces_end_costs (template_run (language_context l (declared trees)) d
+        (input_env (names_of d.template.params) input)) }
 {}
 
 /// A program that stands for trees can't go wrong, where the trees are typed, the translations are patterns and fit,

@@ -1,13 +1,10 @@
-use Rattle.soy_tree.specs.Templates.{declared}
-use Rattle.soy_meaning.specs.Pieces.{template_run}
-use Rattle.template_ir.specs.Placed.{language_context}
-use Rattle.template_ir.specs.Run.{template_gives}
-use Rattle.template_ir.proofs.PlacedRuns.{runs_placed}
-use Rattle.template_ir.proofs.RunLaws.{entry_law, same_given}
+use Rattle.template_ir.proofs.CompiledRuns.{compiled_input, compiled_run}
 use Rattle.template_ir.proofs.laws.law_compiled_run_is_pieces.Goals as goal
 
-pub returns : goal.returns
-returns c = λ trees l v p typed fits walks h number d found env data_.
-    same_given (template_run (language_context l (declared trees)) d env) (template_gives p number env)
-    (entry_law l (declared trees) v.places p h.templates h.direction h.plural h.ordinal number d found env
-    (runs_placed trees l v typed fits walks number d found env data_))
+pub returns-clause-variables : goal.returns-clause-variables
+returns-clause-variables c = λ trees l v p typed fits walks compiles number d found env data_.
+    compiled_run trees l v p typed fits walks compiles number d found env data_
+
+pub returns-clause-input : goal.returns-clause-input
+returns-clause-input c = λ trees l v p typed fits walks compiles number d found input data_.
+    compiled_input trees l v p typed fits walks compiles number d found input data_
