@@ -56,20 +56,41 @@ module _ (c : RunContext) (trees : List Tree) (d : Declared) (env : RunEnv) (are
   typed_run_is_read accepted =
       runs_are_read c whole accepted (entry_frame d env) stands typed_run_fits.0 typed_run_fits.1
 
-  pub typed_run_is_placed : (v : Walked State) → walk_trees c.translation trees ≡ Ok v
-      → (r : RunsAlong c whole (entry_frame d env)) × FitsClasses r.filled
-      × (q : FrameWithin whole d.template.kind)
-      × ArePlaced whole v.places c.direction d.template.kind q [] [] r.filled
-  typed_run_is_placed v walks =
-      let found = static_places whole (walked [] []) v walks in
-      let placed = run_placed c whole (accepted_when_walked page_machine page_compares whole (walked [] []) v walks) found.0 found.3
-      typed_run_fits.0.filled (end_of_outcome (template_run c d env)) (entry_frame d env) stands
-      typed_run_fits.0.runs typed_run_fits.1 typed_run_fits.0.path in
-      let moved : (q : FrameWithin whole d.template.kind)
-      × ArePlaced whole v.places c.direction d.template.kind q [] [] typed_run_fits.0.filled =
-      subst (λ (places : List Place). (q : FrameWithin whole d.template.kind)
-      × ArePlaced whole places c.direction d.template.kind q [] [] typed_run_fits.0.filled) (sym found.1) placed in
-      (typed_run_fits.0, typed_run_fits.1, moved.0, moved.1)
+-- where the walk meets no fault, at the template's address
+module _ (c : RunContext) (trees : List Tree) (d : Declared) (are : c.declared ≡ declared trees)
+    (member : IsMember d c.declared) (v : Walked State) (walks : walk_trees c.translation trees ≡ Ok v) where
+  abbrev entry_plan : Plan
+  entry_plan = trees_plan c.translation trees
+
+  abbrev template_within : FrameWithin entry_plan d.template.kind
+  template_within =
+      let stands = frame_stands c trees d [] are member in
+      record { address = stands.0; plan = run_plan c (entry_frame d []); within = stands.1 }
+
+  -- each run of it whose values and frames have classes of their holes
+  run_is_placed : (env : RunEnv) (r : RunsAlong c entry_plan (entry_frame d env)) → FitsClasses r.filled
+      → ArePlaced entry_plan v.places c.direction d.template.kind template_within [] [] r.filled
+  run_is_placed env r fits =
+      let found = static_places entry_plan (walked [] []) v walks in
+      subst (λ (places : List Place).
+      ArePlaced entry_plan places c.direction d.template.kind template_within [] [] r.filled) (sym found.1)
+      (run_placed c entry_plan (accepted_when_walked page_machine page_compares entry_plan (walked [] []) v walks)
+      found.0 found.3 r.filled (end_of_outcome (template_run c d env)) (entry_frame d env) d.template.kind
+      template_within r.runs fits r.path)
+
+  pub template_placed : (env : RunEnv) (r : RunsAlong c entry_plan (entry_frame d env)) → FitsClasses r.filled
+      → (q : FrameWithin entry_plan d.template.kind)
+      × ArePlaced entry_plan v.places c.direction d.template.kind q [] [] r.filled
+  template_placed env r fits = (template_within, run_is_placed env r fits)
+
+  -- two of them, in one frame of the plan
+  pub templates_placed : (env other : RunEnv) (one : RunsAlong c entry_plan (entry_frame d env))
+      (two : RunsAlong c entry_plan (entry_frame d other)) → FitsClasses one.filled → FitsClasses two.filled
+      → (q : FrameWithin entry_plan d.template.kind)
+      × ArePlaced entry_plan v.places c.direction d.template.kind q [] [] one.filled
+      × ArePlaced entry_plan v.places c.direction d.template.kind q [] [] two.filled
+  templates_placed env other one two fits also =
+      (template_within, run_is_placed env one fits, run_is_placed other two also)
 
 module _ (c : RunContext) (trees : List Tree) (are : c.declared ≡ declared trees) (typed : AreTypedTrees trees)
     (fits : TranslationsFit c.translation c.declared) (d : Declared) (env other : RunEnv)
