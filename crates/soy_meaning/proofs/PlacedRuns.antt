@@ -156,7 +156,7 @@ hole_on p l passed_by first rest at classes e = nothing_there first rest (HolePa
 
 -- ---- the places of a run
 
-fills_then : (f g : Filled) → FillsHoles f → FillsHoles g → FillsHoles (filled_then f g)
+pub fills_then : (f g : Filled) → FillsHoles f → FillsHoles g → FillsHoles (filled_then f g)
 fills_then filled_end g h k = k
 fills_then (text_before text f) g h k = fills_then f g h k
 fills_then (value_before at classes value text f) g h k = (h.0, h.1, fills_then f g h.2 k)

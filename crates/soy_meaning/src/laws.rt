@@ -46,7 +46,7 @@ ghost use Rattle.soy_meaning.specs.RunsAlong.{BindsValues, EnvRuns, FilledByRuns
 ghost use Rattle.soy_meaning.specs.RunsAlong.{RunsAlong};
 ghost use Rattle.soy_meaning.specs.StopsWithin.{StopsWithin};
 ghost use Rattle.soy_meaning.specs.TypedData.{AreTypedTrees, FitsData};
-ghost use Rattle.soy_meaning.specs.RunPlaces.{ArePlaced, FrameWithin};
+ghost use Rattle.soy_meaning.specs.RunPlaces.{ArePlaced, ArePlacedInBoth, FrameWithin};
 ghost use Rattle.soy_meaning.specs.TranslationFits.{TranslationsFit};
 ghost use Rattle.soy_meaning.specs.EqualChoices.{AlikeByChoices, AlikeRuns, EnvsAlike, FilledAlike, NestAlike};
 ghost use Rattle.soy_meaning.specs.PicksValues.{TemplatesPick, param_marks};
@@ -250,8 +250,8 @@ pub fn law_typed_choices()
 /// Two runs of a template with the same choices, under data, nest their frames alike: they go along one path of the
 /// template's plan, with values in the same holes of it, and in each other hole two frames of one kind, which go along
 /// paths with the same parts in their turn. Where they stop, that is the path up to the stop. In typed trees each value
-/// and each frame of both has one of its hole's classes. Where the walk meets no fault, each of them, in both, stands
-/// then at the place that the walk gave.
+/// and each frame of both has one of its hole's classes. Where the walk meets no fault, what stands in a hole of the path,
+/// at any depth, stands in both runs then at the place that the walk gave to one hole.
 pub fn law_alike_nests()
     ensures alike { (c : RunContext) (trees : List Tree) (d : Declared) (env other : RunEnv) →
         c.declared ≡ declared trees → IsMember d c.declared → TranslationsFit c.translation c.declared →
@@ -272,8 +272,8 @@ pub fn law_alike_nests()
         (n : NestAlike c (trees_plan c.translation trees) (entry_frame d env) (entry_frame d other)) →
         FitsClasses n.one.filled → FitsClasses n.two.filled →
         (q : FrameWithin (trees_plan c.translation trees) d.template.kind)
-        × ArePlaced (trees_plan c.translation trees) v.places c.direction d.template.kind q [] [] n.one.filled
-        × ArePlaced (trees_plan c.translation trees) v.places c.direction d.template.kind q [] [] n.two.filled }
+        × ArePlacedInBoth (trees_plan c.translation trees) v.places c.direction d.template.kind q [] [] [] n.one.filled
+        n.two.filled }
 {}
 
 /// Outcomes follow one another as lists do, and what is gathered from two that follow one another is gathered from the

@@ -16,4 +16,4 @@ returns-clause-path c = λ f g alike. same_parts f g alike
 
 pub returns-clause-places : goal.returns-clause-places
 returns-clause-places c = λ context trees d env other are member v walks n one two.
-    templates_placed context trees d are member v walks env other n.one n.two one two
+    templates_placed context trees d are member v walks env other n one two
