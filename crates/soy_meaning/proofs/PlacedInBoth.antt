@@ -75,7 +75,8 @@ module _ (c : RunContext) (whole : Plan) (accepted : AcceptedPaths page_machine 
       → ArePlacedInBoth whole places context kind q parts one (filled_pieces context h kind []) f g
 
   past_whole : (f g inner within : Filled) → AlsoPlaced f g → AlsoPlaced inner within → (end : RunEnd) (run : FrameRun)
-      (kind : Kind) (q : FrameWithin whole kind) (parts : List PathPart) (one : List Piece) (h : Filled) (at site : Site)
+      (kind : Kind) (q : FrameWithin whole kind) (parts : List PathPart) (one : List Piece) (h : Filled) (at site :
+      Site)
       (classes others : List ValueClass) (k l : Kind) → parts_of_filled h ≡ parts → FillsHoles h
       → FilledByRuns c whole run WholeRun (frame_before site others l within filled_end)
       → FilledByRuns c whole run end g → FitsClasses (frame_before site others l within g)
@@ -99,8 +100,10 @@ module _ (c : RunContext) (whole : Plan) (accepted : AcceptedPaths page_machine 
   placed_also : (f g : Filled) → AlsoPlaced f g
   placed_also filled_end filled_end end run kind q parts one h same fills runs fits alike p = tt
   placed_also filled_end (text_before other g) end run kind q parts one h same fills runs fits alike p = absurd alike
-  placed_also filled_end (value_before site others class other g) end run kind q parts one h same fills runs fits alike p = absurd alike
-  placed_also filled_end (frame_before site others l within g) end run kind q parts one h same fills runs fits alike p = absurd alike
+  placed_also filled_end (value_before site others class other g) end run kind q parts one h same fills runs fits
+      alike p = absurd alike
+  placed_also filled_end (frame_before site others l within g) end run kind q parts one h same fills runs fits alike p
+      = absurd alike
   placed_also (text_before text f) (text_before other g) end run kind q parts one h same fills runs fits alike p =
       let only : Filled = text_before other filled_end in
       behind kind q (parts ++ (StaticPart text ∷ [])) (one ++ (Static text ∷ [])) h only f g
@@ -108,8 +111,10 @@ module _ (c : RunContext) (whole : Plan) (accepted : AcceptedPaths page_machine 
       (parts_more h only parts same ∙ ap (λ t. parts ++ (StaticPart t ∷ [])) (sym alike.0))
       (fills_then h only fills tt) runs fits alike.1 p)
   placed_also (text_before text f) filled_end end run kind q parts one h same fills runs fits alike p = absurd alike
-  placed_also (text_before text f) (value_before site others class other g) end run kind q parts one h same fills runs fits alike p = absurd alike
-  placed_also (text_before text f) (frame_before site others l within g) end run kind q parts one h same fills runs fits alike p = absurd alike
+  placed_also (text_before text f) (value_before site others class other g) end run kind q parts one h same fills runs
+      fits alike p = absurd alike
+  placed_also (text_before text f) (frame_before site others l within g) end run kind q parts one h same fills runs
+      fits alike p = absurd alike
   placed_also (value_before at classes value text f) (value_before site others class other g) end run kind q parts one h
       same fills runs fits alike p =
       let only : Filled = value_before site others class other filled_end in
@@ -120,14 +125,20 @@ module _ (c : RunContext) (whole : Plan) (accepted : AcceptedPaths page_machine 
             (parts_more h only parts same ∙ same_hole parts at site classes others alike.0 alike.1)
             (fills_then h only fills (fits.0, runs.0, tt)) runs.1 fits.1 alike.2 p.1),
       )
-  placed_also (value_before at classes value text f) filled_end end run kind q parts one h same fills runs fits alike p = absurd alike
-  placed_also (value_before at classes value text f) (text_before other g) end run kind q parts one h same fills runs fits alike p = absurd alike
-  placed_also (value_before at classes value text f) (frame_before site others l within g) end run kind q parts one h same fills runs fits alike p = absurd alike
-  placed_also (frame_before at classes k inner f) filled_end end run kind q parts one h same fills runs fits alike p = absurd alike
-  placed_also (frame_before at classes k inner f) (text_before other g) end run kind q parts one h same fills runs fits alike p = absurd alike
-  placed_also (frame_before at classes k inner f) (value_before site others class other g) end run kind q parts one h same fills runs fits alike p = absurd alike
-  placed_also (frame_before at classes k inner f) (frame_before site others l within filled_end) end run kind q parts one
-      h same fills runs fits alike p =
+  placed_also (value_before at classes value text f) filled_end end run kind q parts one h same fills runs fits alike
+      p = absurd alike
+  placed_also (value_before at classes value text f) (text_before other g) end run kind q parts one h same fills runs
+      fits alike p = absurd alike
+  placed_also (value_before at classes value text f) (frame_before site others l within g) end run kind q parts one h
+      same fills runs fits alike p = absurd alike
+  placed_also (frame_before at classes k inner f) filled_end end run kind q parts one h same fills runs fits alike p =
+      absurd alike
+  placed_also (frame_before at classes k inner f) (text_before other g) end run kind q parts one h same fills runs
+      fits alike p = absurd alike
+  placed_also (frame_before at classes k inner f) (value_before site others class other g) end run kind q parts one h
+      same fills runs fits alike p = absurd alike
+  placed_also (frame_before at classes k inner f) (frame_before site others l within filled_end) end run kind q parts
+      one h same fills runs fits alike p =
       let frame : FrameFills c whole run end site l within = runs.1 in (
         both_here kind q classes parts one h p.0 same fills,
         (
@@ -137,14 +148,20 @@ module _ (c : RunContext) (whole : Plan) (accepted : AcceptedPaths page_machine 
         ended kind q (parts ++ (HolePart at classes ∷ [])) (one ++ filled_pieces context inner k [])
             (filled_pieces context h kind [] ++ filled_pieces context within l []) f alike.4,
       )
-  placed_also (frame_before at classes k inner f) (frame_before site others l within (text_before other g)) end run kind q parts one h same fills runs fits alike p =
-      past_whole f (text_before other g) inner within (placed_also f (text_before other g)) (placed_also inner within) end run kind q parts one h at site
+  placed_also (frame_before at classes k inner f) (frame_before site others l within (text_before other g)) end run
+      kind q parts one h same fills runs fits alike p =
+      past_whole f (text_before other g) inner within (placed_also f (text_before other g)) (placed_also inner within)
+      end run kind q parts one h at site
       classes others k l same fills (runs.0, runs.1, tt) runs.2 fits alike p
-  placed_also (frame_before at classes k inner f) (frame_before site others l within (value_before site_ others_ class other g)) end run kind q parts one h same fills runs fits alike p =
-      past_whole f (value_before site_ others_ class other g) inner within (placed_also f (value_before site_ others_ class other g)) (placed_also inner within) end run kind q parts one h at site
+  placed_also (frame_before at classes k inner f) (frame_before site others l within (value_before site_ others_ class
+      other g)) end run kind q parts one h same fills runs fits alike p =
+      past_whole f (value_before site_ others_ class other g) inner within (placed_also f (value_before site_ others_
+      class other g)) (placed_also inner within) end run kind q parts one h at site
       classes others k l same fills (runs.0, runs.1, tt) runs.2 fits alike p
-  placed_also (frame_before at classes k inner f) (frame_before site others l within (frame_before site_ others_ l_ within_ g)) end run kind q parts one h same fills runs fits alike p =
-      past_whole f (frame_before site_ others_ l_ within_ g) inner within (placed_also f (frame_before site_ others_ l_ within_ g)) (placed_also inner within) end run kind q parts one h at site
+  placed_also (frame_before at classes k inner f) (frame_before site others l within (frame_before site_ others_ l_
+      within_ g)) end run kind q parts one h same fills runs fits alike p =
+      past_whole f (frame_before site_ others_ l_ within_ g) inner within (placed_also f (frame_before site_ others_
+      l_ within_ g)) (placed_also inner within) end run kind q parts one h at site
       classes others k l same fills (runs.0, runs.1, tt) runs.2 fits alike p
 
   -- two fillings of a path, of which the one is placed

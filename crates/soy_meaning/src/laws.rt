@@ -212,8 +212,8 @@ pub fn law_runs_are_read()
 
 /// A template of typed trees, under data that fit it and a bundle whose translations fit their messages, runs along a
 /// path in whose holes each value and each frame, at any depth, has one of the hole's classes. So under accepted paths
-/// its pieces are read without a fault. And where the walk meets no fault, whatever fills the holes of a run with values
-/// and frames of their classes stands at the places, by the pieces of its frame so far, that the walk gave.
+/// its pieces are read without a fault. And where the walk meets no fault, whatever fills the holes of a run with
+/// values and frames of their classes stands, by the pieces of its frame so far, at the places that the walk gave.
 pub fn law_typed_runs()
     ensures classes { (c : RunContext) (trees : List Tree) (d : Declared) (env : RunEnv) →
         c.declared ≡ declared trees → IsMember d c.declared → AreTypedTrees trees →
@@ -250,8 +250,8 @@ pub fn law_typed_choices()
 /// Two runs of a template with the same choices, under data, nest their frames alike: they go along one path of the
 /// template's plan, with values in the same holes of it, and in each other hole two frames of one kind, which go along
 /// paths with the same parts in their turn. Where they stop, that is the path up to the stop. In typed trees each value
-/// and each frame of both has one of its hole's classes. Where the walk meets no fault, what stands in a hole of the path,
-/// at any depth, stands in both runs then at the place that the walk gave to one hole.
+/// and each frame of both has one of its hole's classes. Where the walk meets no fault, what stands in a hole of the
+/// path, at any depth, stands then in both runs at the place that the walk gave to one hole.
 pub fn law_alike_nests()
     ensures alike { (c : RunContext) (trees : List Tree) (d : Declared) (env other : RunEnv) →
         c.declared ≡ declared trees → IsMember d c.declared → TranslationsFit c.translation c.declared →
