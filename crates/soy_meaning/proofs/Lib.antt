@@ -48,6 +48,7 @@ pub mod NestFrames
 pub mod NestNodes
 pub mod NestRuns
 pub mod ReadRuns
+pub mod PlacedInBoth
 pub mod PlacedRuns
 pub mod TypedPicks
 pub mod TypedRuns

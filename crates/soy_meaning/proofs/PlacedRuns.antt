@@ -24,7 +24,7 @@ use Rattle.soy_meaning.specs.Points.{Address, AtHole, AtMeet, Here, Inside, Left
 use Rattle.soy_meaning.specs.Points.{in_arms, in_body, one_way, other_way, point_at, to_first, to_head, to_hole}
 use Rattle.soy_meaning.specs.Points.{to_second}
 use Rattle.soy_meaning.specs.RunPlaces.{ArePlaced, FrameWithin, IsPlaced}
-use Rattle.soy_meaning.specs.RunsAlong.{FilledByRuns, FitsClasses, IsFrameWithin, IsPathUpTo}
+use Rattle.soy_meaning.specs.RunsAlong.{FilledByRuns, FitsClasses, IsPathUpTo}
 use Rattle.soy_meaning.proofs.Goings.{FrameFills}
 use Rattle.soy_meaning.proofs.ReadRuns.{runs_fill_holes}
 use Rattle.soy_meaning.proofs.RunPieces.{filled_then, parts_then, pieces_then}
@@ -156,7 +156,7 @@ hole_on p l passed_by first rest at classes e = nothing_there first rest (HolePa
 
 -- ---- the places of a run
 
-fills_then : (f g : Filled) → FillsHoles f → FillsHoles g → FillsHoles (filled_then f g)
+pub fills_then : (f g : Filled) → FillsHoles f → FillsHoles g → FillsHoles (filled_then f g)
 fills_then filled_end g h k = k
 fills_then (text_before text f) g h k = fills_then f g h k
 fills_then (value_before at classes value text f) g h k = (h.0, h.1, fills_then f g h.2 k)
@@ -295,12 +295,10 @@ module _ (c : RunContext) (whole : Plan) (accepted : AcceptedPaths page_machine 
       past_whole (frame_before at_ classes_ kind_ other f) (placed (frame_before at_ classes_ kind_ other f)) end run
       kind q g more at classes inner_kind inner (placed inner) fills (runs.0, runs.1, tt) runs.2 fits path
 
-  -- a run of a frame of the whole plan
-  pub run_placed : (f : Filled) (end : RunEnd) (run : FrameRun) (within : IsFrameWithin whole run.kind (run_plan c run))
-      → FilledByRuns c whole run end f → FitsClasses f → IsPathUpTo end (run_plan c run) (parts_of_filled f)
-      → (q : FrameWithin whole run.kind) × ArePlaced whole places context run.kind q [] [] f
-  run_placed f end run within runs fits path =
-      let q : FrameWithin whole run.kind =
-      record { address = within.0; plan = run_plan c run; within = within.1 } in
+  -- a run of a frame of the whole plan, at the frame's address
+  pub run_placed : (f : Filled) (end : RunEnd) (run : FrameRun) (kind : Kind) (q : FrameWithin whole kind)
+      → FilledByRuns c whole run end f → FitsClasses f → IsPathUpTo end q.plan (parts_of_filled f)
+      → ArePlaced whole places context kind q [] [] f
+  run_placed f end run kind q runs fits path =
       let on : GoesOnBehind q.plan (parts_of_filled f) = up_to end q.plan (parts_of_filled f) path in
-      (q, placed f end run run.kind q filled_end on.more tt runs fits on.path)
+      placed f end run kind q filled_end on.more tt runs fits on.path

@@ -7,7 +7,8 @@ use Rattle.html_state.specs.declared.row.State.{State}
 use Rattle.soy_tree.specs.Templates.{Declared, declared}
 use Rattle.soy_tree.specs.Trees.{Tree}
 use Rattle.soy_meaning.specs.AcceptedTrees.{AcceptedTrees, walk_trees}
-use Rattle.soy_meaning.specs.EqualChoices.{AlikeByChoices, AlikeRuns}
+use Rattle.soy_meaning.specs.EqualChoices.{AlikeByChoices, AlikeRuns, NestAlike}
+use Rattle.soy_meaning.specs.FourPoints.{AcceptedPaths}
 use Rattle.soy_meaning.specs.FrameRun.{entry_frame, run_plan}
 use Rattle.soy_meaning.specs.Giving.{RunEnv}
 use Rattle.soy_meaning.specs.Outcome.{choices_of_outcome, end_of_outcome, pieces_of_outcome}
@@ -15,7 +16,7 @@ use Rattle.soy_meaning.specs.PageMachine.{page_machine}
 use Rattle.soy_meaning.specs.Pieces.{RunContext, template_run}
 use Rattle.soy_meaning.specs.Plan.{Plan}
 use Rattle.soy_meaning.specs.PlanOfNodes.{trees_plan}
-use Rattle.soy_meaning.specs.RunPlaces.{ArePlaced, FrameWithin}
+use Rattle.soy_meaning.specs.RunPlaces.{ArePlaced, ArePlacedInBoth, FrameWithin}
 use Rattle.soy_meaning.specs.RunsAlong.{FitsClasses, IsFrameWithin, RunsAlong}
 use Rattle.soy_meaning.specs.States.{IsMember}
 use Rattle.soy_meaning.specs.TranslationFits.{TranslationsFit}
@@ -25,6 +26,7 @@ use Rattle.soy_meaning.proofs.AlikeRuns.{runs_alike, templates_alike}
 use Rattle.soy_meaning.proofs.CheckedTrees.{TemplateTyped, templates_typed}
 use Rattle.soy_meaning.proofs.PagePlaces.{static_places}
 use Rattle.soy_meaning.proofs.PageStates.{page_compares}
+use Rattle.soy_meaning.proofs.PlacedInBoth.{both_placed}
 use Rattle.soy_meaning.proofs.PlacedRuns.{run_placed}
 use Rattle.soy_meaning.proofs.ReadRuns.{runs_are_read}
 use Rattle.soy_meaning.proofs.RunPaths.{entry_fits, frame_stands, whole_of}
@@ -56,20 +58,49 @@ module _ (c : RunContext) (trees : List Tree) (d : Declared) (env : RunEnv) (are
   typed_run_is_read accepted =
       runs_are_read c whole accepted (entry_frame d env) stands typed_run_fits.0 typed_run_fits.1
 
-  pub typed_run_is_placed : (v : Walked State) → walk_trees c.translation trees ≡ Ok v
-      → (r : RunsAlong c whole (entry_frame d env)) × FitsClasses r.filled
-      × (q : FrameWithin whole d.template.kind)
-      × ArePlaced whole v.places c.direction d.template.kind q [] [] r.filled
-  typed_run_is_placed v walks =
-      let found = static_places whole (walked [] []) v walks in
-      let placed = run_placed c whole (accepted_when_walked page_machine page_compares whole (walked [] []) v walks) found.0 found.3
-      typed_run_fits.0.filled (end_of_outcome (template_run c d env)) (entry_frame d env) stands
-      typed_run_fits.0.runs typed_run_fits.1 typed_run_fits.0.path in
-      let moved : (q : FrameWithin whole d.template.kind)
-      × ArePlaced whole v.places c.direction d.template.kind q [] [] typed_run_fits.0.filled =
-      subst (λ (places : List Place). (q : FrameWithin whole d.template.kind)
-      × ArePlaced whole places c.direction d.template.kind q [] [] typed_run_fits.0.filled) (sym found.1) placed in
-      (typed_run_fits.0, typed_run_fits.1, moved.0, moved.1)
+-- where the walk meets no fault, at the template's address
+module _ (c : RunContext) (trees : List Tree) (d : Declared) (are : c.declared ≡ declared trees)
+    (member : IsMember d c.declared) (v : Walked State) (walks : walk_trees c.translation trees ≡ Ok v) where
+  abbrev entry_plan : Plan
+  entry_plan = trees_plan c.translation trees
+
+  accepted : AcceptedPaths page_machine entry_plan
+  accepted = accepted_when_walked page_machine page_compares entry_plan (walked [] []) v walks
+
+  abbrev template_within : FrameWithin entry_plan d.template.kind
+  template_within =
+      let stands = frame_stands c trees d [] are member in
+      record { address = stands.0; plan = run_plan c (entry_frame d []); within = stands.1 }
+
+  -- each run of it whose values and frames have classes of their holes
+  pub template_placed : (env : RunEnv) (r : RunsAlong c entry_plan (entry_frame d env)) → FitsClasses r.filled
+      → (q : FrameWithin entry_plan d.template.kind)
+      × ArePlaced entry_plan v.places c.direction d.template.kind q [] [] r.filled
+  template_placed env r fits =
+      let found = static_places entry_plan (walked [] []) v walks in (
+        template_within,
+        subst (λ (places : List Place).
+            ArePlaced entry_plan places c.direction d.template.kind template_within [] [] r.filled) (sym found.1)
+            (run_placed c entry_plan accepted found.0 found.3 r.filled (end_of_outcome (template_run c d env))
+            (entry_frame d env) d.template.kind template_within r.runs fits r.path),
+      )
+
+  -- two of them that nest alike
+  pub templates_placed : (env other : RunEnv) (n : NestAlike c entry_plan (entry_frame d env) (entry_frame d other))
+      → FitsClasses n.one.filled → FitsClasses n.two.filled → (q : FrameWithin entry_plan d.template.kind)
+      × ArePlacedInBoth entry_plan v.places c.direction d.template.kind q [] [] [] n.one.filled n.two.filled
+  templates_placed env other n fits also =
+      let found = static_places entry_plan (walked [] []) v walks in (
+        template_within,
+        subst (λ (places : List Place).
+            ArePlacedInBoth entry_plan places c.direction d.template.kind template_within [] [] [] n.one.filled
+            n.two.filled) (sym found.1)
+            (both_placed c entry_plan accepted found.0 found.3 n.one.filled n.two.filled
+            (end_of_outcome (template_run c d other)) (entry_frame d other) d.template.kind template_within n.two.runs
+            also n.alike
+            (run_placed c entry_plan accepted found.0 found.3 n.one.filled (end_of_outcome (template_run c d env))
+            (entry_frame d env) d.template.kind template_within n.one.runs fits n.one.path)),
+      )
 
 module _ (c : RunContext) (trees : List Tree) (are : c.declared ≡ declared trees) (typed : AreTypedTrees trees)
     (fits : TranslationsFit c.translation c.declared) (d : Declared) (env other : RunEnv)

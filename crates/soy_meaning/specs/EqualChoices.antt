@@ -1,8 +1,9 @@
 -- Two runs that make the same choices.
 --
 -- They are alike where their texts are the same, values stand at the same points between them, and they end alike:
--- whole, or at the same call. What the values are doesn't count. They nest alike where they go along one path, with
--- values in the same holes, and in each other hole two frames of one kind that nest alike in their turn.
+-- whole, or at the same call. What the values are doesn't count. They nest alike where they go along paths with the
+-- same texts and holes, with values in the same holes, and in each other hole two frames of one kind, filled alike in
+-- their turn.
 -- Example: two runs of `{if $x}<b>{$y}</b>{/if}`, both with `$x` true, are alike, whatever `$y` is. They go along the
 -- path of `<b>`, a hole and `</b>`, and in the hole of both stands a value.
 use Rattle.std.specs.Prelude.{◌≡◌, Bool, true, List, [], ◌∷◌, ◌++◌}
@@ -67,7 +68,7 @@ FilledAlike (frame_before at classes kind inner f) (frame_before site others k w
     (at ≡ site) × (classes ≡ others) × (kind ≡ k) × FilledAlike inner within × FilledAlike f g
 FilledAlike _ _ = ⊥
 
--- two frames run along one path, filled alike, up to one end
+-- two frames run along paths with the same parts, filled alike, up to one end
 pub record NestAlike (c : RunContext) (whole : Plan) (q p : FrameRun) : Type 0 where
   pub one : RunsAlong c whole q
   pub two : RunsAlong c whole p

@@ -46,7 +46,7 @@ ghost use Rattle.soy_meaning.specs.RunsAlong.{BindsValues, EnvRuns, FilledByRuns
 ghost use Rattle.soy_meaning.specs.RunsAlong.{RunsAlong};
 ghost use Rattle.soy_meaning.specs.StopsWithin.{StopsWithin};
 ghost use Rattle.soy_meaning.specs.TypedData.{AreTypedTrees, FitsData};
-ghost use Rattle.soy_meaning.specs.RunPlaces.{ArePlaced, FrameWithin};
+ghost use Rattle.soy_meaning.specs.RunPlaces.{ArePlaced, ArePlacedInBoth, FrameWithin};
 ghost use Rattle.soy_meaning.specs.TranslationFits.{TranslationsFit};
 ghost use Rattle.soy_meaning.specs.EqualChoices.{AlikeByChoices, AlikeRuns, EnvsAlike, FilledAlike, NestAlike};
 ghost use Rattle.soy_meaning.specs.PicksValues.{TemplatesPick, param_marks};
@@ -212,8 +212,8 @@ pub fn law_runs_are_read()
 
 /// A template of typed trees, under data that fit it and a bundle whose translations fit their messages, runs along a
 /// path in whose holes each value and each frame, at any depth, has one of the hole's classes. So under accepted paths
-/// its pieces are read without a fault, and where the walk meets none, the place of each of them, by the pieces of its
-/// frame so far, is the one that the walk gave.
+/// its pieces are read without a fault. And where the walk meets no fault, whatever fills the holes of a run with
+/// values and frames of their classes stands, by the pieces of its frame so far, at the places that the walk gave.
 pub fn law_typed_runs()
     ensures classes { (c : RunContext) (trees : List Tree) (d : Declared) (env : RunEnv) →
         c.declared ≡ declared trees → IsMember d c.declared → AreTypedTrees trees →
@@ -224,11 +224,10 @@ pub fn law_typed_runs()
         TranslationsFit c.translation c.declared → FitsData d env → AcceptedTrees c.translation trees →
         (now : State) × (after_pieces (start d.template.kind) (pieces_of_outcome (template_run c d env)) ≡ Ok now) }
     ensures places { (c : RunContext) (trees : List Tree) (d : Declared) (env : RunEnv) →
-        c.declared ≡ declared trees → IsMember d c.declared → AreTypedTrees trees →
-        TranslationsFit c.translation c.declared → FitsData d env →
-        (v : Walked State) → walk_trees c.translation trees ≡ Ok v →
-        (r : RunsAlong c (trees_plan c.translation trees) (entry_frame d env)) × FitsClasses r.filled
-        × (q : FrameWithin (trees_plan c.translation trees) d.template.kind)
+        c.declared ≡ declared trees → IsMember d c.declared → (v : Walked State) →
+        walk_trees c.translation trees ≡ Ok v →
+        (r : RunsAlong c (trees_plan c.translation trees) (entry_frame d env)) → FitsClasses r.filled →
+        (q : FrameWithin (trees_plan c.translation trees) d.template.kind)
         × ArePlaced (trees_plan c.translation trees) v.places c.direction d.template.kind q [] [] r.filled }
 {}
 
@@ -250,8 +249,9 @@ pub fn law_typed_choices()
 
 /// Two runs of a template with the same choices, under data, nest their frames alike: they go along one path of the
 /// template's plan, with values in the same holes of it, and in each other hole two frames of one kind, which go along
-/// one path of their plan in their turn. Where they stop, that is the path up to the stop. In typed trees each value
-/// and each frame of both has one of its hole's classes.
+/// paths with the same parts in their turn. Where they stop, that is the path up to the stop. In typed trees each value
+/// and each frame of both has one of its hole's classes. Where the walk meets no fault, what stands in a hole of the
+/// path, at any depth, stands then in both runs at the place that the walk gave to one hole.
 pub fn law_alike_nests()
     ensures alike { (c : RunContext) (trees : List Tree) (d : Declared) (env other : RunEnv) →
         c.declared ≡ declared trees → IsMember d c.declared → TranslationsFit c.translation c.declared →
@@ -266,6 +266,14 @@ pub fn law_alike_nests()
         (n : NestAlike c (trees_plan c.translation trees) (entry_frame d env) (entry_frame d other))
         × FitsClasses n.one.filled × FitsClasses n.two.filled }
     ensures path { (f g : Filled) → FilledAlike f g → parts_of_filled f ≡ parts_of_filled g }
+    ensures places { (c : RunContext) (trees : List Tree) (d : Declared) (env other : RunEnv) →
+        c.declared ≡ declared trees → IsMember d c.declared → (v : Walked State) →
+        walk_trees c.translation trees ≡ Ok v →
+        (n : NestAlike c (trees_plan c.translation trees) (entry_frame d env) (entry_frame d other)) →
+        FitsClasses n.one.filled → FitsClasses n.two.filled →
+        (q : FrameWithin (trees_plan c.translation trees) d.template.kind)
+        × ArePlacedInBoth (trees_plan c.translation trees) v.places c.direction d.template.kind q [] [] [] n.one.filled
+        n.two.filled }
 {}
 
 /// Outcomes follow one another as lists do, and what is gathered from two that follow one another is gathered from the

@@ -1,4 +1,5 @@
 use Rattle.soy_meaning.proofs.NestRuns.{runs_nest, same_parts, typed_runs_nest}
+use Rattle.soy_meaning.proofs.TypedRuns.{templates_placed}
 use Rattle.soy_meaning.proofs.laws.law_alike_nests.Goals as goal
 
 pub returns-clause-alike : goal.returns-clause-alike
@@ -12,3 +13,7 @@ returns-clause-classes c = λ context trees d env other are member typed fits on
 
 pub returns-clause-path : goal.returns-clause-path
 returns-clause-path c = λ f g alike. same_parts f g alike
+
+pub returns-clause-places : goal.returns-clause-places
+returns-clause-places c = λ context trees d env other are member v walks n one two.
+    templates_placed context trees d are member v walks env other n one two

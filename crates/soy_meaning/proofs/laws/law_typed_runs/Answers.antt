@@ -1,4 +1,4 @@
-use Rattle.soy_meaning.proofs.TypedRuns.{typed_run_fits, typed_run_is_placed, typed_run_is_read}
+use Rattle.soy_meaning.proofs.TypedRuns.{template_placed, typed_run_fits, typed_run_is_read}
 use Rattle.soy_meaning.proofs.laws.law_typed_runs.Goals as goal
 
 pub returns-clause-classes : goal.returns-clause-classes
@@ -10,5 +10,5 @@ returns-clause-read c = λ context trees d env are member typed fits data_ accep
     typed_run_is_read context trees d env are member typed fits data_ accepted
 
 pub returns-clause-places : goal.returns-clause-places
-returns-clause-places c = λ context trees d env are member typed fits data_ v walks.
-    typed_run_is_placed context trees d env are member typed fits data_ v walks
+returns-clause-places c = λ context trees d env are member v walks r fits.
+    template_placed context trees d are member v walks env r fits
