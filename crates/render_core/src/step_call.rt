@@ -1,0 +1,131 @@
+//! Calls.
+
+use crate::binding::{bind, held};
+use crate::frame::{Ahead, Frame, Handing, Purpose};
+use crate::held::{Held, Naming};
+use crate::scene::Scene;
+use crate::showing::{Source, text_of};
+use crate::stack::{Machine, Step, past};
+use crate::step_let::{handed_on, kept};
+use crate::valuing::{Found, value_of, variable};
+use soy_base::{Kind, OutOfMemory, Steps, TooDeep};
+use soy_expr::Shallow;
+use soy_tree::Expr;
+use std::sync::ledger::Ledger;
+use template_ir::{Callee, Handed, HandedBy, Routine};
+
+impl Machine {
+    /// A call: its parameters are handed one after the other, and then it is opened.
+    pub(crate) fn step_call(&mut self, ahead: Ahead) -> Step {
+        let handing = Handing {
+            next: 0,
+            inner: 0,
+            mark: self.bound.len(),
+        };
+        self.top = Frame::Call(ahead, handing);
+        Step::Silent
+    }
+
+    /// The next parameter of a call, or its opening.
+    pub(crate) fn step_handing<L: Ledger>(
+        &mut self,
+        scene: &Scene,
+        ahead: Ahead,
+        handing: Handing,
+        callee: &Callee,
+        steps: &mut Steps<L>,
+    ) -> Result<Step, OutOfMemory> {
+        match callee.given.items().get(handing.next) {
+            Some(handed) => self.hand(scene, ahead, handing, handed, steps),
+            None => self.open(scene, ahead, handing, callee),
+        }
+    }
+
+    /// Hands a parameter.
+    fn hand<L: Ledger>(
+        &mut self,
+        scene: &Scene,
+        ahead: Ahead,
+        handing: Handing,
+        handed: &Handed,
+        steps: &mut Steps<L>,
+    ) -> Result<Step, OutOfMemory> {
+        match &handed.by {
+            HandedBy::Plain(expr) => self.hand_value(scene, ahead, handing, expr, steps),
+            HandedBy::Block(Kind::Text, block) => {
+                self.gather_block(scene, ahead, Purpose::Hand(handing), *block)
+            }
+            HandedBy::Block(kind, block) => {
+                self.hand_held(ahead, handing, Held::Block(kept(ahead, *kind, *block)))
+            }
+            HandedBy::Same => {
+                let found = variable(self.point(scene, ahead.env), &handed.name)?;
+                self.hand_held(ahead, handing, held(found))
+            }
+        }
+    }
+
+    fn hand_value<L: Ledger>(
+        &mut self,
+        scene: &Scene,
+        ahead: Ahead,
+        handing: Handing,
+        expr: &Expr,
+        steps: &mut Steps<L>,
+    ) -> Result<Step, OutOfMemory> {
+        let found = value_of(self.point(scene, ahead.env), expr, steps)?;
+        self.hand_held(ahead, handing, held(found))
+    }
+
+    fn hand_held(&mut self, ahead: Ahead, handing: Handing, to: Held) -> Result<Step, OutOfMemory> {
+        let name = Naming::Handed(ahead.at, handing.next);
+        let inner = bind(&mut self.bound, name, to, handing.inner)?;
+        self.top = Frame::Call(ahead, handed_on(handing, inner));
+        Ok(Step::Silent)
+    }
+
+    /// Opens a call whose parameters are handed.
+    fn open(
+        &mut self,
+        scene: &Scene,
+        ahead: Ahead,
+        handing: Handing,
+        callee: &Callee,
+    ) -> Result<Step, OutOfMemory> {
+        let Some(routine) = scene.program.template(callee.template) else {
+            let (text, class) = text_of(scene.alloc, Shallow::Null)?;
+            let next = Frame::Ops(past(ahead));
+            return self.give_value(scene, next, callee.place, Source::Made(text), class);
+        };
+        if ahead.left == 0 {
+            return Ok(Step::TooDeep(TooDeep {
+                file: callee.file,
+                at: callee.at,
+            }));
+        }
+        self.open_routine(scene, ahead, handing, routine)
+    }
+
+    fn open_routine(
+        &mut self,
+        scene: &Scene,
+        ahead: Ahead,
+        handing: Handing,
+        routine: &Routine,
+    ) -> Result<Step, OutOfMemory> {
+        let child = Frame::Ops(Ahead {
+            at: routine.body.first,
+            end: routine.body.end,
+            env: handing.inner,
+            left: ahead.left - 1,
+            number: 0,
+            mark: handing.mark,
+        });
+        if routine.kind == Kind::Text {
+            self.gather(scene, Frame::Gather(ahead, Purpose::Show), child)?;
+        } else {
+            self.enter(Frame::Ops(past(ahead)), child)?;
+        }
+        Ok(Step::Silent)
+    }
+}
