@@ -4,10 +4,10 @@ use Rattle.std.proofs.Common.{take, drop, refl, sym, ap, ◌∙◌, arith, slice
 use Rattle.std.specs.List.{slice_get}
 use Rattle.soy_tree.specs.Values as values
 use Rattle.soy_meaning.specs.Giving.{RunEnv}
-use Rattle.template_ir.specs.Table.{table}
+use Rattle.template_ir.specs.Table.{table, table_from}
 use Rattle.template_ir.specs.declared.program.ProgramParts.{ProgramParts}
 use Rattle.template_ir.proofs.Tables.{get_table, take_table_from}
-use Rattle.render_core.specs.Variables.{Cell, bound_means, cell_at, cells_of, env_at, held_means, name_or_none, name_there}
+use Rattle.render_core.specs.Variables.{Cell, bound_means, cell_at, cells_of, env_at, held_means, name_or_none, name_there, part_held}
 use Rattle.render_core.specs.declared.held.Bound.{Bound}
 
 index_take : {A : Type 0} (xs : List A) (n k : ℕ) (other : A) → k < n
@@ -23,6 +23,26 @@ cell_take cells n k h = index_take cells n k _ h
 pub env_take : (cells : List Cell) (n k : ℕ) → k ≤ n → env_at (take n cells) k ≡ env_at cells k
 env_take cells n zero h = refl
 env_take cells n (suc k) h = ap (λ (c : Cell). c.env) (cell_take cells n k (omega arith))
+
+index_past : {A : Type 0} (xs : List A) (n k : ℕ) (other : A) → n ≤ k → slice_index_or (take n xs) k other ≡ other
+index_past xs zero k other h = refl
+index_past [] (suc n) k other h = refl
+index_past (x ∷ xs) (suc n) zero other h = absurd (omega arith)
+index_past (x ∷ xs) (suc n) (suc k) other h = index_past xs n k other (omega arith)
+
+pub cell_past : (cells : List Cell) (n k : ℕ) → n ≤ k
+    → cell_at (take n cells) k ≡ record { part = values.NullValue; env = [] }
+cell_past cells n k h = index_past cells n k _ h
+
+pub env_past : (cells : List Cell) (n k : ℕ) → n < k → env_at (take n cells) k ≡ []
+env_past cells n zero h = absurd (omega arith)
+env_past cells n (suc k) h = ap (λ (c : Cell). c.env) (cell_past cells n k (omega arith))
+
+index_none : {A B : Type 0} (f : List B → A → B) (d : List B) (xs : List A) (k : ℕ) (other : B) → slice_get xs k ≡ None
+    → slice_index_or (table_from f d xs) k other ≡ other
+index_none f d [] k other e = refl
+index_none f d (x ∷ xs) zero other e = cc
+index_none f d (x ∷ xs) (suc k) other e = index_none f (d ++ (f d x ∷ [])) xs k other e
 
 index_some : {A : Type 0} (xs : List A) (k : ℕ) (x other : A) → slice_get xs k ≡ Some x
     → slice_index_or xs k other ≡ x
@@ -64,6 +84,28 @@ module _ (p : ProgramParts) (input : values.Value) where
       → cell_at (cells_of p input bound) n ≡ bound_means p input (take n (cells_of p input bound)) b
   unfolding cells_of
   cell_there bound n b e = index_some (table (bound_means p input) bound) n _ _ (get_table (bound_means p input) bound n b e)
+
+  pub cell_none : (bound : List Bound) (n : ℕ) → slice_get bound n ≡ None
+      → cell_at (cells_of p input bound) n ≡ record { part = values.NullValue; env = [] }
+  unfolding cells_of
+  cell_none bound n e = index_none (bound_means p input) [] bound n _ e
+
+  -- the part of the data that a variable is bound to
+  pub part_there : (bound : List Bound) (n : ℕ) (b : Bound) → slice_get bound n ≡ Some b
+      → (cell_at (cells_of p input bound) n).part ≡ part_held input (take n (cells_of p input bound)) b.to
+  part_there bound n b e = ap (λ (c : Cell). c.part) (cell_there bound n b e)
+
+  pub part_none : (bound : List Bound) (n : ℕ) → slice_get bound n ≡ None
+      → (cell_at (cells_of p input bound) n).part ≡ values.NullValue
+  part_none bound n e = ap (λ (c : Cell). c.part) (cell_none bound n e)
+
+  pub part_lower : (bound : List Bound) (n k : ℕ) → k < n
+      → (cell_at (take n (cells_of p input bound)) k).part ≡ (cell_at (cells_of p input bound) k).part
+  part_lower bound n k h = ap (λ (c : Cell). c.part) (cell_take (cells_of p input bound) n k h)
+
+  pub part_lost : (bound : List Bound) (n k : ℕ) → n ≤ k
+      → (cell_at (take n (cells_of p input bound)) k).part ≡ values.NullValue
+  part_lost bound n k h = ap (λ (c : Cell). c.part) (cell_past (cells_of p input bound) n k h)
 
   -- one more variable
   pub cell_more : (bound : List Bound) (b : Bound)

@@ -1,2 +1,17 @@
 mod Cells
+mod Choices
+mod Finds
+mod Gives
+mod Leaves
+mod Lets
+mod Machines
+mod Meanings
+mod Moves
+mod Ops
 mod Overs
+mod Pullings
+mod Shows
+mod Sights
+mod Turns
+mod Values
+mod Wents

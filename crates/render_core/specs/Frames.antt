@@ -44,6 +44,10 @@ use Rattle.render_core.specs.declared.stack.Machine.{Machine}
 abbrev pub past : Ahead → Ahead
 past f = record f { at = f.at + 1 }
 
+-- the same with other variables
+abbrev pub past_with : Ahead → ℕ → Ahead
+past_with f n = record f { at = f.at + 1; env = n }
+
 -- the ops from one place up to another, with what `#` stands for
 abbrev pub ops_ahead : ProgramParts → Ahead → RunEnv → Outcome
 ops_ahead p f env = block_gives (all_give (view_program p) f.left) (record { first = f.at; end = f.end }) f.number env
@@ -151,21 +155,26 @@ module _ (p : ProgramParts) (input : values.Value) where
   abbrev pub machine_gives : Machine → Outcome
   machine_gives m = over m.bound.items (m.top ∷ m.below) m.texts gives_nothing
 
+-- a frame that doesn't gather
+abbrev pub IsPlainFrame : Frame → Type 0
+IsPlainFrame (frame.Gather f what) = ⊥
+IsPlainFrame _ = Unit {0}
+
 -- ---- how frames fit
 
 -- what a frame names stands among so many variables
 abbrev pub CallWithin : ℕ → Ahead → Handing → Type 0
-CallWithin n f h = (f.env ≤ h.mark) × (f.mark ≤ h.mark) × (h.mark ≤ n) × (h.inner ≤ n)
+CallWithin n f h = (f.at < f.end) × (f.env ≤ h.mark) × (f.mark ≤ h.mark) × (h.mark ≤ n) × (h.inner ≤ n)
 
 abbrev pub PurposeWithin : ℕ → Ahead → Purpose → Type 0
 PurposeWithin n f (purpose.Hand h) = CallWithin n f h
-PurposeWithin n f _ = f.env ≤ n
+PurposeWithin n f _ = (f.at < f.end) × (f.env ≤ n)
 
 abbrev pub FrameWithin : ℕ → Frame → Type 0
 FrameWithin n (frame.Ops f) = f.env ≤ n
 FrameWithin n (frame.Turns r) = (r.env ≤ n) × (r.list < n)
 FrameWithin n (frame.Gather f what) = PurposeWithin n f what
-FrameWithin n (frame.Show f at) = (f.env ≤ n) × (at < n)
+FrameWithin n (frame.Show f at) = (f.at < f.end) × (f.env ≤ n) × (at < n)
 FrameWithin n (frame.Call f h) = CallWithin n f h
 
 -- each frame names variables below the mark of the frame above it, and marks don't rise

@@ -65,16 +65,17 @@ source_text cells (source.Part path) = string_text (path_value cells path)
 
 module _ (p : ProgramParts) (input : values.Value) where
   abbrev pub piece_left : List Bound → Begun → List ℕ
-  piece_left bound (begun.Static at start end) = drop start (encode_utf8_all (static_text (slice_get p.ops at)))
-  piece_left bound (begun.Escaped from cursor) =
-      bytes_left cursor (encode_utf8_all (source_text (cells_of p input bound) from))
+  piece_left bound (begun.Static fixed) =
+      drop fixed.start (encode_utf8_all (static_text (slice_get p.ops fixed.op)))
+  piece_left bound (begun.Escaped form) =
+      bytes_left form.cursor (encode_utf8_all (source_text (cells_of p input bound) form.source))
   piece_left bound begun.Nothing = []
 
   abbrev pub PieceFits : List Bound → Begun → Type 0
-  PieceFits bound (begun.Static at start end) =
-      (start ≤ end) × (end ≡ length (encode_utf8_all (static_text (slice_get p.ops at))))
-  PieceFits bound (begun.Escaped from cursor) =
-      CursorFits cursor (encode_utf8_all (source_text (cells_of p input bound) from))
+  PieceFits bound (begun.Static fixed) =
+      (fixed.start ≤ fixed.end) × (fixed.end ≡ length (encode_utf8_all (static_text (slice_get p.ops fixed.op))))
+  PieceFits bound (begun.Escaped form) =
+      CursorFits form.cursor (encode_utf8_all (source_text (cells_of p input bound) form.source))
   PieceFits bound begun.Nothing = Unit {0}
 
   abbrev pub begun_left : List Bound → Option Begun → List ℕ

@@ -1,5 +1,15 @@
 -- Texts that are being gathered, one in another, the innermost first.
-use Rattle.std.specs.Prelude.{ℕ, Bool, true, false, List, [], ◌∷◌, ◌++◌}
+use Rattle.std.specs.Prelude.{◌≡◌, ℕ, Bool, true, false, List, [], ◌∷◌, ◌++◌, Option, Some, None, reverse}
+
+-- the innermost and those around it, the outermost first
+abbrev pub texts_of : Option (List ℕ) → List (List ℕ) → List (List ℕ)
+texts_of None outer = []
+texts_of (Some text) outer = text ∷ reverse outer
+
+-- where there is no text, there are none around it
+abbrev pub NoneAround : Option (List ℕ) → List (List ℕ) → Type 0
+NoneAround None outer = outer ≡ []
+NoneAround (Some text) outer = Unit {0}
 
 abbrev pub is_none : List (List ℕ) → Bool
 is_none [] = true

@@ -8,7 +8,7 @@ use Rattle.std.specs.Prelude.{ℕ, zero, suc, pos, List, [], ◌∷◌, Option, 
 use Rattle.soy_tree.specs.Types.{Name}
 use Rattle.soy_tree.specs.Val.{Binding, BlockOf, Known}
 use Rattle.soy_tree.specs.Values.{Value, NullValue}
-use Rattle.soy_tree.specs.declared.node.Param.{Param}
+use Rattle.soy_tree.specs.declared.tree.Param.{Param}
 use Rattle.soy_expr.specs.Parts.{child}
 use Rattle.soy_expr.specs.ViewEvaluated.{view_made}
 use Rattle.soy_meaning.specs.Giving.{BoundBlock, RunEnv}

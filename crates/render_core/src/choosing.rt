@@ -1,5 +1,20 @@
 //! Which block a command takes.
 
+ghost use Rattle.std.specs.Prelude.{◌≡◌, map, codes};
+ghost use Rattle.std.specs.Str.{chars};
+ghost use Rattle.std.specs.Option.{option_or};
+ghost use Rattle.soy_tree.specs.Val.{is_same_value, operand, val};
+ghost use Rattle.soy_tree.specs.Cost.{cost};
+ghost use Rattle.soy_tree.specs.ViewExpressions.{view_expr, view_exprs};
+ghost use Rattle.soy_expr.specs.ViewShallow.{view_shallow};
+ghost use Rattle.soy_meaning.specs.Branch.{int_of, word_of};
+ghost use Rattle.soy_meaning.specs.Pieces.{is_one, valued};
+ghost use Rattle.template_ir.specs.Run.{exact_block, named_block, plural_block, select_block, word_block};
+ghost use Rattle.template_ir.specs.ViewOps.{view_branch, view_choice, view_program};
+ghost use Rattle.render_core.specs.Chosen.{added_cost, branch_chosen, choice_chosen};
+ghost use Rattle.render_core.specs.Finds.{Takes};
+ghost use Rattle.render_core.specs.Seen.{env_seen};
+
 use crate::parts::Point;
 use crate::valuing::is_truthy;
 use plural_rules::Category;
@@ -8,16 +23,19 @@ use soy_expr::{Shallow, evaluate};
 use soy_tree::Expr;
 use std::sync::ledger::Ledger;
 use template_ir::{
-    Block, Branch, Choice, ExactBlock, NamedBlock, PluralOp, ProgramParts, WordBlock,
+    Block, Branch, Choice, ExactBlock, NamedBlock, PluralOp, ProgramParts, SelectOp, WordBlock,
 };
 
 /// The block of the first branch that holds, else the other.
+#[tactic(auto, using(crate::proofs::Choices::branch_here, crate::proofs::Choices::branch_past))]
 pub(crate) fn branch_taken<L: Ledger>(
     point: Point,
     branches: &[Branch],
     other: Option<Block>,
     steps: &mut Steps<L>,
-) -> Result<Option<Block>, OutOfMemory> {
+) -> Result<Option<Block>, OutOfMemory>
+    ensures { Takes (branch_chosen (map view_branch branches.now) other (env_seen point.entry)) steps.old steps.new result }
+{
     for branch in branches {
         if is_truthy(point, &branch.when, steps)? {
             return Ok(Some(branch.body));
@@ -26,14 +44,67 @@ pub(crate) fn branch_taken<L: Ledger>(
     Ok(other)
 }
 
+/// The block that a switch takes.
+#[tactic(auto, using(crate::proofs::Choices::choices_shallow, crate::proofs::Choices::same_valued, crate::proofs::Finds::same_cost))]
+pub(crate) fn switch_taken<L: Ledger>(
+    point: Point,
+    subject: &Expr,
+    choices: &[Choice],
+    other: Option<Block>,
+    steps: &mut Steps<L>,
+) -> Result<Option<Block>, OutOfMemory>
+    ensures { Takes (added_cost (cost (view_expr subject.now) (env_seen point.entry))
+        (choice_chosen (valued (view_expr subject.now) (env_seen point.entry)) (map view_choice choices.now) other
+        (env_seen point.entry))) steps.old steps.new result }
+{
+    let subject = evaluate(point.scene.alloc, subject, &point, steps)?;
+    choice_taken(point, subject.shallow(), choices, other, steps)
+}
+
+/// The block that a select takes.
+#[tactic(auto, using(crate::proofs::Choices::word_shallow, crate::proofs::Choices::same_valued, crate::proofs::Finds::same_cost))]
+pub(crate) fn select_taken<L: Ledger>(
+    point: Point,
+    select: &SelectOp,
+    steps: &mut Steps<L>,
+) -> Result<Option<Block>, OutOfMemory>
+    ensures { Takes (
+      select_block (word_of (valued (view_expr select.now.word) (env_seen point.entry))) select.now.arms,
+      cost (view_expr select.now.word) (env_seen point.entry),
+    ) steps.old steps.new result }
+{
+    let word = evaluate(point.scene.alloc, &select.word, &point, steps)?;
+    Ok(select_block(word.shallow(), select.arms.items()))
+}
+
+/// The int that an expression has, or 0.
+#[tactic(auto, using(crate::proofs::Choices::int_shallow, crate::proofs::Choices::same_valued, crate::proofs::Finds::same_cost))]
+pub(crate) fn int_value<L: Ledger>(
+    point: Point,
+    number: &Expr,
+    steps: &mut Steps<L>,
+) -> Result<i64, OutOfMemory>
+    ensures { Takes (
+      int_of (valued (view_expr number.now) (env_seen point.entry)),
+      cost (view_expr number.now) (env_seen point.entry),
+    ) steps.old steps.new result }
+{
+    let number = evaluate(point.scene.alloc, number, &point, steps)?;
+    Ok(int_of(number.shallow()))
+}
+
 /// The block of the first choice that has the value of the subject, else the other.
-pub(crate) fn choice_taken<L: Ledger>(
+#[tactic(auto, using(crate::proofs::Choices::choice_here, crate::proofs::Choices::choice_past))]
+fn choice_taken<L: Ledger>(
     point: Point,
     subject: Shallow,
     choices: &[Choice],
     other: Option<Block>,
     steps: &mut Steps<L>,
-) -> Result<Option<Block>, OutOfMemory> {
+) -> Result<Option<Block>, OutOfMemory>
+    ensures { Takes (choice_chosen (view_shallow subject.entry) (map view_choice choices.now) other (env_seen point.entry))
+        steps.old steps.new result }
+{
     for choice in choices {
         if is_one(point, subject, choice.values.items(), steps)? {
             return Ok(Some(choice.body));
@@ -43,12 +114,16 @@ pub(crate) fn choice_taken<L: Ledger>(
 }
 
 /// Whether a value is one of those of expressions, which are valued up to the one that it is.
+#[tactic(auto, using(crate::proofs::Choices::one_same, crate::proofs::Choices::one_other))]
 fn is_one<L: Ledger>(
     point: Point,
     subject: Shallow,
     values: &[Expr],
     steps: &mut Steps<L>,
-) -> Result<bool, OutOfMemory> {
+) -> Result<bool, OutOfMemory>
+    ensures { Takes (is_one (view_shallow subject.entry) (view_exprs values.now) (env_seen point.entry)) steps.old steps.new
+        result }
+{
     for value in values {
         if has_value(point, subject, value, steps)? {
             return Ok(true);
@@ -58,18 +133,26 @@ fn is_one<L: Ledger>(
 }
 
 /// Whether an expression has a value.
+#[tactic(auto, using(crate::proofs::Choices::same_shallow, crate::proofs::Finds::same_cost, crate::proofs::Choices::same_valued))]
 fn has_value<L: Ledger>(
     point: Point,
     subject: Shallow,
     expr: &Expr,
     steps: &mut Steps<L>,
-) -> Result<bool, OutOfMemory> {
+) -> Result<bool, OutOfMemory>
+    ensures { Takes (
+      is_same_value (view_shallow subject.entry) (valued (view_expr expr.now) (env_seen point.entry)),
+      cost (view_expr expr.now) (env_seen point.entry),
+    ) steps.old steps.new result }
+{
     let value = evaluate(point.scene.alloc, expr, &point, steps)?;
     Ok(is_same(subject, value.shallow()))
 }
 
 /// Whether two operands are of one type and equal.
-fn is_same(left: Shallow, right: Shallow) -> bool {
+fn is_same(left: Shallow, right: Shallow) -> bool
+    ensures { result ≡ is_same_value (view_shallow left.entry) (view_shallow right.entry) }
+{
     match (left, right) {
         (Shallow::Null, Shallow::Null) => true,
         (Shallow::Bool(left), Shallow::Bool(right)) => left == right,
@@ -80,7 +163,9 @@ fn is_same(left: Shallow, right: Shallow) -> bool {
 }
 
 /// The int that a value is, or 0.
-pub(crate) fn int_of(value: Shallow) -> i64 {
+fn int_of(value: Shallow) -> i64
+    ensures { result ≡ int_of (view_shallow value.entry) }
+{
     match value {
         Shallow::Int(number) => number,
         _ => 0,
@@ -93,7 +178,10 @@ pub(crate) fn plural_block(
     plural: &PluralOp,
     number: i64,
     rest: i64,
-) -> Option<Block> {
+) -> Option<Block>
+    ensures { result ≡ plural_block (view_program program.now) plural.now.ordinal plural.now.exact plural.now.named
+        number rest }
+{
     if let Some(block) = exact_block(number, plural.exact.items()) {
         return Some(block);
     }
@@ -104,7 +192,9 @@ pub(crate) fn plural_block(
     named_block(Category::Other, plural.named.items())
 }
 
-fn exact_block(number: i64, arms: &[ExactBlock]) -> Option<Block> {
+fn exact_block(number: i64, arms: &[ExactBlock]) -> Option<Block>
+    ensures { result ≡ exact_block number arms.now }
+{
     for arm in arms {
         if arm.is == number {
             return Some(arm.body);
@@ -113,7 +203,9 @@ fn exact_block(number: i64, arms: &[ExactBlock]) -> Option<Block> {
     None
 }
 
-fn named_block(category: Category, arms: &[NamedBlock]) -> Option<Block> {
+fn named_block(category: Category, arms: &[NamedBlock]) -> Option<Block>
+    ensures { result ≡ named_block category arms.now }
+{
     for arm in arms {
         if arm.category == category {
             return Some(arm.body);
@@ -123,7 +215,9 @@ fn named_block(category: Category, arms: &[NamedBlock]) -> Option<Block> {
 }
 
 /// The arm of a select for a value.
-pub(crate) fn select_block(value: Shallow, arms: &[WordBlock]) -> Option<Block> {
+fn select_block(value: Shallow, arms: &[WordBlock]) -> Option<Block>
+    ensures { result ≡ select_block (word_of (view_shallow value.entry)) arms.now }
+{
     let taken = match value {
         Shallow::Str(word) => word_block(word.text(), arms),
         _ => word_block("", arms),
@@ -134,7 +228,9 @@ pub(crate) fn select_block(value: Shallow, arms: &[WordBlock]) -> Option<Block> 
     word_block("other", arms)
 }
 
-fn word_block(word: &str, arms: &[WordBlock]) -> Option<Block> {
+fn word_block(word: &str, arms: &[WordBlock]) -> Option<Block>
+    ensures { result ≡ word_block (chars word.now) arms.now }
+{
     for arm in arms {
         if arm.is.is(word) {
             return Some(arm.body);

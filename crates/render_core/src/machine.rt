@@ -1,10 +1,10 @@
 //! Steps of the machine, and the run up to the next piece.
 
 use crate::begun::Begun;
-use crate::frame::{Ahead, Frame};
+use crate::frame::{Ahead, Frame, Purpose};
 use crate::scene::Scene;
 use crate::stack::{Machine, Step};
-use soy_base::{OutOfMemory, Place, Refusal, Steps, TooDeep};
+use soy_base::{Kind, OutOfMemory, Place, Refusal, Steps, TooDeep};
 use std::sync::ledger::Ledger;
 use template_ir::{Op, ProgramParts};
 
@@ -39,7 +39,7 @@ impl Machine {
         match self.top {
             Frame::Ops(ahead) => match op_before(scene.program, ahead) {
                 Some(op) => self.step_op(scene, ahead, op, steps),
-                None => Ok(self.leave(ahead.mark)),
+                None => Ok(self.leave(scene, ahead.mark)),
             },
             Frame::Turns(round) => self.step_turn(scene, round),
             Frame::Gather(ahead, purpose) => self.step_gathered(scene, ahead, purpose),
@@ -51,7 +51,7 @@ impl Machine {
                 Some(Op::Call(callee)) => {
                     self.step_handing(scene, ahead, handing, callee, steps)
                 }
-                _ => Ok(self.leave(ahead.mark)),
+                _ => Ok(self.leave(scene, ahead.mark)),
             },
         }
     }
@@ -74,9 +74,14 @@ impl Machine {
             Op::Switch(subject, choices, other) => {
                 self.step_switch(scene, ahead, subject, choices.items(), *other, steps)
             }
-            Op::For(_, _, list, _) => self.step_for(scene, ahead, list, steps),
-            Op::Let(_, expr) => self.step_let(scene, ahead, expr, steps),
-            Op::LetBlock(_, kind, block) => self.step_let_block(scene, ahead, *kind, *block),
+            Op::For(_, _, list, _) => self.step_for(scene, ahead, list, steps, op),
+            Op::Let(name, expr) => self.step_let(scene, ahead, expr, steps, name),
+            Op::LetBlock(_, Kind::Text, block) => {
+                self.gather_block(scene, ahead, Purpose::Bind, *block)
+            }
+            Op::LetBlock(name, kind, block) => {
+                self.step_let_block(scene, ahead, *kind, *block, name)
+            }
             Op::Call(_) => Ok(self.step_call(ahead)),
             Op::Plural(plural) => self.step_plural(scene, ahead, plural, steps),
             Op::Select(select) => self.step_select(scene, ahead, select, steps),

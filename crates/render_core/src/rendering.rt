@@ -87,7 +87,6 @@ impl Rendering {
                 &mut machine.bound,
                 scene.input,
                 template,
-                0,
                 routine.params.items(),
             )?;
             machine.top = Frame::Ops(Ahead {
@@ -193,29 +192,30 @@ impl Rendering {
     /// Gives bytes of a piece.
     fn give(&mut self, scene: &Scene, piece: Begun, room: &mut [u8]) -> usize {
         let mut piece = piece;
-        let n = piece.fill(scene, self.machine.bound.as_slice(), room);
+        let n = piece.fill(self.machine.point(scene, 0), room);
         self.piece = if piece.left() > 0 { Some(piece) } else { None };
         n
     }
 }
 
-/// Binds the parameters of a template from a number on, the first above the others.
+/// Binds the parameters of a template, the first above the others; the number of the variables is given.
 fn bind_params(
     bound: &mut Vec<Bound>,
     input: &Value,
     template: usize,
-    number: usize,
     params: &[Param],
 ) -> Result<usize, OutOfMemory> {
-    let Some((param, others)) = params.split_first() else {
-        return Ok(0);
-    };
-    let below = bind_params(bound, input, template, number + 1, others)?;
-    let to = match field_number(input, &param.name) {
-        Some(field) => Held::Item(0, field),
-        None => Held::Made(Made::Null),
-    };
-    bind(bound, Naming::Param(template, number), to, below)
+    let mut number = params.len();
+    let mut env = 0;
+    while number > 0 {
+        number -= 1;
+        let to = match field_number(input, &params[number].name) {
+            Some(field) => Held::Item(0, field),
+            None => Held::Made(Made::Null),
+        };
+        env = bind(bound, Naming::Param(template, number), to, env)?;
+    }
+    Ok(env)
 }
 
 /// The number of the first field of a name.

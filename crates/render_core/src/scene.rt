@@ -6,8 +6,8 @@ use template_ir::ProgramParts;
 
 /// What a rendering is lent at each call, and its allocator.
 #[derive(Clone, Copy)]
-pub(crate) struct Scene<'a> {
+pub(crate) struct Scene<'p, 'i> {
     pub(crate) alloc: Global,
-    pub(crate) program: &'a ProgramParts,
-    pub(crate) input: &'a Value,
+    pub(crate) program: &'p ProgramParts,
+    pub(crate) input: &'i Value,
 }

@@ -1,8 +1,17 @@
 //! How a value is printed.
 
-use crate::held::{Bound, Kept, Path};
-use crate::parts::part_of;
-use crate::scene::Scene;
+ghost use Rattle.std.specs.Prelude.{◌≡◌, IfOk, length};
+ghost use Rattle.std.specs.Str.{chars};
+ghost use Rattle.soy_expr.specs.ViewEvaluated.{view_made};
+ghost use Rattle.soy_expr.specs.ViewShallow.{view_shallow};
+ghost use Rattle.render_core.specs.Finds.{FoundWithin, found_means, part_value};
+ghost use Rattle.render_core.specs.Seen.{cells_seen, program_seen};
+ghost use Rattle.render_core.specs.Shows.{Shows, ShowsValue};
+ghost use Rattle.soy_tree.specs.Val.{Known};
+ghost use Rattle.render_core.specs.Variables.{path_value};
+
+use crate::held::{Kept, Path};
+use crate::parts::{Point, part_of};
 use crate::valuing::Found;
 use soy_base::{OutOfMemory, Text, ValueClass};
 use soy_expr::{Made, Shallow};
@@ -26,37 +35,44 @@ pub(crate) enum Shown {
 }
 
 /// How a value is printed.
-pub(crate) fn how_shown(
-    scene: &Scene,
-    bound: &[Bound],
-    found: Found,
-) -> Result<Shown, OutOfMemory> {
+pub(crate) fn how_shown(point: Point, found: Found) -> Result<Shown, OutOfMemory>
+    requires { FoundWithin (length point.bound.now) found }
+    ensures { IfOk result (λ s. Shows (program_seen point.entry) (cells_seen point.entry)
+        (length point.entry.bound.now) (found_means (program_seen point.entry) (cells_seen point.entry) found) s) }
+{
     match found {
         Found::Block(kept) => Ok(Shown::Block(kept)),
         Found::Made(made) => {
-            let (text, class) = made_text(scene.alloc, made)?;
+            let (text, class) = made_text(point.scene.alloc, made)?;
             Ok(Shown::Value(Source::Made(text), class))
         }
-        Found::Part(path) => shown_part(scene, part_of(scene, bound, &path), path),
+        Found::Part(path) => shown_part(point, part_of(point, &path), path),
     }
 }
 
-fn shown_part(scene: &Scene, part: Option<&Value>, path: Path) -> Result<Shown, OutOfMemory> {
+#[tactic(auto, using(crate::proofs::Shows::shows_seen))]
+fn shown_part(point: Point, part: Option<&Value>, path: Path) -> Result<Shown, OutOfMemory>
+    requires { part_value part ≡ path_value (cells_seen point) path }
+    ensures { IfOk result (λ s. Shows (program_seen point.entry) (cells_seen point.entry)
+        (length point.entry.bound.now) (Known (path_value (cells_seen point.entry) path)) s) }
+{
     match part {
         Some(Value::Str(_)) => Ok(Shown::Value(Source::Part(path), ValueClass::Text)),
         Some(value) => {
-            let (text, class) = text_of(scene.alloc, Shallow::of_value(value))?;
+            let (text, class) = text_of(point.scene.alloc, Shallow::of_value(value))?;
             Ok(Shown::Value(Source::Made(text), class))
         }
         None => {
-            let (text, class) = text_of(scene.alloc, Shallow::Null)?;
+            let (text, class) = text_of(point.scene.alloc, Shallow::Null)?;
             Ok(Shown::Value(Source::Made(text), class))
         }
     }
 }
 
 /// The text and the class of a value that was made.
-fn made_text(alloc: Global, made: Made) -> Result<(Text, ValueClass), OutOfMemory> {
+fn made_text(alloc: Global, made: Made) -> Result<(Text, ValueClass), OutOfMemory>
+    ensures { IfOk result (λ r. ShowsValue (view_made made) r.0 r.1) }
+{
     match made {
         Made::Null => text_of(alloc, Shallow::Null),
         Made::Bool(is) => text_of(alloc, Shallow::Bool(is)),
@@ -66,7 +82,9 @@ fn made_text(alloc: Global, made: Made) -> Result<(Text, ValueClass), OutOfMemor
 }
 
 /// The text and the class of a value.
-pub(crate) fn text_of(alloc: Global, value: Shallow) -> Result<(Text, ValueClass), OutOfMemory> {
+pub(crate) fn text_of(alloc: Global, value: Shallow) -> Result<(Text, ValueClass), OutOfMemory>
+    ensures { IfOk result (λ r. ShowsValue (view_shallow value.entry) r.0 r.1) }
+{
     match value {
         Shallow::Null => Ok((text_copy(alloc, "null")?, ValueClass::Null)),
         Shallow::Bool(true) => Ok((text_copy(alloc, "true")?, ValueClass::Bool)),
@@ -77,6 +95,8 @@ pub(crate) fn text_of(alloc: Global, value: Shallow) -> Result<(Text, ValueClass
     }
 }
 
-fn text_copy(alloc: Global, text: &str) -> Result<Text, OutOfMemory> {
+fn text_copy(alloc: Global, text: &str) -> Result<Text, OutOfMemory>
+    ensures { IfOk result (λ t. t ≡ chars text.now) }
+{
     Ok(Text::new(String::from_str(alloc, text)?))
 }

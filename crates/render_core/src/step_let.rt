@@ -1,12 +1,22 @@
 //! Lets, and texts that are gathered.
 
+ghost use Rattle.std.specs.Prelude.{◌≡◌, ◌<◌, ℕ, OnOk, OnErr, Some, slice_get};
+ghost use Rattle.soy_tree.specs.Values as values;
+ghost use Rattle.soy_tree.specs.ViewValues.{view_value};
+ghost use Rattle.template_ir.specs.declared.op.Op.TheVariants as op;
+ghost use Rattle.template_ir.specs.declared.program.ProgramParts.{ProgramParts};
+ghost use Rattle.render_core.specs.Frames.{MachineFits};
+ghost use Rattle.render_core.specs.Stepping.{Binds, IsBlockKind, IsSame, Stepped, kept_of};
+ghost use Rattle.render_core.specs.declared.frame.Frame.TheVariants as frame;
+ghost use Rattle.render_core.specs.declared.held.Naming.TheVariants as naming;
+
 use crate::binding::{bind, held};
 use crate::frame::{Ahead, Frame, Handing, Purpose};
 use crate::held::{Held, Kept, Naming};
 use crate::scene::Scene;
 use crate::stack::{Machine, Step, past};
 use crate::valuing::value_of;
-use soy_base::{Kind, OutOfMemory, Steps};
+use soy_base::{Kind, OutOfMemory, Steps, Text};
 use soy_expr::Made;
 use soy_tree::Expr;
 use std::sync::ledger::Ledger;
@@ -20,30 +30,64 @@ impl Machine {
         ahead: Ahead,
         expr: &Expr,
         steps: &mut Steps<L>,
-    ) -> Result<Step, OutOfMemory> {
-        let found = value_of(self.point(scene, ahead.env), expr, steps)?;
-        self.bind_here(ahead, held(found))
+        name: &Text,
+    ) -> Result<Step, OutOfMemory>
+        requires top { self.old.top ≡ frame.Ops ahead }
+        requires fits { MachineFits self.old }
+        requires op { slice_get scene.now.program.now.ops ahead.at ≡ Some (op.Let name.now expr.now) }
+        requires low { ahead.at < ahead.end }
+        ensures { Stepped scene.now.program.now (view_value scene.now.input.now) self.old self.new steps.old steps.new
+            result }
+    {
+        let found = match value_of(self.point(scene, ahead.env), expr, steps) {
+            Ok(found) => found,
+            Err(_) => return Err(OutOfMemory),
+        };
+        match self.bind_here(ahead, held(found)) {
+            Ok(()) => Ok(Step::Silent),
+            Err(_) => Err(OutOfMemory),
+        }
     }
 
-    /// A let of a block.
+    /// A let of a block that isn't of kind text.
     pub(crate) fn step_let_block(
         &mut self,
         scene: &Scene,
         ahead: Ahead,
         kind: Kind,
         block: Block,
-    ) -> Result<Step, OutOfMemory> {
-        if kind == Kind::Text {
-            return self.gather_block(scene, ahead, Purpose::Bind, block);
+        name: &Text,
+    ) -> Result<Step, OutOfMemory>
+        requires top { self.old.top ≡ frame.Ops ahead }
+        requires fits { MachineFits self.old }
+        requires op { slice_get scene.now.program.now.ops ahead.at ≡ Some (op.LetBlock name.now kind block) }
+        requires low { ahead.at < ahead.end }
+        requires kind { IsBlockKind kind }
+        ensures { (n : ℕ) → Stepped scene.now.program.now (view_value scene.now.input.now) self.old self.new n n result }
+    {
+        match self.bind_here(ahead, Held::Block(kept(ahead, kind, block))) {
+            Ok(()) => Ok(Step::Silent),
+            Err(_) => Err(OutOfMemory),
         }
-        self.bind_here(ahead, Held::Block(kept(ahead, kind, block)))
     }
 
     /// Binds the variable of the op, and goes past it.
-    fn bind_here(&mut self, ahead: Ahead, to: Held) -> Result<Step, OutOfMemory> {
-        let env = bind(&mut self.bound, Naming::Op(ahead.at), to, ahead.env)?;
-        self.top = Frame::Ops(Ahead { env, ..past(ahead) });
-        Ok(Step::Silent)
+    #[tactic(auto, using(crate::proofs::Gives::bind_does))]
+    fn bind_here(&mut self, ahead: Ahead, to: Held) -> Result<(), OutOfMemory>
+        requires top { self.old.top ≡ frame.Ops ahead }
+        requires fits { MachineFits self.old }
+        requires low { ahead.at < ahead.end }
+        ensures binds { OnOk result ((p : ProgramParts) (input : values.Value) →
+            Binds p input self.old self.new ahead (naming.Op ahead.at) to) }
+        ensures stays { OnErr result (IsSame self.old self.new) }
+    {
+        match bind(&mut self.bound, Naming::Op(ahead.at), to, ahead.env) {
+            Ok(env) => {
+                self.top = Frame::Ops(Ahead { env, ..past(ahead) });
+                Ok(())
+            }
+            Err(_) => Err(OutOfMemory),
+        }
     }
 
     /// Goes into a block that the op names, whose text is gathered.
@@ -95,7 +139,9 @@ impl Machine {
 }
 
 /// A block that the op names, as what a variable is bound to.
-pub(crate) fn kept(ahead: Ahead, kind: Kind, block: Block) -> Kept {
+pub(crate) fn kept(ahead: Ahead, kind: Kind, block: Block) -> Kept
+    ensures { result ≡ kept_of ahead kind block }
+{
     Kept {
         kind,
         block: Block {

@@ -1,11 +1,18 @@
 //! Loops.
 
+ghost use Rattle.std.specs.Prelude.{◌≡◌, ◌<◌, [], ◌∷◌, ◌++◌, OnOk, OnErr, Some, length, slice_get};
+ghost use Rattle.soy_tree.specs.ViewValues.{view_value};
+ghost use Rattle.render_core.specs.Frames.{MachineFits, past};
+ghost use Rattle.render_core.specs.Rounds.{IsLoopOver, first_round, list_bound};
+ghost use Rattle.render_core.specs.Stepping.{IsSame, Stepped};
+ghost use Rattle.render_core.specs.declared.frame.Frame.TheVariants as frame;
+
 use crate::binding::{bind, held};
 use crate::frame::{Ahead, Frame, Round};
 use crate::held::{Held, Naming};
 use crate::scene::Scene;
 use crate::stack::{Machine, Step, past};
-use crate::valuing::{has_item, value_of};
+use crate::valuing::{Found, has_item, value_of};
 use soy_base::{OutOfMemory, Steps};
 use soy_expr::Made;
 use soy_tree::Expr;
@@ -20,35 +27,66 @@ impl Machine {
         ahead: Ahead,
         list: &Expr,
         steps: &mut Steps<L>,
-    ) -> Result<Step, OutOfMemory> {
-        let found = value_of(self.point(scene, ahead.env), list, steps)?;
-        let mark = self.bound.len();
-        let number = bind(&mut self.bound, Naming::Hidden, held(found), 0)?;
-        let round = Round {
-            op: ahead.at,
-            list: number - 1,
-            next: 0,
-            env: ahead.env,
-            left: ahead.left,
-            mark,
+        op: &Op,
+    ) -> Result<Step, OutOfMemory>
+        requires top { self.old.top ≡ frame.Ops ahead }
+        requires fits { MachineFits self.old }
+        requires op { slice_get scene.now.program.now.ops ahead.at ≡ Some op.now }
+        requires list { IsLoopOver list.now op.now }
+        requires low { ahead.at < ahead.end }
+        ensures { Stepped scene.now.program.now (view_value scene.now.input.now) self.old self.new steps.old steps.new
+            result }
+    {
+        let found = match value_of(self.point(scene, ahead.env), list, steps) {
+            Ok(found) => found,
+            Err(_) => return Err(OutOfMemory),
         };
-        match self.enter(Frame::Ops(past(ahead)), Frame::Turns(round)) {
+        match self.begin_loop(ahead, found) {
             Ok(()) => Ok(Step::Silent),
-            Err(_) => {
-                self.bound.truncate(mark);
-                Err(OutOfMemory)
+            Err(_) => Err(OutOfMemory),
+        }
+    }
+
+    /// Binds the list of a loop, and goes to its turns.
+    fn begin_loop(&mut self, ahead: Ahead, found: Found) -> Result<(), OutOfMemory>
+        requires { ahead.at < ahead.end }
+        ensures top { OnOk result (self.new.top ≡ frame.Turns (first_round ahead (length self.old.bound.items))) }
+        ensures below { OnOk result (self.new.below ≡ frame.Ops (past ahead) ∷ self.old.below) }
+        ensures texts { OnOk result (self.new.texts ≡ self.old.texts) }
+        ensures bound { OnOk result (self.new.bound.items ≡ self.old.bound.items ++ list_bound found ∷ []) }
+        ensures stays { OnErr result (IsSame self.old self.new) }
+    {
+        let mark = self.bound.len();
+        match bind(&mut self.bound, Naming::Hidden, held(found), 0) {
+            Ok(_) => {
+                let round = Round {
+                    op: ahead.at,
+                    list: mark,
+                    next: 0,
+                    env: ahead.env,
+                    left: ahead.left,
+                    mark,
+                };
+                match self.enter(Frame::Ops(past(ahead)), Frame::Turns(round)) {
+                    Ok(()) => Ok(()),
+                    Err(_) => {
+                        self.bound.truncate(mark);
+                        Err(OutOfMemory)
+                    }
+                }
             }
+            Err(_) => Err(OutOfMemory),
         }
     }
 
     /// A turn of a loop, or its end.
     pub(crate) fn step_turn(&mut self, scene: &Scene, round: Round) -> Result<Step, OutOfMemory> {
-        if !has_item(scene, self.bound.as_slice(), round.list, round.next) {
-            return Ok(self.leave(round.mark));
+        if !has_item(self.point(scene, round.env), round.list, round.next) {
+            return Ok(self.leave(scene, round.mark));
         }
         match scene.program.op(round.op) {
             Some(Op::For(_, index, _, body)) => self.turn(round, index.is_some(), *body),
-            _ => Ok(self.leave(round.mark)),
+            _ => Ok(self.leave(scene, round.mark)),
         }
     }
 

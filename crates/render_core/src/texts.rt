@@ -10,15 +10,20 @@ use std::marker::Model;
 /// The texts that are being gathered, which contracts see as a list with the innermost first.
 #[derive(Drop)]
 pub(crate) struct Texts {
-    texts: Vec<Text>,
+    innermost: Option<Text>,
+    /// Those around it, the outermost first.
+    outer: Vec<Text>,
 }
 
 impl Model for Texts {
-    ghost use Rattle.std.specs.Prelude.{ℕ, List, reverse};
+    ghost use Rattle.std.specs.Prelude.{ℕ, List};
+    ghost use Rattle.render_core.specs.Texts.{NoneAround, texts_of};
 
     ghost Value = { List (List ℕ) };
 
-    ghost view = { λ s. reverse s.texts.items };
+    ghost view = { λ s. texts_of s.innermost s.outer.items };
+
+    ghost invariant = { λ s. NoneAround s.innermost s.outer.items };
 }
 
 impl Texts {
@@ -27,7 +32,8 @@ impl Texts {
         ensures { result ≡ [] }
     {
         Texts {
-            texts: Vec::new(alloc),
+            innermost: None,
+            outer: Vec::new(alloc),
         }
     }
 
@@ -35,7 +41,7 @@ impl Texts {
     pub(crate) fn is_empty(&self) -> bool
         ensures { result ≡ is_none self.now }
     {
-        self.texts.is_empty()
+        self.innermost.is_none()
     }
 
     /// Begins to gather a text.
@@ -43,8 +49,22 @@ impl Texts {
         ensures ok { OnOk result (self.new ≡ [] ∷ self.old) }
         ensures unchanged { OnErr result (self.new ≡ self.old) }
     {
-        self.texts.push(Text::empty(alloc))?;
-        Ok(())
+        match self.innermost.take() {
+            Some(text) => match self.outer.push(text) {
+                Ok(()) => {
+                    self.innermost = Some(Text::empty(alloc));
+                    Ok(())
+                }
+                Err(failed) => {
+                    self.innermost = Some(failed.value);
+                    Err(OutOfMemory)
+                }
+            },
+            None => {
+                self.innermost = Some(Text::empty(alloc));
+                Ok(())
+            }
+        }
     }
 
     /// Adds to the innermost text.
@@ -52,7 +72,7 @@ impl Texts {
         ensures ok { OnOk result (self.new ≡ added self.old more.now) }
         ensures unchanged { OnErr result (self.new ≡ self.old) }
     {
-        match self.texts.last_mut() {
+        match &mut self.innermost {
             Some(text) => text.append(more),
             None => Ok(()),
         }
@@ -62,7 +82,7 @@ impl Texts {
     pub(crate) fn copy_top(&self, alloc: Global) -> Result<Text, OutOfMemory>
         ensures { IfOk result (λ t. t ≡ innermost self.now) }
     {
-        match self.texts.last() {
+        match &self.innermost {
             Some(text) => text.copy(alloc),
             None => Ok(Text::empty(alloc)),
         }
@@ -72,6 +92,8 @@ impl Texts {
     pub(crate) fn end(&mut self)
         ensures { self.new ≡ past_innermost self.old }
     {
-        let _ = self.texts.pop();
+        if self.innermost.is_some() {
+            self.innermost = self.outer.pop();
+        }
     }
 }

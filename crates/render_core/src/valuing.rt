@@ -1,8 +1,16 @@
 //! The values of expressions, blocks included.
 
-use crate::held::{Bound, Held, Kept, Path};
-use crate::parts::{Point, copied, part_at, part_of, place_of, whole};
-use crate::scene::Scene;
+ghost use Rattle.std.specs.Prelude.{◌≡◌, IfOk, length};
+ghost use Rattle.soy_tree.specs.Cost.{cost};
+ghost use Rattle.soy_tree.specs.Val.{binding, is_null, is_truthy, val};
+ghost use Rattle.soy_tree.specs.ViewExpressions.{view_expr};
+ghost use Rattle.soy_tree.specs.ViewValues.{view_value};
+ghost use Rattle.render_core.specs.Finds.{Finds, FoundWithin, HasItem, IsPlain, Takes, binding_at, found_means, lowered_to};
+ghost use Rattle.render_core.specs.Seen.{cells_seen, env_seen, input_seen, program_seen};
+ghost use Rattle.render_core.specs.Variables.{cell_at, cells_of, env_at};
+
+use crate::held::{Held, Kept, Path};
+use crate::parts::{Point, copied, part_at, part_of, place_of, variable_at, whole};
 use soy_base::{OutOfMemory, Steps, Text};
 use soy_expr::{Evaluated, Made, evaluate};
 use soy_tree::{Expr, ExprNode, Value};
@@ -21,7 +29,13 @@ pub(crate) fn value_of<L: Ledger>(
     point: Point,
     expr: &Expr,
     steps: &mut Steps<L>,
-) -> Result<Found, OutOfMemory> {
+) -> Result<Found, OutOfMemory>
+    ensures { Finds (program_seen point.entry)
+        (cells_seen point.entry)
+        (length point.entry.bound.now) (val (view_expr expr.now) (env_seen point.entry))
+        (cost (view_expr expr.now) (env_seen point.entry))
+        steps.old steps.new result }
+{
     match &expr.node {
         ExprNode::Var(name) => {
             steps.count();
@@ -44,16 +58,32 @@ pub(crate) fn value_of<L: Ledger>(
                 value_of(point, right.get(), steps)
             }
         }
-        _ => plain_value(point, expr, steps),
+        ExprNode::Null => plain_value(point, expr, steps),
+        ExprNode::Bool(_) => plain_value(point, expr, steps),
+        ExprNode::Int(_) => plain_value(point, expr, steps),
+        ExprNode::Str(_) => plain_value(point, expr, steps),
+        ExprNode::Member(_, _, _) => plain_value(point, expr, steps),
+        ExprNode::Index(_, _, _) => plain_value(point, expr, steps),
+        ExprNode::Neg(_) => plain_value(point, expr, steps),
+        ExprNode::Not(_) => plain_value(point, expr, steps),
+        ExprNode::Binary(_, _, _) => plain_value(point, expr, steps),
     }
 }
 
 /// The value of an expression that is no block.
+#[tactic(auto, using(crate::proofs::Finds::plain_value, crate::proofs::Finds::plain_block, crate::proofs::Finds::same_cost))]
 fn plain_value<L: Ledger>(
     point: Point,
     expr: &Expr,
     steps: &mut Steps<L>,
-) -> Result<Found, OutOfMemory> {
+) -> Result<Found, OutOfMemory>
+    requires { IsPlain (view_expr expr.now) }
+    ensures { Finds (program_seen point.entry)
+        (cells_seen point.entry)
+        (length point.entry.bound.now) (val (view_expr expr.now) (env_seen point.entry))
+        (cost (view_expr expr.now) (env_seen point.entry))
+        steps.old steps.new result }
+{
     match evaluate(point.scene.alloc, expr, &point, steps)? {
         Evaluated::Made(made) => Ok(Found::Made(made)),
         Evaluated::Part(_, path) => Ok(Found::Part(path)),
@@ -62,37 +92,59 @@ fn plain_value<L: Ledger>(
 }
 
 /// Whether an expression is truthy.
+#[tactic(auto, using(crate::proofs::Finds::same_truth, crate::proofs::Finds::same_cost))]
 pub(crate) fn is_truthy<L: Ledger>(
     point: Point,
     expr: &Expr,
     steps: &mut Steps<L>,
-) -> Result<bool, OutOfMemory> {
+) -> Result<bool, OutOfMemory>
+    ensures { Takes (
+      is_truthy (val (view_expr expr.now) (env_seen point.entry)),
+      cost (view_expr expr.now) (env_seen point.entry),
+    )
+        steps.old steps.new result }
+{
     let value = evaluate(point.scene.alloc, expr, &point, steps)?;
     Ok(value.is_truthy())
 }
 
 /// What the first variable of a name is bound to, or null.
-pub(crate) fn variable(point: Point, name: &Text) -> Result<Found, OutOfMemory> {
-    match place_of(point.scene.program, point.bound, point.env, name) {
+pub(crate) fn variable(point: Point, name: &Text) -> Result<Found, OutOfMemory>
+    ensures means { IfOk result (λ f. found_means (program_seen point.entry)
+        (cells_seen point.entry) f
+        ≡ binding name.now (env_seen point.entry)) }
+    ensures within { IfOk result (λ f. FoundWithin (length point.entry.bound.now) f) }
+{
+    match place_of(point, name) {
         Some(at) => bound_at(point, at),
         None => Ok(Found::Made(Made::Null)),
     }
 }
 
 /// What the variable at a place is bound to.
-fn bound_at(point: Point, at: usize) -> Result<Found, OutOfMemory> {
-    match point.bound.get(at) {
+#[tactic(auto, using(crate::proofs::Finds::found_root, crate::proofs::Finds::found_item, crate::proofs::Finds::found_path))]
+fn bound_at(point: Point, at: usize) -> Result<Found, OutOfMemory>
+    ensures means { IfOk result (λ f. found_means (program_seen point.entry)
+        (cells_seen point.entry) f
+        ≡ binding_at (program_seen point.entry) (input_seen point.entry) point.entry.bound.now at) }
+    ensures within { IfOk result (λ f. FoundWithin (length point.entry.bound.now) f) }
+{
+    match variable_at(point.bound, at) {
         Some(variable) => match &variable.to {
-            Held::Made(made) => Ok(Found::Made(copied(&point.scene, made)?)),
+            Held::Made(made) => Ok(Found::Made(copied(point, made)?)),
             Held::Block(kept) => Ok(Found::Block(lowered(*kept, at))),
-            _ => Ok(Found::Part(whole(&point.scene, at))),
+            Held::Root => Ok(Found::Part(whole(point, at))),
+            Held::Item(_, _) => Ok(Found::Part(whole(point, at))),
+            Held::Part(_) => Ok(Found::Part(whole(point, at))),
         },
         None => Ok(Found::Made(Made::Null)),
     }
 }
 
 /// A block of a variable at a place, which sees only the variables below it.
-fn lowered(kept: Kept, at: usize) -> Kept {
+fn lowered(kept: Kept, at: usize) -> Kept
+    ensures { result ≡ lowered_to at kept }
+{
     if kept.env > at {
         Kept { env: 0, ..kept }
     } else {
@@ -100,21 +152,28 @@ fn lowered(kept: Kept, at: usize) -> Kept {
     }
 }
 
-fn is_null(point: Point, found: &Found) -> bool {
+fn is_null(point: Point, found: &Found) -> bool
+    ensures { result ≡ is_null (found_means (program_seen point.entry)
+        (cells_seen point.entry) found.now) }
+{
     match found {
         Found::Made(Made::Null) => true,
-        Found::Part(path) => match part_of(&point.scene, point.bound, path) {
+        Found::Part(path) => match part_of(point, path) {
             Some(Value::Null) => true,
             Some(_) => false,
             None => true,
         },
-        _ => false,
+        Found::Made(_) => false,
+        Found::Block(_) => false,
     }
 }
 
-/// The number of the items of the list that the variable at a place is bound to.
-pub(crate) fn has_item(scene: &Scene, bound: &[Bound], list: usize, number: usize) -> bool {
-    match part_at(scene, bound, list) {
+/// Whether the list that the variable at a place is bound to has an item of a number.
+pub(crate) fn has_item(point: Point, list: usize, number: usize) -> bool
+    ensures { HasItem number (cell_at
+        (cells_seen point.entry) list).part result }
+{
+    match part_at(point, list) {
         Some(Value::List(items)) => number < items.items().len(),
         _ => false,
     }
