@@ -9,6 +9,7 @@ use Rattle.template_ir.specs.declared.program.ProgramParts.{ProgramParts}
 use Rattle.template_ir.proofs.Tables.{get_table, take_table_from}
 use Rattle.render_core.specs.Variables.{Cell, bound_means, cell_at, cells_of, env_at, held_means, name_or_none, name_there, part_held}
 use Rattle.render_core.specs.declared.held.Bound.{Bound}
+use Rattle.render_core.specs.declared.held.Held.{Held}
 
 index_take : {A : Type 0} (xs : List A) (n k : ℕ) (other : A) → k < n
     → slice_index_or (take n xs) k other ≡ slice_index_or xs k other
@@ -50,7 +51,7 @@ index_some [] k x other e = cc
 index_some (y ∷ ys) zero x other e = cc
 index_some (y ∷ ys) (suc k) x other e = index_some ys k x other e
 
-get_end : {A : Type 0} (xs : List A) (x : A) → slice_get (xs ++ x ∷ []) (length xs) ≡ Some x
+pub get_end : {A : Type 0} (xs : List A) (x : A) → slice_get (xs ++ x ∷ []) (length xs) ≡ Some x
 get_end [] x = refl
 get_end (y ∷ ys) x = get_end ys x
 
@@ -106,6 +107,12 @@ module _ (p : ProgramParts) (input : values.Value) where
   pub part_lost : (bound : List Bound) (n k : ℕ) → n ≤ k
       → (cell_at (take n (cells_of p input bound)) k).part ≡ values.NullValue
   part_lost bound n k h = ap (λ (c : Cell). c.part) (cell_past (cells_of p input bound) n k h)
+
+  -- the same of what it is bound to
+  pub part_is : (bound : List Bound) (n : ℕ) (b : Bound) (h : Held) → Some b ≡ slice_get bound n → b.to ≡ h
+      → part_held input (take n (cells_of p input bound)) h ≡ (cell_at (cells_of p input bound) n).part
+  part_is bound n b h is to =
+      sym (part_there bound n b (sym is) ∙ ap (part_held input (take n (cells_of p input bound))) to)
 
   -- one more variable
   pub cell_more : (bound : List Bound) (b : Bound)

@@ -186,3 +186,20 @@ truth_known (BlockOf a) = refl
 
 pub same_truth : (e : Expr) (env : RunEnv) → is_truthy (val e (forgotten_env env)) ≡ is_truthy (val e env)
 same_truth e env = ap is_truthy (forgotten_val e env) ∙ truth_known (val e env)
+
+forgotten_if : {A : Type 0} (t : Bool) (b : Binding A) (x y : Binding (Unit {0})) → x ≡ forgotten b
+    → (if t then forgotten b else y) ≡ (if t then x else y)
+forgotten_if true b x y e = sym e
+forgotten_if false b x y e = refl
+
+choice_forgotten : {A : Type 0} (t : Bool) (a b : Binding A)
+    → (if t then forgotten a else forgotten b) ≡ forgotten (if t then a else b)
+choice_forgotten true a b = refl
+choice_forgotten false a b = refl
+
+pub forgotten_binding : {A : Type 0} (name : Name) (env : Env A)
+    → binding name (forgotten_env env) ≡ forgotten (binding name env)
+forgotten_binding name [] = refl
+forgotten_binding name (v ∷ env) =
+    ap (λ (rest : Binding (Unit {0})). if bytes_eq v.0 name then forgotten v.1 else rest) (forgotten_binding name env)
+    ∙ choice_forgotten (bytes_eq v.0 name) v.1 (binding name env)

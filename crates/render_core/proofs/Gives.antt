@@ -84,10 +84,10 @@ module _ (p : ProgramParts) (input : values.Value) where
       let fs : List Frame = frame.Ops (past f) ∷ old.below in
       record {
         gives =
-          machine_is p input new (frame.Ops (past f)) old.below (added old.texts (piece_text piece)) old.bound.items h.0
-          h.1 h.3 h.2
-          ∙ sym (over_some old.bound.items fs old.texts none_spent piece gives_nothing h.4
-          ∙ first_none (over p input old.bound.items fs (added old.texts (piece_text piece)) gives_nothing));
+            machine_is p input new (frame.Ops (past f)) old.below (added old.texts (piece_text piece)) old.bound.items h.0
+            h.1 h.3 h.2
+            ∙ sym (over_some old.bound.items fs old.texts none_spent piece gives_nothing h.4
+            ∙ first_none (over p input old.bound.items fs (added old.texts (piece_text piece)) gives_nothing));
         fits = fits_is p input new (frame.Ops (past f)) old.below old.bound.items h.0 h.1 h.2 (fits_top p input old (frame.Ops f) top fits);
         quiet = ap (pending p) h.0;
       }
@@ -121,9 +121,9 @@ module _ (p : ProgramParts) (input : values.Value) where
         h.0,
         record {
           same =
-            op_spends p input old f o c x top is low means
-            ∙ (ap (spent_first (one_step c)) h.1
-            ∙ ap (λ (s : Spent). GivesPiece s h.0 (machine_gives p input new)) (none_after (one_step c)));
+              op_spends p input old f o c x top is low means
+              ∙ (ap (spent_first (one_step c)) h.1
+              ∙ ap (λ (s : Spent). GivesPiece s h.0 (machine_gives p input new)) (none_after (one_step c)));
           cost = cost;
           falls = omega (arith, quiet);
           fits = h.2;
@@ -159,14 +159,14 @@ module _ (p : ProgramParts) (input : values.Value) where
       let old_fits : FramesFit (frame.Ops f ∷ old.below) (length old.bound.items) = fits_top p input old (frame.Ops f) old_top fits in
       record {
         gives =
-          machine_is p input new (frame.Ops child) (frame.Ops (past f) ∷ old.below) old.texts old.bound.items top below
-          texts bound
-          ∙ (entered p input old.bound.items old.bound.items (frame.Ops (past f) ∷ old.below) old.texts child
-          (take-length old.bound.items)
-          ∙ ap (λ (b : BoundBlock). over p input old.bound.items (frame.Ops (past f) ∷ old.below) old.texts b.outcome) means);
+            machine_is p input new (frame.Ops child) (frame.Ops (past f) ∷ old.below) old.texts old.bound.items top below
+            texts bound
+            ∙ (entered p input old.bound.items old.bound.items (frame.Ops (past f) ∷ old.below) old.texts child
+            (take-length old.bound.items)
+            ∙ ap (λ (b : BoundBlock). over p input old.bound.items (frame.Ops (past f) ∷ old.below) old.texts b.outcome) means);
         fits =
-          fits_is p input new (frame.Ops child) (frame.Ops (past f) ∷ old.below) old.bound.items top below bound
-          (low, (let e : length old.bound.items ≤ length old.bound.items = omega arith in e), old_fits);
+            fits_is p input new (frame.Ops child) (frame.Ops (past f) ∷ old.below) old.bound.items top below bound
+            (low, (let e : length old.bound.items ≤ length old.bound.items = omega arith in e), old_fits);
         quiet = ap (pending p) top;
       }
 
@@ -218,17 +218,19 @@ module _ (p : ProgramParts) (input : values.Value) where
       let more : length wider ≡ n = length_more old.bound.items b in
       record {
         gives =
-          machine_is p input new (frame.Ops g) old.below old.texts wider top below texts bound
-          ∙ (ap (λ (bs : List Bound). over p input bs old.below old.texts
-          (continued_by gives_nothing (ops_ahead p g (env_at (cells_of p input wider) n))))
-          (take_more old.bound.items b f.mark old_fits.1)
-          ∙ ap (λ (o : Outcome). over p input (take f.mark old.bound.items) old.below old.texts o)
-          (first_none (ops_ahead p g (env_at (cells_of p input wider) n))
-          ∙ ap (λ (env : RunEnv). ops_ahead p (past f) env) (env_more p input old.bound.items b n refl)));
+            machine_is p input new (frame.Ops g) old.below old.texts wider top below texts bound
+            ∙ (ap (λ (bs : List Bound). over p input bs old.below old.texts
+            (continued_by gives_nothing (ops_ahead p g (env_at (cells_of p input wider) n))))
+            (take_more old.bound.items b f.mark old_fits.1)
+            ∙ ap (λ (o : Outcome). over p input (take f.mark old.bound.items) old.below old.texts o)
+            (first_none (ops_ahead p g (env_at (cells_of p input wider) n))
+            ∙ ap (λ (env : RunEnv). ops_ahead p (past f) env) (env_more p input old.bound.items b n refl)));
         fits =
-          fits_is p input new (frame.Ops g) old.below wider top below bound
-          ((let e : n ≤ length wider = omega (arith, more) in e),
-          (let m = old_fits.1 in let e : f.mark ≤ length wider = omega (arith, more, m) in e), old_fits.2);
+            fits_is p input new (frame.Ops g) old.below wider top below bound (
+              (let e : n ≤ length wider = omega (arith, more) in e),
+              (let m = old_fits.1 in let e : f.mark ≤ length wider = omega (arith, more, m) in e),
+              old_fits.2,
+            );
         quiet = ap (pending p) top;
       }
 
@@ -236,24 +238,28 @@ module _ (p : ProgramParts) (input : values.Value) where
   pub binds_step : (old new : Machine) (f : Ahead) (o : Op) (c : ℕ) (name : Naming) (to : Held) (before after : ℕ)
       → old.top ≡ frame.Ops f → slice_get p.ops f.at ≡ Some o → f.at < f.end
       → op_there p f.left f.at o f.number (env_at (cells_of p input old.bound.items) f.env)
-      ≡ (RunEnds (one_step c) WholeRun,
-      (name_or_none (name_there p name), held_means p input (cells_of p input old.bound.items) to)
-      ∷ env_at (cells_of p input old.bound.items) f.env)
+      ≡ (
+        RunEnds (one_step c) WholeRun,
+        (name_or_none (name_there p name), held_means p input (cells_of p input old.bound.items) to)
+            ∷ env_at (cells_of p input old.bound.items) f.env,
+      )
       → after ≡ before + c → Binds p input old new f name to → Silent p input old new before after
   binds_step old new f o c name to before after top is low means cost binds =
       let env : RunEnv = (name_or_none (name_there p name), held_means p input (cells_of p input old.bound.items) to)
       ∷ env_at (cells_of p input old.bound.items) f.env in
-      let quiet : pending p new.top ≡ 0 = binds.quiet in
-      (one_step c, record {
-        same =
-          machine_is p input old (frame.Ops f) old.below old.texts old.bound.items top refl refl refl
-          ∙ (bound_by p input old.bound.items old.below old.texts f o (RunEnds (one_step c) WholeRun) env is low means
-          ∙ (over_first p input old.below (take f.mark old.bound.items) old.texts (one_step c) (ops_ahead p (past f) env)
-          ∙ ap (spent_first (one_step c)) (sym binds.gives)));
-        cost = cost;
-        falls = omega (arith, quiet);
-        fits = binds.fits;
-      })
+      let quiet : pending p new.top ≡ 0 = binds.quiet in (
+        one_step c,
+        record {
+          same =
+              machine_is p input old (frame.Ops f) old.below old.texts old.bound.items top refl refl refl
+              ∙ (bound_by p input old.bound.items old.below old.texts f o (RunEnds (one_step c) WholeRun) env is low means
+              ∙ (over_first p input old.below (take f.mark old.bound.items) old.texts (one_step c) (ops_ahead p (past f) env)
+              ∙ ap (spent_first (one_step c)) (sym binds.gives)));
+          cost = cost;
+          falls = omega (arith, quiet);
+          fits = binds.fits;
+        },
+      )
 
   pub binds_stay : (old new : Machine) (f : Ahead) (o : Op) (c : ℕ) (env : RunEnv) (before after : ℕ)
       → old.top ≡ frame.Ops f → slice_get p.ops f.at ≡ Some o → f.at < f.end

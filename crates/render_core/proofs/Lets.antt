@@ -38,7 +38,7 @@ held_found p input cells (found.Made made) = refl
 held_found p input cells (found.Part path) = refl
 held_found p input cells (found.Block kept) = refl
 
-named_by : (p : ProgramParts) (at : ℕ) (o : Op) (name : Name) → slice_get p.ops at ≡ Some o → op_name o ≡ Some name
+pub named_by : (p : ProgramParts) (at : ℕ) (o : Op) (name : Name) → slice_get p.ops at ≡ Some o → op_name o ≡ Some name
     → name ≡ name_or_none (name_there p (naming.Op at))
 named_by p at o name is names =
     sym (ap (λ (x : Option Op). name_or_none (of_op op_name x)) is ∙ ap name_or_none names)
@@ -47,8 +47,10 @@ pub means_let : (p : ProgramParts) (cells : List Cell) (f : Ahead) (name : Name)
     (x : Found) (to : Held) (input : values.Value) → slice_get p.ops f.at ≡ Some (op.Let name e)
     → found_means p cells x ≡ val (view_expr e) env → to ≡ held_of x
     → op_there p f.left f.at (op.Let name e) f.number env
-    ≡ (RunEnds (one_step (cost (view_expr e) env)) WholeRun,
-    (name_or_none (name_there p (naming.Op f.at)), held_means p input cells to) ∷ env)
+    ≡ (
+      RunEnds (one_step (cost (view_expr e) env)) WholeRun,
+      (name_or_none (name_there p (naming.Op f.at)), held_means p input cells to) ∷ env,
+    )
 means_let p cells f name e env x to input is means held =
     let c : ℕ = cost (view_expr e) env in
     let n : Name = name_or_none (name_there p (naming.Op f.at)) in
@@ -80,8 +82,10 @@ pub means_block : (p : ProgramParts) (cells : List Cell) (f : Ahead) (name : Nam
     (input : values.Value) → slice_get p.ops f.at ≡ Some (op.LetBlock name k b) → IsBlockKind k
     → kept ≡ kept_of f k b
     → op_there p f.left f.at (op.LetBlock name k b) f.number (env_at cells f.env)
-    ≡ (RunEnds (one_step 0) WholeRun,
-    (name_or_none (name_there p (naming.Op f.at)), held_means p input cells (held.Block kept)) ∷ env_at cells f.env)
+    ≡ (
+      RunEnds (one_step 0) WholeRun,
+      (name_or_none (name_there p (naming.Op f.at)), held_means p input cells (held.Block kept)) ∷ env_at cells f.env,
+    )
 means_block p cells f name k b kept input is kinds keeps =
     let env : RunEnv = env_at cells f.env in
     let o : Outcome = block_gives (means_before p f.left f.at) b (pos 0) env in

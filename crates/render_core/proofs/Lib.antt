@@ -1,6 +1,9 @@
+mod Begins
+mod Calls
 mod Cells
 mod Choices
 mod Finds
+mod Gathers
 mod Gives
 mod Leaves
 mod Lets

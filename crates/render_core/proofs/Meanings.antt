@@ -58,11 +58,13 @@ cost_zero o = sym (first_none o)
 
 -- ---- if
 
+abbrev chosen_if : Bool → ℕ → Block → Option Block × ℕ → Option Block × ℕ
+chosen_if t c b rest = if t then (Some b, c) else (rest.0, c + rest.1)
+
 if_case : (ms : List OpMeans) (t : Bool) (c : ℕ) (b : Block) (rest : Option Block × ℕ) (env : RunEnv) (x : Outcome)
     → x ≡ with_cost rest.1 (rest_gives ms rest.0 env)
     → with_cost c (if t then block_gives ms b (pos 0) env else x)
-    ≡ with_cost (if t then (Some b, c) else (rest.0, c + rest.1)).1
-    (rest_gives ms (if t then (Some b, c) else (rest.0, c + rest.1)).0 env)
+    ≡ with_cost (chosen_if t c b rest).1 (rest_gives ms (chosen_if t c b rest).0 env)
 if_case ms true c b rest env x e = refl
 if_case ms false c b rest env x e = ap (with_cost c) e ∙ cost_twice c rest.1 (rest_gives ms rest.0 env)
 

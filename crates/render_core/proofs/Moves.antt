@@ -11,7 +11,7 @@ use Rattle.template_ir.specs.Run.{arm_gives, block_gives, one_step}
 use Rattle.template_ir.specs.declared.op.Block.{Block}
 use Rattle.template_ir.specs.declared.op.Op.{Op}
 use Rattle.template_ir.specs.declared.program.ProgramParts.{ProgramParts}
-use Rattle.render_core.specs.Frames.{FramesFit, MachineFits, frame_gives, machine_gives, means_before, ops_ahead, over, past}
+use Rattle.render_core.specs.Frames.{FramesFit, MachineFits, child_at, frame_gives, machine_gives, means_before, ops_ahead, over, past}
 use Rattle.render_core.specs.Rest.{first_spent}
 use Rattle.render_core.specs.Stepping.{Goes, GoesIn, IsSame, Silent, Stays, pending, weight}
 use Rattle.render_core.specs.Variables.{cells_of, env_at}
@@ -106,17 +106,6 @@ module _ (p : ProgramParts) (input : values.Value) where
 
   -- ---- going into a block
 
-  abbrev pub child_of : Ahead → Block → ℤ → List Bound → Ahead
-  child_of f b n bound =
-      record {
-        at = b.first;
-        end = min b.end f.at;
-        env = f.env;
-        left = f.left;
-        number = n;
-        mark = length bound;
-      }
-
   pub into_none : (old new : Machine) (f : Ahead) → old.top ≡ frame.Ops f → MachineFits old
       → new.top ≡ frame.Ops (past f) → new.below ≡ old.below → new.texts ≡ old.texts
       → new.bound.items ≡ old.bound.items → GoesIn p input old new f gives_nothing
@@ -128,24 +117,25 @@ module _ (p : ProgramParts) (input : values.Value) where
   }
 
   pub into_block : (old new : Machine) (f : Ahead) (b : Block) (n : ℤ) → old.top ≡ frame.Ops f → MachineFits old
-      → new.top ≡ frame.Ops (child_of f b n old.bound.items) → new.below ≡ frame.Ops (past f) ∷ old.below
+      → new.top ≡ frame.Ops (child_at f b n (length old.bound.items)) → new.below ≡ frame.Ops (past f) ∷ old.below
       → new.texts ≡ old.texts → new.bound.items ≡ old.bound.items
       → GoesIn p input old new f
       (block_gives (means_before p f.left f.at) b n (env_at (cells_of p input old.bound.items) f.env))
   into_block old new f b n old_top fits top below texts bound = record {
     gives =
-        machine_is new (frame.Ops (child_of f b n old.bound.items)) (frame.Ops (past f) ∷ old.below) old.texts
+        machine_is new (frame.Ops (child_at f b n (length old.bound.items))) (frame.Ops (past f) ∷ old.below) old.texts
         old.bound.items top below texts bound
         ∙ (entered p input old.bound.items old.bound.items (frame.Ops (past f) ∷ old.below) old.texts
-        (child_of f b n old.bound.items) (take-length old.bound.items)
+        (child_at f b n (length old.bound.items)) (take-length old.bound.items)
         ∙ ap (λ (x : Outcome). over p input old.bound.items (frame.Ops (past f) ∷ old.below) old.texts x)
         (sym (block_within p f.left f.at b n (env_at (cells_of p input old.bound.items) f.env))));
     fits =
         let old_fits : FramesFit (frame.Ops f ∷ old.below) (length old.bound.items) = fits_top old (frame.Ops f) old_top fits in
-        fits_is new (frame.Ops (child_of f b n old.bound.items)) (frame.Ops (past f) ∷ old.below) old.bound.items top below
+        fits_is new (frame.Ops (child_at f b n (length old.bound.items))) (frame.Ops (past f) ∷ old.below) old.bound.items top below
         bound (old_fits.0, (let e : length old.bound.items ≤ length old.bound.items = omega arith in e), old_fits);
     quiet = ap (pending p) top;
   }
+
   pub same_self : (m : Machine) → IsSame m m
   same_self m = record {
     top = refl;

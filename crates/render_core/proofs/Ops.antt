@@ -44,11 +44,17 @@ part_within xs n first end =
     ap (λ v. take (end - first) v) (drop_less xs first n (n - first) refl)
     ∙ take_less (drop first xs) (end - first) (n - first) (min end n - first) (omega arith)
 
-get_map : {A B : Type 0} (f : A → B) (xs : List A) (n : ℕ) (x : A) → slice_get xs n ≡ Some x
+pub get_map : {A B : Type 0} (f : A → B) (xs : List A) (n : ℕ) (x : A) → slice_get xs n ≡ Some x
     → slice_get (map f xs) n ≡ Some (f x)
 get_map f [] n x e = cc
 get_map f (y ∷ ys) zero x e = let s : y ≡ x = cc in ap (λ z. Some (f z)) s
 get_map f (y ∷ ys) (suc n) x e = get_map f ys n x e
+
+pub get_map_none : {A B : Type 0} (f : A → B) (xs : List A) (n : ℕ) → slice_get xs n ≡ None
+    → slice_get (map f xs) n ≡ None
+get_map_none f [] n e = refl
+get_map_none f (y ∷ ys) zero e = cc
+get_map_none f (y ∷ ys) (suc n) e = get_map_none f ys n e
 
 drop_none : {A B C : Type 0} (f : List B → A → B) (g : C → A) (d : List B) (xs : List C) (n : ℕ) → slice_get xs n ≡ None
     → drop n (table_from f d (map g xs)) ≡ []

@@ -2,6 +2,7 @@
 use Rattle.std.proofs.Common.{◌≡◌, ℕ, zero, suc, ◌+◌, ◌≤◌, ◌<◌, ◌⊎◌, inl, inr, min, Bool, true, false, List, [], ◌∷◌, ◌++◌, Option}
 use Rattle.std.proofs.Common.{Some, None, Result, Ok, Err, length, take, drop, refl, sym, ap, ◌∙◌, arith, subst, append_assoc}
 use Rattle.std.specs.Prelude.{IfOk, encode_utf8_all}
+use Rattle.std.proofs.lemmas.List.{nil_from_length}
 use Rattle.std.proofs.lemmas.Str.{encodes-append}
 use Rattle.html_state.specs.AfterPieces.{Piece, Static, Value}
 use Rattle.soy_base.specs.declared.fault.TooDeep.{TooDeep}
@@ -104,3 +105,12 @@ pub pulled_end : (begun : List ℕ) (old new : Rest) (d e : Bool) (room room_aft
     (result : Result ℕ (Refusal TooDeep)) → Pulls begun old new d e room room_after b a result → rest_end old ≡ rest_end new
 pulled_end [] old new d e room room_after b a result h = fresh_end old new d e room room_after b a result h
 pulled_end (c ∷ begun) old new d e room room_after b a result h = begun_end old new d e room room_after b a result h
+
+-- a piece of which nothing is left is given whole
+pub given_all : (left after room room_after : List ℕ) (n : ℕ) → Gave left after room room_after n → length after ≡ 0
+    → Gave left [] room room_after n
+given_all left after room room_after n gave none = record {
+  size = gave.size;
+  given = gave.given;
+  begun = sym (nil_from_length after none) ∙ gave.begun;
+}

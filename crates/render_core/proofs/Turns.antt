@@ -1,7 +1,7 @@
 -- Loops and their turns.
 use Rattle.std.proofs.Common.{◌≡◌, ℕ, ℤ, zero, suc, ◌+◌, ◌-◌, ◌*◌, ◌≤◌, ◌<◌, pos, min, Bool, true, false, List, [], ◌∷◌, ◌++◌}
-use Rattle.std.proofs.Common.{Option, Some, None, length, take, refl, sym, ap, ◌∙◌, arith, subst}
-use Rattle.std.specs.Prelude.{if◌then◌else◌}
+use Rattle.std.proofs.Common.{Option, Some, None, append_assoc, length, take, refl, sym, ap, ◌∙◌, arith, subst}
+use Rattle.std.specs.Prelude.{if◌then◌else◌, is_some}
 use Rattle.std.specs.List.{slice_get}
 use Rattle.soy_tree.specs.Types.{Name}
 use Rattle.soy_tree.specs.Cost.{cost}
@@ -26,9 +26,11 @@ use Rattle.soy_tree.specs.declared.expr.Expr as code_expr
 use Rattle.render_core.specs.Finds.{found_means, held_of}
 use Rattle.render_core.specs.Frames.{FramesFit, MachineFits, frame_gives, items_after, machine_gives, means_before, ops_ahead}
 use Rattle.render_core.specs.Frames.{over, past, turns_of}
-use Rattle.render_core.specs.Rounds.{IsLoopOver, first_round, list_bound}
+use Rattle.render_core.specs.Rounds.{IsLoopOver, IsNoLoop, first_round, index_bound, item_bound, list_bound, turn_bound, turn_child}
+use Rattle.render_core.specs.Rounds.{turn_env, turned}
 use Rattle.render_core.specs.Stepping.{GoesIn, IsSame, Silent, Stays, pending}
 use Rattle.render_core.specs.Variables.{Cell, cell_at, cells_of, env_at, name_or_none, name_there, part_held}
+use Rattle.render_core.specs.Variables.{index_name, of_op, op_name}
 use Rattle.render_core.specs.declared.frame.Ahead.{Ahead}
 use Rattle.render_core.specs.declared.frame.Frame.{Frame}
 use Rattle.render_core.specs.declared.frame.Frame.TheVariants as frame
@@ -40,9 +42,10 @@ use Rattle.render_core.specs.declared.stack.Machine.{Machine}
 use Rattle.render_core.specs.declared.valuing.Found.{Found}
 use Rattle.render_core.specs.declared.valuing.Found.TheVariants as found
 use Rattle.std.proofs.Math.Seq.{take-length}
-use Rattle.render_core.proofs.Cells.{cell_more, env_agree, take_end}
+use Rattle.render_core.proofs.Cells.{cell_more, env_agree, env_more, take_end}
 use Rattle.render_core.proofs.Gives.{length_more}
 use Rattle.render_core.proofs.Leaves.{plain_top}
+use Rattle.render_core.proofs.Machines.{entered}
 use Rattle.render_core.proofs.Moves.{fits_is, fits_top, machine_is, silent_in, stays_in}
 use Rattle.render_core.proofs.Ops.{block_within}
 use Rattle.render_core.proofs.Overs.{over_first}
@@ -109,17 +112,21 @@ module _ (p : ProgramParts) (input : values.Value) where
       let more : length wider ≡ n + 1 = length_more p input old.bound.items (list_bound x) in
       record {
         gives =
-          machine_is p input new (frame.Turns r) fs old.texts wider top below texts bound
-          ∙ (plain_top p input wider (frame.Turns r) fs old.texts tt
-          ∙ (ap (λ (bs : List Bound). over p input bs fs old.texts (frame_gives p input wider (frame.Turns r)))
-          (take_end old.bound.items (list_bound x ∷ []))
-          ∙ ap (λ (o : Outcome). over p input old.bound.items fs old.texts o)
-          (turns_begin old.bound.items f x name index e body old_fits.0 is)));
+            machine_is p input new (frame.Turns r) fs old.texts wider top below texts bound
+            ∙ (plain_top p input wider (frame.Turns r) fs old.texts tt
+            ∙ (ap (λ (bs : List Bound). over p input bs fs old.texts (frame_gives p input wider (frame.Turns r)))
+            (take_end old.bound.items (list_bound x ∷ []))
+            ∙ ap (λ (o : Outcome). over p input old.bound.items fs old.texts o)
+            (turns_begin old.bound.items f x name index e body old_fits.0 is)));
         fits =
-          fits_is p input new (frame.Turns r) fs wider top below bound
-          (((let a = old_fits.0 in let h : f.env ≤ length wider = omega (arith, more, a) in h),
-          (let h : n < length wider = omega (arith, more) in h)),
-          (let h : n ≤ length wider = omega (arith, more) in h), old_fits);
+            fits_is p input new (frame.Turns r) fs wider top below bound (
+              (
+                (let a = old_fits.0 in let h : f.env ≤ length wider = omega (arith, more, a) in h),
+                (let h : n < length wider = omega (arith, more) in h),
+              ),
+              (let h : n ≤ length wider = omega (arith, more) in h),
+              old_fits,
+            );
         quiet = ap (pending p) top;
       }
 
@@ -133,7 +140,7 @@ module _ (p : ProgramParts) (input : values.Value) where
       → new.below ≡ frame.Ops (past f) ∷ old.below → new.texts ≡ old.texts
       → new.bound.items ≡ old.bound.items ++ list_bound x ∷ [] → Silent p input old new before after
   loop_step old new f x list (op.For name index e body) before after old_top fits is over low means cost_is top below texts
-    bound =
+      bound =
       let env : RunEnv = env_at (cells_of p input old.bound.items) f.env in
       let run : RunEnv → Outcome = block_gives (means_before p f.left f.at) body (pos 0) in
       let found : found_means p (cells_of p input old.bound.items) x ≡ val (view_expr e) env =
@@ -154,3 +161,123 @@ module _ (p : ProgramParts) (input : values.Value) where
       stays_in p input old new f (op.For name index e body) (cost (view_expr e) env) _ before after top is low refl
       (subst (λ y. IsWithin (cost (view_expr y) env) before after) (sym over) within) fits same
   loop_stays old new f list _ before after top fits is over low within same = absurd over
+
+  -- ---- the end of a loop
+
+  pub turns_over : (cells : List Cell) (r : Round) (o : Option Op)
+      → items_after r.next (listed_items (cell_at cells r.list).part) ≡ no_item
+      → turns_of p cells r o ≡ RunEnds (one_step 0) WholeRun
+  turns_over cells r (Some (op.For name index e body)) none =
+      ap (turns_give (block_gives (means_before p r.left r.op) body (pos 0)) name index (env_at cells r.env) r.next) none
+  turns_over cells r _ none = refl
+
+  pub turns_lost : (cells : List Cell) (r : Round) (o : Option Op) → IsNoLoop o
+      → turns_of p cells r o ≡ RunEnds (one_step 0) WholeRun
+  turns_lost cells r (Some (op.For name index e body)) lost = absurd lost
+  turns_lost cells r _ lost = refl
+
+  -- ---- turns
+
+  abbrev turn_adds : Round → Bool → RunEnv → RunEnv
+  turn_adds r true env = (name_or_none (name_there p (naming.Index r.op)), Known (IntValue (pos r.next))) ∷ env
+  turn_adds r false env = env
+
+  length_turn : (r : Round) (has : Bool) (bound : List Bound)
+      → (length (bound ++ turn_bound r has (length bound)) ≡ turn_env has (length bound))
+      × (length bound ≤ length (bound ++ turn_bound r has (length bound)))
+  length_turn r false bound =
+      let e : length (bound ++ item_bound r ∷ []) ≡ length bound + 1 = length_more p input bound (item_bound r) in
+      (e, omega (arith, e))
+  length_turn r true bound =
+      let mid : List Bound = bound ++ item_bound r ∷ [] in
+      let x : Bound = index_bound r (length bound + 1) in
+      let e : length mid ≡ length bound + 1 = length_more p input bound (item_bound r) in
+      let h : length (bound ++ item_bound r ∷ x ∷ []) ≡ length bound + 1 + 1 =
+      ap length (sym (append_assoc bound (item_bound r ∷ []) (x ∷ []))) ∙ (length_more p input mid x ∙ ap (λ k. k + 1) e) in
+      (h, omega (arith, h))
+
+  -- the variables of a turn
+  turn_vars : (bound : List Bound) (r : Round) (has : Bool) (v : values.Value) → r.list < length bound → r.env ≤ length bound
+      → v ≡ child r.next (cell_at (cells_of p input bound) r.list).part
+      → env_at (cells_of p input (bound ++ turn_bound r has (length bound))) (turn_env has (length bound))
+      ≡ turn_adds r has ((name_or_none (name_there p (naming.Op r.op)), Known v) ∷ env_at (cells_of p input bound) r.env)
+  turn_vars bound r false v list env is =
+      env_more p input bound (item_bound r) (length bound + 1) refl
+      ∙ ap (λ w. (name_or_none (name_there p (naming.Op r.op)), Known w) ∷ env_at (cells_of p input bound) r.env) (sym is)
+  turn_vars bound r true v list env is =
+      let mid : List Bound = bound ++ item_bound r ∷ [] in
+      let n : ℕ = length bound in
+      let size : length mid ≡ n + 1 = length_more p input bound (item_bound r) in
+      ap (λ bs. env_at (cells_of p input bs) (n + 1 + 1)) (sym (append_assoc bound (item_bound r ∷ []) (index_bound r (n + 1) ∷ [])))
+      ∙ (env_more p input mid (index_bound r (n + 1)) (n + 1 + 1) (ap (λ k. k + 1) (sym size))
+      ∙ ap (λ (around : RunEnv). (name_or_none (name_there p (naming.Index r.op)), Known (IntValue (pos r.next))) ∷ around)
+      (env_more p input bound (item_bound r) (n + 1) refl
+      ∙ ap (λ w. (name_or_none (name_there p (naming.Op r.op)), Known w) ∷ env_at (cells_of p input bound) r.env) (sym is)))
+
+  -- they are those that the op binds in a turn
+  named_turn : (r : Round) (name : Name) (index : Option Name) (e : code_expr.Expr) (body : Block) (env : RunEnv)
+      (v : values.Value) → slice_get p.ops r.op ≡ Some (op.For name index e body)
+      → turn_adds r (is_some index) ((name_or_none (name_there p (naming.Op r.op)), Known v) ∷ env)
+      ≡ with_index index r.next ((name, Known v) ∷ env)
+  named_turn r name None e body env v is =
+      ap (λ (o : Option Op). (name_or_none (of_op op_name o), Known v) ∷ env) is
+  named_turn r name (Some index) e body env v is =
+      ap (λ (o : Option Op). (name_or_none (of_op index_name o), Known (IntValue (pos r.next)))
+      ∷ (name_or_none (of_op op_name o), Known v) ∷ env) is
+
+  -- a turn goes into the body, with the turns past it below
+  pub turn_does : (old new : Machine) (r : Round) (name : Name) (index : Option Name) (e : code_expr.Expr) (body : Block)
+      (v : values.Value) (rest : Items) (n : ℕ) → old.top ≡ frame.Turns r → MachineFits old
+      → slice_get p.ops r.op ≡ Some (op.For name index e body)
+      → items_after r.next (listed_items (cell_at (cells_of p input old.bound.items) r.list).part) ≡ item v rest
+      → v ≡ child r.next (cell_at (cells_of p input old.bound.items) r.list).part
+      → new.top ≡ frame.Ops (turn_child r body (turn_env (is_some index) (length old.bound.items)) (length old.bound.items))
+      → new.below ≡ frame.Turns (turned r) ∷ old.below → new.texts ≡ old.texts
+      → new.bound.items ≡ old.bound.items ++ turn_bound r (is_some index) (length old.bound.items)
+      → Silent p input old new n n
+  turn_does old new r name index e body v rest n old_top fits is some item_is top below texts bound =
+      let len : ℕ = length old.bound.items in
+      let cells : List Cell = cells_of p input old.bound.items in
+      let more : List Bound = turn_bound r (is_some index) len in
+      let wider : List Bound = old.bound.items ++ more in
+      let c : Ahead = turn_child r body (turn_env (is_some index) len) len in
+      let fs : List Frame = frame.Turns (turned r) ∷ old.below in
+      let old_fits : FramesFit (frame.Turns r ∷ old.below) len = fits_top p input old (frame.Turns r) old_top fits in
+      let run : RunEnv → Outcome = block_gives (means_before p r.left r.op) body (pos 0) in
+      let env : RunEnv = env_at cells r.env in
+      let inner : RunEnv = with_index index r.next ((name, Known v) ∷ env) in
+      let size = length_turn r (is_some index) old.bound.items in
+      let vars : env_at (cells_of p input wider) c.env ≡ inner =
+      turn_vars old.bound.items r (is_some index) v old_fits.0.1 old_fits.0.0 item_is ∙ named_turn r name index e body env v is in
+      let tail : items_after (r.next + 1) (listed_items (cell_at cells r.list).part) ≡ rest =
+      items_tail r.next (listed_items (cell_at cells r.list).part) v rest some in
+      let now : frame_gives p input old.bound.items (frame.Turns r)
+      ≡ spent_first (one_step 0) (continued_by (run inner) (turns_give run name index env (r.next + 1) rest)) =
+      ap (turns_of p cells r) is ∙ ap (turns_give run name index env r.next) some in
+      let next : frame_gives p input old.bound.items (frame.Turns (turned r)) ≡ turns_give run name index env (r.next + 1) rest =
+      ap (turns_of p cells (turned r)) is ∙ ap (turns_give run name index env (r.next + 1)) tail in (
+        one_step 0,
+        record {
+          same =
+              machine_is p input old (frame.Turns r) old.below old.texts old.bound.items old_top refl refl refl
+              ∙ (plain_top p input old.bound.items (frame.Turns r) old.below old.texts tt
+              ∙ (ap (λ (o : Outcome). over p input (take r.mark old.bound.items) old.below old.texts o) now
+              ∙ (over_first p input old.below (take r.mark old.bound.items) old.texts (one_step 0) _
+              ∙ ap (spent_first (one_step 0))
+              (ap (λ (o : Outcome). over p input (take r.mark old.bound.items) old.below old.texts
+              (continued_by (run inner) o)) (sym next)
+              ∙ (ap (λ (o : Outcome). over p input old.bound.items fs old.texts o)
+              (block_within p r.left r.op body (pos 0) inner
+              ∙ ap (λ (around : RunEnv). ops_ahead p c around) (sym vars))
+              ∙ (sym (entered p input old.bound.items wider fs old.texts c (take_end old.bound.items more))
+              ∙ sym (machine_is p input new (frame.Ops c) fs old.texts wider top below texts bound)))))));
+          cost = (let h : n ≡ n + 0 = omega arith in h);
+          falls = (let q : pending p new.top ≡ 0 = ap (pending p) top in omega (arith, q));
+          fits =
+              fits_is p input new (frame.Ops c) fs wider top below bound (
+                (let h : c.env ≤ length wider = omega (arith, size.0) in h),
+                (let h : len ≤ length wider = omega (arith, size.1) in h),
+                old_fits,
+              );
+        },
+      )

@@ -1,6 +1,6 @@
 -- Parts of values by their numbers, as the code finds them.
 use Rattle.std.proofs.Common.{◌≡◌, ℕ, zero, suc, ◌+◌, ◌<◌, List, [], ◌∷◌, ◌++◌, Option, Some, None, refl, sym, ap, ◌∙◌}
-use Rattle.std.proofs.Common.{arith, drop, length, slice_index_or}
+use Rattle.std.proofs.Common.{true, false, arith, drop, length, slice_index_or}
 use Rattle.std.specs.List.{slice_get}
 use Rattle.std.specs.Option.{option_map}
 use Rattle.std.specs.Borrow.{Bor}
@@ -12,7 +12,7 @@ use Rattle.soy_tree.specs.declared.value.Entry as code_entry
 use Rattle.soy_tree.specs.declared.value.Value as code
 use Rattle.soy_expr.specs.Parts.{child, nth_entry_value}
 use Rattle.soy_expr.proofs.PartRows.{item_none, item_some, view_entry_is}
-use Rattle.render_core.specs.Finds.{part_value}
+use Rattle.render_core.specs.Finds.{HasItem, part_value}
 use Rattle.render_core.specs.Frames.{items_after}
 use Rattle.render_core.specs.Variables.{led}
 
@@ -72,3 +72,15 @@ items_none [] zero is = refl
 items_none [] (suc n) is = refl
 items_none (x ∷ vs) zero is = cc
 items_none (x ∷ vs) (suc n) is = items_none vs n is
+
+pub no_items_after : (n : ℕ) → items_after n no_item ≡ no_item
+no_items_after zero = refl
+no_items_after (suc n) = refl
+
+pub has_some : (vs : List code.Value) (n : ℕ) (v : code.Value) → Some v ≡ slice_get vs n
+    → HasItem n (ListValue (view_items vs)) true
+has_some vs n v is =
+    (view_value v, items_after (n + 1) (view_items vs), items_some vs n v (sym is), sym (item_some vs n v (sym is)))
+
+pub has_none : (vs : List code.Value) (n : ℕ) → None ≡ slice_get vs n → HasItem n (ListValue (view_items vs)) false
+has_none vs n is = items_none vs n (sym is)

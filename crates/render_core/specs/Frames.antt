@@ -4,7 +4,7 @@
 -- first; those below a frame see the variables up to its mark. What stands above a frame that gathers is gathered into
 -- a text, which is bound, printed or handed there. Example: above the op `Static "b"` a frame with the op `Static "a"`
 -- gives `a` and then `b`.
-use Rattle.std.specs.Prelude.{◌≡◌, ℕ, zero, suc, ◌+◌, ◌-◌, ◌*◌, ◌≤◌, ◌<◌, pos, List, [], ◌∷◌, Option, Some, None}
+use Rattle.std.specs.Prelude.{◌≡◌, ℕ, ℤ, zero, suc, ◌+◌, ◌-◌, ◌*◌, ◌≤◌, ◌<◌, pos, List, [], ◌∷◌, Option, Some, None}
 use Rattle.std.specs.Prelude.{drop, length, map, max, min, slice_get, take}
 use Rattle.soy_base.specs.declared.place.Place.{Place}
 use Rattle.soy_base.specs.declared.place.Place.TheVariants as place
@@ -47,6 +47,17 @@ past f = record f { at = f.at + 1 }
 -- the same with other variables
 abbrev pub past_with : Ahead → ℕ → Ahead
 past_with f n = record f { at = f.at + 1; env = n }
+
+-- a block that the next op names, over so many variables
+abbrev pub child_at : Ahead → Block → ℤ → ℕ → Ahead
+child_at f b n m = record {
+  at = b.first;
+  end = min b.end f.at;
+  env = f.env;
+  left = f.left;
+  number = n;
+  mark = m;
+}
 
 -- the ops from one place up to another, with what `#` stands for
 abbrev pub ops_ahead : ProgramParts → Ahead → RunEnv → Outcome

@@ -1,3 +1,4 @@
+pub mod Begins
 pub mod Chosen
 pub mod Finds
 pub mod Forms

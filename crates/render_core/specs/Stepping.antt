@@ -18,7 +18,7 @@ use Rattle.template_ir.specs.declared.op.Block.{Block}
 use Rattle.template_ir.specs.declared.op.Op.{Op}
 use Rattle.template_ir.specs.declared.op.Op.TheVariants as op
 use Rattle.template_ir.specs.declared.program.ProgramParts.{ProgramParts}
-use Rattle.render_core.specs.Frames.{MachineFits, machine_gives, ops_ahead, over, past}
+use Rattle.render_core.specs.Frames.{MachineFits, machine_gives, ops_ahead, over, past, past_with}
 use Rattle.render_core.specs.Pulls.{stops_at}
 use Rattle.render_core.specs.Rest.{IsWhole, PieceFits, coming, first_spent, piece_bytes, piece_left}
 use Rattle.render_core.specs.Texts.{added, is_none}
@@ -27,9 +27,14 @@ use Rattle.render_core.specs.declared.begun.Begun.{Begun}
 use Rattle.render_core.specs.declared.frame.Ahead.{Ahead}
 use Rattle.render_core.specs.declared.frame.Frame.{Frame}
 use Rattle.render_core.specs.declared.frame.Frame.TheVariants as frame
+use Rattle.soy_expr.specs.declared.evaluated.Made.TheVariants as made
+use Rattle.render_core.specs.declared.frame.Handing.{Handing}
+use Rattle.render_core.specs.declared.held.Bound.{Bound}
 use Rattle.render_core.specs.declared.held.Held.{Held}
+use Rattle.render_core.specs.declared.held.Held.TheVariants as held
 use Rattle.render_core.specs.declared.held.Kept.{Kept}
 use Rattle.render_core.specs.declared.held.Naming.{Naming}
+use Rattle.render_core.specs.declared.held.Naming.TheVariants as naming
 use Rattle.render_core.specs.declared.frame.Purpose.{Purpose}
 use Rattle.render_core.specs.declared.frame.Purpose.TheVariants as purpose
 use Rattle.render_core.specs.declared.stack.Machine.{Machine}
@@ -45,6 +50,25 @@ IsBlockKind _ = Unit {0}
 abbrev pub kept_of : Ahead → Kind → Block → Kept
 kept_of f k b =
     record { kind = k; block = record { first = b.first; end = min b.end f.at }; env = f.env; left = f.left }
+
+-- ---- the end of a text
+
+-- a call past one more parameter, which is bound over so many variables
+abbrev pub handed_past : Handing → ℕ → Handing
+handed_past h n = record h { next = h.next + 1; inner = n + 1 }
+
+-- the frame that comes after a text that was gathered, bound over so many variables
+abbrev pub text_next : Ahead → Purpose → ℕ → Frame
+text_next f purpose.Bind n = frame.Ops (past_with f (n + 1))
+text_next f purpose.Show n = frame.Show f n
+text_next f (purpose.Hand h) n = frame.Call f (handed_past h n)
+
+-- the variable that it is bound to
+abbrev pub text_var : Ahead → Purpose → List ℕ → Bound
+text_var f purpose.Bind text = record { name = naming.Op f.at; to = held.Made (made.Str text); below = f.env }
+text_var f purpose.Show text = record { name = naming.Hidden; to = held.Made (made.Str text); below = 0 }
+text_var f (purpose.Hand h) text =
+    record { name = naming.Handed f.at h.next; to = held.Made (made.Str text); below = h.inner }
 
 -- ---- what is pending
 

@@ -37,8 +37,10 @@ pub(crate) fn branch_taken<L: Ledger>(
     ensures { Takes (branch_chosen (map view_branch branches.now) other (env_seen point.entry)) steps.old steps.new result }
 {
     for branch in branches {
-        if is_truthy(point, &branch.when, steps)? {
-            return Ok(Some(branch.body));
+        match is_truthy(point, &branch.when, steps) {
+            Ok(true) => return Ok(Some(branch.body)),
+            Ok(false) => {}
+            Err(_) => return Err(OutOfMemory),
         }
     }
     Ok(other)
@@ -57,8 +59,10 @@ pub(crate) fn switch_taken<L: Ledger>(
         (choice_chosen (valued (view_expr subject.now) (env_seen point.entry)) (map view_choice choices.now) other
         (env_seen point.entry))) steps.old steps.new result }
 {
-    let subject = evaluate(point.scene.alloc, subject, &point, steps)?;
-    choice_taken(point, subject.shallow(), choices, other, steps)
+    match evaluate(point.scene.alloc, subject, &point, steps) {
+        Ok(value) => choice_taken(point, value.shallow(), choices, other, steps),
+        Err(_) => Err(OutOfMemory),
+    }
 }
 
 /// The block that a select takes.
@@ -73,8 +77,10 @@ pub(crate) fn select_taken<L: Ledger>(
       cost (view_expr select.now.word) (env_seen point.entry),
     ) steps.old steps.new result }
 {
-    let word = evaluate(point.scene.alloc, &select.word, &point, steps)?;
-    Ok(select_block(word.shallow(), select.arms.items()))
+    match evaluate(point.scene.alloc, &select.word, &point, steps) {
+        Ok(word) => Ok(select_block(word.shallow(), select.arms.items())),
+        Err(_) => Err(OutOfMemory),
+    }
 }
 
 /// The int that an expression has, or 0.
@@ -89,8 +95,10 @@ pub(crate) fn int_value<L: Ledger>(
       cost (view_expr number.now) (env_seen point.entry),
     ) steps.old steps.new result }
 {
-    let number = evaluate(point.scene.alloc, number, &point, steps)?;
-    Ok(int_of(number.shallow()))
+    match evaluate(point.scene.alloc, number, &point, steps) {
+        Ok(number) => Ok(int_of(number.shallow())),
+        Err(_) => Err(OutOfMemory),
+    }
 }
 
 /// The block of the first choice that has the value of the subject, else the other.
@@ -106,8 +114,10 @@ fn choice_taken<L: Ledger>(
         steps.old steps.new result }
 {
     for choice in choices {
-        if is_one(point, subject, choice.values.items(), steps)? {
-            return Ok(Some(choice.body));
+        match is_one(point, subject, choice.values.items(), steps) {
+            Ok(true) => return Ok(Some(choice.body)),
+            Ok(false) => {}
+            Err(_) => return Err(OutOfMemory),
         }
     }
     Ok(other)
@@ -125,8 +135,10 @@ fn is_one<L: Ledger>(
         result }
 {
     for value in values {
-        if has_value(point, subject, value, steps)? {
-            return Ok(true);
+        match has_value(point, subject, value, steps) {
+            Ok(true) => return Ok(true),
+            Ok(false) => {}
+            Err(_) => return Err(OutOfMemory),
         }
     }
     Ok(false)
@@ -145,8 +157,10 @@ fn has_value<L: Ledger>(
       cost (view_expr expr.now) (env_seen point.entry),
     ) steps.old steps.new result }
 {
-    let value = evaluate(point.scene.alloc, expr, &point, steps)?;
-    Ok(is_same(subject, value.shallow()))
+    match evaluate(point.scene.alloc, expr, &point, steps) {
+        Ok(value) => Ok(is_same(subject, value.shallow())),
+        Err(_) => Err(OutOfMemory),
+    }
 }
 
 /// Whether two operands are of one type and equal.
@@ -192,6 +206,7 @@ pub(crate) fn plural_block(
     named_block(Category::Other, plural.named.items())
 }
 
+#[tactic(auto, using(crate::proofs::Choices::exact_here))]
 fn exact_block(number: i64, arms: &[ExactBlock]) -> Option<Block>
     ensures { result ≡ exact_block number arms.now }
 {
@@ -203,6 +218,7 @@ fn exact_block(number: i64, arms: &[ExactBlock]) -> Option<Block>
     None
 }
 
+#[tactic(auto, using(crate::proofs::Choices::named_here))]
 fn named_block(category: Category, arms: &[NamedBlock]) -> Option<Block>
     ensures { result ≡ named_block category arms.now }
 {
@@ -228,6 +244,7 @@ fn select_block(value: Shallow, arms: &[WordBlock]) -> Option<Block>
     word_block("other", arms)
 }
 
+#[tactic(auto, using(crate::proofs::Choices::word_here))]
 fn word_block(word: &str, arms: &[WordBlock]) -> Option<Block>
     ensures { result ≡ word_block (chars word.now) arms.now }
 {

@@ -1,7 +1,7 @@
 //! Steps of the machine, and the run up to the next piece.
 
 use crate::begun::Begun;
-use crate::frame::{Ahead, Frame, Purpose};
+use crate::frame::{Ahead, Frame};
 use crate::scene::Scene;
 use crate::stack::{Machine, Step};
 use soy_base::{Kind, OutOfMemory, Place, Refusal, Steps, TooDeep};
@@ -76,8 +76,8 @@ impl Machine {
             }
             Op::For(_, _, list, _) => self.step_for(scene, ahead, list, steps, op),
             Op::Let(name, expr) => self.step_let(scene, ahead, expr, steps, name),
-            Op::LetBlock(_, Kind::Text, block) => {
-                self.gather_block(scene, ahead, Purpose::Bind, *block)
+            Op::LetBlock(name, Kind::Text, block) => {
+                self.step_let_text(scene, ahead, *block, name)
             }
             Op::LetBlock(name, kind, block) => {
                 self.step_let_block(scene, ahead, *kind, *block, name)

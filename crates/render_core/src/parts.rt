@@ -140,10 +140,8 @@ pub(crate) fn place_of(point: Point, name: &Text) -> Option<usize>
 }
 
 /// The part of the data that the variable at a place is bound to, if it is bound to one.
-#[tactic(auto, using(crate::proofs::Cells::part_there, crate::proofs::Cells::part_none, crate::proofs::Cells::part_lower, crate::proofs::Cells::part_lost, crate::proofs::Values::led_null))]
 pub(crate) fn part_at<'i>(point: Point<'_, 'i, '_>, at: usize) -> Option<&'i Value>
-    ensures { part_value result
-        ≡ (cell_at (cells_seen point.entry) at).part }
+    ensures { part_value result ≡ (cell_at (cells_seen point.entry) at).part }
 {
     let Some(variable) = variable_at(point.bound, at) else {
         return None;
@@ -153,14 +151,14 @@ pub(crate) fn part_at<'i>(point: Point<'_, 'i, '_>, at: usize) -> Option<&'i Val
         Held::Root => Some(point.scene.input),
         Held::Item(of, number) => {
             if *of < at {
-                child(part_at(point, *of)?, *number)
+                child_of(part_at(point, *of), *number)
             } else {
                 None
             }
         }
         Held::Part(path) => {
             if path.of < at {
-                followed(part_at(point, path.of)?, path.steps.as_slice())
+                followed_from(part_at(point, path.of), path.steps.as_slice())
             } else {
                 None
             }
@@ -171,10 +169,30 @@ pub(crate) fn part_at<'i>(point: Point<'_, 'i, '_>, at: usize) -> Option<&'i Val
 
 /// The part that a path names.
 pub(crate) fn part_of<'i>(point: Point<'_, 'i, '_>, path: &Path) -> Option<&'i Value>
-    ensures { part_value result
-        ≡ path_value (cells_seen point.entry) path.now }
+    ensures { part_value result ≡ path_value (cells_seen point.entry) path.now }
 {
-    followed(part_at(point, path.of)?, path.steps.as_slice())
+    followed_from(part_at(point, path.of), path.steps.as_slice())
+}
+
+/// The item, entry or field of a number in a part, if there is one.
+fn child_of(part: Option<&Value>, number: usize) -> Option<&Value>
+    ensures { part_value result ≡ child number (part_value part.entry) }
+{
+    match part {
+        Some(value) => child(value, number),
+        None => None,
+    }
+}
+
+/// The part to which numbers lead from another, if there is one.
+#[tactic(auto, using(crate::proofs::Values::led_null))]
+fn followed_from<'i>(part: Option<&'i Value>, steps: &[usize]) -> Option<&'i Value>
+    ensures { part_value result ≡ led steps.now (part_value part.entry) }
+{
+    match part {
+        Some(value) => followed(value, steps),
+        None => None,
+    }
 }
 
 /// The part to which numbers lead.
@@ -214,7 +232,7 @@ fn item(items: &[Value], number: usize) -> Option<&Value>
     }
 }
 
-fn item_at(items: &[Value], number: usize) -> Option<&Value>
+pub(crate) fn item_at(items: &[Value], number: usize) -> Option<&Value>
     ensures { option_map (λ v. v.now) result ≡ slice_get items.now number }
 {
     items.get(number)

@@ -1,14 +1,20 @@
 //! Renderings.
 
-ghost use Rattle.std.specs.Prelude.{◌≡◌, ◌<◌, ◌++◌, [], false, true, IfOk, length, take};
-ghost use Rattle.soy_tree.specs.ViewValues.{view_value};
+ghost use Rattle.std.specs.Prelude.{◌≡◌, ◌<◌, ◌≤◌, ◌++◌, ℕ, [], Some, false, true, IfOk, None, length, slice_get, take};
+ghost use Rattle.soy_tree.specs.ViewTrees.{view_params};
+ghost use Rattle.soy_tree.specs.ViewValues.{view_entries, view_value};
 ghost use Rattle.soy_tree.specs.Values as values;
 ghost use Rattle.soy_meaning.specs.Outcome.{end_of_outcome, pieces_of_outcome};
-ghost use Rattle.template_ir.specs.Run.{run};
+ghost use Rattle.template_ir.specs.Run.{input_env, names_of, run};
 ghost use Rattle.template_ir.specs.ViewOps.{view_program};
 ghost use Rattle.template_ir.specs.declared.program.ProgramParts.{ProgramParts};
-ghost use Rattle.render_core.specs.Pulls.{Pulls, stops_at};
-ghost use Rattle.render_core.specs.Rest.{Fits, IsWhole, coming, has_ended, rest_bytes, rest_end, rest_of, solid};
+ghost use Rattle.render_core.specs.Begins.{EntryFound, FieldFound, entry_frame, held_field, root_bound};
+ghost use Rattle.render_core.specs.Pulls.{Gave, Pulls, stops_at};
+ghost use Rattle.render_core.specs.Rest.{BegunFits, Fits, IsWhole, PieceFits, begun_left, has_ended, piece_left};
+ghost use Rattle.render_core.specs.Rest.{rest_bytes, rest_end, rest_of, solid};
+ghost use Rattle.render_core.specs.Variables.{cells_of, env_at, name_there, param_of};
+ghost use Rattle.render_core.specs.declared.frame.Frame.TheVariants as frame;
+ghost use Rattle.render_core.specs.declared.held.Naming.TheVariants as naming;
 
 use crate::begun::Begun;
 use crate::binding::bind;
@@ -22,7 +28,7 @@ use soy_expr::Made;
 use soy_tree::{Entry, Param, Value};
 use std::alloc::Global;
 use std::sync::ledger::Ledger;
-use template_ir::Program;
+use template_ir::{Block, Program, Routine};
 
 /// A template that is being rendered: the frames and variables of what is still to be run, and the piece that has begun.
 /// It is lent program and data at each call.
@@ -66,44 +72,71 @@ impl Rendering {
             }) }
         ensures not_done { IfOk result (λ r. has_ended r ≡ false) }
     {
-        let alloc = scene.alloc;
-        let mut bound = Vec::new(alloc);
-        let root = bind(&mut bound, Naming::Hidden, Held::Root, 0)?;
-        let mut machine = Machine {
-            top: Frame::Ops(Ahead {
-                at: 0,
-                end: 0,
-                env: 0,
-                left: 100,
-                number: 0,
-                mark: root,
-            }),
-            below: Stack::empty(alloc),
-            texts: Texts::none(alloc),
-            bound,
-        };
-        if let Some(routine) = scene.program.template(template) {
-            let env = bind_params(
-                &mut machine.bound,
-                scene.input,
-                template,
-                routine.params.items(),
-            )?;
-            machine.top = Frame::Ops(Ahead {
-                at: routine.body.first,
-                end: routine.body.end,
-                env,
-                left: 100,
-                number: 0,
-                mark: root,
-            });
+        let mut bound = Vec::new(scene.alloc);
+        if bind(&mut bound, Naming::Hidden, Held::Root, 0).is_err() {
+            return Err(OutOfMemory);
         }
-        Ok(Rendering {
+        match scene.program.template(template) {
+            Some(routine) => Rendering::begin_routine(scene, template, routine, bound),
+            None => {
+                let none = Block { first: 0, end: 0 };
+                Ok(Rendering::fresh(scene.alloc, none, 0, bound))
+            }
+        }
+    }
+
+    /// The rendering of a template, over the variable that all data are bound to.
+    fn begin_routine(
+        scene: &Scene,
+        template: usize,
+        routine: &Routine,
+        bound: Vec<Bound>,
+    ) -> Result<Rendering, OutOfMemory>
+        requires root { slice_get bound.items 0 ≡ Some root_bound }
+        requires routine { slice_get scene.now.program.now.templates template ≡ Some routine.now }
+        ensures fits { IfOk result (λ r. Fits scene.now.program.now (view_value scene.now.input.now) r) }
+        ensures rest { IfOk result (λ r. rest_of scene.now.program.now (view_value scene.now.input.now) r
+            ≡ record {
+              begun = [];
+              coming = solid (run (view_program scene.now.program.now) template
+                  (view_value scene.now.input.now));
+            }) }
+        ensures not_done { IfOk result (λ r. has_ended r ≡ false) }
+    {
+        let mut bound = bound;
+        match bind_params(scene, &mut bound, template, routine.params.items()) {
+            Ok(env) => Ok(Rendering::fresh(scene.alloc, routine.body, env, bound)),
+            Err(_) => Err(OutOfMemory),
+        }
+    }
+
+    /// The rendering of a block with the variables of a number.
+    fn fresh(alloc: Global, body: Block, env: usize, bound: Vec<Bound>) -> Rendering
+        ensures top { result.machine.top ≡ frame.Ops (entry_frame body env) }
+        ensures below { result.machine.below ≡ [] }
+        ensures texts { result.machine.texts ≡ [] }
+        ensures bound { result.machine.bound.items ≡ bound.items }
+        ensures piece { result.piece ≡ None }
+        ensures done { result.done ≡ false }
+    {
+        Rendering {
             alloc,
-            machine,
+            machine: Machine {
+                top: Frame::Ops(Ahead {
+                    at: body.first,
+                    end: body.end,
+                    env,
+                    left: 100,
+                    number: 0,
+                    mark: 0,
+                }),
+                below: Stack::empty(alloc),
+                texts: Texts::none(alloc),
+                bound,
+            },
             piece: None,
             done: false,
-        })
+        }
     }
 
     /// Gives the next bytes to the beginning of the room, of one piece alone, and answers their number.
@@ -190,7 +223,18 @@ impl Rendering {
     }
 
     /// Gives bytes of a piece.
-    fn give(&mut self, scene: &Scene, piece: Begun, room: &mut [u8]) -> usize {
+    #[tactic(auto, using(crate::proofs::Pullings::given_all))]
+    fn give(&mut self, scene: &Scene, piece: Begun, room: &mut [u8]) -> usize
+        requires { PieceFits scene.now.program.now (view_value scene.now.input.now) self.old.machine.bound.items piece }
+        ensures gives { Gave
+            (piece_left scene.now.program.now (view_value scene.now.input.now) self.old.machine.bound.items piece)
+            (begun_left scene.now.program.now (view_value scene.now.input.now) self.new.machine.bound.items self.new.piece)
+            room.old room.new result }
+        ensures fits { BegunFits scene.now.program.now (view_value scene.now.input.now) self.new.machine.bound.items
+            self.new.piece }
+        ensures machine { self.new.machine ≡ self.old.machine }
+        ensures done { self.new.done ≡ self.old.done }
+    {
         let mut piece = piece;
         let n = piece.fill(self.machine.point(scene, 0), room);
         self.piece = if piece.left() > 0 { Some(piece) } else { None };
@@ -200,33 +244,63 @@ impl Rendering {
 
 /// Binds the parameters of a template, the first above the others; the number of the variables is given.
 fn bind_params(
+    scene: &Scene,
     bound: &mut Vec<Bound>,
-    input: &Value,
     template: usize,
     params: &[Param],
-) -> Result<usize, OutOfMemory> {
+) -> Result<usize, OutOfMemory>
+    requires root { slice_get bound.old.items 0 ≡ Some root_bound }
+    requires params { (number : ℕ) → param_of (slice_get params.now number)
+        ≡ name_there scene.now.program.now (naming.Param template number) }
+    ensures env { IfOk result (λ n.
+        env_at (cells_of scene.now.program.now (view_value scene.now.input.now) bound.new.items) n
+        ≡ input_env (names_of (view_params params.now)) (view_value scene.now.input.now)) }
+    ensures low { IfOk result (λ n. n ≤ length bound.new.items) }
+    ensures root { slice_get bound.new.items 0 ≡ Some root_bound }
+{
     let mut number = params.len();
     let mut env = 0;
     while number > 0 {
         number -= 1;
-        let to = match field_number(input, &params[number].name) {
-            Some(field) => Held::Item(0, field),
-            None => Held::Made(Made::Null),
-        };
-        env = bind(bound, Naming::Param(template, number), to, env)?;
+        let to = held_field(field_number(scene.input, &params[number].name));
+        match bind(bound, Naming::Param(template, number), to, env) {
+            Ok(next) => env = next,
+            Err(_) => return Err(OutOfMemory),
+        }
     }
     Ok(env)
 }
 
-/// The number of the first field of a name.
-fn field_number(input: &Value, name: &Text) -> Option<usize> {
-    match input {
-        Value::Fields(entries) => entry_number(entries.items(), name),
-        _ => None,
+/// What a parameter is bound to that has the field of a number, or none.
+fn held_field(field: Option<usize>) -> Held
+    ensures { result ≡ held_field field }
+{
+    match field {
+        Some(number) => Held::Item(0, number),
+        None => Held::Made(Made::Null),
     }
 }
 
-fn entry_number(entries: &[Entry], name: &Text) -> Option<usize> {
+/// The number of the first field of a name.
+fn field_number(input: &Value, name: &Text) -> Option<usize>
+    ensures { FieldFound name.now (view_value input.now) result }
+{
+    match input {
+        Value::Null => None,
+        Value::Bool(_) => None,
+        Value::Int(_) => None,
+        Value::Str(_) => None,
+        Value::List(_) => None,
+        Value::Map(_) => None,
+        Value::Fields(entries) => entry_number(entries.items(), name),
+    }
+}
+
+/// The number of the first entry of a name.
+#[tactic(auto, using(soy_expr::proofs::PartRows::entry_nth, soy_expr::proofs::PartRows::entry_passed))]
+fn entry_number(entries: &[Entry], name: &Text) -> Option<usize>
+    ensures { EntryFound name.now (view_entries entries.now) result }
+{
     for (number, entry) in entries.iter().enumerate() {
         if entry.name.is(name.text()) {
             return Some(number);

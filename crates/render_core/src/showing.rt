@@ -8,6 +8,7 @@ ghost use Rattle.render_core.specs.Finds.{FoundWithin, found_means, part_value};
 ghost use Rattle.render_core.specs.Seen.{cells_seen, program_seen};
 ghost use Rattle.render_core.specs.Shows.{Shows, ShowsValue};
 ghost use Rattle.soy_tree.specs.Val.{Known};
+ghost use Rattle.soy_tree.specs.Values.{IntValue};
 ghost use Rattle.render_core.specs.Variables.{path_value};
 
 use crate::held::{Kept, Path};
@@ -86,17 +87,33 @@ pub(crate) fn text_of(alloc: Global, value: Shallow) -> Result<(Text, ValueClass
     ensures { IfOk result (λ r. ShowsValue (view_shallow value.entry) r.0 r.1) }
 {
     match value {
-        Shallow::Null => Ok((text_copy(alloc, "null")?, ValueClass::Null)),
-        Shallow::Bool(true) => Ok((text_copy(alloc, "true")?, ValueClass::Bool)),
-        Shallow::Bool(false) => Ok((text_copy(alloc, "false")?, ValueClass::Bool)),
-        Shallow::Int(number) => Ok((Text::new(number.to_string(alloc)?), ValueClass::Int)),
-        Shallow::Str(text) => Ok((text.copy(alloc)?, ValueClass::Text)),
+        Shallow::Null => word(alloc, "null", ValueClass::Null),
+        Shallow::Bool(true) => word(alloc, "true", ValueClass::Bool),
+        Shallow::Bool(false) => word(alloc, "false", ValueClass::Bool),
+        Shallow::Int(number) => int_text(alloc, number),
+        Shallow::Str(text) => match text.copy(alloc) {
+            Ok(text) => Ok((text, ValueClass::Text)),
+            Err(_) => Err(OutOfMemory),
+        },
         Shallow::Compound => Ok((Text::empty(alloc), ValueClass::Text)),
     }
 }
 
-fn text_copy(alloc: Global, text: &str) -> Result<Text, OutOfMemory>
-    ensures { IfOk result (λ t. t ≡ chars text.now) }
+fn int_text(alloc: Global, number: i64) -> Result<(Text, ValueClass), OutOfMemory>
+    ensures { IfOk result (λ r. ShowsValue (IntValue number) r.0 r.1) }
 {
-    Ok(Text::new(String::from_str(alloc, text)?))
+    match number.to_string(alloc) {
+        Ok(text) => Ok((Text::new(text), ValueClass::Int)),
+        Err(_) => Err(OutOfMemory),
+    }
+}
+
+/// A word, with the class of values that it stands for.
+fn word(alloc: Global, text: &str, class: ValueClass) -> Result<(Text, ValueClass), OutOfMemory>
+    ensures { IfOk result (λ r. (r.0 ≡ chars text.now) × (r.1 ≡ class)) }
+{
+    match String::from_str(alloc, text) {
+        Ok(word) => Ok((Text::new(word), class)),
+        Err(_) => Err(OutOfMemory),
+    }
 }

@@ -1,13 +1,13 @@
 //! The stack of frames, and what all its steps do.
 
-ghost use Rattle.std.specs.Prelude.{◌≡◌, ◌<◌, ◌∷◌, ℕ, false, OnOk, OnErr, Ok, Some, slice_get};
+ghost use Rattle.std.specs.Prelude.{◌≡◌, ◌<◌, ◌∷◌, ℕ, [], false, OnOk, OnErr, Ok, Some, length, slice_get};
 ghost use Rattle.soy_tree.specs.Values as values;
 ghost use Rattle.soy_tree.specs.ViewValues.{view_value};
 ghost use Rattle.soy_meaning.specs.Outcome.{RunEnds, WholeRun};
 ghost use Rattle.template_ir.specs.Run.{arm_gives, one_step};
 ghost use Rattle.template_ir.specs.declared.op.Op.TheVariants as op;
 ghost use Rattle.template_ir.specs.declared.program.ProgramParts as code_parts;
-ghost use Rattle.render_core.specs.Frames.{IsPlainFrame, MachineFits, frame_gives, mark_of, means_before, past};
+ghost use Rattle.render_core.specs.Frames.{IsPlainFrame, MachineFits, child_at, frame_gives, mark_of, means_before, past};
 ghost use Rattle.render_core.specs.Stepping.{GaveForm, GoesIn, IsSame, Stepped};
 ghost use Rattle.render_core.specs.Forms.{form_at};
 ghost use Rattle.render_core.specs.Rest.{source_text};
@@ -62,6 +62,13 @@ impl Machine {
         }
     }
 
+    /// How many variables there are.
+    pub(crate) fn mark(&self) -> usize
+        ensures { result ≡ length self.now.bound.items }
+    {
+        self.bound.as_slice().len()
+    }
+
     /// Goes into a frame, with another to come after it.
     pub(crate) fn enter(&mut self, next: Frame, child: Frame) -> Result<(), OutOfMemory>
         ensures top { OnOk result (self.new.top ≡ child) }
@@ -97,14 +104,7 @@ impl Machine {
             self.top = next;
             return Ok(());
         };
-        let child = Ahead {
-            at: block.first,
-            end: block.end.min(ahead.at),
-            env: ahead.env,
-            left: ahead.left,
-            number,
-            mark: self.bound.len(),
-        };
+        let child = child_ahead(ahead, block, number, self.mark());
         match self.enter(next, Frame::Ops(child)) {
             Ok(()) => Ok(()),
             Err(_) => Err(OutOfMemory),
@@ -117,8 +117,16 @@ impl Machine {
         scene: &Scene,
         next: Frame,
         child: Frame,
-    ) -> Result<(), OutOfMemory> {
-        self.texts.begin(scene.alloc)?;
+    ) -> Result<(), OutOfMemory>
+        ensures top { OnOk result (self.new.top ≡ child) }
+        ensures below { OnOk result (self.new.below ≡ next ∷ self.old.below) }
+        ensures texts { OnOk result (self.new.texts ≡ [] ∷ self.old.texts) }
+        ensures bound { OnOk result (self.new.bound.items ≡ self.old.bound.items) }
+        ensures stays { OnErr result (IsSame self.old self.new) }
+    {
+        if self.texts.begin(scene.alloc).is_err() {
+            return Err(OutOfMemory);
+        }
         match self.enter(next, child) {
             Ok(()) => Ok(()),
             Err(_) => {
@@ -233,6 +241,20 @@ impl Machine {
                 Step::Silent
             }
         }
+    }
+}
+
+/// A block that the next op names, over so many variables.
+pub(crate) fn child_ahead(ahead: Ahead, block: Block, number: i64, mark: usize) -> Ahead
+    ensures { result ≡ child_at ahead block number mark }
+{
+    Ahead {
+        at: block.first,
+        end: block.end.min(ahead.at),
+        env: ahead.env,
+        left: ahead.left,
+        number,
+        mark,
     }
 }
 

@@ -1,5 +1,8 @@
 //! Calls.
 
+ghost use Rattle.std.specs.Prelude.{◌≡◌, ◌<◌};
+ghost use Rattle.render_core.specs.declared.frame.Frame.TheVariants as frame;
+
 use crate::binding::{bind, held};
 use crate::frame::{Ahead, Frame, Handing, Purpose};
 use crate::held::{Held, Naming};
@@ -20,7 +23,7 @@ impl Machine {
         let handing = Handing {
             next: 0,
             inner: 0,
-            mark: self.bound.len(),
+            mark: self.mark(),
         };
         self.top = Frame::Call(ahead, handing);
         Step::Silent
@@ -34,7 +37,9 @@ impl Machine {
         handing: Handing,
         callee: &Callee,
         steps: &mut Steps<L>,
-    ) -> Result<Step, OutOfMemory> {
+    ) -> Result<Step, OutOfMemory>
+        requires { ahead.at < ahead.end }
+    {
         match callee.given.items().get(handing.next) {
             Some(handed) => self.hand(scene, ahead, handing, handed, steps),
             None => self.open(scene, ahead, handing, callee),
@@ -49,11 +54,16 @@ impl Machine {
         handing: Handing,
         handed: &Handed,
         steps: &mut Steps<L>,
-    ) -> Result<Step, OutOfMemory> {
+    ) -> Result<Step, OutOfMemory>
+        requires { ahead.at < ahead.end }
+    {
         match &handed.by {
             HandedBy::Plain(expr) => self.hand_value(scene, ahead, handing, expr, steps),
             HandedBy::Block(Kind::Text, block) => {
-                self.gather_block(scene, ahead, Purpose::Hand(handing), *block)
+                match self.gather_block(scene, ahead, Purpose::Hand(handing), *block) {
+                    Ok(()) => Ok(Step::Silent),
+                    Err(_) => Err(OutOfMemory),
+                }
             }
             HandedBy::Block(kind, block) => {
                 self.hand_held(ahead, handing, Held::Block(kept(ahead, *kind, *block)))
@@ -72,16 +82,27 @@ impl Machine {
         handing: Handing,
         expr: &Expr,
         steps: &mut Steps<L>,
-    ) -> Result<Step, OutOfMemory> {
+    ) -> Result<Step, OutOfMemory>
+        requires { ahead.at < ahead.end }
+    {
         let found = value_of(self.point(scene, ahead.env), expr, steps)?;
         self.hand_held(ahead, handing, held(found))
     }
 
-    fn hand_held(&mut self, ahead: Ahead, handing: Handing, to: Held) -> Result<Step, OutOfMemory> {
+    fn hand_held(&mut self, ahead: Ahead, handing: Handing, to: Held) -> Result<Step, OutOfMemory>
+        requires { ahead.at < ahead.end }
+    {
         let name = Naming::Handed(ahead.at, handing.next);
-        let inner = bind(&mut self.bound, name, to, handing.inner)?;
-        self.top = Frame::Call(ahead, handed_on(handing, inner));
-        Ok(Step::Silent)
+        let Some(next) = handed_on(handing, self.mark()) else {
+            return Err(OutOfMemory);
+        };
+        match bind(&mut self.bound, name, to, handing.inner) {
+            Ok(_) => {
+                self.top = Frame::Call(ahead, next);
+                Ok(Step::Silent)
+            }
+            Err(_) => Err(OutOfMemory),
+        }
     }
 
     /// Opens a call whose parameters are handed.
@@ -91,7 +112,9 @@ impl Machine {
         ahead: Ahead,
         handing: Handing,
         callee: &Callee,
-    ) -> Result<Step, OutOfMemory> {
+    ) -> Result<Step, OutOfMemory>
+        requires { ahead.at < ahead.end }
+    {
         let Some(routine) = scene.program.template(callee.template) else {
             let (text, class) = text_of(scene.alloc, Shallow::Null)?;
             let next = Frame::Ops(past(ahead));
@@ -112,7 +135,10 @@ impl Machine {
         ahead: Ahead,
         handing: Handing,
         routine: &Routine,
-    ) -> Result<Step, OutOfMemory> {
+    ) -> Result<Step, OutOfMemory>
+        requires low { ahead.at < ahead.end }
+        requires left { 0 < ahead.left }
+    {
         let child = Frame::Ops(Ahead {
             at: routine.body.first,
             end: routine.body.end,

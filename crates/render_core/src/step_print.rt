@@ -95,7 +95,7 @@ impl Machine {
             env: kept.env,
             left: kept.left,
             number: 0,
-            mark: self.bound.len(),
+            mark: self.mark(),
         };
         match self.enter(Frame::Ops(past(ahead)), Frame::Ops(child)) {
             Ok(()) => Ok(()),

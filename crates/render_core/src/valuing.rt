@@ -10,7 +10,7 @@ ghost use Rattle.render_core.specs.Seen.{cells_seen, env_seen, input_seen, progr
 ghost use Rattle.render_core.specs.Variables.{cell_at, cells_of, env_at};
 
 use crate::held::{Held, Kept, Path};
-use crate::parts::{Point, copied, part_at, part_of, place_of, variable_at, whole};
+use crate::parts::{Point, copied, item_at, part_at, part_of, place_of, variable_at, whole};
 use soy_base::{OutOfMemory, Steps, Text};
 use soy_expr::{Evaluated, Made, evaluate};
 use soy_tree::{Expr, ExprNode, Value};
@@ -84,10 +84,11 @@ fn plain_value<L: Ledger>(
         (cost (view_expr expr.now) (env_seen point.entry))
         steps.old steps.new result }
 {
-    match evaluate(point.scene.alloc, expr, &point, steps)? {
-        Evaluated::Made(made) => Ok(Found::Made(made)),
-        Evaluated::Part(_, path) => Ok(Found::Part(path)),
-        Evaluated::Block => Ok(Found::Made(Made::Null)),
+    match evaluate(point.scene.alloc, expr, &point, steps) {
+        Ok(Evaluated::Made(made)) => Ok(Found::Made(made)),
+        Ok(Evaluated::Part(_, path)) => Ok(Found::Part(path)),
+        Ok(Evaluated::Block) => Ok(Found::Made(Made::Null)),
+        Err(_) => Err(OutOfMemory),
     }
 }
 
@@ -104,8 +105,10 @@ pub(crate) fn is_truthy<L: Ledger>(
     )
         steps.old steps.new result }
 {
-    let value = evaluate(point.scene.alloc, expr, &point, steps)?;
-    Ok(value.is_truthy())
+    match evaluate(point.scene.alloc, expr, &point, steps) {
+        Ok(value) => Ok(value.is_truthy()),
+        Err(_) => Err(OutOfMemory),
+    }
 }
 
 /// What the first variable of a name is bound to, or null.
@@ -169,12 +172,31 @@ fn is_null(point: Point, found: &Found) -> bool
 }
 
 /// Whether the list that the variable at a place is bound to has an item of a number.
+#[tactic(auto, using(crate::proofs::Values::no_items_after))]
 pub(crate) fn has_item(point: Point, list: usize, number: usize) -> bool
-    ensures { HasItem number (cell_at
-        (cells_seen point.entry) list).part result }
+    ensures { HasItem number (cell_at (cells_seen point.entry) list).part result }
 {
     match part_at(point, list) {
-        Some(Value::List(items)) => number < items.items().len(),
-        _ => false,
+        Some(value) => has_nth(value, number),
+        None => false,
+    }
+}
+
+/// Whether a value is a list with an item of a number.
+#[tactic(auto, using(crate::proofs::Values::no_items_after, crate::proofs::Values::has_some, crate::proofs::Values::has_none))]
+fn has_nth(value: &Value, number: usize) -> bool
+    ensures { HasItem number (view_value value.now) result }
+{
+    match value {
+        Value::Null => false,
+        Value::Bool(_) => false,
+        Value::Int(_) => false,
+        Value::Str(_) => false,
+        Value::List(items) => match item_at(items.items(), number) {
+            Some(_) => true,
+            None => false,
+        },
+        Value::Map(_) => false,
+        Value::Fields(_) => false,
     }
 }
