@@ -245,3 +245,34 @@ named_here wanted (x ∷ arms) zero arm below is same =
     ap (λ (y : NamedBlock). named_block wanted (y ∷ arms)) (sym is)
     ∙ if_true (is_same arm.category wanted) (Some arm.body) (named_block wanted arms) same
 named_here wanted (x ∷ arms) (suc i) arm below is same = named_here wanted arms i arm (omega arith) is same
+
+-- ---- the least that is valued
+
+least_if : {A : Type 0} (b : Bool) (c : ℕ) (a : A) (x : A × ℕ) → c ≤ (if b then (a, c) else (x.0, c + x.1)).1
+least_if true c a x = omega arith
+least_if false c a x = omega arith
+
+pub one_least : (v : values.Value) (env : RunEnv) (es : List code_expr.Expr) (n : ℕ) (e : code_expr.Expr) → n < length es
+    → e ≡ slice_index_or es n e → cost (view_expr e) env ≤ (is_one v (view_exprs (drop n es)) env).1
+one_least v env [] n e below is = absurd (omega arith)
+one_least v env (x ∷ es) zero e below is =
+    rw is (least_if (is_same_value v (valued (view_expr x) env)) (cost (view_expr x) env) true (is_one v (view_exprs es) env))
+one_least v env (x ∷ es) (suc n) e below is = one_least v env es n e (omega arith) is
+
+pub branch_least : (other : Option Block) (env : RunEnv) (bs : List code_branch.Branch) (n : ℕ) (b : code_branch.Branch)
+    → n < length bs → b ≡ slice_index_or bs n b
+    → cost (view_expr b.when) env ≤ (branch_chosen (map view_branch (drop n bs)) other env).1
+branch_least other env [] n b below is = absurd (omega arith)
+branch_least other env (x ∷ bs) zero b below is =
+    rw is (least_if (is_truthy (val (view_expr x.when) env)) (cost (view_expr x.when) env) (Some x.body)
+    (branch_chosen (map view_branch bs) other env))
+branch_least other env (x ∷ bs) (suc n) b below is = branch_least other env bs n b (omega arith) is
+
+pub choice_least : (v : values.Value) (other : Option Block) (env : RunEnv) (cs : List code_choice.Choice) (n : ℕ)
+    (c : code_choice.Choice) → n < length cs → c ≡ slice_index_or cs n c
+    → (is_one v (view_exprs c.values) env).1 ≤ (choice_chosen v (map view_choice (drop n cs)) other env).1
+choice_least v other env [] n c below is = absurd (omega arith)
+choice_least v other env (x ∷ cs) zero c below is =
+    rw is (least_if (is_one v (view_exprs x.values) env).0 (is_one v (view_exprs x.values) env).1 (Some x.body)
+    (choice_chosen v (map view_choice cs) other env))
+choice_least v other env (x ∷ cs) (suc n) c below is = choice_least v other env cs n c (omega arith) is

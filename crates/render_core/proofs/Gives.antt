@@ -13,7 +13,7 @@ use Rattle.soy_tree.specs.Val.{Binding, BlockOf, Known}
 use Rattle.soy_tree.specs.Values as values
 use Rattle.soy_expr.specs.Evaluates.{IsWithin}
 use Rattle.html_state.specs.AfterPieces.{Piece, Static, Value}
-use Rattle.soy_meaning.specs.Giving.{BoundBlock, RunEnv}
+use Rattle.soy_meaning.specs.Giving.{BoundBlock, RunEnv, value_class}
 use Rattle.soy_meaning.specs.Outcome.{GivesPiece, Outcome, RunEnds, Spent, WholeRun, and_spent, continued_by, gives_nothing}
 use Rattle.soy_meaning.specs.Outcome.{none_spent, spent_first}
 use Rattle.soy_meaning.proofs.Outcomes.{first_none, none_after}
@@ -145,7 +145,7 @@ module _ (p : ProgramParts) (input : values.Value) where
       → print_gives p.dir point (Known v)
       ≡ GivesPiece none_spent (Value (form_at point class (source_text (cells_of p input bound) source) p.dir)) gives_nothing
   shown_piece point v source class n bound h =
-      ap (λ text. GivesPiece none_spent (Value (form_at point _ text p.dir)) gives_nothing) (sym h.0)
+      ap (λ text. GivesPiece none_spent (Value (form_at point (value_class v) text p.dir)) gives_nothing) (sym h.0)
       ∙ ap (λ k. GivesPiece none_spent (Value (form_at point k (source_text (cells_of p input bound) source) p.dir)) gives_nothing)
       (sym h.1)
 

@@ -3,6 +3,7 @@ mod Calls
 mod Cells
 mod Choices
 mod Finds
+mod Forms
 mod Gathers
 mod Gives
 mod Leaves

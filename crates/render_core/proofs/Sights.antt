@@ -4,6 +4,7 @@ use Rattle.soy_base.specs.declared.memory.OutOfMemory.{OutOfMemory}
 use Rattle.soy_tree.specs.Cost.{cost}
 use Rattle.soy_tree.specs.Expressions.{Expr}
 use Rattle.soy_tree.specs.Val.{Binding, val}
+use Rattle.soy_expr.specs.Evaluates.{IsWithin}
 use Rattle.soy_meaning.specs.Giving.{BoundBlock, RunEnv}
 use Rattle.soy_tree.specs.ViewValues.{view_value}
 use Rattle.soy_tree.specs.declared.value.Value as code
@@ -65,3 +66,11 @@ finds_at point p v bound n program input bounds env e before after r h =
     (cost e (env_at cells n)) before after r) bounds
     (subst (λ (around : RunEnv). Finds (program_seen point) (cells_seen point) (length point.bound.now) (val e around)
     (cost e around) before after r) (seen_env point p v bound n program input bounds env) h)))
+
+pub finds_err : (point : Point) (p : ProgramParts) (v : code.Value) (bound : List Bound) (n : ℕ)
+    → point.scene.program.now ≡ p → point.scene.input.now ≡ v → point.bound.now ≡ bound → point.env ≡ n
+    → (e : Expr) (before after : ℕ) → IsWithin (cost e (env_seen point)) before after
+    → IsWithin (cost e (env_at (cells_of p (view_value v) bound) n)) before after
+finds_err point p v bound n program input bounds env e before after h =
+    subst (λ (around : RunEnv). IsWithin (cost e around) before after)
+    (seen_env point p v bound n program input bounds env) h

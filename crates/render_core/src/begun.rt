@@ -8,11 +8,12 @@ ghost use Rattle.template_ir.specs.declared.program.ProgramParts as code_parts;
 ghost use Rattle.value_cursor.specs.BytesLeft.{CursorFits, bytes_left};
 ghost use Rattle.render_core.specs.Forms.{EscapesAt, form_at};
 ghost use Rattle.render_core.specs.Pulls.{Gave};
-ghost use Rattle.render_core.specs.Rest.{PieceFits, piece_left, source_text, static_text};
+ghost use Rattle.render_core.specs.Rest.{PieceFits, piece_left, source_text, static_text, string_text};
 ghost use Rattle.render_core.specs.Seen.{cells_seen, input_seen, program_seen};
-ghost use Rattle.render_core.specs.Variables.{cells_of};
+ghost use Rattle.render_core.specs.Variables.{cells_of, path_value};
 ghost use Rattle.render_core.specs.declared.held.Bound.{Bound};
 
+use crate::held::Path;
 use crate::parts::{Point, part_of};
 use crate::showing::Source;
 use bidi_text::wrap;
@@ -108,10 +109,7 @@ impl Form {
     {
         match &self.source {
             Source::Made(text) => self.cursor.fill(text.text(), room),
-            Source::Part(path) => match part_of(point, path) {
-                Some(Value::Str(text)) => self.cursor.fill(text.text(), room),
-                _ => self.cursor.fill("", room),
-            },
+            Source::Part(path) => self.cursor.fill(string_at(point, path), room),
         }
     }
 }
@@ -149,6 +147,7 @@ fn escaper_at(place: Place, class: ValueClass) -> Option<Escaper>
 }
 
 /// The piece of a text at a place, of which nothing is given yet.
+#[tactic(auto, using(crate::proofs::Forms::form_bytes, crate::proofs::Forms::form_none))]
 pub(crate) fn begun_value(
     point: Point,
     place: Place,
@@ -170,10 +169,7 @@ pub(crate) fn begun_value(
     let dir = point.scene.program.dir;
     let cursor = match &source {
         Source::Made(text) => Cursor::begin(alloc, how, class, text.text(), dir)?,
-        Source::Part(path) => match part_of(point, path) {
-            Some(Value::Str(text)) => Cursor::begin(alloc, how, class, text.text(), dir)?,
-            _ => Cursor::begin(alloc, how, class, "", dir)?,
-        },
+        Source::Part(path) => Cursor::begin(alloc, how, class, string_at(point, path), dir)?,
     };
     Ok(Begun::Escaped(Form { source, cursor }))
 }
@@ -191,10 +187,7 @@ pub(crate) fn escaped_whole(
 {
     match source {
         Source::Made(text) => escaped_text(point, place, text.text(), class),
-        Source::Part(path) => match part_of(point, path) {
-            Some(Value::Str(text)) => escaped_text(point, place, text.text(), class),
-            _ => escaped_text(point, place, "", class),
-        },
+        Source::Part(path) => escaped_text(point, place, string_at(point, path), class),
     }
 }
 
@@ -220,5 +213,32 @@ fn escaped_text(
             text,
             point.scene.program.dir,
         )?)),
+    }
+}
+
+/// The string that a path names, or nothing.
+fn string_at<'i>(point: Point<'_, 'i, '_>, path: &Path) -> &'i str
+    ensures characters { chars result.now ≡ string_text (path_value (cells_seen point.entry) path.now) }
+    ensures bytes { result.now ≡ encode_utf8_all (string_text (path_value (cells_seen point.entry) path.now)) }
+{
+    match part_of(point, path) {
+        Some(value) => string_of(value),
+        None => "",
+    }
+}
+
+/// The string that a value is, or nothing.
+fn string_of(value: &Value) -> &str
+    ensures characters { chars result.now ≡ string_text (view_value value.now) }
+    ensures bytes { result.now ≡ encode_utf8_all (string_text (view_value value.now)) }
+{
+    match value {
+        Value::Null => "",
+        Value::Bool(_) => "",
+        Value::Int(_) => "",
+        Value::Str(text) => text.text(),
+        Value::List(_) => "",
+        Value::Map(_) => "",
+        Value::Fields(_) => "",
     }
 }

@@ -27,7 +27,7 @@ use template_ir::{
 };
 
 /// The block of the first branch that holds, else the other.
-#[tactic(auto, using(crate::proofs::Choices::branch_here, crate::proofs::Choices::branch_past))]
+#[tactic(auto, using(crate::proofs::Choices::branch_here, crate::proofs::Choices::branch_past, crate::proofs::Choices::branch_least))]
 pub(crate) fn branch_taken<L: Ledger>(
     point: Point,
     branches: &[Branch],
@@ -78,7 +78,7 @@ pub(crate) fn select_taken<L: Ledger>(
     ) steps.old steps.new result }
 {
     match evaluate(point.scene.alloc, &select.word, &point, steps) {
-        Ok(word) => Ok(select_block(word.shallow(), select.arms.items())),
+        Ok(word) => Ok(select_for(word.shallow(), select.arms.items())),
         Err(_) => Err(OutOfMemory),
     }
 }
@@ -102,7 +102,7 @@ pub(crate) fn int_value<L: Ledger>(
 }
 
 /// The block of the first choice that has the value of the subject, else the other.
-#[tactic(auto, using(crate::proofs::Choices::choice_here, crate::proofs::Choices::choice_past))]
+#[tactic(auto, using(crate::proofs::Choices::choice_here, crate::proofs::Choices::choice_past, crate::proofs::Choices::choice_least))]
 fn choice_taken<L: Ledger>(
     point: Point,
     subject: Shallow,
@@ -124,7 +124,7 @@ fn choice_taken<L: Ledger>(
 }
 
 /// Whether a value is one of those of expressions, which are valued up to the one that it is.
-#[tactic(auto, using(crate::proofs::Choices::one_same, crate::proofs::Choices::one_other))]
+#[tactic(auto, using(crate::proofs::Choices::one_same, crate::proofs::Choices::one_other, crate::proofs::Choices::one_least))]
 fn is_one<L: Ledger>(
     point: Point,
     subject: Shallow,
@@ -231,16 +231,32 @@ fn named_block(category: Category, arms: &[NamedBlock]) -> Option<Block>
 }
 
 /// The arm of a select for a value.
-fn select_block(value: Shallow, arms: &[WordBlock]) -> Option<Block>
+fn select_for(value: Shallow, arms: &[WordBlock]) -> Option<Block>
     ensures { result ≡ select_block (word_of (view_shallow value.entry)) arms.now }
 {
-    let taken = match value {
-        Shallow::Str(word) => word_block(word.text(), arms),
-        _ => word_block("", arms),
-    };
-    if taken.is_some() {
-        return taken;
+    match value {
+        Shallow::Null => select_block("", arms),
+        Shallow::Bool(_) => select_block("", arms),
+        Shallow::Int(_) => select_block("", arms),
+        Shallow::Str(word) => select_block(word.text(), arms),
+        Shallow::Compound => select_block("", arms),
     }
+}
+
+/// The arm of a select for a word.
+fn select_block(word: &str, arms: &[WordBlock]) -> Option<Block>
+    ensures { result ≡ select_block (chars word.now) arms.now }
+{
+    match word_block(word, arms) {
+        Some(block) => Some(block),
+        None => other_block(arms),
+    }
+}
+
+#[tactic(auto, using(soy_expr::proofs::AsciiTexts::chars_ascii))]
+fn other_block(arms: &[WordBlock]) -> Option<Block>
+    ensures { result ≡ word_block (codes "other") arms.now }
+{
     word_block("other", arms)
 }
 

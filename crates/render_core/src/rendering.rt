@@ -140,6 +140,7 @@ impl Rendering {
     }
 
     /// Gives the next bytes to the beginning of the room, of one piece alone, and answers their number.
+    #[tactic(auto, using(crate::proofs::Pullings::pulled_bytes, crate::proofs::Pullings::pulled_end))]
     pub fn pull<L: Ledger>(
         &mut self,
         program: &Program,

@@ -1,7 +1,8 @@
 //! How a value is printed.
 
-ghost use Rattle.std.specs.Prelude.{◌≡◌, IfOk, length};
-ghost use Rattle.std.specs.Str.{chars};
+ghost use Rattle.std.specs.Prelude.{◌≡◌, IfOk, length, true};
+ghost use Rattle.std.specs.Fmt.{signed_decimal};
+ghost use Rattle.soy_expr.specs.Ascii.{is_ascii};
 ghost use Rattle.soy_expr.specs.ViewEvaluated.{view_made};
 ghost use Rattle.soy_expr.specs.ViewShallow.{view_shallow};
 ghost use Rattle.render_core.specs.Finds.{FoundWithin, found_means, part_value};
@@ -102,15 +103,23 @@ pub(crate) fn text_of(alloc: Global, value: Shallow) -> Result<(Text, ValueClass
 fn int_text(alloc: Global, number: i64) -> Result<(Text, ValueClass), OutOfMemory>
     ensures { IfOk result (λ r. ShowsValue (IntValue number) r.0 r.1) }
 {
-    match number.to_string(alloc) {
-        Ok(text) => Ok((Text::new(text), ValueClass::Int)),
+    match digits(alloc, number) {
+        Ok(text) => Ok((text, ValueClass::Int)),
         Err(_) => Err(OutOfMemory),
     }
 }
 
-/// A word, with the class of values that it stands for.
+fn digits(alloc: Global, number: i64) -> Result<Text, OutOfMemory>
+    ensures { IfOk result (λ t. t ≡ signed_decimal number) }
+{
+    Ok(Text::new(number.to_string(alloc)?))
+}
+
+/// A word of ASCII characters, with the class of values that it stands for.
+#[tactic(auto, using(soy_expr::proofs::AsciiTexts::chars_ascii))]
 fn word(alloc: Global, text: &str, class: ValueClass) -> Result<(Text, ValueClass), OutOfMemory>
-    ensures { IfOk result (λ r. (r.0 ≡ chars text.now) × (r.1 ≡ class)) }
+    requires { is_ascii text.now ≡ true }
+    ensures { IfOk result (λ r. (r.0 ≡ text.now) × (r.1 ≡ class)) }
 {
     match String::from_str(alloc, text) {
         Ok(word) => Ok((Text::new(word), class)),

@@ -4,7 +4,8 @@ ghost use Rattle.std.specs.Prelude.{◌≡◌, IfOk, length};
 ghost use Rattle.soy_tree.specs.Cost.{cost};
 ghost use Rattle.soy_tree.specs.Val.{binding, is_null, is_truthy, val};
 ghost use Rattle.soy_tree.specs.ViewExpressions.{view_expr};
-ghost use Rattle.soy_tree.specs.ViewValues.{view_value};
+ghost use Rattle.soy_tree.specs.Values.{ListValue};
+ghost use Rattle.soy_tree.specs.ViewValues.{view_items, view_value};
 ghost use Rattle.render_core.specs.Finds.{Finds, FoundWithin, HasItem, IsPlain, Takes, binding_at, found_means, lowered_to};
 ghost use Rattle.render_core.specs.Seen.{cells_seen, env_seen, input_seen, program_seen};
 ghost use Rattle.render_core.specs.Variables.{cell_at, cells_of, env_at};
@@ -183,7 +184,7 @@ pub(crate) fn has_item(point: Point, list: usize, number: usize) -> bool
 }
 
 /// Whether a value is a list with an item of a number.
-#[tactic(auto, using(crate::proofs::Values::no_items_after, crate::proofs::Values::has_some, crate::proofs::Values::has_none))]
+#[tactic(auto, using(crate::proofs::Values::no_items_after))]
 fn has_nth(value: &Value, number: usize) -> bool
     ensures { HasItem number (view_value value.now) result }
 {
@@ -192,11 +193,18 @@ fn has_nth(value: &Value, number: usize) -> bool
         Value::Bool(_) => false,
         Value::Int(_) => false,
         Value::Str(_) => false,
-        Value::List(items) => match item_at(items.items(), number) {
-            Some(_) => true,
-            None => false,
-        },
+        Value::List(items) => has_nth_item(items.items(), number),
         Value::Map(_) => false,
         Value::Fields(_) => false,
+    }
+}
+
+#[tactic(auto, using(crate::proofs::Values::has_some, crate::proofs::Values::has_none))]
+fn has_nth_item(items: &[Value], number: usize) -> bool
+    ensures { HasItem number (ListValue (view_items items.now)) result }
+{
+    match item_at(items, number) {
+        Some(_) => true,
+        None => false,
     }
 }

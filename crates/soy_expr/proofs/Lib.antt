@@ -1,4 +1,4 @@
-mod AsciiTexts
+pub mod AsciiTexts
 pub mod Forgetting
 mod Nearest
 pub mod PartRows

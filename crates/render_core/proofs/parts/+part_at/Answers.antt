@@ -1,6 +1,7 @@
 use Rattle.std.proofs.Common.{◌≡◌, ℕ, sym, ap, ◌∙◌, take}
 use Rattle.soy_tree.specs.Values.{NullValue}
 use Rattle.soy_expr.specs.Parts.{child}
+use Rattle.render_core.specs.Finds.{part_value}
 use Rattle.render_core.specs.Seen.{cells_seen, input_seen, program_seen}
 use Rattle.render_core.specs.Variables.{cell_at, led}
 use Rattle.render_core.specs.declared.held.Held.TheVariants as held
@@ -45,7 +46,7 @@ returns-then-path-at t c =
     let at = c.args.point in
     let steps = c.in-Part.path.steps.items in
     c.followed_from.ensures
-    ∙ (ap (λ ns. led ns _) c.as_slice.ensures.value
+    ∙ (ap (λ ns. led ns (part_value c.part_at-then-path-at.result)) c.as_slice.ensures.value
     ∙ (ap (led steps) (c.part_at-then-path-at.ensures
     ∙ sym (part_lower (program_seen at) (input_seen at) at.bound.now c.args.at c.in-Part.path.of c.if-path-at.true))
     ∙ part_is (program_seen at) (input_seen at) at.bound.now c.args.at c.in-Some.variable.now _ c.in-Some.ensures

@@ -14,7 +14,8 @@ use Rattle.template_ir.specs.declared.op.Op.TheVariants as op
 use Rattle.render_core.specs.Frames.{means_before}
 use Rattle.render_core.specs.Stepping.{Does, GoesIn}
 use Rattle.render_core.specs.Variables.{cells_of, env_at}
-use Rattle.render_core.proofs.Sights.{finds_at}
+use Rattle.std.proofs.Common.{Ok}
+use Rattle.render_core.proofs.Sights.{finds_at, finds_err}
 use Rattle.render_core.proofs.Moves.{same_self}
 use Rattle.render_core.proofs.Turns.{loop_stays, loop_step}
 use Rattle.render_core.proofs.stack.Machine.step_for.Goals as goal
@@ -27,8 +28,8 @@ returns-in-Err g c =
     let old = c.args.self.now in
     let f = c.args.ahead in
     let env : RunEnv = env_at (cells_of p input old.bound.items) f.env in
-    let told = finds_at c.point.result p v old.bound.items f.env c.point.ensures.program c.point.ensures.input
-    c.point.ensures.bound c.point.ensures.env (view_expr c.args.list.now) _ _ _ c.in-Err.ensures in
+    let told = finds_err c.point.result p v old.bound.items f.env c.point.ensures.program c.point.ensures.input c.point.ensures.bound
+    c.point.ensures.env (view_expr c.args.list.now) c.args.steps.now c.value_of.new.steps c.in-Err.ensures in
     loop_stays p input old old f c.args.list.now c.args.op.now _ _ c.requires.top c.requires.fits c.requires.op
     c.requires.list c.requires.low told (same_self p input old)
 
@@ -40,22 +41,22 @@ returns-in-Ok-begin_loop g c =
     let old = c.args.self.now in
     let f = c.args.ahead in
     let env : RunEnv = env_at (cells_of p input old.bound.items) f.env in
-    let told = finds_at c.point.result p v old.bound.items f.env c.point.ensures.program c.point.ensures.input
-    c.point.ensures.bound c.point.ensures.env (view_expr c.args.list.now) _ _ _ c.in-Ok.ensures in
+    let told = finds_at c.point.result p v old.bound.items f.env c.point.ensures.program c.point.ensures.input c.point.ensures.bound
+    c.point.ensures.env (view_expr c.args.list.now) c.args.steps.now c.value_of.new.steps (Ok c.in-Ok.found) c.in-Ok.ensures in
     let ends = c.in-Ok-begin_loop.ensures in
     loop_step p input old c.begin_loop.new.self f c.in-Ok.found c.args.list.now c.args.op.now _ _ c.requires.top
     c.requires.fits c.requires.op c.requires.list c.requires.low told.0 told.2 ends.top ends.below ends.texts ends.bound
 
-pub returns : goal.returns
-returns g c =
+pub returns-in-Err-begin_loop : goal.returns-in-Err-begin_loop
+returns-in-Err-begin_loop g c =
     let p = c.args.scene.now.program.now in
     let v = c.args.scene.now.input.now in
     let input = view_value v in
     let old = c.args.self.now in
     let f = c.args.ahead in
     let env : RunEnv = env_at (cells_of p input old.bound.items) f.env in
-    let told = finds_at c.point.result p v old.bound.items f.env c.point.ensures.program c.point.ensures.input
-    c.point.ensures.bound c.point.ensures.env (view_expr c.args.list.now) _ _ _ c.in-Ok.ensures in
+    let told = finds_at c.point.result p v old.bound.items f.env c.point.ensures.program c.point.ensures.input c.point.ensures.bound
+    c.point.ensures.env (view_expr c.args.list.now) c.args.steps.now c.value_of.new.steps (Ok c.in-Ok.found) c.in-Ok.ensures in
     loop_stays p input old c.begin_loop.new.self f c.args.list.now c.args.op.now _ _ c.requires.top c.requires.fits
     c.requires.op c.requires.list c.requires.low (omega (arith, told.2), omega (arith, told.2))
     c.in-Err-begin_loop.ensures.stays

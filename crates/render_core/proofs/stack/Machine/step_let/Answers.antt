@@ -14,12 +14,11 @@ use Rattle.template_ir.specs.declared.op.Op.TheVariants as op
 use Rattle.render_core.specs.Frames.{means_before}
 use Rattle.render_core.specs.Stepping.{Does, GoesIn}
 use Rattle.render_core.specs.Variables.{cells_of, env_at}
+use Rattle.std.proofs.Common.{Ok}
 use Rattle.soy_tree.specs.Val.{Binding}
 use Rattle.soy_meaning.specs.Giving.{BoundBlock}
-use Rattle.soy_meaning.specs.Outcome.{Outcome, RunEnds, WholeRun}
-use Rattle.template_ir.specs.Run.{one_step}
 use Rattle.render_core.specs.declared.held.Naming.TheVariants as naming
-use Rattle.render_core.proofs.Sights.{finds_at}
+use Rattle.render_core.proofs.Sights.{finds_at, finds_err}
 use Rattle.render_core.proofs.Lets.{means_let}
 use Rattle.render_core.proofs.Moves.{same_self}
 use Rattle.render_core.proofs.Gives.{binds_stay, binds_step}
@@ -33,8 +32,8 @@ returns-in-Err g c =
     let old = c.args.self.now in
     let f = c.args.ahead in
     let env : RunEnv = env_at (cells_of p input old.bound.items) f.env in
-    let told = finds_at c.point.result p v old.bound.items f.env c.point.ensures.program c.point.ensures.input c.point.ensures.bound
-    c.point.ensures.env (view_expr c.args.expr.now) _ _ _ c.in-Err.ensures in
+    let told = finds_err c.point.result p v old.bound.items f.env c.point.ensures.program c.point.ensures.input c.point.ensures.bound
+    c.point.ensures.env (view_expr c.args.expr.now) c.args.steps.now c.value_of.new.steps c.in-Err.ensures in
     binds_stay p input old old f (op.Let c.args.name.now c.args.expr.now) (cost (view_expr c.args.expr.now) env) _ _ _
     c.requires.top c.requires.op c.requires.low refl told c.requires.fits (same_self p input old)
 
@@ -47,14 +46,14 @@ returns-in-Ok-bind_here g c =
     let f = c.args.ahead in
     let env : RunEnv = env_at (cells_of p input old.bound.items) f.env in
     let told = finds_at c.point.result p v old.bound.items f.env c.point.ensures.program c.point.ensures.input c.point.ensures.bound
-    c.point.ensures.env (view_expr c.args.expr.now) _ _ _ c.in-Ok.ensures in
+    c.point.ensures.env (view_expr c.args.expr.now) c.args.steps.now c.value_of.new.steps (Ok c.in-Ok.found) c.in-Ok.ensures in
     binds_step p input old c.bind_here.new.self f (op.Let c.args.name.now c.args.expr.now)
     (cost (view_expr c.args.expr.now) env) (naming.Op f.at) c.held.result _ _ c.requires.top c.requires.op c.requires.low
     (means_let p (cells_of p input old.bound.items) f c.args.name.now c.args.expr.now env c.in-Ok.found c.held.result
     input c.requires.op told.0 c.held.ensures) told.2 (c.in-Ok-bind_here.ensures.binds p input)
 
-pub returns : goal.returns
-returns g c =
+pub returns-in-Err-bind_here : goal.returns-in-Err-bind_here
+returns-in-Err-bind_here g c =
     let p = c.args.scene.now.program.now in
     let v = c.args.scene.now.input.now in
     let input = view_value v in
@@ -62,7 +61,7 @@ returns g c =
     let f = c.args.ahead in
     let env : RunEnv = env_at (cells_of p input old.bound.items) f.env in
     let told = finds_at c.point.result p v old.bound.items f.env c.point.ensures.program c.point.ensures.input c.point.ensures.bound
-    c.point.ensures.env (view_expr c.args.expr.now) _ _ _ c.in-Ok.ensures in
+    c.point.ensures.env (view_expr c.args.expr.now) c.args.steps.now c.value_of.new.steps (Ok c.in-Ok.found) c.in-Ok.ensures in
     binds_stay p input old c.bind_here.new.self f (op.Let c.args.name.now c.args.expr.now)
     (cost (view_expr c.args.expr.now) env) _ _ _ c.requires.top c.requires.op c.requires.low refl
     (omega (arith, told.2), omega (arith, told.2)) c.requires.fits c.in-Err-bind_here.ensures.stays
