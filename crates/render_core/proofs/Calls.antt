@@ -31,7 +31,7 @@ use Rattle.render_core.specs.declared.frame.Frame.{Frame}
 use Rattle.render_core.specs.declared.frame.Frame.TheVariants as frame
 use Rattle.render_core.specs.declared.frame.Handing.{Handing}
 use Rattle.render_core.specs.declared.stack.Machine.{Machine}
-use Rattle.render_core.proofs.Leaves.{pending_least}
+use Rattle.render_core.proofs.Leaves.{pending_least, plain_top}
 use Rattle.render_core.proofs.Moves.{fits_is, fits_top, machine_is, op_spends}
 use Rattle.render_core.proofs.Ops.{get_map}
 
@@ -114,3 +114,42 @@ module _ (p : ProgramParts) where
       → called_at (view_program p) zero at t env ≡ RunEnds none_spent (StopsAt at)
   unfolding called_at
   stopped at t env = refl
+
+module _ (p : ProgramParts) (input : values.Value) where
+  -- ---- the beginning of a call
+
+  abbrev pub no_handing : ℕ → Handing
+  no_handing n = record { next = 0; inner = 0; mark = n }
+
+  pub call_begins : (old new : Machine) (f : Ahead) (c : code_callee.Callee) (n : ℕ) → old.top ≡ frame.Ops f
+      → MachineFits old → slice_get p.ops f.at ≡ Some (op.Call c) → f.at < f.end
+      → new.top ≡ frame.Call f (no_handing (length old.bound.items)) → new.below ≡ old.below → new.texts ≡ old.texts
+      → new.bound.items ≡ old.bound.items → Silent p input old new n n
+  call_begins old new f c n old_top fits is low top below texts bound =
+      let len : ℕ = length old.bound.items in
+      let h : Handing = no_handing len in
+      let cells : List Cell = cells_of p input old.bound.items in
+      let env : RunEnv = env_at cells f.env in
+      let x : Outcome = call_after p f 0 env [] c in
+      let old_fits : FramesFit (frame.Ops f ∷ old.below) len = fits_top p input old (frame.Ops f) old_top fits in (
+        one_step 0,
+        record {
+          same =
+              op_spends p input old f (op.Call c) 0 x old_top is low refl
+              ∙ ap (spent_first (one_step 0))
+              (ap (λ (o : Outcome). over p input (take f.mark old.bound.items) old.below old.texts o)
+              (sym (ap (call_of p f 0 env []) is))
+              ∙ (sym (plain_top p input old.bound.items (frame.Call f h) old.below old.texts tt)
+              ∙ sym (machine_is p input new (frame.Call f h) old.below old.texts old.bound.items top below texts bound)));
+          cost = (let e : n ≡ n + 0 = omega arith in e);
+          falls =
+              (let least = pending_least p (frame.Call f h) in
+              let q : pending p new.top ≡ pending p (frame.Call f h) = ap (pending p) top in omega (arith, least, q));
+          fits =
+              fits_is p input new (frame.Call f h) old.below old.bound.items top below bound (
+                (low, old_fits.0, old_fits.1, (let e : len ≤ len = omega arith in e), (let e : 0 ≤ len = omega arith in e)),
+                old_fits.1,
+                old_fits.2,
+              );
+        },
+      )

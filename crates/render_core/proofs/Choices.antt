@@ -28,7 +28,7 @@ use Rattle.template_ir.specs.declared.op.NamedBlock.{NamedBlock}
 use Rattle.template_ir.specs.declared.op.WordBlock.{WordBlock}
 use Rattle.template_ir.specs.declared.op.Choice as code_choice
 use Rattle.render_core.specs.Chosen.{branch_chosen, choice_chosen}
-use Rattle.render_core.proofs.Finds.{if_false, if_true}
+use Rattle.render_core.proofs.Conditions.{if_false, if_true}
 
 -- ---- values
 
@@ -248,7 +248,10 @@ named_here wanted (x ∷ arms) (suc i) arm below is same = named_here wanted arm
 
 -- ---- the least that is valued
 
-least_if : {A : Type 0} (b : Bool) (c : ℕ) (a : A) (x : A × ℕ) → c ≤ (if b then (a, c) else (x.0, c + x.1)).1
+abbrev chosen_by : {A : Type 0} → Bool → ℕ → A → A × ℕ → A × ℕ
+chosen_by b c a x = if b then (a, c) else (x.0, c + x.1)
+
+least_if : {A : Type 0} (b : Bool) (c : ℕ) (a : A) (x : A × ℕ) → c ≤ (chosen_by b c a x).1
 least_if true c a x = omega arith
 least_if false c a x = omega arith
 

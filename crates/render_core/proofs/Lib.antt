@@ -2,6 +2,7 @@ mod Begins
 mod Calls
 mod Cells
 mod Choices
+mod Conditions
 mod Finds
 mod Forms
 mod Gathers

@@ -2,6 +2,8 @@
 use Rattle.std.proofs.Common.{◌≡◌, ℕ, zero, suc, ◌+◌, ◌<◌, List, [], ◌∷◌, ◌++◌, Option, Some, None, refl, sym, ap, ◌∙◌}
 use Rattle.std.proofs.Common.{true, false, arith, drop, length, slice_index_or}
 use Rattle.std.specs.List.{slice_get}
+use Rattle.std.specs.Prelude.{bytes_eq, unwrap_or}
+use Rattle.soy_tree.specs.Has.{entry_value}
 use Rattle.std.specs.Option.{option_map}
 use Rattle.std.specs.Borrow.{Bor}
 use Rattle.soy_tree.specs.Types.{Name}
@@ -11,7 +13,8 @@ use Rattle.soy_tree.specs.ViewValues.{view_entries, view_entry, view_items, view
 use Rattle.soy_tree.specs.declared.value.Entry as code_entry
 use Rattle.soy_tree.specs.declared.value.Value as code
 use Rattle.soy_expr.specs.Parts.{child, nth_entry_value}
-use Rattle.soy_expr.proofs.PartRows.{item_none, item_some, view_entry_is}
+use Rattle.soy_expr.proofs.PartRows.{entry_nth, item_none, item_some, view_entry_is}
+use Rattle.render_core.proofs.Conditions.{if_true}
 use Rattle.render_core.specs.Finds.{HasItem, part_value}
 use Rattle.render_core.specs.Frames.{items_after}
 use Rattle.render_core.specs.Variables.{led}
@@ -84,3 +87,20 @@ has_some vs n v is =
 
 pub has_none : (vs : List code.Value) (n : ℕ) → None ≡ slice_get vs n → HasItem n (ListValue (view_items vs)) false
 has_none vs n is = items_none vs n (sym is)
+
+entry_named : (es : List code_entry.Entry) (n : ℕ) (e : code_entry.Entry) (name : Name) → n < length es
+    → e ≡ slice_index_or es n e → bytes_eq e.name name ≡ true
+    → entry_value name (view_entries (drop n es)) ≡ Some (view_value e.value)
+entry_named [] n e name below is named = absurd (omega arith)
+entry_named (x ∷ es) zero e name below is named =
+    rw (view_entry_is x)
+    (rw (sym is) (if_true (bytes_eq e.name name) (Some (view_value e.value)) (entry_value name (view_entries es)) named))
+entry_named (x ∷ es) (suc n) e name below is named = entry_named es n e name (omega arith) is named
+
+pub entry_found : (es : List code_entry.Entry) (n : ℕ) (e : code_entry.Entry) (name : Name) → n < length es
+    → e ≡ slice_index_or es n e → bytes_eq e.name name ≡ true
+    → entry_value name (view_entries es) ≡ entry_value name (view_entries (drop n es))
+    → nth_entry_value (view_entries es) n ≡ unwrap_or (entry_value name (view_entries es)) NullValue
+entry_found es n e name below is named same =
+    entry_nth es n e below is
+    ∙ sym (ap (λ (o : Option Value). unwrap_or o NullValue) (same ∙ entry_named es n e name below is named))

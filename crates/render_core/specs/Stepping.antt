@@ -2,7 +2,7 @@
 --
 -- What the frames gave before it is what it spends and gives, and then what they give after it. A step works, or what is
 -- pending falls: how many parameters a call has still to hand.
-use Rattle.std.specs.Prelude.{◌≡◌, ℕ, zero, suc, ◌+◌, ◌-◌, ◌*◌, ◌≤◌, ◌<◌, List, [], ◌∷◌, Option, Some, None, Result, Ok}
+use Rattle.std.specs.Prelude.{◌≡◌, ℕ, zero, suc, ◌+◌, ◌-◌, ◌*◌, ◌≤◌, ◌<◌, ◌⊎◌, List, [], ◌∷◌, Option, Some, None, Result, Ok}
 use Rattle.std.specs.Prelude.{Err, encode_utf8_all, length, max, min, slice_get, take, true, false}
 use Rattle.html_state.specs.AfterPieces.{Piece}
 use Rattle.soy_base.specs.declared.fault.TooDeep.{TooDeep}
@@ -69,6 +69,11 @@ text_var f purpose.Bind text = record { name = naming.Op f.at; to = held.Made (m
 text_var f purpose.Show text = record { name = naming.Hidden; to = held.Made (made.Str text); below = 0 }
 text_var f (purpose.Hand h) text =
     record { name = naming.Handed f.at h.next; to = held.Made (made.Str text); below = h.inner }
+
+-- the next op of a block, or that there is none
+abbrev pub OpBefore : ProgramParts → Ahead → Option Op → Type 0
+OpBefore p f (Some o) = (f.at < f.end) × (slice_get p.ops f.at ≡ Some o)
+OpBefore p f None = (f.end ≤ f.at) ⊎ (slice_get p.ops f.at ≡ None)
 
 -- ---- what is pending
 

@@ -217,6 +217,7 @@ fn escaped_text(
 }
 
 /// The string that a path names, or nothing.
+#[tactic(auto, using(soy_expr::proofs::AsciiTexts::chars_ascii))]
 fn string_at<'i>(point: Point<'_, 'i, '_>, path: &Path) -> &'i str
     ensures characters { chars result.now ≡ string_text (path_value (cells_seen point.entry) path.now) }
     ensures bytes { result.now ≡ encode_utf8_all (string_text (path_value (cells_seen point.entry) path.now)) }
@@ -228,6 +229,7 @@ fn string_at<'i>(point: Point<'_, 'i, '_>, path: &Path) -> &'i str
 }
 
 /// The string that a value is, or nothing.
+#[tactic(auto, using(soy_expr::proofs::AsciiTexts::chars_ascii))]
 fn string_of(value: &Value) -> &str
     ensures characters { chars result.now ≡ string_text (view_value value.now) }
     ensures bytes { result.now ≡ encode_utf8_all (string_text (view_value value.now)) }

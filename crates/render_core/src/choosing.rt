@@ -231,6 +231,7 @@ fn named_block(category: Category, arms: &[NamedBlock]) -> Option<Block>
 }
 
 /// The arm of a select for a value.
+#[tactic(auto, using(soy_expr::proofs::AsciiTexts::chars_ascii))]
 fn select_for(value: Shallow, arms: &[WordBlock]) -> Option<Block>
     ensures { result ≡ select_block (word_of (view_shallow value.entry)) arms.now }
 {

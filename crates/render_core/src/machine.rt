@@ -1,5 +1,11 @@
 //! Steps of the machine, and the run up to the next piece.
 
+ghost use Rattle.std.specs.Prelude.{◌≡◌, ◌<◌, Some, option_map, slice_get};
+ghost use Rattle.soy_tree.specs.ViewValues.{view_value};
+ghost use Rattle.render_core.specs.Frames.{MachineFits, call_place};
+ghost use Rattle.render_core.specs.Stepping.{Advanced, OpBefore, Stepped};
+ghost use Rattle.render_core.specs.declared.frame.Frame.TheVariants as frame;
+
 use crate::begun::Begun;
 use crate::frame::{Ahead, Frame};
 use crate::scene::Scene;
@@ -14,7 +20,11 @@ impl Machine {
         &mut self,
         scene: &Scene,
         steps: &mut Steps<L>,
-    ) -> Result<Option<Begun>, Refusal<TooDeep>> {
+    ) -> Result<Option<Begun>, Refusal<TooDeep>>
+        requires { MachineFits self.old }
+        ensures { Advanced scene.now.program.now (view_value scene.now.input.now) self.old self.new steps.old steps.new
+            result }
+    {
         loop {
             match self.step(scene, steps) {
                 Ok(Step::Silent) => {}
@@ -31,11 +41,11 @@ impl Machine {
     }
 
     /// One step.
-    fn step<L: Ledger>(
-        &mut self,
-        scene: &Scene,
-        steps: &mut Steps<L>,
-    ) -> Result<Step, OutOfMemory> {
+    fn step<L: Ledger>(&mut self, scene: &Scene, steps: &mut Steps<L>) -> Result<Step, OutOfMemory>
+        requires { MachineFits self.old }
+        ensures { Stepped scene.now.program.now (view_value scene.now.input.now) self.old self.new steps.old steps.new
+            result }
+    {
         match self.top {
             Frame::Ops(ahead) => match op_before(scene.program, ahead) {
                 Some(op) => self.step_op(scene, ahead, op, steps),
@@ -63,7 +73,14 @@ impl Machine {
         ahead: Ahead,
         op: &Op,
         steps: &mut Steps<L>,
-    ) -> Result<Step, OutOfMemory> {
+    ) -> Result<Step, OutOfMemory>
+        requires top { self.old.top ≡ frame.Ops ahead }
+        requires fits { MachineFits self.old }
+        requires op { slice_get scene.now.program.now.ops ahead.at ≡ Some op.now }
+        requires low { ahead.at < ahead.end }
+        ensures { Stepped scene.now.program.now (view_value scene.now.input.now) self.old self.new steps.old steps.new
+            result }
+    {
         match op {
             Op::Static(text) => self.step_static(scene, ahead, text),
             Op::Print(expr, place) => self.step_print(scene, ahead, expr, *place, steps),
@@ -82,7 +99,7 @@ impl Machine {
             Op::LetBlock(name, kind, block) => {
                 self.step_let_block(scene, ahead, *kind, *block, name)
             }
-            Op::Call(_) => Ok(self.step_call(ahead)),
+            Op::Call(callee) => Ok(self.step_call(scene, ahead, callee)),
             Op::Plural(plural) => self.step_plural(scene, ahead, plural, steps),
             Op::Select(select) => self.step_select(scene, ahead, select, steps),
         }
@@ -90,7 +107,9 @@ impl Machine {
 }
 
 /// The next op of a block.
-fn op_before(program: &ProgramParts, ahead: Ahead) -> Option<&Op> {
+fn op_before(program: &ProgramParts, ahead: Ahead) -> Option<&Op>
+    ensures { OpBefore program.now ahead (option_map (λ o. o.now) result) }
+{
     if ahead.at < ahead.end {
         program.op(ahead.at)
     } else {
@@ -99,7 +118,9 @@ fn op_before(program: &ProgramParts, ahead: Ahead) -> Option<&Op> {
 }
 
 /// The place of the call at a position.
-fn call_place(program: &ProgramParts, at: usize) -> Place {
+fn call_place(program: &ProgramParts, at: usize) -> Place
+    ensures { result ≡ call_place (slice_get program.now.ops at) }
+{
     match program.op(at) {
         Some(Op::Call(callee)) => callee.place,
         _ => Place::Plain,

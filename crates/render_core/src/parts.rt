@@ -143,27 +143,27 @@ pub(crate) fn place_of(point: Point, name: &Text) -> Option<usize>
 pub(crate) fn part_at<'i>(point: Point<'_, 'i, '_>, at: usize) -> Option<&'i Value>
     ensures { part_value result ≡ (cell_at (cells_seen point.entry) at).part }
 {
-    let Some(variable) = variable_at(point.bound, at) else {
-        return None;
-    };
-    match &variable.to {
-        Held::Made(_) => None,
-        Held::Root => Some(point.scene.input),
-        Held::Item(of, number) => {
-            if *of < at {
-                child_of(part_at(point, *of), *number)
-            } else {
-                None
+    match variable_at(point.bound, at) {
+        Some(variable) => match &variable.to {
+            Held::Made(_) => None,
+            Held::Root => Some(point.scene.input),
+            Held::Item(of, number) => {
+                if *of < at {
+                    child_of(part_at(point, *of), *number)
+                } else {
+                    None
+                }
             }
-        }
-        Held::Part(path) => {
-            if path.of < at {
-                followed_from(part_at(point, path.of), path.steps.as_slice())
-            } else {
-                None
+            Held::Part(path) => {
+                if path.of < at {
+                    followed_from(part_at(point, path.of), path.steps.as_slice())
+                } else {
+                    None
+                }
             }
-        }
-        Held::Block(_) => None,
+            Held::Block(_) => None,
+        },
+        None => None,
     }
 }
 

@@ -298,7 +298,7 @@ fn field_number(input: &Value, name: &Text) -> Option<usize>
 }
 
 /// The number of the first entry of a name.
-#[tactic(auto, using(soy_expr::proofs::PartRows::entry_nth, soy_expr::proofs::PartRows::entry_passed))]
+#[tactic(auto, using(crate::proofs::Values::entry_found, soy_expr::proofs::PartRows::entry_passed))]
 fn entry_number(entries: &[Entry], name: &Text) -> Option<usize>
     ensures { EntryFound name.now (view_entries entries.now) result }
 {

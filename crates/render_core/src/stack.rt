@@ -7,7 +7,7 @@ ghost use Rattle.soy_meaning.specs.Outcome.{RunEnds, WholeRun};
 ghost use Rattle.template_ir.specs.Run.{arm_gives, one_step};
 ghost use Rattle.template_ir.specs.declared.op.Op.TheVariants as op;
 ghost use Rattle.template_ir.specs.declared.program.ProgramParts as code_parts;
-ghost use Rattle.render_core.specs.Frames.{IsPlainFrame, MachineFits, child_at, frame_gives, mark_of, means_before, past};
+ghost use Rattle.render_core.specs.Frames.{IsPlainFrame, MachineFits, child_at, frame_gives, mark_of, means_before, past, past_with};
 ghost use Rattle.render_core.specs.Stepping.{GaveForm, GoesIn, IsSame, Stepped};
 ghost use Rattle.render_core.specs.Forms.{form_at};
 ghost use Rattle.render_core.specs.Rest.{source_text};
@@ -241,6 +241,18 @@ impl Machine {
                 Step::Silent
             }
         }
+    }
+}
+
+/// The same with other variables.
+pub(crate) fn past_with(ahead: Ahead, env: usize) -> Ahead
+    requires { ahead.at < ahead.end }
+    ensures { result ≡ past_with ahead env }
+{
+    Ahead {
+        at: ahead.at + 1,
+        env,
+        ..ahead
     }
 }
 

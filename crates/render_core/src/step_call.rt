@@ -1,6 +1,10 @@
 //! Calls.
 
-ghost use Rattle.std.specs.Prelude.{◌≡◌, ◌<◌};
+ghost use Rattle.std.specs.Prelude.{◌≡◌, ◌<◌, ℕ, Ok, Some, slice_get};
+ghost use Rattle.soy_tree.specs.ViewValues.{view_value};
+ghost use Rattle.template_ir.specs.declared.op.Op.TheVariants as op;
+ghost use Rattle.render_core.specs.Frames.{MachineFits};
+ghost use Rattle.render_core.specs.Stepping.{Stepped};
 ghost use Rattle.render_core.specs.declared.frame.Frame.TheVariants as frame;
 
 use crate::binding::{bind, held};
@@ -19,7 +23,14 @@ use template_ir::{Callee, Handed, HandedBy, Routine};
 
 impl Machine {
     /// A call: its parameters are handed one after the other, and then it is opened.
-    pub(crate) fn step_call(&mut self, ahead: Ahead) -> Step {
+    pub(crate) fn step_call(&mut self, scene: &Scene, ahead: Ahead, callee: &Callee) -> Step
+        requires top { self.old.top ≡ frame.Ops ahead }
+        requires fits { MachineFits self.old }
+        requires op { slice_get scene.now.program.now.ops ahead.at ≡ Some (op.Call callee.now) }
+        requires low { ahead.at < ahead.end }
+        ensures { (n : ℕ) → Stepped scene.now.program.now (view_value scene.now.input.now) self.old self.new n n
+            (Ok result) }
+    {
         let handing = Handing {
             next: 0,
             inner: 0,
@@ -38,7 +49,12 @@ impl Machine {
         callee: &Callee,
         steps: &mut Steps<L>,
     ) -> Result<Step, OutOfMemory>
-        requires { ahead.at < ahead.end }
+        requires top { self.old.top ≡ frame.Call ahead handing }
+        requires fits { MachineFits self.old }
+        requires op { slice_get scene.now.program.now.ops ahead.at ≡ Some (op.Call callee.now) }
+        requires low { ahead.at < ahead.end }
+        ensures { Stepped scene.now.program.now (view_value scene.now.input.now) self.old self.new steps.old steps.new
+            result }
     {
         match callee.given.items().get(handing.next) {
             Some(handed) => self.hand(scene, ahead, handing, handed, steps),

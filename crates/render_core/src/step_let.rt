@@ -16,7 +16,7 @@ use crate::binding::{bind, held};
 use crate::frame::{Ahead, Frame, Handing, Purpose};
 use crate::held::{Held, Kept, Naming};
 use crate::scene::Scene;
-use crate::stack::{Machine, Step, child_ahead, past};
+use crate::stack::{Machine, Step, child_ahead, past_with};
 use crate::valuing::value_of;
 use soy_base::{Kind, OutOfMemory, Steps, Text};
 use soy_expr::Made;
@@ -85,7 +85,7 @@ impl Machine {
     {
         match bind(&mut self.bound, Naming::Op(ahead.at), to, ahead.env) {
             Ok(env) => {
-                self.top = Frame::Ops(Ahead { env, ..past(ahead) });
+                self.top = Frame::Ops(past_with(ahead, env));
                 Ok(())
             }
             Err(_) => Err(OutOfMemory),
@@ -166,7 +166,7 @@ impl Machine {
         match purpose {
             Purpose::Bind => match bind(&mut self.bound, Naming::Op(ahead.at), text, ahead.env) {
                 Ok(env) => {
-                    self.top = Frame::Ops(Ahead { env, ..past(ahead) });
+                    self.top = Frame::Ops(past_with(ahead, env));
                     self.texts.end();
                     Ok(())
                 }

@@ -6,7 +6,7 @@ ghost use Rattle.soy_tree.specs.ViewValues.{view_value};
 ghost use Rattle.soy_meaning.specs.Giving.{BoundBlock};
 ghost use Rattle.template_ir.specs.Run.{print_gives};
 ghost use Rattle.template_ir.specs.declared.op.Op.TheVariants as op;
-ghost use Rattle.render_core.specs.Frames.{MachineFits, past, text_bound};
+ghost use Rattle.render_core.specs.Frames.{MachineFits, call_place, past, text_bound};
 ghost use Rattle.render_core.specs.Shows.{Shows, kept_child};
 ghost use Rattle.render_core.specs.Stepping.{Does, IsSame, Stepped};
 ghost use Rattle.render_core.specs.Variables.{cells_of};
@@ -131,7 +131,11 @@ impl Machine {
         at: usize,
         place: Place,
     ) -> Result<Step, OutOfMemory>
-        requires { ahead.at < ahead.end }
+        requires top { self.old.top ≡ frame.Show ahead at }
+        requires fits { MachineFits self.old }
+        requires low { ahead.at < ahead.end }
+        requires place { place ≡ call_place (slice_get scene.now.program.now.ops ahead.at) }
+        ensures { (n : ℕ) → Stepped scene.now.program.now (view_value scene.now.input.now) self.old self.new n n result }
     {
         let text = match text_at(scene, self.bound.as_slice(), at) {
             Ok(text) => text,

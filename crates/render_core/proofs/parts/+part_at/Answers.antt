@@ -5,7 +5,7 @@ use Rattle.render_core.specs.Finds.{part_value}
 use Rattle.render_core.specs.Seen.{cells_seen, input_seen, program_seen}
 use Rattle.render_core.specs.Variables.{cell_at, led}
 use Rattle.render_core.specs.declared.held.Held.TheVariants as held
-use Rattle.render_core.proofs.Cells.{part_is, part_lost, part_lower}
+use Rattle.render_core.proofs.Cells.{part_is, part_lost, part_lower, part_none}
 use Rattle.render_core.proofs.Values.{led_null}
 use Rattle.render_core.proofs.parts.+part_at.Goals as goal
 
@@ -61,3 +61,8 @@ returns-else-path-at t c =
     (sym (part_lost (program_seen at) (input_seen at) at.bound.now c.args.at c.in-Part.path.of c.if-path-at.false))
     ∙ part_is (program_seen at) (input_seen at) at.bound.now c.args.at c.in-Some.variable.now _ c.in-Some.ensures
     c.in-Part.is)
+
+pub returns-in-None : goal.returns-in-None
+returns-in-None t c =
+    let at = c.args.point in
+    sym (part_none (program_seen at) (input_seen at) at.bound.now c.args.at (sym c.in-None.ensures))

@@ -26,9 +26,6 @@ pub returns-in-Ok-clause-binds : goal.returns-in-Ok-clause-binds
 returns-in-Ok-clause-binds c p input =
     let old = c.args.self.now in
     let f = c.args.ahead in
-    let g : Ahead = record c.past.result { env = c.in-Ok.env } in
-    let new : Machine = record old { top = frame.Ops g; bound = c.bind.new.bound } in
+    let new : Machine = record old { top = frame.Ops c.past_with.result; bound = c.bind.new.bound } in
     bind_does p input old new f (naming.Op f.at) c.args.to c.requires.top c.requires.fits
-    (ap (λ (h : Ahead). frame.Ops (record h { env = c.in-Ok.env })) c.past.ensures
-    ∙ ap (λ n. frame.Ops (past_with f n)) c.in-Ok.ensures.number)
-    refl refl c.in-Ok.ensures.ok
+    (ap frame.Ops (c.past_with.ensures ∙ ap (past_with f) c.in-Ok.ensures.number)) refl refl c.in-Ok.ensures.ok

@@ -33,8 +33,8 @@ returns-in-Ok c n =
     (means_block p (cells_of p input old.bound.items) f c.args.name.now c.args.kind c.args.block c.kept.result input
     c.requires.op c.requires.kind c.kept.ensures) (omega arith) (c.in-Ok.ensures.binds p input)
 
-pub returns : goal.returns
-returns c n =
+pub returns-in-Err : goal.returns-in-Err
+returns-in-Err c n =
     let p = c.args.scene.now.program.now in
     let v = c.args.scene.now.input.now in
     let input = view_value v in
