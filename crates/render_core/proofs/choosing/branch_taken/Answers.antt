@@ -14,5 +14,6 @@ returns-in-Err g c =
     branch_least c.args.other env c.args.branches.now c.loop-branch.branch-index c.branch-item.result
     c.loop-branch-test.true c.branch-item.is in
     let spent = c.loop-branch.invariant.cost in
+    let low = c.loop-branch.invariant.low in
     let within = c.in-Err.ensures in
-    (omega (arith, spent, within.0, within.1, least), omega (arith, spent, within.0, within.1, least))
+    (omega (arith, spent, low, within.0, within.1, least), omega (arith, spent, low, within.0, within.1, least))

@@ -1,4 +1,4 @@
-use Rattle.std.proofs.Common.{◌≡◌, ◌+◌, drop, map}
+use Rattle.std.proofs.Common.{◌≡◌, ◌+◌, ◌≤◌, drop, map}
 use Rattle.template_ir.specs.ViewOps.{view_branch}
 use Rattle.render_core.specs.Chosen.{branch_chosen}
 use Rattle.render_core.specs.Seen.{env_seen}
@@ -10,6 +10,7 @@ invariant-loop-branch g l =
     record {
       answer : (branch_chosen (map view_branch l.branches) l.other env).0
           ≡ (branch_chosen (map view_branch (drop l.branch-index l.branches)) l.other env).0;
+      low : l.initial.steps ≤ l.steps;
       cost : l.initial.steps + (branch_chosen (map view_branch l.branches) l.other env).1
           ≡ l.steps + (branch_chosen (map view_branch (drop l.branch-index l.branches)) l.other env).1;
     }

@@ -10,5 +10,6 @@ returns-in-Err g c =
     choice_least (view_shallow c.args.subject) c.args.other (env_seen c.args.point) c.args.choices.now
     c.loop-choice.choice-index c.choice-item.result c.loop-choice-test.true c.choice-item.is in
     let spent = c.loop-choice.invariant.cost in
-    let within = c.in-Err.ensures in
-    (omega (arith, spent, within.0, within.1, least), omega (arith, spent, within.0, within.1, least))
+    let low = c.loop-choice.invariant.low in
+    let within = rw c.items.ensures at c.in-Err.ensures in
+    (omega (arith, spent, low, within.0, within.1, least), omega (arith, spent, low, within.0, within.1, least))

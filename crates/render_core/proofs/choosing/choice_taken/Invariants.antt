@@ -1,4 +1,4 @@
-use Rattle.std.proofs.Common.{◌≡◌, ◌+◌, drop, map}
+use Rattle.std.proofs.Common.{◌≡◌, ◌+◌, ◌≤◌, drop, map}
 use Rattle.soy_expr.specs.ViewShallow.{view_shallow}
 use Rattle.template_ir.specs.ViewOps.{view_choice}
 use Rattle.render_core.specs.Chosen.{choice_chosen}
@@ -12,6 +12,7 @@ invariant-loop-choice g l =
     record {
       answer : (choice_chosen v (map view_choice l.choices) l.other env).0
           ≡ (choice_chosen v (map view_choice (drop l.choice-index l.choices)) l.other env).0;
+      low : l.initial.steps ≤ l.steps;
       cost : l.initial.steps + (choice_chosen v (map view_choice l.choices) l.other env).1
           ≡ l.steps + (choice_chosen v (map view_choice (drop l.choice-index l.choices)) l.other env).1;
     }

@@ -10,5 +10,6 @@ returns-in-Err g c =
     one_least (view_shallow c.args.subject) (env_seen c.args.point) c.args.values.now c.loop-value.value-index
     c.value-item.result c.loop-value-test.true c.value-item.is in
     let spent = c.loop-value.invariant.cost in
+    let low = c.loop-value.invariant.low in
     let within = c.in-Err.ensures in
-    (omega (arith, spent, within.0, within.1, least), omega (arith, spent, within.0, within.1, least))
+    (omega (arith, spent, low, within.0, within.1, least), omega (arith, spent, low, within.0, within.1, least))

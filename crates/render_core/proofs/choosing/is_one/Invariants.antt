@@ -1,4 +1,4 @@
-use Rattle.std.proofs.Common.{◌≡◌, ◌+◌, drop}
+use Rattle.std.proofs.Common.{◌≡◌, ◌+◌, ◌≤◌, drop}
 use Rattle.soy_tree.specs.ViewExpressions.{view_exprs}
 use Rattle.soy_expr.specs.ViewShallow.{view_shallow}
 use Rattle.soy_meaning.specs.Pieces.{is_one}
@@ -11,6 +11,7 @@ invariant-loop-value g l =
     let env = env_seen l.point in
     record {
       answer : (is_one v (view_exprs l.values) env).0 ≡ (is_one v (view_exprs (drop l.value-index l.values)) env).0;
+      low : l.initial.steps ≤ l.steps;
       cost : l.initial.steps + (is_one v (view_exprs l.values) env).1
           ≡ l.steps + (is_one v (view_exprs (drop l.value-index l.values)) env).1;
     }
