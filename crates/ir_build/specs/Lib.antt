@@ -1,0 +1,4 @@
+pub mod ViewScene
+pub mod TextOps
+pub mod Laid
+pub mod Claims
