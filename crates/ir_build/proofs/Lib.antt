@@ -1,1 +1,13 @@
 pub mod OpLists
+pub mod Laying
+pub mod CommandOps
+pub mod Loops
+pub mod Views
+pub mod FormViews
+pub mod GivenOps
+pub mod NodeSteps
+pub mod PartSteps
+pub mod Placing
+pub mod Choosing
+pub mod Callees
+pub mod RoutineSteps

@@ -1,16 +1,17 @@
 -- What the compiler goes by, as the definitions have it: templates, what a bundle brings, and what the ops of a template
 -- go by.
-use Rattle.std.specs.Prelude.{Bool, List, map, ◌++◌}
+use Rattle.std.specs.Prelude.{Bool, List, Option, map, ◌++◌}
 use Rattle.soy_base.specs.declared.fault.Span.{Span}
 use Rattle.soy_base.specs.declared.place.Place.{Place}
 use Rattle.soy_meaning.specs.PlanOfNodes.{starts_at}
 use Rattle.soy_tree.specs.Bodies.{names_given}
 use Rattle.soy_tree.specs.declared.bundle.Bundle.{Bundle}
-use Rattle.soy_tree.specs.Nodes.{Arguments}
+use Rattle.soy_tree.specs.MessageParts.{MsgParts}
+use Rattle.soy_tree.specs.Nodes.{Arguments, Message}
 use Rattle.soy_tree.specs.Templates.{Declared, callee}
 use Rattle.soy_tree.specs.Types.{Name}
 use Rattle.soy_tree.specs.ViewTrees.{view_params, view_template}
-use Rattle.msg_bundle.specs.BundleFits.{translation_of}
+use Rattle.ir_build.specs.Translations.{translation_of}
 use Rattle.msg_extract.specs.MessageId.{id_of}
 use Rattle.template_ir.specs.Compiles.{CompileContext, Language, callee_number, handed_on_names, params_there}
 use Rattle.template_ir.specs.Compiles.{same_handed}
@@ -33,6 +34,9 @@ language_of b = record {
   ordinal = b.ordinal;
 }
 
+abbrev pub translation_in : Scene → Message → Option MsgParts
+translation_in s = (language_of s.bundle.now).translation
+
 -- what the ops of a template go by, where these are all ops
 abbrev pub context_of : Scene → List Op → CompileContext
 context_of s ops = record {
@@ -40,7 +44,7 @@ context_of s ops = record {
   namespace = s.namespace.now;
   params = view_params s.params.now;
   declared = view_all s.declared.now;
-  translation = (language_of s.bundle.now).translation;
+  translation = translation_in s;
   places = s.places.now;
   ops = ops;
 }

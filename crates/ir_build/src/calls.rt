@@ -1,23 +1,25 @@
 //! The op of a call, over the blocks of its params.
 
-ghost use Rattle.std.specs.Prelude.{◌≡◌, ◌∷◌, [], ◌++◌, is_some, map, OnOk};
-ghost use Rattle.soy_meaning.specs.PlanOfNodes.{starts_at};
+ghost use Rattle.std.specs.Prelude.{◌≡◌, ◌∷◌, [], ◌++◌, is_some, map, option_map, slice_get, OnOk};
 ghost use Rattle.soy_tree.specs.Bodies.{names_given, param_of};
 ghost use Rattle.soy_tree.specs.Declarations.{is_among};
-ghost use Rattle.soy_tree.specs.Templates.{callee};
+ghost use Rattle.soy_tree.specs.ViewExpressions.{view_expr};
 ghost use Rattle.soy_tree.specs.ViewNodes.{view_arguments};
 ghost use Rattle.soy_tree.specs.ViewTrees.{view_params};
-ghost use Rattle.template_ir.specs.Compiles.{callee_number, handed_on_names, params_there, same_handed};
-ghost use Rattle.template_ir.specs.Ops.{CallOp};
+ghost use Rattle.template_ir.specs.Compiles.{handed_on_names, params_there, same_handed};
+ghost use Rattle.template_ir.specs.Ops.{HandedBlock, HandedValue};
 ghost use Rattle.template_ir.specs.ViewOps.{view_handed, view_ops};
+ghost use Rattle.ir_build.specs.Laid.{laid_block, view_output, with_ops};
+ghost use Rattle.ir_build.specs.Rows.{handed};
 ghost use Rattle.ir_build.specs.ViewScene.{call_op, view_all};
 
 use crate::commands::push_op;
+use crate::output::Output;
 use crate::scene::Scene;
 use crate::template::Declared;
 use crate::templates::callee_number;
-use soy_base::{OutOfMemory, Place, Seq, Span, Text};
-use soy_tree::{Argument, Param};
+use soy_base::{Kind, OutOfMemory, Place, Seq, Span, Text};
+use soy_tree::{Argument, Expr, Param};
 use std::alloc::Global;
 use template_ir::{Callee, Handed, HandedBy, Op};
 
@@ -82,12 +84,64 @@ fn add_one(alloc: Global, handed: &mut Vec<Handed>, name: &Text) -> Result<(), O
     Ok(())
 }
 
+/// The template of a number.
+fn declared_at<'d, 'a>(all: &'d [Declared<'a>], number: usize) -> Option<&'d Declared<'a>>
+    ensures { option_map (λ d. d.now) result ≡ slice_get all.now number }
+{
+    all.get(number)
+}
+
 /// The parameters of the template of a number, and none past all templates.
-fn params_at<'a>(all: &[Declared<'a>], number: usize) -> &'a [Param] {
-    match all.get(number) {
+fn params_at<'a>(all: &[Declared<'a>], number: usize) -> &'a [Param]
+    ensures { view_params result.now ≡ params_there (slice_get (view_all all.now) number) }
+{
+    match declared_at(all, number) {
         Some(declared) => declared.template.params.items(),
         None => &[],
     }
+}
+
+/// Adds a param that is given as a value.
+#[tactic(auto, using(crate::proofs::OpLists::map_append))]
+pub(crate) fn push_plain(
+    alloc: Global,
+    handed: &mut Vec<Handed>,
+    name: &Text,
+    expr: &Expr,
+) -> Result<(), OutOfMemory>
+    ensures { OnOk result (map view_handed handed.new.items
+        ≡ map view_handed handed.old.items ++ handed name.now (HandedValue (view_expr expr.now)) ∷ []) }
+{
+    let name = name.copy(alloc)?;
+    let expr = expr.copy(alloc)?;
+    handed.push(Handed {
+        name,
+        by: HandedBy::Plain(expr),
+    })?;
+    Ok(())
+}
+
+/// Adds a param that is given as a block of these ops.
+#[tactic(auto, using(crate::proofs::OpLists::map_append))]
+pub(crate) fn push_block(
+    alloc: Global,
+    out: &mut Output,
+    handed: &mut Vec<Handed>,
+    name: &Text,
+    kind: Kind,
+    body: Vec<Op>,
+) -> Result<(), OutOfMemory>
+    ensures handed { OnOk result (map view_handed handed.new.items ≡ map view_handed handed.old.items
+        ++ handed name.now (HandedBlock kind (laid_block (view_output out.old) (view_ops body.items))) ∷ []) }
+    ensures made { OnOk result (view_output out.new ≡ with_ops (view_output out.old) (view_ops body.items)) }
+{
+    let body = out.lay(body)?;
+    let name = name.copy(alloc)?;
+    handed.push(Handed {
+        name,
+        by: HandedBy::Block(kind, body),
+    })?;
+    Ok(())
 }
 
 /// Adds a call whose params are handed so, with what `data="all"` hands on.

@@ -1,13 +1,14 @@
 //! The ops of single commands, over the blocks that they name.
 
-ghost use Rattle.std.specs.Prelude.{◌≡◌, ◌∷◌, [], ◌++◌, false, map, IfOk, OnOk};
+ghost use Rattle.std.specs.Prelude.{◌≡◌, ◌∷◌, [], ◌++◌, Some, None, false, map, IfOk, OnOk};
 ghost use Rattle.soy_tree.specs.ViewExpressions.{view_expr, view_exprs};
 ghost use Rattle.template_ir.specs.Compiles.{other_arm, other_word};
 ghost use Rattle.template_ir.specs.Ops.{ForOp, IfOp, LetBlockOp, LetOp, NumberOp, PluralOp, PrintOp, SelectOp};
 ghost use Rattle.template_ir.specs.Ops.{SwitchOp};
 ghost use Rattle.template_ir.specs.StandFor.{place_of};
 ghost use Rattle.template_ir.specs.ViewOps.{view_branch, view_choice, view_ops};
-ghost use Rattle.ir_build.specs.Laid.{TakesHole};
+ghost use Rattle.ir_build.specs.Laid.{laid_block, view_output, with_hole, with_ops};
+ghost use Rattle.ir_build.specs.Rows.{branch, choice, exact_block, named_block, word_block};
 ghost use Rattle.ir_build.specs.TextOps.{text_ops};
 
 use crate::output::Output;
@@ -49,52 +50,122 @@ pub(crate) fn push_print(
 ) -> Result<(), OutOfMemory>
     ensures own { OnOk result (view_ops own.new.items
         ≡ view_ops own.old.items ++ PrintOp (view_expr expr.now) (place_of places.now out.old.holes) ∷ []) }
-    ensures out { OnOk result (TakesHole out.old out.new) }
+    ensures made { OnOk result (view_output out.new ≡ with_hole (view_output out.old)) }
 {
     let place = out.take_place(places)?;
     let expr = expr.copy(alloc)?;
     push_op(own, Op::Print(expr, place))
 }
 
-/// Adds an if.
-pub(crate) fn push_if(
-    own: &mut Vec<Op>,
-    branches: Seq<Branch>,
-    other: Option<Block>,
-) -> Result<(), OutOfMemory>
+/// Adds an if without an else.
+pub(crate) fn push_if(own: &mut Vec<Op>, branches: Vec<Branch>) -> Result<(), OutOfMemory>
     ensures { OnOk result (view_ops own.new.items
-        ≡ view_ops own.old.items ++ IfOp (map view_branch branches) other ∷ []) }
+        ≡ view_ops own.old.items ++ IfOp (map view_branch branches.items) None ∷ []) }
 {
-    push_op(own, Op::If(branches, other))
+    push_op(own, Op::If(Seq::new(branches), None))
 }
 
-/// Adds a switch.
+/// Adds an if with an else, of these ops.
+pub(crate) fn push_if_else(
+    out: &mut Output,
+    own: &mut Vec<Op>,
+    branches: Vec<Branch>,
+    other: Vec<Op>,
+) -> Result<(), OutOfMemory>
+    ensures own { OnOk result (view_ops own.new.items ≡ view_ops own.old.items
+        ++ IfOp (map view_branch branches.items) (Some (laid_block (view_output out.old) (view_ops other.items))) ∷ []) }
+    ensures made { OnOk result (view_output out.new ≡ with_ops (view_output out.old) (view_ops other.items)) }
+{
+    let other = out.lay(other)?;
+    push_op(own, Op::If(Seq::new(branches), Some(other)))
+}
+
+/// Adds a branch of an if, whose body is these ops.
+#[tactic(auto, using(crate::proofs::OpLists::map_append))]
+pub(crate) fn push_branch(
+    alloc: Global,
+    out: &mut Output,
+    branches: &mut Vec<Branch>,
+    when: &Expr,
+    body: Vec<Op>,
+) -> Result<(), OutOfMemory>
+    ensures branches { OnOk result (map view_branch branches.new.items ≡ map view_branch branches.old.items
+        ++ branch (view_expr when.now) (laid_block (view_output out.old) (view_ops body.items)) ∷ []) }
+    ensures made { OnOk result (view_output out.new ≡ with_ops (view_output out.old) (view_ops body.items)) }
+{
+    let body = out.lay(body)?;
+    let when = when.copy(alloc)?;
+    branches.push(Branch { when, body })?;
+    Ok(())
+}
+
+/// Adds a switch without a default.
 pub(crate) fn push_switch(
     alloc: Global,
     own: &mut Vec<Op>,
     subject: &Expr,
-    choices: Seq<Choice>,
-    other: Option<Block>,
+    choices: Vec<Choice>,
 ) -> Result<(), OutOfMemory>
-    ensures { OnOk result (view_ops own.new.items
-        ≡ view_ops own.old.items ++ SwitchOp (view_expr subject.now) (map view_choice choices) other ∷ []) }
+    ensures { OnOk result (view_ops own.new.items ≡ view_ops own.old.items
+        ++ SwitchOp (view_expr subject.now) (map view_choice choices.items) None ∷ []) }
 {
     let subject = subject.copy(alloc)?;
-    push_op(own, Op::Switch(subject, choices, other))
+    push_op(own, Op::Switch(subject, Seq::new(choices), None))
 }
 
-/// Adds a loop.
+/// Adds a switch with a default, of these ops.
+pub(crate) fn push_switch_default(
+    alloc: Global,
+    out: &mut Output,
+    own: &mut Vec<Op>,
+    subject: &Expr,
+    choices: Vec<Choice>,
+    other: Vec<Op>,
+) -> Result<(), OutOfMemory>
+    ensures own { OnOk result (view_ops own.new.items ≡ view_ops own.old.items
+        ++ SwitchOp (view_expr subject.now) (map view_choice choices.items)
+        (Some (laid_block (view_output out.old) (view_ops other.items))) ∷ []) }
+    ensures made { OnOk result (view_output out.new ≡ with_ops (view_output out.old) (view_ops other.items)) }
+{
+    let other = out.lay(other)?;
+    let subject = subject.copy(alloc)?;
+    push_op(own, Op::Switch(subject, Seq::new(choices), Some(other)))
+}
+
+/// Adds a case of a switch, whose body is these ops.
+#[tactic(auto, using(crate::proofs::OpLists::map_append))]
+pub(crate) fn push_choice(
+    alloc: Global,
+    out: &mut Output,
+    choices: &mut Vec<Choice>,
+    values: &[Expr],
+    body: Vec<Op>,
+) -> Result<(), OutOfMemory>
+    ensures choices { OnOk result (map view_choice choices.new.items ≡ map view_choice choices.old.items
+        ++ choice (view_exprs values.now) (laid_block (view_output out.old) (view_ops body.items)) ∷ []) }
+    ensures made { OnOk result (view_output out.new ≡ with_ops (view_output out.old) (view_ops body.items)) }
+{
+    let body = out.lay(body)?;
+    let values = copied_exprs(alloc, values)?;
+    choices.push(Choice { values, body })?;
+    Ok(())
+}
+
+/// Adds a loop, whose body is these ops.
 pub(crate) fn push_for(
     alloc: Global,
+    out: &mut Output,
     own: &mut Vec<Op>,
     name: &Text,
     index: &Option<Text>,
     list: &Expr,
-    body: Block,
+    body: Vec<Op>,
 ) -> Result<(), OutOfMemory>
-    ensures { OnOk result (view_ops own.new.items
-        ≡ view_ops own.old.items ++ ForOp name.now index.now (view_expr list.now) body ∷ []) }
+    ensures own { OnOk result (view_ops own.new.items ≡ view_ops own.old.items
+        ++ ForOp name.now index.now (view_expr list.now) (laid_block (view_output out.old) (view_ops body.items)) ∷ []) }
+    ensures made { OnOk result (view_output out.new ≡ with_ops (view_output out.old) (view_ops body.items)) }
 {
+    let body = out.lay(body)?;
     let index = copied_name(alloc, index)?;
     let name = name.copy(alloc)?;
     let list = list.copy(alloc)?;
@@ -116,16 +187,20 @@ pub(crate) fn push_let(
     push_op(own, Op::Let(name, expr))
 }
 
-/// Adds a let of a block.
+/// Adds a let of a block of these ops.
 pub(crate) fn push_let_block(
     alloc: Global,
+    out: &mut Output,
     own: &mut Vec<Op>,
     name: &Text,
     kind: Kind,
-    body: Block,
+    body: Vec<Op>,
 ) -> Result<(), OutOfMemory>
-    ensures { OnOk result (view_ops own.new.items ≡ view_ops own.old.items ++ LetBlockOp name.now kind body ∷ []) }
+    ensures own { OnOk result (view_ops own.new.items ≡ view_ops own.old.items
+        ++ LetBlockOp name.now kind (laid_block (view_output out.old) (view_ops body.items)) ∷ []) }
+    ensures made { OnOk result (view_output out.new ≡ with_ops (view_output out.old) (view_ops body.items)) }
 {
+    let body = out.lay(body)?;
     let name = name.copy(alloc)?;
     push_op(own, Op::LetBlock(name, kind, body))
 }
@@ -138,7 +213,7 @@ pub(crate) fn push_number(
 ) -> Result<(), OutOfMemory>
     ensures own { OnOk result (view_ops own.new.items
         ≡ view_ops own.old.items ++ NumberOp (place_of places.now out.old.holes) ∷ []) }
-    ensures out { OnOk result (TakesHole out.old out.new) }
+    ensures made { OnOk result (view_output out.new ≡ with_hole (view_output out.old)) }
 {
     let place = out.take_place(places)?;
     push_op(own, Op::Number(place))
@@ -170,24 +245,60 @@ pub(crate) fn push_plural(
     )
 }
 
-/// Adds a plural of the source, whose default is the arm of the category other.
+/// Adds a plural of the source, whose default is these ops, as the arm of the category other.
 pub(crate) fn push_source_plural(
     alloc: Global,
+    out: &mut Output,
     own: &mut Vec<Op>,
     number: &Expr,
     offset: u64,
-    exact: Seq<ExactBlock>,
-    other: Block,
+    exact: Vec<ExactBlock>,
+    other: Vec<Op>,
 ) -> Result<(), OutOfMemory>
-    ensures { OnOk result (view_ops own.new.items ≡ view_ops own.old.items
-        ++ PluralOp (view_expr number.now) offset false exact (other_arm other ∷ []) ∷ []) }
+    ensures own { OnOk result (view_ops own.new.items ≡ view_ops own.old.items
+        ++ PluralOp (view_expr number.now) offset false exact.items
+        (other_arm (laid_block (view_output out.old) (view_ops other.items)) ∷ []) ∷ []) }
+    ensures made { OnOk result (view_output out.new ≡ with_ops (view_output out.old) (view_ops other.items)) }
 {
+    let body = out.lay(other)?;
     let mut named = Vec::new(alloc);
     named.push(NamedBlock {
         category: Category::Other,
-        body: other,
+        body,
     })?;
-    push_plural(alloc, own, number, offset, false, exact, Seq::new(named))
+    push_plural(alloc, own, number, offset, false, Seq::new(exact), Seq::new(named))
+}
+
+/// Adds a case of a plural, whose body is these ops.
+pub(crate) fn push_exact(
+    out: &mut Output,
+    blocks: &mut Vec<ExactBlock>,
+    is: i64,
+    body: Vec<Op>,
+) -> Result<(), OutOfMemory>
+    ensures blocks { OnOk result (blocks.new.items ≡ blocks.old.items
+        ++ exact_block is (laid_block (view_output out.old) (view_ops body.items)) ∷ []) }
+    ensures made { OnOk result (view_output out.new ≡ with_ops (view_output out.old) (view_ops body.items)) }
+{
+    let body = out.lay(body)?;
+    blocks.push(ExactBlock { is, body })?;
+    Ok(())
+}
+
+/// Adds an arm of a plural for a category, whose body is these ops.
+pub(crate) fn push_named(
+    out: &mut Output,
+    blocks: &mut Vec<NamedBlock>,
+    category: Category,
+    body: Vec<Op>,
+) -> Result<(), OutOfMemory>
+    ensures blocks { OnOk result (blocks.new.items ≡ blocks.old.items
+        ++ named_block category (laid_block (view_output out.old) (view_ops body.items)) ∷ []) }
+    ensures made { OnOk result (view_output out.new ≡ with_ops (view_output out.old) (view_ops body.items)) }
+{
+    let body = out.lay(body)?;
+    blocks.push(NamedBlock { category, body })?;
+    Ok(())
 }
 
 /// Adds a select.
@@ -204,21 +315,43 @@ pub(crate) fn push_select(
     push_op(own, Op::Select(SelectOp { word, arms }))
 }
 
-/// Adds a select of the source, whose default is the arm of the word other, the last one.
+/// Adds a select of the source, whose default is these ops, as the arm of the word other, the last one.
 pub(crate) fn push_source_select(
     alloc: Global,
+    out: &mut Output,
     own: &mut Vec<Op>,
     word: &Expr,
     arms: Vec<WordBlock>,
-    other: Block,
+    other: Vec<Op>,
 ) -> Result<(), OutOfMemory>
-    ensures { OnOk result (view_ops own.new.items ≡ view_ops own.old.items
-        ++ SelectOp (view_expr word.now) (arms.items ++ other_word other ∷ []) ∷ []) }
+    ensures own { OnOk result (view_ops own.new.items ≡ view_ops own.old.items
+        ++ SelectOp (view_expr word.now)
+        (arms.items ++ other_word (laid_block (view_output out.old) (view_ops other.items)) ∷ []) ∷ []) }
+    ensures made { OnOk result (view_output out.new ≡ with_ops (view_output out.old) (view_ops other.items)) }
 {
+    let body = out.lay(other)?;
     let mut arms = arms;
     let is = Text::new(String::from_str(alloc, "other")?);
-    arms.push(WordBlock { is, body: other })?;
+    arms.push(WordBlock { is, body })?;
     push_select(alloc, own, word, Seq::new(arms))
+}
+
+/// Adds a case or arm of a select, whose body is these ops.
+pub(crate) fn push_word(
+    alloc: Global,
+    out: &mut Output,
+    blocks: &mut Vec<WordBlock>,
+    is: &Text,
+    body: Vec<Op>,
+) -> Result<(), OutOfMemory>
+    ensures blocks { OnOk result (blocks.new.items ≡ blocks.old.items
+        ++ word_block is.now (laid_block (view_output out.old) (view_ops body.items)) ∷ []) }
+    ensures made { OnOk result (view_output out.new ≡ with_ops (view_output out.old) (view_ops body.items)) }
+{
+    let body = out.lay(body)?;
+    let is = is.copy(alloc)?;
+    blocks.push(WordBlock { is, body })?;
+    Ok(())
 }
 
 /// An equal name, if there is one.

@@ -15,8 +15,9 @@ mod output;
 mod parts;
 mod placeholders;
 mod scene;
+mod source;
 mod template;
 mod templates;
 mod translations;
 
-pub use building::{build, program_parts};
+pub use building::program_parts;

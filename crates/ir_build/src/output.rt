@@ -1,8 +1,9 @@
 //! The ops that are made.
 
-ghost use Rattle.std.specs.Prelude.{◌≡◌, ◌+◌, ◌++◌, length, IfOk, OnOk};
+ghost use Rattle.std.specs.Prelude.{◌≡◌, ◌+◌, IfOk, OnOk};
 ghost use Rattle.template_ir.specs.StandFor.{place_of};
 ghost use Rattle.template_ir.specs.ViewOps.{view_ops};
+ghost use Rattle.ir_build.specs.Laid.{laid_block, view_output, with_hole, with_ops};
 
 use soy_base::{OutOfMemory, Place};
 use template_ir::{Block, Op};
@@ -18,8 +19,7 @@ impl Output {
     /// The place of the next hole, which has come then.
     pub fn take_place(&mut self, places: &[Place]) -> Result<Place, OutOfMemory>
         ensures place { IfOk result (λ p. p ≡ place_of places.now self.old.holes) }
-        ensures holes { OnOk result (self.new.holes ≡ self.old.holes + 1) }
-        ensures ops { self.new.ops.items ≡ self.old.ops.items }
+        ensures made { OnOk result (view_output self.new ≡ with_hole (view_output self.old)) }
     {
         let place = place_of(places, self.holes);
         self.holes = next(self.holes)?;
@@ -27,11 +27,10 @@ impl Output {
     }
 
     /// The block of ops, which are put at the end.
+    #[tactic(auto, using(crate::proofs::OpLists::map_append, crate::proofs::OpLists::length_map))]
     pub fn lay(&mut self, own: Vec<Op>) -> Result<Block, OutOfMemory>
-        ensures ops { OnOk result (view_ops self.new.ops.items ≡ view_ops self.old.ops.items ++ view_ops own.items) }
-        ensures first { IfOk result (λ b. b.first ≡ length (view_ops self.old.ops.items)) }
-        ensures end { IfOk result (λ b. b.end ≡ length (view_ops self.old.ops.items) + length (view_ops own.items)) }
-        ensures holes { self.new.holes ≡ self.old.holes }
+        ensures block { IfOk result (λ b. b ≡ laid_block (view_output self.old) (view_ops own.items)) }
+        ensures made { OnOk result (view_output self.new ≡ with_ops (view_output self.old) (view_ops own.items)) }
     {
         let mut own = own;
         let first = self.ops.len();

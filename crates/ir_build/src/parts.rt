@@ -1,11 +1,25 @@
 //! The ops of a translation's parts.
 
-use crate::commands::{push_number, push_plural, push_select, push_text};
+ghost use Rattle.std.specs.Prelude.{◌≡◌, ◌++◌, true, false, map, IfOk, OnOk};
+ghost use Rattle.soy_meaning.specs.Branch.{selector};
+ghost use Rattle.soy_tree.specs.ViewMessageParts.{exact_arms_of, named_arms_of, select_arms_of};
+ghost use Rattle.soy_tree.specs.ViewMessageParts.{view_exact, view_named, view_part, view_parts, view_select_arm};
+ghost use Rattle.template_ir.specs.HoleCounts.{exact_holes, named_holes, part_holes, parts_holes, word_holes};
+ghost use Rattle.template_ir.specs.Ops.{PluralOp, SelectOp};
+ghost use Rattle.template_ir.specs.ViewOps.{view_ops};
+ghost use Rattle.ir_build.specs.Claims.{exact_stand, named_stand, part_stands, parts_stand, selected_ops, source_uses};
+ghost use Rattle.ir_build.specs.Claims.{words_stand};
+ghost use Rattle.ir_build.specs.HasNames.{HasNames};
+ghost use Rattle.ir_build.specs.Laid.{Lays, Pushes, view_output};
+
+use crate::commands::{push_exact, push_named, push_number, push_plural, push_select, push_text};
+use crate::commands::push_word;
 use crate::output::Output;
-use crate::placeholders::{Source, push_placeholder, selector_of};
+use crate::placeholders::{push_placeholder, selector_of};
+use crate::source::Source;
 use soy_base::{OutOfMemory, Seq};
 use soy_tree::{ExactArm, MsgPart, NamedArm, PluralPart, SelectArm, SelectPart};
-use template_ir::{Block, ExactBlock, NamedBlock, Op, WordBlock};
+use template_ir::{ExactBlock, NamedBlock, Op, WordBlock};
 
 /// Adds parts.
 #[cycle(parts)]
@@ -14,7 +28,12 @@ pub(crate) fn push_parts(
     out: &mut Output,
     own: &mut Vec<Op>,
     parts: &[MsgPart],
-) -> Result<(), OutOfMemory> {
+) -> Result<(), OutOfMemory>
+    requires { HasNames source.now }
+    ensures { OnOk result (Pushes (parts_stand source.now (view_parts parts.now))
+        (parts_holes (source_uses source.now) (view_parts parts.now)) (view_output out.old) (view_output out.new)
+        (view_ops own.old.items) (view_ops own.new.items)) }
+{
     for part in parts {
         push_part(source, out, own, part)?;
     }
@@ -28,7 +47,12 @@ fn push_part(
     out: &mut Output,
     own: &mut Vec<Op>,
     part: &MsgPart,
-) -> Result<(), OutOfMemory> {
+) -> Result<(), OutOfMemory>
+    requires { HasNames source.now }
+    ensures { OnOk result (Pushes (part_stands source.now (view_part part.now))
+        (part_holes (source_uses source.now) (view_part part.now)) (view_output out.old) (view_output out.new)
+        (view_ops own.old.items) (view_ops own.new.items)) }
+{
     match part {
         MsgPart::Text(text) => push_text(source.alloc, own, text),
         MsgPart::Placeholder(name) => push_placeholder(source, out, own, name),
@@ -45,31 +69,26 @@ fn push_part(
     }
 }
 
-/// The block of parts.
-#[cycle(parts)]
-fn parts_block(
-    source: &Source<'_>,
-    out: &mut Output,
-    parts: &[MsgPart],
-) -> Result<Block, OutOfMemory> {
-    let mut own = Vec::new(source.alloc);
-    push_parts(source, out, &mut own, parts)?;
-    out.lay(own)
-}
-
 /// The arms for single numbers.
 #[cycle(parts)]
 fn exact_blocks(
     source: &Source<'_>,
     out: &mut Output,
     arms: &[ExactArm],
-) -> Result<Seq<ExactBlock>, OutOfMemory> {
+) -> Result<Vec<ExactBlock>, OutOfMemory>
+    requires { HasNames source.now }
+    ensures { IfOk result (λ blocks. Lays
+        (exact_stand source.now (exact_arms_of (map view_exact arms.now)) blocks.items)
+        (exact_holes (source_uses source.now) (exact_arms_of (map view_exact arms.now)))
+        (view_output out.old) (view_output out.new)) }
+{
     let mut blocks = Vec::new(source.alloc);
     for arm in arms {
-        let body = parts_block(source, out, arm.parts.items())?;
-        blocks.push(ExactBlock { is: arm.is, body })?;
+        let mut body = Vec::new(source.alloc);
+        push_parts(source, out, &mut body, arm.parts.items())?;
+        push_exact(out, &mut blocks, arm.is, body)?;
     }
-    Ok(Seq::new(blocks))
+    Ok(blocks)
 }
 
 /// The arms for categories.
@@ -78,16 +97,20 @@ fn named_blocks(
     source: &Source<'_>,
     out: &mut Output,
     arms: &[NamedArm],
-) -> Result<Seq<NamedBlock>, OutOfMemory> {
+) -> Result<Vec<NamedBlock>, OutOfMemory>
+    requires { HasNames source.now }
+    ensures { IfOk result (λ blocks. Lays
+        (named_stand source.now (named_arms_of (map view_named arms.now)) blocks.items)
+        (named_holes (source_uses source.now) (named_arms_of (map view_named arms.now)))
+        (view_output out.old) (view_output out.new)) }
+{
     let mut blocks = Vec::new(source.alloc);
     for arm in arms {
-        let body = parts_block(source, out, arm.parts.items())?;
-        blocks.push(NamedBlock {
-            category: arm.category,
-            body,
-        })?;
+        let mut body = Vec::new(source.alloc);
+        push_parts(source, out, &mut body, arm.parts.items())?;
+        push_named(out, &mut blocks, arm.category, body)?;
     }
-    Ok(Seq::new(blocks))
+    Ok(blocks)
 }
 
 /// The arms for words.
@@ -96,14 +119,20 @@ fn word_blocks(
     source: &Source<'_>,
     out: &mut Output,
     arms: &[SelectArm],
-) -> Result<Seq<WordBlock>, OutOfMemory> {
+) -> Result<Vec<WordBlock>, OutOfMemory>
+    requires { HasNames source.now }
+    ensures { IfOk result (λ blocks. Lays
+        (words_stand source.now (select_arms_of (map view_select_arm arms.now)) blocks.items)
+        (word_holes (source_uses source.now) (select_arms_of (map view_select_arm arms.now)))
+        (view_output out.old) (view_output out.new)) }
+{
     let mut blocks = Vec::new(source.alloc);
     for arm in arms {
-        let body = parts_block(source, out, arm.parts.items())?;
-        let is = arm.is.copy(source.alloc)?;
-        blocks.push(WordBlock { is, body })?;
+        let mut body = Vec::new(source.alloc);
+        push_parts(source, out, &mut body, arm.parts.items())?;
+        push_word(source.alloc, out, &mut blocks, &arm.is, body)?;
     }
-    Ok(Seq::new(blocks))
+    Ok(blocks)
 }
 
 /// Adds a plural of these arms, unless its selector has no name in the message.
@@ -111,10 +140,15 @@ fn push_plural_part(
     source: &Source<'_>,
     own: &mut Vec<Op>,
     plural: &PluralPart,
-    exact: Seq<ExactBlock>,
-    named: Seq<NamedBlock>,
-) -> Result<(), OutOfMemory> {
-    match selector_of(source.selectors, true, &plural.name) {
+    exact: Vec<ExactBlock>,
+    named: Vec<NamedBlock>,
+) -> Result<(), OutOfMemory>
+    requires { HasNames source.now }
+    ensures { OnOk result (view_ops own.new.items ≡ view_ops own.old.items
+        ++ selected_ops (selector true plural.now.name (source_uses source.now) (source_uses source.now))
+        (λ e. PluralOp e plural.now.offset plural.now.ordinal exact.items named.items)) }
+{
+    match selector_of(source, true, &plural.name) {
         None => Ok(()),
         Some(number) => push_plural(
             source.alloc,
@@ -122,8 +156,8 @@ fn push_plural_part(
             number,
             plural.offset,
             plural.ordinal,
-            exact,
-            named,
+            Seq::new(exact),
+            Seq::new(named),
         ),
     }
 }
@@ -133,10 +167,15 @@ fn push_select_part(
     source: &Source<'_>,
     own: &mut Vec<Op>,
     select: &SelectPart,
-    arms: Seq<WordBlock>,
-) -> Result<(), OutOfMemory> {
-    match selector_of(source.selectors, false, &select.name) {
+    arms: Vec<WordBlock>,
+) -> Result<(), OutOfMemory>
+    requires { HasNames source.now }
+    ensures { OnOk result (view_ops own.new.items ≡ view_ops own.old.items
+        ++ selected_ops (selector false select.now.name (source_uses source.now) (source_uses source.now))
+        (λ e. SelectOp e arms.items)) }
+{
+    match selector_of(source, false, &select.name) {
         None => Ok(()),
-        Some(word) => push_select(source.alloc, own, word, arms),
+        Some(word) => push_select(source.alloc, own, word, Seq::new(arms)),
     }
 }
