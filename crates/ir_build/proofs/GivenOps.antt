@@ -15,7 +15,7 @@ use Rattle.template_ir.specs.Ops.{Handed, HandedBlock, HandedValue, Op}
 use Rattle.ir_build.specs.Claims.{block_stands, node_stands, nodes_stand}
 use Rattle.ir_build.specs.Gives.{Gives, given_stands}
 use Rattle.ir_build.specs.Laid.{Lays, Made, Pushes, laid_block, with_ops}
-use Rattle.ir_build.specs.Rows.{handed}
+use Rattle.ir_build.specs.Rows.{handed_as}
 use Rattle.ir_build.specs.ViewScene.{translation_in}
 use Rattle.ir_build.specs.declared.scene.Scene.{Scene}
 use Rattle.ir_build.proofs.FormViews.{view_Block, view_Plain}
@@ -24,7 +24,7 @@ use Rattle.ir_build.proofs.Views.{view_argument_is}
 
 module _ (s : Scene) where
   pub gives_plain : (a : code_argument.Argument) (e : code_expr.Expr) (m : Made) (done done_after : List Handed)
-      → a.given ≡ given.Plain e → done_after ≡ done ++ (handed a.name (HandedValue (view_expr e)) ∷ [])
+      → a.given ≡ given.Plain e → done_after ≡ done ++ (handed_as a.name (HandedValue (view_expr e)) ∷ [])
       → Gives s (view_argument a) m m done done_after
   gives_plain a e m done done_after is adds =
       subst (λ (v : Name × Given × Span). Gives s v m m done done_after)
@@ -38,7 +38,7 @@ module _ (s : Scene) where
   pub gives_block : (x : code_argument.Argument) (kind : Kind) (body items : List code.Node) (a b d : Made)
       (none inner : List Op) (done done_after : List Handed) → x.given ≡ given.Block kind body → items ≡ body → none ≡ []
       → Pushes (nodes_stand s (view_nodes items)) (nodes_holes (translation_in s) (view_nodes items)) a b none inner
-      → d ≡ with_ops b inner → done_after ≡ done ++ (handed x.name (HandedBlock kind (laid_block b inner)) ∷ [])
+      → d ≡ with_ops b inner → done_after ≡ done ++ (handed_as x.name (HandedBlock kind (laid_block b inner)) ∷ [])
       → Gives s (view_argument x) a d done done_after
   gives_block x kind body items a b d none inner done done_after is it nil p made adds =
       subst (λ (v : Name × Given × Span). Gives s v a d done done_after)

@@ -170,10 +170,10 @@ pushes_both X Y h k a b d x y z p q = record {
       let le_past : length d.ops ≤ at + length p.added = omega (arith, le) in (
         at + length p.added,
         p.stands all at (has_before b.ops q.inner d.ops all q.ops has)
-        (long_before b.ops q.inner d.ops at q.ops le) s.0,
+            (long_before b.ops q.inner d.ops at q.ops le) s.0,
         subst (λ (n : ℕ). Y (a.holes + h) all (at + length p.added) n) e
-        (subst (λ (n : ℕ). Y n all (at + length p.added) (at + length p.added + length q.added)) p.holes
-        (q.stands all (at + length p.added) has le_past s.1)),
+            (subst (λ (n : ℕ). Y n all (at + length p.added) (at + length p.added + length q.added)) p.holes
+            (q.stands all (at + length p.added) has le_past s.1)),
       );
 }
 
@@ -196,7 +196,7 @@ pushes_block Y h a b d none own nil p is =
           let itself : length b.ops ≤ length b.ops = omega arith in (
             omega (arith, g, le),
             subst (λ (x : List Op). Y a.holes all (length b.ops) (length b.ops + length x)) (sym same)
-            (p.stands all (length b.ops) s.0 itself there),
+                (p.stands all (length b.ops) s.0 itself there),
           );
     })
 

@@ -4,6 +4,7 @@ pub mod CommandOps
 pub mod Loops
 pub mod Views
 pub mod FormViews
+pub mod PartViews
 pub mod GivenOps
 pub mod NodeSteps
 pub mod PartSteps

@@ -27,7 +27,7 @@ use Rattle.ir_build.specs.Claims.{nodes_stand, plural_cases_stand, select_cases_
 use Rattle.ir_build.specs.Gives.{Gives, given_stands}
 use Rattle.ir_build.specs.Laid.{Lays, Made, Pushes, laid_block, with_ops}
 use Rattle.ir_build.specs.OnGoing.{PushesOn, RowsOn}
-use Rattle.ir_build.specs.Rows.{branch, choice, exact_block, handed, word_block}
+use Rattle.ir_build.specs.Rows.{branch, choice, exact_block, handed_as, word_block}
 use Rattle.ir_build.specs.ViewScene.{translation_in}
 use Rattle.ir_build.specs.declared.scene.Scene.{Scene}
 use Rattle.ir_build.proofs.Laying.{lays_as, lays_both, pushes_block, pushes_both, pushes_none}
@@ -176,11 +176,11 @@ module _ (s : Scene) where
       rows_step (given_stand s (view_arguments (drop i xs))) (given_stand s rest) (given_stand s (view_arguments xs))
       (argument_holes (translation_in s) (view_arguments (drop i xs))) (argument_holes (translation_in s) rest)
       (argument_holes (translation_in s) (view_arguments xs)) first now next done done_next
-      (handed (view_argument x).0 g.by) g.adds
-      (λ later more l. subst (λ (w : Arguments). Lays (given_stand s w (handed (view_argument x).0 g.by ∷ more))
+      (handed_as (view_argument x).0 g.by) g.adds
+      (λ later more l. subst (λ (w : Arguments). Lays (given_stand s w (handed_as (view_argument x).0 g.by ∷ more))
       (argument_holes (translation_in s) w) now later) (sym (argument_next xs i x below is))
       (lays_as _ (given_stand s (argument (view_argument x).0 (view_argument x).1 (view_argument x).2 rest)
-      (handed (view_argument x).0 g.by ∷ more))
+      (handed_as (view_argument x).0 g.by ∷ more))
       (given_holes (translation_in s) (view_argument x).1 + argument_holes (translation_in s) rest) _ now later refl
       (λ hole all before y. (refl, y.0, y.1))
       (lays_both (given_stands s (view_argument x).1 g.by) (given_stand s rest more)

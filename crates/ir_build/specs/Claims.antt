@@ -3,11 +3,12 @@ use Rattle.std.specs.Prelude.{ℕ, ◌+◌, ◌≤◌, List, [], ◌∷◌, Opti
 use Rattle.soy_base.specs.declared.place.Place.{Place}
 use Rattle.soy_meaning.specs.PlanOfNodes.{uses_of}
 use Rattle.soy_tree.specs.Expressions.{Expr}
-use Rattle.soy_tree.specs.MessageParts.{ExactArms, MsgPart, MsgParts, NamedArms, SelectArms}
+use Rattle.soy_tree.specs.MessageParts.{ExactArms, MsgPart, MsgParts, NamedArms, Placeholder, SelectArms}
 use Rattle.soy_tree.specs.Nodes.{Arguments, Arms, Cases, Message, MessageBody, Node, Nodes, PluralCases, SelectCases}
 use Rattle.soy_tree.specs.Nodes.{Print, TextNode, no_node, node}
 use Rattle.soy_tree.specs.Placeholders.{Use}
 use Rattle.soy_tree.specs.Templates.{Declared}
+use Rattle.soy_tree.specs.Types.{Name}
 use Rattle.soy_tree.specs.ViewNodes.{view_message}
 use Rattle.template_ir.specs.Compiles.{StandsArms, StandsCases, StandsGiven, StandsNode, StandsNodes, StandsPluralCases}
 use Rattle.template_ir.specs.Compiles.{StandsSelectCases, StandsSource, StandsTemplates}
@@ -78,6 +79,10 @@ words_stand s arms blocks hole all before = StandsWords s.places.now all (source
 -- of a translation of a message
 abbrev pub translation_stands : List Place → Message → MsgParts → ℕ → List Op → ℕ → ℕ → Type 0
 translation_stands places m ps hole all at end = StandsParts places all (uses_of m) ps hole at end
+
+-- a placeholder of a name
+abbrev pub named_part : Name → MsgPart
+named_part name = Placeholder name
 
 -- the op of a plural or select, which there isn't where its selector has no name
 abbrev pub selected_ops : Option Expr → (Expr → Op) → List Op

@@ -7,7 +7,7 @@ use Rattle.template_ir.specs.Compiles.{StandsHanded}
 use Rattle.template_ir.specs.HoleCounts.{given_holes}
 use Rattle.template_ir.specs.Ops.{Handed, HandedBy, Op}
 use Rattle.ir_build.specs.Laid.{Lays, Made}
-use Rattle.ir_build.specs.Rows.{handed}
+use Rattle.ir_build.specs.Rows.{handed_as}
 use Rattle.ir_build.specs.ViewScene.{context_of, translation_in}
 use Rattle.ir_build.specs.declared.scene.Scene.{Scene}
 
@@ -17,5 +17,5 @@ given_stands s given by hole all before = StandsHanded (context_of s all) given 
 pub record Gives (s : Scene) (argument : Name × Given × Span) (old new : Made) (handed_before handed_after : List Handed)
     : Type 0 where
   pub by : HandedBy
-  pub adds : handed_after ≡ handed_before ++ (handed argument.0 by ∷ [])
+  pub adds : handed_after ≡ handed_before ++ (handed_as argument.0 by ∷ [])
   pub lays : Lays (given_stands s argument.1 by) (given_holes (translation_in s) argument.1) old new

@@ -1,9 +1,9 @@
--- Single branches, cases and arms, and what is handed.
-use Rattle.std.specs.Prelude.{ℕ, ℤ, List}
+-- Single branches, cases and arms, what is handed, and the ops of plurals and selects.
+use Rattle.std.specs.Prelude.{ℕ, ℤ, Bool, List}
 use Rattle.plural_rules.specs.declared.category.Category.{Category}
 use Rattle.soy_tree.specs.Expressions.{Expr}
 use Rattle.soy_tree.specs.Types.{Name}
-use Rattle.template_ir.specs.Ops.{Branch, Choice, Handed, HandedBy}
+use Rattle.template_ir.specs.Ops.{Branch, Choice, Handed, HandedBy, Op, PluralOp, SelectOp}
 use Rattle.template_ir.specs.declared.op.Block.{Block}
 use Rattle.template_ir.specs.declared.op.ExactBlock.{ExactBlock}
 use Rattle.template_ir.specs.declared.op.NamedBlock.{NamedBlock}
@@ -24,5 +24,11 @@ named_block category b = record { category = category; body = b }
 abbrev pub word_block : List ℕ → Block → WordBlock
 word_block is b = record { is = is; body = b }
 
-abbrev pub handed : Name → HandedBy → Handed
-handed name by = record { name = name; by = by }
+abbrev pub handed_as : Name → HandedBy → Handed
+handed_as name by = record { name = name; by = by }
+
+abbrev pub plural_op : Expr → ℕ → Bool → List ExactBlock → List NamedBlock → Op
+plural_op e offset ordinal exact named = PluralOp e offset ordinal exact named
+
+abbrev pub select_op : Expr → List WordBlock → Op
+select_op e arms = SelectOp e arms

@@ -13,9 +13,11 @@ ghost use Rattle.ir_build.specs.ViewScene.{translation_in};
 ghost use Rattle.ir_build.specs.Gives.{Gives};
 
 use crate::calls::{push_block, push_call, push_plain};
-use crate::commands::{push_branch, push_choice, push_exact, push_for, push_if, push_if_else, push_let};
-use crate::commands::{push_let_block, push_print, push_source_plural, push_source_select, push_switch};
-use crate::commands::{push_switch_default, push_text, push_word};
+use crate::commands::{
+    push_branch, push_choice, push_exact, push_for, push_if, push_if_else, push_let,
+    push_let_block, push_print, push_source_plural, push_source_select, push_switch,
+    push_switch_default, push_text, push_word,
+};
 use crate::messages::{push_alone, push_either};
 use crate::output::Output;
 use crate::scene::Scene;
@@ -88,7 +90,16 @@ fn push_node(
         Form::Call(name, all, given) => {
             let place = out.take_place(scene.places)?;
             let handed = handed(scene, out, given.items())?;
-            push_call(scene, own, handed, name, *all, given.items(), place, node.span)
+            push_call(
+                scene,
+                own,
+                handed,
+                name,
+                *all,
+                given.items(),
+                place,
+                node.span,
+            )
         }
         Form::Message(message, None) => {
             let old_length = out.ops.len();
@@ -105,11 +116,7 @@ fn push_node(
 
 /// The branches of an if.
 #[cycle(building)]
-fn branches(
-    scene: &Scene<'_>,
-    out: &mut Output,
-    arms: &[Arm],
-) -> Result<Vec<Branch>, OutOfMemory>
+fn branches(scene: &Scene<'_>, out: &mut Output, arms: &[Arm]) -> Result<Vec<Branch>, OutOfMemory>
     ensures { IfOk result (λ branches. Lays (arms_stand scene.now (view_arms arms.now) (map view_branch branches.items))
         (arm_holes (translation_in scene.now) (view_arms arms.now)) (view_output out.old) (view_output out.new)) }
 {
@@ -124,11 +131,7 @@ fn branches(
 
 /// The choices of a switch.
 #[cycle(building)]
-fn choices(
-    scene: &Scene<'_>,
-    out: &mut Output,
-    cases: &[Case],
-) -> Result<Vec<Choice>, OutOfMemory>
+fn choices(scene: &Scene<'_>, out: &mut Output, cases: &[Case]) -> Result<Vec<Choice>, OutOfMemory>
     ensures { IfOk result (λ choices. Lays (cases_stand scene.now (view_cases cases.now) (map view_choice choices.items))
         (case_holes (translation_in scene.now) (view_cases cases.now)) (view_output out.old) (view_output out.new)) }
 {

@@ -10,7 +10,7 @@ ghost use Rattle.template_ir.specs.Compiles.{handed_on_names, params_there, same
 ghost use Rattle.template_ir.specs.Ops.{HandedBlock, HandedValue};
 ghost use Rattle.template_ir.specs.ViewOps.{view_handed, view_ops};
 ghost use Rattle.ir_build.specs.Laid.{laid_block, view_output, with_ops};
-ghost use Rattle.ir_build.specs.Rows.{handed};
+ghost use Rattle.ir_build.specs.Rows.{handed_as};
 ghost use Rattle.ir_build.specs.ViewScene.{call_op, view_all};
 
 use crate::commands::push_op;
@@ -110,7 +110,7 @@ pub(crate) fn push_plain(
     expr: &Expr,
 ) -> Result<(), OutOfMemory>
     ensures { OnOk result (map view_handed handed.new.items
-        ≡ map view_handed handed.old.items ++ handed name.now (HandedValue (view_expr expr.now)) ∷ []) }
+        ≡ map view_handed handed.old.items ++ handed_as name.now (HandedValue (view_expr expr.now)) ∷ []) }
 {
     let name = name.copy(alloc)?;
     let expr = expr.copy(alloc)?;
@@ -132,7 +132,7 @@ pub(crate) fn push_block(
     body: Vec<Op>,
 ) -> Result<(), OutOfMemory>
     ensures handed { OnOk result (map view_handed handed.new.items ≡ map view_handed handed.old.items
-        ++ handed name.now (HandedBlock kind (laid_block (view_output out.old) (view_ops body.items))) ∷ []) }
+        ++ handed_as name.now (HandedBlock kind (laid_block (view_output out.old) (view_ops body.items))) ∷ []) }
     ensures made { OnOk result (view_output out.new ≡ with_ops (view_output out.old) (view_ops body.items)) }
 {
     let body = out.lay(body)?;

@@ -3,12 +3,11 @@
 ghost use Rattle.std.specs.Prelude.{◌≡◌, ◌∷◌, [], ◌++◌, Some, None, false, map, IfOk, OnOk};
 ghost use Rattle.soy_tree.specs.ViewExpressions.{view_expr, view_exprs};
 ghost use Rattle.template_ir.specs.Compiles.{other_arm, other_word};
-ghost use Rattle.template_ir.specs.Ops.{ForOp, IfOp, LetBlockOp, LetOp, NumberOp, PluralOp, PrintOp, SelectOp};
-ghost use Rattle.template_ir.specs.Ops.{SwitchOp};
+ghost use Rattle.template_ir.specs.Ops.{ForOp, IfOp, LetBlockOp, LetOp, NumberOp, PrintOp, SwitchOp};
 ghost use Rattle.template_ir.specs.StandFor.{place_of};
 ghost use Rattle.template_ir.specs.ViewOps.{view_branch, view_choice, view_ops};
 ghost use Rattle.ir_build.specs.Laid.{laid_block, view_output, with_hole, with_ops};
-ghost use Rattle.ir_build.specs.Rows.{branch, choice, exact_block, named_block, word_block};
+ghost use Rattle.ir_build.specs.Rows.{branch, choice, exact_block, named_block, plural_op, select_op, word_block};
 ghost use Rattle.ir_build.specs.TextOps.{text_ops};
 
 use crate::output::Output;
@@ -230,7 +229,7 @@ pub(crate) fn push_plural(
     named: Seq<NamedBlock>,
 ) -> Result<(), OutOfMemory>
     ensures { OnOk result (view_ops own.new.items
-        ≡ view_ops own.old.items ++ PluralOp (view_expr number.now) offset ordinal exact named ∷ []) }
+        ≡ view_ops own.old.items ++ plural_op (view_expr number.now) offset ordinal exact named ∷ []) }
 {
     let number = number.copy(alloc)?;
     push_op(
@@ -256,7 +255,7 @@ pub(crate) fn push_source_plural(
     other: Vec<Op>,
 ) -> Result<(), OutOfMemory>
     ensures own { OnOk result (view_ops own.new.items ≡ view_ops own.old.items
-        ++ PluralOp (view_expr number.now) offset false exact.items
+        ++ plural_op (view_expr number.now) offset false exact.items
         (other_arm (laid_block (view_output out.old) (view_ops other.items)) ∷ []) ∷ []) }
     ensures made { OnOk result (view_output out.new ≡ with_ops (view_output out.old) (view_ops other.items)) }
 {
@@ -266,7 +265,15 @@ pub(crate) fn push_source_plural(
         category: Category::Other,
         body,
     })?;
-    push_plural(alloc, own, number, offset, false, Seq::new(exact), Seq::new(named))
+    push_plural(
+        alloc,
+        own,
+        number,
+        offset,
+        false,
+        Seq::new(exact),
+        Seq::new(named),
+    )
 }
 
 /// Adds a case of a plural, whose body is these ops.
@@ -309,7 +316,7 @@ pub(crate) fn push_select(
     arms: Seq<WordBlock>,
 ) -> Result<(), OutOfMemory>
     ensures { OnOk result (view_ops own.new.items
-        ≡ view_ops own.old.items ++ SelectOp (view_expr word.now) arms ∷ []) }
+        ≡ view_ops own.old.items ++ select_op (view_expr word.now) arms ∷ []) }
 {
     let word = word.copy(alloc)?;
     push_op(own, Op::Select(SelectOp { word, arms }))
@@ -325,7 +332,7 @@ pub(crate) fn push_source_select(
     other: Vec<Op>,
 ) -> Result<(), OutOfMemory>
     ensures own { OnOk result (view_ops own.new.items ≡ view_ops own.old.items
-        ++ SelectOp (view_expr word.now)
+        ++ select_op (view_expr word.now)
         (arms.items ++ other_word (laid_block (view_output out.old) (view_ops other.items)) ∷ []) ∷ []) }
     ensures made { OnOk result (view_output out.new ≡ with_ops (view_output out.old) (view_ops other.items)) }
 {

@@ -5,20 +5,21 @@ ghost use Rattle.soy_meaning.specs.Branch.{selector};
 ghost use Rattle.soy_tree.specs.ViewMessageParts.{exact_arms_of, named_arms_of, select_arms_of};
 ghost use Rattle.soy_tree.specs.ViewMessageParts.{view_exact, view_named, view_part, view_parts, view_select_arm};
 ghost use Rattle.template_ir.specs.HoleCounts.{exact_holes, named_holes, part_holes, parts_holes, word_holes};
-ghost use Rattle.template_ir.specs.Ops.{PluralOp, SelectOp};
 ghost use Rattle.template_ir.specs.ViewOps.{view_ops};
 ghost use Rattle.ir_build.specs.Claims.{exact_stand, named_stand, part_stands, parts_stand, selected_ops, source_uses};
 ghost use Rattle.ir_build.specs.Claims.{words_stand};
 ghost use Rattle.ir_build.specs.HasNames.{HasNames};
 ghost use Rattle.ir_build.specs.Laid.{Lays, Pushes, view_output};
+ghost use Rattle.ir_build.specs.Rows.{plural_op, select_op};
 
-use crate::commands::{push_exact, push_named, push_number, push_plural, push_select, push_text};
-use crate::commands::push_word;
+use crate::commands::{
+    push_exact, push_named, push_number, push_plural, push_select, push_text, push_word,
+};
 use crate::output::Output;
 use crate::placeholders::{push_placeholder, selector_of};
 use crate::source::Source;
-use soy_base::{OutOfMemory, Seq};
-use soy_tree::{ExactArm, MsgPart, NamedArm, PluralPart, SelectArm, SelectPart};
+use soy_base::{OutOfMemory, Seq, Text};
+use soy_tree::{ExactArm, MsgPart, NamedArm, SelectArm};
 use template_ir::{ExactBlock, NamedBlock, Op, WordBlock};
 
 /// Adds parts.
@@ -60,11 +61,19 @@ fn push_part(
         MsgPart::Plural(plural) => {
             let exact = exact_blocks(source, out, plural.exact.items())?;
             let named = named_blocks(source, out, plural.named.items())?;
-            push_plural_part(source, own, plural, exact, named)
+            push_plural_part(
+                source,
+                own,
+                &plural.name,
+                plural.offset,
+                plural.ordinal,
+                exact,
+                named,
+            )
         }
         MsgPart::Select(select) => {
             let arms = word_blocks(source, out, select.arms.items())?;
-            push_select_part(source, own, select, arms)
+            push_select_part(source, own, &select.name, arms)
         }
     }
 }
@@ -139,23 +148,25 @@ fn word_blocks(
 fn push_plural_part(
     source: &Source<'_>,
     own: &mut Vec<Op>,
-    plural: &PluralPart,
+    name: &Text,
+    offset: u64,
+    ordinal: bool,
     exact: Vec<ExactBlock>,
     named: Vec<NamedBlock>,
 ) -> Result<(), OutOfMemory>
     requires { HasNames source.now }
     ensures { OnOk result (view_ops own.new.items ≡ view_ops own.old.items
-        ++ selected_ops (selector true plural.now.name (source_uses source.now) (source_uses source.now))
-        (λ e. PluralOp e plural.now.offset plural.now.ordinal exact.items named.items)) }
+        ++ selected_ops (selector true name.now (source_uses source.now) (source_uses source.now))
+        (λ e. plural_op e offset ordinal exact.items named.items)) }
 {
-    match selector_of(source, true, &plural.name) {
+    match selector_of(source, true, name) {
         None => Ok(()),
         Some(number) => push_plural(
             source.alloc,
             own,
             number,
-            plural.offset,
-            plural.ordinal,
+            offset,
+            ordinal,
             Seq::new(exact),
             Seq::new(named),
         ),
@@ -166,15 +177,15 @@ fn push_plural_part(
 fn push_select_part(
     source: &Source<'_>,
     own: &mut Vec<Op>,
-    select: &SelectPart,
+    name: &Text,
     arms: Vec<WordBlock>,
 ) -> Result<(), OutOfMemory>
     requires { HasNames source.now }
     ensures { OnOk result (view_ops own.new.items ≡ view_ops own.old.items
-        ++ selected_ops (selector false select.now.name (source_uses source.now) (source_uses source.now))
-        (λ e. SelectOp e arms.items)) }
+        ++ selected_ops (selector false name.now (source_uses source.now) (source_uses source.now))
+        (λ e. select_op e arms.items)) }
 {
-    match selector_of(source, false, &select.name) {
+    match selector_of(source, false, name) {
         None => Ok(()),
         Some(word) => push_select(source.alloc, own, word, Seq::new(arms)),
     }

@@ -8,9 +8,8 @@ ghost use Rattle.msg_extract.specs.SelectorRows.{view_selector};
 ghost use Rattle.msg_extract.specs.ViewPlaceholders.{view_placeholder};
 ghost use Rattle.template_ir.specs.HoleCounts.{part_holes};
 ghost use Rattle.template_ir.specs.ViewOps.{view_ops};
-ghost use Rattle.soy_tree.specs.MessageParts.{Placeholder};
 ghost use Rattle.ir_build.specs.Claims.{all_placed_holes, all_placed_stand, part_stands, placed_holes, placed_stands};
-ghost use Rattle.ir_build.specs.Claims.{source_uses};
+ghost use Rattle.ir_build.specs.Claims.{named_part, source_uses};
 ghost use Rattle.ir_build.specs.HasNames.{HasNames};
 ghost use Rattle.ir_build.specs.Laid.{Pushes, view_output};
 ghost use Rattle.ir_build.specs.NamedRows.{is_of, named_nodes, selector_in};
@@ -84,8 +83,8 @@ pub(crate) fn push_placeholder(
     name: &Text,
 ) -> Result<(), OutOfMemory>
     requires { HasNames source.now }
-    ensures { OnOk result (Pushes (part_stands source.now (Placeholder name.now))
-        (part_holes (source_uses source.now) (Placeholder name.now)) (view_output out.old) (view_output out.new)
+    ensures { OnOk result (Pushes (part_stands source.now (named_part name.now))
+        (part_holes (source_uses source.now) (named_part name.now)) (view_output out.old) (view_output out.new)
         (view_ops own.old.items) (view_ops own.new.items)) }
 {
     push_all_placed(source, out, own, nodes_of(source.placeholders, name))

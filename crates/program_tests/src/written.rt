@@ -19,23 +19,14 @@ fn push_block(alloc: Global, out: &mut String, block: &Block) -> Result<(), OutO
 }
 
 /// A block behind a word.
-fn push_arm(
-    alloc: Global,
-    out: &mut String,
-    word: &str,
-    block: &Block,
-) -> Result<(), OutOfMemory> {
+fn push_arm(alloc: Global, out: &mut String, word: &str, block: &Block) -> Result<(), OutOfMemory> {
     push_text(out, " ")?;
     push_text(out, word)?;
     push_text(out, " ")?;
     push_block(alloc, out, block)
 }
 
-fn push_other(
-    alloc: Global,
-    out: &mut String,
-    block: &Option<Block>,
-) -> Result<(), OutOfMemory> {
+fn push_other(alloc: Global, out: &mut String, block: &Option<Block>) -> Result<(), OutOfMemory> {
     match block {
         None => Ok(()),
         Some(block) => push_arm(alloc, out, "else", block),
@@ -107,7 +98,14 @@ fn push_call(alloc: Global, out: &mut String, callee: &Callee) -> Result<(), Out
 }
 
 fn push_plural(alloc: Global, out: &mut String, plural: &PluralOp) -> Result<(), OutOfMemory> {
-    push_text(out, if plural.ordinal { "ordinal " } else { "plural " })?;
+    push_text(
+        out,
+        if plural.ordinal {
+            "ordinal "
+        } else {
+            "plural "
+        },
+    )?;
     push_expr(alloc, out, &plural.number)?;
     push_text(out, " less ")?;
     push_number(alloc, out, plural.offset)?;
