@@ -12,3 +12,5 @@ pub mod Placing
 pub mod Choosing
 pub mod Callees
 pub mod RoutineSteps
+pub mod NodeOps
+pub mod PartOps

@@ -1,5 +1,5 @@
 -- Lists of nodes, arms and cases, compiled item by item.
-use Rattle.std.proofs.Common.{◌≡◌, ℕ, ◌+◌, ◌<◌, List, [], ◌∷◌, ◌++◌, drop, length, slice_index_or, refl, sym, ap, subst}
+use Rattle.std.proofs.Common.{◌≡◌, ℕ, ◌+◌, ◌<◌, ◌≤◌, List, [], ◌∷◌, ◌++◌, drop, length, slice_index_or, refl, sym, ap, subst}
 use Rattle.std.proofs.Common.{◌∙◌, arith}
 use Rattle.soy_base.specs.declared.fault.Span.{Span}
 use Rattle.soy_tree.specs.declared.node.Argument as code_argument
@@ -32,6 +32,7 @@ use Rattle.ir_build.specs.ViewScene.{translation_in}
 use Rattle.ir_build.specs.declared.scene.Scene.{Scene}
 use Rattle.ir_build.proofs.Laying.{lays_as, lays_both, pushes_block, pushes_both, pushes_none}
 use Rattle.ir_build.proofs.Loops.{pushes_step, rows_begin, rows_end, rows_step}
+use Rattle.ir_build.proofs.OpLists.{drop_all}
 use Rattle.ir_build.proofs.Views.{argument_next, arm_next, case_next, node_next, plural_case_next, select_case_next}
 
 -- ---- what each loop keeps
@@ -230,3 +231,68 @@ module _ (s : Scene) where
       (lays_both (block_stands (body_stands s body) (laid_block mid inner)) (select_cases_stand s rest more)
       (body_holes (translation_in s) body) (select_holes (translation_in s) rest) now next later
       (source_block x.body x.body now mid next none inner refl nil p made) l))) on
+
+  pub arms_begin : (xs : List code_arm.Arm) (m : Made) (done : List Branch) → done ≡ [] → ArmsOn s xs 0 m m done
+  arms_begin xs m done nil =
+      rows_begin (arms_stand s (view_arms xs)) (arm_holes (translation_in s) (view_arms xs)) m done nil
+
+  pub arms_end : (xs : List code_arm.Arm) (i : ℕ) (first now : Made) (done : List Branch) → length xs ≤ i
+      → ArmsOn s xs i first now done
+      → Lays (arms_stand s (view_arms xs) done) (arm_holes (translation_in s) (view_arms xs)) first now
+  arms_end xs i first now done long on =
+      rows_end (arms_stand s (view_arms [])) (arms_stand s (view_arms xs)) 0 (arm_holes (translation_in s) (view_arms xs)) first now done
+      refl (λ all before. tt)
+      (subst (λ (ys : List code_arm.Arm). RowsOn (arms_stand s (view_arms ys)) (arm_holes (translation_in s) (view_arms ys))
+      (arms_stand s (view_arms xs)) (arm_holes (translation_in s) (view_arms xs)) first now done) (drop_all xs i long) on)
+
+  pub cases_begin : (xs : List code_case.Case) (m : Made) (done : List Choice) → done ≡ [] → CasesOn s xs 0 m m done
+  cases_begin xs m done nil =
+      rows_begin (cases_stand s (view_cases xs)) (case_holes (translation_in s) (view_cases xs)) m done nil
+
+  pub cases_end : (xs : List code_case.Case) (i : ℕ) (first now : Made) (done : List Choice) → length xs ≤ i
+      → CasesOn s xs i first now done
+      → Lays (cases_stand s (view_cases xs) done) (case_holes (translation_in s) (view_cases xs)) first now
+  cases_end xs i first now done long on =
+      rows_end (cases_stand s (view_cases [])) (cases_stand s (view_cases xs)) 0 (case_holes (translation_in s) (view_cases xs)) first now done
+      refl (λ all before. tt)
+      (subst (λ (ys : List code_case.Case). RowsOn (cases_stand s (view_cases ys)) (case_holes (translation_in s) (view_cases ys))
+      (cases_stand s (view_cases xs)) (case_holes (translation_in s) (view_cases xs)) first now done) (drop_all xs i long) on)
+
+  pub given_begin : (xs : List code_argument.Argument) (m : Made) (done : List Handed) → done ≡ [] → GivenOn s xs 0 m m done
+  given_begin xs m done nil =
+      rows_begin (given_stand s (view_arguments xs)) (argument_holes (translation_in s) (view_arguments xs)) m done nil
+
+  pub given_end : (xs : List code_argument.Argument) (i : ℕ) (first now : Made) (done : List Handed) → length xs ≤ i
+      → GivenOn s xs i first now done
+      → Lays (given_stand s (view_arguments xs) done) (argument_holes (translation_in s) (view_arguments xs)) first now
+  given_end xs i first now done long on =
+      rows_end (given_stand s (view_arguments [])) (given_stand s (view_arguments xs)) 0 (argument_holes (translation_in s) (view_arguments xs)) first now done
+      refl (λ all before. refl)
+      (subst (λ (ys : List code_argument.Argument). RowsOn (given_stand s (view_arguments ys)) (argument_holes (translation_in s) (view_arguments ys))
+      (given_stand s (view_arguments xs)) (argument_holes (translation_in s) (view_arguments xs)) first now done) (drop_all xs i long) on)
+
+  pub plural_cases_begin : (xs : List code_plural_case.PluralCase) (m : Made) (done : List ExactBlock) → done ≡ [] → PluralCasesOn s xs 0 m m done
+  plural_cases_begin xs m done nil =
+      rows_begin (plural_cases_stand s (view_plural_cases xs)) (plural_holes (translation_in s) (view_plural_cases xs)) m done nil
+
+  pub plural_cases_end : (xs : List code_plural_case.PluralCase) (i : ℕ) (first now : Made) (done : List ExactBlock) → length xs ≤ i
+      → PluralCasesOn s xs i first now done
+      → Lays (plural_cases_stand s (view_plural_cases xs) done) (plural_holes (translation_in s) (view_plural_cases xs)) first now
+  plural_cases_end xs i first now done long on =
+      rows_end (plural_cases_stand s (view_plural_cases [])) (plural_cases_stand s (view_plural_cases xs)) 0 (plural_holes (translation_in s) (view_plural_cases xs)) first now done
+      refl (λ all before. tt)
+      (subst (λ (ys : List code_plural_case.PluralCase). RowsOn (plural_cases_stand s (view_plural_cases ys)) (plural_holes (translation_in s) (view_plural_cases ys))
+      (plural_cases_stand s (view_plural_cases xs)) (plural_holes (translation_in s) (view_plural_cases xs)) first now done) (drop_all xs i long) on)
+
+  pub select_cases_begin : (xs : List code_select_case.SelectCase) (m : Made) (done : List WordBlock) → done ≡ [] → SelectCasesOn s xs 0 m m done
+  select_cases_begin xs m done nil =
+      rows_begin (select_cases_stand s (view_select_cases xs)) (select_holes (translation_in s) (view_select_cases xs)) m done nil
+
+  pub select_cases_end : (xs : List code_select_case.SelectCase) (i : ℕ) (first now : Made) (done : List WordBlock) → length xs ≤ i
+      → SelectCasesOn s xs i first now done
+      → Lays (select_cases_stand s (view_select_cases xs) done) (select_holes (translation_in s) (view_select_cases xs)) first now
+  select_cases_end xs i first now done long on =
+      rows_end (select_cases_stand s (view_select_cases [])) (select_cases_stand s (view_select_cases xs)) 0 (select_holes (translation_in s) (view_select_cases xs)) first now done
+      refl (λ all before. tt)
+      (subst (λ (ys : List code_select_case.SelectCase). RowsOn (select_cases_stand s (view_select_cases ys)) (select_holes (translation_in s) (view_select_cases ys))
+      (select_cases_stand s (view_select_cases xs)) (select_holes (translation_in s) (view_select_cases xs)) first now done) (drop_all xs i long) on)

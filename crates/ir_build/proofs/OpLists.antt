@@ -1,7 +1,9 @@
 -- Lists that grow at their end, and what is left of a list.
-use Rattle.std.proofs.Common.{◌≡◌, ℕ, zero, suc, ◌+◌, ◌<◌, List, [], ◌∷◌, ◌++◌, length, map, drop, refl, ap}
-use Rattle.std.proofs.Common.{arith, slice_index_or}
+use Rattle.std.proofs.Common.{◌≡◌, ℕ, zero, suc, ◌+◌, ◌<◌, ◌≤◌, List, [], ◌∷◌, ◌++◌, length, map, drop, refl, ap, sym}
+use Rattle.std.proofs.Common.{◌∙◌, arith, slice_index_or}
 use Rattle.std.specs.Prelude.{Result, Ok, Err, OnOk}
+use Rattle.template_ir.specs.ViewOps.{view_op, view_ops}
+use Rattle.template_ir.specs.declared.op.Op as code_op
 
 pub map_append : {A B : Type 0} (f : A → B) (xs ys : List A) → map f (xs ++ ys) ≡ map f xs ++ map f ys
 map_append f [] ys = refl
@@ -30,6 +32,16 @@ drop_next [] i x below is = absurd (omega arith)
 drop_next (y ∷ xs) zero x below is = rw is refl
 drop_next (y ∷ xs) (suc i) x below is =
     let e : suc i + 1 ≡ suc (i + 1) = omega arith in rw e (drop_next xs i x (omega arith) is)
+
+pub drop_all : {A : Type 0} (xs : List A) (i : ℕ) → length xs ≤ i → drop i xs ≡ []
+drop_all [] zero long = refl
+drop_all [] (suc i) long = refl
+drop_all (x ∷ xs) zero long = absurd (omega arith)
+drop_all (x ∷ xs) (suc i) long = drop_all xs i (omega arith)
+
+-- the length of a vector of ops is that of the ops that they stand for
+pub old_length : (ops : List code_op.Op) (n : ℕ) → n ≡ length ops → n ≡ length (view_ops ops)
+old_length ops n e = e ∙ sym (length_map view_op ops)
 
 -- two facts of one answer
 pub on_ok_both : {A E : Type 0} (r : Result A E) (P Q R : Type 0) → (P → Q → R) → OnOk r P → OnOk r Q → OnOk r R

@@ -10,6 +10,8 @@ use Rattle.ir_build.proofs.Callees.{callee_at}
 use Rattle.ir_build.proofs.FormViews.{is_text}
 use Rattle.ir_build.proofs.PartViews.{part_is_plural}
 use Rattle.ir_build.proofs.GivenOps.{node_as}
+use Rattle.ir_build.proofs.NodeOps.{at_text}
+use Rattle.ir_build.proofs.PartOps.{at_select_part}
 use Rattle.ir_build.proofs.placeholders.selector_of.Goals as goal
 
 pub returns : goal.returns
