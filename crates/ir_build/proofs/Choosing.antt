@@ -51,6 +51,15 @@ pub passed : (Y : ℕ → List Op → ℕ → ℕ → Type 0) (h : ℕ) (old now
 passed Y h old now new none own cut p is e =
     is ∙ rw (e, p.holes) refl
 
+-- ops that are cut off
+pub made_cut : (m : Made) (ops cut : List code_op.Op) (h : ℕ) → m ≡ record { ops = view_ops ops; holes = h } → ops ≡ cut
+    → m ≡ record { ops = view_ops cut; holes = h }
+made_cut m ops cut h is e = is ∙ rw e refl
+
+pub from_cut : (Y : ℕ → List Op → ℕ → ℕ → Type 0) (h : ℕ) (a cut b : Made) (own own_after : List Op) → a ≡ cut
+    → Pushes Y h a b own own_after → Pushes Y h cut b own own_after
+from_cut Y h a cut b own own_after e p = subst (λ (x : Made). Pushes Y h x b own own_after) e p
+
 pushes_past : (Y : ℕ → List Op → ℕ → ℕ → Type 0) (h k : ℕ) (a b d : Made) (own own_after : List Op)
     → Pushes Y h a b own own_after → d ≡ with_holes b k → Pushes Y (h + k) a d own own_after
 pushes_past Y h k a b d own own_after p is =
@@ -99,6 +108,14 @@ module _ (tr : Message → Option MsgParts) (places : List Place) (m : Message) 
       (sym (ap (λ v. chosen_of v (fallback_text tr no_fallback)) e))
       (pushes_as (translation_stands places m parts) (translation_stands places m parts) (parts_holes (uses_of m) parts)
       (holes_behind tr m no_fallback) without new own own_after count (λ hole all at end h. h) p)
+
+  -- the same from ops that are cut off
+  pub alone_cut : (a new : Made) (parts : MsgParts) → tr m ≡ Some parts → a ≡ without
+      → Pushes (translation_stands places m parts) (parts_holes (uses_of m) parts) a new own own_after
+      → Chooses tr places (chosen_text tr m no_fallback) m no_fallback old without new source own own_after
+  alone_cut a new parts e cut p =
+      alone_own new parts e
+      (from_cut (translation_stands places m parts) (parts_holes (uses_of m) parts) a without new own own_after cut p)
 
   pub either_own : (o : Message) (new : Made) (parts : MsgParts) → tr m ≡ Some parts → tr o ≡ None
       → Pushes (translation_stands places m parts) (parts_holes (uses_of m) parts) without new own own_after

@@ -26,7 +26,7 @@ use Rattle.soy_tree.specs.ViewNodes.{message_layer, node_layer, plural_case_laye
 use Rattle.soy_tree.specs.ViewNodes.{view_form, view_given, view_body, view_argument, view_arm, view_case}
 use Rattle.soy_tree.specs.ViewNodes.{view_message, view_node, view_plural_case, view_select_case}
 use Rattle.soy_tree.specs.ViewNodes.{view_nodes, view_arms, view_cases, view_arguments}
-use Rattle.soy_tree.specs.ViewNodes.{view_plural_cases, view_select_cases}
+use Rattle.soy_tree.specs.ViewNodes.{view_otherwise, view_plural_cases, view_select_cases}
 
 abbrev node_of : code_form.Form → Span → code.Node
 node_of f s = record { form = f; span = s }
@@ -231,3 +231,25 @@ is_message n m is = as_form n _ is ∙ view_Message m n.span
 pub is_message_fallback : (n : code.Node) (m other : code_message.Message) → n.form ≡ form.Message m (Some other)
     → view_node n ≡ tree.MessageNode (view_message m) (tree.fallback (view_message other)) n.span
 is_message_fallback n m other is = as_form n _ is ∙ view_MessageFallback m other n.span
+
+-- ---- where the last part of a command may be missing
+
+pub is_if_any : (n : code.Node) (arms : List code_arm.Arm) (o : Option (List code.Node)) → n.form ≡ form.If arms o
+    → view_node n ≡ tree.If (view_arms arms) (view_otherwise o) n.span
+is_if_any n arms None e = is_if n arms e
+is_if_any n arms (Some body) e = is_if_else n arms body e
+
+pub is_switch_any : (n : code.Node) (e : code_expr.Expr) (cases : List code_case.Case) (o : Option (List code.Node))
+    → n.form ≡ form.Switch e cases o
+    → view_node n ≡ tree.Switch (view_expr e) (view_cases cases) (view_otherwise o) n.span
+is_switch_any n e cases None is = is_switch n e cases is
+is_switch_any n e cases (Some body) is = is_switch_default n e cases body is
+
+abbrev pub fallback_seen : Option code_message.Message → tree.Fallback
+fallback_seen None = tree.no_fallback
+fallback_seen (Some other) = tree.fallback (view_message other)
+
+pub is_message_any : (n : code.Node) (m : code_message.Message) (o : Option code_message.Message)
+    → n.form ≡ form.Message m o → view_node n ≡ tree.MessageNode (view_message m) (fallback_seen o) n.span
+is_message_any n m None is = is_message n m is
+is_message_any n m (Some other) is = is_message_fallback n m other is

@@ -48,6 +48,35 @@ placed_print places e phname span a b own own_after is own_is =
     hole_pushed (placed_stands places (Print e phname span)) a b (PrintOp e (place_of places a.holes)) own own_after is
     own_is (λ all at get. (get, refl))
 
+-- another node adds nothing
+pub not_placed : (places : List Place) (n seen : Node) (m : Made) (own : List Op) → n ≡ seen → placed_holes seen ≡ 0
+    → ((hole : ℕ) (all : List Op) (at : ℕ) → placed_stands places seen hole all at at)
+    → Pushes (placed_stands places n) (placed_holes n) m m own own
+not_placed places n seen m own e count nothing =
+    subst (λ (x : Node). Pushes (placed_stands places x) (placed_holes x) m m own own) (sym e)
+    (pushes_as (placed_stands places seen) (placed_stands places seen) 0 (placed_holes seen) m m own own (sym count)
+    (λ hole all at end h. h) (pushes_none (placed_stands places seen) m own (λ all at. nothing m.holes all at)))
+
+pub placed_as : (places : List Place) (n seen : Node) (a b : Made) (own own_after : List Op) → n ≡ seen
+    → Pushes (placed_stands places seen) (placed_holes seen) a b own own_after
+    → Pushes (placed_stands places n) (placed_holes n) a b own own_after
+placed_as places n seen a b own own_after e p =
+    subst (λ (x : Node). Pushes (placed_stands places x) (placed_holes x) a b own own_after) (sym e) p
+
+pub text_placed : (places : List Place) (n : Node) (text : List ℕ) (span : Span) (m : Made) (own own_after : List Op)
+    → n ≡ TextNode text span → own_after ≡ own ++ text_ops text
+    → Pushes (placed_stands places n) (placed_holes n) m m own own_after
+text_placed places n text span m own own_after is e =
+    placed_as places n (TextNode text span) m m own own_after is (placed_text places text span m own own_after e)
+
+pub print_placed : (places : List Place) (n : Node) (e : Expr) (phname : Option Name) (span : Span) (a b : Made)
+    (own own_after : List Op) → n ≡ Print e phname span
+    → own_after ≡ own ++ (PrintOp e (place_of places a.holes) ∷ []) → b ≡ with_hole a
+    → Pushes (placed_stands places n) (placed_holes n) a b own own_after
+print_placed places n e phname span a b own own_after is own_is made =
+    placed_as places n (Print e phname span) a b own own_after is
+    (placed_print places e phname span a b own own_after made own_is)
+
 -- ---- nodes
 
 abbrev pub PlacedOn : List Place → List code.Node → ℕ → Made → Made → List Op → List Op → Type 0

@@ -2,16 +2,6 @@ use Rattle.std.proofs.Common.{◌∙◌, map}
 use Rattle.soy_tree.specs.ViewNodes.{view_message}
 use Rattle.msg_extract.specs.SelectorRows.{view_selector}
 use Rattle.ir_build.proofs.Placing.{selector_is}
-use Rattle.ir_build.proofs.NodeSteps.{nodes_begin}
-use Rattle.ir_build.proofs.PartSteps.{parts_end}
-use Rattle.ir_build.proofs.Choosing.{made_same}
-use Rattle.ir_build.proofs.RoutineSteps.{all_stand}
-use Rattle.ir_build.proofs.Callees.{callee_at}
-use Rattle.ir_build.proofs.FormViews.{is_text}
-use Rattle.ir_build.proofs.PartViews.{part_is_plural}
-use Rattle.ir_build.proofs.GivenOps.{node_as}
-use Rattle.ir_build.proofs.NodeOps.{at_text}
-use Rattle.ir_build.proofs.PartOps.{at_select_part}
 use Rattle.ir_build.proofs.placeholders.selector_of.Goals as goal
 
 pub returns : goal.returns
