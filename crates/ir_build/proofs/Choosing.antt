@@ -161,6 +161,28 @@ module _ (tr : Message → Option MsgParts) (places : List Place) (m : Message) 
       (λ hole all at end h. let same : hole ≡ hole + translation_holes tr m = omega (arith, n) in
       subst (λ (i : ℕ). StandsParts places all (uses_of o) others i at end) same h) p)
 
+  pub own_cut : (o : Message) (a new : Made) (parts : MsgParts) → tr m ≡ Some parts → tr o ≡ None → a ≡ without
+      → Pushes (translation_stands places m parts) (parts_holes (uses_of m) parts) a new own own_after
+      → Chooses tr places (chosen_text tr m (fallback o)) m (fallback o) old without new source own own_after
+  own_cut o a new parts e f cut p =
+      either_own o new parts e f
+      (from_cut (translation_stands places m parts) (parts_holes (uses_of m) parts) a without new own own_after cut p)
+
+  pub other_cut : (o : Message) (a new : Made) (others : MsgParts) → tr m ≡ None → tr o ≡ Some others → a ≡ without
+      → Pushes (translation_stands places o others) (parts_holes (uses_of o) others) a new own own_after
+      → Chooses tr places (chosen_text tr m (fallback o)) m (fallback o) old without new source own own_after
+  other_cut o a new others e f cut p =
+      either_other o new others e f
+      (from_cut (translation_stands places o others) (parts_holes (uses_of o) others) a without new own own_after cut p)
+
+  pub both_cut : (o : Message) (a now new : Made) (parts others : MsgParts) → tr m ≡ Some parts → tr o ≡ Some others
+      → a ≡ without → Pushes (translation_stands places m parts) (parts_holes (uses_of m) parts) a now own own_after
+      → new ≡ with_holes now (parts_holes (uses_of o) others)
+      → Chooses tr places (chosen_text tr m (fallback o)) m (fallback o) old without new source own own_after
+  both_cut o a now new parts others e f cut p is =
+      either_both o now new parts others e f
+      (from_cut (translation_stands places m parts) (parts_holes (uses_of m) parts) a without now own own_after cut p) is
+
 -- ---- holes of texts that there aren't
 
 own_none : (uses : List Use) (x : Option MsgParts) (y : ChosenText) → TheSource ≡ chosen_of x y

@@ -1,6 +1,9 @@
 -- Lists that are compiled item by item: what the rest of a list adds to what was made so far.
-use Rattle.std.proofs.Common.{◌≡◌, ℕ, ◌+◌, ◌≤◌, List, [], ◌∷◌, ◌++◌, length, refl, sym, ap, ◌∙◌, arith, subst}
+use Rattle.std.proofs.Common.{◌≡◌, ℕ, ℤ, ◌+◌, ◌≤◌, List, [], ◌∷◌, ◌++◌, length, refl, sym, ap, ◌∙◌, arith, subst}
 use Rattle.template_ir.specs.Ops.{Op}
+use Rattle.template_ir.specs.declared.op.Block.{Block}
+use Rattle.template_ir.specs.declared.op.ExactBlock.{ExactBlock}
+use Rattle.ir_build.specs.Rows.{exact_block}
 use Rattle.ir_build.specs.Laid.{Lays, Made, Pushes}
 use Rattle.ir_build.specs.OnGoing.{PushesOn, RowsOn}
 use Rattle.ir_build.proofs.Laying.{lays_none, pushes_none}
@@ -37,3 +40,8 @@ pub rows_end : {R : Type 0} (X Z : List R → ℕ → List Op → ℕ → Type 0
 rows_end X Z h k first now done none x on =
     subst (λ (y : List _). Lays (Z y) k first now) (append_nil done)
     (on now [] (subst (λ (n : ℕ). Lays (X []) n now now) (sym none) (lays_none (X []) now x)))
+
+-- an arm for a number that is added, whose block is known
+pub exact_last : (done done_next : List ExactBlock) (n : ℤ) (b known : Block) → b ≡ known
+    → done_next ≡ done ++ (exact_block n b ∷ []) → done_next ≡ done ++ (exact_block n known ∷ [])
+exact_last done done_next n b known is e = e ∙ ap (λ (x : Block). done ++ (exact_block n x ∷ [])) is

@@ -2,12 +2,16 @@
 use Rattle.std.proofs.Common.{◌≡◌, ℕ, zero, suc, ◌+◌, ◌<◌, ◌≤◌, List, [], ◌∷◌, ◌++◌, length, map, drop, refl, ap, sym}
 use Rattle.std.proofs.Common.{◌∙◌, arith, slice_index_or}
 use Rattle.std.specs.Prelude.{Result, Ok, Err, OnOk}
+use Rattle.template_ir.specs.Ops.{Op}
 use Rattle.template_ir.specs.ViewOps.{view_op, view_ops}
 use Rattle.template_ir.specs.declared.op.Op as code_op
 
 pub map_append : {A B : Type 0} (f : A → B) (xs ys : List A) → map f (xs ++ ys) ≡ map f xs ++ map f ys
 map_append f [] ys = refl
 map_append f (x ∷ xs) ys = ap (λ zs. f x ∷ zs) (map_append f xs ys)
+
+pub map_pushed : {A B : Type 0} (f : A → B) (xs ys : List A) (x : A) → ys ≡ xs ++ (x ∷ []) → map f ys ≡ map f xs ++ (f x ∷ [])
+map_pushed f xs ys x e = ap (map f) e ∙ map_append f xs (x ∷ [])
 
 pub append_assoc : {A : Type 0} (xs ys zs : List A) → (xs ++ ys) ++ zs ≡ xs ++ (ys ++ zs)
 append_assoc [] ys zs = refl
@@ -47,3 +51,7 @@ old_length ops n e = e ∙ sym (length_map view_op ops)
 pub on_ok_both : {A E : Type 0} (r : Result A E) (P Q R : Type 0) → (P → Q → R) → OnOk r P → OnOk r Q → OnOk r R
 on_ok_both (Ok a) P Q R f p q = f p q
 on_ok_both (Err e) P Q R f p q = tt
+
+-- an op by what it is seen as
+pub last_is : (own own_after : List Op) (o p : Op) → o ≡ p → own_after ≡ own ++ (o ∷ []) → own_after ≡ own ++ (p ∷ [])
+last_is own own_after o p is e = e ∙ ap (λ (x : Op). own ++ (x ∷ [])) is

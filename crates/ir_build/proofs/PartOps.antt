@@ -8,19 +8,21 @@ use Rattle.soy_tree.specs.declared.bundle.NamedArm as code_named
 use Rattle.soy_tree.specs.declared.bundle.PluralPart as code_plural
 use Rattle.soy_tree.specs.declared.bundle.SelectArm as code_word
 use Rattle.soy_tree.specs.declared.bundle.SelectPart as code_select
-use Rattle.soy_tree.specs.MessageParts.{MsgPart}
+use Rattle.soy_tree.specs.MessageParts.{MsgPart, NumberPart, TextPart}
 use Rattle.soy_tree.specs.ViewMessageParts.{exact_arms_of, named_arms_of, select_arms_of, view_exact, view_named}
 use Rattle.soy_tree.specs.ViewMessageParts.{view_part, view_select_arm}
 use Rattle.template_ir.specs.HoleCounts.{exact_holes, named_holes, part_holes, word_holes}
-use Rattle.template_ir.specs.Ops.{Op, PluralOp, SelectOp}
+use Rattle.template_ir.specs.Ops.{NumberOp, Op, PluralOp, SelectOp}
+use Rattle.template_ir.specs.StandFor.{place_of}
 use Rattle.template_ir.specs.declared.op.ExactBlock.{ExactBlock}
 use Rattle.template_ir.specs.declared.op.NamedBlock.{NamedBlock}
 use Rattle.template_ir.specs.declared.op.WordBlock.{WordBlock}
 use Rattle.ir_build.specs.Claims.{exact_stand, named_stand, part_stands, selected_ops, source_uses, words_stand}
-use Rattle.ir_build.specs.Laid.{Lays, Made, Pushes}
+use Rattle.ir_build.specs.Laid.{Lays, Made, Pushes, with_hole}
+use Rattle.ir_build.specs.TextOps.{text_ops}
 use Rattle.ir_build.specs.declared.source.Source.{Source}
-use Rattle.ir_build.proofs.PartSteps.{plural_part_pushed, select_part_pushed}
-use Rattle.ir_build.proofs.PartViews.{part_is_plural, part_is_select}
+use Rattle.ir_build.proofs.PartSteps.{number_part_pushed, plural_part_pushed, select_part_pushed, text_part_pushed}
+use Rattle.ir_build.proofs.PartViews.{part_is_number, part_is_plural, part_is_select, part_is_text}
 
 module _ (s : Source) where
   abbrev pub PartPushed : code.MsgPart → Made → Made → List Op → List Op → Type 0
@@ -31,6 +33,17 @@ module _ (s : Source) where
       → Pushes (part_stands s seen) (part_holes (source_uses s) seen) a b own own_after → PartPushed x a b own own_after
   part_as x seen a b own own_after e p =
       subst (λ (y : MsgPart). Pushes (part_stands s y) (part_holes (source_uses s) y) a b own own_after) (sym e) p
+
+  pub at_text_part : (x : code.MsgPart) (t : List ℕ) (m : Made) (own own_after : List Op) → x ≡ part.Text t
+      → own_after ≡ own ++ text_ops t → PartPushed x m m own own_after
+  at_text_part x t m own own_after is e =
+      part_as x (TextPart t) m m own own_after (part_is_text x t is) (text_part_pushed s t m own own_after e)
+
+  pub at_number_part : (x : code.MsgPart) (a b : Made) (own own_after : List Op) → x ≡ part.Number
+      → own_after ≡ own ++ (NumberOp (place_of s.places.now a.holes) ∷ []) → b ≡ with_hole a
+      → PartPushed x a b own own_after
+  at_number_part x a b own own_after is e made =
+      part_as x NumberPart a b own own_after (part_is_number x is) (number_part_pushed s a b own own_after made e)
 
   pub at_plural_part : (x : code.MsgPart) (p : code_plural.PluralPart) (exacts : List code_exact.ExactArm)
       (nameds : List code_named.NamedArm) (numbers : List ExactBlock) (categories : List NamedBlock) (a b d : Made)

@@ -41,3 +41,21 @@ part_is_select x p is =
     part_layer exact_layer named_layer plural_layer select_arm_layer select_layer (MsgPart-F.Select p)
     ∙ code_select.fold_out-SelectPart MsgPart (ℤ × MsgParts) (Category × MsgParts) MsgPart (List ℕ × MsgParts) MsgPart
     part_layer exact_layer named_layer plural_layer select_arm_layer select_layer p)
+
+view_text_part : (t : List ℕ) → view_part (part.Text t) ≡ TextPart t
+unfolding code.out-MsgPart denote.Hole.Carrier.out
+view_text_part t =
+    code.fold_out-MsgPart MsgPart (ℤ × MsgParts) (Category × MsgParts) MsgPart (List ℕ × MsgParts) MsgPart part_layer
+    exact_layer named_layer plural_layer select_arm_layer select_layer (part.Text t)
+
+view_number_part : view_part part.Number ≡ NumberPart
+unfolding code.out-MsgPart denote.Hole.Carrier.out
+view_number_part =
+    code.fold_out-MsgPart MsgPart (ℤ × MsgParts) (Category × MsgParts) MsgPart (List ℕ × MsgParts) MsgPart part_layer
+    exact_layer named_layer plural_layer select_arm_layer select_layer part.Number
+
+pub part_is_text : (x : code.MsgPart) (t : List ℕ) → x ≡ part.Text t → view_part x ≡ TextPart t
+part_is_text x t is = ap view_part is ∙ view_text_part t
+
+pub part_is_number : (x : code.MsgPart) → x ≡ part.Number → view_part x ≡ NumberPart
+part_is_number x is = ap view_part is ∙ view_number_part

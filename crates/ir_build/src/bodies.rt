@@ -14,9 +14,9 @@ ghost use Rattle.ir_build.specs.Gives.{Gives};
 
 use crate::calls::{push_block, push_call, push_plain};
 use crate::commands::{
-    push_branch, push_choice, push_exact, push_for, push_if, push_if_else, push_let,
-    push_let_block, push_print, push_source_plural, push_source_select, push_switch,
-    push_switch_default, push_text, push_word,
+    push_branch, push_choice, push_for, push_if, push_if_else, push_let, push_let_block,
+    push_print, push_source_plural, push_source_select, push_switch, push_switch_default,
+    push_text, push_word,
 };
 use crate::messages::{push_alone, push_either};
 use crate::output::Output;
@@ -226,9 +226,10 @@ fn exact_blocks(
 {
     let mut blocks = Vec::new(scene.alloc);
     for case in cases {
-        let mut body = Vec::new(scene.alloc);
-        push_body(scene, out, &mut body, &case.body)?;
-        push_exact(out, &mut blocks, case.is, body)?;
+        let mut inner = Vec::new(scene.alloc);
+        push_body(scene, out, &mut inner, &case.body)?;
+        let body = out.lay(inner)?;
+        blocks.push(ExactBlock { is: case.is, body })?;
     }
     Ok(blocks)
 }

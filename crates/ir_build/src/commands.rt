@@ -7,7 +7,7 @@ ghost use Rattle.template_ir.specs.Ops.{ForOp, IfOp, LetBlockOp, LetOp, NumberOp
 ghost use Rattle.template_ir.specs.StandFor.{place_of};
 ghost use Rattle.template_ir.specs.ViewOps.{view_branch, view_choice, view_ops};
 ghost use Rattle.ir_build.specs.Laid.{laid_block, view_output, with_hole, with_ops};
-ghost use Rattle.ir_build.specs.Rows.{branch, choice, exact_block, named_block, plural_op, select_op, word_block};
+ghost use Rattle.ir_build.specs.Rows.{branch, choice, named_block, plural_op, select_op, word_block};
 ghost use Rattle.ir_build.specs.TextOps.{text_ops};
 
 use crate::output::Output;
@@ -274,22 +274,6 @@ pub(crate) fn push_source_plural(
         Seq::new(exact),
         Seq::new(named),
     )
-}
-
-/// Adds a case of a plural, whose body is these ops.
-pub(crate) fn push_exact(
-    out: &mut Output,
-    blocks: &mut Vec<ExactBlock>,
-    is: i64,
-    body: Vec<Op>,
-) -> Result<(), OutOfMemory>
-    ensures blocks { OnOk result (blocks.new.items ≡ blocks.old.items
-        ++ exact_block is (laid_block (view_output out.old) (view_ops body.items)) ∷ []) }
-    ensures made { OnOk result (view_output out.new ≡ with_ops (view_output out.old) (view_ops body.items)) }
-{
-    let body = out.lay(body)?;
-    blocks.push(ExactBlock { is, body })?;
-    Ok(())
 }
 
 /// Adds an arm of a plural for a category, whose body is these ops.

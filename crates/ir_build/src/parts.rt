@@ -12,9 +12,7 @@ ghost use Rattle.ir_build.specs.HasNames.{HasNames};
 ghost use Rattle.ir_build.specs.Laid.{Lays, Pushes, view_output};
 ghost use Rattle.ir_build.specs.Rows.{plural_op, select_op};
 
-use crate::commands::{
-    push_exact, push_named, push_number, push_plural, push_select, push_text, push_word,
-};
+use crate::commands::{push_named, push_number, push_plural, push_select, push_text, push_word};
 use crate::output::Output;
 use crate::placeholders::{push_placeholder, selector_of};
 use crate::source::Source;
@@ -93,9 +91,10 @@ fn exact_blocks(
 {
     let mut blocks = Vec::new(source.alloc);
     for arm in arms {
-        let mut body = Vec::new(source.alloc);
-        push_parts(source, out, &mut body, arm.parts.items())?;
-        push_exact(out, &mut blocks, arm.is, body)?;
+        let mut inner = Vec::new(source.alloc);
+        push_parts(source, out, &mut inner, arm.parts.items())?;
+        let body = out.lay(inner)?;
+        blocks.push(ExactBlock { is: arm.is, body })?;
     }
     Ok(blocks)
 }

@@ -3,6 +3,7 @@ use Rattle.std.proofs.lemmas.Result.{on_ok_weaker}
 use Rattle.template_ir.specs.ViewOps.{view_branch, view_choice, view_handed, view_ops}
 use Rattle.ir_build.specs.Laid.{view_output}
 use Rattle.ir_build.proofs.GivenOps.{gives_block, gives_plain}
+use Rattle.ir_build.proofs.Loops.{exact_last}
 use Rattle.ir_build.proofs.NodeOps.{at_call, at_for, at_if, at_if_else, at_let, at_let_block, at_message}
 use Rattle.ir_build.proofs.NodeOps.{at_message_fallback, at_parts, at_plural, at_print, at_select, at_switch}
 use Rattle.ir_build.proofs.NodeOps.{at_switch_default, at_text}
@@ -233,10 +234,11 @@ pub exact_blocks-loop-case-preserved : goal.exact_blocks-loop-case-preserved
 exact_blocks-loop-case-preserved t c =
     plural_cases_step c.args.scene.now c.args.cases.now c.loop-case.case-index c.case-item.result
     (view_output c.args.out.now) (view_output c.loop-case.out) (view_output c.push_body.new.out)
-    (view_output c.push_exact.new.out) (view_ops c.new-body.result.items) (view_ops c.push_body.new.own.items)
-    c.loop-case.blocks.items c.push_exact.new.blocks.items c.loop-case-test.true c.case-item.is
-    (ap view_ops c.new-body.ensures.items) c.in_ok-push_body.ensures c.in_ok-push_exact.ensures.made
-    c.in_ok-push_exact.ensures.blocks c.loop-case.invariant
+    (view_output c.lay.new.self) (view_ops c.new-inner.result.items) (view_ops c.push_body.new.own.items)
+    c.loop-case.blocks.items c.push.new.self.items c.loop-case-test.true c.case-item.is
+    (ap view_ops c.new-inner.ensures.items) c.in_ok-push_body.ensures c.in_ok-body.ensures.made
+    (exact_last c.loop-case.blocks.items c.push.new.self.items c.case-item.result.is c.in_ok-body.body _
+    c.in_ok-body.ensures.block c.in_ok-push.ensures.items) c.loop-case.invariant
 
 pub word_blocks-loop-case-preserved : goal.word_blocks-loop-case-preserved
 word_blocks-loop-case-preserved t c =

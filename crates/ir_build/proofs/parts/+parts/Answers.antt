@@ -2,11 +2,25 @@ use Rattle.std.proofs.Common.{ap, arith, drop}
 use Rattle.std.proofs.lemmas.Result.{on_ok_weaker}
 use Rattle.template_ir.specs.ViewOps.{view_ops}
 use Rattle.ir_build.specs.Laid.{view_output}
-use Rattle.ir_build.proofs.OpLists.{drop_all}
-use Rattle.ir_build.proofs.PartOps.{at_plural_part, at_select_part}
+use Rattle.ir_build.proofs.OpLists.{drop_all, on_ok_both}
+use Rattle.ir_build.proofs.Loops.{exact_last}
+use Rattle.ir_build.proofs.PartOps.{at_number_part, at_plural_part, at_select_part, at_text_part}
 use Rattle.ir_build.proofs.PartSteps.{exact_begin, exact_end, exact_step, named_begin, named_end, named_step, parts_end}
 use Rattle.ir_build.proofs.PartSteps.{parts_step, word_begin, word_end, word_step}
 use Rattle.ir_build.proofs.parts.+parts.Goals as goal
+
+pub push_part-returns-in-Text : goal.push_part-returns-in-Text
+push_part-returns-in-Text t c =
+    on_ok_weaker c.push_text.result
+    (at_text_part c.args.source.now c.args.part.now c.in-Text.text (view_output c.args.out.now)
+    (view_ops c.args.own.now.items) (view_ops c.push_text.new.own.items) c.in-Text.is) c.push_text.ensures
+
+pub push_part-returns-in-Number : goal.push_part-returns-in-Number
+push_part-returns-in-Number t c =
+    on_ok_both c.push_number.result _ _ _
+    (at_number_part c.args.source.now c.args.part.now (view_output c.args.out.now) (view_output c.push_number.new.out)
+    (view_ops c.args.own.now.items) (view_ops c.push_number.new.own.items) c.in-Number.is) c.push_number.ensures.own
+    c.push_number.ensures.made
 
 pub push_part-returns-in_ok-named-in-Plural : goal.push_part-returns-in_ok-named-in-Plural
 push_part-returns-in_ok-named-in-Plural t c =
@@ -52,10 +66,11 @@ pub exact_blocks-loop-arm-preserved : goal.exact_blocks-loop-arm-preserved
 exact_blocks-loop-arm-preserved t c =
     exact_step c.args.source.now c.args.arms.now c.loop-arm.arm-index c.arm-item.result c.items.result.now
     (view_output c.args.out.now) (view_output c.loop-arm.out) (view_output c.push_parts.new.out)
-    (view_output c.push_exact.new.out) (view_ops c.new-body.result.items) (view_ops c.push_parts.new.own.items)
-    c.loop-arm.blocks.items c.push_exact.new.blocks.items c.loop-arm-test.true c.arm-item.is c.items.ensures
-    (ap view_ops c.new-body.ensures.items) c.in_ok-push_parts.ensures c.in_ok-push_exact.ensures.made
-    c.in_ok-push_exact.ensures.blocks c.loop-arm.invariant
+    (view_output c.lay.new.self) (view_ops c.new-inner.result.items) (view_ops c.push_parts.new.own.items)
+    c.loop-arm.blocks.items c.push.new.self.items c.loop-arm-test.true c.arm-item.is c.items.ensures
+    (ap view_ops c.new-inner.ensures.items) c.in_ok-push_parts.ensures c.in_ok-body.ensures.made
+    (exact_last c.loop-arm.blocks.items c.push.new.self.items c.arm-item.result.is c.in_ok-body.body _
+    c.in_ok-body.ensures.block c.in_ok-push.ensures.items) c.loop-arm.invariant
 
 pub exact_blocks-returns : goal.exact_blocks-returns
 exact_blocks-returns t c =
