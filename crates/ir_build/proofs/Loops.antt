@@ -41,7 +41,10 @@ rows_end X Z h k first now done none x on =
     subst (λ (y : List _). Lays (Z y) k first now) (append_nil done)
     (on now [] (subst (λ (n : ℕ). Lays (X []) n now now) (sym none) (lays_none (X []) now x)))
 
--- an arm for a number that is added, whose block is known
-pub exact_last : (done done_next : List ExactBlock) (n : ℤ) (b known : Block) → b ≡ known
-    → done_next ≡ done ++ (exact_block n b ∷ []) → done_next ≡ done ++ (exact_block n known ∷ [])
-exact_last done done_next n b known is e = e ∙ ap (λ (x : Block). done ++ (exact_block n x ∷ [])) is
+-- an arm for a number that is added, whose number and block are known
+pub exact_last : (done done_next : List ExactBlock) (m n : ℤ) (b known : Block) → m ≡ n → b ≡ known
+    → done_next ≡ done ++ (exact_block m b ∷ []) → done_next ≡ done ++ (exact_block n known ∷ [])
+exact_last done done_next m n b known same is e =
+    e
+    ∙ (ap (λ (x : Block). done ++ (exact_block m x ∷ [])) is
+    ∙ ap (λ (k : ℤ). done ++ (exact_block k known ∷ [])) same)

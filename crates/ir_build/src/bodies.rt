@@ -60,23 +60,25 @@ fn push_node(
     match &node.form {
         Form::Text(text) => push_text(alloc, own, text),
         Form::Print(expr, _) => push_print(alloc, scene.places, out, own, expr),
-        Form::If(arms, None) => {
+        Form::If(arms, other) => {
             let branches = branches(scene, out, arms.items())?;
-            push_if(own, branches)
+            match other {
+                None => push_if(own, branches),
+                Some(other) => {
+                    push_nodes(scene, out, &mut inner, other.items())?;
+                    push_if_else(out, own, branches, inner)
+                }
+            }
         }
-        Form::If(arms, Some(other)) => {
-            let branches = branches(scene, out, arms.items())?;
-            push_nodes(scene, out, &mut inner, other.items())?;
-            push_if_else(out, own, branches, inner)
-        }
-        Form::Switch(subject, cases, None) => {
+        Form::Switch(subject, cases, other) => {
             let choices = choices(scene, out, cases.items())?;
-            push_switch(alloc, own, subject, choices)
-        }
-        Form::Switch(subject, cases, Some(other)) => {
-            let choices = choices(scene, out, cases.items())?;
-            push_nodes(scene, out, &mut inner, other.items())?;
-            push_switch_default(alloc, out, own, subject, choices, inner)
+            match other {
+                None => push_switch(alloc, own, subject, choices),
+                Some(other) => {
+                    push_nodes(scene, out, &mut inner, other.items())?;
+                    push_switch_default(alloc, out, own, subject, choices, inner)
+                }
+            }
         }
         Form::For(name, index, list, body) => {
             push_nodes(scene, out, &mut inner, body.items())?;
@@ -101,15 +103,13 @@ fn push_node(
                 node.span,
             )
         }
-        Form::Message(message, None) => {
+        Form::Message(message, other) => {
             let old_length = out.ops.len();
             push_body(scene, out, &mut inner, &message.body)?;
-            push_alone(scene, out, own, old_length, inner, message)
-        }
-        Form::Message(message, Some(other)) => {
-            let old_length = out.ops.len();
-            push_body(scene, out, &mut inner, &message.body)?;
-            push_either(scene, out, own, old_length, inner, message, other)
+            match other {
+                None => push_alone(scene, out, own, old_length, inner, message),
+                Some(other) => push_either(scene, out, own, old_length, inner, message, other),
+            }
         }
     }
 }

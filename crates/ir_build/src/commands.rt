@@ -1,6 +1,6 @@
 //! The ops of single commands, over the blocks that they name.
 
-ghost use Rattle.std.specs.Prelude.{◌≡◌, ◌∷◌, [], ◌++◌, Some, None, false, map, IfOk, OnOk};
+ghost use Rattle.std.specs.Prelude.{◌≡◌, ◌∷◌, [], ◌++◌, Some, None, codes, false, map, IfOk, OnOk};
 ghost use Rattle.soy_tree.specs.ViewExpressions.{view_expr, view_exprs};
 ghost use Rattle.template_ir.specs.Compiles.{other_arm, other_word};
 ghost use Rattle.template_ir.specs.Ops.{ForOp, IfOp, LetBlockOp, LetOp, NumberOp, PrintOp, SwitchOp};
@@ -322,9 +322,17 @@ pub(crate) fn push_source_select(
 {
     let body = out.lay(other)?;
     let mut arms = arms;
-    let is = Text::new(String::from_str(alloc, "other")?);
+    let is = other_key(alloc)?;
     arms.push(WordBlock { is, body })?;
     push_select(alloc, own, word, Seq::new(arms))
+}
+
+/// The word other.
+fn other_key(alloc: Global) -> Result<Text, OutOfMemory>
+    ensures { IfOk result (λ t. t ≡ codes "other") }
+{
+    let word = String::from_str(alloc, "other")?;
+    Ok(Text::new(word))
 }
 
 /// Adds a case or arm of a select, whose body is these ops.

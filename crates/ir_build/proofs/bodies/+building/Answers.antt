@@ -1,4 +1,7 @@
-use Rattle.std.proofs.Common.{ap, arith, drop, map}
+use mir.Syntax.{w64}
+use mir.Val.{SFits}
+use Rattle.std.proofs.lemmas.Int.{to_z-of_z}
+use Rattle.std.proofs.Common.{rules, ap, arith, drop, map}
 use Rattle.std.proofs.lemmas.Result.{on_ok_weaker}
 use Rattle.template_ir.specs.ViewOps.{view_branch, view_choice, view_handed, view_ops}
 use Rattle.ir_build.specs.Laid.{view_output}
@@ -27,58 +30,58 @@ push_node-returns-in-Print t c =
     (view_output c.push_print.new.out) (view_ops c.args.own.now.items) (view_ops c.push_print.new.own.items)
     c.in-Print.is) c.push_print.ensures.own c.push_print.ensures.made
 
-pub push_node-returns-in_ok-branches-in-If-default-None : goal.push_node-returns-in_ok-branches-in-If-default-None
-push_node-returns-in_ok-branches-in-If-default-None t c =
+pub push_node-returns-in-None : goal.push_node-returns-in-None
+push_node-returns-in-None t c =
     on_ok_weaker c.push_if.result
-    (at_if c.args.scene.now c.args.node.now c.in-If-default-None.arms c.items.result.now c.in-If-default-None.field-1
-    (map view_branch c.in_ok-branches-in-If-default-None.branches.items) (view_output c.args.out.now)
+    (at_if c.args.scene.now c.args.node.now c.in-If.arms c.items.result.now c.in-If.other
+    (map view_branch c.in_ok-branches-in-If.branches.items) (view_output c.args.out.now)
     (view_output c.branches.new.out) (view_ops c.args.own.now.items) (view_ops c.push_if.new.own.items)
-    c.in-If-default-None.is c.in-If-default-None.field-1-is c.items.ensures
-    c.in_ok-branches-in-If-default-None.ensures) c.push_if.ensures
+    c.in-If.is c.in-None.is c.items.ensures
+    c.in_ok-branches-in-If.ensures) c.push_if.ensures
 
-pub push_node-returns-in_ok-push_nodes-in-If-default-Some : goal.push_node-returns-in_ok-push_nodes-in-If-default-Some
-push_node-returns-in_ok-push_nodes-in-If-default-Some t c =
+pub push_node-returns-in_ok-push_nodes-in-Some : goal.push_node-returns-in_ok-push_nodes-in-Some
+push_node-returns-in_ok-push_nodes-in-Some t c =
     on_ok_both c.push_if_else.result _ _ _
-    (at_if_else c.args.scene.now c.args.node.now c.in-If-default-Some.arms c.items-in-If-default-Some.result.now
-    c.in-If-default-Some.field-1 c.in-If-default-Some.other c.items-in-If-default-Some-2.result.now
-    (map view_branch c.in_ok-branches-in-If-default-Some.branches.items) (view_output c.args.out.now)
-    (view_output c.branches-in-If-default-Some.new.out) (view_output c.push_nodes.new.out)
+    (at_if_else c.args.scene.now c.args.node.now c.in-If.arms c.items.result.now
+    c.in-If.other c.in-Some.other c.items-in-Some.result.now
+    (map view_branch c.in_ok-branches-in-If.branches.items) (view_output c.args.out.now)
+    (view_output c.branches.new.out) (view_output c.push_nodes.new.out)
     (view_output c.push_if_else.new.out) (view_ops c.new-inner.result.items) (view_ops c.push_nodes.new.own.items)
-    (view_ops c.args.own.now.items) (view_ops c.push_if_else.new.own.items) c.in-If-default-Some.is
-    c.in-If-default-Some.field-1-is c.items-in-If-default-Some.ensures c.items-in-If-default-Some-2.ensures
-    (ap view_ops c.new-inner.ensures.items) c.in_ok-branches-in-If-default-Some.ensures c.in_ok-push_nodes-in-If-default-Some.ensures)
+    (view_ops c.args.own.now.items) (view_ops c.push_if_else.new.own.items) c.in-If.is
+    c.in-Some.is c.items.ensures c.items-in-Some.ensures
+    (ap view_ops c.new-inner.ensures.items) c.in_ok-branches-in-If.ensures c.in_ok-push_nodes-in-Some.ensures)
     c.push_if_else.ensures.own c.push_if_else.ensures.made
 
-pub push_node-returns-in_ok-choices-in-Switch-default-default-None :
-    goal.push_node-returns-in_ok-choices-in-Switch-default-default-None
-push_node-returns-in_ok-choices-in-Switch-default-default-None t c =
+pub push_node-returns-in-None-other :
+    goal.push_node-returns-in-None-other
+push_node-returns-in-None-other t c =
     on_ok_weaker c.push_switch.result
-    (at_switch c.args.scene.now c.args.node.now c.in-Switch-default-default-None.subject
-    c.in-Switch-default-default-None.cases c.items-in-Switch-default-default-None.result.now
-    c.in-Switch-default-default-None.field-2
-    (map view_choice c.in_ok-choices-in-Switch-default-default-None.choices.items) (view_output c.args.out.now)
+    (at_switch c.args.scene.now c.args.node.now c.in-Switch.subject
+    c.in-Switch.cases c.items-in-Switch.result.now
+    c.in-Switch.other
+    (map view_choice c.in_ok-choices-in-Switch.choices.items) (view_output c.args.out.now)
     (view_output c.choices.new.out) (view_ops c.args.own.now.items) (view_ops c.push_switch.new.own.items)
-    c.in-Switch-default-default-None.is c.in-Switch-default-default-None.field-2-is
-    c.items-in-Switch-default-default-None.ensures c.in_ok-choices-in-Switch-default-default-None.ensures)
+    c.in-Switch.is c.in-None-other.is
+    c.items-in-Switch.ensures c.in_ok-choices-in-Switch.ensures)
     c.push_switch.ensures
 
-pub push_node-returns-in_ok-push_nodes-in-Switch-default-default-Some :
-    goal.push_node-returns-in_ok-push_nodes-in-Switch-default-default-Some
-push_node-returns-in_ok-push_nodes-in-Switch-default-default-Some t c =
+pub push_node-returns-in_ok-push_nodes-in-Some-other :
+    goal.push_node-returns-in_ok-push_nodes-in-Some-other
+push_node-returns-in_ok-push_nodes-in-Some-other t c =
     on_ok_both c.push_switch_default.result _ _ _
-    (at_switch_default c.args.scene.now c.args.node.now c.in-Switch-default-default-Some.subject
-    c.in-Switch-default-default-Some.cases c.items-in-Switch-default-default-Some.result.now
-    c.in-Switch-default-default-Some.field-2 c.in-Switch-default-default-Some.other
-    c.items-in-Switch-default-default-Some-2.result.now
-    (map view_choice c.in_ok-choices-in-Switch-default-default-Some.choices.items) (view_output c.args.out.now)
-    (view_output c.choices-in-Switch-default-default-Some.new.out)
-    (view_output c.push_nodes-in-Switch-default-default-Some.new.out) (view_output c.push_switch_default.new.out)
-    (view_ops c.new-inner.result.items) (view_ops c.push_nodes-in-Switch-default-default-Some.new.own.items)
+    (at_switch_default c.args.scene.now c.args.node.now c.in-Switch.subject
+    c.in-Switch.cases c.items-in-Switch.result.now
+    c.in-Switch.other c.in-Some-other.other
+    c.items-in-Some-other.result.now
+    (map view_choice c.in_ok-choices-in-Switch.choices.items) (view_output c.args.out.now)
+    (view_output c.choices.new.out)
+    (view_output c.push_nodes-in-Some-other.new.out) (view_output c.push_switch_default.new.out)
+    (view_ops c.new-inner.result.items) (view_ops c.push_nodes-in-Some-other.new.own.items)
     (view_ops c.args.own.now.items) (view_ops c.push_switch_default.new.own.items)
-    c.in-Switch-default-default-Some.is c.in-Switch-default-default-Some.field-2-is
-    c.items-in-Switch-default-default-Some.ensures c.items-in-Switch-default-default-Some-2.ensures
-    (ap view_ops c.new-inner.ensures.items) c.in_ok-choices-in-Switch-default-default-Some.ensures
-    c.in_ok-push_nodes-in-Switch-default-default-Some.ensures) c.push_switch_default.ensures.own
+    c.in-Switch.is c.in-Some-other.is
+    c.items-in-Switch.ensures c.items-in-Some-other.ensures
+    (ap view_ops c.new-inner.ensures.items) c.in_ok-choices-in-Switch.ensures
+    c.in_ok-push_nodes-in-Some-other.ensures) c.push_switch_default.ensures.own
     c.push_switch_default.ensures.made
 
 pub push_node-returns-in_ok-push_nodes-in-For : goal.push_node-returns-in_ok-push_nodes-in-For
@@ -118,29 +121,29 @@ push_node-returns-in_ok-handed-in-Call t c =
     c.items-in-Call-2.ensures c.in_ok-place-in-Call.ensures.made c.in_ok-place-in-Call.ensures.place
     c.in_ok-handed-in-Call.ensures) c.push_call.ensures
 
-pub push_node-returns-in_ok-push_body-in-Message-default-None :
-    goal.push_node-returns-in_ok-push_body-in-Message-default-None
-push_node-returns-in_ok-push_body-in-Message-default-None t c =
+pub push_node-returns-in-None-other-2 :
+    goal.push_node-returns-in-None-other-2
+push_node-returns-in-None-other-2 t c =
     on_ok_weaker c.push_alone.result
-    (at_message c.args.scene.now c.args.node.now c.in-Message-default-None.message c.in-Message-default-None.field-1
+    (at_message c.args.scene.now c.args.node.now c.in-Message.message c.in-Message.other
     c.args.out.now c.push_body.new.out (view_output c.push_alone.new.out) c.len-old_length.result
     (view_ops c.new-inner.result.items) (view_ops c.push_body.new.own.items) (view_ops c.args.own.now.items)
-    (view_ops c.push_alone.new.own.items) c.in-Message-default-None.is c.in-Message-default-None.field-1-is
+    (view_ops c.push_alone.new.own.items) c.in-Message.is c.in-None-other-2.is
     (old_length c.args.out.now.ops.items c.len-old_length.result (omega arith))
-    (ap view_ops c.new-inner.ensures.items) c.in_ok-push_body-in-Message-default-None.ensures) c.push_alone.ensures
+    (ap view_ops c.new-inner.ensures.items) c.in_ok-push_body-in-Message.ensures) c.push_alone.ensures
 
-pub push_node-returns-in_ok-push_body-in-Message-default-Some :
-    goal.push_node-returns-in_ok-push_body-in-Message-default-Some
-push_node-returns-in_ok-push_body-in-Message-default-Some t c =
+pub push_node-returns-in-Some-other-2 :
+    goal.push_node-returns-in-Some-other-2
+push_node-returns-in-Some-other-2 t c =
     on_ok_weaker c.push_either.result
-    (at_message_fallback c.args.scene.now c.args.node.now c.in-Message-default-Some.message
-    c.in-Message-default-Some.other c.in-Message-default-Some.field-1 c.args.out.now
-    c.push_body-in-Message-default-Some.new.out (view_output c.push_either.new.out)
-    c.len-old_length-in-Message-default-Some.result (view_ops c.new-inner.result.items)
-    (view_ops c.push_body-in-Message-default-Some.new.own.items) (view_ops c.args.own.now.items)
-    (view_ops c.push_either.new.own.items) c.in-Message-default-Some.is c.in-Message-default-Some.field-1-is
-    (old_length c.args.out.now.ops.items c.len-old_length-in-Message-default-Some.result (omega arith)) (ap view_ops c.new-inner.ensures.items)
-    c.in_ok-push_body-in-Message-default-Some.ensures) c.push_either.ensures
+    (at_message_fallback c.args.scene.now c.args.node.now c.in-Message.message
+    c.in-Some-other-2.other c.in-Message.other c.args.out.now
+    c.push_body.new.out (view_output c.push_either.new.out)
+    c.len-old_length.result (view_ops c.new-inner.result.items)
+    (view_ops c.push_body.new.own.items) (view_ops c.args.own.now.items)
+    (view_ops c.push_either.new.own.items) c.in-Message.is c.in-Some-other-2.is
+    (old_length c.args.out.now.ops.items c.len-old_length.result (omega arith)) (ap view_ops c.new-inner.ensures.items)
+    c.in_ok-push_body-in-Message.ensures) c.push_either.ensures
 
 -- ---- lists
 
@@ -232,13 +235,14 @@ handed-loop-argument-preserved t c =
 
 pub exact_blocks-loop-case-preserved : goal.exact_blocks-loop-case-preserved
 exact_blocks-loop-case-preserved t c =
+    let fits : SFits w64 c.case-item.result.is = search rules in
     plural_cases_step c.args.scene.now c.args.cases.now c.loop-case.case-index c.case-item.result
     (view_output c.args.out.now) (view_output c.loop-case.out) (view_output c.push_body.new.out)
     (view_output c.lay.new.self) (view_ops c.new-inner.result.items) (view_ops c.push_body.new.own.items)
     c.loop-case.blocks.items c.push.new.self.items c.loop-case-test.true c.case-item.is
     (ap view_ops c.new-inner.ensures.items) c.in_ok-push_body.ensures c.in_ok-body.ensures.made
-    (exact_last c.loop-case.blocks.items c.push.new.self.items c.case-item.result.is c.in_ok-body.body _
-    c.in_ok-body.ensures.block c.in_ok-push.ensures.items) c.loop-case.invariant
+    (exact_last c.loop-case.blocks.items c.push.new.self.items _ c.case-item.result.is c.in_ok-body.body _
+    (to_z-of_z w64 c.case-item.result.is fits) c.in_ok-body.ensures.block c.in_ok-push.ensures.items) c.loop-case.invariant
 
 pub word_blocks-loop-case-preserved : goal.word_blocks-loop-case-preserved
 word_blocks-loop-case-preserved t c =

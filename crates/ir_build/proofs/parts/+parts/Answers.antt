@@ -1,4 +1,7 @@
-use Rattle.std.proofs.Common.{ap, arith, drop}
+use mir.Syntax.{w64}
+use mir.Val.{SFits}
+use Rattle.std.proofs.lemmas.Int.{to_z-of_z}
+use Rattle.std.proofs.Common.{rules, ap, arith, drop}
 use Rattle.std.proofs.lemmas.Result.{on_ok_weaker}
 use Rattle.template_ir.specs.ViewOps.{view_ops}
 use Rattle.ir_build.specs.Laid.{view_output}
@@ -64,13 +67,14 @@ exact_blocks-loop-arm-init t c =
 
 pub exact_blocks-loop-arm-preserved : goal.exact_blocks-loop-arm-preserved
 exact_blocks-loop-arm-preserved t c =
+    let fits : SFits w64 c.arm-item.result.is = search rules in
     exact_step c.args.source.now c.args.arms.now c.loop-arm.arm-index c.arm-item.result c.items.result.now
     (view_output c.args.out.now) (view_output c.loop-arm.out) (view_output c.push_parts.new.out)
     (view_output c.lay.new.self) (view_ops c.new-inner.result.items) (view_ops c.push_parts.new.own.items)
     c.loop-arm.blocks.items c.push.new.self.items c.loop-arm-test.true c.arm-item.is c.items.ensures
     (ap view_ops c.new-inner.ensures.items) c.in_ok-push_parts.ensures c.in_ok-body.ensures.made
-    (exact_last c.loop-arm.blocks.items c.push.new.self.items c.arm-item.result.is c.in_ok-body.body _
-    c.in_ok-body.ensures.block c.in_ok-push.ensures.items) c.loop-arm.invariant
+    (exact_last c.loop-arm.blocks.items c.push.new.self.items _ c.arm-item.result.is c.in_ok-body.body _
+    (to_z-of_z w64 c.arm-item.result.is fits) c.in_ok-body.ensures.block c.in_ok-push.ensures.items) c.loop-arm.invariant
 
 pub exact_blocks-returns : goal.exact_blocks-returns
 exact_blocks-returns t c =
