@@ -1,7 +1,12 @@
 pub mod Arms
 pub mod ClassLists
 pub mod HoleClasses
+pub mod Inferred
+pub mod NoStates
 pub mod PlacedNodes
+pub mod PlacesApart
+pub mod RowPlans
+pub mod SameLists
 pub mod TextSteps
 pub mod Turns
 pub mod Verdicts

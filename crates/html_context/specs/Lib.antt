@@ -1,6 +1,7 @@
 pub mod ChosenTranslation
 pub mod Infers
 pub mod JoinedArms
+pub mod Kept
 pub mod NarrowedVariable
 pub mod PlacedNodes
 pub mod PlacesOfHoles

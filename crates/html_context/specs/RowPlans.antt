@@ -31,6 +31,9 @@ row_plans rows = table row_plan rows
 abbrev pub plan_at : List Row → ℕ → Plan
 plan_at rows n = plan_among (row_plans rows) n
 
--- the plan of a number as a row of another number means it
+-- the plans of the rows before a number, as a row of it means them
+abbrev pub plans_before : List Row → ℕ → List Plan
+plans_before rows limit = take limit (row_plans rows)
+
 abbrev pub plan_below : List Row → ℕ → ℕ → Plan
-plan_below rows limit n = plan_among (take limit (row_plans rows)) n
+plan_below rows limit n = plan_among (plans_before rows limit) n
