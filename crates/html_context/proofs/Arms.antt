@@ -1,5 +1,10 @@
 -- The arms of a command, one after the other, and the walk of their plan.
-use Rattle.std.proofs.Common.{◌≡◌, List, [], ◌∷◌, ◌++◌, Result, Ok, Err, refl, sym, ap, ◌∙◌}
+use Rattle.std.proofs.Common.{◌≡◌, ℕ, suc, ◌<◌, ◌≤◌, List, [], ◌∷◌, ◌++◌, Result, Ok, Err, map, drop, get_or, length, refl, sym, ap, subst, ◌∙◌, drop-cons}
+use Rattle.std.proofs.lemmas.List.{drop_all}
+use Rattle.std.specs.declared.alloc.Global.{Global}
+use Rattle.std.specs.declared.vec.Vec.{Vec}
+use Rattle.soy_base.specs.declared.memory.Refusal.{Refusal}
+use Rattle.soy_base.specs.declared.memory.Refusal.TheVariants.{Because, OutOfMemory}
 use Rattle.soy_base.specs.declared.place.Place.{Place}
 use Rattle.html_state.specs.declared.row.State.{State}
 use Rattle.soy_tree.specs.Faults.{followed_by}
@@ -8,6 +13,8 @@ use Rattle.soy_meaning.specs.Plan.{Site, Plan, Nowhere, Either, any_of, arms_mee
 use Rattle.soy_meaning.specs.States.{joined_states}
 use Rattle.soy_meaning.specs.Walk.{WalkFault, Walked, walk, walked, within_limit}
 use Rattle.html_context.specs.JoinedArms.{joined_arm, joined_arms}
+use Rattle.html_context.specs.Walks.{Walks}
+use Rattle.html_context.specs.declared.fault.FirstFault.{FirstFault}
 
 itself : {A E : Type 0} (r : Result A E) → r ≡ followed_by r (λ a. Ok a)
 itself (Ok a) = refl
@@ -70,3 +77,27 @@ two_lists at before v ps qs = ap (λ r. followed_by r (λ u. within_limit page_m
 
 pub one_arm : (before : List State) (v : Walked State) (p : Plan) → joined_arms before v (p ∷ []) ≡ joined_arm before v p
 one_arm before v p = sym (itself (joined_arm before v p))
+
+-- ---- arms of a table
+
+module _ (at : Site) (f : ℕ → Plan) (ns : List ℕ) (i : ℕ) (before : List State) (start : List Place) (joined : List State) (places : List Place) where
+  -- some of them were walked
+  abbrev pub SomeArms : Type 0
+  SomeArms = joined_arms before (walked joined places) (map f (drop i ns)) ≡ joined_arms before (walked [] start) (map f ns)
+
+  pub meet_fails : i < length ns → SomeArms → (mid new : List Place) (e : Refusal FirstFault) → Walks (joined_arm before (walked joined places) (f (get_or ns i 0))) mid (Err e)
+      → Walks (walk page_machine (arms_meet at (map f ns)) (walked before start)) new (Err e)
+  meet_fails within is mid new (Because x) h =
+      list_meets at (map f ns) before start
+      ∙ ap (λ r. followed_by r (λ v. within_limit page_machine at v))
+      (sym is ∙ (ap (λ l. joined_arms before (walked joined places) (map f l)) (drop-cons ns i 0 within)
+      ∙ ap (λ r. followed_by r (λ u. joined_arms before u (map f (drop (suc i) ns)))) h))
+  meet_fails within is mid new OutOfMemory h = tt
+
+  pub meet_ends : length ns ≤ i → SomeArms → (r : Result (Vec State Global) (Refusal FirstFault)) → Walks (within_limit page_machine at (walked joined places)) places r
+      → Walks (walk page_machine (arms_meet at (map f ns)) (walked before start)) places r
+  meet_ends past is r h =
+      subst (λ (z : Result (Walked State) WalkFault). Walks z places r)
+      (sym (list_meets at (map f ns) before start
+      ∙ ap (λ r. followed_by r (λ v. within_limit page_machine at v))
+      (sym is ∙ ap (λ l. joined_arms before (walked joined places) (map f l)) (drop_all i ns past)))) h

@@ -7,20 +7,15 @@ ghost use Rattle.html_state.specs.TakesClass.{takes_class};
 ghost use Rattle.soy_base.specs.declared.place.Placing.TheVariants.{Takes};
 ghost use Rattle.soy_meaning.specs.PageMachine.{page_machine};
 ghost use Rattle.soy_meaning.specs.Plan.{Hole};
-ghost use Rattle.soy_meaning.specs.PlanOfParts.{printed_classes};
 ghost use Rattle.soy_meaning.specs.Walk.{other_placing, place_of_hole, states_after_value, taken_place, walk, walked};
 ghost use Rattle.soy_meaning.specs.Walk.{within_limit};
-ghost use Rattle.soy_tree.specs.ViewExpressions.{view_expr};
-ghost use Rattle.soy_expr.specs.ViewScope.{view_vars};
 ghost use Rattle.html_context.specs.TakenClass.{taken_class};
 ghost use Rattle.html_context.specs.Walks.{Gives, Walks, view_site};
 
-use crate::classes::printed_classes;
 use crate::fault::{FirstFault, Site, Stop, stop};
 use crate::states::add;
 use html_state::State;
 use soy_base::{Code, OutOfMemory, Place, Placing, Refusal, ValueClass};
-use soy_tree::{Expr, Field};
 use std::alloc::Global;
 
 /// The first placing that isn't this one.
@@ -142,22 +137,6 @@ pub(crate) fn hole(
     let place = place_of_hole(at, classes, states)?;
     keep(places, place)?;
     Ok(after_value(alloc, taken_class(place), states)?)
-}
-
-/// The states after a print.
-pub(crate) fn print(
-    alloc: Global,
-    at: Site,
-    expr: &Expr,
-    vars: &[Field],
-    states: &[State],
-    places: &mut Vec<Place>,
-) -> Result<Vec<State>, Stop>
-    ensures { Walks (walk page_machine (Hole (view_site at) (printed_classes (view_expr expr.now) (view_vars vars.now)))
-        (walked states.now places.old.items)) places.new.items result }
-{
-    let classes = printed_classes(alloc, expr, vars)?;
-    hole(alloc, at, &classes, states, places)
 }
 
 /// No more than 16 states may meet.

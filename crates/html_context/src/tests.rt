@@ -26,6 +26,8 @@ enum Piece {
     Switch(u64, u32),
     /// A message of a text.
     Message(u64, &'static str),
+    /// So many loops inside one another, each with `>` before and `<b ` behind the loop in it, and a print innermost.
+    Nest(u32),
 }
 
 fn text_of(alloc: Global, text: &str) -> Result<Text, OutOfMemory> {
@@ -126,6 +128,20 @@ fn bundle_of(alloc: Global, source: &str, text: &str) -> Result<Bundle, OutOfMem
     Ok(bundle)
 }
 
+fn nest_of(alloc: Global, depth: u32) -> Result<Node, OutOfMemory> {
+    let mut inner = print_node(alloc, 0, "x")?;
+    for _ in 0..depth {
+        let mut nodes = Vec::new(alloc);
+        nodes.push(text_node(alloc, 0, ">")?)?;
+        nodes.push(inner)?;
+        nodes.push(text_node(alloc, 0, "<b ")?)?;
+        let list = variable(alloc, "l")?;
+        let item = text_of(alloc, "i")?;
+        inner = node(Form::For(item, None, list, Seq::new(nodes)), 0, 0);
+    }
+    Ok(inner)
+}
+
 fn node_of(alloc: Global, piece: &Piece) -> Result<Node, OutOfMemory> {
     match piece {
         Piece::Text(start, text) => text_node(alloc, *start, text),
@@ -138,6 +154,7 @@ fn node_of(alloc: Global, piece: &Piece) -> Result<Node, OutOfMemory> {
             let message = message_of(alloc, *start, text)?;
             Ok(node(Form::Message(message, None), *start, *start))
         }
+        Piece::Nest(depth) => nest_of(alloc, *depth),
     }
 }
 
@@ -342,4 +359,14 @@ fn places_in_the_order_of_the_holes(rt: HostRuntime) {
         return;
     };
     assert!(rt; places.prints.items() == [Place::Attr, Place::Text, Place::Text].as_slice());
+}
+
+#[test]
+fn loops_inside_one_another(rt: HostRuntime) {
+    let pieces = [Piece::Nest(60), Piece::Text(90, ">")];
+    let Ok(places) = inferred(rt.alloc(), &pieces) else {
+        assert!(rt; false);
+        return;
+    };
+    assert!(rt; places.prints.items() == [Place::Text].as_slice());
 }

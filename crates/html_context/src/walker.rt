@@ -1,6 +1,6 @@
 //! The walk over a table: each function gives what the walk gives of the plan of what it is given.
 
-ghost use Rattle.std.specs.Prelude.{◌≡◌, [], Ok, IfSome, OnOk, map};
+ghost use Rattle.std.specs.Prelude.{◌≡◌, ◌<◌, [], Ok, IfSome, OnOk, map};
 ghost use Rattle.soy_meaning.specs.PageMachine.{page_machine};
 ghost use Rattle.soy_meaning.specs.Plan.{Frame, Loop, arms_meet, in_turn};
 ghost use Rattle.soy_meaning.specs.Walk.{all_may_end, walk, walked};

@@ -9,5 +9,5 @@ abbrev pub invariant-loop-c : goal.invariant-loop-c
 invariant-loop-c l = record {
   utf8 : IsUtf8 (chars_rest l.c-iterator);
   rest : states_after_text page_machine (chars (chars_rest l.c-iterator)) (l.now ∷ [])
-      ≡ states_after_text page_machine (chars l.text) (l.state ∷ []);
+      ≡ states_after_text page_machine (chars l.text) (l.fn.state ∷ []);
 }
