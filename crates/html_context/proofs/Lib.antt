@@ -10,3 +10,5 @@ pub mod SameLists
 pub mod TextSteps
 pub mod Turns
 pub mod Verdicts
+pub mod WrittenRows
+pub mod PlanCongruence
