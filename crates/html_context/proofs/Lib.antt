@@ -12,3 +12,4 @@ pub mod Turns
 pub mod Verdicts
 pub mod WrittenRows
 pub mod PlanCongruence
+pub mod WrittenLists

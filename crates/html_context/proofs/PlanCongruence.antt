@@ -9,11 +9,11 @@ use Rattle.soy_meaning.specs.States.{joined_states}
 use Rattle.soy_meaning.specs.Walk.{WalkFault, Walked, frame_end, turns, walk, walked, within_limit}
 use Rattle.html_context.specs.StandsFor.{walk_of}
 
-abbrev Way : Type 0
+abbrev pub Way : Type 0
 Way = Walked State → Result (Walked State) WalkFault
 
 -- ways, one after the other
-abbrev each_way : List Way → Way
+abbrev pub each_way : List Way → Way
 each_way [] = λ w. Ok w
 each_way (f ∷ fs) = λ w. followed_by (f w) (each_way fs)
 
@@ -27,7 +27,7 @@ abbrev any_way : Way → List Way → Way
 any_way f [] = f
 any_way f (g ∷ gs) = any_way (either_way f g) gs
 
-in_turn_ways : (ps : List Plan) → walk_of (in_turn ps) ≡ each_way (map walk_of ps)
+pub in_turn_ways : (ps : List Plan) → walk_of (in_turn ps) ≡ each_way (map walk_of ps)
 in_turn_ways [] = refl
 in_turn_ways (p ∷ ps) = ap (λ (g : Way). λ w. followed_by (walk page_machine p w) g) (in_turn_ways ps)
 
@@ -64,6 +64,6 @@ frame_walks kind at p q e =
     ap (λ (f : Way). λ w.
     followed_by (f (walked ((page_machine.start kind) ∷ []) w.places)) (λ v. frame_end page_machine kind at w.states v)) e
 
-map_through : {A : Type 0} (f : A → Plan) (xs : List A) → map walk_of (map f xs) ≡ map (λ x. walk_of (f x)) xs
+pub map_through : {A : Type 0} (f : A → Plan) (xs : List A) → map walk_of (map f xs) ≡ map (λ x. walk_of (f x)) xs
 map_through f [] = refl
 map_through f (x ∷ xs) = ap (λ (gs : List Way). walk_of (f x) ∷ gs) (map_through f xs)

@@ -1,9 +1,10 @@
 -- Rows that are written behind those that are there.
+use Rattle.std.proofs.Common.{zero, suc, slice_index_or}
 use Rattle.std.proofs.Common.{◌≡◌, ◌≤◌, ◌<◌, ◌+◌, ℕ, List, [], ◌∷◌, ◌++◌, Some, Result, Ok, Err, OnOk, IfOk, get_or, length, map}
 use Rattle.std.proofs.Common.{take, drop, refl, sym, ap, ◌∙◌, append_assoc, arith, subst}
 use Rattle.std.specs.List.{slice_get}
 use Rattle.std.proofs.lemmas.List.{get_or-take, length-append, take-append-drop}
-use Rattle.std.proofs.Math.Seq.{take-append_seam}
+use Rattle.std.proofs.Math.Seq.{drop-cons, take-append_seam}
 use Rattle.soy_base.specs.declared.memory.OutOfMemory.{OutOfMemory}
 use Rattle.soy_meaning.specs.Plan.{Plan, Nothing}
 use Rattle.template_ir.specs.Table.{table}
@@ -78,3 +79,18 @@ pub writes_on : (p : Plan) (a b c : List Row) (result : Result ℕ OutOfMemory)
     → Keeps a b → Writes p b c result → Writes p a c result
 writes_on p a b c (Ok n) h w = (keeps_on a b c h w.0, w.1, w.2)
 writes_on p a b c (Err o) h w = tt
+
+-- ---- lists that are gone through
+
+-- the item at an index, and those after it
+pub first_of : {X : Type 0} (xs : List X) (j : ℕ) (x : X) → j < length xs → x ≡ slice_index_or xs j x
+    → drop j xs ≡ x ∷ drop (j + 1) xs
+first_of xs j x small is =
+    let one : suc j ≡ j + 1 = omega arith in
+    drop-cons xs j x small ∙ ap (λ v. v ∷ drop (suc j) xs) (sym is) ∙ ap (λ k. x ∷ drop k xs) one
+
+pub none_of : {X : Type 0} (xs : List X) (j : ℕ) → length xs ≤ j → drop j xs ≡ []
+none_of [] zero h = refl
+none_of [] (suc j) h = refl
+none_of (x ∷ xs) zero h = absurd (omega arith)
+none_of (x ∷ xs) (suc j) h = none_of xs j (omega arith)
