@@ -10,3 +10,6 @@ pub mod SameLists
 pub mod TextSteps
 pub mod Turns
 pub mod Verdicts
+pub mod WrittenRows
+pub mod PlanCongruence
+pub mod WrittenLists

@@ -1,15 +1,21 @@
 -- What the plan of a translation goes by, of a `Source` of the code: the uses of names in the message, the variables
 -- and the site.
-use Rattle.std.specs.Prelude.{List}
+use Rattle.std.specs.Prelude.{◌≡◌, List, map}
 use Rattle.soy_tree.specs.MessageParts.{MsgPart, MsgParts, ExactArms, NamedArms, SelectArms}
 use Rattle.soy_tree.specs.Placeholders.{Use}
 use Rattle.soy_tree.specs.ViewNodes.{view_message}
 use Rattle.soy_expr.specs.ViewScope.{view_vars}
+use Rattle.msg_extract.specs.PlaceholderNodes.{placeholders_of}
+use Rattle.msg_extract.specs.ViewPlaceholders.{view_placeholder}
 use Rattle.soy_meaning.specs.Plan.{Plan}
 use Rattle.soy_meaning.specs.PlanOfNodes.{uses_of}
 use Rattle.soy_meaning.specs.PlanOfParts.{exact_plans, named_plans, part_plan, parts_plan, select_arm_plans}
 use Rattle.html_context.specs.declared.source.Source.{Source}
 use Rattle.html_context.specs.Walks.{view_site}
+
+-- the placeholders are those of the message
+abbrev pub IsNamed : Source → Type 0
+IsNamed s = map view_placeholder s.placeholders.now ≡ placeholders_of (view_message s.message.now)
 
 abbrev pub source_uses : Source → List Use
 source_uses s = uses_of (view_message s.message.now)

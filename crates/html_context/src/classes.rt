@@ -42,7 +42,6 @@ fn push_classes(classes: &mut Vec<ValueClass>, of: &SoyType) -> Result<(), OutOf
 
 /// Adds the classes of the members of a union.
 #[cycle(classes)]
-#[tactic(auto, using(crate::proofs::ClassLists::classes_append, crate::proofs::ClassLists::append_assoc))]
 fn push_all(classes: &mut Vec<ValueClass>, members: &[SoyType]) -> Result<(), OutOfMemory>
     ensures { OnOk result
         (classes.new.items ≡ classes.old.items ++ classes_of_all (union_members (view_members members.now))) }

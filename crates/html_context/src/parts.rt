@@ -10,7 +10,7 @@ ghost use Rattle.soy_expr.specs.ViewScope.{view_vars};
 ghost use Rattle.msg_extract.specs.ViewPlaceholders.{view_placeholder};
 ghost use Rattle.html_context.specs.PlacedNodes.{named_nodes, placed_node, placed_nodes};
 ghost use Rattle.html_context.specs.StandsFor.{Writes, WritesEach, WritesMore};
-ghost use Rattle.html_context.specs.ViewParts.{plan_of_part, plan_of_parts, plans_of_exact, plans_of_named};
+ghost use Rattle.html_context.specs.ViewParts.{IsNamed, plan_of_part, plan_of_parts, plans_of_exact, plans_of_named};
 ghost use Rattle.html_context.specs.ViewParts.{plans_of_select, source_uses};
 ghost use Rattle.html_context.specs.Walks.{view_site};
 
@@ -64,6 +64,7 @@ fn all_placed(
 
 /// Writes a placeholder.
 fn placeholder(source: &Source<'_>, name: &Text, rows: &mut Vec<Row>) -> Result<usize, OutOfMemory>
+    requires { IsNamed source.now }
     ensures { Writes (cut_plan (view_vars source.now.vars.now) (view_site source.now.at)
         (placeholder_cut name.now (source_uses source.now) (source_uses source.now)))
         rows.old.items rows.new.items result }
@@ -78,6 +79,7 @@ pub(crate) fn all_parts(
     parts: &[MsgPart],
     rows: &mut Vec<Row>,
 ) -> Result<usize, OutOfMemory>
+    requires { IsNamed source.now }
     ensures { Writes (plan_of_parts source.now (view_parts parts.now)) rows.old.items rows.new.items result }
 {
     let mut numbers = Vec::new(source.alloc);
@@ -91,6 +93,7 @@ pub(crate) fn all_parts(
 /// Writes a part.
 #[cycle(parts)]
 fn one_part(source: &Source<'_>, part: &MsgPart, rows: &mut Vec<Row>) -> Result<usize, OutOfMemory>
+    requires { IsNamed source.now }
     ensures { Writes (plan_of_part source.now (view_part part.now)) rows.old.items rows.new.items result }
 {
     match part {
@@ -116,6 +119,7 @@ fn exact_arms(
     arms: &[ExactArm],
     rows: &mut Vec<Row>,
 ) -> Result<Vec<usize>, OutOfMemory>
+    requires { IsNamed source.now }
     ensures { WritesEach (plans_of_exact source.now (exact_arms_of (map view_exact arms.now)))
         rows.old.items rows.new.items result }
 {
@@ -135,7 +139,8 @@ fn named_arms(
     before: Vec<usize>,
     rows: &mut Vec<Row>,
 ) -> Result<Vec<usize>, OutOfMemory>
-    requires { All (λ n. n < length rows.old.items) before.items }
+    requires named { IsNamed source.now }
+    requires below { All (λ n. n < length rows.old.items) before.items }
     ensures { WritesMore before.items (plans_of_named source.now (named_arms_of (map view_named arms.now)))
         rows.old.items rows.new.items result }
 {
@@ -154,6 +159,7 @@ fn select_arms(
     arms: &[SelectArm],
     rows: &mut Vec<Row>,
 ) -> Result<Vec<usize>, OutOfMemory>
+    requires { IsNamed source.now }
     ensures { WritesEach (plans_of_select source.now (select_arms_of (map view_select_arm arms.now)))
         rows.old.items rows.new.items result }
 {

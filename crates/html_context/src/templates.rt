@@ -2,6 +2,7 @@
 
 ghost use Rattle.std.specs.Prelude.{◌≡◌, ◌<◌, ◌^◌, ◌++◌, ◌==◌, IfOk, OnOk, length, map, option_map};
 ghost use Rattle.std.specs.List.{list_any};
+ghost use Rattle.std.specs.Str.{chars};
 ghost use Rattle.soy_base.specs.Characters.{full_stop};
 ghost use Rattle.soy_tree.specs.Templates.{called_name, callee, declared, declared_in, joined_name, template_of};
 ghost use Rattle.soy_tree.specs.Templates.{visible};
@@ -63,17 +64,23 @@ fn joined_name(alloc: Global, namespace: &Text, name: &Text) -> Result<Text, Out
 }
 
 /// Whether there is a `.` in a name.
-fn is_dotted(name: &Text) -> bool
-    ensures { result ≡ list_any (λ c. c == full_stop) name.now }
+fn is_dotted(name: &str) -> bool
+    ensures { result ≡ list_any (λ c. c == full_stop) (chars name.now) }
 {
-    name.text().chars().any(|c| c == '.')
+    name.chars().any(is_full_stop)
+}
+
+fn is_full_stop(c: char) -> bool
+    ensures { result ≡ (c == full_stop) }
+{
+    c == '.'
 }
 
 /// The full name that a call means.
 fn called_name(alloc: Global, namespace: &Text, name: &Text) -> Result<Text, OutOfMemory>
     ensures { IfOk result (λ full. full ≡ called_name namespace.now name.now) }
 {
-    if is_dotted(name) {
+    if is_dotted(name.text()) {
         name.copy(alloc)
     } else {
         joined_name(alloc, namespace, name)

@@ -26,6 +26,7 @@ pub(crate) fn write(rows: &mut Vec<Row>, row: Row) -> Result<usize, OutOfMemory>
 }
 
 /// Writes what gives nothing.
+#[tactic(auto, using(crate::proofs::WrittenRows::writes))]
 pub(crate) fn write_nothing(alloc: Global, rows: &mut Vec<Row>) -> Result<usize, OutOfMemory>
     ensures { Writes Nothing rows.old.items rows.new.items result }
 {
@@ -33,6 +34,7 @@ pub(crate) fn write_nothing(alloc: Global, rows: &mut Vec<Row>) -> Result<usize,
 }
 
 /// Writes a static text.
+#[tactic(auto, using(crate::proofs::WrittenRows::writes))]
 pub(crate) fn write_text(
     alloc: Global,
     at: Site,
@@ -46,6 +48,7 @@ pub(crate) fn write_text(
 }
 
 /// Writes a hole for values of a class.
+#[tactic(auto, using(crate::proofs::WrittenRows::writes))]
 pub(crate) fn write_hole(
     alloc: Global,
     at: Site,
@@ -60,6 +63,7 @@ pub(crate) fn write_hole(
 }
 
 /// Writes a print.
+#[tactic(auto, using(crate::proofs::WrittenRows::writes))]
 pub(crate) fn write_print(
     alloc: Global,
     at: Site,
