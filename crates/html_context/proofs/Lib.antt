@@ -1,4 +1,6 @@
 pub mod Arms
+pub mod BuiltLists
+pub mod BuiltRows
 pub mod ClassLists
 pub mod HoleClasses
 pub mod Inferred
@@ -10,6 +12,7 @@ pub mod SameLists
 pub mod TextSteps
 pub mod Turns
 pub mod Verdicts
+pub mod ViewBodies
 pub mod WrittenRows
 pub mod PlanCongruence
 pub mod WrittenLists

@@ -23,7 +23,7 @@ abbrev pub EachBelow : ℕ → List ℕ → Type 0
 EachBelow n [] = Unit {0}
 EachBelow n (k ∷ ks) = (k < n) × EachBelow n ks
 
-below_all : (n : ℕ) (ks : List ℕ) → All (λ k. k < n) ks → EachBelow n ks
+pub below_all : (n : ℕ) (ks : List ℕ) → All (λ k. k < n) ks → EachBelow n ks
 below_all n [] h = tt
 below_all n (k ∷ ks) h = (h 0 k (omega arith), below_all n ks (λ i d small. h (suc i) d (omega arith)))
 
@@ -91,11 +91,12 @@ first_in_turn old p = (keeps_itself old, tt, refl)
 pub next_in_turn : (old rows new : List Row) (numbers : List ℕ) (n : ℕ) (p rest whole : Plan)
     → InTurnSoFar old rows numbers (Then p rest) whole → Writes p rows new (Ok n)
     → InTurnSoFar old new (numbers ++ (n ∷ [])) rest whole
-next_in_turn old rows new numbers n p rest whole h w =
-    (keeps_on old rows new h.0 w.0,
-    more_below rows new numbers n p h.1 w,
-    ap (λ (fs : List Way). ways_then fs (walk_of rest)) (one_more rows new numbers n p h.1 w)
-    ∙ ways_then_end (walks_of rows numbers) (walk_of p) (walk_of rest) ∙ h.2)
+next_in_turn old rows new numbers n p rest whole h w = (
+  keeps_on old rows new h.0 w.0,
+  more_below rows new numbers n p h.1 w,
+  ap (λ (fs : List Way). ways_then fs (walk_of rest)) (one_more rows new numbers n p h.1 w)
+      ∙ ways_then_end (walks_of rows numbers) (walk_of p) (walk_of rest) ∙ h.2,
+)
 
 all_in_turn : (old rows : List Row) (numbers : List ℕ) (whole : Plan) → InTurnSoFar old rows numbers Nothing whole
     → walk_of (in_turn (map (plan_among (row_plans rows)) numbers)) ≡ walk_of whole
@@ -128,11 +129,12 @@ first_behind old before ps h = (keeps_itself old, below_all (length old) before 
 pub next_listed : (old rows new : List Row) (numbers : List ℕ) (n : ℕ) (p : Plan) (rest : List Plan) (whole : List Way)
     → ListSoFar old rows numbers (p ∷ rest) whole → Writes p rows new (Ok n)
     → ListSoFar old new (numbers ++ (n ∷ [])) rest whole
-next_listed old rows new numbers n p rest whole h w =
-    (keeps_on old rows new h.0 w.0,
-    more_below rows new numbers n p h.1 w,
-    ap (λ (fs : List Way). fs ++ map walk_of rest) (one_more rows new numbers n p h.1 w)
-    ∙ append_assoc (walks_of rows numbers) (walk_of p ∷ []) (map walk_of rest) ∙ h.2)
+next_listed old rows new numbers n p rest whole h w = (
+  keeps_on old rows new h.0 w.0,
+  more_below rows new numbers n p h.1 w,
+  ap (λ (fs : List Way). fs ++ map walk_of rest) (one_more rows new numbers n p h.1 w)
+      ∙ append_assoc (walks_of rows numbers) (walk_of p ∷ []) (map walk_of rest) ∙ h.2,
+)
 
 pub each_written : (old rows : List Row) (numbers : Vec ℕ Global) (ps : List Plan)
     → ListSoFar old rows numbers.items [] (map walk_of ps) → WritesEach ps old rows (Ok numbers)

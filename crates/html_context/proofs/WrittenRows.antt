@@ -68,10 +68,11 @@ last_within old new r e =
 pub writes : (p : Plan) (old new : List Row) (r : Row) (result : Result ℕ OutOfMemory)
     → OnOk result (new ≡ old ++ (r ∷ [])) → IfOk result (λ n. n ≡ length old)
     → walk_of (row_plan (row_plans old) r) ≡ walk_of p → Writes p old new result
-writes p old new r (Ok n) e at same =
-    (appended old (r ∷ []) new e,
-    subst (λ k. k < length new) (sym at) (last_within old new r e),
-    ap (λ k. walk_of (plan_at new k)) at ∙ ap walk_of (last_plan old new r e) ∙ same)
+writes p old new r (Ok n) e at same = (
+  appended old (r ∷ []) new e,
+  subst (λ k. k < length new) (sym at) (last_within old new r e),
+  ap (λ k. walk_of (plan_at new k)) at ∙ ap walk_of (last_plan old new r e) ∙ same,
+)
 writes p old new r (Err o) e at same = tt
 
 -- the same behind rows that were written before

@@ -5,9 +5,9 @@ ghost use Rattle.std.specs.List.{All};
 ghost use Rattle.soy_meaning.specs.Plan.{Hole, Then, arms_meet};
 ghost use Rattle.soy_meaning.specs.PlanOfNodes.{argument_frames, arm_plans, body_plan, called_classes, case_plans};
 ghost use Rattle.soy_meaning.specs.PlanOfNodes.{fallback_plans, node_plan, nodes_plan, plural_plans, select_plans};
-ghost use Rattle.soy_meaning.specs.PlanOfNodes.{translation_plans};
+ghost use Rattle.soy_meaning.specs.PlanOfNodes.{given_frame, translation_plans};
 ghost use Rattle.soy_tree.specs.Templates.{callee};
-ghost use Rattle.soy_tree.specs.ViewNodes.{view_arguments, view_arms, view_body, view_cases, view_message};
+ghost use Rattle.soy_tree.specs.ViewNodes.{view_arguments, view_arms, view_body, view_cases, view_given, view_message};
 ghost use Rattle.soy_tree.specs.ViewNodes.{fallback_of, view_node, view_nodes, view_plural_cases, view_select_cases};
 ghost use Rattle.soy_expr.specs.ViewScope.{view_vars};
 ghost use Rattle.html_context.specs.RowPlans.{plan_at};
@@ -101,7 +101,28 @@ impl<'a> Builder<'a> {
         Ok(numbers)
     }
 
+    /// Writes the translation of a message's fallback, if there is one, behind arms of these numbers.
+    fn fallback(
+        &self,
+        at: Site,
+        other: &Option<Message>,
+        vars: &[Field],
+        before: Vec<usize>,
+        rows: &mut Vec<Row>,
+    ) -> Result<Vec<usize>, OutOfMemory>
+        requires { All (λ n. n < length rows.old.items) before.items }
+        ensures { WritesMore before.items (fallback_plans (plan_context self.now)
+            (fallback_of (option_map view_message other.now)) (view_vars vars.now) (view_site at))
+            rows.old.items rows.new.items result }
+    {
+        match other {
+            None => Ok(before),
+            Some(message) => self.translation(at, message, vars, before, rows),
+        }
+    }
+
     /// Writes the translations of a message and of its fallback, and that they meet with the source.
+    #[tactic(auto, using(crate::proofs::BuiltRows::translated_meet))]
     fn translated(
         &self,
         at: Site,
@@ -120,10 +141,7 @@ impl<'a> Builder<'a> {
         let mut numbers = Vec::new(self.alloc);
         numbers.push(source)?;
         let numbers = self.translation(at, message, vars, numbers, rows)?;
-        let numbers = match other {
-            None => numbers,
-            Some(other) => self.translation(at, other, vars, numbers, rows)?,
-        };
+        let numbers = self.fallback(at, other, vars, numbers, rows)?;
         write(rows, Row::Meet(at, Seq::new(numbers)))
     }
 
@@ -255,14 +273,31 @@ impl<'a> Builder<'a> {
         let mut numbers = Vec::new(self.alloc);
         numbers.push(hole)?;
         for argument in arguments {
-            if let Given::Block(kind, body) = &argument.given {
-                let end = self.site(argument.span.end);
-                let body = self.nodes(body.items(), copied_vars(self.alloc, vars)?, rows)?;
-                let number = write(rows, Row::Frame(*kind, end, body))?;
-                numbers.push(number)?;
-            }
+            let number = self.given(argument, vars, rows)?;
+            numbers.push(number)?;
         }
         write(rows, Row::InTurn(Seq::new(numbers)))
+    }
+
+    /// Writes what a param is given, where that is a block.
+    #[cycle(building)]
+    fn given(
+        &self,
+        argument: &Argument,
+        vars: &[Field],
+        rows: &mut Vec<Row>,
+    ) -> Result<usize, OutOfMemory>
+        ensures { Writes (given_frame (plan_context self.now) (view_given argument.now.given) argument.now.span
+            (view_vars vars.now)) rows.old.items rows.new.items result }
+    {
+        match &argument.given {
+            Given::Plain(_) => write_nothing(self.alloc, rows),
+            Given::Block(kind, body) => {
+                let end = self.site(argument.span.end);
+                let body = self.nodes(body.items(), copied_vars(self.alloc, vars)?, rows)?;
+                write(rows, Row::Frame(*kind, end, body))
+            }
+        }
     }
 
     /// Writes the text of a message in the source.

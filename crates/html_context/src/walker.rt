@@ -53,14 +53,7 @@ impl<'t> Walker<'t> {
 
     /// The states after the row of a number that is smaller than the limit; else they stay.
     #[cycle(walking)]
-    #[tactic(
-        auto,
-        using(
-            crate::proofs::RowPlans::below_none,
-            crate::proofs::RowPlans::below_past,
-            crate::proofs::RowPlans::below_row
-        )
-    )]
+    #[tactic(auto, using(crate::proofs::RowPlans::below_none, crate::proofs::RowPlans::below_past, crate::proofs::RowPlans::below_row))]
     fn row(
         &self,
         limit: usize,
@@ -183,14 +176,7 @@ impl<'t> Walker<'t> {
 
     /// The states after one turn of a loop's body. What the body did before from the same states it does again.
     #[cycle(walking)]
-    #[tactic(
-        auto,
-        using(
-            crate::proofs::RowPlans::below_none,
-            crate::proofs::RowPlans::below_at,
-            crate::proofs::PlacesApart::apart_from_none
-        )
-    )]
+    #[tactic(auto, using(crate::proofs::RowPlans::below_none, crate::proofs::RowPlans::below_at, crate::proofs::PlacesApart::apart_from_none))]
     fn turn(
         &self,
         limit: usize,
@@ -216,13 +202,7 @@ impl<'t> Walker<'t> {
 
     /// The same where nothing is kept.
     #[cycle(walking)]
-    #[tactic(
-        auto,
-        using(
-            crate::proofs::RowPlans::below_at,
-            crate::proofs::PlacesApart::apart_from_none
-        )
-    )]
+    #[tactic(auto, using(crate::proofs::RowPlans::below_at, crate::proofs::PlacesApart::apart_from_none))]
     fn new_turn(
         &self,
         limit: usize,
@@ -319,6 +299,12 @@ pub(crate) fn walk_table(alloc: Global, table: &Table) -> Result<Vec<Place>, Sto
     let walker = Walker { alloc, rows };
     let mut memo = new_memo(alloc, rows)?;
     let mut places = Vec::new(alloc);
-    walker.row(rows.len(), table.root, Vec::new(alloc), &mut places, &mut memo)?;
+    walker.row(
+        rows.len(),
+        table.root,
+        Vec::new(alloc),
+        &mut places,
+        &mut memo,
+    )?;
     Ok(places)
 }
