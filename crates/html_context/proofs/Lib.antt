@@ -13,3 +13,4 @@ pub mod Verdicts
 pub mod WrittenRows
 pub mod PlanCongruence
 pub mod WrittenLists
+pub mod ViewArms
