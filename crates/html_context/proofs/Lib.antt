@@ -16,3 +16,4 @@ pub mod ViewBodies
 pub mod WrittenRows
 pub mod PlanCongruence
 pub mod WrittenLists
+pub mod ViewArms

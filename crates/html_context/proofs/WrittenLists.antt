@@ -3,13 +3,11 @@ use Rattle.std.proofs.Common.{◌≡◌, ◌≤◌, ◌<◌, ℕ, zero, suc, Lis
 use Rattle.std.proofs.Common.{refl, sym, ap, ◌∙◌, append_assoc, arith}
 use Rattle.std.specs.List.{All}
 use Rattle.std.proofs.lemmas.List.{append-nil}
-use Rattle.std.specs.declared.alloc.Global.{Global}
-use Rattle.std.specs.declared.vec.Vec.{Vec}
 use Rattle.soy_base.specs.declared.memory.OutOfMemory.{OutOfMemory}
 use Rattle.soy_tree.specs.Faults.{followed_by}
 use Rattle.soy_meaning.specs.Plan.{Plan, Nothing, Then, arms_meet, in_turn}
 use Rattle.html_context.specs.RowPlans.{plan_among, plan_at, row_plans}
-use Rattle.html_context.specs.StandsFor.{Keeps, Writes, WritesEach, WritesMore, walk_of, walks_of}
+use Rattle.html_context.specs.StandsFor.{Keeps, Writes, walk_of, walks_of}
 use Rattle.html_context.specs.Walks.{view_site}
 use Rattle.html_context.specs.declared.fault.Site as code_site
 use Rattle.html_context.specs.declared.table.Row.{Row}
@@ -136,21 +134,32 @@ next_listed old rows new numbers n p rest whole h w = (
       ∙ append_assoc (walks_of rows numbers) (walk_of p ∷ []) (map walk_of rest) ∙ h.2,
 )
 
-pub each_written : (old rows : List Row) (numbers : Vec ℕ Global) (ps : List Plan)
-    → ListSoFar old rows numbers.items [] (map walk_of ps) → WritesEach ps old rows (Ok numbers)
-each_written old rows numbers ps h =
-    (h.0, all_below (length rows) numbers.items h.1, sym (append-nil (walks_of rows numbers.items)) ∙ h.2)
+-- the same, as the functions that write lists say it
+abbrev pub Listed : List Row → List Row → List ℕ → List Way → Type 0
+Listed old rows numbers whole =
+    Keeps old rows × All (λ n. n < length rows) numbers × (walks_of rows numbers ≡ whole)
 
-pub more_written : (old rows : List Row) (before : List ℕ) (numbers : Vec ℕ Global) (ps : List Plan)
-    → ListSoFar old rows numbers.items [] (walks_of old before ++ map walk_of ps)
-    → WritesMore before ps old rows (Ok numbers)
-more_written old rows before numbers ps h =
-    (h.0, all_below (length rows) numbers.items h.1, sym (append-nil (walks_of rows numbers.items)) ∙ h.2)
+pub list_written : (old rows : List Row) (numbers : List ℕ) (whole : List Way)
+    → ListSoFar old rows numbers [] whole → Listed old rows numbers whole
+list_written old rows numbers whole h =
+    (h.0, all_below (length rows) numbers h.1, sym (append-nil (walks_of rows numbers)) ∙ h.2)
 
-pub listed_each : (old rows : List Row) (numbers : Vec ℕ Global) (ps : List Plan)
-    → WritesEach ps old rows (Ok numbers) → ListSoFar old rows numbers.items [] (map walk_of ps)
-listed_each old rows numbers ps h =
-    (h.0, below_all (length rows) numbers.items h.1, append-nil (walks_of rows numbers.items) ∙ h.2)
+pub written_list : (old rows : List Row) (numbers : List ℕ) (whole : List Way)
+    → Listed old rows numbers whole → ListSoFar old rows numbers [] whole
+written_list old rows numbers whole h =
+    (h.0, below_all (length rows) numbers h.1, append-nil (walks_of rows numbers) ∙ h.2)
+
+ways_append : (ps qs : List Plan) → map walk_of ps ++ map walk_of qs ≡ map walk_of (ps ++ qs)
+ways_append [] qs = refl
+ways_append (p ∷ ps) qs = ap (λ (fs : List Way). walk_of p ∷ fs) (ways_append ps qs)
+
+-- a list behind another
+pub written_lists : (old mid rows : List Row) (before numbers : List ℕ) (ps qs : List Plan)
+    → Listed old mid before (map walk_of ps) → Listed mid rows numbers (walks_of mid before ++ map walk_of qs)
+    → ListSoFar old rows numbers [] (map walk_of (ps ++ qs))
+written_lists old mid rows before numbers ps qs h k =
+    (keeps_on old mid rows h.0 k.0, below_all (length rows) numbers k.1,
+    append-nil (walks_of rows numbers) ∙ k.2 ∙ ap (λ (fs : List Way). fs ++ map walk_of qs) h.2 ∙ ways_append ps qs)
 
 all_meet : (at : code_site.Site) (old rows : List Row) (numbers : List ℕ) (ps : List Plan)
     → ListSoFar old rows numbers [] (map walk_of ps)

@@ -95,3 +95,10 @@ none_of [] zero h = refl
 none_of [] (suc j) h = refl
 none_of (x ∷ xs) zero h = absurd (omega arith)
 none_of (x ∷ xs) (suc j) h = none_of xs j (omega arith)
+
+-- ---- plans with one walk
+
+pub writes_same : (p q : Plan) (old new : List Row) (result : Result ℕ OutOfMemory) → Writes p old new result
+    → walk_of p ≡ walk_of q → Writes q old new result
+writes_same p q old new (Ok n) h same = (h.0, h.1, h.2 ∙ same)
+writes_same p q old new (Err o) h same = tt
