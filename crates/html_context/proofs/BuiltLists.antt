@@ -47,18 +47,18 @@ module _ (k : PlanContext) (scope : Scope) (old rows new : List Row) (numbers : 
 
   -- arms of an if
   pub next_arm : (last : Plan) (xs : List code_arm.Arm) (x : code_arm.Arm) (whole : List Way) (body : List code_node.Node)
-      (inner : List Field) → i < length xs → x ≡ slice_index_or xs i x → body ≡ x.body
-      → view_vars inner ≡ narrowed (view_expr x.when) scope
+      (inner : List Field) → i < length xs → x ≡ slice_index_or xs i x → body ≡ (code_arm.out-Arm x).body
+      → view_vars inner ≡ narrowed (view_expr (code_arm.out-Arm x).when) scope
       → ListSoFar old rows numbers (arm_plans k (view_arms (drop i xs)) scope ++ (last ∷ [])) whole
       → Writes (nodes_plan k (view_nodes body) (view_vars inner)) rows new (Ok n)
       → ListSoFar old new (numbers ++ (n ∷ [])) (arm_plans k (view_arms (drop (i + 1) xs)) scope ++ (last ∷ [])) whole
   next_arm last xs x whole body inner small is b s h w =
-      next_listed old rows new numbers n (nodes_plan k (view_nodes x.body) (narrowed (view_expr x.when) scope))
+      next_listed old rows new numbers n (nodes_plan k (view_nodes (code_arm.out-Arm x).body) (narrowed (view_expr (code_arm.out-Arm x).when) scope))
       (arm_plans k (view_arms (drop (i + 1) xs)) scope ++ (last ∷ [])) whole
       (subst (λ (l : List Plan). ListSoFar old rows numbers l whole)
       (ap (λ (l : List code_arm.Arm). arm_plans k (view_arms l) scope ++ (last ∷ [])) (first_of xs i x small is)
       ∙ ap (λ (a : Expr × Nodes). arm_plans k (arm a.0 a.1 (view_arms (drop (i + 1) xs))) scope ++ (last ∷ [])) (arm_is x)) h)
-      (subst (λ (l : List code_node.Node). Writes (nodes_plan k (view_nodes l) (narrowed (view_expr x.when) scope)) rows new (Ok n)) b
+      (subst (λ (l : List code_node.Node). Writes (nodes_plan k (view_nodes l) (narrowed (view_expr (code_arm.out-Arm x).when) scope)) rows new (Ok n)) b
       (subst (λ (v : Scope). Writes (nodes_plan k (view_nodes body) v) rows new (Ok n)) s w))
 
   pub no_arm_left : (last : Plan) (xs : List code_arm.Arm) (whole : List Way) → length xs ≤ i
@@ -70,12 +70,12 @@ module _ (k : PlanContext) (scope : Scope) (old rows new : List Row) (numbers : 
 
   -- cases of a switch
   pub next_case : (last : Plan) (xs : List code_case.Case) (x : code_case.Case) (whole : List Way) (body : List code_node.Node)
-      (inner : List Field) → i < length xs → x ≡ slice_index_or xs i x → body ≡ x.body → view_vars inner ≡ scope
+      (inner : List Field) → i < length xs → x ≡ slice_index_or xs i x → body ≡ (code_case.out-Case x).body → view_vars inner ≡ scope
       → ListSoFar old rows numbers (case_plans k (view_cases (drop i xs)) scope ++ (last ∷ [])) whole
       → Writes (nodes_plan k (view_nodes body) (view_vars inner)) rows new (Ok n)
       → ListSoFar old new (numbers ++ (n ∷ [])) (case_plans k (view_cases (drop (i + 1) xs)) scope ++ (last ∷ [])) whole
   next_case last xs x whole body inner small is b s h w =
-      next_listed old rows new numbers n (nodes_plan k (view_nodes x.body) scope)
+      next_listed old rows new numbers n (nodes_plan k (view_nodes (code_case.out-Case x).body) scope)
       (case_plans k (view_cases (drop (i + 1) xs)) scope ++ (last ∷ [])) whole
       (subst (λ (l : List Plan). ListSoFar old rows numbers l whole)
       (ap (λ (l : List code_case.Case). case_plans k (view_cases l) scope ++ (last ∷ [])) (first_of xs i x small is)

@@ -1,11 +1,14 @@
 -- Rows that name rows written before them.
-use Rattle.std.proofs.Common.{◌≡◌, ◌<◌, ℕ, List, [], ◌∷◌, ◌++◌, Result, Ok, Err, OnOk, IfOk, length, map, refl, sym, ap, ◌∙◌}
+use Rattle.std.proofs.Common.{◌≡◌, ◌<◌, ℕ, List, [], ◌∷◌, ◌++◌, Option, None, Result, Ok, Err, OnOk, IfOk, length, map, refl, sym, ap, subst, ◌∙◌}
 use Rattle.std.proofs.lemmas.List.{append-nil}
 use Rattle.std.specs.declared.alloc.Global.{Global}
 use Rattle.std.specs.declared.vec.Vec.{Vec}
 use Rattle.soy_base.specs.declared.kind.Kind.{Kind}
 use Rattle.soy_base.specs.declared.memory.OutOfMemory.{OutOfMemory}
-use Rattle.soy_meaning.specs.Plan.{Plan, Frame, Loop, Then, arms_meet}
+use Rattle.soy_meaning.specs.Plan.{Plan, Frame, Hole, Loop, Then, arms_meet}
+use Rattle.soy_meaning.specs.PlanOfNodes.{called_classes}
+use Rattle.soy_tree.specs.Templates.{Declared}
+use Rattle.soy_base.specs.declared.place.ValueClass.{ValueClass}
 use Rattle.html_context.specs.RowPlans.{plan_at}
 use Rattle.html_context.specs.StandsFor.{Keeps, Writes, WritesMore, walk_of, walks_of}
 use Rattle.html_context.specs.Walks.{view_site}
@@ -69,3 +72,12 @@ translated_meet at source ps qs old a b new first one two result f w v e is =
           ∙ ap (λ (l : List Way). walk_of (plan_at old source) ∷ l) (sym (map_both ps qs)))),
     )
     e is
+
+-- the hole of a call that calls no template
+pub written_no_classes : (at : code_site.Site) (classes : List ValueClass) (called : Option Declared) (old new : List Row)
+    (result : Result ℕ OutOfMemory) → None ≡ called → classes ≡ [] → OnOk result (new ≡ old ++ (row.Hole at classes ∷ []))
+    → IfOk result (λ k. k ≡ length old) → Writes (Hole (view_site at) (called_classes called)) old new result
+written_no_classes at classes called old new result none c e k =
+    subst (λ (d : Option Declared). Writes (Hole (view_site at) (called_classes d)) old new result) none
+    (writes (Hole (view_site at) []) old new (row.Hole at classes) result e k
+    (ap (λ (l : List ValueClass). walk_of (Hole (view_site at) l)) c))

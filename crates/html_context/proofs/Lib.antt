@@ -1,6 +1,8 @@
 pub mod Arms
 pub mod BuiltLists
+pub mod BuiltNodes
 pub mod BuiltRows
+pub mod BuiltTemplates
 pub mod ClassLists
 pub mod HoleClasses
 pub mod Inferred

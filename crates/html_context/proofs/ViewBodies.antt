@@ -15,13 +15,13 @@ use Rattle.soy_tree.specs.declared.node.Case as code_case
 use Rattle.soy_tree.specs.declared.node.PluralCase as code_plural_case
 use Rattle.soy_tree.specs.declared.node.SelectCase as code_select_case
 
-pub arm_is : (a : code_arm.Arm) → view_arm a ≡ (view_expr a.when, view_nodes a.body)
+pub arm_is : (a : code_arm.Arm) → view_arm a ≡ (view_expr (code_arm.out-Arm a).when, view_nodes (code_arm.out-Arm a).body)
 arm_is a =
     code_arm.fold_out-Arm (Span → Node) Given MessageBody (Name × Given × Span) (Expr × Nodes) (List Expr × Nodes) Message
     Node (ℤ × MessageBody) (List ℕ × MessageBody) form_layer given_layer body_layer argument_layer arm_layer case_layer
     message_layer node_layer plural_case_layer select_case_layer a
 
-pub case_is : (a : code_case.Case) → view_case a ≡ (view_exprs a.values, view_nodes a.body)
+pub case_is : (a : code_case.Case) → view_case a ≡ (view_exprs (code_case.out-Case a).values, view_nodes (code_case.out-Case a).body)
 case_is a =
     code_case.fold_out-Case (Span → Node) Given MessageBody (Name × Given × Span) (Expr × Nodes) (List Expr × Nodes)
     Message Node (ℤ × MessageBody) (List ℕ × MessageBody) form_layer given_layer body_layer argument_layer arm_layer

@@ -19,6 +19,7 @@ use soy_tree::{Bundle, Tree};
 use std::alloc::Global;
 
 /// Writes a template.
+#[tactic(auto, using(crate::proofs::BuiltRows::written_frame))]
 fn template(
     alloc: Global,
     all: &[Declared<'_>],
