@@ -44,7 +44,6 @@ last_meets at ps last old rows mid new numbers all n result h w is e k =
     (next_listed old rows mid numbers n last [] (map walk_of ps) h w)) e k
 
 module _ (k : PlanContext) (scope : Scope) (old rows new : List Row) (numbers : List ℕ) (n i : ℕ) where
-
   -- arms of an if
   pub next_arm : (last : Plan) (xs : List code_arm.Arm) (x : code_arm.Arm) (whole : List Way) (body : List code_node.Node)
       (inner : List Field) → i < length xs → x ≡ slice_index_or xs i x → body ≡ (code_arm.out-Arm x).body

@@ -1,12 +1,18 @@
 -- Rows that name rows written before them.
-use Rattle.std.proofs.Common.{◌≡◌, ◌<◌, ℕ, List, [], ◌∷◌, ◌++◌, Option, None, Result, Ok, Err, OnOk, IfOk, length, map, refl, sym, ap, subst, ◌∙◌}
+use Rattle.std.proofs.Common.{◌≡◌, ◌<◌, ℕ, List, [], ◌∷◌, ◌++◌, Option, Some, None, Result, Ok, Err, OnOk, IfOk, length, map, refl, sym, ap, subst, ◌∙◌}
 use Rattle.std.proofs.lemmas.List.{append-nil}
 use Rattle.std.specs.declared.alloc.Global.{Global}
 use Rattle.std.specs.declared.vec.Vec.{Vec}
 use Rattle.soy_base.specs.declared.kind.Kind.{Kind}
 use Rattle.soy_base.specs.declared.memory.OutOfMemory.{OutOfMemory}
 use Rattle.soy_meaning.specs.Plan.{Plan, Frame, Hole, Loop, Then, arms_meet}
-use Rattle.soy_meaning.specs.PlanOfNodes.{called_classes}
+use Rattle.soy_meaning.specs.Plan.{Site}
+use Rattle.soy_meaning.specs.PlanOfNodes.{PlanContext, called_classes, translated_plan, translation_plans, uses_of}
+use Rattle.soy_meaning.specs.PlanOfParts.{parts_plan}
+use Rattle.soy_tree.specs.MessageParts.{MsgParts}
+use Rattle.soy_tree.specs.Nodes.{Message}
+use Rattle.soy_tree.specs.TypeOf.{Scope}
+use Rattle.std.specs.List.{All}
 use Rattle.soy_tree.specs.Templates.{Declared}
 use Rattle.soy_base.specs.declared.place.ValueClass.{ValueClass}
 use Rattle.html_context.specs.RowPlans.{plan_at}
@@ -16,7 +22,7 @@ use Rattle.html_context.specs.declared.fault.Site as code_site
 use Rattle.html_context.specs.declared.table.Row.{Row}
 use Rattle.html_context.specs.declared.table.Row.TheVariants as row
 use Rattle.html_context.proofs.PlanCongruence.{Way, frame_walks, loop_walks, meet_walks, then_walks}
-use Rattle.html_context.proofs.WrittenLists.{ListSoFar, below_all, written_meet}
+use Rattle.html_context.proofs.WrittenLists.{ListSoFar, below_all, first_behind, list_written, next_listed, written_meet}
 use Rattle.html_context.proofs.WrittenRows.{keeps_on, writes, writes_on}
 
 -- what a body was written as, as a loop
@@ -81,3 +87,16 @@ written_no_classes at classes called old new result none c e k =
     subst (λ (d : Option Declared). Writes (Hole (view_site at) (called_classes d)) old new result) none
     (writes (Hole (view_site at) []) old new (row.Hole at classes) result e k
     (ap (λ (l : List ValueClass). walk_of (Hole (view_site at) l)) c))
+
+-- a translation behind arms that are there
+pub one_translation : (k : PlanContext) (m : Message) (scope : Scope) (at : Site) (parts : MsgParts) (old mid : List Row)
+    (before numbers : Vec ℕ Global) (n : ℕ) → All (λ j. j < length old) before.items → k.translation m ≡ Some parts
+    → Writes (parts_plan (uses_of m) scope at parts) old mid (Ok n) → numbers.items ≡ before.items ++ (n ∷ [])
+    → WritesMore before.items (translation_plans k m scope at) old mid (Ok numbers)
+one_translation k m scope at parts old mid before numbers n h is w e =
+    let p : Plan = parts_plan (uses_of m) scope at parts in
+    subst (λ (o : Option MsgParts). WritesMore before.items (translated_plan (uses_of m) scope at o) old mid (Ok numbers)) (sym is)
+    (list_written old mid numbers.items (walks_of old before.items ++ map walk_of (p ∷ []))
+    (subst (λ (l : List ℕ). ListSoFar old mid l [] (walks_of old before.items ++ map walk_of (p ∷ []))) (sym e)
+    (next_listed old old mid before.items n p [] (walks_of old before.items ++ map walk_of (p ∷ []))
+    (first_behind old before.items (p ∷ []) h) w)))

@@ -157,9 +157,11 @@ ways_append (p ∷ ps) qs = ap (λ (fs : List Way). walk_of p ∷ fs) (ways_appe
 pub written_lists : (old mid rows : List Row) (before numbers : List ℕ) (ps qs : List Plan)
     → Listed old mid before (map walk_of ps) → Listed mid rows numbers (walks_of mid before ++ map walk_of qs)
     → ListSoFar old rows numbers [] (map walk_of (ps ++ qs))
-written_lists old mid rows before numbers ps qs h k =
-    (keeps_on old mid rows h.0 k.0, below_all (length rows) numbers k.1,
-    append-nil (walks_of rows numbers) ∙ k.2 ∙ ap (λ (fs : List Way). fs ++ map walk_of qs) h.2 ∙ ways_append ps qs)
+written_lists old mid rows before numbers ps qs h k = (
+  keeps_on old mid rows h.0 k.0,
+  below_all (length rows) numbers k.1,
+  append-nil (walks_of rows numbers) ∙ k.2 ∙ ap (λ (fs : List Way). fs ++ map walk_of qs) h.2 ∙ ways_append ps qs,
+)
 
 all_meet : (at : code_site.Site) (old rows : List Row) (numbers : List ℕ) (ps : List Plan)
     → ListSoFar old rows numbers [] (map walk_of ps)

@@ -1,6 +1,7 @@
 //! The table of the templates of all files.
 
 ghost use Rattle.std.specs.Prelude.{◌≡◌, ◌<◌, ◌^◌, IfOk, length, map};
+ghost use Rattle.soy_meaning.specs.Plan.{in_turn};
 ghost use Rattle.soy_meaning.specs.PlanOfNodes.{declared_plan, trees_plan};
 ghost use Rattle.soy_tree.specs.ViewTrees.{view_trees};
 ghost use Rattle.html_context.specs.ChosenTranslation.{chosen_translation};
@@ -19,7 +20,6 @@ use soy_tree::{Bundle, Tree};
 use std::alloc::Global;
 
 /// Writes a template.
-#[tactic(auto, using(crate::proofs::BuiltRows::written_frame))]
 fn template(
     alloc: Global,
     all: &[Declared<'_>],
@@ -47,6 +47,25 @@ fn template(
     write(rows, Row::Frame(one.template.kind, end, body))
 }
 
+/// Writes templates, one after the other.
+fn templates(
+    alloc: Global,
+    all: &[Declared<'_>],
+    bundle: &Bundle,
+    rows: &mut Vec<Row>,
+) -> Result<usize, OutOfMemory>
+    ensures { Writes
+        (in_turn (map (declared_plan (chosen_translation bundle.now.messages) (view_all all.now)) (view_all all.now)))
+        rows.old.items rows.new.items result }
+{
+    let mut numbers = Vec::new(alloc);
+    for one in all {
+        let number = template(alloc, all, one, bundle, rows)?;
+        numbers.push(number)?;
+    }
+    write(rows, Row::InTurn(Seq::new(numbers)))
+}
+
 /// The table of the templates of trees, in their order, under a bundle.
 pub(crate) fn compiled(alloc: Global, trees: &[Tree], bundle: &Bundle) -> Result<Table, OutOfMemory>
     requires { length trees.now < 2 ^ 32 }
@@ -55,11 +74,6 @@ pub(crate) fn compiled(alloc: Global, trees: &[Tree], bundle: &Bundle) -> Result
 {
     let all = all_templates(alloc, trees)?;
     let mut rows = Vec::new(alloc);
-    let mut numbers = Vec::new(alloc);
-    for one in &all {
-        let number = template(alloc, &all, one, bundle, &mut rows)?;
-        numbers.push(number)?;
-    }
-    let root = write(&mut rows, Row::InTurn(Seq::new(numbers)))?;
+    let root = templates(alloc, &all, bundle, &mut rows)?;
     Ok(Table { rows, root })
 }

@@ -135,7 +135,7 @@ one_part-returns-in_ok-numbers-in-Plural-2 t c =
     let exact = λ (l : List code_exact.ExactArm). exact_arms_of (map view_exact l) in
     let named = λ (l : List code_named.NamedArm). named_arms_of (map view_named l) in
     let plans =
-        plans_of_exact s (exact c.items.result.now) ++ plans_of_named s (named c.items-in-Plural.result.now) in
+    plans_of_exact s (exact c.items.result.now) ++ plans_of_named s (named c.items-in-Plural.result.now) in
     subst (λ v. Writes (plan_of_part s v) old c.write.new.rows.items c.write.result)
     (sym (ap view_part c.in-Plural.is ∙ plural_is c.in-Plural.plural
     ∙ ap (λ l. PluralPart p.ordinal p.name p.offset (exact l) (named p.named)) (sym c.items.ensures)
