@@ -1,19 +1,24 @@
 -- Nodes that are written as rows behind those of what stands in them.
-use Rattle.std.proofs.Common.{◌≡◌, ℕ, ℤ, Bool, List, [], ◌∷◌, ◌++◌, Option, Some, None, Result, Ok, OnOk, IfOk, length, option_map}
-use Rattle.std.proofs.Common.{refl, ap, sym, subst, ◌∙◌}
+use Rattle.std.proofs.Common.{◌≡◌, ℕ, ℤ, Bool, List, [], ◌∷◌, ◌++◌, Option, Some, None, Result, Ok, OnOk, IfOk, length}
+use Rattle.std.proofs.Common.{option_map}
+use Rattle.std.proofs.Common.{ap, sym, subst, ◌∙◌}
 use Rattle.soy_base.specs.declared.fault.Span.{Span}
 use Rattle.soy_base.specs.declared.kind.Kind.{Kind}
 use Rattle.soy_base.specs.declared.memory.OutOfMemory.{OutOfMemory}
 use Rattle.soy_tree.specs.Expressions.{Expr}
-use Rattle.soy_tree.specs.Nodes.{Node, Nodes, Given, Message, MessageBody, Block, Call, For, LetBlock, MessageNode, message}
+use Rattle.soy_tree.specs.Nodes.{Node, Nodes, Given, Message, MessageBody, Block, Call, For, LetBlock, MessageNode}
+use Rattle.soy_tree.specs.Nodes.{message}
 use Rattle.soy_tree.specs.Templates.{callee}
 use Rattle.soy_tree.specs.TypeOf.{Scope, type_of}
 use Rattle.soy_tree.specs.Types.{Name}
 use Rattle.soy_tree.specs.ViewExpressions.{view_expr}
-use Rattle.soy_tree.specs.ViewNodes.{argument_layer, arm_layer, body_layer, case_layer, form_layer, given_layer, message_layer}
+use Rattle.soy_tree.specs.ViewNodes.{argument_layer, arm_layer, body_layer, case_layer, form_layer, given_layer}
+use Rattle.soy_tree.specs.ViewNodes.{message_layer}
 use Rattle.soy_tree.specs.ViewNodes.{node_layer, plural_case_layer, select_case_layer}
-use Rattle.soy_tree.specs.ViewNodes.{fallback_of, view_argument, view_arguments, view_arm, view_body, view_case, view_form}
-use Rattle.soy_tree.specs.ViewNodes.{view_given, view_message, view_node, view_nodes, view_plural_case, view_select_case}
+use Rattle.soy_tree.specs.ViewNodes.{fallback_of, view_argument, view_arguments, view_arm, view_body, view_case}
+use Rattle.soy_tree.specs.ViewNodes.{view_form}
+use Rattle.soy_tree.specs.ViewNodes.{view_given, view_message, view_node, view_nodes, view_plural_case}
+use Rattle.soy_tree.specs.ViewNodes.{view_select_case}
 use Rattle.soy_tree.specs.declared.expr.Expr as code_expr
 use Rattle.soy_tree.specs.declared.node.Argument as code_argument
 use Rattle.soy_tree.specs.declared.node.Arm as code_arm
@@ -30,8 +35,9 @@ use Rattle.soy_tree.specs.declared.node.PluralCase as code_plural_case
 use Rattle.soy_tree.specs.declared.node.SelectCase as code_select_case
 use Rattle.soy_tree.specs.declared.soy_type.Field.{Field}
 use Rattle.soy_expr.specs.ViewScope.{view_vars}
-use Rattle.soy_meaning.specs.Plan.{Plan, Frame, Hole, Loop, Then, arms_meet}
-use Rattle.soy_meaning.specs.PlanOfNodes.{PlanContext, argument_frames, body_plan, body_scope, called_classes, fallback_plans}
+use Rattle.soy_meaning.specs.Plan.{Frame, Hole, Loop, Then, arms_meet}
+use Rattle.soy_meaning.specs.PlanOfNodes.{PlanContext, argument_frames, body_plan, body_scope, called_classes}
+use Rattle.soy_meaning.specs.PlanOfNodes.{fallback_plans}
 use Rattle.soy_meaning.specs.PlanOfNodes.{given_frame, node_plan, nodes_plan, source_plan, translation_plans}
 use Rattle.html_context.specs.RowPlans.{plan_at}
 use Rattle.html_context.specs.StandsFor.{Writes}
@@ -50,7 +56,8 @@ view_rolled : (n : code.Node) (o : Form-F code_form.Form code_given.Given code_b
     ≡ form_layer (code_form.map-Form code_form.Form code_given.Given code_body.MessageBody code_argument.Argument
     code_arm.Arm code_case.Case code_message.Message code.Node code_plural_case.PluralCase
     code_select_case.SelectCase
-    (Span → Node) Given MessageBody (Name × Given × Span) (Expr × Nodes) (List Expr × Nodes) Message Node (ℤ × MessageBody)
+    (Span → Node) Given MessageBody (Name × Given × Span) (Expr × Nodes) (List Expr × Nodes) Message Node
+    (ℤ × MessageBody)
     (List ℕ × MessageBody) view_form view_given view_body view_argument view_arm view_case view_message
     view_node view_plural_case view_select_case o) n.span
 view_rolled n o e =
@@ -85,7 +92,8 @@ message_node_is n m (Some o) h = view_rolled n (Form-F.Message m (Some o)) (h �
 
 message_is : (m : code_message.Message) → view_message m ≡ message m.desc m.meaning (view_body m.body) m.span
 message_is m =
-    code_message.fold_out-Message (Span → Node) Given MessageBody (Name × Given × Span) (Expr × Nodes) (List Expr × Nodes)
+    code_message.fold_out-Message (Span → Node) Given MessageBody (Name × Given × Span) (Expr × Nodes)
+    (List Expr × Nodes)
     Message Node (ℤ × MessageBody) (List ℕ × MessageBody) form_layer given_layer body_layer argument_layer arm_layer
     case_layer message_layer node_layer plural_case_layer select_case_layer m
 
@@ -107,7 +115,8 @@ module _ (k : PlanContext) (scope : Scope) (old mid new : List Row) (i : ℕ) (r
       subst (λ (l : List code.Node). Writes (nodes_plan k (view_nodes l) s) old mid (Ok i)) is
       (subst (λ (z : Scope). Writes (nodes_plan k (view_nodes items) z) old mid (Ok i)) v w)
 
-  pub node_for : (n : code.Node) (name : List ℕ) (index : Option (List ℕ)) (e : code_expr.Expr) (body items : List code.Node)
+  pub node_for : (n : code.Node) (name : List ℕ) (index : Option (List ℕ)) (e : code_expr.Expr)
+      (body items : List code.Node)
       (inner : List Field) (at : code_site.Site) → n.form ≡ form.For name index e body
       → at ≡ record { file = k.file; at = n.span.start } → items ≡ body
       → view_vars inner ≡ body_scope name index (type_of (view_expr e) scope) scope
@@ -118,43 +127,55 @@ module _ (k : PlanContext) (scope : Scope) (old mid new : List Row) (i : ℕ) (r
       let s : Scope = body_scope name index (type_of (view_expr e) scope) scope in
       subst (λ (z : Node). Writes (node_plan k z scope) old new result) (sym (for_is n name index e body f))
       (subst (λ (z : code_site.Site). Writes (Loop (view_site z) (nodes_plan k (view_nodes body) s)) old new result) a
-      (written_loop at (nodes_plan k (view_nodes body) s) old mid new i result (same_body items body inner s is v w) r j))
+      (written_loop at (nodes_plan k (view_nodes body) s) old mid new i result (same_body items body inner s is v w) r
+      j))
 
   pub node_let_block : (n : code.Node) (name : List ℕ) (kind : Kind) (body items : List code.Node) (inner : List Field)
       (end : code_site.Site) → n.form ≡ form.LetBlock name kind body → end ≡ record { file = k.file; at = n.span.end }
-      → items ≡ body → view_vars inner ≡ scope → Writes (nodes_plan k (view_nodes items) (view_vars inner)) old mid (Ok i)
+      → items ≡ body → view_vars inner ≡ scope → Writes (nodes_plan k (view_nodes items) (view_vars inner)) old mid
+      (Ok i)
       → OnOk result (new ≡ mid ++ (row.Frame kind end i ∷ [])) → IfOk result (λ j. j ≡ length mid)
       → Writes (node_plan k (view_node n) scope) old new result
   node_let_block n name kind body items inner end f a is v w r j =
       subst (λ (z : Node). Writes (node_plan k z scope) old new result) (sym (let_block_is n name kind body f))
-      (subst (λ (z : code_site.Site). Writes (Frame kind (view_site z) (nodes_plan k (view_nodes body) scope)) old new result) a
+      (subst (λ (z : code_site.Site). Writes (Frame kind (view_site z) (nodes_plan k (view_nodes body) scope)) old new
+      result) a
       (written_frame kind end (nodes_plan k (view_nodes body) scope) old mid new i result
       (same_body items body inner scope is v w) r j))
 
-  pub given_block : (g : code_given.Given) (span : Span) (kind : Kind) (body items : List code.Node) (inner : List Field)
+  pub given_block : (g : code_given.Given) (span : Span) (kind : Kind) (body items : List code.Node)
+      (inner : List Field)
       (end : code_site.Site) → g ≡ given.Block kind body → end ≡ record { file = k.file; at = span.end }
-      → items ≡ body → view_vars inner ≡ scope → Writes (nodes_plan k (view_nodes items) (view_vars inner)) old mid (Ok i)
+      → items ≡ body → view_vars inner ≡ scope → Writes (nodes_plan k (view_nodes items) (view_vars inner)) old mid
+      (Ok i)
       → OnOk result (new ≡ mid ++ (row.Frame kind end i ∷ [])) → IfOk result (λ j. j ≡ length mid)
       → Writes (given_frame k (view_given g) span scope) old new result
   given_block g span kind body items inner end f a is v w r j =
-      subst (λ (z : Given). Writes (given_frame k z span scope) old new result) (sym (ap view_given f ∙ block_is kind body))
-      (subst (λ (z : code_site.Site). Writes (Frame kind (view_site z) (nodes_plan k (view_nodes body) scope)) old new result) a
+      subst (λ (z : Given). Writes (given_frame k z span scope) old new result)
+      (sym (ap view_given f ∙ block_is kind body))
+      (subst (λ (z : code_site.Site). Writes (Frame kind (view_site z) (nodes_plan k (view_nodes body) scope)) old new
+      result) a
       (written_frame kind end (nodes_plan k (view_nodes body) scope) old mid new i result
       (same_body items body inner scope is v w) r j))
 
   pub node_call : (n : code.Node) (name : List ℕ) (all : Bool) (arguments items : List code_argument.Argument)
       (at : code_site.Site) → n.form ≡ form.Call name all arguments → at ≡ record { file = k.file; at = n.span.start }
-      → items ≡ arguments → Writes (Hole (view_site at) (called_classes (callee k.declared k.namespace name))) old mid (Ok i)
+      → items ≡ arguments → Writes (Hole (view_site at) (called_classes (callee k.declared k.namespace name))) old mid
+      (Ok i)
       → Writes (Then (plan_at mid i) (argument_frames k (view_arguments items) scope)) mid new result
       → Writes (node_plan k (view_node n) scope) old new result
   node_call n name all arguments items at f a is w v =
       subst (λ (z : Node). Writes (node_plan k z scope) old new result) (sym (call_is n name all arguments f))
-      (then_on (Hole (record { file = k.file; at = n.span.start }) (called_classes (callee k.declared k.namespace name)))
+      (then_on (Hole (record { file = k.file; at = n.span.start }) (called_classes
+      (callee k.declared k.namespace name)))
       (argument_frames k (view_arguments arguments) scope) old mid new i result
-      (subst (λ (z : code_site.Site). Writes (Hole (view_site z) (called_classes (callee k.declared k.namespace name))) old mid (Ok i)) a w)
-      (subst (λ (l : List code_argument.Argument). Writes (Then (plan_at mid i) (argument_frames k (view_arguments l) scope)) mid new result) is v))
+      (subst (λ (z : code_site.Site). Writes (Hole (view_site z) (called_classes (callee k.declared k.namespace name)))
+      old mid (Ok i)) a w)
+      (subst (λ (l : List code_argument.Argument). Writes (Then (plan_at mid i)
+      (argument_frames k (view_arguments l) scope)) mid new result) is v))
 
-  pub node_message : (n : code.Node) (m : code_message.Message) (other : Option code_message.Message) (at : code_site.Site)
+  pub node_message : (n : code.Node) (m : code_message.Message) (other : Option code_message.Message)
+      (at : code_site.Site)
       → n.form ≡ form.Message m other → at ≡ record { file = k.file; at = n.span.start }
       → Writes (body_plan k (view_body m.body) scope (view_site at)) old mid (Ok i)
       → Writes (arms_meet (view_site at) (plan_at mid i ∷ (translation_plans k (view_message m) scope (view_site at)
@@ -162,7 +183,8 @@ module _ (k : PlanContext) (scope : Scope) (old mid new : List Row) (i : ℕ) (r
       → Writes (node_plan k (view_node n) scope) old new result
   node_message n m other at f a w v =
       subst (λ (z : Node). Writes (node_plan k z scope) old new result) (sym (message_node_is n m other f))
-      (subst (λ (z : code_site.Site). Writes (arms_meet (view_site z) (source_plan k (view_message m) scope (view_site z)
+      (subst (λ (z : code_site.Site). Writes (arms_meet (view_site z)
+      (source_plan k (view_message m) scope (view_site z)
       ∷ (translation_plans k (view_message m) scope (view_site z)
       ++ fallback_plans k (fallback_of (option_map view_message other)) scope (view_site z)))) old new result) a
       (meet_on at (source_plan k (view_message m) scope (view_site at))

@@ -35,5 +35,6 @@ pub classes_added : (cs : List ValueClass) (ts : List code.SoyType) (n : ℕ) (t
     → (cs ++ classes_of_all (members (view_type t))) ++ classes_of_all (union_members (view_members (drop (n + 1) ts)))
     ≡ cs ++ classes_of_all (union_members (view_members (drop n ts)))
 classes_added cs ts n t below is =
-    append_assoc cs (classes_of_all (members (view_type t))) (classes_of_all (union_members (view_members (drop (n + 1) ts))))
+    append_assoc cs (classes_of_all (members (view_type t))) (classes_of_all
+    (union_members (view_members (drop (n + 1) ts))))
     ∙ ap (λ l. cs ++ l) (sym (classes_from ts n t below is))

@@ -3,7 +3,6 @@ use Rattle.std.proofs.Common.{◌≡◌, List, [], ◌∷◌, Ok, inl, refl}
 use Rattle.soy_base.specs.declared.place.Place.{Place}
 use Rattle.html_state.specs.declared.row.State.{State}
 use Rattle.soy_meaning.specs.PageMachine.{page_machine}
-use Rattle.soy_meaning.specs.PathParts.{StandsAfter}
 use Rattle.soy_meaning.specs.Plan.{Plan}
 use Rattle.soy_meaning.specs.States.{IsMember}
 use Rattle.soy_meaning.specs.Walk.{Walked, walk, walked}

@@ -1,19 +1,19 @@
 -- The walk of the texts and prints that stand for a placeholder is that of the placeholder.
 use Rattle.std.proofs.Common.{◌≡◌, ℕ, Bool, true, false, List, [], ◌∷◌, ◌++◌, Option, Some, None, Result, Ok, Err}
 use Rattle.std.proofs.Common.{refl, sym, ap, ◌∙◌, subst, ◌||◌}
-use Rattle.std.specs.Prelude.{if◌then◌else◌, bytes_eq, option_map}
+use Rattle.std.specs.Prelude.{if◌then◌else◌, bytes_eq}
 use Rattle.std.specs.Option.{option_or}
 use Rattle.std.proofs.lemmas.Slice.Eq.{bytes_eq-Decides}
-use Rattle.soy_base.specs.declared.fault.Span.{Span}
 use Rattle.html_state.specs.declared.row.State.{State}
 use Rattle.soy_tree.specs.Types.{Name}
 use Rattle.soy_tree.specs.TypeOf.{Scope}
 use Rattle.soy_tree.specs.Faults.{followed_by}
-use Rattle.soy_tree.specs.Nodes.{Message, Node, Nodes, Print, TextNode, message, no_node, node}
+use Rattle.soy_tree.specs.Nodes.{Message, Nodes, message, no_node}
 use Rattle.soy_tree.specs.MessageText.{Character, Cut, MessageItem, PrintCut, Printed, TagCut, TextCut}
 use Rattle.soy_tree.specs.Placeholders.{AsPlaceholder, AsPlural, AsSelect, Role, Use, body_uses, name_of}
 use Rattle.soy_tree.specs.ViewNodes.{nodes_of}
-use Rattle.msg_extract.specs.PlaceholderNodes.{BegunText, begun_after, cut_nodes, has_row, nodes_behind, placeholders_of}
+use Rattle.msg_extract.specs.PlaceholderNodes.{BegunText, cut_nodes, has_row, nodes_behind}
+use Rattle.msg_extract.specs.PlaceholderNodes.{placeholders_of}
 use Rattle.msg_extract.specs.PlaceholderNodes.{role_nodes, rows_after, with_row}
 use Rattle.soy_meaning.specs.PageMachine.{page_machine}
 use Rattle.soy_meaning.specs.Plan.{Hole, Site}
@@ -99,7 +99,8 @@ or_assoc : (a b c : Option Nodes) → option_or (option_or a b) c ≡ option_or 
 or_assoc None b c = refl
 or_assoc (Some ns) b c = refl
 
-or_if : (b : Bool) (ns : Nodes) (o p : Option Nodes) → (if b then Some ns else option_or o p) ≡ option_or (if b then Some ns else o) p
+or_if : (b : Bool) (ns : Nodes) (o p : Option Nodes) → (if b then Some ns else option_or o p)
+    ≡ option_or (if b then Some ns else o) p
 or_if true ns o p = refl
 or_if false ns o p = refl
 

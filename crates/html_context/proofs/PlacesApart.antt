@@ -1,9 +1,9 @@
 -- The walk does the same whatever places were there before.
-use Rattle.std.proofs.Common.{◌≡◌, ℕ, zero, suc, Bool, true, false, List, [], ◌∷◌, ◌++◌, Result, Ok, Err, length, refl, sym, ap, ◌∙◌}
+use Rattle.std.proofs.Common.{◌≡◌, ℕ, zero, suc, Bool, true, false, List, [], ◌∷◌, ◌++◌, Result, Ok, Err, length, refl}
+use Rattle.std.proofs.Common.{sym, ap, ◌∙◌}
 use Rattle.std.proofs.Common.{append_assoc}
 use Rattle.std.proofs.lemmas.List.{append-nil}
 use Rattle.std.specs.Prelude.{nat_lt, ◌==◌, if◌then◌else◌}
-use Rattle.soy_base.specs.declared.code.Code.{Code}
 use Rattle.soy_base.specs.declared.code.Code.TheVariants as code
 use Rattle.soy_base.specs.declared.place.Place.{Place}
 use Rattle.soy_tree.specs.Faults.{followed_by}
@@ -100,7 +100,8 @@ module _ {S : Type 0} (m : Machine S) where
       (λ u. Ok (walked (joined_states m v.states u.states) u.places)))
       (apart p old w)
       (λ v. go old (walk m q (walked w.states v.places)) (walk m q (walked w.states (old ++ v.places)))
-      (λ u. Ok (walked (joined_states m v.states u.states) u.places)) (apart q old (walked w.states v.places)) (λ u. refl))
+      (λ u. Ok (walked (joined_states m v.states u.states) u.places)) (apart q old (walked w.states v.places))
+      (λ u. refl))
   apart (Meet at p) old w =
       go old (walk m p w) (walk m p (behind old w)) (λ v. within_limit m at v) (apart p old w)
       (λ v. if_behind (nat_lt 16 (length v.states)) old (walk_fault at code.States) (Ok v) (Ok (behind old v)) refl)

@@ -1,10 +1,10 @@
 -- The walk of a plan goes by the walks of its parts.
-use Rattle.std.proofs.Common.{◌≡◌, ℕ, List, [], ◌∷◌, ◌++◌, Result, Ok, map, refl, sym, ap, ◌∙◌}
+use Rattle.std.proofs.Common.{◌≡◌, List, [], ◌∷◌, Result, Ok, map, refl, sym, ap, ◌∙◌}
 use Rattle.soy_base.specs.declared.kind.Kind.{Kind}
 use Rattle.html_state.specs.declared.row.State.{State}
 use Rattle.soy_tree.specs.Faults.{followed_by}
 use Rattle.soy_meaning.specs.PageMachine.{page_machine}
-use Rattle.soy_meaning.specs.Plan.{Site, Plan, Nothing, Nowhere, Then, Either, Loop, Frame, in_turn, any_of, arms_meet}
+use Rattle.soy_meaning.specs.Plan.{Site, Plan, Nowhere, Then, Either, Loop, Frame, in_turn, any_of, arms_meet}
 use Rattle.soy_meaning.specs.States.{joined_states}
 use Rattle.soy_meaning.specs.Walk.{WalkFault, Walked, frame_end, turns, walk, walked, within_limit}
 use Rattle.html_context.specs.StandsFor.{walk_of}
@@ -21,7 +21,8 @@ each_way (f ∷ fs) = λ w. followed_by (f w) (each_way fs)
 abbrev either_way : Way → Way → Way
 either_way f g =
     λ w. followed_by (f w) (λ v.
-    followed_by (g (walked w.states v.places)) (λ u. Ok (walked (joined_states page_machine v.states u.states) u.places)))
+    followed_by (g (walked w.states v.places)) (λ u. Ok (walked (joined_states page_machine v.states u.states)
+    u.places)))
 
 abbrev any_way : Way → List Way → Way
 any_way f [] = f
@@ -50,7 +51,8 @@ meet_walks at ps qs e =
     ∙ ap (λ (fs : List Way). λ w. followed_by (any_way (walk_of Nowhere) fs w) (λ v. within_limit page_machine at v)) e
     ∙ sym (meet_ways at qs)
 
-pub then_walks : (p q p' q' : Plan) → walk_of p ≡ walk_of p' → walk_of q ≡ walk_of q' → walk_of (Then p q) ≡ walk_of (Then p' q')
+pub then_walks : (p q p' q' : Plan) → walk_of p ≡ walk_of p' → walk_of q ≡ walk_of q'
+    → walk_of (Then p q) ≡ walk_of (Then p' q')
 then_walks p q p' q' e h =
     ap (λ (f : Way). λ w. followed_by (f w) (walk_of q)) e
     ∙ ap (λ (g : Way). λ w. followed_by (walk_of p' w) g) h
@@ -62,7 +64,8 @@ pub frame_walks : (kind : Kind) (at : Site) (p q : Plan) → walk_of p ≡ walk_
     → walk_of (Frame kind at p) ≡ walk_of (Frame kind at q)
 frame_walks kind at p q e =
     ap (λ (f : Way). λ w.
-    followed_by (f (walked ((page_machine.start kind) ∷ []) w.places)) (λ v. frame_end page_machine kind at w.states v)) e
+    followed_by (f (walked ((page_machine.start kind) ∷ []) w.places)) (λ v. frame_end page_machine kind at w.states v))
+    e
 
 pub map_through : {A : Type 0} (f : A → Plan) (xs : List A) → map walk_of (map f xs) ≡ map (λ x. walk_of (f x)) xs
 map_through f [] = refl

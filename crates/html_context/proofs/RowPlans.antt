@@ -1,9 +1,10 @@
 -- The plan of a number as a row means it.
-use Rattle.std.proofs.Common.{◌≡◌, ℕ, ◌<◌, ◌≤◌, List, [], Some, None, get_or, length, take, ◌⊎◌, inl, inr, sym, ap, ◌∙◌, arith}
+use Rattle.std.proofs.Common.{◌≡◌, ℕ, ◌<◌, ◌≤◌, List, Some, get_or, length, take, ◌⊎◌, inl, inr, sym, ap, ◌∙◌}
+use Rattle.std.proofs.Common.{arith}
 use Rattle.std.specs.List.{slice_get}
 use Rattle.std.proofs.lemmas.List.{get_or-take, get_or_past, length-take}
 use Rattle.std.proofs.lemmas.Option.{get_or_from_slice_get, slice_get-get_or}
-use Rattle.soy_meaning.specs.Plan.{Plan, Nothing}
+use Rattle.soy_meaning.specs.Plan.{Nothing}
 use Rattle.template_ir.proofs.Tables.{get_table, length_table}
 use Rattle.html_context.specs.RowPlans.{plan_at, plan_below, plans_before, row_plan, row_plans}
 use Rattle.html_context.specs.declared.table.Row.{Row}

@@ -25,10 +25,12 @@ refused : (r : Result (Walked State) WalkFault) (fault : PlaceFault) → IsFault
 refused (Ok v) fault is walked_to = is
 refused (Err f) fault is (v, walked_to) = cc
 
-pub decided : (translation : Message → Option MsgParts) (trees : List Tree) (answer : Result Places (Refusal PlaceFault))
+pub decided : (translation : Message → Option MsgParts) (trees : List Tree)
+    (answer : Result Places (Refusal PlaceFault))
     → Infers (walk_trees translation trees) answer → Decides (AcceptedTrees translation trees) answer
 decided translation trees (Ok places) is =
-    accepted_when_walked page_machine page_compares (trees_plan translation trees) (walked [] []) (walked [] places.prints) is
+    accepted_when_walked page_machine page_compares (trees_plan translation trees) (walked [] [])
+    (walked [] places.prints) is
 decided translation trees (Err (Because fault)) is =
     λ holds. refused (walk_trees translation trees) fault is (trees_walked translation trees holds)
 decided translation trees (Err OutOfMemory) is = tt

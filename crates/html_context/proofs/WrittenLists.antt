@@ -165,7 +165,8 @@ written_lists old mid rows before numbers ps qs h k = (
 
 all_meet : (at : code_site.Site) (old rows : List Row) (numbers : List ℕ) (ps : List Plan)
     → ListSoFar old rows numbers [] (map walk_of ps)
-    → walk_of (arms_meet (view_site at) (map (plan_among (row_plans rows)) numbers)) ≡ walk_of (arms_meet (view_site at) ps)
+    → walk_of (arms_meet (view_site at) (map (plan_among (row_plans rows)) numbers))
+    ≡ walk_of (arms_meet (view_site at) ps)
 all_meet at old rows numbers ps h =
     meet_walks (view_site at) (map (plan_among (row_plans rows)) numbers) ps
     (map_through (plan_at rows) numbers ∙ sym (append-nil (walks_of rows numbers)) ∙ h.2)
@@ -176,4 +177,5 @@ pub written_meet : (at : code_site.Site) (old rows new : List Row) (numbers : Li
     → Writes (arms_meet (view_site at) ps) old new result
 written_meet at old rows new numbers ps result h e is =
     writes_on (arms_meet (view_site at) ps) old rows new result h.0
-    (writes (arms_meet (view_site at) ps) rows new (row.Meet at numbers) result e is (all_meet at old rows numbers ps h))
+    (writes (arms_meet (view_site at) ps) rows new (row.Meet at numbers) result e is
+    (all_meet at old rows numbers ps h))

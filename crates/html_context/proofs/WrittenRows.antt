@@ -1,6 +1,7 @@
 -- Rows that are written behind those that are there.
 use Rattle.std.proofs.Common.{zero, suc, slice_index_or}
-use Rattle.std.proofs.Common.{◌≡◌, ◌≤◌, ◌<◌, ◌+◌, ℕ, List, [], ◌∷◌, ◌++◌, Some, Result, Ok, Err, OnOk, IfOk, get_or, length, map}
+use Rattle.std.proofs.Common.{◌≡◌, ◌≤◌, ◌<◌, ◌+◌, ℕ, List, [], ◌∷◌, ◌++◌, Some, Result, Ok, Err, OnOk, IfOk, get_or}
+use Rattle.std.proofs.Common.{length}
 use Rattle.std.proofs.Common.{take, drop, refl, sym, ap, ◌∙◌, append_assoc, arith, subst}
 use Rattle.std.specs.List.{slice_get}
 use Rattle.std.proofs.lemmas.List.{get_or-take, length-append, take-append-drop}
@@ -8,7 +9,7 @@ use Rattle.std.proofs.Math.Seq.{drop-cons, take-append_seam}
 use Rattle.soy_base.specs.declared.memory.OutOfMemory.{OutOfMemory}
 use Rattle.soy_meaning.specs.Plan.{Plan, Nothing}
 use Rattle.template_ir.specs.Table.{table}
-use Rattle.template_ir.proofs.Tables.{length_table, take_table_from}
+use Rattle.template_ir.proofs.Tables.{take_table_from}
 use Rattle.html_context.specs.RowPlans.{plan_at, row_plan, row_plans}
 use Rattle.html_context.specs.StandsFor.{Keeps, Writes, walk_of}
 use Rattle.html_context.specs.declared.table.Row.{Row}
@@ -54,7 +55,8 @@ get_last : (old : List Row) (r : Row) → slice_get (old ++ (r ∷ [])) (length 
 get_last [] r = refl
 get_last (x ∷ old) r = get_last old r
 
-last_plan : (old new : List Row) (r : Row) → new ≡ old ++ (r ∷ []) → plan_at new (length old) ≡ row_plan (row_plans old) r
+last_plan : (old new : List Row) (r : Row) → new ≡ old ++ (r ∷ []) → plan_at new (length old)
+    ≡ row_plan (row_plans old) r
 last_plan old new r e =
     at_row new (length old) r (ap (λ l. slice_get l (length old)) e ∙ get_last old r)
     ∙ ap (λ l. row_plan l r) (kept_plans old new (appended old (r ∷ []) new e))

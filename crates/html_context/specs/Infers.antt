@@ -2,7 +2,7 @@
 --
 -- A fault of 12 keeps both placings, any other none. Only out of memory is free.
 -- Example: where the walk refuses a print with UriStart and Tag, the answer is 12 with these two.
-use Rattle.std.specs.Prelude.{◌≡◌, [], Option, Result, Ok, Err, option_map}
+use Rattle.std.specs.Prelude.{◌≡◌, [], Result, Ok, Err, option_map}
 use Rattle.soy_base.specs.declared.memory.Refusal.{Refusal}
 use Rattle.soy_base.specs.declared.memory.Refusal.TheVariants.{Because, OutOfMemory}
 use Rattle.html_state.specs.declared.row.State.{State}

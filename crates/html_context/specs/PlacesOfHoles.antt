@@ -2,7 +2,7 @@
 -- the placing of each state in which a path of the hole's frame leads to the hole.
 --
 -- Example: `{$a}<p title="{$b}">` has the places Text and Attr.
-use Rattle.std.specs.Prelude.{◌≡◌, ◌+◌, List, Option, Some, length, get_or}
+use Rattle.std.specs.Prelude.{◌≡◌, ◌+◌, List, Some, length, get_or}
 use Rattle.soy_base.specs.declared.kind.Kind.{Kind}
 use Rattle.soy_base.specs.declared.place.Place.{Place}
 use Rattle.soy_base.specs.declared.place.Placing.TheVariants.{Takes}

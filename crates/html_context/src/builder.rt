@@ -135,8 +135,8 @@ impl<'a> Builder<'a> {
         requires { source < length rows.old.items }
         ensures { Writes (arms_meet (view_site at) (plan_at rows.old.items source
             ∷ (translation_plans (plan_context self.now) (view_message message.now) (view_vars vars.now) (view_site at)
-            ++ fallback_plans (plan_context self.now) (fallback_of (option_map view_message other.now)) (view_vars vars.now)
-            (view_site at)))) rows.old.items rows.new.items result }
+            ++ fallback_plans (plan_context self.now) (fallback_of (option_map view_message other.now))
+            (view_vars vars.now) (view_site at)))) rows.old.items rows.new.items result }
     {
         let mut numbers = Vec::new(self.alloc);
         numbers.push(source)?;

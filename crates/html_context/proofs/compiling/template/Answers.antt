@@ -1,4 +1,3 @@
-use Rattle.std.proofs.Common.{◌≡◌, refl}
 use Rattle.html_context.specs.ChosenTranslation.{chosen_translation}
 use Rattle.html_context.specs.ViewDeclared.{view_all}
 use Rattle.html_context.proofs.BuiltTemplates.{written_template}
@@ -12,5 +11,7 @@ returns c =
       declared = view_all c.args.all.now;
       translation = chosen_translation c.args.bundle.now.messages;
     })
-    c.args.one.now.template.now c.items-2.result.now c.items.result.now c.in_ok-vars.vars.items c.args.rows.now.items c.nodes.new.rows.items c.write.new.rows.items c.in_ok-body.body c.write.result
-    c.items-2.ensures c.items.ensures c.in_ok-vars.ensures c.in_ok-body.ensures c.write.ensures.rows c.write.ensures.number
+    c.args.one.now.template.now c.items-2.result.now c.items.result.now c.in_ok-vars.vars.items c.args.rows.now.items
+    c.nodes.new.rows.items c.write.new.rows.items c.in_ok-body.body c.write.result
+    c.items-2.ensures c.items.ensures c.in_ok-vars.ensures c.in_ok-body.ensures c.write.ensures.rows
+    c.write.ensures.number

@@ -9,5 +9,6 @@ use Rattle.html_context.proofs.compiling.templates.Given as goal
 abbrev pub invariant-loop-one : goal.invariant-loop-one
 invariant-loop-one l =
     InTurnSoFar l.initial.rows.items l.rows.items l.numbers.items
-    (in_turn (map (declared_plan (chosen_translation l.bundle.messages) (view_all l.all)) (view_all (drop l.one-index l.all))))
+    (in_turn (map (declared_plan (chosen_translation l.bundle.messages) (view_all l.all))
+    (view_all (drop l.one-index l.all))))
     (in_turn (map (declared_plan (chosen_translation l.bundle.messages) (view_all l.all)) (view_all l.all)))

@@ -1,4 +1,4 @@
-use Rattle.std.proofs.Common.{◌≡◌, [], drop, map}
+use Rattle.std.proofs.Common.{◌≡◌, drop, map}
 use Rattle.html_state.specs.AfterValue.{after_value}
 use Rattle.soy_meaning.specs.PageMachine.{page_machine}
 use Rattle.soy_meaning.specs.States.{joined_states}

@@ -1,4 +1,4 @@
-use Rattle.std.proofs.Common.{◌≡◌, sym, subst}
+use Rattle.std.proofs.Common.{sym, subst}
 use Rattle.std.specs.Prelude.{IsTrue}
 use Rattle.std.specs.List.{All}
 use Rattle.html_state.specs.StatePlacing.{placing}
@@ -10,5 +10,6 @@ use Rattle.html_context.proofs.hole.hole.Goals as goal
 
 pub after_value-requires : goal.after_value-requires
 after_value-requires c =
-    subst (λ (x : ValueClass). All (λ s. IsTrue (takes_class (placing s) x)) c.args.states.now) (sym c.taken_class.ensures)
+    subst (λ (x : ValueClass). All (λ s. IsTrue (takes_class (placing s) x)) c.args.states.now)
+    (sym c.taken_class.ensures)
     (each_takes (view_site c.args.at) c.args.classes.now c.args.states.now c.in_ok-place.place c.in_ok-place.ensures)

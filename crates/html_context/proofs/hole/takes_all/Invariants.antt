@@ -6,4 +6,5 @@ use Rattle.html_context.proofs.hole.takes_all.Given as goal
 
 abbrev pub invariant-loop-class : goal.invariant-loop-class
 invariant-loop-class l =
-    list_all (takes_class (Takes l.place)) (drop l.class-index l.classes) ≡ list_all (takes_class (Takes l.place)) l.classes
+    list_all (takes_class (Takes l.place)) (drop l.class-index l.classes)
+    ≡ list_all (takes_class (Takes l.place)) l.classes

@@ -1,4 +1,4 @@
-use Rattle.std.proofs.Common.{ℕ, ◌+◌, ◌++◌, ◌∷◌, [], List, Ok, ap, drop, map, subst, sym, ◌∙◌}
+use Rattle.std.proofs.Common.{ℕ, ◌+◌, ◌++◌, [], List, Ok, ap, drop, map, subst, sym, ◌∙◌}
 use Rattle.soy_tree.specs.MessageParts.{MsgParts, PluralPart, SelectPart}
 use Rattle.soy_tree.specs.ViewMessageParts.{exact_arms_of, named_arms_of, select_arms_of, view_exact, view_named}
 use Rattle.soy_tree.specs.ViewMessageParts.{view_part, view_parts, view_select_arm}
@@ -11,7 +11,8 @@ use Rattle.soy_tree.specs.declared.bundle.SelectPart as code_select_part
 use Rattle.html_context.specs.StandsFor.{Writes, walk_of, walks_of}
 use Rattle.html_context.specs.ViewParts.{plan_of_part, plan_of_parts, plans_of_exact, plans_of_named, plans_of_select}
 use Rattle.html_context.proofs.ViewArms.{exact_is, named_is, plural_is, select_arm_is, select_is}
-use Rattle.html_context.proofs.WrittenLists.{InTurnSoFar, ListSoFar, first_behind, list_written, next_in_turn, next_listed}
+use Rattle.html_context.proofs.WrittenLists.{InTurnSoFar, ListSoFar, first_behind, list_written, next_in_turn}
+use Rattle.html_context.proofs.WrittenLists.{next_listed}
 use Rattle.html_context.proofs.WrittenLists.{written_in_turn, written_list, written_lists, written_meet}
 use Rattle.html_context.proofs.WrittenRows.{first_of, none_of}
 use Rattle.html_context.proofs.parts.+parts.Goals as goal
@@ -23,7 +24,8 @@ all_parts-loop-part-preserved t c =
     let x = c.part-item.result in
     rw c.in_ok-push.ensures.items
     (next_in_turn c.args.rows.now.items c.loop-part.rows.items c.one_part.new.rows.items c.loop-part.numbers.items
-    c.in_ok-number.number (plan_of_part s (view_part x)) (plan_of_parts s (view_parts (drop (c.loop-part.part-index + 1) parts)))
+    c.in_ok-number.number (plan_of_part s (view_part x)) (plan_of_parts s
+    (view_parts (drop (c.loop-part.part-index + 1) parts)))
     (plan_of_parts s (view_parts parts))
     (subst (λ (l : List code_part.MsgPart). InTurnSoFar c.args.rows.now.items c.loop-part.rows.items
     c.loop-part.numbers.items (plan_of_parts s (view_parts l)) (plan_of_parts s (view_parts parts)))
@@ -36,7 +38,8 @@ all_parts-returns t c =
     let parts = c.args.parts.now in
     written_in_turn c.args.rows.now.items c.loop-part.rows.items c.write.new.rows.items c.new.result
     (plan_of_parts s (view_parts parts)) c.write.result
-    (subst (λ (ks : List ℕ). InTurnSoFar c.args.rows.now.items c.loop-part.rows.items ks (plan_of_parts s (view_parts []))
+    (subst (λ (ks : List ℕ). InTurnSoFar c.args.rows.now.items c.loop-part.rows.items ks
+    (plan_of_parts s (view_parts []))
     (plan_of_parts s (view_parts parts))) (sym c.new.ensures)
     (subst (λ (l : List code_part.MsgPart). InTurnSoFar c.args.rows.now.items c.loop-part.rows.items
     c.loop-part.numbers.items (plan_of_parts s (view_parts l)) (plan_of_parts s (view_parts parts)))
@@ -57,7 +60,8 @@ exact_arms-loop-arm-preserved t c =
     c.loop-arm.numbers.items (plans l) (map walk_of (plans arms)))
     (first_of arms c.loop-arm.arm-index x c.loop-arm-test.true c.arm-item.is) c.loop-arm.invariant)
     (subst (λ (ps : MsgParts). Writes (plan_of_parts s ps) c.loop-arm.rows.items c.all_parts.new.rows.items
-    (Ok c.in_ok-number.number)) (ap view_parts c.items.ensures ∙ sym (ap (λ a. a.1) (exact_is x))) c.in_ok-number.ensures))
+    (Ok c.in_ok-number.number)) (ap view_parts c.items.ensures ∙ sym (ap (λ a. a.1) (exact_is x)))
+    c.in_ok-number.ensures))
 
 pub exact_arms-returns : goal.exact_arms-returns
 exact_arms-returns t c =
@@ -88,7 +92,8 @@ named_arms-loop-arm-preserved t c =
     c.loop-arm.numbers.items (plans l) whole)
     (first_of arms c.loop-arm.arm-index x c.loop-arm-test.true c.arm-item.is) c.loop-arm.invariant)
     (subst (λ (ps : MsgParts). Writes (plan_of_parts s ps) c.loop-arm.rows.items c.all_parts.new.rows.items
-    (Ok c.in_ok-number.number)) (ap view_parts c.items.ensures ∙ sym (ap (λ a. a.1) (named_is x))) c.in_ok-number.ensures))
+    (Ok c.in_ok-number.number)) (ap view_parts c.items.ensures ∙ sym (ap (λ a. a.1) (named_is x)))
+    c.in_ok-number.ensures))
 
 pub named_arms-returns : goal.named_arms-returns
 named_arms-returns t c =
@@ -115,7 +120,8 @@ select_arms-loop-arm-preserved t c =
     c.loop-arm.numbers.items (plans l) (map walk_of (plans arms)))
     (first_of arms c.loop-arm.arm-index x c.loop-arm-test.true c.arm-item.is) c.loop-arm.invariant)
     (subst (λ (ps : MsgParts). Writes (plan_of_parts s ps) c.loop-arm.rows.items c.all_parts.new.rows.items
-    (Ok c.in_ok-number.number)) (ap view_parts c.items.ensures ∙ sym (ap (λ a. a.1) (select_arm_is x))) c.in_ok-number.ensures))
+    (Ok c.in_ok-number.number)) (ap view_parts c.items.ensures ∙ sym (ap (λ a. a.1) (select_arm_is x)))
+    c.in_ok-number.ensures))
 
 pub select_arms-returns : goal.select_arms-returns
 select_arms-returns t c =

@@ -1,4 +1,4 @@
-use Rattle.std.proofs.Common.{◌+◌, ◌*◌, ◌++◌, max, map, drop}
+use Rattle.std.proofs.Common.{◌+◌, ◌*◌, ◌++◌, map, drop}
 use denote.Param.Weighed.{most}
 use Rattle.soy_tree.specs.ViewMessageParts.{exact_arms_of, named_arms_of, select_arms_of, view_exact, view_named}
 use Rattle.soy_tree.specs.ViewMessageParts.{view_parts, view_select_arm}

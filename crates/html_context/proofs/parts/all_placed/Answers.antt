@@ -12,7 +12,8 @@ use Rattle.html_context.proofs.parts.all_placed.Goals as goal
 pub loop-node-preserved : goal.loop-node-preserved
 loop-node-preserved c =
     let source = c.args.source.now in
-    let plan : List code.Node → Plan = λ ns. placed_nodes (view_vars source.vars.now) (view_site source.at) (view_nodes ns) in
+    let plan : List code.Node → Plan = λ ns. placed_nodes (view_vars source.vars.now) (view_site source.at)
+    (view_nodes ns) in
     let x = c.node-item.result in
     let nodes = c.args.nodes.now in
     rw c.in_ok-push.ensures.items
@@ -27,7 +28,8 @@ loop-node-preserved c =
 pub returns : goal.returns
 returns c =
     let source = c.args.source.now in
-    let plan : List code.Node → Plan = λ ns. placed_nodes (view_vars source.vars.now) (view_site source.at) (view_nodes ns) in
+    let plan : List code.Node → Plan = λ ns. placed_nodes (view_vars source.vars.now) (view_site source.at)
+    (view_nodes ns) in
     let nodes = c.args.nodes.now in
     written_in_turn c.args.rows.now.items c.loop-node.rows.items c.write.new.rows.items c.new.result (plan nodes)
     c.write.result

@@ -1,4 +1,4 @@
-use Rattle.std.proofs.Common.{subst, ap, ◌∙◌}
+use Rattle.std.proofs.Common.{ap, ◌∙◌}
 use Rattle.std.proofs.Math.Path.{fun_ext}
 use Rattle.soy_tree.specs.ViewNodes.{view_message, view_nodes}
 use Rattle.soy_expr.specs.ViewScope.{view_vars}
@@ -18,7 +18,8 @@ returns c =
     let scope = view_vars source.vars.now in
     let at = view_site source.at in
     let name = c.args.name.now in
-    writes_same (placed_nodes scope at (view_nodes c.nodes_of.result.now)) (cut_plan scope at (placeholder_cut name (source_uses source) (source_uses source)))
+    writes_same (placed_nodes scope at (view_nodes c.nodes_of.result.now))
+    (cut_plan scope at (placeholder_cut name (source_uses source) (source_uses source)))
     c.args.rows.now.items c.all_placed.new.rows.items c.all_placed.result c.all_placed.ensures
     (ap (λ ns. λ w. walk page_machine (placed_nodes scope at ns) w)
     (c.nodes_of.ensures ∙ ap (λ rows. named_nodes name rows) c.requires)

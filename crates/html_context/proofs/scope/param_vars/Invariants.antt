@@ -6,4 +6,5 @@ use Rattle.html_context.proofs.scope.param_vars.Given as goal
 
 abbrev pub invariant-loop-param : goal.invariant-loop-param
 invariant-loop-param l =
-    view_vars l.vars.items ++ param_scope (view_params (drop l.param-index l.params)) ≡ param_scope (view_params l.params)
+    view_vars l.vars.items ++ param_scope (view_params (drop l.param-index l.params))
+    ≡ param_scope (view_params l.params)

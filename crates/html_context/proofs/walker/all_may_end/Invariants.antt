@@ -4,4 +4,5 @@ use Rattle.soy_meaning.specs.Walk.{all_may_end}
 use Rattle.html_context.proofs.walker.all_may_end.Given as goal
 
 abbrev pub invariant-loop-state : goal.invariant-loop-state
-invariant-loop-state l = all_may_end page_machine l.kind (drop l.state-index l.states) ≡ all_may_end page_machine l.kind l.states
+invariant-loop-state l = all_may_end page_machine l.kind (drop l.state-index l.states)
+    ≡ all_may_end page_machine l.kind l.states

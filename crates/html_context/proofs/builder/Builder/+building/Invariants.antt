@@ -1,6 +1,7 @@
 use Rattle.std.proofs.Common.{◌+◌, ◌*◌, ◌∷◌, [], ◌++◌, max, map, drop}
 use denote.Param.Weighed.{most}
-use Rattle.soy_tree.specs.ViewNodes.{view_arguments, view_arms, view_body, view_cases, view_nodes, view_plural_cases, view_select_cases}
+use Rattle.soy_tree.specs.ViewNodes.{view_arguments, view_arms, view_body, view_cases, view_nodes, view_plural_cases}
+use Rattle.soy_tree.specs.ViewNodes.{view_select_cases}
 use Rattle.soy_tree.specs.declared.node.Node.{size-Node}
 use Rattle.soy_tree.specs.declared.node.Arm.{size-Arm}
 use Rattle.soy_tree.specs.declared.node.Case.{size-Case}
@@ -10,7 +11,8 @@ use Rattle.soy_tree.specs.declared.node.PluralCase.{size-PluralCase}
 use Rattle.soy_tree.specs.declared.node.SelectCase.{size-SelectCase}
 use Rattle.soy_expr.specs.ViewScope.{view_vars}
 use Rattle.soy_meaning.specs.Plan.{Then}
-use Rattle.soy_meaning.specs.PlanOfNodes.{argument_frames, arm_plans, body_plan, case_plans, nodes_plan, plural_plans, select_plans}
+use Rattle.soy_meaning.specs.PlanOfNodes.{argument_frames, arm_plans, body_plan, case_plans, nodes_plan, plural_plans}
+use Rattle.soy_meaning.specs.PlanOfNodes.{select_plans}
 use Rattle.html_context.specs.RowPlans.{plan_at}
 use Rattle.html_context.specs.StandsFor.{walk_of}
 use Rattle.html_context.specs.ViewBuilder.{plan_context}
@@ -42,21 +44,26 @@ abbrev pub invariant-plural_cases-loop-case : goal.invariant-plural_cases-loop-c
 invariant-plural_cases-loop-case l =
     let last = body_plan (plan_context l.self) (view_body l.other) (view_vars l.vars) (view_site l.at) in
     ListSoFar l.initial.rows.items l.rows.items l.numbers.items
-    (plural_plans (plan_context l.self) (view_plural_cases (drop l.case-index l.cases)) (view_vars l.vars) (view_site l.at) ++ (last ∷ []))
-    (map walk_of (plural_plans (plan_context l.self) (view_plural_cases l.cases) (view_vars l.vars) (view_site l.at) ++ (last ∷ [])))
+    (plural_plans (plan_context l.self) (view_plural_cases (drop l.case-index l.cases)) (view_vars l.vars)
+    (view_site l.at) ++ (last ∷ []))
+    (map walk_of (plural_plans (plan_context l.self) (view_plural_cases l.cases) (view_vars l.vars) (view_site l.at)
+    ++ (last ∷ [])))
 
 abbrev pub invariant-select_cases-loop-case : goal.invariant-select_cases-loop-case
 invariant-select_cases-loop-case l =
     let last = body_plan (plan_context l.self) (view_body l.other) (view_vars l.vars) (view_site l.at) in
     ListSoFar l.initial.rows.items l.rows.items l.numbers.items
-    (select_plans (plan_context l.self) (view_select_cases (drop l.case-index l.cases)) (view_vars l.vars) (view_site l.at) ++ (last ∷ []))
-    (map walk_of (select_plans (plan_context l.self) (view_select_cases l.cases) (view_vars l.vars) (view_site l.at) ++ (last ∷ [])))
+    (select_plans (plan_context l.self) (view_select_cases (drop l.case-index l.cases)) (view_vars l.vars)
+    (view_site l.at) ++ (last ∷ []))
+    (map walk_of (select_plans (plan_context l.self) (view_select_cases l.cases) (view_vars l.vars) (view_site l.at)
+    ++ (last ∷ [])))
 
 abbrev pub invariant-arguments-loop-argument : goal.invariant-arguments-loop-argument
 invariant-arguments-loop-argument l =
     InTurnSoFar l.initial.rows.items l.rows.items l.numbers.items
     (argument_frames (plan_context l.self) (view_arguments (drop l.argument-index l.arguments)) (view_vars l.vars))
-    (Then (plan_at l.initial.rows.items l.fn.hole) (argument_frames (plan_context l.self) (view_arguments l.arguments) (view_vars l.vars)))
+    (Then (plan_at l.initial.rows.items l.fn.hole) (argument_frames (plan_context l.self) (view_arguments l.arguments)
+    (view_vars l.vars)))
 
 abbrev pub decreases-nodes : goal.decreases-nodes
 decreases-nodes l = 8 * most size-Node l.nodes.now + 1

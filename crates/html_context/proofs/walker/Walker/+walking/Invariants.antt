@@ -10,22 +10,28 @@ use Rattle.html_context.proofs.walker.Walker.+walking.Given as goal
 
 abbrev pub invariant-in_turn-loop-number : goal.invariant-in_turn-loop-number
 invariant-in_turn-loop-number l = record {
-  walk : walk page_machine (in_turn (map (λ n. plan_below l.self.rows.now l.limit n) (drop l.number-index l.numbers))) (walked l.now.items l.places.items)
-      ≡ walk page_machine (in_turn (map (λ n. plan_below l.self.rows.now l.limit n) l.numbers)) (walked l.fn.states.items l.initial.places.items);
+  walk : walk page_machine (in_turn (map (λ n. plan_below l.self.rows.now l.limit n) (drop l.number-index l.numbers)))
+      (walked l.now.items l.places.items)
+      ≡ walk page_machine (in_turn (map (λ n. plan_below l.self.rows.now l.limit n) l.numbers))
+      (walked l.fn.states.items l.initial.places.items);
   kept : AllKept l.self.rows.now l.memo;
 }
 
 abbrev pub invariant-meet-loop-number : goal.invariant-meet-loop-number
 invariant-meet-loop-number l = record {
-  arms : joined_arms l.before (walked l.joined.items l.places.items) (map (λ n. plan_below l.self.rows.now l.limit n) (drop l.number-index l.numbers))
-      ≡ joined_arms l.before (walked [] l.initial.places.items) (map (λ n. plan_below l.self.rows.now l.limit n) l.numbers);
+  arms : joined_arms l.before (walked l.joined.items l.places.items)
+      (map (λ n. plan_below l.self.rows.now l.limit n) (drop l.number-index l.numbers))
+      ≡ joined_arms l.before (walked [] l.initial.places.items) (map (λ n. plan_below l.self.rows.now l.limit n)
+      l.numbers);
   kept : AllKept l.self.rows.now l.memo;
 }
 
 abbrev pub invariant-looped-loop-turn : goal.invariant-looped-loop-turn
 invariant-looped-loop-turn l = record {
-  turns : turns page_machine (λ v. walk page_machine (plan_below l.self.rows.now l.limit l.body) v) (view_site l.at) (17 - l.turn) (walked l.head.items (take l.old_length l.places.items))
-      ≡ turns page_machine (λ v. walk page_machine (plan_below l.self.rows.now l.limit l.body) v) (view_site l.at) 17 (walked l.fn.states.items l.initial.places.items);
+  turns : turns page_machine (λ v. walk page_machine (plan_below l.self.rows.now l.limit l.body) v) (view_site l.at)
+      (17 - l.turn) (walked l.head.items (take l.old_length l.places.items))
+      ≡ turns page_machine (λ v. walk page_machine (plan_below l.self.rows.now l.limit l.body) v) (view_site l.at) 17
+      (walked l.fn.states.items l.initial.places.items);
   within : l.old_length ≤ length l.places.items;
   kept : AllKept l.self.rows.now l.memo;
 }
