@@ -1,0 +1,14 @@
+pub mod ChosenTranslation
+pub mod Infers
+pub mod JoinedArms
+pub mod Kept
+pub mod NarrowedVariable
+pub mod PlacedNodes
+pub mod PlacesOfHoles
+pub mod RowPlans
+pub mod StandsFor
+pub mod TakenClass
+pub mod ViewBuilder
+pub mod ViewDeclared
+pub mod ViewParts
+pub mod Walks

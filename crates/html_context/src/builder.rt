@@ -1,0 +1,377 @@
+//! The rows of nodes: each function writes rows that are walked as the plan of what it is given.
+
+ghost use Rattle.std.specs.Prelude.{◌≡◌, ◌<◌, ◌++◌, ◌∷◌, [], length, map, option_map};
+ghost use Rattle.std.specs.List.{All};
+ghost use Rattle.soy_meaning.specs.Plan.{Hole, Then, arms_meet};
+ghost use Rattle.soy_meaning.specs.PlanOfNodes.{argument_frames, arm_plans, body_plan, called_classes, case_plans};
+ghost use Rattle.soy_meaning.specs.PlanOfNodes.{fallback_plans, node_plan, nodes_plan, plural_plans, select_plans};
+ghost use Rattle.soy_meaning.specs.PlanOfNodes.{given_frame, translation_plans};
+ghost use Rattle.soy_tree.specs.Templates.{callee};
+ghost use Rattle.soy_tree.specs.ViewNodes.{view_arguments, view_arms, view_body, view_cases, view_given, view_message};
+ghost use Rattle.soy_tree.specs.ViewNodes.{fallback_of, view_node, view_nodes, view_plural_cases, view_select_cases};
+ghost use Rattle.soy_expr.specs.ViewScope.{view_vars};
+ghost use Rattle.html_context.specs.RowPlans.{plan_at};
+ghost use Rattle.html_context.specs.StandsFor.{Writes, WritesMore};
+ghost use Rattle.html_context.specs.ViewBuilder.{plan_context};
+ghost use Rattle.html_context.specs.Walks.{view_site};
+
+use crate::classes::kind_class;
+use crate::fault::Site;
+use crate::parts::all_parts;
+use crate::scope::{body_vars, copied_vars, narrowed, pass};
+use crate::source::Source;
+use crate::table::Row;
+use crate::template::Declared;
+use crate::templates::callee;
+use crate::translations::chosen;
+use crate::writing::{write, write_hole, write_nothing, write_print, write_text};
+use msg_extract::placeholders;
+use soy_base::{OutOfMemory, Seq, Text};
+use soy_tree::{
+    Argument, Arm, Bundle, Case, Field, Form, Given, Message, MessageBody, Node, PluralCase,
+    SelectCase,
+};
+use std::alloc::Global;
+
+/// What the rows of a template go by: the number of its file and its namespace, the templates of all files, and the
+/// bundle that brings the translations of messages.
+#[derive(Drop)]
+pub(crate) struct Builder<'a> {
+    pub alloc: Global,
+    pub file: u32,
+    pub namespace: &'a Text,
+    pub declared: &'a [Declared<'a>],
+    pub bundle: &'a Bundle,
+}
+
+impl<'a> Builder<'a> {
+    /// A site of the file.
+    fn site(&self, at: u64) -> Site
+        ensures { result ≡ record { file = self.now.file; at = at } }
+    {
+        Site {
+            file: self.file,
+            at,
+        }
+    }
+
+    /// Writes the hole of a call.
+    fn call(&self, at: Site, name: &Text, rows: &mut Vec<Row>) -> Result<usize, OutOfMemory>
+        ensures { Writes (Hole (view_site at) (called_classes
+            (callee (plan_context self.now).declared self.now.namespace.now name.now)))
+            rows.old.items rows.new.items result }
+    {
+        match callee(self.alloc, self.declared, self.namespace, name)? {
+            None => write(rows, Row::Hole(at, Seq::new(Vec::new(self.alloc)))),
+            Some(declared) => {
+                let class = kind_class(declared.template.kind);
+                write_hole(self.alloc, at, class, rows)
+            }
+        }
+    }
+
+    /// Writes the translation of a message, if there is one, behind arms of these numbers.
+    fn translation(
+        &self,
+        at: Site,
+        message: &Message,
+        vars: &[Field],
+        before: Vec<usize>,
+        rows: &mut Vec<Row>,
+    ) -> Result<Vec<usize>, OutOfMemory>
+        requires { All (λ n. n < length rows.old.items) before.items }
+        ensures { WritesMore before.items
+            (translation_plans (plan_context self.now) (view_message message.now) (view_vars vars.now) (view_site at))
+            rows.old.items rows.new.items result }
+    {
+        let mut numbers = before;
+        let Some(parts) = chosen(self.alloc, self.bundle, message)? else {
+            return Ok(numbers);
+        };
+        let placeholders = placeholders(self.alloc, message)?;
+        let source = Source {
+            alloc: self.alloc,
+            at,
+            vars,
+            message,
+            placeholders: placeholders.items(),
+        };
+        let number = all_parts(&source, parts, rows)?;
+        numbers.push(number)?;
+        Ok(numbers)
+    }
+
+    /// Writes the translation of a message's fallback, if there is one, behind arms of these numbers.
+    fn fallback(
+        &self,
+        at: Site,
+        other: &Option<Message>,
+        vars: &[Field],
+        before: Vec<usize>,
+        rows: &mut Vec<Row>,
+    ) -> Result<Vec<usize>, OutOfMemory>
+        requires { All (λ n. n < length rows.old.items) before.items }
+        ensures { WritesMore before.items (fallback_plans (plan_context self.now)
+            (fallback_of (option_map view_message other.now)) (view_vars vars.now) (view_site at))
+            rows.old.items rows.new.items result }
+    {
+        match other {
+            None => Ok(before),
+            Some(message) => self.translation(at, message, vars, before, rows),
+        }
+    }
+
+    /// Writes the translations of a message and of its fallback, and that they meet with the source.
+    #[tactic(auto, using(crate::proofs::BuiltRows::translated_meet))]
+    fn translated(
+        &self,
+        at: Site,
+        source: usize,
+        message: &Message,
+        other: &Option<Message>,
+        vars: &[Field],
+        rows: &mut Vec<Row>,
+    ) -> Result<usize, OutOfMemory>
+        requires { source < length rows.old.items }
+        ensures { Writes (arms_meet (view_site at) (plan_at rows.old.items source
+            ∷ (translation_plans (plan_context self.now) (view_message message.now) (view_vars vars.now) (view_site at)
+            ++ fallback_plans (plan_context self.now) (fallback_of (option_map view_message other.now))
+            (view_vars vars.now) (view_site at)))) rows.old.items rows.new.items result }
+    {
+        let mut numbers = Vec::new(self.alloc);
+        numbers.push(source)?;
+        let numbers = self.translation(at, message, vars, numbers, rows)?;
+        let numbers = self.fallback(at, other, vars, numbers, rows)?;
+        write(rows, Row::Meet(at, Seq::new(numbers)))
+    }
+
+    /// Writes nodes, one after the other.
+    #[cycle(building)]
+    pub(crate) fn nodes(
+        &self,
+        nodes: &[Node],
+        vars: Vec<Field>,
+        rows: &mut Vec<Row>,
+    ) -> Result<usize, OutOfMemory>
+        ensures { Writes (nodes_plan (plan_context self.now) (view_nodes nodes.now) (view_vars vars.items))
+            rows.old.items rows.new.items result }
+    {
+        let mut numbers = Vec::new(self.alloc);
+        let mut vars = vars;
+        for node in nodes {
+            let number = self.node(node, &vars, rows)?;
+            numbers.push(number)?;
+            pass(self.alloc, node, &mut vars)?;
+        }
+        write(rows, Row::InTurn(Seq::new(numbers)))
+    }
+
+    /// Writes a node.
+    #[cycle(building)]
+    fn node(&self, node: &Node, vars: &[Field], rows: &mut Vec<Row>) -> Result<usize, OutOfMemory>
+        ensures { Writes (node_plan (plan_context self.now) (view_node node.now) (view_vars vars.now))
+            rows.old.items rows.new.items result }
+    {
+        let at = self.site(node.span.start);
+        match &node.form {
+            Form::Text(content) => write_text(self.alloc, at, content, rows),
+            Form::Print(expr, _) => write_print(self.alloc, at, expr, vars, rows),
+            Form::If(arms, None) => self.arms(at, arms.items(), &[], vars, rows),
+            Form::If(arms, Some(other)) => self.arms(at, arms.items(), other.items(), vars, rows),
+            Form::Switch(_, cases, None) => self.cases(at, cases.items(), &[], vars, rows),
+            Form::Switch(_, cases, Some(other)) => {
+                self.cases(at, cases.items(), other.items(), vars, rows)
+            }
+            Form::For(name, index, list, body) => {
+                let inner = body_vars(self.alloc, name, index, list, vars)?;
+                let body = self.nodes(body.items(), inner, rows)?;
+                write(rows, Row::Loop(at, body))
+            }
+            Form::Let(_, _) => write_nothing(self.alloc, rows),
+            Form::LetBlock(_, kind, body) => {
+                let end = self.site(node.span.end);
+                let body = self.nodes(body.items(), copied_vars(self.alloc, vars)?, rows)?;
+                write(rows, Row::Frame(*kind, end, body))
+            }
+            Form::Call(name, _, given) => {
+                let hole = self.call(at, name, rows)?;
+                self.arguments(hole, given.items(), vars, rows)
+            }
+            Form::Message(message, other) => {
+                let source = self.body(at, &message.body, vars, rows)?;
+                self.translated(at, source, message, other, vars, rows)
+            }
+        }
+    }
+
+    /// Writes the arms of an if, and its else or the way past all arms.
+    #[cycle(building)]
+    fn arms(
+        &self,
+        at: Site,
+        arms: &[Arm],
+        other: &[Node],
+        vars: &[Field],
+        rows: &mut Vec<Row>,
+    ) -> Result<usize, OutOfMemory>
+        ensures { Writes (arms_meet (view_site at)
+            (arm_plans (plan_context self.now) (view_arms arms.now) (view_vars vars.now)
+            ++ (nodes_plan (plan_context self.now) (view_nodes other.now) (view_vars vars.now) ∷ [])))
+            rows.old.items rows.new.items result }
+    {
+        let mut numbers = Vec::new(self.alloc);
+        for arm in arms {
+            let inner = narrowed(self.alloc, &arm.when, vars)?;
+            let number = self.nodes(arm.body.items(), inner, rows)?;
+            numbers.push(number)?;
+        }
+        let past = self.nodes(other, copied_vars(self.alloc, vars)?, rows)?;
+        numbers.push(past)?;
+        write(rows, Row::Meet(at, Seq::new(numbers)))
+    }
+
+    /// Writes the cases of a switch, and its default or the way past all cases.
+    #[cycle(building)]
+    fn cases(
+        &self,
+        at: Site,
+        cases: &[Case],
+        other: &[Node],
+        vars: &[Field],
+        rows: &mut Vec<Row>,
+    ) -> Result<usize, OutOfMemory>
+        ensures { Writes (arms_meet (view_site at)
+            (case_plans (plan_context self.now) (view_cases cases.now) (view_vars vars.now)
+            ++ (nodes_plan (plan_context self.now) (view_nodes other.now) (view_vars vars.now) ∷ [])))
+            rows.old.items rows.new.items result }
+    {
+        let mut numbers = Vec::new(self.alloc);
+        for case in cases {
+            let inner = copied_vars(self.alloc, vars)?;
+            let number = self.nodes(case.body.items(), inner, rows)?;
+            numbers.push(number)?;
+        }
+        let past = self.nodes(other, copied_vars(self.alloc, vars)?, rows)?;
+        numbers.push(past)?;
+        write(rows, Row::Meet(at, Seq::new(numbers)))
+    }
+
+    /// Writes the blocks of a call's params behind its hole.
+    #[cycle(building)]
+    fn arguments(
+        &self,
+        hole: usize,
+        arguments: &[Argument],
+        vars: &[Field],
+        rows: &mut Vec<Row>,
+    ) -> Result<usize, OutOfMemory>
+        requires { hole < length rows.old.items }
+        ensures { Writes (Then (plan_at rows.old.items hole)
+            (argument_frames (plan_context self.now) (view_arguments arguments.now) (view_vars vars.now)))
+            rows.old.items rows.new.items result }
+    {
+        let mut numbers = Vec::new(self.alloc);
+        numbers.push(hole)?;
+        for argument in arguments {
+            let number = self.given(argument, vars, rows)?;
+            numbers.push(number)?;
+        }
+        write(rows, Row::InTurn(Seq::new(numbers)))
+    }
+
+    /// Writes what a param is given, where that is a block.
+    #[cycle(building)]
+    fn given(
+        &self,
+        argument: &Argument,
+        vars: &[Field],
+        rows: &mut Vec<Row>,
+    ) -> Result<usize, OutOfMemory>
+        ensures { Writes (given_frame (plan_context self.now) (view_given argument.now.given) argument.now.span
+            (view_vars vars.now)) rows.old.items rows.new.items result }
+    {
+        match &argument.given {
+            Given::Plain(_) => write_nothing(self.alloc, rows),
+            Given::Block(kind, body) => {
+                let end = self.site(argument.span.end);
+                let body = self.nodes(body.items(), copied_vars(self.alloc, vars)?, rows)?;
+                write(rows, Row::Frame(*kind, end, body))
+            }
+        }
+    }
+
+    /// Writes the text of a message in the source.
+    #[cycle(building)]
+    fn body(
+        &self,
+        at: Site,
+        body: &MessageBody,
+        vars: &[Field],
+        rows: &mut Vec<Row>,
+    ) -> Result<usize, OutOfMemory>
+        ensures { Writes (body_plan (plan_context self.now) (view_body body.now) (view_vars vars.now) (view_site at))
+            rows.old.items rows.new.items result }
+    {
+        match body {
+            MessageBody::Parts(nodes) => {
+                self.nodes(nodes.items(), copied_vars(self.alloc, vars)?, rows)
+            }
+            MessageBody::Plural(_, _, cases, other) => {
+                self.plural_cases(at, cases.items(), other.get(), vars, rows)
+            }
+            MessageBody::Select(_, cases, other) => {
+                self.select_cases(at, cases.items(), other.get(), vars, rows)
+            }
+        }
+    }
+
+    /// Writes the cases of a plural and its default.
+    #[cycle(building)]
+    fn plural_cases(
+        &self,
+        at: Site,
+        cases: &[PluralCase],
+        other: &MessageBody,
+        vars: &[Field],
+        rows: &mut Vec<Row>,
+    ) -> Result<usize, OutOfMemory>
+        ensures { Writes (arms_meet (view_site at)
+            (plural_plans (plan_context self.now) (view_plural_cases cases.now) (view_vars vars.now) (view_site at)
+            ++ (body_plan (plan_context self.now) (view_body other.now) (view_vars vars.now) (view_site at) ∷ [])))
+            rows.old.items rows.new.items result }
+    {
+        let mut numbers = Vec::new(self.alloc);
+        for case in cases {
+            let number = self.body(at, &case.body, vars, rows)?;
+            numbers.push(number)?;
+        }
+        let past = self.body(at, other, vars, rows)?;
+        numbers.push(past)?;
+        write(rows, Row::Meet(at, Seq::new(numbers)))
+    }
+
+    /// Writes the cases of a select and its default.
+    #[cycle(building)]
+    fn select_cases(
+        &self,
+        at: Site,
+        cases: &[SelectCase],
+        other: &MessageBody,
+        vars: &[Field],
+        rows: &mut Vec<Row>,
+    ) -> Result<usize, OutOfMemory>
+        ensures { Writes (arms_meet (view_site at)
+            (select_plans (plan_context self.now) (view_select_cases cases.now) (view_vars vars.now) (view_site at)
+            ++ (body_plan (plan_context self.now) (view_body other.now) (view_vars vars.now) (view_site at) ∷ [])))
+            rows.old.items rows.new.items result }
+    {
+        let mut numbers = Vec::new(self.alloc);
+        for case in cases {
+            let number = self.body(at, &case.body, vars, rows)?;
+            numbers.push(number)?;
+        }
+        let past = self.body(at, other, vars, rows)?;
+        numbers.push(past)?;
+        write(rows, Row::Meet(at, Seq::new(numbers)))
+    }
+}

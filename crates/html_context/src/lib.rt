@@ -1,0 +1,32 @@
+//! The place of each hole of typed trees, by all paths at once.
+//!
+//! `infer` walks the templates of all files as soy_meaning's walk says: states that are carried together, at most 16,
+//! through each static text, hole, arm, turn of a loop, message and translation. It gives the places of the holes in
+//! the order in which the walk first meets them, or the first fault. A bundle brings the translations of messages.
+//! Depends on soy_base, soy_tree, soy_expr, html_state, msg_extract, soy_meaning and template_ir.
+#![tactic(auto)]
+
+mod builder;
+mod classes;
+mod compiling;
+mod fault;
+mod hole;
+mod inferring;
+mod memo;
+mod parts;
+mod scope;
+mod source;
+mod states;
+mod table;
+mod template;
+mod templates;
+mod text;
+mod translations;
+mod walker;
+mod writing;
+
+pub use fault::PlaceFault;
+pub use inferring::infer;
+
+#[cfg(test)]
+mod tests;
