@@ -1,6 +1,6 @@
 -- Where the answer is a text, the words and the files are those of a page or of a catalogue.
-use Rattle.std.proofs.Common.{◌≡◌, ℕ, Bool, true, false, cond, ◌-◌, List, [], ◌∷◌, length, drop, map, Option, Some, None}
-use Rattle.std.proofs.Common.{refl, sym, ap, ◌∙◌, arith, codes}
+use Rattle.std.proofs.Common.{◌≡◌, ℕ, Bool, true, false, cond, ◌-◌, List, [], ◌∷◌, length, drop, map, Option, Some}
+use Rattle.std.proofs.Common.{None, refl, sym, ap, ◌∙◌, arith, codes}
 use Rattle.std.proofs.lemmas.List.{length-map}
 use Rattle.std.specs.Prelude.{option_and_then, unwrap_or, is_some, Result, Ok, Err}
 use Rattle.std.specs.Option.{option_map_or}

@@ -1,7 +1,7 @@
 -- A text is the catalogue of the words and of the files that are held.
 --
--- The words are `extract FILE..`, the library holds the files, each deserves its tree, the trees meet all demands, no two
--- messages of one id differ, and the text is the catalogue of the trees as JSON and a line feed.
+-- The words are `extract FILE..`, the library holds the files, each deserves its tree, the trees meet all demands, no
+-- two messages of one id differ, and the text is the catalogue of the trees as JSON and a line feed.
 -- Example: `{"messages":[]}` and a line feed are the catalogue of `extract t.soy` where t.soy has no message.
 use Rattle.std.specs.Prelude.{◌≡◌, ℕ, List, ◌∷◌, map, None, Some, Ok, codes}
 use Rattle.msg_extract.specs.Catalogue.{catalogue_of}
