@@ -34,3 +34,5 @@ pub mod DottedNames
 pub mod ViewForms
 pub mod FormedCommands
 pub mod FormedTrees
+pub mod AscendingCommands
+pub mod AscendingTrees

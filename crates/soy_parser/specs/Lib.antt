@@ -12,3 +12,4 @@ pub mod FileSteps
 pub mod ParsesFile
 pub mod FileRuns
 pub mod FileReading
+pub mod FileSpans

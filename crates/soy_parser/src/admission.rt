@@ -216,7 +216,7 @@ fn in_parts_admits(blocks: &Stack<Block>, nodes: &Nodes, white: bool, kind: Head
         HeadKind::MessagePrint => true,
         HeadKind::Plural => white,
         HeadKind::Select => white,
-        _ => nodes.has_whole_tags() && top_message_admits(blocks, kind),
+        _ => top_message_admits(blocks, kind) && nodes.has_whole_tags(),
     }
 }
 

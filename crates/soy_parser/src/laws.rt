@@ -5,6 +5,8 @@ ghost use Rattle.std.specs.Prelude.{◌≡◌, ◌≢◌, ℕ, Bool, true, List,
 ghost use Rattle.soy_base.specs.declared.fault.Fault.{Fault};
 ghost use Rattle.soy_base.specs.declared.memory.Refusal.{Refusal};
 ghost use Rattle.soy_base.specs.declared.memory.Refusal.TheVariants.{OutOfMemory};
+ghost use Rattle.soy_base.specs.ByteLength.{byte_len};
+ghost use Rattle.soy_lexer.specs.InOrder.{InOrder};
 ghost use Rattle.soy_lexer.specs.Tokens.{Tokens};
 ghost use Rattle.soy_lexer.specs.declared.token.Token.{Token};
 ghost use Rattle.soy_tree.specs.Formed.{is_formed_tree};
@@ -12,6 +14,7 @@ ghost use Rattle.soy_tree.specs.ViewTrees.{view_tree};
 ghost use Rattle.soy_tree.specs.declared.tree.Tree.{Tree};
 ghost use Rattle.expr_parser.specs.AreNamed.{AreNamed};
 ghost use Rattle.expr_parser.specs.Depths.{AreWithin};
+ghost use Rattle.soy_parser.specs.FileSpans.{TreeAscends};
 ghost use Rattle.soy_parser.specs.FileRuns.{file_run, file_depths, file_words};
 ghost use Rattle.soy_parser.specs.FileSteps.{file_start, whole_file};
 ghost use Rattle.soy_parser.specs.ParsesFile.{IsFile, ParsesFile};
@@ -55,4 +58,14 @@ pub fn law_formed_file()
         AreWithin 0 ds → SpellsFile tokens ds ws x → is_formed_tree (view_tree x) ≡ true }
     ensures of_a_text { (text : List ℕ) (tokens : List Token) (x : Tree) → Tokens text tokens → IsFile tokens x →
         is_formed_tree (view_tree x) ≡ true }
+{}
+
+/// The spans of a file lie within its text and ascend: that of a node holds those of the nodes and expressions in it,
+/// and what stands beside it begins at its end or further on, unless it is the same body, as the cases of one
+/// `{case 1, 2}` have it.
+pub fn law_file_spans()
+    ensures in_order { (tokens : List Token) (ds : List ℕ) (ws : List Bool) (x : Tree) (from to : ℕ) →
+        InOrder from to tokens → SpellsFile tokens ds ws x → TreeAscends from to (view_tree x) }
+    ensures of_a_text { (text : List ℕ) (tokens : List Token) (x : Tree) → Tokens text tokens → IsFile tokens x →
+        TreeAscends 0 (byte_len text) (view_tree x) }
 {}

@@ -32,7 +32,7 @@ pub use block::{
 };
 pub use command::{Command, CommandForm, Middle, Opening, Single, TemplateOpening};
 pub use head::{Head, HeadKind};
-pub use laws::{law_file_machine, law_formed_file, law_one_answer, law_one_file};
+pub use laws::{law_file_machine, law_file_spans, law_formed_file, law_one_answer, law_one_file};
 pub use reading::parse;
 pub use spot::{CommandSpot, DottedUse, FileState, Spot, Use};
 pub use terminal::{BlockName, CommandTerminal, CommandWord};

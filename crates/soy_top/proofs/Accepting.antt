@@ -10,6 +10,7 @@ use Rattle.std.specs.declared.alloc.Global.{Global}
 use Rattle.soy_base.specs.declared.fault.Fault.{Fault}
 use Rattle.soy_top.specs.declared.ending.Ending.{Ending}
 use Rattle.soy_top.specs.declared.ending.Ending.TheVariants as ending
+use Rattle.soy_top.specs.declared.source_files.SourceTrees.{SourceTrees}
 use Rattle.soy_top.specs.Accepts.{RefusesSources, AcceptsSources}
 use Rattle.soy_top.specs.Answer.{last}
 use Rattle.soy_top.specs.SourceFiles.{demand_line, first_fault_line, source_trees, then_trees, unless_fault}
@@ -35,14 +36,15 @@ view_last count n contents e =
 -- the first fault of files and their names
 
 pub one_content : (name : Word) (contents : List (Vec ℕ Global)) (bytes : Vec ℕ Global) (shown : List ℕ)
-    (seen : List (List ℕ)) (r : Result (Unit {0}) Ending) → view_contents contents ≡ seen → 1 ≤ length contents
+    (seen : List (List ℕ)) (r : Result SourceTrees Ending) → view_contents contents ≡ seen → 1 ≤ length contents
     → bytes ≡ get_or contents 0 bytes → shown ≡ bytes.items
-    → AcceptsSources (unless_fault name shown (source_answer shown) None) r
-    → AcceptsSources (first_fault_line (name ∷ []) seen) r
+    → AcceptsSources (unless_fault name shown (source_answer shown) None) (then_trees (source_answer shown) []) r
+    → AcceptsSources (first_fault_line (name ∷ []) seen) (source_trees (name ∷ []) seen) r
 one_content name [] bytes shown seen r are some is same h = absurd (omega (arith, some))
 one_content name (first ∷ contents) bytes shown seen r are some is same h =
-    subst (λ cs. AcceptsSources (first_fault_line (name ∷ []) cs) r) are
-    (subst (λ bs. AcceptsSources (unless_fault name bs (source_answer bs) None) r) (same ∙ ap (λ b. b.items) is) h)
+    subst (λ cs. AcceptsSources (first_fault_line (name ∷ []) cs) (source_trees (name ∷ []) cs) r) are
+    (subst (λ bs. AcceptsSources (unless_fault name bs (source_answer bs) None) (then_trees (source_answer bs) []) r)
+    (same ∙ ap (λ b. b.items) is) h)
 
 fault_stays : (name : Word) (bytes : List ℕ) (read : Result Tree Fault) (otherwise : Option (List ℕ)) (e : Ending)
     → RefusesSources (unless_fault name bytes read None) e → RefusesSources (unless_fault name bytes read otherwise) e
@@ -149,8 +151,9 @@ own-before None other ending.Memory h = tt
 own-before (Some line) other e h = h
 
 pub trees-after : (names : List Word) (contents : List (List ℕ)) (first : Option (List ℕ)) (trees all : List Tree)
-    (r : Result (Unit {0}) Ending) → first ≡ None → trees ≡ all → AcceptsSources (demand_line names contents trees) r
-    → AcceptsSources (option_or first (demand_line names contents all)) r
+    (r : Result SourceTrees Ending) → first ≡ None → trees ≡ all
+    → AcceptsSources (demand_line names contents trees) trees r
+    → AcceptsSources (option_or first (demand_line names contents all)) all r
 trees-after names contents first trees all r none are h =
-    subst (λ o. AcceptsSources (option_or o (demand_line names contents all)) r) (sym none)
-    (subst (λ ts. AcceptsSources (demand_line names contents ts) r) are h)
+    subst (λ o. AcceptsSources (option_or o (demand_line names contents all)) all r) (sym none)
+    (subst (λ ts. AcceptsSources (demand_line names contents ts) ts r) are h)

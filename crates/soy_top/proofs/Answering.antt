@@ -1,10 +1,13 @@
 -- What is known of the answer from what the words ask for and from what was fetched.
 use Rattle.std.proofs.Common.{◌≡◌, ℕ, Bool, true, false, cond, List, [], ◌∷◌, Option, Some, None, Err, Vec, length}
 use Rattle.std.proofs.Common.{refl, sym, ap, subst, ◌∙◌, codes, inl, inr, ◌⊎◌}
-use Rattle.std.specs.Prelude.{IfSome, option_map}
+use Rattle.std.specs.Prelude.{IfSome, Result, Ok, option_map}
 use Rattle.std.specs.Option.{option_map_or}
 use Rattle.std.specs.declared.alloc.Global.{Global}
 use Rattle.std.specs.Str.{bytes_eq}
+use Rattle.msg_extract.specs.Catalogue.{catalogue_of}
+use Rattle.msg_extract.specs.declared.catalogue.Listed.{Listed}
+use Rattle.soy_base.specs.declared.fault.Fault.{Fault}
 use Rattle.soy_io.specs.FileOf.{Files}
 use Rattle.soy_io.specs.Rose.{Rose}
 use Rattle.soy_top.specs.declared.ending.Ending.{Ending}
@@ -12,7 +15,7 @@ use Rattle.soy_top.specs.declared.ending.Ending.TheVariants as ending
 use Rattle.soy_top.specs.Accepts.{Refuses}
 use Rattle.soy_top.specs.Answer.{Answer, Usage, Read, Refused, not_yet, page_answer, form_answer, render_answer}
 use Rattle.soy_top.specs.Answer.{contents_answer, limits_answer, asked_answer, answer, known_answer}
-use Rattle.soy_top.specs.Answer.{is_rendered, last, parsed_answer}
+use Rattle.soy_top.specs.Answer.{catalogue_answer, is_rendered, last, parsed_answer}
 use Rattle.soy_top.specs.Asked.{Asked, Render, Check, Extract, Gen, Play, Preview, Format, asked_by_words}
 use Rattle.soy_top.specs.Asked.{is_checked, template_files}
 use Rattle.soy_top.specs.Concludes.{MayEnd}
@@ -22,9 +25,10 @@ use Rattle.soy_top.specs.FilesWanted.{first_over_limit, contents}
 use Rattle.soy_top.specs.FirstForm.{FirstFile, first_form, full_name}
 use Rattle.soy_top.specs.FirstPage.{page_of}
 use Rattle.soy_top.specs.Line.{too_large_line}
-use Rattle.soy_top.specs.SourceFiles.{refusing_line}
+use Rattle.soy_top.specs.SourceFiles.{refusing_line, source_trees}
 use Rattle.soy_top.specs.View.{view_contents}
 use Rattle.soy_top.specs.Words.{Word}
+use Rattle.soy_tree.specs.ViewTrees.{view_trees}
 
 -- contents other than of two files are of no render that the program does
 pub other_contents : (template : Word) (fetched : List (Vec ℕ Global)) (e : Ending) → (length fetched ≡ 2 → ⊥)
@@ -59,12 +63,19 @@ rendered_not_usage : (b : Bool) (a : Answer) → (a ≡ Usage → ⊥) → cond 
 rendered_not_usage true a never e = never e
 rendered_not_usage false a never e = cc
 
+catalogue_not_usage : (names : List Word) (fetched : List (List ℕ)) (read : Result (List Listed) Fault)
+    → catalogue_answer names fetched read ≡ Usage → ⊥
+catalogue_not_usage names fetched (Ok rows) e = cc
+catalogue_not_usage names fetched (Err fault) e = cc
+
 parsed_not_usage : (asked : Asked) (fetched : List (List ℕ)) → parsed_answer asked fetched ≡ Usage → ⊥
 parsed_not_usage (Render template json bundle files) fetched e =
     rendered_not_usage (is_rendered bundle files) (render_answer template fetched)
     (λ e. render_not_usage template fetched e) e
 parsed_not_usage (Check bundle files) fetched e = cc
-parsed_not_usage (Extract files) fetched e = cc
+parsed_not_usage (Extract files) fetched e =
+    catalogue_not_usage files (last (length files) fetched)
+    (catalogue_of (view_trees (source_trees files (last (length files) fetched)))) e
 parsed_not_usage (Gen number) fetched e = cc
 parsed_not_usage (Play script first second files) fetched e = cc
 parsed_not_usage (Preview template json bundle files) fetched e = cc

@@ -39,7 +39,7 @@ one_tree : (bytes : List ℕ) (tree : Tree) (trees : List Tree) → source_answe
     → then_trees (source_answer bytes) trees ≡ tree ∷ trees
 one_tree bytes tree trees e = ap (λ r. then_trees r trees) e
 
-trees_had : (names : List Word) (contents : List (List ℕ)) (trees : List Tree) → length names ≡ length contents
+pub trees_had : (names : List Word) (contents : List (List ℕ)) (trees : List Tree) → length names ≡ length contents
     → HaveTrees contents trees → (first_fault_line names contents ≡ None) × (source_trees names contents ≡ trees)
 trees_had [] _ _ e none = (refl, refl)
 trees_had (name ∷ names) _ _ e none = absurd (omega (arith, e))

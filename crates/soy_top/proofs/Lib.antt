@@ -9,7 +9,6 @@ pub mod FileFaults
 pub mod FormedSources
 pub mod Keys
 pub mod Numbers
-pub mod Pages
 pub mod PastEnd
 pub mod ReadForm
 pub mod ReadLines
@@ -20,4 +19,6 @@ pub mod SourceTokens
 pub mod Spaces
 pub mod SpelledForm
 pub mod SpelledLines
+pub mod SpelledWords
+pub mod Texts
 pub mod Took

@@ -9,11 +9,13 @@ use Rattle.soy_top.specs.declared.ending.Ending.{Ending}
 use Rattle.soy_top.specs.declared.ending.Ending.TheVariants as ending
 use Rattle.soy_top.specs.declared.output.Output.{Output}
 use Rattle.soy_top.specs.declared.page.Page.{Page}
+use Rattle.soy_top.specs.declared.source_files.SourceTrees.{SourceTrees}
 use Rattle.soy_top.specs.Answer.{Answer, Refused}
 use Rattle.soy_top.specs.Line.{ended}
 use Rattle.soy_top.specs.Output.{output_answer}
 use Rattle.soy_top.specs.SourceFiles.{unless_fault}
 use Rattle.soy_top.specs.ViewOutput.{view_output, view_page}
+use Rattle.soy_top.specs.ViewSources.{view_source_trees}
 use Rattle.soy_top.specs.Words.{Word}
 use Rattle.soy_tree.specs.declared.tree.Tree.{Tree}
 
@@ -40,10 +42,10 @@ RefusesSources first (ending.Read text) = ⊥
 RefusesSources first (ending.Refused text) = (line : List ℕ) × (first ≡ Some line) × (string_bytes text ≡ ended line)
 RefusesSources first ending.Memory = Unit {0}
 
--- what is said of template files by the line of their first fault, if there is one
-abbrev pub AcceptsSources : Option (List ℕ) → Result (Unit {0}) Ending → Type 0
-AcceptsSources first (Ok done) = first ≡ None
-AcceptsSources first (Err ending) = RefusesSources first ending
+-- template files are accepted with these trees, or they are refused by the line of their first fault
+abbrev pub AcceptsSources : Option (List ℕ) → List Tree → Result SourceTrees Ending → Type 0
+AcceptsSources first trees (Ok accepted) = (first ≡ None) × (view_source_trees accepted ≡ trees)
+AcceptsSources first trees (Err ending) = RefusesSources first ending
 
 -- a template file is its tree, or it is refused by its first fault
 abbrev pub AcceptsSource : Word → List ℕ → Result Tree Fault → Result Tree Ending → Type 0

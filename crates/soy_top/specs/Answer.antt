@@ -2,15 +2,21 @@
 --
 -- The cases are tried in this order. Words that are no command get the usage text. The first file that the words want
 -- and that isn't held can't be read. The first file over its limit is refused, in the order of the words. The rest is
--- answered by the contents: the template files are refused by their first fault, if they have one. What the program
--- doesn't do yet is refused, which is every command but a `render` of one file in the source language; and so
--- are, in this order, a file that isn't of the first form, a template's name that the file doesn't have, and data that
--- aren't of the first form. Else the answer is the page.
+-- answered by the contents: the template files are refused by their first fault, if they have one. An `extract` is then
+-- refused by the first message whose id is that of another one, and else the answer is the catalogue and a line feed.
+-- What the program doesn't do yet is refused, which is every other command but a `render` of one file in the source
+-- language; and so are, in this order, a file that isn't of the first form, a template's name that the file doesn't
+-- have, and data that aren't of the first form. Else the answer is the page.
 -- Example: the words `render t.zz d.json - t.soy` with a file of t.m are refused by `t.zz: 29 Entry`.
 use Rattle.std.specs.Prelude.{ℕ, ◌-◌, List, [], ◌∷◌, length, drop, Option, None, Some, option_map}
-use Rattle.std.specs.Prelude.{Bool, false, if◌then◌else◌, codes, String}
+use Rattle.std.specs.Prelude.{Bool, false, if◌then◌else◌, codes, String, Result, Ok, Err}
 use Rattle.std.specs.Option.{option_map_or}
 use Rattle.std.specs.Str.{bytes_eq}
+use Rattle.serde_json.specs.Written.{compact_text}
+use Rattle.msg_extract.specs.Catalogue.{catalogue_of}
+use Rattle.msg_extract.specs.CatalogueText.{catalogue_data}
+use Rattle.msg_extract.specs.declared.catalogue.Listed.{Listed}
+use Rattle.soy_base.specs.declared.fault.Fault.{Fault}
 use Rattle.soy_io.specs.FileOf.{Files}
 use Rattle.soy_top.specs.Asked.{Asked, Render, Check, Extract, Gen, Play, Preview, Format, asked_by_words}
 use Rattle.soy_top.specs.Asked.{is_checked, template_files}
@@ -19,8 +25,9 @@ use Rattle.soy_top.specs.FilesWanted.{first_over_limit, contents, is_source_lang
 use Rattle.soy_top.specs.FirstForm.{FirstFile, first_form, full_name}
 use Rattle.soy_top.specs.FirstPage.{page_of}
 use Rattle.soy_top.specs.Line.{not_yet_line, too_large_line, entry_line, read_line, usage_text, ended}
-use Rattle.soy_top.specs.SourceFiles.{refusing_line}
+use Rattle.soy_top.specs.SourceFiles.{numbered_line, refusing_line, source_trees}
 use Rattle.soy_top.specs.Words.{Word, command_words}
+use Rattle.soy_tree.specs.ViewTrees.{view_trees}
 
 pub data Answer : Type 0 where
   -- the usage text
@@ -66,20 +73,34 @@ render_answer template (json ∷ []) = not_yet (codes "render")
 render_answer template (json ∷ file ∷ []) = form_answer template json (first_form file)
 render_answer template (json ∷ file ∷ other ∷ files) = not_yet (codes "render")
 
+-- the last so many of a list
+abbrev pub last : {A : Type 0} → ℕ → List A → List A
+last n xs = drop (length xs - n) xs
+
+-- a catalogue as JSON, with a line feed
+abbrev pub catalogue_text : List Listed → List ℕ
+catalogue_text rows = ended (compact_text (catalogue_data rows))
+
+-- the answer to an `extract` of files of these names and contents by their catalogue
+abbrev pub catalogue_answer : List Word → List (List ℕ) → Result (List Listed) Fault → Answer
+catalogue_answer names contents (Ok rows) = Done (catalogue_text rows)
+catalogue_answer names contents (Err fault) = Refused (numbered_line names contents fault)
+
+-- the same by their trees
+abbrev pub extract_answer : List Word → List (List ℕ) → Answer
+extract_answer names contents =
+    catalogue_answer names contents (catalogue_of (view_trees (source_trees names contents)))
+
 -- the answer to what is asked, where no template file has a fault
 abbrev pub parsed_answer : Asked → List (List ℕ) → Answer
 parsed_answer (Render template json bundle files) contents =
     if is_rendered bundle files then render_answer template contents else not_yet (codes "render")
 parsed_answer (Check bundle files) contents = not_yet (codes "check")
-parsed_answer (Extract files) contents = not_yet (codes "extract")
+parsed_answer (Extract files) contents = extract_answer files (last (length files) contents)
 parsed_answer (Gen number) contents = not_yet (codes "gen")
 parsed_answer (Play script first second files) contents = not_yet (codes "play")
 parsed_answer (Preview template json bundle files) contents = not_yet (codes "preview")
 parsed_answer (Format file) contents = not_yet (codes "format")
-
--- the last so many of a list
-abbrev pub last : {A : Type 0} → ℕ → List A → List A
-last n xs = drop (length xs - n) xs
 
 -- the answer to what is asked by the contents of the files that it wants, of which its template files are the last
 abbrev pub contents_answer : Asked → List (List ℕ) → Answer

@@ -14,7 +14,9 @@ pub mod FilesDeserve
 pub mod FilesWanted
 pub mod FirstForm
 pub mod FirstPage
+pub mod IsCatalogue
 pub mod IsPage
+pub mod IsText
 pub mod Line
 pub mod Output
 pub mod ReadsSource
@@ -24,4 +26,5 @@ pub mod Spells
 pub mod View
 pub mod ViewForm
 pub mod ViewOutput
+pub mod ViewSources
 pub mod Words

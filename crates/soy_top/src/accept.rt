@@ -3,15 +3,17 @@
 ghost use Rattle.std.specs.Prelude.{◌≡◌, ◌≤◌, length};
 ghost use Rattle.serde_json.specs.View.{view};
 ghost use Rattle.soy_top.specs.Accepts.{Accepts, AcceptsPage, Refuses};
-ghost use Rattle.soy_top.specs.Answer.{contents_answer, form_answer, is_rendered, named_answer, not_yet};
+ghost use Rattle.soy_top.specs.Answer.{contents_answer, form_answer, is_rendered, last, named_answer, not_yet};
 ghost use Rattle.soy_top.specs.Answer.{page_answer, parsed_answer, render_answer};
 ghost use Rattle.soy_top.specs.Asked.{template_files};
 ghost use Rattle.soy_top.specs.FirstForm.{first_form};
 ghost use Rattle.soy_top.specs.FirstPage.{page_of, page_with};
+ghost use Rattle.soy_top.specs.SourceFiles.{source_trees};
 ghost use Rattle.soy_top.specs.View.{view_command, view_contents};
 ghost use Rattle.soy_top.specs.ViewForm.{view_form};
 ghost use Rattle.soy_top.specs.Words.{command_words};
 
+use crate::catalogue::accept_extract;
 use crate::command::Command;
 use crate::data::{has_values, read_data};
 use crate::ending::Ending;
@@ -19,9 +21,10 @@ use crate::first_form::{FirstFile, read_form};
 use crate::line::{entry_line, not_yet_line};
 use crate::output::Output;
 use crate::page::Page;
-use crate::source_files::accept_sources;
+use crate::source_files::{accept_sources, last};
 use crate::wanted::is_source_language;
 use serde_json::Value;
+use soy_tree::Tree;
 use std::alloc::Global;
 
 /// What is to be written for a command with the contents of the files that it wants.
@@ -33,17 +36,21 @@ pub(crate) fn accept<'a>(
     requires { length (template_files (view_command command)) ≤ 64 }
     ensures { Accepts (contents_answer (view_command command.entry) (view_contents contents.now)) result }
 {
-    accept_sources(alloc, command, contents)?;
-    accept_parsed(alloc, command, contents)
+    let sources = accept_sources(alloc, command, contents)?;
+    accept_parsed(alloc, command, contents, sources.trees())
 }
 
 /// What is to be written for a command with the contents of the files that it wants, where no template file is
-/// refused.
+/// refused, and these are the trees of all.
 fn accept_parsed<'a>(
     alloc: Global,
     command: Command<'_>,
     contents: &'a [Vec<u8>],
+    trees: &[Tree],
 ) -> Result<Output<'a>, Ending>
+    requires few { length (template_files (view_command command)) ≤ 64 }
+    requires are { trees.now ≡ source_trees (template_files (view_command command))
+        (last (length (template_files (view_command command))) (view_contents contents.now)) }
     ensures { Accepts (parsed_answer (view_command command.entry) (view_contents contents.now)) result }
 {
     match command {
@@ -60,7 +67,9 @@ fn accept_parsed<'a>(
             }
         }
         Command::Check { .. } => Err(not_yet(alloc, "check")),
-        Command::Extract { .. } => Err(not_yet(alloc, "extract")),
+        Command::Extract { files } => {
+            accept_extract(alloc, files, last(contents, files.len()), trees)
+        }
         Command::Gen { .. } => Err(not_yet(alloc, "gen")),
         Command::Play { .. } => Err(not_yet(alloc, "play")),
         Command::Preview { .. } => Err(not_yet(alloc, "preview")),

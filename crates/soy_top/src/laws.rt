@@ -8,17 +8,17 @@ ghost use Rattle.soy_top.specs.Answer.{Done, answer};
 ghost use Rattle.soy_top.specs.Deserves.{Deserves};
 ghost use Rattle.soy_top.specs.FilesDeserve.{FilesDeserve};
 ghost use Rattle.soy_top.specs.FirstForm.{FirstFile, first_form};
-ghost use Rattle.soy_top.specs.IsPage.{IsPage};
+ghost use Rattle.soy_top.specs.IsText.{IsText};
 ghost use Rattle.soy_top.specs.SourceFiles.{refusing_line};
 ghost use Rattle.soy_top.specs.Sources.{source_answer};
 ghost use Rattle.soy_top.specs.Spells.{Spells};
 ghost use Rattle.soy_top.specs.Words.{Word};
 ghost use Rattle.soy_tree.specs.declared.tree.Tree.{Tree};
 
-/// A text that is the answer is the page of the words and of the files that are held.
-pub fn law_answer_is_page()
+/// A text that is the answer is the page, or the catalogue, of the words and of the files that are held.
+pub fn law_answer_is_text()
     ensures { (files : Files) (words : List Word) (text : List ℕ) → answer files words ≡ Done text →
-        IsPage files words text }
+        IsText files words text }
 {}
 
 /// What is read as a form spells that form, and what spells a form is read as that form.

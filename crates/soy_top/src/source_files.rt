@@ -9,9 +9,10 @@ ghost use Rattle.soy_top.specs.Answer.{last};
 ghost use Rattle.soy_top.specs.Asked.{is_checked, template_files};
 ghost use Rattle.soy_top.specs.Line.{ended};
 ghost use Rattle.soy_top.specs.SourceFiles.{demand_line, first_fault_line, numbered, numbered_line, refusing_line};
-ghost use Rattle.soy_top.specs.SourceFiles.{source_trees, unless_fault};
+ghost use Rattle.soy_top.specs.SourceFiles.{source_trees, then_trees, unless_fault};
 ghost use Rattle.soy_top.specs.Sources.{source_answer};
 ghost use Rattle.soy_top.specs.View.{view_command, view_contents};
+ghost use Rattle.soy_top.specs.ViewSources.{view_source_trees};
 ghost use Rattle.soy_top.specs.Words.{command_words};
 
 use crate::command::Command;
@@ -20,25 +21,46 @@ use crate::line::fault_line;
 use crate::sources::read_source;
 use soy_base::{Fault, OutOfMemory, Refusal};
 use soy_check::check;
-use soy_tree::Tree;
+use soy_tree::{Tree, Typed};
 use std::alloc::Global;
+
+/// The trees of template files: checked together, or each read by itself alone.
+#[derive(Drop)]
+pub(crate) enum SourceTrees {
+    Checked(Typed),
+    Alone(Vec<Tree>),
+}
+
+impl SourceTrees {
+    /// The trees, in the order of the files.
+    pub(crate) fn trees(&self) -> &[Tree]
+        ensures { result.now ≡ view_source_trees self.now }
+    {
+        match self {
+            SourceTrees::Checked(typed) => typed.trees(),
+            SourceTrees::Alone(trees) => trees.as_slice(),
+        }
+    }
+}
 
 /// Reads the template files of a command, which are the last of its contents, and checks their trees together.
 pub(crate) fn accept_sources(
     alloc: Global,
     command: Command<'_>,
     contents: &[Vec<u8>],
-) -> Result<(), Ending>
+) -> Result<SourceTrees, Ending>
     requires { length (template_files (view_command command)) ≤ 64 }
     ensures { AcceptsSources (refusing_line (is_checked (view_command command.entry))
         (template_files (view_command command.entry))
+        (last (length (template_files (view_command command.entry))) (view_contents contents.now)))
+        (source_trees (template_files (view_command command.entry))
         (last (length (template_files (view_command command.entry))) (view_contents contents.now))) result }
 {
     match command {
         Command::Render { files, .. } => accept_files(alloc, files, contents),
         Command::Check { files, .. } => accept_files(alloc, files, contents),
         Command::Extract { files } => accept_files(alloc, files, contents),
-        Command::Gen { .. } => Ok(()),
+        Command::Gen { .. } => Ok(SourceTrees::Alone(Vec::new(alloc))),
         Command::Play { files, .. } => accept_files(alloc, files, contents),
         Command::Preview { files, .. } => accept_files(alloc, files, contents),
         Command::Format { file } => accept_last(alloc, file, contents),
@@ -46,45 +68,54 @@ pub(crate) fn accept_sources(
 }
 
 /// The last so many contents, or all where there are fewer.
-fn last(contents: &[Vec<u8>], count: usize) -> &[Vec<u8>]
+pub(crate) fn last(contents: &[Vec<u8>], count: usize) -> &[Vec<u8>]
     ensures { view_contents result.now ≡ last count (view_contents contents.now) }
 {
     &contents[contents.len().saturating_sub(count)..]
 }
 
 /// Reads the files of these names, whose contents are the last, and checks their trees together.
-fn accept_files(alloc: Global, names: &[String], contents: &[Vec<u8>]) -> Result<(), Ending>
+fn accept_files(
+    alloc: Global,
+    names: &[String],
+    contents: &[Vec<u8>],
+) -> Result<SourceTrees, Ending>
     requires { length (command_words names.now) ≤ 64 }
     ensures { AcceptsSources (refusing_line true (command_words names.now)
+        (last (length (command_words names.now)) (view_contents contents.now)))
+        (source_trees (command_words names.now)
         (last (length (command_words names.now)) (view_contents contents.now))) result }
 {
     accept_all(alloc, names, last(contents, names.len()))
 }
 
 /// Reads the file of this name, whose content is the last.
-fn accept_last(alloc: Global, name: &str, contents: &[Vec<u8>]) -> Result<(), Ending>
-    ensures { AcceptsSources (first_fault_line (name.now ∷ []) (last 1 (view_contents contents.now))) result }
+fn accept_last(alloc: Global, name: &str, contents: &[Vec<u8>]) -> Result<SourceTrees, Ending>
+    ensures { AcceptsSources (first_fault_line (name.now ∷ []) (last 1 (view_contents contents.now)))
+        (source_trees (name.now ∷ []) (last 1 (view_contents contents.now))) result }
 {
     match last(contents, 1) {
-        [] => Ok(()),
+        [] => Ok(SourceTrees::Alone(Vec::new(alloc))),
         [bytes, ..] => accept_one(alloc, name, bytes.as_slice()),
     }
 }
 
 /// Reads a file by itself, and refuses it by its first fault.
-fn accept_one(alloc: Global, name: &str, bytes: &[u8]) -> Result<(), Ending>
-    ensures { AcceptsSources (unless_fault name.now bytes.now (source_answer bytes.now) None) result }
+fn accept_one(alloc: Global, name: &str, bytes: &[u8]) -> Result<SourceTrees, Ending>
+    ensures { AcceptsSources (unless_fault name.now bytes.now (source_answer bytes.now) None)
+        (then_trees (source_answer bytes.now) []) result }
 {
-    match accept_source(alloc, name, bytes) {
-        Ok(_) => Ok(()),
-        Err(ending) => Err(ending),
-    }
+    let tree = accept_source(alloc, name, bytes)?;
+    let mut trees = Vec::new(alloc);
+    push_tree(&mut trees, tree)?;
+    Ok(SourceTrees::Alone(trees))
 }
 
 /// Reads the files of these names and contents, and checks their trees together.
-fn accept_all(alloc: Global, names: &[String], contents: &[Vec<u8>]) -> Result<(), Ending>
+fn accept_all(alloc: Global, names: &[String], contents: &[Vec<u8>]) -> Result<SourceTrees, Ending>
     requires { length (command_words names.now) ≤ 64 }
-    ensures { AcceptsSources (refusing_line true (command_words names.now) (view_contents contents.now)) result }
+    ensures { AcceptsSources (refusing_line true (command_words names.now) (view_contents contents.now))
+        (source_trees (command_words names.now) (view_contents contents.now)) result }
 {
     let trees = read_sources(alloc, names, contents)?;
     check_trees(alloc, names, contents, trees)
@@ -134,13 +165,14 @@ fn check_trees(
     names: &[String],
     contents: &[Vec<u8>],
     trees: Vec<Tree>,
-) -> Result<(), Ending>
+) -> Result<SourceTrees, Ending>
     requires formed { AreFormed (view_trees trees.items) }
     requires few { length trees.items < 2 ^ 32 }
-    ensures { AcceptsSources (demand_line (command_words names.now) (view_contents contents.now) trees.items) result }
+    ensures { AcceptsSources (demand_line (command_words names.now) (view_contents contents.now) trees.items)
+        trees.items result }
 {
     match check(alloc, trees) {
-        Ok(_) => Ok(()),
+        Ok(typed) => Ok(SourceTrees::Checked(typed)),
         Err(Refusal::Because(found)) => {
             let line = numbered_line(alloc, names, contents, found.fault)?;
             Err(Ending::Refused(line))
@@ -150,7 +182,7 @@ fn check_trees(
 }
 
 /// The line of a fault in one of the files of these names and contents.
-fn numbered_line(
+pub(crate) fn numbered_line(
     alloc: Global,
     names: &[String],
     contents: &[Vec<u8>],

@@ -145,8 +145,8 @@ pub(super) const WORDS: &[Row] = &[
         "extract t.soy",
         FILE,
         JSON,
-        Status::Refused,
-        "extract: 30 NotYet\n",
+        Status::Done,
+        "{\"messages\":[]}\n",
     ),
     (
         "play of one",
