@@ -77,7 +77,7 @@ use Rattle.template_ir.proofs.PlacedHoles.{frame_has_run, print_placed, text_pla
 use Rattle.template_ir.proofs.PlacedParts.{parts_placed, picks}
 use Rattle.template_ir.proofs.SeenHoles.{AllSeen, Seen, SeesFrames, all_at, arms_seen, body_seen}
 use Rattle.template_ir.proofs.SeenHoles.{first_seen, frame_seen, frame_stands, frames_first, frames_second, last_seen}
-use Rattle.template_ir.proofs.SeenHoles.{second_seen, seen_at, turn_seen}
+use Rattle.template_ir.proofs.SeenHoles.{second_seen, seen_same, turn_seen}
 
 module _ (c : RunContext) (whole : Plan) (accepted : AcceptedPaths page_machine whole) (places : List Place)
     (d : Declared) (left : ℕ) (deeper : (fewer : ℕ) → left ≡ suc fewer → TemplatesRun c whole accepted places fewer)
@@ -400,7 +400,7 @@ module _ (c : RunContext) (whole : Plan) (accepted : AcceptedPaths page_machine 
         fit.0 typed.0 demands.0 good fitting _
         (λ f fills path inner good_past fitting_past. nodes_placed ns kind (hole + node_holes c.translation n) inner
         (scope_past n scope) (filled_pieces c.direction f kind before)
-        (seen_at c.direction whole places kind two (filled_pieces c.direction f kind before) (hole + hole_count one)
+        (seen_same c.direction whole places kind two (filled_pieces c.direction f kind before) (hole + hole_count one)
         (hole + node_holes c.translation n) (ap (λ k. hole + k) (node_count of_context n scope))
         (second_seen c.direction whole places kind one two before hole seen f fills path)) fit.1 typed.1 demands.1
         good_past fitting_past Next

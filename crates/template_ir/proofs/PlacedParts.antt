@@ -46,7 +46,7 @@ use Rattle.template_ir.specs.Placed.{PrintPlaced, SelectedPlaced, TagPlaced, Wor
 use Rattle.template_ir.proofs.Counts.{all_holes, exact_count, part_count, parts_count, text_count}
 use Rattle.template_ir.proofs.PlacedHoles.{AfterEach, Afterwards, AllGood, At, after_arms, after_then, print_placed}
 use Rattle.template_ir.proofs.PlacedHoles.{text_placed, value_placed}
-use Rattle.template_ir.proofs.SeenHoles.{AllSeen, Seen, all_at, all_split, arms_seen, first_seen, second_seen, seen_at}
+use Rattle.template_ir.proofs.SeenHoles.{AllSeen, Seen, all_at, all_split, arms_seen, first_seen, second_seen, seen_same}
 
 pub picks : (t : Bool) (X Y : Type 0) → (t ≡ true → X) → Y → Picks t X Y
 picks true X Y f y = f refl
@@ -110,7 +110,7 @@ module _ (c : RunContext) (whole : Plan) (accepted : AcceptedPaths page_machine 
       (λ f fills path.
       let middle : List Piece = filled_pieces c.direction f kind before in
       let there : SeenHere (Then print last) middle hole =
-      seen_at c.direction whole places kind (Then print last) middle (hole + hole_count first) hole
+      seen_same c.direction whole places kind (Then print last) middle (hole + hole_count first) hole
       (omega (arith, zero_)) (second_seen c.direction whole places kind first (Then print last) before hole seen f fills
       path) in
       let next : AfterHere (Then print last) middle Next =
@@ -196,7 +196,7 @@ module _ (c : RunContext) (whole : Plan) (accepted : AcceptedPaths page_machine 
         let two : Plan = parts_plan uses scope at ps in
         part_placed p fit.0 n before hole (first_seen c.direction whole places kind one two before hole seen) _
         (λ f fills path. parts_placed ps fit.1 n (filled_pieces c.direction f kind before) (hole + part_holes uses p)
-        (seen_at c.direction whole places kind two (filled_pieces c.direction f kind before) (hole + hole_count one)
+        (seen_same c.direction whole places kind two (filled_pieces c.direction f kind before) (hole + hole_count one)
         (hole + part_holes uses p) (ap (λ k. hole + k) (part_count uses scope at p))
         (second_seen c.direction whole places kind one two before hole seen f fills path)) Next
         (after_then c whole accepted places kind one two before Next after f fills path))

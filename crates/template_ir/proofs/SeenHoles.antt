@@ -163,9 +163,9 @@ module _ (context : Dir) (whole : Plan) (places : List Place) where
       → AllSeen kind ps before n
   all_at kind ps before m n e h = subst (λ k. AllSeen kind ps before k) e h
 
-  pub seen_at : (kind : Kind) (p : Plan) (before : List Piece) (m n : ℕ) → m ≡ n → Seen kind p before m
+  pub seen_same : (kind : Kind) (p : Plan) (before : List Piece) (m n : ℕ) → m ≡ n → Seen kind p before m
       → Seen kind p before n
-  seen_at kind p before m n e h = subst (λ k. Seen kind p before k) e h
+  seen_same kind p before m n e h = subst (λ k. Seen kind p before k) e h
 
   any_seen : (kind : Kind) (p : Plan) (ps : List Plan) (before : List Piece) (hole : ℕ)
       → Seen kind (any_of p ps) before hole
@@ -210,4 +210,4 @@ module _ (context : Dir) (whole : Plan) (places : List Place) where
       → AllSeen kind (ps ++ (q ∷ [])) before hole → AllSeen kind ps before hole × Seen kind q before (hole + n)
   last_seen kind ps q before hole n e h =
       let r = all_split kind ps (q ∷ []) before hole h in
-      (r.0, seen_at kind q before (hole + all_holes ps) (hole + n) (ap (λ k. hole + k) e) r.1.0)
+      (r.0, seen_same kind q before (hole + all_holes ps) (hole + n) (ap (λ k. hole + k) e) r.1.0)
