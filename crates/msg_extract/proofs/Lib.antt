@@ -16,6 +16,7 @@ pub mod PlaceholderNodes
 pub mod PluralPieces
 pub mod QuotedRuns
 pub mod RoleNames
+pub mod SelectorRows
 pub mod TagNames
 pub mod TextOfParts
 pub mod ViewBodies

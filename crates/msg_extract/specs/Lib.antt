@@ -12,6 +12,7 @@ pub mod PlaceholderNodes
 pub mod QuotedRuns
 pub mod RepeatedCases
 pub mod RoleNames
+pub mod SelectorRows
 pub mod SourceParts
 pub mod TagNames
 pub mod TextOfPiece

@@ -19,11 +19,13 @@ mod placeholder;
 mod quoting;
 mod role_names;
 mod same;
+mod selector;
 
 pub use canonical::message_id;
 pub use catalogue::{Catalogue, Listed, extract, write_catalogue};
 pub use laws::{law_canonical_text, law_equal_parts, law_fits, law_written_text};
 pub use placeholder::{Placeholder, placeholders};
+pub use selector::{Selector, selectors};
 
 #[cfg(test)]
 mod tests;

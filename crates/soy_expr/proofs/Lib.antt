@@ -1,10 +1,10 @@
-mod AsciiTexts
-mod Forgetting
+pub mod AsciiTexts
+pub mod Forgetting
 mod Nearest
-mod PartRows
+pub mod PartRows
 mod Refusals
 mod SameLists
-mod Shallows
+pub mod Shallows
 mod TextOrder
 mod TextsLeft
 mod TypeSearch

@@ -70,7 +70,7 @@ less_seen (ListValue vs) w = refl
 less_seen (MapValue es) w = refl
 less_seen (RecordValue es) w = refl
 
-same_seen : (v w : Value) → is_same_value (shallow_value v) (shallow_value w) ≡ is_same_value v w
+pub same_seen : (v w : Value) → is_same_value (shallow_value v) (shallow_value w) ≡ is_same_value v w
 same_seen NullValue NullValue = refl
 same_seen NullValue (BoolValue b) = refl
 same_seen NullValue (IntValue n) = refl

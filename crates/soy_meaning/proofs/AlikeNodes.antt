@@ -27,7 +27,8 @@ use Rattle.soy_meaning.specs.PicksValues.{argument_marks, callee_takes, given_ma
 use Rattle.soy_meaning.specs.PicksValues.{param_marks, turn_marks, uses_pick}
 use Rattle.soy_meaning.specs.Pieces.{GivenArguments, RunContext, TheSource, arguments_mean, arms_mean, at_end}
 use Rattle.soy_meaning.specs.Pieces.{callee_env, cases_mean, chosen_after, chosen_of, fallback_text}
-use Rattle.soy_meaning.specs.Pieces.{given_means, is_one, item_count, listed_items, message_means, node_means}
+use Rattle.soy_tree.specs.ShortLists.{item_count}
+use Rattle.soy_meaning.specs.Pieces.{given_means, is_one, listed_items, message_means, node_means}
 use Rattle.soy_meaning.specs.Pieces.{nodes_mean, opened_means, otherwise_means, plural_cases_mean}
 use Rattle.soy_meaning.specs.Pieces.{select_cases_mean, source_means, translated_means, turns_mean, unbound, valued}
 use Rattle.soy_meaning.specs.Pieces.{with_index}

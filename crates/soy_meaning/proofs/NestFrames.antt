@@ -33,7 +33,8 @@ use Rattle.soy_meaning.specs.PicksValues.{argument_marks, callee_takes}
 use Rattle.soy_meaning.specs.PicksValues.{param_marks, turn_marks, uses_pick}
 use Rattle.soy_meaning.specs.Pieces.{RunContext, TheSource}
 use Rattle.soy_meaning.specs.Pieces.{callee_env, called_within, chosen_after, chosen_of}
-use Rattle.soy_meaning.specs.Pieces.{context_in, fallback_text, item_count}
+use Rattle.soy_tree.specs.ShortLists.{item_count}
+use Rattle.soy_meaning.specs.Pieces.{context_in, fallback_text}
 use Rattle.soy_meaning.specs.Pieces.{message_means, opened_means}
 use Rattle.soy_meaning.specs.Pieces.{translated_means, turns_mean}
 use Rattle.soy_meaning.specs.Pieces.{with_index}

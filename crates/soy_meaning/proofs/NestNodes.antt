@@ -35,7 +35,8 @@ use Rattle.soy_meaning.specs.PicksValues.{argument_marks, given_mark, marks_past
 use Rattle.soy_meaning.specs.PicksValues.{may_give_block, param_marks, turn_marks}
 use Rattle.soy_meaning.specs.Pieces.{GivenArguments, RunContext, arguments_mean, arms_mean, at_end}
 use Rattle.soy_meaning.specs.Pieces.{cases_mean}
-use Rattle.soy_meaning.specs.Pieces.{given_means, is_one, item_count, listed_items}
+use Rattle.soy_tree.specs.ShortLists.{item_count}
+use Rattle.soy_meaning.specs.Pieces.{given_means, is_one, listed_items}
 use Rattle.soy_meaning.specs.Pieces.{node_means, nodes_mean, opened_means, otherwise_means}
 use Rattle.soy_meaning.specs.Pieces.{plural_cases_mean, select_cases_mean, source_means, turns_mean}
 use Rattle.soy_meaning.specs.Pieces.{unbound, valued, with_index}

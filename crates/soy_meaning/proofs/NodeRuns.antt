@@ -39,7 +39,8 @@ use Rattle.soy_meaning.specs.Outcome.{TextTaken, Turns}
 use Rattle.soy_meaning.specs.PathParts.{IsPath, both, empty_path, no_turn, passed_by, turn}
 use Rattle.soy_meaning.specs.Pieces.{GivenArguments, RunContext, arguments_mean, arms_mean, at_end, callee_env}
 use Rattle.soy_meaning.specs.Pieces.{cases_mean, chosen_after, chosen_of, chosen_text, fallback_text}
-use Rattle.soy_meaning.specs.Pieces.{given_means, is_one, item_count, listed_items, message_means, node_means}
+use Rattle.soy_tree.specs.ShortLists.{item_count}
+use Rattle.soy_meaning.specs.Pieces.{given_means, is_one, listed_items, message_means, node_means}
 use Rattle.soy_meaning.specs.Pieces.{nodes_mean}
 use Rattle.soy_meaning.specs.Pieces.{opened_means, otherwise_means, plural_cases_mean, select_cases_mean, source_means}
 use Rattle.soy_meaning.specs.Pieces.{translated_means, turns_mean, unbound, valued, with_index}

@@ -38,14 +38,15 @@ use Rattle.soy_meaning.specs.Filled.{IsBlockKind}
 use Rattle.soy_meaning.specs.GivenAt.{HasPlaceholderOf, cut_prints, given_binding_of, given_bindings, tag_prints}
 use Rattle.soy_meaning.specs.Giving.{BoundBlock, RunEnv}
 use Rattle.soy_meaning.specs.Outcome.{Outcome}
-use Rattle.soy_meaning.specs.Pieces.{RunContext, callee_env, given_binding, handed_on, item_count}
+use Rattle.soy_meaning.specs.Pieces.{RunContext, callee_env, given_binding, handed_on}
 use Rattle.soy_meaning.specs.Pieces.{listed_items, param_binding, valued, with_index}
 use Rattle.soy_meaning.specs.PlanOfNodes.{body_scope, kind_class, with_variable}
 use Rattle.soy_meaning.specs.PlanOfParts.{classes_of_all, cut_of_role, known_classes, placeholder_cut, printed_classes}
 use Rattle.soy_meaning.specs.ComesNext.{IsItem}
 use Rattle.soy_meaning.specs.RunsAlong.{BindsValues}
 use Rattle.soy_meaning.specs.States.{IsMember}
-use Rattle.soy_meaning.specs.TypedData.{EntriesShort, EnvShort, FitsData, HasShortLists, IsShort, ItemsShort}
+use Rattle.soy_tree.specs.ShortLists.{EntriesShort, HasShortLists, ItemsShort, item_count}
+use Rattle.soy_meaning.specs.TypedData.{EnvShort, FitsData, IsShort}
 use Rattle.soy_meaning.proofs.BlockClasses.{HasOf, accepted_block, accepted_class, narrowed_class}
 use Rattle.soy_meaning.proofs.BlockClasses.{not_null}
 use Rattle.soy_meaning.proofs.Goings.{HasClass}

@@ -23,6 +23,7 @@ use Rattle.soy_tree.specs.Nodes.{no_argument, argument, Plain, Block, message, n
 use Rattle.soy_tree.specs.Nodes.{Select, no_plural_case, plural_case, no_select_case, select_case}
 use Rattle.soy_tree.specs.MessageParts.{MsgParts}
 use Rattle.soy_tree.specs.Trees.{Param}
+use Rattle.soy_tree.specs.ShortLists.{item_count}
 use Rattle.soy_tree.specs.Templates.{Declared, callee}
 use Rattle.soy_tree.specs.Bodies.{param_of}
 use Rattle.soy_meaning.specs.Branch.{int_of, parts_means, word_of}
@@ -65,10 +66,6 @@ valued e env = operand (val e env)
 abbrev pub listed_items : Value → Items
 listed_items (ListValue items) = items
 listed_items _ = no_item
-
-abbrev pub item_count : Items → ℕ
-item_count no_item = 0
-item_count (item v vs) = 1 + item_count vs
 
 abbrev pub with_index : Option Name → ℕ → RunEnv → RunEnv
 with_index None n env = env

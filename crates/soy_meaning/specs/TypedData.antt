@@ -3,38 +3,20 @@
 -- Trees are typed where the checker finds no fault in them, and they are formed. Data bind each parameter to a value of
 -- its type and no block, and each list in them is short: its items are numbered by ints, from 0.
 -- Example: `{@param n: int}` fits the data that bind `n` to 3, and not those that bind it to a string.
-use Rattle.std.specs.Prelude.{◌≡◌, ◌≤◌, List, [], ◌∷◌, None}
+use Rattle.std.specs.Prelude.{◌≡◌, List, [], ◌∷◌, None}
 use Rattle.soy_tree.specs.Demands.{check_fault}
 use Rattle.soy_tree.specs.Fits.{Fits}
 use Rattle.soy_tree.specs.Formed.{AreFormed}
+use Rattle.soy_tree.specs.ShortLists.{HasShortLists}
 use Rattle.soy_tree.specs.Templates.{Declared, param_scope}
 use Rattle.soy_tree.specs.Trees.{Tree}
 use Rattle.soy_tree.specs.Val.{Binding, Known, BlockOf}
-use Rattle.soy_tree.specs.Values.{Value, Items, Entries, ListValue, MapValue, RecordValue, no_item, item, no_entry}
-use Rattle.soy_tree.specs.Values.{entry}
 use Rattle.soy_meaning.specs.Giving.{BoundBlock, RunEnv}
-use Rattle.soy_meaning.specs.Pieces.{item_count}
 use Rattle.soy_meaning.specs.RunsAlong.{BindsValues}
 
 pub record AreTypedTrees (trees : List Tree) : Type 0 where
   pub demands : check_fault trees ≡ None
   pub formed : AreFormed trees
-
-abbrev mutual
-  -- each list in a value, at any depth, has at most 2^53 items
-  pub HasShortLists : Value → Type 0
-  HasShortLists (ListValue vs) = (item_count vs ≤ 9007199254740992) × ItemsShort vs
-  HasShortLists (MapValue es) = EntriesShort es
-  HasShortLists (RecordValue es) = EntriesShort es
-  HasShortLists _ = Unit {0}
-
-  pub ItemsShort : Items → Type 0
-  ItemsShort no_item = Unit {0}
-  ItemsShort (item v vs) = HasShortLists v × ItemsShort vs
-
-  pub EntriesShort : Entries → Type 0
-  EntriesShort no_entry = Unit {0}
-  EntriesShort (entry name v es) = HasShortLists v × EntriesShort es
 
 abbrev pub IsShort : Binding BoundBlock → Type 0
 IsShort (Known v) = HasShortLists v

@@ -33,3 +33,4 @@ pub mod Placeholders
 pub mod IcuText
 pub mod Typed
 pub mod Fits
+pub mod ShortLists

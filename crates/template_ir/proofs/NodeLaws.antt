@@ -38,7 +38,8 @@ use Rattle.soy_tree.specs.Val.{Binding, Known, is_same_value, is_truthy, val}
 use Rattle.soy_meaning.specs.FrameRun.{bound_as}
 use Rattle.soy_meaning.specs.Giving.{Means, RunEnv, StateSoFar, block_bound, with_choice, with_cost}
 use Rattle.soy_meaning.specs.Outcome.{ArmTaken, Outcome, Turns, continued_by, gives_nothing}
-use Rattle.soy_meaning.specs.Pieces.{RunContext, arms_mean, at_end, cases_mean, frame_outcome, is_one, item_count}
+use Rattle.soy_tree.specs.ShortLists.{item_count}
+use Rattle.soy_meaning.specs.Pieces.{RunContext, arms_mean, at_end, cases_mean, frame_outcome, is_one}
 use Rattle.soy_meaning.specs.Pieces.{listed_items, node_means, nodes_mean, otherwise_means, turns_mean, unbound, valued}
 use Rattle.soy_meaning.specs.Pieces.{with_index}
 use Rattle.soy_meaning.specs.Plan.{Site}

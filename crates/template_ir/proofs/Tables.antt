@@ -63,14 +63,14 @@ part_cons {A = A} xs i end x e h =
 pub part_none : {A : Type 0} (xs : List A) (i end : ℕ) → end ≤ i → part xs i end ≡ []
 part_none xs i end h = let e : end - i ≡ 0 = omega arith in ap (λ k. take k (drop i xs)) e
 
-take_less : {A : Type 0} (xs : List A) (m n k : ℕ) → k ≡ min m n → take m (take n xs) ≡ take k xs
+pub take_less : {A : Type 0} (xs : List A) (m n k : ℕ) → k ≡ min m n → take m (take n xs) ≡ take k xs
 take_less xs m zero k e = let z : k ≡ 0 = omega arith in no_items _ m ∙ ap (λ v. take v xs) (sym z)
 take_less xs zero (suc n) k e = let z : k ≡ 0 = omega arith in ap (λ v. take v xs) (sym z)
 take_less [] (suc m) (suc n) k e = sym (no_items _ k)
 take_less (x ∷ xs) (suc m) (suc n) zero e = absurd (omega arith)
 take_less (x ∷ xs) (suc m) (suc n) (suc k) e = ap (λ v. x ∷ v) (take_less xs m n k (omega arith))
 
-drop_less : {A : Type 0} (xs : List A) (f n k : ℕ) → k ≡ n - f → drop f (take n xs) ≡ take k (drop f xs)
+pub drop_less : {A : Type 0} (xs : List A) (f n k : ℕ) → k ≡ n - f → drop f (take n xs) ≡ take k (drop f xs)
 drop_less xs zero n k e = let z : k ≡ n = omega arith in ap (λ v. take v xs) (sym z)
 drop_less xs (suc f) zero k e = let z : k ≡ 0 = omega arith in ap (λ v. take v (drop (suc f) xs)) (sym z)
 drop_less [] (suc f) (suc n) k e = sym (no_items _ k)

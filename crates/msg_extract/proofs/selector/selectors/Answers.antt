@@ -1,0 +1,15 @@
+use Rattle.std.proofs.Common.{◌∙◌, ap, map, sym}
+use Rattle.std.proofs.lemmas.Result.{IfOk-weaker}
+use Rattle.soy_tree.specs.ViewNodes.{view_body}
+use Rattle.msg_extract.specs.SelectorRows.{selectors_of}
+use Rattle.msg_extract.specs.ViewPieces.{view_piece}
+use Rattle.msg_extract.proofs.SelectorRows.{rows_of_message}
+use Rattle.msg_extract.proofs.ViewBodies.{view_message_is}
+use Rattle.msg_extract.proofs.selector.selectors.Goals as goal
+
+pub returns : goal.returns
+returns c =
+    IfOk-weaker c.selectors_among.result _ _
+    (λ rows e. e ∙ (rows_of_message (view_body c.args.message.now.body) (map view_piece c.items.result.now)
+    (ap (map view_piece) c.items.ensures ∙ c.in_ok-pieces.ensures)
+    ∙ sym (ap selectors_of (view_message_is c.args.message.now)))) c.selectors_among.ensures

@@ -1,0 +1,83 @@
+//! The selectors of a message, with their expressions.
+
+ghost use Rattle.std.specs.Prelude.{◌≡◌, ◌++◌, map, IfOk, OnOk};
+ghost use Rattle.soy_tree.specs.ViewNodes.{view_message};
+ghost use Rattle.msg_extract.specs.Pieces.{uses_in};
+ghost use Rattle.msg_extract.specs.SelectorRows.{piece_rows, selector_rows, selectors_of, view_selector};
+ghost use Rattle.msg_extract.specs.ViewPieces.{view_piece};
+
+use crate::names::name_of;
+use crate::piece::{CodePiece, Named, pieces_of};
+use soy_base::{OutOfMemory, Row, Seq, Text};
+use soy_tree::{Expr, Message};
+use std::alloc::Global;
+
+/// A selector of a message: its name, whether it is that of a plural or else of a select, and its expression.
+#[derive(Drop)]
+pub struct Selector {
+    pub name: Text,
+    pub of_plural: bool,
+    pub expr: Expr,
+}
+
+/// Adds the selector that a piece is, if it is one.
+#[tactic(auto, using(crate::proofs::CutSteps::map_append))]
+fn add_selector(
+    alloc: Global,
+    rows: &mut Row<Selector>,
+    pieces: &[CodePiece<'_>],
+    piece: &CodePiece<'_>,
+) -> Result<(), OutOfMemory>
+    ensures { OnOk result (map view_selector rows.new
+        ≡ map view_selector rows.old ++ piece_rows (uses_in (map view_piece pieces.now)) (view_piece piece.now)) }
+{
+    match piece {
+        CodePiece::Text(_) => Ok(()),
+        CodePiece::Use(of) => match &of.of {
+            Named::Print(_, _, _) => Ok(()),
+            Named::Tag(_) => Ok(()),
+            Named::Plural(expr) => {
+                let name = name_of(alloc, pieces, of)?;
+                let expr = expr.copy(alloc)?;
+                rows.push(Selector {
+                    name,
+                    of_plural: true,
+                    expr,
+                })
+            }
+            Named::Select(expr) => {
+                let name = name_of(alloc, pieces, of)?;
+                let expr = expr.copy(alloc)?;
+                rows.push(Selector {
+                    name,
+                    of_plural: false,
+                    expr,
+                })
+            }
+        },
+    }
+}
+
+/// The selectors among pieces.
+#[tactic(auto, using(crate::proofs::SelectorRows::selectors_step, crate::proofs::PieceLists::append_assoc))]
+fn selectors_among(
+    alloc: Global,
+    pieces: &[CodePiece<'_>],
+) -> Result<Seq<Selector>, OutOfMemory>
+    ensures { IfOk result (λ rows. map view_selector rows ≡ selector_rows (uses_in (map view_piece pieces.now))
+        (uses_in (map view_piece pieces.now))) }
+{
+    let mut rows = Row::empty(alloc);
+    for piece in pieces {
+        add_selector(alloc, &mut rows, pieces, piece)?;
+    }
+    Ok(rows.done())
+}
+
+/// The selectors of a message's plurals and selects, in the order of its text.
+pub fn selectors(alloc: Global, message: &Message) -> Result<Seq<Selector>, OutOfMemory>
+    ensures { IfOk result (λ rows. map view_selector rows ≡ selectors_of (view_message message.now)) }
+{
+    let pieces = pieces_of(alloc, &message.body)?;
+    selectors_among(alloc, pieces.items())
+}
