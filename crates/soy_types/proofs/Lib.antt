@@ -6,3 +6,5 @@ pub mod ReadFacts
 pub mod ReadStands
 pub mod ReadHas
 pub mod ReadComplete
+pub mod Shortness
+pub mod ParamsRead

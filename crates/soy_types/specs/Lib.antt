@@ -3,3 +3,4 @@ pub mod Read
 pub mod ReadData
 pub mod Reads
 pub mod Stands
+pub mod ParamsHave

@@ -7,6 +7,7 @@ use Rattle.soy_base.specs.declared.memory.Refusal.TheVariants.{Because, OutOfMem
 use Rattle.soy_base.specs.declared.code.Code.{Code}
 use Rattle.soy_base.specs.declared.path.PathStep.{PathStep}
 use Rattle.soy_tree.specs.declared.value.Value as code_value
+use Rattle.soy_tree.specs.ShortLists.{HasShortLists}
 use Rattle.soy_tree.specs.Values.{Value}
 use Rattle.soy_tree.specs.ViewValues.{view_value}
 use Rattle.soy_types.specs.declared.fault.DataFault.{DataFault}
@@ -28,3 +29,8 @@ abbrev pub ReadsData : Result Value (Code × Path) → Result code_value.Value (
 ReadsData read (Ok answer) = read ≡ Ok (view_value answer)
 ReadsData read (Err (Because fault)) = read ≡ Err (fault.code, fault.path)
 ReadsData read (Err OutOfMemory) = Unit {0}
+
+-- the lists in a value that is answered are short
+abbrev pub ReadsShort : {E : Type 0} → Result code_value.Value E → Type 0
+ReadsShort (Ok answer) = HasShortLists (view_value answer)
+ReadsShort (Err refusal) = Unit {0}

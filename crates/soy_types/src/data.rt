@@ -14,7 +14,7 @@ ghost use Rattle.soy_tree.specs.ViewValues.{view_value};
 ghost use Rattle.soy_types.specs.Paths.{Path};
 ghost use Rattle.soy_types.specs.Read.{value_at};
 ghost use Rattle.soy_types.specs.ReadData.{data_at, json_of, refused, values_at};
-ghost use Rattle.soy_types.specs.Reads.{Reads, ReadsData};
+ghost use Rattle.soy_types.specs.Reads.{Reads, ReadsData, ReadsShort};
 
 use crate::DataFault;
 use crate::path::{Path, at_key, steps_of, unfit};
@@ -27,7 +27,8 @@ use std::str;
 
 /// The values of parameters, read of bytes of JSON as a record; or why there are none.
 pub fn read_data(alloc: Global, bytes: &[u8], params: &[Param]) -> Result<Value, Refusal<DataFault>>
-    ensures { ReadsData (data_at (view_params params.now) bytes.now) result }
+    ensures value { ReadsData (data_at (view_params params.now) bytes.now) result }
+    ensures short { ReadsShort result }
 {
     match read_json(alloc, bytes)? {
         Some(json) => fault_of(alloc, read_params(alloc, params, &json)),
@@ -58,7 +59,8 @@ fn read_json(alloc: Global, bytes: &[u8]) -> Result<Option<Json>, OutOfMemory>
 
 /// The refusal of what doesn't fit.
 fn fault_of(alloc: Global, read: Result<Value, Refusal<Path>>) -> Result<Value, Refusal<DataFault>>
-    ensures { (is : Result values.Value Path) → Reads view_value is read → ReadsData (refused is) result }
+    ensures value { (is : Result values.Value Path) → Reads view_value is read → ReadsData (refused is) result }
+    ensures short { ReadsShort read → ReadsShort result }
 {
     match read {
         Ok(value) => Ok(value),
@@ -72,7 +74,8 @@ fn fault_of(alloc: Global, read: Result<Value, Refusal<Path>>) -> Result<Value, 
 
 /// The values of parameters, as a record.
 fn read_params(alloc: Global, params: &[Param], json: &Json) -> Result<Value, Refusal<Path>>
-    ensures { Reads view_value (values_at (view_params params.now) (view json.now)) result }
+    ensures value { Reads view_value (values_at (view_params params.now) (view json.now)) result }
+    ensures short { ReadsShort result }
 {
     let mut entries = Row::empty(alloc);
     for param in params {
@@ -87,8 +90,9 @@ fn read_params(alloc: Global, params: &[Param], json: &Json) -> Result<Value, Re
 
 /// The value of a parameter, which is null where it is missing.
 fn read_param(alloc: Global, param: &Param, json: &Json, name: &str) -> Result<Value, Refusal<Path>>
-    ensures { Reads view_value (value_at (param_type (view_param param.now))
+    ensures value { Reads view_value (value_at (param_type (view_param param.now))
         (unwrap_or (get name.now (view json.now)) null)) result }
+    ensures short { ReadsShort result }
 {
     match json.get(name) {
         Some(member) => read_given(alloc, param, member),
@@ -98,7 +102,8 @@ fn read_param(alloc: Global, param: &Param, json: &Json, name: &str) -> Result<V
 
 /// The value of a parameter of which this is given.
 fn read_given(alloc: Global, param: &Param, json: &Json) -> Result<Value, Refusal<Path>>
-    ensures { Reads view_value (value_at (param_type (view_param param.now)) (view json.now)) result }
+    ensures value { Reads view_value (value_at (param_type (view_param param.now)) (view json.now)) result }
+    ensures short { ReadsShort result }
 {
     if param.required {
         read_value(alloc, &param.of, json)
@@ -109,7 +114,8 @@ fn read_given(alloc: Global, param: &Param, json: &Json) -> Result<Value, Refusa
 
 /// The value at a type that also takes null.
 fn read_optional(alloc: Global, of: &SoyType, json: &Json) -> Result<Value, Refusal<Path>>
-    ensures { Reads view_value (value_at (joined (view_type of.now) NullType) (view json.now)) result }
+    ensures value { Reads view_value (value_at (joined (view_type of.now) NullType) (view json.now)) result }
+    ensures short { ReadsShort result }
 {
     match read_value(alloc, of, json) {
         Ok(value) => Ok(value),

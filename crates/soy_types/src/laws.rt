@@ -1,13 +1,16 @@
 //! Laws of the definitions, each a function that does nothing and whose contract is the law.
 
-ghost use Rattle.std.specs.Prelude.{◌≡◌, ℕ, Bool, Ok, Err, None};
+ghost use Rattle.std.specs.Prelude.{◌≡◌, ℕ, Bool, List, [], Ok, Err, None};
 ghost use Rattle.serde_json.specs.Data.{Data};
 ghost use Rattle.soy_tree.specs.Types.{SoyType};
 ghost use Rattle.soy_tree.specs.Values.{Value};
 ghost use Rattle.soy_tree.specs.Has.{Has};
-ghost use Rattle.soy_tree.specs.Declarations.{type_fault};
+ghost use Rattle.soy_tree.specs.Declarations.{params_fault, type_fault};
+ghost use Rattle.soy_tree.specs.Trees.{Param};
+ghost use Rattle.soy_types.specs.ParamsHave.{ParamsHave};
 ghost use Rattle.soy_types.specs.Paths.{Path};
 ghost use Rattle.soy_types.specs.Read.{value_at};
+ghost use Rattle.soy_types.specs.ReadData.{data_at};
 ghost use Rattle.soy_types.specs.Stands.{StandsFor};
 
 /// The value that is read of a JSON value is one that it stands for, and of a type that may be declared it is of that
@@ -18,4 +21,10 @@ pub fn law_read()
         → value_at t d ≡ Ok v → Has v t }
     ensures complete { (t : SoyType) (d : Data) (v : Value) (path : Path) → StandsFor v d → Has v t
         → value_at t d ≡ Err path → ⊥ }
+{}
+
+/// Data that are read for parameters without a fault have the parameters: under each name a value of its type.
+pub fn law_data()
+    ensures { (params : List Param) (bytes : List ℕ) (v : Value) → params_fault params [] ≡ None
+        → data_at params bytes ≡ Ok v → ParamsHave params v }
 {}

@@ -13,4 +13,4 @@ mod reading;
 
 pub use data::read_data;
 pub use fault::DataFault;
-pub use laws::law_read;
+pub use laws::{law_data, law_read};

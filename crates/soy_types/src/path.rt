@@ -4,11 +4,12 @@ ghost use Rattle.std.specs.Prelude.{◌≡◌, [], Result, IfOk};
 ghost use Rattle.std.specs.Str.{chars};
 ghost use Rattle.soy_base.specs.declared.path.PathStep.TheVariants as path_step;
 ghost use Rattle.soy_base.specs.declared.memory.Refusal.TheVariants as refusal;
+ghost use Rattle.soy_tree.specs.ShortLists.{HasShortLists};
 ghost use Rattle.soy_tree.specs.Values as values;
 ghost use Rattle.soy_tree.specs.ViewValues.{view_entry, view_value};
 ghost use Rattle.soy_types.specs.Paths.{Path, below};
 ghost use Rattle.soy_types.specs.Read.{under_key};
-ghost use Rattle.soy_types.specs.Reads.{Reads, StepsInto};
+ghost use Rattle.soy_types.specs.Reads.{Reads, ReadsShort, StepsInto};
 
 use soy_base::{OutOfMemory, PathStep, Refusal, Row, Seq, Stack, Text};
 use soy_tree::{Entry, Value};
@@ -45,8 +46,9 @@ pub(crate) fn at_index(
     index: u64,
     read: Result<Value, Refusal<Path>>,
 ) -> Result<Value, Refusal<Path>>
-    ensures { (is : Result values.Value Path) → Reads view_value is read
+    ensures value { (is : Result values.Value Path) → Reads view_value is read
         → Reads view_value (below (path_step.Index index) is) result }
+    ensures short { ReadsShort read → ReadsShort result }
 {
     match read {
         Ok(value) => Ok(value),
@@ -60,8 +62,9 @@ pub(crate) fn at_key(
     key: &str,
     read: Result<Value, Refusal<Path>>,
 ) -> Result<Entry, Refusal<Path>>
-    ensures { (is : Result values.Value Path) → Reads view_value is read
+    ensures value { (is : Result values.Value Path) → Reads view_value is read
         → Reads view_entry (under_key (chars key.now) is) result }
+    ensures short { ReadsShort read → IfOk result (λ e. HasShortLists (view_entry e).1) }
 {
     let name = text_of(alloc, key)?;
     match read {

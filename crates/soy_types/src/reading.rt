@@ -9,7 +9,7 @@ ghost use Rattle.soy_tree.specs.ViewTypes.{view_fields, view_members, view_type}
 ghost use Rattle.soy_tree.specs.ViewValues.{entries_of, items_of, view_entry, view_value};
 ghost use Rattle.soy_types.specs.Paths.{all_read, onward};
 ghost use Rattle.soy_types.specs.Read.{entry_results, field_results, first_read, int_read, item_results, value_at};
-ghost use Rattle.soy_types.specs.Reads.{Reads};
+ghost use Rattle.soy_types.specs.Reads.{Reads, ReadsShort};
 
 use crate::path::{Path, at_index, at_key, text_of, unfit};
 use serde_json::{Map, Value as Json};
@@ -20,10 +20,14 @@ use std::alloc::Global;
 /// The greatest int.
 const LARGEST_INT: i64 = 9007199254740991;
 
+/// As many items as ints number from 0; memory has no room for more.
+const MOST_ITEMS: usize = 9007199254740992;
+
 /// The value of a JSON value at a type.
 #[cycle(reading)]
 pub(crate) fn read_value(alloc: Global, of: &SoyType, json: &Json) -> Result<Value, Refusal<Path>>
-    ensures { Reads view_value (value_at (view_type of.now) (view json.now)) result }
+    ensures value { Reads view_value (value_at (view_type of.now) (view json.now)) result }
+    ensures short { ReadsShort result }
 {
     match (of, json) {
         (SoyType::Null, Json::Null) => Ok(Value::Null),
@@ -40,7 +44,8 @@ pub(crate) fn read_value(alloc: Global, of: &SoyType, json: &Json) -> Result<Val
 
 /// An int, if there is one within the range.
 fn read_int(alloc: Global, number: Option<i64>) -> Result<Value, Refusal<Path>>
-    ensures { Reads view_value (int_read number) result }
+    ensures value { Reads view_value (int_read number) result }
+    ensures short { ReadsShort result }
 {
     match number {
         Some(number) if (-LARGEST_INT..=LARGEST_INT).contains(&number) => Ok(Value::Int(number)),
@@ -51,9 +56,13 @@ fn read_int(alloc: Global, number: Option<i64>) -> Result<Value, Refusal<Path>>
 /// A list of items of a type.
 #[cycle(reading)]
 fn read_items(alloc: Global, of: &SoyType, items: &[Json]) -> Result<Value, Refusal<Path>>
-    ensures { Reads view_value (onward (λ vs. values.ListValue (items_of vs))
+    ensures value { Reads view_value (onward (λ vs. values.ListValue (items_of vs))
         (all_read (item_results (value_at (view_type of.now)) 0 (items_view items.now)))) result }
+    ensures short { ReadsShort result }
 {
+    if items.len() > MOST_ITEMS {
+        return Err(Refusal::OutOfMemory);
+    }
     let mut values = Row::empty(alloc);
     for (index, item) in items.iter().enumerate() {
         match at_index(index as u64, read_value(alloc, of, item)) {
@@ -71,8 +80,9 @@ fn read_entries(
     of: &SoyType,
     members: &Map<String, Json>,
 ) -> Result<Value, Refusal<Path>>
-    ensures { Reads view_value (onward (λ es. values.MapValue (entries_of es))
+    ensures value { Reads view_value (onward (λ es. values.MapValue (entries_of es))
         (all_read (entry_results (value_at (view_type of.now)) (members_view members.now.entries)))) result }
+    ensures short { ReadsShort result }
 {
     let mut entries = Row::empty(alloc);
     for (key, item) in members.iter() {
@@ -87,8 +97,9 @@ fn read_entries(
 /// A record of these fields.
 #[cycle(reading)]
 fn read_fields(alloc: Global, fields: &[Field], json: &Json) -> Result<Value, Refusal<Path>>
-    ensures { Reads view_value (onward (λ es. values.RecordValue (entries_of es))
+    ensures value { Reads view_value (onward (λ es. values.RecordValue (entries_of es))
         (all_read (field_results (view_fields fields.now) (view json.now)))) result }
+    ensures short { ReadsShort result }
 {
     let mut entries = Row::empty(alloc);
     for field in fields {
@@ -104,7 +115,9 @@ fn read_fields(alloc: Global, fields: &[Field], json: &Json) -> Result<Value, Re
 /// The value of a member, which is null where it is missing.
 #[cycle(reading)]
 fn read_member(alloc: Global, of: &SoyType, json: &Json, name: &str) -> Result<Value, Refusal<Path>>
-    ensures { Reads view_value (value_at (view_type of.now) (unwrap_or (get name.now (view json.now)) null)) result }
+    ensures value { Reads view_value
+        (value_at (view_type of.now) (unwrap_or (get name.now (view json.now)) null)) result }
+    ensures short { ReadsShort result }
 {
     match json.get(name) {
         Some(member) => read_value(alloc, of, member),
@@ -115,7 +128,8 @@ fn read_member(alloc: Global, of: &SoyType, json: &Json, name: &str) -> Result<V
 /// The value at the first type that fits.
 #[cycle(reading)]
 fn read_first(alloc: Global, types: &[SoyType], json: &Json) -> Result<Value, Refusal<Path>>
-    ensures { Reads view_value (first_read (view_members types.now) (view json.now)) result }
+    ensures value { Reads view_value (first_read (view_members types.now) (view json.now)) result }
+    ensures short { ReadsShort result }
 {
     for of in types {
         match read_value(alloc, of, json) {

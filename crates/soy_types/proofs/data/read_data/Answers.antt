@@ -4,8 +4,8 @@ use Rattle.serde_json.specs.View.{view}
 use Rattle.soy_types.specs.ReadData.{json_of}
 use Rattle.soy_types.proofs.data.read_data.Goals as goal
 
-pub returns-in-Some : goal.returns-in-Some
-returns-in-Some c =
+pub returns-in-Some-clause-value : goal.returns-in-Some-clause-value
+returns-in-Some-clause-value c =
     let e : json_of c.args.bytes.now ≡ Some (view c.in-Some.json) =
     sym c.in_ok-json.ensures ∙ ap (option_map view) c.in-Some.is in
-    rw e (c.fault_of.ensures _ c.read_params.ensures)
+    rw e (c.fault_of.ensures.value _ c.read_params.ensures.value)

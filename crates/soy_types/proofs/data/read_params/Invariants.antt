@@ -1,13 +1,17 @@
 use Rattle.std.proofs.Common.{◌≡◌, ◌++◌, drop, map}
 use Rattle.serde_json.specs.View.{view}
 use Rattle.soy_tree.specs.ViewTrees.{view_params}
-use Rattle.soy_tree.specs.ViewValues.{view_entry}
+use Rattle.soy_tree.specs.ViewValues.{entries_of, view_entry}
+use Rattle.soy_tree.specs.ShortLists.{EntriesShort}
 use Rattle.soy_types.specs.Paths.{all_read, onward}
 use Rattle.soy_types.specs.ReadData.{param_results}
 use Rattle.soy_types.proofs.data.read_params.Given as goal
 
 abbrev pub invariant-loop-param : goal.invariant-loop-param
 invariant-loop-param l =
-    all_read (param_results (view_params l.params) (view l.json))
-    ≡ onward (λ rest. map view_entry l.entries ++ rest)
-    (all_read (param_results (view_params (drop l.param-index l.params)) (view l.json)))
+    record {
+      read : all_read (param_results (view_params l.params) (view l.json))
+          ≡ onward (λ rest. map view_entry l.entries ++ rest)
+          (all_read (param_results (view_params (drop l.param-index l.params)) (view l.json)));
+      short : EntriesShort (entries_of (map view_entry l.entries));
+    }
