@@ -13,3 +13,4 @@ pub mod PatternSound
 pub mod StepsSound
 pub mod PatternCloses
 pub mod PatternExact
+pub mod EitherAnswer

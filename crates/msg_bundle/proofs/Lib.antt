@@ -1,9 +1,12 @@
 pub mod CatalogueRows
+pub mod CodedParts
+pub mod EitherAnswer
 pub mod EntrySteps
 pub mod FittingNames
 pub mod FormedMessages
 pub mod OneAnswer
 pub mod OneEach
+pub mod OneFault
 pub mod ReadSteps
 pub mod SourceSteps
 pub mod TextNames

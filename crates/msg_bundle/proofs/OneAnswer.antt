@@ -22,14 +22,14 @@ use Rattle.msg_bundle.specs.Translations.{AreTranslations, HasTextFault, HasTran
 use Rattle.msg_bundle.specs.Translations.{Translates, text_of}
 
 -- entries that are rules have no first fault
-rules_apart : (entries : List (Category × List ℕ)) (rules : List (Category × Alternatives)) (fault : RuleFault)
+pub rules_apart : (entries : List (Category × List ℕ)) (rules : List (Category × Alternatives)) (fault : RuleFault)
     → AreRulesOf entries rules → HasFirstFault entries fault → ⊥
 rules_apart [] rules fault are has = has
 rules_apart (entry ∷ entries) [] fault are has = are
 rules_apart (entry ∷ entries) (rule ∷ rules) fault are (inl here) = here.refused (rule.1, are.0.1)
 rules_apart (entry ∷ entries) (rule ∷ rules) fault are (inr later) = rules_apart entries rules fault are.1 later.1
 
-text_apart : (source : Listed) (key text : List ℕ) (parts : MsgParts) (fault : BundleFault)
+pub text_apart : (source : Listed) (key text : List ℕ) (parts : MsgParts) (fault : BundleFault)
     → Translates source text parts → HasTextFault source key text fault → ⊥
 text_apart source key text parts fault is (inl unread) = unread.none.none parts is.pattern
 text_apart source key text parts fault is (inr other) =
@@ -37,7 +37,7 @@ text_apart source key text parts fault is (inr other) =
     let e : Some other.code ≡ None = sym other.names ∙ (ap (parts_fault source) same ∙ is.names) in
     absurd (cc e)
 
-texts_apart : (rows : List Listed) (ms : Members) (ts : List Translation) (fault : BundleFault)
+pub texts_apart : (rows : List Listed) (ms : Members) (ts : List Translation) (fault : BundleFault)
     → AreTranslations rows ms ts → HasTranslationFault rows ms fault → ⊥
 texts_apart rows no_members ts fault are has = has
 texts_apart rows (member key json ms) ts fault are has =

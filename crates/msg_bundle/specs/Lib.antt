@@ -5,3 +5,4 @@ pub mod Sources
 pub mod Translations
 pub mod ReadsBundle
 pub mod BundleFits
+pub mod BundlesAlike

@@ -1,6 +1,6 @@
 //! What holds of bundles: functions that take nothing and do nothing, whose contracts are the laws.
 
-ghost use Rattle.std.specs.Prelude.{◌≡◌, ℕ, List, [], Ok};
+ghost use Rattle.std.specs.Prelude.{◌≡◌, ◌⊎◌, ℕ, List, [], Ok};
 ghost use Rattle.soy_base.specs.declared.direction.Dir.TheVariants as dir;
 ghost use Rattle.soy_tree.specs.declared.bundle.Bundle.{Bundle};
 ghost use Rattle.soy_tree.specs.Formed.{AreFormed};
@@ -9,12 +9,20 @@ ghost use Rattle.msg_extract.specs.Catalogue.{catalogue_of};
 ghost use Rattle.msg_extract.specs.declared.catalogue.Listed.{Listed};
 ghost use Rattle.msg_bundle.specs.declared.fault.BundleFault.{BundleFault};
 ghost use Rattle.msg_bundle.specs.BundleFits.{BundleFits};
+ghost use Rattle.msg_bundle.specs.BundlesAlike.{BundlesAlike};
 ghost use Rattle.msg_bundle.specs.ReadsBundle.{BringsBundle, RefusesBundle};
 
-/// Bytes that bring a bundle aren't refused: so each answer comes exactly where it is said.
+/// Bytes bring a bundle or have a fault, and never both: so each answer comes exactly where it is said. They have one
+/// first fault, and of two bundles that they bring each says what the other says.
 pub fn law_bundle()
-    ensures { (bytes : List ℕ) (rows : List Listed) (bundle : Bundle) (fault : BundleFault)
+    ensures apart { (bytes : List ℕ) (rows : List Listed) (bundle : Bundle) (fault : BundleFault)
         → BringsBundle bytes rows bundle → RefusesBundle bytes rows fault → ⊥ }
+    ensures either { (bytes : List ℕ) (rows : List Listed)
+        → ((bundle : Bundle) × BringsBundle bytes rows bundle) ⊎ ((fault : BundleFault) × RefusesBundle bytes rows fault) }
+    ensures one_fault { (bytes : List ℕ) (rows : List Listed) (fault other : BundleFault)
+        → RefusesBundle bytes rows fault → RefusesBundle bytes rows other → fault ≡ other }
+    ensures one_bundle { (bytes : List ℕ) (rows : List Listed) (bundle other : Bundle)
+        → BringsBundle bytes rows bundle → BringsBundle bytes rows other → BundlesAlike bundle other }
 {}
 
 /// A bundle that is read beside the catalogue of formed trees fits them: the translation of each of their messages is
