@@ -30,15 +30,15 @@ take_map f zero xs = refl
 take_map f (suc n) [] = refl
 take_map f (suc n) (x ∷ xs) = ap (λ ys. f x ∷ ys) (take_map f n xs)
 
-take_front : {A : Type 0} (xs ys : List A) → take (length xs) (xs ++ ys) ≡ xs
-take_front [] ys = refl
-take_front (x ∷ xs) ys = ap (λ zs. x ∷ zs) (take_front xs ys)
+take_prefix : {A : Type 0} (xs ys : List A) → take (length xs) (xs ++ ys) ≡ xs
+take_prefix [] ys = refl
+take_prefix (x ∷ xs) ys = ap (λ zs. x ∷ zs) (take_prefix xs ys)
 
 pub cut_is : (old new : List code_op.Op) (inner : List Op) (n : ℕ) → view_ops new ≡ view_ops old ++ inner
     → n ≡ length (view_ops old) → view_ops (take n new) ≡ view_ops old
 cut_is old new inner n e l =
     take_map view_op n new
-    ∙ (ap (take n) e ∙ (ap (λ k. take k (view_ops old ++ inner)) l ∙ take_front (view_ops old) inner))
+    ∙ (ap (take n) e ∙ (ap (λ k. take k (view_ops old ++ inner)) l ∙ take_prefix (view_ops old) inner))
 
 pub made_same : (o p : List Op) (h k : ℕ) (a b : Made) → a ≡ record { ops = o; holes = h }
     → b ≡ record { ops = p; holes = k } → o ≡ p → h ≡ k → a ≡ b
@@ -180,8 +180,8 @@ module _ (tr : Message → Option MsgParts) (places : List Place) (m : Message) 
       → new ≡ with_holes now (parts_holes (uses_of o) others)
       → Chooses tr places (chosen_text tr m (fallback o)) m (fallback o) old without new source own own_after
   both_cut o a now new parts others e f cut p is =
-      either_both o now new parts others e f
-      (from_cut (translation_stands places m parts) (parts_holes (uses_of m) parts) a without now own own_after cut p) is
+      either_both o now new parts others e f (from_cut (translation_stands places m parts)
+      (parts_holes (uses_of m) parts) a without now own own_after cut p) is
 
 -- ---- holes of texts that there aren't
 

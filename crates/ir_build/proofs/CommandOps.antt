@@ -10,8 +10,7 @@ use Rattle.soy_tree.specs.Nodes.{Arguments, Arms, Call, Cases, For, If, Let, Let
 use Rattle.soy_tree.specs.Nodes.{PluralCases, Print, SelectCases, Switch, TextNode, argument, no_argument, no_otherwise}
 use Rattle.soy_tree.specs.Nodes.{otherwise, Plural, Select, Parts}
 use Rattle.soy_tree.specs.Types.{Name}
-use Rattle.template_ir.specs.Compiles.{StandsGiven, other_arm, other_word, same_handed}
-use Rattle.template_ir.specs.Compiles.{CompileContext}
+use Rattle.template_ir.specs.Compiles.{StandsGiven, other_arm, other_word, same_handed, CompileContext}
 use Rattle.template_ir.specs.HoleCounts.{argument_holes, arm_holes, body_holes, case_holes, given_holes, node_holes}
 use Rattle.template_ir.specs.HoleCounts.{nodes_holes, plural_holes, select_holes}
 use Rattle.template_ir.specs.Ops.{Branch, CallOp, Choice, ForOp, Handed, IfOp, LetBlockOp, LetOp, Op, PluralOp, PrintOp}
@@ -39,12 +38,14 @@ text_pushed places [] m own own_after e =
     (sym (e ∙ append_nil own))
     (pushes_none (λ hole all at end. StandsText places all [] at end) m own (λ all at. refl))
 text_pushed places (c ∷ text) m own own_after e =
-    op_pushed (λ hole all at end. StandsText places all (c ∷ text) at end) m _ own own_after e (λ all at get. (get, refl))
+    op_pushed (λ hole all at end. StandsText places all (c ∷ text) at end) m _ own own_after e
+    (λ all at get. (get, refl))
 
 module _ (s : Scene) where
   pub text_node_pushed : (text : List ℕ) (span : Span) (m : Made) (own own_after : List Op)
       → own_after ≡ own ++ text_ops text
-      → Pushes (node_stands s (TextNode text span)) (node_holes (translation_in s) (TextNode text span)) m m own own_after
+      → Pushes (node_stands s (TextNode text span)) (node_holes (translation_in s) (TextNode text span)) m m own
+      own_after
   text_node_pushed text span m own own_after e = text_pushed s.places.now text m own own_after e
 
   pub print_node_pushed : (e : Expr) (phname : Option Name) (span : Span) (a b : Made) (own own_after : List Op)
@@ -73,15 +74,15 @@ module _ (s : Scene) where
   pub if_pushed : (arms : Arms) (span : Span) (branches : List Branch) (a b : Made) (own own_after : List Op)
       → Lays (arms_stand s arms branches) (arm_holes (translation_in s) arms) a b
       → own_after ≡ own ++ (IfOp branches None ∷ [])
-      → Pushes (node_stands s (If arms no_otherwise span)) (node_holes (translation_in s) (If arms no_otherwise span)) a b
-      own own_after
+      → Pushes (node_stands s (If arms no_otherwise span)) (node_holes (translation_in s) (If arms no_otherwise span)) a
+      b own own_after
   if_pushed arms span branches a b own own_after l e =
       let Y : ℕ → List Op → ℕ → ℕ → Type 0 = node_stands s (If arms no_otherwise span) in
       let n : arm_holes (translation_in s) arms ≡ arm_holes (translation_in s) arms + 0 = omega arith in
       pushes_as Y Y (arm_holes (translation_in s) arms) (arm_holes (translation_in s) arms + 0) a b own own_after n
       (λ hole all at end y. y)
-      (lays_push (arms_stand s arms branches) Y (arm_holes (translation_in s) arms) a b (IfOp branches None) own own_after
-      l e (λ hole all at x get. (branches, None, x, tt, (get, refl))))
+      (lays_push (arms_stand s arms branches) Y (arm_holes (translation_in s) arms) a b (IfOp branches None) own
+      own_after l e (λ hole all at x get. (branches, None, x, tt, (get, refl))))
 
   pub if_else_pushed : (arms : Arms) (body : Nodes) (span : Span) (branches : List Branch) (a b d f : Made)
       (none inner own own_after : List Op)
@@ -132,8 +133,8 @@ module _ (s : Scene) where
       (none inner own own_after : List Op) → none ≡ []
       → Pushes (nodes_stand s body) (nodes_holes (translation_in s) body) a b none inner → d ≡ with_ops b inner
       → own_after ≡ own ++ (ForOp x index e (laid_block b inner) ∷ [])
-      → Pushes (node_stands s (For x index e body span)) (node_holes (translation_in s) (For x index e body span)) a d own
-      own_after
+      → Pushes (node_stands s (For x index e body span)) (node_holes (translation_in s) (For x index e body span)) a d
+      own own_after
   for_pushed x index e body span a b d none inner own own_after nil p is own_is =
       lays_push (block_stands (nodes_stand s body) (laid_block b inner)) (node_stands s (For x index e body span))
       (nodes_holes (translation_in s) body) a d (ForOp x index e (laid_block b inner)) own own_after
@@ -144,8 +145,8 @@ module _ (s : Scene) where
       (none inner own own_after : List Op) → none ≡ []
       → Pushes (nodes_stand s body) (nodes_holes (translation_in s) body) a b none inner → d ≡ with_ops b inner
       → own_after ≡ own ++ (LetBlockOp x kind (laid_block b inner) ∷ [])
-      → Pushes (node_stands s (LetBlock x kind body span)) (node_holes (translation_in s) (LetBlock x kind body span)) a d
-      own own_after
+      → Pushes (node_stands s (LetBlock x kind body span)) (node_holes (translation_in s) (LetBlock x kind body span)) a
+      d own own_after
   let_block_pushed x kind body span a b d none inner own own_after nil p is own_is =
       lays_push (block_stands (nodes_stand s body) (laid_block b inner)) (node_stands s (LetBlock x kind body span))
       (nodes_holes (translation_in s) body) a d (LetBlockOp x kind (laid_block b inner)) own own_after
@@ -165,12 +166,12 @@ module _ (s : Scene) where
     given_more all rest same handed (hole + given_holes (translation_in s) given) before h.2,
   )
 
-  pub call_pushed : (name : Name) (all_on : Bool) (given : Arguments) (span : Span) (handed : List Handed) (point : Place)
-      (a b d : Made) (own own_after : List Op) → b ≡ with_hole a → point ≡ place_of s.places.now a.holes
+  pub call_pushed : (name : Name) (all_on : Bool) (given : Arguments) (span : Span) (handed : List Handed)
+      (point : Place) (a b d : Made) (own own_after : List Op) → b ≡ with_hole a → point ≡ place_of s.places.now a.holes
       → Lays (given_stand s given handed) (argument_holes (translation_in s) given) b d
       → own_after ≡ own ++ (call_op s name all_on given handed point span ∷ [])
-      → Pushes (node_stands s (Call name all_on given span)) (node_holes (translation_in s) (Call name all_on given span))
-      a d own own_after
+      → Pushes (node_stands s (Call name all_on given span)) (node_holes (translation_in s)
+      (Call name all_on given span)) a d own own_after
   call_pushed name all_on given span handed point a b d own own_after is point_is l own_is =
       let hole_first : Lays (λ hole all before. Unit {0}) 1 a b = record {
         holes = ap (λ (m : Made). m.holes) is;
@@ -180,8 +181,8 @@ module _ (s : Scene) where
       } in
       let both : Lays (λ hole all before. Unit {0} × given_stand s given handed (hole + 1) all before)
       (1 + argument_holes (translation_in s) given) a d =
-      lays_both (λ hole all before. Unit {0}) (given_stand s given handed) 1 (argument_holes (translation_in s) given) a b
-      d hole_first l in
+      lays_both (λ hole all before. Unit {0}) (given_stand s given handed) 1 (argument_holes (translation_in s) given) a
+      b d hole_first l in
       record {
         holes = both.holes;
         inner = both.inner;
@@ -207,8 +208,8 @@ module _ (s : Scene) where
       → Lays (plural_cases_stand s cases exact) (plural_holes (translation_in s) cases) a b → none ≡ []
       → Pushes (body_stands s other) (body_holes (translation_in s) other) b d none inner → f ≡ with_ops d inner
       → own_after ≡ own ++ (PluralOp e offset false exact (other_arm (laid_block d inner) ∷ []) ∷ [])
-      → Pushes (body_stands s (Plural e offset cases other)) (body_holes (translation_in s) (Plural e offset cases other))
-      a f own own_after
+      → Pushes (body_stands s (Plural e offset cases other)) (body_holes (translation_in s)
+      (Plural e offset cases other)) a f own own_after
   plural_pushed e offset cases other exact a b d f none inner own own_after l nil p is own_is =
       lays_push _ (body_stands s (Plural e offset cases other))
       (plural_holes (translation_in s) cases + body_holes (translation_in s) other) a f

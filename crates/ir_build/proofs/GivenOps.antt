@@ -36,7 +36,8 @@ module _ (s : Scene) where
       })
 
   pub gives_block : (x : code_argument.Argument) (kind : Kind) (body items : List code.Node) (a b d : Made)
-      (none inner : List Op) (done done_after : List Handed) → x.given ≡ given.Block kind body → items ≡ body → none ≡ []
+      (none inner : List Op) (done done_after : List Handed) → x.given ≡ given.Block kind body → items ≡ body
+      → none ≡ []
       → Pushes (nodes_stand s (view_nodes items)) (nodes_holes (translation_in s) (view_nodes items)) a b none inner
       → d ≡ with_ops b inner → done_after ≡ done ++ (handed_as x.name (HandedBlock kind (laid_block b inner)) ∷ [])
       → Gives s (view_argument x) a d done done_after
@@ -48,9 +49,9 @@ module _ (s : Scene) where
         adds = adds;
         lays = lays_as (block_stands (nodes_stand s (view_nodes body)) (laid_block b inner))
             (given_stands s (Block kind (view_nodes body)) (HandedBlock kind (laid_block b inner)))
-            (nodes_holes (translation_in s) (view_nodes body)) (nodes_holes (translation_in s) (view_nodes body)) a d refl
-            (λ hole all before y. (refl, y.0, y.1))
-            (pushes_block (nodes_stand s (view_nodes body)) (nodes_holes (translation_in s) (view_nodes body)) a b d none
+            (nodes_holes (translation_in s) (view_nodes body)) (nodes_holes (translation_in s) (view_nodes body)) a d
+            refl (λ hole all before y. (refl, y.0, y.1)) (pushes_block (nodes_stand s (view_nodes body))
+            (nodes_holes (translation_in s) (view_nodes body)) a b d none
             inner nil
             (subst (λ (ns : List code.Node). Pushes (nodes_stand s (view_nodes ns)) (nodes_holes (translation_in s)
             (view_nodes ns)) a b none inner) it p) made);

@@ -59,7 +59,8 @@ lays_both X Y h k a b d l m = record {
   inner = l.inner ++ m.inner;
   ops = grown a.ops l.inner m.inner b.ops d.ops l.ops m.ops;
   stands = λ all before has le. (
-    l.stands all before (has_before b.ops m.inner d.ops all m.ops has) (long_before b.ops m.inner d.ops before m.ops le),
+    l.stands all before (has_before b.ops m.inner d.ops all m.ops has)
+        (long_before b.ops m.inner d.ops before m.ops le),
     subst (λ (n : ℕ). Y n all before) l.holes (m.stands all before has le),
   );
 }
@@ -191,7 +192,8 @@ pushes_block Y h a b d none own nil p is =
           let s : HasAt b.ops 0 all × HasAt own (0 + length b.ops) all = has_split b.ops own 0 all has in
           let zero_first : 0 + length b.ops ≡ length b.ops = omega arith in
           let here : HasAt own (length b.ops) all = subst (λ (n : ℕ). HasAt own n all) zero_first s.1 in
-          let there : HasAt p.added (length b.ops) all = subst (λ (x : List Op). HasAt x (length b.ops) all) same here in
+          let there : HasAt p.added (length b.ops) all =
+          subst (λ (x : List Op). HasAt x (length b.ops) all) same here in
           let g : length (b.ops ++ own) ≡ length b.ops + length own = length_append b.ops own in
           let itself : length b.ops ≤ length b.ops = omega arith in (
             omega (arith, g, le),
@@ -202,4 +204,5 @@ pushes_block Y h a b d none own nil p is =
 
 -- what stands once all ops are there
 pub lays_all : (X : ℕ → List Op → ℕ → Type 0) (h : ℕ) (a b : Made) → Lays X h a b → X a.holes b.ops (length b.ops)
-lays_all X h a b l = let itself : length b.ops ≤ length b.ops = omega arith in l.stands b.ops (length b.ops) (has_self b.ops) itself
+lays_all X h a b l = let itself : length b.ops ≤ length b.ops = omega arith in l.stands b.ops (length b.ops)
+    (has_self b.ops) itself

@@ -17,8 +17,8 @@ use Rattle.soy_tree.specs.declared.node.PluralCase as code_plural_case
 use Rattle.soy_tree.specs.declared.node.SelectCase as code_select_case
 use Rattle.soy_tree.specs.Nodes.{MessageBody, Nodes, fallback, no_fallback}
 use Rattle.soy_tree.specs.ViewExpressions.{view_expr}
-use Rattle.soy_tree.specs.ViewNodes.{view_arguments, view_arms, view_body, view_cases, view_message, view_node, view_nodes}
-use Rattle.soy_tree.specs.ViewNodes.{view_plural_cases, view_select_cases}
+use Rattle.soy_tree.specs.ViewNodes.{view_arguments, view_arms, view_body, view_cases, view_message, view_node}
+use Rattle.soy_tree.specs.ViewNodes.{view_nodes, view_plural_cases, view_select_cases}
 use Rattle.msg_extract.proofs.ViewBodies.{view_message_is}
 use Rattle.template_ir.specs.Compiles.{other_arm, other_word}
 use Rattle.template_ir.specs.HoleCounts.{argument_holes, arm_holes, body_holes, case_holes, node_holes, nodes_holes}
@@ -39,8 +39,8 @@ use Rattle.ir_build.specs.declared.output.Output.{Output}
 use Rattle.ir_build.specs.declared.scene.Scene.{Scene}
 use Rattle.ir_build.proofs.Choosing.{cut_is, message_pushed}
 use Rattle.ir_build.proofs.CommandOps.{call_pushed, for_pushed, if_else_pushed, if_pushed, let_block_pushed, let_pushed}
-use Rattle.ir_build.proofs.CommandOps.{plural_pushed, print_node_pushed, select_pushed, switch_default_pushed, switch_pushed}
-use Rattle.ir_build.proofs.CommandOps.{text_node_pushed}
+use Rattle.ir_build.proofs.CommandOps.{plural_pushed, print_node_pushed, select_pushed, switch_default_pushed}
+use Rattle.ir_build.proofs.CommandOps.{switch_pushed, text_node_pushed}
 use Rattle.ir_build.proofs.FormViews.{is_call, is_for, is_if, is_if_else, is_let, is_let_block, is_message}
 use Rattle.ir_build.proofs.FormViews.{is_message_fallback, is_print, is_switch, is_switch_default, is_text, view_Parts}
 use Rattle.ir_build.proofs.FormViews.{view_Plural, view_Select}
@@ -119,8 +119,8 @@ module _ (s : Scene) where
         made =
         node_as s (view_node n) _ a f own own_after
         (is_switch_default n x cases body (is ∙ ap (λ y. form.Switch x cases y) there))
-        (switch_default_pushed s (view_expr x) (view_cases cases) (view_nodes body) n.span choices a b d f none inner own
-        own_after (subst (λ (y : List code_case.Case). CasesLaid y choices a b) it l) nil
+        (switch_default_pushed s (view_expr x) (view_cases cases) (view_nodes body) n.span choices a b d f none inner
+        own own_after (subst (λ (y : List code_case.Case). CasesLaid y choices a b) it l) nil
         (subst (λ (y : List code.Node). NodesPushed y b d none inner) body_is p) made e)
 
     pub at_for : (x : List ℕ) (index : Option (List ℕ)) (list : code_expr.Expr) (body nodes : List code.Node)
@@ -152,7 +152,8 @@ module _ (s : Scene) where
         (handed : List Handed) (point : Place) (a b d : Made) (own own_after : List Op)
         → n.form ≡ form.Call name all_on given → items ≡ given → params ≡ given → b ≡ with_hole a
         → point ≡ place_of s.places.now a.holes
-        → Lays (given_stand s (view_arguments items) handed) (argument_holes (translation_in s) (view_arguments items)) b d
+        → Lays (given_stand s (view_arguments items) handed) (argument_holes (translation_in s) (view_arguments items))
+        b d
         → own_after ≡ own ++ (call_op s name all_on (view_arguments params) handed point n.span ∷ [])
         → NodePushed a d own own_after
     at_call name all_on given items params handed point a b d own own_after is it params_are made point_is l e =
@@ -160,11 +161,11 @@ module _ (s : Scene) where
         (call_pushed s name all_on (view_arguments given) n.span handed point a b d own own_after made point_is
         (subst (λ (x : List code_argument.Argument). Lays (given_stand s (view_arguments x) handed)
         (argument_holes (translation_in s) (view_arguments x)) b d) it l)
-        (e ∙ ap (λ (x : List code_argument.Argument). own ++ (call_op s name all_on (view_arguments x) handed point n.span
-        ∷ [])) params_are))
+        (e ∙ ap (λ (x : List code_argument.Argument). own ++ (call_op s name all_on (view_arguments x) handed point
+        n.span ∷ [])) params_are))
 
-    pub at_message : (m : code_message.Message) (o : Option code_message.Message) (a b : Output) (d : Made) (length_before : ℕ)
-        (none source own own_after : List Op) → n.form ≡ form.Message m o → o ≡ None
+    pub at_message : (m : code_message.Message) (o : Option code_message.Message) (a b : Output) (d : Made)
+        (length_before : ℕ) (none source own own_after : List Op) → n.form ≡ form.Message m o → o ≡ None
         → length_before ≡ length (view_ops a.ops.items) → none ≡ []
         → BodyPushed m.body (view_output a) (view_output b) none source
         → Chooses (translation_in s) s.places.now (chosen_text (translation_in s) (view_message m) no_fallback)
@@ -173,12 +174,13 @@ module _ (s : Scene) where
     at_message m o a b d length_before none source own own_after is none_there long nil p q =
         node_as s (view_node n) _ (view_output a) d own own_after
         (is_message n m (is ∙ ap (λ x. form.Message m x) none_there))
-        (message_pushed s (view_body m.body) (view_message m) (view_output a) (view_output b) (cut_output length_before b)
-        d none source own own_after no_fallback m.desc m.meaning m.span n.span (view_message_is m) nil p
+        (message_pushed s (view_body m.body) (view_message m) (view_output a) (view_output b) (cut_output length_before
+        b) d none source own own_after no_fallback m.desc m.meaning m.span n.span (view_message_is m) nil p
         (cut_is a.ops.items b.ops.items p.inner length_before p.ops long) refl q)
 
-    pub at_message_fallback : (m other : code_message.Message) (o : Option code_message.Message) (a b : Output) (d : Made)
-        (length_before : ℕ) (none source own own_after : List Op) → n.form ≡ form.Message m o → o ≡ Some other
+    pub at_message_fallback : (m other : code_message.Message) (o : Option code_message.Message) (a b : Output)
+        (d : Made) (length_before : ℕ) (none source own own_after : List Op) → n.form ≡ form.Message m o
+        → o ≡ Some other
         → length_before ≡ length (view_ops a.ops.items) → none ≡ []
         → BodyPushed m.body (view_output a) (view_output b) none source
         → Chooses (translation_in s) s.places.now
@@ -188,16 +190,18 @@ module _ (s : Scene) where
     at_message_fallback m other o a b d length_before none source own own_after is there long nil p q =
         node_as s (view_node n) _ (view_output a) d own own_after
         (is_message_fallback n m other (is ∙ ap (λ x. form.Message m x) there))
-        (message_pushed s (view_body m.body) (view_message m) (view_output a) (view_output b) (cut_output length_before b)
-        d none source own own_after (fallback (view_message other)) m.desc m.meaning m.span n.span (view_message_is m) nil p
-        (cut_is a.ops.items b.ops.items p.inner length_before p.ops long) refl q)
+        (message_pushed s (view_body m.body) (view_message m) (view_output a) (view_output b) (cut_output length_before
+        b) d none source own own_after (fallback (view_message other)) m.desc m.meaning m.span n.span
+        (view_message_is m) nil p (cut_is a.ops.items b.ops.items p.inner length_before p.ops long) refl q)
 
   -- ---- the contents of messages
 
   body_as : (x : code_body.MessageBody) (seen : MessageBody) (a b : Made) (own own_after : List Op) → view_body x ≡ seen
-      → Pushes (body_stands s seen) (body_holes (translation_in s) seen) a b own own_after → BodyPushed x a b own own_after
+      → Pushes (body_stands s seen) (body_holes (translation_in s) seen) a b own own_after → BodyPushed x a b own
+      own_after
   body_as x seen a b own own_after e p =
-      subst (λ (y : MessageBody). Pushes (body_stands s y) (body_holes (translation_in s) y) a b own own_after) (sym e) p
+      subst (λ (y : MessageBody). Pushes (body_stands s y) (body_holes (translation_in s) y) a b own own_after) (sym e)
+      p
 
   pub at_parts : (x : code_body.MessageBody) (ns items : List code.Node) (a b : Made) (own own_after : List Op)
       → x ≡ message_body.Parts ns → items ≡ ns → NodesPushed items a b own own_after → BodyPushed x a b own own_after

@@ -1,6 +1,6 @@
 -- Lists of nodes, arms and cases, compiled item by item.
-use Rattle.std.proofs.Common.{◌≡◌, ℕ, ◌+◌, ◌<◌, ◌≤◌, List, [], ◌∷◌, ◌++◌, drop, length, slice_index_or, refl, sym, ap, subst}
-use Rattle.std.proofs.Common.{◌∙◌, arith}
+use Rattle.std.proofs.Common.{◌≡◌, ℕ, ◌+◌, ◌<◌, ◌≤◌, List, [], ◌∷◌, ◌++◌, drop, length, slice_index_or, refl, sym, ap}
+use Rattle.std.proofs.Common.{subst, ◌∙◌, arith}
 use Rattle.soy_base.specs.declared.fault.Span.{Span}
 use Rattle.soy_tree.specs.declared.node.Argument as code_argument
 use Rattle.soy_tree.specs.declared.node.Arm as code_arm
@@ -89,11 +89,12 @@ nodes_step s xs i x first now next own_first own_now own_next below is p on =
 pub nodes_end : (s : Scene) (xs rest : List code.Node) (first now : Made) (own_first own_now : List Op) → rest ≡ []
     → PushesOn (nodes_stand s (view_nodes rest)) (nodes_holes (translation_in s) (view_nodes rest))
     (nodes_stand s (view_nodes xs)) (nodes_holes (translation_in s) (view_nodes xs)) first now own_first own_now
-    → Pushes (nodes_stand s (view_nodes xs)) (nodes_holes (translation_in s) (view_nodes xs)) first now own_first own_now
+    → Pushes (nodes_stand s (view_nodes xs)) (nodes_holes (translation_in s) (view_nodes xs)) first now own_first
+    own_now
 nodes_end s xs rest first now own_first own_now nil on =
     on now own_now
-    (subst (λ (r : List code.Node). Pushes (nodes_stand s (view_nodes r)) (nodes_holes (translation_in s) (view_nodes r))
-    now now own_now own_now) (sym nil)
+    (subst (λ (r : List code.Node). Pushes (nodes_stand s (view_nodes r)) (nodes_holes (translation_in s)
+    (view_nodes r)) now now own_now own_now) (sym nil)
     (pushes_none (nodes_stand s (view_nodes [])) now own_now (λ all at. refl)))
 
 -- ---- arms, cases and params
@@ -117,8 +118,8 @@ module _ (s : Scene) where
       → Lays (block_stands (body_stands s (view_body body)) (laid_block b inner))
       (body_holes (translation_in s) (view_body body)) a d
   source_block b0 body a b d none inner it nil p made =
-      pushes_block (body_stands s (view_body body)) (body_holes (translation_in s) (view_body body)) a b d none inner nil
-      (subst (λ (x : code_body.MessageBody). Pushes (body_stands s (view_body x)) (body_holes (translation_in s)
+      pushes_block (body_stands s (view_body body)) (body_holes (translation_in s) (view_body body)) a b d none inner
+      nil (subst (λ (x : code_body.MessageBody). Pushes (body_stands s (view_body x)) (body_holes (translation_in s)
       (view_body x)) a b none inner) it p) made
 
   pub arms_step : (xs : List code_arm.Arm) (i : ℕ) (x : code_arm.Arm) (items : List code.Node)
@@ -135,9 +136,10 @@ module _ (s : Scene) where
       (arm_holes (translation_in s) (view_arms (drop i xs))) (arm_holes (translation_in s) rest)
       (arm_holes (translation_in s) (view_arms xs)) first now next done done_next
       (branch (view_expr (code_arm.out-Arm x).when) (laid_block mid inner)) e
-      (λ later more l. subst (λ (v : Arms). Lays (arms_stand s v (branch (view_expr (code_arm.out-Arm x).when) (laid_block mid inner) ∷
-      more)) (arm_holes (translation_in s) v) now later) (sym (arm_next xs i x below is))
-      (lays_as _ (arms_stand s (arm (view_expr (code_arm.out-Arm x).when) body rest) (branch (view_expr (code_arm.out-Arm x).when) (laid_block mid inner) ∷
+      (λ later more l. subst (λ (v : Arms). Lays (arms_stand s v (branch (view_expr (code_arm.out-Arm x).when)
+      (laid_block mid inner) ∷ more)) (arm_holes (translation_in s) v) now later) (sym (arm_next xs i x below is))
+      (lays_as _ (arms_stand s (arm (view_expr (code_arm.out-Arm x).when) body rest)
+      (branch (view_expr (code_arm.out-Arm x).when) (laid_block mid inner) ∷
       more)) (nodes_holes (translation_in s) body + arm_holes (translation_in s) rest) _ now later refl
       (λ hole all before y. (refl, y.0.0, y.0.1, y.1))
       (lays_both (block_stands (nodes_stand s body) (laid_block mid inner)) (arms_stand s rest more)
@@ -146,7 +148,8 @@ module _ (s : Scene) where
 
   pub cases_step : (xs : List code_case.Case) (i : ℕ) (x : code_case.Case) (items : List code.Node)
       (values : List code_expr.Expr) (first now mid next : Made) (none inner : List Op) (done done_next : List Choice)
-      → i < length xs → x ≡ slice_index_or xs i x → items ≡ (code_case.out-Case x).body → values ≡ (code_case.out-Case x).values → none ≡ []
+      → i < length xs → x ≡ slice_index_or xs i x → items ≡ (code_case.out-Case x).body
+      → values ≡ (code_case.out-Case x).values → none ≡ []
       → Pushes (nodes_stand s (view_nodes items)) (nodes_holes (translation_in s) (view_nodes items)) now mid none inner
       → next ≡ with_ops mid inner
       → done_next ≡ done ++ (choice (view_exprs values) (laid_block mid inner) ∷ [])
@@ -160,9 +163,9 @@ module _ (s : Scene) where
       (choice (view_exprs values) (laid_block mid inner)) e
       (λ later more l. subst (λ (v : Cases). Lays (cases_stand s v (choice (view_exprs values) (laid_block mid inner) ∷
       more)) (case_holes (translation_in s) v) now later) (sym (case_next xs i x below is))
-      (lays_as _ (cases_stand s (case (view_exprs (code_case.out-Case x).values) body rest) (choice (view_exprs values) (laid_block mid inner)
-      ∷ more)) (nodes_holes (translation_in s) body + case_holes (translation_in s) rest) _ now later refl
-      (λ hole all before y. (ap view_exprs values_are, y.0.0, y.0.1, y.1))
+      (lays_as _ (cases_stand s (case (view_exprs (code_case.out-Case x).values) body rest) (choice (view_exprs values)
+      (laid_block mid inner) ∷ more)) (nodes_holes (translation_in s) body + case_holes (translation_in s) rest) _ now
+      later refl (λ hole all before y. (ap view_exprs values_are, y.0.0, y.0.1, y.1))
       (lays_both (block_stands (nodes_stand s body) (laid_block mid inner)) (cases_stand s rest more)
       (nodes_holes (translation_in s) body) (case_holes (translation_in s) rest) now next later
       (body_block items (code_case.out-Case x).body now mid next none inner it nil p made) l))) on
@@ -185,8 +188,8 @@ module _ (s : Scene) where
       (given_holes (translation_in s) (view_argument x).1 + argument_holes (translation_in s) rest) _ now later refl
       (λ hole all before y. (refl, y.0, y.1))
       (lays_both (given_stands s (view_argument x).1 g.by) (given_stand s rest more)
-      (given_holes (translation_in s) (view_argument x).1) (argument_holes (translation_in s) rest) now next later g.lays
-      l))) on
+      (given_holes (translation_in s) (view_argument x).1) (argument_holes (translation_in s) rest) now next later
+      g.lays l))) on
 
   pub plural_cases_step : (xs : List code_plural_case.PluralCase) (i : ℕ) (x : code_plural_case.PluralCase)
       (first now mid next : Made) (none inner : List Op) (done done_next : List ExactBlock) → i < length xs
@@ -199,8 +202,8 @@ module _ (s : Scene) where
       let body : MessageBody = view_body x.body in
       rows_step (plural_cases_stand s (view_plural_cases (drop i xs))) (plural_cases_stand s rest)
       (plural_cases_stand s (view_plural_cases xs)) (plural_holes (translation_in s) (view_plural_cases (drop i xs)))
-      (plural_holes (translation_in s) rest) (plural_holes (translation_in s) (view_plural_cases xs)) first now next done
-      done_next (exact_block x.is (laid_block mid inner)) e
+      (plural_holes (translation_in s) rest) (plural_holes (translation_in s) (view_plural_cases xs)) first now next
+      done done_next (exact_block x.is (laid_block mid inner)) e
       (λ later more l. subst (λ (v : PluralCases). Lays (plural_cases_stand s v (exact_block x.is (laid_block mid inner)
       ∷ more)) (plural_holes (translation_in s) v) now later) (sym (plural_case_next xs i x below is))
       (lays_as _ (plural_cases_stand s (plural_case x.is body rest) (exact_block x.is (laid_block mid inner) ∷ more))
@@ -221,10 +224,10 @@ module _ (s : Scene) where
       let body : MessageBody = view_body x.body in
       rows_step (select_cases_stand s (view_select_cases (drop i xs))) (select_cases_stand s rest)
       (select_cases_stand s (view_select_cases xs)) (select_holes (translation_in s) (view_select_cases (drop i xs)))
-      (select_holes (translation_in s) rest) (select_holes (translation_in s) (view_select_cases xs)) first now next done
-      done_next (word_block x.is (laid_block mid inner)) e
-      (λ later more l. subst (λ (v : SelectCases). Lays (select_cases_stand s v (word_block x.is (laid_block mid inner) ∷
-      more)) (select_holes (translation_in s) v) now later) (sym (select_case_next xs i x below is))
+      (select_holes (translation_in s) rest) (select_holes (translation_in s) (view_select_cases xs)) first now next
+      done done_next (word_block x.is (laid_block mid inner)) e
+      (λ later more l. subst (λ (v : SelectCases). Lays (select_cases_stand s v (word_block x.is (laid_block mid inner)
+      ∷ more)) (select_holes (translation_in s) v) now later) (sym (select_case_next xs i x below is))
       (lays_as _ (select_cases_stand s (select_case x.is body rest) (word_block x.is (laid_block mid inner) ∷ more))
       (body_holes (translation_in s) body + select_holes (translation_in s) rest) _ now later refl
       (λ hole all before y. (refl, y.0.0, y.0.1, y.1))
@@ -240,10 +243,11 @@ module _ (s : Scene) where
       → ArmsOn s xs i first now done
       → Lays (arms_stand s (view_arms xs) done) (arm_holes (translation_in s) (view_arms xs)) first now
   arms_end xs i first now done long on =
-      rows_end (arms_stand s (view_arms [])) (arms_stand s (view_arms xs)) 0 (arm_holes (translation_in s) (view_arms xs)) first now done
-      refl (λ all before. tt)
-      (subst (λ (ys : List code_arm.Arm). RowsOn (arms_stand s (view_arms ys)) (arm_holes (translation_in s) (view_arms ys))
-      (arms_stand s (view_arms xs)) (arm_holes (translation_in s) (view_arms xs)) first now done) (drop_all xs i long) on)
+      rows_end (arms_stand s (view_arms [])) (arms_stand s (view_arms xs)) 0 (arm_holes (translation_in s)
+      (view_arms xs)) first now done refl (λ all before. tt)
+      (subst (λ (ys : List code_arm.Arm). RowsOn (arms_stand s (view_arms ys)) (arm_holes (translation_in s)
+      (view_arms ys)) (arms_stand s (view_arms xs)) (arm_holes (translation_in s) (view_arms xs)) first now done)
+      (drop_all xs i long) on)
 
   pub cases_begin : (xs : List code_case.Case) (m : Made) (done : List Choice) → done ≡ [] → CasesOn s xs 0 m m done
   cases_begin xs m done nil =
@@ -253,12 +257,14 @@ module _ (s : Scene) where
       → CasesOn s xs i first now done
       → Lays (cases_stand s (view_cases xs) done) (case_holes (translation_in s) (view_cases xs)) first now
   cases_end xs i first now done long on =
-      rows_end (cases_stand s (view_cases [])) (cases_stand s (view_cases xs)) 0 (case_holes (translation_in s) (view_cases xs)) first now done
-      refl (λ all before. tt)
-      (subst (λ (ys : List code_case.Case). RowsOn (cases_stand s (view_cases ys)) (case_holes (translation_in s) (view_cases ys))
-      (cases_stand s (view_cases xs)) (case_holes (translation_in s) (view_cases xs)) first now done) (drop_all xs i long) on)
+      rows_end (cases_stand s (view_cases [])) (cases_stand s (view_cases xs)) 0 (case_holes (translation_in s)
+      (view_cases xs)) first now done refl (λ all before. tt)
+      (subst (λ (ys : List code_case.Case). RowsOn (cases_stand s (view_cases ys)) (case_holes (translation_in s)
+      (view_cases ys)) (cases_stand s (view_cases xs)) (case_holes (translation_in s) (view_cases xs)) first now done)
+      (drop_all xs i long) on)
 
-  pub given_begin : (xs : List code_argument.Argument) (m : Made) (done : List Handed) → done ≡ [] → GivenOn s xs 0 m m done
+  pub given_begin : (xs : List code_argument.Argument) (m : Made) (done : List Handed) → done ≡ [] → GivenOn s xs 0 m m
+      done
   given_begin xs m done nil =
       rows_begin (given_stand s (view_arguments xs)) (argument_holes (translation_in s) (view_arguments xs)) m done nil
 
@@ -266,33 +272,50 @@ module _ (s : Scene) where
       → GivenOn s xs i first now done
       → Lays (given_stand s (view_arguments xs) done) (argument_holes (translation_in s) (view_arguments xs)) first now
   given_end xs i first now done long on =
-      rows_end (given_stand s (view_arguments [])) (given_stand s (view_arguments xs)) 0 (argument_holes (translation_in s) (view_arguments xs)) first now done
+      rows_end (given_stand s (view_arguments [])) (given_stand s (view_arguments xs)) 0
+      (argument_holes (translation_in s) (view_arguments xs)) first now done
       refl (λ all before. refl)
-      (subst (λ (ys : List code_argument.Argument). RowsOn (given_stand s (view_arguments ys)) (argument_holes (translation_in s) (view_arguments ys))
-      (given_stand s (view_arguments xs)) (argument_holes (translation_in s) (view_arguments xs)) first now done) (drop_all xs i long) on)
+      (subst (λ (ys : List code_argument.Argument). RowsOn (given_stand s (view_arguments ys))
+      (argument_holes (translation_in s) (view_arguments ys))
+      (given_stand s (view_arguments xs)) (argument_holes (translation_in s) (view_arguments xs)) first now done)
+      (drop_all xs i long) on)
 
-  pub plural_cases_begin : (xs : List code_plural_case.PluralCase) (m : Made) (done : List ExactBlock) → done ≡ [] → PluralCasesOn s xs 0 m m done
+  pub plural_cases_begin : (xs : List code_plural_case.PluralCase) (m : Made) (done : List ExactBlock) → done ≡ []
+      → PluralCasesOn s xs 0 m m done
   plural_cases_begin xs m done nil =
-      rows_begin (plural_cases_stand s (view_plural_cases xs)) (plural_holes (translation_in s) (view_plural_cases xs)) m done nil
+      rows_begin (plural_cases_stand s (view_plural_cases xs)) (plural_holes (translation_in s) (view_plural_cases xs))
+      m done nil
 
-  pub plural_cases_end : (xs : List code_plural_case.PluralCase) (i : ℕ) (first now : Made) (done : List ExactBlock) → length xs ≤ i
+  pub plural_cases_end : (xs : List code_plural_case.PluralCase) (i : ℕ) (first now : Made) (done : List ExactBlock)
+      → length xs ≤ i
       → PluralCasesOn s xs i first now done
-      → Lays (plural_cases_stand s (view_plural_cases xs) done) (plural_holes (translation_in s) (view_plural_cases xs)) first now
+      → Lays (plural_cases_stand s (view_plural_cases xs) done) (plural_holes (translation_in s) (view_plural_cases xs))
+      first now
   plural_cases_end xs i first now done long on =
-      rows_end (plural_cases_stand s (view_plural_cases [])) (plural_cases_stand s (view_plural_cases xs)) 0 (plural_holes (translation_in s) (view_plural_cases xs)) first now done
+      rows_end (plural_cases_stand s (view_plural_cases [])) (plural_cases_stand s (view_plural_cases xs)) 0
+      (plural_holes (translation_in s) (view_plural_cases xs)) first now done
       refl (λ all before. tt)
-      (subst (λ (ys : List code_plural_case.PluralCase). RowsOn (plural_cases_stand s (view_plural_cases ys)) (plural_holes (translation_in s) (view_plural_cases ys))
-      (plural_cases_stand s (view_plural_cases xs)) (plural_holes (translation_in s) (view_plural_cases xs)) first now done) (drop_all xs i long) on)
+      (subst (λ (ys : List code_plural_case.PluralCase). RowsOn (plural_cases_stand s (view_plural_cases ys))
+      (plural_holes (translation_in s) (view_plural_cases ys))
+      (plural_cases_stand s (view_plural_cases xs)) (plural_holes (translation_in s) (view_plural_cases xs)) first now
+      done) (drop_all xs i long) on)
 
-  pub select_cases_begin : (xs : List code_select_case.SelectCase) (m : Made) (done : List WordBlock) → done ≡ [] → SelectCasesOn s xs 0 m m done
+  pub select_cases_begin : (xs : List code_select_case.SelectCase) (m : Made) (done : List WordBlock) → done ≡ []
+      → SelectCasesOn s xs 0 m m done
   select_cases_begin xs m done nil =
-      rows_begin (select_cases_stand s (view_select_cases xs)) (select_holes (translation_in s) (view_select_cases xs)) m done nil
+      rows_begin (select_cases_stand s (view_select_cases xs)) (select_holes (translation_in s) (view_select_cases xs))
+      m done nil
 
-  pub select_cases_end : (xs : List code_select_case.SelectCase) (i : ℕ) (first now : Made) (done : List WordBlock) → length xs ≤ i
+  pub select_cases_end : (xs : List code_select_case.SelectCase) (i : ℕ) (first now : Made) (done : List WordBlock)
+      → length xs ≤ i
       → SelectCasesOn s xs i first now done
-      → Lays (select_cases_stand s (view_select_cases xs) done) (select_holes (translation_in s) (view_select_cases xs)) first now
+      → Lays (select_cases_stand s (view_select_cases xs) done) (select_holes (translation_in s) (view_select_cases xs))
+      first now
   select_cases_end xs i first now done long on =
-      rows_end (select_cases_stand s (view_select_cases [])) (select_cases_stand s (view_select_cases xs)) 0 (select_holes (translation_in s) (view_select_cases xs)) first now done
+      rows_end (select_cases_stand s (view_select_cases [])) (select_cases_stand s (view_select_cases xs)) 0
+      (select_holes (translation_in s) (view_select_cases xs)) first now done
       refl (λ all before. tt)
-      (subst (λ (ys : List code_select_case.SelectCase). RowsOn (select_cases_stand s (view_select_cases ys)) (select_holes (translation_in s) (view_select_cases ys))
-      (select_cases_stand s (view_select_cases xs)) (select_holes (translation_in s) (view_select_cases xs)) first now done) (drop_all xs i long) on)
+      (subst (λ (ys : List code_select_case.SelectCase). RowsOn (select_cases_stand s (view_select_cases ys))
+      (select_holes (translation_in s) (view_select_cases ys))
+      (select_cases_stand s (view_select_cases xs)) (select_holes (translation_in s) (view_select_cases xs)) first now
+      done) (drop_all xs i long) on)

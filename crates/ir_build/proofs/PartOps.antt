@@ -53,8 +53,9 @@ module _ (s : Source) where
       (exact_holes (source_uses s) (exact_arms_of (map view_exact exacts))) a b
       → Lays (named_stand s (named_arms_of (map view_named nameds)) categories)
       (named_holes (source_uses s) (named_arms_of (map view_named nameds))) b d
-      → own_after ≡ own ++ selected_ops (selector true (code_plural.out-PluralPart p).name (source_uses s) (source_uses s))
-      (λ e. PluralOp e (code_plural.out-PluralPart p).offset (code_plural.out-PluralPart p).ordinal numbers categories)
+      → own_after ≡ own ++ selected_ops (selector true (code_plural.out-PluralPart p).name (source_uses s)
+      (source_uses s)) (λ e. PluralOp e (code_plural.out-PluralPart p).offset (code_plural.out-PluralPart p).ordinal
+      numbers categories)
       → PartPushed x a d own own_after
   at_plural_part x p exacts nameds numbers categories a b d own own_after is exact_is named_is l m e =
       part_as x _ a d own own_after (part_is_plural x p is)

@@ -1,6 +1,6 @@
 -- Lists of parts and arms of a translation, compiled item by item, and the ops of single parts.
-use Rattle.std.proofs.Common.{◌≡◌, ℕ, ◌+◌, ◌<◌, ◌≤◌, Bool, true, false, List, [], ◌∷◌, ◌++◌, Option, Some, None, drop, length}
-use Rattle.std.proofs.Common.{map, slice_get, slice_index_or, refl, sym, ap, subst, ◌∙◌, arith}
+use Rattle.std.proofs.Common.{◌≡◌, ℕ, ◌+◌, ◌<◌, ◌≤◌, Bool, true, false, List, [], ◌∷◌, ◌++◌, Option, Some, None, drop}
+use Rattle.std.proofs.Common.{length, map, slice_get, slice_index_or, refl, sym, ap, subst, ◌∙◌, arith}
 use Rattle.plural_rules.specs.declared.category.Category.{Category}
 use Rattle.soy_base.specs.declared.place.Place.{Place}
 use Rattle.soy_meaning.specs.Branch.{selector}
@@ -29,8 +29,8 @@ use Rattle.ir_build.specs.Rows.{exact_block, named_block, word_block}
 use Rattle.ir_build.specs.TextOps.{text_ops}
 use Rattle.ir_build.specs.declared.source.Source.{Source}
 use Rattle.ir_build.proofs.CommandOps.{text_pushed}
-use Rattle.ir_build.proofs.Laying.{hole_pushed, lays_as, lays_both, lays_push, lays_push_none, pushes_block, pushes_both}
-use Rattle.ir_build.proofs.Laying.{pushes_none}
+use Rattle.ir_build.proofs.Laying.{hole_pushed, lays_as, lays_both, lays_push, lays_push_none, pushes_block}
+use Rattle.ir_build.proofs.Laying.{pushes_both, pushes_none}
 use Rattle.ir_build.proofs.Loops.{rows_begin, rows_end, rows_step}
 use Rattle.ir_build.proofs.OpLists.{drop_all}
 use Rattle.ir_build.proofs.Views.{exact_next, named_next, part_next, word_next}
@@ -53,15 +53,15 @@ abbrev pub ExactOn : Source → List code_exact.ExactArm → ℕ → Made → Ma
 ExactOn s xs i first now done =
     RowsOn (exact_stand s (exact_arms_of (map view_exact (drop i xs))))
     (exact_holes (source_uses s) (exact_arms_of (map view_exact (drop i xs))))
-    (exact_stand s (exact_arms_of (map view_exact xs))) (exact_holes (source_uses s) (exact_arms_of (map view_exact xs)))
-    first now done
+    (exact_stand s (exact_arms_of (map view_exact xs))) (exact_holes (source_uses s)
+    (exact_arms_of (map view_exact xs))) first now done
 
 abbrev pub NamedOn : Source → List code_named.NamedArm → ℕ → Made → Made → List NamedBlock → Type 0
 NamedOn s xs i first now done =
     RowsOn (named_stand s (named_arms_of (map view_named (drop i xs))))
     (named_holes (source_uses s) (named_arms_of (map view_named (drop i xs))))
-    (named_stand s (named_arms_of (map view_named xs))) (named_holes (source_uses s) (named_arms_of (map view_named xs)))
-    first now done
+    (named_stand s (named_arms_of (map view_named xs))) (named_holes (source_uses s)
+    (named_arms_of (map view_named xs))) first now done
 
 abbrev pub WordsOn : Source → List code_word.SelectArm → ℕ → Made → Made → List WordBlock → Type 0
 WordsOn s xs i first now done =
@@ -226,8 +226,8 @@ module _ (s : Source) where
       lays_push_none (words_stand s arms blocks) (part_stands s (SelectPart name arms)) _ a b own own_after l e
       (λ hole all at x. rw (← is) refl)
   select_selected (Some n) name arms blocks a b own own_after is l e =
-      lays_push (words_stand s arms blocks) (part_stands s (SelectPart name arms)) _ a b (SelectOp n blocks) own own_after
-      l e (λ hole all at x get. rw (← is) (blocks, x, (get, refl)))
+      lays_push (words_stand s arms blocks) (part_stands s (SelectPart name arms)) _ a b (SelectOp n blocks) own
+      own_after l e (λ hole all at x get. rw (← is) (blocks, x, (get, refl)))
 
   pub select_part_pushed : (name : Name) (arms : SelectArms) (blocks : List WordBlock) (a b : Made)
       (own own_after : List Op) → Lays (words_stand s arms blocks) (word_holes (source_uses s) arms) a b
@@ -239,44 +239,60 @@ module _ (s : Source) where
 
   -- ---- before the first arm and past the last
 
-  pub exact_begin : (xs : List code_exact.ExactArm) (m : Made) (done : List ExactBlock) → done ≡ [] → ExactOn s xs 0 m m done
+  pub exact_begin : (xs : List code_exact.ExactArm) (m : Made) (done : List ExactBlock) → done ≡ [] → ExactOn s xs 0 m m
+      done
   exact_begin xs m done nil =
-      rows_begin (exact_stand s (exact_arms_of (map view_exact xs))) (exact_holes (source_uses s) (exact_arms_of (map view_exact xs))) m done nil
+      rows_begin (exact_stand s (exact_arms_of (map view_exact xs))) (exact_holes (source_uses s)
+      (exact_arms_of (map view_exact xs))) m done nil
 
   pub exact_end : (xs : List code_exact.ExactArm) (i : ℕ) (first now : Made) (done : List ExactBlock) → length xs ≤ i
       → ExactOn s xs i first now done
-      → Lays (exact_stand s (exact_arms_of (map view_exact xs)) done) (exact_holes (source_uses s) (exact_arms_of (map view_exact xs))) first now
+      → Lays (exact_stand s (exact_arms_of (map view_exact xs)) done) (exact_holes (source_uses s)
+      (exact_arms_of (map view_exact xs))) first now
   exact_end xs i first now done long on =
       rows_end (exact_stand s (exact_arms_of (map view_exact []))) (exact_stand s (exact_arms_of (map view_exact xs))) 0
       (exact_holes (source_uses s) (exact_arms_of (map view_exact xs))) first now done refl (λ all before. tt)
-      (subst (λ (ys : List code_exact.ExactArm). RowsOn (exact_stand s (exact_arms_of (map view_exact ys))) (exact_holes (source_uses s) (exact_arms_of (map view_exact
-      ys))) (exact_stand s (exact_arms_of (map view_exact xs))) (exact_holes (source_uses s) (exact_arms_of (map view_exact xs))) first now done)
+      (subst (λ (ys : List code_exact.ExactArm). RowsOn (exact_stand s (exact_arms_of (map view_exact ys)))
+      (exact_holes (source_uses s) (exact_arms_of (map view_exact
+      ys))) (exact_stand s (exact_arms_of (map view_exact xs))) (exact_holes (source_uses s)
+      (exact_arms_of (map view_exact xs))) first now done)
       (drop_all xs i long) on)
 
-  pub named_begin : (xs : List code_named.NamedArm) (m : Made) (done : List NamedBlock) → done ≡ [] → NamedOn s xs 0 m m done
+  pub named_begin : (xs : List code_named.NamedArm) (m : Made) (done : List NamedBlock) → done ≡ [] → NamedOn s xs 0 m m
+      done
   named_begin xs m done nil =
-      rows_begin (named_stand s (named_arms_of (map view_named xs))) (named_holes (source_uses s) (named_arms_of (map view_named xs))) m done nil
+      rows_begin (named_stand s (named_arms_of (map view_named xs))) (named_holes (source_uses s)
+      (named_arms_of (map view_named xs))) m done nil
 
   pub named_end : (xs : List code_named.NamedArm) (i : ℕ) (first now : Made) (done : List NamedBlock) → length xs ≤ i
       → NamedOn s xs i first now done
-      → Lays (named_stand s (named_arms_of (map view_named xs)) done) (named_holes (source_uses s) (named_arms_of (map view_named xs))) first now
+      → Lays (named_stand s (named_arms_of (map view_named xs)) done) (named_holes (source_uses s)
+      (named_arms_of (map view_named xs))) first now
   named_end xs i first now done long on =
       rows_end (named_stand s (named_arms_of (map view_named []))) (named_stand s (named_arms_of (map view_named xs))) 0
       (named_holes (source_uses s) (named_arms_of (map view_named xs))) first now done refl (λ all before. tt)
-      (subst (λ (ys : List code_named.NamedArm). RowsOn (named_stand s (named_arms_of (map view_named ys))) (named_holes (source_uses s) (named_arms_of (map view_named
-      ys))) (named_stand s (named_arms_of (map view_named xs))) (named_holes (source_uses s) (named_arms_of (map view_named xs))) first now done)
+      (subst (λ (ys : List code_named.NamedArm). RowsOn (named_stand s (named_arms_of (map view_named ys)))
+      (named_holes (source_uses s) (named_arms_of (map view_named
+      ys))) (named_stand s (named_arms_of (map view_named xs))) (named_holes (source_uses s)
+      (named_arms_of (map view_named xs))) first now done)
       (drop_all xs i long) on)
 
-  pub word_begin : (xs : List code_word.SelectArm) (m : Made) (done : List WordBlock) → done ≡ [] → WordsOn s xs 0 m m done
+  pub word_begin : (xs : List code_word.SelectArm) (m : Made) (done : List WordBlock) → done ≡ [] → WordsOn s xs 0 m m
+      done
   word_begin xs m done nil =
-      rows_begin (words_stand s (select_arms_of (map view_select_arm xs))) (word_holes (source_uses s) (select_arms_of (map view_select_arm xs))) m done nil
+      rows_begin (words_stand s (select_arms_of (map view_select_arm xs))) (word_holes (source_uses s)
+      (select_arms_of (map view_select_arm xs))) m done nil
 
   pub word_end : (xs : List code_word.SelectArm) (i : ℕ) (first now : Made) (done : List WordBlock) → length xs ≤ i
       → WordsOn s xs i first now done
-      → Lays (words_stand s (select_arms_of (map view_select_arm xs)) done) (word_holes (source_uses s) (select_arms_of (map view_select_arm xs))) first now
+      → Lays (words_stand s (select_arms_of (map view_select_arm xs)) done) (word_holes (source_uses s)
+      (select_arms_of (map view_select_arm xs))) first now
   word_end xs i first now done long on =
-      rows_end (words_stand s (select_arms_of (map view_select_arm []))) (words_stand s (select_arms_of (map view_select_arm xs))) 0
+      rows_end (words_stand s (select_arms_of (map view_select_arm [])))
+      (words_stand s (select_arms_of (map view_select_arm xs))) 0
       (word_holes (source_uses s) (select_arms_of (map view_select_arm xs))) first now done refl (λ all before. tt)
-      (subst (λ (ys : List code_word.SelectArm). RowsOn (words_stand s (select_arms_of (map view_select_arm ys))) (word_holes (source_uses s) (select_arms_of (map view_select_arm
-      ys))) (words_stand s (select_arms_of (map view_select_arm xs))) (word_holes (source_uses s) (select_arms_of (map view_select_arm xs))) first now done)
+      (subst (λ (ys : List code_word.SelectArm). RowsOn (words_stand s (select_arms_of (map view_select_arm ys)))
+      (word_holes (source_uses s) (select_arms_of (map view_select_arm
+      ys))) (words_stand s (select_arms_of (map view_select_arm xs))) (word_holes (source_uses s)
+      (select_arms_of (map view_select_arm xs))) first now done)
       (drop_all xs i long) on)

@@ -1,6 +1,6 @@
 -- The ops of the texts and prints that stand for a placeholder, and the expression of a selector.
-use Rattle.std.proofs.Common.{◌≡◌, ℕ, ◌+◌, ◌<◌, Bool, true, false, not, ◌&&◌, ◌||◌, List, [], ◌∷◌, ◌++◌, Option, Some, None}
-use Rattle.std.proofs.Common.{drop, length, map, slice_get, slice_index_or, refl, sym, ap, subst, ◌∙◌, arith}
+use Rattle.std.proofs.Common.{◌≡◌, ℕ, ◌+◌, ◌<◌, Bool, true, false, not, ◌&&◌, ◌||◌, List, [], ◌∷◌, ◌++◌, Option, Some}
+use Rattle.std.proofs.Common.{None, drop, length, map, slice_get, slice_index_or, refl, sym, ap, subst, ◌∙◌, arith}
 use Rattle.std.specs.Prelude.{if◌then◌else◌, bytes_eq}
 use Rattle.std.specs.Option.{option_or}
 use Rattle.std.proofs.lemmas.Slice.Eq.{bytes_eq-Decides}
@@ -103,9 +103,9 @@ pub placed_end : (places : List Place) (xs rest : List code.Node) (first now : M
     → Pushes (all_placed_stand places (view_nodes xs)) (all_placed_holes (view_nodes xs)) first now own_first own_now
 placed_end places xs rest first now own_first own_now nil on =
     on now own_now
-    (subst (λ (r : List code.Node). Pushes (all_placed_stand places (view_nodes r)) (all_placed_holes (view_nodes r)) now
-    now own_now own_now) (sym nil)
-    (pushes_none (all_placed_stand places (view_nodes [])) now own_now (λ all at. refl)))
+    (subst (λ (r : List code.Node). Pushes (all_placed_stand places (view_nodes r)) (all_placed_holes (view_nodes r))
+    now now own_now own_now) (sym nil) (pushes_none (all_placed_stand places (view_nodes [])) now own_now
+    (λ all at. refl)))
 
 -- ---- the nodes of a cut
 
@@ -195,7 +195,8 @@ or_assoc : (a b c : Option Nodes) → option_or (option_or a b) c ≡ option_or 
 or_assoc None b c = refl
 or_assoc (Some ns) b c = refl
 
-or_if : (b : Bool) (ns : Nodes) (o p : Option Nodes) → (if b then Some ns else option_or o p) ≡ option_or (if b then Some ns else o) p
+or_if : (b : Bool) (ns : Nodes) (o p : Option Nodes) → (if b then Some ns else option_or o p) ≡ option_or
+    (if b then Some ns else o) p
 or_if true ns o p = refl
 or_if false ns o p = refl
 

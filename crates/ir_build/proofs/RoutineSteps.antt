@@ -48,7 +48,8 @@ module _ (l : Language) (all_declared : List Declared) (places : List Place) whe
   body_of d hole all at end = StandsNodes (context_of_template l all_declared places all d) d.template.body hole at end
 
   -- the own ops of a body, by what a template is compiled with
-  pub scene_pushed : (s : Scene) (d : code.Declared) (nodes : List code_node.Node) (a b : Made) (own own_after : List Op)
+  pub scene_pushed : (s : Scene) (d : code.Declared) (nodes : List code_node.Node) (a b : Made)
+      (own own_after : List Op)
       → s.file ≡ d.file → s.namespace.now ≡ d.namespace.now → s.params.now ≡ d.template.now.params
       → view_all s.declared.now ≡ all_declared → language_of s.bundle.now ≡ l → s.places.now ≡ places
       → nodes ≡ d.template.now.body
@@ -60,14 +61,13 @@ module _ (l : Language) (all_declared : List Declared) (places : List Place) whe
       ap (λ (x : Language). nodes_holes x.translation (view_nodes nodes)) language
       ∙ ap (λ (x : List code_node.Node). nodes_holes l.translation (view_nodes x)) body in
       pushes_as (nodes_stand s (view_nodes nodes)) (body_of (view_declared d))
-      (nodes_holes (translation_in s) (view_nodes nodes)) (nodes_holes l.translation (view_nodes d.template.now.body)) a b
-      own own_after count
-      (λ hole all at end h.
-      subst (λ (c : CompileContext). StandsNodes c (view_nodes d.template.now.body) hole at end)
-      (same_context s.file d.file s.namespace.now d.namespace.now (view_params s.params.now)
-      (view_params d.template.now.params) (view_all s.declared.now) all_declared (language_of s.bundle.now) l s.places.now
-      places all file namespace (ap view_params params) all_are language places_are)
-      (subst (λ (x : List code_node.Node). StandsNodes (context_of s all) (view_nodes x) hole at end) body h)) p
+      (nodes_holes (translation_in s) (view_nodes nodes)) (nodes_holes l.translation (view_nodes d.template.now.body)) a
+      b own own_after count (λ hole all at end h. subst (λ (c : CompileContext). StandsNodes c
+      (view_nodes d.template.now.body) hole at end) (same_context s.file d.file s.namespace.now d.namespace.now
+      (view_params s.params.now) (view_params d.template.now.params) (view_all s.declared.now) all_declared
+      (language_of s.bundle.now) l s.places.now places all file namespace (ap view_params params) all_are language
+      places_are) (subst (λ (x : List code_node.Node). StandsNodes (context_of s all) (view_nodes x) hole at end) body
+      h)) p
 
   pub routine_laid : (d : Declared) (r : Routine) (a b e : Made) (none own : List Op) (block : Block) → none ≡ []
       → Pushes (body_of d) (template_holes l.translation d) a b none own → block ≡ laid_block b own → e ≡ with_ops b own
@@ -87,8 +87,8 @@ module _ (l : Language) (all_declared : List Declared) (places : List Place) whe
         private = private;
         params = params;
         within = subst (λ (y : Block). y.end ≤ length all) same ends;
-        body = subst (λ (y : Block). StandsNodes (context_of_template l all_declared places all d) d.template.body hole y.first
-            y.end) same x.1;
+        body = subst (λ (y : Block). StandsNodes (context_of_template l all_declared places all d) d.template.body hole
+            y.first y.end) same x.1;
       })
       (pushes_block (body_of d) (template_holes l.translation d) a b e none own nil p made)
 
@@ -100,21 +100,22 @@ module _ (l : Language) (all_declared : List Declared) (places : List Place) whe
 
   pub routines_step : (xs : List code.Declared) (i : ℕ) (x : code.Declared) (r : Routine) (first now next : Made)
       (done done_next : List Routine) → i < length xs → x ≡ slice_index_or xs i x
-      → Lays (template_stands l all_declared places (view_declared x) r) (template_holes l.translation (view_declared x)) now
-      next
+      → Lays (template_stands l all_declared places (view_declared x) r) (template_holes l.translation
+      (view_declared x)) now next
       → done_next ≡ done ++ (r ∷ []) → RoutinesOn xs i first now done → RoutinesOn xs (i + 1) first next done_next
   routines_step xs i x r first now next done done_next below is one e on =
       let rest : List Declared = view_all (drop (i + 1) xs) in
-      rows_step (templates_stand l all_declared places (view_all (drop i xs))) (templates_stand l all_declared places rest)
-      (templates_stand l all_declared places (view_all xs)) (templates_holes l.translation (view_all (drop i xs)))
-      (templates_holes l.translation rest) (templates_holes l.translation (view_all xs)) first now next done done_next r e
-      (λ later more m. subst (λ (v : List Declared). Lays (templates_stand l all_declared places v (r ∷ more))
+      rows_step (templates_stand l all_declared places (view_all (drop i xs))) (templates_stand l all_declared places
+      rest) (templates_stand l all_declared places (view_all xs)) (templates_holes l.translation (view_all (drop i xs)))
+      (templates_holes l.translation rest) (templates_holes l.translation (view_all xs)) first now next done done_next r
+      e (λ later more m. subst (λ (v : List Declared). Lays (templates_stand l all_declared places v (r ∷ more))
       (templates_holes l.translation v) now later) (sym (ap view_all (drop_next xs i x below is)))
       (lays_as _ (templates_stand l all_declared places (view_declared x ∷ rest) (r ∷ more))
       (template_holes l.translation (view_declared x) + templates_holes l.translation rest) _ now later refl
       (λ hole all before y le. (y.0 le, y.1 le))
-      (lays_both (template_stands l all_declared places (view_declared x) r) (templates_stand l all_declared places rest more)
-      (template_holes l.translation (view_declared x)) (templates_holes l.translation rest) now next later one m))) on
+      (lays_both (template_stands l all_declared places (view_declared x) r) (templates_stand l all_declared places rest
+      more) (template_holes l.translation (view_declared x)) (templates_holes l.translation rest) now next later one
+      m))) on
 
   pub all_stand : (ds : List Declared) (routines : List Routine) (h : ℕ) (a b : Made) → a.holes ≡ 0
       → Lays (templates_stand l all_declared places ds routines) h a b
@@ -126,14 +127,16 @@ module _ (l : Language) (all_declared : List Declared) (places : List Place) whe
 
   pub routines_begin : (xs : List code.Declared) (m : Made) (done : List Routine) → done ≡ [] → RoutinesOn xs 0 m m done
   routines_begin xs m done nil =
-      rows_begin (templates_stand l all_declared places (view_all xs)) (templates_holes l.translation (view_all xs)) m done nil
+      rows_begin (templates_stand l all_declared places (view_all xs)) (templates_holes l.translation (view_all xs)) m
+      done nil
 
   pub routines_end : (xs : List code.Declared) (i : ℕ) (first now : Made) (done : List Routine) → length xs ≤ i
       → RoutinesOn xs i first now done
-      → Lays (templates_stand l all_declared places (view_all xs) done) (templates_holes l.translation (view_all xs)) first now
+      → Lays (templates_stand l all_declared places (view_all xs) done) (templates_holes l.translation (view_all xs))
+      first now
   routines_end xs i first now done long on =
-      rows_end (templates_stand l all_declared places (view_all [])) (templates_stand l all_declared places (view_all xs)) 0
-      (templates_holes l.translation (view_all xs)) first now done refl (λ all before le. tt)
+      rows_end (templates_stand l all_declared places (view_all [])) (templates_stand l all_declared places
+      (view_all xs)) 0 (templates_holes l.translation (view_all xs)) first now done refl (λ all before le. tt)
       (subst (λ (ys : List code.Declared). RowsOn (templates_stand l all_declared places (view_all ys))
       (templates_holes l.translation (view_all ys)) (templates_stand l all_declared places (view_all xs))
       (templates_holes l.translation (view_all xs)) first now done) (drop_all xs i long) on)

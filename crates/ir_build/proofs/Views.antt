@@ -19,9 +19,9 @@ use Rattle.plural_rules.specs.declared.category.Category.{Category}
 use Rattle.soy_tree.specs.Nodes.{Arguments, Arms, Cases, Given, Message, MessageBody, Node, Nodes, PluralCases}
 use Rattle.soy_tree.specs.Nodes.{SelectCases, argument, arm, case, node, plural_case, select_case}
 use Rattle.soy_tree.specs.ViewExpressions.{view_expr, view_exprs}
-use Rattle.soy_tree.specs.ViewMessageParts.{exact_arms_of, exact_layer, named_arms_of, named_layer, part_layer, parts_of}
-use Rattle.soy_tree.specs.ViewMessageParts.{plural_layer, select_arm_layer, select_arms_of, select_layer, view_exact}
-use Rattle.soy_tree.specs.ViewMessageParts.{view_named, view_part, view_parts, view_select_arm}
+use Rattle.soy_tree.specs.ViewMessageParts.{exact_arms_of, exact_layer, named_arms_of, named_layer, part_layer}
+use Rattle.soy_tree.specs.ViewMessageParts.{parts_of, plural_layer, select_arm_layer, select_arms_of, select_layer}
+use Rattle.soy_tree.specs.ViewMessageParts.{view_exact, view_named, view_part, view_parts, view_select_arm}
 use Rattle.soy_tree.specs.ViewNodes.{argument_layer, arm_layer, body_layer, case_layer, form_layer, given_layer}
 use Rattle.soy_tree.specs.ViewNodes.{message_layer, node_layer, plural_case_layer, select_case_layer, view_argument}
 use Rattle.soy_tree.specs.ViewNodes.{view_arguments, view_arm, view_arms, view_body, view_case, view_cases, view_given}
@@ -29,13 +29,15 @@ use Rattle.soy_tree.specs.ViewNodes.{view_node, view_nodes, view_plural_case, vi
 use Rattle.soy_tree.specs.ViewNodes.{view_select_cases}
 use Rattle.ir_build.proofs.OpLists.{drop_next}
 
-view_arm_is : (a : code_arm.Arm) → view_arm a ≡ (view_expr (code_arm.out-Arm a).when, view_nodes (code_arm.out-Arm a).body)
+view_arm_is : (a : code_arm.Arm)
+    → view_arm a ≡ (view_expr (code_arm.out-Arm a).when, view_nodes (code_arm.out-Arm a).body)
 view_arm_is a =
     code_arm.fold_out-Arm (Span → Node) Given MessageBody (Name × Given × Span) (Expr × Nodes) (List Expr × Nodes)
     Message Node (ℤ × MessageBody) (List ℕ × MessageBody) form_layer given_layer body_layer argument_layer arm_layer
     case_layer message_layer node_layer plural_case_layer select_case_layer a
 
-view_case_is : (c : code_case.Case) → view_case c ≡ (view_exprs (code_case.out-Case c).values, view_nodes (code_case.out-Case c).body)
+view_case_is : (c : code_case.Case)
+    → view_case c ≡ (view_exprs (code_case.out-Case c).values, view_nodes (code_case.out-Case c).body)
 view_case_is c =
     code_case.fold_out-Case (Span → Node) Given MessageBody (Name × Given × Span) (Expr × Nodes) (List Expr × Nodes)
     Message Node (ℤ × MessageBody) (List ℕ × MessageBody) form_layer given_layer body_layer argument_layer arm_layer
@@ -81,13 +83,15 @@ pub node_next : (ns : List code.Node) (i : ℕ) (n : code.Node) → i < length n
 node_next ns i n below is = ap view_nodes (drop_next ns i n below is)
 
 pub arm_next : (xs : List code_arm.Arm) (i : ℕ) (x : code_arm.Arm) → i < length xs → x ≡ slice_index_or xs i x
-    → view_arms (drop i xs) ≡ arm (view_expr (code_arm.out-Arm x).when) (view_nodes (code_arm.out-Arm x).body) (view_arms (drop (i + 1) xs))
+    → view_arms (drop i xs) ≡ arm (view_expr (code_arm.out-Arm x).when) (view_nodes (code_arm.out-Arm x).body)
+    (view_arms (drop (i + 1) xs))
 arm_next xs i x below is =
     ap view_arms (drop_next xs i x below is)
     ∙ ap (λ (v : Expr × Nodes). arm v.0 v.1 (view_arms (drop (i + 1) xs))) (view_arm_is x)
 
 pub case_next : (xs : List code_case.Case) (i : ℕ) (x : code_case.Case) → i < length xs → x ≡ slice_index_or xs i x
-    → view_cases (drop i xs) ≡ case (view_exprs (code_case.out-Case x).values) (view_nodes (code_case.out-Case x).body) (view_cases (drop (i + 1) xs))
+    → view_cases (drop i xs) ≡ case (view_exprs (code_case.out-Case x).values) (view_nodes (code_case.out-Case x).body)
+    (view_cases (drop (i + 1) xs))
 case_next xs i x below is =
     ap view_cases (drop_next xs i x below is)
     ∙ ap (λ (v : List Expr × Nodes). case v.0 v.1 (view_cases (drop (i + 1) xs))) (view_case_is x)

@@ -14,8 +14,8 @@ use Rattle.ir_build.specs.declared.scene.Scene.{Scene}
 abbrev pub given_stands : Scene → Given → HandedBy → ℕ → List Op → ℕ → Type 0
 given_stands s given by hole all before = StandsHanded (context_of s all) given by hole before
 
-pub record Gives (s : Scene) (argument : Name × Given × Span) (old new : Made) (handed_before handed_after : List Handed)
-    : Type 0 where
+pub record Gives (s : Scene) (argument : Name × Given × Span) (old new : Made) (handed_before handed_after : List
+    Handed) : Type 0 where
   pub by : HandedBy
   pub adds : handed_after ≡ handed_before ++ (handed_as argument.0 by ∷ [])
   pub lays : Lays (given_stands s argument.1 by) (given_holes (translation_in s) argument.1) old new

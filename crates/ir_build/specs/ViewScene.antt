@@ -1,5 +1,5 @@
--- What the compiler goes by, as the definitions have it: templates, what a bundle brings, and what the ops of a template
--- go by.
+-- What the compiler goes by, as the definitions have it: templates, what a bundle brings, and what the ops of a
+-- template go by.
 use Rattle.std.specs.Prelude.{Bool, List, Option, map, ◌++◌}
 use Rattle.soy_base.specs.declared.fault.Span.{Span}
 use Rattle.soy_base.specs.declared.place.Place.{Place}

@@ -132,8 +132,9 @@ fn branches(scene: &Scene<'_>, out: &mut Output, arms: &[Arm]) -> Result<Vec<Bra
 /// The choices of a switch.
 #[cycle(building)]
 fn choices(scene: &Scene<'_>, out: &mut Output, cases: &[Case]) -> Result<Vec<Choice>, OutOfMemory>
-    ensures { IfOk result (λ choices. Lays (cases_stand scene.now (view_cases cases.now) (map view_choice choices.items))
-        (case_holes (translation_in scene.now) (view_cases cases.now)) (view_output out.old) (view_output out.new)) }
+    ensures { IfOk result (λ choices. Lays (cases_stand scene.now (view_cases cases.now)
+        (map view_choice choices.items)) (case_holes (translation_in scene.now) (view_cases cases.now))
+        (view_output out.old) (view_output out.new)) }
 {
     let mut choices = Vec::new(scene.alloc);
     for case in cases {
@@ -151,8 +152,9 @@ fn handed(
     out: &mut Output,
     given: &[Argument],
 ) -> Result<Vec<Handed>, OutOfMemory>
-    ensures { IfOk result (λ handed. Lays (given_stand scene.now (view_arguments given.now) (map view_handed handed.items))
-        (argument_holes (translation_in scene.now) (view_arguments given.now)) (view_output out.old) (view_output out.new)) }
+    ensures { IfOk result (λ handed. Lays (given_stand scene.now (view_arguments given.now)
+        (map view_handed handed.items)) (argument_holes (translation_in scene.now) (view_arguments given.now))
+        (view_output out.old) (view_output out.new)) }
 {
     let mut handed = Vec::new(scene.alloc);
     for argument in given {
@@ -222,7 +224,8 @@ fn exact_blocks(
     cases: &[PluralCase],
 ) -> Result<Vec<ExactBlock>, OutOfMemory>
     ensures { IfOk result (λ blocks. Lays (plural_cases_stand scene.now (view_plural_cases cases.now) blocks.items)
-        (plural_holes (translation_in scene.now) (view_plural_cases cases.now)) (view_output out.old) (view_output out.new)) }
+        (plural_holes (translation_in scene.now) (view_plural_cases cases.now)) (view_output out.old)
+        (view_output out.new)) }
 {
     let mut blocks = Vec::new(scene.alloc);
     for case in cases {
@@ -242,7 +245,8 @@ fn word_blocks(
     cases: &[SelectCase],
 ) -> Result<Vec<WordBlock>, OutOfMemory>
     ensures { IfOk result (λ blocks. Lays (select_cases_stand scene.now (view_select_cases cases.now) blocks.items)
-        (select_holes (translation_in scene.now) (view_select_cases cases.now)) (view_output out.old) (view_output out.new)) }
+        (select_holes (translation_in scene.now) (view_select_cases cases.now)) (view_output out.old)
+        (view_output out.new)) }
 {
     let mut blocks = Vec::new(scene.alloc);
     for case in cases {

@@ -29,9 +29,9 @@ fn routine(
     one: &Declared<'_>,
 ) -> Result<Routine, OutOfMemory>
     ensures { IfOk result (λ r. Lays
-        (template_stands (language_of bundle.now) (view_all all.now) places.now (view_declared one.now) (view_routine r))
-        (template_holes (language_of bundle.now).translation (view_declared one.now)) (view_output out.old)
-        (view_output out.new)) }
+        (template_stands (language_of bundle.now) (view_all all.now) places.now (view_declared one.now)
+        (view_routine r)) (template_holes (language_of bundle.now).translation (view_declared one.now))
+        (view_output out.old) (view_output out.new)) }
 {
     let template = one.template;
     let scene = Scene {

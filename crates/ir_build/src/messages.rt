@@ -89,8 +89,8 @@ pub(crate) fn push_alone(
     }
 }
 
-/// Adds a message with a fallback. Where there is a translation, the message's before the fallback's, that is added, and
-/// what was made of the source is dropped.
+/// Adds a message with a fallback. Where there is a translation, the message's before the fallback's, that is added,
+/// and what was made of the source is dropped.
 pub(crate) fn push_either(
     scene: &Scene<'_>,
     out: &mut Output,

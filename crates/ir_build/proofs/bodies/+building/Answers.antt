@@ -20,8 +20,8 @@ use Rattle.ir_build.proofs.bodies.+building.Goals as goal
 pub push_node-returns-in-Text : goal.push_node-returns-in-Text
 push_node-returns-in-Text t c =
     on_ok_weaker c.push_text.result
-    (at_text c.args.scene.now c.args.node.now c.in-Text.text (view_output c.args.out.now) (view_ops c.args.own.now.items)
-    (view_ops c.push_text.new.own.items) c.in-Text.is) c.push_text.ensures
+    (at_text c.args.scene.now c.args.node.now c.in-Text.text (view_output c.args.out.now)
+    (view_ops c.args.own.now.items) (view_ops c.push_text.new.own.items) c.in-Text.is) c.push_text.ensures
 
 pub push_node-returns-in-Print : goal.push_node-returns-in-Print
 push_node-returns-in-Print t c =
@@ -242,7 +242,8 @@ exact_blocks-loop-case-preserved t c =
     c.loop-case.blocks.items c.push.new.self.items c.loop-case-test.true c.case-item.is
     (ap view_ops c.new-inner.ensures.items) c.in_ok-push_body.ensures c.in_ok-body.ensures.made
     (exact_last c.loop-case.blocks.items c.push.new.self.items _ c.case-item.result.is c.in_ok-body.body _
-    (to_z-of_z w64 c.case-item.result.is fits) c.in_ok-body.ensures.block c.in_ok-push.ensures.items) c.loop-case.invariant
+    (to_z-of_z w64 c.case-item.result.is fits) c.in_ok-body.ensures.block c.in_ok-push.ensures.items)
+    c.loop-case.invariant
 
 pub word_blocks-loop-case-preserved : goal.word_blocks-loop-case-preserved
 word_blocks-loop-case-preserved t c =
@@ -268,8 +269,8 @@ push_nodes-returns t c =
 
 pub branches-loop-arm-init : goal.branches-loop-arm-init
 branches-loop-arm-init t c =
-    arms_begin c.args.scene.now c.args.arms.now (view_output c.args.out.now) (map view_branch c.new-branches.result.items)
-    (ap (map view_branch) c.new-branches.ensures.items)
+    arms_begin c.args.scene.now c.args.arms.now (view_output c.args.out.now)
+    (map view_branch c.new-branches.result.items) (ap (map view_branch) c.new-branches.ensures.items)
 
 pub branches-returns : goal.branches-returns
 branches-returns t c =
@@ -278,8 +279,8 @@ branches-returns t c =
 
 pub choices-loop-case-init : goal.choices-loop-case-init
 choices-loop-case-init t c =
-    cases_begin c.args.scene.now c.args.cases.now (view_output c.args.out.now) (map view_choice c.new-choices.result.items)
-    (ap (map view_choice) c.new-choices.ensures.items)
+    cases_begin c.args.scene.now c.args.cases.now (view_output c.args.out.now)
+    (map view_choice c.new-choices.result.items) (ap (map view_choice) c.new-choices.ensures.items)
 
 pub choices-returns : goal.choices-returns
 choices-returns t c =
@@ -288,13 +289,14 @@ choices-returns t c =
 
 pub handed-loop-argument-init : goal.handed-loop-argument-init
 handed-loop-argument-init t c =
-    given_begin c.args.scene.now c.args.given.now (view_output c.args.out.now) (map view_handed c.new-handed.result.items)
-    (ap (map view_handed) c.new-handed.ensures.items)
+    given_begin c.args.scene.now c.args.given.now (view_output c.args.out.now)
+    (map view_handed c.new-handed.result.items) (ap (map view_handed) c.new-handed.ensures.items)
 
 pub handed-returns : goal.handed-returns
 handed-returns t c =
     given_end c.args.scene.now c.args.given.now c.loop-argument.argument-index (view_output c.args.out.now)
-    (view_output c.loop-argument.out) (map view_handed c.loop-argument.handed.items) (omega arith) c.loop-argument.invariant
+    (view_output c.loop-argument.out) (map view_handed c.loop-argument.handed.items) (omega arith)
+    c.loop-argument.invariant
 
 pub exact_blocks-loop-case-init : goal.exact_blocks-loop-case-init
 exact_blocks-loop-case-init t c =

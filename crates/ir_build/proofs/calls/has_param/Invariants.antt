@@ -6,4 +6,5 @@ use Rattle.ir_build.proofs.calls.has_param.Given as goal
 
 abbrev pub invariant-loop-param : goal.invariant-loop-param
 invariant-loop-param l =
-    is_some (param_of l.name (view_params l.params)) ≡ is_some (param_of l.name (view_params (drop l.param-index l.params)))
+    is_some (param_of l.name (view_params l.params)) ≡ is_some
+    (param_of l.name (view_params (drop l.param-index l.params)))

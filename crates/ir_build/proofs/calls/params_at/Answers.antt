@@ -9,4 +9,5 @@ returns-in-Some c =
 
 pub returns-in-None : goal.returns-in-None
 returns-in-None c =
-    params_missing c.args.all.now c.args.number (sym (ap (option_map (λ d. d.now)) c.in-None.is) ∙ c.declared_at.ensures)
+    params_missing c.args.all.now c.args.number (sym (ap (option_map (λ d. d.now)) c.in-None.is)
+    ∙ c.declared_at.ensures)

@@ -13,8 +13,9 @@ use Rattle.ir_build.proofs.messages.pass_translation.Goals as goal
 
 pub returns : goal.returns
 returns c =
-    passed (translation_stands c.args.scene.now.places.now (view_message c.args.message.now) (view_parts c.args.parts.now))
-    (parts_holes (uses_of (view_message c.args.message.now)) (view_parts c.args.parts.now)) (view_output c.args.out.now)
+    passed (translation_stands c.args.scene.now.places.now (view_message c.args.message.now)
+    (view_parts c.args.parts.now)) (parts_holes (uses_of (view_message c.args.message.now))
+    (view_parts c.args.parts.now)) (view_output c.args.out.now)
     (view_output c.push_translation.new.out) _ (view_ops c.new-unused.result.items)
     (view_ops c.push_translation.new.own.items)
     (view_ops (take c.len-old_length.result c.push_translation.new.out.ops.items)) c.in_ok-push_translation.ensures

@@ -74,7 +74,8 @@ exact_blocks-loop-arm-preserved t c =
     c.loop-arm.blocks.items c.push.new.self.items c.loop-arm-test.true c.arm-item.is c.items.ensures
     (ap view_ops c.new-inner.ensures.items) c.in_ok-push_parts.ensures c.in_ok-body.ensures.made
     (exact_last c.loop-arm.blocks.items c.push.new.self.items _ c.arm-item.result.is c.in_ok-body.body _
-    (to_z-of_z w64 c.arm-item.result.is fits) c.in_ok-body.ensures.block c.in_ok-push.ensures.items) c.loop-arm.invariant
+    (to_z-of_z w64 c.arm-item.result.is fits) c.in_ok-body.ensures.block c.in_ok-push.ensures.items)
+    c.loop-arm.invariant
 
 pub exact_blocks-returns : goal.exact_blocks-returns
 exact_blocks-returns t c =

@@ -20,8 +20,8 @@ returns-in-Text c =
 pub returns-in-Print : goal.returns-in-Print
 returns-in-Print c =
     on_ok_both c.push_print.result _ _ _
-    (print_placed c.args.source.now.places.now (view_node c.args.node.now) (view_expr c.in-Print.expr) c.in-Print.field-1
-    c.args.node.now.span (view_output c.args.out.now) (view_output c.push_print.new.out)
+    (print_placed c.args.source.now.places.now (view_node c.args.node.now) (view_expr c.in-Print.expr)
+    c.in-Print.field-1 c.args.node.now.span (view_output c.args.out.now) (view_output c.push_print.new.out)
     (view_ops c.args.own.now.items) (view_ops c.push_print.new.own.items)
     (is_print c.args.node.now c.in-Print.expr c.in-Print.field-1 c.in-Print.is)) c.push_print.ensures.own
     c.push_print.ensures.made
