@@ -1,11 +1,15 @@
 //! The programs of trees.
 
-ghost use Rattle.std.specs.Prelude.{◌≡◌, ◌<◌, ◌^◌, length, map, IfOk};
+ghost use Rattle.std.specs.Prelude.{◌≡◌, ◌<◌, ◌^◌, [], length, map, IfOk};
 ghost use Rattle.soy_tree.specs.ViewTrees.{view_params, view_trees};
+ghost use Rattle.msg_extract.specs.Fits.{FitsTrees};
+ghost use Rattle.soy_meaning.specs.AcceptedTrees.{walk_trees};
+ghost use Rattle.soy_meaning.specs.Walk.{walked};
 ghost use Rattle.template_ir.specs.Compiles.{Compiles};
 ghost use Rattle.template_ir.specs.ViewOps.{view_program, view_routine};
 ghost use Rattle.ir_build.specs.Laid.{Lays, view_output};
 ghost use Rattle.ir_build.specs.Routines.{template_holes, template_stands, templates_holes, templates_stand};
+ghost use Rattle.ir_build.specs.Translations.{translation_of};
 ghost use Rattle.ir_build.specs.ViewScene.{language_of, view_all, view_declared};
 
 use crate::bodies::push_nodes;
@@ -15,9 +19,9 @@ use crate::template::Declared;
 use crate::templates::all_templates;
 use plural_rules::Rules;
 use soy_base::{OutOfMemory, Place, Seq};
-use soy_tree::{Bundle, Param, Tree};
+use soy_tree::{Bundle, Param, Tree, Typed};
 use std::alloc::Global;
-use template_ir::{ProgramParts, Routine};
+use template_ir::{Places, Program, ProgramParts, Routine};
 
 /// A template of a program.
 fn routine(
@@ -126,4 +130,23 @@ pub fn program_parts(
         plural,
         ordinal,
     })
+}
+
+/// The program of typed trees under a bundle that fits them, with the places that the walk over them gives. It can't go
+/// wrong.
+pub fn build(
+    alloc: Global,
+    typed: &Typed,
+    places: &Places,
+    bundle: &Bundle,
+) -> Result<Program, OutOfMemory>
+    requires fits { FitsTrees (translation_of bundle.now.messages) (view_trees typed.now) }
+    requires places {
+        walk_trees (language_of bundle.now).translation (view_trees typed.now) ≡ Ok (walked [] places.now.prints)
+    }
+    ensures { IfOk result (λ program. Compiles (view_trees typed.now) places.now.prints (language_of bundle.now)
+        (view_program program)) }
+{
+    let parts = program_parts(alloc, typed.trees(), places.prints.items(), bundle)?;
+    Ok(Program::new(parts))
 }

@@ -3,7 +3,7 @@
 //! `build` makes the ops of each template in one pass over its nodes. Its clause is `Compiles` of template_ir: each
 //! command is one op, a message is the ops of the text that the bundle chooses, and the blocks inside of a list of
 //! nodes stand before the list's own ops. Depends on soy_base, plural_rules, soy_tree, soy_meaning, msg_extract,
-//! msg_bundle and template_ir.
+//! template_ir and bundle_fit.
 #![tactic(auto)]
 
 mod bodies;
@@ -20,4 +20,4 @@ mod template;
 mod templates;
 mod translations;
 
-pub use building::program_parts;
+pub use building::{build, program_parts};
