@@ -1,0 +1,16 @@
+pub mod OpLists
+pub mod Laying
+pub mod CommandOps
+pub mod Loops
+pub mod Views
+pub mod FormViews
+pub mod PartViews
+pub mod GivenOps
+pub mod NodeSteps
+pub mod PartSteps
+pub mod Placing
+pub mod Choosing
+pub mod Callees
+pub mod RoutineSteps
+pub mod NodeOps
+pub mod PartOps

@@ -1,0 +1,11 @@
+use Rattle.std.proofs.Common.{map}
+use Rattle.template_ir.specs.ViewOps.{view_routine}
+use Rattle.ir_build.specs.Laid.{view_output}
+use Rattle.ir_build.specs.ViewScene.{language_of, view_all}
+use Rattle.ir_build.proofs.RoutineSteps.{RoutinesOn}
+use Rattle.ir_build.proofs.building.routines.Given as goal
+
+abbrev pub invariant-loop-one : goal.invariant-loop-one
+invariant-loop-one l =
+    RoutinesOn (language_of l.bundle) (view_all l.all) l.places l.all l.one-index (view_output l.initial.out)
+    (view_output l.out) (map view_routine l.routines.items)

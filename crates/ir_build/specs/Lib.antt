@@ -1,0 +1,12 @@
+pub mod Translations
+pub mod ViewScene
+pub mod TextOps
+pub mod Rows
+pub mod OnGoing
+pub mod Laid
+pub mod NamedRows
+pub mod HasNames
+pub mod Claims
+pub mod Chooses
+pub mod Gives
+pub mod Routines

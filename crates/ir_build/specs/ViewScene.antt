@@ -1,0 +1,65 @@
+-- What the compiler goes by, as the definitions have it: templates, what a bundle brings, and what the ops of a
+-- template go by.
+use Rattle.std.specs.Prelude.{Bool, List, Option, map, ◌++◌}
+use Rattle.soy_base.specs.declared.fault.Span.{Span}
+use Rattle.soy_base.specs.declared.place.Place.{Place}
+use Rattle.soy_meaning.specs.PlanOfNodes.{starts_at}
+use Rattle.soy_tree.specs.Bodies.{names_given}
+use Rattle.soy_tree.specs.declared.bundle.Bundle.{Bundle}
+use Rattle.soy_tree.specs.MessageParts.{MsgParts}
+use Rattle.soy_tree.specs.Nodes.{Arguments, Message}
+use Rattle.soy_tree.specs.Templates.{Declared, callee}
+use Rattle.soy_tree.specs.Types.{Name}
+use Rattle.soy_tree.specs.ViewTrees.{view_params, view_template}
+use Rattle.ir_build.specs.Translations.{translation_of}
+use Rattle.msg_extract.specs.MessageId.{id_of}
+use Rattle.template_ir.specs.Compiles.{CompileContext, Language, callee_number, handed_on_names, params_there}
+use Rattle.template_ir.specs.Compiles.{same_handed}
+use Rattle.template_ir.specs.Ops.{CallOp, Handed, Op}
+use Rattle.ir_build.specs.declared.scene.Scene.{Scene}
+use Rattle.ir_build.specs.declared.template.Declared as code
+
+abbrev pub view_declared : code.Declared → Declared
+view_declared d = record { file = d.file; namespace = d.namespace.now; template = view_template d.template.now }
+
+abbrev pub view_all : List code.Declared → List Declared
+view_all = map view_declared
+
+-- **what a bundle brings**: the translation of a message is that of its id
+abbrev pub language_of : Bundle → Language
+language_of b = record {
+  translation = λ m. translation_of b.messages (id_of m);
+  direction = b.dir;
+  plural = b.plural;
+  ordinal = b.ordinal;
+}
+
+abbrev pub translation_in : Scene → Message → Option MsgParts
+translation_in s = (language_of s.bundle.now).translation
+
+-- what the ops of a template go by, where these are all ops
+abbrev pub context_of : Scene → List Op → CompileContext
+context_of s ops = record {
+  file = s.file;
+  namespace = s.namespace.now;
+  params = view_params s.params.now;
+  declared = view_all s.declared.now;
+  translation = translation_in s;
+  places = s.places.now;
+  ops = ops;
+}
+
+-- the names that a call hands on
+abbrev pub names_on : Scene → Name → Bool → Arguments → List Name
+names_on s name all given =
+    handed_on_names all (view_params s.params.now) (names_given given)
+    (params_there (callee (view_all s.declared.now) s.namespace.now name))
+
+-- the op of a call whose params are handed so
+abbrev pub call_op : Scene → Name → Bool → Arguments → List Handed → Place → Span → Op
+call_op s name all given handed point span = CallOp (record {
+  template = callee_number (view_all s.declared.now) s.namespace.now name;
+  given = handed ++ map same_handed (names_on s name all given);
+  place = point;
+  site = starts_at s.file span;
+})

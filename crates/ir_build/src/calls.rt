@@ -1,0 +1,175 @@
+//! The op of a call, over the blocks of its params.
+
+ghost use Rattle.std.specs.Prelude.{◌≡◌, ◌∷◌, [], ◌++◌, is_some, map, option_map, slice_get, OnOk};
+ghost use Rattle.soy_tree.specs.Bodies.{names_given, param_of};
+ghost use Rattle.soy_tree.specs.Declarations.{is_among};
+ghost use Rattle.soy_tree.specs.ViewExpressions.{view_expr};
+ghost use Rattle.soy_tree.specs.ViewNodes.{view_arguments};
+ghost use Rattle.soy_tree.specs.ViewTrees.{view_params};
+ghost use Rattle.template_ir.specs.Compiles.{handed_on_names, params_there, same_handed};
+ghost use Rattle.template_ir.specs.Ops.{HandedBlock, HandedValue};
+ghost use Rattle.template_ir.specs.ViewOps.{view_handed, view_ops};
+ghost use Rattle.ir_build.specs.Laid.{laid_block, view_output, with_ops};
+ghost use Rattle.ir_build.specs.Rows.{handed_as};
+ghost use Rattle.ir_build.specs.ViewScene.{call_op, view_all};
+
+use crate::commands::push_op;
+use crate::output::Output;
+use crate::scene::Scene;
+use crate::template::Declared;
+use crate::templates::callee_number;
+use soy_base::{Kind, OutOfMemory, Place, Seq, Span, Text};
+use soy_tree::{Argument, Expr, Param};
+use std::alloc::Global;
+use template_ir::{Callee, Handed, HandedBy, Op};
+
+/// Whether one of these parameters has the name.
+fn has_param(name: &Text, params: &[Param]) -> bool
+    ensures { result ≡ is_some (param_of name.now (view_params params.now)) }
+{
+    for param in params {
+        if param.name.is(name.text()) {
+            return true;
+        }
+    }
+    false
+}
+
+/// Whether a param names a parameter.
+fn is_given(name: &Text, given: &[Argument]) -> bool
+    ensures { result ≡ is_among name.now (names_given (view_arguments given.now)) }
+{
+    for argument in given {
+        if name.is(argument.name.text()) {
+            return true;
+        }
+    }
+    false
+}
+
+/// Adds what `data="all"` hands on, if it is there: those of the callee's parameters that the caller has too and no
+/// param names.
+#[tactic(auto, using(crate::proofs::OpLists::map_append, crate::proofs::OpLists::append_assoc))]
+fn add_same(
+    alloc: Global,
+    handed: &mut Vec<Handed>,
+    all: bool,
+    own: &[Param],
+    given: &[Argument],
+    params: &[Param],
+) -> Result<(), OutOfMemory>
+    ensures { OnOk result (map view_handed handed.new.items ≡ map view_handed handed.old.items
+        ++ map same_handed (handed_on_names all (view_params own.now) (names_given (view_arguments given.now))
+        (view_params params.now))) }
+{
+    for param in params {
+        if all && has_param(&param.name, own) && !is_given(&param.name, given) {
+            add_one(alloc, handed, &param.name)?;
+        }
+    }
+    Ok(())
+}
+
+/// Adds a name that is handed on.
+#[tactic(auto, using(crate::proofs::OpLists::map_append))]
+fn add_one(alloc: Global, handed: &mut Vec<Handed>, name: &Text) -> Result<(), OutOfMemory>
+    ensures { OnOk result (map view_handed handed.new.items
+        ≡ map view_handed handed.old.items ++ same_handed name.now ∷ []) }
+{
+    let name = name.copy(alloc)?;
+    handed.push(Handed {
+        name,
+        by: HandedBy::Same,
+    })?;
+    Ok(())
+}
+
+/// The template of a number.
+fn declared_at<'d, 'a>(all: &'d [Declared<'a>], number: usize) -> Option<&'d Declared<'a>>
+    ensures { option_map (λ d. d.now) result ≡ slice_get all.now number }
+{
+    all.get(number)
+}
+
+/// The parameters of the template of a number, and none past all templates.
+fn params_at<'a>(all: &[Declared<'a>], number: usize) -> &'a [Param]
+    ensures { view_params result.now ≡ params_there (slice_get (view_all all.now) number) }
+{
+    match declared_at(all, number) {
+        Some(declared) => declared.template.params.items(),
+        None => &[],
+    }
+}
+
+/// Adds a param that is given as a value.
+#[tactic(auto, using(crate::proofs::OpLists::map_append))]
+pub(crate) fn push_plain(
+    alloc: Global,
+    handed: &mut Vec<Handed>,
+    name: &Text,
+    expr: &Expr,
+) -> Result<(), OutOfMemory>
+    ensures { OnOk result (map view_handed handed.new.items
+        ≡ map view_handed handed.old.items ++ handed_as name.now (HandedValue (view_expr expr.now)) ∷ []) }
+{
+    let name = name.copy(alloc)?;
+    let expr = expr.copy(alloc)?;
+    handed.push(Handed {
+        name,
+        by: HandedBy::Plain(expr),
+    })?;
+    Ok(())
+}
+
+/// Adds a param that is given as a block of these ops.
+#[tactic(auto, using(crate::proofs::OpLists::map_append))]
+pub(crate) fn push_block(
+    alloc: Global,
+    out: &mut Output,
+    handed: &mut Vec<Handed>,
+    name: &Text,
+    kind: Kind,
+    body: Vec<Op>,
+) -> Result<(), OutOfMemory>
+    ensures handed { OnOk result (map view_handed handed.new.items ≡ map view_handed handed.old.items
+        ++ handed_as name.now (HandedBlock kind (laid_block (view_output out.old) (view_ops body.items))) ∷ []) }
+    ensures made { OnOk result (view_output out.new ≡ with_ops (view_output out.old) (view_ops body.items)) }
+{
+    let body = out.lay(body)?;
+    let name = name.copy(alloc)?;
+    handed.push(Handed {
+        name,
+        by: HandedBy::Block(kind, body),
+    })?;
+    Ok(())
+}
+
+/// Adds a call whose params are handed so, with what `data="all"` hands on.
+pub(crate) fn push_call(
+    scene: &Scene<'_>,
+    own: &mut Vec<Op>,
+    handed: Vec<Handed>,
+    name: &Text,
+    all: bool,
+    given: &[Argument],
+    place: Place,
+    span: Span,
+) -> Result<(), OutOfMemory>
+    ensures { OnOk result (view_ops own.new.items ≡ view_ops own.old.items ++ call_op scene.now name.now all
+        (view_arguments given.now) (map view_handed handed.items) place span ∷ []) }
+{
+    let mut handed = handed;
+    let number = callee_number(scene.alloc, scene.declared, scene.namespace, name)?;
+    let params = params_at(scene.declared, number);
+    add_same(scene.alloc, &mut handed, all, scene.params, given, params)?;
+    push_op(
+        own,
+        Op::Call(Callee {
+            template: number,
+            given: Seq::new(handed),
+            place,
+            file: scene.file,
+            at: span.start,
+        }),
+    )
+}

@@ -1,0 +1,23 @@
+//! The compiler: from typed trees, the places of their holes and a bundle to a program.
+//!
+//! `build` makes the ops of each template in one pass over its nodes. Its clause is `Compiles` of template_ir: each
+//! command is one op, a message is the ops of the text that the bundle chooses, and the blocks inside of a list of
+//! nodes stand before the list's own ops. Depends on soy_base, plural_rules, soy_tree, soy_meaning, msg_extract,
+//! template_ir and bundle_fit.
+#![tactic(auto)]
+
+mod bodies;
+mod building;
+mod calls;
+mod commands;
+mod messages;
+mod output;
+mod parts;
+mod placeholders;
+mod scene;
+mod source;
+mod template;
+mod templates;
+mod translations;
+
+pub use building::{build, program_parts};

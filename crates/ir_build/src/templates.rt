@@ -1,0 +1,125 @@
+//! The templates of all files, in order, and the number of the one that a call means.
+
+ghost use Rattle.std.specs.Prelude.{◌≡◌, ◌<◌, ◌^◌, ◌++◌, ◌==◌, IfOk, OnOk, length, map, option_map};
+ghost use Rattle.std.specs.List.{list_any};
+ghost use Rattle.std.specs.Str.{chars};
+ghost use Rattle.soy_base.specs.Characters.{full_stop};
+ghost use Rattle.soy_tree.specs.Templates.{called_name, declared, declared_in, is_visible_from, joined_name};
+ghost use Rattle.soy_tree.specs.ViewTrees.{view_template, view_trees};
+ghost use Rattle.template_ir.specs.Compiles.{callee_number, number_of};
+ghost use Rattle.ir_build.specs.ViewScene.{view_all, view_declared};
+
+use crate::template::Declared;
+use soy_base::{OutOfMemory, Text, push_char, push_text};
+use soy_tree::Tree;
+use std::alloc::Global;
+
+/// The templates of all files.
+pub(crate) fn all_templates<'a>(
+    alloc: Global,
+    trees: &'a [Tree],
+) -> Result<Vec<Declared<'a>>, OutOfMemory>
+    requires { length trees.now < 2 ^ 32 }
+    ensures { IfOk result (λ all. view_all all.items ≡ declared (view_trees trees.now)) }
+{
+    let mut all = Vec::new(alloc);
+    for (file, tree) in trees.iter().enumerate() {
+        add_templates(alloc, &mut all, file as u32, tree)?;
+    }
+    Ok(all)
+}
+
+/// Adds the templates of a file.
+fn add_templates<'a>(
+    alloc: Global,
+    all: &mut Vec<Declared<'a>>,
+    file: u32,
+    tree: &'a Tree,
+) -> Result<(), OutOfMemory>
+    ensures { OnOk result (view_all all.new.items
+        ≡ view_all all.old.items ++ declared_in file tree.now.namespace (map view_template tree.now.templates)) }
+{
+    let namespace = &tree.namespace;
+    for template in tree.templates.items() {
+        let full = joined_name(alloc, namespace, &template.name)?;
+        all.push(Declared {
+            file,
+            namespace,
+            template,
+            full,
+        })?;
+    }
+    Ok(())
+}
+
+/// A namespace, a `.` and a name.
+pub(crate) fn joined_name(alloc: Global, namespace: &Text, name: &Text) -> Result<Text, OutOfMemory>
+    ensures { IfOk result (λ full. full ≡ joined_name namespace.now name.now) }
+{
+    let mut full = String::new(alloc);
+    push_text(&mut full, namespace.text())?;
+    push_char(&mut full, '.')?;
+    push_text(&mut full, name.text())?;
+    Ok(Text::new(full))
+}
+
+/// Whether there is a `.` in a name.
+fn is_dotted(name: &str) -> bool
+    ensures { result ≡ list_any (λ c. c == full_stop) (chars name.now) }
+{
+    name.chars().any(is_full_stop)
+}
+
+fn is_full_stop(c: char) -> bool
+    ensures { result ≡ (c == full_stop) }
+{
+    c == '.'
+}
+
+/// The full name that a call means.
+fn called_name(alloc: Global, namespace: &Text, name: &Text) -> Result<Text, OutOfMemory>
+    ensures { IfOk result (λ full. full ≡ called_name namespace.now name.now) }
+{
+    if is_dotted(name.text()) {
+        name.copy(alloc)
+    } else {
+        joined_name(alloc, namespace, name)
+    }
+}
+
+/// Whether the namespace sees a template.
+fn is_visible(declared: &Declared<'_>, namespace: &Text) -> bool
+    ensures { result ≡ is_visible_from namespace.now (view_declared declared.now) }
+{
+    !declared.template.private || declared.namespace.is(namespace.text())
+}
+
+/// How many templates stand before the first of a full name, if the namespace sees that one, and else how many there
+/// are.
+fn number_of(all: &[Declared<'_>], namespace: &Text, full: &Text) -> usize
+    ensures { result ≡ number_of namespace.now full.now (view_all all.now) }
+{
+    for (at, declared) in all.iter().enumerate() {
+        if declared.full.is(full.text()) {
+            return if is_visible(declared, namespace) {
+                at
+            } else {
+                all.len()
+            };
+        }
+    }
+    all.len()
+}
+
+/// The number of the template that a call in a namespace means by a name.
+pub(crate) fn callee_number(
+    alloc: Global,
+    all: &[Declared<'_>],
+    namespace: &Text,
+    name: &Text,
+) -> Result<usize, OutOfMemory>
+    ensures { IfOk result (λ n. n ≡ callee_number (view_all all.now) namespace.now name.now) }
+{
+    let full = called_name(alloc, namespace, name)?;
+    Ok(number_of(all, namespace, &full))
+}
