@@ -1,19 +1,18 @@
 -- The ops of single commands stand for them.
-use Rattle.std.proofs.Common.{◌≡◌, ℕ, ◌+◌, ◌≤◌, Bool, false, List, [], ◌∷◌, ◌++◌, Option, Some, None, map, length}
-use Rattle.std.proofs.Common.{slice_get, refl, sym, ap, ◌∙◌, arith, subst}
+use Rattle.std.proofs.Common.{◌≡◌, ℕ, ◌+◌, Bool, false, List, [], ◌∷◌, ◌++◌, Option, Some, None, map}
+use Rattle.std.proofs.Common.{refl, sym, ap, ◌∙◌, arith, subst}
 use Rattle.soy_base.specs.declared.fault.Span.{Span}
 use Rattle.soy_base.specs.declared.kind.Kind.{Kind}
 use Rattle.soy_base.specs.declared.place.Place.{Place}
-use Rattle.soy_tree.specs.Bodies.{names_given}
 use Rattle.soy_tree.specs.Expressions.{Expr}
-use Rattle.soy_tree.specs.Nodes.{Arguments, Arms, Call, Cases, For, If, Let, LetBlock, MessageBody, Node, Nodes}
+use Rattle.soy_tree.specs.Nodes.{Arguments, Arms, Call, Cases, For, If, Let, LetBlock, MessageBody, Nodes}
 use Rattle.soy_tree.specs.Nodes.{PluralCases, Print, SelectCases, Switch, TextNode, argument, no_argument, no_otherwise}
 use Rattle.soy_tree.specs.Nodes.{otherwise, Plural, Select, Parts}
 use Rattle.soy_tree.specs.Types.{Name}
-use Rattle.template_ir.specs.Compiles.{StandsGiven, other_arm, other_word, same_handed, CompileContext}
+use Rattle.template_ir.specs.Compiles.{StandsGiven, other_arm, other_word, same_handed}
 use Rattle.template_ir.specs.HoleCounts.{argument_holes, arm_holes, body_holes, case_holes, given_holes, node_holes}
 use Rattle.template_ir.specs.HoleCounts.{nodes_holes, plural_holes, select_holes}
-use Rattle.template_ir.specs.Ops.{Branch, CallOp, Choice, ForOp, Handed, IfOp, LetBlockOp, LetOp, Op, PluralOp, PrintOp}
+use Rattle.template_ir.specs.Ops.{Branch, Choice, ForOp, Handed, IfOp, LetBlockOp, LetOp, Op, PluralOp, PrintOp}
 use Rattle.template_ir.specs.Ops.{SelectOp, SwitchOp}
 use Rattle.template_ir.specs.StandFor.{StandsText, place_of}
 use Rattle.template_ir.specs.declared.op.ExactBlock.{ExactBlock}
@@ -24,7 +23,7 @@ use Rattle.ir_build.specs.Laid.{Lays, Made, Pushes, laid_block, with_hole, with_
 use Rattle.ir_build.specs.TextOps.{text_ops}
 use Rattle.ir_build.specs.ViewScene.{call_op, context_of, names_on, translation_in}
 use Rattle.ir_build.specs.declared.scene.Scene.{Scene}
-use Rattle.ir_build.proofs.Laying.{hole_pushed, lays_as, lays_both, lays_push, op_pushed, pushes_as, pushes_block}
+use Rattle.ir_build.proofs.Laying.{hole_pushed, lays_both, lays_push, op_pushed, pushes_as, pushes_block}
 use Rattle.ir_build.proofs.Laying.{pushes_none}
 use Rattle.ir_build.proofs.OpLists.{append_nil}
 

@@ -20,7 +20,7 @@ use Rattle.soy_tree.specs.declared.node.SelectCase as code_select_case
 use Rattle.soy_tree.specs.Expressions.{Expr}
 use Rattle.soy_tree.specs.Nodes as tree
 use Rattle.soy_tree.specs.Types.{Name}
-use Rattle.soy_tree.specs.ViewExpressions.{view_expr, view_exprs}
+use Rattle.soy_tree.specs.ViewExpressions.{view_expr}
 use Rattle.soy_tree.specs.ViewNodes.{form_layer, given_layer, body_layer, argument_layer, arm_layer, case_layer}
 use Rattle.soy_tree.specs.ViewNodes.{message_layer, node_layer, plural_case_layer, select_case_layer}
 use Rattle.soy_tree.specs.ViewNodes.{view_form, view_given, view_body, view_argument, view_arm, view_case}

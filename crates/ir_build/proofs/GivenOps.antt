@@ -1,5 +1,5 @@
 -- What a param of a call hands over.
-use Rattle.std.proofs.Common.{◌≡◌, ℕ, List, [], ◌∷◌, ◌++◌, refl, sym, ap, subst, ◌∙◌}
+use Rattle.std.proofs.Common.{◌≡◌, List, [], ◌∷◌, ◌++◌, refl, sym, ap, subst, ◌∙◌}
 use Rattle.soy_base.specs.declared.fault.Span.{Span}
 use Rattle.soy_base.specs.declared.kind.Kind.{Kind}
 use Rattle.soy_tree.specs.declared.expr.Expr as code_expr
@@ -9,12 +9,12 @@ use Rattle.soy_tree.specs.declared.node.Node as code
 use Rattle.soy_tree.specs.Nodes.{Block, Given, Node, Plain}
 use Rattle.soy_tree.specs.Types.{Name}
 use Rattle.soy_tree.specs.ViewExpressions.{view_expr}
-use Rattle.soy_tree.specs.ViewNodes.{view_argument, view_given, view_node, view_nodes}
+use Rattle.soy_tree.specs.ViewNodes.{view_argument, view_given, view_nodes}
 use Rattle.template_ir.specs.HoleCounts.{node_holes, nodes_holes}
 use Rattle.template_ir.specs.Ops.{Handed, HandedBlock, HandedValue, Op}
 use Rattle.ir_build.specs.Claims.{block_stands, node_stands, nodes_stand}
 use Rattle.ir_build.specs.Gives.{Gives, given_stands}
-use Rattle.ir_build.specs.Laid.{Lays, Made, Pushes, laid_block, with_ops}
+use Rattle.ir_build.specs.Laid.{Made, Pushes, laid_block, with_ops}
 use Rattle.ir_build.specs.Rows.{handed_as}
 use Rattle.ir_build.specs.ViewScene.{translation_in}
 use Rattle.ir_build.specs.declared.scene.Scene.{Scene}

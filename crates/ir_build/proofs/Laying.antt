@@ -1,5 +1,5 @@
 -- What is said of ops that are made, and how it adds up.
-use Rattle.std.proofs.Common.{◌≡◌, ℕ, zero, suc, ◌+◌, ◌≤◌, List, [], ◌∷◌, ◌++◌, Some, length, slice_get, refl, sym, ap}
+use Rattle.std.proofs.Common.{◌≡◌, ℕ, suc, ◌+◌, ◌≤◌, List, [], ◌∷◌, ◌++◌, Some, length, slice_get, refl, sym, ap}
 use Rattle.std.proofs.Common.{◌∙◌, arith, subst}
 use Rattle.template_ir.specs.Ops.{Op}
 use Rattle.ir_build.specs.Claims.{block_stands}

@@ -1,12 +1,12 @@
 -- Lists that are compiled item by item: what the rest of a list adds to what was made so far.
-use Rattle.std.proofs.Common.{◌≡◌, ℕ, ℤ, ◌+◌, ◌≤◌, List, [], ◌∷◌, ◌++◌, length, refl, sym, ap, ◌∙◌, arith, subst}
+use Rattle.std.proofs.Common.{◌≡◌, ℕ, ℤ, List, [], ◌∷◌, ◌++◌, sym, ap, ◌∙◌, subst}
 use Rattle.template_ir.specs.Ops.{Op}
 use Rattle.template_ir.specs.declared.op.Block.{Block}
 use Rattle.template_ir.specs.declared.op.ExactBlock.{ExactBlock}
 use Rattle.ir_build.specs.Rows.{exact_block}
 use Rattle.ir_build.specs.Laid.{Lays, Made, Pushes}
 use Rattle.ir_build.specs.OnGoing.{PushesOn, RowsOn}
-use Rattle.ir_build.proofs.Laying.{lays_none, pushes_none}
+use Rattle.ir_build.proofs.Laying.{lays_none}
 use Rattle.ir_build.proofs.OpLists.{append_assoc, append_nil}
 
 -- ---- own ops

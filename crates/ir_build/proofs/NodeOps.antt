@@ -1,5 +1,5 @@
 -- The ops of a node of the code, by its form.
-use Rattle.std.proofs.Common.{◌≡◌, ℕ, ◌+◌, Bool, false, List, [], ◌∷◌, ◌++◌, Option, Some, None, length, map, take}
+use Rattle.std.proofs.Common.{◌≡◌, ℕ, Bool, false, List, [], ◌∷◌, ◌++◌, Option, Some, None, length}
 use Rattle.std.proofs.Common.{refl, sym, ap, subst, ◌∙◌}
 use Rattle.soy_base.specs.declared.kind.Kind.{Kind}
 use Rattle.soy_base.specs.declared.place.Place.{Place}
@@ -15,7 +15,7 @@ use Rattle.soy_tree.specs.declared.node.MessageBody.TheVariants as message_body
 use Rattle.soy_tree.specs.declared.node.Node as code
 use Rattle.soy_tree.specs.declared.node.PluralCase as code_plural_case
 use Rattle.soy_tree.specs.declared.node.SelectCase as code_select_case
-use Rattle.soy_tree.specs.Nodes.{MessageBody, Nodes, fallback, no_fallback}
+use Rattle.soy_tree.specs.Nodes.{MessageBody, fallback, no_fallback}
 use Rattle.soy_tree.specs.ViewExpressions.{view_expr}
 use Rattle.soy_tree.specs.ViewNodes.{view_arguments, view_arms, view_body, view_cases, view_message, view_node}
 use Rattle.soy_tree.specs.ViewNodes.{view_nodes, view_plural_cases, view_select_cases}

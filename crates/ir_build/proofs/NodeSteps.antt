@@ -1,6 +1,6 @@
 -- Lists of nodes, arms and cases, compiled item by item.
 use Rattle.std.proofs.Common.{◌≡◌, ℕ, ◌+◌, ◌<◌, ◌≤◌, List, [], ◌∷◌, ◌++◌, drop, length, slice_index_or, refl, sym, ap}
-use Rattle.std.proofs.Common.{subst, ◌∙◌, arith}
+use Rattle.std.proofs.Common.{subst}
 use Rattle.soy_base.specs.declared.fault.Span.{Span}
 use Rattle.soy_tree.specs.declared.node.Argument as code_argument
 use Rattle.soy_tree.specs.declared.node.Arm as code_arm
@@ -10,9 +10,8 @@ use Rattle.soy_tree.specs.declared.node.Node as code
 use Rattle.soy_tree.specs.declared.node.PluralCase as code_plural_case
 use Rattle.soy_tree.specs.declared.node.SelectCase as code_select_case
 use Rattle.soy_tree.specs.declared.expr.Expr as code_expr
-use Rattle.soy_tree.specs.Expressions.{Expr}
 use Rattle.soy_tree.specs.Nodes.{Arguments, Arms, Cases, Given, MessageBody, Nodes, PluralCases, SelectCases, argument}
-use Rattle.soy_tree.specs.Nodes.{arm, case, node, plural_case, select_case}
+use Rattle.soy_tree.specs.Nodes.{arm, case, plural_case, select_case}
 use Rattle.soy_tree.specs.Types.{Name}
 use Rattle.soy_tree.specs.ViewExpressions.{view_expr, view_exprs}
 use Rattle.soy_tree.specs.ViewNodes.{view_argument, view_arguments, view_arms, view_body, view_cases, view_node}
@@ -31,7 +30,7 @@ use Rattle.ir_build.specs.Rows.{branch, choice, exact_block, handed_as, word_blo
 use Rattle.ir_build.specs.ViewScene.{translation_in}
 use Rattle.ir_build.specs.declared.scene.Scene.{Scene}
 use Rattle.ir_build.proofs.Laying.{lays_as, lays_both, pushes_block, pushes_both, pushes_none}
-use Rattle.ir_build.proofs.Loops.{pushes_step, rows_begin, rows_end, rows_step}
+use Rattle.ir_build.proofs.Loops.{rows_begin, rows_end, rows_step}
 use Rattle.ir_build.proofs.OpLists.{drop_all}
 use Rattle.ir_build.proofs.Views.{argument_next, arm_next, case_next, node_next, plural_case_next, select_case_next}
 

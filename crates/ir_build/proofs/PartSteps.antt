@@ -1,17 +1,14 @@
 -- Lists of parts and arms of a translation, compiled item by item, and the ops of single parts.
 use Rattle.std.proofs.Common.{◌≡◌, ℕ, ◌+◌, ◌<◌, ◌≤◌, Bool, true, false, List, [], ◌∷◌, ◌++◌, Option, Some, None, drop}
-use Rattle.std.proofs.Common.{length, map, slice_get, slice_index_or, refl, sym, ap, subst, ◌∙◌, arith}
-use Rattle.plural_rules.specs.declared.category.Category.{Category}
-use Rattle.soy_base.specs.declared.place.Place.{Place}
+use Rattle.std.proofs.Common.{length, map, slice_index_or, refl, sym, subst}
 use Rattle.soy_meaning.specs.Branch.{selector}
 use Rattle.soy_tree.specs.declared.bundle.ExactArm as code_exact
 use Rattle.soy_tree.specs.declared.bundle.MsgPart as code
 use Rattle.soy_tree.specs.declared.bundle.NamedArm as code_named
 use Rattle.soy_tree.specs.declared.bundle.SelectArm as code_word
 use Rattle.soy_tree.specs.Expressions.{Expr}
-use Rattle.soy_tree.specs.MessageParts.{ExactArms, MsgPart, MsgParts, NamedArms, SelectArms, NumberPart, PluralPart}
-use Rattle.soy_tree.specs.MessageParts.{SelectPart, TextPart, exact_arm, named_arm, part, select_arm}
-use Rattle.soy_tree.specs.Placeholders.{Use}
+use Rattle.soy_tree.specs.MessageParts.{ExactArms, MsgParts, NamedArms, SelectArms, NumberPart, PluralPart}
+use Rattle.soy_tree.specs.MessageParts.{SelectPart, TextPart, exact_arm, named_arm, select_arm}
 use Rattle.soy_tree.specs.Types.{Name}
 use Rattle.soy_tree.specs.ViewMessageParts.{exact_arms_of, named_arms_of, select_arms_of, view_exact, view_named}
 use Rattle.soy_tree.specs.ViewMessageParts.{view_part, view_parts, view_select_arm}

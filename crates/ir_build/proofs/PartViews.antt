@@ -6,7 +6,7 @@ use Rattle.soy_tree.specs.declared.bundle.MsgPart.TheOpen.{MsgPart-F}
 use Rattle.soy_tree.specs.declared.bundle.MsgPart.TheVariants as part
 use Rattle.soy_tree.specs.declared.bundle.PluralPart as code_plural
 use Rattle.soy_tree.specs.declared.bundle.SelectPart as code_select
-use Rattle.soy_tree.specs.MessageParts.{MsgPart, MsgParts, NumberPart, Placeholder, PluralPart, SelectPart, TextPart}
+use Rattle.soy_tree.specs.MessageParts.{MsgPart, MsgParts, NumberPart, PluralPart, SelectPart, TextPart}
 use Rattle.soy_tree.specs.ViewMessageParts.{exact_arms_of, exact_layer, named_arms_of, named_layer, part_layer}
 use Rattle.soy_tree.specs.ViewMessageParts.{plural_layer, select_arm_layer, select_arms_of, select_layer, view_exact}
 use Rattle.soy_tree.specs.ViewMessageParts.{view_named, view_part, view_select_arm}

@@ -1,6 +1,6 @@
 -- The ops of the texts and prints that stand for a placeholder, and the expression of a selector.
-use Rattle.std.proofs.Common.{◌≡◌, ℕ, ◌+◌, ◌<◌, Bool, true, false, not, ◌&&◌, ◌||◌, List, [], ◌∷◌, ◌++◌, Option, Some}
-use Rattle.std.proofs.Common.{None, drop, length, map, slice_get, slice_index_or, refl, sym, ap, subst, ◌∙◌, arith}
+use Rattle.std.proofs.Common.{◌≡◌, ℕ, ◌+◌, ◌<◌, Bool, true, false, ◌&&◌, ◌||◌, List, [], ◌∷◌, ◌++◌, Option, Some}
+use Rattle.std.proofs.Common.{None, drop, length, slice_index_or, refl, sym, ap, subst, ◌∙◌, arith}
 use Rattle.std.specs.Prelude.{if◌then◌else◌, bytes_eq}
 use Rattle.std.specs.Option.{option_or}
 use Rattle.std.proofs.lemmas.Slice.Eq.{bytes_eq-Decides}
@@ -13,12 +13,12 @@ use Rattle.soy_tree.specs.declared.node.Node as code
 use Rattle.soy_tree.specs.Expressions.{Expr}
 use Rattle.soy_tree.specs.MessageParts.{Placeholder}
 use Rattle.soy_tree.specs.MessageText.{Character, Cut, MessageItem, PrintCut, Printed, TagCut, TextCut}
-use Rattle.soy_tree.specs.Nodes.{Message, Node, Nodes, Print, TextNode, message, no_node, node}
+use Rattle.soy_tree.specs.Nodes.{Message, Node, Nodes, Print, TextNode, message, no_node}
 use Rattle.soy_tree.specs.Placeholders.{AsPlaceholder, AsPlural, AsSelect, Role, Use, body_uses, name_of}
 use Rattle.soy_tree.specs.Types.{Name}
 use Rattle.soy_tree.specs.ViewNodes.{nodes_of, view_message, view_node, view_nodes}
-use Rattle.msg_extract.specs.PlaceholderNodes.{BegunText, begun_after, cut_nodes, flushed, has_row, nodes_behind}
-use Rattle.msg_extract.specs.PlaceholderNodes.{placeholders_of, role_nodes, rows_after, text_nodes, with_row}
+use Rattle.msg_extract.specs.PlaceholderNodes.{BegunText, cut_nodes, has_row, nodes_behind}
+use Rattle.msg_extract.specs.PlaceholderNodes.{placeholders_of, role_nodes, rows_after, with_row}
 use Rattle.msg_extract.specs.SelectorRows.{SelectorRow, role_rows, selector_rows, selectors_of}
 use Rattle.template_ir.specs.HoleCounts.{cut_holes, part_holes, tag_holes}
 use Rattle.template_ir.specs.Ops.{Op, PrintOp}

@@ -1,9 +1,7 @@
 -- Templates of a program, one by one.
-use Rattle.std.proofs.Common.{◌≡◌, ℕ, ◌+◌, ◌≤◌, ◌<◌, Bool, List, [], ◌∷◌, ◌++◌, drop, length, map, slice_index_or, refl}
+use Rattle.std.proofs.Common.{◌≡◌, ℕ, ◌+◌, ◌≤◌, ◌<◌, List, [], ◌∷◌, ◌++◌, drop, length, slice_index_or, refl}
 use Rattle.std.proofs.Common.{sym, ap, subst, ◌∙◌, arith}
-use Rattle.soy_base.specs.declared.kind.Kind.{Kind}
 use Rattle.soy_base.specs.declared.place.Place.{Place}
-use Rattle.soy_tree.specs.Nodes.{Nodes}
 use Rattle.soy_tree.specs.Templates.{Declared, declared, full_name}
 use Rattle.soy_tree.specs.Trees.{Param, Tree}
 use Rattle.soy_tree.specs.Types.{Name}

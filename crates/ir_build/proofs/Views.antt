@@ -1,5 +1,5 @@
 -- What nodes, arms and cases of the code stand for, part by part.
-use Rattle.std.proofs.Common.{◌≡◌, ℕ, ℤ, ◌+◌, ◌<◌, List, [], ◌∷◌, drop, length, map, slice_index_or, ap, ◌∙◌}
+use Rattle.std.proofs.Common.{◌≡◌, ℕ, ℤ, ◌+◌, ◌<◌, List, drop, length, map, slice_index_or, ap, ◌∙◌}
 use Rattle.soy_base.specs.declared.fault.Span.{Span}
 use Rattle.soy_tree.specs.declared.bundle.ExactArm as code_exact
 use Rattle.soy_tree.specs.declared.bundle.MsgPart as code_part
@@ -13,14 +13,14 @@ use Rattle.soy_tree.specs.declared.node.PluralCase as code_plural_case
 use Rattle.soy_tree.specs.declared.node.SelectCase as code_select_case
 use Rattle.soy_tree.specs.Types.{Name}
 use Rattle.soy_tree.specs.Expressions.{Expr}
-use Rattle.soy_tree.specs.MessageParts.{ExactArms, MsgPart, MsgParts, NamedArms, SelectArms, exact_arm, named_arm, part}
+use Rattle.soy_tree.specs.MessageParts.{MsgPart, MsgParts, exact_arm, named_arm, part}
 use Rattle.soy_tree.specs.MessageParts.{select_arm}
 use Rattle.plural_rules.specs.declared.category.Category.{Category}
-use Rattle.soy_tree.specs.Nodes.{Arguments, Arms, Cases, Given, Message, MessageBody, Node, Nodes, PluralCases}
-use Rattle.soy_tree.specs.Nodes.{SelectCases, argument, arm, case, node, plural_case, select_case}
+use Rattle.soy_tree.specs.Nodes.{Given, Message, MessageBody, Node, Nodes}
+use Rattle.soy_tree.specs.Nodes.{argument, arm, case, node, plural_case, select_case}
 use Rattle.soy_tree.specs.ViewExpressions.{view_expr, view_exprs}
 use Rattle.soy_tree.specs.ViewMessageParts.{exact_arms_of, exact_layer, named_arms_of, named_layer, part_layer}
-use Rattle.soy_tree.specs.ViewMessageParts.{parts_of, plural_layer, select_arm_layer, select_arms_of, select_layer}
+use Rattle.soy_tree.specs.ViewMessageParts.{plural_layer, select_arm_layer, select_arms_of, select_layer}
 use Rattle.soy_tree.specs.ViewMessageParts.{view_exact, view_named, view_part, view_parts, view_select_arm}
 use Rattle.soy_tree.specs.ViewNodes.{argument_layer, arm_layer, body_layer, case_layer, form_layer, given_layer}
 use Rattle.soy_tree.specs.ViewNodes.{message_layer, node_layer, plural_case_layer, select_case_layer, view_argument}

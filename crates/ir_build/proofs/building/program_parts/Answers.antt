@@ -1,7 +1,7 @@
 use mathlib.Core.Path.{refl}
 use Rattle.std.proofs.Common.{◌∙◌, ap, map}
 use Rattle.soy_tree.specs.ViewTrees.{view_trees}
-use Rattle.template_ir.specs.ViewOps.{view_ops, view_program, view_routine}
+use Rattle.template_ir.specs.ViewOps.{view_ops, view_routine}
 use Rattle.ir_build.specs.Laid.{view_output}
 use Rattle.ir_build.specs.ViewScene.{language_of, view_all}
 use Rattle.ir_build.proofs.RoutineSteps.{compiles_all}

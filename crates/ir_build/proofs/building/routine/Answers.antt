@@ -1,7 +1,7 @@
 use mathlib.Core.Path.{refl}
 use Rattle.std.proofs.Common.{◌∙◌, ap}
 use Rattle.soy_tree.specs.ViewTrees.{view_params}
-use Rattle.template_ir.specs.ViewOps.{view_ops, view_routine}
+use Rattle.template_ir.specs.ViewOps.{view_ops}
 use Rattle.ir_build.specs.Laid.{view_output}
 use Rattle.ir_build.specs.ViewScene.{language_of, view_all, view_declared}
 use Rattle.ir_build.specs.declared.scene.Scene.{Scene}

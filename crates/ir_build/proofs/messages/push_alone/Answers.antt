@@ -1,7 +1,6 @@
 use mathlib.Core.Path.{refl}
 use Rattle.std.proofs.Common.{◌∙◌, ap, option_map, sym, take}
 use Rattle.std.proofs.lemmas.Result.{on_ok_weaker}
-use Rattle.soy_meaning.specs.PlanOfNodes.{uses_of}
 use Rattle.soy_tree.specs.ViewMessageParts.{view_parts}
 use Rattle.soy_tree.specs.ViewNodes.{view_message}
 use Rattle.template_ir.specs.ViewOps.{view_ops}
