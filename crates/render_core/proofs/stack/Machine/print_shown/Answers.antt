@@ -1,0 +1,54 @@
+use Rattle.std.proofs.Common.{◌≡◌, ℕ, ◌+◌, ◌-◌, ◌≤◌, ◌<◌, pos, List, [], ◌∷◌, Option, Some, None, refl, sym, ap, ◌∙◌, arith, subst, length}
+use Rattle.std.specs.Prelude.{◌-ℤ◌, ℤ}
+use Rattle.soy_tree.specs.Cost.{cost}
+use Rattle.soy_tree.specs.ViewExpressions.{view_expr}
+use Rattle.soy_tree.specs.ViewValues.{view_value}
+use Rattle.soy_tree.specs.Val.{val}
+use Rattle.soy_meaning.specs.Branch.{int_of, word_of}
+use Rattle.soy_meaning.specs.Giving.{RunEnv}
+use Rattle.soy_meaning.specs.Pieces.{valued}
+use Rattle.template_ir.specs.Run.{arm_gives, plural_block, print_gives, select_block, value_gives}
+use Rattle.template_ir.specs.ViewOps.{view_program}
+use Rattle.template_ir.specs.declared.op.Block.{Block}
+use Rattle.template_ir.specs.declared.op.Op.TheVariants as op
+use Rattle.render_core.specs.Frames.{means_before}
+use Rattle.render_core.specs.Stepping.{Does, GoesIn}
+use Rattle.render_core.specs.Variables.{cells_of, env_at}
+use Rattle.render_core.specs.Forms.{form_at}
+use Rattle.render_core.specs.Rest.{source_text}
+use Rattle.render_core.specs.Shows.{Shows}
+use Rattle.render_core.specs.Stepping.{GaveForm}
+use Rattle.render_core.specs.declared.frame.Ahead.{Ahead}
+use Rattle.render_core.specs.declared.frame.Frame.TheVariants as frame
+use Rattle.render_core.specs.declared.showing.Shown.{Shown}
+use Rattle.render_core.proofs.Gives.{block_prints, value_prints}
+use Rattle.render_core.proofs.stack.Machine.print_shown.Goals as goal
+
+pub returns-in-Value : goal.returns-in-Value
+returns-in-Value c b shows =
+    let p = c.args.scene.now.program.now in
+    let input = view_value c.args.scene.now.input.now in
+    let old = c.args.self.now in
+    let f = c.args.ahead in
+    let class = c.in-Value.class in
+    let source = c.in-Value.source in
+    let n = length old.bound.items in
+    value_prints p input old c.give_value.new.self f c.args.place source class n c.give_value.result b c.requires.top
+    c.requires.fits
+    (subst (λ (g : Ahead). GaveForm p input old c.give_value.new.self (frame.Ops g)
+    (form_at c.args.place class (source_text (cells_of p input old.bound.items) source) p.dir) c.give_value.result)
+    c.past.ensures c.give_value.ensures)
+    (subst (λ (s : Shown). Shows p (cells_of p input old.bound.items) n b s) c.in-Value.is shows)
+
+pub returns-in-Ok : goal.returns-in-Ok
+returns-in-Ok c b shows =
+    let p = c.args.scene.now.program.now in
+    let input = view_value c.args.scene.now.input.now in
+    let old = c.args.self.now in
+    let n = length old.bound.items in
+    block_prints p input old c.enter_kept.new.self c.args.ahead c.args.place c.in-Block.kept b c.requires.top
+    c.requires.fits c.in-Ok.ensures.top c.in-Ok.ensures.below c.in-Ok.ensures.texts c.in-Ok.ensures.bound
+    (subst (λ (s : Shown). Shows p (cells_of p input old.bound.items) n b s) c.in-Block.is shows)
+
+pub returns-in-Err : goal.returns-in-Err
+returns-in-Err c b shows = c.in-Err.ensures.stays
