@@ -2,7 +2,7 @@
 use Rattle.std.proofs.Common.{◌≡◌, ℕ, zero, suc, ◌+◌, ◌≤◌, ◌<◌, ◌⊎◌, inl, inr, min, Bool, true, false, List, [], ◌∷◌, ◌++◌, Option}
 use Rattle.std.proofs.Common.{Some, None, Result, Ok, Err, length, take, drop, refl, sym, ap, ◌∙◌, arith, subst, append_assoc}
 use Rattle.std.specs.Prelude.{IfOk, encode_utf8_all}
-use Rattle.std.proofs.lemmas.List.{nil_from_length}
+use Rattle.std.proofs.lemmas.List.{length-take-le, nil_from_length, take-append-drop, take-append-le, take_all}
 use Rattle.std.proofs.lemmas.Str.{encodes-append}
 use Rattle.html_state.specs.AfterPieces.{Piece, Static, Value}
 use Rattle.soy_base.specs.declared.fault.TooDeep.{TooDeep}
@@ -21,18 +21,25 @@ encodes_piece : (piece : Piece) (pieces : List Piece)
 encodes_piece (Static text) pieces = encodes-append text (joined_pieces pieces)
 encodes_piece (Value text) pieces = encodes-append text (joined_pieces pieces)
 
-take_drop : (n : ℕ) (bytes : List ℕ) → take n bytes ++ drop n bytes ≡ bytes
-take_drop zero bytes = refl
-take_drop (suc n) [] = refl
-take_drop (suc n) (b ∷ bytes) = ap (λ bs. b ∷ bs) (take_drop n bytes)
+-- what is given stands at the beginning of the room
+gave_given : (left after room room_after : List ℕ) (n : ℕ) → Gave left after room room_after n
+    → take n room_after ≡ take n left
+gave_given left after room room_after n gave =
+    let size = gave.size in
+    let within : n ≤ length left = omega (arith, size) in
+    let whole : length (take n left) ≡ n = length-take-le n left within in
+    let short : n ≤ length (take n left) = omega (arith, whole) in
+    ap (λ (bs : List ℕ). take n bs) gave.given
+    ∙ (take-append-le n (take n left) (drop n room) short
+    ∙ take_all n (take n left) (let h : length (take n left) ≤ n = omega (arith, whole) in h))
 
 -- what is given, and what is left, are what was left
 gave_bytes : (left after room room_after rest : List ℕ) (n : ℕ) → Gave left after room room_after n
     → left ++ rest ≡ take n room_after ++ (after ++ rest)
 gave_bytes left after room room_after rest n gave =
-    ap (λ bs. bs ++ rest) (sym (take_drop n left))
+    ap (λ bs. bs ++ rest) (sym (take-append-drop n left))
     ∙ (append_assoc (take n left) (drop n left) rest
-    ∙ (ap (λ bs. bs ++ (drop n left ++ rest)) (sym gave.given)
+    ∙ (ap (λ bs. bs ++ (drop n left ++ rest)) (sym (gave_given left after room room_after n gave))
     ∙ ap (λ bs. take n room_after ++ (bs ++ rest)) (sym gave.begun)))
 
 abbrev bytes_of : Outcome → List ℕ
@@ -46,9 +53,9 @@ begun_bytes old new d e room room_after b a (Ok n) h =
     ∙ ap (λ (o : Outcome). take n room_after ++ (new.begun ++ bytes_of o)) (sym h.1)
 begun_bytes old new d e room room_after b a (Err r) h = absurd h
 
-next_bytes : (old new : Rest) (room room_after : List ℕ) (b a n : ℕ) → old.begun ≡ []
-    → Next old new room room_after b a n → rest_bytes old ≡ take n room_after ++ rest_bytes new
-next_bytes old new room room_after b a n none h =
+next_bytes : (old new : Rest) (d e : Bool) (room room_after : List ℕ) (b a n : ℕ) → old.begun ≡ []
+    → Next old new d e room room_after b a n → rest_bytes old ≡ take n room_after ++ rest_bytes new
+next_bytes old new d e room room_after b a n none h =
     ap (λ bs. bs ++ bytes_of old.coming) none
     ∙ (ap bytes_of h.is
     ∙ (encodes_piece h.piece (pieces_of_outcome new.coming)
@@ -70,7 +77,7 @@ fresh_bytes : (old new : Rest) (d e : Bool) (room room_after : List ℕ) (b a : 
 fresh_bytes old new d e room room_after b a (Ok n) none (inl idle) =
     sym (ap rest_bytes idle.rest) ∙ ap (λ k. take k room_after ++ rest_bytes new) (sym idle.none)
 fresh_bytes old new d e room room_after b a (Ok n) none (inr (inl next)) =
-    next_bytes old new room room_after b a n none next
+    next_bytes old new d e room room_after b a n none next
 fresh_bytes old new d e room room_after b a (Ok n) none (inr (inr end)) =
     no_bytes old new room_after n end.none none end.begun end.old_whole.0 end.new_whole.0
 fresh_bytes old new d e room room_after b a (Err r) none h = tt

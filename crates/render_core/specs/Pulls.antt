@@ -1,11 +1,13 @@
 -- What a pull does: what it gives, what is left, and what it spends.
 --
--- Where a piece has begun, its next bytes are given, and nothing is valued. Else the next piece begins, and exactly what
--- is spent before it is spent; or nothing is to come, and the rendering is done or stops at a call. A pull that memory
--- refuses leaves what is to come; what it spent is off the cost of the next piece.
+-- Where a piece has begun, its next bytes are given, and nothing is valued. Else, in a room that isn't empty, the next
+-- piece begins, and the counter rises by exactly the cost of that piece; or nothing is to come, the rendering is done
+-- or stops at a call, and the counter rises by at most the cost of the end. A pull that is refused leaves the room, the
+-- pieces and the end: the counter rises by at most the cost of the next piece, or of the end where there is none, and
+-- that cost is then at most what it was. What lies in the room behind the bytes that are given is unchanged.
 -- Example: of `ab` a pull into a room of one byte gives `a`.
-use Rattle.std.specs.Prelude.{◌≡◌, ℕ, ◌+◌, ◌≤◌, ◌<◌, ◌⊎◌, Bool, true, false, List, [], ◌++◌, Option, Some, None, Result, Ok}
-use Rattle.std.specs.Prelude.{Err, drop, length, min, take}
+use Rattle.std.specs.Prelude.{◌≡◌, ℕ, ◌+◌, ◌≤◌, ◌<◌, ◌⊎◌, Bool, true, false, List, [], ◌++◌, Option, Some, None}
+use Rattle.std.specs.Prelude.{Result, Ok, Err, drop, length, min, take}
 use Rattle.html_state.specs.AfterPieces.{Piece}
 use Rattle.soy_base.specs.declared.fault.TooDeep.{TooDeep}
 use Rattle.soy_base.specs.declared.memory.Refusal.{Refusal}
@@ -22,24 +24,29 @@ use Rattle.render_core.specs.declared.rendering.Rendering.{Rendering}
 abbrev pub stops_at : TooDeep → RunEnd
 stops_at call = StopsAt (record { file = call.file; at = call.at })
 
--- the next bytes of a piece that had these left
+-- the next bytes of a piece that had these left, at the beginning of the room
 pub record Gave (left left_after room room_after : List ℕ) (n : ℕ) : Type 0 where
   pub size : n ≡ min (length room) (length left)
-  pub given : take n room_after ≡ take n left
+  pub given : room_after ≡ take n left ++ drop n room
   pub begun : left_after ≡ drop n left
 
 -- the next piece, which isn't empty
-pub record Next (old new : Rest) (room room_after : List ℕ) (before after n : ℕ) : Type 0 where
+pub record Next (old new : Rest) (done_before done_after : Bool) (room room_after : List ℕ)
+    (before after n : ℕ) : Type 0 where
   pub spent : Spent
   pub piece : Piece
   pub is : old.coming ≡ GivesPiece spent piece new.coming
   pub some : 0 < length (piece_bytes piece)
+  pub has_room : 0 < length room
+  pub done : done_after ≡ done_before
   pub cost : after ≡ before + spent.cost
   pub gave : Gave (piece_bytes piece) new.begun room room_after n
 
 -- nothing was to come
-pub record AtEnd (old new : Rest) (done : Bool) (before after n : ℕ) : Type 0 where
+pub record AtEnd (old new : Rest) (done : Bool) (room room_after : List ℕ) (before after n : ℕ) : Type 0 where
   pub none : n ≡ 0
+  pub has_room : 0 < length room
+  pub unchanged : room_after ≡ room
   pub begun : new.begun ≡ []
   pub old_whole : IsWhole old.coming
   pub new_whole : IsWhole new.coming
@@ -48,7 +55,10 @@ pub record AtEnd (old new : Rest) (done : Bool) (before after n : ℕ) : Type 0 
   pub high : after ≤ before + (first_spent old.coming).cost
 
 -- what is to come stays, but for what is spent before it
-pub record Refused (old new : Rest) (done_before done_after : Bool) (before after : ℕ) : Type 0 where
+pub record Refused (old new : Rest) (done_before done_after : Bool) (room room_after : List ℕ)
+    (before after : ℕ) : Type 0 where
+  pub has_room : 0 < length room
+  pub unchanged : room_after ≡ room
   pub spent : Spent
   pub same : old.coming ≡ spent_first spent new.coming
   pub begun : new.begun ≡ []
@@ -57,9 +67,11 @@ pub record Refused (old new : Rest) (done_before done_after : Bool) (before afte
   pub high : after ≤ before + (first_spent old.coming).cost
 
 -- a room without bytes, or a rendering that is done
-pub record Idle (old new : Rest) (done_before done_after : Bool) (room : List ℕ) (before after n : ℕ) : Type 0 where
+pub record Idle (old new : Rest) (done_before done_after : Bool) (room room_after : List ℕ)
+    (before after n : ℕ) : Type 0 where
   pub why : (length room ≡ 0) ⊎ (done_before ≡ true)
   pub none : n ≡ 0
+  pub unchanged : room_after ≡ room
   pub rest : new ≡ old
   pub done : done_after ≡ done_before
   pub cost : after ≡ before
@@ -67,13 +79,14 @@ pub record Idle (old new : Rest) (done_before done_after : Bool) (room : List �
 -- where no piece has begun
 abbrev pub Fresh : Rest → Rest → Bool → Bool → List ℕ → List ℕ → ℕ → ℕ → Result ℕ (Refusal TooDeep) → Type 0
 Fresh old new done_before done_after room room_after before after (Ok n) =
-    Idle old new done_before done_after room before after n ⊎ Next old new room room_after before after n
-    ⊎ AtEnd old new done_after before after n
+    Idle old new done_before done_after room room_after before after n
+    ⊎ Next old new done_before done_after room room_after before after n
+    ⊎ AtEnd old new done_after room room_after before after n
 Fresh old new done_before done_after room room_after before after (Err (refusal.Because call)) =
-    Refused old new done_before done_after before after × (pieces_of_outcome old.coming ≡ [])
-    × (end_of_outcome old.coming ≡ stops_at call) × (0 < length room)
+    Refused old new done_before done_after room room_after before after × (pieces_of_outcome old.coming ≡ [])
+    × (end_of_outcome old.coming ≡ stops_at call)
 Fresh old new done_before done_after room room_after before after (Err refusal.OutOfMemory) =
-    Refused old new done_before done_after before after × (0 < length room) × (done_before ≡ false)
+    Refused old new done_before done_after room room_after before after × (done_before ≡ false)
 
 -- where a piece has begun
 abbrev pub Begun : Rest → Rest → Bool → Bool → List ℕ → List ℕ → ℕ → ℕ → Result ℕ (Refusal TooDeep) → Type 0

@@ -4,8 +4,8 @@
 --
 -- Example: at first it is what `run` gives. After a pull into a room of one byte, a piece `ab` and the end, it is `b`
 -- and the end.
-use Rattle.std.specs.Prelude.{◌≡◌, ℕ, ◌≤◌, ◌<◌, Bool, true, false, List, [], ◌∷◌, ◌++◌, Option, Some, None, drop, length}
-use Rattle.std.specs.Prelude.{encode_utf8_all, slice_get}
+use Rattle.std.specs.Prelude.{◌≡◌, ℕ, ◌≤◌, ◌<◌, Bool, true, false, List, [], ◌∷◌, ◌++◌, Option, Some, None}
+use Rattle.std.specs.Prelude.{drop, encode_utf8_all, length, slice_get}
 use Rattle.html_state.specs.AfterPieces.{Piece, Static, Value}
 use Rattle.soy_tree.specs.Values.{StringValue}
 use Rattle.soy_tree.specs.Values as values
@@ -106,9 +106,6 @@ rest_bytes rest = rest.begun ++ encode_utf8_all (joined_pieces (pieces_of_outcom
 
 abbrev pub rest_end : Rest → RunEnd
 rest_end rest = end_of_outcome rest.coming
-
-abbrev pub rest_cost : Rest → ℕ
-rest_cost rest = (first_spent rest.coming).cost
 
 -- nothing is to come, and the end is whole
 abbrev pub IsWhole : Outcome → Type 0

@@ -1,6 +1,6 @@
 //! Pieces that have begun.
 
-ghost use Rattle.std.specs.Prelude.{◌≡◌, ◌≤◌, List, IfOk, drop, encode_utf8_all, length, min, slice_get, take};
+ghost use Rattle.std.specs.Prelude.{◌≡◌, ◌≤◌, ◌++◌, List, IfOk, drop, encode_utf8_all, length, min, slice_get, take};
 ghost use Rattle.std.specs.Str.{chars};
 ghost use Rattle.soy_tree.specs.Values as values;
 ghost use Rattle.soy_tree.specs.ViewValues.{view_value};
@@ -128,7 +128,7 @@ pub(crate) fn static_bytes(program: &ProgramParts, at: usize) -> &[u8]
 fn copy_from(bytes: &[u8], from: usize, room: &mut [u8]) -> usize
     requires { from ≤ length bytes.now }
     ensures size { result ≡ min (length room.old) (length (drop from bytes.now)) }
-    ensures given { take result room.new ≡ take result (drop from bytes.now) }
+    ensures given { room.new ≡ take result (drop from bytes.now) ++ drop result room.old }
 {
     let rest = &bytes[from..];
     let n = room.len().min(rest.len());
