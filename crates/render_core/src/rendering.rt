@@ -9,7 +9,7 @@ ghost use Rattle.template_ir.specs.Run.{input_env, names_of, run};
 ghost use Rattle.template_ir.specs.ViewOps.{view_program};
 ghost use Rattle.template_ir.specs.declared.program.ProgramParts.{ProgramParts};
 ghost use Rattle.render_core.specs.Begins.{EntryFound, FieldFound, entry_frame, held_field, root_bound};
-ghost use Rattle.render_core.specs.Pulls.{Gave, Pulls, stops_at};
+ghost use Rattle.render_core.specs.Pulls.{Fresh, Gave, Pulls, stops_at};
 ghost use Rattle.render_core.specs.Rest.{BegunFits, Fits, IsWhole, PieceFits, begun_left, has_ended, piece_left};
 ghost use Rattle.render_core.specs.Rest.{rest_bytes, rest_end, rest_of, solid};
 ghost use Rattle.render_core.specs.Variables.{cells_of, env_at, name_there, param_of};
@@ -187,19 +187,34 @@ impl Rendering {
     {
         match self.piece.take() {
             Some(piece) => Ok(self.give(scene, piece, room)),
-            None => {
-                if room.is_empty() || self.done {
-                    return Ok(0);
-                }
-                match self.machine.advance(scene, steps) {
-                    Ok(Some(piece)) => Ok(self.give(scene, piece, room)),
-                    Ok(None) => {
-                        self.done = true;
-                        Ok(0)
-                    }
-                    Err(refusal) => Err(refusal),
-                }
+            None => self.pull_next(scene, room, steps),
+        }
+    }
+
+    /// Gives the first bytes of the next piece, where none has begun.
+    fn pull_next<L: Ledger>(
+        &mut self,
+        scene: &Scene,
+        room: &mut [u8],
+        steps: &mut Steps<L>,
+    ) -> Result<usize, Refusal<TooDeep>>
+        requires none { self.old.piece ≡ None }
+        requires fits { Fits scene.now.program.now (view_value scene.now.input.now) self.old }
+        ensures fits { Fits scene.now.program.now (view_value scene.now.input.now) self.new }
+        ensures pulls { Fresh (rest_of scene.now.program.now (view_value scene.now.input.now) self.old)
+            (rest_of scene.now.program.now (view_value scene.now.input.now) self.new)
+            (has_ended self.old) (has_ended self.new) room.old room.new steps.old steps.new result }
+    {
+        if room.is_empty() || self.done {
+            return Ok(0);
+        }
+        match self.machine.advance(scene, steps) {
+            Ok(Some(piece)) => Ok(self.give(scene, piece, room)),
+            Ok(None) => {
+                self.done = true;
+                Ok(0)
             }
+            Err(refusal) => Err(refusal),
         }
     }
 
