@@ -6,6 +6,7 @@ mod Conditions
 mod Finds
 mod Forms
 mod Gathers
+mod GivenForms
 mod Gives
 mod Leaves
 mod Lets
@@ -14,9 +15,11 @@ mod Meanings
 mod Moves
 mod Ops
 mod Overs
+mod Plurals
 mod Pullings
 mod Shows
 mod Sights
+mod TextEnds
 mod Turns
 mod Values
 mod Wents
