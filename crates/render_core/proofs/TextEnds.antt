@@ -117,8 +117,7 @@ module _ (p : ProgramParts) (input : values.Value) where
       (env_agree p input wider old.bound.items len f.env
       (take_end old.bound.items (b ∷ []) ∙ sym (take-length old.bound.items)) old_fits.0.1)
       ∙ ap (λ (v : Option Bound). shown_by p f (env_at (cells_of p input old.bound.items) f.env) (text_bound v))
-      (get_end old.bound.items b))
-      (
+      (get_end old.bound.items b)) (
         old_fits.0.0,
         (let a = old_fits.0.1 in let h : f.env ≤ len + 1 = omega (arith, a) in h),
         (let h : len < len + 1 = omega arith in h),
@@ -144,8 +143,7 @@ module _ (p : ProgramParts) (input : values.Value) where
       (env_agree p input wider old.bound.items len f.env
       (take_end old.bound.items (b ∷ []) ∙ sym (take-length old.bound.items)) around)
       ∙ ap (λ (inner : RunEnv). call_of p f (g.next + 1) (env_at (cells_of p input old.bound.items) f.env) inner
-      (slice_get p.ops f.at)) (env_more p input old.bound.items b (len + 1) refl))
-      (
+      (slice_get p.ops f.at)) (env_more p input old.bound.items b (len + 1) refl)) (
         w.0,
         w.1,
         w.2,
