@@ -127,7 +127,7 @@ module _ (p : ProgramParts) (input : values.Value) where
 
   -- ---- the end of a text
 
-  text_over : (bound : List Bound) (fs : List Frame) (texts : List (List ℕ)) (f : Ahead) (what : Purpose)
+  pub text_over : (bound : List Bound) (fs : List Frame) (texts : List (List ℕ)) (f : Ahead) (what : Purpose)
       → over p input bound (frame.Gather f what ∷ fs) texts gives_nothing
       ≡ over p input (take f.mark bound) fs (past_innermost texts)
       (after_text p (cells_of p input bound) f what (innermost texts))
@@ -137,41 +137,3 @@ module _ (p : ProgramParts) (input : values.Value) where
   text_over bound fs (text ∷ texts) f what =
       ap (λ (o : Outcome). over p input (take f.mark bound) fs texts o)
       (first_none (after_text p (cells_of p input bound) f what text))
-
-  pub text_bind : (old new : Machine) (f : Ahead) (n : ℕ) → old.top ≡ frame.Gather f purpose.Bind → MachineFits old
-      → new.top ≡ frame.Ops (past_with f (length old.bound.items + 1)) → new.below ≡ old.below
-      → new.texts ≡ past_innermost old.texts
-      → new.bound.items ≡ old.bound.items ++ text_var f purpose.Bind (innermost old.texts) ∷ []
-      → Silent p input old new n n
-  text_bind old new f n old_top fits top below texts bound =
-      let b : Bound = text_var f purpose.Bind (innermost old.texts) in
-      let len : ℕ = length old.bound.items in
-      let wider : List Bound = old.bound.items ++ b ∷ [] in
-      let g : Ahead = past_with f (len + 1) in
-      let old_fits : FramesFit (frame.Gather f purpose.Bind ∷ old.below) len = fits_top p input old (frame.Gather f purpose.Bind) old_top fits in
-      let more : length wider ≡ len + 1 = length_more p input old.bound.items b in (
-        none_spent,
-        record {
-          same =
-              machine_is p input old (frame.Gather f purpose.Bind) old.below old.texts old.bound.items old_top refl refl refl
-              ∙ (text_over old.bound.items old.below old.texts f purpose.Bind
-              ∙ (sym (machine_is p input new (frame.Ops g) old.below (past_innermost old.texts) wider top below texts bound
-              ∙ (ap (λ (bs : List Bound). over p input bs old.below (past_innermost old.texts)
-              (continued_by gives_nothing (ops_ahead p g (env_at (cells_of p input wider) (len + 1)))))
-              (take_more p input old.bound.items b f.mark old_fits.1)
-              ∙ ap (λ (o : Outcome). over p input (take f.mark old.bound.items) old.below (past_innermost old.texts) o)
-              (first_none (ops_ahead p g (env_at (cells_of p input wider) (len + 1)))
-              ∙ ap (λ (env : RunEnv). ops_ahead p (past f) env) (env_more p input old.bound.items b (len + 1) refl))))
-              ∙ sym (first_none (machine_gives p input new))));
-          cost = (let h : n ≡ n + 0 = omega arith in h);
-          falls =
-              (let q : pending p new.top ≡ 0 = ap (pending p) top in
-              let o : pending p old.top ≡ 1 = ap (pending p) old_top in omega (arith, q, o));
-          fits =
-              fits_is p input new (frame.Ops g) old.below wider top below bound (
-                (let h : len + 1 ≤ length wider = omega (arith, more) in h),
-                (let m = old_fits.1 in let h : f.mark ≤ length wider = omega (arith, more, m) in h),
-                old_fits.2,
-              );
-        },
-      )

@@ -7,6 +7,7 @@ mod Fills
 mod Finds
 mod Forms
 mod Gathers
+mod GivenForms
 mod Gives
 mod Handings
 mod Leaves
@@ -17,9 +18,11 @@ mod Moves
 mod Openings
 mod Ops
 mod Overs
+mod Plurals
 mod Pullings
 mod Shows
 mod Sights
+mod TextEnds
 mod Turns
 mod Values
 mod Wents

@@ -1,5 +1,5 @@
 -- What is seen at a point that is made of a machine.
-use Rattle.std.proofs.Common.{◌≡◌, ℕ, List, Result, length, refl, ap, ◌∙◌, subst}
+use Rattle.std.proofs.Common.{◌≡◌, ℕ, Bool, List, Result, length, refl, ap, ◌∙◌, subst}
 use Rattle.soy_base.specs.declared.memory.OutOfMemory.{OutOfMemory}
 use Rattle.soy_tree.specs.Cost.{cost}
 use Rattle.soy_tree.specs.Expressions.{Expr}
@@ -9,10 +9,10 @@ use Rattle.soy_meaning.specs.Giving.{BoundBlock, RunEnv}
 use Rattle.soy_tree.specs.ViewValues.{view_value}
 use Rattle.soy_tree.specs.declared.value.Value as code
 use Rattle.template_ir.specs.declared.program.ProgramParts.{ProgramParts}
-use Rattle.render_core.specs.Finds.{Finds, found_means}
+use Rattle.render_core.specs.Finds.{Finds, HasItem, found_means}
 use Rattle.render_core.specs.Seen.{cells_seen, env_seen, program_seen}
 use Rattle.render_core.specs.Shows.{Shows}
-use Rattle.render_core.specs.Variables.{Cell, cells_of, env_at}
+use Rattle.render_core.specs.Variables.{Cell, cell_at, cells_of, env_at}
 use Rattle.render_core.specs.declared.held.Bound.{Bound}
 use Rattle.render_core.specs.declared.parts.Point.{Point}
 use Rattle.render_core.specs.declared.showing.Shown.{Shown}
@@ -74,3 +74,11 @@ pub finds_err : (point : Point) (p : ProgramParts) (v : code.Value) (bound : Lis
 finds_err point p v bound n program input bounds env e before after h =
     subst (λ (around : RunEnv). IsWithin (cost e around) before after)
     (seen_env point p v bound n program input bounds env) h
+
+pub items_at : (point : Point) (p : ProgramParts) (v : code.Value) (bound : List Bound) → point.scene.program.now ≡ p
+    → point.scene.input.now ≡ v → point.bound.now ≡ bound → (list number : ℕ) (has : Bool)
+    → HasItem number (cell_at (cells_seen point) list).part has
+    → HasItem number (cell_at (cells_of p (view_value v) bound) list).part has
+items_at point p v bound program input bounds list number has h =
+    subst (λ (cells : List Cell). HasItem number (cell_at cells list).part has)
+    (seen_cells point p v bound program input bounds) h

@@ -23,10 +23,10 @@ use Rattle.template_ir.specs.declared.op.Op.{Op}
 use Rattle.template_ir.specs.declared.op.Op.TheVariants as op
 use Rattle.template_ir.specs.declared.program.ProgramParts.{ProgramParts}
 use Rattle.soy_tree.specs.declared.expr.Expr as code_expr
-use Rattle.render_core.specs.Finds.{found_means, held_of}
-use Rattle.render_core.specs.Frames.{FramesFit, MachineFits, frame_gives, items_after, machine_gives, means_before, ops_ahead}
+use Rattle.render_core.specs.Finds.{HasItem, found_means, held_of}
+use Rattle.render_core.specs.Frames.{FramesFit, IsPlainFrame, MachineFits, frame_gives, items_after, machine_gives, means_before, ops_ahead}
 use Rattle.render_core.specs.Frames.{over, past, turns_of}
-use Rattle.render_core.specs.Rounds.{IsLoopOver, IsNoLoop, first_round, index_bound, item_bound, list_bound, turn_bound, turn_child}
+use Rattle.render_core.specs.Rounds.{IsLoopOver, IsNoLoop, LoopAt, first_round, index_bound, item_bound, list_bound, turn_bound, turn_child}
 use Rattle.render_core.specs.Rounds.{turn_env, turned}
 use Rattle.render_core.specs.Stepping.{GoesIn, IsSame, Silent, Stays, pending}
 use Rattle.render_core.specs.Variables.{Cell, cell_at, cells_of, env_at, name_or_none, name_there, part_held}
@@ -281,3 +281,34 @@ module _ (p : ProgramParts) (input : values.Value) where
               );
         },
       )
+
+  -- the same with what is found
+  pub turn_goes : (old new : Machine) (r : Round) (index : Option Name) (body : Block) (has : Bool) (n : ℕ)
+      → old.top ≡ frame.Turns r → MachineFits old → has ≡ is_some index
+      → LoopAt (Some (index, body)) (slice_get p.ops r.op)
+      → HasItem r.next (cell_at (cells_of p input old.bound.items) r.list).part true
+      → new.top ≡ frame.Ops (turn_child r body (turn_env has (length old.bound.items)) (length old.bound.items))
+      → new.below ≡ frame.Turns (turned r) ∷ old.below → new.texts ≡ old.texts
+      → new.bound.items ≡ old.bound.items ++ turn_bound r has (length old.bound.items) → Silent p input old new n n
+  turn_goes old new r index body has n old_top fits indexed loop items top below texts bound =
+      let len : ℕ = length old.bound.items in
+      turn_does old new r loop.0 index loop.1 body items.0 items.1 n old_top fits loop.2 items.2 items.3
+      (top ∙ ap (λ (h : Bool). frame.Ops (turn_child r body (turn_env h len) len)) indexed) below texts
+      (bound ∙ ap (λ (h : Bool). old.bound.items ++ turn_bound r h len) indexed)
+
+  -- a loop without a next item, or an op that is none, gives nothing more
+  pub turns_end : (m : Machine) (r : Round) → m.top ≡ frame.Turns r
+      → HasItem r.next (cell_at (cells_of p input m.bound.items) r.list).part false
+      → frame_gives p input m.bound.items m.top ≡ RunEnds (one_step 0) WholeRun
+  turns_end m r top none =
+      ap (λ (f : Frame). frame_gives p input m.bound.items f) top
+      ∙ turns_over (cells_of p input m.bound.items) r (slice_get p.ops r.op) none
+
+  pub turns_none : (m : Machine) (r : Round) → m.top ≡ frame.Turns r → IsNoLoop (slice_get p.ops r.op)
+      → frame_gives p input m.bound.items m.top ≡ RunEnds (one_step 0) WholeRun
+  turns_none m r top lost =
+      ap (λ (f : Frame). frame_gives p input m.bound.items f) top
+      ∙ turns_lost (cells_of p input m.bound.items) r (slice_get p.ops r.op) lost
+
+  pub turns_plain : (m : Machine) (r : Round) → m.top ≡ frame.Turns r → IsPlainFrame m.top
+  turns_plain m r top = subst IsPlainFrame (sym top) tt

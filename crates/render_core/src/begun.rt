@@ -1,6 +1,6 @@
 //! Pieces that have begun.
 
-ghost use Rattle.std.specs.Prelude.{◌≡◌, ◌≤◌, ◌++◌, List, IfOk, drop, encode_utf8_all, length, min, slice_get, take};
+ghost use Rattle.std.specs.Prelude.{◌≡◌, ◌≤◌, ◌++◌, [], List, IfOk, drop, encode_utf8_all, length, min, slice_get, take};
 ghost use Rattle.std.specs.Str.{chars};
 ghost use Rattle.soy_tree.specs.Values as values;
 ghost use Rattle.soy_tree.specs.ViewValues.{view_value};
@@ -217,30 +217,36 @@ fn escaped_text(
 }
 
 /// The string that a path names, or nothing.
-#[tactic(auto, using(soy_expr::proofs::AsciiTexts::chars_ascii))]
 fn string_at<'i>(point: Point<'_, 'i, '_>, path: &Path) -> &'i str
     ensures characters { chars result.now ≡ string_text (path_value (cells_seen point.entry) path.now) }
     ensures bytes { result.now ≡ encode_utf8_all (string_text (path_value (cells_seen point.entry) path.now)) }
 {
     match part_of(point, path) {
         Some(value) => string_of(value),
-        None => "",
+        None => no_text(),
     }
 }
 
 /// The string that a value is, or nothing.
-#[tactic(auto, using(soy_expr::proofs::AsciiTexts::chars_ascii))]
 fn string_of(value: &Value) -> &str
     ensures characters { chars result.now ≡ string_text (view_value value.now) }
     ensures bytes { result.now ≡ encode_utf8_all (string_text (view_value value.now)) }
 {
     match value {
-        Value::Null => "",
-        Value::Bool(_) => "",
-        Value::Int(_) => "",
+        Value::Null => no_text(),
+        Value::Bool(_) => no_text(),
+        Value::Int(_) => no_text(),
         Value::Str(text) => text.text(),
-        Value::List(_) => "",
-        Value::Map(_) => "",
-        Value::Fields(_) => "",
+        Value::List(_) => no_text(),
+        Value::Map(_) => no_text(),
+        Value::Fields(_) => no_text(),
     }
+}
+
+/// The text without characters.
+pub(crate) fn no_text() -> &'static str
+    ensures characters { chars result.now ≡ [] }
+    ensures bytes { result.now ≡ [] }
+{
+    ""
 }

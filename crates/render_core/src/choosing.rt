@@ -15,6 +15,7 @@ ghost use Rattle.render_core.specs.Chosen.{added_cost, branch_chosen, choice_cho
 ghost use Rattle.render_core.specs.Finds.{Takes};
 ghost use Rattle.render_core.specs.Seen.{env_seen};
 
+use crate::begun::no_text;
 use crate::parts::Point;
 use crate::valuing::is_truthy;
 use plural_rules::Category;
@@ -231,16 +232,15 @@ fn named_block(category: Category, arms: &[NamedBlock]) -> Option<Block>
 }
 
 /// The arm of a select for a value.
-#[tactic(auto, using(soy_expr::proofs::AsciiTexts::chars_ascii))]
 fn select_for(value: Shallow, arms: &[WordBlock]) -> Option<Block>
     ensures { result ≡ select_block (word_of (view_shallow value.entry)) arms.now }
 {
     match value {
-        Shallow::Null => select_block("", arms),
-        Shallow::Bool(_) => select_block("", arms),
-        Shallow::Int(_) => select_block("", arms),
+        Shallow::Null => select_block(no_text(), arms),
+        Shallow::Bool(_) => select_block(no_text(), arms),
+        Shallow::Int(_) => select_block(no_text(), arms),
         Shallow::Str(word) => select_block(word.text(), arms),
-        Shallow::Compound => select_block("", arms),
+        Shallow::Compound => select_block(no_text(), arms),
     }
 }
 

@@ -153,8 +153,27 @@ fn loop_at(program: &ProgramParts, at: usize) -> Option<(&Option<Text>, &Block)>
     ensures { LoopAt (option_map (λ t. (t.0.now, t.1.now)) result) (slice_get program.now.ops at) }
 {
     match program.op(at) {
-        Some(Op::For(_, index, _, body)) => Some((index, body)),
-        _ => None,
+        Some(op) => loop_of(op),
+        None => None,
+    }
+}
+
+/// The same of an op.
+fn loop_of(op: &Op) -> Option<(&Option<Text>, &Block)>
+    ensures { LoopAt (option_map (λ t. (t.0.now, t.1.now)) result) (Some op.now) }
+{
+    match op {
+        Op::For(_, index, _, body) => Some((index, body)),
+        Op::Static(_) => None,
+        Op::Print(_, _) => None,
+        Op::Number(_) => None,
+        Op::If(_, _) => None,
+        Op::Switch(_, _, _) => None,
+        Op::Let(_, _) => None,
+        Op::LetBlock(_, _, _) => None,
+        Op::Call(_) => None,
+        Op::Plural(_) => None,
+        Op::Select(_) => None,
     }
 }
 
