@@ -241,15 +241,6 @@ module _ (p : ProgramParts) (input : values.Value) where
         fits = same_fits p input old new same hands.fits;
       }
 
-  pub hand_refused : (old new : Machine) (f : Ahead) (h : Handing) (d : Handed) (n : ℕ) → Hands p old f h d
-      → IsSame old new → Stays p input old new n n
-  hand_refused old new f h d n hands same = record {
-    same = same_gives p input old new same;
-    low = (let l : n ≤ n = omega arith in l);
-    high = omega arith;
-    fits = same_fits p input old new same hands.fits;
-  }
-
   -- ---- by what it is handed
 
   -- a value, at its cost

@@ -7,8 +7,9 @@ use Rattle.soy_base.specs.declared.kind.Kind.{Kind}
 use Rattle.soy_base.specs.declared.kind.Kind.TheVariants as kind
 use Rattle.soy_base.specs.declared.memory.OutOfMemory.{OutOfMemory}
 use Rattle.soy_base.specs.declared.place.Place.{Place}
-use Rattle.soy_base.specs.declared.place.ValueClass.TheVariants as value_class
+use Rattle.soy_base.specs.declared.place.ValueClass.{ValueClass}
 use Rattle.html_state.specs.AfterPieces.{Static, Value}
+use Rattle.soy_tree.specs.Val.{value_text}
 use Rattle.soy_tree.specs.Values.{NullValue, StringValue}
 use Rattle.soy_tree.specs.Values as values
 use Rattle.soy_meaning.specs.Giving.{RunEnv}
@@ -16,7 +17,8 @@ use Rattle.soy_meaning.specs.Outcome.{GivesPiece, Outcome, RunEnds, Spent, Stops
 use Rattle.soy_meaning.specs.Outcome.{gathered, gives_nothing, none_spent, pieces_of_outcome, spent_first}
 use Rattle.soy_meaning.specs.Plan.{Site}
 use Rattle.soy_meaning.proofs.Outcomes.{first_followed, first_none, none_after}
-use Rattle.template_ir.specs.Run.{all_give, block_gives, called_at, kind_of_template, opened_gives, value_at, value_gives}
+use Rattle.template_ir.specs.Run.{all_give, block_gives, called_at, kind_of_template, one_step, opened_gives, value_at}
+use Rattle.template_ir.specs.Run.{value_gives}
 use Rattle.template_ir.specs.ViewOps.{view_callee, view_program, view_routine}
 use Rattle.template_ir.specs.declared.op.Callee.{Callee}
 use Rattle.template_ir.specs.declared.op.Op.{Op}
@@ -24,9 +26,11 @@ use Rattle.template_ir.specs.declared.op.Op.TheVariants as op
 use Rattle.template_ir.specs.declared.program.ProgramParts.{ProgramParts}
 use Rattle.template_ir.specs.declared.program.Routine.{Routine}
 use Rattle.render_core.specs.Calling.{Opens, OpensRoutine, called_child, callee_of}
+use Rattle.render_core.specs.Forms.{form_at}
 use Rattle.render_core.specs.Frames.{FramesFit, IsPlainFrame, MachineFits, call_of, call_place, frame_gives, machine_gives}
 use Rattle.render_core.specs.Frames.{mark_of, ops_ahead, over, past, shown_by, text_bound}
 use Rattle.render_core.specs.Pulls.{stops_at}
+use Rattle.render_core.specs.Shows.{ShowsValue}
 use Rattle.render_core.specs.Stepping.{Does, GaveForm, GoesIn, IsBlockKind, IsSame, Silent, Stays, Stepped, pending, weight}
 use Rattle.render_core.specs.Variables.{Cell, cells_of, env_at}
 use Rattle.render_core.specs.declared.frame.Ahead.{Ahead}
@@ -44,9 +48,10 @@ use Rattle.render_core.proofs.Gives.{gave_next}
 use Rattle.render_core.proofs.Handings.{below_more}
 use Rattle.render_core.proofs.Leaves.{plain_top}
 use Rattle.render_core.proofs.Machines.{entered}
-use Rattle.render_core.proofs.Moves.{fits_is, fits_top, machine_is, same_fits, same_gives}
+use Rattle.render_core.proofs.Moves.{fits_is, fits_top, machine_is}
 use Rattle.render_core.proofs.Ops.{get_map_none, take_twice}
 use Rattle.render_core.proofs.Overs.{over_stop}
+use Rattle.render_core.proofs.TextEnds.{same_stays}
 
 -- ---- outcomes
 
@@ -82,6 +87,13 @@ pub call_there : (o : Option Op) (c : Callee) → callee_of o ≡ Some c → o �
 call_there None c e = cc
 call_there (Some (op.Call d)) c e = let s : d ≡ c = cc in ap (λ (x : Callee). Some (op.Call x)) s
 call_there (Some _) c e = cc
+
+-- where no call stands at the op, nothing is given
+pub call_none : (p : ProgramParts) (f : Ahead) (next : ℕ) (env inner : RunEnv) (o : Option Op) → callee_of o ≡ None
+    → call_of p f next env inner o ≡ RunEnds (one_step 0) WholeRun
+call_none p f next env inner None e = refl
+call_none p f next env inner (Some (op.Call c)) e = cc
+call_none p f next env inner (Some _) e = refl
 
 module _ (p : ProgramParts) (input : values.Value) where
   -- ---- what comes before the frame past the op
@@ -128,12 +140,7 @@ module _ (p : ProgramParts) (input : values.Value) where
       )
   does_after old new f x n (Ok step.Done) is some fits h = absurd h
   does_after old new f x n (Ok (step.TooDeep call)) is some fits h = absurd h
-  does_after old new f x n (Err e) is some fits same = record {
-    same = same_gives p input old new same;
-    low = (let l : n ≤ n = omega arith in l);
-    high = omega arith;
-    fits = same_fits p input old new same fits;
-  }
+  does_after old new f x n (Err e) is some fits same = same_stays p input old new n same fits
 
   -- ---- the print of a text
 
@@ -185,6 +192,17 @@ module _ (p : ProgramParts) (input : values.Value) where
 
   pub call_low : (old : Machine) (f : Ahead) (h : Handing) (c : Callee) → Opens p old f h c → f.at < f.end
   call_low old f h c opens = (call_fits old f h c opens).0.0
+
+  -- null is given
+  pub null_given : (old new : Machine) (f g : Ahead) (point : Place) (text : List ℕ) (class : ValueClass)
+      (result : Result Step OutOfMemory) → g ≡ past f → ShowsValue NullValue text class
+      → GaveForm p input old new (frame.Ops g) (form_at point class text p.dir) result
+      → GaveForm p input old new (frame.Ops (past f)) (value_at p.dir point NullValue) result
+  null_given old new f g point text class result is shows gave =
+      subst (λ (h : Ahead). GaveForm p input old new (frame.Ops h) (value_at p.dir point NullValue) result) is
+      (subst (λ (k : ValueClass). GaveForm p input old new (frame.Ops g) (form_at point k (value_text NullValue) p.dir) result)
+      shows.1
+      (subst (λ (t : List ℕ). GaveForm p input old new (frame.Ops g) (form_at point class t p.dir) result) shows.0 gave))
 
   -- of a template that there isn't
   pub none_opens : (old new : Machine) (f : Ahead) (h : Handing) (c : Callee) (n : ℕ) (result : Result Step OutOfMemory)
@@ -246,13 +264,13 @@ module _ (p : ProgramParts) (input : values.Value) where
   lowered bound m f low =
       let e : m ≤ m = omega arith in env_agree p input (take m bound) bound m f.env (take_twice bound m m e) low
 
-  block_goes : (old new : Machine) (f : Ahead) (h : Handing) (c : Callee) (r : Routine) → OpensRoutine p old f h c r
+  block_enters : (old new : Machine) (f : Ahead) (h : Handing) (c : Callee) (r : Routine) → OpensRoutine p old f h c r
       → IsBlockKind r.kind → new.top ≡ frame.Ops (called_child f h r.body) → new.below ≡ frame.Ops (past f) ∷ old.below
       → new.texts ≡ old.texts → new.bound.items ≡ old.bound.items
       → GoesIn p input old new f
       (opened_gives p.dir c.place (kind_of_template (view_program p) c.template)
       (called_at (view_program p) f.left (view_callee c).site c.template (env_at (cells_of p input old.bound.items) h.inner)))
-  block_goes old new f h c r opens kinds top below texts bound =
+  block_enters old new f h c r opens kinds top below texts bound =
       let inner : RunEnv = env_at (cells_of p input old.bound.items) h.inner in
       let child : Ahead = called_child f h r.body in
       let o : Outcome = ops_ahead p child inner in
@@ -290,16 +308,16 @@ module _ (p : ProgramParts) (input : values.Value) where
       (opened_gives p.dir c.place (kind_of_template (view_program p) c.template)
       (called_at (view_program p) f.left (view_callee c).site c.template (env_at (cells_of p input old.bound.items) h.inner)))
       n (Ok step.Silent) (call_opens old f h c opens.opens) (call_pending old f h c opens.opens) opens.opens.fits
-      (block_goes old new f h c r opens kinds top below texts bound)
+      (block_enters old new f h c r opens kinds top below texts bound)
 
-  text_goes : (old new : Machine) (f : Ahead) (h : Handing) (c : Callee) (r : Routine) → OpensRoutine p old f h c r
+  text_enters : (old new : Machine) (f : Ahead) (h : Handing) (c : Callee) (r : Routine) → OpensRoutine p old f h c r
       → r.kind ≡ kind.Text → new.top ≡ frame.Ops (called_child f h r.body)
       → new.below ≡ frame.Gather f purpose.Show ∷ old.below → new.texts ≡ [] ∷ old.texts
       → new.bound.items ≡ old.bound.items
       → GoesIn p input old new f
       (opened_gives p.dir c.place (kind_of_template (view_program p) c.template)
       (called_at (view_program p) f.left (view_callee c).site c.template (env_at (cells_of p input old.bound.items) h.inner)))
-  text_goes old new f h c r opens text top below texts bound =
+  text_enters old new f h c r opens text top below texts bound =
       let env : RunEnv = env_at (cells_of p input old.bound.items) f.env in
       let inner : RunEnv = env_at (cells_of p input old.bound.items) h.inner in
       let child : Ahead = called_child f h r.body in
@@ -343,14 +361,4 @@ module _ (p : ProgramParts) (input : values.Value) where
       (opened_gives p.dir c.place (kind_of_template (view_program p) c.template)
       (called_at (view_program p) f.left (view_callee c).site c.template (env_at (cells_of p input old.bound.items) h.inner)))
       n (Ok step.Silent) (call_opens old f h c opens.opens) (call_pending old f h c opens.opens) opens.opens.fits
-      (text_goes old new f h c r opens text top below texts bound)
-
-  -- memory is refused
-  pub open_stays : (old new : Machine) (f : Ahead) (h : Handing) (c : Callee) (n : ℕ) (e : OutOfMemory) → Opens p old f h c
-      → IsSame old new → Stepped p input old new n n (Err e)
-  open_stays old new f h c n e opens same = record {
-    same = same_gives p input old new same;
-    low = (let l : n ≤ n = omega arith in l);
-    high = omega arith;
-    fits = same_fits p input old new same opens.fits;
-  }
+      (text_enters old new f h c r opens text top below texts bound)

@@ -73,9 +73,28 @@ impl Rendering {
         ensures not_done { IfOk result (λ r. has_ended r ≡ false) }
     {
         let mut bound = Vec::new(scene.alloc);
-        if bind(&mut bound, Naming::Hidden, Held::Root, 0).is_err() {
-            return Err(OutOfMemory);
+        match bind(&mut bound, Naming::Hidden, Held::Root, 0) {
+            Ok(_) => Rendering::begin_over(scene, template, bound),
+            Err(_) => Err(OutOfMemory),
         }
+    }
+
+    /// The same, over the variable that all data are bound to.
+    fn begin_over(
+        scene: &Scene,
+        template: usize,
+        bound: Vec<Bound>,
+    ) -> Result<Rendering, OutOfMemory>
+        requires { slice_get bound.items 0 ≡ Some root_bound }
+        ensures fits { IfOk result (λ r. Fits scene.now.program.now (view_value scene.now.input.now) r) }
+        ensures rest { IfOk result (λ r. rest_of scene.now.program.now (view_value scene.now.input.now) r
+            ≡ record {
+              begun = [];
+              coming = solid (run (view_program scene.now.program.now) template
+                  (view_value scene.now.input.now));
+            }) }
+        ensures not_done { IfOk result (λ r. has_ended r ≡ false) }
+    {
         match scene.program.template(template) {
             Some(routine) => Rendering::begin_routine(scene, template, routine, bound),
             None => {
@@ -85,7 +104,7 @@ impl Rendering {
         }
     }
 
-    /// The rendering of a template, over the variable that all data are bound to.
+    /// The rendering of a template that there is.
     fn begin_routine(
         scene: &Scene,
         template: usize,

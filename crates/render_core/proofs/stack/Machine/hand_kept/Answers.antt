@@ -4,7 +4,8 @@ use Rattle.soy_meaning.specs.Giving.{RunEnv}
 use Rattle.soy_meaning.specs.Outcome.{none_spent}
 use Rattle.render_core.specs.Variables.{cells_of, env_at}
 use Rattle.render_core.specs.declared.held.Held.TheVariants as held
-use Rattle.render_core.proofs.Handings.{hand_goes, hand_refused, kept_bound, kept_gives_none}
+use Rattle.render_core.proofs.Handings.{hand_goes, kept_bound, kept_gives_none}
+use Rattle.render_core.proofs.TextEnds.{same_stays}
 use Rattle.render_core.proofs.stack.Machine.hand_kept.Goals as goal
 
 pub returns-in-Ok : goal.returns-in-Ok
@@ -26,5 +27,4 @@ pub returns-in-Err : goal.returns-in-Err
 returns-in-Err c n =
     let p = c.args.scene.now.program.now in
     let input = view_value c.args.scene.now.input.now in
-    hand_refused p input c.args.self.now c.hand_held.new.self c.args.ahead c.args.handing c.args.handed.now n
-    c.requires.hands c.in-Err.ensures.stays
+    same_stays p input c.args.self.now c.hand_held.new.self n c.in-Err.ensures.stays c.requires.hands.fits

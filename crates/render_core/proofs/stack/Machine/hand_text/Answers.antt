@@ -1,6 +1,7 @@
 use Rattle.std.proofs.Common.{◌+◌, ◌≤◌, arith}
 use Rattle.soy_tree.specs.ViewValues.{view_value}
-use Rattle.render_core.proofs.Handings.{hand_gathers, hand_refused}
+use Rattle.render_core.proofs.Handings.{hand_gathers}
+use Rattle.render_core.proofs.TextEnds.{same_stays}
 use Rattle.render_core.proofs.stack.Machine.hand_text.Goals as goal
 
 pub returns-in-Ok : goal.returns-in-Ok
@@ -15,5 +16,4 @@ pub returns-in-Err : goal.returns-in-Err
 returns-in-Err c n =
     let p = c.args.scene.now.program.now in
     let input = view_value c.args.scene.now.input.now in
-    hand_refused p input c.args.self.now c.gather_block.new.self c.args.ahead c.args.handing c.args.handed.now n
-    c.requires.hands c.in-Err.ensures.stays
+    same_stays p input c.args.self.now c.gather_block.new.self n c.in-Err.ensures.stays c.requires.hands.fits
