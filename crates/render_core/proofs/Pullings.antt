@@ -1,7 +1,8 @@
 -- Pulls, from what the machine does.
 use Rattle.std.proofs.Common.{◌≡◌, ℕ, zero, suc, ◌+◌, ◌≤◌, ◌<◌, ◌⊎◌, inl, inr, min, Bool, true, false, List, [], ◌∷◌, ◌++◌, Option}
 use Rattle.std.proofs.Common.{Some, None, Result, Ok, Err, length, take, drop, refl, sym, ap, ◌∙◌, arith, subst, append_assoc}
-use Rattle.std.specs.Prelude.{IfOk, encode_utf8_all}
+use Rattle.std.specs.Prelude.{IfOk, ◌==◌, encode_utf8_all}
+use Rattle.std.proofs.lemmas.Bool.Decides.{nat_tests}
 use Rattle.std.proofs.lemmas.List.{length-take-le, nil_from_length, take-append-drop, take-append-le, take_all}
 use Rattle.std.proofs.lemmas.Str.{encodes-append}
 use Rattle.html_state.specs.AfterPieces.{Piece, Static, Value}
@@ -15,10 +16,11 @@ use Rattle.soy_meaning.specs.Outcome.{spent_first}
 use Rattle.render_core.specs.Pulls.{AtEnd, Begun, Fresh, Gave, Idle, Next, Pulls, Refused, stops_at}
 use Rattle.template_ir.specs.declared.program.ProgramParts.{ProgramParts}
 use Rattle.render_core.specs.Frames.{MachineFits}
-use Rattle.render_core.specs.Rest.{BegunFits, DoneFits, Fits, IsWhole, Rest, begun_left, coming, piece_bytes, piece_left}
+use Rattle.render_core.specs.Rest.{BegunFits, DoneFits, Fits, IsWhole, LeftOf, PieceFits, Rest, begun_left, coming, piece_bytes, piece_left}
 use Rattle.render_core.specs.Rest.{piece_text, rest_bytes, rest_end, rest_of}
 use Rattle.render_core.specs.Stepping.{Advanced, Left, NextPiece}
 use Rattle.render_core.specs.declared.begun.Begun as code_begun
+use Rattle.render_core.specs.declared.held.Bound.{Bound}
 use Rattle.render_core.specs.declared.rendering.Rendering.{Rendering}
 use Rattle.render_core.specs.declared.stack.Machine.{Machine}
 use Rattle.render_core.proofs.Wents.{end_first, pieces_first}
@@ -150,16 +152,13 @@ pulled_deep [] old new d e room room_after b a result call is whole h none_begun
 pulled_deep (c ∷ begun) old new d e room room_after b a result call is whole h none_begun some none stop =
     let bad : (c ∷ begun) ≡ [] = sym is ∙ none_begun in cc
 
--- a piece of which nothing is left is given whole
-pub given_all : (left after room room_after : List ℕ) (n : ℕ) → Gave left after room room_after n → length after ≡ 0
-    → Gave left [] room room_after n
-given_all left after room room_after n gave none = record {
-  size = gave.size;
-  given = gave.given;
-  begun = sym (nil_from_length after none) ∙ gave.begun;
-}
-
 -- ---- one pull
+
+pub is_empty : (n : ℕ) → (n == 0) ≡ true → n ≡ 0
+is_empty n e = grind (arith, nat_tests)
+
+pub isnt_empty : (n : ℕ) → (n == 0) ≡ false → 0 < n
+isnt_empty n e = grind (arith, nat_tests)
 
 pulls_begun : (left : List ℕ) (old new : Rest) (d e : Bool) (room room_after : List ℕ) (b a : ℕ)
     (result : Result ℕ (Refusal TooDeep)) → 0 < length left → Begun old new d e room room_after b a result
@@ -176,6 +175,18 @@ not_done true piece o fits = let e : Some piece ≡ None = fits.0 in cc
 not_done false piece o fits = refl
 
 module _ (p : ProgramParts) (input : values.Value) where
+  -- what is left of a piece is left once it is put back, if it is
+  pub left_same : (bound : List Bound) (piece : code_begun.Begun) (r : Option code_begun.Begun) → LeftOf piece r
+      → PieceFits p input bound piece → begun_left p input bound r ≡ piece_left p input bound piece
+  left_same bound piece (Some same) left fits = ap (piece_left p input bound) left.0
+  left_same bound piece None left fits = sym (nil_from_length (piece_left p input bound piece) (left p input bound fits))
+
+  pub left_fits : (bound : List Bound) (piece : code_begun.Begun) (r : Option code_begun.Begun) → LeftOf piece r
+      → PieceFits p input bound piece → BegunFits p input bound r
+  left_fits bound piece (Some same) left fits =
+      subst (λ (b : code_begun.Begun). BegunFits p input bound (Some b)) (sym left.0) (fits, left.1 p input bound fits)
+  left_fits bound piece None left fits = tt
+
   pub ended_whole : (r : Rendering) → Fits p input r → r.done ≡ true → IsWhole (coming p input r.machine)
   ended_whole r fits e = done_whole r.done r.piece (coming p input r.machine) fits.done e
 

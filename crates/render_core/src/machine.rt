@@ -4,6 +4,7 @@ ghost use Rattle.std.specs.Prelude.{◌≡◌, ◌<◌, Some, option_map, slice_
 ghost use Rattle.soy_tree.specs.ViewValues.{view_value};
 ghost use Rattle.render_core.specs.Calling.{callee_of};
 ghost use Rattle.render_core.specs.Frames.{MachineFits, call_place};
+ghost use Rattle.render_core.specs.Rest.{LeftOf};
 ghost use Rattle.render_core.specs.Stepping.{Advanced, OpBefore, Stepped};
 ghost use Rattle.render_core.specs.declared.frame.Frame.TheVariants as frame;
 
@@ -29,11 +30,10 @@ impl Machine {
         loop {
             match self.step(scene, steps) {
                 Ok(Step::Silent) => {}
-                Ok(Step::Gives(begun)) => {
-                    if begun.left() > 0 {
-                        return Ok(Some(begun));
-                    }
-                }
+                Ok(Step::Gives(begun)) => match left_of(begun) {
+                    Some(left) => return Ok(Some(left)),
+                    None => {}
+                },
                 Ok(Step::Done) => return Ok(None),
                 Ok(Step::TooDeep(call)) => return Err(Refusal::Because(call)),
                 Err(_) => return Err(Refusal::OutOfMemory),
@@ -102,6 +102,13 @@ impl Machine {
             Op::Select(select) => self.step_select(scene, ahead, select, steps),
         }
     }
+}
+
+/// A piece, if bytes of it are left.
+pub(crate) fn left_of(begun: Begun) -> Option<Begun>
+    ensures { LeftOf begun result }
+{
+    if begun.left() > 0 { Some(begun) } else { None }
 }
 
 /// The next op of a block.

@@ -20,6 +20,7 @@ use crate::begun::Begun;
 use crate::binding::bind;
 use crate::frame::{Ahead, Frame};
 use crate::held::{Bound, Held, Naming};
+use crate::machine::left_of;
 use crate::scene::Scene;
 use crate::stack::Machine;
 use crate::texts::Texts;
@@ -224,7 +225,10 @@ impl Rendering {
             (rest_of scene.now.program.now (view_value scene.now.input.now) self.new)
             (has_ended self.old) (has_ended self.new) room.old room.new steps.old steps.new result }
     {
-        if room.is_empty() || self.done {
+        if room.is_empty() {
+            return Ok(0);
+        }
+        if self.done {
             return Ok(0);
         }
         match self.machine.advance(scene, steps) {
@@ -258,7 +262,6 @@ impl Rendering {
     }
 
     /// Gives bytes of a piece.
-    #[tactic(auto, using(crate::proofs::Pullings::given_all))]
     fn give(&mut self, scene: &Scene, piece: Begun, room: &mut [u8]) -> usize
         requires { PieceFits scene.now.program.now (view_value scene.now.input.now) self.old.machine.bound.items piece }
         ensures gives { Gave
@@ -272,7 +275,7 @@ impl Rendering {
     {
         let mut piece = piece;
         let n = piece.fill(self.machine.point(scene, 0), room);
-        self.piece = if piece.left() > 0 { Some(piece) } else { None };
+        self.piece = left_of(piece);
         n
     }
 }

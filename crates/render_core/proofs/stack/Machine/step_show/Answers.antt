@@ -1,4 +1,4 @@
-use Rattle.std.proofs.Common.{◌∙◌, ap, subst}
+use Rattle.std.proofs.Common.{◌∙◌, List, ap, subst}
 use Rattle.std.specs.List.{slice_get}
 use Rattle.soy_base.specs.declared.place.ValueClass.TheVariants as value_class
 use Rattle.soy_tree.specs.ViewValues.{view_value}
