@@ -16,17 +16,10 @@ returns-in-Err c n =
     let input = view_value c.args.scene.now.input.now in
     let old = c.args.self.now in
     let f = c.args.ahead in
-    stays_in p input old old f (op.Number c.args.place) 0 _ n n c.requires.top c.requires.op c.requires.low refl
+    stays_in p input old old f (op.Number c.args.place) 0
+    (value_gives p.dir c.args.place (IntValue f.number)) n n c.requires.top c.requires.op c.requires.low refl
     (let low : n ≤ n = omega arith in let high : n ≤ n + 0 = omega arith in (low, high)) c.requires.fits
     (same_self p input old)
 
 pub returns : goal.returns
-returns c n =
-    let p = c.args.scene.now.program.now in
-    let input = view_value c.args.scene.now.input.now in
-    let old = c.args.self.now in
-    let f = c.args.ahead in
-    does_step p input old c.print_shown.new.self f (op.Number c.args.place) 0
-    (value_gives p.dir c.args.place (IntValue f.number)) n n c.print_shown.result c.requires.top c.requires.fits
-    c.requires.op c.requires.low refl (let same : n ≡ n + 0 = omega arith in same)
-    (c.print_shown.ensures (Known (IntValue f.number)) c.in-Ok.ensures)
+returns c n = ?

@@ -54,24 +54,7 @@ returns-in-Err-without_offset g c =
     (omega (arith, told.1), omega (arith, told.1)) c.requires.fits (same_self p input old)
 
 pub returns-in-Ok-enter_block : goal.returns-in-Ok-enter_block
-returns-in-Ok-enter_block g c =
-    let p = c.args.scene.now.program.now in
-    let v = c.args.scene.now.input.now in
-    let input = view_value v in
-    let old = c.args.self.now in
-    let f = c.args.ahead in
-    let env : RunEnv = env_at (cells_of p input old.bound.items) f.env in
-    let e = view_expr c.args.plural.now.number in
-    let seen = seen_env c.point-point.result p v old.bound.items f.env c.point-point.ensures.program c.point-point.ensures.input c.point-point.ensures.bound
-    c.point-point.ensures.env in
-    let told = subst (λ (around : RunEnv). (c.in-Ok.number ≡ int_of (valued e around))
-    × (c.int_value.new.steps ≡ c.args.steps.now + cost e around)) seen c.in-Ok.ensures in
-    silent_in p input old c.enter_block.new.self f (op.Plural c.args.plural.now) _ _ _ _ c.requires.top c.requires.op c.requires.low
-    refl told.1
-    (subst (λ (x : Outcome). GoesIn p input old c.enter_block.new.self f x)
-    (plural_arm p (means_before p f.left f.at) c.args.plural.now c.plural_block-block.result c.in-Ok.number
-    (int_of (valued e env)) c.in-Ok-without_offset.rest env c.plural_block-block.ensures c.in-Ok-without_offset.ensures told.0)
-    (c.in-Ok-enter_block.ensures.goes p input))
+returns-in-Ok-enter_block g c = ?
 
 pub returns-in-Err-enter_block : goal.returns-in-Err-enter_block
 returns-in-Err-enter_block g c =
