@@ -22,8 +22,8 @@ returns-in-Ok c =
           c.in-Ok.begun told.fits,
     )
 
-pub returns-else-is_empty : goal.returns-else-is_empty
-returns-else-is_empty c =
+pub returns-in-Ok-escaped_whole : goal.returns-in-Ok-escaped_whole
+returns-in-Ok-escaped_whole c =
     let p = c.args.scene.now.program.now in
     let v = c.args.scene.now.input.now in
     let old = c.args.self.now in

@@ -1,4 +1,7 @@
-use Rattle.std.proofs.Common.{◌≡◌, ℕ, ◌+◌, ◌≤◌, refl, arith}
+use Rattle.std.proofs.Common.{◌≡◌, ℕ, ◌+◌, ◌≤◌, refl, arith, rules}
+use mir.Facts.{to_z-of_z}
+use mir.Syntax.{w64}
+use mir.Val.{SFits}
 use Rattle.soy_tree.specs.Val.{Known}
 use Rattle.soy_tree.specs.Values.{IntValue}
 use Rattle.soy_tree.specs.ViewValues.{view_value}
@@ -16,7 +19,8 @@ returns-in-Err c n =
     let input = view_value c.args.scene.now.input.now in
     let old = c.args.self.now in
     let f = c.args.ahead in
-    stays_in p input old old f (op.Number c.args.place) 0 _ n n c.requires.top c.requires.op c.requires.low refl
+    stays_in p input old old f (op.Number c.args.place) 0
+    (value_gives p.dir c.args.place (IntValue f.number)) n n c.requires.top c.requires.op c.requires.low refl
     (let low : n ≤ n = omega arith in let high : n ≤ n + 0 = omega arith in (low, high)) c.requires.fits
     (same_self p input old)
 
@@ -26,7 +30,9 @@ returns c n =
     let input = view_value c.args.scene.now.input.now in
     let old = c.args.self.now in
     let f = c.args.ahead in
+    let fits : SFits w64 f.number = search rules in
+    let shows = simp (to_z-of_z fits) at c.in-Ok.ensures in
     does_step p input old c.print_shown.new.self f (op.Number c.args.place) 0
     (value_gives p.dir c.args.place (IntValue f.number)) n n c.print_shown.result c.requires.top c.requires.fits
     c.requires.op c.requires.low refl (let same : n ≡ n + 0 = omega arith in same)
-    (c.print_shown.ensures (Known (IntValue f.number)) c.in-Ok.ensures)
+    (c.print_shown.ensures (Known (IntValue f.number)) shows)

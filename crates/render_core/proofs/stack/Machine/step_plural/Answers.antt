@@ -1,4 +1,7 @@
-use Rattle.std.proofs.Common.{◌≡◌, ℕ, ◌+◌, ◌-◌, ◌≤◌, ◌<◌, pos, List, [], ◌∷◌, Option, Some, None, refl, sym, ap, ◌∙◌, arith, subst, length}
+use Rattle.std.proofs.Common.{◌≡◌, ℕ, ◌+◌, ◌-◌, ◌≤◌, ◌<◌, pos, List, [], ◌∷◌, Option, Some, None, refl, sym, ap, ◌∙◌, arith, rules, subst, length}
+use mir.Facts.{to_z-of_z}
+use mir.Syntax.{w64}
+use mir.Val.{SFits}
 use Rattle.std.specs.Prelude.{◌-ℤ◌, ℤ}
 use Rattle.soy_tree.specs.Cost.{cost}
 use Rattle.soy_tree.specs.ViewExpressions.{view_expr}
@@ -66,12 +69,17 @@ returns-in-Ok-enter_block g c =
     c.point-point.ensures.env in
     let told = subst (λ (around : RunEnv). (c.in-Ok.number ≡ int_of (valued e around))
     × (c.int_value.new.steps ≡ c.args.steps.now + cost e around)) seen c.in-Ok.ensures in
+    let fits : SFits w64 c.in-Ok.number = search rules in
+    let rest_fits : SFits w64 c.in-Ok-without_offset.rest = search rules in
+    let block = simp (to_z-of_z fits, to_z-of_z rest_fits) at c.plural_block-block.ensures in
+    let rest = simp (to_z-of_z fits) at c.in-Ok-without_offset.ensures in
+    let goes = simp (to_z-of_z rest_fits) at (c.in-Ok-enter_block.ensures.goes p input) in
     silent_in p input old c.enter_block.new.self f (op.Plural c.args.plural.now) _ _ _ _ c.requires.top c.requires.op c.requires.low
     refl told.1
     (subst (λ (x : Outcome). GoesIn p input old c.enter_block.new.self f x)
     (plural_arm p (means_before p f.left f.at) c.args.plural.now c.plural_block-block.result c.in-Ok.number
-    (int_of (valued e env)) c.in-Ok-without_offset.rest env c.plural_block-block.ensures c.in-Ok-without_offset.ensures told.0)
-    (c.in-Ok-enter_block.ensures.goes p input))
+    (int_of (valued e env)) c.in-Ok-without_offset.rest env block rest told.0)
+    goes)
 
 pub returns-in-Err-enter_block : goal.returns-in-Err-enter_block
 returns-in-Err-enter_block g c =
