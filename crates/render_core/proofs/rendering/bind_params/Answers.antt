@@ -5,7 +5,7 @@ use Rattle.soy_tree.specs.ViewTrees.{view_params}
 use Rattle.soy_tree.specs.ViewValues.{view_value}
 use Rattle.soy_tree.specs.declared.tree.Param.{Param}
 use Rattle.template_ir.specs.Run.{input_env, names_of}
-use Rattle.render_core.specs.Begins.{root_bound}
+use Rattle.render_core.specs.Begins.{FieldFound, root_bound}
 use Rattle.render_core.specs.Variables.{cells_of, env_at}
 use Rattle.render_core.specs.declared.held.Bound.{Bound}
 use Rattle.render_core.proofs.Begins.{get_more, param_bound, param_next}
@@ -39,7 +39,9 @@ loop-number-preserved c =
           ap (λ (bs : List Bound). env_at (cells_of p input bs) c.in-Ok.next) c.in-Ok.ensures.ok
           ∙ (ap (λ (k : ℕ). env_at (cells_of p input (bound ++ b ∷ [])) k) next
           ∙ param_next p input bound c.args.template n params c.index-params-number.result c.field_number.result
-          c.held_field-to.result c.loop-number.env inv.root (c.requires.params n) c.field_number.ensures c.held_field-to.ensures
+          c.held_field-to.result c.loop-number.env inv.root (c.requires.params n)
+          (subst (λ (x : Param). FieldFound x.name input c.field_number.result) (sym c.index-params-number.is)
+          c.field_number.ensures) c.held_field-to.ensures
           (inv.env ∙ ap (λ (k : ℕ). input_env (names_of (view_params (drop k params))) input) back) below
           c.index-params-number.is);
     }

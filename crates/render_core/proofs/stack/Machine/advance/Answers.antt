@@ -1,6 +1,5 @@
-use Rattle.std.proofs.Common.{◌≡◌, ◌<◌, Ok, Err, ℕ, length, subst, sym}
+use Rattle.std.proofs.Common.{Ok, Some, subst, sym}
 use Rattle.soy_tree.specs.ViewValues.{view_value}
-use Rattle.render_core.specs.Rest.{LeftOf}
 use Rattle.render_core.specs.Stepping.{Advanced, Stepped}
 use Rattle.render_core.specs.declared.begun.Begun.{Begun}
 use Rattle.render_core.specs.declared.stack.Step.{Step}
@@ -49,8 +48,8 @@ returns-in-Some g c =
     (went_gives p input c.args.self.now mid new c.args.steps.now c.loop-begun.steps c.step.new.steps begun
     c.loop-begun.invariant stepped (left.1 p input new.bound.items stepped.4))
 
-pub loop-begun-preserved-in-None : goal.loop-begun-preserved-in-None
-loop-begun-preserved-in-None g c =
+pub loop-begun-preserved : goal.loop-begun-preserved
+loop-begun-preserved g c =
     let p = c.args.scene.now.program.now in
     let input = view_value c.args.scene.now.input.now in
     let mid = c.loop-begun.self in
@@ -60,8 +59,8 @@ loop-begun-preserved-in-None g c =
     went_empty p input c.args.self.now mid new c.args.steps.now c.loop-begun.steps c.step.new.steps c.in-Ok-Gives.begun
     c.loop-begun.invariant stepped (c.in-None.ensures p input new.bound.items stepped.4)
 
-pub loop-begun-smaller-in-None : goal.loop-begun-smaller-in-None
-loop-begun-smaller-in-None g c =
+pub loop-begun-smaller : goal.loop-begun-smaller
+loop-begun-smaller g c =
     let p = c.args.scene.now.program.now in
     let input = view_value c.args.scene.now.input.now in
     let mid = c.loop-begun.self in

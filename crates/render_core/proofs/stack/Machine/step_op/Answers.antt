@@ -8,13 +8,13 @@ use Rattle.render_core.proofs.stack.Machine.step_op.Goals as goal
 
 pub step_for-requires-clause-list : goal.step_for-requires-clause-list
 step_for-requires-clause-list g c =
-    subst (λ (o : Op). IsLoopOver c.in-For.list.now o) (sym c.in-For.is) refl
+    subst (λ (o : Op). IsLoopOver c.in-For.list o) (sym c.in-For.is) refl
 
 pub step_let_text-requires-clause-op : goal.step_let_text-requires-clause-op
 step_let_text-requires-clause-op g c =
     c.requires.op
     ∙ (ap (λ (o : Op). Some o) c.in-LetBlock.is
-    ∙ ap (λ (k : Kind). Some (op.LetBlock c.in-LetBlock.name.now k c.in-LetBlock.block.now)) c.in-Text.is)
+    ∙ ap (λ (k : Kind). Some (op.LetBlock c.in-LetBlock.name k c.in-LetBlock.block)) c.in-Text.is)
 
 pub step_let_block-requires-clause-kind : goal.step_let_block-requires-clause-kind
 step_let_block-requires-clause-kind g c = subst IsBlockKind (sym c.in-Html.is) tt
