@@ -1,6 +1,6 @@
 -- Which block is taken, from one branch, case or value on to the next.
-use Rattle.std.proofs.Common.{◌≡◌, ℕ, zero, suc, ◌+◌, ◌<◌, ◌≤◌, Bool, true, false, List, [], ◌∷◌, Option, Some, None, length, map, drop}
-use Rattle.std.proofs.Common.{refl, sym, ap, ◌∙◌, arith, slice_index_or}
+use Rattle.std.proofs.Common.{◌≡◌, ℕ, zero, suc, ◌+◌, ◌<◌, ◌≤◌, Bool, true, false, List, [], ◌∷◌, Option, Some, None}
+use Rattle.std.proofs.Common.{length, map, drop, refl, sym, ap, ◌∙◌, arith, slice_index_or}
 use Rattle.std.proofs.Common.{rules, tests}
 use Rattle.std.specs.Prelude.{ℤ, pos, negsuc, if◌then◌else◌, bytes_eq}
 use Rattle.plural_rules.specs.Category.{is_same}
@@ -42,7 +42,8 @@ one_same v env (x ∷ es) zero e below is same =
     ((is_one v (view_exprs es) env).0, cost (view_expr e) env + (is_one v (view_exprs es) env).1) same
 one_same v env (x ∷ es) (suc n) e below is same = one_same v env es n e (omega arith) is same
 
-pub one_other : (v : values.Value) (env : RunEnv) (es : List code_expr.Expr) (n : ℕ) (e : code_expr.Expr) → n < length es
+pub one_other : (v : values.Value) (env : RunEnv) (es : List code_expr.Expr) (n : ℕ) (e : code_expr.Expr)
+    → n < length es
     → e ≡ slice_index_or es n e → is_same_value v (valued (view_expr e) env) ≡ false
     → is_one v (view_exprs (drop n es)) env
     ≡ (
@@ -255,11 +256,14 @@ least_if : {A : Type 0} (b : Bool) (c : ℕ) (a : A) (x : A × ℕ) → c ≤ (c
 least_if true c a x = omega arith
 least_if false c a x = omega arith
 
-pub one_least : (v : values.Value) (env : RunEnv) (es : List code_expr.Expr) (n : ℕ) (e : code_expr.Expr) → n < length es
+pub one_least : (v : values.Value) (env : RunEnv) (es : List code_expr.Expr) (n : ℕ) (e : code_expr.Expr)
+    → n < length es
     → e ≡ slice_index_or es n e → cost (view_expr e) env ≤ (is_one v (view_exprs (drop n es)) env).1
 one_least v env [] n e below is = absurd (omega arith)
 one_least v env (x ∷ es) zero e below is =
-    rw is (least_if (is_same_value v (valued (view_expr x) env)) (cost (view_expr x) env) true (is_one v (view_exprs es) env))
+    rw is
+    (least_if (is_same_value v (valued (view_expr x) env)) (cost (view_expr x) env) true
+    (is_one v (view_exprs es) env))
 one_least v env (x ∷ es) (suc n) e below is = one_least v env es n e (omega arith) is
 
 pub branch_least : (other : Option Block) (env : RunEnv) (bs : List code_branch.Branch) (n : ℕ) (b : code_branch.Branch)
