@@ -20,15 +20,42 @@ use Rattle.template_ir.specs.declared.program.Routine.{Routine}
 use Rattle.render_core.specs.Begins.{FieldFound, entry_frame, held_field, root_bound}
 use Rattle.render_core.specs.Frames.{MachineFits, machine_gives, ops_ahead}
 use Rattle.render_core.specs.Rest.{BegunFits, DoneFits, Fits, Rest, begun_left, coming, rest_of, solid}
-use Rattle.render_core.specs.Variables.{Cell, cell_at, cells_of, env_at, held_means, name_or_none, name_there}
+use Rattle.render_core.specs.Variables.{Cell, cell_at, cells_of, env_at, held_means, name_or_none, name_there, param_of}
 use Rattle.render_core.specs.declared.frame.Frame.TheVariants as frame
 use Rattle.render_core.specs.declared.held.Bound.{Bound}
+use Rattle.render_core.specs.declared.held.Held.{Held}
 use Rattle.render_core.specs.declared.held.Naming as naming_type
+use Rattle.render_core.specs.declared.held.Naming.TheVariants as naming
 use Rattle.render_core.specs.declared.rendering.Rendering.{Rendering}
 use Rattle.render_core.specs.declared.stack.Machine.{Machine}
 use Rattle.render_core.proofs.Cells.{cell_there, env_more}
 use Rattle.render_core.proofs.Moves.{fits_is, machine_is}
 use Rattle.render_core.proofs.Ops.{get_map, get_map_none}
+
+-- ---- parts of lists
+
+pub get_more : {A : Type 0} (xs ys : List A) (n : ℕ) (x : A) → slice_get xs n ≡ Some x → slice_get (xs ++ ys) n ≡ Some x
+get_more [] ys n x e = cc
+get_more (z ∷ zs) ys zero x e = e
+get_more (z ∷ zs) ys (suc n) x e = get_more zs ys n x e
+
+item_there : {A : Type 0} (xs : List A) (n : ℕ) (x : A) → n < length xs → x ≡ slice_index_or xs n x
+    → slice_get xs n ≡ Some x
+item_there [] n x low is = absurd (omega arith)
+item_there (z ∷ zs) zero x low is = ap (λ y. Some y) (sym is)
+item_there (z ∷ zs) (suc n) x low is = item_there zs n x (omega arith) is
+
+-- the names of the parameters from a number on
+params_past : (params : List Param) (n : ℕ) (x : Param) → n < length params → x ≡ slice_index_or params n x
+    → names_of (view_params (drop n params)) ≡ x.name ∷ names_of (view_params (drop (n + 1) params))
+params_past [] n x low is = absurd (omega arith)
+params_past (y ∷ ys) zero x low is = ap (λ (z : Param). z.name ∷ names_of (view_params ys)) (sym is)
+params_past (y ∷ ys) (suc n) x low is =
+    let t : suc n + 1 ≡ suc (n + 1) = omega arith in rw t (params_past ys n x (omega arith) is)
+
+-- the variable of a parameter
+abbrev pub param_bound : ℕ → ℕ → Held → ℕ → Bound
+param_bound template number to below = record { name = naming.Param template number; to = to; below = below }
 
 module _ (p : ProgramParts) (input : values.Value) where
   -- a block alone on the stack
@@ -106,3 +133,20 @@ module _ (p : ProgramParts) (input : values.Value) where
       ∷ env_at (cells_of p input bound) below) named
       ∙ (ap (λ (v : values.Value). (own, Known v) ∷ env_at (cells_of p input bound) below) (ap (child n) whole ∙ found)
       ∙ ap (λ (e : RunEnv). (own, Known (member_value own input)) ∷ e) is))
+
+  -- the parameter of a number, among all
+  pub param_next : (bound : List Bound) (template number : ℕ) (params : List Param) (x : Param) (found : Option ℕ)
+      (to : Held) (below : ℕ) → slice_get bound 0 ≡ Some root_bound
+      → param_of (slice_get params number) ≡ name_there p (naming.Param template number)
+      → FieldFound x.name input found → to ≡ held_field found
+      → env_at (cells_of p input bound) below ≡ input_env (names_of (view_params (drop (number + 1) params))) input
+      → number < length params → x ≡ slice_index_or params number x
+      → env_at (cells_of p input (bound ++ param_bound template number to below ∷ [])) (length bound + 1)
+      ≡ input_env (names_of (view_params (drop number params))) input
+  param_next bound template number params x found to below root named field held env low is =
+      let own : name_there p (naming.Param template number) ≡ Some x.name =
+      sym named ∙ ap param_of (item_there params number x low is) in
+      ap (λ (h : Held). env_at (cells_of p input (bound ++ param_bound template number h below ∷ [])) (length bound + 1)) held
+      ∙ (param_more bound (naming.Param template number) found below x.name
+      (input_env (names_of (view_params (drop (number + 1) params))) input) root own field env
+      ∙ sym (ap (λ (ns : List Name). input_env ns input) (params_past params number x low is)))

@@ -49,7 +49,7 @@ drop_past f [] (suc n) e = refl
 drop_past f (y ∷ ys) zero e = cc
 drop_past f (y ∷ ys) (suc n) e = drop_past f ys n e
 
-abbrev kind_seen : Option ops.Routine → Option Kind
+abbrev pub kind_seen : Option ops.Routine → Option Kind
 kind_seen x = option_map (λ (r : ops.Routine). r.kind) x
 
 module _ (p : ProgramParts) where

@@ -76,11 +76,12 @@ module _ (p : ProgramParts) (input : values.Value) where
 
   -- ---- a piece that is given
 
-  pub gave_does : (old new : Machine) (f : Ahead) (piece : Piece) (result : Result Step OutOfMemory)
-      → old.top ≡ frame.Ops f → MachineFits old
+  -- before a frame that fits
+  pub gave_next : (old new : Machine) (f : Ahead) (piece : Piece) (result : Result Step OutOfMemory)
+      → FramesFit (frame.Ops (past f) ∷ old.below) (length old.bound.items)
       → GaveForm p input old new (frame.Ops (past f)) (piece_text piece) result
       → Does p input old new f (GivesPiece none_spent piece gives_nothing) result
-  gave_does old new f piece (Ok step.Silent) top fits h =
+  gave_next old new f piece (Ok step.Silent) fits h =
       let fs : List Frame = frame.Ops (past f) ∷ old.below in
       record {
         gives =
@@ -88,23 +89,30 @@ module _ (p : ProgramParts) (input : values.Value) where
             h.1 h.3 h.2
             ∙ sym (over_some old.bound.items fs old.texts none_spent piece gives_nothing h.4
             ∙ first_none (over p input old.bound.items fs (added old.texts (piece_text piece)) gives_nothing));
-        fits = fits_is p input new (frame.Ops (past f)) old.below old.bound.items h.0 h.1 h.2 (fits_top p input old (frame.Ops f) top fits);
+        fits = fits_is p input new (frame.Ops (past f)) old.below old.bound.items h.0 h.1 h.2 fits;
         quiet = ap (pending p) h.0;
       }
-  gave_does old new f piece (Ok (step.Gives b)) top fits h =
+  gave_next old new f piece (Ok (step.Gives b)) fits h =
       let fs : List Frame = frame.Ops (past f) ∷ old.below in (
         piece,
         over_none old.bound.items fs old.texts none_spent piece gives_nothing h.4
             ∙ ap (λ (o : Outcome). GivesPiece none_spent piece o)
             (sym (machine_is p input new (frame.Ops (past f)) old.below old.texts old.bound.items h.0 h.1 h.3 h.2)),
-        fits_is p input new (frame.Ops (past f)) old.below old.bound.items h.0 h.1 h.2 (fits_top p input old (frame.Ops f) top fits),
+        fits_is p input new (frame.Ops (past f)) old.below old.bound.items h.0 h.1 h.2 fits,
         ap (pending p) h.0,
         ap (λ (bs : List Bound). piece_left p input bs b) h.2 ∙ h.5,
         subst (λ (bs : List Bound). PieceFits p input bs b) (sym h.2) h.6,
       )
-  gave_does old new f piece (Ok step.Done) top fits h = absurd h
-  gave_does old new f piece (Ok (step.TooDeep call)) top fits h = absurd h
-  gave_does old new f piece (Err e) top fits h = h
+  gave_next old new f piece (Ok step.Done) fits h = absurd h
+  gave_next old new f piece (Ok (step.TooDeep call)) fits h = absurd h
+  gave_next old new f piece (Err e) fits h = h
+
+  pub gave_does : (old new : Machine) (f : Ahead) (piece : Piece) (result : Result Step OutOfMemory)
+      → old.top ≡ frame.Ops f → MachineFits old
+      → GaveForm p input old new (frame.Ops (past f)) (piece_text piece) result
+      → Does p input old new f (GivesPiece none_spent piece gives_nothing) result
+  gave_does old new f piece result top fits h =
+      gave_next old new f piece result (fits_top p input old (frame.Ops f) top fits) h
 
   -- an op of this cost whose outcome is done
   pub does_step : (old new : Machine) (f : Ahead) (o : Op) (c : ℕ) (x : Outcome) (before after : ℕ)

@@ -59,7 +59,7 @@ means_let p cells f name e env x to input is means held =
     ∙ ap (λ (b : Binding BoundBlock). (RunEnds (one_step c) WholeRun, (n, b) ∷ env))
     (sym means ∙ (sym (held_found p input cells x) ∙ ap (held_means p input cells) (sym held)))
 
-bound_kind : (k : Kind) (o : Outcome) → IsBlockKind k → bound_as k o ≡ BlockOf (record { kind = k; outcome = o })
+pub bound_kind : (k : Kind) (o : Outcome) → IsBlockKind k → bound_as k o ≡ BlockOf (record { kind = k; outcome = o })
 bound_kind kind.Html o h = refl
 bound_kind kind.Attributes o h = refl
 bound_kind kind.Text o h = absurd h

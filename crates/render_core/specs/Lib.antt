@@ -1,4 +1,5 @@
 pub mod Begins
+pub mod Calling
 pub mod Chosen
 pub mod Finds
 pub mod Forms

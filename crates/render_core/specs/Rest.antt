@@ -87,6 +87,15 @@ module _ (p : ProgramParts) (input : values.Value) where
   BegunFits bound None = Unit {0}
   BegunFits bound (Some piece) = PieceFits bound piece × (0 < length (piece_left bound piece))
 
+-- a piece of which bytes are left, or none
+abbrev pub LeftOf : Begun → Option Begun → Type 0
+LeftOf piece (Some same) =
+    (same ≡ piece) × ((p : ProgramParts) (input : values.Value) (bound : List Bound) → PieceFits p input bound piece
+    → 0 < length (piece_left p input bound piece))
+LeftOf piece None =
+    (p : ProgramParts) (input : values.Value) (bound : List Bound) → PieceFits p input bound piece
+    → length (piece_left p input bound piece) ≡ 0
+
 -- ---- renderings
 
 pub record Rest : Type 0 where

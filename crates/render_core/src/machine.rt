@@ -2,7 +2,9 @@
 
 ghost use Rattle.std.specs.Prelude.{◌≡◌, ◌<◌, Some, option_map, slice_get};
 ghost use Rattle.soy_tree.specs.ViewValues.{view_value};
+ghost use Rattle.render_core.specs.Calling.{callee_of};
 ghost use Rattle.render_core.specs.Frames.{MachineFits, call_place};
+ghost use Rattle.render_core.specs.Rest.{LeftOf};
 ghost use Rattle.render_core.specs.Stepping.{Advanced, OpBefore, Stepped};
 ghost use Rattle.render_core.specs.declared.frame.Frame.TheVariants as frame;
 
@@ -12,7 +14,7 @@ use crate::scene::Scene;
 use crate::stack::{Machine, Step};
 use soy_base::{Kind, OutOfMemory, Place, Refusal, Steps, TooDeep};
 use std::sync::ledger::Ledger;
-use template_ir::{Op, ProgramParts};
+use template_ir::{Callee, Op, ProgramParts};
 
 impl Machine {
     /// Steps up to the next piece that isn't empty, or to the end.
@@ -28,11 +30,10 @@ impl Machine {
         loop {
             match self.step(scene, steps) {
                 Ok(Step::Silent) => {}
-                Ok(Step::Gives(begun)) => {
-                    if begun.left() > 0 {
-                        return Ok(Some(begun));
-                    }
-                }
+                Ok(Step::Gives(begun)) => match left_of(begun) {
+                    Some(left) => return Ok(Some(left)),
+                    None => {}
+                },
                 Ok(Step::Done) => return Ok(None),
                 Ok(Step::TooDeep(call)) => return Err(Refusal::Because(call)),
                 Err(_) => return Err(Refusal::OutOfMemory),
@@ -57,11 +58,9 @@ impl Machine {
                 let place = call_place(scene.program, ahead.at);
                 self.step_show(scene, ahead, at, place)
             }
-            Frame::Call(ahead, handing) => match scene.program.op(ahead.at) {
-                Some(Op::Call(callee)) => {
-                    self.step_handing(scene, ahead, handing, callee, steps)
-                }
-                _ => Ok(self.leave(scene, ahead.mark)),
+            Frame::Call(ahead, handing) => match callee_at(scene.program, ahead.at) {
+                Some(callee) => self.step_handing(scene, ahead, handing, callee, steps),
+                None => Ok(self.leave(scene, ahead.mark)),
             },
         }
     }
@@ -93,17 +92,23 @@ impl Machine {
             }
             Op::For(_, _, list, _) => self.step_for(scene, ahead, list, steps, op),
             Op::Let(name, expr) => self.step_let(scene, ahead, expr, steps, name),
-            Op::LetBlock(name, Kind::Text, block) => {
-                self.step_let_text(scene, ahead, *block, name)
-            }
-            Op::LetBlock(name, kind, block) => {
-                self.step_let_block(scene, ahead, *kind, *block, name)
-            }
+            Op::LetBlock(name, kind, block) => match kind {
+                Kind::Text => self.step_let_text(scene, ahead, *block, name),
+                Kind::Html => self.step_let_block(scene, ahead, *kind, *block, name),
+                Kind::Attributes => self.step_let_block(scene, ahead, *kind, *block, name),
+            },
             Op::Call(callee) => Ok(self.step_call(scene, ahead, callee)),
             Op::Plural(plural) => self.step_plural(scene, ahead, plural, steps),
             Op::Select(select) => self.step_select(scene, ahead, select, steps),
         }
     }
+}
+
+/// A piece, if bytes of it are left.
+pub(crate) fn left_of(begun: Begun) -> Option<Begun>
+    ensures { LeftOf begun result }
+{
+    if begun.left() > 0 { Some(begun) } else { None }
 }
 
 /// The next op of a block.
@@ -114,6 +119,16 @@ fn op_before(program: &ProgramParts, ahead: Ahead) -> Option<&Op>
         program.op(ahead.at)
     } else {
         None
+    }
+}
+
+/// The call at a position.
+fn callee_at(program: &ProgramParts, at: usize) -> Option<&Callee>
+    ensures { option_map (λ c. c.now) result ≡ callee_of (slice_get program.now.ops at) }
+{
+    match program.op(at) {
+        Some(Op::Call(callee)) => Some(callee),
+        _ => None,
     }
 }
 

@@ -9,7 +9,7 @@ ghost use Rattle.template_ir.specs.Run.{input_env, names_of, run};
 ghost use Rattle.template_ir.specs.ViewOps.{view_program};
 ghost use Rattle.template_ir.specs.declared.program.ProgramParts.{ProgramParts};
 ghost use Rattle.render_core.specs.Begins.{EntryFound, FieldFound, entry_frame, held_field, root_bound};
-ghost use Rattle.render_core.specs.Pulls.{Gave, Pulls, stops_at};
+ghost use Rattle.render_core.specs.Pulls.{Fresh, Gave, Pulls, stops_at};
 ghost use Rattle.render_core.specs.Rest.{BegunFits, Fits, IsWhole, PieceFits, begun_left, has_ended, piece_left};
 ghost use Rattle.render_core.specs.Rest.{rest_bytes, rest_end, rest_of, solid};
 ghost use Rattle.render_core.specs.Variables.{cells_of, env_at, name_there, param_of};
@@ -20,6 +20,7 @@ use crate::begun::Begun;
 use crate::binding::bind;
 use crate::frame::{Ahead, Frame};
 use crate::held::{Bound, Held, Naming};
+use crate::machine::left_of;
 use crate::scene::Scene;
 use crate::stack::Machine;
 use crate::texts::Texts;
@@ -73,9 +74,28 @@ impl Rendering {
         ensures not_done { IfOk result (λ r. has_ended r ≡ false) }
     {
         let mut bound = Vec::new(scene.alloc);
-        if bind(&mut bound, Naming::Hidden, Held::Root, 0).is_err() {
-            return Err(OutOfMemory);
+        match bind(&mut bound, Naming::Hidden, Held::Root, 0) {
+            Ok(_) => Rendering::begin_over(scene, template, bound),
+            Err(_) => Err(OutOfMemory),
         }
+    }
+
+    /// The same, over the variable that all data are bound to.
+    fn begin_over(
+        scene: &Scene,
+        template: usize,
+        bound: Vec<Bound>,
+    ) -> Result<Rendering, OutOfMemory>
+        requires { slice_get bound.items 0 ≡ Some root_bound }
+        ensures fits { IfOk result (λ r. Fits scene.now.program.now (view_value scene.now.input.now) r) }
+        ensures rest { IfOk result (λ r. rest_of scene.now.program.now (view_value scene.now.input.now) r
+            ≡ record {
+              begun = [];
+              coming = solid (run (view_program scene.now.program.now) template
+                  (view_value scene.now.input.now));
+            }) }
+        ensures not_done { IfOk result (λ r. has_ended r ≡ false) }
+    {
         match scene.program.template(template) {
             Some(routine) => Rendering::begin_routine(scene, template, routine, bound),
             None => {
@@ -85,7 +105,7 @@ impl Rendering {
         }
     }
 
-    /// The rendering of a template, over the variable that all data are bound to.
+    /// The rendering of a template that there is.
     fn begin_routine(
         scene: &Scene,
         template: usize,
@@ -187,19 +207,37 @@ impl Rendering {
     {
         match self.piece.take() {
             Some(piece) => Ok(self.give(scene, piece, room)),
-            None => {
-                if room.is_empty() || self.done {
-                    return Ok(0);
-                }
-                match self.machine.advance(scene, steps) {
-                    Ok(Some(piece)) => Ok(self.give(scene, piece, room)),
-                    Ok(None) => {
-                        self.done = true;
-                        Ok(0)
-                    }
-                    Err(refusal) => Err(refusal),
-                }
+            None => self.pull_next(scene, room, steps),
+        }
+    }
+
+    /// Gives the first bytes of the next piece, where none has begun.
+    fn pull_next<L: Ledger>(
+        &mut self,
+        scene: &Scene,
+        room: &mut [u8],
+        steps: &mut Steps<L>,
+    ) -> Result<usize, Refusal<TooDeep>>
+        requires none { self.old.piece ≡ None }
+        requires fits { Fits scene.now.program.now (view_value scene.now.input.now) self.old }
+        ensures fits { Fits scene.now.program.now (view_value scene.now.input.now) self.new }
+        ensures pulls { Fresh (rest_of scene.now.program.now (view_value scene.now.input.now) self.old)
+            (rest_of scene.now.program.now (view_value scene.now.input.now) self.new)
+            (has_ended self.old) (has_ended self.new) room.old room.new steps.old steps.new result }
+    {
+        if room.is_empty() {
+            return Ok(0);
+        }
+        if self.done {
+            return Ok(0);
+        }
+        match self.machine.advance(scene, steps) {
+            Ok(Some(piece)) => Ok(self.give(scene, piece, room)),
+            Ok(None) => {
+                self.done = true;
+                Ok(0)
             }
+            Err(refusal) => Err(refusal),
         }
     }
 
@@ -224,7 +262,6 @@ impl Rendering {
     }
 
     /// Gives bytes of a piece.
-    #[tactic(auto, using(crate::proofs::Pullings::given_all))]
     fn give(&mut self, scene: &Scene, piece: Begun, room: &mut [u8]) -> usize
         requires { PieceFits scene.now.program.now (view_value scene.now.input.now) self.old.machine.bound.items piece }
         ensures gives { Gave
@@ -238,7 +275,7 @@ impl Rendering {
     {
         let mut piece = piece;
         let n = piece.fill(self.machine.point(scene, 0), room);
-        self.piece = if piece.left() > 0 { Some(piece) } else { None };
+        self.piece = left_of(piece);
         n
     }
 }
