@@ -1,5 +1,6 @@
 -- Variables: those of a number depend on those before it alone.
-use Rattle.std.proofs.Common.{◌≡◌, ℕ, zero, suc, ◌+◌, ◌-◌, ◌≤◌, ◌<◌, min, List, [], ◌∷◌, ◌++◌, Option, Some, None, length}
+use Rattle.std.proofs.Common.{◌≡◌, ℕ, zero, suc, ◌+◌, ◌-◌, ◌≤◌, ◌<◌, min, List, [], ◌∷◌, ◌++◌, Option, Some, None}
+use Rattle.std.proofs.Common.{length}
 use Rattle.std.proofs.Common.{take, drop, refl, sym, ap, ◌∙◌, arith, slice_index_or}
 use Rattle.std.specs.List.{slice_get}
 use Rattle.soy_tree.specs.Values as values
@@ -7,7 +8,8 @@ use Rattle.soy_meaning.specs.Giving.{RunEnv}
 use Rattle.template_ir.specs.Table.{table, table_from}
 use Rattle.template_ir.specs.declared.program.ProgramParts.{ProgramParts}
 use Rattle.template_ir.proofs.Tables.{get_table, take_table_from}
-use Rattle.render_core.specs.Variables.{Cell, bound_means, cell_at, cells_of, env_at, held_means, name_or_none, name_there, part_held}
+use Rattle.render_core.specs.Variables.{Cell, bound_means, cell_at, cells_of, env_at, held_means, name_or_none}
+use Rattle.render_core.specs.Variables.{name_there, part_held}
 use Rattle.render_core.specs.declared.held.Bound.{Bound}
 use Rattle.render_core.specs.declared.held.Held.{Held}
 
@@ -84,7 +86,8 @@ module _ (p : ProgramParts) (input : values.Value) where
   pub cell_there : (bound : List Bound) (n : ℕ) (b : Bound) → slice_get bound n ≡ Some b
       → cell_at (cells_of p input bound) n ≡ bound_means p input (take n (cells_of p input bound)) b
   unfolding cells_of
-  cell_there bound n b e = index_some (table (bound_means p input) bound) n _ _ (get_table (bound_means p input) bound n b e)
+  cell_there bound n b e = index_some (table (bound_means p input) bound) n _ _
+      (get_table (bound_means p input) bound n b e)
 
   pub cell_none : (bound : List Bound) (n : ℕ) → slice_get bound n ≡ None
       → cell_at (cells_of p input bound) n ≡ record { part = values.NullValue; env = [] }

@@ -1,6 +1,6 @@
 -- Which block is taken, from one branch, case or value on to the next.
-use Rattle.std.proofs.Common.{◌≡◌, ℕ, zero, suc, ◌+◌, ◌<◌, ◌≤◌, Bool, true, false, List, [], ◌∷◌, Option, Some, None, length, map, drop}
-use Rattle.std.proofs.Common.{refl, sym, ap, ◌∙◌, arith, slice_index_or}
+use Rattle.std.proofs.Common.{◌≡◌, ℕ, zero, suc, ◌+◌, ◌<◌, ◌≤◌, Bool, true, false, List, [], ◌∷◌, Option, Some, None}
+use Rattle.std.proofs.Common.{length, map, drop, refl, sym, ap, ◌∙◌, arith, slice_index_or}
 use Rattle.std.proofs.Common.{rules, tests}
 use Rattle.std.specs.Prelude.{ℤ, pos, negsuc, if◌then◌else◌, bytes_eq}
 use Rattle.plural_rules.specs.Category.{is_same}
@@ -8,13 +8,13 @@ use Rattle.plural_rules.specs.declared.category.Category.{Category}
 use Rattle.soy_tree.specs.Cost.{cost}
 use Rattle.soy_tree.specs.Expressions.{Expr}
 use Rattle.soy_tree.specs.Val.{Binding, BlockOf, Known, is_same_int, is_same_value, is_truthy, operand, val}
-use Rattle.soy_tree.specs.Values.{no_item}
 use Rattle.soy_tree.specs.Values as values
 use Rattle.soy_tree.specs.ViewExpressions.{view_expr, view_exprs}
 use Rattle.soy_tree.specs.declared.expr.Expr as code_expr
 use Rattle.soy_expr.specs.ForgottenBlocks.{forgotten, forgotten_env}
 use Rattle.soy_expr.specs.ViewShallow.{shallow_value}
 use Rattle.soy_expr.proofs.Forgetting.{forgotten_val}
+use Rattle.soy_expr.proofs.Shallows.{same_seen}
 use Rattle.soy_meaning.specs.Branch.{int_of, word_of}
 use Rattle.soy_meaning.specs.Giving.{RunEnv}
 use Rattle.soy_meaning.specs.Pieces.{is_one, valued}
@@ -42,7 +42,8 @@ one_same v env (x ∷ es) zero e below is same =
     ((is_one v (view_exprs es) env).0, cost (view_expr e) env + (is_one v (view_exprs es) env).1) same
 one_same v env (x ∷ es) (suc n) e below is same = one_same v env es n e (omega arith) is same
 
-pub one_other : (v : values.Value) (env : RunEnv) (es : List code_expr.Expr) (n : ℕ) (e : code_expr.Expr) → n < length es
+pub one_other : (v : values.Value) (env : RunEnv) (es : List code_expr.Expr) (n : ℕ) (e : code_expr.Expr)
+    → n < length es
     → e ≡ slice_index_or es n e → is_same_value v (valued (view_expr e) env) ≡ false
     → is_one v (view_exprs (drop n es)) env
     ≡ (
@@ -124,41 +125,17 @@ choice_past v other env (x ∷ cs) (suc n) c below is fails =
 
 -- ---- what is seen of values
 
-no_list : (v : values.Value) (vs : values.Items) → is_same_value v (values.ListValue vs) ≡ false
-no_list values.NullValue vs = refl
-no_list (values.BoolValue b) vs = refl
-no_list (values.IntValue n) vs = refl
-no_list (values.StringValue t) vs = refl
-no_list (values.ListValue ws) vs = refl
-no_list (values.MapValue es) vs = refl
-no_list (values.RecordValue es) vs = refl
-
-no_map : (v : values.Value) (es : values.Entries) → is_same_value v (values.MapValue es) ≡ false
-no_map values.NullValue vs = refl
-no_map (values.BoolValue b) vs = refl
-no_map (values.IntValue n) vs = refl
-no_map (values.StringValue t) vs = refl
-no_map (values.ListValue ws) vs = refl
-no_map (values.MapValue es) vs = refl
-no_map (values.RecordValue es) vs = refl
-
-no_record : (v : values.Value) (es : values.Entries) → is_same_value v (values.RecordValue es) ≡ false
-no_record values.NullValue vs = refl
-no_record (values.BoolValue b) vs = refl
-no_record (values.IntValue n) vs = refl
-no_record (values.StringValue t) vs = refl
-no_record (values.ListValue ws) vs = refl
-no_record (values.MapValue es) vs = refl
-no_record (values.RecordValue es) vs = refl
+left_shallow : (v w : values.Value) → is_same_value (shallow_value v) w ≡ is_same_value v w
+left_shallow values.NullValue w = refl
+left_shallow (values.BoolValue b) w = refl
+left_shallow (values.IntValue n) w = refl
+left_shallow (values.StringValue t) w = refl
+left_shallow (values.ListValue vs) w = refl
+left_shallow (values.MapValue es) w = refl
+left_shallow (values.RecordValue es) w = refl
 
 pub same_shallow : (v w : values.Value) → is_same_value v (shallow_value w) ≡ is_same_value v w
-same_shallow v values.NullValue = refl
-same_shallow v (values.BoolValue b) = refl
-same_shallow v (values.IntValue n) = refl
-same_shallow v (values.StringValue t) = refl
-same_shallow v (values.ListValue vs) = no_list v no_item ∙ sym (no_list v vs)
-same_shallow v (values.MapValue es) = no_list v no_item ∙ sym (no_map v es)
-same_shallow v (values.RecordValue es) = no_list v no_item ∙ sym (no_record v es)
+same_shallow v w = sym (left_shallow v (shallow_value w)) ∙ same_seen v w
 
 operand_known : {A : Type 0} (b : Binding A) → operand (forgotten b) ≡ operand b
 operand_known (Known v) = refl
@@ -184,15 +161,6 @@ word_shallow (values.StringValue t) = refl
 word_shallow (values.ListValue vs) = refl
 word_shallow (values.MapValue es) = refl
 word_shallow (values.RecordValue es) = refl
-
-left_shallow : (v w : values.Value) → is_same_value (shallow_value v) w ≡ is_same_value v w
-left_shallow values.NullValue w = refl
-left_shallow (values.BoolValue b) w = refl
-left_shallow (values.IntValue n) w = refl
-left_shallow (values.StringValue t) w = refl
-left_shallow (values.ListValue vs) w = refl
-left_shallow (values.MapValue es) w = refl
-left_shallow (values.RecordValue es) w = refl
 
 ones_shallow : (v : values.Value) (es : List Expr) (env : RunEnv) → is_one (shallow_value v) es env ≡ is_one v es env
 ones_shallow v [] env = refl
@@ -255,11 +223,14 @@ least_if : {A : Type 0} (b : Bool) (c : ℕ) (a : A) (x : A × ℕ) → c ≤ (c
 least_if true c a x = omega arith
 least_if false c a x = omega arith
 
-pub one_least : (v : values.Value) (env : RunEnv) (es : List code_expr.Expr) (n : ℕ) (e : code_expr.Expr) → n < length es
+pub one_least : (v : values.Value) (env : RunEnv) (es : List code_expr.Expr) (n : ℕ) (e : code_expr.Expr)
+    → n < length es
     → e ≡ slice_index_or es n e → cost (view_expr e) env ≤ (is_one v (view_exprs (drop n es)) env).1
 one_least v env [] n e below is = absurd (omega arith)
 one_least v env (x ∷ es) zero e below is =
-    rw is (least_if (is_same_value v (valued (view_expr x) env)) (cost (view_expr x) env) true (is_one v (view_exprs es) env))
+    rw is
+    (least_if (is_same_value v (valued (view_expr x) env)) (cost (view_expr x) env) true
+    (is_one v (view_exprs es) env))
 one_least v env (x ∷ es) (suc n) e below is = one_least v env es n e (omega arith) is
 
 pub branch_least : (other : Option Block) (env : RunEnv) (bs : List code_branch.Branch) (n : ℕ) (b : code_branch.Branch)

@@ -1,11 +1,13 @@
 -- What the code finds, against what it stands for.
-use Rattle.std.proofs.Common.{◌≡◌, ℕ, zero, suc, ◌+◌, ◌-◌, ◌≤◌, ◌<◌, Bool, true, false, List, [], ◌∷◌, Option, Some, None}
+use Rattle.std.proofs.Common.{◌≡◌, ℕ, zero, suc, ◌+◌, ◌-◌, ◌≤◌, ◌<◌, Bool, true, false, List, [], ◌∷◌, Option, Some}
+use Rattle.std.proofs.Common.{None}
 use Rattle.std.proofs.Common.{take, refl, sym, ap, ◌∙◌, arith, length, subst}
 use Rattle.std.specs.Prelude.{if◌then◌else◌, bytes_eq}
 use Rattle.std.specs.List.{slice_get}
 use Rattle.soy_tree.specs.Types.{Name}
 use Rattle.soy_tree.specs.Cost.{cost}
-use Rattle.soy_tree.specs.Expressions.{Expr, Binary, BoolLiteral, Coalesce, Conditional, Index, IntLiteral, Member, Minus}
+use Rattle.soy_tree.specs.Expressions.{Expr, Binary, BoolLiteral, Coalesce, Conditional, Index, IntLiteral, Member}
+use Rattle.soy_tree.specs.Expressions.{Minus}
 use Rattle.soy_tree.specs.Expressions.{Not, NullLiteral, StringLiteral, Variable}
 use Rattle.soy_tree.specs.Val.{Binding, BlockOf, Env, Known, binding, is_truthy, val}
 use Rattle.soy_tree.specs.Values.{Value, NullValue}

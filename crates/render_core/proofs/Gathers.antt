@@ -1,5 +1,5 @@
 -- Texts that are gathered.
-use Rattle.std.proofs.Common.{◌≡◌, ℕ, ◌+◌, ◌-◌, ◌*◌, ◌≤◌, ◌<◌, pos, List, [], ◌∷◌, ◌++◌, Option, Some, None, length, take, refl, sym}
+use Rattle.std.proofs.Common.{◌≡◌, ℕ, ◌+◌, ◌≤◌, ◌<◌, pos, List, [], ◌∷◌, ◌++◌, Some, length, take, refl, sym}
 use Rattle.std.proofs.Common.{ap, ◌∙◌, append_assoc, arith, subst}
 use Rattle.std.specs.List.{slice_get}
 use Rattle.std.proofs.Math.Seq.{take-length}
@@ -100,17 +100,20 @@ module _ (p : ProgramParts) (input : values.Value) where
       let g : Outcome = gathered [] o (λ whole. gives_nothing) in
       let joined : List ℕ = joined_pieces (pieces_of_outcome o) in
       let low_frames : Outcome → Outcome = over p input (take f.mark old.bound.items) old.below old.texts in
-      let old_fits : FramesFit (frame.Ops f ∷ old.below) (length old.bound.items) = fits_top p input old (frame.Ops f) old_top fits in (
+      let old_fits : FramesFit (frame.Ops f ∷ old.below) (length old.bound.items)
+      = fits_top p input old (frame.Ops f) old_top fits in (
         one_step 0,
         record {
           same =
               machine_is p input old (frame.Ops f) old.below old.texts old.bound.items old_top refl refl refl
               ∙ (bound_by p input old.bound.items old.below old.texts f (op.LetBlock name kind.Text b)
               (spent_first (one_step 0) g) ((name, Known (StringValue joined)) ∷ env) is low refl
-              ∙ (ap low_frames (first_followed (one_step 0) g (ops_ahead p (past f) ((name, Known (StringValue joined)) ∷ env)))
+              ∙ (ap low_frames
+              (first_followed (one_step 0) g (ops_ahead p (past f) ((name, Known (StringValue joined)) ∷ env)))
               ∙ (over_first p input old.below (take f.mark old.bound.items) old.texts (one_step 0) _
               ∙ ap (spent_first (one_step 0))
-              (ap (λ (m : Name). low_frames (continued_by g (ops_ahead p (past f) ((m, Known (StringValue joined)) ∷ env))))
+              (ap (λ (m : Name). low_frames
+              (continued_by g (ops_ahead p (past f) ((m, Known (StringValue joined)) ∷ env))))
               (named_by p f.at (op.LetBlock name kind.Text b) name is refl)
               ∙ (ap low_frames (gathered_whole [] o (after_text p cells f purpose.Bind))
               ∙ (sym (gathers old.bound.items old.below old.texts f purpose.Bind b)

@@ -24,7 +24,8 @@ HasLeft p v bound b at text class =
     piece_left p (view_value v) bound b ≡ encode_utf8_all (form_of p v bound at text class)
 
 pub left_at : (point : Point) (p : ProgramParts) (v : code.Value) (bound : List Bound) → point.scene.program.now ≡ p
-    → point.scene.input.now ≡ v → point.bound.now ≡ bound → (b : Begun) (at : Place) (text : Source) (class : ValueClass)
+    → point.scene.input.now ≡ v → point.bound.now ≡ bound → (b : Begun) (at : Place) (text : Source)
+    (class : ValueClass)
     → piece_left (program_seen point) (input_seen point) point.bound.now b
     ≡ encode_utf8_all (form_at at class (source_text (cells_seen point) text) (program_seen point).dir)
     → piece_left p (view_value v) bound b

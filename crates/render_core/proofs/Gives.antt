@@ -1,5 +1,6 @@
 -- Steps that give something, and steps that bind.
-use Rattle.std.proofs.Common.{◌≡◌, ℕ, ℤ, zero, suc, ◌+◌, ◌-◌, ◌*◌, ◌≤◌, ◌<◌, pos, min, Bool, true, false, List, [], ◌∷◌, ◌++◌}
+use Rattle.std.proofs.Common.{◌≡◌, ℕ, ℤ, zero, suc, ◌+◌, ◌-◌, ◌*◌, ◌≤◌, ◌<◌, pos, min, Bool, true, false, List, [], ◌∷◌}
+use Rattle.std.proofs.Common.{◌++◌}
 use Rattle.std.proofs.Common.{Option, Some, None, Result, Ok, Err, length, take, refl, sym, ap, ◌∙◌, arith, subst}
 use Rattle.std.specs.List.{slice_get}
 use Rattle.std.specs.Prelude.{encode_utf8_all}
@@ -14,7 +15,8 @@ use Rattle.soy_tree.specs.Values as values
 use Rattle.soy_expr.specs.Evaluates.{IsWithin}
 use Rattle.html_state.specs.AfterPieces.{Piece, Static, Value}
 use Rattle.soy_meaning.specs.Giving.{BoundBlock, RunEnv, value_class}
-use Rattle.soy_meaning.specs.Outcome.{GivesPiece, Outcome, RunEnds, Spent, WholeRun, and_spent, continued_by, gives_nothing}
+use Rattle.soy_meaning.specs.Outcome.{GivesPiece, Outcome, RunEnds, Spent, WholeRun, and_spent, continued_by}
+use Rattle.soy_meaning.specs.Outcome.{gives_nothing}
 use Rattle.soy_meaning.specs.Outcome.{none_spent, spent_first}
 use Rattle.soy_meaning.proofs.Outcomes.{first_none, none_after}
 use Rattle.template_ir.specs.Run.{block_gives, one_step, print_gives, text_gives, value_gives}
@@ -24,7 +26,8 @@ use Rattle.render_core.specs.Forms.{form_at}
 use Rattle.render_core.specs.Frames.{FramesFit, MachineFits, machine_gives, ops_ahead, over, past, past_with}
 use Rattle.render_core.specs.Rest.{PieceFits, first_spent, piece_bytes, piece_left, piece_text, source_text}
 use Rattle.render_core.specs.Shows.{Shows, kept_child}
-use Rattle.render_core.specs.Stepping.{Binds, Does, GaveForm, Gives, Goes, GoesIn, IsSame, Silent, Stays, Stepped, pending}
+use Rattle.render_core.specs.Stepping.{Binds, Does, GaveForm, Gives, Goes, GoesIn, IsSame, Silent, Stays, Stepped}
+use Rattle.render_core.specs.Stepping.{pending}
 use Rattle.render_core.specs.Stepping.{weight}
 use Rattle.render_core.specs.Texts.{added, is_none}
 use Rattle.render_core.specs.Variables.{cells_of, env_at, held_means, kept_means, name_or_none}
@@ -44,7 +47,8 @@ use Rattle.render_core.specs.declared.stack.Step.{Step}
 use Rattle.render_core.specs.declared.stack.Step.TheVariants as step
 use Rattle.render_core.proofs.Cells.{env_more, take_end}
 use Rattle.render_core.proofs.Machines.{bound_by, entered}
-use Rattle.render_core.proofs.Moves.{fits_is, fits_top, machine_is, op_spends, same_fits, same_gives, silent_in, stays_in}
+use Rattle.render_core.proofs.Moves.{fits_is, fits_top, machine_is, op_spends, same_fits, same_gives, silent_in}
+use Rattle.render_core.proofs.Moves.{stays_in}
 use Rattle.render_core.proofs.Moves.{within_first}
 use Rattle.render_core.proofs.Ops.{op_there}
 use Rattle.render_core.proofs.Overs.{over_first, over_piece, over_text}
@@ -52,7 +56,8 @@ use Rattle.render_core.proofs.Overs.{over_first, over_piece, over_text}
 -- ---- texts
 
 -- a text that isn't empty is a piece
-pub text_some : (text : List ℕ) → is_nil text ≡ false → text_gives text ≡ GivesPiece none_spent (Static text) gives_nothing
+pub text_some : (text : List ℕ) → is_nil text ≡ false → text_gives text
+    ≡ GivesPiece none_spent (Static text) gives_nothing
 text_some [] e = cc
 text_some (c ∷ text) e = refl
 
@@ -85,7 +90,8 @@ module _ (p : ProgramParts) (input : values.Value) where
       let fs : List Frame = frame.Ops (past f) ∷ old.below in
       record {
         gives =
-            machine_is p input new (frame.Ops (past f)) old.below (added old.texts (piece_text piece)) old.bound.items h.0
+            machine_is p input new (frame.Ops (past f)) old.below
+            (added old.texts (piece_text piece)) old.bound.items h.0
             h.1 h.3 h.2
             ∙ sym (over_some old.bound.items fs old.texts none_spent piece gives_nothing h.4
             ∙ first_none (over p input old.bound.items fs (added old.texts (piece_text piece)) gives_nothing));
@@ -143,35 +149,43 @@ module _ (p : ProgramParts) (input : values.Value) where
   does_step old new f o c x before after (Ok (step.TooDeep call)) top fits is low means cost h = absurd h
   does_step old new f o c x before after (Err e) top fits is low means cost h =
       stays_in p input old new f o c x before after top is low means
-      (let a : before ≤ after = omega (arith, cost) in let b : after ≤ before + c = omega (arith, cost) in (a, b)) fits h
+      (let a : before ≤ after = omega (arith, cost) in let b : after ≤ before + c = omega (arith, cost) in (a, b)) fits
+      h
 
   -- ---- prints
 
   -- a value that is shown so has this piece
-  pub shown_piece : (point : Place) (v : values.Value) (source : Source) (class : ValueClass) (n : ℕ) (bound : List Bound)
+  pub shown_piece : (point : Place) (v : values.Value) (source : Source) (class : ValueClass) (n : ℕ)
+      (bound : List Bound)
       → Shows p (cells_of p input bound) n (Known v) (shown.Value source class)
       → print_gives p.dir point (Known v)
-      ≡ GivesPiece none_spent (Value (form_at point class (source_text (cells_of p input bound) source) p.dir)) gives_nothing
+      ≡ GivesPiece none_spent (Value (form_at point class (source_text (cells_of p input bound) source) p.dir))
+      gives_nothing
   shown_piece point v source class n bound h =
       ap (λ text. GivesPiece none_spent (Value (form_at point (value_class v) text p.dir)) gives_nothing) (sym h.0)
-      ∙ ap (λ k. GivesPiece none_spent (Value (form_at point k (source_text (cells_of p input bound) source) p.dir)) gives_nothing)
+      ∙ ap (λ k. GivesPiece none_spent
+      (Value (form_at point k (source_text (cells_of p input bound) source) p.dir)) gives_nothing)
       (sym h.1)
 
   -- a block that is printed
   pub block_does : (old new : Machine) (f : Ahead) (kept : Kept) (block : BoundBlock) → old.top ≡ frame.Ops f
-      → MachineFits old → kept_means p (cells_of p input old.bound.items) kept ≡ block → kept.env ≤ length old.bound.items
+      → MachineFits old → kept_means p (cells_of p input old.bound.items) kept ≡ block
+      → kept.env ≤ length old.bound.items
       → new.top ≡ frame.Ops (kept_child kept (length old.bound.items)) → new.below ≡ frame.Ops (past f) ∷ old.below
       → new.texts ≡ old.texts → new.bound.items ≡ old.bound.items → GoesIn p input old new f block.outcome
   block_does old new f kept block old_top fits means low top below texts bound =
       let child : Ahead = kept_child kept (length old.bound.items) in
-      let old_fits : FramesFit (frame.Ops f ∷ old.below) (length old.bound.items) = fits_top p input old (frame.Ops f) old_top fits in
+      let old_fits : FramesFit (frame.Ops f ∷ old.below) (length old.bound.items) = fits_top p input old
+      (frame.Ops f) old_top fits in
       record {
         gives =
-            machine_is p input new (frame.Ops child) (frame.Ops (past f) ∷ old.below) old.texts old.bound.items top below
+            machine_is p input new (frame.Ops child)
+            (frame.Ops (past f) ∷ old.below) old.texts old.bound.items top below
             texts bound
             ∙ (entered p input old.bound.items old.bound.items (frame.Ops (past f) ∷ old.below) old.texts child
             (take-length old.bound.items)
-            ∙ ap (λ (b : BoundBlock). over p input old.bound.items (frame.Ops (past f) ∷ old.below) old.texts b.outcome) means);
+            ∙ ap (λ (b : BoundBlock). over p input old.bound.items (frame.Ops (past f) ∷ old.below) old.texts b.outcome)
+            means);
         fits =
             fits_is p input new (frame.Ops child) (frame.Ops (past f) ∷ old.below) old.bound.items top below bound
             (low, (let e : length old.bound.items ≤ length old.bound.items = omega arith in e), old_fits);
@@ -222,7 +236,8 @@ module _ (p : ProgramParts) (input : values.Value) where
       let n : ℕ = length old.bound.items + 1 in
       let wider : List Bound = old.bound.items ++ b ∷ [] in
       let g : Ahead = past_with f n in
-      let old_fits : FramesFit (frame.Ops f ∷ old.below) (length old.bound.items) = fits_top p input old (frame.Ops f) old_top fits in
+      let old_fits : FramesFit (frame.Ops f ∷ old.below) (length old.bound.items) = fits_top p input old
+      (frame.Ops f) old_top fits in
       let more : length wider ≡ n = length_more old.bound.items b in
       record {
         gives =
@@ -260,8 +275,10 @@ module _ (p : ProgramParts) (input : values.Value) where
         record {
           same =
               machine_is p input old (frame.Ops f) old.below old.texts old.bound.items top refl refl refl
-              ∙ (bound_by p input old.bound.items old.below old.texts f o (RunEnds (one_step c) WholeRun) env is low means
-              ∙ (over_first p input old.below (take f.mark old.bound.items) old.texts (one_step c) (ops_ahead p (past f) env)
+              ∙ (bound_by p input old.bound.items old.below old.texts f o
+              (RunEnds (one_step c) WholeRun) env is low means
+              ∙ (over_first p input old.below (take f.mark old.bound.items) old.texts (one_step c)
+              (ops_ahead p (past f) env)
               ∙ ap (spent_first (one_step c)) (sym binds.gives)));
           cost = cost;
           falls = omega (arith, quiet);
@@ -279,7 +296,8 @@ module _ (p : ProgramParts) (input : values.Value) where
       within_first c (machine_gives p input old) _
       (machine_is p input old (frame.Ops f) old.below old.texts old.bound.items top refl refl refl
       ∙ (bound_by p input old.bound.items old.below old.texts f o (RunEnds (one_step c) WholeRun) env is low means
-      ∙ over_first p input old.below (take f.mark old.bound.items) old.texts (one_step c) (ops_ahead p (past f) env))) in
+      ∙ over_first p input old.below (take f.mark old.bound.items) old.texts (one_step c)
+      (ops_ahead p (past f) env))) in
       record {
         same = same_gives p input old new same;
         low = cost.0;

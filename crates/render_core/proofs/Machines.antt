@@ -1,5 +1,6 @@
 -- Steps of the machine, by lists: what stands above a stack of frames, and what the stack gives then.
-use Rattle.std.proofs.Common.{◌≡◌, ℕ, ℤ, zero, suc, ◌+◌, ◌-◌, ◌*◌, ◌≤◌, ◌<◌, min, List, [], ◌∷◌, ◌++◌, Option, Some, None}
+use Rattle.std.proofs.Common.{◌≡◌, ℕ, ℤ, zero, suc, ◌+◌, ◌-◌, ◌*◌, ◌≤◌, ◌<◌, min, List, [], ◌∷◌, ◌++◌, Option, Some}
+use Rattle.std.proofs.Common.{None}
 use Rattle.std.proofs.Common.{length, take, refl, sym, ap, ◌∙◌, arith, subst}
 use Rattle.std.specs.List.{slice_get}
 use Rattle.html_state.specs.AfterPieces.{Piece}
@@ -10,7 +11,8 @@ use Rattle.soy_meaning.proofs.Outcomes.{first_followed, first_none, followed_joi
 use Rattle.template_ir.specs.Run.{one_step}
 use Rattle.template_ir.specs.declared.op.Op.{Op}
 use Rattle.template_ir.specs.declared.program.ProgramParts.{ProgramParts}
-use Rattle.render_core.specs.Frames.{FrameWithin, FramesFit, after_text, call_of, frame_gives, frame_over, mark_of, over}
+use Rattle.render_core.specs.Frames.{FrameWithin, FramesFit, after_text, call_of, frame_gives, frame_over, mark_of}
+use Rattle.render_core.specs.Frames.{over}
 use Rattle.render_core.specs.Frames.{PurposeWithin, ops_ahead, past, shown_by, text_bound, texts_past, turns_of}
 use Rattle.template_ir.specs.declared.op.Op.TheVariants as op
 use Rattle.render_core.specs.declared.frame.Round.{Round}
@@ -113,5 +115,6 @@ module _ (p : ProgramParts) (input : values.Value) where
       ∙ ap (λ env. call_of p f h.next (env_at (cells_of p input b) f.env) env (slice_get p.ops f.at)) i
   frame_agree a b m (frame.Turns r) same fit =
       turns_agree (cells_of p input a) (cells_of p input b) r (slice_get p.ops r.op)
-      (env_agree p input a b m r.env same fit.0) (ap (λ (c : Cell). c.part) (cell_agree p input a b m r.list same fit.1))
+      (env_agree p input a b m r.env same fit.0)
+      (ap (λ (c : Cell). c.part) (cell_agree p input a b m r.list same fit.1))
   frame_agree a b m (frame.Gather f what) same fit = text_agrees a b m f what [] same fit

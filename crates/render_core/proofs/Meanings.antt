@@ -1,5 +1,6 @@
 -- What ops mean: what they cost, and what they give then.
-use Rattle.std.proofs.Common.{◌≡◌, ℕ, ℤ, ◌+◌, ◌≤◌, pos, Bool, true, false, List, [], ◌∷◌, Option, Some, None, map, refl, sym}
+use Rattle.std.proofs.Common.{◌≡◌, ℕ, ℤ, ◌+◌, ◌≤◌, pos, Bool, true, false, List, [], ◌∷◌, Option, Some, None, map, refl}
+use Rattle.std.proofs.Common.{sym}
 use Rattle.std.proofs.Common.{ap, ◌∙◌, arith}
 use Rattle.std.specs.Prelude.{if◌then◌else◌, ◌-ℤ◌}
 use Rattle.soy_tree.specs.Cost.{cost}
@@ -98,21 +99,26 @@ module _ (p : ProgramParts) (left at : ℕ) where
       )
   means_if bs other n env =
       let taken : Option Block × ℕ = branch_chosen (map view_branch bs) other env in
-      ap (λ (o : Outcome). (spent_first (one_step 0) o, env)) (branches_chosen (means_before p left at) (map view_branch bs) other env)
+      ap (λ (o : Outcome). (spent_first (one_step 0) o, env))
+      (branches_chosen (means_before p left at) (map view_branch bs) other env)
       ∙ (ap (λ (o : Outcome). (o, env)) (step_cost 0 taken.1 (rest_gives (means_before p left at) taken.0 env)
       ∙ sym (cost_none taken.1 (rest_gives (means_before p left at) taken.0 env)))
       ∙ ap (λ (o : Outcome). (spent_first (one_step taken.1) o, env)) (rest_arm (means_before p left at) taken.0 env))
 
   pub means_switch : (e : code_expr.Expr) (cs : List code_choice.Choice) (other : Option Block) (n : ℤ) (env : RunEnv)
       (taken : Option Block × ℕ)
-      → taken ≡ added_cost (cost (view_expr e) env) (choice_chosen (valued (view_expr e) env) (map view_choice cs) other env)
+      → taken ≡ added_cost (cost (view_expr e) env)
+      (choice_chosen (valued (view_expr e) env) (map view_choice cs) other env)
       → op_there p left at (op.Switch e cs other) n env
       ≡ (spent_first (one_step taken.1) (arm_gives (means_before p left at) taken.0 (pos 0) env), env)
   means_switch e cs other n env taken is =
       let v : values.Value = valued (view_expr e) env in
       let chosen : Option Block × ℕ = choice_chosen v (map view_choice cs) other env in
       let c : ℕ = cost (view_expr e) env in
-      ap (λ (o : Outcome). (spent_first (one_step c) o, env)) (choices_chosen (means_before p left at) v (map view_choice cs) other env)
+      ap (λ (o : Outcome). (spent_first (one_step c) o, env))
+      (choices_chosen (means_before p left at) v (map view_choice cs) other env)
       ∙ (ap (λ (o : Outcome). (o, env)) (step_cost c chosen.1 (rest_gives (means_before p left at) chosen.0 env))
-      ∙ (ap (λ (o : Outcome). (spent_first (one_step (c + chosen.1)) o, env)) (rest_arm (means_before p left at) chosen.0 env)
-      ∙ ap (λ (t : Option Block × ℕ). (spent_first (one_step t.1) (arm_gives (means_before p left at) t.0 (pos 0) env), env)) (sym is)))
+      ∙ (ap (λ (o : Outcome). (spent_first (one_step (c + chosen.1)) o, env))
+      (rest_arm (means_before p left at) chosen.0 env)
+      ∙ ap (λ (t : Option Block × ℕ).
+      (spent_first (one_step t.1) (arm_gives (means_before p left at) t.0 (pos 0) env), env)) (sym is)))

@@ -1,5 +1,6 @@
 -- Steps of the machine: from what an op means to what its step does.
-use Rattle.std.proofs.Common.{◌≡◌, ℕ, ℤ, zero, suc, ◌+◌, ◌-◌, ◌*◌, ◌≤◌, ◌<◌, min, List, [], ◌∷◌, ◌++◌, Option, Some, None}
+use Rattle.std.proofs.Common.{◌≡◌, ℕ, ℤ, zero, suc, ◌+◌, ◌-◌, ◌*◌, ◌≤◌, ◌<◌, min, List, [], ◌∷◌, ◌++◌, Option, Some}
+use Rattle.std.proofs.Common.{None}
 use Rattle.std.proofs.Common.{length, take, refl, sym, ap, ◌∙◌, arith, subst}
 use Rattle.std.specs.List.{slice_get}
 use Rattle.std.proofs.Math.Seq.{take-length}
@@ -11,7 +12,8 @@ use Rattle.template_ir.specs.Run.{arm_gives, block_gives, one_step}
 use Rattle.template_ir.specs.declared.op.Block.{Block}
 use Rattle.template_ir.specs.declared.op.Op.{Op}
 use Rattle.template_ir.specs.declared.program.ProgramParts.{ProgramParts}
-use Rattle.render_core.specs.Frames.{FramesFit, MachineFits, child_at, frame_gives, machine_gives, means_before, ops_ahead, over, past}
+use Rattle.render_core.specs.Frames.{FramesFit, MachineFits, child_at, frame_gives, machine_gives, means_before}
+use Rattle.render_core.specs.Frames.{ops_ahead, over, past}
 use Rattle.render_core.specs.Rest.{first_spent}
 use Rattle.render_core.specs.Stepping.{Goes, GoesIn, IsSame, Silent, Stays, pending, weight}
 use Rattle.render_core.specs.Variables.{cells_of, env_at}
@@ -112,7 +114,8 @@ module _ (p : ProgramParts) (input : values.Value) where
   into_none old new f old_top fits top below texts bound = record {
     gives = machine_is new (frame.Ops (past f)) old.below old.texts old.bound.items top below texts bound;
     fits =
-        fits_is new (frame.Ops (past f)) old.below old.bound.items top below bound (fits_top old (frame.Ops f) old_top fits);
+        fits_is new (frame.Ops (past f)) old.below old.bound.items top below bound
+        (fits_top old (frame.Ops f) old_top fits);
     quiet = ap (pending p) top;
   }
 
@@ -130,8 +133,10 @@ module _ (p : ProgramParts) (input : values.Value) where
         ∙ ap (λ (x : Outcome). over p input old.bound.items (frame.Ops (past f) ∷ old.below) old.texts x)
         (sym (block_within p f.left f.at b n (env_at (cells_of p input old.bound.items) f.env))));
     fits =
-        let old_fits : FramesFit (frame.Ops f ∷ old.below) (length old.bound.items) = fits_top old (frame.Ops f) old_top fits in
-        fits_is new (frame.Ops (child_at f b n (length old.bound.items))) (frame.Ops (past f) ∷ old.below) old.bound.items top below
+        let old_fits : FramesFit (frame.Ops f ∷ old.below) (length old.bound.items) = fits_top old
+        (frame.Ops f) old_top fits in
+        fits_is new (frame.Ops (child_at f b n (length old.bound.items)))
+        (frame.Ops (past f) ∷ old.below) old.bound.items top below
         bound (old_fits.0, (let e : length old.bound.items ≤ length old.bound.items = omega arith in e), old_fits);
     quiet = ap (pending p) top;
   }

@@ -10,7 +10,7 @@ use Rattle.template_ir.specs.ViewOps.{view_op, view_program}
 use Rattle.template_ir.specs.declared.op.Block.{Block}
 use Rattle.template_ir.specs.declared.op.Op.{Op}
 use Rattle.template_ir.specs.declared.program.ProgramParts.{ProgramParts}
-use Rattle.template_ir.proofs.Tables.{get_table, length_table, part, part_cons}
+use Rattle.template_ir.proofs.Tables.{drop_less, get_table, part, part_cons, take_less}
 use Rattle.render_core.specs.Frames.{means_before, ops_ahead, past}
 use Rattle.render_core.specs.declared.frame.Ahead.{Ahead}
 
@@ -19,19 +19,6 @@ use Rattle.render_core.specs.declared.frame.Ahead.{Ahead}
 no_items : (A : Type 0) (n : ℕ) → ◌≡◌ {A = List A} (take n []) []
 no_items A zero = refl
 no_items A (suc n) = refl
-
-take_less : {A : Type 0} (xs : List A) (m n k : ℕ) → k ≡ min m n → take m (take n xs) ≡ take k xs
-take_less xs m zero k e = let z : k ≡ 0 = omega arith in no_items _ m ∙ ap (λ v. take v xs) (sym z)
-take_less xs zero (suc n) k e = let z : k ≡ 0 = omega arith in ap (λ v. take v xs) (sym z)
-take_less [] (suc m) (suc n) k e = sym (no_items _ k)
-take_less (x ∷ xs) (suc m) (suc n) zero e = absurd (omega arith)
-take_less (x ∷ xs) (suc m) (suc n) (suc k) e = ap (λ v. x ∷ v) (take_less xs m n k (omega arith))
-
-drop_less : {A : Type 0} (xs : List A) (f n k : ℕ) → k ≡ n - f → drop f (take n xs) ≡ take k (drop f xs)
-drop_less xs zero n k e = let z : k ≡ n = omega arith in ap (λ v. take v xs) (sym z)
-drop_less xs (suc f) zero k e = let z : k ≡ 0 = omega arith in ap (λ v. take v (drop (suc f) xs)) (sym z)
-drop_less [] (suc f) (suc n) k e = sym (no_items _ k)
-drop_less (x ∷ xs) (suc f) (suc n) k e = drop_less xs f n k (omega arith)
 
 -- the first of the first
 pub take_twice : {A : Type 0} (xs : List A) (m n : ℕ) → m ≤ n → take m (take n xs) ≡ take m xs

@@ -8,8 +8,8 @@ use Rattle.template_ir.specs.declared.op.Block.{Block}
 use Rattle.template_ir.specs.declared.op.PluralOp as code_plural
 use Rattle.template_ir.specs.declared.program.ProgramParts.{ProgramParts}
 
-pub plural_arm : (p : ProgramParts) (ms : List OpMeans) (plural : code_plural.PluralOp) (b : Option Block) (n m rest : ℤ)
-    (env : RunEnv) → b ≡ plural_block (view_program p) plural.ordinal plural.exact plural.named n rest
+pub plural_arm : (p : ProgramParts) (ms : List OpMeans) (plural : code_plural.PluralOp) (b : Option Block)
+    (n m rest : ℤ) (env : RunEnv) → b ≡ plural_block (view_program p) plural.ordinal plural.exact plural.named n rest
     → rest ≡ n -ℤ pos plural.offset → n ≡ m
     → arm_gives ms b rest env
     ≡ arm_gives ms
@@ -17,7 +17,8 @@ pub plural_arm : (p : ProgramParts) (ms : List OpMeans) (plural : code_plural.Pl
     (m -ℤ pos plural.offset) env
 plural_arm p ms plural b n m rest env block without number =
     ap (λ (x : Option Block). arm_gives ms x rest env) block
-    ∙ (ap (λ (k : ℤ). arm_gives ms (plural_block (view_program p) plural.ordinal plural.exact plural.named n k) k env) without
+    ∙ (ap (λ (k : ℤ). arm_gives ms (plural_block (view_program p) plural.ordinal plural.exact plural.named n k) k env)
+    without
     ∙ ap (λ (k : ℤ). arm_gives ms
     (plural_block (view_program p) plural.ordinal plural.exact plural.named k (k -ℤ pos plural.offset))
     (k -ℤ pos plural.offset) env) number)

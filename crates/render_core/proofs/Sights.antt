@@ -46,7 +46,8 @@ pub found_at : (point : Point) (p : ProgramParts) (v : code.Value) (bound : List
     → point.scene.input.now ≡ v → point.bound.now ≡ bound → (f : Found)
     → found_means (program_seen point) (cells_seen point) f ≡ found_means p (cells_of p (view_value v) bound) f
 found_at point p v bound program input bounds f =
-    ap (λ (cells : List Cell). found_means (program_seen point) cells f) (seen_cells point p v bound program input bounds)
+    ap (λ (cells : List Cell). found_means (program_seen point) cells f)
+    (seen_cells point p v bound program input bounds)
     ∙ ap (λ (q : ProgramParts). found_means q (cells_of p (view_value v) bound) f) program
 
 pub finds_at : (point : Point) (p : ProgramParts) (v : code.Value) (bound : List Bound) (n : ℕ)

@@ -1,6 +1,6 @@
 -- The end of a text that was gathered: it is bound, and what it is for comes next.
-use Rattle.std.proofs.Common.{◌≡◌, ℕ, ◌+◌, ◌-◌, ◌*◌, ◌≤◌, ◌<◌, List, [], ◌∷◌, ◌++◌, Option, Some, None, length, take, refl, sym}
-use Rattle.std.proofs.Common.{ap, ◌∙◌, arith, subst}
+use Rattle.std.proofs.Common.{◌≡◌, ℕ, ◌+◌, ◌-◌, ◌≤◌, ◌<◌, List, [], ◌∷◌, ◌++◌, Option, length, take, refl, sym, ap, ◌∙◌}
+use Rattle.std.proofs.Common.{arith, subst}
 use Rattle.std.specs.List.{slice_get}
 use Rattle.std.proofs.Math.Seq.{take-length}
 use Rattle.soy_tree.specs.Values as values
@@ -8,11 +8,13 @@ use Rattle.soy_meaning.specs.Giving.{RunEnv}
 use Rattle.soy_meaning.specs.Outcome.{Outcome, none_spent}
 use Rattle.soy_meaning.proofs.Outcomes.{first_none}
 use Rattle.template_ir.specs.declared.program.ProgramParts.{ProgramParts}
-use Rattle.render_core.specs.Frames.{FrameWithin, FramesFit, IsPlainFrame, MachineFits, PurposeWithin, after_text, call_of}
-use Rattle.render_core.specs.Frames.{frame_gives, machine_gives, mark_of, ops_ahead, over, past, past_with, shown_by, text_bound}
-use Rattle.render_core.specs.Stepping.{IsSame, Silent, Stays, given_count, handed_past, pending, pending_text, text_next, text_var}
+use Rattle.render_core.specs.Frames.{FrameWithin, FramesFit, IsPlainFrame, MachineFits, PurposeWithin, after_text}
+use Rattle.render_core.specs.Frames.{call_of, frame_gives, machine_gives, mark_of, ops_ahead, over, past, past_with}
+use Rattle.render_core.specs.Frames.{shown_by, text_bound}
+use Rattle.render_core.specs.Stepping.{IsSame, Silent, Stays, given_count, handed_past, pending, pending_text}
+use Rattle.render_core.specs.Stepping.{text_next, text_var}
 use Rattle.render_core.specs.Texts.{innermost, past_innermost}
-use Rattle.render_core.specs.Variables.{Cell, cells_of, env_at}
+use Rattle.render_core.specs.Variables.{cells_of, env_at}
 use Rattle.render_core.specs.declared.frame.Ahead.{Ahead}
 use Rattle.render_core.specs.declared.frame.Frame.{Frame}
 use Rattle.render_core.specs.declared.frame.Frame.TheVariants as frame
@@ -62,7 +64,8 @@ module _ (p : ProgramParts) (input : values.Value) where
       let wider : List Bound = old.bound.items ++ b ∷ [] in
       let rest : List (List ℕ) = past_innermost old.texts in
       let o : Outcome = frame_gives p input wider next in
-      let old_fits : FramesFit (frame.Gather f what ∷ old.below) len = fits_top p input old (frame.Gather f what) old_top fits in
+      let old_fits : FramesFit (frame.Gather f what ∷ old.below) len
+      = fits_top p input old (frame.Gather f what) old_top fits in
       let more : length wider ≡ len + 1 = length_more p input old.bound.items b in (
         none_spent,
         record {
@@ -79,7 +82,8 @@ module _ (p : ProgramParts) (input : values.Value) where
           cost = (let h : n ≡ n + 0 = omega arith in h);
           falls =
               (let q : pending p new.top ≡ pending p next = ap (pending p) top in
-              let g : pending p old.top ≡ pending_text p f.at what = ap (pending p) old_top in omega (arith, q, g, less));
+              let g : pending p old.top ≡ pending_text p f.at what = ap (pending p) old_top in
+              omega (arith, q, g, less));
           fits =
               fits_is p input new next old.below wider top below bound (
                 subst (λ k. FrameWithin k next) (sym more) within,
@@ -97,7 +101,8 @@ module _ (p : ProgramParts) (input : values.Value) where
   text_bind old new f n old_top fits top below texts bound =
       let b : Bound = text_var f purpose.Bind (innermost old.texts) in
       let len : ℕ = length old.bound.items in
-      text_goes old new f purpose.Bind (frame.Ops (past_with f (len + 1))) b n old_top fits top below texts bound tt refl
+      text_goes old new f purpose.Bind (frame.Ops (past_with f (len + 1))) b n old_top fits top below texts bound tt
+      refl
       (ap (λ (env : RunEnv). ops_ahead p (past f) env) (env_more p input old.bound.items b (len + 1) refl))
       (let h : len + 1 ≤ len + 1 = omega arith in h) (let h : 0 < 1 = omega arith in h)
 
@@ -138,8 +143,10 @@ module _ (p : ProgramParts) (input : values.Value) where
       let w = old_fits.0 in
       let around : f.env ≤ len = omega (arith, w.1, w.3) in
       let given : ℕ = given_count (slice_get p.ops f.at) in
-      text_goes old new f (purpose.Hand g) (frame.Call f (handed_past g len)) b n old_top fits top below texts bound tt refl
-      (ap (λ (env : RunEnv). call_of p f (g.next + 1) env (env_at (cells_of p input wider) (len + 1)) (slice_get p.ops f.at))
+      text_goes old new f (purpose.Hand g) (frame.Call f (handed_past g len)) b n old_top fits top below texts bound tt
+      refl
+      (ap (λ (env : RunEnv). call_of p f (g.next + 1) env (env_at (cells_of p input wider) (len + 1))
+      (slice_get p.ops f.at))
       (env_agree p input wider old.bound.items len f.env
       (take_end old.bound.items (b ∷ []) ∙ sym (take-length old.bound.items)) around)
       ∙ ap (λ (inner : RunEnv). call_of p f (g.next + 1) (env_at (cells_of p input old.bound.items) f.env) inner

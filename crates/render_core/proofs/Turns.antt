@@ -1,5 +1,5 @@
 -- Loops and their turns.
-use Rattle.std.proofs.Common.{◌≡◌, ℕ, ℤ, zero, suc, ◌+◌, ◌-◌, ◌*◌, ◌≤◌, ◌<◌, pos, min, Bool, true, false, List, [], ◌∷◌, ◌++◌}
+use Rattle.std.proofs.Common.{◌≡◌, ℕ, zero, suc, ◌+◌, ◌≤◌, ◌<◌, pos, Bool, true, false, List, [], ◌∷◌, ◌++◌}
 use Rattle.std.proofs.Common.{Option, Some, None, append_assoc, length, take, refl, sym, ap, ◌∙◌, arith, subst}
 use Rattle.std.specs.Prelude.{if◌then◌else◌, is_some}
 use Rattle.std.specs.List.{slice_get}
@@ -24,10 +24,11 @@ use Rattle.template_ir.specs.declared.op.Op.TheVariants as op
 use Rattle.template_ir.specs.declared.program.ProgramParts.{ProgramParts}
 use Rattle.soy_tree.specs.declared.expr.Expr as code_expr
 use Rattle.render_core.specs.Finds.{HasItem, found_means, held_of}
-use Rattle.render_core.specs.Frames.{FramesFit, IsPlainFrame, MachineFits, frame_gives, items_after, machine_gives, means_before, ops_ahead}
+use Rattle.render_core.specs.Frames.{FramesFit, IsPlainFrame, MachineFits, frame_gives, items_after, machine_gives}
+use Rattle.render_core.specs.Frames.{means_before, ops_ahead}
 use Rattle.render_core.specs.Frames.{over, past, turns_of}
-use Rattle.render_core.specs.Rounds.{IsLoopOver, IsNoLoop, LoopAt, first_round, index_bound, item_bound, list_bound, turn_bound, turn_child}
-use Rattle.render_core.specs.Rounds.{turn_env, turned}
+use Rattle.render_core.specs.Rounds.{IsLoopOver, IsNoLoop, LoopAt, first_round, index_bound, item_bound, list_bound}
+use Rattle.render_core.specs.Rounds.{turn_bound, turn_child, turn_env, turned}
 use Rattle.render_core.specs.Stepping.{GoesIn, IsSame, Silent, Stays, pending}
 use Rattle.render_core.specs.Variables.{Cell, cell_at, cells_of, env_at, name_or_none, name_there, part_held}
 use Rattle.render_core.specs.Variables.{index_name, of_op, op_name}
@@ -89,7 +90,8 @@ module _ (p : ProgramParts) (input : values.Value) where
       let items : Items = listed_items (cell_at (cells_of p input wider) (length bound)).part in
       ap (turns_of p (cells_of p input wider) r) is
       ∙ (ap (λ (env : RunEnv). turns_give run name index env 0 items)
-      (env_agree p input wider bound (length bound) f.env (take_end bound (list_bound x ∷ []) ∙ sym (take-length bound)) low)
+      (env_agree p input wider bound (length bound) f.env
+      (take_end bound (list_bound x ∷ []) ∙ sym (take-length bound)) low)
       ∙ ap (λ (vs : Items). turns_give run name index (env_at (cells_of p input bound) f.env) 0 vs)
       (ap (λ (c : Cell). listed_items c.part) (cell_more p input bound (list_bound x))
       ∙ items_found p input (cells_of p input bound) x))
@@ -139,8 +141,8 @@ module _ (p : ProgramParts) (input : values.Value) where
       → new.top ≡ frame.Turns (first_round f (length old.bound.items))
       → new.below ≡ frame.Ops (past f) ∷ old.below → new.texts ≡ old.texts
       → new.bound.items ≡ old.bound.items ++ list_bound x ∷ [] → Silent p input old new before after
-  loop_step old new f x list (op.For name index e body) before after old_top fits is over low means cost_is top below texts
-      bound =
+  loop_step old new f x list (op.For name index e body) before after old_top fits is over low means cost_is top below
+      texts bound =
       let env : RunEnv = env_at (cells_of p input old.bound.items) f.env in
       let run : RunEnv → Outcome = block_gives (means_before p f.left f.at) body (pos 0) in
       let found : found_means p (cells_of p input old.bound.items) x ≡ val (view_expr e) env =
@@ -168,7 +170,8 @@ module _ (p : ProgramParts) (input : values.Value) where
       → items_after r.next (listed_items (cell_at cells r.list).part) ≡ no_item
       → turns_of p cells r o ≡ RunEnds (one_step 0) WholeRun
   turns_over cells r (Some (op.For name index e body)) none =
-      ap (turns_give (block_gives (means_before p r.left r.op) body (pos 0)) name index (env_at cells r.env) r.next) none
+      ap (turns_give (block_gives (means_before p r.left r.op) body (pos 0)) name index (env_at cells r.env) r.next)
+      none
   turns_over cells r _ none = refl
 
   pub turns_lost : (cells : List Cell) (r : Round) (o : Option Op) → IsNoLoop o
@@ -193,26 +196,33 @@ module _ (p : ProgramParts) (input : values.Value) where
       let x : Bound = index_bound r (length bound + 1) in
       let e : length mid ≡ length bound + 1 = length_more p input bound (item_bound r) in
       let h : length (bound ++ item_bound r ∷ x ∷ []) ≡ length bound + 1 + 1 =
-      ap length (sym (append_assoc bound (item_bound r ∷ []) (x ∷ []))) ∙ (length_more p input mid x ∙ ap (λ k. k + 1) e) in
+      ap length (sym (append_assoc bound (item_bound r ∷ []) (x ∷ [])))
+      ∙ (length_more p input mid x ∙ ap (λ k. k + 1) e) in
       (h, omega (arith, h))
 
   -- the variables of a turn
-  turn_vars : (bound : List Bound) (r : Round) (has : Bool) (v : values.Value) → r.list < length bound → r.env ≤ length bound
+  turn_vars : (bound : List Bound) (r : Round) (has : Bool) (v : values.Value) → r.list < length bound
+      → r.env ≤ length bound
       → v ≡ child r.next (cell_at (cells_of p input bound) r.list).part
       → env_at (cells_of p input (bound ++ turn_bound r has (length bound))) (turn_env has (length bound))
-      ≡ turn_adds r has ((name_or_none (name_there p (naming.Op r.op)), Known v) ∷ env_at (cells_of p input bound) r.env)
+      ≡ turn_adds r has
+      ((name_or_none (name_there p (naming.Op r.op)), Known v) ∷ env_at (cells_of p input bound) r.env)
   turn_vars bound r false v list env is =
       env_more p input bound (item_bound r) (length bound + 1) refl
-      ∙ ap (λ w. (name_or_none (name_there p (naming.Op r.op)), Known w) ∷ env_at (cells_of p input bound) r.env) (sym is)
+      ∙ ap (λ w. (name_or_none (name_there p (naming.Op r.op)), Known w) ∷ env_at (cells_of p input bound) r.env)
+      (sym is)
   turn_vars bound r true v list env is =
       let mid : List Bound = bound ++ item_bound r ∷ [] in
       let n : ℕ = length bound in
       let size : length mid ≡ n + 1 = length_more p input bound (item_bound r) in
-      ap (λ bs. env_at (cells_of p input bs) (n + 1 + 1)) (sym (append_assoc bound (item_bound r ∷ []) (index_bound r (n + 1) ∷ [])))
+      ap (λ bs. env_at (cells_of p input bs) (n + 1 + 1))
+      (sym (append_assoc bound (item_bound r ∷ []) (index_bound r (n + 1) ∷ [])))
       ∙ (env_more p input mid (index_bound r (n + 1)) (n + 1 + 1) (ap (λ k. k + 1) (sym size))
-      ∙ ap (λ (around : RunEnv). (name_or_none (name_there p (naming.Index r.op)), Known (IntValue (pos r.next))) ∷ around)
+      ∙ ap (λ (around : RunEnv). (name_or_none (name_there p (naming.Index r.op)), Known (IntValue (pos r.next)))
+      ∷ around)
       (env_more p input bound (item_bound r) (n + 1) refl
-      ∙ ap (λ w. (name_or_none (name_there p (naming.Op r.op)), Known w) ∷ env_at (cells_of p input bound) r.env) (sym is)))
+      ∙ ap (λ w. (name_or_none (name_there p (naming.Op r.op)), Known w) ∷ env_at (cells_of p input bound) r.env)
+      (sym is)))
 
   -- they are those that the op binds in a turn
   named_turn : (r : Round) (name : Name) (index : Option Name) (e : code_expr.Expr) (body : Block) (env : RunEnv)
@@ -226,12 +236,13 @@ module _ (p : ProgramParts) (input : values.Value) where
       ∷ (name_or_none (of_op op_name o), Known v) ∷ env) is
 
   -- a turn goes into the body, with the turns past it below
-  pub turn_does : (old new : Machine) (r : Round) (name : Name) (index : Option Name) (e : code_expr.Expr) (body : Block)
-      (v : values.Value) (rest : Items) (n : ℕ) → old.top ≡ frame.Turns r → MachineFits old
+  pub turn_does : (old new : Machine) (r : Round) (name : Name) (index : Option Name) (e : code_expr.Expr)
+      (body : Block) (v : values.Value) (rest : Items) (n : ℕ) → old.top ≡ frame.Turns r → MachineFits old
       → slice_get p.ops r.op ≡ Some (op.For name index e body)
       → items_after r.next (listed_items (cell_at (cells_of p input old.bound.items) r.list).part) ≡ item v rest
       → v ≡ child r.next (cell_at (cells_of p input old.bound.items) r.list).part
-      → new.top ≡ frame.Ops (turn_child r body (turn_env (is_some index) (length old.bound.items)) (length old.bound.items))
+      → new.top
+      ≡ frame.Ops (turn_child r body (turn_env (is_some index) (length old.bound.items)) (length old.bound.items))
       → new.below ≡ frame.Turns (turned r) ∷ old.below → new.texts ≡ old.texts
       → new.bound.items ≡ old.bound.items ++ turn_bound r (is_some index) (length old.bound.items)
       → Silent p input old new n n
@@ -248,13 +259,15 @@ module _ (p : ProgramParts) (input : values.Value) where
       let inner : RunEnv = with_index index r.next ((name, Known v) ∷ env) in
       let size = length_turn r (is_some index) old.bound.items in
       let vars : env_at (cells_of p input wider) c.env ≡ inner =
-      turn_vars old.bound.items r (is_some index) v old_fits.0.1 old_fits.0.0 item_is ∙ named_turn r name index e body env v is in
+      turn_vars old.bound.items r (is_some index) v old_fits.0.1 old_fits.0.0 item_is
+      ∙ named_turn r name index e body env v is in
       let tail : items_after (r.next + 1) (listed_items (cell_at cells r.list).part) ≡ rest =
       items_tail r.next (listed_items (cell_at cells r.list).part) v rest some in
       let now : frame_gives p input old.bound.items (frame.Turns r)
       ≡ spent_first (one_step 0) (continued_by (run inner) (turns_give run name index env (r.next + 1) rest)) =
       ap (turns_of p cells r) is ∙ ap (turns_give run name index env r.next) some in
-      let next : frame_gives p input old.bound.items (frame.Turns (turned r)) ≡ turns_give run name index env (r.next + 1) rest =
+      let next : frame_gives p input old.bound.items (frame.Turns (turned r))
+      ≡ turns_give run name index env (r.next + 1) rest =
       ap (turns_of p cells (turned r)) is ∙ ap (turns_give run name index env (r.next + 1)) tail in (
         one_step 0,
         record {

@@ -54,7 +54,8 @@ pub entry_some_value : (es : List code_entry.Entry) (n : ℕ) (e : code_entry.En
 entry_some_value [] n e is = cc
 entry_some_value (x ∷ es) zero e is =
     let same : x ≡ e = cc in
-    ap (λ (y : code_entry.Entry). view_value y.value) (sym same) ∙ sym (ap (λ (v : Name × Value). v.1) (view_entry_is x))
+    ap (λ (y : code_entry.Entry). view_value y.value) (sym same)
+    ∙ sym (ap (λ (v : Name × Value). v.1) (view_entry_is x))
 entry_some_value (x ∷ es) (suc n) e is = entry_some_value es n e is
 
 pub entry_none_value : (es : List code_entry.Entry) (n : ℕ) → slice_get es n ≡ None
@@ -94,7 +95,8 @@ entry_named : (es : List code_entry.Entry) (n : ℕ) (e : code_entry.Entry) (nam
 entry_named [] n e name below is named = absurd (omega arith)
 entry_named (x ∷ es) zero e name below is named =
     rw (view_entry_is x)
-    (rw (sym is) (if_true (bytes_eq e.name name) (Some (view_value e.value)) (entry_value name (view_entries es)) named))
+    (rw (sym is) (if_true (bytes_eq e.name name) (Some (view_value e.value))
+    (entry_value name (view_entries es)) named))
 entry_named (x ∷ es) (suc n) e name below is named = entry_named es n e name (omega arith) is named
 
 pub entry_found : (es : List code_entry.Entry) (n : ℕ) (e : code_entry.Entry) (name : Name) → n < length es

@@ -1,6 +1,7 @@
 //! Pieces that have begun.
 
-ghost use Rattle.std.specs.Prelude.{◌≡◌, ◌≤◌, ◌++◌, [], List, IfOk, drop, encode_utf8_all, length, min, slice_get, take};
+ghost use Rattle.std.specs.Prelude.{◌≡◌, ◌≤◌, ◌++◌, [], List, IfOk, drop, encode_utf8_all, length, min, slice_get};
+ghost use Rattle.std.specs.Prelude.{take};
 ghost use Rattle.std.specs.Str.{chars};
 ghost use Rattle.soy_tree.specs.Values as values;
 ghost use Rattle.soy_tree.specs.ViewValues.{view_value};

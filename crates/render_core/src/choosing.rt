@@ -35,7 +35,8 @@ pub(crate) fn branch_taken<L: Ledger>(
     other: Option<Block>,
     steps: &mut Steps<L>,
 ) -> Result<Option<Block>, OutOfMemory>
-    ensures { Takes (branch_chosen (map view_branch branches.now) other (env_seen point.entry)) steps.old steps.new result }
+    ensures { Takes (branch_chosen (map view_branch branches.now) other (env_seen point.entry)) steps.old steps.new
+        result }
 {
     for branch in branches {
         match is_truthy(point, &branch.when, steps) {
@@ -111,7 +112,8 @@ fn choice_taken<L: Ledger>(
     other: Option<Block>,
     steps: &mut Steps<L>,
 ) -> Result<Option<Block>, OutOfMemory>
-    ensures { Takes (choice_chosen (view_shallow subject.entry) (map view_choice choices.now) other (env_seen point.entry))
+    ensures { Takes
+        (choice_chosen (view_shallow subject.entry) (map view_choice choices.now) other (env_seen point.entry))
         steps.old steps.new result }
 {
     for choice in choices {
@@ -132,8 +134,8 @@ fn is_one<L: Ledger>(
     values: &[Expr],
     steps: &mut Steps<L>,
 ) -> Result<bool, OutOfMemory>
-    ensures { Takes (is_one (view_shallow subject.entry) (view_exprs values.now) (env_seen point.entry)) steps.old steps.new
-        result }
+    ensures { Takes (is_one (view_shallow subject.entry) (view_exprs values.now) (env_seen point.entry))
+        steps.old steps.new result }
 {
     for value in values {
         match has_value(point, subject, value, steps) {

@@ -7,7 +7,8 @@ ghost use Rattle.soy_tree.specs.ViewValues.{view_value};
 ghost use Rattle.template_ir.specs.declared.op.Op.TheVariants as op;
 ghost use Rattle.template_ir.specs.declared.program.ProgramParts.{ProgramParts};
 ghost use Rattle.render_core.specs.Frames.{MachineFits, child_at};
-ghost use Rattle.render_core.specs.Stepping.{Binds, IsBlockKind, IsSame, Stepped, handed_past, kept_of, text_next, text_var};
+ghost use Rattle.render_core.specs.Stepping.{Binds, IsBlockKind, IsSame, Stepped, handed_past, kept_of, text_next};
+ghost use Rattle.render_core.specs.Stepping.{text_var};
 ghost use Rattle.render_core.specs.Texts.{past_innermost};
 ghost use Rattle.render_core.specs.declared.frame.Frame.TheVariants as frame;
 ghost use Rattle.render_core.specs.declared.held.Naming.TheVariants as naming;
@@ -65,7 +66,8 @@ impl Machine {
         requires op { slice_get scene.now.program.now.ops ahead.at ≡ Some (op.LetBlock name.now kind block) }
         requires low { ahead.at < ahead.end }
         requires kind { IsBlockKind kind }
-        ensures { (n : ℕ) → Stepped scene.now.program.now (view_value scene.now.input.now) self.old self.new n n result }
+        ensures { (n : ℕ) → Stepped scene.now.program.now (view_value scene.now.input.now) self.old self.new n n
+            result }
     {
         match self.bind_here(ahead, Held::Block(kept(ahead, kind, block))) {
             Ok(()) => Ok(Step::Silent),
@@ -104,7 +106,8 @@ impl Machine {
         requires fits { MachineFits self.old }
         requires op { slice_get scene.now.program.now.ops ahead.at ≡ Some (op.LetBlock name.now kind.Text block) }
         requires low { ahead.at < ahead.end }
-        ensures { (n : ℕ) → Stepped scene.now.program.now (view_value scene.now.input.now) self.old self.new n n result }
+        ensures { (n : ℕ) → Stepped scene.now.program.now (view_value scene.now.input.now) self.old self.new n n
+            result }
     {
         match self.gather_block(scene, ahead, Purpose::Bind, block) {
             Ok(()) => Ok(Step::Silent),
@@ -140,7 +143,8 @@ impl Machine {
     ) -> Result<Step, OutOfMemory>
         requires top { self.old.top ≡ frame.Gather ahead purpose }
         requires fits { MachineFits self.old }
-        ensures { (n : ℕ) → Stepped scene.now.program.now (view_value scene.now.input.now) self.old self.new n n result }
+        ensures { (n : ℕ) → Stepped scene.now.program.now (view_value scene.now.input.now) self.old self.new n n
+            result }
     {
         let text = match self.texts.copy_top(scene.alloc) {
             Ok(text) => text,

@@ -1,10 +1,11 @@
 //! Loops.
 
-ghost use Rattle.std.specs.Prelude.{◌≡◌, ◌<◌, ◌+◌, ℕ, [], ◌∷◌, ◌++◌, IfOk, OnOk, OnErr, Some, length, option_map, slice_get, take};
+ghost use Rattle.std.specs.Prelude.{◌≡◌, ◌<◌, ◌+◌, ℕ, [], ◌∷◌, ◌++◌, IfOk, OnOk, OnErr, Some, length, option_map};
+ghost use Rattle.std.specs.Prelude.{slice_get, take};
 ghost use Rattle.soy_tree.specs.ViewValues.{view_value};
 ghost use Rattle.render_core.specs.Frames.{MachineFits, past};
-ghost use Rattle.render_core.specs.Rounds.{IsLoopOver, LoopAt, first_round, index_bound, list_bound, turn_bound, turn_child};
-ghost use Rattle.render_core.specs.Rounds.{turn_env, turned};
+ghost use Rattle.render_core.specs.Rounds.{IsLoopOver, LoopAt, first_round, index_bound, list_bound, turn_bound};
+ghost use Rattle.render_core.specs.Rounds.{turn_child, turn_env, turned};
 ghost use Rattle.render_core.specs.Stepping.{IsSame, Stepped};
 ghost use Rattle.render_core.specs.declared.frame.Frame.TheVariants as frame;
 
@@ -84,7 +85,8 @@ impl Machine {
     pub(crate) fn step_turn(&mut self, scene: &Scene, round: Round) -> Result<Step, OutOfMemory>
         requires top { self.old.top ≡ frame.Turns round }
         requires fits { MachineFits self.old }
-        ensures { (n : ℕ) → Stepped scene.now.program.now (view_value scene.now.input.now) self.old self.new n n result }
+        ensures { (n : ℕ) → Stepped scene.now.program.now (view_value scene.now.input.now) self.old self.new n n
+            result }
     {
         if has_item(self.point(scene, round.env), round.list, round.next) {
             match loop_at(scene.program, round.op) {
@@ -99,8 +101,8 @@ impl Machine {
         }
     }
 
-    /// Goes into the body of a loop with its next item. A turn that no usize counts, as of no list, is taken for running
-    /// out of memory.
+    /// Goes into the body of a loop with its next item. A turn that no usize counts, as of no list, is taken for
+    /// running out of memory.
     fn turn(&mut self, round: Round, has_index: bool, body: Block) -> Result<(), OutOfMemory>
         ensures top { OnOk result (self.new.top ≡ frame.Ops (turn_child round body
             (turn_env has_index (length self.old.bound.items)) (length self.old.bound.items))) }

@@ -114,7 +114,8 @@ impl Machine {
         requires fits { MachineFits self.old }
         requires op { slice_get scene.now.program.now.ops ahead.at ≡ Some (op.Number place) }
         requires low { ahead.at < ahead.end }
-        ensures { (n : ℕ) → Stepped scene.now.program.now (view_value scene.now.input.now) self.old self.new n n result }
+        ensures { (n : ℕ) → Stepped scene.now.program.now (view_value scene.now.input.now) self.old self.new n n
+            result }
     {
         let (text, class) = match text_of(scene.alloc, Shallow::Int(ahead.number)) {
             Ok(text) => text,
@@ -135,7 +136,8 @@ impl Machine {
         requires fits { MachineFits self.old }
         requires low { ahead.at < ahead.end }
         requires place { place ≡ call_place (slice_get scene.now.program.now.ops ahead.at) }
-        ensures { (n : ℕ) → Stepped scene.now.program.now (view_value scene.now.input.now) self.old self.new n n result }
+        ensures { (n : ℕ) → Stepped scene.now.program.now (view_value scene.now.input.now) self.old self.new n n
+            result }
     {
         let text = match text_at(scene, self.bound.as_slice(), at) {
             Ok(text) => text,

@@ -6,7 +6,8 @@ ghost use Rattle.soy_tree.specs.Val.{binding, is_null, is_truthy, val};
 ghost use Rattle.soy_tree.specs.ViewExpressions.{view_expr};
 ghost use Rattle.soy_tree.specs.Values.{ListValue};
 ghost use Rattle.soy_tree.specs.ViewValues.{view_items, view_value};
-ghost use Rattle.render_core.specs.Finds.{Finds, FoundWithin, HasItem, IsPlain, Takes, binding_at, found_means, lowered_to};
+ghost use Rattle.render_core.specs.Finds.{Finds, FoundWithin, HasItem, IsPlain, Takes, binding_at, found_means};
+ghost use Rattle.render_core.specs.Finds.{lowered_to};
 ghost use Rattle.render_core.specs.Seen.{cells_seen, env_seen, input_seen, program_seen};
 ghost use Rattle.render_core.specs.Variables.{cell_at, cells_of, env_at};
 

@@ -12,17 +12,20 @@ use Rattle.render_core.proofs.parts.+part_at.Goals as goal
 pub returns-in-Made : goal.returns-in-Made
 returns-in-Made t c =
     let at = c.args.point in
-    part_is (program_seen at) (input_seen at) at.bound.now c.args.at c.in-Some.variable.now _ c.in-Some.ensures c.in-Made.is
+    part_is (program_seen at) (input_seen at) at.bound.now c.args.at c.in-Some.variable.now _ c.in-Some.ensures
+    c.in-Made.is
 
 pub returns-in-Root : goal.returns-in-Root
 returns-in-Root t c =
     let at = c.args.point in
-    part_is (program_seen at) (input_seen at) at.bound.now c.args.at c.in-Some.variable.now _ c.in-Some.ensures c.in-Root.is
+    part_is (program_seen at) (input_seen at) at.bound.now c.args.at c.in-Some.variable.now _ c.in-Some.ensures
+    c.in-Root.is
 
 pub returns-in-Block : goal.returns-in-Block
 returns-in-Block t c =
     let at = c.args.point in
-    part_is (program_seen at) (input_seen at) at.bound.now c.args.at c.in-Some.variable.now _ c.in-Some.ensures c.in-Block.is
+    part_is (program_seen at) (input_seen at) at.bound.now c.args.at c.in-Some.variable.now _ c.in-Some.ensures
+    c.in-Block.is
 
 pub returns-then-of-at : goal.returns-then-of-at
 returns-then-of-at t c =
@@ -39,7 +42,8 @@ returns-else-of-at t c =
     let at = c.args.point in
     ap (child c.in-Item.number)
     (sym (part_lost (program_seen at) (input_seen at) at.bound.now c.args.at c.in-Item.of c.if-of-at.false))
-    ∙ part_is (program_seen at) (input_seen at) at.bound.now c.args.at c.in-Some.variable.now _ c.in-Some.ensures c.in-Item.is
+    ∙ part_is (program_seen at) (input_seen at) at.bound.now c.args.at c.in-Some.variable.now _ c.in-Some.ensures
+    c.in-Item.is
 
 pub returns-then-path-at : goal.returns-then-path-at
 returns-then-path-at t c =

@@ -12,7 +12,8 @@ pub returns-in-Some : goal.returns-in-Some
 returns-in-Some c =
     let at = c.args.self.now in
     let e = ap forgotten c.in-Some.ensures ∙ sym (forgotten_binding c.args.name.now (env_seen at)) in
-    subst (λ (b : Binding (Unit {0})). IfOk c.evaluated.result (IsBinding (λ path v. path_value (cells_seen at) path ≡ v) b)) e
+    subst (λ (b : Binding (Unit {0})). IfOk c.evaluated.result
+    (IsBinding (λ path v. path_value (cells_seen at) path ≡ v) b)) e
     c.evaluated.ensures
 
 pub returns-in-None : goal.returns-in-None

@@ -1,14 +1,12 @@
-use Rattle.std.proofs.Common.{◌≡◌, ℕ, ◌+◌, ◌≤◌, refl, arith, rules}
+use Rattle.std.proofs.Common.{◌≡◌, ◌+◌, ◌≤◌, refl, arith, rules}
 use mir.Facts.{to_z-of_z}
 use mir.Syntax.{w64}
 use mir.Val.{SFits}
 use Rattle.soy_tree.specs.Val.{Known}
 use Rattle.soy_tree.specs.Values.{IntValue}
 use Rattle.soy_tree.specs.ViewValues.{view_value}
-use Rattle.soy_meaning.specs.Giving.{RunEnv}
 use Rattle.template_ir.specs.Run.{value_gives}
 use Rattle.template_ir.specs.declared.op.Op.TheVariants as op
-use Rattle.render_core.specs.Variables.{cells_of, env_at}
 use Rattle.render_core.proofs.Moves.{same_self, stays_in}
 use Rattle.render_core.proofs.Gives.{does_step}
 use Rattle.render_core.proofs.stack.Machine.step_number.Goals as goal

@@ -1,9 +1,9 @@
-use Rattle.std.proofs.Common.{◌≡◌, ℕ, Bool, true, false, List, refl, sym, ap, ◌∙◌, subst}
+use Rattle.std.proofs.Common.{Bool, true, false, ap, subst}
 use Rattle.soy_tree.specs.ViewValues.{view_value}
 use Rattle.render_core.specs.Finds.{HasItem}
 use Rattle.render_core.specs.Frames.{mark_of}
 use Rattle.render_core.specs.Seen.{cells_seen}
-use Rattle.render_core.specs.Variables.{cell_at, cells_of}
+use Rattle.render_core.specs.Variables.{cell_at}
 use Rattle.render_core.proofs.Sights.{items_at}
 use Rattle.render_core.proofs.TextEnds.{same_stays}
 use Rattle.render_core.proofs.Turns.{turn_goes, turns_end, turns_none, turns_plain}
@@ -28,8 +28,10 @@ leave-requires-else-has_item c =
     let input = view_value v in
     let old = c.args.self.now in
     let r = c.args.round in
-    let none = items_at c.point.result p v old.bound.items c.point.ensures.program c.point.ensures.input c.point.ensures.bound
-    r.list r.next false (subst (λ (has : Bool). HasItem r.next (cell_at (cells_seen c.point.result) r.list).part has) c.if-has_item.false c.has_item.ensures) in
+    let at = c.point.ensures in
+    let none = items_at c.point.result p v old.bound.items at.program at.input at.bound r.list r.next false
+    (subst (λ (has : Bool). HasItem r.next (cell_at (cells_seen c.point.result) r.list).part has) c.if-has_item.false
+    c.has_item.ensures) in
     record {
       mark = ap mark_of c.requires.top;
       fits = c.requires.fits;
@@ -44,8 +46,10 @@ returns-in-Ok c n =
     let input = view_value v in
     let old = c.args.self.now in
     let r = c.args.round in
-    let some = items_at c.point.result p v old.bound.items c.point.ensures.program c.point.ensures.input c.point.ensures.bound
-    r.list r.next true (subst (λ (has : Bool). HasItem r.next (cell_at (cells_seen c.point.result) r.list).part has) c.if-has_item.true c.has_item.ensures) in
+    let at = c.point.ensures in
+    let some = items_at c.point.result p v old.bound.items at.program at.input at.bound r.list r.next true
+    (subst (λ (has : Bool). HasItem r.next (cell_at (cells_seen c.point.result) r.list).part has) c.if-has_item.true
+    c.has_item.ensures) in
     let ends = c.in-Ok.ensures in
     turn_goes p input old c.turn.new.self r c.in-Some.index.now c.in-Some.body.now c.is_some.result n c.requires.top
     c.requires.fits c.is_some.ensures c.in-Some.ensures some ends.top ends.below ends.texts ends.bound
