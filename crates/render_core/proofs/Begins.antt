@@ -1,5 +1,6 @@
 -- What a rendering gives at first.
-use Rattle.std.proofs.Common.{◌≡◌, ℕ, zero, suc, ◌+◌, ◌-◌, ◌≤◌, ◌<◌, pos, true, false, List, [], ◌∷◌, ◌++◌, Option, Some, None}
+use Rattle.std.proofs.Common.{◌≡◌, ℕ, zero, suc, ◌+◌, ◌-◌, ◌≤◌, ◌<◌, pos, true, false, List, [], ◌∷◌, ◌++◌, Option}
+use Rattle.std.proofs.Common.{Some, None}
 use Rattle.std.proofs.Common.{drop, length, map, refl, sym, ap, ◌∙◌, arith, slice_index_or, subst}
 use Rattle.std.specs.List.{slice_get}
 use Rattle.soy_tree.specs.Types.{Name}
@@ -122,7 +123,8 @@ module _ (p : ProgramParts) (input : values.Value) where
       (length bound + 1) ≡ (own, Known (member_value own input)) ∷ env
   param_more bound name None below own env root named found is =
       env_more p input bound _ (length bound + 1) refl
-      ∙ (ap (λ (n : Option Name). (name_or_none n, Known values.NullValue) ∷ env_at (cells_of p input bound) below) named
+      ∙ (ap (λ (n : Option Name). (name_or_none n, Known values.NullValue) ∷ env_at (cells_of p input bound) below)
+      named
       ∙ (ap (λ (v : values.Value). (own, Known v) ∷ env_at (cells_of p input bound) below) found
       ∙ ap (λ (e : RunEnv). (own, Known (member_value own input)) ∷ e) is))
   param_more bound name (Some n) below own env root named found is =
@@ -146,7 +148,8 @@ module _ (p : ProgramParts) (input : values.Value) where
   param_next bound template number params x found to below root named field held env low is =
       let own : name_there p (naming.Param template number) ≡ Some x.name =
       sym named ∙ ap param_of (item_there params number x low is) in
-      ap (λ (h : Held). env_at (cells_of p input (bound ++ param_bound template number h below ∷ [])) (length bound + 1)) held
+      ap (λ (h : Held). env_at (cells_of p input (bound ++ param_bound template number h below ∷ []))
+      (length bound + 1)) held
       ∙ (param_more bound (naming.Param template number) found below x.name
       (input_env (names_of (view_params (drop (number + 1) params))) input) root own field env
       ∙ sym (ap (λ (ns : List Name). input_env ns input) (params_past params number x low is)))

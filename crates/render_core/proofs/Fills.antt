@@ -10,10 +10,10 @@ use Rattle.render_core.specs.declared.begun.Begun.{Begun}
 use Rattle.render_core.specs.declared.held.Bound.{Bound}
 use Rattle.render_core.specs.declared.parts.Point.{Point}
 
-left_at : (point : Point) (p : ProgramParts) (v : code.Value) (bound : List Bound) → point.scene.program.now ≡ p
+left_seen : (point : Point) (p : ProgramParts) (v : code.Value) (bound : List Bound) → point.scene.program.now ≡ p
     → point.scene.input.now ≡ v → point.bound.now ≡ bound → (b : Begun)
     → piece_left (program_seen point) (input_seen point) point.bound.now b ≡ piece_left p (view_value v) bound b
-left_at point p v bound program input bounds b =
+left_seen point p v bound program input bounds b =
     ap (λ (q : ProgramParts). piece_left q (view_value point.scene.input.now) point.bound.now b) program
     ∙ (ap (λ (w : code.Value). piece_left p (view_value w) point.bound.now b) input
     ∙ ap (λ (bs : List Bound). piece_left p (view_value v) bs b) bounds)
@@ -25,17 +25,9 @@ pub gave_at : (point : Point) (p : ProgramParts) (v : code.Value) (bound : List 
     → Gave (piece_left p (view_value v) bound old) (piece_left p (view_value v) bound new) room room_after n
 gave_at point p v bound program input bounds old new room room_after n gave =
     subst (λ (left : List ℕ). Gave left (piece_left p (view_value v) bound new) room room_after n)
-    (left_at point p v bound program input bounds old)
+    (left_seen point p v bound program input bounds old)
     (subst (λ (left : List ℕ). Gave (piece_left (program_seen point) (input_seen point) point.bound.now old) left room
-    room_after n) (left_at point p v bound program input bounds new) gave)
-
-pub fits_at : (point : Point) (p : ProgramParts) (v : code.Value) (bound : List Bound) → point.scene.program.now ≡ p
-    → point.scene.input.now ≡ v → point.bound.now ≡ bound → (b : Begun)
-    → PieceFits (program_seen point) (input_seen point) point.bound.now b → PieceFits p (view_value v) bound b
-fits_at point p v bound program input bounds b h =
-    subst (λ (bs : List Bound). PieceFits p (view_value v) bs b) bounds
-    (subst (λ (w : code.Value). PieceFits p (view_value w) point.bound.now b) input
-    (subst (λ (q : ProgramParts). PieceFits q (view_value point.scene.input.now) point.bound.now b) program h))
+    room_after n) (left_seen point p v bound program input bounds new) gave)
 
 pub fits_seen : (point : Point) (p : ProgramParts) (v : code.Value) (bound : List Bound) → point.scene.program.now ≡ p
     → point.scene.input.now ≡ v → point.bound.now ≡ bound → (b : Begun)

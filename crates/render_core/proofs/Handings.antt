@@ -1,5 +1,6 @@
 -- What a call hands, one parameter after the other.
-use Rattle.std.proofs.Common.{◌≡◌, ℕ, zero, suc, ◌+◌, ◌-◌, ◌*◌, ◌≤◌, ◌<◌, pos, List, [], ◌∷◌, ◌++◌, Option, Some, None, length}
+use Rattle.std.proofs.Common.{◌≡◌, ℕ, zero, suc, ◌+◌, ◌-◌, ◌*◌, ◌≤◌, ◌<◌, pos, List, [], ◌∷◌, ◌++◌, Option, Some, None}
+use Rattle.std.proofs.Common.{length}
 use Rattle.std.proofs.Common.{take, refl, sym, ap, ◌∙◌, arith}
 use Rattle.std.specs.List.{slice_get}
 use Rattle.std.proofs.Math.Seq.{take-length}
@@ -114,7 +115,8 @@ module _ (p : ProgramParts) (input : values.Value) where
       ≡ below_call old f (continued_by
       (handed_gives (means_before p f.left f.at) (view_by d.by) (env_at (cells_of p input old.bound.items) f.env))
       (call_past old f h d.name
-      (handed_binding (means_before p f.left f.at) d.name (view_by d.by) (env_at (cells_of p input old.bound.items) f.env))))
+      (handed_binding (means_before p f.left f.at) d.name (view_by d.by)
+      (env_at (cells_of p input old.bound.items) f.env))))
   hand_gives old f h d hands =
       let env : RunEnv = env_at (cells_of p input old.bound.items) f.env in
       let inner : RunEnv = env_at (cells_of p input old.bound.items) h.inner in
@@ -134,10 +136,12 @@ module _ (p : ProgramParts) (input : values.Value) where
       ≡ RunEnds s WholeRun
       → machine_gives p input old
       ≡ spent_first s (below_call old f (call_past old f h d.name
-      (handed_binding (means_before p f.left f.at) d.name (view_by d.by) (env_at (cells_of p input old.bound.items) f.env))))
+      (handed_binding (means_before p f.left f.at) d.name (view_by d.by)
+      (env_at (cells_of p input old.bound.items) f.env))))
   hand_spends old f h d s hands gives =
       let env : RunEnv = env_at (cells_of p input old.bound.items) f.env in
-      let rest : Outcome = call_past old f h d.name (handed_binding (means_before p f.left f.at) d.name (view_by d.by) env) in
+      let rest : Outcome = call_past old f h d.name
+      (handed_binding (means_before p f.left f.at) d.name (view_by d.by) env) in
       hand_gives old f h d hands
       ∙ (ap (λ (o : Outcome). below_call old f (continued_by o rest)) gives
       ∙ over_first p input old.below (take f.mark old.bound.items) old.texts s rest)
@@ -160,7 +164,8 @@ module _ (p : ProgramParts) (input : values.Value) where
       let inner : RunEnv = env_at cells h.inner in
       let g : Handing = handed_past h len in
       let w = handed_call (slice_get p.ops f.at) h.next d hands.given in
-      let old_fits : FramesFit (frame.Call f h ∷ old.below) len = fits_top p input old (frame.Call f h) hands.top hands.fits in
+      let old_fits : FramesFit (frame.Call f h ∷ old.below) len =
+      fits_top p input old (frame.Call f h) hands.top hands.fits in
       let within = old_fits.0 in
       let low : f.env ≤ len = omega (arith, within) in
       machine_is p input new (frame.Call f g) old.below old.texts wider top below texts bound
@@ -168,9 +173,12 @@ module _ (p : ProgramParts) (input : values.Value) where
       ∙ (ap (λ (bs : List Bound). over p input bs old.below old.texts (frame_gives p input wider (frame.Call f g)))
       (take_more p input old.bound.items b f.mark old_fits.1)
       ∙ ap (λ (o : Outcome). below_call old f o)
-      (ap (λ (e : RunEnv). call_of p f (h.next + 1) e (env_at (cells_of p input wider) (len + 1)) (slice_get p.ops f.at))
-      (env_agree p input wider old.bound.items len f.env (take_end old.bound.items (b ∷ []) ∙ sym (take-length old.bound.items)) low)
-      ∙ (ap (λ (e : RunEnv). call_of p f (h.next + 1) env e (slice_get p.ops f.at)) (env_more p input old.bound.items b (len + 1) refl)
+      (ap (λ (e : RunEnv). call_of p f (h.next + 1) e (env_at (cells_of p input wider) (len + 1))
+      (slice_get p.ops f.at))
+      (env_agree p input wider old.bound.items len f.env
+      (take_end old.bound.items (b ∷ []) ∙ sym (take-length old.bound.items)) low)
+      ∙ (ap (λ (e : RunEnv). call_of p f (h.next + 1) env e (slice_get p.ops f.at))
+      (env_more p input old.bound.items b (len + 1) refl)
       ∙ ap (λ (n : Name). call_past old f h n (held_means p input cells to)) (named f h d w.0 w.1 w.2)))))
 
   hand_fits : (old new : Machine) (f : Ahead) (h : Handing) (d : Handed) (to : Held) → Hands p old f h d
@@ -181,7 +189,8 @@ module _ (p : ProgramParts) (input : values.Value) where
       let b : Bound = handed_bound f h to in
       let wider : List Bound = old.bound.items ++ b ∷ [] in
       let g : Handing = handed_past h len in
-      let old_fits : FramesFit (frame.Call f h ∷ old.below) len = fits_top p input old (frame.Call f h) hands.top hands.fits in
+      let old_fits : FramesFit (frame.Call f h ∷ old.below) len =
+      fits_top p input old (frame.Call f h) hands.top hands.fits in
       let more : length wider ≡ len + 1 = length_more p input old.bound.items b in
       let within = old_fits.0 in
       let marks = old_fits.1 in
@@ -207,7 +216,8 @@ module _ (p : ProgramParts) (input : values.Value) where
       → handed_gives (means_before p f.left f.at) (view_by d.by) (env_at (cells_of p input old.bound.items) f.env)
       ≡ RunEnds s WholeRun
       → held_means p input (cells_of p input old.bound.items) to
-      ≡ handed_binding (means_before p f.left f.at) d.name (view_by d.by) (env_at (cells_of p input old.bound.items) f.env)
+      ≡ handed_binding (means_before p f.left f.at) d.name (view_by d.by)
+      (env_at (cells_of p input old.bound.items) f.env)
       → after ≡ before + s.cost → new.top ≡ frame.Call f (handed_past h (length old.bound.items))
       → new.below ≡ old.below → new.texts ≡ old.texts
       → new.bound.items ≡ old.bound.items ++ handed_bound f h to ∷ [] → Silent p input old new before after
@@ -216,7 +226,8 @@ module _ (p : ProgramParts) (input : values.Value) where
     record {
       same =
           hand_spends old f h d s hands gives
-          ∙ ap (spent_first s) (ap (λ (b : Binding BoundBlock). below_call old f (call_past old f h d.name b)) (sym means)
+          ∙ ap (spent_first s) (ap (λ (b : Binding BoundBlock). below_call old f (call_past old f h d.name b))
+          (sym means)
           ∙ sym (hand_leads old new f h d to hands top below texts bound));
       cost = cost;
       falls =
@@ -252,7 +263,8 @@ module _ (p : ProgramParts) (input : values.Value) where
   value_gives_cost f d e env is =
       ap (λ (b : code_by.HandedBy). handed_gives (means_before p f.left f.at) (view_by b) env) is
 
-  pub value_bound : (f : Ahead) (d : Handed) (e : code_expr.Expr) (cells : List Cell) (env : RunEnv) (x : Found) (to : Held)
+  pub value_bound : (f : Ahead) (d : Handed) (e : code_expr.Expr) (cells : List Cell) (env : RunEnv) (x : Found)
+      (to : Held)
       → d.by ≡ by.Plain e → found_means p cells x ≡ val (view_expr e) env → to ≡ held_of x
       → held_means p input cells to ≡ handed_binding (means_before p f.left f.at) d.name (view_by d.by) env
   value_bound f d e cells env x to is means held =
@@ -310,7 +322,8 @@ module _ (p : ProgramParts) (input : values.Value) where
       let o : Outcome = block_gives ms b (pos 0) env in
       let next : List ℕ → Outcome = λ text. call_past old f h d.name (Known (StringValue text)) in
       let w = handed_call (slice_get p.ops f.at) h.next d hands.given in
-      let old_fits : FramesFit (frame.Call f h ∷ old.below) len = fits_top p input old (frame.Call f h) hands.top hands.fits in
+      let old_fits : FramesFit (frame.Call f h ∷ old.below) len =
+      fits_top p input old (frame.Call f h) hands.top hands.fits in
       let within = old_fits.0 in (
         none_spent,
         record {
@@ -328,7 +341,8 @@ module _ (p : ProgramParts) (input : values.Value) where
           cost = (let e : n ≡ n + 0 = omega arith in e);
           falls =
               (let new_is : pending p new.top ≡ 0 = ap (pending p) top in
-              let old_is : pending p old.top ≡ 1 + (given_count (slice_get p.ops f.at) - h.next) = ap (pending p) hands.top in
+              let old_is : pending p old.top ≡ 1 + (given_count (slice_get p.ops f.at) - h.next) =
+              ap (pending p) hands.top in
               let less : pending p new.top < pending p old.top = omega (arith, new_is, old_is) in
               below_more (pending p new.top) (pending p old.top) (0 * weight p) less);
           fits =

@@ -1,5 +1,6 @@
 -- The print of a text that was gathered, and the opening of a call: what comes before the frame past the op.
-use Rattle.std.proofs.Common.{◌≡◌, ℕ, zero, suc, ◌+◌, ◌-◌, ◌*◌, ◌≤◌, ◌<◌, pos, List, [], ◌∷◌, ◌++◌, Option, Some, None, Result, Ok, Err}
+use Rattle.std.proofs.Common.{◌≡◌, ℕ, zero, suc, ◌+◌, ◌-◌, ◌*◌, ◌≤◌, ◌<◌, pos, List, [], ◌∷◌, ◌++◌, Option, Some, None}
+use Rattle.std.proofs.Common.{Result, Ok, Err}
 use Rattle.std.proofs.Common.{length, take, refl, sym, ap, ◌∙◌, arith, subst}
 use Rattle.std.specs.List.{slice_get}
 use Rattle.soy_base.specs.declared.direction.Dir.{Dir}
@@ -13,7 +14,8 @@ use Rattle.soy_tree.specs.Val.{value_text}
 use Rattle.soy_tree.specs.Values.{NullValue, StringValue}
 use Rattle.soy_tree.specs.Values as values
 use Rattle.soy_meaning.specs.Giving.{RunEnv}
-use Rattle.soy_meaning.specs.Outcome.{GivesPiece, Outcome, RunEnds, Spent, StopsAt, WholeRun, continued_by, end_of_outcome}
+use Rattle.soy_meaning.specs.Outcome.{GivesPiece, Outcome, RunEnds, Spent, StopsAt, WholeRun, continued_by}
+use Rattle.soy_meaning.specs.Outcome.{end_of_outcome}
 use Rattle.soy_meaning.specs.Outcome.{gathered, gives_nothing, none_spent, pieces_of_outcome, spent_first}
 use Rattle.soy_meaning.specs.Plan.{Site}
 use Rattle.soy_meaning.proofs.Outcomes.{first_followed, first_none, none_after}
@@ -27,11 +29,13 @@ use Rattle.template_ir.specs.declared.program.ProgramParts.{ProgramParts}
 use Rattle.template_ir.specs.declared.program.Routine.{Routine}
 use Rattle.render_core.specs.Calling.{Opens, OpensRoutine, called_child, callee_of}
 use Rattle.render_core.specs.Forms.{form_at}
-use Rattle.render_core.specs.Frames.{FramesFit, IsPlainFrame, MachineFits, call_of, call_place, frame_gives, machine_gives}
+use Rattle.render_core.specs.Frames.{FramesFit, IsPlainFrame, MachineFits, call_of, call_place, frame_gives}
+use Rattle.render_core.specs.Frames.{machine_gives}
 use Rattle.render_core.specs.Frames.{mark_of, ops_ahead, over, past, shown_by, text_bound}
 use Rattle.render_core.specs.Pulls.{stops_at}
 use Rattle.render_core.specs.Shows.{ShowsValue}
-use Rattle.render_core.specs.Stepping.{Does, GaveForm, GoesIn, IsBlockKind, IsSame, Silent, Stays, Stepped, pending, weight}
+use Rattle.render_core.specs.Stepping.{Does, GaveForm, GoesIn, IsBlockKind, IsSame, Silent, Stays, Stepped, pending}
+use Rattle.render_core.specs.Stepping.{weight}
 use Rattle.render_core.specs.Variables.{Cell, cells_of, env_at}
 use Rattle.render_core.specs.declared.frame.Ahead.{Ahead}
 use Rattle.render_core.specs.declared.frame.Frame.{Frame}
@@ -106,7 +110,8 @@ module _ (p : ProgramParts) (input : values.Value) where
   opened_over old f top x is plain mark gives =
       machine_is p input old top old.below old.texts old.bound.items is refl refl refl
       ∙ (plain_top p input old.bound.items top old.below old.texts plain
-      ∙ (ap (λ k. over p input (take k old.bound.items) old.below old.texts (frame_gives p input old.bound.items top)) mark
+      ∙ (ap (λ k. over p input (take k old.bound.items) old.below old.texts (frame_gives p input old.bound.items top))
+      mark
       ∙ ap (λ (o : Outcome). over p input (take f.mark old.bound.items) old.below old.texts o) gives))
 
   -- a step that does it
@@ -151,13 +156,15 @@ module _ (p : ProgramParts) (input : values.Value) where
       → Stepped p input old new n n result
   show_gives old new f at n text point result top fits place shown gave =
       let text_is : value_gives p.dir point (StringValue text)
-      ≡ value_gives p.dir (call_place (slice_get p.ops f.at)) (StringValue (text_bound (slice_get old.bound.items at))) =
+      ≡ value_gives p.dir (call_place (slice_get p.ops f.at))
+      (StringValue (text_bound (slice_get old.bound.items at))) =
       ap (λ (k : Place). value_gives p.dir k (StringValue text)) place
       ∙ ap (λ (t : List ℕ). value_gives p.dir (call_place (slice_get p.ops f.at)) (StringValue t)) shown in
       let env : RunEnv = env_at (cells_of p input old.bound.items) f.env in
       let x : Outcome = value_gives p.dir point (StringValue text) in
       let one : pending p old.top ≡ 1 = ap (pending p) top in
-      let old_fits : FramesFit (frame.Show f at ∷ old.below) (length old.bound.items) = fits_top p input old (frame.Show f at) top fits in
+      let old_fits : FramesFit (frame.Show f at ∷ old.below) (length old.bound.items) =
+      fits_top p input old (frame.Show f at) top fits in
       does_after old new f x n result
       (opened_over old f (frame.Show f at) x top tt refl
       (ap (λ (o : Outcome). continued_by o (ops_ahead p (past f) env)) (sym text_is)))
@@ -167,11 +174,20 @@ module _ (p : ProgramParts) (input : values.Value) where
 
   -- ---- a call whose parameters are handed
 
+  -- what its template gives, and what it gives
+  abbrev called_outcome : Machine → Ahead → Handing → Callee → Outcome
+  called_outcome m f h c =
+      called_at (view_program p) f.left (view_callee c).site c.template
+      (env_at (cells_of p input m.bound.items) h.inner)
+
+  abbrev opened_outcome : Machine → Ahead → Handing → Callee → Outcome
+  opened_outcome m f h c =
+      opened_gives p.dir c.place (kind_of_template (view_program p) c.template) (called_outcome m f h c)
+
   call_opens : (old : Machine) (f : Ahead) (h : Handing) (c : Callee) → Opens p old f h c
       → machine_gives p input old
       ≡ over p input old.bound.items (frame.Ops (past f) ∷ old.below) old.texts
-      (opened_gives p.dir c.place (kind_of_template (view_program p) c.template)
-      (called_at (view_program p) f.left (view_callee c).site c.template (env_at (cells_of p input old.bound.items) h.inner)))
+      (opened_outcome old f h c)
   call_opens old f h c opens =
       let env : RunEnv = env_at (cells_of p input old.bound.items) f.env in
       let inner : RunEnv = env_at (cells_of p input old.bound.items) h.inner in
@@ -200,9 +216,11 @@ module _ (p : ProgramParts) (input : values.Value) where
       → GaveForm p input old new (frame.Ops (past f)) (value_at p.dir point NullValue) result
   null_given old new f g point text class result is shows gave =
       subst (λ (h : Ahead). GaveForm p input old new (frame.Ops h) (value_at p.dir point NullValue) result) is
-      (subst (λ (k : ValueClass). GaveForm p input old new (frame.Ops g) (form_at point k (value_text NullValue) p.dir) result)
+      (subst (λ (k : ValueClass). GaveForm p input old new (frame.Ops g) (form_at point k (value_text NullValue) p.dir)
+      result)
       shows.1
-      (subst (λ (t : List ℕ). GaveForm p input old new (frame.Ops g) (form_at point class t p.dir) result) shows.0 gave))
+      (subst (λ (t : List ℕ). GaveForm p input old new (frame.Ops g) (form_at point class t p.dir) result) shows.0
+      gave))
 
   -- of a template that there isn't
   pub none_opens : (old new : Machine) (f : Ahead) (h : Handing) (c : Callee) (n : ℕ) (result : Result Step OutOfMemory)
@@ -234,7 +252,8 @@ module _ (p : ProgramParts) (input : values.Value) where
       let gives : machine_gives p input old ≡ RunEnds none_spent (StopsAt site) =
       call_opens old f h c opens
       ∙ (ap (λ (k : Option Kind). over p input old.bound.items fs old.texts
-      (opened_gives p.dir c.place k (called_at (view_program p) f.left site c.template inner))) (kind_there p c.template r is)
+      (opened_gives p.dir c.place k (called_at (view_program p) f.left site c.template inner)))
+      (kind_there p c.template r is)
       ∙ (ap (λ (left : ℕ). over p input old.bound.items fs old.texts
       (opened_gives p.dir c.place (Some r.kind) (called_at (view_program p) left site c.template inner))) none
       ∙ (ap (λ (o : Outcome). over p input old.bound.items fs old.texts (opened_gives p.dir c.place (Some r.kind) o))
@@ -249,7 +268,7 @@ module _ (p : ProgramParts) (input : values.Value) where
   -- ---- the body of a template
 
   routine_body : (old : Machine) (f : Ahead) (h : Handing) (c : Callee) (r : Routine) → OpensRoutine p old f h c r
-      → called_at (view_program p) f.left (view_callee c).site c.template (env_at (cells_of p input old.bound.items) h.inner)
+      → called_outcome old f h c
       ≡ ops_ahead p (called_child f h r.body) (env_at (cells_of p input old.bound.items) h.inner)
   routine_body old f h c r opens =
       let inner : RunEnv = env_at (cells_of p input old.bound.items) h.inner in
@@ -268,8 +287,7 @@ module _ (p : ProgramParts) (input : values.Value) where
       → IsBlockKind r.kind → new.top ≡ frame.Ops (called_child f h r.body) → new.below ≡ frame.Ops (past f) ∷ old.below
       → new.texts ≡ old.texts → new.bound.items ≡ old.bound.items
       → GoesIn p input old new f
-      (opened_gives p.dir c.place (kind_of_template (view_program p) c.template)
-      (called_at (view_program p) f.left (view_callee c).site c.template (env_at (cells_of p input old.bound.items) h.inner)))
+      (opened_outcome old f h c)
   block_enters old new f h c r opens kinds top below texts bound =
       let inner : RunEnv = env_at (cells_of p input old.bound.items) h.inner in
       let child : Ahead = called_child f h r.body in
@@ -289,7 +307,8 @@ module _ (p : ProgramParts) (input : values.Value) where
             (continued_by o (ops_ahead p (past f) env))) (lowered old.bound.items h.mark f within.1)
             ∙ (ap (λ (x : Outcome). over p input old.bound.items fs old.texts x)
             (sym (ap (λ (k : Option Kind). opened_gives p.dir c.place k
-            (called_at (view_program p) f.left (view_callee c).site c.template inner)) (kind_there p c.template r opens.routine)
+            (called_at (view_program p) f.left (view_callee c).site c.template inner))
+            (kind_there p c.template r opens.routine)
             ∙ (opened_block p.dir c.place r.kind
             (called_at (view_program p) f.left (view_callee c).site c.template inner) kinds
             ∙ routine_body old f h c r opens)))))));
@@ -305,8 +324,7 @@ module _ (p : ProgramParts) (input : values.Value) where
       → Stepped p input old new n n (Ok step.Silent)
   block_opens old new f h c r n opens kinds top below texts bound =
       does_after old new f
-      (opened_gives p.dir c.place (kind_of_template (view_program p) c.template)
-      (called_at (view_program p) f.left (view_callee c).site c.template (env_at (cells_of p input old.bound.items) h.inner)))
+      (opened_outcome old f h c)
       n (Ok step.Silent) (call_opens old f h c opens.opens) (call_pending old f h c opens.opens) opens.opens.fits
       (block_enters old new f h c r opens kinds top below texts bound)
 
@@ -315,8 +333,7 @@ module _ (p : ProgramParts) (input : values.Value) where
       → new.below ≡ frame.Gather f purpose.Show ∷ old.below → new.texts ≡ [] ∷ old.texts
       → new.bound.items ≡ old.bound.items
       → GoesIn p input old new f
-      (opened_gives p.dir c.place (kind_of_template (view_program p) c.template)
-      (called_at (view_program p) f.left (view_callee c).site c.template (env_at (cells_of p input old.bound.items) h.inner)))
+      (opened_outcome old f h c)
   text_enters old new f h c r opens text top below texts bound =
       let env : RunEnv = env_at (cells_of p input old.bound.items) f.env in
       let inner : RunEnv = env_at (cells_of p input old.bound.items) h.inner in
@@ -339,11 +356,13 @@ module _ (p : ProgramParts) (input : values.Value) where
             ∙ (ap (λ (e : RunEnv). over p input (take f.mark old.bound.items) old.below old.texts
             (gathered [] o (shown_by p f e))) (lowered old.bound.items h.mark f within.1)
             ∙ (ap (λ (x : Option Op). over p input (take f.mark old.bound.items) old.below old.texts
-            (gathered [] o (λ t. continued_by (value_gives p.dir (call_place x) (StringValue t)) (ops_ahead p (past f) env)))) is
+            (gathered [] o (λ t. continued_by (value_gives p.dir (call_place x) (StringValue t))
+            (ops_ahead p (past f) env)))) is
             ∙ (ap (λ (x : Outcome). over p input (take f.mark old.bound.items) old.below old.texts x)
             (sym (gathered_then [] o prints (ops_ahead p (past f) env)))
             ∙ ap (λ (x : Outcome). over p input old.bound.items (frame.Ops (past f) ∷ old.below) old.texts x)
-            (sym (ap (λ (k : Option Kind). opened_gives p.dir c.place k called) (kind_there p c.template r opens.routine)
+            (sym (ap (λ (k : Option Kind). opened_gives p.dir c.place k called)
+            (kind_there p c.template r opens.routine)
             ∙ (ap (λ (k : Kind). opened_gives p.dir c.place (Some k) called) text
             ∙ ap (λ (x : Outcome). gathered [] x prints) (routine_body old f h c r opens)))))))));
         fits =
@@ -358,7 +377,6 @@ module _ (p : ProgramParts) (input : values.Value) where
       → new.bound.items ≡ old.bound.items → Stepped p input old new n n (Ok step.Silent)
   text_opens old new f h c r n opens text top below texts bound =
       does_after old new f
-      (opened_gives p.dir c.place (kind_of_template (view_program p) c.template)
-      (called_at (view_program p) f.left (view_callee c).site c.template (env_at (cells_of p input old.bound.items) h.inner)))
+      (opened_outcome old f h c)
       n (Ok step.Silent) (call_opens old f h c opens.opens) (call_pending old f h c opens.opens) opens.opens.fits
       (text_enters old new f h c r opens text top below texts bound)

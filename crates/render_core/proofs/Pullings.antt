@@ -1,6 +1,8 @@
 -- Pulls, from what the machine does.
-use Rattle.std.proofs.Common.{◌≡◌, ℕ, zero, suc, ◌+◌, ◌≤◌, ◌<◌, ◌⊎◌, inl, inr, min, Bool, true, false, List, [], ◌∷◌, ◌++◌, Option}
-use Rattle.std.proofs.Common.{Some, None, Result, Ok, Err, length, take, drop, refl, sym, ap, ◌∙◌, arith, subst, append_assoc}
+use Rattle.std.proofs.Common.{◌≡◌, ℕ, zero, suc, ◌+◌, ◌≤◌, ◌<◌, ◌⊎◌, inl, inr, min, Bool, true, false, List, [], ◌∷◌}
+use Rattle.std.proofs.Common.{◌++◌, Option}
+use Rattle.std.proofs.Common.{Some, None, Result, Ok, Err, length, take, drop, refl, sym, ap, ◌∙◌, arith, subst}
+use Rattle.std.proofs.Common.{append_assoc}
 use Rattle.std.specs.Prelude.{IfOk, ◌==◌, encode_utf8_all}
 use Rattle.std.proofs.lemmas.Bool.Decides.{nat_tests}
 use Rattle.std.proofs.lemmas.List.{length-take-le, nil_from_length, take-append-drop, take-append-le, take_all}
@@ -16,7 +18,8 @@ use Rattle.soy_meaning.specs.Outcome.{spent_first}
 use Rattle.render_core.specs.Pulls.{AtEnd, Begun, Fresh, Gave, Idle, Next, Pulls, Refused, stops_at}
 use Rattle.template_ir.specs.declared.program.ProgramParts.{ProgramParts}
 use Rattle.render_core.specs.Frames.{MachineFits}
-use Rattle.render_core.specs.Rest.{BegunFits, DoneFits, Fits, IsWhole, LeftOf, PieceFits, Rest, begun_left, coming, piece_bytes, piece_left}
+use Rattle.render_core.specs.Rest.{BegunFits, DoneFits, Fits, IsWhole, LeftOf, PieceFits, Rest, begun_left, coming}
+use Rattle.render_core.specs.Rest.{piece_bytes, piece_left}
 use Rattle.render_core.specs.Rest.{piece_text, rest_bytes, rest_end, rest_of}
 use Rattle.render_core.specs.Stepping.{Advanced, Left, NextPiece}
 use Rattle.render_core.specs.declared.begun.Begun as code_begun
@@ -119,7 +122,8 @@ pulled_bytes (c ∷ begun) old new d e room room_after b a result is h =
     begun_bytes old new d e room room_after b a result h
 
 pub pulled_end : (begun : List ℕ) (old new : Rest) (d e : Bool) (room room_after : List ℕ) (b a : ℕ)
-    (result : Result ℕ (Refusal TooDeep)) → Pulls begun old new d e room room_after b a result → rest_end old ≡ rest_end new
+    (result : Result ℕ (Refusal TooDeep)) → Pulls begun old new d e room room_after b a result
+    → rest_end old ≡ rest_end new
 pulled_end [] old new d e room room_after b a result h = fresh_end old new d e room room_after b a result h
 pulled_end (c ∷ begun) old new d e room room_after b a result h = begun_end old new d e room room_after b a result h
 
@@ -179,7 +183,8 @@ module _ (p : ProgramParts) (input : values.Value) where
   pub left_same : (bound : List Bound) (piece : code_begun.Begun) (r : Option code_begun.Begun) → LeftOf piece r
       → PieceFits p input bound piece → begun_left p input bound r ≡ piece_left p input bound piece
   left_same bound piece (Some same) left fits = ap (piece_left p input bound) left.0
-  left_same bound piece None left fits = sym (nil_from_length (piece_left p input bound piece) (left p input bound fits))
+  left_same bound piece None left fits =
+      sym (nil_from_length (piece_left p input bound piece) (left p input bound fits))
 
   pub left_fits : (bound : List Bound) (piece : code_begun.Begun) (r : Option code_begun.Begun) → LeftOf piece r
       → PieceFits p input bound piece → BegunFits p input bound r
@@ -207,7 +212,8 @@ module _ (p : ProgramParts) (input : values.Value) where
   -- more of a piece that has begun
   pub begun_pulls : (old new : Rendering) (piece : code_begun.Begun) (room room_after : List ℕ) (n steps : ℕ)
       → old.piece ≡ Some piece → Fits p input old
-      → Gave (piece_left p input old.machine.bound.items piece) (begun_left p input new.machine.bound.items new.piece) room
+      → Gave (piece_left p input old.machine.bound.items piece) (begun_left p input new.machine.bound.items new.piece)
+      room
       room_after n
       → BegunFits p input new.machine.bound.items new.piece → new.machine ≡ old.machine → new.done ≡ old.done
       → Fits p input new
@@ -222,9 +228,11 @@ module _ (p : ProgramParts) (input : values.Value) where
       not_done old.done piece (coming p input old.machine)
       (subst (λ (b : Option code_begun.Begun). DoneFits old.done b (coming p input old.machine)) is fits.done) in (
         fits_by new (subst MachineFits (sym machine) fits.machine) begun (done ∙ open_yet),
-        pulls_begun (rest_of p input old).begun (rest_of p input old) (rest_of p input new) old.done new.done room room_after
+        pulls_begun (rest_of p input old).begun (rest_of p input old) (rest_of p input new) old.done new.done room
+            room_after
             steps steps (Ok n) (subst (λ (bs : List ℕ). 0 < length bs) (sym left) here.1) (
-              subst (λ (bs : List ℕ). Gave bs (begun_left p input new.machine.bound.items new.piece) room room_after n) (sym left) gave,
+              subst (λ (bs : List ℕ). Gave bs (begun_left p input new.machine.bound.items new.piece) room room_after n)
+                  (sym left) gave,
               ap (coming p input) machine,
               done,
               refl,
@@ -317,7 +325,10 @@ module _ (p : ProgramParts) (input : values.Value) where
       → Pulls (rest_of p input old).begun (rest_of p input old) (rest_of p input new) old.done new.done room room_after
       before after result
   fresh_pulls old mid new room room_after before after result none rest done h =
-      subst (λ (left : List ℕ). Pulls left (rest_of p input old) (rest_of p input new) old.done new.done room room_after before
+      subst (λ (left : List ℕ). Pulls left (rest_of p input old) (rest_of p input new) old.done new.done room
+      room_after before
       after result) (sym (none_left old none))
-      (subst (λ (d : Bool). Fresh (rest_of p input old) (rest_of p input new) d new.done room room_after before after result) done
-      (subst (λ (r : Rest). Fresh r (rest_of p input new) mid.done new.done room room_after before after result) rest h))
+      (subst (λ (d : Bool). Fresh (rest_of p input old) (rest_of p input new) d new.done room room_after before after
+      result) done
+      (subst (λ (r : Rest). Fresh r (rest_of p input new) mid.done new.done room room_after before after result) rest
+      h))

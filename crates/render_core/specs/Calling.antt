@@ -49,7 +49,8 @@ pub record Opens (p : ProgramParts) (m : Machine) (f : Ahead) (h : Handing) (c :
   pub last : slice_get c.given h.next ≡ None
 
 -- and its template is there, and may be opened
-pub record OpensRoutine (p : ProgramParts) (m : Machine) (f : Ahead) (h : Handing) (c : Callee) (r : Routine) : Type 0 where
+pub record OpensRoutine (p : ProgramParts) (m : Machine) (f : Ahead) (h : Handing) (c : Callee)
+    (r : Routine) : Type 0 where
   pub opens : Opens p m f h c
   pub routine : slice_get p.templates c.template ≡ Some r
   pub left : 0 < f.left

@@ -1,6 +1,7 @@
 //! Calls.
 
-ghost use Rattle.std.specs.Prelude.{◌≡◌, ◌<◌, ◌∷◌, ◌++◌, ℕ, [], None, Ok, OnErr, OnOk, Some, length, option_map, slice_get};
+ghost use Rattle.std.specs.Prelude.{◌≡◌, ◌<◌, ◌∷◌, ◌++◌, ℕ, [], None, Ok, OnErr, OnOk, Some, length, option_map};
+ghost use Rattle.std.specs.Prelude.{slice_get};
 ghost use Rattle.soy_base.specs.declared.kind.Kind.TheVariants as kind;
 ghost use Rattle.soy_tree.specs.ViewValues.{view_value};
 ghost use Rattle.soy_tree.specs.Values.{NullValue};
@@ -124,7 +125,8 @@ impl Machine {
     ) -> Result<Step, OutOfMemory>
         requires hands { Hands scene.now.program.now self.old ahead handing handed.now }
         requires by { handed.now.by ≡ by.Same }
-        ensures { (n : ℕ) → Stepped scene.now.program.now (view_value scene.now.input.now) self.old self.new n n result }
+        ensures { (n : ℕ) → Stepped scene.now.program.now (view_value scene.now.input.now) self.old self.new n n
+            result }
     {
         let found = match variable(self.point(scene, ahead.env), &handed.name) {
             Ok(found) => found,
@@ -148,7 +150,8 @@ impl Machine {
     ) -> Result<Step, OutOfMemory>
         requires hands { Hands scene.now.program.now self.old ahead handing handed.now }
         requires by { handed.now.by ≡ by.Block kind block }
-        ensures { (n : ℕ) → Stepped scene.now.program.now (view_value scene.now.input.now) self.old self.new n n result }
+        ensures { (n : ℕ) → Stepped scene.now.program.now (view_value scene.now.input.now) self.old self.new n n
+            result }
     {
         match kind {
             Kind::Text => self.hand_text(scene, ahead, handing, handed, block),
@@ -168,7 +171,8 @@ impl Machine {
     ) -> Result<Step, OutOfMemory>
         requires hands { Hands scene.now.program.now self.old ahead handing handed.now }
         requires by { handed.now.by ≡ by.Block kind.Text block }
-        ensures { (n : ℕ) → Stepped scene.now.program.now (view_value scene.now.input.now) self.old self.new n n result }
+        ensures { (n : ℕ) → Stepped scene.now.program.now (view_value scene.now.input.now) self.old self.new n n
+            result }
     {
         match self.gather_block(scene, ahead, Purpose::Hand(handing), block) {
             Ok(()) => Ok(Step::Silent),
@@ -189,7 +193,8 @@ impl Machine {
         requires hands { Hands scene.now.program.now self.old ahead handing handed.now }
         requires by { handed.now.by ≡ by.Block kind block }
         requires kind { IsBlockKind kind }
-        ensures { (n : ℕ) → Stepped scene.now.program.now (view_value scene.now.input.now) self.old self.new n n result }
+        ensures { (n : ℕ) → Stepped scene.now.program.now (view_value scene.now.input.now) self.old self.new n n
+            result }
     {
         match self.hand_held(ahead, handing, Held::Block(kept(ahead, kind, block))) {
             Ok(()) => Ok(Step::Silent),
@@ -230,7 +235,8 @@ impl Machine {
         callee: &Callee,
     ) -> Result<Step, OutOfMemory>
         requires { Opens scene.now.program.now self.old ahead handing callee.now }
-        ensures { (n : ℕ) → Stepped scene.now.program.now (view_value scene.now.input.now) self.old self.new n n result }
+        ensures { (n : ℕ) → Stepped scene.now.program.now (view_value scene.now.input.now) self.old self.new n n
+            result }
     {
         match scene.program.template(callee.template) {
             Some(routine) => self.open_there(scene, ahead, handing, callee, routine),
@@ -248,7 +254,8 @@ impl Machine {
     ) -> Result<Step, OutOfMemory>
         requires opens { Opens scene.now.program.now self.old ahead handing callee.now }
         requires none { slice_get scene.now.program.now.templates callee.now.template ≡ None }
-        ensures { (n : ℕ) → Stepped scene.now.program.now (view_value scene.now.input.now) self.old self.new n n result }
+        ensures { (n : ℕ) → Stepped scene.now.program.now (view_value scene.now.input.now) self.old self.new n n
+            result }
     {
         self.give_null(scene, ahead, callee.place)
     }
@@ -283,7 +290,8 @@ impl Machine {
     ) -> Result<Step, OutOfMemory>
         requires opens { Opens scene.now.program.now self.old ahead handing callee.now }
         requires routine { slice_get scene.now.program.now.templates callee.now.template ≡ Some routine.now }
-        ensures { (n : ℕ) → Stepped scene.now.program.now (view_value scene.now.input.now) self.old self.new n n result }
+        ensures { (n : ℕ) → Stepped scene.now.program.now (view_value scene.now.input.now) self.old self.new n n
+            result }
     {
         if ahead.left == 0 {
             return Ok(Step::TooDeep(TooDeep {
@@ -309,7 +317,8 @@ impl Machine {
     ) -> Result<Step, OutOfMemory>
         requires opens { OpensRoutine scene.now.program.now self.old ahead handing callee.now routine.now }
         requires kind { routine.now.kind ≡ kind.Text }
-        ensures { (n : ℕ) → Stepped scene.now.program.now (view_value scene.now.input.now) self.old self.new n n result }
+        ensures { (n : ℕ) → Stepped scene.now.program.now (view_value scene.now.input.now) self.old self.new n n
+            result }
     {
         let child = Frame::Ops(called_child(ahead, handing, routine.body));
         match self.gather(scene, Frame::Gather(ahead, Purpose::Show), child) {
@@ -329,7 +338,8 @@ impl Machine {
     ) -> Result<Step, OutOfMemory>
         requires opens { OpensRoutine scene.now.program.now self.old ahead handing callee.now routine.now }
         requires kind { IsBlockKind routine.now.kind }
-        ensures { (n : ℕ) → Stepped scene.now.program.now (view_value scene.now.input.now) self.old self.new n n result }
+        ensures { (n : ℕ) → Stepped scene.now.program.now (view_value scene.now.input.now) self.old self.new n n
+            result }
     {
         let child = Frame::Ops(called_child(ahead, handing, routine.body));
         let next = Frame::Ops(past(ahead));

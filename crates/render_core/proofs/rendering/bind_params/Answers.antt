@@ -1,4 +1,5 @@
-use Rattle.std.proofs.Common.{◌≡◌, ℕ, ◌+◌, ◌-◌, ◌≤◌, ◌<◌, ◌∷◌, ◌++◌, ◌∙◌, [], List, Some, ap, arith, drop, length, subst, sym}
+use Rattle.std.proofs.Common.{◌≡◌, ℕ, ◌+◌, ◌-◌, ◌≤◌, ◌<◌, ◌∷◌, ◌++◌, ◌∙◌, [], List, Some, ap, arith, drop, length}
+use Rattle.std.proofs.Common.{subst, sym}
 use Rattle.std.specs.List.{slice_get}
 use Rattle.std.proofs.Math.Seq.{drop-length}
 use Rattle.soy_tree.specs.ViewTrees.{view_params}

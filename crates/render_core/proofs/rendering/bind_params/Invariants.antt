@@ -15,7 +15,8 @@ invariant-loop-number l =
       within : l.number ≤ length l.params;
       root : slice_get l.bound.items 0 ≡ Some root_bound;
       low : l.env ≤ length l.bound.items;
-      env : env_at (cells_of p input l.bound.items) l.env ≡ input_env (names_of (view_params (drop l.number l.params))) input;
+      env : env_at (cells_of p input l.bound.items) l.env
+          ≡ input_env (names_of (view_params (drop l.number l.params))) input;
     }
 
 abbrev pub decreases-loop-number : goal.decreases-loop-number

@@ -10,7 +10,8 @@ use Rattle.render_core.proofs.rendering.Rendering.begin.Goals as goal
 pub returns-clause-fits : goal.returns-clause-fits
 returns-clause-fits c =
     let input = view_value c.args.input.now in
-    subst (λ (q : ProgramParts). IfOk c.begin_in.result (λ r. Fits q input r)) c.parts.ensures.parts c.begin_in.ensures.fits
+    subst (λ (q : ProgramParts). IfOk c.begin_in.result (λ r. Fits q input r)) c.parts.ensures.parts
+    c.begin_in.ensures.fits
 
 pub returns-clause-rest : goal.returns-clause-rest
 returns-clause-rest c =

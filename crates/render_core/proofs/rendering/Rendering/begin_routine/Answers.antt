@@ -20,7 +20,8 @@ returns-in-Ok-clause-fits c =
     let input = view_value c.args.scene.now.input.now in
     let ends = c.fresh.ensures in
     entry_fits p input c.fresh.result c.args.routine.now.body c.in-Ok.env ends.top ends.below ends.piece ends.done
-    (let h : c.in-Ok.env ≤ length c.fresh.result.machine.bound.items = omega (arith, c.in-Ok.ensures.low, ap length ends.bound)
+    (let h : c.in-Ok.env ≤ length c.fresh.result.machine.bound.items =
+    omega (arith, c.in-Ok.ensures.low, ap length ends.bound)
     in h)
 
 pub returns-in-Ok-clause-rest : goal.returns-in-Ok-clause-rest
@@ -28,7 +29,8 @@ returns-in-Ok-clause-rest c =
     let p = c.args.scene.now.program.now in
     let input = view_value c.args.scene.now.input.now in
     let ends = c.fresh.ensures in
-    rest_some p input c.fresh.result c.args.template c.args.routine.now c.in-Ok.env c.requires.routine ends.top ends.below
+    rest_some p input c.fresh.result c.args.template c.args.routine.now c.in-Ok.env c.requires.routine ends.top
+    ends.below
     ends.texts ends.piece
     (ap (λ bs. env_at (cells_of p input bs) c.in-Ok.env) ends.bound
     ∙ (c.in-Ok.ensures.env ∙ ap (λ ps. input_env (names_of (view_params ps)) input) c.items.ensures))

@@ -2,7 +2,8 @@ use Rattle.std.proofs.Common.{List, ℕ, subst, sym}
 use Rattle.soy_tree.specs.ViewValues.{view_value}
 use Rattle.render_core.specs.Pulls.{Gave}
 use Rattle.render_core.specs.Rest.{piece_left}
-use Rattle.render_core.proofs.Fills.{fits_at, fits_seen, gave_at}
+use Rattle.render_core.proofs.Fills.{fits_seen, gave_at}
+use Rattle.render_core.proofs.GivenForms.{piece_fits_at}
 use Rattle.render_core.proofs.Pullings.{left_fits, left_same}
 use Rattle.render_core.proofs.rendering.Rendering.give.Goals as goal
 
@@ -22,7 +23,7 @@ returns-clause-gives c =
     let new = c.fill-n.new.self in
     let gave = gave_at c.point.result p v bound seen.program seen.input seen.bound c.args.piece new c.args.room.now
     c.fill-n.new.room c.fill-n.result c.fill-n.ensures.gives in
-    let fits = fits_at c.point.result p v bound seen.program seen.input seen.bound new c.fill-n.ensures.fits in
+    let fits = piece_fits_at c.point.result p v bound seen.program seen.input seen.bound new c.fill-n.ensures.fits in
     subst (λ (left : List ℕ). Gave (piece_left p input bound c.args.piece) left c.args.room.now c.fill-n.new.room
     c.fill-n.result) (sym (left_same p input bound new c.left_of.result c.left_of.ensures fits)) gave
 
@@ -34,4 +35,4 @@ returns-clause-fits c =
     let seen = c.point.ensures in
     let new = c.fill-n.new.self in
     left_fits p (view_value v) bound new c.left_of.result c.left_of.ensures
-    (fits_at c.point.result p v bound seen.program seen.input seen.bound new c.fill-n.ensures.fits)
+    (piece_fits_at c.point.result p v bound seen.program seen.input seen.bound new c.fill-n.ensures.fits)

@@ -8,7 +8,8 @@ use Rattle.render_core.proofs.rendering.Rendering.pull.Goals as goal
 
 pub pull_in-requires : goal.pull_in-requires
 pull_in-requires g c =
-    subst (λ (q : ProgramParts). Fits q (view_value c.args.input.now) c.args.self.now) (sym c.parts.ensures.parts) c.requires
+    subst (λ (q : ProgramParts). Fits q (view_value c.args.input.now) c.args.self.now) (sym c.parts.ensures.parts)
+    c.requires
 
 pub returns : goal.returns
 returns g c =
@@ -16,7 +17,8 @@ returns g c =
     let input = view_value c.args.input.now in
     let old = c.args.self.now in
     let new = c.pull_in.new.self in
-    let pulls = subst (λ (q : ProgramParts). Pulls (rest_of q input old).begun (rest_of q input old) (rest_of q input new)
+    let pulls = subst (λ (q : ProgramParts). Pulls (rest_of q input old).begun (rest_of q input old)
+    (rest_of q input new)
     old.done new.done c.args.room.now c.pull_in.new.room c.args.steps.now c.pull_in.new.steps c.pull_in.result)
     c.parts.ensures.parts c.pull_in.ensures.pulls in
     record {

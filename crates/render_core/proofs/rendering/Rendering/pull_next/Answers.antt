@@ -55,7 +55,8 @@ returns-in-Ok-Some g c =
     let some : 0 < length c.args.room.now =
     isnt_empty (length c.args.room.now) (sym c.is_empty.ensures ∙ c.if-is_empty.false) in
     let gives = c.give.ensures in
-    let pulls = next_pulls p input old c.give.new.self c.advance.new.self c.in-Ok-Some.piece c.args.room.now c.give.new.room
+    let pulls = next_pulls p input old c.give.new.self c.advance.new.self c.in-Ok-Some.piece c.args.room.now
+    c.give.new.room
     c.args.steps.now c.advance.new.steps c.give.result c.if-self.false some next gives.gives gives.fits gives.machine
     gives.done in
     record { fits = pulls.0; pulls = pulls.1 }
@@ -70,7 +71,8 @@ returns-in-Ok-None g c =
     c.advance.new.steps (Ok b)) c.in-Ok-None.field-0-is c.in-Ok-None.ensures in
     let some : 0 < length c.args.room.now =
     isnt_empty (length c.args.room.now) (sym c.is_empty.ensures ∙ c.if-is_empty.false) in
-    let pulls = end_pulls p input old new c.args.room.now c.args.steps.now c.advance.new.steps some end c.requires.none refl in
+    let pulls = end_pulls p input old new c.args.room.now c.args.steps.now c.advance.new.steps some end c.requires.none
+    refl in
     record { fits = pulls.0; pulls = pulls.1 }
 
 pub returns-in-Err : goal.returns-in-Err

@@ -3,7 +3,8 @@ use Rattle.soy_tree.specs.ViewValues.{view_value}
 use Rattle.render_core.specs.Stepping.{Advanced, Stepped}
 use Rattle.render_core.specs.declared.begun.Begun.{Begun}
 use Rattle.render_core.specs.declared.stack.Step.{Step}
-use Rattle.render_core.proofs.Wents.{empty_falls, silent_falls, went_deep, went_done, went_empty, went_gives, went_memory, went_none, went_silent}
+use Rattle.render_core.proofs.Wents.{empty_falls, silent_falls, went_deep, went_done, went_empty, went_gives}
+use Rattle.render_core.proofs.Wents.{went_memory, went_none, went_silent}
 use Rattle.render_core.proofs.stack.Machine.advance.Goals as goal
 
 pub loop-begun-init : goal.loop-begun-init
@@ -20,7 +21,8 @@ loop-begun-preserved-in-Ok-Silent g c =
     let input = view_value c.args.scene.now.input.now in
     let mid = c.loop-begun.self in
     let new = c.step.new.self in
-    went_silent p input c.args.self.now mid new c.args.steps.now c.loop-begun.steps c.step.new.steps c.loop-begun.invariant
+    went_silent p input c.args.self.now mid new c.args.steps.now c.loop-begun.steps c.step.new.steps
+    c.loop-begun.invariant
     (subst (λ (s : Step). Stepped p input mid new c.loop-begun.steps c.step.new.steps (Ok s)) c.in-Ok-Silent.field-0-is
     c.in-Ok-Silent.ensures)
 
@@ -44,7 +46,8 @@ returns-in-Some g c =
     let stepped = subst (λ (s : Step). Stepped p input mid new c.loop-begun.steps c.step.new.steps (Ok s))
     c.in-Ok-Gives.field-0-is c.in-Ok-Gives.ensures in
     let left = c.in-Some.ensures in
-    subst (λ (b : Begun). Advanced p input c.args.self.now new c.args.steps.now c.step.new.steps (Ok (Some b))) (sym left.0)
+    subst (λ (b : Begun). Advanced p input c.args.self.now new c.args.steps.now c.step.new.steps (Ok (Some b)))
+    (sym left.0)
     (went_gives p input c.args.self.now mid new c.args.steps.now c.loop-begun.steps c.step.new.steps begun
     c.loop-begun.invariant stepped (left.1 p input new.bound.items stepped.4))
 
@@ -76,7 +79,8 @@ returns-in-Ok-Done g c =
     let input = view_value c.args.scene.now.input.now in
     let mid = c.loop-begun.self in
     let new = c.step.new.self in
-    went_done p input c.args.self.now mid new c.args.steps.now c.loop-begun.steps c.step.new.steps c.loop-begun.invariant
+    went_done p input c.args.self.now mid new c.args.steps.now c.loop-begun.steps c.step.new.steps
+    c.loop-begun.invariant
     (subst (λ (s : Step). Stepped p input mid new c.loop-begun.steps c.step.new.steps (Ok s)) c.in-Ok-Done.field-0-is
     c.in-Ok-Done.ensures)
 

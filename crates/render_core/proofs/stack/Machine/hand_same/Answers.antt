@@ -37,7 +37,8 @@ returns-in-Ok-hand_held c n =
     (same_bound p input f d (cells_of p input old.bound.items) env c.in-Ok.found c.held.result c.requires.by
     (sym (found_at pt p v old.bound.items seen.program seen.input seen.bound c.in-Ok.found)
     ∙ (c.in-Ok.ensures.means
-    ∙ ap (λ (around : RunEnv). binding d.name around) (seen_env pt p v old.bound.items f.env seen.program seen.input seen.bound seen.env)))
+    ∙ ap (λ (around : RunEnv). binding d.name around)
+    (seen_env pt p v old.bound.items f.env seen.program seen.input seen.bound seen.env)))
     c.held.ensures) (omega arith) ends.top ends.below ends.texts ends.bound
 
 pub returns-in-Err-hand_held : goal.returns-in-Err-hand_held

@@ -9,7 +9,8 @@ returns-in-Ok c n =
     let p = c.args.scene.now.program.now in
     let input = view_value c.args.scene.now.input.now in
     let ends = c.in-Ok.ensures in
-    hand_gathers p input c.args.self.now c.gather_block.new.self c.args.ahead c.args.handing c.args.handed.now c.args.block n
+    hand_gathers p input c.args.self.now c.gather_block.new.self c.args.ahead c.args.handing c.args.handed.now
+    c.args.block n
     c.requires.hands c.requires.by ends.top ends.below ends.texts ends.bound
 
 pub returns-in-Err : goal.returns-in-Err

@@ -18,7 +18,8 @@ returns-in-Err g c =
     let d = c.args.handed.now in
     let e = c.args.expr.now in
     let env : RunEnv = env_at (cells_of p input old.bound.items) f.env in
-    let told = finds_err c.point.result p v old.bound.items f.env c.point.ensures.program c.point.ensures.input c.point.ensures.bound
+    let told = finds_err c.point.result p v old.bound.items f.env c.point.ensures.program c.point.ensures.input
+    c.point.ensures.bound
     c.point.ensures.env (view_expr e) c.args.steps.now c.value_of.new.steps c.in-Err.ensures in
     hand_stays p input old old f c.args.handing d (value_spent p input e env) _ _ c.requires.hands
     (value_gives_cost p input f d e env c.requires.by) (told.0, omega (arith, told.1)) (same_self p input old)
@@ -33,7 +34,8 @@ returns-in-Ok-hand_held g c =
     let d = c.args.handed.now in
     let e = c.args.expr.now in
     let env : RunEnv = env_at (cells_of p input old.bound.items) f.env in
-    let told = finds_at c.point.result p v old.bound.items f.env c.point.ensures.program c.point.ensures.input c.point.ensures.bound
+    let told = finds_at c.point.result p v old.bound.items f.env c.point.ensures.program c.point.ensures.input
+    c.point.ensures.bound
     c.point.ensures.env (view_expr e) c.args.steps.now c.value_of.new.steps (Ok c.in-Ok.found) c.in-Ok.ensures in
     let ends = c.in-Ok-hand_held.ensures in
     hand_goes p input old c.hand_held.new.self f c.args.handing d c.held.result (value_spent p input e env) _ _
@@ -51,7 +53,8 @@ returns-in-Err-hand_held g c =
     let d = c.args.handed.now in
     let e = c.args.expr.now in
     let env : RunEnv = env_at (cells_of p input old.bound.items) f.env in
-    let told = finds_at c.point.result p v old.bound.items f.env c.point.ensures.program c.point.ensures.input c.point.ensures.bound
+    let told = finds_at c.point.result p v old.bound.items f.env c.point.ensures.program c.point.ensures.input
+    c.point.ensures.bound
     c.point.ensures.env (view_expr e) c.args.steps.now c.value_of.new.steps (Ok c.in-Ok.found) c.in-Ok.ensures in
     hand_stays p input old c.hand_held.new.self f c.args.handing d (value_spent p input e env) _ _ c.requires.hands
     (value_gives_cost p input f d e env c.requires.by) (omega (arith, told.2), omega (arith, told.2))

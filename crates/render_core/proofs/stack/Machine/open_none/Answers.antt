@@ -10,4 +10,5 @@ give_null-requires c =
 pub returns : goal.returns
 returns c n =
     none_opens c.args.scene.now.program.now (view_value c.args.scene.now.input.now) c.args.self.now c.give_null.new.self
-    c.args.ahead c.args.handing c.args.callee.now n c.give_null.result c.requires.opens c.requires.none c.give_null.ensures
+    c.args.ahead c.args.handing c.args.callee.now n c.give_null.result c.requires.opens c.requires.none
+    c.give_null.ensures
