@@ -1,0 +1,200 @@
+-- What the code finds, against what it stands for.
+use Rattle.std.proofs.Common.{◌≡◌, ℕ, zero, suc, ◌+◌, ◌-◌, ◌≤◌, ◌<◌, Bool, true, false, List, [], ◌∷◌, Option, Some}
+use Rattle.std.proofs.Common.{None}
+use Rattle.std.proofs.Common.{take, refl, sym, ap, ◌∙◌, arith, length, subst}
+use Rattle.std.specs.Prelude.{if◌then◌else◌, bytes_eq}
+use Rattle.std.specs.List.{slice_get}
+use Rattle.soy_tree.specs.Types.{Name}
+use Rattle.soy_tree.specs.Cost.{cost}
+use Rattle.soy_tree.specs.Expressions.{Expr, Binary, BoolLiteral, Coalesce, Conditional, Index, IntLiteral, Member}
+use Rattle.soy_tree.specs.Expressions.{Minus}
+use Rattle.soy_tree.specs.Expressions.{Not, NullLiteral, StringLiteral, Variable}
+use Rattle.soy_tree.specs.Val.{Binding, BlockOf, Env, Known, binding, is_truthy, val}
+use Rattle.soy_tree.specs.Values.{Value, NullValue}
+use Rattle.soy_expr.specs.ForgottenBlocks.{forgotten, forgotten_env}
+use Rattle.soy_expr.proofs.Forgetting.{forgotten_cost, forgotten_val}
+use Rattle.soy_meaning.specs.Giving.{BoundBlock, RunEnv}
+use Rattle.template_ir.specs.declared.program.ProgramParts.{ProgramParts}
+use Rattle.render_core.specs.Finds.{IsPlain, binding_at, bound_binding}
+use Rattle.render_core.specs.Variables.{Cell, bound_means, cell_at, cells_of, env_at, held_means, led, name_or_none}
+use Rattle.render_core.specs.Variables.{name_there, part_held, path_value}
+use Rattle.render_core.specs.declared.held.Bound.{Bound}
+use Rattle.render_core.specs.declared.held.Held.{Held}
+use Rattle.render_core.specs.declared.held.Held.TheVariants as held
+use Rattle.render_core.specs.declared.held.Path.{Path}
+use Rattle.render_core.proofs.Conditions.{if_false, if_true}
+use Rattle.render_core.proofs.Cells.{cell_none, cell_there, env_past, env_take, part_there}
+
+-- ---- variables by their names
+
+module _ (p : ProgramParts) (input : Value) (bound : List Bound) where
+  -- the variables of a number begin with the one below it
+  number_there : (number : ℕ) (b : Bound) → 0 < number → slice_get bound (number - 1) ≡ Some b
+      → env_at (cells_of p input bound) number
+      ≡ (bound_means p input (take (number - 1) (cells_of p input bound)) b).env
+  number_there number b some is =
+      let s : number ≡ suc (number - 1) = omega arith in
+      ap (λ k. env_at (cells_of p input bound) k) s
+      ∙ ap (λ (c : Cell). c.env) (cell_there p input bound (number - 1) b is)
+
+  pub found_here : (number : ℕ) (b : Bound) (name : Name) → 0 < number → slice_get bound (number - 1) ≡ Some b
+      → bytes_eq (name_or_none (name_there p b.name)) name ≡ true
+      → binding_at p input bound (number - 1) ≡ binding name (env_at (cells_of p input bound) number)
+  found_here number b name some is named =
+      let cells : List Cell = take (number - 1) (cells_of p input bound) in
+      rw is
+      (sym (if_true (bytes_eq (name_or_none (name_there p b.name)) name) (held_means p input cells b.to)
+      (binding name (env_at cells b.below)) named)
+      ∙ ap (binding name) (sym (number_there number b some is)))
+
+  -- past a variable of another name
+  passed : (number : ℕ) (b : Bound) (name : Name) → 0 < number → slice_get bound (number - 1) ≡ Some b
+      → bytes_eq (name_or_none (name_there p b.name)) name ≡ false
+      → binding name (env_at (cells_of p input bound) number)
+      ≡ binding name (env_at (take (number - 1) (cells_of p input bound)) b.below)
+  passed number b name some is other =
+      let cells : List Cell = take (number - 1) (cells_of p input bound) in
+      ap (binding name) (number_there number b some is)
+      ∙ if_false (bytes_eq (name_or_none (name_there p b.name)) name) (held_means p input cells b.to)
+      (binding name (env_at cells b.below)) other
+
+  pub found_below : (number : ℕ) (b : Bound) (name : Name) → 0 < number → slice_get bound (number - 1) ≡ Some b
+      → bytes_eq (name_or_none (name_there p b.name)) name ≡ false → b.below < number
+      → binding name (env_at (cells_of p input bound) b.below) ≡ binding name (env_at (cells_of p input bound) number)
+  found_below number b name some is other low =
+      ap (binding name) (sym (env_take (cells_of p input bound) (number - 1) b.below (omega arith)))
+      ∙ sym (passed number b name some is other)
+
+  pub found_lost : (number : ℕ) (b : Bound) (name : Name) → 0 < number → slice_get bound (number - 1) ≡ Some b
+      → bytes_eq (name_or_none (name_there p b.name)) name ≡ false → number ≤ b.below
+      → Known NullValue ≡ binding name (env_at (cells_of p input bound) number)
+  found_lost number b name some is other high =
+      ap (binding name) (sym (env_past (cells_of p input bound) (number - 1) b.below (omega arith)))
+      ∙ sym (passed number b name some is other)
+
+  pub found_none : (number : ℕ) (name : Name) → 0 < number → slice_get bound (number - 1) ≡ None
+      → Known NullValue ≡ binding name (env_at (cells_of p input bound) number)
+  found_none number name some is =
+      let s : suc (number - 1) ≡ number = omega arith in
+      ap (λ (c : Cell). binding name c.env) (sym (cell_none p input bound (number - 1) is))
+      ∙ ap (λ k. binding name (env_at (cells_of p input bound) k)) s
+
+  -- ---- variables that are bound to parts
+
+  pub whole_value : (at : ℕ) (path : Path) → path.of ≡ at → path.steps.items ≡ []
+      → path_value (cells_of p input bound) path ≡ (cell_at (cells_of p input bound) at).part
+  whole_value at path of steps =
+      ap (λ k. led path.steps.items (cell_at (cells_of p input bound) k).part) of
+      ∙ ap (λ ns. led ns (cell_at (cells_of p input bound) at).part) steps
+
+  part_found : (at : ℕ) (b : Bound) (path : Path) → Some b ≡ slice_get bound at → path.of ≡ at → path.steps.items ≡ []
+      → held_means p input (take at (cells_of p input bound)) b.to
+      ≡ Known (part_held input (take at (cells_of p input bound)) b.to)
+      → Known (path_value (cells_of p input bound) path) ≡ binding_at p input bound at
+  part_found at b path is of steps means =
+      ap Known (whole_value at path of steps ∙ part_there p input bound at b (sym is))
+      ∙ (sym means ∙ ap (bound_binding p input (take at (cells_of p input bound))) is)
+
+  part_bound : (at : ℕ) (b : Bound) → Some b ≡ slice_get bound at
+      → held_means p input (take at (cells_of p input bound)) b.to
+      ≡ Known (part_held input (take at (cells_of p input bound)) b.to)
+      → Known (cell_at (cells_of p input bound) at).part ≡ binding_at p input bound at
+  part_bound at b is means =
+      ap Known (part_there p input bound at b (sym is))
+      ∙ (sym means ∙ ap (bound_binding p input (take at (cells_of p input bound))) is)
+
+  pub found_root : (at : ℕ) (b : Bound) (path : Path) → Some b ≡ slice_get bound at → path.of ≡ at
+      → path.steps.items ≡ [] → b.to ≡ held.Root
+      → Known (path_value (cells_of p input bound) path) ≡ binding_at p input bound at
+  found_root at b path is of steps to =
+      part_found at b path is of steps
+      (subst (λ (h : Held). held_means p input (take at (cells_of p input bound)) h
+      ≡ Known (part_held input (take at (cells_of p input bound)) h)) (sym to) refl)
+
+  pub found_item : (at : ℕ) (b : Bound) (path : Path) (k n : ℕ) → Some b ≡ slice_get bound at → path.of ≡ at
+      → path.steps.items ≡ [] → b.to ≡ held.Item k n
+      → Known (path_value (cells_of p input bound) path) ≡ binding_at p input bound at
+  found_item at b path k n is of steps to =
+      part_found at b path is of steps
+      (subst (λ (h : Held). held_means p input (take at (cells_of p input bound)) h
+      ≡ Known (part_held input (take at (cells_of p input bound)) h)) (sym to) refl)
+
+  pub found_path : (at : ℕ) (b : Bound) (path other : Path) → Some b ≡ slice_get bound at → path.of ≡ at
+      → path.steps.items ≡ [] → b.to ≡ held.Part other
+      → Known (path_value (cells_of p input bound) path) ≡ binding_at p input bound at
+  found_path at b path other is of steps to =
+      part_found at b path is of steps
+      (subst (λ (h : Held). held_means p input (take at (cells_of p input bound)) h
+      ≡ Known (part_held input (take at (cells_of p input bound)) h)) (sym to) refl)
+
+  -- the part that is named is what the variable is bound to
+  pub bound_root : (at : ℕ) (b : Bound) → Some b ≡ slice_get bound at → b.to ≡ held.Root
+      → Known (cell_at (cells_of p input bound) at).part ≡ binding_at p input bound at
+  bound_root at b is to = part_bound at b is
+      (subst (λ (h : Held). held_means p input (take at (cells_of p input bound)) h
+      ≡ Known (part_held input (take at (cells_of p input bound)) h)) (sym to) refl)
+
+  pub bound_item : (at : ℕ) (b : Bound) (k n : ℕ) → Some b ≡ slice_get bound at → b.to ≡ held.Item k n
+      → Known (cell_at (cells_of p input bound) at).part ≡ binding_at p input bound at
+  bound_item at b k n is to = part_bound at b is
+      (subst (λ (h : Held). held_means p input (take at (cells_of p input bound)) h
+      ≡ Known (part_held input (take at (cells_of p input bound)) h)) (sym to) refl)
+
+  pub bound_path : (at : ℕ) (b : Bound) (other : Path) → Some b ≡ slice_get bound at → b.to ≡ held.Part other
+      → Known (cell_at (cells_of p input bound) at).part ≡ binding_at p input bound at
+  bound_path at b other is to = part_bound at b is
+      (subst (λ (h : Held). held_means p input (take at (cells_of p input bound)) h
+      ≡ Known (part_held input (take at (cells_of p input bound)) h)) (sym to) refl)
+
+-- ---- values where nothing is known of blocks
+
+pub known_again : {A : Type 0} (b : Binding A) (v : Value) → Known v ≡ forgotten b → Known v ≡ b
+known_again (Known w) v e = let h : v ≡ w = cc in ap Known h
+known_again (BlockOf a) v e = let no : ⊥ = cc in absurd no
+
+plain_known : {A : Type 0} (e : Expr) (env : Env A) → IsPlain e → BlockOf (tt {0}) ≡ forgotten (val e env) → ⊥
+plain_known (NullLiteral span) env plain is = cc
+plain_known (BoolLiteral b span) env plain is = cc
+plain_known (IntLiteral n span) env plain is = cc
+plain_known (StringLiteral text span) env plain is = cc
+plain_known (Variable name span) env plain is = plain
+plain_known (Member e name takes span) env plain is = cc
+plain_known (Index e i takes span) env plain is = cc
+plain_known (Minus e span) env plain is = cc
+plain_known (Not e span) env plain is = cc
+plain_known (Binary op a b span) env plain is = cc
+plain_known (Coalesce a b span) env plain is = plain
+plain_known (Conditional c a b span) env plain is = plain
+
+pub plain_value : (e : Expr) (env : RunEnv) (v : Value) → Known v ≡ val e (forgotten_env env) → Known v ≡ val e env
+plain_value e env v is = known_again (val e env) v (is ∙ forgotten_val e env)
+
+pub plain_block : (e : Expr) (env : RunEnv) → IsPlain e → BlockOf (tt {0}) ≡ val e (forgotten_env env) → ⊥
+plain_block e env plain is = plain_known e env plain (is ∙ forgotten_val e env)
+
+pub same_cost : (e : Expr) (env : RunEnv) → cost e (forgotten_env env) ≡ cost e env
+same_cost e env = forgotten_cost e env
+
+truth_known : {A : Type 0} (b : Binding A) → is_truthy (forgotten b) ≡ is_truthy b
+truth_known (Known v) = refl
+truth_known (BlockOf a) = refl
+
+pub same_truth : (e : Expr) (env : RunEnv) → is_truthy (val e (forgotten_env env)) ≡ is_truthy (val e env)
+same_truth e env = ap is_truthy (forgotten_val e env) ∙ truth_known (val e env)
+
+forgotten_if : {A : Type 0} (t : Bool) (b : Binding A) (x y : Binding (Unit {0})) → x ≡ forgotten b
+    → (if t then forgotten b else y) ≡ (if t then x else y)
+forgotten_if true b x y e = sym e
+forgotten_if false b x y e = refl
+
+choice_forgotten : {A : Type 0} (t : Bool) (a b : Binding A)
+    → (if t then forgotten a else forgotten b) ≡ forgotten (if t then a else b)
+choice_forgotten true a b = refl
+choice_forgotten false a b = refl
+
+pub forgotten_binding : {A : Type 0} (name : Name) (env : Env A)
+    → binding name (forgotten_env env) ≡ forgotten (binding name env)
+forgotten_binding name [] = refl
+forgotten_binding name (v ∷ env) =
+    ap (λ (rest : Binding (Unit {0})). if bytes_eq v.0 name then forgotten v.1 else rest) (forgotten_binding name env)
+    ∙ choice_forgotten (bytes_eq v.0 name) v.1 (binding name env)

@@ -1,0 +1,36 @@
+use Rattle.std.proofs.Common.{ℕ, List, refl, sym, ◌∙◌, subst}
+use Rattle.soy_tree.specs.ViewValues.{view_value}
+use Rattle.render_core.specs.Stepping.{GaveForm}
+use Rattle.render_core.proofs.GivenForms.{form_same, left_at, piece_fits_at}
+use Rattle.render_core.proofs.stack.Machine.give_value.Goals as goal
+
+pub returns-in-Ok : goal.returns-in-Ok
+returns-in-Ok c =
+    let p = c.args.scene.now.program.now in
+    let v = c.args.scene.now.input.now in
+    let old = c.args.self.now in
+    let pt = c.point.result in
+    let at = c.point.ensures in
+    let told = c.in-Ok.ensures in (
+      refl,
+      refl,
+      refl,
+      refl,
+      sym c.is_empty.ensures ∙ c.if-is_empty.true,
+      left_at pt p v old.bound.items at.program at.input at.bound c.in-Ok.begun c.args.place c.args.source c.args.class
+          told.left,
+      piece_fits_at pt p v old.bound.items at.program at.input at.bound c.in-Ok.begun told.fits,
+    )
+
+pub returns-in-Ok-escaped_whole : goal.returns-in-Ok-escaped_whole
+returns-in-Ok-escaped_whole c =
+    let p = c.args.scene.now.program.now in
+    let v = c.args.scene.now.input.now in
+    let old = c.args.self.now in
+    let pt = c.point-else-is_empty.result in
+    let at = c.point-else-is_empty.ensures in
+    subst (λ (form : List ℕ). GaveForm p (view_value v) old c.gather_more.new.self c.args.next form
+    c.gather_more.result)
+    (c.in-Ok-escaped_whole.ensures
+    ∙ form_same pt p v old.bound.items at.program at.input at.bound c.args.place c.args.source c.args.class)
+    (c.gather_more.ensures p (view_value v))

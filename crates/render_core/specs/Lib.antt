@@ -1,0 +1,14 @@
+pub mod Begins
+pub mod Calling
+pub mod Chosen
+pub mod Finds
+pub mod Forms
+pub mod Frames
+pub mod Pulls
+pub mod Rest
+pub mod Rounds
+pub mod Seen
+pub mod Shows
+pub mod Stepping
+pub mod Texts
+pub mod Variables

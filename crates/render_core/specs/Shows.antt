@@ -1,0 +1,33 @@
+-- How something that was found is printed: a value by its text and its class, or a block.
+use Rattle.std.specs.Prelude.{◌≡◌, ℕ, ◌≤◌, List, pos}
+use Rattle.soy_base.specs.declared.place.ValueClass.{ValueClass}
+use Rattle.soy_tree.specs.Val.{Binding, BlockOf, Known, value_text}
+use Rattle.soy_tree.specs.Values.{Value}
+use Rattle.soy_meaning.specs.Giving.{BoundBlock, value_class}
+use Rattle.template_ir.specs.declared.program.ProgramParts.{ProgramParts}
+use Rattle.render_core.specs.Rest.{source_text}
+use Rattle.render_core.specs.Variables.{Cell, kept_means}
+use Rattle.render_core.specs.declared.frame.Ahead.{Ahead}
+use Rattle.render_core.specs.declared.held.Kept.{Kept}
+use Rattle.render_core.specs.declared.showing.Shown.{Shown}
+use Rattle.render_core.specs.declared.showing.Shown.TheVariants as shown
+
+-- the text and the class of a value
+abbrev pub ShowsValue : Value → List ℕ → ValueClass → Type 0
+ShowsValue v text class = (text ≡ value_text v) × (class ≡ value_class v)
+
+abbrev pub Shows : ProgramParts → List Cell → ℕ → Binding BoundBlock → Shown → Type 0
+Shows p cells n (Known v) (shown.Value source class) = ShowsValue v (source_text cells source) class
+Shows p cells n (BlockOf block) (shown.Block kept) = (kept_means p cells kept ≡ block) × (kept.env ≤ n)
+Shows p cells n _ _ = ⊥
+
+-- the frame of a block that is printed over so many variables
+abbrev pub kept_child : Kept → ℕ → Ahead
+kept_child kept n = record {
+  at = kept.block.first;
+  end = kept.block.end;
+  env = kept.env;
+  left = kept.left;
+  number = pos 0;
+  mark = n;
+}

@@ -1,0 +1,253 @@
+//! Pieces that have begun.
+
+ghost use Rattle.std.specs.Prelude.{◌≡◌, ◌≤◌, ◌++◌, [], List, IfOk, drop, encode_utf8_all, length, min, slice_get};
+ghost use Rattle.std.specs.Prelude.{take};
+ghost use Rattle.std.specs.Str.{chars};
+ghost use Rattle.soy_tree.specs.Values as values;
+ghost use Rattle.soy_tree.specs.ViewValues.{view_value};
+ghost use Rattle.template_ir.specs.declared.program.ProgramParts as code_parts;
+ghost use Rattle.value_cursor.specs.BytesLeft.{CursorFits, bytes_left};
+ghost use Rattle.render_core.specs.Forms.{EscapesAt, form_at};
+ghost use Rattle.render_core.specs.Pulls.{Gave};
+ghost use Rattle.render_core.specs.Rest.{PieceFits, piece_left, source_text, static_text, string_text};
+ghost use Rattle.render_core.specs.Seen.{cells_seen, input_seen, program_seen};
+ghost use Rattle.render_core.specs.Variables.{cells_of, path_value};
+ghost use Rattle.render_core.specs.declared.held.Bound.{Bound};
+
+use crate::held::Path;
+use crate::parts::{Point, part_of};
+use crate::showing::Source;
+use bidi_text::wrap;
+use escapers::{Escaper, escape, escaper_for};
+use soy_base::{OutOfMemory, Place, Text, ValueClass};
+use soy_tree::Value;
+use template_ir::{Op, ProgramParts};
+use value_cursor::Cursor;
+
+/// The text of the static op at a place, from one offset up to its end.
+#[derive(Clone, Copy, Debug)]
+pub(crate) struct Fixed {
+    pub(crate) op: usize,
+    pub(crate) start: usize,
+    pub(crate) end: usize,
+}
+
+/// The escaped form of a text.
+#[derive(Drop)]
+pub(crate) struct Form {
+    pub(crate) source: Source,
+    pub(crate) cursor: Cursor,
+}
+
+/// A piece of which bytes are still to be given.
+#[derive(Drop)]
+pub(crate) enum Begun {
+    Static(Fixed),
+    Escaped(Form),
+    Nothing,
+}
+
+impl Begun {
+    /// How many bytes are left.
+    pub(crate) fn left(&self) -> u128
+        ensures { (p : code_parts.ProgramParts) (input : values.Value) (bound : List Bound)
+            → PieceFits p input bound self.now → result ≡ length (piece_left p input bound self.now) }
+    {
+        match self {
+            Begun::Static(fixed) => fixed.end.saturating_sub(fixed.start) as u128,
+            Begun::Escaped(form) => form.cursor.left(),
+            Begun::Nothing => 0,
+        }
+    }
+
+    /// Gives the next bytes to the beginning of the room, and answers their number.
+    pub(crate) fn fill(&mut self, point: Point, room: &mut [u8]) -> usize
+        requires { PieceFits (program_seen point) (input_seen point) point.bound.now self.old }
+        ensures gives { Gave
+            (piece_left (program_seen point.entry) (input_seen point.entry) point.entry.bound.now self.old)
+            (piece_left (program_seen point.entry) (input_seen point.entry) point.entry.bound.now self.new)
+            room.old room.new result }
+        ensures fits { PieceFits (program_seen point.entry) (input_seen point.entry) point.entry.bound.now self.new }
+    {
+        match self {
+            Begun::Static(fixed) => fixed.fill(point.scene.program, room),
+            Begun::Escaped(form) => form.fill(point, room),
+            Begun::Nothing => 0,
+        }
+    }
+}
+
+impl Fixed {
+    fn fill(&mut self, program: &ProgramParts, room: &mut [u8]) -> usize
+        requires start { self.old.start ≤ self.old.end }
+        requires end { self.old.end ≡ length (encode_utf8_all (static_text (slice_get program.now.ops self.old.op))) }
+        ensures gives { Gave
+            (drop self.old.start (encode_utf8_all (static_text (slice_get program.now.ops self.old.op))))
+            (drop self.new.start (encode_utf8_all (static_text (slice_get program.now.ops self.new.op))))
+            room.old room.new result }
+        ensures op { self.new.op ≡ self.old.op }
+        ensures start { self.new.start ≤ self.new.end }
+        ensures end { self.new.end ≡ self.old.end }
+    {
+        let n = copy_from(static_bytes(program, self.op), self.start, room);
+        self.start += n;
+        n
+    }
+}
+
+impl Form {
+    fn fill(&mut self, point: Point, room: &mut [u8]) -> usize
+        requires { CursorFits self.old.cursor (encode_utf8_all (source_text
+            (cells_seen point) self.old.source)) }
+        ensures gives { Gave
+            (bytes_left self.old.cursor (encode_utf8_all (source_text
+            (cells_seen point.entry) self.old.source)))
+            (bytes_left self.new.cursor (encode_utf8_all (source_text
+            (cells_seen point.entry) self.new.source)))
+            room.old room.new result }
+        ensures fits { CursorFits self.new.cursor (encode_utf8_all (source_text
+            (cells_seen point.entry) self.new.source)) }
+    {
+        match &self.source {
+            Source::Made(text) => self.cursor.fill(text.text(), room),
+            Source::Part(path) => self.cursor.fill(string_at(point, path), room),
+        }
+    }
+}
+
+/// The bytes of the static op at a place.
+pub(crate) fn static_bytes(program: &ProgramParts, at: usize) -> &[u8]
+    ensures { result.now ≡ encode_utf8_all (static_text (slice_get program.now.ops at)) }
+{
+    match program.op(at) {
+        Some(Op::Static(text)) => text.text().as_bytes(),
+        _ => &[],
+    }
+}
+
+/// Copies what fits of the bytes from an offset on.
+fn copy_from(bytes: &[u8], from: usize, room: &mut [u8]) -> usize
+    requires { from ≤ length bytes.now }
+    ensures size { result ≡ min (length room.old) (length (drop from bytes.now)) }
+    ensures given { room.new ≡ take result (drop from bytes.now) ++ drop result room.old }
+{
+    let rest = &bytes[from..];
+    let n = room.len().min(rest.len());
+    room[..n].copy_from_slice(&rest[..n]);
+    n
+}
+
+/// How a value of a class is escaped at a place, if it is there.
+fn escaper_at(place: Place, class: ValueClass) -> Option<Escaper>
+    ensures { EscapesAt place class result }
+{
+    match escaper_for(place, class) {
+        Some(Escaper::AsIs) => None,
+        how => how,
+    }
+}
+
+/// The piece of a text at a place, of which nothing is given yet.
+#[tactic(auto, using(crate::proofs::Forms::form_bytes, crate::proofs::Forms::form_none))]
+pub(crate) fn begun_value(
+    point: Point,
+    place: Place,
+    source: Source,
+    class: ValueClass,
+) -> Result<Begun, OutOfMemory>
+    ensures left { IfOk result (λ b.
+        piece_left (program_seen point.entry) (input_seen point.entry) point.entry.bound.now b
+        ≡ encode_utf8_all (form_at place class (source_text
+        (cells_seen point.entry) source)
+        (program_seen point.entry).dir)) }
+    ensures fits { IfOk result (λ b.
+        PieceFits (program_seen point.entry) (input_seen point.entry) point.entry.bound.now b) }
+{
+    let Some(how) = escaper_at(place, class) else {
+        return Ok(Begun::Nothing);
+    };
+    let alloc = point.scene.alloc;
+    let dir = point.scene.program.dir;
+    let cursor = match &source {
+        Source::Made(text) => Cursor::begin(alloc, how, class, text.text(), dir)?,
+        Source::Part(path) => Cursor::begin(alloc, how, class, string_at(point, path), dir)?,
+    };
+    Ok(Begun::Escaped(Form { source, cursor }))
+}
+
+/// The escaped form of a text at a place, whole.
+pub(crate) fn escaped_whole(
+    point: Point,
+    place: Place,
+    source: &Source,
+    class: ValueClass,
+) -> Result<Text, OutOfMemory>
+    ensures { IfOk result (λ t. t ≡ form_at place class (source_text
+        (cells_seen point.entry) source.now)
+        (program_seen point.entry).dir) }
+{
+    match source {
+        Source::Made(text) => escaped_text(point, place, text.text(), class),
+        Source::Part(path) => escaped_text(point, place, string_at(point, path), class),
+    }
+}
+
+fn escaped_text(
+    point: Point,
+    place: Place,
+    text: &str,
+    class: ValueClass,
+) -> Result<Text, OutOfMemory>
+    ensures { IfOk result (λ t. t ≡ form_at place class (chars text.now) (program_seen point.entry).dir) }
+{
+    match escaper_at(place, class) {
+        None => Ok(Text::empty(point.scene.alloc)),
+        Some(Escaper::Wrap) => Ok(Text::new(wrap(
+            point.scene.alloc,
+            text,
+            point.scene.program.dir,
+        )?)),
+        Some(how) => Ok(Text::new(escape(
+            point.scene.alloc,
+            how,
+            class,
+            text,
+            point.scene.program.dir,
+        )?)),
+    }
+}
+
+/// The string that a path names, or nothing.
+fn string_at<'i>(point: Point<'_, 'i, '_>, path: &Path) -> &'i str
+    ensures characters { chars result.now ≡ string_text (path_value (cells_seen point.entry) path.now) }
+    ensures bytes { result.now ≡ encode_utf8_all (string_text (path_value (cells_seen point.entry) path.now)) }
+{
+    match part_of(point, path) {
+        Some(value) => string_of(value),
+        None => no_text(),
+    }
+}
+
+/// The string that a value is, or nothing.
+fn string_of(value: &Value) -> &str
+    ensures characters { chars result.now ≡ string_text (view_value value.now) }
+    ensures bytes { result.now ≡ encode_utf8_all (string_text (view_value value.now)) }
+{
+    match value {
+        Value::Null => no_text(),
+        Value::Bool(_) => no_text(),
+        Value::Int(_) => no_text(),
+        Value::Str(text) => text.text(),
+        Value::List(_) => no_text(),
+        Value::Map(_) => no_text(),
+        Value::Fields(_) => no_text(),
+    }
+}
+
+/// The text without characters.
+pub(crate) fn no_text() -> &'static str
+    ensures characters { chars result.now ≡ [] }
+    ensures bytes { result.now ≡ [] }
+{
+    ""
+}

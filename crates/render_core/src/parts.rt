@@ -1,0 +1,255 @@
+//! The parts of the data that variables are bound to.
+
+ghost use Rattle.std.specs.Prelude.{◌≡◌, [], IfOk, option_map, slice_get};
+ghost use Rattle.soy_tree.specs.Val.{Known, binding, item_value};
+ghost use Rattle.soy_tree.specs.ViewValues.{view_entries, view_items, view_value};
+ghost use Rattle.soy_expr.specs.ForgottenBlocks.{forgotten};
+ghost use Rattle.soy_expr.specs.Parts.{child, nth_entry_value};
+ghost use Rattle.soy_expr.specs.ViewEvaluated.{IsBinding};
+ghost use Rattle.render_core.specs.Finds.{binding_at, part_value, place_binding};
+ghost use Rattle.render_core.specs.Seen.{cells_seen, env_seen, input_seen, program_seen};
+ghost use Rattle.render_core.specs.Variables.{cell_at, cells_of, env_at, led, path_value};
+
+use crate::held::{Bound, Held, Path};
+use crate::names::is_named;
+use crate::scene::Scene;
+use soy_base::{OutOfMemory, Text};
+use soy_expr::{Evaluated, Made, Variables};
+use soy_tree::{Entry, Value};
+
+/// Where expressions are valued: what a pull is lent, all variables, and the number of those that are visible.
+#[derive(Clone, Copy)]
+pub(crate) struct Point<'p, 'i, 'b> {
+    pub(crate) scene: Scene<'p, 'i>,
+    pub(crate) bound: &'b [Bound],
+    pub(crate) env: usize,
+}
+
+impl Variables for Point<'_, '_, '_> {
+    type Path = Path;
+
+    ghost use Rattle.std.specs.Prelude.{◌≡◌};
+    ghost use Rattle.soy_expr.specs.ForgottenBlocks.{forgotten_env};
+    ghost use Rattle.render_core.specs.Seen.{cells_seen, env_seen};
+    ghost use Rattle.render_core.specs.Variables.{path_value};
+
+    ghost env = { λ at. forgotten_env (env_seen at) };
+
+    ghost Names = { λ at path v.
+        path_value (cells_seen at) path ≡ v };
+
+    fn find(&self, name: &Text) -> Result<Evaluated<'_, Path>, OutOfMemory> {
+        match place_of(*self, name) {
+            Some(at) => evaluated(*self, at),
+            None => Ok(Evaluated::Made(Made::Null)),
+        }
+    }
+
+    fn inside(&self, path: Path, number: usize) -> Result<Path, OutOfMemory> {
+        let mut path = path;
+        path.steps.push(number)?;
+        Ok(path)
+    }
+}
+
+/// What the variable at a place is evaluated to.
+#[tactic(auto, using(crate::proofs::Finds::bound_root, crate::proofs::Finds::bound_item, crate::proofs::Finds::bound_path))]
+fn evaluated<'i>(point: Point<'_, 'i, '_>, at: usize) -> Result<Evaluated<'i, Path>, OutOfMemory>
+    ensures { IfOk result (IsBinding
+        (λ path v. path_value (cells_seen point.entry) path
+        ≡ v)
+        (forgotten (binding_at (program_seen point.entry) (input_seen point.entry) point.entry.bound.now at))) }
+{
+    match variable_at(point.bound, at) {
+        Some(variable) => match &variable.to {
+            Held::Made(made) => Ok(Evaluated::Made(copied(point, made)?)),
+            Held::Block(_) => Ok(Evaluated::Block),
+            Held::Root => Ok(named(point, at)),
+            Held::Item(_, _) => Ok(named(point, at)),
+            Held::Part(_) => Ok(named(point, at)),
+        },
+        None => Ok(Evaluated::Made(Made::Null)),
+    }
+}
+
+/// The part that the variable at a place is bound to, with the path that names it.
+#[tactic(auto, using(crate::proofs::Finds::whole_value))]
+fn named<'i>(point: Point<'_, 'i, '_>, at: usize) -> Evaluated<'i, Path>
+    ensures { IsBinding
+        (λ path v. path_value (cells_seen point.entry) path
+        ≡ v)
+        (Known (cell_at (cells_seen point.entry) at).part)
+        result }
+{
+    match part_at(point, at) {
+        Some(value) => Evaluated::Part(value, whole(point, at)),
+        None => Evaluated::Made(Made::Null),
+    }
+}
+
+pub(crate) fn variable_at(bound: &[Bound], at: usize) -> Option<&Bound>
+    ensures { option_map (λ b. b.now) result ≡ slice_get bound.now at }
+{
+    bound.get(at)
+}
+
+/// An equal value.
+pub(crate) fn copied(point: Point, made: &Made) -> Result<Made, OutOfMemory>
+    ensures { IfOk result (λ m. m ≡ made.now) }
+{
+    Ok(match made {
+        Made::Null => Made::Null,
+        Made::Bool(is) => Made::Bool(*is),
+        Made::Int(number) => Made::Int(*number),
+        Made::Str(text) => Made::Str(text.copy(point.scene.alloc)?),
+    })
+}
+
+/// The path to all that the variable at a place is bound to.
+pub(crate) fn whole(point: Point, at: usize) -> Path
+    ensures of { result.of ≡ at }
+    ensures steps { result.steps.items ≡ [] }
+{
+    Path {
+        of: at,
+        steps: Vec::new(point.scene.alloc),
+    }
+}
+
+/// The place of the first variable of a name, of those that are visible.
+#[tactic(auto, using(crate::proofs::Finds::found_here, crate::proofs::Finds::found_below, crate::proofs::Finds::found_lost, crate::proofs::Finds::found_none))]
+pub(crate) fn place_of(point: Point, name: &Text) -> Option<usize>
+    ensures { place_binding (program_seen point.entry) (input_seen point.entry) point.entry.bound.now result
+        ≡ binding name.now
+        (env_seen point.entry) }
+{
+    let mut number = point.env;
+    while number > 0 {
+        let Some(variable) = variable_at(point.bound, number - 1) else {
+            return None;
+        };
+        if is_named(point.scene.program, variable.name, name) {
+            return Some(number - 1);
+        }
+        if variable.below >= number {
+            return None;
+        }
+        number = variable.below;
+    }
+    None
+}
+
+/// The part of the data that the variable at a place is bound to, if it is bound to one.
+pub(crate) fn part_at<'i>(point: Point<'_, 'i, '_>, at: usize) -> Option<&'i Value>
+    ensures { part_value result ≡ (cell_at (cells_seen point.entry) at).part }
+{
+    match variable_at(point.bound, at) {
+        Some(variable) => match &variable.to {
+            Held::Made(_) => None,
+            Held::Root => Some(point.scene.input),
+            Held::Item(of, number) => {
+                if *of < at {
+                    child_of(part_at(point, *of), *number)
+                } else {
+                    None
+                }
+            }
+            Held::Part(path) => {
+                if path.of < at {
+                    followed_from(part_at(point, path.of), path.steps.as_slice())
+                } else {
+                    None
+                }
+            }
+            Held::Block(_) => None,
+        },
+        None => None,
+    }
+}
+
+/// The part that a path names.
+pub(crate) fn part_of<'i>(point: Point<'_, 'i, '_>, path: &Path) -> Option<&'i Value>
+    ensures { part_value result ≡ path_value (cells_seen point.entry) path.now }
+{
+    followed_from(part_at(point, path.of), path.steps.as_slice())
+}
+
+/// The item, entry or field of a number in a part, if there is one.
+fn child_of(part: Option<&Value>, number: usize) -> Option<&Value>
+    ensures { part_value result ≡ child number (part_value part.entry) }
+{
+    match part {
+        Some(value) => child(value, number),
+        None => None,
+    }
+}
+
+/// The part to which numbers lead from another, if there is one.
+#[tactic(auto, using(crate::proofs::Values::led_null))]
+fn followed_from<'i>(part: Option<&'i Value>, steps: &[usize]) -> Option<&'i Value>
+    ensures { part_value result ≡ led steps.now (part_value part.entry) }
+{
+    match part {
+        Some(value) => followed(value, steps),
+        None => None,
+    }
+}
+
+/// The part to which numbers lead.
+#[tactic(auto, using(crate::proofs::Values::led_next, crate::proofs::Values::led_lost))]
+fn followed<'a>(value: &'a Value, steps: &[usize]) -> Option<&'a Value>
+    ensures { part_value result ≡ led steps.now (view_value value.now) }
+{
+    let mut part = value;
+    for number in steps {
+        part = child(part, *number)?;
+    }
+    Some(part)
+}
+
+/// The item, entry or field of a number.
+fn child(value: &Value, number: usize) -> Option<&Value>
+    ensures { part_value result ≡ child number (view_value value.now) }
+{
+    match value {
+        Value::Null => None,
+        Value::Bool(_) => None,
+        Value::Int(_) => None,
+        Value::Str(_) => None,
+        Value::List(items) => item(items.items(), number),
+        Value::Map(entries) => entry(entries.items(), number),
+        Value::Fields(entries) => entry(entries.items(), number),
+    }
+}
+
+#[tactic(auto, using(crate::proofs::Values::item_some_value, crate::proofs::Values::item_none_value))]
+fn item(items: &[Value], number: usize) -> Option<&Value>
+    ensures { part_value result ≡ item_value (view_items items.now) number }
+{
+    match item_at(items, number) {
+        Some(value) => Some(value),
+        None => None,
+    }
+}
+
+pub(crate) fn item_at(items: &[Value], number: usize) -> Option<&Value>
+    ensures { option_map (λ v. v.now) result ≡ slice_get items.now number }
+{
+    items.get(number)
+}
+
+#[tactic(auto, using(crate::proofs::Values::entry_some_value, crate::proofs::Values::entry_none_value))]
+fn entry(entries: &[Entry], number: usize) -> Option<&Value>
+    ensures { part_value result ≡ nth_entry_value (view_entries entries.now) number }
+{
+    match entry_at(entries, number) {
+        Some(entry) => Some(&entry.value),
+        None => None,
+    }
+}
+
+fn entry_at(entries: &[Entry], number: usize) -> Option<&Entry>
+    ensures { option_map (λ e. e.now) result ≡ slice_get entries.now number }
+{
+    entries.get(number)
+}

@@ -1,0 +1,282 @@
+//! The stack of frames, and what all its steps do.
+
+ghost use Rattle.std.specs.Prelude.{◌≡◌, ◌<◌, ◌∷◌, ℕ, [], false, OnOk, OnErr, Ok, Some, length, slice_get};
+ghost use Rattle.soy_tree.specs.Values as values;
+ghost use Rattle.soy_tree.specs.ViewValues.{view_value};
+ghost use Rattle.soy_meaning.specs.Outcome.{RunEnds, WholeRun};
+ghost use Rattle.template_ir.specs.Run.{arm_gives, one_step};
+ghost use Rattle.template_ir.specs.declared.op.Op.TheVariants as op;
+ghost use Rattle.template_ir.specs.declared.program.ProgramParts as code_parts;
+ghost use Rattle.render_core.specs.Frames.{IsPlainFrame, MachineFits, child_at, frame_gives, mark_of, means_before, past, past_with};
+ghost use Rattle.render_core.specs.Stepping.{GaveForm, GoesIn, IsSame, Stepped};
+ghost use Rattle.render_core.specs.Forms.{form_at};
+ghost use Rattle.render_core.specs.Rest.{source_text};
+ghost use Rattle.render_core.specs.Texts.{is_none};
+ghost use Rattle.render_core.specs.Variables.{cells_of, env_at};
+ghost use Rattle.render_core.specs.declared.frame.Frame.TheVariants as frame;
+
+use crate::begun::{Begun, Fixed, begun_value, escaped_whole, static_bytes};
+use crate::frame::{Ahead, Frame};
+use crate::held::Bound;
+use crate::parts::Point;
+use crate::scene::Scene;
+use crate::showing::Source;
+use crate::texts::Texts;
+use soy_base::{OutOfMemory, Place, Stack, Text, TooDeep, ValueClass};
+use template_ir::Block;
+
+/// The frame that is run, those below it, the texts that are being gathered, and the variables of all frames.
+#[derive(Drop)]
+pub(crate) struct Machine {
+    pub(crate) top: Frame,
+    pub(crate) below: Stack<Frame>,
+    pub(crate) texts: Texts,
+    pub(crate) bound: Vec<Bound>,
+}
+
+/// What one step gives.
+#[derive(Drop)]
+pub(crate) enum Step {
+    Silent,
+    Gives(Begun),
+    Done,
+    TooDeep(TooDeep),
+}
+
+impl Machine {
+    /// Where the expressions of a frame are valued.
+    pub(crate) fn point<'p, 'i, 'b>(
+        &'b self,
+        scene: &Scene<'p, 'i>,
+        env: usize,
+    ) -> Point<'p, 'i, 'b>
+        ensures program { result.scene.program.now ≡ scene.now.program.now }
+        ensures input { result.scene.input.now ≡ scene.now.input.now }
+        ensures bound { result.bound.now ≡ self.now.bound.items }
+        ensures env { result.env ≡ env }
+    {
+        Point {
+            scene: *scene,
+            bound: self.bound.as_slice(),
+            env,
+        }
+    }
+
+    /// How many variables there are.
+    pub(crate) fn mark(&self) -> usize
+        ensures { result ≡ length self.now.bound.items }
+    {
+        self.bound.as_slice().len()
+    }
+
+    /// Goes into a frame, with another to come after it.
+    pub(crate) fn enter(&mut self, next: Frame, child: Frame) -> Result<(), OutOfMemory>
+        ensures top { OnOk result (self.new.top ≡ child) }
+        ensures below { OnOk result (self.new.below ≡ next ∷ self.old.below) }
+        ensures texts { self.new.texts ≡ self.old.texts }
+        ensures bound { self.new.bound.items ≡ self.old.bound.items }
+        ensures top_stays { OnErr result (self.new.top ≡ self.old.top) }
+        ensures below_stays { OnErr result (self.new.below ≡ self.old.below) }
+    {
+        self.below.push(next)?;
+        self.top = child;
+        Ok(())
+    }
+
+    /// Goes into a block that the op at a place names, if there is one, and past the op.
+    #[tactic(auto, using(crate::proofs::Moves::into_none, crate::proofs::Moves::into_block))]
+    pub(crate) fn enter_block(
+        &mut self,
+        ahead: Ahead,
+        block: Option<Block>,
+        number: i64,
+    ) -> Result<(), OutOfMemory>
+        requires top { self.old.top ≡ frame.Ops ahead }
+        requires fits { MachineFits self.old }
+        requires low { ahead.at < ahead.end }
+        ensures goes { OnOk result ((p : code_parts.ProgramParts) (input : values.Value) →
+            GoesIn p input self.old self.new ahead (arm_gives (means_before p ahead.left ahead.at) block number
+            (env_at (cells_of p input self.old.bound.items) ahead.env))) }
+        ensures stays { OnErr result (IsSame self.old self.new) }
+    {
+        let next = Frame::Ops(past(ahead));
+        let Some(block) = block else {
+            self.top = next;
+            return Ok(());
+        };
+        let child = child_ahead(ahead, block, number, self.mark());
+        match self.enter(next, Frame::Ops(child)) {
+            Ok(()) => Ok(()),
+            Err(_) => Err(OutOfMemory),
+        }
+    }
+
+    /// Goes into a block, or what else a text is gathered from, whose text is for the frame that comes after it.
+    pub(crate) fn gather(
+        &mut self,
+        scene: &Scene,
+        next: Frame,
+        child: Frame,
+    ) -> Result<(), OutOfMemory>
+        ensures top { OnOk result (self.new.top ≡ child) }
+        ensures below { OnOk result (self.new.below ≡ next ∷ self.old.below) }
+        ensures texts { OnOk result (self.new.texts ≡ [] ∷ self.old.texts) }
+        ensures bound { OnOk result (self.new.bound.items ≡ self.old.bound.items) }
+        ensures stays { OnErr result (IsSame self.old self.new) }
+    {
+        if self.texts.begin(scene.alloc).is_err() {
+            return Err(OutOfMemory);
+        }
+        match self.enter(next, child) {
+            Ok(()) => Ok(()),
+            Err(_) => {
+                self.texts.end();
+                Err(OutOfMemory)
+            }
+        }
+    }
+
+    /// Gives a value, and goes on with another frame.
+    pub(crate) fn give_value(
+        &mut self,
+        scene: &Scene,
+        next: Frame,
+        place: Place,
+        source: Source,
+        class: ValueClass,
+    ) -> Result<Step, OutOfMemory>
+        ensures { GaveForm scene.now.program.now (view_value scene.now.input.now) self.old self.new next
+            (form_at place class (source_text
+            (cells_of scene.now.program.now (view_value scene.now.input.now) self.old.bound.items) source)
+            scene.now.program.now.dir) result }
+    {
+        if self.texts.is_empty() {
+            match begun_value(self.point(scene, 0), place, source, class) {
+                Ok(begun) => {
+                    self.top = next;
+                    Ok(Step::Gives(begun))
+                }
+                Err(_) => Err(OutOfMemory),
+            }
+        } else {
+            let form = match escaped_whole(self.point(scene, 0), place, &source, class) {
+                Ok(form) => form,
+                Err(_) => return Err(OutOfMemory),
+            };
+            self.gather_more(next, &form)
+        }
+    }
+
+    /// Adds to the innermost text, and goes on with another frame.
+    fn gather_more(&mut self, next: Frame, more: &Text) -> Result<Step, OutOfMemory>
+        requires { is_none self.old.texts ≡ false }
+        ensures { (p : code_parts.ProgramParts) (input : values.Value) →
+            GaveForm p input self.old self.new next more.now result }
+    {
+        match self.texts.append(more) {
+            Ok(()) => {
+                self.top = next;
+                Ok(Step::Silent)
+            }
+            Err(_) => Err(OutOfMemory),
+        }
+    }
+
+    /// Gives the static text of the op at a place, and goes past it.
+    pub(crate) fn step_static(
+        &mut self,
+        scene: &Scene,
+        ahead: Ahead,
+        text: &Text,
+    ) -> Result<Step, OutOfMemory>
+        requires top { self.old.top ≡ frame.Ops ahead }
+        requires fits { MachineFits self.old }
+        requires op { slice_get scene.now.program.now.ops ahead.at ≡ Some (op.Static text.now) }
+        requires low { ahead.at < ahead.end }
+        ensures { (n : ℕ) → Stepped scene.now.program.now (view_value scene.now.input.now) self.old self.new n n result }
+    {
+        if text.is_empty() {
+            self.top = Frame::Ops(past(ahead));
+            return Ok(Step::Silent);
+        }
+        self.give_static(scene, ahead, text)
+    }
+
+    /// Gives the static text of the op at a place, and goes past it.
+    fn give_static(&mut self, scene: &Scene, ahead: Ahead, text: &Text) -> Result<Step, OutOfMemory>
+        requires op { slice_get scene.now.program.now.ops ahead.at ≡ Some (op.Static text.now) }
+        requires low { ahead.at < ahead.end }
+        ensures { GaveForm scene.now.program.now (view_value scene.now.input.now) self.old self.new
+            (frame.Ops (past ahead)) text.now result }
+    {
+        let next = Frame::Ops(past(ahead));
+        if self.texts.is_empty() {
+            let fixed = Fixed {
+                op: ahead.at,
+                start: 0,
+                end: static_bytes(scene.program, ahead.at).len(),
+            };
+            self.top = next;
+            Ok(Step::Gives(Begun::Static(fixed)))
+        } else {
+            self.gather_more(next, text)
+        }
+    }
+
+    /// Leaves the frame on top, which gives nothing more.
+    pub(crate) fn leave(&mut self, scene: &Scene, mark: usize) -> Step
+        requires mark { mark_of self.old.top ≡ mark }
+        requires fits { MachineFits self.old }
+        requires plain { IsPlainFrame self.old.top }
+        requires none { frame_gives scene.now.program.now (view_value scene.now.input.now) self.old.bound.items self.old.top
+            ≡ RunEnds (one_step 0) WholeRun }
+        ensures { (n : ℕ) → Stepped scene.now.program.now (view_value scene.now.input.now) self.old self.new n n
+            (Ok result) }
+    {
+        match self.below.pop() {
+            None => Step::Done,
+            Some(frame) => {
+                self.bound.truncate(mark);
+                self.top = frame;
+                Step::Silent
+            }
+        }
+    }
+}
+
+/// The same with other variables.
+pub(crate) fn past_with(ahead: Ahead, env: usize) -> Ahead
+    requires { ahead.at < ahead.end }
+    ensures { result ≡ past_with ahead env }
+{
+    Ahead {
+        at: ahead.at + 1,
+        env,
+        ..ahead
+    }
+}
+
+/// A block that the next op names, over so many variables.
+pub(crate) fn child_ahead(ahead: Ahead, block: Block, number: i64, mark: usize) -> Ahead
+    ensures { result ≡ child_at ahead block number mark }
+{
+    Ahead {
+        at: block.first,
+        end: block.end.min(ahead.at),
+        env: ahead.env,
+        left: ahead.left,
+        number,
+        mark,
+    }
+}
+
+/// What is left of a block past the next op.
+pub(crate) fn past(ahead: Ahead) -> Ahead
+    requires { ahead.at < ahead.end }
+    ensures { result ≡ past ahead }
+{
+    Ahead {
+        at: ahead.at + 1,
+        ..ahead
+    }
+}

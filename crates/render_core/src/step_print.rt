@@ -1,0 +1,171 @@
+//! Prints.
+
+ghost use Rattle.std.specs.Prelude.{◌≡◌, ◌<◌, ◌∷◌, ℕ, IfOk, OnOk, OnErr, Some, length, slice_get};
+ghost use Rattle.soy_tree.specs.Val.{Binding};
+ghost use Rattle.soy_tree.specs.ViewValues.{view_value};
+ghost use Rattle.soy_meaning.specs.Giving.{BoundBlock};
+ghost use Rattle.template_ir.specs.Run.{print_gives};
+ghost use Rattle.template_ir.specs.declared.op.Op.TheVariants as op;
+ghost use Rattle.render_core.specs.Frames.{MachineFits, call_place, past, text_bound};
+ghost use Rattle.render_core.specs.Shows.{Shows, kept_child};
+ghost use Rattle.render_core.specs.Stepping.{Does, IsSame, Stepped};
+ghost use Rattle.render_core.specs.Variables.{cells_of};
+ghost use Rattle.render_core.specs.declared.frame.Frame.TheVariants as frame;
+
+use crate::frame::{Ahead, Frame};
+use crate::held::{Bound, Held, Kept};
+use crate::parts::variable_at;
+use crate::scene::Scene;
+use crate::showing::{Shown, Source, how_shown, text_of};
+use crate::stack::{Machine, Step, past};
+use crate::valuing::value_of;
+use soy_base::{OutOfMemory, Place, Steps, Text, ValueClass};
+use soy_expr::{Made, Shallow};
+use soy_tree::Expr;
+use std::sync::ledger::Ledger;
+
+impl Machine {
+    /// A print.
+    pub(crate) fn step_print<L: Ledger>(
+        &mut self,
+        scene: &Scene,
+        ahead: Ahead,
+        expr: &Expr,
+        place: Place,
+        steps: &mut Steps<L>,
+    ) -> Result<Step, OutOfMemory>
+        requires top { self.old.top ≡ frame.Ops ahead }
+        requires fits { MachineFits self.old }
+        requires op { slice_get scene.now.program.now.ops ahead.at ≡ Some (op.Print expr.now place) }
+        requires low { ahead.at < ahead.end }
+        ensures { Stepped scene.now.program.now (view_value scene.now.input.now) self.old self.new steps.old steps.new
+            result }
+    {
+        let found = match value_of(self.point(scene, ahead.env), expr, steps) {
+            Ok(found) => found,
+            Err(_) => return Err(OutOfMemory),
+        };
+        let shown = match how_shown(self.point(scene, ahead.env), found) {
+            Ok(shown) => shown,
+            Err(_) => return Err(OutOfMemory),
+        };
+        self.print_shown(scene, ahead, place, shown)
+    }
+
+    /// The print of a value or a block.
+    fn print_shown(
+        &mut self,
+        scene: &Scene,
+        ahead: Ahead,
+        place: Place,
+        shown: Shown,
+    ) -> Result<Step, OutOfMemory>
+        requires top { self.old.top ≡ frame.Ops ahead }
+        requires fits { MachineFits self.old }
+        requires low { ahead.at < ahead.end }
+        ensures { (b : Binding BoundBlock) → Shows scene.now.program.now
+            (cells_of scene.now.program.now (view_value scene.now.input.now) self.old.bound.items)
+            (length self.old.bound.items) b shown →
+            Does scene.now.program.now (view_value scene.now.input.now) self.old self.new ahead
+            (print_gives scene.now.program.now.dir place b) result }
+    {
+        match shown {
+            Shown::Value(source, class) => {
+                self.give_value(scene, Frame::Ops(past(ahead)), place, source, class)
+            }
+            Shown::Block(kept) => match self.enter_kept(ahead, kept) {
+                Ok(()) => Ok(Step::Silent),
+                Err(_) => Err(OutOfMemory),
+            },
+        }
+    }
+
+    /// Goes into a block that is printed, and past its print.
+    fn enter_kept(&mut self, ahead: Ahead, kept: Kept) -> Result<(), OutOfMemory>
+        requires { ahead.at < ahead.end }
+        ensures top { OnOk result (self.new.top ≡ frame.Ops (kept_child kept (length self.old.bound.items))) }
+        ensures below { OnOk result (self.new.below ≡ frame.Ops (past ahead) ∷ self.old.below) }
+        ensures texts { OnOk result (self.new.texts ≡ self.old.texts) }
+        ensures bound { OnOk result (self.new.bound.items ≡ self.old.bound.items) }
+        ensures stays { OnErr result (IsSame self.old self.new) }
+    {
+        let child = Ahead {
+            at: kept.block.first,
+            end: kept.block.end,
+            env: kept.env,
+            left: kept.left,
+            number: 0,
+            mark: self.mark(),
+        };
+        match self.enter(Frame::Ops(past(ahead)), Frame::Ops(child)) {
+            Ok(()) => Ok(()),
+            Err(_) => Err(OutOfMemory),
+        }
+    }
+
+    /// `#`.
+    pub(crate) fn step_number(
+        &mut self,
+        scene: &Scene,
+        ahead: Ahead,
+        place: Place,
+    ) -> Result<Step, OutOfMemory>
+        requires top { self.old.top ≡ frame.Ops ahead }
+        requires fits { MachineFits self.old }
+        requires op { slice_get scene.now.program.now.ops ahead.at ≡ Some (op.Number place) }
+        requires low { ahead.at < ahead.end }
+        ensures { (n : ℕ) → Stepped scene.now.program.now (view_value scene.now.input.now) self.old self.new n n
+            result }
+    {
+        let (text, class) = match text_of(scene.alloc, Shallow::Int(ahead.number)) {
+            Ok(text) => text,
+            Err(_) => return Err(OutOfMemory),
+        };
+        self.print_shown(scene, ahead, place, Shown::Value(Source::Made(text), class))
+    }
+
+    /// The print of a text that was gathered.
+    pub(crate) fn step_show(
+        &mut self,
+        scene: &Scene,
+        ahead: Ahead,
+        at: usize,
+        place: Place,
+    ) -> Result<Step, OutOfMemory>
+        requires top { self.old.top ≡ frame.Show ahead at }
+        requires fits { MachineFits self.old }
+        requires low { ahead.at < ahead.end }
+        requires place { place ≡ call_place (slice_get scene.now.program.now.ops ahead.at) }
+        ensures { (n : ℕ) → Stepped scene.now.program.now (view_value scene.now.input.now) self.old self.new n n
+            result }
+    {
+        let text = match text_at(scene, self.bound.as_slice(), at) {
+            Ok(text) => text,
+            Err(_) => return Err(OutOfMemory),
+        };
+        self.give_value(
+            scene,
+            Frame::Ops(past(ahead)),
+            place,
+            Source::Made(text),
+            ValueClass::Text,
+        )
+    }
+}
+
+/// The text that the variable at a place is bound to.
+fn text_at(scene: &Scene, bound: &[Bound], at: usize) -> Result<Text, OutOfMemory>
+    ensures { IfOk result (λ t. t ≡ text_bound (slice_get bound.now at)) }
+{
+    match variable_at(bound, at) {
+        Some(variable) => match &variable.to {
+            Held::Made(Made::Str(text)) => text.copy(scene.alloc),
+            Held::Made(_) => Ok(Text::empty(scene.alloc)),
+            Held::Root => Ok(Text::empty(scene.alloc)),
+            Held::Item(_, _) => Ok(Text::empty(scene.alloc)),
+            Held::Part(_) => Ok(Text::empty(scene.alloc)),
+            Held::Block(_) => Ok(Text::empty(scene.alloc)),
+        },
+        None => Ok(Text::empty(scene.alloc)),
+    }
+}
