@@ -81,18 +81,27 @@ text_or_fault source key text = at (pattern_or_none text)
         → ((t : Translation) × IsTranslationUnder source key text t)
         ⊎ ((fault : BundleFault) × HasTextFault source key text fault)
     named parts pattern None e =
-        inl (record { id = chars key; parts = coded_parts parts }, (refl, record {
-          pattern = subst (IsPattern text) (sym (parts_back parts)) pattern;
-          names = ap (parts_fault source) (parts_back parts) ∙ e;
-        }))
+        inl (
+          record { id = chars key; parts = coded_parts parts },
+          (
+            refl,
+            record {
+              pattern = subst (IsPattern text) (sym (parts_back parts)) pattern;
+              names = ap (parts_fault source) (parts_back parts) ∙ e;
+            },
+          ),
+        )
     named parts pattern (Some found) e =
-        inr (fault_at found (message_path key), inr (record {
-          parts = parts;
-          pattern = pattern;
-          code = found;
-          names = e;
-          is = refl;
-        }))
+        inr (
+          fault_at found (message_path key),
+          inr (record {
+            parts = parts;
+            pattern = pattern;
+            code = found;
+            names = e;
+            is = refl;
+          }),
+        )
 
     at : ((parts : MsgParts) × IsPattern text parts) ⊎ ((offset : ℕ) × IsNoPattern text offset)
         → ((t : Translation) × IsTranslationUnder source key text t)
@@ -154,13 +163,16 @@ json_or_fault json rows = at (form_fault json) refl
     ruled form d direction (inl plural) (inl ordinal) (inr fault) =
         inr (fault.0, reads.translation form plural ordinal fault.1)
     ruled form d direction (inl plural) (inl ordinal) (inl texts) =
-        inl (record { dir = d; plural = plural.0; ordinal = ordinal.0; messages = texts.0 }, record {
-          form = form;
-          direction = direction;
-          plural = (plural.1, AreRulesOf-AreOnlyRulesOf _ plural.0 plural.1);
-          ordinal = (ordinal.1, AreRulesOf-AreOnlyRulesOf _ ordinal.0 ordinal.1);
-          messages = texts.1;
-        })
+        inl (
+          record { dir = d; plural = plural.0; ordinal = ordinal.0; messages = texts.0 },
+          record {
+            form = form;
+            direction = direction;
+            plural = (plural.1, AreRulesOf-AreOnlyRulesOf _ plural.0 plural.1);
+            ordinal = (ordinal.1, AreRulesOf-AreOnlyRulesOf _ ordinal.0 ordinal.1);
+            messages = texts.1;
+          },
+        )
 
     directed : form_fault json ≡ None → (o : Option Dir) → direction_of json ≡ o → Either
     directed form None none = absurd (has_direction json form none)

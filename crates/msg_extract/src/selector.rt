@@ -60,10 +60,7 @@ fn add_selector(
 
 /// The selectors among pieces.
 #[tactic(auto, using(crate::proofs::SelectorRows::selectors_step, crate::proofs::PieceLists::append_assoc))]
-fn selectors_among(
-    alloc: Global,
-    pieces: &[CodePiece<'_>],
-) -> Result<Seq<Selector>, OutOfMemory>
+fn selectors_among(alloc: Global, pieces: &[CodePiece<'_>]) -> Result<Seq<Selector>, OutOfMemory>
     ensures { IfOk result (λ rows. map view_selector rows ≡ selector_rows (uses_in (map view_piece pieces.now))
         (uses_in (map view_piece pieces.now))) }
 {
