@@ -141,7 +141,8 @@ pub fn build(
     bundle: &Bundle,
 ) -> Result<Program, OutOfMemory>
     requires fits { FitsTrees (translation_of bundle.now.messages) (view_trees typed.now) }
-    requires places { walk_trees (language_of bundle.now).translation (view_trees typed.now) ≡ Ok (walked [] places.now.prints) }
+    requires places { walk_trees (language_of bundle.now).translation (view_trees typed.now)
+        ≡ Ok (walked [] places.now.prints) }
     ensures { IfOk result (λ program. Compiles (view_trees typed.now) places.now.prints (language_of bundle.now)
         (view_program program)) }
 {

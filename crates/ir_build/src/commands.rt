@@ -72,7 +72,8 @@ pub(crate) fn push_if_else(
     other: Vec<Op>,
 ) -> Result<(), OutOfMemory>
     ensures own { OnOk result (view_ops own.new.items ≡ view_ops own.old.items
-        ++ IfOp (map view_branch branches.items) (Some (laid_block (view_output out.old) (view_ops other.items))) ∷ []) }
+        ++ IfOp (map view_branch branches.items)
+        (Some (laid_block (view_output out.old) (view_ops other.items))) ∷ []) }
     ensures made { OnOk result (view_output out.new ≡ with_ops (view_output out.old) (view_ops other.items)) }
 {
     let other = out.lay(other)?;
@@ -161,7 +162,8 @@ pub(crate) fn push_for(
     body: Vec<Op>,
 ) -> Result<(), OutOfMemory>
     ensures own { OnOk result (view_ops own.new.items ≡ view_ops own.old.items
-        ++ ForOp name.now index.now (view_expr list.now) (laid_block (view_output out.old) (view_ops body.items)) ∷ []) }
+        ++ ForOp name.now index.now (view_expr list.now)
+        (laid_block (view_output out.old) (view_ops body.items)) ∷ []) }
     ensures made { OnOk result (view_output out.new ≡ with_ops (view_output out.old) (view_ops body.items)) }
 {
     let body = out.lay(body)?;

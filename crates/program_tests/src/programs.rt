@@ -95,7 +95,8 @@ const COMMANDS: &[(&str, &str, &str)] = &[
         "'a'; let x=5; let y html 0-1; $y@plain; $x@attr | t.m 1-5",
     ),
     (
-        "{@param p: int}{@param? q: int}{call n data=\"all\"}{param r kind=\"text\"}{$p}{/param}{param q: 1 /}{/call}{$q}",
+        "{@param p: int}{@param? q: int}{call n data=\"all\"}{param r kind=\"text\"}\
+        {$p}{/param}{param q: 1 /}{/call}{$q}",
         "{template n}{@param r: string}{@param? p: int}{@param? q: int}{@param? s: int}{$r}{/template}",
         "$p@attr; call 1 r: text 0-1 q=1 p! @plain at 56; $q@uri; $r@text | t.m 1-3 | t.n 3-4",
     ),
@@ -105,7 +106,8 @@ const COMMANDS: &[(&str, &str, &str)] = &[
         "call 2 @plain at 25; call 1 @attr at 37 | t.m 0-2 | t.n 2-2",
     ),
     (
-        "{msg desc=\"\"}{plural $n offset=\"1\"}{case 1}a{$x}{default}{select $y}{case 'b'}{$x}{default}c{/select}{/plural}{/msg}{$n}",
+        "{msg desc=\"\"}{plural $n offset=\"1\"}{case 1}a{$x}{default}\
+        {select $y}{case 'b'}{$x}{default}c{/select}{/plural}{/msg}{$n}",
         "",
         "'a'; $x@plain; $x@attr; 'c'; select $y b 2-3 other 3-4; plural $n less 1 1 0-2 other 4-5; $n@uri | t.m 5-7",
     ),
