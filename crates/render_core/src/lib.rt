@@ -27,6 +27,3 @@ mod texts;
 mod valuing;
 
 pub use rendering::Rendering;
-
-#[cfg(test)]
-mod tests;
