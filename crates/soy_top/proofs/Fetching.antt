@@ -16,7 +16,8 @@ use Rattle.soy_top.specs.declared.ending.Ending.{Ending}
 use Rattle.soy_top.specs.declared.ending.Ending.TheVariants as ending
 use Rattle.soy_top.specs.declared.wanted.FileWanted as code
 use Rattle.soy_top.specs.Fetched.{SoFar, next_fetched, AreContents, IsNotHeld, FetchesFile, FetchesAll, FetchedContents}
-use Rattle.soy_top.specs.View.{view_file, view_files, view_contents}
+use Rattle.soy_top.specs.View.{view_file, view_files}
+use Rattle.soy_front.specs.ViewSources.{view_contents}
 use Rattle.soy_top.specs.FilesWanted.{FileWanted, file_names, known_files, first_not_held, first_over_limit, content}
 use Rattle.soy_top.specs.FilesWanted.{contents}
 use Rattle.soy_top.specs.Words.{Word}

@@ -2,32 +2,40 @@
 --
 -- The cases are tried in this order. Words that are no command get the usage text. The first file that the words want
 -- and that isn't held can't be read. The first file over its limit is refused, in the order of the words. The rest is
--- answered by the contents: the template files are refused by their first fault, if they have one. An `extract` is then
--- refused by the first message whose id is that of another one, and else the answer is the catalogue and a line feed.
+-- answered by the contents: template files and a bundle are refused by their first fault, if they have one; an
+-- `extract` asks for the faults of its files alone, and a `format` for those that its file has by itself. Where there
+-- is none, the answer of a `check` is `ok` and a line feed, and that of an `extract` the catalogue and a line feed.
 -- What the program doesn't do yet is refused, which is every other command but a `render` of one file in the source
 -- language; and so are, in this order, a file that isn't of the first form, a template's name that the file doesn't
 -- have, and data that aren't of the first form. Else the answer is the page.
 -- Example: the words `render t.zz d.json - t.soy` with a file of t.m are refused by `t.zz: 29 Entry`.
-use Rattle.std.specs.Prelude.{ℕ, ◌-◌, List, [], ◌∷◌, length, drop, Option, None, Some, option_map}
+use Rattle.std.specs.Prelude.{ℕ, List, [], ◌∷◌, length, Option, None, Some, option_map}
 use Rattle.std.specs.Prelude.{Bool, false, if◌then◌else◌, codes, String, Result, Ok, Err}
 use Rattle.std.specs.Option.{option_map_or}
 use Rattle.std.specs.Str.{bytes_eq}
 use Rattle.serde_json.specs.Written.{compact_text}
-use Rattle.msg_extract.specs.Catalogue.{catalogue_of}
 use Rattle.msg_extract.specs.CatalogueText.{catalogue_data}
 use Rattle.msg_extract.specs.declared.catalogue.Listed.{Listed}
 use Rattle.soy_base.specs.declared.fault.Fault.{Fault}
+use Rattle.soy_front.specs.FilesAnswer as read
+use Rattle.soy_front.specs.FilesAnswer.{ReadFiles}
+use Rattle.soy_front.specs.FrontAnswer.{Front, front_answer}
+use Rattle.soy_front.specs.Sources.{source_answer}
+use Rattle.soy_front.specs.declared.fault.FrontFault.{FrontFault}
+use Rattle.soy_front.specs.declared.fault.FrontFault.TheVariants as front
 use Rattle.soy_io.specs.FileOf.{Files}
 use Rattle.soy_top.specs.Asked.{Asked, Render, Check, Extract, Gen, Play, Preview, Format, asked_by_words}
-use Rattle.soy_top.specs.Asked.{is_checked, template_files}
+use Rattle.soy_top.specs.Asked.{source_files}
 use Rattle.soy_top.specs.FilesWanted.{FileWanted, asked_files, wanted_files, known_files, first_not_held}
 use Rattle.soy_top.specs.FilesWanted.{first_over_limit, contents, is_source_language}
 use Rattle.soy_top.specs.FirstForm.{FirstFile, first_form, full_name}
 use Rattle.soy_top.specs.FirstPage.{page_of}
-use Rattle.soy_top.specs.Line.{not_yet_line, too_large_line, entry_line, read_line, usage_text, ended}
-use Rattle.soy_top.specs.SourceFiles.{numbered_line, refusing_line, source_trees}
+use Rattle.soy_top.specs.Inputs.{bundle_content, but_last, last, second_number}
+use Rattle.soy_top.specs.Line.{not_yet_line, too_large_line, entry_line, fault_line, read_line, usage_text, ended}
+use Rattle.soy_top.specs.Numbered.{numbered_line}
+use Rattle.soy_top.specs.Pointer.{pointer_line}
 use Rattle.soy_top.specs.Words.{Word, command_words}
-use Rattle.soy_tree.specs.ViewTrees.{view_trees}
+use Rattle.soy_tree.specs.declared.tree.Tree.{Tree}
 
 pub data Answer : Type 0 where
   -- the usage text
@@ -66,48 +74,70 @@ is_rendered bundle [] = false
 is_rendered bundle (file ∷ []) = is_source_language bundle
 is_rendered bundle (file ∷ other ∷ files) = false
 
--- the answer to a `render` of one file in the source language by its contents
-abbrev pub render_answer : Word → List (List ℕ) → Answer
-render_answer template [] = not_yet (codes "render")
-render_answer template (json ∷ []) = not_yet (codes "render")
-render_answer template (json ∷ file ∷ []) = form_answer template json (first_form file)
-render_answer template (json ∷ file ∷ other ∷ files) = not_yet (codes "render")
+-- the answer to a `render` of one file in the source language, by the contents before it and its own
+abbrev pub render_answer : Word → List (List ℕ) → List (List ℕ) → Answer
+render_answer template (json ∷ []) (file ∷ []) = form_answer template json (first_form file)
+render_answer template before files = not_yet (codes "render")
 
--- the last so many of a list
-abbrev pub last : {A : Type 0} → ℕ → List A → List A
-last n xs = drop (length xs - n) xs
+-- ---- files and bundles
+
+-- the line of a fault of files of these names and contents, or of the bundle of a name
+abbrev pub front_line : List Word → List (List ℕ) → Word → FrontFault → List ℕ
+front_line names files bundle (front.Soy fault) = numbered_line names files fault
+front_line names files bundle (front.Bundle fault) = pointer_line bundle fault.path fault.code
+
+-- the answer by what files and a bundle are accepted as, or the line of their first fault
+abbrev pub unless_refused : List Word → List (List ℕ) → Word → (Front → Answer) → Result Front FrontFault → Answer
+unless_refused names files bundle answer (Ok of) = answer of
+unless_refused names files bundle answer (Err fault) = Refused (front_line names files bundle fault)
+
+abbrev pub accepted_then : List Word → List (List ℕ) → Word → Option (List ℕ) → (Front → Answer) → Answer
+accepted_then names files bundle content answer =
+    unless_refused names files bundle answer (front_answer files content)
 
 -- a catalogue as JSON, with a line feed
 abbrev pub catalogue_text : List Listed → List ℕ
 catalogue_text rows = ended (compact_text (catalogue_data rows))
 
--- the answer to an `extract` of files of these names and contents by their catalogue
-abbrev pub catalogue_answer : List Word → List (List ℕ) → Result (List Listed) Fault → Answer
-catalogue_answer names contents (Ok rows) = Done (catalogue_text rows)
-catalogue_answer names contents (Err fault) = Refused (numbered_line names contents fault)
+-- the answer to an `extract` of files of these names and contents by what they are read as
+abbrev pub catalogue_answer : List Word → List (List ℕ) → Result ReadFiles Fault → Answer
+catalogue_answer names files (Ok read) = Done (catalogue_text read.rows)
+catalogue_answer names files (Err fault) = Refused (numbered_line names files fault)
 
--- the same by their trees
-abbrev pub extract_answer : List Word → List (List ℕ) → Answer
-extract_answer names contents =
-    catalogue_answer names contents (catalogue_of (view_trees (source_trees names contents)))
+-- the answer to a `format` of a file by what it is read as
+abbrev pub tree_answer : Word → List ℕ → Result Tree Fault → Answer
+tree_answer name bytes (Ok tree) = not_yet (codes "format")
+tree_answer name bytes (Err fault) = Refused (fault_line name bytes fault)
 
--- the answer to what is asked, where no template file has a fault
-abbrev pub parsed_answer : Asked → List (List ℕ) → Answer
-parsed_answer (Render template json bundle files) contents =
-    if is_rendered bundle files then render_answer template contents else not_yet (codes "render")
-parsed_answer (Check bundle files) contents = not_yet (codes "check")
-parsed_answer (Extract files) contents = extract_answer files (last (length files) contents)
-parsed_answer (Gen number) contents = not_yet (codes "gen")
-parsed_answer (Play script first second files) contents = not_yet (codes "play")
-parsed_answer (Preview template json bundle files) contents = not_yet (codes "preview")
-parsed_answer (Format file) contents = not_yet (codes "format")
+abbrev pub format_answer : Word → List (List ℕ) → Answer
+format_answer name (bytes ∷ []) = tree_answer name bytes (source_answer bytes)
+format_answer name contents = not_yet (codes "format")
 
--- the answer to what is asked by the contents of the files that it wants, of which its template files are the last
+-- what is said of files that are accepted
+abbrev pub accepted_text : List ℕ
+accepted_text = codes "ok\n"
+
+-- the answer to what is asked by the contents of its template files and of those before them
+abbrev pub inputs_answer : Asked → List (List ℕ) → List (List ℕ) → Answer
+inputs_answer (Render template json bundle names) before files =
+    accepted_then names files bundle (bundle_content bundle 1 before) (λ of.
+    if is_rendered bundle names then render_answer template before files else not_yet (codes "render"))
+inputs_answer (Check bundle names) before files =
+    accepted_then names files bundle (bundle_content bundle 0 before) (λ of. Done accepted_text)
+inputs_answer (Extract names) before files = catalogue_answer names files (read.files_answer files)
+inputs_answer (Gen number) before files = not_yet (codes "gen")
+inputs_answer (Play script first second names) before files =
+    accepted_then names files first (bundle_content first 1 before) (λ of.
+    accepted_then names files second (bundle_content second (second_number first) before) (λ other.
+    not_yet (codes "play")))
+inputs_answer (Preview template json bundle names) before files =
+    accepted_then names files bundle (bundle_content bundle 1 before) (λ of. not_yet (codes "preview"))
+inputs_answer (Format name) before files = format_answer name before
+
+-- the same by the contents of all its files
 abbrev pub contents_answer : Asked → List (List ℕ) → Answer
 contents_answer asked contents =
-    let names : List Word = template_files asked in
-    option_map_or Refused (refusing_line (is_checked asked) names (last (length names) contents))
-    (parsed_answer asked contents)
+    let n : ℕ = length (source_files asked) in inputs_answer asked (but_last n contents) (last n contents)
 
 -- the answer by the limits of the files
 abbrev pub limits_answer : Files → Asked → List FileWanted → Answer

@@ -17,8 +17,10 @@ mod catalogue;
 mod command;
 mod data;
 mod ending;
+mod faults;
 mod fetch;
 mod first_form;
+mod inputs;
 mod laws;
 mod line;
 mod name;
@@ -26,13 +28,11 @@ mod output;
 mod page;
 mod params;
 mod program;
-mod source_files;
-mod sources;
 mod status;
 mod text;
 mod wanted;
 
-pub use laws::{law_answer_is_text, law_first_form, law_source_answer, law_source_files};
+pub use laws::{law_answer_is_text, law_first_form};
 pub use program::run;
 pub use status::Status;
 

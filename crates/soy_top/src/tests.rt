@@ -5,6 +5,7 @@ use crate::{Status, run};
 use soy_io::{NamedFile, PlainLibrary, PlainSink};
 use std::alloc::Global;
 
+mod accepting;
 mod catalogues;
 mod checks;
 mod faults;

@@ -130,8 +130,8 @@ const CHECKS: &[Row] = &[
         "check - t.soy",
         "{namespace t}\n{template m}\n{call n}{param x: 1 /}{/call}{let $y kind=\"html\"}b{/let}{$y}\n{/template}\n{template n}\n{@param x: int|null}\n{if $x}{$x + 1}{/if}\n{/template}\n",
         "",
-        Status::Refused,
-        "check: 30 NotYet\n",
+        Status::Done,
+        "ok\n",
     ),
     (
         "declarations before bodies",

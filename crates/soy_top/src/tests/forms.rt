@@ -259,7 +259,7 @@ pub(super) const FORMS: &[Row] = &[
         "{namespace t}\n{template m}\n{@param x: string}\na <\n{/template}\n",
         JSON,
         Status::Refused,
-        NOT_YET,
+        "t.soy:5:1: 13 EndState\n",
     ),
     (
         "another tag",

@@ -137,8 +137,8 @@ pub(super) const WORDS: &[Row] = &[
         "check - t.soy",
         FILE,
         JSON,
-        Status::Refused,
-        "check: 30 NotYet\n",
+        Status::Done,
+        "ok\n",
     ),
     (
         "extract of one",
@@ -170,7 +170,7 @@ pub(super) const WORDS: &[Row] = &[
         FILE,
         JSON,
         Status::Refused,
-        NOT_YET,
+        "d.json:/dir: 21 Bundle\n",
     ),
     (
         "two files",

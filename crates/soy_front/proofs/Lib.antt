@@ -1,0 +1,11 @@
+pub mod AcceptedParts
+pub mod BundleTranslations
+pub mod DataFits
+pub mod FilesLaws
+pub mod FirstFaults
+pub mod FormedSources
+pub mod FrontAnswers
+pub mod ReadingTrees
+pub mod SourceAnswers
+pub mod SourceLaws
+pub mod SourceTokens

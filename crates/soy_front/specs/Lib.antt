@@ -1,0 +1,10 @@
+pub mod Accepted
+pub mod Accepts
+pub mod Deserves
+pub mod FilesAnswer
+pub mod FilesDeserve
+pub mod FrontAnswer
+pub mod ReadsFiles
+pub mod ReadsSource
+pub mod Sources
+pub mod ViewSources
