@@ -1,5 +1,6 @@
 pub mod AcceptedParts
 pub mod BundleTranslations
+pub mod CompiledFiles
 pub mod DataFits
 pub mod FilesLaws
 pub mod FirstFaults

@@ -1,6 +1,8 @@
 pub mod Accepted
 pub mod Accepts
+pub mod Compiled
 pub mod Deserves
+pub mod Entries
 pub mod FilesAnswer
 pub mod FilesDeserve
 pub mod FrontAnswer
