@@ -1,7 +1,5 @@
 //! Files with their programs, compared with ones that were written by hand.
 
-ghost use Rattle.std.specs.Prelude.{◌≤◌, ◌<◌, ◌^◌, IfOk, length};
-
 use crate::written::written;
 use icu_text::parse_message;
 use ir_build::program_parts;
@@ -24,9 +22,7 @@ fn file(alloc: Global, body: &str, more: &str) -> Result<String, OutOfMemory> {
 }
 
 /// The trees of one file, or none where it has a fault.
-fn trees(alloc: Global, text: &str) -> Result<Vec<Tree>, OutOfMemory>
-    ensures { IfOk result (λ trees. length trees.items ≤ 1) }
-{
+fn trees(alloc: Global, text: &str) -> Result<Vec<Tree>, OutOfMemory> {
     let mut trees = Vec::new(alloc);
     if let Ok(tokens) = lex(alloc, text, 0) {
         if let Ok(tree) = parse(alloc, tokens.as_slice(), 0) {
@@ -37,9 +33,7 @@ fn trees(alloc: Global, text: &str) -> Result<Vec<Tree>, OutOfMemory>
 }
 
 /// The bundle that has these translations of the messages of trees, in their order; an empty one is left out.
-fn bundle(alloc: Global, trees: &[Tree], patterns: &[&str]) -> Result<Bundle, OutOfMemory>
-    requires { length trees.now < 2 ^ 32 }
-{
+fn bundle(alloc: Global, trees: &[Tree], patterns: &[&str]) -> Result<Bundle, OutOfMemory> {
     let mut messages = Vec::new(alloc);
     if let Ok(catalogue) = extract(alloc, trees) {
         for (listed, pattern) in catalogue.messages.items().iter().zip(patterns) {
