@@ -25,7 +25,7 @@ use Rattle.msg_bundle.specs.ReadsBundle as reads
 use Rattle.msg_bundle.specs.ReadsBundle.{BringsBundle, IsBundle, IsFaultOf, RefusesBundle}
 use Rattle.msg_bundle.specs.Translations.{AreTranslations, HasTextFault, HasTranslationFault, IsFirstFault, IsNext}
 use Rattle.msg_bundle.specs.Translations.{IsTranslationUnder, message_path, messages_of, text_of}
-use Rattle.msg_bundle.specs.BundlesAlike.{BundlesAlike, seen_translation}
+use Rattle.msg_bundle.specs.BundlesAlike.{BundlesAlike, view_translation}
 use Rattle.msg_bundle.proofs.OneAnswer.{rules_apart, text_apart, texts_apart}
 
 -- what is in two equal options is equal
@@ -123,14 +123,14 @@ one_fault bytes rows f g (reads.json json is a) (reads.json other js b) =
 -- ---- bundles
 
 one_text : (source : Listed) (key text : List ℕ) (t u : Translation) → IsTranslationUnder source key text t
-    → IsTranslationUnder source key text u → seen_translation t ≡ seen_translation u
+    → IsTranslationUnder source key text u → view_translation t ≡ view_translation u
 one_text source key text t u a b =
     let id : t.id ≡ u.id = a.0 ∙ sym b.0 in
     let parts = one_pattern text (view_parts t.parts) (view_parts u.parts) a.1.pattern b.1.pattern in
     rw (id, parts) refl
 
 one_list : (rows : List Listed) (ms : Members) (ts us : List Translation) → AreTranslations rows ms ts
-    → AreTranslations rows ms us → map seen_translation ts ≡ map seen_translation us
+    → AreTranslations rows ms us → map view_translation ts ≡ map view_translation us
 one_list rows no_members [] [] a b = refl
 one_list rows no_members [] (u ∷ us) a b = absurd b
 one_list rows no_members (t ∷ ts) us a b = absurd a
@@ -138,15 +138,15 @@ one_list rows (member key json ms) ts us a b =
     at (λ xs ys x y. one_list rows ms xs ys x y) (find_listed (chars key) rows) ts us a b
   where
     at : ((xs ys : List Translation) → AreTranslations rows ms xs → AreTranslations rows ms ys
-        → map seen_translation xs ≡ map seen_translation ys)
+        → map view_translation xs ≡ map view_translation ys)
         → (o : Option Listed) (xs ys : List Translation) → IsNext o key (text_of json) (AreTranslations rows ms) xs
-        → IsNext o key (text_of json) (AreTranslations rows ms) ys → map seen_translation xs ≡ map seen_translation ys
+        → IsNext o key (text_of json) (AreTranslations rows ms) ys → map view_translation xs ≡ map view_translation ys
     at more None xs ys x y = more xs ys x y
     at more (Some source) [] ys x y = absurd x
     at more (Some source) (t ∷ xs) [] x y = absurd y
     at more (Some source) (t ∷ xs) (u ∷ ys) x y =
-        ap (λ v. v ∷ map seen_translation xs) (one_text source key (text_of json) t u x.0 y.0)
-        ∙ ap (λ vs. seen_translation u ∷ vs) (more xs ys x.1 y.1)
+        ap (λ v. v ∷ map view_translation xs) (one_text source key (text_of json) t u x.0 y.0)
+        ∙ ap (λ vs. view_translation u ∷ vs) (more xs ys x.1 y.1)
 
 one_of_json : (json : Data) (rows : List Listed) (a b : Bundle) → IsBundle json rows a → IsBundle json rows b
     → BundlesAlike a b

@@ -8,11 +8,11 @@ use Rattle.soy_tree.specs.MessageParts.{MsgParts}
 use Rattle.soy_tree.specs.ViewMessageParts.{view_parts}
 
 -- a translation by its id and its parts
-abbrev pub seen_translation : Translation → List ℕ × MsgParts
-seen_translation t = (t.id, view_parts t.parts)
+abbrev pub view_translation : Translation → List ℕ × MsgParts
+view_translation t = (t.id, view_parts t.parts)
 
 pub record BundlesAlike (a b : Bundle) : Type 0 where
   pub dir : a.dir ≡ b.dir
   pub plural : a.plural ≡ b.plural
   pub ordinal : a.ordinal ≡ b.ordinal
-  pub messages : map seen_translation a.messages ≡ map seen_translation b.messages
+  pub messages : map view_translation a.messages ≡ map view_translation b.messages

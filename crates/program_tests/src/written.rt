@@ -197,7 +197,7 @@ fn push_op(alloc: Global, out: &mut String, op: &Op) -> Result<(), OutOfMemory> 
 }
 
 /// The text form of a program, with `; ` between ops and ` | ` before each template.
-pub fn written(alloc: Global, program: &ProgramParts) -> Result<String, OutOfMemory> {
+pub(crate) fn written(alloc: Global, program: &ProgramParts) -> Result<String, OutOfMemory> {
     let mut out = String::new(alloc);
     let mut first = true;
     for op in program.ops.items() {

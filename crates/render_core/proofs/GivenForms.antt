@@ -14,7 +14,7 @@ use Rattle.render_core.specs.declared.begun.Begun.{Begun}
 use Rattle.render_core.specs.declared.held.Bound.{Bound}
 use Rattle.render_core.specs.declared.parts.Point.{Point}
 use Rattle.render_core.specs.declared.showing.Source.{Source}
-use Rattle.render_core.proofs.Sights.{seen_cells}
+use Rattle.render_core.proofs.Sights.{same_cells}
 
 abbrev form_of : ProgramParts → code.Value → List Bound → Place → Source → ValueClass → List ℕ
 form_of p v bound at text class = form_at at class (source_text (cells_of p (view_value v) bound) text) p.dir
@@ -49,5 +49,5 @@ pub form_same : (point : Point) (p : ProgramParts) (v : code.Value) (bound : Lis
     ≡ form_at at class (source_text (cells_of p (view_value v) bound) text) p.dir
 form_same point p v bound program input bounds at text class =
     ap (λ (cells : List Cell). form_at at class (source_text cells text) (program_seen point).dir)
-    (seen_cells point p v bound program input bounds)
+    (same_cells point p v bound program input bounds)
     ∙ ap (λ (q : ProgramParts). form_at at class (source_text (cells_of p (view_value v) bound) text) q.dir) program

@@ -18,19 +18,19 @@ use Rattle.render_core.specs.declared.parts.Point.{Point}
 use Rattle.render_core.specs.declared.showing.Shown.{Shown}
 use Rattle.render_core.specs.declared.valuing.Found.{Found}
 
-pub seen_cells : (point : Point) (p : ProgramParts) (v : code.Value) (bound : List Bound) → point.scene.program.now ≡ p
+pub same_cells : (point : Point) (p : ProgramParts) (v : code.Value) (bound : List Bound) → point.scene.program.now ≡ p
     → point.scene.input.now ≡ v → point.bound.now ≡ bound → cells_seen point ≡ cells_of p (view_value v) bound
-seen_cells point p v bound program input bounds =
+same_cells point p v bound program input bounds =
     ap (λ (q : ProgramParts). cells_of q (view_value point.scene.input.now) point.bound.now) program
     ∙ (ap (λ (w : code.Value). cells_of p (view_value w) point.bound.now) input
     ∙ ap (λ (bs : List Bound). cells_of p (view_value v) bs) bounds)
 
-pub seen_env : (point : Point) (p : ProgramParts) (v : code.Value) (bound : List Bound) (n : ℕ)
+pub same_env : (point : Point) (p : ProgramParts) (v : code.Value) (bound : List Bound) (n : ℕ)
     → point.scene.program.now ≡ p → point.scene.input.now ≡ v → point.bound.now ≡ bound → point.env ≡ n
     → env_seen point ≡ env_at (cells_of p (view_value v) bound) n
-seen_env point p v bound n program input bounds env =
+same_env point p v bound n program input bounds env =
     ap (λ k. env_at (cells_seen point) k) env
-    ∙ ap (λ cells. env_at cells n) (seen_cells point p v bound program input bounds)
+    ∙ ap (λ cells. env_at cells n) (same_cells point p v bound program input bounds)
 
 pub shows_at : (point : Point) (p : ProgramParts) (v : code.Value) (bound : List Bound) → point.scene.program.now ≡ p
     → point.scene.input.now ≡ v → point.bound.now ≡ bound → (b : Binding BoundBlock) (s : Shown)
@@ -39,7 +39,7 @@ pub shows_at : (point : Point) (p : ProgramParts) (v : code.Value) (bound : List
 shows_at point p v bound program input bounds b s h =
     subst (λ (q : ProgramParts). Shows q (cells_of p (view_value v) bound) (length bound) b s) program
     (subst (λ (cells : List Cell). Shows (program_seen point) cells (length bound) b s)
-    (seen_cells point p v bound program input bounds)
+    (same_cells point p v bound program input bounds)
     (subst (λ (bs : List Bound). Shows (program_seen point) (cells_seen point) (length bs) b s) bounds h))
 
 pub found_at : (point : Point) (p : ProgramParts) (v : code.Value) (bound : List Bound) → point.scene.program.now ≡ p
@@ -47,7 +47,7 @@ pub found_at : (point : Point) (p : ProgramParts) (v : code.Value) (bound : List
     → found_means (program_seen point) (cells_seen point) f ≡ found_means p (cells_of p (view_value v) bound) f
 found_at point p v bound program input bounds f =
     ap (λ (cells : List Cell). found_means (program_seen point) cells f)
-    (seen_cells point p v bound program input bounds)
+    (same_cells point p v bound program input bounds)
     ∙ ap (λ (q : ProgramParts). found_means q (cells_of p (view_value v) bound) f) program
 
 pub finds_at : (point : Point) (p : ProgramParts) (v : code.Value) (bound : List Bound) (n : ℕ)
@@ -62,11 +62,11 @@ finds_at point p v bound n program input bounds env e before after r h =
     subst (λ (q : ProgramParts). Finds q cells (length bound) (val e (env_at cells n)) (cost e (env_at cells n)) before
     after r) program
     (subst (λ (cs : List Cell). Finds (program_seen point) cs (length bound) (val e (env_at cells n))
-    (cost e (env_at cells n)) before after r) (seen_cells point p v bound program input bounds)
+    (cost e (env_at cells n)) before after r) (same_cells point p v bound program input bounds)
     (subst (λ (bs : List Bound). Finds (program_seen point) (cells_seen point) (length bs) (val e (env_at cells n))
     (cost e (env_at cells n)) before after r) bounds
     (subst (λ (around : RunEnv). Finds (program_seen point) (cells_seen point) (length point.bound.now) (val e around)
-    (cost e around) before after r) (seen_env point p v bound n program input bounds env) h)))
+    (cost e around) before after r) (same_env point p v bound n program input bounds env) h)))
 
 pub finds_err : (point : Point) (p : ProgramParts) (v : code.Value) (bound : List Bound) (n : ℕ)
     → point.scene.program.now ≡ p → point.scene.input.now ≡ v → point.bound.now ≡ bound → point.env ≡ n
@@ -74,7 +74,7 @@ pub finds_err : (point : Point) (p : ProgramParts) (v : code.Value) (bound : Lis
     → IsWithin (cost e (env_at (cells_of p (view_value v) bound) n)) before after
 finds_err point p v bound n program input bounds env e before after h =
     subst (λ (around : RunEnv). IsWithin (cost e around) before after)
-    (seen_env point p v bound n program input bounds env) h
+    (same_env point p v bound n program input bounds env) h
 
 pub items_at : (point : Point) (p : ProgramParts) (v : code.Value) (bound : List Bound) → point.scene.program.now ≡ p
     → point.scene.input.now ≡ v → point.bound.now ≡ bound → (list number : ℕ) (has : Bool)
@@ -82,4 +82,4 @@ pub items_at : (point : Point) (p : ProgramParts) (v : code.Value) (bound : List
     → HasItem number (cell_at (cells_of p (view_value v) bound) list).part has
 items_at point p v bound program input bounds list number has h =
     subst (λ (cells : List Cell). HasItem number (cell_at cells list).part has)
-    (seen_cells point p v bound program input bounds) h
+    (same_cells point p v bound program input bounds) h

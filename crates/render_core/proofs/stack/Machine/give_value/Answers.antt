@@ -11,15 +11,15 @@ returns-in-Ok c =
     let old = c.args.self.now in
     let pt = c.point.result in
     let at = c.point.ensures in
-    let told = c.in-Ok.ensures in (
+    let known = c.in-Ok.ensures in (
       refl,
       refl,
       refl,
       refl,
       sym c.is_empty.ensures ∙ c.if-is_empty.true,
       left_at pt p v old.bound.items at.program at.input at.bound c.in-Ok.begun c.args.place c.args.source c.args.class
-          told.left,
-      piece_fits_at pt p v old.bound.items at.program at.input at.bound c.in-Ok.begun told.fits,
+          known.left,
+      piece_fits_at pt p v old.bound.items at.program at.input at.bound c.in-Ok.begun known.fits,
     )
 
 pub returns-in-Ok-escaped_whole : goal.returns-in-Ok-escaped_whole

@@ -6,7 +6,7 @@ use Rattle.soy_meaning.specs.Outcome.{none_spent}
 use Rattle.render_core.specs.Variables.{cells_of, env_at}
 use Rattle.render_core.proofs.Handings.{hand_goes, hand_stays, same_bound, same_gives_none}
 use Rattle.render_core.proofs.Moves.{same_self}
-use Rattle.render_core.proofs.Sights.{found_at, seen_env}
+use Rattle.render_core.proofs.Sights.{found_at, same_env}
 use Rattle.render_core.proofs.stack.Machine.hand_same.Goals as goal
 
 pub returns-in-Err : goal.returns-in-Err
@@ -38,7 +38,7 @@ returns-in-Ok-hand_held c n =
     (sym (found_at pt p v old.bound.items seen.program seen.input seen.bound c.in-Ok.found)
     ∙ (c.in-Ok.ensures.means
     ∙ ap (λ (around : RunEnv). binding d.name around)
-    (seen_env pt p v old.bound.items f.env seen.program seen.input seen.bound seen.env)))
+    (same_env pt p v old.bound.items f.env seen.program seen.input seen.bound seen.env)))
     c.held.ensures) (omega arith) ends.top ends.below ends.texts ends.bound
 
 pub returns-in-Err-hand_held : goal.returns-in-Err-hand_held

@@ -18,11 +18,11 @@ returns-in-Err g c =
     let d = c.args.handed.now in
     let e = c.args.expr.now in
     let env : RunEnv = env_at (cells_of p input old.bound.items) f.env in
-    let told = finds_err c.point.result p v old.bound.items f.env c.point.ensures.program c.point.ensures.input
+    let known = finds_err c.point.result p v old.bound.items f.env c.point.ensures.program c.point.ensures.input
     c.point.ensures.bound
     c.point.ensures.env (view_expr e) c.args.steps.now c.value_of.new.steps c.in-Err.ensures in
     hand_stays p input old old f c.args.handing d (value_spent p input e env) _ _ c.requires.hands
-    (value_gives_cost p input f d e env c.requires.by) (told.0, omega (arith, told.1)) (same_self p input old)
+    (value_gives_cost p input f d e env c.requires.by) (known.0, omega (arith, known.1)) (same_self p input old)
 
 pub returns-in-Ok-hand_held : goal.returns-in-Ok-hand_held
 returns-in-Ok-hand_held g c =
@@ -34,14 +34,14 @@ returns-in-Ok-hand_held g c =
     let d = c.args.handed.now in
     let e = c.args.expr.now in
     let env : RunEnv = env_at (cells_of p input old.bound.items) f.env in
-    let told = finds_at c.point.result p v old.bound.items f.env c.point.ensures.program c.point.ensures.input
+    let known = finds_at c.point.result p v old.bound.items f.env c.point.ensures.program c.point.ensures.input
     c.point.ensures.bound
     c.point.ensures.env (view_expr e) c.args.steps.now c.value_of.new.steps (Ok c.in-Ok.found) c.in-Ok.ensures in
     let ends = c.in-Ok-hand_held.ensures in
     hand_goes p input old c.hand_held.new.self f c.args.handing d c.held.result (value_spent p input e env) _ _
     c.requires.hands (value_gives_cost p input f d e env c.requires.by)
-    (value_bound p input f d e (cells_of p input old.bound.items) env c.in-Ok.found c.held.result c.requires.by told.0
-    c.held.ensures) (omega (arith, told.2)) ends.top ends.below ends.texts ends.bound
+    (value_bound p input f d e (cells_of p input old.bound.items) env c.in-Ok.found c.held.result c.requires.by known.0
+    c.held.ensures) (omega (arith, known.2)) ends.top ends.below ends.texts ends.bound
 
 pub returns-in-Err-hand_held : goal.returns-in-Err-hand_held
 returns-in-Err-hand_held g c =
@@ -53,9 +53,9 @@ returns-in-Err-hand_held g c =
     let d = c.args.handed.now in
     let e = c.args.expr.now in
     let env : RunEnv = env_at (cells_of p input old.bound.items) f.env in
-    let told = finds_at c.point.result p v old.bound.items f.env c.point.ensures.program c.point.ensures.input
+    let known = finds_at c.point.result p v old.bound.items f.env c.point.ensures.program c.point.ensures.input
     c.point.ensures.bound
     c.point.ensures.env (view_expr e) c.args.steps.now c.value_of.new.steps (Ok c.in-Ok.found) c.in-Ok.ensures in
     hand_stays p input old c.hand_held.new.self f c.args.handing d (value_spent p input e env) _ _ c.requires.hands
-    (value_gives_cost p input f d e env c.requires.by) (omega (arith, told.2), omega (arith, told.2))
+    (value_gives_cost p input f d e env c.requires.by) (omega (arith, known.2), omega (arith, known.2))
     c.in-Err-hand_held.ensures.stays

@@ -13,7 +13,7 @@ use Rattle.render_core.specs.Stepping.{GoesIn}
 use Rattle.render_core.specs.Variables.{cells_of, env_at}
 use Rattle.render_core.proofs.Meanings.{means_if}
 use Rattle.render_core.proofs.Moves.{same_self, silent_in, stays_in}
-use Rattle.render_core.proofs.Sights.{seen_env}
+use Rattle.render_core.proofs.Sights.{same_env}
 use Rattle.render_core.proofs.stack.Machine.step_if.Goals as goal
 
 abbrev taken : List Branch → Option Block → RunEnv → Option Block × ℕ
@@ -28,13 +28,13 @@ returns-in-Err g c =
     let f = c.args.ahead in
     let env : RunEnv = env_at (cells_of p input old.bound.items) f.env in
     let at = c.point-point.ensures in
-    let seen = seen_env c.point-point.result p v old.bound.items f.env at.program at.input at.bound at.env in
+    let seen = same_env c.point-point.result p v old.bound.items f.env at.program at.input at.bound at.env in
     let bs = c.args.branches.now in
     let other = c.args.other in
-    let told = subst (λ (around : RunEnv). IsWithin (taken bs other around).1 c.args.steps.now
+    let known = subst (λ (around : RunEnv). IsWithin (taken bs other around).1 c.args.steps.now
     c.branch_taken.new.steps) seen c.in-Err.ensures in
     stays_in p input old old f (op.If bs other) _ _ _ _ c.requires.top c.requires.op c.requires.low
-    (means_if p f.left f.at bs other f.number env) told c.requires.fits (same_self p input old)
+    (means_if p f.left f.at bs other f.number env) known c.requires.fits (same_self p input old)
 
 pub returns-in-Ok-enter_block : goal.returns-in-Ok-enter_block
 returns-in-Ok-enter_block g c =
@@ -45,15 +45,15 @@ returns-in-Ok-enter_block g c =
     let f = c.args.ahead in
     let env : RunEnv = env_at (cells_of p input old.bound.items) f.env in
     let at = c.point-point.ensures in
-    let seen = seen_env c.point-point.result p v old.bound.items f.env at.program at.input at.bound at.env in
+    let seen = same_env c.point-point.result p v old.bound.items f.env at.program at.input at.bound at.env in
     let bs = c.args.branches.now in
     let other = c.args.other in
-    let told = subst (λ (around : RunEnv). (c.in-Ok.block ≡ (taken bs other around).0)
+    let known = subst (λ (around : RunEnv). (c.in-Ok.block ≡ (taken bs other around).0)
     × (c.branch_taken.new.steps ≡ c.args.steps.now + (taken bs other around).1)) seen c.in-Ok.ensures in
     silent_in p input old c.enter_block.new.self f (op.If bs other) _ _ _ _ c.requires.top
-    c.requires.op c.requires.low (means_if p f.left f.at bs other f.number env) told.1
+    c.requires.op c.requires.low (means_if p f.left f.at bs other f.number env) known.1
     (subst (λ (b : Option Block). GoesIn p input old c.enter_block.new.self f
-    (arm_gives (means_before p f.left f.at) b (pos 0) env)) told.0 (c.in-Ok-enter_block.ensures.goes p input))
+    (arm_gives (means_before p f.left f.at) b (pos 0) env)) known.0 (c.in-Ok-enter_block.ensures.goes p input))
 
 pub returns-in-Err-enter_block : goal.returns-in-Err-enter_block
 returns-in-Err-enter_block g c =
@@ -64,11 +64,11 @@ returns-in-Err-enter_block g c =
     let f = c.args.ahead in
     let env : RunEnv = env_at (cells_of p input old.bound.items) f.env in
     let at = c.point-point.ensures in
-    let seen = seen_env c.point-point.result p v old.bound.items f.env at.program at.input at.bound at.env in
+    let seen = same_env c.point-point.result p v old.bound.items f.env at.program at.input at.bound at.env in
     let bs = c.args.branches.now in
     let other = c.args.other in
-    let told = subst (λ (around : RunEnv). (c.in-Ok.block ≡ (taken bs other around).0)
+    let known = subst (λ (around : RunEnv). (c.in-Ok.block ≡ (taken bs other around).0)
     × (c.branch_taken.new.steps ≡ c.args.steps.now + (taken bs other around).1)) seen c.in-Ok.ensures in
     stays_in p input old c.enter_block.new.self f (op.If bs other) _ _ _ _ c.requires.top
     c.requires.op c.requires.low (means_if p f.left f.at bs other f.number env)
-    (omega (arith, told.1), omega (arith, told.1)) c.requires.fits c.in-Err-enter_block.ensures.stays
+    (omega (arith, known.1), omega (arith, known.1)) c.requires.fits c.in-Err-enter_block.ensures.stays

@@ -21,10 +21,10 @@ returns-in-Err g c =
     let f = c.args.ahead in
     let env : RunEnv = env_at (cells_of p input old.bound.items) f.env in
     let at = c.point.ensures in
-    let told = finds_err c.point.result p v old.bound.items f.env at.program at.input at.bound at.env
+    let known = finds_err c.point.result p v old.bound.items f.env at.program at.input at.bound at.env
     (view_expr c.args.expr.now) c.args.steps.now c.value_of.new.steps c.in-Err.ensures in
     binds_stay p input old old f (op.Let c.args.name.now c.args.expr.now)
-    (cost (view_expr c.args.expr.now) env) _ _ _ c.requires.top c.requires.op c.requires.low refl told
+    (cost (view_expr c.args.expr.now) env) _ _ _ c.requires.top c.requires.op c.requires.low refl known
     c.requires.fits (same_self p input old)
 
 pub returns-in-Ok-bind_here : goal.returns-in-Ok-bind_here
@@ -36,13 +36,13 @@ returns-in-Ok-bind_here g c =
     let f = c.args.ahead in
     let env : RunEnv = env_at (cells_of p input old.bound.items) f.env in
     let at = c.point.ensures in
-    let told = finds_at c.point.result p v old.bound.items f.env at.program at.input at.bound at.env
+    let known = finds_at c.point.result p v old.bound.items f.env at.program at.input at.bound at.env
     (view_expr c.args.expr.now) c.args.steps.now c.value_of.new.steps (Ok c.in-Ok.found) c.in-Ok.ensures in
     binds_step p input old c.bind_here.new.self f (op.Let c.args.name.now c.args.expr.now)
     (cost (view_expr c.args.expr.now) env) (naming.Op f.at) c.held.result _ _ c.requires.top c.requires.op
     c.requires.low
     (means_let p (cells_of p input old.bound.items) f c.args.name.now c.args.expr.now env c.in-Ok.found c.held.result
-    input c.requires.op told.0 c.held.ensures) told.2 (c.in-Ok-bind_here.ensures.binds p input)
+    input c.requires.op known.0 c.held.ensures) known.2 (c.in-Ok-bind_here.ensures.binds p input)
 
 pub returns-in-Err-bind_here : goal.returns-in-Err-bind_here
 returns-in-Err-bind_here g c =
@@ -53,8 +53,8 @@ returns-in-Err-bind_here g c =
     let f = c.args.ahead in
     let env : RunEnv = env_at (cells_of p input old.bound.items) f.env in
     let at = c.point.ensures in
-    let told = finds_at c.point.result p v old.bound.items f.env at.program at.input at.bound at.env
+    let known = finds_at c.point.result p v old.bound.items f.env at.program at.input at.bound at.env
     (view_expr c.args.expr.now) c.args.steps.now c.value_of.new.steps (Ok c.in-Ok.found) c.in-Ok.ensures in
     binds_stay p input old c.bind_here.new.self f (op.Let c.args.name.now c.args.expr.now)
     (cost (view_expr c.args.expr.now) env) _ _ _ c.requires.top c.requires.op c.requires.low refl
-    (omega (arith, told.2), omega (arith, told.2)) c.requires.fits c.in-Err-bind_here.ensures.stays
+    (omega (arith, known.2), omega (arith, known.2)) c.requires.fits c.in-Err-bind_here.ensures.stays

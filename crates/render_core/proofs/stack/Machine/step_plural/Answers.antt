@@ -16,7 +16,7 @@ use Rattle.render_core.specs.Stepping.{GoesIn}
 use Rattle.render_core.specs.Variables.{cells_of, env_at}
 use Rattle.render_core.proofs.Moves.{same_self, silent_in, stays_in}
 use Rattle.render_core.proofs.Plurals.{plural_arm}
-use Rattle.render_core.proofs.Sights.{seen_env}
+use Rattle.render_core.proofs.Sights.{same_env}
 use Rattle.render_core.proofs.stack.Machine.step_plural.Goals as goal
 
 pub returns-in-Err : goal.returns-in-Err
@@ -28,12 +28,12 @@ returns-in-Err g c =
     let f = c.args.ahead in
     let env : RunEnv = env_at (cells_of p input old.bound.items) f.env in
     let at = c.point-point.ensures in
-    let seen = seen_env c.point-point.result p v old.bound.items f.env at.program at.input at.bound at.env in
+    let seen = same_env c.point-point.result p v old.bound.items f.env at.program at.input at.bound at.env in
     let e = view_expr c.args.plural.now.number in
-    let told = subst (λ (around : RunEnv). IsWithin (cost e around) c.args.steps.now
+    let known = subst (λ (around : RunEnv). IsWithin (cost e around) c.args.steps.now
     c.int_value.new.steps) seen c.in-Err.ensures in
     stays_in p input old old f (op.Plural c.args.plural.now) _ _ _ _ c.requires.top c.requires.op c.requires.low refl
-    told c.requires.fits (same_self p input old)
+    known c.requires.fits (same_self p input old)
 
 pub returns-in-Err-without_offset : goal.returns-in-Err-without_offset
 returns-in-Err-without_offset g c =
@@ -44,12 +44,12 @@ returns-in-Err-without_offset g c =
     let f = c.args.ahead in
     let env : RunEnv = env_at (cells_of p input old.bound.items) f.env in
     let at = c.point-point.ensures in
-    let seen = seen_env c.point-point.result p v old.bound.items f.env at.program at.input at.bound at.env in
+    let seen = same_env c.point-point.result p v old.bound.items f.env at.program at.input at.bound at.env in
     let e = view_expr c.args.plural.now.number in
-    let told = subst (λ (around : RunEnv). (c.in-Ok.number ≡ int_of (valued e around))
+    let known = subst (λ (around : RunEnv). (c.in-Ok.number ≡ int_of (valued e around))
     × (c.int_value.new.steps ≡ c.args.steps.now + cost e around)) seen c.in-Ok.ensures in
     stays_in p input old old f (op.Plural c.args.plural.now) _ _ _ _ c.requires.top c.requires.op c.requires.low refl
-    (omega (arith, told.1), omega (arith, told.1)) c.requires.fits (same_self p input old)
+    (omega (arith, known.1), omega (arith, known.1)) c.requires.fits (same_self p input old)
 
 pub returns-in-Ok-enter_block : goal.returns-in-Ok-enter_block
 returns-in-Ok-enter_block g c =
@@ -60,9 +60,9 @@ returns-in-Ok-enter_block g c =
     let f = c.args.ahead in
     let env : RunEnv = env_at (cells_of p input old.bound.items) f.env in
     let at = c.point-point.ensures in
-    let seen = seen_env c.point-point.result p v old.bound.items f.env at.program at.input at.bound at.env in
+    let seen = same_env c.point-point.result p v old.bound.items f.env at.program at.input at.bound at.env in
     let e = view_expr c.args.plural.now.number in
-    let told = subst (λ (around : RunEnv). (c.in-Ok.number ≡ int_of (valued e around))
+    let known = subst (λ (around : RunEnv). (c.in-Ok.number ≡ int_of (valued e around))
     × (c.int_value.new.steps ≡ c.args.steps.now + cost e around)) seen c.in-Ok.ensures in
     let fits : SFits w64 c.in-Ok.number = search rules in
     let rest_fits : SFits w64 c.in-Ok-without_offset.rest = search rules in
@@ -70,10 +70,10 @@ returns-in-Ok-enter_block g c =
     let rest = simp (to_z-of_z fits) at c.in-Ok-without_offset.ensures in
     let goes = simp (to_z-of_z rest_fits) at (c.in-Ok-enter_block.ensures.goes p input) in
     silent_in p input old c.enter_block.new.self f (op.Plural c.args.plural.now) _ _ _ _ c.requires.top c.requires.op
-    c.requires.low refl told.1
+    c.requires.low refl known.1
     (subst (λ (x : Outcome). GoesIn p input old c.enter_block.new.self f x)
     (plural_arm p (means_before p f.left f.at) c.args.plural.now c.plural_block-block.result c.in-Ok.number
-    (int_of (valued e env)) c.in-Ok-without_offset.rest env block rest told.0) goes)
+    (int_of (valued e env)) c.in-Ok-without_offset.rest env block rest known.0) goes)
 
 pub returns-in-Err-enter_block : goal.returns-in-Err-enter_block
 returns-in-Err-enter_block g c =
@@ -84,10 +84,10 @@ returns-in-Err-enter_block g c =
     let f = c.args.ahead in
     let env : RunEnv = env_at (cells_of p input old.bound.items) f.env in
     let at = c.point-point.ensures in
-    let seen = seen_env c.point-point.result p v old.bound.items f.env at.program at.input at.bound at.env in
+    let seen = same_env c.point-point.result p v old.bound.items f.env at.program at.input at.bound at.env in
     let e = view_expr c.args.plural.now.number in
-    let told = subst (λ (around : RunEnv). (c.in-Ok.number ≡ int_of (valued e around))
+    let known = subst (λ (around : RunEnv). (c.in-Ok.number ≡ int_of (valued e around))
     × (c.int_value.new.steps ≡ c.args.steps.now + cost e around)) seen c.in-Ok.ensures in
     stays_in p input old c.enter_block.new.self f (op.Plural c.args.plural.now) _ _ _ _ c.requires.top c.requires.op
-    c.requires.low refl (omega (arith, told.1), omega (arith, told.1)) c.requires.fits
+    c.requires.low refl (omega (arith, known.1), omega (arith, known.1)) c.requires.fits
     c.in-Err-enter_block.ensures.stays

@@ -23,10 +23,10 @@ returns-in-Err g c =
     let old = c.args.self.now in
     let f = c.args.ahead in
     let at = c.point.ensures in
-    let told = finds_err c.point.result p v old.bound.items f.env at.program at.input at.bound at.env
+    let known = finds_err c.point.result p v old.bound.items f.env at.program at.input at.bound at.env
     (view_expr c.args.expr.now) c.args.steps.now c.value_of.new.steps c.in-Err.ensures in
     stays_in p input old old f (op.Print c.args.expr.now c.args.place) _ _ _ _ c.requires.top c.requires.op
-    c.requires.low refl told c.requires.fits (same_self p input old)
+    c.requires.low refl known c.requires.fits (same_self p input old)
 
 pub returns-in-Err-how_shown : goal.returns-in-Err-how_shown
 returns-in-Err-how_shown g c =
@@ -36,10 +36,10 @@ returns-in-Err-how_shown g c =
     let old = c.args.self.now in
     let f = c.args.ahead in
     let at = c.point.ensures in
-    let told = finds_at c.point.result p v old.bound.items f.env at.program at.input at.bound at.env
+    let known = finds_at c.point.result p v old.bound.items f.env at.program at.input at.bound at.env
     (view_expr c.args.expr.now) c.args.steps.now c.value_of.new.steps (Ok c.in-Ok.found) c.in-Ok.ensures in
     stays_in p input old old f (op.Print c.args.expr.now c.args.place) _ _ _ _ c.requires.top c.requires.op
-    c.requires.low refl (omega (arith, told.2), omega (arith, told.2)) c.requires.fits (same_self p input old)
+    c.requires.low refl (omega (arith, known.2), omega (arith, known.2)) c.requires.fits (same_self p input old)
 
 pub returns : goal.returns
 returns g c =
@@ -50,7 +50,7 @@ returns g c =
     let f = c.args.ahead in
     let env : RunEnv = env_at (cells_of p input old.bound.items) f.env in
     let at = c.point.ensures in
-    let told = finds_at c.point.result p v old.bound.items f.env at.program at.input at.bound at.env
+    let known = finds_at c.point.result p v old.bound.items f.env at.program at.input at.bound at.env
     (view_expr c.args.expr.now) c.args.steps.now c.value_of.new.steps (Ok c.in-Ok.found) c.in-Ok.ensures in
     let e = view_expr c.args.expr.now in
     let pt = c.point-2.result in
@@ -58,12 +58,12 @@ returns g c =
     let shown = c.in-Ok-how_shown.shown in
     let found = found_means (program_seen pt) (cells_seen pt) c.in-Ok.found in
     let means = found_at pt p v old.bound.items there.program there.input there.bound c.in-Ok.found
-    ∙ told.0 in
+    ∙ known.0 in
     let shows = shows_at pt p v old.bound.items there.program there.input there.bound found shown
     c.in-Ok-how_shown.ensures in
     does_step p input old c.print_shown.new.self f (op.Print c.args.expr.now c.args.place) (cost e env)
     (print_gives p.dir c.args.place (val e env)) c.args.steps.now c.value_of.new.steps c.print_shown.result
-    c.requires.top c.requires.fits c.requires.op c.requires.low refl told.2
+    c.requires.top c.requires.fits c.requires.op c.requires.low refl known.2
     (c.print_shown.ensures (val e env)
     (subst (λ (b : Binding BoundBlock). Shows p (cells_of p input old.bound.items) (length old.bound.items) b shown)
     means shows))

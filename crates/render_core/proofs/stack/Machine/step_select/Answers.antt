@@ -14,7 +14,7 @@ use Rattle.render_core.specs.Frames.{means_before}
 use Rattle.render_core.specs.Stepping.{GoesIn}
 use Rattle.render_core.specs.Variables.{cells_of, env_at}
 use Rattle.render_core.proofs.Moves.{same_self, silent_in, stays_in}
-use Rattle.render_core.proofs.Sights.{seen_env}
+use Rattle.render_core.proofs.Sights.{same_env}
 use Rattle.render_core.proofs.stack.Machine.step_select.Goals as goal
 
 abbrev taken : SelectOp → RunEnv → Option Block × ℕ
@@ -30,12 +30,12 @@ returns-in-Err g c =
     let f = c.args.ahead in
     let env : RunEnv = env_at (cells_of p input old.bound.items) f.env in
     let at = c.point-point.ensures in
-    let seen = seen_env c.point-point.result p v old.bound.items f.env at.program at.input at.bound at.env in
+    let seen = same_env c.point-point.result p v old.bound.items f.env at.program at.input at.bound at.env in
     let select = c.args.select.now in
-    let told = subst (λ (around : RunEnv). IsWithin (taken select around).1 c.args.steps.now
+    let known = subst (λ (around : RunEnv). IsWithin (taken select around).1 c.args.steps.now
     c.select_taken.new.steps) seen c.in-Err.ensures in
     stays_in p input old old f (op.Select select) _ _ _ _ c.requires.top c.requires.op c.requires.low
-    refl told c.requires.fits (same_self p input old)
+    refl known c.requires.fits (same_self p input old)
 
 pub returns-in-Ok-enter_block : goal.returns-in-Ok-enter_block
 returns-in-Ok-enter_block g c =
@@ -46,14 +46,14 @@ returns-in-Ok-enter_block g c =
     let f = c.args.ahead in
     let env : RunEnv = env_at (cells_of p input old.bound.items) f.env in
     let at = c.point-point.ensures in
-    let seen = seen_env c.point-point.result p v old.bound.items f.env at.program at.input at.bound at.env in
+    let seen = same_env c.point-point.result p v old.bound.items f.env at.program at.input at.bound at.env in
     let select = c.args.select.now in
-    let told = subst (λ (around : RunEnv). (c.in-Ok.block ≡ (taken select around).0)
+    let known = subst (λ (around : RunEnv). (c.in-Ok.block ≡ (taken select around).0)
     × (c.select_taken.new.steps ≡ c.args.steps.now + (taken select around).1)) seen c.in-Ok.ensures in
     silent_in p input old c.enter_block.new.self f (op.Select select) _ _ _ _ c.requires.top
-    c.requires.op c.requires.low refl told.1
+    c.requires.op c.requires.low refl known.1
     (subst (λ (b : Option Block). GoesIn p input old c.enter_block.new.self f
-    (arm_gives (means_before p f.left f.at) b (pos 0) env)) told.0 (c.in-Ok-enter_block.ensures.goes p input))
+    (arm_gives (means_before p f.left f.at) b (pos 0) env)) known.0 (c.in-Ok-enter_block.ensures.goes p input))
 
 pub returns-in-Err-enter_block : goal.returns-in-Err-enter_block
 returns-in-Err-enter_block g c =
@@ -64,10 +64,10 @@ returns-in-Err-enter_block g c =
     let f = c.args.ahead in
     let env : RunEnv = env_at (cells_of p input old.bound.items) f.env in
     let at = c.point-point.ensures in
-    let seen = seen_env c.point-point.result p v old.bound.items f.env at.program at.input at.bound at.env in
+    let seen = same_env c.point-point.result p v old.bound.items f.env at.program at.input at.bound at.env in
     let select = c.args.select.now in
-    let told = subst (λ (around : RunEnv). (c.in-Ok.block ≡ (taken select around).0)
+    let known = subst (λ (around : RunEnv). (c.in-Ok.block ≡ (taken select around).0)
     × (c.select_taken.new.steps ≡ c.args.steps.now + (taken select around).1)) seen c.in-Ok.ensures in
     stays_in p input old c.enter_block.new.self f (op.Select select) _ _ _ _ c.requires.top
-    c.requires.op c.requires.low refl (omega (arith, told.1), omega (arith, told.1))
+    c.requires.op c.requires.low refl (omega (arith, known.1), omega (arith, known.1))
     c.requires.fits c.in-Err-enter_block.ensures.stays
