@@ -1,0 +1,14 @@
+pub mod AcceptedParts
+pub mod BundleTranslations
+pub mod CompiledFiles
+pub mod DataFits
+pub mod EntryNumbers
+pub mod FilesLaws
+pub mod FirstFaults
+pub mod FormedSources
+pub mod FrontAnswers
+pub mod LanguageOf
+pub mod ReadingTrees
+pub mod SourceAnswers
+pub mod SourceLaws
+pub mod SourceTokens

@@ -1,0 +1,12 @@
+pub mod Accepted
+pub mod Accepts
+pub mod Compiled
+pub mod Deserves
+pub mod Entries
+pub mod FilesAnswer
+pub mod FilesDeserve
+pub mod FrontAnswer
+pub mod ReadsFiles
+pub mod ReadsSource
+pub mod Sources
+pub mod ViewSources

@@ -1,0 +1,102 @@
+//! Files and a bundle as one program.
+
+ghost use Rattle.std.specs.Prelude.{◌≡◌, ◌≤◌, length, option_map};
+ghost use Rattle.std.specs.List.{position};
+ghost use Rattle.std.specs.Str.{chars};
+ghost use Rattle.soy_front.specs.Accepted.{Accepted};
+ghost use Rattle.soy_front.specs.Accepts.{Decides};
+ghost use Rattle.soy_front.specs.Compiled.{CompilesFiles};
+ghost use Rattle.soy_front.specs.Entries.{is_entry_kind, is_entry_routine};
+ghost use Rattle.soy_front.specs.ViewSources.{view_contents};
+
+use crate::accepting::{AcceptedFiles, accept};
+use crate::fault::FrontFault;
+use crate::files::ReadFiles;
+use crate::source::Source;
+use ir_build::build;
+use msg_extract::Catalogue;
+use soy_base::{Dir, Kind, Refusal};
+use soy_tree::Typed;
+use std::alloc::Global;
+use template_ir::{Program, Routine};
+
+/// Files that are accepted, as one program: their trees, their catalogue, the program and the context's direction.
+#[derive(Drop)]
+pub struct Compiled {
+    pub typed: Typed,
+    pub catalogue: Catalogue,
+    pub program: Program,
+    pub dir: Dir,
+}
+
+/// Compiles files under a bundle, or answers their first fault; without a bundle the language is that of the source.
+pub fn compile(
+    alloc: Global,
+    sources: &[Source],
+    bundle: Option<&[u8]>,
+) -> Result<Compiled, Refusal<FrontFault>>
+    requires { length sources.now ≤ 64 }
+    ensures compiles { CompilesFiles (view_contents sources.now) (option_map (λ b. b.now) bundle.entry) result }
+    ensures decides { Decides (Accepted (view_contents sources.now) (option_map (λ b. b.now) bundle.entry)) result }
+{
+    let accepted = match accept(alloc, sources, bundle) {
+        Ok(accepted) => accepted,
+        Err(refusal) => return Err(refusal),
+    };
+    let program = build(
+        alloc,
+        &accepted.files.typed,
+        &accepted.language.places,
+        &accepted.language.bundle,
+    )?;
+    Ok(with_program(accepted, program))
+}
+
+/// Files that are accepted, with their program.
+fn with_program(accepted: AcceptedFiles, program: Program) -> Compiled
+    ensures { result ≡ record {
+      typed = accepted.files.typed;
+      catalogue = accepted.files.catalogue;
+      program = program;
+      dir = accepted.language.bundle.dir;
+    } }
+{
+    let AcceptedFiles { files, language } = accepted;
+    let ReadFiles { typed, catalogue } = files;
+    Compiled {
+        typed,
+        catalogue,
+        program,
+        dir: language.bundle.dir,
+    }
+}
+
+impl Compiled {
+    /// The number of the template that may be rendered under a full name: a public one of kind html or text.
+    pub fn entry(&self, name: &str) -> Option<usize>
+        ensures { result ≡ position (is_entry_routine (chars name.now)) self.now.program.templates }
+    {
+        self.program
+            .parts()
+            .templates
+            .items()
+            .iter()
+            .position(|routine| is_entry(routine, name))
+    }
+}
+
+/// Whether a routine may be rendered under a full name.
+fn is_entry(routine: &Routine, name: &str) -> bool
+    ensures { result ≡ is_entry_routine (chars name.now) routine.now }
+{
+    routine.name.is(name) && !routine.private && is_entry_kind(routine.kind)
+}
+
+fn is_entry_kind(kind: Kind) -> bool
+    ensures { result ≡ is_entry_kind kind }
+{
+    match kind {
+        Kind::Html | Kind::Text => true,
+        Kind::Attributes => false,
+    }
+}
