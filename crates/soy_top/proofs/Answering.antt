@@ -3,93 +3,152 @@ use Rattle.std.proofs.Common.{◌≡◌, ℕ, Bool, true, false, cond, List, [],
 use Rattle.std.proofs.Common.{refl, sym, ap, subst, ◌∙◌, codes, inl, inr, ◌⊎◌}
 use Rattle.std.specs.Prelude.{IfSome, Result, Ok, option_map}
 use Rattle.std.specs.Option.{option_map_or}
-use Rattle.std.specs.declared.alloc.Global.{Global}
 use Rattle.std.specs.Str.{bytes_eq}
-use Rattle.msg_extract.specs.Catalogue.{catalogue_of}
-use Rattle.msg_extract.specs.declared.catalogue.Listed.{Listed}
+use Rattle.soy_base.specs.declared.code.Code.{Code}
 use Rattle.soy_base.specs.declared.fault.Fault.{Fault}
+use Rattle.soy_base.specs.declared.path.PathStep.{PathStep}
+use Rattle.std.specs.Prelude.{String}
+use Rattle.std.specs.String.{string_bytes}
+use Rattle.std.specs.declared.alloc.Global.{Global}
+use Rattle.soy_front.specs.Accepted.{FirstFault}
+use Rattle.soy_front.specs.Compiled.{AreCompiled}
+use Rattle.soy_front.specs.FilesAnswer.{ReadFiles, files_answer}
+use Rattle.soy_front.specs.FrontAnswer.{Front, IsFront, front_answer}
+use Rattle.soy_front.proofs.FrontAnswers.{fault_answered}
+use Rattle.soy_front.specs.Sources.{source_answer}
+use Rattle.soy_front.specs.ViewSources.{view_contents}
+use Rattle.soy_front.specs.declared.accepting.AcceptedFiles.{AcceptedFiles}
+use Rattle.soy_front.specs.declared.compiling.Compiled.{Compiled}
+use Rattle.soy_front.specs.declared.fault.FrontFault.{FrontFault}
+use Rattle.soy_front.specs.declared.source.Source.{Source}
 use Rattle.soy_io.specs.FileOf.{Files}
 use Rattle.soy_io.specs.Rose.{Rose}
+use Rattle.soy_meaning.specs.Outcome.{RunEnd, StopsAt, WholeRun, end_of_outcome}
 use Rattle.soy_top.specs.declared.ending.Ending.{Ending}
 use Rattle.soy_top.specs.declared.ending.Ending.TheVariants as ending
-use Rattle.soy_top.specs.Accepts.{Refuses}
-use Rattle.soy_top.specs.Answer.{Answer, Usage, Read, Refused, not_yet, page_answer, form_answer, render_answer}
+use Rattle.soy_top.specs.declared.output.Output.{Output}
+use Rattle.soy_top.specs.Accepts.{Accepts, Refuses}
+use Rattle.soy_top.specs.Answer.{Answer, Usage, Read, Refused, Done, not_yet, data_answer, ended_page, entry_answer}
+use Rattle.soy_top.specs.Answer.{entry_of, render_answer, run_text, template_outcome}
 use Rattle.soy_top.specs.Answer.{contents_answer, limits_answer, asked_answer, answer, known_answer}
-use Rattle.soy_top.specs.Answer.{catalogue_answer, is_rendered, last, parsed_answer}
+use Rattle.soy_top.specs.Answer.{accepted_text, accepted_then, catalogue_answer, inputs_answer}
+use Rattle.soy_top.specs.Answer.{front_line, tree_answer, unless_refused}
 use Rattle.soy_top.specs.Asked.{Asked, Render, Check, Extract, Gen, Play, Preview, Format, asked_by_words}
-use Rattle.soy_top.specs.Asked.{is_checked, template_files}
+use Rattle.soy_top.specs.Asked.{source_files}
 use Rattle.soy_top.specs.Concludes.{MayEnd}
 use Rattle.soy_top.specs.Fetched.{AreContents, FetchesAll, IsNotHeld}
 use Rattle.soy_top.specs.FilesWanted.{FileWanted, asked_files, wanted_files, file_names, known_files, first_not_held}
 use Rattle.soy_top.specs.FilesWanted.{first_over_limit, contents}
-use Rattle.soy_top.specs.FirstForm.{FirstFile, first_form, full_name}
-use Rattle.soy_top.specs.FirstPage.{page_of}
-use Rattle.soy_top.specs.Line.{too_large_line}
-use Rattle.soy_top.specs.SourceFiles.{refusing_line, source_trees}
-use Rattle.soy_top.specs.View.{view_contents}
+use Rattle.soy_top.specs.Inputs.{bundle_content, but_last, last, second_number}
+use Rattle.soy_top.specs.Line.{ended, too_large_line}
+use Rattle.soy_top.specs.Numbered.{numbered}
 use Rattle.soy_top.specs.Words.{Word}
-use Rattle.soy_tree.specs.ViewTrees.{view_trees}
+use Rattle.soy_tree.specs.Templates.{Declared}
+use Rattle.soy_tree.specs.Values.{Value}
+use Rattle.soy_tree.specs.declared.tree.Tree.{Tree}
+use Rattle.soy_types.specs.ReadData.{data_at}
 
--- contents other than of two files are of no render that the program does
-pub other_contents : (template : Word) (fetched : List (Vec ℕ Global)) (e : Ending) → (length fetched ≡ 2 → ⊥)
-    → Refuses (not_yet (codes "render")) e → Refuses (render_answer template (view_contents fetched)) e
-other_contents template [] e never h = h
-other_contents template (json ∷ []) e never h = h
-other_contents template (json ∷ file ∷ []) e never h = absurd (never refl)
-other_contents template (json ∷ file ∷ other ∷ files) e never h = h
+-- what is answered where files and a bundle are accepted
+pub accepts_then : (names : List Word) (files : List (List ℕ)) (bundle : Word) (content : Option (List ℕ))
+    (accepted : AcceptedFiles) (a : Answer) (r : Result Output Ending) → IsFront (front_answer files content) accepted
+    → Accepts a r → Accepts (accepted_then names files bundle content (λ of. a)) r
+accepts_then names files bundle content accepted a r is h =
+    subst (λ x. Accepts x r) (sym (ap (unless_refused names files bundle (λ of. a)) is.answered)) h
+
+-- a first fault of files and a bundle is refused with its line, whatever would be answered else
+pub front_refused : (names : List Word) (files : List (List ℕ)) (bundle : Word) (content : Option (List ℕ))
+    (fault : FrontFault) (text : String Global) → FirstFault files content fault
+    → string_bytes text ≡ ended (front_line names files bundle fault)
+    → (answer : Front → Answer) → Refuses (accepted_then names files bundle content answer) (ending.Refused text)
+front_refused names files bundle content fault text first is answer = (
+  front_line names files bundle fault,
+  ap (unless_refused names files bundle answer) (fault_answered files content fault first),
+  is,
+)
+
+-- what is answered by a second bundle, where a first one is accepted
+pub play_then : (names : List Word) (files : List (List ℕ)) (first second : Word)
+    (one one_seen other other_seen : Option (List ℕ)) (accepted : AcceptedFiles) (r : Result Output Ending)
+    → one ≡ one_seen → other ≡ other_seen → IsFront (front_answer files one) accepted
+    → Accepts (accepted_then names files second other (λ of. not_yet (codes "play"))) r
+    → Accepts (accepted_then names files first one_seen
+    (λ of. accepted_then names files second other_seen (λ of. not_yet (codes "play")))) r
+play_then names files first second one one_seen other other_seen accepted r same_one same_other is h =
+    subst (λ x. Accepts (accepted_then names files first x
+    (λ of. accepted_then names files second other_seen (λ of. not_yet (codes "play")))) r) same_one
+    (accepts_then names files first one accepted
+    (accepted_then names files second other_seen (λ of. not_yet (codes "play"))) r is
+    (subst (λ x. Accepts (accepted_then names files second x (λ of. not_yet (codes "play"))) r) same_other h))
+
+-- what is answered by a program, where files and a bundle are compiled
+pub render_then : (names : List Word) (files : List (List ℕ)) (template json_name bundle : Word)
+    (json json_seen : List ℕ) (content content_seen : Option (List ℕ)) (c : Compiled) (r : Result Output Ending)
+    → content ≡ content_seen → json ≡ json_seen → (are : AreCompiled files content c)
+    → Accepts (render_answer names files template json_name json are.of) r
+    → Accepts (accepted_then names files bundle content_seen (render_answer names files template json_name json_seen)) r
+render_then names files template json_name bundle json json_seen content content_seen c r same same_json are h =
+    subst (λ x. Accepts (accepted_then names files bundle x (render_answer names files template json_name json_seen)) r)
+    same (subst (λ j. Accepts (accepted_then names files bundle content (render_answer names files template json_name j)) r)
+    same_json (subst (λ x. Accepts x r)
+    (sym (ap (unless_refused names files bundle (render_answer names files template json_name json)) are.answered)) h))
 
 -- an answer to what is asked isn't the usage text
-page_not_usage : (o : Option (List ℕ)) → page_answer o ≡ Usage → ⊥
-page_not_usage None e = cc
-page_not_usage (Some text) e = cc
+page_not_usage : (names : List Word) (files : List (List ℕ)) (text : List ℕ) (end : RunEnd)
+    → ended_page names files text end ≡ Usage → ⊥
+page_not_usage names files text WholeRun e = cc
+page_not_usage names files text (StopsAt site) e = cc
 
-named_not_usage : (b : Bool) (o : Option (List ℕ)) (line : List ℕ) → cond b (page_answer o) (Refused line) ≡ Usage → ⊥
-named_not_usage true o line e = page_not_usage o e
-named_not_usage false o line e = cc
+data_not_usage : (names : List Word) (files : List (List ℕ)) (json_name : Word) (of : Front) (d : Declared)
+    (r : Result Value (Code × List PathStep)) → data_answer names files json_name of d r ≡ Usage → ⊥
+data_not_usage names files json_name of d (Ok v) e =
+    page_not_usage names files (run_text (template_outcome of d v)) (end_of_outcome (template_outcome of d v)) e
+data_not_usage names files json_name of d (Err fault) e = cc
 
-form_not_usage : (template : Word) (json : List ℕ) (form : Option FirstFile) → form_answer template json form ≡ Usage
-    → ⊥
-form_not_usage template json None e = cc
-form_not_usage template json (Some form) e = named_not_usage (bytes_eq template (full_name form)) (page_of form json)
-    _ e
+entry_not_usage : (names : List Word) (files : List (List ℕ)) (template json_name : Word) (json : List ℕ) (of : Front)
+    (o : Option Declared) → entry_answer names files template json_name json of o ≡ Usage → ⊥
+entry_not_usage names files template json_name json of None e = cc
+entry_not_usage names files template json_name json of (Some d) e =
+    data_not_usage names files json_name of d (data_at d.template.params json) e
 
-render_not_usage : (template : Word) (fetched : List (List ℕ)) → render_answer template fetched ≡ Usage → ⊥
-render_not_usage template [] e = cc
-render_not_usage template (json ∷ []) e = cc
-render_not_usage template (json ∷ file ∷ []) e = form_not_usage template json (first_form file) e
-render_not_usage template (json ∷ file ∷ other ∷ files) e = cc
+catalogue_not_usage : (names : List Word) (files : List (List ℕ)) (read : Result ReadFiles Fault)
+    → catalogue_answer names files read ≡ Usage → ⊥
+catalogue_not_usage names files (Ok read) e = cc
+catalogue_not_usage names files (Err fault) e = cc
 
-rendered_not_usage : (b : Bool) (a : Answer) → (a ≡ Usage → ⊥) → cond b a (not_yet (codes "render")) ≡ Usage → ⊥
-rendered_not_usage true a never e = never e
-rendered_not_usage false a never e = cc
+then_not_usage : (names : List Word) (files : List (List ℕ)) (bundle : Word) (answer : Front → Answer)
+    (r : Result Front FrontFault) → ((of : Front) → answer of ≡ Usage → ⊥)
+    → unless_refused names files bundle answer r ≡ Usage → ⊥
+then_not_usage names files bundle answer (Ok of) never e = never of e
+then_not_usage names files bundle answer (Err fault) never e = cc
 
-catalogue_not_usage : (names : List Word) (fetched : List (List ℕ)) (read : Result (List Listed) Fault)
-    → catalogue_answer names fetched read ≡ Usage → ⊥
-catalogue_not_usage names fetched (Ok rows) e = cc
-catalogue_not_usage names fetched (Err fault) e = cc
+tree_not_usage : (name : Word) (bytes : List ℕ) (read : Result Tree Fault) → tree_answer name bytes read ≡ Usage → ⊥
+tree_not_usage name bytes (Ok tree) e = cc
+tree_not_usage name bytes (Err fault) e = cc
 
-parsed_not_usage : (asked : Asked) (fetched : List (List ℕ)) → parsed_answer asked fetched ≡ Usage → ⊥
-parsed_not_usage (Render template json bundle files) fetched e =
-    rendered_not_usage (is_rendered bundle files) (render_answer template fetched)
-    (λ e. render_not_usage template fetched e) e
-parsed_not_usage (Check bundle files) fetched e = cc
-parsed_not_usage (Extract files) fetched e =
-    catalogue_not_usage files (last (length files) fetched)
-    (catalogue_of (view_trees (source_trees files (last (length files) fetched)))) e
-parsed_not_usage (Gen number) fetched e = cc
-parsed_not_usage (Play script first second files) fetched e = cc
-parsed_not_usage (Preview template json bundle files) fetched e = cc
-parsed_not_usage (Format file) fetched e = cc
-
-faultless_not_usage : (line : Option (List ℕ)) (a : Answer) → (a ≡ Usage → ⊥) → option_map_or Refused line a ≡ Usage → ⊥
-faultless_not_usage None a never e = never e
-faultless_not_usage (Some line) a never e = cc
+inputs_not_usage : (asked : Asked) (before files : List (List ℕ)) → inputs_answer asked before files ≡ Usage → ⊥
+inputs_not_usage (Render template json_name bundle names) before files e =
+    then_not_usage names files bundle (render_answer names files template json_name (numbered 0 before))
+    (front_answer files (bundle_content bundle 1 before))
+    (λ of. entry_not_usage names files template json_name (numbered 0 before) of (entry_of of template)) e
+inputs_not_usage (Check bundle names) before files e =
+    then_not_usage names files bundle (λ of. Done accepted_text) (front_answer files (bundle_content bundle 0 before))
+    (λ of u. cc) e
+inputs_not_usage (Extract names) before files e = catalogue_not_usage names files (files_answer files) e
+inputs_not_usage (Gen number) before files e = cc
+inputs_not_usage (Play script first second names) before files e =
+    then_not_usage names files first _ (front_answer files (bundle_content first 1 before))
+    (λ of. then_not_usage names files second (λ other. not_yet (codes "play"))
+    (front_answer files (bundle_content second (second_number first) before)) (λ other u. cc)) e
+inputs_not_usage (Preview template json bundle names) before files e =
+    then_not_usage names files bundle (λ of. not_yet (codes "preview"))
+    (front_answer files (bundle_content bundle 1 before)) (λ of u. cc) e
+inputs_not_usage (Format name) before files e =
+    tree_not_usage name (numbered 0 before) (source_answer (numbered 0 before)) e
 
 contents_not_usage : (asked : Asked) (fetched : List (List ℕ)) → contents_answer asked fetched ≡ Usage → ⊥
 contents_not_usage asked fetched e =
-    faultless_not_usage
-    (refusing_line (is_checked asked) (template_files asked) (last (length (template_files asked)) fetched))
-    (parsed_answer asked fetched) (λ e. parsed_not_usage asked fetched e) e
+    inputs_not_usage asked (but_last (length (source_files asked)) fetched) (last (length (source_files asked)) fetched)
+    e
 
 limits_not_usage : (over : Option Word) (a : Answer) → (a ≡ Usage → ⊥)
     → option_map_or (λ file. Refused (too_large_line file)) over a ≡ Usage → ⊥

@@ -8,6 +8,7 @@ use Rattle.std.specs.declared.alloc.Global.{Global}
 use Rattle.std.proofs.Math.ListN.{drop_of_length-le}
 use Rattle.std.proofs.Math.Seq.{drop-cons}
 use Rattle.std.proofs.lemmas.List.{get_or-map, length-map}
+use Rattle.soy_front.specs.declared.source.Source.{Source}
 use Rattle.soy_io.specs.Rose.{Rose}
 use Rattle.std.proofs.lemmas.Bool.{lt-ltb, ltb-true}
 use Rattle.soy_io.specs.Fetches.{HasNoFile}
@@ -16,7 +17,8 @@ use Rattle.soy_top.specs.declared.ending.Ending.{Ending}
 use Rattle.soy_top.specs.declared.ending.Ending.TheVariants as ending
 use Rattle.soy_top.specs.declared.wanted.FileWanted as code
 use Rattle.soy_top.specs.Fetched.{SoFar, next_fetched, AreContents, IsNotHeld, FetchesFile, FetchesAll, FetchedContents}
-use Rattle.soy_top.specs.View.{view_file, view_files, view_contents}
+use Rattle.soy_top.specs.View.{view_file, view_files}
+use Rattle.soy_front.specs.ViewSources.{view_contents}
 use Rattle.soy_top.specs.FilesWanted.{FileWanted, file_names, known_files, first_not_held, first_over_limit, content}
 use Rattle.soy_top.specs.FilesWanted.{contents}
 use Rattle.soy_top.specs.Words.{Word}
@@ -204,7 +206,7 @@ are_contents files wanted so_far fetched far none same = record {
 }
 
 fetched-to-end : (known : Option Files) (wanted : List FileWanted) (so_far : SoFar) (faults : ℕ × ℕ)
-    (result : Result (Vec (Vec ℕ Global) Global) Ending) → FetchedSoFar known wanted [] so_far
+    (result : Result (Vec Source Global) Ending) → FetchedSoFar known wanted [] so_far
     → FetchedContents so_far result → FetchesAll known wanted faults result
 fetched-to-end None wanted so_far faults (Ok fetched) far h = tt
 fetched-to-end (Some files) wanted so_far faults (Ok fetched) far h =
@@ -218,7 +220,7 @@ fetched-to-end known wanted so_far faults (Err ending.Memory) far h = tt
 
 -- all files were fetched
 pub fetched-all : (known : Option Files) (wanted : List code.FileWanted) (i : ℕ) (so_far : SoFar) (faults : ℕ × ℕ)
-    (result : Result (Vec (Vec ℕ Global) Global) Ending) → length wanted ≤ i
+    (result : Result (Vec Source Global) Ending) → length wanted ≤ i
     → FetchedSoFar known (view_files wanted) (view_files (drop i wanted)) so_far → FetchedContents so_far result
     → FetchesAll known (view_files wanted) faults result
 fetched-all known wanted i so_far faults result past far h =

@@ -1,26 +1,29 @@
--- What the words ask for has at most 64 template files.
+-- What the words ask for has at most 64 template files that are accepted together.
 use Rattle.std.proofs.Common.{◌≡◌, ℕ, ◌≤◌, Bool, true, false, cond, ◌&&◌, List, [], ◌∷◌, length, Option, Some, None}
 use Rattle.std.proofs.Common.{option_map, refl, sym, subst, arith, codes, nat_lt, nat_le}
 use Rattle.std.specs.Str.{bytes_eq}
 use Rattle.std.proofs.lemmas.Bool.{leb-true}
 use Rattle.soy_top.specs.Asked.{Asked, Render, Check, Extract, Gen, Play, Preview, Format, has_file_count, with_files}
 use Rattle.soy_top.specs.Asked.{render_asked, check_asked, extract_asked, number_of, gen_asked, play_asked}
-use Rattle.soy_top.specs.Asked.{preview_asked, format_asked, asked_by_words, template_files}
+use Rattle.soy_top.specs.Asked.{preview_asked, format_asked, asked_by_words, source_files}
 use Rattle.soy_top.specs.Words.{Word}
-use Rattle.soy_top.proofs.Delimiters.{both_hold}
+
+both_hold : (a b : Bool) → (a && b) ≡ true → (a ≡ true) × (b ≡ true)
+both_hold true b h = (refl, h)
+both_hold false b h = let e : false ≡ true = h in cc
 
 abbrev AreFew : Option Asked → Type 0
 AreFew None = Unit {0}
-AreFew (Some asked) = length (template_files asked) ≤ 64
+AreFew (Some asked) = length (source_files asked) ≤ 64
 
-counted : (asked : Asked) (files : List Word) (b : Bool) → template_files asked ≡ files → has_file_count files ≡ b
+counted : (asked : Asked) (files : List Word) (b : Bool) → source_files asked ≡ files → has_file_count files ≡ b
     → AreFew (cond b (Some asked) None)
 counted asked files true are e =
     let most = leb-true (length files) 64 (both_hold (nat_lt 0 (length files)) (nat_le (length files) 64) e).1 in
     subst (λ fs. length fs ≤ 64) (sym are) most
 counted asked files false are e = tt
 
-with_few : (asked : Asked) (files : List Word) → template_files asked ≡ files → AreFew (with_files asked files)
+with_few : (asked : Asked) (files : List Word) → source_files asked ≡ files → AreFew (with_files asked files)
 with_few asked files are = counted asked files (has_file_count files) are refl
 
 chosen : (b : Bool) (x y : Option Asked) → AreFew x → AreFew y → AreFew (cond b x y)
@@ -75,5 +78,5 @@ asked_few (command ∷ words) =
     (chosen (bytes_eq command (codes "format")) _ _ (format_few words) tt))))))
 
 pub few-files : (words : List Word) (asked : Asked) → Some asked ≡ asked_by_words words
-    → length (template_files asked) ≤ 64
+    → length (source_files asked) ≤ 64
 few-files words asked is = subst AreFew (sym is) (asked_few words)

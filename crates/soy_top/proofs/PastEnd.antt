@@ -10,7 +10,7 @@ use Rattle.soy_base.proofs.Lines.{breaks_within-more}
 use Rattle.soy_base.specs.Position.{is_break_end, breaks_within, line_start, begins_character, characters_before}
 use Rattle.soy_base.specs.declared.fault.Fault.{Fault}
 use Rattle.soy_top.specs.Line.{refusal_line, fault_line}
-use Rattle.soy_top.specs.SourceFiles.{numbered, numbered_line}
+use Rattle.soy_top.specs.Numbered.{numbered, numbered_line}
 use Rattle.soy_top.specs.Words.{Word}
 
 module _ (text : List ℕ) where

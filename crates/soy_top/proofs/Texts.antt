@@ -1,55 +1,69 @@
--- Where the answer is a text, the words and the files are those of a page or of a catalogue.
-use Rattle.std.proofs.Common.{◌≡◌, ℕ, Bool, true, false, cond, ◌-◌, List, [], ◌∷◌, length, drop, map, Option, Some}
-use Rattle.std.proofs.Common.{None, refl, sym, ap, ◌∙◌, arith, codes}
+-- Where the answer is a text, the words and the files are those of a page, of a catalogue or of files that are accepted.
+use Rattle.std.proofs.Common.{◌≡◌, ℕ, zero, suc, Bool, true, false, cond, ◌-◌, List, [], ◌∷◌, ◌++◌, ◌+◌, length, drop, take}
+use Rattle.std.proofs.Common.{length-append, map, Option, Some, None, refl, sym, ap, subst, ◌∙◌, arith, codes}
 use Rattle.std.proofs.lemmas.List.{length-map}
 use Rattle.std.specs.Prelude.{option_and_then, unwrap_or, is_some, Result, Ok, Err}
 use Rattle.std.specs.Option.{option_map_or}
 use Rattle.std.specs.Str.{bytes_eq}
 use Rattle.std.proofs.lemmas.Slice.Eq.{bytes_eq-Decides}
-use Rattle.msg_extract.specs.Catalogue.{catalogue_of}
-use Rattle.msg_extract.specs.declared.catalogue.Listed.{Listed}
+use Rattle.soy_base.specs.declared.code.Code.{Code}
 use Rattle.soy_base.specs.declared.fault.Fault.{Fault}
+use Rattle.soy_base.specs.declared.path.PathStep.{PathStep}
+use Rattle.soy_front.specs.Accepted.{Accepted}
+use Rattle.soy_front.specs.FilesAnswer.{ReadFiles, files_answer}
+use Rattle.soy_front.specs.FrontAnswer.{Front, front_answer}
+use Rattle.soy_front.specs.declared.fault.FrontFault.{FrontFault}
+use Rattle.soy_front.proofs.FilesLaws.{read_as}
+use Rattle.soy_front.proofs.FrontAnswers.{answered_accepted, answered_deserved}
+use Rattle.soy_front.specs.Sources.{source_answer}
 use Rattle.soy_io.specs.FileOf.{Files, file_of}
-use Rattle.soy_tree.specs.Demands.{check_fault}
-use Rattle.soy_tree.specs.ViewTrees.{view_trees}
+use Rattle.soy_meaning.specs.Outcome.{RunEnd, StopsAt, WholeRun, end_of_outcome}
+use Rattle.soy_tree.specs.Templates.{Declared}
+use Rattle.soy_tree.specs.Values.{Value}
 use Rattle.soy_tree.specs.declared.tree.Tree.{Tree}
-use Rattle.soy_top.specs.Answer.{Answer, Usage, Read, Refused, Done, page_answer, form_answer, render_answer}
-use Rattle.soy_top.specs.Answer.{contents_answer, asked_answer, limits_answer, answer, is_rendered, not_yet, last}
-use Rattle.soy_top.specs.Answer.{catalogue_answer, catalogue_text, extract_answer, parsed_answer}
+use Rattle.soy_types.specs.ReadData.{data_at}
+use Rattle.soy_top.specs.Answer.{Answer, Usage, Read, Refused, Done, data_answer, ended_page, entry_answer, entry_of}
+use Rattle.soy_top.specs.Answer.{render_answer, run_text, template_outcome}
+use Rattle.soy_top.specs.Answer.{contents_answer, asked_answer, limits_answer, answer, not_yet}
+use Rattle.soy_top.specs.Answer.{accepted_text, accepted_then, catalogue_answer, catalogue_text}
+use Rattle.soy_top.specs.Answer.{inputs_answer, tree_answer, unless_refused}
 use Rattle.soy_top.specs.Asked.{Asked, Render, Check, Extract, Gen, Play, Preview, Format, asked_by_words}
-use Rattle.soy_top.specs.Asked.{is_checked, template_files}
-use Rattle.soy_top.specs.FilesDeserve.{HaveTrees, FilesDeserve}
-use Rattle.soy_top.specs.FilesDeserve.FilesDeserve.{OwnFault, FailedDemand, NoFault}
-use Rattle.soy_top.specs.FilesWanted.{FileWanted, data_file, source_file, render_files, asked_files}
-use Rattle.soy_top.specs.FilesWanted.{first_not_held, first_over_limit, content, contents}
-use Rattle.soy_top.specs.FirstForm.{FirstFile, first_form, full_name}
-use Rattle.soy_top.specs.FirstPage.{page_of, first_page}
+use Rattle.soy_top.specs.FilesWanted.{FileWanted, data_file, source_file, bundle_files, render_files, asked_files}
+use Rattle.soy_top.specs.FilesWanted.{first_not_held, first_over_limit, content, contents, is_source_language}
+use Rattle.soy_top.specs.Inputs.{bundle_content, but_last, last, second_number}
 use Rattle.soy_top.specs.IsCatalogue.{IsCatalogue}
+use Rattle.soy_top.specs.IsChecked.{HoldsBundle, IsChecked}
 use Rattle.soy_top.specs.IsPage.{IsPage}
 use Rattle.soy_top.specs.IsText.{IsText}
-use Rattle.soy_top.specs.IsText.IsText.{Page, Catalogue}
+use Rattle.soy_top.specs.IsText.IsText.{Page, Checked, Catalogue}
 use Rattle.soy_top.specs.Line.{too_large_line}
-use Rattle.soy_top.specs.SourceFiles.{refusing_line, source_trees}
+use Rattle.soy_top.specs.Numbered.{numbered}
 use Rattle.soy_top.specs.Words.{Word}
-use Rattle.soy_top.proofs.FileFaults.{files-deserve, trees_had}
 use Rattle.soy_top.proofs.SpelledWords.{IsSpelled, spelled-asked}
 
--- a text by the form is the page
-page_is : (o : Option (List ℕ)) (text : List ℕ) → page_answer o ≡ Done text → o ≡ Some text
-page_is None text h = cc
-page_is (Some page) text h = cc
+-- a text by what a template gives is its text, and it ends whole
+page_text : (names : List Word) (contents : List (List ℕ)) (given : List ℕ) (end : RunEnd) (text : List ℕ)
+    → ended_page names contents given end ≡ Done text → (end ≡ WholeRun) × (text ≡ given)
+page_text names contents given WholeRun text h = (refl, cc)
+page_text names contents given (StopsAt site) text h = cc
 
-named_page : (b : Bool) (o : Option (List ℕ)) (line text : List ℕ) → cond b (page_answer o) (Refused line) ≡ Done text
-    → o ≡ Some text
-named_page true o line text h = page_is o text h
-named_page false o line text h = cc
+-- a text by the data is one of values that were read
+data_text : (names : List Word) (contents : List (List ℕ)) (json_name : Word) (of : Front) (d : Declared)
+    (r : Result Value (Code × List PathStep)) (text : List ℕ) → data_answer names contents json_name of d r ≡ Done text
+    → (v : Value) × (r ≡ Ok v) × (end_of_outcome (template_outcome of d v) ≡ WholeRun)
+    × (text ≡ run_text (template_outcome of d v))
+data_text names contents json_name of d (Ok v) text h =
+    let p = page_text names contents (run_text (template_outcome of d v)) (end_of_outcome (template_outcome of d v))
+    text h in (v, refl, p.0, p.1)
+data_text names contents json_name of d (Err fault) text h = cc
 
-form_page : (template : Word) (json file : List ℕ) (form : Option FirstFile) (text : List ℕ) → first_form file ≡ form
-    → form_answer template json form ≡ Done text → first_page file json ≡ Some text
-form_page template json file None text e h = cc
-form_page template json file (Some form) text e h =
-    ap (option_and_then (λ form. page_of form json)) e ∙ named_page (bytes_eq template (full_name form))
-    (page_of form json) _ text h
+-- a text by the template is one of a template that was found
+entry_text : (names : List Word) (contents : List (List ℕ)) (template json_name : Word) (json : List ℕ) (of : Front)
+    (o : Option Declared) (text : List ℕ) → entry_answer names contents template json_name json of o ≡ Done text
+    → (d : Declared) × (o ≡ Some d)
+    × (data_answer names contents json_name of d (data_at d.template.params json) ≡ Done text)
+entry_text names contents template json_name json of None text h = cc
+entry_text names contents template json_name json of (Some d) text h = (d, refl, h)
 
 -- a text by the files that are held and within their limits is one by their contents
 option_none : (o : Option Word) (f : Word → Answer) (a : Answer) (text : List ℕ) → ((w : Word) → f w ≡ Done text → ⊥)
@@ -73,57 +87,6 @@ content_held : (o : Option (List ℕ)) (rest : Option Word) (name : Word) → co
 content_held None rest name h = cc
 content_held (Some bytes) rest name h = (refl, h)
 
--- the page of a render of one file in the source language
-one_page : (files : Files) (words : List Word) (template json bundle file : Word) (text : List ℕ)
-    (wanted : List FileWanted) → wanted ≡ data_file json ∷ source_file file ∷ []
-    → words ≡ codes "render" ∷ template ∷ json ∷ bundle ∷ file ∷ [] → bundle ≡ codes "-"
-    → first_not_held files wanted ≡ None → render_answer template (contents files wanted) ≡ Done text
-    → IsPage files words text
-one_page files words template json bundle file text wanted are words_are dash held h =
-    let first = content_held (file_of files json) (first_not_held files (source_file file ∷ [])) json
-    (ap (first_not_held files) (sym are) ∙ held) in
-    let second = content_held (file_of files file) None file first.1 in
-    record {
-      template = template;
-      json_name = json;
-      file_name = file;
-      json = content files (data_file json);
-      file = content files (source_file file);
-      words_are = words_are ∙ ap (λ b. codes "render" ∷ template ∷ json ∷ b ∷ file ∷ []) dash;
-      json_held = first.0;
-      file_held = second.0;
-      page = form_page template (content files (data_file json)) (content files (source_file file)) _ text refl
-          (ap (λ w. render_answer template (contents files w)) (sym are) ∙ h);
-    }
-
--- a text is no refusal by a fault of a file
-faultless : (line : Option (List ℕ)) (a : Answer) (text : List ℕ) → option_map_or Refused line a ≡ Done text
-    → (line ≡ None) × (a ≡ Done text)
-faultless None a text h = (refl, h)
-faultless (Some line) a text h = cc
-
-render_page : (files : Files) (words : List Word) (template json bundle : Word) (names : List Word) (b : Bool)
-    (text : List ℕ) → words ≡ codes "render" ∷ template ∷ json ∷ bundle ∷ names → is_rendered bundle names ≡ b
-    → first_not_held files (render_files json bundle names) ≡ None
-    → cond b (render_answer template (contents files (render_files json bundle names))) (not_yet (codes "render"))
-    ≡ Done text → IsPage files words text
-render_page files words template json bundle names false text words_are e held h = cc
-render_page files words template json bundle [] true text words_are e held h = let f : false ≡ true = e in cc
-render_page files words template json bundle (file ∷ other ∷ names) true text words_are e held h =
-    let f : false ≡ true = e in cc
-render_page files words template json bundle (file ∷ []) true text words_are e held h =
-    let one : render_files json bundle (file ∷ []) ≡ data_file json ∷ source_file file ∷ [] = rw e refl in
-    one_page files words template json bundle file text (render_files json bundle (file ∷ [])) one words_are
-    ((bytes_eq-Decides bundle (codes "-")).0 e) held h
-
--- the contents of files are as many as their names, so their last ones are all
-last_all : (n : ℕ) (contents : List (List ℕ)) → length contents ≡ n → last n contents ≡ contents
-last_all n contents e = let none : length contents - n ≡ 0 = omega (arith, e) in ap (λ k. drop k contents) none
-
-as_many : (files : Files) (names : List Word) → length (contents files (map source_file names)) ≡ length names
-as_many files names =
-    length-map (map source_file names) (content files) ∙ length-map names source_file
-
 -- files none of which isn't held are held
 all_held : (files : Files) (names : List Word) → first_not_held files (map source_file names) ≡ None
     → map (file_of files) names ≡ map Some (contents files (map source_file names))
@@ -133,69 +96,246 @@ all_held files (name ∷ names) held =
     ap (λ o. o ∷ map (file_of files) names) first.0
     ∙ ap (λ os. Some (content files (source_file name)) ∷ os) (all_held files names first.1)
 
--- files that nothing refuses have trees that meet all demands
-no_fault : (names : List Word) (contents : List (List ℕ)) (line : Option (List ℕ)) → FilesDeserve names contents line
-    → line ≡ None → (trees : List Tree) × HaveTrees contents trees × (check_fault (view_trees trees) ≡ None)
-no_fault names contents _ (OwnFault before trees bytes after fault are have d) e = cc
-no_fault names contents _ (FailedDemand trees found have is) e = cc
-no_fault names contents _ (NoFault trees have is) e = (trees, have, is)
+-- ---- the contents of template files are the last
+
+as_many : (files : Files) (names : List Word) → length (contents files (map source_file names)) ≡ length names
+as_many files names = length-map (map source_file names) (content files) ∙ length-map names source_file
+
+take_before : {A : Type 0} (xs ys : List A) (n : ℕ) → n ≡ length xs → take n (xs ++ ys) ≡ xs
+take_before [] ys n e = rw e refl
+take_before (x ∷ xs) ys zero e = absurd (omega (arith, e))
+take_before (x ∷ xs) ys (suc n) e = ap (λ l. x ∷ l) (take_before xs ys n (omega (arith, e)))
+
+drop_before : {A : Type 0} (xs ys : List A) (n : ℕ) → n ≡ length xs → drop n (xs ++ ys) ≡ ys
+drop_before [] ys n e = rw e refl
+drop_before (x ∷ xs) ys zero e = absurd (omega (arith, e))
+drop_before (x ∷ xs) ys (suc n) e = drop_before xs ys n (omega (arith, e))
+
+length_both : {A : Type 0} (xs ys : List A) (n : ℕ) → n ≡ length ys → length (xs ++ ys) - n ≡ length xs
+length_both xs ys n e = omega (arith, e, length-append xs ys)
+
+contents_both : (files : Files) (xs ys : List FileWanted)
+    → contents files (xs ++ ys) ≡ contents files xs ++ contents files ys
+contents_both files [] ys = refl
+contents_both files (x ∷ xs) ys = ap (λ l. content files x ∷ l) (contents_both files xs ys)
+
+-- the contents before those of template files, and these
+module _ (files : Files) (before : List FileWanted) (names : List Word) where
+  abbrev named : List (List ℕ)
+  named = contents files (map source_file names)
+
+  count : length (contents files before ++ named) - length names ≡ length (contents files before)
+  count = length_both (contents files before) named (length names) (sym (as_many files names))
+
+  before_named : but_last (length names) (contents files (before ++ map source_file names)) ≡ contents files before
+  before_named =
+      ap (but_last (length names)) (contents_both files before (map source_file names))
+      ∙ take_before (contents files before) named _ count
+
+  last_named : last (length names) (contents files (before ++ map source_file names)) ≡ named
+  last_named =
+      ap (last (length names)) (contents_both files before (map source_file names))
+      ∙ drop_before (contents files before) named _ count
+
+-- files before others none of which isn't held
+held_before : (files : Files) (xs ys : List FileWanted) → first_not_held files (xs ++ ys) ≡ None
+    → (first_not_held files xs ≡ None) × (first_not_held files ys ≡ None)
+held_before files [] ys h = (refl, h)
+held_before files (x ∷ xs) ys h =
+    let first = content_held (file_of files x.name) (first_not_held files (xs ++ ys)) x.name h in
+    let rest = held_before files xs ys first.1 in
+    (ap (λ o. cond (is_some o) (first_not_held files xs) (Some x.name)) first.0 ∙ rest.0, rest.1)
+
+-- ---- files that are accepted
+
+-- a text by what files are accepted as
+then_text : (names : List Word) (contents : List (List ℕ)) (bundle : Word) (answer : Front → Answer)
+    (r : Result Front FrontFault) (text : List ℕ) → unless_refused names contents bundle answer r ≡ Done text
+    → (of : Front) × (r ≡ Ok of) × (answer of ≡ Done text)
+then_text names contents bundle answer (Ok of) text h = (of, refl, h)
+then_text names contents bundle answer (Err fault) text h = cc
+
+-- the bundle of a name is held with its content
+bundle_held : (files : Files) (bundle : Word) (b : Bool) → is_source_language bundle ≡ b
+    → first_not_held files (cond b [] (data_file bundle ∷ [])) ≡ None
+    → HoldsBundle files bundle (cond b None (Some (unwrap_or (file_of files bundle) [])))
+bundle_held files bundle true e held = (bytes_eq-Decides bundle (codes "-")).0 e
+bundle_held files bundle false e held = (
+  (λ same. let f : true ≡ false = sym ((bytes_eq-Decides bundle (codes "-")).1 same) ∙ e in absurd (cc f)),
+  (content_held (file_of files bundle) None bundle held).0,
+)
+
+-- the content of the first bundle, where nothing is before it
+first_content : (files : Files) (bundle : Word) (b : Bool) → is_source_language bundle ≡ b
+    → bundle_content bundle 0 (contents files (bundle_files bundle))
+    ≡ cond b None (Some (unwrap_or (file_of files bundle) []))
+first_content files bundle true e = rw e refl
+first_content files bundle false e = rw e refl
+
+-- the content of the bundle of a render, behind the data
+second_content : (files : Files) (json_name bundle : Word) (b : Bool) → is_source_language bundle ≡ b
+    → bundle_content bundle 1 (contents files (data_file json_name ∷ bundle_files bundle))
+    ≡ cond b None (Some (unwrap_or (file_of files bundle) []))
+second_content files json_name bundle true e = rw e refl
+second_content files json_name bundle false e = rw e refl
+
+module _ (files : Files) (words : List Word) (template json_name bundle : Word) (names : List Word) (text : List ℕ)
+  where
+    abbrev before : List FileWanted
+    before = data_file json_name ∷ bundle_files bundle
+
+    abbrev sources : List (List ℕ)
+    sources = contents files (map source_file names)
+
+    abbrev json : List ℕ
+    json = unwrap_or (file_of files json_name) []
+
+    abbrev bundle_bytes : Option (List ℕ)
+    bundle_bytes = cond (is_source_language bundle) None (Some (unwrap_or (file_of files bundle) []))
+
+    -- the same answer by the contents of the files and those before them
+    by_inputs : contents_answer (Render template json_name bundle names) (contents files (before ++ map source_file names))
+        ≡ Done text
+        → inputs_answer (Render template json_name bundle names) (contents files before) sources ≡ Done text
+    by_inputs h =
+        let asked : Asked = Render template json_name bundle names in
+        ap (λ x. inputs_answer asked x sources) (sym (before_named files before names))
+        ∙ (ap (λ y. inputs_answer asked (but_last (length names) (contents files (before ++ map source_file names))) y)
+        (sym (last_named files before names)) ∙ h)
+
+    page_is : words ≡ codes "render" ∷ template ∷ json_name ∷ bundle ∷ names
+        → first_not_held files (before ++ map source_file names) ≡ None
+        → contents_answer (Render template json_name bundle names) (contents files (before ++ map source_file names))
+        ≡ Done text → IsPage files words text
+    page_is words_are held h =
+        let here = held_before files before (map source_file names) held in
+        let json_here = content_held (file_of files json_name) (first_not_held files (bundle_files bundle)) json_name
+        here.0 in
+        let t = then_text names sources bundle (render_answer names sources template json_name json)
+        (front_answer sources (bundle_content bundle 1 (contents files before))) text (by_inputs h) in
+        let answered = ap (λ c. front_answer sources c)
+        (sym (second_content files json_name bundle (is_source_language bundle) refl)) ∙ t.1 in
+        let e = entry_text names sources template json_name json t.0 (entry_of t.0 template) text t.2 in
+        let v = data_text names sources json_name t.0 e.0 (data_at e.0.template.params json) text e.2 in
+        record {
+          template = template;
+          json_name = json_name;
+          bundle = bundle;
+          names = names;
+          json = json;
+          content = bundle_bytes;
+          contents = sources;
+          of = t.0;
+          d = e.0;
+          v = v.0;
+          words_are = words_are;
+          json_held = json_here.0;
+          bundle_held = bundle_held files bundle (is_source_language bundle) refl json_here.1;
+          all_held = all_held files names here.1;
+          accepted = answered_accepted sources bundle_bytes t.0 answered;
+          deserved = answered_deserved sources bundle_bytes t.0 answered;
+          entry = e.1;
+          reads = v.1;
+          whole = v.2;
+          text_is = v.3;
+        }
+
+check_text : (files : Files) (words : List Word) (bundle : Word) (names : List Word) (text : List ℕ)
+    → words ≡ codes "check" ∷ bundle ∷ names
+    → first_not_held files (bundle_files bundle ++ map source_file names) ≡ None
+    → contents_answer (Check bundle names) (contents files (bundle_files bundle ++ map source_file names)) ≡ Done text
+    → IsChecked files words text
+check_text files words bundle names text words_are held h =
+    let here = held_before files (bundle_files bundle) (map source_file names) held in
+    let first = before_named files (bundle_files bundle) names in
+    let rest = last_named files (bundle_files bundle) names in
+    let t = then_text names _ bundle (λ of. Done accepted_text) _ text h in
+    let bytes = ap (bundle_content bundle 0) first
+    ∙ first_content files bundle (is_source_language bundle) refl in
+    let answered = ap (λ c. front_answer (contents files (map source_file names)) c) (sym bytes)
+    ∙ (ap (λ cs. front_answer cs (bundle_content bundle 0 (but_last (length names)
+    (contents files (bundle_files bundle ++ map source_file names))))) (sym rest) ∙ t.1) in
+    record {
+      bundle = bundle;
+      names = names;
+      content = cond (is_source_language bundle) None (Some (unwrap_or (file_of files bundle) []));
+      contents = contents files (map source_file names);
+      words_are = words_are;
+      bundle_held = bundle_held files bundle (is_source_language bundle) refl here.0;
+      all_held = all_held files names here.1;
+      accepted = answered_accepted _ _ t.0 answered;
+      text_is = let e : Done accepted_text ≡ Done text = t.2 in cc e;
+    }
+
+-- ---- catalogues
 
 -- a text by the rows of a catalogue
-rows_of : (names : List Word) (contents : List (List ℕ)) (read : Result (List Listed) Fault) (text : List ℕ)
-    → catalogue_answer names contents read ≡ Done text
-    → (rows : List Listed) × (read ≡ Ok rows) × (text ≡ catalogue_text rows)
-rows_of names contents (Ok rows) text h = (rows, refl, cc)
-rows_of names contents (Err fault) text h = cc
+read_of : (names : List Word) (contents : List (List ℕ)) (r : Result ReadFiles Fault) (text : List ℕ)
+    → catalogue_answer names contents r ≡ Done text
+    → (read : ReadFiles) × (r ≡ Ok read) × (text ≡ catalogue_text read.rows)
+read_of names contents (Ok read) text h = (read, refl, cc)
+read_of names contents (Err fault) text h = cc
 
--- the catalogue of an extract, by the contents of its files
-extract_catalogue : (files : Files) (words : List Word) (names : List Word) (contents : List (List ℕ)) (text : List ℕ)
-    → words ≡ codes "extract" ∷ names → map (file_of files) names ≡ map Some contents
-    → length names ≡ length contents → refusing_line true names contents ≡ None
-    → extract_answer names contents ≡ Done text → IsCatalogue files words text
-extract_catalogue files words names contents text words_are held as_many unrefused h =
-    let found = no_fault names contents (refusing_line true names contents) (files-deserve names contents as_many)
-    unrefused in
-    let had = rows_of names contents (catalogue_of (view_trees (source_trees names contents))) text h in
+extract_text : (files : Files) (words : List Word) (names : List Word) (text : List ℕ)
+    → words ≡ codes "extract" ∷ names → first_not_held files (map source_file names) ≡ None
+    → contents_answer (Extract names) (contents files (map source_file names)) ≡ Done text
+    → IsCatalogue files words text
+extract_text files words names text words_are held h =
+    let rest = last_named files [] names in
+    let had = read_of names (contents files (map source_file names)) _ text
+    (ap (λ cs. catalogue_answer names cs (files_answer cs)) (sym rest) ∙ h) in
     record {
       names = names;
-      contents = contents;
-      trees = found.0;
-      rows = had.0;
+      contents = contents files (map source_file names);
+      trees = had.0.trees;
+      rows = had.0.rows;
       words_are = words_are;
-      all_held = held;
-      have_trees = found.1;
-      demands = found.2;
-      listed = ap (λ ts. catalogue_of (view_trees ts))
-          (sym (trees_had names contents found.0 as_many found.1).1) ∙ had.1;
+      all_held = all_held files names held;
+      are_files = read_as (contents files (map source_file names)) had.0 had.1;
       text_is = had.2;
     }
 
--- and by the files that are held
-extract_text : (files : Files) (words : List Word) (names : List Word) (text : List ℕ)
-    → words ≡ codes "extract" ∷ names → first_not_held files (map source_file names) ≡ None
-    → refusing_line true names (last (length names) (contents files (map source_file names))) ≡ None
-    → extract_answer names (last (length names) (contents files (map source_file names))) ≡ Done text
-    → IsCatalogue files words text
-extract_text files words names text words_are held unrefused h =
-    let whole = last_all (length names) (contents files (map source_file names)) (as_many files names) in
-    extract_catalogue files words names (contents files (map source_file names)) text words_are
-    (all_held files names held) (sym (as_many files names))
-    (ap (refusing_line true names) (sym whole) ∙ unrefused) (ap (extract_answer names) (sym whole) ∙ h)
+-- ---- other commands have no text
+
+tree_no_text : (name : Word) (bytes : List ℕ) (read : Result Tree Fault) (text : List ℕ)
+    → tree_answer name bytes read ≡ Done text → ⊥
+tree_no_text name bytes (Ok tree) text h = cc
+tree_no_text name bytes (Err fault) text h = cc
+
+play_no_text : (script first second : Word) (names : List Word) (given read : List (List ℕ)) (text : List ℕ)
+    → inputs_answer (Play script first second names) given read ≡ Done text → ⊥
+play_no_text script first second names given read text h =
+    let t = then_text names read first (λ of. accepted_then names read second
+    (bundle_content second (second_number first) given) (λ other. not_yet (codes "play")))
+    (front_answer read (bundle_content first 1 given)) text h in
+    let u = then_text names read second (λ other. not_yet (codes "play"))
+    (front_answer read (bundle_content second (second_number first) given)) text t.2 in
+    let e : not_yet (codes "play") ≡ Done text = u.2 in cc
+
+preview_no_text : (template json_name bundle : Word) (names : List Word) (given read : List (List ℕ)) (text : List ℕ)
+    → inputs_answer (Preview template json_name bundle names) given read ≡ Done text → ⊥
+preview_no_text template json_name bundle names given read text h =
+    let t = then_text names read bundle (λ of. not_yet (codes "preview"))
+    (front_answer read (bundle_content bundle 1 given)) text h in
+    let e : not_yet (codes "preview") ≡ Done text = t.2 in cc
 
 asked_text : (files : Files) (words : List Word) (asked : Asked) (text : List ℕ) → IsSpelled words asked
     → first_not_held files (asked_files asked) ≡ None
-    → refusing_line (is_checked asked) (template_files asked)
-    (last (length (template_files asked)) (contents files (asked_files asked))) ≡ None
-    → parsed_answer asked (contents files (asked_files asked)) ≡ Done text → IsText files words text
-asked_text files words (Render template json bundle names) text is held unrefused h =
-    Page (render_page files words template json bundle names (is_rendered bundle names) text is refl held h)
-asked_text files words (Check bundle names) text is held unrefused h = cc
-asked_text files words (Extract names) text is held unrefused h =
-    Catalogue (extract_text files words names text is held unrefused h)
-asked_text files words (Gen number) text is held unrefused h = cc
-asked_text files words (Play script first second names) text is held unrefused h = cc
-asked_text files words (Preview template json bundle names) text is held unrefused h = cc
-asked_text files words (Format file) text is held unrefused h = cc
+    → contents_answer asked (contents files (asked_files asked)) ≡ Done text → IsText files words text
+asked_text files words (Render template json_name bundle names) text is held h =
+    Page (page_is files words template json_name bundle names text is held h)
+asked_text files words (Check bundle names) text is held h = Checked (check_text files words bundle names text is held h)
+asked_text files words (Extract names) text is held h = Catalogue (extract_text files words names text is held h)
+asked_text files words (Gen number) text is held h = cc
+asked_text files words (Play script first second names) text is held h =
+    let all : List (List ℕ) = contents files (asked_files (Play script first second names)) in
+    absurd (play_no_text script first second names (but_last (length names) all) (last (length names) all) text h)
+asked_text files words (Preview template json_name bundle names) text is held h =
+    let all : List (List ℕ) = contents files (asked_files (Preview template json_name bundle names)) in
+    absurd (preview_no_text template json_name bundle names (but_last (length names) all) (last (length names) all) text h)
+asked_text files words (Format name) text is held h =
+    let all : List (List ℕ) = contents files (asked_files (Format name)) in
+    absurd (tree_no_text name (numbered 0 (but_last 0 all)) (source_answer (numbered 0 (but_last 0 all))) text h)
 
 answered_text : (files : Files) (words : List Word) (asked : Option Asked) (text : List ℕ)
     → asked_by_words words ≡ asked → option_map_or (asked_answer files) asked Usage ≡ Done text
@@ -203,10 +343,9 @@ answered_text : (files : Files) (words : List Word) (asked : Option Asked) (text
 answered_text files words None text is h = cc
 answered_text files words (Some asked) text is h =
     let held = held_text files asked text h in
-    let parsed = faultless _ _ text held.1 in
-    asked_text files words asked text (spelled-asked words asked is) held.0 parsed.0 parsed.1
+    asked_text files words asked text (spelled-asked words asked is) held.0 held.1
 
--- a text that is the answer is a page or a catalogue
+-- a text that is the answer is a page, a catalogue, or that files are accepted
 pub text-answered : (files : Files) (words : List Word) (text : List ℕ) → answer files words ≡ Done text
     → IsText files words text
 text-answered files words text h = answered_text files words (asked_by_words words) text refl h

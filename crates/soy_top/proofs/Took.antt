@@ -1,15 +1,10 @@
 -- What a sink took of a text that is put piece by piece.
-use Rattle.std.proofs.Common.{◌≡◌, ℕ, ◌+◌, ◌<◌, ◌≤◌, List, [], ◌++◌, Option, length, take, drop, get_or, add-one, refl}
-use Rattle.std.proofs.Common.{sym, ap, ◌∙◌, arith, min, append_assoc}
+use Rattle.std.proofs.Common.{◌≡◌, ℕ, ◌+◌, ◌<◌, ◌≤◌, List, [], ◌++◌, Option, length, take, refl}
+use Rattle.std.proofs.Common.{sym, ap, ◌∙◌, arith, min, append_assoc, append-nil, length-append}
 use Rattle.std.proofs.lemmas.List.{take-append-le, take_min}
 use Rattle.std.proofs.Math.Seq.{take-append-add}
-use Rattle.std.proofs.Math.Seq.{drop-cons}
-use Rattle.serde_json.specs.Data.{Data}
 use Rattle.soy_io.specs.Added.{added}
 use Rattle.soy_io.proofs.AddedParts.{added-nil, added-added}
-use Rattle.soy_top.specs.declared.first_form.Part.{Part}
-use Rattle.soy_top.specs.FirstPage.{part_bytes, body_bytes}
-use Rattle.soy_top.specs.ViewForm.{view_part, view_parts}
 
 -- from `before` to `now` the sink took a prefix of the text
 abbrev pub PrefixTaken : Option (List ℕ) → Option (List ℕ) → List ℕ → Type 0
@@ -40,6 +35,18 @@ pub put_rest : (before now then : Option (List ℕ)) (text rest : List ℕ) → 
 put_rest before now then text rest far took =
     took ∙ (ap (λ t. added t rest) far.taken ∙ (added-added before far.done rest ∙ ap (added before) (sym far.split)))
 
+-- where nothing is left, the text was taken
+pub put_whole : (before now : Option (List ℕ)) (text rest : List ℕ) → PutSoFar before now text rest → rest ≡ []
+    → now ≡ added before text
+put_whole before now text rest far none =
+    far.taken ∙ ap (added before) (sym (far.split ∙ (ap (λ r. far.done ++ r) none ∙ append-nil far.done)))
+
+-- what is left is no longer than the text
+pub left_within : (before now : Option (List ℕ)) (text rest : List ℕ) → PutSoFar before now text rest
+    → length rest ≤ length text
+left_within before now text rest far =
+    omega (arith, ap length far.split, length-append far.done rest)
+
 -- a prefix of the rest was taken
 pub put_part : (before now then : Option (List ℕ)) (text rest : List ℕ) → PutSoFar before now text rest
     → PrefixTaken now then rest → PrefixTaken before then text
@@ -57,25 +64,6 @@ pub prefix_of_prefix : (now then : Option (List ℕ)) (rest piece others : List 
     → n ≤ length piece → then ≡ added now (take n piece) → PrefixTaken now then rest
 prefix_of_prefix now then rest piece others n same within took =
     (n, took ∙ ap (added now) (sym (ap (take n) same ∙ take-append-le n piece others within)))
-
--- the body from one part on is that part and the body from the next on
-pub body_bytes-drop : (value : Data) (parts : List Part) (i : ℕ) (d : Part) → i < length parts
-    → body_bytes value (view_parts (drop i parts)) ≡ part_bytes value
-    (view_part (get_or parts i d)) ++ body_bytes value (view_parts (drop (i + 1) parts))
-body_bytes-drop value parts i d within =
-    ap (λ rest. body_bytes value (view_parts rest)) (drop-cons parts i d within)
-    ∙ ap (λ k. part_bytes value (view_part (get_or parts i d)) ++ body_bytes value (view_parts (drop k parts)))
-    (sym (add-one i))
-
--- the same where the parts are shown under another name
-pub body_bytes-step : (value : Data) (parts shown : List Part) (i : ℕ) (d : Part) → shown ≡ parts → i < length shown
-    → body_bytes value (view_parts (drop i parts)) ≡ part_bytes value
-    (view_part (get_or shown i d)) ++ body_bytes value (view_parts (drop (i + 1) parts))
-body_bytes-step value parts shown i d same within =
-    ap (λ items. body_bytes value (view_parts (drop i items))) (sym same)
-    ∙ (body_bytes-drop value shown i d within
-    ∙ ap (λ items. part_bytes value (view_part (get_or shown i d)) ++ body_bytes value
-    (view_parts (drop (i + 1) items))) same)
 
 -- a prefix of the next part is a prefix of what is left
 pub part_of_part : (now then : Option (List ℕ)) (rest piece others : List ℕ) → rest ≡ piece ++ others

@@ -2,32 +2,54 @@
 --
 -- The cases are tried in this order. Words that are no command get the usage text. The first file that the words want
 -- and that isn't held can't be read. The first file over its limit is refused, in the order of the words. The rest is
--- answered by the contents: the template files are refused by their first fault, if they have one. An `extract` is then
--- refused by the first message whose id is that of another one, and else the answer is the catalogue and a line feed.
--- What the program doesn't do yet is refused, which is every other command but a `render` of one file in the source
--- language; and so are, in this order, a file that isn't of the first form, a template's name that the file doesn't
--- have, and data that aren't of the first form. Else the answer is the page.
+-- answered by the contents: template files and a bundle are refused by their first fault, if they have one; an
+-- `extract` asks for the faults of its files alone, and a `format` for those that its file has by itself. Where there
+-- is none, the answer of a `check` is `ok` and a line feed, and that of an `extract` the catalogue and a line feed. A
+-- `render` asks then for its template, which is a public one of kind html or text (29), and for the values of its
+-- parameters (27, 28); the answer is the bytes of the pieces that the template gives under them. Where these stop at a
+-- call that nests too deep, it is those up to the call, with the call's line. What the program doesn't do yet is
+-- refused, which is every other command.
 -- Example: the words `render t.zz d.json - t.soy` with a file of t.m are refused by `t.zz: 29 Entry`.
-use Rattle.std.specs.Prelude.{ℕ, ◌-◌, List, [], ◌∷◌, length, drop, Option, None, Some, option_map}
-use Rattle.std.specs.Prelude.{Bool, false, if◌then◌else◌, codes, String, Result, Ok, Err}
+use Rattle.std.specs.Prelude.{ℕ, List, [], ◌∷◌, length, Option, None, Some, option_map, option_and_then, slice_get}
+use Rattle.std.specs.Prelude.{codes, String, Result, Ok, Err, encode_utf8_all}
 use Rattle.std.specs.Option.{option_map_or}
-use Rattle.std.specs.Str.{bytes_eq}
+use Rattle.std.specs.Str.{chars}
 use Rattle.serde_json.specs.Written.{compact_text}
-use Rattle.msg_extract.specs.Catalogue.{catalogue_of}
+use Rattle.ir_build.specs.ViewScene.{language_of}
 use Rattle.msg_extract.specs.CatalogueText.{catalogue_data}
 use Rattle.msg_extract.specs.declared.catalogue.Listed.{Listed}
+use Rattle.soy_base.specs.declared.code.Code.{Code}
+use Rattle.soy_base.specs.declared.code.Code.TheVariants as code
 use Rattle.soy_base.specs.declared.fault.Fault.{Fault}
+use Rattle.soy_base.specs.declared.path.PathStep.{PathStep}
+use Rattle.soy_front.specs.Entries.{entry_number}
+use Rattle.soy_front.specs.FilesAnswer as read
+use Rattle.soy_front.specs.FilesAnswer.{ReadFiles}
+use Rattle.soy_front.specs.FrontAnswer.{Front, front_answer}
+use Rattle.soy_front.specs.Sources.{source_answer}
+use Rattle.soy_front.specs.declared.fault.FrontFault.{FrontFault}
+use Rattle.soy_front.specs.declared.fault.FrontFault.TheVariants as front
 use Rattle.soy_io.specs.FileOf.{Files}
+use Rattle.soy_meaning.specs.Meaning.{joined_pieces}
+use Rattle.soy_meaning.specs.Outcome.{Outcome, RunEnd, StopsAt, WholeRun, end_of_outcome, pieces_of_outcome}
+use Rattle.soy_meaning.specs.Pieces.{template_run}
+use Rattle.soy_meaning.specs.Plan.{Site}
 use Rattle.soy_top.specs.Asked.{Asked, Render, Check, Extract, Gen, Play, Preview, Format, asked_by_words}
-use Rattle.soy_top.specs.Asked.{is_checked, template_files}
+use Rattle.soy_top.specs.Asked.{source_files}
 use Rattle.soy_top.specs.FilesWanted.{FileWanted, asked_files, wanted_files, known_files, first_not_held}
-use Rattle.soy_top.specs.FilesWanted.{first_over_limit, contents, is_source_language}
-use Rattle.soy_top.specs.FirstForm.{FirstFile, first_form, full_name}
-use Rattle.soy_top.specs.FirstPage.{page_of}
-use Rattle.soy_top.specs.Line.{not_yet_line, too_large_line, entry_line, read_line, usage_text, ended}
-use Rattle.soy_top.specs.SourceFiles.{numbered_line, refusing_line, source_trees}
+use Rattle.soy_top.specs.FilesWanted.{first_over_limit, contents}
+use Rattle.soy_top.specs.Inputs.{bundle_content, but_last, last, second_number}
+use Rattle.soy_top.specs.Line.{not_yet_line, too_large_line, entry_line, fault_line, read_line, usage_text, ended}
+use Rattle.soy_top.specs.Numbered.{numbered, numbered_line}
+use Rattle.soy_top.specs.Pointer.{pointer_line}
 use Rattle.soy_top.specs.Words.{Word, command_words}
+use Rattle.soy_tree.specs.Templates.{Declared, declared}
+use Rattle.soy_tree.specs.Values.{Value}
 use Rattle.soy_tree.specs.ViewTrees.{view_trees}
+use Rattle.soy_tree.specs.declared.tree.Tree.{Tree}
+use Rattle.soy_types.specs.ReadData.{data_at}
+use Rattle.template_ir.specs.Placed.{language_context}
+use Rattle.template_ir.specs.Run.{input_env, names_of}
 
 pub data Answer : Type 0 where
   -- the usage text
@@ -45,69 +67,109 @@ pub data Answer : Type 0 where
 abbrev pub not_yet : Word → Answer
 not_yet command = Refused (not_yet_line command)
 
--- the page, or that the data aren't of the first form
-abbrev pub page_answer : Option (List ℕ) → Answer
-page_answer None = not_yet (codes "render")
-page_answer (Some text) = Done text
+-- ---- pages
 
--- the answer by the template's name, the data and a form that was read
-abbrev pub named_answer : Word → List ℕ → FirstFile → Answer
-named_answer template json form =
-    if bytes_eq template (full_name form) then page_answer (page_of form json) else Refused (entry_line template)
+-- the bytes of the pieces of a run
+abbrev pub run_text : Outcome → List ℕ
+run_text o = encode_utf8_all (joined_pieces (pieces_of_outcome o))
 
--- the answer by the file, if it is of the first form
-abbrev pub form_answer : Word → List ℕ → Option FirstFile → Answer
-form_answer template json None = not_yet (codes "render")
-form_answer template json (Some form) = named_answer template json form
+-- a call that nests too deep, as a fault of its file
+abbrev pub call_fault : Site → Fault
+call_fault site = record { code = code.TooDeep; file = site.file; at = site.at }
 
--- whether the program does a `render` of these
-abbrev pub is_rendered : Word → List Word → Bool
-is_rendered bundle [] = false
-is_rendered bundle (file ∷ []) = is_source_language bundle
-is_rendered bundle (file ∷ other ∷ files) = false
+-- the answer by the text of a run and its end
+abbrev pub ended_page : List Word → List (List ℕ) → List ℕ → RunEnd → Answer
+ended_page names files text WholeRun = Done text
+ended_page names files text (StopsAt site) = TooDeep text (numbered_line names files (call_fault site))
 
--- the answer to a `render` of one file in the source language by its contents
-abbrev pub render_answer : Word → List (List ℕ) → Answer
-render_answer template [] = not_yet (codes "render")
-render_answer template (json ∷ []) = not_yet (codes "render")
-render_answer template (json ∷ file ∷ []) = form_answer template json (first_form file)
-render_answer template (json ∷ file ∷ other ∷ files) = not_yet (codes "render")
+-- the answer by what a template gives
+abbrev pub page_answer : List Word → List (List ℕ) → Outcome → Answer
+page_answer names files o = ended_page names files (run_text o) (end_of_outcome o)
 
--- the last so many of a list
-abbrev pub last : {A : Type 0} → ℕ → List A → List A
-last n xs = drop (length xs - n) xs
+-- what a template gives under the values of its parameters
+abbrev pub template_outcome : Front → Declared → Value → Outcome
+template_outcome of d v =
+    template_run (language_context (language_of of.language) (declared (view_trees of.files.trees))) d
+    (input_env (names_of d.template.params) v)
+
+-- the answer by what the data are read as for the parameters of a template
+abbrev pub data_answer :
+    List Word → List (List ℕ) → Word → Front → Declared → Result Value (Code × List PathStep) → Answer
+data_answer names files json_name of d (Ok v) = page_answer names files (template_outcome of d v)
+data_answer names files json_name of d (Err fault) = Refused (pointer_line json_name fault.1 fault.0)
+
+-- the answer by the template that has the name, if there is one
+abbrev pub entry_answer : List Word → List (List ℕ) → Word → Word → List ℕ → Front → Option Declared → Answer
+entry_answer names files template json_name json of None = Refused (entry_line template)
+entry_answer names files template json_name json of (Some d) =
+    data_answer names files json_name of d (data_at d.template.params json)
+
+-- the template that may be rendered under a full name
+abbrev pub entry_of : Front → Word → Option Declared
+entry_of of template =
+    option_and_then (slice_get (declared (view_trees of.files.trees)))
+    (entry_number (chars template) (declared (view_trees of.files.trees)))
+
+-- the answer to a `render` of files and a bundle that are accepted
+abbrev pub render_answer : List Word → List (List ℕ) → Word → Word → List ℕ → Front → Answer
+render_answer names files template json_name json of =
+    entry_answer names files template json_name json of (entry_of of template)
+
+-- ---- files and bundles
+
+-- the line of a fault of files of these names and contents, or of the bundle of a name
+abbrev pub front_line : List Word → List (List ℕ) → Word → FrontFault → List ℕ
+front_line names files bundle (front.Soy fault) = numbered_line names files fault
+front_line names files bundle (front.Bundle fault) = pointer_line bundle fault.path fault.code
+
+-- the answer by what files and a bundle are accepted as, or the line of their first fault
+abbrev pub unless_refused : List Word → List (List ℕ) → Word → (Front → Answer) → Result Front FrontFault → Answer
+unless_refused names files bundle answer (Ok of) = answer of
+unless_refused names files bundle answer (Err fault) = Refused (front_line names files bundle fault)
+
+abbrev pub accepted_then : List Word → List (List ℕ) → Word → Option (List ℕ) → (Front → Answer) → Answer
+accepted_then names files bundle content answer =
+    unless_refused names files bundle answer (front_answer files content)
 
 -- a catalogue as JSON, with a line feed
 abbrev pub catalogue_text : List Listed → List ℕ
 catalogue_text rows = ended (compact_text (catalogue_data rows))
 
--- the answer to an `extract` of files of these names and contents by their catalogue
-abbrev pub catalogue_answer : List Word → List (List ℕ) → Result (List Listed) Fault → Answer
-catalogue_answer names contents (Ok rows) = Done (catalogue_text rows)
-catalogue_answer names contents (Err fault) = Refused (numbered_line names contents fault)
+-- the answer to an `extract` of files of these names and contents by what they are read as
+abbrev pub catalogue_answer : List Word → List (List ℕ) → Result ReadFiles Fault → Answer
+catalogue_answer names files (Ok read) = Done (catalogue_text read.rows)
+catalogue_answer names files (Err fault) = Refused (numbered_line names files fault)
 
--- the same by their trees
-abbrev pub extract_answer : List Word → List (List ℕ) → Answer
-extract_answer names contents =
-    catalogue_answer names contents (catalogue_of (view_trees (source_trees names contents)))
+-- the answer to a `format` of a file by what it is read as
+abbrev pub tree_answer : Word → List ℕ → Result Tree Fault → Answer
+tree_answer name bytes (Ok tree) = not_yet (codes "format")
+tree_answer name bytes (Err fault) = Refused (fault_line name bytes fault)
 
--- the answer to what is asked, where no template file has a fault
-abbrev pub parsed_answer : Asked → List (List ℕ) → Answer
-parsed_answer (Render template json bundle files) contents =
-    if is_rendered bundle files then render_answer template contents else not_yet (codes "render")
-parsed_answer (Check bundle files) contents = not_yet (codes "check")
-parsed_answer (Extract files) contents = extract_answer files (last (length files) contents)
-parsed_answer (Gen number) contents = not_yet (codes "gen")
-parsed_answer (Play script first second files) contents = not_yet (codes "play")
-parsed_answer (Preview template json bundle files) contents = not_yet (codes "preview")
-parsed_answer (Format file) contents = not_yet (codes "format")
+-- what is said of files that are accepted
+abbrev pub accepted_text : List ℕ
+accepted_text = codes "ok\n"
 
--- the answer to what is asked by the contents of the files that it wants, of which its template files are the last
+-- the answer to what is asked by the contents of its template files and of those before them
+abbrev pub inputs_answer : Asked → List (List ℕ) → List (List ℕ) → Answer
+inputs_answer (Render template json_name bundle names) before files =
+    accepted_then names files bundle (bundle_content bundle 1 before) (λ of.
+    render_answer names files template json_name (numbered 0 before) of)
+inputs_answer (Check bundle names) before files =
+    accepted_then names files bundle (bundle_content bundle 0 before) (λ of. Done accepted_text)
+inputs_answer (Extract names) before files = catalogue_answer names files (read.files_answer files)
+inputs_answer (Gen number) before files = not_yet (codes "gen")
+inputs_answer (Play script first second names) before files =
+    accepted_then names files first (bundle_content first 1 before) (λ of.
+    accepted_then names files second (bundle_content second (second_number first) before) (λ other.
+    not_yet (codes "play")))
+inputs_answer (Preview template json bundle names) before files =
+    accepted_then names files bundle (bundle_content bundle 1 before) (λ of. not_yet (codes "preview"))
+inputs_answer (Format name) before files = tree_answer name (numbered 0 before) (source_answer (numbered 0 before))
+
+-- the same by the contents of all its files
 abbrev pub contents_answer : Asked → List (List ℕ) → Answer
 contents_answer asked contents =
-    let names : List Word = template_files asked in
-    option_map_or Refused (refusing_line (is_checked asked) names (last (length names) contents))
-    (parsed_answer asked contents)
+    let n : ℕ = length (source_files asked) in inputs_answer asked (but_last n contents) (last n contents)
 
 -- the answer by the limits of the files
 abbrev pub limits_answer : Files → Asked → List FileWanted → Answer

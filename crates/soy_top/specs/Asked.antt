@@ -4,7 +4,7 @@
 -- has FILE words, there are 1 to 64 of them. NUMBER is 1 to 10 decimal digits with a value below
 -- 2 ^ 32; leading zeros are allowed. All other words ask for nothing.
 -- Example: `render t.m d.json - t.soy` asks to render t.m of t.soy with the data of d.json.
-use Rattle.std.specs.Prelude.{ℕ, ◌^◌, List, [], ◌∷◌, length, Bool, true, false, ◌&&◌, nat_lt, nat_le, Option, None, Some}
+use Rattle.std.specs.Prelude.{ℕ, ◌^◌, List, [], ◌∷◌, length, Bool, ◌&&◌, nat_lt, nat_le, Option, None, Some}
 use Rattle.std.specs.Prelude.{option_map, if◌then◌else◌, codes}
 use Rattle.std.specs.Char.{is_ascii_digit}
 use Rattle.std.specs.List.{list_all}
@@ -96,22 +96,12 @@ abbrev pub asked_by_words : List Word → Option Asked
 asked_by_words [] = None
 asked_by_words (command ∷ words) = command_asked command words
 
--- the template files
-abbrev pub template_files : Asked → List Word
-template_files (Render template json bundle files) = files
-template_files (Check bundle files) = files
-template_files (Extract files) = files
-template_files (Gen number) = []
-template_files (Play script first second files) = files
-template_files (Preview template json bundle files) = files
-template_files (Format file) = file ∷ []
-
--- whether the trees of its template files are checked together, which they are but for a `format`
-abbrev pub is_checked : Asked → Bool
-is_checked (Render template json bundle files) = true
-is_checked (Check bundle files) = true
-is_checked (Extract files) = true
-is_checked (Gen number) = true
-is_checked (Play script first second files) = true
-is_checked (Preview template json bundle files) = true
-is_checked (Format file) = false
+-- the template files that are accepted together, which are all but that of a `format`
+abbrev pub source_files : Asked → List Word
+source_files (Render template json bundle files) = files
+source_files (Check bundle files) = files
+source_files (Extract files) = files
+source_files (Gen number) = []
+source_files (Play script first second files) = files
+source_files (Preview template json bundle files) = files
+source_files (Format file) = []

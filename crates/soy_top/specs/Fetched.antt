@@ -13,9 +13,10 @@ use Rattle.soy_io.specs.Rose.{Rose}
 use Rattle.soy_top.specs.declared.ending.Ending.{Ending}
 use Rattle.soy_top.specs.declared.ending.Ending.TheVariants as ending
 use Rattle.soy_top.specs.declared.fetch.Fetched.{Fetched}
+use Rattle.soy_front.specs.declared.source.Source.{Source}
 use Rattle.soy_top.specs.FilesWanted.{FileWanted, file_names, first_not_held, first_over_limit, contents}
 use Rattle.soy_top.specs.Line.{ended, read_line, too_large_line}
-use Rattle.soy_top.specs.View.{view_contents}
+use Rattle.soy_front.specs.ViewSources.{view_contents}
 use Rattle.soy_top.specs.Words.{Word}
 
 -- the contents so far, and the first file over its limit
@@ -37,7 +38,7 @@ next_fetched so_far name None =
     record { contents = so_far.contents; too_large = option_or so_far.too_large (Some name) }
 
 -- the contents, or the refusal of the first file over its limit
-abbrev pub ContentsSoFar : List (List ℕ) → Option Word → Result (Vec (Vec ℕ Global) Global) Ending → Type 0
+abbrev pub ContentsSoFar : List (List ℕ) → Option Word → Result (Vec Source Global) Ending → Type 0
 ContentsSoFar contents too_large (Ok fetched) = (too_large ≡ None) × (view_contents fetched.items ≡ contents)
 ContentsSoFar contents too_large (Err ending.Usage) = ⊥
 ContentsSoFar contents too_large (Err (ending.Read line)) = ⊥
@@ -45,7 +46,7 @@ ContentsSoFar contents too_large (Err (ending.Refused line)) =
     (name : Word) × (too_large ≡ Some name) × (string_bytes line ≡ ended (too_large_line name))
 ContentsSoFar contents too_large (Err ending.Memory) = Unit {0}
 
-abbrev pub FetchedContents : SoFar → Result (Vec (Vec ℕ Global) Global) Ending → Type 0
+abbrev pub FetchedContents : SoFar → Result (Vec Source Global) Ending → Type 0
 FetchedContents so_far result = ContentsSoFar so_far.contents so_far.too_large result
 
 -- what a fetch of one file says
@@ -70,7 +71,7 @@ IsNotHeld None wanted name = ⊥
 IsNotHeld (Some files) wanted name = first_not_held files wanted ≡ Some name
 
 -- what a fetch of all files says
-abbrev pub FetchesAll : Option Files → List FileWanted → ℕ × ℕ → Result (Vec (Vec ℕ Global) Global) Ending → Type 0
+abbrev pub FetchesAll : Option Files → List FileWanted → ℕ × ℕ → Result (Vec Source Global) Ending → Type 0
 FetchesAll known wanted faults (Ok fetched) =
     IfSome known (λ files. AreContents files wanted (view_contents fetched.items))
 FetchesAll known wanted faults (Err ending.Usage) = ⊥

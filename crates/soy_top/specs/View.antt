@@ -1,8 +1,7 @@
 -- The program's own types as the definitions see them.
 --
 -- Example: the command of the words `format t.soy` is seen as what these words ask for.
-use Rattle.std.specs.Prelude.{ℕ, List, map, Vec}
-use Rattle.std.specs.declared.alloc.Global.{Global}
+use Rattle.std.specs.Prelude.{List, map}
 use Rattle.soy_top.specs.declared.command.Command.{Command}
 use Rattle.soy_top.specs.declared.command.Command.TheVariants as command
 use Rattle.soy_top.specs.declared.wanted.FileWanted.{FileWanted}
@@ -26,6 +25,3 @@ view_file file = record { name = file.name.now; limit = file.limit }
 
 abbrev pub view_files : List FileWanted → List files.FileWanted
 view_files wanted = map view_file wanted
-
-abbrev pub view_contents : List (Vec ℕ Global) → List (List ℕ)
-view_contents contents = map (λ bytes. bytes.items) contents

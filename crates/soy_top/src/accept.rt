@@ -1,89 +1,194 @@
 //! Accepts what was fetched, or refuses it.
 
-ghost use Rattle.std.specs.Prelude.{◌≡◌, ◌≤◌, length};
-ghost use Rattle.serde_json.specs.View.{view};
-ghost use Rattle.soy_top.specs.Accepts.{Accepts, AcceptsPage, Refuses};
-ghost use Rattle.soy_top.specs.Answer.{contents_answer, form_answer, is_rendered, last, named_answer, not_yet};
-ghost use Rattle.soy_top.specs.Answer.{page_answer, parsed_answer, render_answer};
-ghost use Rattle.soy_top.specs.Asked.{template_files};
-ghost use Rattle.soy_top.specs.FirstForm.{first_form};
-ghost use Rattle.soy_top.specs.FirstPage.{page_of, page_with};
-ghost use Rattle.soy_top.specs.SourceFiles.{source_trees};
-ghost use Rattle.soy_top.specs.View.{view_command, view_contents};
-ghost use Rattle.soy_top.specs.ViewForm.{view_form};
-ghost use Rattle.soy_top.specs.Words.{command_words};
+ghost use Rattle.std.specs.Prelude.{◌≡◌, ◌≤◌, IfOk, length, option_map};
+ghost use Rattle.std.specs.String.{string_bytes};
+ghost use Rattle.soy_front.specs.Sources.{source_answer};
+ghost use Rattle.soy_front.specs.ViewSources.{view_contents};
+ghost use Rattle.soy_top.specs.Accepts.{Accepts, AcceptsFront, Refuses};
+ghost use Rattle.soy_top.specs.Answer.{Done, accepted_text, accepted_then, contents_answer};
+ghost use Rattle.soy_top.specs.Answer.{inputs_answer, not_yet, tree_answer};
+ghost use Rattle.soy_top.specs.Asked.{Play, source_files};
+ghost use Rattle.soy_top.specs.View.{view_command};
+ghost use Rattle.soy_top.specs.Words.{Word, command_words};
 
 use crate::catalogue::accept_extract;
 use crate::command::Command;
-use crate::data::{has_values, read_data};
 use crate::ending::Ending;
-use crate::first_form::{FirstFile, read_form};
-use crate::line::{entry_line, not_yet_line};
+use crate::faults::front_line;
+use crate::inputs::{bundle_content, but_last, content_at, last, second_number, source_names};
+use crate::line::{fault_line, not_yet_line};
 use crate::output::Output;
-use crate::page::Page;
-use crate::source_files::{accept_sources, last};
-use crate::wanted::is_source_language;
-use serde_json::Value;
-use soy_tree::Tree;
+use crate::render::accept_render;
+use soy_base::{OutOfMemory, Refusal};
+use soy_front::{AcceptedFiles, Source, accept as accept_sources, read_source};
 use std::alloc::Global;
 
 /// What is to be written for a command with the contents of the files that it wants.
 pub(crate) fn accept<'a>(
     alloc: Global,
-    command: Command<'_>,
-    contents: &'a [Vec<u8>],
+    command: Command<'a>,
+    contents: &'a [Source],
 ) -> Result<Output<'a>, Ending>
-    requires { length (template_files (view_command command)) ≤ 64 }
+    requires { length (source_files (view_command command)) ≤ 64 }
     ensures { Accepts (contents_answer (view_command command.entry) (view_contents contents.now)) result }
 {
-    let sources = accept_sources(alloc, command, contents)?;
-    accept_parsed(alloc, command, contents, sources.trees())
+    let count = source_names(command).len();
+    accept_inputs(
+        alloc,
+        command,
+        but_last(contents, count),
+        last(contents, count),
+    )
 }
 
-/// What is to be written for a command with the contents of the files that it wants, where no template file is
-/// refused, and these are the trees of all.
-fn accept_parsed<'a>(
+/// What is to be written for a command with its template files and the contents before them.
+fn accept_inputs<'a>(
     alloc: Global,
-    command: Command<'_>,
-    contents: &'a [Vec<u8>],
-    trees: &[Tree],
+    command: Command<'a>,
+    before: &[Source],
+    sources: &'a [Source],
 ) -> Result<Output<'a>, Ending>
-    requires few { length (template_files (view_command command)) ≤ 64 }
-    requires are { trees.now ≡ source_trees (template_files (view_command command))
-        (last (length (template_files (view_command command))) (view_contents contents.now)) }
-    ensures { Accepts (parsed_answer (view_command command.entry) (view_contents contents.now)) result }
+    requires { length sources.now ≤ 64 }
+    ensures { Accepts (inputs_answer (view_command command.entry) (view_contents before.now)
+        (view_contents sources.now)) result }
 {
     match command {
         Command::Render {
             template,
+            data_file,
             bundle,
             files,
-            ..
-        } => {
-            if is_rendered(bundle, files) {
-                accept_render(alloc, template, contents)
-            } else {
-                Err(not_yet(alloc, "render"))
-            }
+        } => accept_render(alloc, template, data_file, bundle, files, before, sources),
+        Command::Check { bundle, files } => {
+            accept_check(
+                alloc,
+                files,
+                sources,
+                bundle,
+                bundle_content(bundle, 0, before),
+            )
         }
-        Command::Check { .. } => Err(not_yet(alloc, "check")),
-        Command::Extract { files } => {
-            accept_extract(alloc, files, last(contents, files.len()), trees)
-        }
+        Command::Extract { files } => accept_extract(alloc, files, sources),
         Command::Gen { .. } => Err(not_yet(alloc, "gen")),
-        Command::Play { .. } => Err(not_yet(alloc, "play")),
-        Command::Preview { .. } => Err(not_yet(alloc, "preview")),
-        Command::Format { .. } => Err(not_yet(alloc, "format")),
+        Command::Play {
+            first,
+            second,
+            files,
+            ..
+        } => accept_play(alloc, first, second, files, before, sources),
+        Command::Preview { bundle, files, .. } => {
+            let content = bundle_content(bundle, 1, before);
+            accept_not_yet(alloc, "preview", files, sources, bundle, content)
+        }
+        Command::Format { file } => accept_tree(alloc, file, content_at(before, 0)),
     }
 }
 
-/// Whether the program does a `render` of these.
-fn is_rendered(bundle: &str, files: &[String]) -> bool
-    ensures { result ≡ is_rendered bundle.now (command_words files.now) }
+/// Files of these names and a bundle, or the line of their first fault.
+fn accept_front(
+    alloc: Global,
+    names: &[String],
+    sources: &[Source],
+    bundle: &str,
+    content: Option<&[u8]>,
+) -> Result<AcceptedFiles, Ending>
+    requires { length sources.now ≤ 64 }
+    ensures { AcceptsFront (command_words names.now) (view_contents sources.now) bundle.now
+        (option_map (λ b. b.now) content.entry) result }
 {
-    match files {
-        [_] => is_source_language(bundle),
-        _ => false,
+    match accept_sources(alloc, sources, content) {
+        Ok(accepted) => Ok(accepted),
+        Err(Refusal::Because(fault)) => {
+            let line = front_line(alloc, names, sources, bundle, fault)?;
+            Err(Ending::Refused(line))
+        }
+        Err(Refusal::OutOfMemory) => Err(Ending::Memory),
+    }
+}
+
+/// That files of these names and a bundle are accepted, or the line of their first fault.
+fn accept_check<'a>(
+    alloc: Global,
+    names: &[String],
+    sources: &[Source],
+    bundle: &str,
+    content: Option<&[u8]>,
+) -> Result<Output<'a>, Ending>
+    requires { length sources.now ≤ 64 }
+    ensures { Accepts (accepted_then (command_words names.now) (view_contents sources.now) bundle.now
+        (option_map (λ b. b.now) content.entry) (λ of. Done accepted_text)) result }
+{
+    match accept_front(alloc, names, sources, bundle, content) {
+        Ok(_) => Ok(Output::Text(accepted_text(alloc)?)),
+        Err(ending) => Err(ending),
+    }
+}
+
+/// What is said of files that are accepted.
+fn accepted_text(alloc: Global) -> Result<String, OutOfMemory>
+    ensures { IfOk result (λ text. string_bytes text ≡ accepted_text) }
+{
+    Ok(String::from_str(alloc, "ok\n")?)
+}
+
+/// That a command isn't done yet, or the line of the first fault of its files and its bundle.
+fn accept_not_yet<'a>(
+    alloc: Global,
+    command: &str,
+    names: &[String],
+    sources: &[Source],
+    bundle: &str,
+    content: Option<&[u8]>,
+) -> Result<Output<'a>, Ending>
+    requires { length sources.now ≤ 64 }
+    ensures { Accepts (accepted_then (command_words names.now) (view_contents sources.now) bundle.now
+        (option_map (λ b. b.now) content.entry) (λ of. not_yet command.now)) result }
+{
+    match accept_front(alloc, names, sources, bundle, content) {
+        Ok(_) => Err(not_yet(alloc, command)),
+        Err(ending) => Err(ending),
+    }
+}
+
+/// That a `play` isn't done yet, or the line of the first fault of its files and bundles.
+fn accept_play<'a>(
+    alloc: Global,
+    first: &str,
+    second: &str,
+    names: &[String],
+    before: &[Source],
+    sources: &[Source],
+) -> Result<Output<'a>, Ending>
+    requires { length sources.now ≤ 64 }
+    ensures { (script : Word) → Accepts (inputs_answer (Play script first.now second.now (command_words names.now))
+        (view_contents before.now) (view_contents sources.now)) result }
+{
+    match accept_front(
+        alloc,
+        names,
+        sources,
+        first,
+        bundle_content(first, 1, before),
+    ) {
+        Ok(_) => {
+            let content = bundle_content(second, second_number(first), before);
+            accept_not_yet(alloc, "play", names, sources, second, content)
+        }
+        Err(ending) => Err(ending),
+    }
+}
+
+/// That the `format` of a file isn't done yet, or the line of the first fault that the file has by itself.
+fn accept_tree<'a>(alloc: Global, name: &str, bytes: &[u8]) -> Result<Output<'a>, Ending>
+    ensures { Accepts (tree_answer name.now bytes.now (source_answer bytes.now)) result }
+{
+    match read_source(alloc, bytes) {
+        Ok(_) => Err(not_yet(alloc, "format")),
+        Err(Refusal::Because(fault)) => {
+            let line = fault_line(alloc, name, bytes, fault)?;
+            Err(Ending::Refused(line))
+        }
+        Err(Refusal::OutOfMemory) => Err(Ending::Memory),
     }
 }
 
@@ -95,70 +200,4 @@ fn not_yet(alloc: Global, command: &str) -> Ending
         Ok(line) => Ending::Refused(line),
         Err(refused) => refused.into(),
     }
-}
-
-/// The page of a `render`.
-fn accept_render<'a>(
-    alloc: Global,
-    template: &str,
-    contents: &'a [Vec<u8>],
-) -> Result<Output<'a>, Ending>
-    ensures { Accepts (render_answer template.now (view_contents contents.now)) result }
-{
-    let [json, file] = contents else {
-        return Err(not_yet(alloc, "render"));
-    };
-    let page = accept_file(alloc, template, json.as_slice(), file.as_slice())?;
-    Ok(Output::Page(page))
-}
-
-/// The page of a file and its data.
-fn accept_file<'a>(
-    alloc: Global,
-    template: &str,
-    json: &[u8],
-    file: &'a [u8],
-) -> Result<Page<'a>, Ending>
-    ensures { AcceptsPage (form_answer template.now json.now (first_form file.now)) result }
-{
-    match read_form(alloc, file)? {
-        Some(form) => accept_form(alloc, template, json, form),
-        None => Err(not_yet(alloc, "render")),
-    }
-}
-
-/// The page of a form and its data.
-fn accept_form<'a>(
-    alloc: Global,
-    template: &str,
-    json: &[u8],
-    form: FirstFile<'a>,
-) -> Result<Page<'a>, Ending>
-    ensures { AcceptsPage (named_answer template.now json.now (view_form form.entry)) result }
-{
-    if !form.is_named(template) {
-        return Err(Ending::Refused(entry_line(alloc, template)?));
-    }
-    accept_data(alloc, json, form)
-}
-
-/// The page of a form with its data.
-fn accept_data<'a>(alloc: Global, json: &[u8], form: FirstFile<'a>) -> Result<Page<'a>, Ending>
-    ensures { AcceptsPage (page_answer (page_of (view_form form.entry) json.now)) result }
-{
-    match read_data(alloc, json)? {
-        Some(json) => accept_values(alloc, json, form),
-        None => Err(not_yet(alloc, "render")),
-    }
-}
-
-/// The page of a form with data that were read.
-fn accept_values<'a>(alloc: Global, json: Value, form: FirstFile<'a>) -> Result<Page<'a>, Ending>
-    ensures { AcceptsPage (page_answer (page_with (view_form form.entry) (view json))) result }
-{
-    if !has_values(&form.params, &json) {
-        return Err(not_yet(alloc, "render"));
-    }
-    let FirstFile { body, .. } = form;
-    Ok(Page { body, json })
 }

@@ -3,36 +3,43 @@
 ghost use Rattle.std.specs.Prelude.{◌≡◌, ◌≤◌, length, IfOk};
 ghost use Rattle.std.specs.String.{string_bytes};
 ghost use Rattle.msg_extract.specs.declared.catalogue.Catalogue.{Catalogue};
-ghost use Rattle.soy_top.specs.Accepts.{Accepts};
-ghost use Rattle.soy_top.specs.Answer.{catalogue_text, extract_answer};
-ghost use Rattle.soy_top.specs.SourceFiles.{source_trees};
-ghost use Rattle.soy_top.specs.View.{view_contents};
+ghost use Rattle.soy_front.specs.FilesAnswer.{files_answer};
+ghost use Rattle.soy_front.specs.ViewSources.{view_contents};
+ghost use Rattle.soy_top.specs.Accepts.{Accepts, AcceptsFiles};
+ghost use Rattle.soy_top.specs.Answer.{catalogue_answer, catalogue_text};
 ghost use Rattle.soy_top.specs.Words.{command_words};
 
 use crate::ending::Ending;
+use crate::faults::numbered_line;
 use crate::output::Output;
-use crate::source_files::numbered_line;
-use msg_extract::{Catalogue, extract, write_catalogue};
+use msg_extract::{Catalogue, write_catalogue};
 use soy_base::{OutOfMemory, Refusal};
-use soy_tree::Tree;
+use soy_front::{ReadFiles, Source, read_files};
 use std::alloc::Global;
 
-/// The catalogue of the files of these names and contents, which have these trees; or the refusal of the first message
-/// whose id is that of another.
+/// The catalogue of files of these names, or the line of their first fault.
 pub(crate) fn accept_extract<'a>(
     alloc: Global,
     names: &[String],
-    contents: &'a [Vec<u8>],
-    trees: &[Tree],
+    sources: &[Source],
 ) -> Result<Output<'a>, Ending>
-    requires few { length (command_words names.now) ≤ 64 }
-    requires are { trees.now ≡ source_trees (command_words names.now) (view_contents contents.now) }
-    ensures { Accepts (extract_answer (command_words names.now) (view_contents contents.now)) result }
+    requires { length sources.now ≤ 64 }
+    ensures { Accepts (catalogue_answer (command_words names.now) (view_contents sources.now)
+        (files_answer (view_contents sources.now))) result }
 {
-    match extract(alloc, trees) {
-        Ok(catalogue) => Ok(Output::Text(catalogue_text(alloc, &catalogue)?)),
+    let read = accept_files(alloc, names, sources)?;
+    Ok(Output::Text(catalogue_text(alloc, &read.catalogue)?))
+}
+
+/// The trees and the catalogue of files of these names, or the line of their first fault.
+fn accept_files(alloc: Global, names: &[String], sources: &[Source]) -> Result<ReadFiles, Ending>
+    requires { length sources.now ≤ 64 }
+    ensures { AcceptsFiles (command_words names.now) (view_contents sources.now) result }
+{
+    match read_files(alloc, sources) {
+        Ok(read) => Ok(read),
         Err(Refusal::Because(fault)) => {
-            let line = numbered_line(alloc, names, contents, fault)?;
+            let line = numbered_line(alloc, names, sources, fault)?;
             Err(Ending::Refused(line))
         }
         Err(Refusal::OutOfMemory) => Err(Ending::Memory),

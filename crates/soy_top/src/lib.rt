@@ -3,38 +3,30 @@
 //! `run` goes by `answered`, a function of the words and of the files that the library is known to
 //! hold. Its clauses say of each status exactly when it comes, what each sink took, and what is
 //! unchanged; running out of memory alone is free. Each command fetches its files and refuses the first
-//! template file that has a fault, and then, but for `format`, what the trees of all template files may not
-//! have together. So far `run` writes the catalogue of messages of all files, and renders pages of the
-//! first form, which is one file of plain markup with prints of ASCII text; the module `first_form` reads it.
+//! template file that has a fault, and then, but for `format`, what the trees of all template files, the
+//! bundle and the paths of the pages may not have. `render` writes pages, pull by pull, `check` says that all is
+//! accepted, and `extract` writes the catalogue of messages.
 //!
-//! Depends on soy_base, soy_io and esc_table; on soy_lexer, soy_tree, expr_parser, soy_parser and soy_check for
-//! the template files; on msg_extract for their messages; and on serde_json for the data and indexmap for the
-//! parameters in their order.
+//! Depends on soy_base and soy_io; on soy_front for the files and the bundle as one program; on soy_types for
+//! the data, render_core for the page, and msg_extract for the catalogue.
 #![tactic(auto)]
 
 mod accept;
 mod catalogue;
 mod command;
-mod data;
 mod ending;
+mod faults;
 mod fetch;
-mod first_form;
+mod inputs;
 mod laws;
 mod line;
-mod name;
 mod output;
 mod page;
-mod params;
 mod program;
-mod source_files;
-mod sources;
+mod render;
 mod status;
-mod text;
 mod wanted;
 
-pub use laws::{law_answer_is_text, law_first_form, law_source_answer, law_source_files};
+pub use laws::law_answer_is_text;
 pub use program::run;
 pub use status::Status;
-
-#[cfg(test)]
-mod tests;

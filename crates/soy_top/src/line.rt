@@ -1,11 +1,14 @@
 //! The lines that the program writes for people.
 
-ghost use Rattle.std.specs.Prelude.{◌≡◌, ◌≤◌, length, IfOk};
+ghost use Rattle.std.specs.Prelude.{◌≡◌, ◌≤◌, ◌++◌, length, IfOk, OnOk, encode_utf8_all};
+ghost use Rattle.std.specs.List.{flat_map};
+ghost use Rattle.std.specs.Str.{chars};
 ghost use Rattle.std.specs.String.{string_bytes};
 ghost use Rattle.soy_top.specs.Line.{refusal_line, not_yet_line, too_large_line, fault_line, entry_line, read_line};
 ghost use Rattle.soy_top.specs.Line.{ended};
+ghost use Rattle.soy_top.specs.Pointer.{key_character, pointer, pointer_line, pointer_step};
 
-use soy_base::{Code, Fault, OutOfMemory, Position, line_of};
+use soy_base::{Code, Fault, OutOfMemory, PathStep, Position, line_of};
 use std::alloc::Global;
 
 /// The usage text.
@@ -55,6 +58,68 @@ pub(crate) fn fault_line(
     let Position { line, column } = line_of(bytes, fault.at);
     let position = format!(in alloc; "{name}:{line}:{column}")?;
     refusal_line(alloc, position.as_str(), fault.code)
+}
+
+/// The line of a fault of a JSON file, at a JSON pointer.
+pub(crate) fn pointer_line(
+    alloc: Global,
+    name: &str,
+    path: &[PathStep],
+    code: Code,
+) -> Result<String, OutOfMemory>
+    ensures { IfOk result (λ line. string_bytes line ≡ ended (pointer_line name.now path.now code)) }
+{
+    let mut subject = String::from_str(alloc, name)?;
+    subject.push(':')?;
+    push_pointer(alloc, &mut subject, path)?;
+    refusal_line(alloc, subject.as_str(), code)
+}
+
+/// Adds the JSON pointer of a path.
+fn push_pointer(alloc: Global, text: &mut String, path: &[PathStep]) -> Result<(), OutOfMemory>
+    ensures { OnOk result (string_bytes text.new ≡ string_bytes text.old ++ pointer path.now) }
+{
+    for step in path {
+        push_step(alloc, text, step)?;
+    }
+    Ok(())
+}
+
+/// Adds a step of a JSON pointer.
+fn push_step(alloc: Global, text: &mut String, step: &PathStep) -> Result<(), OutOfMemory>
+    ensures { OnOk result (string_bytes text.new ≡ string_bytes text.old ++ pointer_step step.now) }
+{
+    text.push('/')?;
+    match step {
+        PathStep::Key(key) => push_key(text, key.text()),
+        PathStep::Index(index) => {
+            text.push_str(format!(in alloc; "{index}")?.as_str())?;
+            Ok(())
+        }
+    }
+}
+
+/// Adds a key of a JSON pointer.
+fn push_key(text: &mut String, key: &str) -> Result<(), OutOfMemory>
+    ensures { OnOk result (string_bytes text.new
+        ≡ string_bytes text.old ++ encode_utf8_all (flat_map key_character (chars key.now))) }
+{
+    for c in key.chars() {
+        push_key_character(text, c)?;
+    }
+    Ok(())
+}
+
+/// Adds a character of a key of a JSON pointer.
+fn push_key_character(text: &mut String, c: char) -> Result<(), OutOfMemory>
+    ensures { OnOk result (string_bytes text.new ≡ string_bytes text.old ++ encode_utf8_all (key_character c)) }
+{
+    match c {
+        '~' => text.push_str("~0")?,
+        '/' => text.push_str("~1")?,
+        _ => text.push(c)?,
+    }
+    Ok(())
 }
 
 /// The line of a template that may not be rendered.

@@ -14,7 +14,7 @@ use soy_io::{PutFault, Sink};
 use std::alloc::Global;
 
 /// What was accepted: a text that is there, or a page that is put by pieces.
-#[derive(Debug, Drop)]
+#[derive(Drop)]
 pub(crate) enum Output<'a> {
     Text(String),
     Page(Page<'a>),

@@ -9,7 +9,7 @@ mod library;
 mod sinks;
 
 use library::FileLibrary;
-use sinks::StreamSink;
+use sinks::{GatheringSink, StreamSink};
 use soy_top::{Status, run};
 use std::alloc::Global;
 use std::env;
@@ -27,11 +27,15 @@ fn words(rt: &HostRuntime, alloc: Global) -> Result<Vec<String>, Status> {
 
 fn main(rt: HostRuntime) -> ExitCode {
     let mut files = FileLibrary::new(&rt);
-    let mut out = StreamSink::new(rt.stdout());
+    let mut out = GatheringSink::new(rt.alloc(), rt.stdout());
     let mut err = StreamSink::new(rt.stderr());
     let status = match words(&rt, rt.alloc()) {
         Ok(words) => run(rt.alloc(), words.as_slice(), &mut files, &mut out, &mut err),
         Err(status) => status,
+    };
+    let status = match out.write_rest() {
+        Ok(()) => status,
+        Err(_) => Status::Write,
     };
     ExitCode::from(status as u8)
 }

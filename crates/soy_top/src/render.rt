@@ -1,0 +1,136 @@
+//! The page of a `render`: files and a bundle are compiled, the template is found, and its data are read.
+
+ghost use Rattle.std.specs.Prelude.{◌≡◌, ◌≤◌, ℕ, List, Option, Some, length, option_map, slice_get};
+ghost use Rattle.soy_front.specs.Compiled.{AreCompiled};
+ghost use Rattle.soy_front.specs.ViewSources.{view_contents};
+ghost use Rattle.soy_top.specs.Accepts.{Accepts, CompilesFront};
+ghost use Rattle.soy_top.specs.Answer.{data_answer, inputs_answer, render_answer};
+ghost use Rattle.soy_top.specs.Asked.{Render};
+ghost use Rattle.soy_top.specs.Words.{command_words};
+ghost use Rattle.soy_tree.specs.Templates.{Declared, declared};
+ghost use Rattle.soy_tree.specs.ViewTrees.{view_trees};
+ghost use Rattle.soy_types.specs.ReadData.{data_at};
+
+use crate::ending::Ending;
+use crate::faults::front_line;
+use crate::inputs::{bundle_content, content_at};
+use crate::line::{entry_line, pointer_line};
+use crate::output::Output;
+use crate::page::Page;
+use soy_base::Refusal;
+use soy_front::{Compiled, Source, compile};
+use soy_types::read_data;
+use std::alloc::Global;
+
+/// The page of a `render`, or the line of the first fault of its files, its bundle, its template and its data.
+pub(crate) fn accept_render<'a>(
+    alloc: Global,
+    template: &str,
+    json_name: &str,
+    bundle: &str,
+    names: &'a [String],
+    before: &[Source],
+    sources: &'a [Source],
+) -> Result<Output<'a>, Ending>
+    requires { length sources.now ≤ 64 }
+    ensures { Accepts (inputs_answer (Render template.now json_name.now bundle.now (command_words names.now))
+        (view_contents before.now) (view_contents sources.now)) result }
+{
+    match compile_front(
+        alloc,
+        names,
+        sources,
+        bundle,
+        bundle_content(bundle, 1, before),
+    ) {
+        Ok(compiled) => accept_entry(
+            alloc,
+            compiled,
+            template,
+            json_name,
+            content_at(before, 0),
+            names,
+            sources,
+        ),
+        Err(ending) => Err(ending),
+    }
+}
+
+/// The program of files of these names and a bundle, or the line of their first fault.
+fn compile_front(
+    alloc: Global,
+    names: &[String],
+    sources: &[Source],
+    bundle: &str,
+    content: Option<&[u8]>,
+) -> Result<Compiled, Ending>
+    requires { length sources.now ≤ 64 }
+    ensures { CompilesFront (command_words names.now) (view_contents sources.now) bundle.now
+        (option_map (λ b. b.now) content.entry) result }
+{
+    match compile(alloc, sources, content) {
+        Ok(compiled) => Ok(compiled),
+        Err(Refusal::Because(fault)) => {
+            let line = front_line(alloc, names, sources, bundle, fault)?;
+            Err(Ending::Refused(line))
+        }
+        Err(Refusal::OutOfMemory) => Err(Ending::Memory),
+    }
+}
+
+/// The page of a template of a program, or the line that the template may not be rendered, or of the fault of its data.
+fn accept_entry<'a>(
+    alloc: Global,
+    compiled: Compiled,
+    template: &str,
+    json_name: &str,
+    json: &[u8],
+    names: &'a [String],
+    sources: &'a [Source],
+) -> Result<Output<'a>, Ending>
+    ensures { (content : Option (List ℕ)) (are : AreCompiled (view_contents sources.now) content compiled) →
+        Accepts (render_answer (command_words names.now) (view_contents sources.now) template.now json_name.now json.now
+        are.of) result }
+{
+    match compiled.entry(template) {
+        Some(number) => accept_data(alloc, compiled, number, json_name, json, names, sources),
+        None => {
+            let line = entry_line(alloc, template)?;
+            Err(Ending::Refused(line))
+        }
+    }
+}
+
+/// The page of the template of a number, or the line of the fault of its data.
+fn accept_data<'a>(
+    alloc: Global,
+    compiled: Compiled,
+    number: usize,
+    json_name: &str,
+    json: &[u8],
+    names: &'a [String],
+    sources: &'a [Source],
+) -> Result<Output<'a>, Ending>
+    ensures { (content : Option (List ℕ)) (are : AreCompiled (view_contents sources.now) content compiled)
+        (d : Declared) → slice_get (declared (view_trees compiled.typed)) number ≡ Some d →
+        Accepts (data_answer (command_words names.now) (view_contents sources.now) json_name.now are.of d
+        (data_at d.template.params json.now)) result }
+{
+    match read_data(alloc, json, compiled.typed.params(number)) {
+        Ok(input) => {
+            let Compiled { program, .. } = compiled;
+            Ok(Output::Page(Page {
+                program,
+                template: number,
+                input,
+                names,
+                sources,
+            }))
+        }
+        Err(Refusal::Because(fault)) => {
+            let line = pointer_line(alloc, json_name, fault.path.items(), fault.code)?;
+            Err(Ending::Refused(line))
+        }
+        Err(Refusal::OutOfMemory) => Err(Ending::Memory),
+    }
+}
