@@ -27,6 +27,3 @@ mod writing;
 
 pub use fault::PlaceFault;
 pub use inferring::infer;
-
-#[cfg(test)]
-mod tests;

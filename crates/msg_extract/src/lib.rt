@@ -26,6 +26,3 @@ pub use catalogue::{Catalogue, Listed, extract, write_catalogue};
 pub use laws::{law_canonical_text, law_equal_parts, law_fits, law_written_text};
 pub use placeholder::{Placeholder, placeholders};
 pub use selector::{Selector, selectors};
-
-#[cfg(test)]
-mod tests;

@@ -37,7 +37,11 @@ fn trees(alloc: Global, text: &str) -> Result<Vec<Tree>, OutOfMemory>
 }
 
 /// The bundle that has these translations of the messages of trees, in their order; an empty one is left out.
-fn bundle(alloc: Global, trees: &[Tree], patterns: &[&str]) -> Result<Bundle, OutOfMemory>
+pub(crate) fn bundle(
+    alloc: Global,
+    trees: &[Tree],
+    patterns: &[&str],
+) -> Result<Bundle, OutOfMemory>
     requires { length trees.now < 2 ^ 32 }
 {
     let mut messages = Vec::new(alloc);

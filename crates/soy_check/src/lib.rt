@@ -22,6 +22,3 @@ mod type_faults;
 mod variables;
 
 pub use checker::{CheckFault, check};
-
-#[cfg(test)]
-mod tests;

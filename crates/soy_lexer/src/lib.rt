@@ -20,6 +20,3 @@ mod token;
 pub use laws::{law_longest_token, law_segments_are_the_text, law_tokens_unique};
 pub use lexer::lex;
 pub use token::{Token, TokenKind};
-
-#[cfg(test)]
-mod tests;

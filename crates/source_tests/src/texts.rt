@@ -1,20 +1,22 @@
 //! Whole texts: their tokens, or the first offset where none begins.
 
-use crate::{Token, lex};
 use soy_base::Refusal;
+use soy_lexer::{Token, lex};
 use std::alloc::{AllocError, Global};
 use std::process::Abort;
 use std::test::Fail;
 
-/// Adds each token as its kind, its span and its text.
-fn show(alloc: Global, tokens: &[Token], shown: &mut String) -> Result<(), AllocError> {
+/// Adds each token from an offset on, as its kind, its span behind that offset and its text.
+fn show(alloc: Global, tokens: &[Token], from: u64, shown: &mut String) -> Result<(), AllocError> {
     for token in tokens {
+        let Some(start) = token.span.start.checked_sub(from) else {
+            continue;
+        };
         if !shown.as_str().is_empty() {
             shown.push(' ')?;
         }
         let kind = token.kind;
-        let start = token.span.start;
-        let end = token.span.end;
+        let end = token.span.end.saturating_sub(from);
         let text = token.text.text();
         let one = format!(in alloc; "{kind:?}@{start}-{end}[{text}]")?;
         shown.push_str(one.as_str())?;
@@ -22,18 +24,20 @@ fn show(alloc: Global, tokens: &[Token], shown: &mut String) -> Result<(), Alloc
     Ok(())
 }
 
-/// The tokens of a text, or its fault.
-fn answer(alloc: Global, text: &str) -> Result<String, AllocError> {
-    match lex(alloc, text, 3) {
+/// The tokens of a text behind another one, or its fault; offsets are those in the text.
+pub(crate) fn answer(alloc: Global, before: &str, text: &str) -> Result<String, AllocError> {
+    let from = before.len() as u64;
+    let whole = format!(in alloc; "{before}{text}")?;
+    match lex(alloc, whole.as_str(), 3) {
         Ok(tokens) => {
             let mut shown = String::new(alloc);
-            show(alloc, tokens.as_slice(), &mut shown)?;
+            show(alloc, tokens.as_slice(), from, &mut shown)?;
             Ok(shown)
         }
         Err(Refusal::Because(fault)) => {
             let code = fault.code;
             let file = fault.file;
-            let at = fault.at;
+            let at = fault.at.saturating_sub(from);
             format!(in alloc; "{code:?} in {file} at {at}")
         }
         Err(Refusal::OutOfMemory) => String::from_str(alloc, "out of memory"),
@@ -42,7 +46,7 @@ fn answer(alloc: Global, text: &str) -> Result<String, AllocError> {
 
 fn check(rt: &impl Abort, alloc: Global, rows: &[(&str, &str)]) -> Result<(), Fail> {
     for (text, expected) in rows {
-        let shown = answer(alloc, text)?;
+        let shown = answer(alloc, "", text)?;
         assert_eq!(rt; shown.as_str(), *expected, "of {text:?}");
     }
     Ok(())
@@ -276,10 +280,13 @@ fn the_limit_is_in_bytes(rt: HostRuntime) -> Result<(), Fail> {
         Err(_) => assert!(rt; false, "within the limit"),
     }
     let closed = repeated(alloc, "}", 1_048_576)?;
-    assert_eq!(rt; answer(alloc, closed.as_str())?.as_str(), "Lex in 3 at 0");
+    assert_eq!(rt;
+        answer(alloc, "", closed.as_str())?.as_str(),
+        "Lex in 3 at 0"
+    );
     let over = repeated(alloc, "}", 1_048_577)?;
     assert_eq!(rt;
-        answer(alloc, over.as_str())?.as_str(),
+        answer(alloc, "", over.as_str())?.as_str(),
         "TooLarge in 3 at 0"
     );
     Ok(())

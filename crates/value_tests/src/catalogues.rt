@@ -1,7 +1,6 @@
 //! Messages with their canonical texts, placeholders, ids and catalogues.
 
-use crate::canonical::canonical_text;
-use crate::{Placeholder, extract, message_id, placeholders, write_catalogue};
+use msg_extract::{Placeholder, extract, message_id, placeholders, write_catalogue};
 use soy_base::{Boxed, Fault, Kind, OutOfMemory, Refusal, Seq, Span, Text};
 use soy_tree::{Expr, ExprNode, Form, Message, MessageBody, Node, PluralCase, Template, Tree};
 use std::alloc::Global;
@@ -112,32 +111,46 @@ fn tree(alloc: Global, message: Message, other: Option<Message>) -> Result<Tree,
     })
 }
 
-fn plural_text(alloc: Global) -> Result<Text, OutOfMemory> {
-    canonical_text(alloc, &plural_body(alloc)?)
+/// The canonical text of a message of this body, as the catalogue lists it.
+fn listed_text(alloc: Global, body: MessageBody) -> Result<Text, Refusal<Fault>> {
+    let tree = tree(alloc, message(alloc, "", body, 0)?, None)?;
+    let catalogue = extract(alloc, &[tree])?;
+    match catalogue.messages.items() {
+        [listed] => Ok(listed.text.copy(alloc)?),
+        _ => Ok(Text::empty(alloc)),
+    }
 }
 
-fn names_text(alloc: Global) -> Result<Text, OutOfMemory> {
-    canonical_text(alloc, &names_body(alloc)?)
+fn plural_text(alloc: Global) -> Result<Text, Refusal<Fault>> {
+    listed_text(alloc, plural_body(alloc)?)
+}
+
+fn names_text(alloc: Global) -> Result<Text, Refusal<Fault>> {
+    listed_text(alloc, names_body(alloc)?)
 }
 
 /// The canonical text of `{lb}a{rb}it's #{$who}`
-fn quoted_text(alloc: Global) -> Result<Text, OutOfMemory> {
-    canonical_text(alloc, &who_body(alloc, "{a}it's #")?)
+fn quoted_text(alloc: Global) -> Result<Text, Refusal<Fault>> {
+    listed_text(alloc, who_body(alloc, "{a}it's #")?)
 }
 
 #[test]
-fn source_plural_placeholder_names_and_quoted_text(rt: HostRuntime) {
-    match plural_text(rt.alloc()) {
-        Ok(text) => assert!(rt; text.is("{N, plural, offset:1 =1 {only} other {{N} in all}}")),
-        Err(_) => assert!(rt; false),
-    }
-    match names_text(rt.alloc()) {
-        Ok(text) => assert!(rt; text.is("{START_LINK}{NAME_1}{END_LINK} {NAME_2}")),
-        Err(_) => assert!(rt; false),
-    }
-    match quoted_text(rt.alloc()) {
-        Ok(text) => assert!(rt; text.is("'{'a'}'it''s #{WHO}")),
-        Err(_) => assert!(rt; false),
+fn canonical_texts(rt: HostRuntime) {
+    for (found, wanted) in [
+        (
+            plural_text(rt.alloc()),
+            "{N, plural, offset:1 =1 {only} other {{N} in all}}",
+        ),
+        (
+            names_text(rt.alloc()),
+            "{START_LINK}{NAME_1}{END_LINK} {NAME_2}",
+        ),
+        (quoted_text(rt.alloc()), "'{'a'}'it''s #{WHO}"),
+    ] {
+        match found {
+            Ok(text) => assert!(rt; text.is(wanted), "{wanted}"),
+            Err(_) => assert!(rt; false, "{wanted}"),
+        }
     }
 }
 
@@ -148,13 +161,11 @@ fn id_with_meaning(alloc: Global, meaning: &str) -> Result<Text, OutOfMemory> {
 
 #[test]
 fn an_id_comes_of_meaning_and_canonical_text(rt: HostRuntime) {
-    match id_with_meaning(rt.alloc(), "") {
-        Ok(id) => assert!(rt; id.is("29b104d2ffbb3f3d")),
-        Err(_) => assert!(rt; false),
-    }
-    match id_with_meaning(rt.alloc(), "m") {
-        Ok(id) => assert!(rt; id.is("bf4ae17dda843b0c")),
-        Err(_) => assert!(rt; false),
+    for (meaning, wanted) in [("", "29b104d2ffbb3f3d"), ("m", "bf4ae17dda843b0c")] {
+        match id_with_meaning(rt.alloc(), meaning) {
+            Ok(id) => assert!(rt; id.is(wanted), "{meaning}"),
+            Err(_) => assert!(rt; false, "{meaning}"),
+        }
     }
 }
 

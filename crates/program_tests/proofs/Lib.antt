@@ -1,0 +1,2 @@
+-- What proofs of tests cite.
+mod FormedTrees

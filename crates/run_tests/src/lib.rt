@@ -1,0 +1,33 @@
+//! Tests of soy_top: rows of words and files with what `run` answers, and runs over libraries and sinks that fail. They
+//! stand apart from it, since a check of a crate's tests proves the crate anew. Nothing is handed out. Depends on
+//! soy_io and soy_top, and on soy_base and html_state for the states of a page.
+#![tactic(auto)]
+
+#[cfg(test)]
+mod calls;
+#[cfg(test)]
+mod checks;
+#[cfg(test)]
+mod data;
+#[cfg(test)]
+mod directions;
+#[cfg(test)]
+mod faults;
+#[cfg(test)]
+mod hostile;
+#[cfg(test)]
+mod limits;
+#[cfg(test)]
+mod messages;
+#[cfg(test)]
+mod places;
+#[cfg(test)]
+mod prints;
+#[cfg(test)]
+mod running;
+#[cfg(test)]
+mod shop;
+#[cfg(test)]
+mod sources;
+#[cfg(test)]
+mod words;
