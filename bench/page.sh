@@ -54,6 +54,23 @@ for case in words.soy:words.json:'words' words.soy:marked.json:'one special in t
     took=$(least "$soyc" render b.m "$work/$json" - "$work/$file")
     row "$name" "$(stat -c %s "$work/page")" "$took"
 done
+# items COUNT: a list of so many items, each with a link, two texts and a number.
+items() {
+    awk -v count="$1" 'BEGIN {
+        printf "{\"items\": ["
+        for (i = 0; i < count; i++)
+            printf "%s{\"who\": \"tea\", \"text\": \"a<b R&D\", \"link\": \"https://e.example/?q=1&r=2\", \"n\": %d}", i ? "," : "", i % 200
+        print "]}"
+    }' >"$work/items.json"
+}
+printf '%s\n' '{namespace b}' '{template m}' '{@param items: list<[who: string, text: string, link: string, n: int]>}' \
+    '<ul>{for $i in $items}<li><a href="{$i.link}">{$i.who}</a> {$i.text} <i title="{$i.text}">{$i.n}</i></li>{/for}</ul>' \
+    '{/template}' >"$work/items.soy"
+for count in 4000 20000 40000; do
+    items "$count"
+    took=$(least "$soyc" render b.m "$work/items.json" - "$work/items.soy")
+    row "$count items of a list" "$(stat -c %s "$work/page")" "$took"
+done
 cp "$work/page" "$work/bytes"
 took=$(least cat "$work/bytes")
 row 'a copy of the last page' "$(stat -c %s "$work/page")" "$took"
