@@ -1,7 +1,7 @@
 -- A text says that the files and the bundle of the words are accepted.
 --
--- The words are `check BUNDLE FILE..`, the library holds the bundle, but for `-`, and the files, these are accepted, and
--- the text is `ok` and a line feed.
+-- The words are `check BUNDLE FILE..`, the library holds the bundle, but for `-`, and the files, these are accepted,
+-- and the text is `ok` and a line feed.
 -- Example: of `check - t.soy` where t.soy is `{namespace a}`.
 use Rattle.std.specs.Prelude.{◌≡◌, ℕ, List, ◌∷◌, map, Option, Some, None, codes}
 use Rattle.soy_front.specs.Accepted.{Accepted}

@@ -1,8 +1,8 @@
 -- The lines that the program writes for people, as UTF-8 bytes.
 --
 -- A refusal is shown by what it speaks of, a colon, a space, the number of its code in decimal
--- digits, a space and the code's word. What it speaks of is a file with a place, a template, or the
--- command where the program doesn't do yet what is asked.
+-- digits, a space and the code's word. What it speaks of is a file with a position, a template, or
+-- the command where the program doesn't do yet what is asked.
 -- Example: `t.zz: 29 Entry`.
 use Rattle.std.specs.Prelude.{ℕ, ◌+◌, List, [], ◌∷◌, ◌++◌, codes}
 use Rattle.std.specs.Fmt.{decimal}

@@ -1,5 +1,5 @@
--- The line of a fault of a JSON file, which is shown at a JSON pointer (RFC 6901, section 3): each step is a `/` and then
--- an index in decimal digits, or a key in which `~` is written `~0` and `/` is written `~1`.
+-- The line of a fault of a JSON file, which is shown at a JSON pointer (RFC 6901, section 3): each step is a `/` and
+-- then an index in decimal digits, or a key in which `~` is written `~0` and `/` is written `~1`.
 --
 -- Example: `d.json:/a~1b/3: 28 DataType`.
 use Rattle.std.specs.Prelude.{ℕ, List, [], ◌∷◌, ◌++◌, ◌==◌, if◌then◌else◌, codes, encode_utf8_all}
