@@ -17,14 +17,17 @@ mod command;
 mod ending;
 mod faults;
 mod fetch;
+mod generated;
 mod inputs;
 mod laws;
 mod line;
+mod made_bundle;
 mod output;
 mod page;
 mod program;
 mod render;
 mod status;
+mod summary;
 mod wanted;
 
 pub use laws::law_answer_is_text;
