@@ -13,3 +13,4 @@ pub mod SpelledWords
 pub mod Sums
 pub mod Texts
 pub mod Took
+pub mod Workloads

@@ -47,7 +47,9 @@ impl Summing {
     {
         let count = self.count;
         let digest = hex::encode(alloc, self.hasher.finalize())?;
-        Ok(format!(in alloc; "templates 201\nmessages 200\nitems 4000\nbytes {count}\nsha256 {digest}\n")?)
+        Ok(format!(in alloc;
+            "templates 201\nmessages 200\nitems 4000\nbytes {count}\nsha256 {digest}\n"
+        )?)
     }
 }
 
@@ -74,7 +76,10 @@ fn sum_pulls<L: Ledger>(
     ensures { IfOk result (λ sum. IsSumOf (run_text (page_run page.now)) sum) }
 {
     let mut steps = Steps::<L>::new(blank);
-    let mut rendering = Rendering::begin(alloc, &page.program, &page.input, page.template)?;
+    let Ok(mut rendering) = Rendering::begin(alloc, &page.program, &page.input, page.template)
+    else {
+        return Err(OutOfMemory);
+    };
     let mut sum = Summing::new();
     loop {
         match rendering.pull(&page.program, &page.input, room, &mut steps) {

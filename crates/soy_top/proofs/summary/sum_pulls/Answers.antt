@@ -1,4 +1,4 @@
-use Rattle.std.proofs.Common.{◌≡◌, ◌<◌, ap, ◌∙◌, arith}
+use Rattle.std.proofs.Common.{◌≡◌, ◌<◌, refl, ap, ◌∙◌, arith}
 use Rattle.render_core.specs.Rest.{rest_bytes}
 use Rattle.soy_top.specs.ViewOutput.{page_run}
 use Rattle.soy_top.proofs.Pulling.{done_whole, left_fewer, pulled_none, pulled_stop, pulled_within, text_solid}
@@ -8,8 +8,8 @@ use Rattle.soy_top.proofs.summary.sum_pulls.Goals as goal
 pub loop-rendering-init : goal.loop-rendering-init
 loop-rendering-init g c =
     let o = page_run c.args.page.now in record {
-      fits = c.in_ok-rendering.ensures.fits;
-      so_far = summed_none _ _ _ (ap rest_bytes c.in_ok-rendering.ensures.rest ∙ text_solid o) c.new.ensures;
+      fits = c.in-Ok.ensures.fits;
+      so_far = summed_none _ _ _ (ap rest_bytes c.in-Ok.ensures.rest ∙ text_solid o) c.new.ensures;
       has_room = c.requires.room;
     }
 
@@ -24,8 +24,8 @@ returns-in-Ok-eq0 g c =
 pub loop-rendering-preserved : goal.loop-rendering-preserved
 loop-rendering-preserved g c =
     let inv = c.loop-rendering.invariant in record {
-      fits = c.in-Ok.ensures.fits;
-      so_far = summed_more _ _ _ _ _ _ inv.so_far c.in-Ok.ensures.bytes c.add.ensures;
+      fits = c.in-Ok-pull.ensures.fits;
+      so_far = summed_more _ _ _ _ _ _ inv.so_far c.in-Ok-pull.ensures.bytes c.add.ensures;
       has_room = omega (arith, inv.has_room, c.pull.auto.room);
     }
 
