@@ -1,5 +1,5 @@
--- Where the answer is a text, the words and the files are those of a page, of a catalogue or of files that are accepted,
--- or the words are those of a workload.
+-- Where the answer is a text, the words and the files are those of a page, of a catalogue or of files that are
+-- accepted, or the words are those of a workload.
 use Rattle.std.proofs.Common.{◌≡◌, ℕ, zero, suc, Bool, true, false, cond, ◌-◌, List, [], ◌∷◌, ◌++◌, ◌+◌, length, drop, take}
 use Rattle.std.proofs.Common.{length-append, map, Option, Some, None, refl, sym, ap, subst, ◌∙◌, arith, codes}
 use Rattle.std.proofs.lemmas.List.{length-map}

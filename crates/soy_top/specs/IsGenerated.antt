@@ -1,8 +1,8 @@
 -- A text is the summary of the words.
 --
 -- The words are `gen NUMBER`, the source of the number's workload is read, it and the bundle of its catalogue are
--- accepted, the workload's template is one that may be rendered under its name, the data give its parameters values, and
--- the text is the summary of the meaning of the template under them.
+-- accepted, the workload's template is one that may be rendered under its name, the data give its parameters values,
+-- and the text is the summary of the meaning of the template under them.
 -- Example: for 7 the text has the line `bytes 638685`.
 use Rattle.std.specs.Prelude.{◌≡◌, ℕ, List, [], ◌∷◌, Option, Some, Ok, codes}
 use Rattle.ir_build.specs.ViewScene.{language_of}

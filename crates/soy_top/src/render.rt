@@ -64,8 +64,9 @@ pub(crate) fn accept_page<'a>(
     sources: &'a [Source],
 ) -> Result<Page<'a>, Ending>
     requires { length sources.now ≤ 64 }
-    ensures accepts { AcceptsPage (λ page. accepted_then (command_words names.now) (view_contents sources.now) bundle.now
-        (option_map (λ b. b.now) content.entry) (render_answer page template.now json_name.now json.now)) result }
+    ensures accepts { AcceptsPage (λ page. accepted_then (command_words names.now) (view_contents sources.now)
+        bundle.now (option_map (λ b. b.now) content.entry) (render_answer page template.now json_name.now json.now))
+        result }
     ensures names { IfOk result (λ page. page.names.now ≡ names.now) }
     ensures sources { IfOk result (λ page. page.sources.now ≡ sources.now) }
 {

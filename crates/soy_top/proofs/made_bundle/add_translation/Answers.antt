@@ -14,4 +14,5 @@ returns c =
     ap members_view c.in_ok-insert.ensures.entries
     ∙ (members_view-insert_entry old c.in_ok-id.id made
     ∙ (ap (λ id. put id (view made) (members_view old)) (c.in_ok-id.ensures.ok ∙ c.text.ensures.bytes)
-    ∙ ap (λ d. put (encode_utf8_all c.args.row.now.id) d (members_view old)) (view_string c.in_ok-text.text ∙ ap string c.in_ok-text.ensures)))
+    ∙ ap (λ d. put (encode_utf8_all c.args.row.now.id) d (members_view old))
+    (view_string c.in_ok-text.text ∙ ap string c.in_ok-text.ensures)))
