@@ -13,10 +13,4 @@ returns-in_ok-bundle-in-Ok c =
     let files = view_contents c.args.sources.now in
     read_answered names files (bundled_answer c.args.workload.now names files) (view_files c.in-Ok.read)
     c.accept_bundled.result c.in-Ok.ensures (bundled_then c.args.workload.now c.accept_bundled.result names files
-    (view_files c.in-Ok.read) _ (c.as_bytes.ensures ∙ c.in_ok-bundle-in-Ok.ensures) c.accept_bundled.ensures)
-
-pub returns : goal.returns
-returns c =
-    let names = command_words c.args.names.now in
-    let files = view_contents c.args.sources.now in
-    c.in-Err.ensures (bundled_answer c.args.workload.now names files)
+    (view_files c.in-Ok.read) _ (c.as_bytes.ensures.value ∙ c.in_ok-bundle-in-Ok.ensures) c.accept_bundled.ensures)
