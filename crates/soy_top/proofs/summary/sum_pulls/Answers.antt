@@ -5,8 +5,8 @@ use Rattle.soy_top.proofs.Pulling.{done_whole, left_fewer, pulled_none, pulled_s
 use Rattle.soy_top.proofs.Sums.{summed_more, summed_none, summed_whole}
 use Rattle.soy_top.proofs.summary.sum_pulls.Goals as goal
 
-pub loop-rendering-init : goal.loop-rendering-init
-loop-rendering-init g c =
+pub loop-sum-init : goal.loop-sum-init
+loop-sum-init g c =
     let o = page_run c.args.page.now in record {
       fits = c.in-Ok.ensures.fits;
       so_far = summed_none _ _ _ (ap rest_bytes c.in-Ok.ensures.rest ∙ text_solid o) c.new.ensures;
@@ -15,15 +15,15 @@ loop-rendering-init g c =
 
 pub returns-in-Ok-eq0 : goal.returns-in-Ok-eq0
 returns-in-Ok-eq0 g c =
-    let inv = c.loop-rendering.invariant in
+    let inv = c.loop-sum.invariant in
     let zero_given : c.in-Ok-eq0.field-0 ≡ 0 = omega (arith, c.in-Ok-eq0.field-0-test) in
     let none = pulled_none _ _ _ _ _ _ _ _ _ c.in-Ok-eq0.field-0 refl c.in-Ok-eq0.ensures.pulls zero_given
     inv.has_room (done_whole _ _ _ inv.fits.done) in
     summed_whole _ _ _ inv.so_far none.0
 
-pub loop-rendering-preserved : goal.loop-rendering-preserved
-loop-rendering-preserved g c =
-    let inv = c.loop-rendering.invariant in record {
+pub loop-sum-preserved : goal.loop-sum-preserved
+loop-sum-preserved g c =
+    let inv = c.loop-sum.invariant in record {
       fits = c.in-Ok-pull.ensures.fits;
       so_far = summed_more _ _ _ _ _ _ inv.so_far c.in-Ok-pull.ensures.bytes c.add.ensures;
       has_room = omega (arith, inv.has_room, c.pull.auto.room);
@@ -31,5 +31,5 @@ loop-rendering-preserved g c =
 
 pub returns-in-Err-Because : goal.returns-in-Err-Because
 returns-in-Err-Because g c =
-    summed_whole _ _ _ c.loop-rendering.invariant.so_far (pulled_stop _ _ _ _ _ _ _ _ _ c.in-Err-Because.call
+    summed_whole _ _ _ c.loop-sum.invariant.so_far (pulled_stop _ _ _ _ _ _ _ _ _ c.in-Err-Because.call
     c.in-Err-Because.field-0 c.in-Err-Because.field-0-is refl c.in-Err-Because.ensures.pulls).0

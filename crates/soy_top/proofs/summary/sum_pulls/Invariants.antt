@@ -6,13 +6,13 @@ use Rattle.soy_top.specs.ViewOutput.{page_run}
 use Rattle.soy_top.proofs.Sums.{SummedSoFar}
 use Rattle.soy_top.proofs.summary.sum_pulls.Given as goal
 
-abbrev pub invariant-loop-rendering : goal.invariant-loop-rendering
-invariant-loop-rendering g l =
+abbrev pub invariant-loop-sum : goal.invariant-loop-sum
+invariant-loop-sum g l =
     let rest = rest_of l.page.program (view_value l.page.input) l.rendering in record {
       fits : Fits l.page.program (view_value l.page.input) l.rendering;
       so_far : SummedSoFar (run_text (page_run l.page)) (rest_bytes rest) l.sum;
       has_room : 0 < length l.room;
     }
 
-abbrev pub decreases-loop-rendering : goal.decreases-loop-rendering
-decreases-loop-rendering g l = length (rest_bytes (rest_of l.page.program (view_value l.page.input) l.rendering))
+abbrev pub decreases-loop-sum : goal.decreases-loop-sum
+decreases-loop-sum g l = length (rest_bytes (rest_of l.page.program (view_value l.page.input) l.rendering))
