@@ -9,7 +9,7 @@ pub loop-sum-init : goal.loop-sum-init
 loop-sum-init g c =
     let o = page_run c.args.page.now in record {
       fits = c.in-Ok.ensures.fits;
-      so_far = summed_none _ _ _ (ap rest_bytes c.in-Ok.ensures.rest ∙ text_solid o) c.new.ensures;
+      so_far = summed_none _ _ _ (ap rest_bytes c.in-Ok.ensures.rest ∙ text_solid o) c.new-sum.ensures;
       has_room = c.requires.room;
     }
 
@@ -31,5 +31,5 @@ loop-sum-preserved g c =
 
 pub returns-in-Err-Because : goal.returns-in-Err-Because
 returns-in-Err-Because g c =
-    summed_whole _ _ _ c.loop-sum.invariant.so_far (pulled_stop _ _ _ _ _ _ _ _ _ c.in-Err-Because.call
+    summed_whole _ _ _ c.loop-sum.invariant.so_far (pulled_stop _ _ _ _ _ _ _ _ _ c.in-Err-Because.field-0-0
     c.in-Err-Because.field-0 c.in-Err-Because.field-0-is refl c.in-Err-Because.ensures.pulls).0
