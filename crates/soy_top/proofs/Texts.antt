@@ -28,7 +28,7 @@ use Rattle.soy_top.specs.Answer.{PageAnswer, page_answer, render_answer, run_tex
 use Rattle.soy_top.specs.Answer.{contents_answer, asked_answer, limits_answer, answer, not_yet}
 use Rattle.soy_top.specs.Answer.{accepted_text, accepted_then, catalogue_answer, catalogue_text, read_then}
 use Rattle.soy_top.specs.Answer.{bundled_answer, inputs_answer, summed_page, tree_answer, unless_faulty, unless_refused}
-use Rattle.soy_top.specs.Answer.{workload_answer}
+use Rattle.soy_top.specs.Answer.{preview_answer, shown_of, unseen_page, workload_answer}
 use Rattle.soy_top.specs.Asked.{Asked, Render, Check, Extract, Gen, Play, Preview, Format, asked_by_words}
 use Rattle.soy_top.specs.FilesWanted.{FileWanted, data_file, source_file, bundle_files, render_files, asked_files}
 use Rattle.soy_top.specs.FilesWanted.{first_not_held, first_over_limit, content, contents, is_source_language}
@@ -350,9 +350,12 @@ play_no_text script first second names given read text h =
 preview_no_text : (template json_name bundle : Word) (names : List Word) (given read : List (List ℕ)) (text : List ℕ)
     → inputs_answer (Preview template json_name bundle names) given read ≡ Done text → ⊥
 preview_no_text template json_name bundle names given read text h =
-    let t = then_text names read bundle (λ of. not_yet (codes "preview"))
+    let json : List ℕ = numbered 0 given in
+    let t = then_text names read bundle (preview_answer unseen_page template json_name json)
     (front_answer read (bundle_content bundle 1 given)) text h in
-    let e : not_yet (codes "preview") ≡ Done text = t.2 in cc
+    let e = entry_text unseen_page template json_name json t.0 (shown_of t.0 template) text t.2 in
+    let v = data_text unseen_page json_name t.0 e.0 (data_at e.0.template.params json) text e.2 in
+    let refused : not_yet (codes "preview") ≡ Done text = v.2 in cc
 
 asked_text : (files : Files) (words : List Word) (asked : Asked) (text : List ℕ) → IsSpelled words asked
     → first_not_held files (asked_files asked) ≡ None
