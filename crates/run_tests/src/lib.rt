@@ -22,6 +22,8 @@ mod messages;
 #[cfg(test)]
 mod places;
 #[cfg(test)]
+mod plurals;
+#[cfg(test)]
 mod prints;
 #[cfg(test)]
 mod running;
