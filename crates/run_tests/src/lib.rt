@@ -8,6 +8,8 @@ mod calls;
 #[cfg(test)]
 mod checks;
 #[cfg(test)]
+mod closure;
+#[cfg(test)]
 mod data;
 #[cfg(test)]
 mod directions;
