@@ -82,7 +82,7 @@ each() {
         if ((status != wanted)); then differs "$1, $call $at"; fi
         if ! said "$wanted" "$page"; then differs "$1, $call $at"; fi
     done
-    printf '%s: %d times %s, each with status %d\n' "$1" $((at - 1)) "$call" "$wanted"
+    printf '%s: %d times %s, to end with %d\n' "$1" $((at - 1)) "$call" "$wanted"
 }
 
 # once TEXT: whether a run ended with 4.
