@@ -433,7 +433,7 @@ const MESSAGES: &[Form] = &[
     (
         "{@param n: int}",
         "{msg desc=\"d\"}{plural $n}{case 0}a{/plural}{/msg}",
-        "4:44: 4 Syntax",
+        "4:36: 4 Syntax",
     ),
     (
         "{@param n: int}",
