@@ -8,6 +8,8 @@ mod calls;
 #[cfg(test)]
 mod checks;
 #[cfg(test)]
+mod closure;
+#[cfg(test)]
 mod data;
 #[cfg(test)]
 mod directions;
@@ -21,6 +23,8 @@ mod limits;
 mod messages;
 #[cfg(test)]
 mod places;
+#[cfg(test)]
+mod plurals;
 #[cfg(test)]
 mod prints;
 #[cfg(test)]
