@@ -1,38 +1,39 @@
 -- What is listed of a message, by its pieces.
-use Rattle.std.proofs.Common.{◌≡◌, ℕ, false, List, [], refl, ap, ◌∙◌}
+use Rattle.std.proofs.Common.{◌≡◌, ℕ, false, List, [], refl, ap, sym, ◌∙◌}
 use Rattle.soy_base.specs.declared.fault.Span.{Span}
 use Rattle.soy_tree.specs.Types.{Name}
 use Rattle.soy_tree.specs.Nodes.{MessageBody, message}
-use Rattle.soy_tree.specs.Placeholders.{body_uses}
+use Rattle.soy_tree.specs.Placeholders.{Use, body_uses}
 use Rattle.msg_extract.specs.CanonicalText.{canonical_text}
 use Rattle.msg_extract.specs.Catalogue.{listed, role_names}
 use Rattle.msg_extract.specs.MessageId.{id_of_text}
 use Rattle.msg_extract.specs.Pieces.{Piece, body_pieces, pieces_text, uses_in}
 use Rattle.msg_extract.specs.PlaceholderNodes.{rows_after}
-use Rattle.msg_extract.specs.declared.role_names.NameKind.{NameKind}
 use Rattle.msg_extract.specs.declared.role_names.NameKind.TheVariants as kind
 use Rattle.msg_extract.proofs.PieceLists.{body_pieces_uses, pieces_canonical}
 
+-- the uses among a message's pieces
+pub uses_are : (body : MessageBody) (ps : List Piece) (us : List Use) → ps ≡ body_pieces false body → us ≡ uses_in ps
+    → us ≡ body_uses body
+uses_are body ps us e u = u ∙ (ap uses_in e ∙ body_pieces_uses false body)
+
 -- the placeholders of pieces that are a message's
-pub placeholders_rows : (body : MessageBody) (ps : List Piece) → ps ≡ body_pieces false body
-    → rows_after (uses_in ps) [] (uses_in ps) ≡ rows_after (body_uses body) [] (body_uses body)
-placeholders_rows body ps e = ap (λ us. rows_after us [] us) (ap uses_in e ∙ body_pieces_uses false body)
+pub placeholders_rows : (body : MessageBody) (ps : List Piece) (us : List Use) → ps ≡ body_pieces false body
+    → us ≡ uses_in ps → rows_after us [] (uses_in ps) ≡ rows_after (body_uses body) [] (body_uses body)
+placeholders_rows body ps us e u =
+    ap (λ vs. rows_after us [] vs) (sym u) ∙ ap (λ vs. rows_after vs [] vs) (uses_are body ps us e u)
 
-text_is : (body : MessageBody) (ps : List Piece) → ps ≡ body_pieces false body
-    → pieces_text (uses_in ps) ps ≡ canonical_text body
-text_is body ps e = ap (λ qs. pieces_text (uses_in qs) qs) e ∙ pieces_canonical body
-
-names_are : (of : NameKind) (body : MessageBody) (ps : List Piece) → ps ≡ body_pieces false body
-    → role_names of (uses_in ps) ≡ role_names of (body_uses body)
-names_are of body ps e = ap (role_names of) (ap uses_in e ∙ body_pieces_uses false body)
+text_is : (body : MessageBody) (ps : List Piece) (us : List Use) → ps ≡ body_pieces false body → us ≡ uses_in ps
+    → pieces_text us ps ≡ canonical_text body
+text_is body ps us e u =
+    ap (λ vs. pieces_text vs ps) u ∙ (ap (λ qs. pieces_text (uses_in qs) qs) e ∙ pieces_canonical body)
 
 -- a row of the catalogue, made of what its calls give
-pub row_is : (desc meaning : List ℕ) (body : MessageBody) (span : Span) (ps qs rs ss : List Piece)
+pub row_is : (desc meaning : List ℕ) (body : MessageBody) (span : Span) (ps : List Piece) (us : List Use)
     (id text copied meant : List ℕ) (placeholders plurals selects : List Name)
-    → ps ≡ body_pieces false body → qs ≡ body_pieces false body → rs ≡ body_pieces false body
-    → ss ≡ body_pieces false body → text ≡ pieces_text (uses_in ps) ps → id ≡ id_of_text meaning text
-    → copied ≡ desc → meant ≡ meaning → placeholders ≡ role_names kind.Placeholder (uses_in qs)
-    → plurals ≡ role_names kind.Plural (uses_in rs) → selects ≡ role_names kind.Select (uses_in ss)
+    → ps ≡ body_pieces false body → us ≡ uses_in ps → text ≡ pieces_text us ps → id ≡ id_of_text meaning text
+    → copied ≡ desc → meant ≡ meaning → placeholders ≡ role_names kind.Placeholder us
+    → plurals ≡ role_names kind.Plural us → selects ≡ role_names kind.Select us
     → record {
       id = id;
       desc = copied;
@@ -42,17 +43,5 @@ pub row_is : (desc meaning : List ℕ) (body : MessageBody) (span : Span) (ps qs
       plurals = plurals;
       selects = selects;
     } ≡ listed (message desc meaning body span)
-row_is desc meaning body span ps qs rs ss id text copied meant placeholders plurals selects e1 e2 e3 e4 t i d m p l s =
-    rw (
-      i,
-      t,
-      d,
-      m,
-      p,
-      l,
-      s,
-      text_is body ps e1,
-      names_are kind.Placeholder body qs e2,
-      names_are kind.Plural body rs e3,
-      names_are kind.Select body ss e4,
-    ) refl
+row_is desc meaning body span ps us id text copied meant placeholders plurals selects e u t i d m p l s =
+    rw (i, t, d, m, p, l, s, text_is body ps us e u, uses_are body ps us e u) refl

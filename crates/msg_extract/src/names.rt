@@ -1,145 +1,107 @@
 //! The names of a message's placeholders and selectors.
 
-ghost use Rattle.std.specs.Prelude.{◌≡◌, ◌+◌, [], map, length, IfOk, OnOk};
-ghost use Rattle.std.specs.List.{list_any};
-ghost use Rattle.std.specs.Str.{chars};
-ghost use Rattle.soy_tree.specs.Placeholders.{content_name, contents_after, free_number, has_base, is_same_content};
-ghost use Rattle.soy_tree.specs.Placeholders.{ExprContent, TagContent, name_of, numbered};
-ghost use Rattle.soy_tree.specs.Placeholders.{numbered_name};
-ghost use Rattle.soy_tree.specs.ViewExpressions.{view_expr};
-ghost use Rattle.msg_extract.specs.NameSteps.{contents_step, is_base_of, try_step};
+ghost use Rattle.std.specs.Prelude.{◌≡◌, ◌+◌, [], map, length, option_map, IfOk, OnOk};
+ghost use Rattle.soy_tree.specs.Placeholders.{free_number, name_of, named_contents, numbered, numbered_name};
+ghost use Rattle.msg_extract.specs.NameGroups.{bases_after, bases_step, found_name, group_names, groups_after};
+ghost use Rattle.msg_extract.specs.NameGroups.{groups_step, names_in, try_step, with_content_at, with_group};
 ghost use Rattle.msg_extract.specs.Pieces.{uses_in};
-ghost use Rattle.msg_extract.specs.ViewItems.{view_item};
+ghost use Rattle.msg_extract.specs.ViewKeys.{view_groups, view_key};
+ghost use Rattle.msg_extract.specs.ViewNames.{HasNames, named_uses};
 ghost use Rattle.msg_extract.specs.ViewPieces.{content_of, view_piece};
 
 use crate::ascii::{decimal, empty};
-use crate::item::Item;
-use crate::piece::{CodePiece, NameUse, Named, copied_items};
-use crate::same::{are_same_items, is_same_expr};
-use soy_base::{OutOfMemory, Row, Text, push_char, push_text};
-use soy_tree::Expr;
+use crate::content_key::ContentKey;
+use crate::name_key::NameKey;
+use crate::piece::{CodePiece, NameUse, Named};
+use indexmap::IndexSet;
+use soy_base::{OutOfMemory, Row, Seq, Text, push_char, push_text};
 use std::alloc::Global;
 
-/// Whether what is named has the same content.
-fn is_same(left: &Named<'_>, right: &Named<'_>) -> bool
-    ensures { result ≡ is_same_content (content_of left.now) (content_of right.now) }
-{
-    match left {
-        Named::Print(expr, _, _) => is_of_expr(expr, right),
-        Named::Plural(expr) => is_of_expr(expr, right),
-        Named::Select(expr) => is_of_expr(expr, right),
-        Named::Tag(tag) => is_of_tag(tag.items(), right),
-    }
+/// The base names of a message in order of first appearance, and the contents of each.
+#[derive(Drop)]
+struct Groups<'p, 'a> {
+    bases: IndexSet<NameKey>,
+    contents: Vec<IndexSet<ContentKey<'p, 'a>>>,
 }
 
-/// Whether what is named is a print or a selector of this expression.
-fn is_of_expr(expr: &Expr, of: &Named<'_>) -> bool
-    ensures { result ≡ is_same_content (ExprContent (view_expr expr.now)) (content_of of.now) }
-{
-    match of {
-        Named::Print(other, _, _) => is_same_expr(expr, other),
-        Named::Plural(other) => is_same_expr(expr, other),
-        Named::Select(other) => is_same_expr(expr, other),
-        Named::Tag(_) => false,
-    }
+/// The names of a message's contents, found without a walk over them.
+#[derive(Drop)]
+pub struct Names<'p, 'a> {
+    pieces: &'p [CodePiece<'a>],
+    groups: Groups<'p, 'a>,
+    texts: Row<Seq<Text>>,
 }
 
-/// Whether what is named is a tag of these texts and prints.
-fn is_of_tag(tag: &[Item<'_>], of: &Named<'_>) -> bool
-    ensures { result ≡ is_same_content (TagContent (map view_item tag.now)) (content_of of.now) }
-{
-    match of {
-        Named::Print(_, _, _) => false,
-        Named::Plural(_) => false,
-        Named::Select(_) => false,
-        Named::Tag(other) => are_same_items(tag, other.items()),
-    }
-}
-
-/// Whether a piece is the use of a name with this base name.
-fn is_base_of(base: &str, piece: &CodePiece<'_>) -> bool
-    ensures { result ≡ is_base_of (chars base.now) (view_piece piece.now) }
-{
-    match piece {
-        CodePiece::Text(_) => false,
-        CodePiece::Use(of) => of.base.is(base),
-    }
-}
-
-/// Whether the pieces use a name with this base name.
-#[tactic(auto, using(crate::proofs::NameSteps::base_step))]
-fn has_base(base: &str, pieces: &[CodePiece<'_>]) -> bool
-    ensures { result ≡ has_base (chars base.now) (uses_in (map view_piece pieces.now)) }
-{
-    for piece in pieces {
-        if is_base_of(base, piece) {
-            return true;
-        }
-    }
-    false
-}
-
-/// Whether a content is one of these.
-fn has_content(contents: &[Named<'_>], of: &Named<'_>) -> bool
-    ensures { result ≡ list_any (is_same_content (content_of of.now)) (map content_of contents.now) }
-{
-    for content in contents {
-        if is_same(of, content) {
-            return true;
-        }
-    }
-    false
-}
-
-/// The same thing, named once more.
-fn copied<'a>(alloc: Global, of: &Named<'a>) -> Result<Named<'a>, OutOfMemory>
-    ensures { IfOk result (λ to. content_of to ≡ content_of of.now) }
-{
-    match of {
-        Named::Print(expr, phname, span) => Ok(Named::Print(expr, phname, *span)),
-        Named::Plural(expr) => Ok(Named::Plural(expr)),
-        Named::Select(expr) => Ok(Named::Select(expr)),
-        Named::Tag(tag) => Ok(Named::Tag(copied_items(alloc, tag.items())?)),
-    }
-}
-
-/// Adds the content of a piece, if that is a use of the base name and its content isn't yet there.
-#[tactic(auto, using(crate::proofs::CutSteps::map_append))]
-fn add_content<'a>(
+/// Adds an empty group, if the base name is a new one.
+fn push_group<'p, 'a>(
     alloc: Global,
-    contents: &mut Row<Named<'a>>,
-    base: &Text,
-    piece: &CodePiece<'a>,
+    contents: &mut Vec<IndexSet<ContentKey<'p, 'a>>>,
+    is_new: bool,
 ) -> Result<(), OutOfMemory>
-    ensures { OnOk result (map content_of contents.new
-        ≡ contents_step (map content_of contents.old) base.now (view_piece piece.now)) }
+    ensures { OnOk result (view_groups contents.new.items
+        ≡ with_group is_new (view_groups contents.old.items)) }
+{
+    if is_new {
+        contents.push(IndexSet::new(alloc))?;
+    }
+    Ok(())
+}
+
+/// Adds a content to the group of a number.
+fn push_content<'p, 'a>(
+    contents: &mut Vec<IndexSet<ContentKey<'p, 'a>>>,
+    number: usize,
+    of: &'p Named<'a>,
+) -> Result<(), OutOfMemory>
+    ensures { OnOk result (view_groups contents.new.items
+        ≡ with_content_at number (content_of of.now) (view_groups contents.old.items)) }
+{
+    if let Some(group) = contents.get_mut(number) {
+        group.insert(ContentKey::new(of))?;
+    }
+    Ok(())
+}
+
+/// Adds the base name and the content of a piece, if it is a use.
+fn push_piece<'p, 'a>(
+    alloc: Global,
+    groups: &mut Groups<'p, 'a>,
+    piece: &'p CodePiece<'a>,
+) -> Result<(), OutOfMemory>
+    ensures bases { OnOk result (groups.new.bases.keys ≡ bases_step groups.old.bases.keys (view_piece piece.now)) }
+    ensures contents { OnOk result (view_groups groups.new.contents.items
+        ≡ groups_step groups.old.bases.keys (view_groups groups.old.contents.items) (view_piece piece.now)) }
 {
     match piece {
         CodePiece::Text(_) => Ok(()),
         CodePiece::Use(of) => {
-            if of.base.is(base.text()) && !has_content(contents.items(), &of.of) {
-                contents.push(copied(alloc, &of.of)?)?;
-            }
-            Ok(())
+            let (number, is_new) = groups
+                .bases
+                .insert_full(NameKey::new(of.base.copy(alloc)?))?;
+            push_group(alloc, &mut groups.contents, is_new)?;
+            push_content(&mut groups.contents, number, &of.of)
         }
     }
 }
 
-/// The contents of a base name, each once, in order of first appearance.
-#[tactic(auto, using(crate::proofs::NameSteps::contents_steps))]
-fn contents_of<'a>(
+/// The base names and contents of pieces.
+#[tactic(auto, using(crate::proofs::NameSteps::bases_steps, crate::proofs::NameSteps::groups_steps))]
+fn groups_of<'p, 'a>(
     alloc: Global,
-    pieces: &[CodePiece<'a>],
-    base: &Text,
-) -> Result<Row<Named<'a>>, OutOfMemory>
-    ensures { IfOk result (λ contents. map content_of contents
-        ≡ contents_after [] base.now (uses_in (map view_piece pieces.now))) }
+    pieces: &'p [CodePiece<'a>],
+) -> Result<Groups<'p, 'a>, OutOfMemory>
+    ensures bases { IfOk result (λ groups. groups.bases.keys ≡ bases_after [] (uses_in (map view_piece pieces.now))) }
+    ensures contents { IfOk result (λ groups. view_groups groups.contents.items
+        ≡ groups_after [] [] (uses_in (map view_piece pieces.now))) }
 {
-    let mut contents = Row::empty(alloc);
+    let mut groups = Groups {
+        bases: IndexSet::new(alloc),
+        contents: Vec::new(alloc),
+    };
     for piece in pieces {
-        add_content(alloc, &mut contents, base, piece)?;
+        push_piece(alloc, &mut groups, piece)?;
     }
-    Ok(contents)
+    Ok(groups)
 }
 
 /// A base name with a number.
@@ -167,19 +129,18 @@ fn next(number: u64) -> Result<u64, OutOfMemory>
 /// The number to try after this one, if this one makes another base name and the piece gives a further try.
 fn next_try(
     alloc: Global,
-    pieces: &[CodePiece<'_>],
+    bases: &IndexSet<NameKey>,
     base: &Text,
     number: u64,
     piece: &CodePiece<'_>,
 ) -> Result<Option<u64>, OutOfMemory>
-    ensures { IfOk result (λ n. n ≡ try_step base.now (uses_in (map view_piece pieces.now)) number
-        (view_piece piece.now)) }
+    ensures { IfOk result (λ n. n ≡ try_step bases.now.keys base.now number (view_piece piece.now)) }
 {
     match piece {
         CodePiece::Text(_) => Ok(Some(number)),
         CodePiece::Use(_) => {
-            let name = numbered_name(alloc, base, number)?;
-            if has_base(name.text(), pieces) {
+            let name = NameKey::new(numbered_name(alloc, base, number)?);
+            if bases.contains(&name) {
                 Ok(Some(next(number)?))
             } else {
                 Ok(None)
@@ -193,15 +154,17 @@ fn next_try(
 fn free_number(
     alloc: Global,
     pieces: &[CodePiece<'_>],
+    bases: &IndexSet<NameKey>,
     base: &Text,
     from: u64,
 ) -> Result<u64, OutOfMemory>
+    requires { bases.now.keys ≡ bases_after [] (uses_in (map view_piece pieces.now)) }
     ensures { IfOk result (λ n. n ≡ free_number (length (uses_in (map view_piece pieces.now))) base.now from
         (uses_in (map view_piece pieces.now))) }
 {
     let mut number = from;
     for piece in pieces {
-        match next_try(alloc, pieces, base, number, piece)? {
+        match next_try(alloc, bases, base, number, piece)? {
             Some(next) => number = next,
             None => return Ok(number),
         }
@@ -209,40 +172,120 @@ fn free_number(
     Ok(number)
 }
 
-/// The name of a use, where its base name has several contents.
-fn numbered(
+/// The names of the contents of a base name, numbered from 1 on.
+#[tactic(auto, using(crate::proofs::PieceLists::append_assoc))]
+fn number_names(
     alloc: Global,
     pieces: &[CodePiece<'_>],
-    contents: &[Named<'_>],
-    of: &NameUse<'_>,
-) -> Result<Text, OutOfMemory>
-    ensures { IfOk result (λ name. name ≡ content_name (content_of of.now.of) of.now.base
-        (numbered of.now.base (uses_in (map view_piece pieces.now)) 1 (map content_of contents.now))) }
+    bases: &IndexSet<NameKey>,
+    base: &Text,
+    contents: &[ContentKey<'_, '_>],
+) -> Result<Seq<Text>, OutOfMemory>
+    requires { bases.now.keys ≡ bases_after [] (uses_in (map view_piece pieces.now)) }
+    ensures { IfOk result (λ names. names
+        ≡ names_in (numbered base.now (uses_in (map view_piece pieces.now)) 1 (map view_key contents.now))) }
 {
+    let mut names = Row::empty(alloc);
     let mut number = 1u64;
-    for content in contents {
-        let free = free_number(alloc, pieces, &of.base, number)?;
-        if is_same(content, &of.of) {
-            return numbered_name(alloc, &of.base, free);
-        }
+    'contents: for _ in contents {
+        let free = free_number(alloc, pieces, bases, base, number)?;
+        names.push(numbered_name(alloc, base, free)?)?;
         number = next(free)?;
     }
-    of.base.copy(alloc)
+    Ok(names.done())
+}
+
+/// The names of the contents of a base name: of one the base name.
+#[tactic(auto, using(crate::proofs::NameSteps::one_name, crate::proofs::NameSteps::many_names))]
+fn content_names(
+    alloc: Global,
+    pieces: &[CodePiece<'_>],
+    bases: &IndexSet<NameKey>,
+    base: &Text,
+    contents: &[ContentKey<'_, '_>],
+) -> Result<Seq<Text>, OutOfMemory>
+    requires { bases.now.keys ≡ bases_after [] (uses_in (map view_piece pieces.now)) }
+    ensures { IfOk result (λ names. names
+        ≡ names_in (named_contents base.now (uses_in (map view_piece pieces.now))
+        (map view_key contents.now))) }
+{
+    if contents.len() == 1 {
+        let mut names = Row::empty(alloc);
+        names.push(base.copy(alloc)?)?;
+        return Ok(names.done());
+    }
+    number_names(alloc, pieces, bases, base, contents)
+}
+
+/// The names of groups.
+#[tactic(auto, using(crate::proofs::PieceLists::append_assoc))]
+fn group_names(
+    alloc: Global,
+    pieces: &[CodePiece<'_>],
+    groups: &Groups<'_, '_>,
+) -> Result<Row<Seq<Text>>, OutOfMemory>
+    requires { groups.now.bases.keys ≡ bases_after [] (uses_in (map view_piece pieces.now)) }
+    ensures { IfOk result (λ names. names ≡ group_names (uses_in (map view_piece pieces.now)) groups.now.bases.keys
+        (view_groups groups.now.contents.items)) }
+{
+    let mut texts = Row::empty(alloc);
+    let mut number = 0usize;
+    for base in groups.bases.as_slice() {
+        let Some(group) = groups.contents.get(number) else {
+            return Ok(texts);
+        };
+        texts.push(content_names(alloc, pieces, &groups.bases, base.name(), group.as_slice())?)?;
+        number += 1;
+    }
+    Ok(texts)
+}
+
+/// The names of the uses among pieces.
+pub fn names_of<'p, 'a>(
+    alloc: Global,
+    pieces: &'p [CodePiece<'a>],
+) -> Result<Names<'p, 'a>, OutOfMemory>
+    ensures uses { IfOk result (λ names. named_uses names ≡ uses_in (map view_piece pieces.now)) }
+    ensures names { IfOk result HasNames }
+{
+    let groups = groups_of(alloc, pieces)?;
+    let texts = group_names(alloc, pieces, &groups)?;
+    Ok(Names {
+        pieces,
+        groups,
+        texts,
+    })
+}
+
+/// The name of a content of a base name, if there is one.
+fn find<'x, 'p, 'a>(
+    groups: &Groups<'p, 'a>,
+    texts: &'x [Seq<Text>],
+    base: &NameKey,
+    of: &'p Named<'a>,
+) -> Option<&'x Text>
+    ensures { option_map (λ name. name.now) result ≡ found_name groups.now.bases.keys
+        (view_groups groups.now.contents.items) texts.now base.now (content_of of.now) }
+{
+    let number = groups.bases.get_index_of(base)?;
+    let group = groups.contents.get(number)?;
+    let content = group.get_index_of(&ContentKey::new(of))?;
+    texts.get(number)?.items().get(content)
 }
 
 /// The name of a use among those of a message.
-#[tactic(auto, using(crate::proofs::NameSteps::one_content, crate::proofs::NameSteps::many_contents))]
-pub fn name_of(
+#[tactic(auto, using(crate::proofs::NameGroups::name_is_found, crate::proofs::NameGroups::name_is_base))]
+pub fn name_of<'p, 'a>(
     alloc: Global,
-    pieces: &[CodePiece<'_>],
-    of: &NameUse<'_>,
+    names: &Names<'p, 'a>,
+    of: &'p NameUse<'a>,
 ) -> Result<Text, OutOfMemory>
-    ensures { IfOk result (λ name. name
-        ≡ name_of (uses_in (map view_piece pieces.now)) of.now.base (content_of of.now.of)) }
+    requires { HasNames names.now }
+    ensures { IfOk result (λ name. name ≡ name_of (named_uses names.now) of.now.base (content_of of.now.of)) }
 {
-    let contents = contents_of(alloc, pieces, &of.base)?;
-    if contents.items().len() == 1 {
-        return of.base.copy(alloc);
+    let base = NameKey::new(of.base.copy(alloc)?);
+    match find(&names.groups, names.texts.items(), &base, &of.of) {
+        Some(name) => name.copy(alloc),
+        None => of.base.copy(alloc),
     }
-    numbered(alloc, pieces, contents.items(), of)
 }

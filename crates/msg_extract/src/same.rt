@@ -1,12 +1,15 @@
 //! Contents of placeholders that are the same.
 
 ghost use Rattle.std.specs.Prelude.{◌≡◌, map, option_map, slice_get};
-ghost use Rattle.soy_tree.specs.Placeholders.{are_same_message_items, is_same_message_item};
+ghost use Rattle.soy_tree.specs.Placeholders.{ExprContent, TagContent, are_same_message_items, is_same_content};
+ghost use Rattle.soy_tree.specs.Placeholders.{is_same_message_item};
 ghost use Rattle.soy_tree.specs.SameExpression.{is_same_expr};
 ghost use Rattle.soy_tree.specs.ViewExpressions.{view_expr};
 ghost use Rattle.msg_extract.specs.ViewItems.{view_item};
+ghost use Rattle.msg_extract.specs.ViewPieces.{content_of};
 
 use crate::item::Item;
+use crate::piece::Named;
 use soy_tree::{Expr, ExprNode};
 
 /// Whether two expressions are the same tree, spans aside.
@@ -83,5 +86,41 @@ pub fn are_same_items(left: &[Item<'_>], right: &[Item<'_>]) -> bool
     match item_at(right, number) {
         Some(_) => false,
         None => true,
+    }
+}
+
+/// Whether what is named has the same content.
+pub fn is_same(left: &Named<'_>, right: &Named<'_>) -> bool
+    ensures { result ≡ is_same_content (content_of left.now) (content_of right.now) }
+{
+    match left {
+        Named::Print(expr, _, _) => is_of_expr(expr, right),
+        Named::Plural(expr) => is_of_expr(expr, right),
+        Named::Select(expr) => is_of_expr(expr, right),
+        Named::Tag(tag) => is_of_tag(tag.items(), right),
+    }
+}
+
+/// Whether what is named is a print or a selector of this expression.
+fn is_of_expr(expr: &Expr, of: &Named<'_>) -> bool
+    ensures { result ≡ is_same_content (ExprContent (view_expr expr.now)) (content_of of.now) }
+{
+    match of {
+        Named::Print(other, _, _) => is_same_expr(expr, other),
+        Named::Plural(other) => is_same_expr(expr, other),
+        Named::Select(other) => is_same_expr(expr, other),
+        Named::Tag(_) => false,
+    }
+}
+
+/// Whether what is named is a tag of these texts and prints.
+fn is_of_tag(tag: &[Item<'_>], of: &Named<'_>) -> bool
+    ensures { result ≡ is_same_content (TagContent (map view_item tag.now)) (content_of of.now) }
+{
+    match of {
+        Named::Print(_, _, _) => false,
+        Named::Plural(_) => false,
+        Named::Select(_) => false,
+        Named::Tag(other) => are_same_items(tag, other.items()),
     }
 }

@@ -1,6 +1,7 @@
 use Rattle.std.proofs.Common.{map, ap, sym, ◌∙◌}
 use Rattle.soy_tree.specs.ViewNodes.{view_body}
 use Rattle.msg_extract.specs.Catalogue.{listed}
+use Rattle.msg_extract.specs.ViewNames.{named_uses}
 use Rattle.msg_extract.specs.ViewPieces.{view_piece}
 use Rattle.msg_extract.proofs.MessageRows.{row_is}
 use Rattle.msg_extract.proofs.ViewBodies.{view_message_is}
@@ -9,13 +10,9 @@ use Rattle.msg_extract.proofs.catalogue.row_of.Goals as goal
 pub returns : goal.returns
 returns c =
     row_is c.args.message.now.desc c.args.message.now.meaning (view_body c.args.message.now.body)
-    c.args.message.now.span (map view_piece c.items.result.now) (map view_piece c.items-2.result.now)
-    (map view_piece c.items-3.result.now) (map view_piece c.items-4.result.now) c.in_ok-id.id c.in_ok-text.text
-    c.in_ok-desc.desc c.in_ok-meaning.meaning c.in_ok-placeholders.placeholders c.in_ok-plurals.plurals
-    c.in_ok-selects.selects (ap (map view_piece) c.items.ensures ∙ c.in_ok-pieces.ensures)
-    (ap (map view_piece) c.items-2.ensures ∙ c.in_ok-pieces.ensures)
-    (ap (map view_piece) c.items-3.ensures ∙ c.in_ok-pieces.ensures)
-    (ap (map view_piece) c.items-4.ensures ∙ c.in_ok-pieces.ensures) c.in_ok-text.ensures c.in_ok-id.ensures
-    c.in_ok-desc.ensures c.in_ok-meaning.ensures c.in_ok-placeholders.ensures c.in_ok-plurals.ensures
-    c.in_ok-selects.ensures
+    c.args.message.now.span (map view_piece c.items-items.result.now) (named_uses c.in_ok-names.names) c.in_ok-id.id
+    c.in_ok-text.text c.in_ok-desc.desc c.in_ok-meaning.meaning c.in_ok-placeholders.placeholders c.in_ok-plurals.plurals
+    c.in_ok-selects.selects (ap (map view_piece) c.items-items.ensures ∙ c.in_ok-pieces.ensures) c.in_ok-names.ensures.uses
+    c.in_ok-text.ensures c.in_ok-id.ensures c.in_ok-desc.ensures c.in_ok-meaning.ensures
+    c.in_ok-placeholders.ensures c.in_ok-plurals.ensures c.in_ok-selects.ensures
     ∙ sym (ap listed (view_message_is c.args.message.now))
