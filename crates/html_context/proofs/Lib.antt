@@ -7,6 +7,7 @@ pub mod ClassLists
 pub mod HoleClasses
 pub mod Inferred
 pub mod NoStates
+pub mod Passing
 pub mod PlacedNodes
 pub mod PlacesApart
 pub mod RowPlans

@@ -9,7 +9,7 @@ use Rattle.soy_meaning.specs.Walk.{Walked, walk, walked}
 use Rattle.soy_meaning.proofs.PageStates.{page_compares}
 use Rattle.soy_meaning.proofs.Sound.{Sound, sound}
 
-no_members : (xs : List State) → ((t : State) → IsMember t xs → ⊥) → xs ≡ []
+pub no_members : (xs : List State) → ((t : State) → IsMember t xs → ⊥) → xs ≡ []
 no_members [] h = refl
 no_members (x ∷ xs) h = absurd (h x (inl refl))
 

@@ -5,6 +5,7 @@ use Rattle.std.specs.Prelude.{◌≡◌, List, [], Ok}
 use Rattle.std.specs.List.{All}
 use Rattle.soy_meaning.specs.PageMachine.{page_machine}
 use Rattle.soy_meaning.specs.Walk.{walk, walked}
+use Rattle.html_context.specs.Passes.{AllClosed}
 use Rattle.html_context.specs.RowPlans.{plan_at}
 use Rattle.html_context.specs.declared.memo.Kept.{Kept}
 use Rattle.html_context.specs.declared.memo.Memo.{Memo}
@@ -15,4 +16,4 @@ IsKept rows k =
     walk page_machine (plan_at rows k.body) (walked k.before.items []) ≡ Ok (walked k.after.items k.places.items)
 
 abbrev pub AllKept : List Row → Memo → Type 0
-AllKept rows memo = All (λ kept. All (λ k. IsKept rows k) kept.items) memo.bodies.items
+AllKept rows memo = All (λ kept. All (λ k. IsKept rows k) kept.items) memo.bodies.items × AllClosed rows memo.loops

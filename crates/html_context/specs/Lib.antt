@@ -3,6 +3,7 @@ pub mod Infers
 pub mod JoinedArms
 pub mod Kept
 pub mod NarrowedVariable
+pub mod Passes
 pub mod PlacedNodes
 pub mod PlacesOfHoles
 pub mod RowPlans

@@ -1,4 +1,4 @@
-//! Holes: their places, and the states after them.
+//! Holes: their places, and the states after them. What is asked where paths meet and where a frame ends.
 
 ghost use Rattle.std.specs.Prelude.{◌≡◌, ◌++◌, ◌∷◌, [], IfOk, IsTrue, OnOk};
 ghost use Rattle.std.specs.List.{All, list_all};
@@ -8,14 +8,14 @@ ghost use Rattle.soy_base.specs.declared.place.Placing.TheVariants.{Takes};
 ghost use Rattle.soy_meaning.specs.PageMachine.{page_machine};
 ghost use Rattle.soy_meaning.specs.Plan.{Hole};
 ghost use Rattle.soy_meaning.specs.Walk.{other_placing, place_of_hole, states_after_value, taken_place, walk, walked};
-ghost use Rattle.soy_meaning.specs.Walk.{within_limit};
+ghost use Rattle.soy_meaning.specs.Walk.{all_may_end, within_limit};
 ghost use Rattle.html_context.specs.TakenClass.{taken_class};
 ghost use Rattle.html_context.specs.Walks.{Gives, Walks, view_site};
 
 use crate::fault::{FirstFault, Site, Stop, stop};
 use crate::states::add;
 use html_state::State;
-use soy_base::{Code, OutOfMemory, Place, Placing, Refusal, ValueClass};
+use soy_base::{Code, Kind, OutOfMemory, Place, Placing, Refusal, ValueClass};
 use std::alloc::Global;
 
 /// The first placing that isn't this one.
@@ -151,4 +151,16 @@ pub(crate) fn within_limit(
         return Err(stop(at, Code::States));
     }
     Ok(states)
+}
+
+/// Whether a text of a kind may end in each of the states.
+pub(crate) fn all_may_end(kind: Kind, states: &[State]) -> bool
+    ensures { result ≡ all_may_end page_machine kind states.now }
+{
+    for state in states {
+        if !state.may_end(kind) {
+            return false;
+        }
+    }
+    true
 }

@@ -8,6 +8,7 @@
 
 mod builder;
 mod classes;
+mod closed;
 mod compiling;
 mod fault;
 mod hole;
@@ -20,6 +21,7 @@ mod states;
 mod table;
 mod template;
 mod templates;
+mod tester;
 mod text;
 mod translations;
 mod walker;

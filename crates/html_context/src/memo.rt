@@ -7,6 +7,7 @@ ghost use Rattle.soy_meaning.specs.Walk.{walk, walked};
 ghost use Rattle.html_context.specs.Kept.{AllKept, IsKept};
 ghost use Rattle.html_context.specs.RowPlans.{plan_at};
 
+use crate::closed::{Loops, new_loops};
 use crate::table::Row;
 use html_state::State;
 use soy_base::{OutOfMemory, Place};
@@ -21,10 +22,11 @@ pub(crate) struct Kept {
     pub places: Vec<Place>,
 }
 
-/// What bodies did, in a list for each row.
+/// What bodies did, in a list for each row, and in which states they stay.
 #[derive(Drop)]
 pub(crate) struct Memo {
     pub bodies: Vec<Vec<Kept>>,
+    pub loops: Loops,
 }
 
 /// Nothing was done by bodies of so many rows.
@@ -35,7 +37,8 @@ pub(crate) fn new_memo(alloc: Global, rows: &[Row]) -> Result<Memo, OutOfMemory>
     for _ in rows {
         bodies.push(Vec::new(alloc))?;
     }
-    Ok(Memo { bodies })
+    let loops = new_loops(alloc, rows)?;
+    Ok(Memo { bodies, loops })
 }
 
 /// Whether two lists have the same states.

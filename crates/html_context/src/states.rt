@@ -9,7 +9,7 @@ use soy_base::OutOfMemory;
 use std::alloc::Global;
 
 /// Whether a state is in the list.
-fn has_state(states: &[State], state: &State) -> bool
+pub(crate) fn has_state(states: &[State], state: &State) -> bool
     ensures { result ≡ has_state page_machine state.now states.now }
 {
     for other in states {

@@ -3,33 +3,22 @@
 ghost use Rattle.std.specs.Prelude.{◌≡◌, ◌<◌, [], Ok, IfSome, OnOk, map};
 ghost use Rattle.soy_meaning.specs.PageMachine.{page_machine};
 ghost use Rattle.soy_meaning.specs.Plan.{Frame, Loop, arms_meet, in_turn};
-ghost use Rattle.soy_meaning.specs.Walk.{all_may_end, walk, walked};
+ghost use Rattle.soy_meaning.specs.Walk.{walk, walked};
 ghost use Rattle.html_context.specs.JoinedArms.{joined_arm};
 ghost use Rattle.html_context.specs.Kept.{AllKept};
 ghost use Rattle.html_context.specs.RowPlans.{plan_at, plan_below, row_plan, plans_before};
 ghost use Rattle.html_context.specs.Walks.{Gives, Walks, view_site};
 
 use crate::fault::{Site, Stop, stop};
-use crate::hole::{hole, within_limit};
+use crate::hole::{all_may_end, hole, within_limit};
 use crate::memo::{Kept, Memo, add_places, keep, kept_from, new_memo};
 use crate::states::{copied, join};
 use crate::table::{Row, Table};
+use crate::tester::accepted_frame;
 use crate::text::text;
 use html_state::State;
 use soy_base::{Code, Kind, Place};
 use std::alloc::Global;
-
-/// Whether a text of a kind may end in each of the states.
-fn all_may_end(kind: Kind, states: &[State]) -> bool
-    ensures { result ≡ all_may_end page_machine kind states.now }
-{
-    for state in states {
-        if !state.may_end(kind) {
-            return false;
-        }
-    }
-    true
-}
 
 /// What the walk goes by: the rows of the table.
 #[derive(Drop)]
@@ -263,9 +252,35 @@ impl<'t> Walker<'t> {
         Err(stop(at, Code::States))
     }
 
-    /// A frame of its own, from the start of its kind, with the states around it.
+    /// A frame of its own, with the states around it. It is walked where it isn't seen at once that it is accepted.
     #[cycle(walking)]
+    #[tactic(auto, using(crate::proofs::Passing::frame_walks))]
     fn frame(
+        &self,
+        kind: Kind,
+        end: Site,
+        limit: usize,
+        body: usize,
+        around: Vec<State>,
+        places: &mut Vec<Place>,
+        memo: &mut Memo,
+    ) -> Result<Vec<State>, Stop>
+        requires { AllKept self.now.rows.now memo.old }
+        ensures walk { Walks (walk page_machine (Frame kind (view_site end) (plan_below self.now.rows.now limit body))
+            (walked around.items places.old.items)) places.new.items result }
+        ensures kept { OnOk result (AllKept self.now.rows.now memo.new) }
+    {
+        let loops = &mut memo.loops;
+        if let Some(found) = accepted_frame(self.alloc, self.rows, kind, end, limit, body, loops)? {
+            add_places(places, &found)?;
+            return Ok(around);
+        }
+        self.walked_frame(kind, end, limit, body, around, places, memo)
+    }
+
+    /// A frame of its own, walked from the start of its kind.
+    #[cycle(walking)]
+    fn walked_frame(
         &self,
         kind: Kind,
         end: Site,

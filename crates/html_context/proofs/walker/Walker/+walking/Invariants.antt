@@ -61,4 +61,7 @@ abbrev pub decreases-looped : goal.decreases-looped
 decreases-looped l = 8 * l.limit + 3
 
 abbrev pub decreases-frame : goal.decreases-frame
-decreases-frame l = 8 * l.limit + 1
+decreases-frame l = 8 * l.limit + 2
+
+abbrev pub decreases-walked_frame : goal.decreases-walked_frame
+decreases-walked_frame l = 8 * l.limit + 1
