@@ -45,6 +45,8 @@ void *realloc(void *p, size_t n) { return fails("memory", ENOMEM) ? NULL : __lib
 int openat(int at, const char *name, int flags, ...) {
     return fails("open", EACCES) ? -1 : (int)syscall(SYS_openat, at, name, flags, 0600);
 }
+int open(const char *name, int flags, ...) { return openat(AT_FDCWD, name, flags); }
+int open64(const char *name, int flags, ...) { return openat(AT_FDCWD, name, flags); }
 ssize_t read(int file, void *into, size_t n) { return fails("read", EIO) ? -1 : syscall(SYS_read, file, into, n); }
 ssize_t write(int file, const void *from, size_t n) {
     if (fails("write", EIO)) return -1;
