@@ -1,5 +1,5 @@
-//! Forms of Closure Templates, which are the rows of docs/from-closure.md: those that are left out, each with its refusal,
-//! and those that are accepted.
+//! Forms of Closure Templates, which are the rows of docs/from-closure.md: those that are left out, each with its
+//! refusal, and those that are accepted.
 
 use crate::running::{files_of, run_line};
 use soy_top::Status;

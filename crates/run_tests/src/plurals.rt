@@ -1,5 +1,6 @@
-//! Rules of CLDR 41 (plurals.xml, ordinals.xml) in bundles: the categories of the numbers 0 to 200 and of a million. The
-//! wanted ones are those of Babel 2.10 for the locales; ICU has the same, but for `many` of he, which CLDR has no more.
+//! Rules of CLDR 41 (plurals.xml, ordinals.xml) in bundles: the categories of the numbers 0 to 200 and of a million.
+//! The wanted ones are those of Babel 2.10 for the locales; ICU has the same, but for `many` of he, which CLDR has no
+//! more.
 
 use crate::running::{files_of, run_line};
 use soy_top::Status;
