@@ -107,22 +107,6 @@ const WORDS: &[Row] = &[
         USAGE,
     ),
     (
-        "gen at the limit",
-        "gen 4294967295",
-        FILES,
-        Status::Refused,
-        "",
-        "gen: 30 NotYet\n",
-    ),
-    (
-        "gen of ten digits",
-        "gen 0000000007",
-        FILES,
-        Status::Refused,
-        "",
-        "gen: 30 NotYet\n",
-    ),
-    (
         "format of one",
         "format t.soy",
         FILES,

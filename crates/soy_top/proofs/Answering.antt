@@ -27,26 +27,32 @@ use Rattle.soy_meaning.specs.Outcome.{RunEnd, StopsAt, WholeRun, end_of_outcome}
 use Rattle.soy_top.specs.declared.ending.Ending.{Ending}
 use Rattle.soy_top.specs.declared.ending.Ending.TheVariants as ending
 use Rattle.soy_top.specs.declared.output.Output.{Output}
-use Rattle.soy_top.specs.Accepts.{Accepts, Refuses}
+use Rattle.soy_top.specs.declared.page.Page.{Page}
+use Rattle.soy_top.specs.Accepts.{Accepts, AcceptsPage, Refuses}
 use Rattle.soy_top.specs.Answer.{Answer, Usage, Read, Refused, Done, not_yet, data_answer, ended_page, entry_answer}
-use Rattle.soy_top.specs.Answer.{entry_of, render_answer, run_text, template_outcome}
+use Rattle.soy_top.specs.Answer.{PageAnswer, bundled_answer, entry_of, render_answer, run_text, summed_page}
+use Rattle.soy_top.specs.Answer.{template_outcome, workload_answer}
 use Rattle.soy_top.specs.Answer.{contents_answer, limits_answer, asked_answer, answer, known_answer}
-use Rattle.soy_top.specs.Answer.{accepted_text, accepted_then, catalogue_answer, inputs_answer}
-use Rattle.soy_top.specs.Answer.{front_line, tree_answer, unless_refused}
+use Rattle.soy_top.specs.Answer.{accepted_text, accepted_then, catalogue_answer, inputs_answer, read_then}
+use Rattle.soy_top.specs.Answer.{front_line, tree_answer, unless_faulty, unless_refused}
 use Rattle.soy_top.specs.Asked.{Asked, Render, Check, Extract, Gen, Play, Preview, Format, asked_by_words}
 use Rattle.soy_top.specs.Asked.{source_files}
 use Rattle.soy_top.specs.Concludes.{MayEnd}
 use Rattle.soy_top.specs.Fetched.{AreContents, FetchesAll, IsNotHeld}
 use Rattle.soy_top.specs.FilesWanted.{FileWanted, asked_files, wanted_files, file_names, known_files, first_not_held}
 use Rattle.soy_top.specs.FilesWanted.{first_over_limit, contents}
+use Rattle.soy_top.specs.Generated.{workload_entry, workload_files, workload_json, workload_names}
 use Rattle.soy_top.specs.Inputs.{bundle_content, but_last, last, second_number}
 use Rattle.soy_top.specs.Line.{ended, too_large_line}
+use Rattle.soy_top.specs.MadeBundle.{bundle_text}
 use Rattle.soy_top.specs.Numbered.{numbered}
 use Rattle.soy_top.specs.Words.{Word}
 use Rattle.soy_tree.specs.Templates.{Declared}
 use Rattle.soy_tree.specs.Values.{Value}
 use Rattle.soy_tree.specs.declared.tree.Tree.{Tree}
 use Rattle.soy_types.specs.ReadData.{data_at}
+use Rattle.work_gen.specs.Workload.{workload}
+use Rattle.work_gen.specs.declared.workload.Workload.{Workload}
 
 -- what is answered where files and a bundle are accepted
 pub accepts_then : (names : List Word) (files : List (List ℕ)) (bundle : Word) (content : Option (List ℕ))
@@ -80,17 +86,37 @@ play_then names files first second one one_seen other other_seen accepted r same
     (accepted_then names files second other_seen (λ of. not_yet (codes "play"))) r is
     (subst (λ x. Accepts (accepted_then names files second x (λ of. not_yet (codes "play"))) r) same_other h))
 
--- what is answered by a program, where files and a bundle are compiled
-pub render_then : (names : List Word) (files : List (List ℕ)) (template json_name bundle : Word)
-    (json json_seen : List ℕ) (content content_seen : Option (List ℕ)) (c : Compiled) (r : Result Output Ending)
-    → content ≡ content_seen → json ≡ json_seen → (are : AreCompiled files content c)
-    → Accepts (render_answer names files template json_name json are.of) r
-    → Accepts (accepted_then names files bundle content_seen (render_answer names files template json_name json_seen)) r
-render_then names files template json_name bundle json json_seen content content_seen c r same same_json are h =
-    subst (λ x. Accepts (accepted_then names files bundle x (render_answer names files template json_name json_seen)) r)
-    same (subst (λ j. Accepts (accepted_then names files bundle content (render_answer names files template json_name j)) r)
-    same_json (subst (λ x. Accepts x r)
-    (sym (ap (unless_refused names files bundle (render_answer names files template json_name json)) are.answered)) h))
+-- a page of a program, where files and a bundle are compiled
+pub page_then : (names : List Word) (files : List (List ℕ)) (bundle : Word) (content : Option (List ℕ)) (c : Compiled)
+    (answer : PageAnswer → Front → Answer) (r : Result Page Ending) → (are : AreCompiled files content c)
+    → AcceptsPage (λ page. answer page are.of) r
+    → AcceptsPage (λ page. accepted_then names files bundle content (answer page)) r
+page_then names files bundle content c answer (Ok accepted) are h =
+    λ page. ap (unless_refused names files bundle (answer page)) are.answered ∙ h page
+page_then names files bundle content c answer (Err ending) are h =
+    λ page. subst (λ x. Refuses x ending) (sym (ap (unless_refused names files bundle (answer page)) are.answered)) (h page)
+
+-- what is answered by a page, where the content of the bundle, the name of the template and the data go by other names
+pub pages_same : (names : List Word) (files : List (List ℕ)) (page : PageAnswer) (json_name bundle : Word)
+    (template template_seen : Word) (json json_seen : List ℕ) (content content_seen : Option (List ℕ))
+    (r : Result Output Ending) → template ≡ template_seen → json ≡ json_seen → content ≡ content_seen
+    → Accepts (accepted_then names files bundle content (render_answer page template json_name json)) r
+    → Accepts (accepted_then names files bundle content_seen (render_answer page template_seen json_name json_seen)) r
+pages_same names files page json_name bundle template template_seen json json_seen content content_seen r is_template
+    is_json is_content h =
+    subst (λ x. Accepts (accepted_then names files bundle x (render_answer page template_seen json_name json_seen)) r)
+    is_content
+    (subst (λ x. Accepts (accepted_then names files bundle content (render_answer page template_seen json_name x)) r)
+    is_json
+    (subst (λ x. Accepts (accepted_then names files bundle content (render_answer page x json_name json)) r) is_template
+    h))
+
+-- what is answered by files that are read
+pub read_answered : (names : List Word) (files : List (List ℕ)) (answer : ReadFiles → Answer) (read : ReadFiles)
+    (r : Result Output Ending) → files_answer files ≡ Ok read → Accepts (answer read) r
+    → Accepts (read_then names files answer) r
+read_answered names files answer read r is h =
+    subst (λ x. Accepts x r) (sym (ap (unless_faulty names files answer) is)) h
 
 -- an answer to what is asked isn't the usage text
 page_not_usage : (names : List Word) (files : List (List ℕ)) (text : List ℕ) (end : RunEnd)
@@ -98,22 +124,23 @@ page_not_usage : (names : List Word) (files : List (List ℕ)) (text : List ℕ)
 page_not_usage names files text WholeRun e = cc
 page_not_usage names files text (StopsAt site) e = cc
 
-data_not_usage : (names : List Word) (files : List (List ℕ)) (json_name : Word) (of : Front) (d : Declared)
-    (r : Result Value (Code × List PathStep)) → data_answer names files json_name of d r ≡ Usage → ⊥
-data_not_usage names files json_name of d (Ok v) e =
-    page_not_usage names files (run_text (template_outcome of d v)) (end_of_outcome (template_outcome of d v)) e
-data_not_usage names files json_name of d (Err fault) e = cc
+module _ (page : PageAnswer) (never : (text : List ℕ) (end : RunEnd) → page text end ≡ Usage → ⊥) where
+  data_not_usage : (json_name : Word) (of : Front) (d : Declared) (r : Result Value (Code × List PathStep))
+      → data_answer page json_name of d r ≡ Usage → ⊥
+  data_not_usage json_name of d (Ok v) e =
+      never (run_text (template_outcome of d v)) (end_of_outcome (template_outcome of d v)) e
+  data_not_usage json_name of d (Err fault) e = cc
 
-entry_not_usage : (names : List Word) (files : List (List ℕ)) (template json_name : Word) (json : List ℕ) (of : Front)
-    (o : Option Declared) → entry_answer names files template json_name json of o ≡ Usage → ⊥
-entry_not_usage names files template json_name json of None e = cc
-entry_not_usage names files template json_name json of (Some d) e =
-    data_not_usage names files json_name of d (data_at d.template.params json) e
+  entry_not_usage : (template json_name : Word) (json : List ℕ) (of : Front) (o : Option Declared)
+      → entry_answer page template json_name json of o ≡ Usage → ⊥
+  entry_not_usage template json_name json of None e = cc
+  entry_not_usage template json_name json of (Some d) e =
+      data_not_usage json_name of d (data_at d.template.params json) e
 
-catalogue_not_usage : (names : List Word) (files : List (List ℕ)) (read : Result ReadFiles Fault)
-    → catalogue_answer names files read ≡ Usage → ⊥
-catalogue_not_usage names files (Ok read) e = cc
-catalogue_not_usage names files (Err fault) e = cc
+read_not_usage : (names : List Word) (files : List (List ℕ)) (answer : ReadFiles → Answer) (r : Result ReadFiles Fault)
+    → ((read : ReadFiles) → answer read ≡ Usage → ⊥) → unless_faulty names files answer r ≡ Usage → ⊥
+read_not_usage names files answer (Ok read) never e = never read e
+read_not_usage names files answer (Err fault) never e = cc
 
 then_not_usage : (names : List Word) (files : List (List ℕ)) (bundle : Word) (answer : Front → Answer)
     (r : Result Front FrontFault) → ((of : Front) → answer of ≡ Usage → ⊥)
@@ -125,16 +152,30 @@ tree_not_usage : (name : Word) (bytes : List ℕ) (read : Result Tree Fault) →
 tree_not_usage name bytes (Ok tree) e = cc
 tree_not_usage name bytes (Err fault) e = cc
 
+bundled_not_usage : (w : Workload) (names : List Word) (files : List (List ℕ)) (read : ReadFiles)
+    → bundled_answer w names files read ≡ Usage → ⊥
+bundled_not_usage w names files read e =
+    then_not_usage names files (codes "gen.bundle")
+    (render_answer summed_page (workload_entry w) (codes "gen.json") (workload_json w))
+    (front_answer files (Some (bundle_text read.rows))) (λ of. entry_not_usage summed_page (λ text end u. cc)
+    (workload_entry w) (codes "gen.json") (workload_json w) of (entry_of of (workload_entry w))) e
+
+workload_not_usage : (w : Workload) → workload_answer w ≡ Usage → ⊥
+workload_not_usage w e =
+    read_not_usage workload_names (workload_files w) (bundled_answer w workload_names (workload_files w))
+    (files_answer (workload_files w)) (bundled_not_usage w workload_names (workload_files w)) e
+
 inputs_not_usage : (asked : Asked) (before files : List (List ℕ)) → inputs_answer asked before files ≡ Usage → ⊥
 inputs_not_usage (Render template json_name bundle names) before files e =
-    then_not_usage names files bundle (render_answer names files template json_name (numbered 0 before))
-    (front_answer files (bundle_content bundle 1 before))
-    (λ of. entry_not_usage names files template json_name (numbered 0 before) of (entry_of of template)) e
+    then_not_usage names files bundle (render_answer (ended_page names files) template json_name (numbered 0 before))
+    (front_answer files (bundle_content bundle 1 before)) (λ of. entry_not_usage (ended_page names files)
+    (page_not_usage names files) template json_name (numbered 0 before) of (entry_of of template)) e
 inputs_not_usage (Check bundle names) before files e =
     then_not_usage names files bundle (λ of. Done accepted_text) (front_answer files (bundle_content bundle 0 before))
     (λ of u. cc) e
-inputs_not_usage (Extract names) before files e = catalogue_not_usage names files (files_answer files) e
-inputs_not_usage (Gen number) before files e = cc
+inputs_not_usage (Extract names) before files e =
+    read_not_usage names files catalogue_answer (files_answer files) (λ read u. cc) e
+inputs_not_usage (Gen number) before files e = workload_not_usage (workload number) e
 inputs_not_usage (Play script first second names) before files e =
     then_not_usage names files first _ (front_answer files (bundle_content first 1 before))
     (λ of. then_not_usage names files second (λ other. not_yet (codes "play"))

@@ -4,10 +4,13 @@ pub mod Fetching
 pub mod FewFiles
 pub mod KeyTexts
 pub mod LastContents
+pub mod MadeBundles
 pub mod Numbers
 pub mod Pages
 pub mod PastEnd
 pub mod Pulling
 pub mod SpelledWords
+pub mod Sums
 pub mod Texts
 pub mod Took
+pub mod Workloads

@@ -1,4 +1,4 @@
--- The page of a program is the answer to a `render` of the files that it was compiled of.
+-- What is answered by the page of a program is the answer to a `render` of the files that it was compiled of.
 use Rattle.std.proofs.Common.{◌≡◌, ℕ, List, [], ◌∷◌, Option, Some, None, refl, sym, subst, ap, ◌∙◌}
 use Rattle.std.specs.Prelude.{Result, Ok, Err, encode_utf8_all, option_and_then, slice_get}
 use Rattle.std.specs.List.{position}
@@ -9,18 +9,21 @@ use Rattle.soy_base.specs.declared.path.PathStep.{PathStep}
 use Rattle.soy_front.specs.Compiled.{AreCompiled}
 use Rattle.soy_front.specs.Entries.{entry_number, is_entry_routine}
 use Rattle.soy_front.specs.FilesAnswer.{ReadFiles}
+use Rattle.soy_front.specs.ViewSources.{view_contents}
 use Rattle.soy_front.specs.declared.compiling.Compiled.{Compiled}
 use Rattle.soy_front.proofs.DataFits.{data_fits, params_are}
 use Rattle.soy_front.proofs.EntryNumbers.{entry_declared}
 use Rattle.soy_meaning.specs.Meaning.{joined_pieces}
 use Rattle.soy_meaning.specs.Outcome.{Outcome, RunEnd, StopsAt, WholeRun, end_of_outcome, pieces_of_outcome}
 use Rattle.soy_meaning.specs.Pieces.{template_run}
-use Rattle.soy_top.specs.Answer.{Answer, Refused, data_answer, ended_page, entry_answer, page_answer, render_answer}
-use Rattle.soy_top.specs.Answer.{run_text, template_outcome}
+use Rattle.soy_top.specs.Accepts.{AcceptsPage}
+use Rattle.soy_top.specs.Answer.{Answer, PageAnswer, Refused, data_answer, ended_page, entry_answer, page_answer}
+use Rattle.soy_top.specs.Answer.{render_answer, run_text, template_outcome}
+use Rattle.soy_top.specs.declared.page.Page.{Page}
 use Rattle.soy_top.specs.Line.{entry_line}
-use Rattle.soy_top.specs.Output.{ended_answer}
-use Rattle.soy_top.specs.ViewOutput.{view_end}
-use Rattle.soy_top.specs.Words.{Word}
+use Rattle.soy_top.specs.Output.{ended_answer, output_answer}
+use Rattle.soy_top.specs.ViewOutput.{page_run, view_end, view_page}
+use Rattle.soy_top.specs.Words.{Word, command_words}
 use Rattle.soy_tree.specs.ShortLists.{HasShortLists}
 use Rattle.soy_tree.specs.Templates.{Declared, declared}
 use Rattle.soy_tree.specs.Typed.{AreTyped, params_at, templates_of}
@@ -37,13 +40,24 @@ ended_same : (names : List Word) (contents : List (List ℕ)) (text : List ℕ) 
 ended_same names contents text WholeRun = refl
 ended_same names contents text (StopsAt site) = refl
 
--- the output of an outcome is the answer by another of the same pieces and the same end
-page_same : (names : List Word) (contents : List (List ℕ)) (o p : Outcome) → pieces_end_costs o ≡ pieces_end_costs p
-    → ended_answer (run_text o) (view_end names contents (end_of_outcome o)) ≡ page_answer names contents p
-page_same names contents o p same =
-    ended_same names contents (run_text o) (end_of_outcome o)
-    ∙ (ap (λ ps. ended_page names contents (encode_utf8_all (joined_pieces ps)) (end_of_outcome o)) (ap (λ t. t.0) same)
-    ∙ ap (λ e. ended_page names contents (run_text p) e) (ap (λ t. t.1) same))
+-- a page is written with its text and its end
+pub page_written : (answer : PageAnswer → Answer) (names : List Word) (contents : List (List ℕ)) (page : Page)
+    → command_words page.names.now ≡ names → view_contents page.sources.now ≡ contents → AcceptsPage answer (Ok page)
+    → answer (ended_page names contents) ≡ output_answer (view_page page)
+page_written answer names contents page is_names is_contents h =
+    let text = run_text (page_run page) in
+    let end = end_of_outcome (page_run page) in
+    h (ended_page names contents)
+    ∙ (sym (ended_same names contents text end)
+    ∙ sym (ap (λ ns. ended_answer text (view_end ns (view_contents page.sources.now) end)) is_names
+    ∙ ap (λ cs. ended_answer text (view_end names cs end)) is_contents))
+
+-- by an outcome the same is answered as by another of the same pieces and the same end
+page_same : (page : PageAnswer) (o p : Outcome) → pieces_end_costs o ≡ pieces_end_costs p
+    → page_answer page o ≡ page_answer page p
+page_same page o p same =
+    ap (λ ps. page (encode_utf8_all (joined_pieces ps)) (end_of_outcome o)) (ap (λ t. t.0) same)
+    ∙ ap (λ e. page (run_text p) e) (ap (λ t. t.1) same)
 
 module _ (contents : List (List ℕ)) (content : Option (List ℕ)) (c : Compiled)
     (are : AreCompiled contents content c) where
@@ -59,47 +73,46 @@ module _ (contents : List (List ℕ)) (content : Option (List ℕ)) (c : Compile
       ap (λ ds. option_and_then (slice_get ds) (entry_number name ds)) same_templates
       ∙ ap (option_and_then (slice_get (declared (view_trees c.typed)))) (sym (is ∙ are.entries name))
 
-  module _ (names : List Word) (template json_name : Word) (json : List ℕ) where
+  module _ (template json_name : Word) (json : List ℕ) where
     -- where it is found, the answer is that by the data
-    pub entry_found : (P : Answer → Type 0) (number : ℕ)
+    pub entry_found : (P : (PageAnswer → Answer) → Type 0) (number : ℕ)
         → Some number ≡ position (is_entry_routine (chars template)) c.program.templates
         → ((d : Declared) → slice_get (declared (view_trees c.typed)) number ≡ Some d
-        → P (data_answer names contents json_name are.of d (data_at d.template.params json)))
-        → P (render_answer names contents template json_name json are.of)
+        → P (λ page. data_answer page json_name are.of d (data_at d.template.params json)))
+        → P (λ page. render_answer page template json_name json are.of)
     entry_found P number is h =
         let ds : List Declared = declared (view_trees c.typed) in
         let there = entry_declared (chars template) ds number (sym (is ∙ are.entries (chars template))) in
         let of_name = entry_is (chars template) (Some number) is ∙ there.1 in
-        subst P (ap (entry_answer names contents template json_name json are.of) (sym of_name)) (h there.0 there.1)
+        subst P (ap (λ o page. entry_answer page template json_name json are.of o) (sym of_name)) (h there.0 there.1)
 
     -- where there is none, that is the answer
-    pub entry_missing : None ≡ position (is_entry_routine (chars template)) c.program.templates
-        → render_answer names contents template json_name json are.of ≡ Refused (entry_line template)
-    entry_missing is = ap (entry_answer names contents template json_name json are.of) (entry_is (chars template) None is)
+    pub entry_missing : (page : PageAnswer) → None ≡ position (is_entry_routine (chars template)) c.program.templates
+        → render_answer page template json_name json are.of ≡ Refused (entry_line template)
+    entry_missing page is =
+        ap (entry_answer page template json_name json are.of) (entry_is (chars template) None is)
 
-  module _ (names : List Word) (json_name : Word) (json : List ℕ) (number : ℕ) (d : Declared)
+  module _ (json_name : Word) (json : List ℕ) (number : ℕ) (d : Declared)
       (found : slice_get (declared (view_trees c.typed)) number ≡ Some d) where
     read_at : (r : Result Value (Code × List PathStep))
         → data_at (view_params (params_at number (templates_of c.typed))) json ≡ r → data_at d.template.params json ≡ r
     read_at r is = subst (λ ps. data_at ps json ≡ r) (params_are c.typed number d found) is
 
-    -- by values that were read it is the page
-    pub page_answered : AreTyped c.typed → (v : Value) → data_at (view_params (params_at number (templates_of c.typed))) json ≡ Ok v
-        → HasShortLists v
-        → data_answer names contents json_name are.of d (data_at d.template.params json)
-        ≡ ended_answer (run_text (run (view_program c.program) number v))
-        (view_end names contents (end_of_outcome (run (view_program c.program) number v)))
-    page_answered typed v is short =
+    -- by values that were read it is that by the page
+    pub page_answered : AreTyped c.typed → (v : Value)
+        → data_at (view_params (params_at number (templates_of c.typed))) json ≡ Ok v → HasShortLists v
+        → (page : PageAnswer) → data_answer page json_name are.of d (data_at d.template.params json)
+        ≡ page_answer page (run (view_program c.program) number v)
+    page_answered typed v is short page =
         let gives = are.gives number d found v (data_fits c.typed number d json v typed found is short) in
         let as_trees = ap (λ ds. pieces_end_costs (template_run (language_context (language_of are.of.language) ds) d
         (input_env (names_of d.template.params) v))) (sym same_templates) in
-        ap (data_answer names contents json_name are.of d) (read_at (Ok v) is)
-        ∙ sym (page_same names contents (run (view_program c.program) number v) (template_outcome are.of d v)
-        (gives ∙ as_trees))
+        ap (data_answer page json_name are.of d) (read_at (Ok v) is)
+        ∙ sym (page_same page (run (view_program c.program) number v) (template_outcome are.of d v) (gives ∙ as_trees))
 
     -- by data that are refused it is their fault
     pub fault_answered : (fault : Code × List PathStep)
         → data_at (view_params (params_at number (templates_of c.typed))) json ≡ Err fault
-        → data_answer names contents json_name are.of d (data_at d.template.params json)
-        ≡ data_answer names contents json_name are.of d (Err fault)
-    fault_answered fault is = ap (data_answer names contents json_name are.of d) (read_at (Err fault) is)
+        → (page : PageAnswer) → data_answer page json_name are.of d (data_at d.template.params json)
+        ≡ data_answer page json_name are.of d (Err fault)
+    fault_answered fault is page = ap (data_answer page json_name are.of d) (read_at (Err fault) is)

@@ -7,14 +7,15 @@ use Rattle.std.proofs.lemmas.Slice.Eq.{bytes_eq-Decides}
 use Rattle.soy_top.specs.Asked.{Asked, Render, Check, Extract, Gen, Play, Preview, Format, has_file_count, render_asked}
 use Rattle.soy_top.specs.Asked.{check_asked, extract_asked, gen_asked, play_asked, preview_asked, format_asked}
 use Rattle.soy_top.specs.Asked.{number_of, asked_by_words}
+use Rattle.soy_top.specs.IsGenerated.{AreGen}
 use Rattle.soy_top.specs.Words.{Word}
 
--- the words of what is asked, but for a number
+-- the words of what is asked
 abbrev pub IsSpelled : List Word → Asked → Type 0
 IsSpelled words (Render template json bundle files) = words ≡ codes "render" ∷ template ∷ json ∷ bundle ∷ files
 IsSpelled words (Check bundle files) = words ≡ codes "check" ∷ bundle ∷ files
 IsSpelled words (Extract files) = words ≡ codes "extract" ∷ files
-IsSpelled words (Gen number) = Unit {0}
+IsSpelled words (Gen number) = AreGen words number
 IsSpelled words (Play script first second files) = words ≡ codes "play" ∷ script ∷ first ∷ second ∷ files
 IsSpelled words (Preview template json bundle files) = words ≡ codes "preview" ∷ template ∷ json ∷ bundle ∷ files
 IsSpelled words (Format file) = words ≡ codes "format" ∷ file ∷ []
@@ -37,13 +38,14 @@ check_spelled (b ∷ files) = counted _ (Check b files) (has_file_count files) r
 extract_spelled : (files : List Word) → IfSome (extract_asked files) (IsSpelled (codes "extract" ∷ files))
 extract_spelled files = counted _ (Extract files) (has_file_count files) refl
 
-number_spelled : (words : List Word) (n : Option ℕ) → IfSome (option_map Gen n) (IsSpelled words)
-number_spelled words None = tt
-number_spelled words (Some n) = tt
+number_spelled : (digits : Word) (n : Option ℕ) → number_of digits ≡ n
+    → IfSome (option_map Gen n) (IsSpelled (codes "gen" ∷ digits ∷ []))
+number_spelled digits None is = tt
+number_spelled digits (Some n) is = (digits, refl, is)
 
 gen_spelled : (words : List Word) → IfSome (gen_asked words) (IsSpelled (codes "gen" ∷ words))
 gen_spelled [] = tt
-gen_spelled (number ∷ []) = number_spelled _ (number_of number)
+gen_spelled (digits ∷ []) = number_spelled digits (number_of digits) refl
 gen_spelled (number ∷ other ∷ words) = tt
 
 play_spelled : (words : List Word) → IfSome (play_asked words) (IsSpelled (codes "play" ∷ words))

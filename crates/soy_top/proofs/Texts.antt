@@ -1,4 +1,5 @@
--- Where the answer is a text, the words and the files are those of a page, of a catalogue or of files that are accepted.
+-- Where the answer is a text, the words and the files are those of a page, of a catalogue or of files that are
+-- accepted, or the words are those of a workload.
 use Rattle.std.proofs.Common.{◌≡◌, ℕ, zero, suc, Bool, true, false, cond, ◌-◌, List, [], ◌∷◌, ◌++◌, ◌+◌, length, drop, take}
 use Rattle.std.proofs.Common.{length-append, map, Option, Some, None, refl, sym, ap, subst, ◌∙◌, arith, codes}
 use Rattle.std.proofs.lemmas.List.{length-map}
@@ -23,23 +24,30 @@ use Rattle.soy_tree.specs.Values.{Value}
 use Rattle.soy_tree.specs.declared.tree.Tree.{Tree}
 use Rattle.soy_types.specs.ReadData.{data_at}
 use Rattle.soy_top.specs.Answer.{Answer, Usage, Read, Refused, Done, data_answer, ended_page, entry_answer, entry_of}
-use Rattle.soy_top.specs.Answer.{render_answer, run_text, template_outcome}
+use Rattle.soy_top.specs.Answer.{PageAnswer, page_answer, render_answer, run_text, template_outcome}
 use Rattle.soy_top.specs.Answer.{contents_answer, asked_answer, limits_answer, answer, not_yet}
-use Rattle.soy_top.specs.Answer.{accepted_text, accepted_then, catalogue_answer, catalogue_text}
-use Rattle.soy_top.specs.Answer.{inputs_answer, tree_answer, unless_refused}
+use Rattle.soy_top.specs.Answer.{accepted_text, accepted_then, catalogue_answer, catalogue_text, read_then}
+use Rattle.soy_top.specs.Answer.{bundled_answer, inputs_answer, summed_page, tree_answer, unless_faulty, unless_refused}
+use Rattle.soy_top.specs.Answer.{workload_answer}
 use Rattle.soy_top.specs.Asked.{Asked, Render, Check, Extract, Gen, Play, Preview, Format, asked_by_words}
 use Rattle.soy_top.specs.FilesWanted.{FileWanted, data_file, source_file, bundle_files, render_files, asked_files}
 use Rattle.soy_top.specs.FilesWanted.{first_not_held, first_over_limit, content, contents, is_source_language}
+use Rattle.soy_top.specs.Generated.{workload_entry, workload_files, workload_json, workload_names}
 use Rattle.soy_top.specs.Inputs.{bundle_content, but_last, last, second_number}
 use Rattle.soy_top.specs.IsCatalogue.{IsCatalogue}
 use Rattle.soy_top.specs.IsChecked.{HoldsBundle, IsChecked}
+use Rattle.soy_top.specs.IsGenerated.{IsSummary}
 use Rattle.soy_top.specs.IsPage.{IsPage}
 use Rattle.soy_top.specs.IsText.{IsText}
-use Rattle.soy_top.specs.IsText.IsText.{Page, Checked, Catalogue}
+use Rattle.soy_top.specs.IsText.IsText.{Page, Checked, Catalogue, Generated}
 use Rattle.soy_top.specs.Line.{too_large_line}
+use Rattle.soy_top.specs.MadeBundle.{bundle_text}
 use Rattle.soy_top.specs.Numbered.{numbered}
+use Rattle.soy_top.specs.Summary.{summary}
 use Rattle.soy_top.specs.Words.{Word}
 use Rattle.soy_top.proofs.SpelledWords.{IsSpelled, spelled-asked}
+use Rattle.work_gen.specs.Workload.{workload}
+use Rattle.work_gen.specs.declared.workload.Workload.{Workload}
 
 -- a text by what a template gives is its text, and it ends whole
 page_text : (names : List Word) (contents : List (List ℕ)) (given : List ℕ) (end : RunEnd) (text : List ℕ)
@@ -48,22 +56,18 @@ page_text names contents given WholeRun text h = (refl, cc)
 page_text names contents given (StopsAt site) text h = cc
 
 -- a text by the data is one of values that were read
-data_text : (names : List Word) (contents : List (List ℕ)) (json_name : Word) (of : Front) (d : Declared)
-    (r : Result Value (Code × List PathStep)) (text : List ℕ) → data_answer names contents json_name of d r ≡ Done text
-    → (v : Value) × (r ≡ Ok v) × (end_of_outcome (template_outcome of d v) ≡ WholeRun)
-    × (text ≡ run_text (template_outcome of d v))
-data_text names contents json_name of d (Ok v) text h =
-    let p = page_text names contents (run_text (template_outcome of d v)) (end_of_outcome (template_outcome of d v))
-    text h in (v, refl, p.0, p.1)
-data_text names contents json_name of d (Err fault) text h = cc
+data_text : (page : PageAnswer) (json_name : Word) (of : Front) (d : Declared)
+    (r : Result Value (Code × List PathStep)) (text : List ℕ) → data_answer page json_name of d r ≡ Done text
+    → (v : Value) × (r ≡ Ok v) × (page_answer page (template_outcome of d v) ≡ Done text)
+data_text page json_name of d (Ok v) text h = (v, refl, h)
+data_text page json_name of d (Err fault) text h = cc
 
 -- a text by the template is one of a template that was found
-entry_text : (names : List Word) (contents : List (List ℕ)) (template json_name : Word) (json : List ℕ) (of : Front)
-    (o : Option Declared) (text : List ℕ) → entry_answer names contents template json_name json of o ≡ Done text
-    → (d : Declared) × (o ≡ Some d)
-    × (data_answer names contents json_name of d (data_at d.template.params json) ≡ Done text)
-entry_text names contents template json_name json of None text h = cc
-entry_text names contents template json_name json of (Some d) text h = (d, refl, h)
+entry_text : (page : PageAnswer) (template json_name : Word) (json : List ℕ) (of : Front) (o : Option Declared)
+    (text : List ℕ) → entry_answer page template json_name json of o ≡ Done text
+    → (d : Declared) × (o ≡ Some d) × (data_answer page json_name of d (data_at d.template.params json) ≡ Done text)
+entry_text page template json_name json of None text h = cc
+entry_text page template json_name json of (Some d) text h = (d, refl, h)
 
 -- a text by the files that are held and within their limits is one by their contents
 option_none : (o : Option Word) (f : Word → Answer) (a : Answer) (text : List ℕ) → ((w : Word) → f w ≡ Done text → ⊥)
@@ -211,12 +215,15 @@ module _ (files : Files) (words : List Word) (template json_name bundle : Word) 
         let here = held_before files before (map source_file names) held in
         let json_here = content_held (file_of files json_name) (first_not_held files (bundle_files bundle)) json_name
         here.0 in
-        let t = then_text names sources bundle (render_answer names sources template json_name json)
+        let page : PageAnswer = ended_page names sources in
+        let t = then_text names sources bundle (render_answer page template json_name json)
         (front_answer sources (bundle_content bundle 1 (contents files before))) text (by_inputs h) in
         let answered = ap (λ c. front_answer sources c)
         (sym (second_content files json_name bundle (is_source_language bundle) refl)) ∙ t.1 in
-        let e = entry_text names sources template json_name json t.0 (entry_of t.0 template) text t.2 in
-        let v = data_text names sources json_name t.0 e.0 (data_at e.0.template.params json) text e.2 in
+        let e = entry_text page template json_name json t.0 (entry_of t.0 template) text t.2 in
+        let v = data_text page json_name t.0 e.0 (data_at e.0.template.params json) text e.2 in
+        let p = page_text names sources (run_text (template_outcome t.0 e.0 v.0))
+        (end_of_outcome (template_outcome t.0 e.0 v.0)) text v.2 in
         record {
           template = template;
           json_name = json_name;
@@ -236,8 +243,8 @@ module _ (files : Files) (words : List Word) (template json_name bundle : Word) 
           deserved = answered_deserved sources bundle_bytes t.0 answered;
           entry = e.1;
           reads = v.1;
-          whole = v.2;
-          text_is = v.3;
+          whole = p.0;
+          text_is = p.1;
         }
 
 check_text : (files : Files) (words : List Word) (bundle : Word) (names : List Word) (text : List ℕ)
@@ -269,12 +276,12 @@ check_text files words bundle names text words_are held h =
 
 -- ---- catalogues
 
--- a text by the rows of a catalogue
-read_of : (names : List Word) (contents : List (List ℕ)) (r : Result ReadFiles Fault) (text : List ℕ)
-    → catalogue_answer names contents r ≡ Done text
-    → (read : ReadFiles) × (r ≡ Ok read) × (text ≡ catalogue_text read.rows)
-read_of names contents (Ok read) text h = (read, refl, cc)
-read_of names contents (Err fault) text h = cc
+-- a text by what files are read as
+read_of : (names : List Word) (contents : List (List ℕ)) (answer : ReadFiles → Answer) (r : Result ReadFiles Fault)
+    (text : List ℕ) → unless_faulty names contents answer r ≡ Done text
+    → (read : ReadFiles) × (r ≡ Ok read) × (answer read ≡ Done text)
+read_of names contents answer (Ok read) text h = (read, refl, h)
+read_of names contents answer (Err fault) text h = cc
 
 extract_text : (files : Files) (words : List Word) (names : List Word) (text : List ℕ)
     → words ≡ codes "extract" ∷ names → first_not_held files (map source_file names) ≡ None
@@ -282,17 +289,45 @@ extract_text : (files : Files) (words : List Word) (names : List Word) (text : L
     → IsCatalogue files words text
 extract_text files words names text words_are held h =
     let rest = last_named files [] names in
-    let had = read_of names (contents files (map source_file names)) _ text
-    (ap (λ cs. catalogue_answer names cs (files_answer cs)) (sym rest) ∙ h) in
+    let sources : List (List ℕ) = contents files (map source_file names) in
+    let had = read_of names sources catalogue_answer (files_answer sources) text
+    (ap (λ cs. read_then names cs catalogue_answer) (sym rest) ∙ h) in
     record {
       names = names;
-      contents = contents files (map source_file names);
+      contents = sources;
       trees = had.0.trees;
       rows = had.0.rows;
       words_are = words_are;
       all_held = all_held files names held;
-      are_files = read_as (contents files (map source_file names)) had.0 had.1;
-      text_is = had.2;
+      are_files = read_as sources had.0 had.1;
+      text_is = let e : Done (catalogue_text had.0.rows) ≡ Done text = had.2 in cc e;
+    }
+
+-- ---- workloads
+
+summary_text : (w : Workload) (text : List ℕ) → workload_answer w ≡ Done text → IsSummary w text
+summary_text w text h =
+    let sources : List (List ℕ) = workload_files w in
+    let had = read_of workload_names sources (bundled_answer w workload_names sources) (files_answer sources) text h in
+    let bundle : List ℕ = bundle_text had.0.rows in
+    let t = then_text workload_names sources (codes "gen.bundle")
+    (render_answer summed_page (workload_entry w) (codes "gen.json") (workload_json w))
+    (front_answer sources (Some bundle)) text had.2 in
+    let e = entry_text summed_page (workload_entry w) (codes "gen.json") (workload_json w) t.0
+    (entry_of t.0 (workload_entry w)) text t.2 in
+    let v = data_text summed_page (codes "gen.json") t.0 e.0 (data_at e.0.template.params (workload_json w)) text e.2 in
+    record {
+      trees = had.0.trees;
+      rows = had.0.rows;
+      of = t.0;
+      d = e.0;
+      v = v.0;
+      are_files = read_as sources had.0 had.1;
+      accepted = answered_accepted sources (Some bundle) t.0 t.1;
+      deserved = answered_deserved sources (Some bundle) t.0 t.1;
+      entry = e.1;
+      reads = v.1;
+      text_is = let same : Done (summary (run_text (template_outcome t.0 e.0 v.0))) ≡ Done text = v.2 in cc same;
     }
 
 -- ---- other commands have no text
@@ -326,7 +361,8 @@ asked_text files words (Render template json_name bundle names) text is held h =
     Page (page_is files words template json_name bundle names text is held h)
 asked_text files words (Check bundle names) text is held h = Checked (check_text files words bundle names text is held h)
 asked_text files words (Extract names) text is held h = Catalogue (extract_text files words names text is held h)
-asked_text files words (Gen number) text is held h = cc
+asked_text files words (Gen number) text is held h =
+    Generated (record { number = number; words_are = is; is_summary = summary_text (workload number) text h })
 asked_text files words (Play script first second names) text is held h =
     let all : List (List ℕ) = contents files (asked_files (Play script first second names)) in
     absurd (play_no_text script first second names (but_last (length names) all) (last (length names) all) text h)
@@ -345,7 +381,7 @@ answered_text files words (Some asked) text is h =
     let held = held_text files asked text h in
     asked_text files words asked text (spelled-asked words asked is) held.0 held.1
 
--- a text that is the answer is a page, a catalogue, or that files are accepted
+-- a text that is the answer is a page, a catalogue, that files are accepted, or the summary of a workload
 pub text-answered : (files : Files) (words : List Word) (text : List ℕ) → answer files words ≡ Done text
     → IsText files words text
 text-answered files words text h = answered_text files words (asked_by_words words) text refl h

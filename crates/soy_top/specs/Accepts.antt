@@ -4,7 +4,7 @@
 use Rattle.std.specs.Prelude.{◌≡◌, ℕ, List, Option, Result, Ok, Err}
 use Rattle.std.specs.String.{string_bytes}
 use Rattle.soy_front.specs.Compiled.{AreCompiled}
-use Rattle.soy_front.specs.FilesAnswer.{files_answer}
+use Rattle.soy_front.specs.FilesAnswer.{ReadFiles, files_answer}
 use Rattle.soy_front.specs.FrontAnswer.{Front, IsFront, front_answer}
 use Rattle.soy_front.specs.ReadsFiles.{view_files}
 use Rattle.soy_front.specs.declared.accepting.AcceptedFiles.{AcceptedFiles}
@@ -13,10 +13,11 @@ use Rattle.soy_front.specs.declared.files.ReadFiles as code
 use Rattle.soy_top.specs.declared.ending.Ending.{Ending}
 use Rattle.soy_top.specs.declared.ending.Ending.TheVariants as ending
 use Rattle.soy_top.specs.declared.output.Output.{Output}
-use Rattle.soy_top.specs.Answer.{Answer, Refused, accepted_then, catalogue_answer}
+use Rattle.soy_top.specs.declared.page.Page.{Page}
+use Rattle.soy_top.specs.Answer.{Answer, PageAnswer, Refused, accepted_then, page_answer, read_then}
 use Rattle.soy_top.specs.Line.{ended}
 use Rattle.soy_top.specs.Output.{output_answer}
-use Rattle.soy_top.specs.ViewOutput.{view_output}
+use Rattle.soy_top.specs.ViewOutput.{page_run, view_output}
 use Rattle.soy_top.specs.Words.{Word}
 
 -- the ending is the refusal that the answer is, or out of memory
@@ -42,7 +43,13 @@ CompilesFront names files bundle content (Ok compiled) = AreCompiled files conte
 CompilesFront names files bundle content (Err ending) =
     (answer : Front → Answer) → Refuses (accepted_then names files bundle content answer) ending
 
--- files are read, or the ending is the line of their first fault
+-- files are read, or the ending is the line of their first fault, whatever would be answered else
 abbrev pub AcceptsFiles : List Word → List (List ℕ) → Result code.ReadFiles Ending → Type 0
 AcceptsFiles names files (Ok read) = files_answer files ≡ Ok (view_files read)
-AcceptsFiles names files (Err ending) = Refuses (catalogue_answer names files (files_answer files)) ending
+AcceptsFiles names files (Err ending) = (answer : ReadFiles → Answer) → Refuses (read_then names files answer) ending
+
+-- a page is accepted, by whose text and end all that may be answered of it is answered; or the ending is the refusal
+-- that all of it is
+abbrev pub AcceptsPage : (PageAnswer → Answer) → Result Page Ending → Type 0
+AcceptsPage answer (Ok accepted) = (page : PageAnswer) → answer page ≡ page_answer page (page_run accepted)
+AcceptsPage answer (Err ending) = (page : PageAnswer) → Refuses (answer page) ending

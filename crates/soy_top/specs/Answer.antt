@@ -7,8 +7,9 @@
 -- is none, the answer of a `check` is `ok` and a line feed, and that of an `extract` the catalogue and a line feed. A
 -- `render` asks then for its template, which is a public one of kind html or text (29), and for the values of its
 -- parameters (27, 28); the answer is the bytes of the pieces that the template gives under them. Where these stop at a
--- call that nests too deep, it is those up to the call, with the call's line. What the program doesn't do yet is
--- refused, which is every other command.
+-- call that nests too deep, it is those up to the call, with the call's line. A `gen` asks for the faults of the source
+-- that it makes, and then, under the bundle that it makes of its catalogue, for all that a `render` asks for; the
+-- answer is the summary of the page. What the program doesn't do yet is refused, which is every other command.
 -- Example: the words `render t.zz d.json - t.soy` with a file of t.m are refused by `t.zz: 29 Entry`.
 use Rattle.std.specs.Prelude.{ℕ, List, [], ◌∷◌, length, Option, None, Some, option_map, option_and_then, slice_get}
 use Rattle.std.specs.Prelude.{codes, String, Result, Ok, Err, encode_utf8_all}
@@ -38,10 +39,13 @@ use Rattle.soy_top.specs.Asked.{Asked, Render, Check, Extract, Gen, Play, Previe
 use Rattle.soy_top.specs.Asked.{source_files}
 use Rattle.soy_top.specs.FilesWanted.{FileWanted, asked_files, wanted_files, known_files, first_not_held}
 use Rattle.soy_top.specs.FilesWanted.{first_over_limit, contents}
+use Rattle.soy_top.specs.Generated.{workload_entry, workload_files, workload_json, workload_names}
 use Rattle.soy_top.specs.Inputs.{bundle_content, but_last, last, second_number}
 use Rattle.soy_top.specs.Line.{not_yet_line, too_large_line, entry_line, fault_line, read_line, usage_text, ended}
+use Rattle.soy_top.specs.MadeBundle.{bundle_text}
 use Rattle.soy_top.specs.Numbered.{numbered, numbered_line}
 use Rattle.soy_top.specs.Pointer.{pointer_line}
+use Rattle.soy_top.specs.Summary.{summary}
 use Rattle.soy_top.specs.Words.{Word, command_words}
 use Rattle.soy_tree.specs.Templates.{Declared, declared}
 use Rattle.soy_tree.specs.Values.{Value}
@@ -50,6 +54,8 @@ use Rattle.soy_tree.specs.declared.tree.Tree.{Tree}
 use Rattle.soy_types.specs.ReadData.{data_at}
 use Rattle.template_ir.specs.Placed.{language_context}
 use Rattle.template_ir.specs.Run.{input_env, names_of}
+use Rattle.work_gen.specs.Workload.{workload}
+use Rattle.work_gen.specs.declared.workload.Workload.{Workload}
 
 pub data Answer : Type 0 where
   -- the usage text
@@ -77,14 +83,18 @@ run_text o = encode_utf8_all (joined_pieces (pieces_of_outcome o))
 abbrev pub call_fault : Site → Fault
 call_fault site = record { code = code.TooDeep; file = site.file; at = site.at }
 
--- the answer by the text of a run and its end
-abbrev pub ended_page : List Word → List (List ℕ) → List ℕ → RunEnd → Answer
+-- what is answered by the text of a page and its end
+abbrev pub PageAnswer : Type 0
+PageAnswer = List ℕ → RunEnd → Answer
+
+-- the page itself
+abbrev pub ended_page : List Word → List (List ℕ) → PageAnswer
 ended_page names files text WholeRun = Done text
 ended_page names files text (StopsAt site) = TooDeep text (numbered_line names files (call_fault site))
 
 -- the answer by what a template gives
-abbrev pub page_answer : List Word → List (List ℕ) → Outcome → Answer
-page_answer names files o = ended_page names files (run_text o) (end_of_outcome o)
+abbrev pub page_answer : PageAnswer → Outcome → Answer
+page_answer page o = page (run_text o) (end_of_outcome o)
 
 -- what a template gives under the values of its parameters
 abbrev pub template_outcome : Front → Declared → Value → Outcome
@@ -93,16 +103,15 @@ template_outcome of d v =
     (input_env (names_of d.template.params) v)
 
 -- the answer by what the data are read as for the parameters of a template
-abbrev pub data_answer :
-    List Word → List (List ℕ) → Word → Front → Declared → Result Value (Code × List PathStep) → Answer
-data_answer names files json_name of d (Ok v) = page_answer names files (template_outcome of d v)
-data_answer names files json_name of d (Err fault) = Refused (pointer_line json_name fault.1 fault.0)
+abbrev pub data_answer : PageAnswer → Word → Front → Declared → Result Value (Code × List PathStep) → Answer
+data_answer page json_name of d (Ok v) = page_answer page (template_outcome of d v)
+data_answer page json_name of d (Err fault) = Refused (pointer_line json_name fault.1 fault.0)
 
 -- the answer by the template that has the name, if there is one
-abbrev pub entry_answer : List Word → List (List ℕ) → Word → Word → List ℕ → Front → Option Declared → Answer
-entry_answer names files template json_name json of None = Refused (entry_line template)
-entry_answer names files template json_name json of (Some d) =
-    data_answer names files json_name of d (data_at d.template.params json)
+abbrev pub entry_answer : PageAnswer → Word → Word → List ℕ → Front → Option Declared → Answer
+entry_answer page template json_name json of None = Refused (entry_line template)
+entry_answer page template json_name json of (Some d) =
+    data_answer page json_name of d (data_at d.template.params json)
 
 -- the template that may be rendered under a full name
 abbrev pub entry_of : Front → Word → Option Declared
@@ -110,10 +119,10 @@ entry_of of template =
     option_and_then (slice_get (declared (view_trees of.files.trees)))
     (entry_number (chars template) (declared (view_trees of.files.trees)))
 
--- the answer to a `render` of files and a bundle that are accepted
-abbrev pub render_answer : List Word → List (List ℕ) → Word → Word → List ℕ → Front → Answer
-render_answer names files template json_name json of =
-    entry_answer names files template json_name json of (entry_of of template)
+-- the answer by the page of files and a bundle that are accepted
+abbrev pub render_answer : PageAnswer → Word → Word → List ℕ → Front → Answer
+render_answer page template json_name json of =
+    entry_answer page template json_name json of (entry_of of template)
 
 -- ---- files and bundles
 
@@ -135,10 +144,17 @@ accepted_then names files bundle content answer =
 abbrev pub catalogue_text : List Listed → List ℕ
 catalogue_text rows = ended (compact_text (catalogue_data rows))
 
--- the answer to an `extract` of files of these names and contents by what they are read as
-abbrev pub catalogue_answer : List Word → List (List ℕ) → Result ReadFiles Fault → Answer
-catalogue_answer names files (Ok read) = Done (catalogue_text read.rows)
-catalogue_answer names files (Err fault) = Refused (numbered_line names files fault)
+-- the answer by what files of these names and contents are read as, or the line of their first fault
+abbrev pub unless_faulty : List Word → List (List ℕ) → (ReadFiles → Answer) → Result ReadFiles Fault → Answer
+unless_faulty names files answer (Ok read) = answer read
+unless_faulty names files answer (Err fault) = Refused (numbered_line names files fault)
+
+abbrev pub read_then : List Word → List (List ℕ) → (ReadFiles → Answer) → Answer
+read_then names files answer = unless_faulty names files answer (read.files_answer files)
+
+-- the answer to an `extract` of files that are read
+abbrev pub catalogue_answer : ReadFiles → Answer
+catalogue_answer read = Done (catalogue_text read.rows)
 
 -- the answer to a `format` of a file by what it is read as
 abbrev pub tree_answer : Word → List ℕ → Result Tree Fault → Answer
@@ -149,15 +165,36 @@ tree_answer name bytes (Err fault) = Refused (fault_line name bytes fault)
 abbrev pub accepted_text : List ℕ
 accepted_text = codes "ok\n"
 
+-- ---- workloads
+
+-- the summary of a page, however it ends
+abbrev pub summed_page : PageAnswer
+summed_page text end = Done (summary text)
+
+-- the answer by the source of a workload that is read, under the bundle of its catalogue
+abbrev pub bundled_answer : Workload → List Word → List (List ℕ) → ReadFiles → Answer
+bundled_answer w names files read =
+    accepted_then names files (codes "gen.bundle") (Some (bundle_text read.rows))
+    (render_answer summed_page (workload_entry w) (codes "gen.json") (workload_json w))
+
+abbrev pub workload_answer : Workload → Answer
+workload_answer w = read_then workload_names (workload_files w) (bundled_answer w workload_names (workload_files w))
+
+-- the answer to the `gen` of a number
+abbrev pub gen_answer : ℕ → Answer
+gen_answer number = workload_answer (workload number)
+
+-- ---- all commands
+
 -- the answer to what is asked by the contents of its template files and of those before them
 abbrev pub inputs_answer : Asked → List (List ℕ) → List (List ℕ) → Answer
 inputs_answer (Render template json_name bundle names) before files =
     accepted_then names files bundle (bundle_content bundle 1 before) (λ of.
-    render_answer names files template json_name (numbered 0 before) of)
+    render_answer (ended_page names files) template json_name (numbered 0 before) of)
 inputs_answer (Check bundle names) before files =
     accepted_then names files bundle (bundle_content bundle 0 before) (λ of. Done accepted_text)
-inputs_answer (Extract names) before files = catalogue_answer names files (read.files_answer files)
-inputs_answer (Gen number) before files = not_yet (codes "gen")
+inputs_answer (Extract names) before files = read_then names files catalogue_answer
+inputs_answer (Gen number) before files = gen_answer number
 inputs_answer (Play script first second names) before files =
     accepted_then names files first (bundle_content first 1 before) (λ of.
     accepted_then names files second (bundle_content second (second_number first) before) (λ other.

@@ -1,10 +1,11 @@
--- What a text that is the answer is: a page, a catalogue, or that files are accepted.
+-- What a text that is the answer is: a page, a catalogue, that files are accepted, or the summary of a workload.
 --
 -- Example: where the words are `extract t.soy`, it is the catalogue of t.soy.
 use Rattle.std.specs.Prelude.{ℕ, List}
 use Rattle.soy_io.specs.FileOf.{Files}
 use Rattle.soy_top.specs.IsCatalogue.{IsCatalogue}
 use Rattle.soy_top.specs.IsChecked.{IsChecked}
+use Rattle.soy_top.specs.IsGenerated.{IsGenerated}
 use Rattle.soy_top.specs.IsPage.{IsPage}
 use Rattle.soy_top.specs.Words.{Word}
 
@@ -12,3 +13,4 @@ pub data IsText (files : Files) (words : List Word) (text : List ℕ) : Type 0 w
   Page : IsPage files words text → IsText files words text
   Checked : IsChecked files words text → IsText files words text
   Catalogue : IsCatalogue files words text → IsText files words text
+  Generated : IsGenerated words text → IsText files words text

@@ -15,6 +15,7 @@ use crate::catalogue::accept_extract;
 use crate::command::Command;
 use crate::ending::Ending;
 use crate::faults::front_line;
+use crate::generated::accept_gen;
 use crate::inputs::{bundle_content, but_last, content_at, last, second_number, source_names};
 use crate::line::{fault_line, not_yet_line};
 use crate::output::Output;
@@ -69,7 +70,7 @@ fn accept_inputs<'a>(
             )
         }
         Command::Extract { files } => accept_extract(alloc, files, sources),
-        Command::Gen { .. } => Err(not_yet(alloc, "gen")),
+        Command::Gen { number } => accept_gen(alloc, number),
         Command::Play {
             first,
             second,

@@ -3,10 +3,9 @@
 ghost use Rattle.std.specs.Prelude.{◌≡◌, ◌≤◌, length, IfOk};
 ghost use Rattle.std.specs.String.{string_bytes};
 ghost use Rattle.msg_extract.specs.declared.catalogue.Catalogue.{Catalogue};
-ghost use Rattle.soy_front.specs.FilesAnswer.{files_answer};
 ghost use Rattle.soy_front.specs.ViewSources.{view_contents};
 ghost use Rattle.soy_top.specs.Accepts.{Accepts, AcceptsFiles};
-ghost use Rattle.soy_top.specs.Answer.{catalogue_answer, catalogue_text};
+ghost use Rattle.soy_top.specs.Answer.{catalogue_answer, catalogue_text, read_then};
 ghost use Rattle.soy_top.specs.Words.{command_words};
 
 use crate::ending::Ending;
@@ -24,15 +23,20 @@ pub(crate) fn accept_extract<'a>(
     sources: &[Source],
 ) -> Result<Output<'a>, Ending>
     requires { length sources.now ≤ 64 }
-    ensures { Accepts (catalogue_answer (command_words names.now) (view_contents sources.now)
-        (files_answer (view_contents sources.now))) result }
+    ensures { Accepts (read_then (command_words names.now) (view_contents sources.now) catalogue_answer) result }
 {
-    let read = accept_files(alloc, names, sources)?;
-    Ok(Output::Text(catalogue_text(alloc, &read.catalogue)?))
+    match accept_files(alloc, names, sources) {
+        Ok(read) => Ok(Output::Text(catalogue_text(alloc, &read.catalogue)?)),
+        Err(ending) => Err(ending),
+    }
 }
 
 /// The trees and the catalogue of files of these names, or the line of their first fault.
-fn accept_files(alloc: Global, names: &[String], sources: &[Source]) -> Result<ReadFiles, Ending>
+pub(crate) fn accept_files(
+    alloc: Global,
+    names: &[String],
+    sources: &[Source],
+) -> Result<ReadFiles, Ending>
     requires { length sources.now ≤ 64 }
     ensures { AcceptsFiles (command_words names.now) (view_contents sources.now) result }
 {

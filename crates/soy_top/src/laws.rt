@@ -7,7 +7,7 @@ ghost use Rattle.soy_top.specs.IsText.{IsText};
 ghost use Rattle.soy_top.specs.Words.{Word};
 
 /// A text that is the answer is the page or the catalogue of the words and of the files that are held, or says
-/// that these are accepted.
+/// that these are accepted; or it is the summary of the workload that the words name.
 pub fn law_answer_is_text()
     ensures { (files : Files) (words : List Word) (text : List ℕ) → answer files words ≡ Done text →
         IsText files words text }

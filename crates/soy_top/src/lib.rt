@@ -4,11 +4,12 @@
 //! hold. Its clauses say of each status exactly when it comes, what each sink took, and what is
 //! unchanged; running out of memory alone is free. Each command fetches its files and refuses the first
 //! template file that has a fault, and then, but for `format`, what the trees of all template files may not
-//! have, and, but for `extract`, what the bundle and the paths of the pages may not have. `render` writes pages, pull by pull, `check` says that all is
-//! accepted, and `extract` writes the catalogue of messages.
+//! have, and, but for `extract`, what the bundle and the paths of the pages may not have. `render` writes
+//! pages, pull by pull, `check` says that all is accepted, `extract` writes the catalogue of messages, and
+//! `gen` sums up a page of files that it makes.
 //!
 //! Depends on soy_base and soy_io; on soy_front for the files and the bundle as one program; on soy_types for
-//! the data, render_core for the page, and msg_extract for the catalogue.
+//! the data, render_core for the page, msg_extract for the catalogue, and work_gen for what `gen` renders.
 #![tactic(auto)]
 
 mod accept;
@@ -17,14 +18,17 @@ mod command;
 mod ending;
 mod faults;
 mod fetch;
+mod generated;
 mod inputs;
 mod laws;
 mod line;
+mod made_bundle;
 mod output;
 mod page;
 mod program;
 mod render;
 mod status;
+mod summary;
 mod wanted;
 
 pub use laws::law_answer_is_text;

@@ -60,7 +60,7 @@ pub(crate) fn put_bytes<K: Sink>(out: &mut K, bytes: &[u8]) -> Result<(), PutFau
 }
 
 /// Room for what a pull gives.
-fn pull_room(alloc: Global) -> Result<Vec<u8>, OutOfMemory>
+pub(crate) fn pull_room(alloc: Global) -> Result<Vec<u8>, OutOfMemory>
     ensures { IfOk result (λ room. 0 < length room.items) }
 {
     let mut room = Vec::new(alloc);

@@ -1,10 +1,10 @@
-//! The page of a `render`: files and a bundle are compiled, the template is found, and its data are read.
+//! Pages: files and a bundle are compiled, the template is found, and its data are read.
 
-ghost use Rattle.std.specs.Prelude.{◌≡◌, ◌≤◌, ℕ, List, Option, Some, length, option_map, slice_get};
+ghost use Rattle.std.specs.Prelude.{◌≡◌, ◌≤◌, ℕ, List, Option, Some, IfOk, length, option_map, slice_get};
 ghost use Rattle.soy_front.specs.Compiled.{AreCompiled};
 ghost use Rattle.soy_front.specs.ViewSources.{view_contents};
-ghost use Rattle.soy_top.specs.Accepts.{Accepts, CompilesFront};
-ghost use Rattle.soy_top.specs.Answer.{data_answer, inputs_answer, render_answer};
+ghost use Rattle.soy_top.specs.Accepts.{Accepts, AcceptsPage, CompilesFront};
+ghost use Rattle.soy_top.specs.Answer.{accepted_then, data_answer, inputs_answer, render_answer};
 ghost use Rattle.soy_top.specs.Asked.{Render};
 ghost use Rattle.soy_top.specs.Words.{command_words};
 ghost use Rattle.soy_tree.specs.Templates.{Declared, declared};
@@ -36,22 +36,42 @@ pub(crate) fn accept_render<'a>(
     ensures { Accepts (inputs_answer (Render template.now json_name.now bundle.now (command_words names.now))
         (view_contents before.now) (view_contents sources.now)) result }
 {
-    match compile_front(
+    match accept_page(
         alloc,
-        names,
-        sources,
+        template,
+        json_name,
+        content_at(before, 0),
         bundle,
         bundle_content(bundle, 1, before),
+        names,
+        sources,
     ) {
-        Ok(compiled) => accept_entry(
-            alloc,
-            compiled,
-            template,
-            json_name,
-            content_at(before, 0),
-            names,
-            sources,
-        ),
+        Ok(page) => Ok(Output::Page(page)),
+        Err(ending) => Err(ending),
+    }
+}
+
+/// The page of a template, or the line of the first fault of files of these names, of a bundle, of the template and of
+/// its data.
+pub(crate) fn accept_page<'a>(
+    alloc: Global,
+    template: &str,
+    json_name: &str,
+    json: &[u8],
+    bundle: &str,
+    content: Option<&[u8]>,
+    names: &'a [String],
+    sources: &'a [Source],
+) -> Result<Page<'a>, Ending>
+    requires { length sources.now ≤ 64 }
+    ensures accepts { AcceptsPage (λ page. accepted_then (command_words names.now) (view_contents sources.now)
+        bundle.now (option_map (λ b. b.now) content.entry) (render_answer page template.now json_name.now json.now))
+        result }
+    ensures names { IfOk result (λ page. page.names.now ≡ names.now) }
+    ensures sources { IfOk result (λ page. page.sources.now ≡ sources.now) }
+{
+    match compile_front(alloc, names, sources, bundle, content) {
+        Ok(compiled) => accept_entry(alloc, compiled, template, json_name, json, names, sources),
         Err(ending) => Err(ending),
     }
 }
@@ -87,10 +107,11 @@ fn accept_entry<'a>(
     json: &[u8],
     names: &'a [String],
     sources: &'a [Source],
-) -> Result<Output<'a>, Ending>
-    ensures { (content : Option (List ℕ)) (are : AreCompiled (view_contents sources.now) content compiled) →
-        Accepts (render_answer (command_words names.now) (view_contents sources.now) template.now json_name.now json.now
-        are.of) result }
+) -> Result<Page<'a>, Ending>
+    ensures accepts { (content : Option (List ℕ)) (are : AreCompiled (view_contents sources.now) content compiled) →
+        AcceptsPage (λ page. render_answer page template.now json_name.now json.now are.of) result }
+    ensures names { IfOk result (λ page. page.names.now ≡ names.now) }
+    ensures sources { IfOk result (λ page. page.sources.now ≡ sources.now) }
 {
     match compiled.entry(template) {
         Some(number) => accept_data(alloc, compiled, number, json_name, json, names, sources),
@@ -110,22 +131,23 @@ fn accept_data<'a>(
     json: &[u8],
     names: &'a [String],
     sources: &'a [Source],
-) -> Result<Output<'a>, Ending>
-    ensures { (content : Option (List ℕ)) (are : AreCompiled (view_contents sources.now) content compiled)
+) -> Result<Page<'a>, Ending>
+    ensures accepts { (content : Option (List ℕ)) (are : AreCompiled (view_contents sources.now) content compiled)
         (d : Declared) → slice_get (declared (view_trees compiled.typed)) number ≡ Some d →
-        Accepts (data_answer (command_words names.now) (view_contents sources.now) json_name.now are.of d
-        (data_at d.template.params json.now)) result }
+        AcceptsPage (λ page. data_answer page json_name.now are.of d (data_at d.template.params json.now)) result }
+    ensures names { IfOk result (λ page. page.names.now ≡ names.now) }
+    ensures sources { IfOk result (λ page. page.sources.now ≡ sources.now) }
 {
     match read_data(alloc, json, compiled.typed.params(number)) {
         Ok(input) => {
             let Compiled { program, .. } = compiled;
-            Ok(Output::Page(Page {
+            Ok(Page {
                 program,
                 template: number,
                 input,
                 names,
                 sources,
-            }))
+            })
         }
         Err(Refusal::Because(fault)) => {
             let line = pointer_line(alloc, json_name, fault.path.items(), fault.code)?;

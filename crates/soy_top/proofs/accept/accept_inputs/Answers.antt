@@ -20,6 +20,11 @@ returns-in-Check c =
     c.in-Check.bundle.now content (λ of. Done accepted_text)) c.accept_check.result) c.bundle_content.ensures
     c.accept_check.ensures)
 
+pub returns-in-Gen : goal.returns-in-Gen
+returns-in-Gen c =
+    subst (λ command. Accepts (inputs_answer (view_command command) (view_contents c.args.before.now)
+    (view_contents c.args.sources.now)) c.accept_gen.result) (sym c.in-Gen.is) c.accept_gen.ensures
+
 pub returns-in-Play : goal.returns-in-Play
 returns-in-Play c =
     subst (λ command. Accepts (inputs_answer (view_command command) (view_contents c.args.before.now)
