@@ -14,6 +14,8 @@ mod data;
 #[cfg(test)]
 mod directions;
 #[cfg(test)]
+mod example;
+#[cfg(test)]
 mod faults;
 #[cfg(test)]
 mod generated;
