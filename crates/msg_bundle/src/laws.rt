@@ -1,11 +1,15 @@
 //! What holds of bundles: functions that take nothing and do nothing, whose contracts are the laws.
 
-ghost use Rattle.std.specs.Prelude.{◌≡◌, ◌⊎◌, ℕ, List, [], Ok};
+ghost use Rattle.std.specs.Prelude.{◌≡◌, ◌↔◌, ◌⊎◌, ℕ, ◌≤◌, List, [], true, Ok};
 ghost use Rattle.soy_base.specs.declared.direction.Dir.TheVariants as dir;
 ghost use Rattle.soy_tree.specs.declared.bundle.Bundle.{Bundle};
-ghost use Rattle.soy_tree.specs.Formed.{AreFormed};
+ghost use Rattle.soy_tree.specs.Formed.{AreFormed, is_formed_body, nesting};
+ghost use Rattle.soy_tree.specs.Nodes.{MessageBody};
 ghost use Rattle.soy_tree.specs.Trees.{Tree};
+ghost use Rattle.msg_extract.specs.CanonicalText.{canonical_text};
 ghost use Rattle.msg_extract.specs.Catalogue.{catalogue_of};
+ghost use Rattle.msg_extract.specs.RepeatedCases.{has_distinct_cases};
+ghost use Rattle.msg_extract.specs.SourceParts.{source_parts};
 ghost use Rattle.msg_extract.specs.declared.catalogue.Listed.{Listed};
 ghost use Rattle.msg_bundle.specs.declared.fault.BundleFault.{BundleFault};
 ghost use Rattle.msg_bundle.specs.BundleFits.{BundleFits};
@@ -33,4 +37,14 @@ pub fn law_fits()
         → BringsBundle bytes rows bundle → catalogue_of trees ≡ Ok rows → AreFormed trees → BundleFits bundle trees }
     ensures source { (trees : List Tree)
         → BundleFits (record { dir = dir.Ltr; plural = []; ordinal = []; messages = [] }) trees }
+{}
+
+/// Two formed messages without repeated cases have one canonical text exactly where the parts of their sources are the
+/// same. Messages of one canonical text have the same parts also where a case is repeated.
+pub fn law_equal_texts()
+    ensures exactly { (a b : MessageBody) → is_formed_body a ≡ true → is_formed_body b ≡ true
+        → nesting a ≤ 63 → nesting b ≤ 63 → has_distinct_cases a ≡ true → has_distinct_cases b ≡ true
+        → (canonical_text a ≡ canonical_text b) ↔ (source_parts a ≡ source_parts b) }
+    ensures same_parts { (a b : MessageBody) → is_formed_body a ≡ true → is_formed_body b ≡ true
+        → nesting a ≤ 63 → nesting b ≤ 63 → canonical_text a ≡ canonical_text b → source_parts a ≡ source_parts b }
 {}

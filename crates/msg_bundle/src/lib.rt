@@ -15,5 +15,5 @@ mod sources;
 mod translations;
 
 pub use fault::BundleFault;
-pub use laws::{law_bundle, law_fits};
+pub use laws::{law_bundle, law_equal_texts, law_fits};
 pub use read::read_bundle;

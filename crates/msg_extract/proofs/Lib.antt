@@ -6,6 +6,7 @@ pub mod Decimals
 pub mod ItemLists
 pub mod JoinedItems
 pub mod JoinedTests
+pub mod ListedIds
 pub mod MessageCuts
 pub mod MessageNames
 pub mod MessageRows

@@ -4,6 +4,7 @@ pub mod Catalogue
 pub mod CatalogueText
 pub mod Extracts
 pub mod Fits
+pub mod ListedIds
 pub mod MessageId
 pub mod MessagesIn
 pub mod NameSteps

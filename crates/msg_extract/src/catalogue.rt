@@ -1,20 +1,25 @@
 //! The catalogue of the messages of files.
 
-ghost use Rattle.std.specs.Prelude.{◌≡◌, ◌<◌, ◌^◌, length, map, option_map, IfOk, string_bytes};
+ghost use Rattle.std.specs.Prelude.{◌≡◌, ◌<◌, ◌^◌, length, map, option_map, slice_get, bytes_eq, IfOk, OnOk};
+ghost use Rattle.std.specs.Prelude.{string_bytes};
+ghost use Rattle.std.specs.List.{position_or_len};
 ghost use Rattle.serde_json.specs.View.{items_view, view};
 ghost use Rattle.serde_json.specs.Written.{compact_text};
 ghost use Rattle.soy_tree.specs.ViewNodes.{view_message};
 ghost use Rattle.soy_tree.specs.ViewTrees.{view_trees};
 ghost use Rattle.msg_extract.specs.Catalogue.{all_listed, catalogue_of, find_listed, is_same_listed, listed};
-ghost use Rattle.msg_extract.specs.Catalogue.{with_listed};
+ghost use Rattle.msg_extract.specs.Catalogue.{with_listed, with_name};
 ghost use Rattle.msg_extract.specs.CatalogueText.{catalogue_data, listed_data, listed_items};
 ghost use Rattle.msg_extract.specs.Extracts.{Adds, Extracts};
+ghost use Rattle.msg_extract.specs.ListedIds.{HasIds};
 ghost use Rattle.msg_extract.specs.ViewMessages.{view_found};
 
 use crate::canonical::{id_of_text, text_of_pieces};
 use crate::messages::messages_of;
+use crate::name_key::NameKey;
 use crate::piece::pieces_of;
 use crate::role_names::{NameKind, role_names};
+use indexmap::IndexSet;
 use serde_json::{Value, json};
 use soy_base::{Code, Fault, OutOfMemory, Refusal, Row, Seq, Text};
 use soy_tree::{Message, Tree};
@@ -37,6 +42,13 @@ pub struct Listed {
 #[derive(Drop)]
 pub struct Catalogue {
     pub messages: Seq<Listed>,
+}
+
+/// The rows of a catalogue so far, and their ids, by which one is found without a walk over the rows.
+#[derive(Drop)]
+struct Listing {
+    rows: Row<Listed>,
+    ids: IndexSet<NameKey>,
 }
 
 /// What a catalogue has of a message.
@@ -69,30 +81,58 @@ fn is_same(left: &Listed, right: &Listed) -> bool
     left.meaning.is(right.meaning.text()) && left.text.is(right.text.text())
 }
 
-/// Whether the message that is listed under an id is the same as this one, if there is one.
-fn is_listed(rows: &[Listed], found: &Listed) -> Option<bool>
-    ensures { result ≡ option_map (λ l. is_same_listed l found.now) (find_listed found.now.id rows.now) }
+/// The number of an id among those of the rows so far, which now have it too.
+fn id_number(alloc: Global, ids: &mut IndexSet<NameKey>, id: &Text) -> Result<usize, OutOfMemory>
+    ensures number { IfOk result (λ n. n ≡ position_or_len (bytes_eq id.now) ids.old.keys) }
+    ensures added { OnOk result (ids.new.keys ≡ with_name ids.old.keys id.now) }
 {
-    for row in rows {
-        if row.id.is(found.id.text()) {
-            return Some(is_same(row, found));
-        }
+    let (number, _) = ids.insert_full(NameKey::new(id.copy(alloc)?))?;
+    Ok(number)
+}
+
+/// Whether the row of a number is the same as this one, if there is one.
+fn is_same_row(rows: &[Listed], number: usize, found: &Listed) -> Option<bool>
+    ensures { result ≡ option_map (λ l. is_same_listed l found.now) (slice_get rows.now number) }
+{
+    match rows.get(number) {
+        Some(row) => Some(is_same(row, found)),
+        None => None,
     }
-    None
+}
+
+/// Whether the message that is listed under an id is the same as this one, if there is one. The ids have that of this
+/// message then.
+#[tactic(auto, using(crate::proofs::ListedIds::row_found))]
+fn is_listed(
+    alloc: Global,
+    listing: &mut Listing,
+    found: &Listed,
+) -> Result<Option<bool>, OutOfMemory>
+    requires { HasIds listing.old }
+    ensures found { IfOk result (λ same. same ≡ option_map (λ l. is_same_listed l found.now)
+        (find_listed found.now.id listing.old.rows)) }
+    ensures rows { OnOk result (listing.new.rows ≡ listing.old.rows) }
+    ensures ids { OnOk result (listing.new.ids.keys ≡ with_name (map (λ l. l.id) listing.old.rows) found.now.id) }
+{
+    let number = id_number(alloc, &mut listing.ids, &found.id)?;
+    Ok(is_same_row(listing.rows.items(), number, found))
 }
 
 /// Adds a message of a file, unless it is listed.
+#[tactic(auto, using(crate::proofs::ListedIds::new_row, crate::proofs::ListedIds::known_id))]
 fn add(
     alloc: Global,
-    rows: &mut Row<Listed>,
+    listing: &mut Listing,
     file: u32,
     message: &Message,
 ) -> Result<(), Refusal<Fault>>
-    ensures { Adds (with_listed rows.old file (view_message message.now)) rows.new result }
+    requires { HasIds listing.old }
+    ensures rows { Adds (with_listed listing.old.rows file (view_message message.now)) listing.new.rows result }
+    ensures ids { OnOk result (HasIds listing.new) }
 {
     let found = row_of(alloc, message)?;
-    match is_listed(rows.items(), &found) {
-        None => Ok(rows.push(found)?),
+    match is_listed(alloc, listing, &found)? {
+        None => Ok(listing.rows.push(found)?),
         Some(true) => Ok(()),
         Some(false) => Err(Refusal::Because(Fault {
             code: Code::IdClash,
@@ -105,14 +145,16 @@ fn add(
 /// Adds the messages of a file.
 fn add_all(
     alloc: Global,
-    rows: &mut Row<Listed>,
+    listing: &mut Listing,
     file: u32,
     messages: &[&Message],
 ) -> Result<(), Refusal<Fault>>
-    ensures { Adds (all_listed rows.old file (map view_found messages.now)) rows.new result }
+    requires { HasIds listing.old }
+    ensures rows { Adds (all_listed listing.old.rows file (map view_found messages.now)) listing.new.rows result }
+    ensures ids { OnOk result (HasIds listing.new) }
 {
     for message in messages {
-        add(alloc, rows, file, message)?;
+        add(alloc, listing, file, message)?;
     }
     Ok(())
 }
@@ -123,15 +165,18 @@ pub fn extract(alloc: Global, trees: &[Tree]) -> Result<Catalogue, Refusal<Fault
     requires { length trees.now < 2 ^ 32 }
     ensures { Extracts (catalogue_of (view_trees trees.now)) result }
 {
-    let mut rows = Row::empty(alloc);
+    let mut listing = Listing {
+        rows: Row::empty(alloc),
+        ids: IndexSet::new(alloc),
+    };
     let mut file = 0u32;
     for tree in trees {
         let messages = messages_of(alloc, tree)?;
-        add_all(alloc, &mut rows, file, messages.items())?;
+        add_all(alloc, &mut listing, file, messages.items())?;
         file += 1;
     }
     Ok(Catalogue {
-        messages: rows.done(),
+        messages: listing.rows.done(),
     })
 }
 

@@ -13,6 +13,7 @@ mod cut;
 mod item;
 mod laws;
 mod messages;
+mod name_key;
 mod names;
 mod piece;
 mod placeholder;

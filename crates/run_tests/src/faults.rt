@@ -1,7 +1,8 @@
 //! Libraries and sinks that fail, or that are refused memory.
 ghost use Rattle.std.specs.Prelude.{◌<◌, None};
 
-use crate::running::{Ended, files_of, split_words, taken_by};
+use crate::running::{Ended, Row, files_of, split_words, taken_by};
+use crate::shop::SHOP;
 use soy_io::{
     Fetch, FetchFault, Library, MemoryLibrary, MemorySink, NamedFile, PlainLibrary, PlainSink,
     PutFault, Sink,
@@ -138,6 +139,34 @@ fn failing_loops(alloc: Global) -> Option<(Status, usize)> {
 #[test]
 fn loops_failing_put(rt: HostRuntime) {
     assert_eq!(rt; failing_loops(rt.alloc()), Some((Status::Write, 9)));
+}
+
+/// Lets each put of a row's page fail in turn until none does, and says how many there are; none where a run ends
+/// otherwise than with Write and a prefix of the page.
+fn puts_that_fail(alloc: Global, row: &Row) -> Option<u64> {
+    let (_, line, files, _, page, _) = *row;
+    let words = split_words(alloc, line)?;
+    for put in 1..10_000 {
+        let mut files = PlainLibrary::new(files_of(alloc, files)?);
+        let mut out = MemorySink::new(alloc, 4096, only(alloc, put)?);
+        let mut err = PlainSink::new(alloc);
+        let status = run(alloc, words.as_slice(), &mut files, &mut out, &mut err);
+        let ended = taken_by(alloc, status, out.taken(), err.taken())?;
+        match taken_of(&ended, page.as_bytes())? {
+            (Status::Write, _) => {}
+            (Status::Done, count) if count == page.len() => return Some(put - 1),
+            _ => return None,
+        }
+    }
+    None
+}
+
+#[test]
+fn each_put_of_the_shop(rt: HostRuntime) {
+    for row in SHOP {
+        let count = puts_that_fail(rt.alloc(), row);
+        assert!(rt; count.unwrap_or(0) > 0, "row {}", row.0);
+    }
 }
 
 /// A run that says a refusal on a standard error that fails at its first put.

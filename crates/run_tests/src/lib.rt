@@ -8,9 +8,13 @@ mod calls;
 #[cfg(test)]
 mod checks;
 #[cfg(test)]
+mod closure;
+#[cfg(test)]
 mod data;
 #[cfg(test)]
 mod directions;
+#[cfg(test)]
+mod example;
 #[cfg(test)]
 mod faults;
 #[cfg(test)]
@@ -23,6 +27,8 @@ mod limits;
 mod messages;
 #[cfg(test)]
 mod places;
+#[cfg(test)]
+mod plurals;
 #[cfg(test)]
 mod prints;
 #[cfg(test)]

@@ -43,7 +43,7 @@ const ARTICLE: &str =
      {\"who\":\"Bo\",\"text\":\"\",\"link\":\"javascript:x\"}]}\n";
 
 /// The page in each bundle, and its message.
-const SHOP: &[Row] = &[
+pub(crate) const SHOP: &[Row] = &[
     (
         "shop-page, -",
         "render shop.page.main d.json - p.soy",

@@ -52,7 +52,7 @@ any_reverse test (x ∷ xs) =
     ap (list_any test) (reverse_onto xs x []) ∙ list_any-append test (reverse xs) (x ∷ [])
     ∙ ap (λ b. b || (test x || false)) (any_reverse test xs) ∙ or_turned (list_any test xs) (test x)
 
-is_seen : (keys : List (Bor (List ℕ))) (bytes : List ℕ) → IsUtf8 bytes → are_texts keys ≡ true
+pub is_seen : (keys : List (Bor (List ℕ))) (bytes : List ℕ) → IsUtf8 bytes → are_texts keys ≡ true
     → is_among (chars bytes) (seen keys) ≡ has_key keys bytes
 is_seen keys bytes text all = any_reverse (bytes_eq (chars bytes)) (key_names keys) ∙ has_key-names keys bytes text all
 

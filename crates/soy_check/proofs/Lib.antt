@@ -1,3 +1,5 @@
+mod Demanding
+mod FirstOfNames
 mod Growth
 mod Indexes
 mod Keys
@@ -5,6 +7,7 @@ mod Loops
 mod Passing
 mod Refusals
 mod Rows
+mod SetsOfNames
 mod Spans
 mod Types
 mod Undoing

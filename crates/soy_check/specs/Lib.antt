@@ -1,6 +1,7 @@
 pub mod Answers
 pub mod FullNames
 pub mod Grows
+pub mod Named
 pub mod PutBack
 pub mod Rules
 pub mod ViewAround

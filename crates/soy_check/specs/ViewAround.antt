@@ -14,4 +14,8 @@ view_all = map view_declared
 
 abbrev pub view_around : code.Around → Around
 view_around a =
-    record { declared = view_all a.declared.now; namespace = a.namespace.now; params = view_params a.params.now }
+    record {
+      declared = view_all a.declared.now;
+      namespace = a.namespace.now;
+      params = view_params a.own.now.template.now.params;
+    }

@@ -6,14 +6,13 @@ ghost use Rattle.soy_check.specs.FullNames.{full_names};
 use crate::names::Names;
 use crate::template::Declared;
 use soy_base::Text;
-use soy_tree::Param;
 
-/// The templates of all files with their full names, and the namespace and the parameters of the body's template.
+/// The templates of all files with their full names, and the namespace and the template of the body.
 #[derive(Drop)]
 pub(crate) struct Around<'n, 'a, 't> {
     pub(crate) declared: &'a [Declared<'t>],
     pub(crate) names: &'n Names<'a>,
     pub(crate) namespace: &'t Text,
-    pub(crate) params: &'t [Param],
+    pub(crate) own: &'a Declared<'t>,
     ghost indexed: { names.now ≡ reverse (full_names declared.now) },
 }

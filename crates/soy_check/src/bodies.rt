@@ -16,6 +16,7 @@ use crate::calls::{callee_params, check_demands, named_param};
 use crate::commands::{Takes, check_accepted, check_expr, check_plain, check_print, check_values};
 use crate::names::Names;
 use crate::narrowing::{narrow_variables, restore};
+use crate::template::Declared;
 use crate::variables::{check_let, check_new, declare, enter_loop, kind_type, leave, param_type};
 use soy_base::{Refusal, Span};
 use soy_expr::{TypeFault, type_among};
@@ -96,10 +97,10 @@ fn check_node(
             Ok(())
         }
         Form::Call(name, all, given) => {
-            let params = callee_params(alloc, around, name, span)?;
+            let callee = callee_params(alloc, around, name, span)?;
             let given = given.items();
-            check_demands(alloc, around, *all, given, span, params, vars.as_slice())?;
-            check_arguments(alloc, around, given, params, vars)?;
+            check_demands(alloc, around, *all, given, span, callee, vars.as_slice())?;
+            check_arguments(alloc, around, given, callee, vars)?;
             Ok(())
         }
         Form::Message(message, None) => {
@@ -164,17 +165,17 @@ fn check_arguments(
     alloc: Global,
     around: &Around,
     given: &[Argument],
-    params: &[Param],
+    callee: &Declared,
     vars: &mut Vec<Field>,
 ) -> Result<(), Refusal<TypeFault>>
     ensures passes { Passes (after_arguments (view_around around.now) (view_arguments given.now) []
-        (view_params params.now) (view_vars vars.old.items)) (view_vars vars.old.items) result }
+        (view_params callee.now.template.now.params) (view_vars vars.old.items)) (view_vars vars.old.items) result }
     ensures unchanged { OnOk result (vars.new.items ≡ vars.old.items) }
 {
     let mut before = Names::new(alloc);
     for argument in given {
         let span = argument.span;
-        let param = named_param(alloc, &argument.name, span, &mut before, params)?;
+        let param = named_param(alloc, &argument.name, span, &mut before, callee)?;
         check_given(alloc, around, &argument.given, span, param, vars)?;
     }
     Ok(())

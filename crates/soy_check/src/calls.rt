@@ -1,24 +1,25 @@
 //! The demands on calls.
 
-ghost use Rattle.std.specs.Prelude.{◌≡◌, ◌∷◌, ◌==◌, OnOk, IfOk, option_map, slice_get};
+ghost use Rattle.std.specs.Prelude.{◌≡◌, ◌∷◌, ◌==◌, false, true, OnOk, IfOk, option_map, slice_get};
 ghost use Rattle.std.specs.List.{list_any};
 ghost use Rattle.std.specs.Str.{chars};
 ghost use Rattle.soy_base.specs.Characters.{full_stop};
 ghost use Rattle.soy_tree.specs.Bodies.{callee_params, handed, hands_on, named_param, names_given, param_demand};
-ghost use Rattle.soy_tree.specs.Bodies.{param_demands, param_of, unnamed_demand};
-ghost use Rattle.soy_tree.specs.Declarations.{is_among};
+ghost use Rattle.soy_tree.specs.Bodies.{param_demands, unnamed_demand};
 ghost use Rattle.soy_tree.specs.Templates.{called_name, param_type, template_of, visible};
 ghost use Rattle.soy_tree.specs.TypeOf.{variable_type};
 ghost use Rattle.soy_tree.specs.ViewNodes.{view_arguments};
 ghost use Rattle.soy_tree.specs.ViewTrees.{view_param, view_params};
 ghost use Rattle.soy_expr.specs.ViewScope.{view_vars};
 ghost use Rattle.soy_check.specs.Answers.{Answers, Passes};
+ghost use Rattle.soy_check.specs.Named.{required_in};
 ghost use Rattle.soy_check.specs.ViewAround.{view_all, view_around, view_declared};
 
 use crate::around::Around;
 use crate::commands::check_accepted;
 use crate::faults::misnamed;
 use crate::names::Names;
+use crate::names_given::NamesGiven;
 use crate::template::Declared;
 use crate::templates::joined_name;
 use crate::variables::{param_type, variable_of};
@@ -27,19 +28,20 @@ use soy_expr::TypeFault;
 use soy_tree::{Argument, Field, Param};
 use std::alloc::Global;
 
-/// The parameters of the template that a call means by a name.
+/// The template that a call means by a name.
 #[tactic(auto, using(crate::proofs::Refusals::kept))]
 pub(crate) fn callee_params<'a, 't>(
     alloc: Global,
     around: &Around<'_, 'a, 't>,
     name: &Text,
     span: Span,
-) -> Result<&'t [Param], Refusal<TypeFault>>
-    ensures { Answers (λ ps. view_params ps.now) (callee_params (view_around around.now) name.now span) result }
+) -> Result<&'a Declared<'t>, Refusal<TypeFault>>
+    ensures { Answers (λ d. view_params d.now.template.now.params)
+        (callee_params (view_around around.now) name.now span) result }
 {
     let full = called_name(alloc, around.namespace, name)?;
     match visible_template(around, &full) {
-        Some(declared) => Ok(declared.template.params.items()),
+        Some(declared) => Ok(declared),
         None => Err(misnamed(alloc, Code::Unknown, span, &full)),
     }
 }
@@ -72,23 +74,75 @@ fn declared_at<'a, 't>(all: &'a [Declared<'t>], at: usize) -> Option<&'a Declare
     all.get(at)
 }
 
-/// What the callee's parameters demand of a call.
-#[tactic(auto, using(crate::proofs::Refusals::refused_first))]
+/// What the callee's parameters demand of a call. Where it hands nothing on, those alone demand something that are
+/// required; the first of them that no param names is refused, so that no more are asked than there are params.
+#[tactic(auto, using(crate::proofs::Demanding::required_alone))]
 pub(crate) fn check_demands(
     alloc: Global,
     around: &Around,
     all: bool,
     given: &[Argument],
     span: Span,
-    params: &[Param],
+    callee: &Declared,
     vars: &[Field],
 ) -> Result<(), Refusal<TypeFault>>
     ensures { Passes (param_demands (view_around around.now) all (names_given (view_arguments given.now)) span
-        (view_params params.now) (view_vars vars.now)) (view_vars vars.now) result }
+        (view_params callee.now.template.now.params) (view_vars vars.now)) (view_vars vars.now) result }
+{
+    let names = NamesGiven::of(alloc, given)?;
+    if all {
+        check_each(
+            alloc,
+            around,
+            &names,
+            span,
+            callee.template.params.items(),
+            vars,
+        )
+    } else {
+        check_required(alloc, around, &names, span, callee, vars)
+    }
+}
+
+/// What the callee's parameters demand of a call that hands parameters on.
+#[tactic(auto, using(crate::proofs::Refusals::refused_first))]
+fn check_each(
+    alloc: Global,
+    around: &Around,
+    names: &NamesGiven,
+    span: Span,
+    params: &[Param],
+    vars: &[Field],
+) -> Result<(), Refusal<TypeFault>>
+    ensures { Passes (param_demands (view_around around.now) true
+        (names_given (view_arguments names.now.given.now)) span (view_params params.now) (view_vars vars.now))
+        (view_vars vars.now) result }
 {
     for param in params {
-        if !is_given(&param.name, given) {
-            check_unnamed(alloc, around, all, span, param, vars)?;
+        if !names.has(&param.name) {
+            check_unnamed(alloc, around, true, span, param, vars)?;
+        }
+    }
+    Ok(())
+}
+
+/// What the callee's required parameters demand of a call that hands nothing on.
+#[tactic(auto, using(crate::proofs::Refusals::refused_first))]
+fn check_required(
+    alloc: Global,
+    around: &Around,
+    names: &NamesGiven,
+    span: Span,
+    callee: &Declared,
+    vars: &[Field],
+) -> Result<(), Refusal<TypeFault>>
+    ensures { Passes (param_demands (view_around around.now) false
+        (names_given (view_arguments names.now.given.now)) span
+        (view_params (required_in callee.now.template.now.params)) (view_vars vars.now)) (view_vars vars.now) result }
+{
+    for param in callee.required.iter() {
+        if !names.has(&param.name) {
+            check_unnamed(alloc, around, false, span, param, vars)?;
         }
     }
     Ok(())
@@ -107,7 +161,7 @@ fn check_unnamed(
     ensures { Passes (unnamed_demand (view_around around.now) all span (view_param param.now) (view_vars vars.now))
         (view_vars vars.now) result }
 {
-    if all && param_of(&param.name, around.params).is_some() {
+    if all && around.own.find(&param.name).is_some() {
         return check_handed(alloc, span, param, vars);
     }
     if param.required {
@@ -157,30 +211,6 @@ fn is_full_stop(c: char) -> bool
     c == '.'
 }
 
-/// Whether a param names a parameter.
-fn is_given(name: &Text, given: &[Argument]) -> bool
-    ensures { result ≡ is_among name.now (names_given (view_arguments given.now)) }
-{
-    for argument in given {
-        if name.is(argument.name.text()) {
-            return true;
-        }
-    }
-    false
-}
-
-/// The first parameter of a name.
-fn param_of<'p>(name: &Text, params: &'p [Param]) -> Option<&'p Param>
-    ensures { option_map (λ p. view_param p.now) result ≡ param_of name.now (view_params params.now) }
-{
-    for param in params {
-        if param.name.is(name.text()) {
-            return Some(param);
-        }
-    }
-    None
-}
-
 /// The callee's parameter that a param names, given once, after params of these names, to which its own is added.
 #[tactic(auto, using(crate::proofs::Refusals::kept))]
 pub(crate) fn named_param<'b, 'p>(
@@ -188,15 +218,16 @@ pub(crate) fn named_param<'b, 'p>(
     name: &'b Text,
     span: Span,
     before: &mut Names<'b>,
-    params: &'p [Param],
+    callee: &Declared<'p>,
 ) -> Result<&'p Param, Refusal<TypeFault>>
-    ensures param { Answers (λ p. view_param p.now) (named_param name.now span before.old (view_params params.now)) result }
+    ensures param { Answers (λ p. view_param p.now)
+        (named_param name.now span before.old (view_params callee.now.template.now.params)) result }
     ensures names { OnOk result (before.new ≡ name.now ∷ before.old) }
 {
     if !before.insert(name)? {
         return Err(misnamed(alloc, Code::Twice, span, name));
     }
-    match param_of(name, params) {
+    match callee.find(name) {
         Some(param) => Ok(param),
         None => Err(misnamed(alloc, Code::Argument, span, name)),
     }

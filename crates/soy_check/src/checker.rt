@@ -134,7 +134,7 @@ fn check_body<'n, 'a, 't>(
         declared: all,
         names,
         namespace: declared.namespace,
-        params,
+        own: declared,
     };
     let mut vars = param_variables(alloc, params)?;
     check_nodes(alloc, &around, body, &mut vars)

@@ -15,6 +15,7 @@ mod commands;
 mod declarations;
 mod faults;
 mod names;
+mod names_given;
 mod narrowing;
 mod template;
 mod templates;

@@ -46,6 +46,13 @@ impl<'a> Names<'a> {
         Ok(self.names.insert(name.text())?)
     }
 
+    /// Whether the name is among the names.
+    pub(crate) fn has(&self, name: &Text) -> bool
+        ensures { result ≡ is_among name.now self.now }
+    {
+        self.names.contains(name.text())
+    }
+
     /// Where the name stands among the names, counted from the first one.
     pub(crate) fn position(&self, name: &Text) -> Option<usize>
         ensures { result ≡ position (bytes_eq name.now) (reverse self.now) }

@@ -1,17 +1,70 @@
-//! A template among those of all files.
+//! A template among those of all files, with its parameters by name.
 
-ghost use Rattle.std.specs.Prelude.{◌≡◌};
+ghost use Rattle.std.specs.Prelude.{◌≡◌, IfOk, option_map};
+ghost use Rattle.soy_tree.specs.Bodies.{param_of};
 ghost use Rattle.soy_tree.specs.Templates.{joined_name};
+ghost use Rattle.soy_tree.specs.ViewTrees.{view_param, view_params};
+ghost use Rattle.soy_check.specs.Named.{FindsParams, in_row, required_in};
 
-use soy_base::Text;
-use soy_tree::Template;
+use indexmap::IndexMap;
+use soy_base::{OutOfMemory, Text};
+use soy_tree::{Param, Template};
+use std::alloc::Global;
 
-/// A template, with the number of its file, its namespace and its full name.
+/// A template, with the number of its file, its namespace and its full name; its parameters that are required, and its
+/// parameters by their names.
 #[derive(Drop)]
 pub(crate) struct Declared<'a> {
     pub(crate) file: u32,
     pub(crate) namespace: &'a Text,
     pub(crate) template: &'a Template,
     pub(crate) full: Text,
+    pub(crate) required: Vec<&'a Param>,
+    pub(crate) first: IndexMap<&'a str, &'a Param>,
     ghost named: { full ≡ joined_name namespace.now template.now.name },
+    ghost needed: { in_row required.items ≡ required_in template.now.params },
+    ghost found: { FindsParams first.entries template.now.params },
+}
+
+impl<'a> Declared<'a> {
+    /// The first parameter of a name, found without a walk over them.
+    pub(crate) fn find(&self, name: &Text) -> Option<&'a Param>
+        ensures { option_map (λ p. view_param p.now) result
+            ≡ param_of name.now (view_params self.now.template.now.params) }
+    {
+        self.first.get(name.text()).copied()
+    }
+}
+
+/// The parameters that are required.
+pub(crate) fn required_in<'t>(
+    alloc: Global,
+    params: &'t [Param],
+) -> Result<Vec<&'t Param>, OutOfMemory>
+    ensures { IfOk result (λ required. in_row required.items ≡ required_in params.now) }
+{
+    let mut required = Vec::new(alloc);
+    for param in params {
+        if param.required {
+            required.push(param)?;
+        }
+    }
+    Ok(required)
+}
+
+/// The first parameter of each name. The last one goes in first, so that an earlier one of its name takes its place.
+pub(crate) fn first_of_names<'t>(
+    alloc: Global,
+    params: &'t [Param],
+) -> Result<IndexMap<&'t str, &'t Param>, OutOfMemory>
+    ensures { IfOk result (λ first. FindsParams first.entries params.now) }
+{
+    let mut first = IndexMap::new(alloc);
+    let mut left = params.len();
+    while left > 0 {
+        left -= 1;
+        let param = &params[left];
+        first.insert(param.name.text(), param)?;
+    }
+    Ok(first)
 }

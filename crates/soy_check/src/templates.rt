@@ -5,7 +5,7 @@ ghost use Rattle.soy_tree.specs.Templates.{declared, declared_in, joined_name};
 ghost use Rattle.soy_tree.specs.ViewTrees.{view_template, view_trees};
 ghost use Rattle.soy_check.specs.ViewAround.{view_all};
 
-use crate::template::Declared;
+use crate::template::{Declared, first_of_names, required_in};
 use soy_base::{OutOfMemory, Text, push_char, push_text};
 use soy_tree::Tree;
 use std::alloc::Global;
@@ -38,11 +38,16 @@ fn add_templates<'a>(
     let namespace = &tree.namespace;
     for template in tree.templates.items() {
         let full = joined_name(alloc, namespace, &template.name)?;
+        let params = template.params.items();
+        let required = required_in(alloc, params)?;
+        let first = first_of_names(alloc, params)?;
         all.push(Declared {
             file,
             namespace,
             template,
             full,
+            required,
+            first,
         })?;
     }
     Ok(())

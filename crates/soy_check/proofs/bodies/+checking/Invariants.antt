@@ -36,9 +36,10 @@ invariant-check_cases-loop-case l =
 
 abbrev pub invariant-check_arguments-loop-argument : goal.invariant-check_arguments-loop-argument
 invariant-check_arguments-loop-argument l =
-    let around = view_around l.around in record {
-      left : after_arguments around (view_arguments l.given) [] (view_params l.params) (view_vars l.initial.vars.items)
-          ≡ after_arguments around (view_arguments (drop l.argument-index l.given)) l.before (view_params l.params)
+    let around = view_around l.around in
+    let params = view_params l.callee.template.now.params in record {
+      left : after_arguments around (view_arguments l.given) [] params (view_vars l.initial.vars.items)
+          ≡ after_arguments around (view_arguments (drop l.argument-index l.given)) l.before params
           (view_vars l.initial.vars.items);
       same : l.vars.items ≡ l.initial.vars.items;
     }

@@ -1,7 +1,8 @@
-use Rattle.std.specs.Prelude.{List}
+use Rattle.std.proofs.Common.{◌∙◌, List, ap, refl}
 use Rattle.soy_tree.specs.declared.node.Node as code_node
 use Rattle.soy_tree.specs.declared.tree.Param as code_param
 use Rattle.soy_tree.specs.Bodies.{Around, Checked, after_nodes}
+use Rattle.soy_tree.specs.Templates.{param_scope}
 use Rattle.soy_tree.specs.TypeOf.{Scope}
 use Rattle.soy_tree.specs.ViewNodes.{view_nodes}
 use Rattle.soy_tree.specs.ViewTrees.{view_params}
@@ -20,6 +21,7 @@ wanted all d params nodes scope =
 pub returns : goal.returns
 returns c =
     let d = c.args.declared.now in
-    body_finds (wanted c.args.all.now d) c.items-params.result.now d.template.now.params c.items-body.result.now
-    d.template.now.body (view_vars c.in_ok-vars.vars.items) c.check_nodes.result c.items-params.ensures
-    c.items-body.ensures c.in_ok-vars.ensures c.check_nodes.ensures.ends
+    body_finds (wanted c.args.all.now d) d.template.now.params d.template.now.params c.items-body.result.now
+    d.template.now.body (view_vars c.in_ok-vars.vars.items) c.check_nodes.result refl c.items-body.ensures
+    (c.in_ok-vars.ensures ∙ ap (λ (ps : List code_param.Param). param_scope (view_params ps)) c.items-params.ensures)
+    c.check_nodes.ensures.ends

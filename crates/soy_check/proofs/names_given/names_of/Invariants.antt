@@ -1,0 +1,12 @@
+use Rattle.std.proofs.Common.{◌≡◌, ◌||◌, drop}
+use Rattle.soy_tree.specs.Bodies.{names_given}
+use Rattle.soy_tree.specs.Declarations.{is_among}
+use Rattle.soy_tree.specs.Types.{Name}
+use Rattle.soy_tree.specs.ViewNodes.{view_arguments}
+use Rattle.soy_check.proofs.names_given.names_of.Given as goal
+
+abbrev pub invariant-loop-argument : goal.invariant-loop-argument
+invariant-loop-argument l =
+    (name : Name)
+    → (is_among name l.names || is_among name (names_given (view_arguments (drop l.argument-index l.given))))
+    ≡ is_among name (names_given (view_arguments l.given))
