@@ -12,7 +12,7 @@
 -- answer is the summary of the page. A `preview` asks for all that a `render` asks for, its template being of kind html.
 -- What the program doesn't do yet is refused, which is the rest of a `preview` and every other command.
 -- Example: the words `render t.zz d.json - t.soy` with a file of t.m are refused by `t.zz: 29 Entry`.
-use Rattle.std.specs.Prelude.{ℕ, List, [], ◌∷◌, length, Option, None, Some, option_map, option_and_then, slice_get}
+use Rattle.std.specs.Prelude.{ℕ, List, [], length, Option, None, Some, option_map, option_and_then, slice_get}
 use Rattle.std.specs.Prelude.{codes, String, Result, Ok, Err, encode_utf8_all}
 use Rattle.std.specs.Option.{option_map_or}
 use Rattle.std.specs.Str.{chars}
