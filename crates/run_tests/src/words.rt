@@ -5,6 +5,8 @@ use soy_top::Status;
 
 const FILE: &str = "{namespace t}\n{template m}\n{@param x: string}\n<b>{$x}</b>\n{/template}\n";
 
+const TEXT: &str = "{namespace t}\n{template m kind=\"text\"}\na\n{/template}\n";
+
 const JSON: &str = "{\"x\":\"<i>\"}";
 
 const USAGE: &str = "usage: soyc render TEMPLATE DATA BUNDLE FILE..\n\
@@ -137,6 +139,89 @@ const WORDS: &[Row] = &[
         Status::Refused,
         "",
         "preview: 30 NotYet\n",
+    ),
+    (
+        "preview of a template of the second file",
+        "preview u.m d.json - t.soy u.soy",
+        &[
+            ("t.soy", TEXT),
+            ("u.soy", "{namespace u}\n{template m}\na\n{/template}\n"),
+            ("d.json", "{}"),
+        ],
+        Status::Refused,
+        "",
+        "preview: 30 NotYet\n",
+    ),
+    (
+        "preview of a template of kind text",
+        "preview t.m d.json - t.soy",
+        &[("t.soy", TEXT), ("d.json", "{}")],
+        Status::Refused,
+        "",
+        "t.m: 29 Entry\n",
+    ),
+    (
+        "preview of a template of kind attributes",
+        "preview t.m d.json - t.soy",
+        &[
+            (
+                "t.soy",
+                "{namespace t}\n{template m kind=\"attributes\"}\na=\"b\"\n{/template}\n",
+            ),
+            ("d.json", "{}"),
+        ],
+        Status::Refused,
+        "",
+        "t.m: 29 Entry\n",
+    ),
+    (
+        "preview of a private template",
+        "preview t.m d.json - t.soy",
+        &[
+            (
+                "t.soy",
+                "{namespace t}\n{template m visibility=\"private\"}\na\n{/template}\n",
+            ),
+            ("d.json", "{}"),
+        ],
+        Status::Refused,
+        "",
+        "t.m: 29 Entry\n",
+    ),
+    (
+        "preview of a file with a fault, and of no template",
+        "preview t.zz d.json - t.soy",
+        &[
+            ("t.soy", "{namespace t}\n{template m}\n\n<b\n{/template}\n"),
+            ("d.json", "{}"),
+        ],
+        Status::Refused,
+        "",
+        "t.soy:5:1: 13 EndState\n",
+    ),
+    (
+        "preview of a template of kind text with data that are no JSON",
+        "preview t.m d.json - t.soy",
+        &[("t.soy", TEXT), ("d.json", "{")],
+        Status::Refused,
+        "",
+        "t.m: 29 Entry\n",
+    ),
+    (
+        "preview with data that are no JSON",
+        "preview t.m d.json - t.soy",
+        &[("t.soy", FILE), ("d.json", "{")],
+        Status::Refused,
+        "",
+        "d.json:: 27 Data\n",
+    ),
+    (
+        "preview with data of another type",
+        "preview t.m d.json - t.soy",
+        &[("t.soy", FILE), ("d.json", "{\"x\":1}")],
+        Status::Refused,
+        "",
+        "d.json:/x: 28 DataType\n",
     ),
     (
         "a bundle that is there",

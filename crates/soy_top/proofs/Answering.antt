@@ -1,9 +1,8 @@
 -- What is known of the answer from what the words ask for and from what was fetched.
-use Rattle.std.proofs.Common.{◌≡◌, ℕ, Bool, true, false, cond, List, [], ◌∷◌, Option, Some, None, Err, Vec, length}
+use Rattle.std.proofs.Common.{◌≡◌, ℕ, List, [], ◌∷◌, Option, Some, None, Err, length}
 use Rattle.std.proofs.Common.{refl, sym, ap, subst, ◌∙◌, codes, inl, inr, ◌⊎◌}
 use Rattle.std.specs.Prelude.{IfSome, Result, Ok, option_map}
 use Rattle.std.specs.Option.{option_map_or}
-use Rattle.std.specs.Str.{bytes_eq}
 use Rattle.soy_base.specs.declared.code.Code.{Code}
 use Rattle.soy_base.specs.declared.fault.Fault.{Fault}
 use Rattle.soy_base.specs.declared.path.PathStep.{PathStep}
@@ -16,11 +15,9 @@ use Rattle.soy_front.specs.FilesAnswer.{ReadFiles, files_answer}
 use Rattle.soy_front.specs.FrontAnswer.{Front, IsFront, front_answer}
 use Rattle.soy_front.proofs.FrontAnswers.{fault_answered}
 use Rattle.soy_front.specs.Sources.{source_answer}
-use Rattle.soy_front.specs.ViewSources.{view_contents}
 use Rattle.soy_front.specs.declared.accepting.AcceptedFiles.{AcceptedFiles}
 use Rattle.soy_front.specs.declared.compiling.Compiled.{Compiled}
 use Rattle.soy_front.specs.declared.fault.FrontFault.{FrontFault}
-use Rattle.soy_front.specs.declared.source.Source.{Source}
 use Rattle.soy_io.specs.FileOf.{Files}
 use Rattle.soy_io.specs.Rose.{Rose}
 use Rattle.soy_meaning.specs.Outcome.{RunEnd, StopsAt, WholeRun, end_of_outcome}
@@ -31,7 +28,7 @@ use Rattle.soy_top.specs.declared.page.Page.{Page}
 use Rattle.soy_top.specs.Accepts.{Accepts, AcceptsPage, Refuses}
 use Rattle.soy_top.specs.Answer.{Answer, Usage, Read, Refused, Done, not_yet, data_answer, ended_page, entry_answer}
 use Rattle.soy_top.specs.Answer.{PageAnswer, bundled_answer, entry_of, render_answer, run_text, summed_page}
-use Rattle.soy_top.specs.Answer.{template_outcome, workload_answer}
+use Rattle.soy_top.specs.Answer.{preview_answer, shown_of, template_outcome, unseen_page, workload_answer}
 use Rattle.soy_top.specs.Answer.{contents_answer, limits_answer, asked_answer, answer, known_answer}
 use Rattle.soy_top.specs.Answer.{accepted_text, accepted_then, catalogue_answer, inputs_answer, read_then}
 use Rattle.soy_top.specs.Answer.{front_line, tree_answer, unless_faulty, unless_refused}
@@ -111,6 +108,15 @@ pages_same names files page json_name bundle template template_seen json json_se
     (subst (λ x. Accepts (accepted_then names files bundle content (render_answer page x json_name json)) r) is_template
     h))
 
+-- what is answered by files, a bundle and data, where the content of the bundle and the data go by other names
+pub contents_same : (names : List Word) (files : List (List ℕ)) (bundle : Word) (answer : List ℕ → Front → Answer)
+    (json json_seen : List ℕ) (content content_seen : Option (List ℕ)) (r : Result Output Ending) → json ≡ json_seen
+    → content ≡ content_seen → Accepts (accepted_then names files bundle content (answer json)) r
+    → Accepts (accepted_then names files bundle content_seen (answer json_seen)) r
+contents_same names files bundle answer json json_seen content content_seen r is_json is_content h =
+    subst (λ x. Accepts (accepted_then names files bundle x (answer json_seen)) r) is_content
+    (subst (λ x. Accepts (accepted_then names files bundle content (answer x)) r) is_json h)
+
 -- what is answered by files that are read
 pub read_answered : (names : List Word) (files : List (List ℕ)) (answer : ReadFiles → Answer) (read : ReadFiles)
     (r : Result Output Ending) → files_answer files ≡ Ok read → Accepts (answer read) r
@@ -180,9 +186,10 @@ inputs_not_usage (Play script first second names) before files e =
     then_not_usage names files first _ (front_answer files (bundle_content first 1 before))
     (λ of. then_not_usage names files second (λ other. not_yet (codes "play"))
     (front_answer files (bundle_content second (second_number first) before)) (λ other u. cc)) e
-inputs_not_usage (Preview template json bundle names) before files e =
-    then_not_usage names files bundle (λ of. not_yet (codes "preview"))
-    (front_answer files (bundle_content bundle 1 before)) (λ of u. cc) e
+inputs_not_usage (Preview template json_name bundle names) before files e =
+    then_not_usage names files bundle (preview_answer unseen_page template json_name (numbered 0 before))
+    (front_answer files (bundle_content bundle 1 before)) (λ of. entry_not_usage unseen_page (λ text end u. cc)
+    template json_name (numbered 0 before) of (shown_of of template)) e
 inputs_not_usage (Format name) before files e =
     tree_not_usage name (numbered 0 before) (source_answer (numbered 0 before)) e
 

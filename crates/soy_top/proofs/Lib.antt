@@ -9,6 +9,7 @@ pub mod Numbers
 pub mod Pages
 pub mod PastEnd
 pub mod Pulling
+pub mod ShownNumbers
 pub mod SpelledWords
 pub mod Sums
 pub mod Texts

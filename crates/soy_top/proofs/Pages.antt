@@ -1,5 +1,5 @@
 -- What is answered by the page of a program is the answer to a `render` of the files that it was compiled of.
-use Rattle.std.proofs.Common.{◌≡◌, ℕ, List, [], ◌∷◌, Option, Some, None, refl, sym, subst, ap, ◌∙◌}
+use Rattle.std.proofs.Common.{◌≡◌, ℕ, List, Option, Some, None, refl, sym, subst, ap, ◌∙◌}
 use Rattle.std.specs.Prelude.{Result, Ok, Err, encode_utf8_all, option_and_then, slice_get}
 use Rattle.std.specs.List.{position}
 use Rattle.std.specs.Str.{chars}
@@ -9,21 +9,24 @@ use Rattle.soy_base.specs.declared.path.PathStep.{PathStep}
 use Rattle.soy_front.specs.Compiled.{AreCompiled}
 use Rattle.soy_front.specs.Entries.{entry_number, is_entry_routine}
 use Rattle.soy_front.specs.FilesAnswer.{ReadFiles}
+use Rattle.soy_front.specs.FrontAnswer.{Front}
 use Rattle.soy_front.specs.ViewSources.{view_contents}
 use Rattle.soy_front.specs.declared.compiling.Compiled.{Compiled}
 use Rattle.soy_front.proofs.DataFits.{data_fits, params_are}
 use Rattle.soy_front.proofs.EntryNumbers.{entry_declared}
 use Rattle.soy_meaning.specs.Meaning.{joined_pieces}
-use Rattle.soy_meaning.specs.Outcome.{Outcome, RunEnd, StopsAt, WholeRun, end_of_outcome, pieces_of_outcome}
+use Rattle.soy_meaning.specs.Outcome.{Outcome, RunEnd, StopsAt, WholeRun, end_of_outcome}
 use Rattle.soy_meaning.specs.Pieces.{template_run}
-use Rattle.soy_top.specs.Accepts.{AcceptsPage}
-use Rattle.soy_top.specs.Answer.{Answer, PageAnswer, Refused, data_answer, ended_page, entry_answer, page_answer}
-use Rattle.soy_top.specs.Answer.{render_answer, run_text, template_outcome}
+use Rattle.soy_top.specs.Accepts.{AcceptsPage, IsNumbered}
+use Rattle.soy_top.specs.Answer.{Answer, PageAnswer, Refused, data_answer, ended_page, entry_answer, entry_of}
+use Rattle.soy_top.specs.Answer.{page_answer, run_text, shown_of, template_outcome}
 use Rattle.soy_top.specs.declared.page.Page.{Page}
 use Rattle.soy_top.specs.Line.{entry_line}
 use Rattle.soy_top.specs.Output.{ended_answer, output_answer}
+use Rattle.soy_top.specs.Shown.{is_shown_routine, shown_number}
 use Rattle.soy_top.specs.ViewOutput.{page_run, view_end, view_page}
 use Rattle.soy_top.specs.Words.{Word, command_words}
+use Rattle.soy_top.proofs.ShownNumbers.{shown_declared, shown_same}
 use Rattle.soy_tree.specs.ShortLists.{HasShortLists}
 use Rattle.soy_tree.specs.Templates.{Declared, declared}
 use Rattle.soy_tree.specs.Typed.{AreTyped, params_at, templates_of}
@@ -59,38 +62,76 @@ page_same page o p same =
     ap (λ ps. page (encode_utf8_all (joined_pieces ps)) (end_of_outcome o)) (ap (λ t. t.0) same)
     ∙ ap (λ e. page (run_text p) e) (ap (λ t. t.1) same)
 
+-- the template of a number that is there
+is_numbered : (ds : List Declared) (o : Option ℕ)
+    → ((number : ℕ) → o ≡ Some number → (d : Declared) × (slice_get ds number ≡ Some d))
+    → IsNumbered ds o (option_and_then (slice_get ds) o)
+is_numbered ds None there = tt
+is_numbered ds (Some number) there =
+    let found = there number refl in subst (λ x. IsNumbered ds (Some number) x) (sym found.1) found.1
+
+module _ (ds : List Declared) (of : Front) (template json_name : Word) (json : List ℕ) where
+  -- where there is a number, the answer by its template is that by the data
+  found_by : (P : (PageAnswer → Answer) → Type 0) (number : ℕ) (o : Option Declared) → IsNumbered ds (Some number) o
+      → ((d : Declared) → slice_get ds number ≡ Some d
+      → P (λ page. data_answer page json_name of d (data_at d.template.params json)))
+      → P (λ page. entry_answer page template json_name json of o)
+  found_by P number None numbered h = absurd numbered
+  found_by P number (Some d) numbered h = h d numbered
+
+  pub numbered_found : (P : (PageAnswer → Answer) → Type 0) (entry : Option ℕ) (number : ℕ) (o : Option Declared)
+      → entry ≡ Some number → IsNumbered ds entry o
+      → ((d : Declared) → slice_get ds number ≡ Some d
+      → P (λ page. data_answer page json_name of d (data_at d.template.params json)))
+      → P (λ page. entry_answer page template json_name json of o)
+  numbered_found P entry number o is numbered h =
+      found_by P number o (subst (λ e. IsNumbered ds e o) is numbered) h
+
+  -- where there is none, that is the answer
+  missing_by : (page : PageAnswer) (o : Option Declared) → IsNumbered ds None o
+      → entry_answer page template json_name json of o ≡ Refused (entry_line template)
+  missing_by page None numbered = refl
+  missing_by page (Some d) numbered = absurd numbered
+
+  pub numbered_missing : (page : PageAnswer) (entry : Option ℕ) (o : Option Declared) → entry ≡ None
+      → IsNumbered ds entry o → entry_answer page template json_name json of o ≡ Refused (entry_line template)
+  numbered_missing page entry o is numbered = missing_by page o (subst (λ e. IsNumbered ds e o) is numbered)
+
 module _ (contents : List (List ℕ)) (content : Option (List ℕ)) (c : Compiled)
     (are : AreCompiled contents content c) where
   same_templates : declared (view_trees are.of.files.trees) ≡ declared (view_trees c.typed)
   same_templates = ap (λ (f : ReadFiles). declared (view_trees f.trees)) are.files
 
-  -- the template of a name
-  entry_is : (name : List ℕ) (o : Option ℕ) → o ≡ position (is_entry_routine name) c.program.templates
-      → option_and_then (slice_get (declared (view_trees are.of.files.trees)))
-      (entry_number name (declared (view_trees are.of.files.trees)))
-      ≡ option_and_then (slice_get (declared (view_trees c.typed))) o
-  entry_is name o is =
-      ap (λ ds. option_and_then (slice_get ds) (entry_number name ds)) same_templates
-      ∙ ap (option_and_then (slice_get (declared (view_trees c.typed)))) (sym (is ∙ are.entries name))
+  -- the template of a number that is found in the trees, and so is there
+  found_numbered : (find : List Declared → Option ℕ)
+      → ((ds : List Declared) (number : ℕ) → find ds ≡ Some number → (d : Declared) × (slice_get ds number ≡ Some d))
+      → (o : Option ℕ) → o ≡ find (declared (view_trees c.typed))
+      → IsNumbered (declared (view_trees c.typed)) o
+      (option_and_then (slice_get (declared (view_trees are.of.files.trees)))
+      (find (declared (view_trees are.of.files.trees))))
+  found_numbered find there o is =
+      let ds : List Declared = declared (view_trees c.typed) in
+      let same = ap (λ xs. option_and_then (slice_get xs) (find xs)) same_templates
+      ∙ ap (option_and_then (slice_get ds)) (sym is) in
+      subst (λ x. IsNumbered ds o x) (sym same)
+      (is_numbered ds o (λ number found. there ds number (sym is ∙ found)))
 
-  module _ (template json_name : Word) (json : List ℕ) where
-    -- where it is found, the answer is that by the data
-    pub entry_found : (P : (PageAnswer → Answer) → Type 0) (number : ℕ)
-        → Some number ≡ position (is_entry_routine (chars template)) c.program.templates
-        → ((d : Declared) → slice_get (declared (view_trees c.typed)) number ≡ Some d
-        → P (λ page. data_answer page json_name are.of d (data_at d.template.params json)))
-        → P (λ page. render_answer page template json_name json are.of)
-    entry_found P number is h =
-        let ds : List Declared = declared (view_trees c.typed) in
-        let there = entry_declared (chars template) ds number (sym (is ∙ are.entries (chars template))) in
-        let of_name = entry_is (chars template) (Some number) is ∙ there.1 in
-        subst P (ap (λ o page. entry_answer page template json_name json are.of o) (sym of_name)) (h there.0 there.1)
+  -- the template that may be rendered under a name is that of the number
+  pub entry_numbered : (template : Word) (o : Option ℕ)
+      → o ≡ position (is_entry_routine (chars template)) c.program.templates
+      → IsNumbered (declared (view_trees c.typed)) o (entry_of are.of template)
+  entry_numbered template o is =
+      found_numbered (entry_number (chars template)) (entry_declared (chars template)) o
+      (is ∙ are.entries (chars template))
 
-    -- where there is none, that is the answer
-    pub entry_missing : (page : PageAnswer) → None ≡ position (is_entry_routine (chars template)) c.program.templates
-        → render_answer page template json_name json are.of ≡ Refused (entry_line template)
-    entry_missing page is =
-        ap (entry_answer page template json_name json are.of) (entry_is (chars template) None is)
+  -- so is the one that may be previewed
+  pub shown_numbered : (template : Word) (o : Option ℕ)
+      → o ≡ position (is_shown_routine (chars template)) c.program.templates
+      → IsNumbered (declared (view_trees c.typed)) o (shown_of are.of template)
+  shown_numbered template o is =
+      found_numbered (shown_number (chars template)) (shown_declared (chars template)) o
+      (is ∙ shown_same (language_of are.of.language) (declared (view_trees c.typed)) are.places
+      (view_program c.program).ops (chars template) c.program.templates are.compiles.templates)
 
   module _ (json_name : Word) (json : List ℕ) (number : ℕ) (d : Declared)
       (found : slice_get (declared (view_trees c.typed)) number ≡ Some d) where

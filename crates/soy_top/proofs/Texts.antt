@@ -1,16 +1,14 @@
 -- Where the answer is a text, the words and the files are those of a page, of a catalogue or of files that are
 -- accepted, or the words are those of a workload.
-use Rattle.std.proofs.Common.{◌≡◌, ℕ, zero, suc, Bool, true, false, cond, ◌-◌, List, [], ◌∷◌, ◌++◌, ◌+◌, length, drop, take}
-use Rattle.std.proofs.Common.{length-append, map, Option, Some, None, refl, sym, ap, subst, ◌∙◌, arith, codes}
+use Rattle.std.proofs.Common.{◌≡◌, ℕ, zero, suc, Bool, true, false, cond, ◌-◌, List, [], ◌∷◌, ◌++◌, length, drop, take}
+use Rattle.std.proofs.Common.{length-append, map, Option, Some, None, refl, sym, ap, ◌∙◌, arith, codes}
 use Rattle.std.proofs.lemmas.List.{length-map}
-use Rattle.std.specs.Prelude.{option_and_then, unwrap_or, is_some, Result, Ok, Err}
+use Rattle.std.specs.Prelude.{unwrap_or, is_some, Result, Ok, Err}
 use Rattle.std.specs.Option.{option_map_or}
-use Rattle.std.specs.Str.{bytes_eq}
 use Rattle.std.proofs.lemmas.Slice.Eq.{bytes_eq-Decides}
 use Rattle.soy_base.specs.declared.code.Code.{Code}
 use Rattle.soy_base.specs.declared.fault.Fault.{Fault}
 use Rattle.soy_base.specs.declared.path.PathStep.{PathStep}
-use Rattle.soy_front.specs.Accepted.{Accepted}
 use Rattle.soy_front.specs.FilesAnswer.{ReadFiles, files_answer}
 use Rattle.soy_front.specs.FrontAnswer.{Front, front_answer}
 use Rattle.soy_front.specs.declared.fault.FrontFault.{FrontFault}
@@ -28,9 +26,9 @@ use Rattle.soy_top.specs.Answer.{PageAnswer, page_answer, render_answer, run_tex
 use Rattle.soy_top.specs.Answer.{contents_answer, asked_answer, limits_answer, answer, not_yet}
 use Rattle.soy_top.specs.Answer.{accepted_text, accepted_then, catalogue_answer, catalogue_text, read_then}
 use Rattle.soy_top.specs.Answer.{bundled_answer, inputs_answer, summed_page, tree_answer, unless_faulty, unless_refused}
-use Rattle.soy_top.specs.Answer.{workload_answer}
+use Rattle.soy_top.specs.Answer.{preview_answer, shown_of, unseen_page, workload_answer}
 use Rattle.soy_top.specs.Asked.{Asked, Render, Check, Extract, Gen, Play, Preview, Format, asked_by_words}
-use Rattle.soy_top.specs.FilesWanted.{FileWanted, data_file, source_file, bundle_files, render_files, asked_files}
+use Rattle.soy_top.specs.FilesWanted.{FileWanted, data_file, source_file, bundle_files, asked_files}
 use Rattle.soy_top.specs.FilesWanted.{first_not_held, first_over_limit, content, contents, is_source_language}
 use Rattle.soy_top.specs.Generated.{workload_entry, workload_files, workload_json, workload_names}
 use Rattle.soy_top.specs.Inputs.{bundle_content, but_last, last, second_number}
@@ -350,9 +348,12 @@ play_no_text script first second names given read text h =
 preview_no_text : (template json_name bundle : Word) (names : List Word) (given read : List (List ℕ)) (text : List ℕ)
     → inputs_answer (Preview template json_name bundle names) given read ≡ Done text → ⊥
 preview_no_text template json_name bundle names given read text h =
-    let t = then_text names read bundle (λ of. not_yet (codes "preview"))
+    let json : List ℕ = numbered 0 given in
+    let t = then_text names read bundle (preview_answer unseen_page template json_name json)
     (front_answer read (bundle_content bundle 1 given)) text h in
-    let e : not_yet (codes "preview") ≡ Done text = t.2 in cc
+    let e = entry_text unseen_page template json_name json t.0 (shown_of t.0 template) text t.2 in
+    let v = data_text unseen_page json_name t.0 e.0 (data_at e.0.template.params json) text e.2 in
+    let refused : not_yet (codes "preview") ≡ Done text = v.2 in cc
 
 asked_text : (files : Files) (words : List Word) (asked : Asked) (text : List ℕ) → IsSpelled words asked
     → first_not_held files (asked_files asked) ≡ None

@@ -1,7 +1,7 @@
 -- What is said of inputs that were fetched: they are an output, or they are refused.
 --
 -- Example: data without a value for a parameter are refused.
-use Rattle.std.specs.Prelude.{◌≡◌, ℕ, List, Option, Result, Ok, Err}
+use Rattle.std.specs.Prelude.{◌≡◌, ℕ, List, Option, Some, None, Result, Ok, Err, slice_get}
 use Rattle.std.specs.String.{string_bytes}
 use Rattle.soy_front.specs.Compiled.{AreCompiled}
 use Rattle.soy_front.specs.FilesAnswer.{ReadFiles, files_answer}
@@ -19,6 +19,7 @@ use Rattle.soy_top.specs.Line.{ended}
 use Rattle.soy_top.specs.Output.{output_answer}
 use Rattle.soy_top.specs.ViewOutput.{page_run, view_output}
 use Rattle.soy_top.specs.Words.{Word}
+use Rattle.soy_tree.specs.Templates.{Declared}
 
 -- the ending is the refusal that the answer is, or out of memory
 abbrev pub Refuses : Answer → Ending → Type 0
@@ -53,3 +54,9 @@ AcceptsFiles names files (Err ending) = (answer : ReadFiles → Answer) → Refu
 abbrev pub AcceptsPage : (PageAnswer → Answer) → Result Page Ending → Type 0
 AcceptsPage answer (Ok accepted) = (page : PageAnswer) → answer page ≡ page_answer page (page_run accepted)
 AcceptsPage answer (Err ending) = (page : PageAnswer) → Refuses (answer page) ending
+
+-- the template of a number, if there is one
+abbrev pub IsNumbered : List Declared → Option ℕ → Option Declared → Type 0
+IsNumbered ds None None = Unit {0}
+IsNumbered ds (Some number) (Some d) = slice_get ds number ≡ Some d
+IsNumbered ds _ _ = ⊥

@@ -9,9 +9,10 @@
 -- parameters (27, 28); the answer is the bytes of the pieces that the template gives under them. Where these stop at a
 -- call that nests too deep, it is those up to the call, with the call's line. A `gen` asks for the faults of the source
 -- that it makes, and then, under the bundle that it makes of its catalogue, for all that a `render` asks for; the
--- answer is the summary of the page. What the program doesn't do yet is refused, which is every other command.
+-- answer is the summary of the page. A `preview` asks for all that a `render` asks for, its template being of kind html.
+-- What the program doesn't do yet is refused, which is the rest of a `preview` and every other command.
 -- Example: the words `render t.zz d.json - t.soy` with a file of t.m are refused by `t.zz: 29 Entry`.
-use Rattle.std.specs.Prelude.{ℕ, List, [], ◌∷◌, length, Option, None, Some, option_map, option_and_then, slice_get}
+use Rattle.std.specs.Prelude.{ℕ, List, [], length, Option, None, Some, option_map, option_and_then, slice_get}
 use Rattle.std.specs.Prelude.{codes, String, Result, Ok, Err, encode_utf8_all}
 use Rattle.std.specs.Option.{option_map_or}
 use Rattle.std.specs.Str.{chars}
@@ -45,6 +46,7 @@ use Rattle.soy_top.specs.Line.{not_yet_line, too_large_line, entry_line, fault_l
 use Rattle.soy_top.specs.MadeBundle.{bundle_text}
 use Rattle.soy_top.specs.Numbered.{numbered, numbered_line}
 use Rattle.soy_top.specs.Pointer.{pointer_line}
+use Rattle.soy_top.specs.Shown.{shown_number}
 use Rattle.soy_top.specs.Summary.{summary}
 use Rattle.soy_top.specs.Words.{Word, command_words}
 use Rattle.soy_tree.specs.Templates.{Declared, declared}
@@ -124,6 +126,21 @@ abbrev pub render_answer : PageAnswer → Word → Word → List ℕ → Front �
 render_answer page template json_name json of =
     entry_answer page template json_name json of (entry_of of template)
 
+-- the template that may be previewed under a full name
+abbrev pub shown_of : Front → Word → Option Declared
+shown_of of template =
+    option_and_then (slice_get (declared (view_trees of.files.trees)))
+    (shown_number (chars template) (declared (view_trees of.files.trees)))
+
+-- the same by the page of a template that may be previewed
+abbrev pub preview_answer : PageAnswer → Word → Word → List ℕ → Front → Answer
+preview_answer page template json_name json of =
+    entry_answer page template json_name json of (shown_of of template)
+
+-- a page whose lines aren't shown yet, however it ends
+abbrev pub unseen_page : PageAnswer
+unseen_page text end = not_yet (codes "preview")
+
 -- ---- files and bundles
 
 -- the line of a fault of files of these names and contents, or of the bundle of a name
@@ -199,8 +216,9 @@ inputs_answer (Play script first second names) before files =
     accepted_then names files first (bundle_content first 1 before) (λ of.
     accepted_then names files second (bundle_content second (second_number first) before) (λ other.
     not_yet (codes "play")))
-inputs_answer (Preview template json bundle names) before files =
-    accepted_then names files bundle (bundle_content bundle 1 before) (λ of. not_yet (codes "preview"))
+inputs_answer (Preview template json_name bundle names) before files =
+    accepted_then names files bundle (bundle_content bundle 1 before) (λ of.
+    preview_answer unseen_page template json_name (numbered 0 before) of)
 inputs_answer (Format name) before files = tree_answer name (numbered 0 before) (source_answer (numbered 0 before))
 
 -- the same by the contents of all its files

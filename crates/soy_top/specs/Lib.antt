@@ -21,6 +21,7 @@ pub mod MadeBundle
 pub mod Numbered
 pub mod Output
 pub mod Pointer
+pub mod Shown
 pub mod Summary
 pub mod View
 pub mod ViewOutput

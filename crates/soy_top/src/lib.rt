@@ -25,6 +25,7 @@ mod line;
 mod made_bundle;
 mod output;
 mod page;
+mod preview;
 mod program;
 mod render;
 mod status;

@@ -3,8 +3,8 @@
 ghost use Rattle.std.specs.Prelude.{◌≡◌, ◌≤◌, ℕ, List, Option, Some, IfOk, length, option_map, slice_get};
 ghost use Rattle.soy_front.specs.Compiled.{AreCompiled};
 ghost use Rattle.soy_front.specs.ViewSources.{view_contents};
-ghost use Rattle.soy_top.specs.Accepts.{Accepts, AcceptsPage, CompilesFront};
-ghost use Rattle.soy_top.specs.Answer.{accepted_then, data_answer, inputs_answer, render_answer};
+ghost use Rattle.soy_top.specs.Accepts.{Accepts, AcceptsPage, CompilesFront, IsNumbered};
+ghost use Rattle.soy_top.specs.Answer.{accepted_then, data_answer, entry_answer, inputs_answer, render_answer};
 ghost use Rattle.soy_top.specs.Asked.{Render};
 ghost use Rattle.soy_top.specs.Words.{command_words};
 ghost use Rattle.soy_tree.specs.Templates.{Declared, declared};
@@ -71,13 +71,18 @@ pub(crate) fn accept_page<'a>(
     ensures sources { IfOk result (λ page. page.sources.now ≡ sources.now) }
 {
     match compile_front(alloc, names, sources, bundle, content) {
-        Ok(compiled) => accept_entry(alloc, compiled, template, json_name, json, names, sources),
+        Ok(compiled) => {
+            let entry = compiled.entry(template);
+            accept_entry(
+                alloc, compiled, entry, template, json_name, json, names, sources,
+            )
+        }
         Err(ending) => Err(ending),
     }
 }
 
 /// The program of files of these names and a bundle, or the line of their first fault.
-fn compile_front(
+pub(crate) fn compile_front(
     alloc: Global,
     names: &[String],
     sources: &[Source],
@@ -98,22 +103,25 @@ fn compile_front(
     }
 }
 
-/// The page of a template of a program, or the line that the template may not be rendered, or of the fault of its data.
-fn accept_entry<'a>(
+/// The page of the template of a number, or the line of the fault of its data; or the line that there is no such
+/// template, where there is no number.
+pub(crate) fn accept_entry<'a>(
     alloc: Global,
     compiled: Compiled,
+    entry: Option<usize>,
     template: &str,
     json_name: &str,
     json: &[u8],
     names: &'a [String],
     sources: &'a [Source],
 ) -> Result<Page<'a>, Ending>
-    ensures accepts { (content : Option (List ℕ)) (are : AreCompiled (view_contents sources.now) content compiled) →
-        AcceptsPage (λ page. render_answer page template.now json_name.now json.now are.of) result }
+    ensures accepts { (content : Option (List ℕ)) (are : AreCompiled (view_contents sources.now) content compiled)
+        (d : Option Declared) → IsNumbered (declared (view_trees compiled.typed)) entry d →
+        AcceptsPage (λ page. entry_answer page template.now json_name.now json.now are.of d) result }
     ensures names { IfOk result (λ page. page.names.now ≡ names.now) }
     ensures sources { IfOk result (λ page. page.sources.now ≡ sources.now) }
 {
-    match compiled.entry(template) {
+    match entry {
         Some(number) => accept_data(alloc, compiled, number, json_name, json, names, sources),
         None => {
             let line = entry_line(alloc, template)?;

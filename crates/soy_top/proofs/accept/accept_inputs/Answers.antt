@@ -1,8 +1,8 @@
-use Rattle.std.proofs.Common.{sym, subst, codes}
+use Rattle.std.proofs.Common.{sym, subst}
 use Rattle.soy_front.specs.Sources.{source_answer}
 use Rattle.soy_front.specs.ViewSources.{view_contents}
 use Rattle.soy_top.specs.Accepts.{Accepts}
-use Rattle.soy_top.specs.Answer.{Done, accepted_text, accepted_then, inputs_answer, not_yet, tree_answer}
+use Rattle.soy_top.specs.Answer.{Done, accepted_text, accepted_then, inputs_answer, tree_answer}
 use Rattle.soy_top.specs.View.{view_command}
 use Rattle.soy_top.specs.Words.{command_words}
 use Rattle.soy_top.proofs.accept.accept_inputs.Goals as goal
@@ -34,10 +34,7 @@ returns-in-Play c =
 pub returns-in-Preview : goal.returns-in-Preview
 returns-in-Preview c =
     subst (λ command. Accepts (inputs_answer (view_command command) (view_contents c.args.before.now)
-    (view_contents c.args.sources.now)) c.accept_not_yet.result) (sym c.in-Preview.is)
-    (subst (λ content. Accepts (accepted_then (command_words c.in-Preview.files.now) (view_contents c.args.sources.now)
-    c.in-Preview.bundle.now content (λ of. not_yet (codes "preview"))) c.accept_not_yet.result)
-    c.bundle_content-content.ensures c.accept_not_yet.ensures)
+    (view_contents c.args.sources.now)) c.accept_preview.result) (sym c.in-Preview.is) c.accept_preview.ensures
 
 pub returns-in-Format : goal.returns-in-Format
 returns-in-Format c =

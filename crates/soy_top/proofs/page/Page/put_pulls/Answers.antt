@@ -1,7 +1,5 @@
-use Rattle.std.proofs.Common.{◌≡◌, ◌≤◌, ◌<◌, ℕ, ◌+◌, List, [], ◌++◌, length, take, refl, sym, subst, ap, ◌∙◌, arith}
-use Rattle.render_core.specs.Rest.{rest_bytes, rest_end, rest_of}
-use Rattle.soy_meaning.specs.Outcome.{end_of_outcome}
-use Rattle.soy_tree.specs.ViewValues.{view_value}
+use Rattle.std.proofs.Common.{◌≡◌, ◌≤◌, ◌<◌, length, refl, sym, subst, ap, ◌∙◌, arith}
+use Rattle.render_core.specs.Rest.{rest_bytes, rest_end}
 use Rattle.soy_io.proofs.AddedParts.{added-nil}
 use Rattle.soy_front.specs.ViewSources.{view_contents}
 use Rattle.soy_top.specs.declared.output.End.TheVariants as end
