@@ -91,7 +91,8 @@ pub page_then : (names : List Word) (files : List (List ℕ)) (bundle : Word) (c
 page_then names files bundle content c answer (Ok accepted) are h =
     λ page. ap (unless_refused names files bundle (answer page)) are.answered ∙ h page
 page_then names files bundle content c answer (Err ending) are h =
-    λ page. subst (λ x. Refuses x ending) (sym (ap (unless_refused names files bundle (answer page)) are.answered)) (h page)
+    λ page.
+    subst (λ x. Refuses x ending) (sym (ap (unless_refused names files bundle (answer page)) are.answered)) (h page)
 
 -- what is answered by a page, where the content of the bundle, the name of the template and the data go by other names
 pub pages_same : (names : List Word) (files : List (List ℕ)) (page : PageAnswer) (json_name bundle : Word)

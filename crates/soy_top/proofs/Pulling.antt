@@ -1,6 +1,6 @@
 -- What pulls give of a page, and what is left of it.
-use Rattle.std.proofs.Common.{◌≡◌, ℕ, ◌≤◌, ◌<◌, ◌⊎◌, inl, inr, Bool, true, false, List, [], ◌∷◌, ◌++◌, Option, Ok, Err, length}
-use Rattle.std.proofs.Common.{refl, sym, subst, ap, ◌∙◌, arith, ◌+◌, take, length-append}
+use Rattle.std.proofs.Common.{◌≡◌, ℕ, ◌≤◌, ◌<◌, ◌⊎◌, inl, inr, Bool, true, false, List, [], ◌∷◌, ◌++◌, Option, Ok, Err}
+use Rattle.std.proofs.Common.{length, refl, sym, subst, ap, ◌∙◌, arith, ◌+◌, take, length-append}
 use Rattle.std.proofs.lemmas.List.{length-take-le}
 use Rattle.std.specs.Prelude.{encode_utf8_all}
 use Rattle.html_state.specs.AfterPieces.{Piece, Static, Value}

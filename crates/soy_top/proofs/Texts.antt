@@ -196,7 +196,8 @@ module _ (files : Files) (words : List Word) (template json_name bundle : Word) 
     bundle_bytes = cond (is_source_language bundle) None (Some (unwrap_or (file_of files bundle) []))
 
     -- the same answer by the contents of the files and those before them
-    by_inputs : contents_answer (Render template json_name bundle names) (contents files (before ++ map source_file names))
+    by_inputs :
+        contents_answer (Render template json_name bundle names) (contents files (before ++ map source_file names))
         ≡ Done text
         → inputs_answer (Render template json_name bundle names) (contents files before) sources ≡ Done text
     by_inputs h =
@@ -360,7 +361,8 @@ asked_text : (files : Files) (words : List Word) (asked : Asked) (text : List �
     → contents_answer asked (contents files (asked_files asked)) ≡ Done text → IsText files words text
 asked_text files words (Render template json_name bundle names) text is held h =
     Page (page_is files words template json_name bundle names text is held h)
-asked_text files words (Check bundle names) text is held h = Checked (check_text files words bundle names text is held h)
+asked_text files words (Check bundle names) text is held h =
+    Checked (check_text files words bundle names text is held h)
 asked_text files words (Extract names) text is held h = Catalogue (extract_text files words names text is held h)
 asked_text files words (Gen number) text is held h =
     Generated (record { number = number; words_are = is; is_summary = summary_text (workload number) text h })
@@ -369,7 +371,8 @@ asked_text files words (Play script first second names) text is held h =
     absurd (play_no_text script first second names (but_last (length names) all) (last (length names) all) text h)
 asked_text files words (Preview template json_name bundle names) text is held h =
     let all : List (List ℕ) = contents files (asked_files (Preview template json_name bundle names)) in
-    absurd (preview_no_text template json_name bundle names (but_last (length names) all) (last (length names) all) text h)
+    absurd
+    (preview_no_text template json_name bundle names (but_last (length names) all) (last (length names) all) text h)
 asked_text files words (Format name) text is held h =
     let all : List (List ℕ) = contents files (asked_files (Format name)) in
     absurd (tree_no_text name (numbered 0 (but_last 0 all)) (source_answer (numbered 0 (but_last 0 all))) text h)

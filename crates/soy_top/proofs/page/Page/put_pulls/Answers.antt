@@ -7,8 +7,8 @@ use Rattle.soy_top.specs.Answer.{run_text}
 use Rattle.soy_top.specs.ViewOutput.{IsEnd, page_run, view_end}
 use Rattle.soy_top.specs.Words.{command_words}
 use Rattle.soy_top.proofs.Took.{PutSoFar, left_within, prefix_of_prefix, put_more, put_none, put_part, put_whole}
-use Rattle.soy_top.proofs.Pulling.{done_whole, end_solid, left_fewer, no_text_by, pulled_none, pulled_stop, pulled_within}
-use Rattle.soy_top.proofs.Pulling.{text_solid}
+use Rattle.soy_top.proofs.Pulling.{done_whole, end_solid, left_fewer, no_text_by, pulled_none, pulled_stop}
+use Rattle.soy_top.proofs.Pulling.{pulled_within, text_solid}
 use Rattle.soy_top.proofs.page.Page.put_pulls.Goals as goal
 
 pub loop-rendering-init : goal.loop-rendering-init
