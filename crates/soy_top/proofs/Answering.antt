@@ -1,9 +1,8 @@
 -- What is known of the answer from what the words ask for and from what was fetched.
-use Rattle.std.proofs.Common.{◌≡◌, ℕ, Bool, true, false, cond, List, [], ◌∷◌, Option, Some, None, Err, Vec, length}
+use Rattle.std.proofs.Common.{◌≡◌, ℕ, List, [], ◌∷◌, Option, Some, None, Err, length}
 use Rattle.std.proofs.Common.{refl, sym, ap, subst, ◌∙◌, codes, inl, inr, ◌⊎◌}
 use Rattle.std.specs.Prelude.{IfSome, Result, Ok, option_map}
 use Rattle.std.specs.Option.{option_map_or}
-use Rattle.std.specs.Str.{bytes_eq}
 use Rattle.soy_base.specs.declared.code.Code.{Code}
 use Rattle.soy_base.specs.declared.fault.Fault.{Fault}
 use Rattle.soy_base.specs.declared.path.PathStep.{PathStep}
@@ -16,11 +15,9 @@ use Rattle.soy_front.specs.FilesAnswer.{ReadFiles, files_answer}
 use Rattle.soy_front.specs.FrontAnswer.{Front, IsFront, front_answer}
 use Rattle.soy_front.proofs.FrontAnswers.{fault_answered}
 use Rattle.soy_front.specs.Sources.{source_answer}
-use Rattle.soy_front.specs.ViewSources.{view_contents}
 use Rattle.soy_front.specs.declared.accepting.AcceptedFiles.{AcceptedFiles}
 use Rattle.soy_front.specs.declared.compiling.Compiled.{Compiled}
 use Rattle.soy_front.specs.declared.fault.FrontFault.{FrontFault}
-use Rattle.soy_front.specs.declared.source.Source.{Source}
 use Rattle.soy_io.specs.FileOf.{Files}
 use Rattle.soy_io.specs.Rose.{Rose}
 use Rattle.soy_meaning.specs.Outcome.{RunEnd, StopsAt, WholeRun, end_of_outcome}
@@ -94,7 +91,8 @@ pub page_then : (names : List Word) (files : List (List ℕ)) (bundle : Word) (c
 page_then names files bundle content c answer (Ok accepted) are h =
     λ page. ap (unless_refused names files bundle (answer page)) are.answered ∙ h page
 page_then names files bundle content c answer (Err ending) are h =
-    λ page. subst (λ x. Refuses x ending) (sym (ap (unless_refused names files bundle (answer page)) are.answered)) (h page)
+    λ page.
+    subst (λ x. Refuses x ending) (sym (ap (unless_refused names files bundle (answer page)) are.answered)) (h page)
 
 -- what is answered by a page, where the content of the bundle, the name of the template and the data go by other names
 pub pages_same : (names : List Word) (files : List (List ℕ)) (page : PageAnswer) (json_name bundle : Word)

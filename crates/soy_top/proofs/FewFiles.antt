@@ -3,8 +3,8 @@ use Rattle.std.proofs.Common.{◌≡◌, ℕ, ◌≤◌, Bool, true, false, cond
 use Rattle.std.proofs.Common.{option_map, refl, sym, subst, arith, codes, nat_lt, nat_le}
 use Rattle.std.specs.Str.{bytes_eq}
 use Rattle.std.proofs.lemmas.Bool.{leb-true}
-use Rattle.soy_top.specs.Asked.{Asked, Render, Check, Extract, Gen, Play, Preview, Format, has_file_count, with_files}
-use Rattle.soy_top.specs.Asked.{render_asked, check_asked, extract_asked, number_of, gen_asked, play_asked}
+use Rattle.soy_top.specs.Asked.{Asked, Render, Check, Extract, Gen, Play, Preview, has_file_count, with_files}
+use Rattle.soy_top.specs.Asked.{render_asked, check_asked, number_of, gen_asked, play_asked}
 use Rattle.soy_top.specs.Asked.{preview_asked, format_asked, asked_by_words, source_files}
 use Rattle.soy_top.specs.Words.{Word}
 

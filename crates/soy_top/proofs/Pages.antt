@@ -1,5 +1,5 @@
 -- What is answered by the page of a program is the answer to a `render` of the files that it was compiled of.
-use Rattle.std.proofs.Common.{◌≡◌, ℕ, List, [], ◌∷◌, Option, Some, None, refl, sym, subst, ap, ◌∙◌}
+use Rattle.std.proofs.Common.{◌≡◌, ℕ, List, Option, Some, None, refl, sym, subst, ap, ◌∙◌}
 use Rattle.std.specs.Prelude.{Result, Ok, Err, encode_utf8_all, option_and_then, slice_get}
 use Rattle.std.specs.List.{position}
 use Rattle.std.specs.Str.{chars}
@@ -15,7 +15,7 @@ use Rattle.soy_front.specs.declared.compiling.Compiled.{Compiled}
 use Rattle.soy_front.proofs.DataFits.{data_fits, params_are}
 use Rattle.soy_front.proofs.EntryNumbers.{entry_declared}
 use Rattle.soy_meaning.specs.Meaning.{joined_pieces}
-use Rattle.soy_meaning.specs.Outcome.{Outcome, RunEnd, StopsAt, WholeRun, end_of_outcome, pieces_of_outcome}
+use Rattle.soy_meaning.specs.Outcome.{Outcome, RunEnd, StopsAt, WholeRun, end_of_outcome}
 use Rattle.soy_meaning.specs.Pieces.{template_run}
 use Rattle.soy_top.specs.Accepts.{AcceptsPage, IsNumbered}
 use Rattle.soy_top.specs.Answer.{Answer, PageAnswer, Refused, data_answer, ended_page, entry_answer, entry_of}

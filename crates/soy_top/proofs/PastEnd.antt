@@ -1,8 +1,8 @@
 -- An offset past the end of a text is at the line and column of its end.
-use Rattle.std.proofs.Common.{◌≡◌, ℕ, zero, suc, ◌+◌, ◌-◌, ◌<◌, ◌≤◌, ◌==◌, ◌||◌, ◌&&◌, not, nat_lt, min, Bool, true, false}
-use Rattle.std.proofs.Common.{cond, List, length, take, drop, get_or, count_by, refl, sym, ap, subst, ◌∙◌, arith, add-zero}
+use Rattle.std.proofs.Common.{◌≡◌, ℕ, zero, suc, ◌+◌, ◌-◌, ◌<◌, ◌≤◌, ◌==◌, ◌||◌, ◌&&◌, not, nat_lt, min, Bool}
+use Rattle.std.proofs.Common.{true, false, cond, List, length, take, drop, count_by, refl, sym, ap, subst, ◌∙◌}
+use Rattle.std.proofs.Common.{arith, add-zero}
 use Rattle.std.proofs.Common.{length-drop, slice_index, ◌++◌, codes}
-use Rattle.std.proofs.Math.Nat.{min-eq_left, min-eq_right}
 use Rattle.std.proofs.lemmas.Bool.{ltb-true, ltb-false}
 use Rattle.std.proofs.lemmas.List.{get_or_past, take_all}
 use Rattle.std.specs.Fmt.{decimal}

@@ -1,11 +1,11 @@
 -- What pulls give of a page, and what is left of it.
-use Rattle.std.proofs.Common.{◌≡◌, ℕ, ◌≤◌, ◌<◌, ◌⊎◌, inl, inr, Bool, true, false, List, [], ◌∷◌, ◌++◌, Option, Ok, Err, length}
-use Rattle.std.proofs.Common.{refl, sym, subst, ap, ◌∙◌, arith, ◌+◌, take, length-append}
+use Rattle.std.proofs.Common.{◌≡◌, ℕ, ◌≤◌, ◌<◌, ◌⊎◌, inl, inr, Bool, true, false, List, [], ◌∷◌, ◌++◌, Option, Ok, Err}
+use Rattle.std.proofs.Common.{length, refl, sym, subst, ap, ◌∙◌, arith, ◌+◌, take, length-append}
 use Rattle.std.proofs.lemmas.List.{length-take-le}
-use Rattle.std.specs.Prelude.{encode_utf8_all, min}
+use Rattle.std.specs.Prelude.{encode_utf8_all}
 use Rattle.html_state.specs.AfterPieces.{Piece, Static, Value}
-use Rattle.render_core.specs.Pulls.{Fresh, Pulls, stops_at}
-use Rattle.render_core.specs.Rest.{DoneFits, IsWhole, Rest, piece_bytes, piece_text, rest_bytes, rest_end, solid, solid_piece}
+use Rattle.render_core.specs.Pulls.{Pulls, stops_at}
+use Rattle.render_core.specs.Rest.{DoneFits, IsWhole, Rest, piece_text, rest_bytes, rest_end, solid, solid_piece}
 use Rattle.render_core.specs.declared.begun.Begun.{Begun}
 use Rattle.soy_base.specs.declared.fault.TooDeep.{TooDeep}
 use Rattle.soy_base.specs.declared.memory.Refusal.{Refusal}

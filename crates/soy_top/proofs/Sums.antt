@@ -1,5 +1,5 @@
 -- What is summed up of a text that is pulled piece by piece.
-use Rattle.std.proofs.Common.{◌≡◌, ℕ, List, [], ◌++◌, refl, sym, subst, ap, ◌∙◌, append_assoc, append-nil}
+use Rattle.std.proofs.Common.{◌≡◌, ℕ, List, [], ◌++◌, sym, subst, ap, ◌∙◌, append_assoc, append-nil}
 use Rattle.soy_top.specs.IsSumOf.{IsSumOf}
 use Rattle.soy_top.specs.declared.summary.Summing.{Summing}
 

@@ -1,16 +1,14 @@
 -- Where the answer is a text, the words and the files are those of a page, of a catalogue or of files that are
 -- accepted, or the words are those of a workload.
-use Rattle.std.proofs.Common.{◌≡◌, ℕ, zero, suc, Bool, true, false, cond, ◌-◌, List, [], ◌∷◌, ◌++◌, ◌+◌, length, drop, take}
-use Rattle.std.proofs.Common.{length-append, map, Option, Some, None, refl, sym, ap, subst, ◌∙◌, arith, codes}
+use Rattle.std.proofs.Common.{◌≡◌, ℕ, zero, suc, Bool, true, false, cond, ◌-◌, List, [], ◌∷◌, ◌++◌, length, drop, take}
+use Rattle.std.proofs.Common.{length-append, map, Option, Some, None, refl, sym, ap, ◌∙◌, arith, codes}
 use Rattle.std.proofs.lemmas.List.{length-map}
-use Rattle.std.specs.Prelude.{option_and_then, unwrap_or, is_some, Result, Ok, Err}
+use Rattle.std.specs.Prelude.{unwrap_or, is_some, Result, Ok, Err}
 use Rattle.std.specs.Option.{option_map_or}
-use Rattle.std.specs.Str.{bytes_eq}
 use Rattle.std.proofs.lemmas.Slice.Eq.{bytes_eq-Decides}
 use Rattle.soy_base.specs.declared.code.Code.{Code}
 use Rattle.soy_base.specs.declared.fault.Fault.{Fault}
 use Rattle.soy_base.specs.declared.path.PathStep.{PathStep}
-use Rattle.soy_front.specs.Accepted.{Accepted}
 use Rattle.soy_front.specs.FilesAnswer.{ReadFiles, files_answer}
 use Rattle.soy_front.specs.FrontAnswer.{Front, front_answer}
 use Rattle.soy_front.specs.declared.fault.FrontFault.{FrontFault}
@@ -30,7 +28,7 @@ use Rattle.soy_top.specs.Answer.{accepted_text, accepted_then, catalogue_answer,
 use Rattle.soy_top.specs.Answer.{bundled_answer, inputs_answer, summed_page, tree_answer, unless_faulty, unless_refused}
 use Rattle.soy_top.specs.Answer.{preview_answer, shown_of, unseen_page, workload_answer}
 use Rattle.soy_top.specs.Asked.{Asked, Render, Check, Extract, Gen, Play, Preview, Format, asked_by_words}
-use Rattle.soy_top.specs.FilesWanted.{FileWanted, data_file, source_file, bundle_files, render_files, asked_files}
+use Rattle.soy_top.specs.FilesWanted.{FileWanted, data_file, source_file, bundle_files, asked_files}
 use Rattle.soy_top.specs.FilesWanted.{first_not_held, first_over_limit, content, contents, is_source_language}
 use Rattle.soy_top.specs.Generated.{workload_entry, workload_files, workload_json, workload_names}
 use Rattle.soy_top.specs.Inputs.{bundle_content, but_last, last, second_number}
@@ -198,7 +196,8 @@ module _ (files : Files) (words : List Word) (template json_name bundle : Word) 
     bundle_bytes = cond (is_source_language bundle) None (Some (unwrap_or (file_of files bundle) []))
 
     -- the same answer by the contents of the files and those before them
-    by_inputs : contents_answer (Render template json_name bundle names) (contents files (before ++ map source_file names))
+    by_inputs :
+        contents_answer (Render template json_name bundle names) (contents files (before ++ map source_file names))
         ≡ Done text
         → inputs_answer (Render template json_name bundle names) (contents files before) sources ≡ Done text
     by_inputs h =
@@ -362,7 +361,8 @@ asked_text : (files : Files) (words : List Word) (asked : Asked) (text : List �
     → contents_answer asked (contents files (asked_files asked)) ≡ Done text → IsText files words text
 asked_text files words (Render template json_name bundle names) text is held h =
     Page (page_is files words template json_name bundle names text is held h)
-asked_text files words (Check bundle names) text is held h = Checked (check_text files words bundle names text is held h)
+asked_text files words (Check bundle names) text is held h =
+    Checked (check_text files words bundle names text is held h)
 asked_text files words (Extract names) text is held h = Catalogue (extract_text files words names text is held h)
 asked_text files words (Gen number) text is held h =
     Generated (record { number = number; words_are = is; is_summary = summary_text (workload number) text h })
@@ -371,7 +371,8 @@ asked_text files words (Play script first second names) text is held h =
     absurd (play_no_text script first second names (but_last (length names) all) (last (length names) all) text h)
 asked_text files words (Preview template json_name bundle names) text is held h =
     let all : List (List ℕ) = contents files (asked_files (Preview template json_name bundle names)) in
-    absurd (preview_no_text template json_name bundle names (but_last (length names) all) (last (length names) all) text h)
+    absurd
+    (preview_no_text template json_name bundle names (but_last (length names) all) (last (length names) all) text h)
 asked_text files words (Format name) text is held h =
     let all : List (List ℕ) = contents files (asked_files (Format name)) in
     absurd (tree_no_text name (numbered 0 (but_last 0 all)) (source_answer (numbered 0 (but_last 0 all))) text h)

@@ -9,10 +9,10 @@
 -- parameters (27, 28); the answer is the bytes of the pieces that the template gives under them. Where these stop at a
 -- call that nests too deep, it is those up to the call, with the call's line. A `gen` asks for the faults of the source
 -- that it makes, and then, under the bundle that it makes of its catalogue, for all that a `render` asks for; the
--- answer is the summary of the page. A `preview` asks for all that a `render` asks for, its template being of kind html.
--- What the program doesn't do yet is refused, which is the rest of a `preview` and every other command.
+-- answer is the summary of the page. A `preview` asks for all that a `render` asks for, but that its template is of
+-- kind html. What the program doesn't do yet is refused, which is the rest of a `preview` and every other command.
 -- Example: the words `render t.zz d.json - t.soy` with a file of t.m are refused by `t.zz: 29 Entry`.
-use Rattle.std.specs.Prelude.{ℕ, List, [], ◌∷◌, length, Option, None, Some, option_map, option_and_then, slice_get}
+use Rattle.std.specs.Prelude.{ℕ, List, [], length, Option, None, Some, option_map, option_and_then, slice_get}
 use Rattle.std.specs.Prelude.{codes, String, Result, Ok, Err, encode_utf8_all}
 use Rattle.std.specs.Option.{option_map_or}
 use Rattle.std.specs.Str.{chars}

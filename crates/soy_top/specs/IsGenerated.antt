@@ -4,7 +4,7 @@
 -- accepted, the workload's template is one that may be rendered under its name, the data give its parameters values,
 -- and the text is the summary of the meaning of the template under them.
 -- Example: for 7 the text has the line `bytes 638685`.
-use Rattle.std.specs.Prelude.{◌≡◌, ℕ, List, [], ◌∷◌, Option, Some, Ok, codes}
+use Rattle.std.specs.Prelude.{◌≡◌, ℕ, List, [], ◌∷◌, Some, Ok, codes}
 use Rattle.ir_build.specs.ViewScene.{language_of}
 use Rattle.msg_extract.specs.declared.catalogue.Listed.{Listed}
 use Rattle.soy_front.specs.Accepted.{Accepted, AreFiles}

@@ -1,4 +1,4 @@
-use Rattle.std.proofs.Common.{ap, map, ◌∙◌, encode_utf8_all, ◌≤◌, length, subst, sym}
+use Rattle.std.proofs.Common.{ap, map, ◌∙◌, encode_utf8_all}
 use Rattle.soy_front.specs.ViewSources.{view_contents}
 use Rattle.soy_top.specs.Words.{command_words}
 use Rattle.soy_top.proofs.Workloads.{few_sources, workload_then}

@@ -3,7 +3,6 @@ use Rattle.serde_json.specs.Data.{put, string}
 use Rattle.serde_json.specs.View.{members_view, view}
 use Rattle.serde_json.specs.declared.value.Value.TheVariants as value
 use Rattle.serde_json.proofs.Views.{members_view-insert_entry}
-use Rattle.soy_top.specs.MadeBundle.{translation}
 use Rattle.soy_top.proofs.MadeBundles.{view_string}
 use Rattle.soy_top.proofs.made_bundle.add_translation.Goals as goal
 

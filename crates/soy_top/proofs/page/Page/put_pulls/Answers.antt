@@ -1,7 +1,5 @@
-use Rattle.std.proofs.Common.{◌≡◌, ◌≤◌, ◌<◌, ℕ, ◌+◌, List, [], ◌++◌, length, take, refl, sym, subst, ap, ◌∙◌, arith}
-use Rattle.render_core.specs.Rest.{rest_bytes, rest_end, rest_of}
-use Rattle.soy_meaning.specs.Outcome.{end_of_outcome}
-use Rattle.soy_tree.specs.ViewValues.{view_value}
+use Rattle.std.proofs.Common.{◌≡◌, ◌≤◌, ◌<◌, length, refl, sym, subst, ap, ◌∙◌, arith}
+use Rattle.render_core.specs.Rest.{rest_bytes, rest_end}
 use Rattle.soy_io.proofs.AddedParts.{added-nil}
 use Rattle.soy_front.specs.ViewSources.{view_contents}
 use Rattle.soy_top.specs.declared.output.End.TheVariants as end
@@ -9,8 +7,8 @@ use Rattle.soy_top.specs.Answer.{run_text}
 use Rattle.soy_top.specs.ViewOutput.{IsEnd, page_run, view_end}
 use Rattle.soy_top.specs.Words.{command_words}
 use Rattle.soy_top.proofs.Took.{PutSoFar, left_within, prefix_of_prefix, put_more, put_none, put_part, put_whole}
-use Rattle.soy_top.proofs.Pulling.{done_whole, end_solid, left_fewer, no_text_by, pulled_none, pulled_stop, pulled_within}
-use Rattle.soy_top.proofs.Pulling.{text_solid}
+use Rattle.soy_top.proofs.Pulling.{done_whole, end_solid, left_fewer, no_text_by, pulled_none, pulled_stop}
+use Rattle.soy_top.proofs.Pulling.{pulled_within, text_solid}
 use Rattle.soy_top.proofs.page.Page.put_pulls.Goals as goal
 
 pub loop-rendering-init : goal.loop-rendering-init
