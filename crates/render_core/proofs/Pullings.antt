@@ -265,11 +265,11 @@ module _ (p : ProgramParts) (input : values.Value) where
   )
 
   -- the end
-  pub end_pulls : (old new : Rendering) (room : List ℕ) (before after : ℕ) → 0 < length room
+  pub end_pulls : (old new : Rendering) (room : List ℕ) (before after : ℕ) → old.done ≡ false → 0 < length room
       → Advanced p input old.machine new.machine before after (Ok None) → new.piece ≡ None → new.done ≡ true
       → Fits p input new
       × Fresh (rest_of p input old) (rest_of p input new) old.done new.done room room before after (Ok 0)
-  end_pulls old new room before after some h none done = (
+  end_pulls old new room before after open_yet some h none done = (
     record {
       machine = h.0.fits;
       piece = none_fits new none;
@@ -282,6 +282,7 @@ module _ (p : ProgramParts) (input : values.Value) where
       begun = none_left new none;
       old_whole = h.1;
       new_whole = h.2;
+      was_open = open_yet;
       is_done = done;
       low = h.0.low;
       high = h.0.high;

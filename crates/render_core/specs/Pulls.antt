@@ -42,15 +42,17 @@ pub record Next (old new : Rest) (done_before done_after : Bool) (room room_afte
   pub cost : after ≡ before + spent.cost
   pub gave : Gave (piece_bytes piece) new.begun room room_after n
 
--- nothing was to come
-pub record AtEnd (old new : Rest) (done : Bool) (room room_after : List ℕ) (before after n : ℕ) : Type 0 where
+-- nothing was to come, and it is known from now on
+pub record AtEnd (old new : Rest) (done_before done_after : Bool) (room room_after : List ℕ)
+    (before after n : ℕ) : Type 0 where
   pub none : n ≡ 0
   pub has_room : 0 < length room
   pub unchanged : room_after ≡ room
   pub begun : new.begun ≡ []
   pub old_whole : IsWhole old.coming
   pub new_whole : IsWhole new.coming
-  pub is_done : done ≡ true
+  pub was_open : done_before ≡ false
+  pub is_done : done_after ≡ true
   pub low : before ≤ after
   pub high : after ≤ before + (first_spent old.coming).cost
 
@@ -81,7 +83,7 @@ abbrev pub Fresh : Rest → Rest → Bool → Bool → List ℕ → List ℕ →
 Fresh old new done_before done_after room room_after before after (Ok n) =
     Idle old new done_before done_after room room_after before after n
     ⊎ Next old new done_before done_after room room_after before after n
-    ⊎ AtEnd old new done_after room room_after before after n
+    ⊎ AtEnd old new done_before done_after room room_after before after n
 Fresh old new done_before done_after room room_after before after (Err (refusal.Because call)) =
     Refused old new done_before done_after room room_after before after × (pieces_of_outcome old.coming ≡ [])
     × (end_of_outcome old.coming ≡ stops_at call)

@@ -71,8 +71,8 @@ returns-in-Ok-None g c =
     c.advance.new.steps (Ok b)) c.in-Ok-None.field-0-is c.in-Ok-None.ensures in
     let some : 0 < length c.args.room.now =
     isnt_empty (length c.args.room.now) (sym c.is_empty.ensures ∙ c.if-is_empty.false) in
-    let pulls = end_pulls p input old new c.args.room.now c.args.steps.now c.advance.new.steps some end c.requires.none
-    refl in
+    let pulls = end_pulls p input old new c.args.room.now c.args.steps.now c.advance.new.steps c.if-self.false some end
+    c.requires.none refl in
     record { fits = pulls.0; pulls = pulls.1 }
 
 pub returns-in-Err : goal.returns-in-Err
