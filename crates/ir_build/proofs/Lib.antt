@@ -10,6 +10,8 @@ pub mod NodeSteps
 pub mod PartSteps
 pub mod Placing
 pub mod Choosing
+pub mod Firsts
+pub mod Numbered
 pub mod Callees
 pub mod RoutineSteps
 pub mod NodeOps

@@ -1,5 +1,8 @@
+pub mod FirstNames
+pub mod FullNames
 pub mod Translations
 pub mod ViewScene
+pub mod Numbers
 pub mod TextOps
 pub mod Rows
 pub mod OnGoing

@@ -16,7 +16,8 @@ use crate::bodies::push_nodes;
 use crate::output::Output;
 use crate::scene::Scene;
 use crate::template::Declared;
-use crate::templates::all_templates;
+use crate::templates::{Templates, all_templates};
+use crate::translations::Translations;
 use plural_rules::Rules;
 use soy_base::{OutOfMemory, Place, Seq};
 use soy_tree::{Bundle, Param, Tree, Typed};
@@ -26,9 +27,9 @@ use template_ir::{Places, Program, ProgramParts, Routine};
 /// A template of a program.
 fn routine(
     alloc: Global,
-    all: &[Declared<'_>],
+    all: &Templates<'_>,
     places: &[Place],
-    bundle: &Bundle,
+    bundle: &Translations<'_>,
     out: &mut Output,
     one: &Declared<'_>,
 ) -> Result<Routine, OutOfMemory>
@@ -85,9 +86,9 @@ fn copied_rules(alloc: Global, rules: &Rules) -> Result<Rules, OutOfMemory>
 /// The templates of a program.
 fn routines(
     alloc: Global,
-    all: &[Declared<'_>],
+    all: &Templates<'_>,
     places: &[Place],
-    bundle: &Bundle,
+    bundle: &Translations<'_>,
     out: &mut Output,
 ) -> Result<Vec<Routine>, OutOfMemory>
     ensures { IfOk result (λ routines. Lays
@@ -95,8 +96,9 @@ fn routines(
         (map view_routine routines.items)) (templates_holes (language_of bundle.now).translation (view_all all.now))
         (view_output out.old) (view_output out.new)) }
 {
+    let declared = all.declared();
     let mut routines = Vec::new(alloc);
-    for one in all {
+    for one in declared {
         let routine = routine(alloc, all, places, bundle, out, one)?;
         routines.push(routine)?;
     }
@@ -115,12 +117,14 @@ pub fn program_parts(
     ensures { IfOk result (λ parts.
         Compiles (view_trees trees.now) places.now (language_of bundle.now) (view_program parts)) }
 {
-    let all = all_templates(alloc, trees)?;
+    let declared = all_templates(alloc, trees)?;
+    let all = Templates::new(alloc, declared.as_slice())?;
+    let translations = Translations::new(alloc, bundle)?;
     let mut out = Output {
         ops: Vec::new(alloc),
         holes: 0,
     };
-    let templates = routines(alloc, all.as_slice(), places, bundle, &mut out)?;
+    let templates = routines(alloc, &all, places, &translations, &mut out)?;
     let plural = copied_rules(alloc, &bundle.plural)?;
     let ordinal = copied_rules(alloc, &bundle.ordinal)?;
     Ok(ProgramParts {

@@ -1,6 +1,6 @@
 //! The op of a call, over the blocks of its params.
 
-ghost use Rattle.std.specs.Prelude.{◌≡◌, ◌∷◌, [], ◌++◌, is_some, map, option_map, slice_get, OnOk};
+ghost use Rattle.std.specs.Prelude.{◌≡◌, ◌∷◌, [], ◌++◌, is_some, map, slice_get, OnOk};
 ghost use Rattle.soy_tree.specs.Bodies.{names_given, param_of};
 ghost use Rattle.soy_tree.specs.Declarations.{is_among};
 ghost use Rattle.soy_tree.specs.ViewExpressions.{view_expr};
@@ -16,8 +16,7 @@ ghost use Rattle.ir_build.specs.ViewScene.{call_op, view_all};
 use crate::commands::push_op;
 use crate::output::Output;
 use crate::scene::Scene;
-use crate::template::Declared;
-use crate::templates::callee_number;
+use crate::templates::{Templates, callee_number};
 use soy_base::{Kind, OutOfMemory, Place, Seq, Span, Text};
 use soy_tree::{Argument, Expr, Param};
 use std::alloc::Global;
@@ -84,18 +83,11 @@ fn add_one(alloc: Global, handed: &mut Vec<Handed>, name: &Text) -> Result<(), O
     Ok(())
 }
 
-/// The template of a number.
-fn declared_at<'d, 'a>(all: &'d [Declared<'a>], number: usize) -> Option<&'d Declared<'a>>
-    ensures { option_map (λ d. d.now) result ≡ slice_get all.now number }
-{
-    all.get(number)
-}
-
 /// The parameters of the template of a number, and none past all templates.
-fn params_at<'a>(all: &[Declared<'a>], number: usize) -> &'a [Param]
+fn params_at<'a>(all: &Templates<'a>, number: usize) -> &'a [Param]
     ensures { view_params result.now ≡ params_there (slice_get (view_all all.now) number) }
 {
-    match declared_at(all, number) {
+    match all.get(number) {
         Some(declared) => declared.template.params.items(),
         None => &[],
     }

@@ -11,6 +11,7 @@ mod building;
 mod calls;
 mod commands;
 mod messages;
+mod names;
 mod output;
 mod parts;
 mod placeholders;

@@ -1,8 +1,9 @@
 //! What the ops of a template go by.
 
-use crate::template::Declared;
+use crate::templates::Templates;
+use crate::translations::Translations;
 use soy_base::{Place, Text};
-use soy_tree::{Bundle, Param};
+use soy_tree::Param;
 use std::alloc::Global;
 
 /// The file, the namespace and the parameters of a template, the templates of all files, the bundle that brings the
@@ -13,7 +14,7 @@ pub(crate) struct Scene<'a> {
     pub file: u32,
     pub namespace: &'a Text,
     pub params: &'a [Param],
-    pub declared: &'a [Declared<'a>],
-    pub bundle: &'a Bundle,
+    pub declared: &'a Templates<'a>,
+    pub bundle: &'a Translations<'a>,
     pub places: &'a [Place],
 }

@@ -1,18 +1,85 @@
 //! The templates of all files, in order, and the number of the one that a call means.
 
-ghost use Rattle.std.specs.Prelude.{◌≡◌, ◌<◌, ◌^◌, ◌++◌, ◌==◌, IfOk, OnOk, length, map, option_map};
+ghost use Rattle.std.specs.Prelude.{◌≡◌, ◌<◌, ◌^◌, ◌++◌, ◌==◌, IfOk, OnOk, length, map, option_map, slice_get};
 ghost use Rattle.std.specs.List.{list_any};
 ghost use Rattle.std.specs.Str.{chars};
 ghost use Rattle.soy_base.specs.Characters.{full_stop};
 ghost use Rattle.soy_tree.specs.Templates.{called_name, declared, declared_in, is_visible_from, joined_name};
 ghost use Rattle.soy_tree.specs.ViewTrees.{view_template, view_trees};
 ghost use Rattle.template_ir.specs.Compiles.{callee_number, number_of};
+ghost use Rattle.ir_build.specs.FullNames.{full_names};
+ghost use Rattle.ir_build.specs.Numbers.{number_if_visible};
 ghost use Rattle.ir_build.specs.ViewScene.{view_all, view_declared};
 
+use crate::names::Names;
 use crate::template::Declared;
 use soy_base::{OutOfMemory, Text, push_char, push_text};
 use soy_tree::Tree;
 use std::alloc::Global;
+use std::marker::Model;
+
+/// Templates, which contracts see as their list. The first of a full name is found without a walk over the list.
+#[derive(Drop)]
+pub(crate) struct Templates<'a> {
+    declared: &'a [Declared<'a>],
+    names: Names<'a>,
+}
+
+impl<'a> Model for Templates<'a> {
+    ghost use Rattle.std.specs.Prelude.{◌≡◌, List};
+    ghost use Rattle.ir_build.specs.FullNames.{full_names};
+    ghost use Rattle.ir_build.specs.declared.template.Declared.{Declared};
+    ghost use Rattle.std.specs.Coded.{codes};
+    ghost use Rattle.soy_tree.specs.contracts.soy_type.SoyType as soy_type;
+    ghost use Rattle.soy_tree.specs.contracts.expr.Expr as expr;
+    ghost use Rattle.soy_tree.specs.contracts.node.Node as node;
+
+    ghost Value = { List Declared };
+
+    ghost coded = { Prim.hlevel (codes, soy_type.the_row.coded, expr.the_row.coded, node.the_row.coded) };
+
+    ghost view = { λ s. s.declared.now };
+
+    ghost invariant = { λ s. s.names ≡ full_names s.declared.now };
+}
+
+impl<'a> Templates<'a> {
+    /// These templates.
+    pub(crate) fn new(
+        alloc: Global,
+        declared: &'a [Declared<'a>],
+    ) -> Result<Templates<'a>, OutOfMemory>
+        ensures { IfOk result (λ all. all ≡ declared.now) }
+    {
+        let names = Names::new(alloc, full_names(alloc, declared)?)?;
+        Ok(Templates { declared, names })
+    }
+
+    /// The templates in order.
+    pub(crate) fn declared(&self) -> &'a [Declared<'a>]
+        ensures { result.now ≡ self.now }
+    {
+        self.declared
+    }
+
+    /// The template of a number.
+    pub(crate) fn get(&self, number: usize) -> Option<&'a Declared<'a>>
+        ensures { option_map (λ d. d.now) result ≡ slice_get self.now number }
+    {
+        self.declared.get(number)
+    }
+}
+
+/// The full names of templates.
+fn full_names<'a>(alloc: Global, declared: &'a [Declared<'a>]) -> Result<Vec<&'a Text>, OutOfMemory>
+    ensures { IfOk result (λ names. map (λ name. name.now) names.items ≡ full_names declared.now) }
+{
+    let mut names = Vec::new(alloc);
+    for one in declared {
+        names.push(&one.full)?;
+    }
+    Ok(names)
+}
 
 /// The templates of all files.
 pub(crate) fn all_templates<'a>(
@@ -96,25 +163,29 @@ fn is_visible(declared: &Declared<'_>, namespace: &Text) -> bool
 
 /// How many templates stand before the first of a full name, if the namespace sees that one, and else how many there
 /// are.
-fn number_of(all: &[Declared<'_>], namespace: &Text, full: &Text) -> usize
+fn number_of(all: &Templates<'_>, namespace: &Text, full: &Text) -> usize
     ensures { result ≡ number_of namespace.now full.now (view_all all.now) }
 {
-    for (at, declared) in all.iter().enumerate() {
-        if declared.full.is(full.text()) {
-            return if is_visible(declared, namespace) {
-                at
-            } else {
-                all.len()
-            };
-        }
+    match all.names.number(full) {
+        Some(number) => number_if_visible(all.declared, namespace, number),
+        None => all.declared.len(),
     }
-    all.len()
+}
+
+/// The number of a template, if the namespace sees it, and else how many there are.
+fn number_if_visible(all: &[Declared<'_>], namespace: &Text, number: usize) -> usize
+    ensures { result ≡ number_if_visible namespace.now all.now number }
+{
+    match all.get(number) {
+        Some(declared) if is_visible(declared, namespace) => number,
+        _ => all.len(),
+    }
 }
 
 /// The number of the template that a call in a namespace means by a name.
 pub(crate) fn callee_number(
     alloc: Global,
-    all: &[Declared<'_>],
+    all: &Templates<'_>,
     namespace: &Text,
     name: &Text,
 ) -> Result<usize, OutOfMemory>

@@ -7,5 +7,5 @@ use Rattle.ir_build.proofs.building.routines.Given as goal
 
 abbrev pub invariant-loop-one : goal.invariant-loop-one
 invariant-loop-one l =
-    RoutinesOn (language_of l.bundle) (view_all l.all) l.places l.all l.one-index (view_output l.initial.out)
+    RoutinesOn (language_of l.bundle) (view_all l.all) l.places l.declared l.one-index (view_output l.initial.out)
     (view_output l.out) (map view_routine l.routines.items)
