@@ -13,4 +13,6 @@ mod programs;
 #[cfg(test)]
 mod reading;
 #[cfg(test)]
+mod rows;
+#[cfg(test)]
 mod written;

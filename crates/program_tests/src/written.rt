@@ -1,9 +1,9 @@
-//! Programs in a small text form: the ops with their positions, and then the templates. A block is `first-end`, a print
-//! is its variable with its place, and other expressions are left out.
+//! Programs in a small text form: the ops in their order, and then the templates. A block is `first-end`, and a print
+//! is its expression, `@` and its place. Of expressions there are variables, literals, members and some operators of two.
 
 use plural_rules::Category;
 use soy_base::{Kind, OutOfMemory, Place, push_text};
-use soy_tree::{Expr, ExprNode};
+use soy_tree::{BinaryOp, Expr, ExprNode};
 use std::alloc::Global;
 use template_ir::{Block, Callee, HandedBy, Op, PluralOp, ProgramParts, SelectOp};
 
@@ -33,8 +33,10 @@ fn push_other(alloc: Global, out: &mut String, block: &Option<Block>) -> Result<
     }
 }
 
-fn push_expr(alloc: Global, out: &mut String, expr: &Expr) -> Result<(), OutOfMemory> {
+/// A variable or a literal.
+fn push_atom(alloc: Global, out: &mut String, expr: &Expr) -> Result<(), OutOfMemory> {
     match &expr.node {
+        ExprNode::Null => push_text(out, "null"),
         ExprNode::Var(name) => {
             push_text(out, "$")?;
             push_text(out, name.text())
@@ -43,15 +45,63 @@ fn push_expr(alloc: Global, out: &mut String, expr: &Expr) -> Result<(), OutOfMe
             let digits = number.to_string(alloc)?;
             push_text(out, digits.as_str())
         }
+        ExprNode::Str(text) => {
+            push_text(out, "'")?;
+            push_text(out, text.text())?;
+            push_text(out, "'")
+        }
         _ => push_text(out, "?"),
+    }
+}
+
+/// An operator between two variables or literals.
+fn push_pair(
+    alloc: Global,
+    out: &mut String,
+    left: &Expr,
+    word: &str,
+    right: &Expr,
+) -> Result<(), OutOfMemory> {
+    push_atom(alloc, out, left)?;
+    push_text(out, word)?;
+    push_atom(alloc, out, right)
+}
+
+fn operator_word(operator: BinaryOp) -> &'static str {
+    match operator {
+        BinaryOp::Add => " + ",
+        BinaryOp::Sub => " - ",
+        BinaryOp::Gt => " > ",
+        _ => " ? ",
+    }
+}
+
+fn push_expr(alloc: Global, out: &mut String, expr: &Expr) -> Result<(), OutOfMemory> {
+    match &expr.node {
+        ExprNode::Member(of, name, _) => {
+            push_atom(alloc, out, of.get())?;
+            push_text(out, ".")?;
+            push_text(out, name.text())
+        }
+        ExprNode::Binary(operator, left, right) => {
+            push_pair(alloc, out, left.get(), operator_word(*operator), right.get())
+        }
+        ExprNode::Coalesce(left, right) => push_pair(alloc, out, left.get(), " ?: ", right.get()),
+        _ => push_atom(alloc, out, expr),
     }
 }
 
 fn place_word(place: Place) -> &'static str {
     match place {
         Place::Text => "text",
+        Place::Rcdata => "rcdata",
+        Place::Tag => "tag",
         Place::Attr => "attr",
         Place::UriStart => "uri",
+        Place::UriQuery => "query",
+        Place::JsValue => "script",
+        Place::JsDouble => "double",
+        Place::CssValue => "style",
         Place::Plain => "plain",
         _ => "?",
     }
@@ -67,9 +117,12 @@ fn kind_word(kind: Kind) -> &'static str {
 
 fn category_word(category: Category) -> &'static str {
     match category {
+        Category::Zero => "zero",
         Category::One => "one",
+        Category::Two => "two",
+        Category::Few => "few",
+        Category::Many => "many",
         Category::Other => "other",
-        _ => "?",
     }
 }
 
