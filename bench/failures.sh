@@ -5,15 +5,8 @@
 # whose output is no prefix of the page; ends with 1 where there is one. Runs the program that is named, or ./soyc,
 # which is built where it has to be. Needs cc and glibc.
 set -u
-top=$(cd "$(dirname "${BASH_SOURCE[0]}")/.." && pwd)
-work=$(mktemp -d)
-trap 'rm -rf "$work"' EXIT
-if (($# > 0)); then
-    soyc=$1
-else
-    "$top/soyc" >/dev/null 2>&1
-    soyc=$top/crates/soyc/out/soyc
-fi
+. "$(dirname "$0")/setup.sh"
+find_program "$@"
 shop=$top/examples/shop
 wrong=0
 

@@ -3,15 +3,8 @@
 # each. Prints the least time of five runs, the peak of memory, and how many times longer a run takes than a copy of the
 # same bytes: of the page, or of the files. Runs the program that is named, or ./soyc, which is built where it has to be.
 set -eu
-top=$(cd "$(dirname "${BASH_SOURCE[0]}")/.." && pwd)
-work=$(mktemp -d)
-trap 'rm -rf "$work"' EXIT
-if (($# > 0)); then
-    soyc=$1
-else
-    "$top/soyc" >/dev/null 2>&1 || [ $? -eq 2 ]
-    soyc=$top/crates/soyc/out/soyc
-fi
+. "$(dirname "$0")/setup.sh"
+find_program "$@"
 
 # least COMMAND..: the least microseconds of five runs, the output in a file.
 least() {

@@ -4,6 +4,17 @@ top=$(cd "$(dirname "${BASH_SOURCE[0]}")/.." && pwd)
 work=$(mktemp -d)
 trap 'rm -rf "$work"' EXIT
 
+# find_program [PROGRAM]: the program that is named, or ./soyc, which is built where it has to be (with no words it then
+# ends with 2).
+find_program() {
+    if (($# > 0)); then
+        soyc=$1
+    else
+        "$top/soyc" >/dev/null 2>&1 || [ $? -eq 2 ]
+        soyc=$top/crates/soyc/out/soyc
+    fi
+}
+
 begin() {
     local name=$1 crate
     shift
