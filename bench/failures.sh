@@ -67,23 +67,17 @@ said() {
 
 # each CALL STATUS PAGE WORDS..: lets each call fail in turn, until none is left.
 each() {
-    local call=$1 wanted=$2 page=$3 at status survived=0
+    local call=$1 wanted=$2 page=$3 at status
     shift 3
     for ((at = 1; ; at++)); do
         rm -f "$work/reached"
         LD_PRELOAD=$work/failing.so FAIL=$call AT=$at REACHED=$work/reached "$soyc" "$@" >"$work/out" 2>"$work/err"
         status=$?
         [[ -e $work/reached ]] || break
-        # What a run gets by, with the whole page, is counted apart.
-        if [[ $call == memory && $status == 0 ]] && said 0 "$page"; then
-            survived=$((survived + 1))
-            continue
-        fi
         if ((status != wanted)); then differs "$1, $call $at"; fi
         if ! said "$wanted" "$page"; then differs "$1, $call $at"; fi
     done
-    printf '%s: %d times %s, to end with %d, and %d times with the whole page\n' "$1" $((at - 1 - survived)) "$call" \
-        "$wanted" "$survived"
+    printf '%s: %d times %s, to end with %d\n' "$1" $((at - 1)) "$call" "$wanted"
 }
 
 # once TEXT: whether a run ended with 4.

@@ -18,11 +18,18 @@ use std::process::ExitCode;
 
 /// The words of the command line without the program's own name, and none where one isn't UTF-8.
 fn words(rt: &HostRuntime, alloc: Global) -> Result<Vec<String>, Status> {
+    let mut words = Vec::new(alloc);
     match env::args(rt) {
-        Ok(args) => args.skip(1).collect(alloc).map_err(|_| Status::Memory),
-        Err(error) if error.kind() == ErrorKind::OutOfMemory => Err(Status::Memory),
-        Err(_) => Ok(Vec::new(alloc)),
+        Ok(args) => {
+            // Where `collect` is refused its first room, it goes on: here each refusal is answered.
+            for word in args.skip(1) {
+                words.push(word).map_err(|_| Status::Memory)?;
+            }
+        }
+        Err(error) if error.kind() == ErrorKind::OutOfMemory => return Err(Status::Memory),
+        Err(_) => {}
     }
+    Ok(words)
 }
 
 fn main(rt: HostRuntime) -> ExitCode {
