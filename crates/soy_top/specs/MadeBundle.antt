@@ -2,8 +2,8 @@
 --
 -- It is written from right to left, its rule for one is `n = 1`, and the translation of each message, under its id, is
 -- its canonical text in brackets.
--- Example: with one message `Hi` of the id 01 it is
--- `{"dir":"rtl","messages":{"01":"[Hi]"},"plural":{"one":"n = 1"}}`.
+-- Example: with one message `Hi`, whose id is ceec7297960080e6, it is
+-- `{"dir":"rtl","messages":{"ceec7297960080e6":"[Hi]"},"plural":{"one":"n = 1"}}`.
 use Rattle.std.specs.Prelude.{ℕ, List, [], ◌∷◌, ◌++◌, codes, encode_utf8_all}
 use Rattle.serde_json.specs.Data.{Data, Members, member, no_members, object, put, string}
 use Rattle.serde_json.specs.Written.{compact_text}

@@ -1,6 +1,7 @@
 -- The summary of a text that was rendered of a workload, in five lines: how many templates, messages and items the
 -- workload has, the number of the text's bytes (2^64 - 1 where there are more), and their SHA-256 (FIPS 180-4) in lower
 -- hexadecimal digits.
+-- Example: of the text `a` the fourth line is `bytes 1`, and the fifth begins with `sha256 ca978112`.
 use Rattle.std.specs.Prelude.{ℕ, ◌-◌, ◌^◌, List, ◌++◌, codes, length, min}
 use Rattle.std.specs.Fmt.{decimal}
 use Rattle.hex.specs.Hex.{encode_lower}
