@@ -15,4 +15,4 @@ IsKept rows k =
     walk page_machine (plan_at rows k.body) (walked k.before.items []) ≡ Ok (walked k.after.items k.places.items)
 
 abbrev pub AllKept : List Row → Memo → Type 0
-AllKept rows memo = All (λ kept. All (λ k. IsKept rows k) kept.items) memo.bodies.items
+AllKept rows memo = All (λ k. IsKept rows k) memo.kept.items

@@ -1,7 +1,6 @@
 //! What the bodies of loops did from lists of states.
 
 ghost use Rattle.std.specs.Prelude.{◌≡◌, ◌++◌, [], Ok, IfOk, IfSome, IsTrue, OnOk};
-ghost use Rattle.std.specs.List.{All};
 ghost use Rattle.soy_meaning.specs.PageMachine.{page_machine};
 ghost use Rattle.soy_meaning.specs.Walk.{walk, walked};
 ghost use Rattle.html_context.specs.Kept.{AllKept, IsKept};
@@ -11,6 +10,7 @@ use crate::table::Row;
 use html_state::State;
 use soy_base::{OutOfMemory, Place};
 use std::alloc::Global;
+use std::collections::HashMap;
 
 /// What a body did once: the number of its row, the states before, those after, and the places of its holes.
 #[derive(Drop)]
@@ -21,21 +21,70 @@ pub(crate) struct Kept {
     pub places: Vec<Place>,
 }
 
-/// What bodies did, in a list for each row.
+/// What bodies did. It is found by numbers: those of the states among the ones that the same body met before, which are
+/// few, where the lists of them are many.
 #[derive(Drop)]
 pub(crate) struct Memo {
-    pub bodies: Vec<Vec<Kept>>,
+    met: Vec<Vec<State>>,
+    numbers: HashMap<Vec<usize>, usize>,
+    pub kept: Vec<Kept>,
 }
 
 /// Nothing was done by bodies of so many rows.
 pub(crate) fn new_memo(alloc: Global, rows: &[Row]) -> Result<Memo, OutOfMemory>
     ensures { IfOk result (λ memo. AllKept rows.now memo) }
 {
-    let mut bodies = Vec::new(alloc);
+    let mut met = Vec::new(alloc);
     for _ in rows {
-        bodies.push(Vec::new(alloc))?;
+        met.push(Vec::new(alloc))?;
     }
-    Ok(Memo { bodies })
+    Ok(Memo {
+        met,
+        numbers: HashMap::new(alloc),
+        kept: Vec::new(alloc),
+    })
+}
+
+/// The number of a state among those that were met, to which it is added where it is new.
+fn number_of(met: &mut Vec<State>, state: &State) -> Result<usize, OutOfMemory> {
+    let count = met.len();
+    for (number, other) in met.iter().enumerate() {
+        if other == state {
+            return Ok(number);
+        }
+    }
+    met.push(*state)?;
+    Ok(count)
+}
+
+/// A body, and the numbers of states among those that it met.
+fn numbers_of(
+    alloc: Global,
+    body: usize,
+    met: &mut Vec<State>,
+    states: &[State],
+) -> Result<Vec<usize>, OutOfMemory> {
+    let mut numbers = Vec::new(alloc);
+    numbers.push(body)?;
+    for state in states {
+        numbers.push(number_of(met, state)?)?;
+    }
+    Ok(numbers)
+}
+
+/// By which numbers it is found what a body did from these states.
+pub(crate) fn key_of(
+    alloc: Global,
+    memo: &mut Memo,
+    body: usize,
+    before: &[State],
+) -> Result<Vec<usize>, OutOfMemory>
+    ensures { OnOk result (memo.new.kept ≡ memo.old.kept) }
+{
+    match memo.met.get_mut(body) {
+        None => Ok(Vec::new(alloc)),
+        Some(met) => numbers_of(alloc, body, met, before),
+    }
 }
 
 /// Whether two lists have the same states.
@@ -46,37 +95,42 @@ fn are_same(one: &[State], other: &[State]) -> bool
     one == other
 }
 
-/// What a body did from these states, if that is kept.
+/// What a body did from these states, if that is kept under their key.
 pub(crate) fn kept_from<'k>(
     rows: &[Row],
-    kept: &'k [Kept],
+    memo: &'k Memo,
+    key: &[usize],
     body: usize,
     before: &[State],
 ) -> Option<&'k Kept>
-    requires { All (λ k. IsKept rows.now k) kept.now }
+    requires { AllKept rows.now memo.now }
     ensures { IfSome result (λ k. walk page_machine (plan_at rows.now body) (walked before.now [])
         ≡ Ok (walked k.now.after.items k.now.places.items)) }
 {
     let _ = rows;
-    for one in kept {
-        if one.body == body && are_same(&one.before, before) {
-            return Some(one);
-        }
+    let number = memo.numbers.get(key)?;
+    let kept = memo.kept.get(*number)?;
+    if kept.body == body && are_same(&kept.before, before) {
+        return Some(kept);
     }
     None
 }
 
-/// Keeps what a body did.
-pub(crate) fn keep(rows: &[Row], memo: &mut Memo, kept: Kept) -> Result<(), OutOfMemory>
+/// Keeps what a body did, under the key of the states before.
+pub(crate) fn keep(
+    rows: &[Row],
+    memo: &mut Memo,
+    key: Vec<usize>,
+    kept: Kept,
+) -> Result<(), OutOfMemory>
     requires all { AllKept rows.now memo.old }
     requires one { IsKept rows.now kept }
     ensures { OnOk result (AllKept rows.now memo.new) }
 {
     let _ = rows;
-    if kept.body < memo.bodies.len() {
-        let all = &mut memo.bodies[kept.body];
-        all.push(kept)?;
-    }
+    let number = memo.kept.len();
+    memo.kept.push(kept)?;
+    memo.numbers.insert(key, number)?;
     Ok(())
 }
 

@@ -1,6 +1,6 @@
 //! The walk over a table: each function gives what the walk gives of the plan of what it is given.
 
-ghost use Rattle.std.specs.Prelude.{◌≡◌, ◌<◌, [], Ok, IfSome, OnOk, map};
+ghost use Rattle.std.specs.Prelude.{◌≡◌, ◌<◌, [], OnOk, map};
 ghost use Rattle.soy_meaning.specs.PageMachine.{page_machine};
 ghost use Rattle.soy_meaning.specs.Plan.{Frame, Loop, arms_meet, in_turn};
 ghost use Rattle.soy_meaning.specs.Walk.{all_may_end, walk, walked};
@@ -11,7 +11,7 @@ ghost use Rattle.html_context.specs.Walks.{Gives, Walks, view_site};
 
 use crate::fault::{Site, Stop, stop};
 use crate::hole::{hole, within_limit};
-use crate::memo::{Kept, Memo, add_places, keep, kept_from, new_memo};
+use crate::memo::{Kept, Memo, add_places, keep, kept_from, key_of, new_memo};
 use crate::states::{copied, join};
 use crate::table::{Row, Table};
 use crate::text::text;
@@ -39,18 +39,6 @@ pub(crate) struct Walker<'t> {
 }
 
 impl<'t> Walker<'t> {
-    /// What a body did from these states, if that is kept.
-    fn find<'k>(&self, memo: &'k Memo, body: usize, before: &[State]) -> Option<&'k Kept>
-        requires { AllKept self.now.rows.now memo.now }
-        ensures { IfSome result (λ k. walk page_machine (plan_at self.now.rows.now body) (walked before.now [])
-            ≡ Ok (walked k.now.after.items k.now.places.items)) }
-    {
-        match memo.bodies.get(body) {
-            None => None,
-            Some(kept) => kept_from(self.rows, kept, body, before),
-        }
-    }
-
     /// The states after the row of a number that is smaller than the limit; else they stay.
     #[cycle(walking)]
     #[tactic(auto, using(crate::proofs::RowPlans::below_none, crate::proofs::RowPlans::below_past, crate::proofs::RowPlans::below_row))]
@@ -193,20 +181,22 @@ impl<'t> Walker<'t> {
         if limit <= body {
             return Ok(copied(self.alloc, before)?);
         }
-        if let Some(kept) = self.find(memo, body, before) {
+        let key = key_of(self.alloc, memo, body, before)?;
+        if let Some(kept) = kept_from(self.rows, memo, &key, body, before) {
             add_places(places, &kept.places)?;
             return Ok(copied(self.alloc, &kept.after)?);
         }
-        self.new_turn(limit, body, before, places, memo)
+        self.new_turn(limit, body, key, before, places, memo)
     }
 
-    /// The same where nothing is kept.
+    /// The same where nothing is kept under the key.
     #[cycle(walking)]
     #[tactic(auto, using(crate::proofs::RowPlans::below_at, crate::proofs::PlacesApart::apart_from_none))]
     fn new_turn(
         &self,
         limit: usize,
         body: usize,
+        key: Vec<usize>,
         before: &[State],
         places: &mut Vec<Place>,
         memo: &mut Memo,
@@ -226,7 +216,7 @@ impl<'t> Walker<'t> {
             after: copied(self.alloc, &after)?,
             places: added,
         };
-        keep(self.rows, memo, kept)?;
+        keep(self.rows, memo, key, kept)?;
         Ok(after)
     }
 
