@@ -1,6 +1,8 @@
 pub mod AsciiTexts
 pub mod CanonicalReads
 pub mod CatalogueData
+pub mod ContentHash
+pub mod ContentKeys
 pub mod CutSteps
 pub mod Decimals
 pub mod ItemLists
@@ -10,15 +12,18 @@ pub mod ListedIds
 pub mod MessageCuts
 pub mod MessageNames
 pub mod MessageRows
+pub mod NameGroups
 pub mod NameSteps
 pub mod OwnNames
 pub mod PieceLists
 pub mod PlaceholderNodes
+pub mod PlaceholderRows
 pub mod PluralPieces
 pub mod QuotedRuns
 pub mod RoleNames
 pub mod SelectorRows
 pub mod TagNames
 pub mod TextOfParts
+pub mod Tries
 pub mod ViewBodies
 pub mod WrittenText

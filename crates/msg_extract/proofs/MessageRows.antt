@@ -27,12 +27,11 @@ names_are : (of : NameKind) (body : MessageBody) (ps : List Piece) → ps ≡ bo
 names_are of body ps e = ap (role_names of) (ap uses_in e ∙ body_pieces_uses false body)
 
 -- a row of the catalogue, made of what its calls give
-pub row_is : (desc meaning : List ℕ) (body : MessageBody) (span : Span) (ps qs rs ss : List Piece)
-    (id text copied meant : List ℕ) (placeholders plurals selects : List Name)
-    → ps ≡ body_pieces false body → qs ≡ body_pieces false body → rs ≡ body_pieces false body
-    → ss ≡ body_pieces false body → text ≡ pieces_text (uses_in ps) ps → id ≡ id_of_text meaning text
-    → copied ≡ desc → meant ≡ meaning → placeholders ≡ role_names kind.Placeholder (uses_in qs)
-    → plurals ≡ role_names kind.Plural (uses_in rs) → selects ≡ role_names kind.Select (uses_in ss)
+pub row_is : (desc meaning : List ℕ) (body : MessageBody) (span : Span) (ps : List Piece)
+    (id text copied meant : List ℕ) (placeholders plurals selects : List Name) → ps ≡ body_pieces false body → text ≡ pieces_text (uses_in ps) ps
+    → id ≡ id_of_text meaning text → copied ≡ desc → meant ≡ meaning
+    → placeholders ≡ role_names kind.Placeholder (uses_in ps) → plurals ≡ role_names kind.Plural (uses_in ps)
+    → selects ≡ role_names kind.Select (uses_in ps)
     → record {
       id = id;
       desc = copied;
@@ -42,7 +41,7 @@ pub row_is : (desc meaning : List ℕ) (body : MessageBody) (span : Span) (ps qs
       plurals = plurals;
       selects = selects;
     } ≡ listed (message desc meaning body span)
-row_is desc meaning body span ps qs rs ss id text copied meant placeholders plurals selects e1 e2 e3 e4 t i d m p l s =
+row_is desc meaning body span ps id text copied meant placeholders plurals selects e t i d m p l s =
     rw (
       i,
       t,
@@ -51,8 +50,8 @@ row_is desc meaning body span ps qs rs ss id text copied meant placeholders plur
       p,
       l,
       s,
-      text_is body ps e1,
-      names_are kind.Placeholder body qs e2,
-      names_are kind.Plural body rs e3,
-      names_are kind.Select body ss e4,
+      text_is body ps e,
+      names_are kind.Placeholder body ps e,
+      names_are kind.Plural body ps e,
+      names_are kind.Select body ps e,
     ) refl

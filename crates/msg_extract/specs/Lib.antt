@@ -2,14 +2,17 @@ pub mod Ascii
 pub mod CanonicalText
 pub mod Catalogue
 pub mod CatalogueText
+pub mod ContentHash
+pub mod ContentLaws
 pub mod Extracts
 pub mod Fits
 pub mod ListedIds
 pub mod MessageId
 pub mod MessagesIn
-pub mod NameSteps
+pub mod NameGroups
 pub mod Pieces
 pub mod PlaceholderNodes
+pub mod PlaceholderRows
 pub mod QuotedRuns
 pub mod RepeatedCases
 pub mod RoleNames
@@ -19,6 +22,8 @@ pub mod TagNames
 pub mod TextOfPiece
 pub mod ViewCutter
 pub mod ViewItems
+pub mod ViewKeys
 pub mod ViewMessages
+pub mod ViewNames
 pub mod ViewPieces
 pub mod ViewPlaceholders

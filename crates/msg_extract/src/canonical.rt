@@ -5,13 +5,14 @@ ghost use Rattle.soy_base.specs.Appends.{Appends};
 ghost use Rattle.soy_tree.specs.ViewNodes.{view_body, view_message};
 ghost use Rattle.msg_extract.specs.CanonicalText.{canonical_text};
 ghost use Rattle.msg_extract.specs.MessageId.{id_of, id_of_text};
-ghost use Rattle.msg_extract.specs.Pieces.{pieces_text, uses_in};
+ghost use Rattle.msg_extract.specs.Pieces.{pieces_text};
 ghost use Rattle.msg_extract.specs.TextOfPiece.{piece_text};
+ghost use Rattle.msg_extract.specs.ViewNames.{HasNames, named_uses};
 ghost use Rattle.msg_extract.specs.ViewPieces.{view_piece};
 
 use crate::ascii::empty;
-use crate::names::name_of;
-use crate::piece::{CodePiece, pieces_of};
+use crate::names::{Names, name_of, names_of};
+use crate::piece::CodePiece;
 use sha2::{Digest, Sha256};
 use soy_base::{OutOfMemory, Text, push_text};
 use soy_tree::{Message, MessageBody};
@@ -21,16 +22,16 @@ use std::alloc::Global;
 fn push_piece(
     alloc: Global,
     out: &mut String,
-    pieces: &[CodePiece<'_>],
+    names: &Names<'_>,
     piece: &CodePiece<'_>,
 ) -> Result<(), OutOfMemory>
-    ensures { OnOk result (Appends out.old out.new (piece_text (uses_in (map view_piece pieces.now))
-        (view_piece piece.now))) }
+    requires { HasNames names.now }
+    ensures { OnOk result (Appends out.old out.new (piece_text (named_uses names.now) (view_piece piece.now))) }
 {
     match piece {
         CodePiece::Text(text) => push_text(out, text.text()),
         CodePiece::Use(of) => {
-            let name = name_of(alloc, pieces, of)?;
+            let name = name_of(alloc, names, of)?;
             push_text(out, name.text())
         }
     }
@@ -38,12 +39,13 @@ fn push_piece(
 
 /// The text that pieces make.
 #[tactic(auto, using(crate::proofs::PieceLists::text_step, crate::proofs::PieceLists::append_assoc))]
-pub fn text_of_pieces(alloc: Global, pieces: &[CodePiece<'_>]) -> Result<Text, OutOfMemory>
-    ensures { IfOk result (λ t. t ≡ pieces_text (uses_in (map view_piece pieces.now)) (map view_piece pieces.now)) }
+pub fn text_of_pieces(alloc: Global, names: &Names<'_>) -> Result<Text, OutOfMemory>
+    requires { HasNames names.now }
+    ensures { IfOk result (λ t. t ≡ pieces_text (named_uses names.now) (map view_piece names.now.pieces)) }
 {
     let mut out = empty(alloc);
-    for piece in pieces {
-        push_piece(alloc, &mut out, pieces, piece)?;
+    for piece in names.pieces.items() {
+        push_piece(alloc, &mut out, names, piece)?;
     }
     Ok(Text::new(out))
 }
@@ -53,8 +55,8 @@ pub fn text_of_pieces(alloc: Global, pieces: &[CodePiece<'_>]) -> Result<Text, O
 pub fn canonical_text(alloc: Global, body: &MessageBody) -> Result<Text, OutOfMemory>
     ensures { IfOk result (λ t. t ≡ canonical_text (view_body body.now)) }
 {
-    let pieces = pieces_of(alloc, body)?;
-    text_of_pieces(alloc, pieces.items())
+    let names = names_of(alloc, body)?;
+    text_of_pieces(alloc, &names)
 }
 
 /// The id of a message of this meaning and canonical text.

@@ -17,7 +17,7 @@ ghost use Rattle.msg_extract.specs.ViewMessages.{view_found};
 use crate::canonical::{id_of_text, text_of_pieces};
 use crate::messages::messages_of;
 use crate::name_key::NameKey;
-use crate::piece::pieces_of;
+use crate::names::names_of;
 use crate::role_names::{NameKind, role_names};
 use indexmap::IndexSet;
 use serde_json::{Value, json};
@@ -55,14 +55,14 @@ struct Listing {
 fn row_of(alloc: Global, message: &Message) -> Result<Listed, OutOfMemory>
     ensures { IfOk result (λ l. l ≡ listed (view_message message.now)) }
 {
-    let pieces = pieces_of(alloc, &message.body)?;
-    let text = text_of_pieces(alloc, pieces.items())?;
+    let names = names_of(alloc, &message.body)?;
+    let text = text_of_pieces(alloc, &names)?;
     let id = id_of_text(alloc, &message.meaning, &text)?;
     let desc = message.desc.copy(alloc)?;
     let meaning = message.meaning.copy(alloc)?;
-    let placeholders = role_names(alloc, pieces.items(), NameKind::Placeholder)?;
-    let plurals = role_names(alloc, pieces.items(), NameKind::Plural)?;
-    let selects = role_names(alloc, pieces.items(), NameKind::Select)?;
+    let placeholders = role_names(alloc, &names, NameKind::Placeholder)?;
+    let plurals = role_names(alloc, &names, NameKind::Plural)?;
+    let selects = role_names(alloc, &names, NameKind::Select)?;
     Ok(Listed {
         id,
         desc,

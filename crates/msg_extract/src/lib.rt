@@ -9,6 +9,7 @@ mod ascii;
 mod base_name;
 mod canonical;
 mod catalogue;
+mod content_key;
 mod cut;
 mod item;
 mod laws;

@@ -1,145 +1,163 @@
 //! The names of a message's placeholders and selectors.
 
-ghost use Rattle.std.specs.Prelude.{◌≡◌, ◌+◌, [], map, length, IfOk, OnOk};
-ghost use Rattle.std.specs.List.{list_any};
-ghost use Rattle.std.specs.Str.{chars};
-ghost use Rattle.soy_tree.specs.Placeholders.{content_name, contents_after, free_number, has_base, is_same_content};
-ghost use Rattle.soy_tree.specs.Placeholders.{ExprContent, TagContent, name_of, numbered};
-ghost use Rattle.soy_tree.specs.Placeholders.{numbered_name};
-ghost use Rattle.soy_tree.specs.ViewExpressions.{view_expr};
-ghost use Rattle.msg_extract.specs.NameSteps.{contents_step, is_base_of, try_step};
-ghost use Rattle.msg_extract.specs.Pieces.{uses_in};
-ghost use Rattle.msg_extract.specs.ViewItems.{view_item};
+ghost use Rattle.std.specs.Prelude.{◌≡◌, ◌+◌, ◌∷◌, ◌++◌, [], false, not, map, length, option_map, slice_get};
+ghost use Rattle.std.specs.Prelude.{bytes_eq, IfOk, OnOk};
+ghost use Rattle.std.specs.List.{position, position_or_len};
+ghost use Rattle.soy_base.specs.Among.{is_among};
+ghost use Rattle.soy_tree.specs.Placeholders.{is_same_content, name_of, numbered_name, with_content};
+ghost use Rattle.soy_tree.specs.ViewNodes.{view_body};
+ghost use Rattle.msg_extract.specs.Catalogue.{with_name};
+ghost use Rattle.msg_extract.specs.NameGroups.{bases_after, bases_step, content_names, found_name, free_among};
+ghost use Rattle.msg_extract.specs.NameGroups.{group_names, groups_after, groups_step, is_use, name_at, name_in};
+ghost use Rattle.msg_extract.specs.NameGroups.{names_from, with_content_at, with_group, with_use};
+ghost use Rattle.msg_extract.specs.Pieces.{body_pieces, uses_in};
+ghost use Rattle.msg_extract.specs.ViewKeys.{view_groups, view_key};
+ghost use Rattle.msg_extract.specs.ViewNames.{HasNames, named_uses};
 ghost use Rattle.msg_extract.specs.ViewPieces.{content_of, view_piece};
 
 use crate::ascii::{decimal, empty};
-use crate::item::Item;
-use crate::piece::{CodePiece, NameUse, Named, copied_items};
-use crate::same::{are_same_items, is_same_expr};
-use soy_base::{OutOfMemory, Row, Text, push_char, push_text};
-use soy_tree::Expr;
+use crate::content_key::ContentKey;
+use crate::name_key::NameKey;
+use crate::piece::{CodePiece, NameUse, Named, pieces_of};
+use indexmap::IndexSet;
+use soy_base::{OutOfMemory, Row, Seq, Text, push_char, push_text};
+use soy_tree::MessageBody;
 use std::alloc::Global;
 
-/// Whether what is named has the same content.
-fn is_same(left: &Named<'_>, right: &Named<'_>) -> bool
-    ensures { result ≡ is_same_content (content_of left.now) (content_of right.now) }
-{
-    match left {
-        Named::Print(expr, _, _) => is_of_expr(expr, right),
-        Named::Plural(expr) => is_of_expr(expr, right),
-        Named::Select(expr) => is_of_expr(expr, right),
-        Named::Tag(tag) => is_of_tag(tag.items(), right),
-    }
+/// The base names of a message in order of first appearance, and the contents of each.
+#[derive(Drop)]
+struct Groups {
+    bases: IndexSet<NameKey>,
+    contents: Vec<IndexSet<ContentKey>>,
 }
 
-/// Whether what is named is a print or a selector of this expression.
-fn is_of_expr(expr: &Expr, of: &Named<'_>) -> bool
-    ensures { result ≡ is_same_content (ExprContent (view_expr expr.now)) (content_of of.now) }
-{
-    match of {
-        Named::Print(other, _, _) => is_same_expr(expr, other),
-        Named::Plural(other) => is_same_expr(expr, other),
-        Named::Select(other) => is_same_expr(expr, other),
-        Named::Tag(_) => false,
-    }
+/// The pieces of a message, and the names of the contents of each base name, found without a walk over them.
+#[derive(Drop)]
+pub struct Names<'a> {
+    pub pieces: Row<CodePiece<'a>>,
+    groups: Groups,
+    texts: Row<Seq<Text>>,
 }
 
-/// Whether what is named is a tag of these texts and prints.
-fn is_of_tag(tag: &[Item<'_>], of: &Named<'_>) -> bool
-    ensures { result ≡ is_same_content (TagContent (map view_item tag.now)) (content_of of.now) }
-{
-    match of {
-        Named::Print(_, _, _) => false,
-        Named::Plural(_) => false,
-        Named::Select(_) => false,
-        Named::Tag(other) => are_same_items(tag, other.items()),
-    }
-}
-
-/// Whether a piece is the use of a name with this base name.
-fn is_base_of(base: &str, piece: &CodePiece<'_>) -> bool
-    ensures { result ≡ is_base_of (chars base.now) (view_piece piece.now) }
-{
-    match piece {
-        CodePiece::Text(_) => false,
-        CodePiece::Use(of) => of.base.is(base),
-    }
-}
-
-/// Whether the pieces use a name with this base name.
-#[tactic(auto, using(crate::proofs::NameSteps::base_step))]
-fn has_base(base: &str, pieces: &[CodePiece<'_>]) -> bool
-    ensures { result ≡ has_base (chars base.now) (uses_in (map view_piece pieces.now)) }
-{
-    for piece in pieces {
-        if is_base_of(base, piece) {
-            return true;
-        }
-    }
-    false
-}
-
-/// Whether a content is one of these.
-fn has_content(contents: &[Named<'_>], of: &Named<'_>) -> bool
-    ensures { result ≡ list_any (is_same_content (content_of of.now)) (map content_of contents.now) }
-{
-    for content in contents {
-        if is_same(of, content) {
-            return true;
-        }
-    }
-    false
-}
-
-/// The same thing, named once more.
-fn copied<'a>(alloc: Global, of: &Named<'a>) -> Result<Named<'a>, OutOfMemory>
-    ensures { IfOk result (λ to. content_of to ≡ content_of of.now) }
-{
-    match of {
-        Named::Print(expr, phname, span) => Ok(Named::Print(expr, phname, *span)),
-        Named::Plural(expr) => Ok(Named::Plural(expr)),
-        Named::Select(expr) => Ok(Named::Select(expr)),
-        Named::Tag(tag) => Ok(Named::Tag(copied_items(alloc, tag.items())?)),
-    }
-}
-
-/// Adds the content of a piece, if that is a use of the base name and its content isn't yet there.
-#[tactic(auto, using(crate::proofs::CutSteps::map_append))]
-fn add_content<'a>(
+/// Adds an empty group, if the base name is a new one.
+fn push_group(
     alloc: Global,
-    contents: &mut Row<Named<'a>>,
-    base: &Text,
-    piece: &CodePiece<'a>,
+    contents: &mut Vec<IndexSet<ContentKey>>,
+    is_new: bool,
 ) -> Result<(), OutOfMemory>
-    ensures { OnOk result (map content_of contents.new
-        ≡ contents_step (map content_of contents.old) base.now (view_piece piece.now)) }
+    ensures { OnOk result (view_groups contents.new.items
+        ≡ with_group is_new (view_groups contents.old.items)) }
+{
+    if is_new {
+        contents.push(IndexSet::new(alloc))?;
+    }
+    Ok(())
+}
+
+/// Adds a content to a group, unless it is there.
+#[tactic(auto, using(crate::proofs::ContentKeys::with_key))]
+fn push_key(group: &mut IndexSet<ContentKey>, key: ContentKey) -> Result<(), OutOfMemory>
+    ensures { OnOk result (map view_key group.new.keys ≡ with_content (map view_key group.old.keys) (view_key key)) }
+{
+    group.insert(key)?;
+    Ok(())
+}
+
+/// Adds a content to the group of a number.
+fn push_content(
+    contents: &mut Vec<IndexSet<ContentKey>>,
+    number: usize,
+    key: ContentKey,
+) -> Result<(), OutOfMemory>
+    ensures { OnOk result (view_groups contents.new.items
+        ≡ with_content_at number (view_key key) (view_groups contents.old.items)) }
+{
+    if let Some(group) = contents.get_mut(number) {
+        push_key(group, key)?;
+    }
+    Ok(())
+}
+
+/// The number of a base name among those so far, which now have it, and whether it is a new one.
+fn push_base(bases: &mut IndexSet<NameKey>, base: Text) -> Result<(usize, bool), OutOfMemory>
+    ensures number { IfOk result (λ r. r.0 ≡ position_or_len (bytes_eq base) bases.old.keys) }
+    ensures new { IfOk result (λ r. r.1 ≡ not (is_among bases.old.keys base)) }
+    ensures added { OnOk result (bases.new.keys ≡ with_name bases.old.keys base) }
+{
+    Ok(bases.insert_full(NameKey::new(base))?)
+}
+
+/// Adds the base name and the content of a use.
+fn push_use(
+    alloc: Global,
+    groups: &mut Groups,
+    base: Text,
+    key: ContentKey,
+) -> Result<(), OutOfMemory>
+    ensures bases { OnOk result (groups.new.bases.keys ≡ with_name groups.old.bases.keys base) }
+    ensures contents { OnOk result (view_groups groups.new.contents.items
+        ≡ with_use groups.old.bases.keys (view_groups groups.old.contents.items) base (view_key key)) }
+{
+    let (number, is_new) = push_base(&mut groups.bases, base)?;
+    push_group(alloc, &mut groups.contents, is_new)?;
+    push_content(&mut groups.contents, number, key)
+}
+
+/// Adds the base name and the content of a piece, if it is a use.
+fn push_piece(alloc: Global, groups: &mut Groups, piece: &CodePiece<'_>) -> Result<(), OutOfMemory>
+    ensures bases { OnOk result (groups.new.bases.keys ≡ bases_step groups.old.bases.keys (view_piece piece.now)) }
+    ensures contents { OnOk result (view_groups groups.new.contents.items
+        ≡ groups_step groups.old.bases.keys (view_groups groups.old.contents.items) (view_piece piece.now)) }
 {
     match piece {
         CodePiece::Text(_) => Ok(()),
         CodePiece::Use(of) => {
-            if of.base.is(base.text()) && !has_content(contents.items(), &of.of) {
-                contents.push(copied(alloc, &of.of)?)?;
-            }
-            Ok(())
+            let base = of.base.copy(alloc)?;
+            let key = ContentKey::new(alloc, &of.of)?;
+            push_use(alloc, groups, base, key)
         }
     }
 }
 
-/// The contents of a base name, each once, in order of first appearance.
-#[tactic(auto, using(crate::proofs::NameSteps::contents_steps))]
-fn contents_of<'a>(
-    alloc: Global,
-    pieces: &[CodePiece<'a>],
-    base: &Text,
-) -> Result<Row<Named<'a>>, OutOfMemory>
-    ensures { IfOk result (λ contents. map content_of contents
-        ≡ contents_after [] base.now (uses_in (map view_piece pieces.now))) }
+/// The base names and contents of pieces.
+#[tactic(auto, using(crate::proofs::NameSteps::bases_steps, crate::proofs::NameSteps::groups_steps))]
+fn groups_of(alloc: Global, pieces: &[CodePiece<'_>]) -> Result<Groups, OutOfMemory>
+    ensures bases { IfOk result (λ groups. groups.bases.keys ≡ bases_after [] (uses_in (map view_piece pieces.now))) }
+    ensures contents { IfOk result (λ groups. view_groups groups.contents.items
+        ≡ groups_after [] [] (uses_in (map view_piece pieces.now))) }
 {
-    let mut contents = Row::empty(alloc);
+    let mut groups = Groups {
+        bases: IndexSet::new(alloc),
+        contents: Vec::new(alloc),
+    };
     for piece in pieces {
-        add_content(alloc, &mut contents, base, piece)?;
+        push_piece(alloc, &mut groups, piece)?;
     }
-    Ok(contents)
+    Ok(groups)
+}
+
+/// Whether a piece is the use of a name.
+fn is_use(piece: &CodePiece<'_>) -> bool
+    ensures { result ≡ is_use (view_piece piece.now) }
+{
+    match piece {
+        CodePiece::Text(_) => false,
+        CodePiece::Use(_) => true,
+    }
+}
+
+/// The number of the uses of names among pieces.
+#[tactic(auto, using(crate::proofs::NameSteps::use_counted, crate::proofs::NameSteps::text_passed))]
+fn use_count(pieces: &[CodePiece<'_>]) -> usize
+    ensures { result ≡ length (uses_in (map view_piece pieces.now)) }
+{
+    let mut count = 0usize;
+    for piece in pieces {
+        if is_use(piece) {
+            count += 1;
+        }
+    }
+    count
 }
 
 /// A base name with a number.
@@ -164,85 +182,251 @@ fn next(number: u64) -> Result<u64, OutOfMemory>
     Ok(number + 1)
 }
 
-/// The number to try after this one, if this one makes another base name and the piece gives a further try.
-fn next_try(
+/// Whether a base name with a number is another base name.
+fn is_taken(
     alloc: Global,
-    pieces: &[CodePiece<'_>],
+    bases: &IndexSet<NameKey>,
     base: &Text,
     number: u64,
-    piece: &CodePiece<'_>,
-) -> Result<Option<u64>, OutOfMemory>
-    ensures { IfOk result (λ n. n ≡ try_step base.now (uses_in (map view_piece pieces.now)) number
-        (view_piece piece.now)) }
+) -> Result<bool, OutOfMemory>
+    ensures { IfOk result (λ is. is ≡ is_among bases.now.keys (numbered_name base.now number)) }
 {
-    match piece {
-        CodePiece::Text(_) => Ok(Some(number)),
-        CodePiece::Use(_) => {
-            let name = numbered_name(alloc, base, number)?;
-            if has_base(name.text(), pieces) {
-                Ok(Some(next(number)?))
-            } else {
-                Ok(None)
-            }
-        }
-    }
+    let name = NameKey::new(numbered_name(alloc, base, number)?);
+    Ok(bases.contains(&name))
 }
 
-/// The first number from this one on that makes no other base name.
-#[tactic(auto, using(crate::proofs::NameSteps::try_goes_on, crate::proofs::NameSteps::try_ends))]
+/// The first number from this one on that makes no other base name, after so many tries at most.
+#[tactic(auto, using(crate::proofs::Tries::goes_on, crate::proofs::Tries::ends, crate::proofs::Tries::over))]
 fn free_number(
     alloc: Global,
-    pieces: &[CodePiece<'_>],
+    tries: usize,
+    bases: &IndexSet<NameKey>,
     base: &Text,
     from: u64,
 ) -> Result<u64, OutOfMemory>
-    ensures { IfOk result (λ n. n ≡ free_number (length (uses_in (map view_piece pieces.now))) base.now from
-        (uses_in (map view_piece pieces.now))) }
+    ensures { IfOk result (λ n. n ≡ free_among tries bases.now.keys base.now from) }
 {
     let mut number = from;
-    for piece in pieces {
-        match next_try(alloc, pieces, base, number, piece)? {
-            Some(next) => number = next,
-            None => return Ok(number),
+    for turn in 0..tries {
+        if !is_taken(alloc, bases, base, number)? {
+            return Ok(number);
         }
+        number = next(number)?;
     }
     Ok(number)
 }
 
-/// The name of a use, where its base name has several contents.
-fn numbered(
+/// The names of the contents of a base name, numbered from 1 on.
+#[tactic(auto, using(crate::proofs::PieceLists::append_assoc))]
+fn number_names(
     alloc: Global,
-    pieces: &[CodePiece<'_>],
-    contents: &[Named<'_>],
-    of: &NameUse<'_>,
-) -> Result<Text, OutOfMemory>
-    ensures { IfOk result (λ name. name ≡ content_name (content_of of.now.of) of.now.base
-        (numbered of.now.base (uses_in (map view_piece pieces.now)) 1 (map content_of contents.now))) }
+    tries: usize,
+    bases: &IndexSet<NameKey>,
+    base: &Text,
+    contents: &[ContentKey],
+) -> Result<Seq<Text>, OutOfMemory>
+    ensures { IfOk result (λ names. names
+        ≡ names_from tries bases.now.keys base.now 1 (map view_key contents.now)) }
 {
+    let mut names = Row::empty(alloc);
     let mut number = 1u64;
-    for content in contents {
-        let free = free_number(alloc, pieces, &of.base, number)?;
-        if is_same(content, &of.of) {
-            return numbered_name(alloc, &of.base, free);
-        }
+    for _ in contents {
+        let free = free_number(alloc, tries, bases, base, number)?;
+        names.push(numbered_name(alloc, base, free)?)?;
         number = next(free)?;
     }
-    of.base.copy(alloc)
+    Ok(names.done())
+}
+
+/// The names of the contents of a base name: of one the base name.
+#[tactic(auto, using(crate::proofs::NameSteps::one_name, crate::proofs::NameSteps::many_names))]
+fn content_names(
+    alloc: Global,
+    tries: usize,
+    bases: &IndexSet<NameKey>,
+    base: &Text,
+    contents: &[ContentKey],
+) -> Result<Seq<Text>, OutOfMemory>
+    ensures { IfOk result (λ names. names
+        ≡ content_names tries bases.now.keys base.now (map view_key contents.now)) }
+{
+    if contents.len() == 1 {
+        let mut names = Row::empty(alloc);
+        names.push(base.copy(alloc)?)?;
+        return Ok(names.done());
+    }
+    number_names(alloc, tries, bases, base, contents)
+}
+
+/// The group of a number.
+#[tactic(auto, using(crate::proofs::ItemLists::map_get))]
+fn group_at(contents: &[IndexSet<ContentKey>], number: usize) -> Option<&IndexSet<ContentKey>>
+    ensures { option_map (λ group. map view_key group.now.keys) result ≡ slice_get (view_groups contents.now) number }
+{
+    contents.get(number)
+}
+
+/// Adds the names of a group.
+fn push_names(
+    alloc: Global,
+    tries: usize,
+    texts: &mut Row<Seq<Text>>,
+    bases: &IndexSet<NameKey>,
+    base: &NameKey,
+    group: &IndexSet<ContentKey>,
+) -> Result<(), OutOfMemory>
+    ensures { OnOk result (texts.new
+        ≡ texts.old ++ content_names tries bases.now.keys base.now (map view_key group.now.keys) ∷ []) }
+{
+    texts.push(content_names(alloc, tries, bases, base.name(), group.as_slice())?)
+}
+
+/// The names of the groups of some of the base names.
+#[tactic(auto, using(crate::proofs::NameSteps::names_grown))]
+fn group_names(
+    alloc: Global,
+    tries: usize,
+    bases: &IndexSet<NameKey>,
+    some: &[NameKey],
+    contents: &[IndexSet<ContentKey>],
+) -> Result<Row<Seq<Text>>, OutOfMemory>
+    ensures { IfOk result (λ names. names ≡ group_names tries bases.now.keys some.now (view_groups contents.now)) }
+{
+    let mut texts = Row::empty(alloc);
+    let mut number = 0usize;
+    for base in some {
+        let Some(group) = group_at(contents, number) else {
+            return Ok(texts);
+        };
+        push_names(alloc, tries, &mut texts, bases, base, group)?;
+        number += 1;
+    }
+    Ok(texts)
+}
+
+/// The names of all groups.
+fn all_names(alloc: Global, tries: usize, groups: &Groups) -> Result<Row<Seq<Text>>, OutOfMemory>
+    ensures { IfOk result (λ names. names
+        ≡ group_names tries groups.now.bases.keys groups.now.bases.keys (view_groups groups.now.contents.items)) }
+{
+    group_names(
+        alloc,
+        tries,
+        &groups.bases,
+        groups.bases.as_slice(),
+        &groups.contents,
+    )
+}
+
+/// The pieces of a message, with their names.
+pub fn names_of<'a>(alloc: Global, body: &'a MessageBody) -> Result<Names<'a>, OutOfMemory>
+    ensures pieces { IfOk result (λ names. map view_piece names.pieces ≡ body_pieces false (view_body body.now)) }
+    ensures names { IfOk result HasNames }
+{
+    let pieces = pieces_of(alloc, body)?;
+    let groups = groups_of(alloc, pieces.items())?;
+    let tries = use_count(pieces.items());
+    let texts = all_names(alloc, tries, &groups)?;
+    Ok(Names {
+        pieces,
+        groups,
+        texts,
+    })
+}
+
+/// The number of a base name, if it is there.
+fn base_number(bases: &IndexSet<NameKey>, base: &NameKey) -> Option<usize>
+    ensures { result ≡ position (bytes_eq base.now) bases.now.keys }
+{
+    bases.get_index_of(base)
+}
+
+/// The number of a content in its group, if it is there.
+#[tactic(auto, using(crate::proofs::ContentKeys::content_position))]
+fn content_number(group: &IndexSet<ContentKey>, content: &ContentKey) -> Option<usize>
+    ensures { result ≡ position (is_same_content (view_key content.now)) (map view_key group.now.keys) }
+{
+    group.get_index_of(content)
+}
+
+/// The name of a number.
+fn text_at(texts: &[Text], number: usize) -> Option<&Text>
+    ensures { option_map (λ name. name.now) result ≡ slice_get texts.now number }
+{
+    texts.get(number)
+}
+
+/// The names of a group of a number.
+fn names_at(texts: &[Seq<Text>], number: usize) -> Option<&Seq<Text>>
+    ensures { option_map (λ names. names.now) result ≡ slice_get texts.now number }
+{
+    texts.get(number)
+}
+
+/// The name of a content of a group, if it is there.
+fn name_in<'n>(
+    group: &IndexSet<ContentKey>,
+    names: &'n Seq<Text>,
+    content: &ContentKey,
+) -> Option<&'n Text>
+    ensures { option_map (λ name. name.now) result
+        ≡ name_in (map view_key group.now.keys) names.now (view_key content.now) }
+{
+    text_at(names.items(), content_number(group, content)?)
+}
+
+/// The name of a content of the group of a number, if it is there.
+fn name_at<'n>(
+    contents: &[IndexSet<ContentKey>],
+    texts: &'n [Seq<Text>],
+    content: &ContentKey,
+    number: usize,
+) -> Option<&'n Text>
+    ensures { option_map (λ name. name.now) result
+        ≡ name_at (view_groups contents.now) texts.now (view_key content.now) number }
+{
+    let group = group_at(contents, number)?;
+    let names = names_at(texts, number)?;
+    name_in(group, names, content)
+}
+
+/// The name of a content of a base name, if there is one.
+fn find<'n>(
+    groups: &Groups,
+    texts: &'n [Seq<Text>],
+    base: &NameKey,
+    content: &ContentKey,
+) -> Option<&'n Text>
+    ensures { option_map (λ name. name.now) result ≡ found_name groups.now.bases.keys
+        (view_groups groups.now.contents.items) texts.now base.now (view_key content.now) }
+{
+    let number = base_number(&groups.bases, base)?;
+    name_at(&groups.contents, texts, content, number)
+}
+
+/// The name of a content of a base name among those of a message.
+#[tactic(auto, using(crate::proofs::NameGroups::name_is_found, crate::proofs::NameGroups::name_is_base))]
+fn name_by_keys(
+    alloc: Global,
+    names: &Names<'_>,
+    base: &NameKey,
+    content: &ContentKey,
+) -> Result<Text, OutOfMemory>
+    requires { HasNames names.now }
+    ensures { IfOk result (λ name. name ≡ name_of (named_uses names.now) base.now (view_key content.now)) }
+{
+    match find(&names.groups, names.texts.items(), base, content) {
+        Some(name) => name.copy(alloc),
+        None => base.name().copy(alloc),
+    }
 }
 
 /// The name of a use among those of a message.
-#[tactic(auto, using(crate::proofs::NameSteps::one_content, crate::proofs::NameSteps::many_contents))]
-pub fn name_of(
-    alloc: Global,
-    pieces: &[CodePiece<'_>],
-    of: &NameUse<'_>,
-) -> Result<Text, OutOfMemory>
-    ensures { IfOk result (λ name. name
-        ≡ name_of (uses_in (map view_piece pieces.now)) of.now.base (content_of of.now.of)) }
+pub fn name_of(alloc: Global, names: &Names<'_>, of: &NameUse<'_>) -> Result<Text, OutOfMemory>
+    requires { HasNames names.now }
+    ensures { IfOk result (λ name. name ≡ name_of (named_uses names.now) of.now.base (content_of of.now.of)) }
 {
-    let contents = contents_of(alloc, pieces, &of.base)?;
-    if contents.items().len() == 1 {
-        return of.base.copy(alloc);
-    }
-    numbered(alloc, pieces, contents.items(), of)
+    let base = NameKey::new(of.base.copy(alloc)?);
+    let content = ContentKey::new(alloc, &of.of)?;
+    name_by_keys(alloc, names, &base, &content)
 }

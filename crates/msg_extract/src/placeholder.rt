@@ -1,21 +1,27 @@
 //! The placeholders of a message, with what they stand for.
 
-ghost use Rattle.std.specs.Prelude.{◌≡◌, [], ◌∷◌, ◌++◌, None, map, option_map, IfOk, OnOk};
+ghost use Rattle.std.specs.Prelude.{◌≡◌, [], ◌∷◌, ◌++◌, None, not, map, option_map, IfOk, OnOk};
+ghost use Rattle.soy_base.specs.Among.{is_among};
 ghost use Rattle.soy_tree.specs.MessageText.{Character};
 ghost use Rattle.soy_tree.specs.Nodes.{Print};
 ghost use Rattle.soy_tree.specs.ViewExpressions.{view_expr};
 ghost use Rattle.soy_tree.specs.ViewNodes.{view_message, view_node, view_nodes};
-ghost use Rattle.msg_extract.specs.Pieces.{uses_in};
-ghost use Rattle.msg_extract.specs.PlaceholderNodes.{begun_after, flushed, has_row, nodes_behind, placeholders_of};
+ghost use Rattle.msg_extract.specs.Catalogue.{with_name};
+ghost use Rattle.msg_extract.specs.PlaceholderNodes.{begun_after, flushed, nodes_behind, placeholders_of};
 ghost use Rattle.msg_extract.specs.PlaceholderNodes.{role_nodes, row_step, rows_after, text_nodes};
+ghost use Rattle.msg_extract.specs.PlaceholderRows.{HasRowNames};
 ghost use Rattle.msg_extract.specs.ViewItems.{view_item};
+ghost use Rattle.msg_extract.specs.ViewNames.{HasNames, named_uses};
 ghost use Rattle.msg_extract.specs.ViewPieces.{role_of, view_piece};
 ghost use Rattle.msg_extract.specs.ViewPlaceholders.{view_begun, view_placeholder};
 
 use crate::ascii::empty;
+use crate::content_key::copied_name;
 use crate::item::Item;
-use crate::names::name_of;
-use crate::piece::{CodePiece, Named, pieces_of};
+use crate::name_key::NameKey;
+use crate::names::{Names, name_of, names_of};
+use crate::piece::{CodePiece, Named};
+use indexmap::IndexSet;
 use soy_base::{OutOfMemory, Row, Seq, Span, Text, push_char};
 use soy_tree::{Expr, Form, Message, Node};
 use std::alloc::Global;
@@ -52,16 +58,6 @@ fn push_print(
         form: Form::Print(expr, phname),
         span,
     })
-}
-
-/// An equal name, if there is one.
-fn copied_name(alloc: Global, name: &Option<Text>) -> Result<Option<Text>, OutOfMemory>
-    ensures { IfOk result (λ n. n ≡ name.now) }
-{
-    match name {
-        None => Ok(None),
-        Some(name) => Ok(Some(name.copy(alloc)?)),
-    }
 }
 
 /// Adds the text that has begun, if there is one.
@@ -156,28 +152,34 @@ fn nodes_of(alloc: Global, of: &Named<'_>) -> Result<Option<Seq<Node>>, OutOfMem
     }
 }
 
-/// Whether one of these has the name.
-fn has_row(rows: &[Placeholder], name: &Text) -> bool
-    ensures { result ≡ has_row name.now (map view_placeholder rows.now) }
+/// The placeholders so far, and their names, by which one is found without a walk over the others.
+#[derive(Drop)]
+struct PlaceholderRows {
+    rows: Row<Placeholder>,
+    names: IndexSet<NameKey>,
+}
+
+/// Whether a name is none of these, which have it afterwards.
+fn is_new(alloc: Global, names: &mut IndexSet<NameKey>, name: &Text) -> Result<bool, OutOfMemory>
+    ensures new { IfOk result (λ is. is ≡ not (is_among names.old.keys name.now)) }
+    ensures added { OnOk result (names.new.keys ≡ with_name names.old.keys name.now) }
 {
-    for row in rows {
-        if row.name.is(name.text()) {
-            return true;
-        }
-    }
-    false
+    Ok(names.insert(NameKey::new(name.copy(alloc)?))?)
 }
 
 /// Adds the placeholder that a piece names, unless it is there.
-#[tactic(auto, using(crate::proofs::CutSteps::map_append))]
+#[tactic(auto, using(crate::proofs::CutSteps::map_append, crate::proofs::PlaceholderRows::row_among))]
 fn add(
     alloc: Global,
-    rows: &mut Row<Placeholder>,
-    pieces: &[CodePiece<'_>],
+    found: &mut PlaceholderRows,
+    names: &Names<'_>,
     piece: &CodePiece<'_>,
 ) -> Result<(), OutOfMemory>
-    ensures { OnOk result (map view_placeholder rows.new ≡ row_step (uses_in (map view_piece pieces.now))
-        (map view_placeholder rows.old) (view_piece piece.now)) }
+    requires names { HasNames names.now }
+    requires found { HasRowNames found.old }
+    ensures rows { OnOk result (map view_placeholder found.new.rows
+        ≡ row_step (named_uses names.now) (map view_placeholder found.old.rows) (view_piece piece.now)) }
+    ensures names { OnOk result (HasRowNames found.new) }
 {
     match piece {
         CodePiece::Text(_) => Ok(()),
@@ -185,32 +187,36 @@ fn add(
             let Some(nodes) = nodes_of(alloc, &of.of)? else {
                 return Ok(());
             };
-            let name = name_of(alloc, pieces, of)?;
-            if has_row(rows.items(), &name) {
+            let name = name_of(alloc, names, of)?;
+            if !is_new(alloc, &mut found.names, &name)? {
                 return Ok(());
             }
-            rows.push(Placeholder { name, nodes })
+            found.rows.push(Placeholder { name, nodes })
         }
     }
 }
 
 /// The placeholders of pieces.
 #[tactic(auto, using(crate::proofs::PlaceholderNodes::rows_step))]
-fn placeholders_of(alloc: Global, pieces: &[CodePiece<'_>]) -> Result<Seq<Placeholder>, OutOfMemory>
-    ensures { IfOk result (λ rows. map view_placeholder rows ≡ rows_after (uses_in (map view_piece pieces.now)) []
-        (uses_in (map view_piece pieces.now))) }
+fn placeholders_of(alloc: Global, names: &Names<'_>) -> Result<Seq<Placeholder>, OutOfMemory>
+    requires { HasNames names.now }
+    ensures { IfOk result (λ rows. map view_placeholder rows
+        ≡ rows_after (named_uses names.now) [] (named_uses names.now)) }
 {
-    let mut rows = Row::empty(alloc);
-    for piece in pieces {
-        add(alloc, &mut rows, pieces, piece)?;
+    let mut found = PlaceholderRows {
+        rows: Row::empty(alloc),
+        names: IndexSet::new(alloc),
+    };
+    for piece in names.pieces.items() {
+        add(alloc, &mut found, names, piece)?;
     }
-    Ok(rows.done())
+    Ok(found.rows.done())
 }
 
 /// The placeholders of a message, each once, in order of first appearance.
 pub fn placeholders(alloc: Global, message: &Message) -> Result<Seq<Placeholder>, OutOfMemory>
     ensures { IfOk result (λ rows. map view_placeholder rows ≡ placeholders_of (view_message message.now)) }
 {
-    let pieces = pieces_of(alloc, &message.body)?;
-    placeholders_of(alloc, pieces.items())
+    let names = names_of(alloc, &message.body)?;
+    placeholders_of(alloc, &names)
 }

@@ -1,16 +1,17 @@
 //! The names of a message's placeholders, plurals and selects.
 
 ghost use Rattle.std.specs.Prelude.{◌≡◌, map, IfOk, OnOk};
-ghost use Rattle.soy_base.specs.Among.{is_among};
 ghost use Rattle.soy_tree.specs.MessageText.{Cut};
 ghost use Rattle.soy_tree.specs.Placeholders.{AsPlaceholder};
-ghost use Rattle.msg_extract.specs.Catalogue.{is_of_kind, role_names};
-ghost use Rattle.msg_extract.specs.Pieces.{uses_in};
+ghost use Rattle.msg_extract.specs.Catalogue.{is_of_kind, role_names, with_name};
 ghost use Rattle.msg_extract.specs.RoleNames.{kind_step};
+ghost use Rattle.msg_extract.specs.ViewNames.{HasNames, named_uses};
 ghost use Rattle.msg_extract.specs.ViewPieces.{role_of, view_piece};
 
-use crate::names::name_of;
+use crate::name_key::NameKey;
+use crate::names::{Names, name_of};
 use crate::piece::{CodePiece, Named};
+use indexmap::IndexSet;
 use soy_base::{OutOfMemory, Row, Seq, Text};
 use std::alloc::Global;
 
@@ -53,28 +54,36 @@ fn is_placeholder(kind: NameKind) -> bool
     }
 }
 
-/// Whether a name is one of these.
-fn has_name(names: &[Text], name: &Text) -> bool
-    ensures { result ≡ is_among names.now name.now }
+/// The names of keys.
+fn texts_of(alloc: Global, keys: &[NameKey]) -> Result<Seq<Text>, OutOfMemory>
+    ensures { IfOk result (λ names. names ≡ keys.now) }
 {
-    for other in names {
-        if name.is(other.text()) {
-            return true;
-        }
+    let mut names = Row::empty(alloc);
+    for key in keys {
+        names.push(key.name().copy(alloc)?)?;
     }
-    false
+    Ok(names.done())
+}
+
+/// Adds a name, unless it is there.
+fn push_name(found: &mut IndexSet<NameKey>, name: Text) -> Result<(), OutOfMemory>
+    ensures { OnOk result (found.new.keys ≡ with_name found.old.keys name) }
+{
+    found.insert(NameKey::new(name))?;
+    Ok(())
 }
 
 /// Adds the name of a piece, if that is a use of this kind and its name isn't yet there.
 fn add_name(
     alloc: Global,
-    names: &mut Row<Text>,
-    pieces: &[CodePiece<'_>],
+    found: &mut IndexSet<NameKey>,
+    names: &Names<'_>,
     kind: NameKind,
     piece: &CodePiece<'_>,
 ) -> Result<(), OutOfMemory>
-    ensures { OnOk result (names.new
-        ≡ kind_step kind (uses_in (map view_piece pieces.now)) names.old (view_piece piece.now)) }
+    requires { HasNames names.now }
+    ensures { OnOk result (found.new.keys
+        ≡ kind_step kind (named_uses names.now) found.old.keys (view_piece piece.now)) }
 {
     match piece {
         CodePiece::Text(_) => Ok(()),
@@ -82,11 +91,7 @@ fn add_name(
             if !is_of_kind(kind, &of.of) {
                 return Ok(());
             }
-            let name = name_of(alloc, pieces, of)?;
-            if has_name(names.items(), &name) {
-                return Ok(());
-            }
-            names.push(name)
+            push_name(found, name_of(alloc, names, of)?)
         }
     }
 }
@@ -95,14 +100,15 @@ fn add_name(
 #[tactic(auto, using(crate::proofs::RoleNames::names_step))]
 pub fn role_names(
     alloc: Global,
-    pieces: &[CodePiece<'_>],
+    names: &Names<'_>,
     kind: NameKind,
 ) -> Result<Seq<Text>, OutOfMemory>
-    ensures { IfOk result (λ names. names ≡ role_names kind (uses_in (map view_piece pieces.now))) }
+    requires { HasNames names.now }
+    ensures { IfOk result (λ found. found ≡ role_names kind (named_uses names.now)) }
 {
-    let mut names = Row::empty(alloc);
-    for piece in pieces {
-        add_name(alloc, &mut names, pieces, kind, piece)?;
+    let mut found = IndexSet::new(alloc);
+    for piece in names.pieces.items() {
+        add_name(alloc, &mut found, names, kind, piece)?;
     }
-    Ok(names.done())
+    texts_of(alloc, found.as_slice())
 }

@@ -1,17 +1,17 @@
 //! Contents of placeholders that are the same.
 
 ghost use Rattle.std.specs.Prelude.{◌≡◌, map, option_map, slice_get};
-ghost use Rattle.soy_tree.specs.Placeholders.{are_same_message_items, is_same_message_item};
+ghost use Rattle.soy_tree.specs.Placeholders.{are_same_message_items, is_same_content, is_same_message_item};
 ghost use Rattle.soy_tree.specs.SameExpression.{is_same_expr};
 ghost use Rattle.soy_tree.specs.ViewExpressions.{view_expr};
-ghost use Rattle.msg_extract.specs.ViewItems.{view_item};
+ghost use Rattle.msg_extract.specs.ViewKeys.{view_key, view_key_item};
 
-use crate::item::Item;
+use crate::content_key::{ContentKey, KeyItem};
 use soy_tree::{Expr, ExprNode};
 
 /// Whether two expressions are the same tree, spans aside.
 #[cycle(same_exprs)]
-pub fn is_same_expr(left: &Expr, right: &Expr) -> bool
+fn is_same_expr(left: &Expr, right: &Expr) -> bool
     ensures { result ≡ is_same_expr (view_expr left.now) (view_expr right.now) }
 {
     match (&left.node, &right.node) {
@@ -44,38 +44,35 @@ pub fn is_same_expr(left: &Expr, right: &Expr) -> bool
 }
 
 /// Whether two characters or prints are the same.
-fn is_same_item(left: Item<'_>, right: Item<'_>) -> bool
-    ensures { result ≡ is_same_message_item (view_item left.entry) (view_item right.entry) }
+fn is_same_item(left: &KeyItem, right: &KeyItem) -> bool
+    ensures { result ≡ is_same_message_item (view_key_item left.now) (view_key_item right.now) }
 {
     match (left, right) {
-        (Item::Character(c, _), Item::Character(d, _)) => c == d,
-        (Item::Printed(e, _, _), Item::Printed(f, _, _)) => is_same_expr(e, f),
-        (Item::Character(_, _), Item::Printed(_, _, _)) => false,
-        (Item::Printed(_, _, _), Item::Character(_, _)) => false,
+        (KeyItem::Character(c, _), KeyItem::Character(d, _)) => *c == *d,
+        (KeyItem::Printed(e, _, _), KeyItem::Printed(f, _, _)) => is_same_expr(e, f),
+        (KeyItem::Character(_, _), KeyItem::Printed(_, _, _)) => false,
+        (KeyItem::Printed(_, _, _), KeyItem::Character(_, _)) => false,
     }
 }
 
 /// An item by its number, if there is one.
 #[tactic(auto, using(crate::proofs::ItemLists::map_get))]
-fn item_at<'a>(items: &[Item<'a>], number: usize) -> Option<Item<'a>>
-    ensures { option_map view_item result ≡ slice_get (map view_item items.now) number }
+fn item_at(items: &[KeyItem], number: usize) -> Option<&KeyItem>
+    ensures { option_map (λ item. view_key_item item.now) result ≡ slice_get (map view_key_item items.now) number }
 {
-    match items.get(number) {
-        Some(item) => Some(*item),
-        None => None,
-    }
+    items.get(number)
 }
 
 /// Whether two tags have the same texts and prints.
-pub fn are_same_items(left: &[Item<'_>], right: &[Item<'_>]) -> bool
-    ensures { result ≡ are_same_message_items (map view_item left.now) (map view_item right.now) }
+fn are_same_items(left: &[KeyItem], right: &[KeyItem]) -> bool
+    ensures { result ≡ are_same_message_items (map view_key_item left.now) (map view_key_item right.now) }
 {
     let mut number = 0usize;
     for item in left {
         let Some(other) = item_at(right, number) else {
             return false;
         };
-        if !is_same_item(*item, other) {
+        if !is_same_item(item, other) {
             return false;
         }
         number += 1;
@@ -83,5 +80,20 @@ pub fn are_same_items(left: &[Item<'_>], right: &[Item<'_>]) -> bool
     match item_at(right, number) {
         Some(_) => false,
         None => true,
+    }
+}
+
+/// Whether two contents are the same.
+pub fn is_same(left: &ContentKey, right: &ContentKey) -> bool
+    ensures { result ≡ is_same_content (view_key left.now) (view_key right.now) }
+{
+    match (left, right) {
+        (ContentKey::OfExpr(e), ContentKey::OfExpr(f)) => is_same_expr(e, f),
+        (ContentKey::OfTag(tag), ContentKey::OfTag(other)) => are_same_items(
+            tag.items(),
+            other.items(),
+        ),
+        (ContentKey::OfExpr(_), ContentKey::OfTag(_)) => false,
+        (ContentKey::OfTag(_), ContentKey::OfExpr(_)) => false,
     }
 }

@@ -2,12 +2,12 @@
 
 ghost use Rattle.std.specs.Prelude.{◌≡◌, ◌++◌, map, IfOk, OnOk};
 ghost use Rattle.soy_tree.specs.ViewNodes.{view_message};
-ghost use Rattle.msg_extract.specs.Pieces.{uses_in};
 ghost use Rattle.msg_extract.specs.SelectorRows.{piece_rows, selector_rows, selectors_of, view_selector};
+ghost use Rattle.msg_extract.specs.ViewNames.{HasNames, named_uses};
 ghost use Rattle.msg_extract.specs.ViewPieces.{view_piece};
 
-use crate::names::name_of;
-use crate::piece::{CodePiece, Named, pieces_of};
+use crate::names::{Names, name_of, names_of};
+use crate::piece::{CodePiece, Named};
 use soy_base::{OutOfMemory, Row, Seq, Text};
 use soy_tree::{Expr, Message};
 use std::alloc::Global;
@@ -25,11 +25,12 @@ pub struct Selector {
 fn add_selector(
     alloc: Global,
     rows: &mut Row<Selector>,
-    pieces: &[CodePiece<'_>],
+    names: &Names<'_>,
     piece: &CodePiece<'_>,
 ) -> Result<(), OutOfMemory>
+    requires { HasNames names.now }
     ensures { OnOk result (map view_selector rows.new
-        ≡ map view_selector rows.old ++ piece_rows (uses_in (map view_piece pieces.now)) (view_piece piece.now)) }
+        ≡ map view_selector rows.old ++ piece_rows (named_uses names.now) (view_piece piece.now)) }
 {
     match piece {
         CodePiece::Text(_) => Ok(()),
@@ -37,7 +38,7 @@ fn add_selector(
             Named::Print(_, _, _) => Ok(()),
             Named::Tag(_) => Ok(()),
             Named::Plural(expr) => {
-                let name = name_of(alloc, pieces, of)?;
+                let name = name_of(alloc, names, of)?;
                 let expr = expr.copy(alloc)?;
                 rows.push(Selector {
                     name,
@@ -46,7 +47,7 @@ fn add_selector(
                 })
             }
             Named::Select(expr) => {
-                let name = name_of(alloc, pieces, of)?;
+                let name = name_of(alloc, names, of)?;
                 let expr = expr.copy(alloc)?;
                 rows.push(Selector {
                     name,
@@ -60,13 +61,14 @@ fn add_selector(
 
 /// The selectors among pieces.
 #[tactic(auto, using(crate::proofs::SelectorRows::selectors_step, crate::proofs::PieceLists::append_assoc))]
-fn selectors_among(alloc: Global, pieces: &[CodePiece<'_>]) -> Result<Seq<Selector>, OutOfMemory>
-    ensures { IfOk result (λ rows. map view_selector rows ≡ selector_rows (uses_in (map view_piece pieces.now))
-        (uses_in (map view_piece pieces.now))) }
+fn selectors_among(alloc: Global, names: &Names<'_>) -> Result<Seq<Selector>, OutOfMemory>
+    requires { HasNames names.now }
+    ensures { IfOk result (λ rows. map view_selector rows
+        ≡ selector_rows (named_uses names.now) (named_uses names.now)) }
 {
     let mut rows = Row::empty(alloc);
-    for piece in pieces {
-        add_selector(alloc, &mut rows, pieces, piece)?;
+    for piece in names.pieces.items() {
+        add_selector(alloc, &mut rows, names, piece)?;
     }
     Ok(rows.done())
 }
@@ -75,6 +77,6 @@ fn selectors_among(alloc: Global, pieces: &[CodePiece<'_>]) -> Result<Seq<Select
 pub fn selectors(alloc: Global, message: &Message) -> Result<Seq<Selector>, OutOfMemory>
     ensures { IfOk result (λ rows. map view_selector rows ≡ selectors_of (view_message message.now)) }
 {
-    let pieces = pieces_of(alloc, &message.body)?;
-    selectors_among(alloc, pieces.items())
+    let names = names_of(alloc, &message.body)?;
+    selectors_among(alloc, &names)
 }

@@ -1,12 +1,13 @@
 use Rattle.std.proofs.Common.{◌≡◌, ◌++◌, drop, map}
 use Rattle.std.specs.Str.{chars}
 use Rattle.std.specs.String.{string_bytes}
-use Rattle.msg_extract.specs.Pieces.{pieces_text, uses_in}
+use Rattle.msg_extract.specs.Pieces.{pieces_text}
+use Rattle.msg_extract.specs.ViewNames.{named_uses}
 use Rattle.msg_extract.specs.ViewPieces.{view_piece}
 use Rattle.msg_extract.proofs.canonical.text_of_pieces.Given as goal
 
 abbrev pub invariant-loop-piece : goal.invariant-loop-piece
 invariant-loop-piece l =
     chars (string_bytes l.out)
-    ++ pieces_text (uses_in (map view_piece l.pieces)) (map view_piece (drop l.piece-index l.pieces))
-    ≡ pieces_text (uses_in (map view_piece l.pieces)) (map view_piece l.pieces)
+    ++ pieces_text (named_uses l.names) (map view_piece (drop l.piece-index l.names.pieces))
+    ≡ pieces_text (named_uses l.names) (map view_piece l.names.pieces)

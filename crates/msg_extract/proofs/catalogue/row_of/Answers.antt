@@ -9,13 +9,9 @@ use Rattle.msg_extract.proofs.catalogue.row_of.Goals as goal
 pub returns : goal.returns
 returns c =
     row_is c.args.message.now.desc c.args.message.now.meaning (view_body c.args.message.now.body)
-    c.args.message.now.span (map view_piece c.items.result.now) (map view_piece c.items-2.result.now)
-    (map view_piece c.items-3.result.now) (map view_piece c.items-4.result.now) c.in_ok-id.id c.in_ok-text.text
+    c.args.message.now.span (map view_piece c.in_ok-names.names.pieces) c.in_ok-id.id c.in_ok-text.text
     c.in_ok-desc.desc c.in_ok-meaning.meaning c.in_ok-placeholders.placeholders c.in_ok-plurals.plurals
-    c.in_ok-selects.selects (ap (map view_piece) c.items.ensures ∙ c.in_ok-pieces.ensures)
-    (ap (map view_piece) c.items-2.ensures ∙ c.in_ok-pieces.ensures)
-    (ap (map view_piece) c.items-3.ensures ∙ c.in_ok-pieces.ensures)
-    (ap (map view_piece) c.items-4.ensures ∙ c.in_ok-pieces.ensures) c.in_ok-text.ensures c.in_ok-id.ensures
+    c.in_ok-selects.selects c.in_ok-names.ensures.pieces c.in_ok-text.ensures c.in_ok-id.ensures
     c.in_ok-desc.ensures c.in_ok-meaning.ensures c.in_ok-placeholders.ensures c.in_ok-plurals.ensures
     c.in_ok-selects.ensures
     ∙ sym (ap listed (view_message_is c.args.message.now))

@@ -1,11 +1,7 @@
-use Rattle.std.proofs.Common.{◌≡◌, drop, length, map}
-use Rattle.soy_tree.specs.Placeholders.{free_number}
-use Rattle.msg_extract.specs.Pieces.{uses_in}
-use Rattle.msg_extract.specs.ViewPieces.{view_piece}
+use Rattle.std.proofs.Common.{◌≡◌, ◌-◌}
+use Rattle.msg_extract.specs.NameGroups.{free_among}
 use Rattle.msg_extract.proofs.names.free_number.Given as goal
 
-abbrev pub invariant-loop-piece : goal.invariant-loop-piece
-invariant-loop-piece l =
-    free_number (length (uses_in (map view_piece (drop l.piece-index l.pieces)))) l.base l.number
-    (uses_in (map view_piece l.pieces))
-    ≡ free_number (length (uses_in (map view_piece l.pieces))) l.base l.from (uses_in (map view_piece l.pieces))
+abbrev pub invariant-loop-turn : goal.invariant-loop-turn
+invariant-loop-turn l =
+    free_among (l.tries - l.turn) l.bases.keys l.base l.number ≡ free_among l.tries l.bases.keys l.base l.from

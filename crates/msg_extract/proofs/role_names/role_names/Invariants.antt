@@ -1,10 +1,11 @@
 use Rattle.std.proofs.Common.{◌≡◌, drop, map}
 use Rattle.msg_extract.specs.Catalogue.{names_after, role_names}
 use Rattle.msg_extract.specs.Pieces.{uses_in}
+use Rattle.msg_extract.specs.ViewNames.{named_uses}
 use Rattle.msg_extract.specs.ViewPieces.{view_piece}
 use Rattle.msg_extract.proofs.role_names.role_names.Given as goal
 
 abbrev pub invariant-loop-piece : goal.invariant-loop-piece
 invariant-loop-piece l =
-    names_after l.kind (uses_in (map view_piece l.pieces)) l.names (uses_in (map view_piece (drop l.piece-index l.pieces)))
-    ≡ role_names l.kind (uses_in (map view_piece l.pieces))
+    names_after l.kind (named_uses l.names) l.found.keys (uses_in (map view_piece (drop l.piece-index l.names.pieces)))
+    ≡ role_names l.kind (named_uses l.names)

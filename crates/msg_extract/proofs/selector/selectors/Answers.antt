@@ -10,6 +10,6 @@ use Rattle.msg_extract.proofs.selector.selectors.Goals as goal
 pub returns : goal.returns
 returns c =
     IfOk-weaker c.selectors_among.result _ _
-    (λ rows e. e ∙ (rows_of_message (view_body c.args.message.now.body) (map view_piece c.items.result.now)
-    (ap (map view_piece) c.items.ensures ∙ c.in_ok-pieces.ensures)
-    ∙ sym (ap selectors_of (view_message_is c.args.message.now)))) c.selectors_among.ensures
+    (λ rows e. e ∙ (rows_of_message (view_body c.args.message.now.body) (map view_piece c.in_ok-names.names.pieces)
+    c.in_ok-names.ensures.pieces ∙ sym (ap selectors_of (view_message_is c.args.message.now))))
+    c.selectors_among.ensures
