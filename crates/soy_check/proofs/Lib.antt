@@ -1,7 +1,9 @@
 mod Demanding
+mod DistinctParams
 mod FirstOfNames
 mod Growth
 mod Indexes
+mod Keyed
 mod Keys
 mod Loops
 mod Passing

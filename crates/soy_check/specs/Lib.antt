@@ -4,5 +4,6 @@ pub mod Grows
 pub mod Named
 pub mod PutBack
 pub mod Rules
+pub mod TypeNamed
 pub mod ViewAround
 pub mod Visible

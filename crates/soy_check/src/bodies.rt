@@ -17,11 +17,12 @@ use crate::commands::{Takes, check_accepted, check_expr, check_plain, check_prin
 use crate::names::Names;
 use crate::narrowing::{narrow_variables, restore};
 use crate::template::Declared;
-use crate::variables::{check_let, check_new, declare, enter_loop, kind_type, leave, param_type};
+use crate::variables::{check_let, check_new, declare, enter_loop, kind_type, param_type};
+use crate::visible::Visible;
 use soy_base::{Refusal, Span};
-use soy_expr::{TypeFault, type_among};
+use soy_expr::{TypeFault, type_by};
 use soy_tree::{
-    Argument, Arm, Case, Field, Form, Given, MessageBody, Node, Param, PluralCase, SelectCase,
+    Argument, Arm, Case, Form, Given, MessageBody, Node, Param, PluralCase, SelectCase,
 };
 use std::alloc::Global;
 
@@ -32,16 +33,16 @@ pub(crate) fn check_nodes(
     alloc: Global,
     around: &Around,
     nodes: &[Node],
-    vars: &mut Vec<Field>,
+    vars: &mut Visible,
 ) -> Result<(), Refusal<TypeFault>>
-    ensures ends { Ends (after_nodes (view_around around.now) (view_nodes nodes.now) (view_vars vars.old.items)) result }
-    ensures unchanged { OnOk result (vars.new.items ≡ vars.old.items) }
+    ensures ends { Ends (after_nodes (view_around around.now) (view_nodes nodes.now) (view_vars vars.old)) result }
+    ensures unchanged { OnOk result (vars.new ≡ vars.old) }
 {
     let mark = vars.len();
     for node in nodes {
         check_node(alloc, around, node, vars)?;
     }
-    leave(vars, mark);
+    vars.leave(mark);
     Ok(())
 }
 
@@ -52,16 +53,16 @@ fn check_node(
     alloc: Global,
     around: &Around,
     node: &Node,
-    vars: &mut Vec<Field>,
+    vars: &mut Visible,
 ) -> Result<(), Refusal<TypeFault>>
-    ensures passes { Passes (after_node (view_around around.now) (view_node node.now) (view_vars vars.old.items))
-        (view_vars vars.new.items) result }
-    ensures grown { OnOk result (Grows vars.old.items vars.new.items) }
+    ensures passes { Passes (after_node (view_around around.now) (view_node node.now) (view_vars vars.old))
+        (view_vars vars.new) result }
+    ensures grown { OnOk result (Grows vars.old vars.new) }
 {
     let span = node.span;
     match &node.form {
         Form::Text(_) => Ok(()),
-        Form::Print(expr, _) => check_print(alloc, expr, span, vars.as_slice()),
+        Form::Print(expr, _) => check_print(alloc, expr, span, vars),
         Form::If(arms, None) => {
             check_arms(alloc, around, arms.items(), vars)?;
             Ok(())
@@ -72,12 +73,12 @@ fn check_node(
             Ok(())
         }
         Form::Switch(subject, cases, None) => {
-            check_expr(alloc, Takes::Simple, subject, vars.as_slice())?;
+            check_expr(alloc, Takes::Simple, subject, vars)?;
             check_cases(alloc, around, cases.items(), vars)?;
             Ok(())
         }
         Form::Switch(subject, cases, Some(other)) => {
-            check_expr(alloc, Takes::Simple, subject, vars.as_slice())?;
+            check_expr(alloc, Takes::Simple, subject, vars)?;
             check_cases(alloc, around, cases.items(), vars)?;
             check_nodes(alloc, around, other.items(), vars)?;
             Ok(())
@@ -86,12 +87,12 @@ fn check_node(
             let mark = vars.len();
             enter_loop(alloc, name, index, list, span, vars)?;
             check_nodes(alloc, around, body.items(), vars)?;
-            leave(vars, mark);
+            vars.leave(mark);
             Ok(())
         }
         Form::Let(name, expr) => check_let(alloc, name, expr, span, vars),
         Form::LetBlock(name, kind, body) => {
-            check_new(alloc, name, span, vars.as_slice())?;
+            check_new(alloc, name, span, vars)?;
             check_nodes(alloc, around, body.items(), vars)?;
             declare(alloc, name, kind_type(*kind), vars)?;
             Ok(())
@@ -99,7 +100,7 @@ fn check_node(
         Form::Call(name, all, given) => {
             let callee = callee_params(alloc, around, name, span)?;
             let given = given.items();
-            check_demands(alloc, around, *all, given, span, callee, vars.as_slice())?;
+            check_demands(alloc, around, *all, given, span, callee, vars)?;
             check_arguments(alloc, around, given, callee, vars)?;
             Ok(())
         }
@@ -122,14 +123,14 @@ fn check_arms(
     alloc: Global,
     around: &Around,
     arms: &[Arm],
-    vars: &mut Vec<Field>,
+    vars: &mut Visible,
 ) -> Result<(), Refusal<TypeFault>>
-    ensures passes { Passes (after_arms (view_around around.now) (view_arms arms.now) (view_vars vars.old.items))
-        (view_vars vars.old.items) result }
-    ensures unchanged { OnOk result (vars.new.items ≡ vars.old.items) }
+    ensures passes { Passes (after_arms (view_around around.now) (view_arms arms.now) (view_vars vars.old))
+        (view_vars vars.old) result }
+    ensures unchanged { OnOk result (vars.new ≡ vars.old) }
 {
     for arm in arms {
-        type_among(alloc, &arm.when, vars.as_slice())?;
+        type_by(alloc, &arm.when, vars)?;
         let mut outside = Vec::new(alloc);
         narrow_variables(alloc, &arm.when, vars, &mut outside)?;
         check_nodes(alloc, around, arm.body.items(), vars)?;
@@ -145,14 +146,14 @@ fn check_cases(
     alloc: Global,
     around: &Around,
     cases: &[Case],
-    vars: &mut Vec<Field>,
+    vars: &mut Visible,
 ) -> Result<(), Refusal<TypeFault>>
-    ensures passes { Passes (after_cases (view_around around.now) (view_cases cases.now) (view_vars vars.old.items))
-        (view_vars vars.old.items) result }
-    ensures unchanged { OnOk result (vars.new.items ≡ vars.old.items) }
+    ensures passes { Passes (after_cases (view_around around.now) (view_cases cases.now) (view_vars vars.old))
+        (view_vars vars.old) result }
+    ensures unchanged { OnOk result (vars.new ≡ vars.old) }
 {
     for case in cases {
-        check_values(alloc, case.values.items(), vars.as_slice())?;
+        check_values(alloc, case.values.items(), vars)?;
         check_nodes(alloc, around, case.body.items(), vars)?;
     }
     Ok(())
@@ -166,11 +167,11 @@ fn check_arguments(
     around: &Around,
     given: &[Argument],
     callee: &Declared,
-    vars: &mut Vec<Field>,
+    vars: &mut Visible,
 ) -> Result<(), Refusal<TypeFault>>
     ensures passes { Passes (after_arguments (view_around around.now) (view_arguments given.now) []
-        (view_params callee.now.template.now.params) (view_vars vars.old.items)) (view_vars vars.old.items) result }
-    ensures unchanged { OnOk result (vars.new.items ≡ vars.old.items) }
+        (view_params callee.now.template.now.params) (view_vars vars.old)) (view_vars vars.old) result }
+    ensures unchanged { OnOk result (vars.new ≡ vars.old) }
 {
     let mut before = Names::new(alloc);
     for argument in given {
@@ -190,14 +191,14 @@ fn check_given(
     given: &Given,
     span: Span,
     param: &Param,
-    vars: &mut Vec<Field>,
+    vars: &mut Visible,
 ) -> Result<(), Refusal<TypeFault>>
     ensures passes { Passes (after_given (view_around around.now) (view_given given.now) span (view_param param.now)
-        (view_vars vars.old.items)) (view_vars vars.old.items) result }
-    ensures unchanged { OnOk result (vars.new.items ≡ vars.old.items) }
+        (view_vars vars.old)) (view_vars vars.old) result }
+    ensures unchanged { OnOk result (vars.new ≡ vars.old) }
 {
     match given {
-        Given::Plain(expr) => check_plain(alloc, expr, param, vars.as_slice()),
+        Given::Plain(expr) => check_plain(alloc, expr, param, vars),
         Given::Block(kind, body) => {
             check_accepted(alloc, &param_type(alloc, param)?, span, &kind_type(*kind))?;
             check_nodes(alloc, around, body.items(), vars)?;
@@ -213,11 +214,11 @@ fn check_body(
     alloc: Global,
     around: &Around,
     body: &MessageBody,
-    vars: &mut Vec<Field>,
+    vars: &mut Visible,
 ) -> Result<(), Refusal<TypeFault>>
-    ensures passes { Passes (after_body (view_around around.now) (view_body body.now) (view_vars vars.old.items))
-        (view_vars vars.old.items) result }
-    ensures unchanged { OnOk result (vars.new.items ≡ vars.old.items) }
+    ensures passes { Passes (after_body (view_around around.now) (view_body body.now) (view_vars vars.old))
+        (view_vars vars.old) result }
+    ensures unchanged { OnOk result (vars.new ≡ vars.old) }
 {
     match body {
         MessageBody::Parts(nodes) => {
@@ -225,13 +226,13 @@ fn check_body(
             Ok(())
         }
         MessageBody::Plural(selector, _, cases, other) => {
-            check_expr(alloc, Takes::Int, selector, vars.as_slice())?;
+            check_expr(alloc, Takes::Int, selector, vars)?;
             check_plural_cases(alloc, around, cases.items(), vars)?;
             check_body(alloc, around, other.get(), vars)?;
             Ok(())
         }
         MessageBody::Select(selector, cases, other) => {
-            check_expr(alloc, Takes::Str, selector, vars.as_slice())?;
+            check_expr(alloc, Takes::Str, selector, vars)?;
             check_select_cases(alloc, around, cases.items(), vars)?;
             check_body(alloc, around, other.get(), vars)?;
             Ok(())
@@ -246,11 +247,11 @@ fn check_plural_cases(
     alloc: Global,
     around: &Around,
     cases: &[PluralCase],
-    vars: &mut Vec<Field>,
+    vars: &mut Visible,
 ) -> Result<(), Refusal<TypeFault>>
     ensures passes { Passes (after_plural_cases (view_around around.now) (view_plural_cases cases.now)
-        (view_vars vars.old.items)) (view_vars vars.old.items) result }
-    ensures unchanged { OnOk result (vars.new.items ≡ vars.old.items) }
+        (view_vars vars.old)) (view_vars vars.old) result }
+    ensures unchanged { OnOk result (vars.new ≡ vars.old) }
 {
     for case in cases {
         check_body(alloc, around, &case.body, vars)?;
@@ -265,11 +266,11 @@ fn check_select_cases(
     alloc: Global,
     around: &Around,
     cases: &[SelectCase],
-    vars: &mut Vec<Field>,
+    vars: &mut Visible,
 ) -> Result<(), Refusal<TypeFault>>
     ensures passes { Passes (after_select_cases (view_around around.now) (view_select_cases cases.now)
-        (view_vars vars.old.items)) (view_vars vars.old.items) result }
-    ensures unchanged { OnOk result (vars.new.items ≡ vars.old.items) }
+        (view_vars vars.old)) (view_vars vars.old) result }
+    ensures unchanged { OnOk result (vars.new ≡ vars.old) }
 {
     for case in cases {
         check_body(alloc, around, &case.body, vars)?;

@@ -22,10 +22,11 @@ use crate::names::Names;
 use crate::names_given::NamesGiven;
 use crate::template::Declared;
 use crate::templates::joined_name;
-use crate::variables::{param_type, variable_of};
+use crate::variables::param_type;
+use crate::visible::Visible;
 use soy_base::{Code, OutOfMemory, Refusal, Span, Text};
 use soy_expr::TypeFault;
-use soy_tree::{Argument, Field, Param};
+use soy_tree::{Argument, Param};
 use std::alloc::Global;
 
 /// The template that a call means by a name.
@@ -84,7 +85,7 @@ pub(crate) fn check_demands(
     given: &[Argument],
     span: Span,
     callee: &Declared,
-    vars: &[Field],
+    vars: &Visible,
 ) -> Result<(), Refusal<TypeFault>>
     ensures { Passes (param_demands (view_around around.now) all (names_given (view_arguments given.now)) span
         (view_params callee.now.template.now.params) (view_vars vars.now)) (view_vars vars.now) result }
@@ -112,7 +113,7 @@ fn check_each(
     names: &NamesGiven,
     span: Span,
     params: &[Param],
-    vars: &[Field],
+    vars: &Visible,
 ) -> Result<(), Refusal<TypeFault>>
     ensures { Passes (param_demands (view_around around.now) true
         (names_given (view_arguments names.now.given.now)) span (view_params params.now) (view_vars vars.now))
@@ -134,7 +135,7 @@ fn check_required(
     names: &NamesGiven,
     span: Span,
     callee: &Declared,
-    vars: &[Field],
+    vars: &Visible,
 ) -> Result<(), Refusal<TypeFault>>
     ensures { Passes (param_demands (view_around around.now) false
         (names_given (view_arguments names.now.given.now)) span
@@ -156,7 +157,7 @@ fn check_unnamed(
     all: bool,
     span: Span,
     param: &Param,
-    vars: &[Field],
+    vars: &Visible,
 ) -> Result<(), Refusal<TypeFault>>
     ensures { Passes (unnamed_demand (view_around around.now) all span (view_param param.now) (view_vars vars.now))
         (view_vars vars.now) result }
@@ -175,13 +176,13 @@ fn check_handed(
     alloc: Global,
     span: Span,
     param: &Param,
-    vars: &[Field],
+    vars: &Visible,
 ) -> Result<(), Refusal<TypeFault>>
     ensures { Passes (handed (param_type (view_param param.now)) span (variable_type param.now.name (view_vars vars.now))
         (view_vars vars.now)) (view_vars vars.now) result }
 {
     let to = param_type(alloc, param)?;
-    match variable_of(vars, &param.name) {
+    match vars.find(&param.name) {
         Some(given) => check_accepted(alloc, &to, span, given),
         None => Ok(()),
     }

@@ -1,10 +1,10 @@
 //! The check of the trees of all files.
 
-ghost use Rattle.std.specs.Prelude.{◌≡◌, ◌∷◌, ◌<◌, ◌^◌, [], length, option_map, IfOk, OnOk, reverse};
-ghost use Rattle.soy_tree.specs.Declarations.{declaration_fault};
+ghost use Rattle.std.specs.Prelude.{◌≡◌, ◌∷◌, ◌<◌, ◌^◌, [], length, option_map, None, IfOk, OnOk, reverse};
+ghost use Rattle.soy_tree.specs.Declarations.{declaration_fault, params_fault};
 ghost use Rattle.soy_tree.specs.Demands.{bodies_fault, body_fault, check_fault, declarations_fault, in_file};
 ghost use Rattle.soy_tree.specs.Formed.{AreFormed};
-ghost use Rattle.soy_tree.specs.ViewTrees.{view_trees};
+ghost use Rattle.soy_tree.specs.ViewTrees.{view_params, view_trees};
 ghost use Rattle.soy_check.specs.Answers.{Checks, Finds, FindsInFile};
 ghost use Rattle.soy_check.specs.FullNames.{full_names};
 ghost use Rattle.soy_check.specs.ViewAround.{view_all, view_declared};
@@ -92,7 +92,8 @@ fn check_bodies<'n, 'a, 't>(
     all: &'a [Declared<'t>],
     names: &'n Names<'a>,
 ) -> Result<(), Refusal<CheckFault>>
-    requires { names.now ≡ reverse (full_names all.now) }
+    requires names { names.now ≡ reverse (full_names all.now) }
+    requires declared { declarations_fault (view_all all.now) [] ≡ None }
     ensures { FindsInFile (bodies_fault (view_all all.now) (view_all all.now)) result }
 {
     for declared in all {
@@ -108,7 +109,8 @@ fn check_template<'n, 'a, 't>(
     names: &'n Names<'a>,
     declared: &'a Declared<'t>,
 ) -> Result<(), Refusal<CheckFault>>
-    requires { names.now ≡ reverse (full_names all.now) }
+    requires names { names.now ≡ reverse (full_names all.now) }
+    requires declared { params_fault (view_params declared.now.template.now.params) [] ≡ None }
     ensures { FindsInFile (option_map (in_file declared.now.file)
         (body_fault (view_all all.now) (view_declared declared.now))) result }
 {
@@ -125,7 +127,8 @@ fn check_body<'n, 'a, 't>(
     names: &'n Names<'a>,
     declared: &'a Declared<'t>,
 ) -> Result<(), Refusal<TypeFault>>
-    requires { names.now ≡ reverse (full_names all.now) }
+    requires names { names.now ≡ reverse (full_names all.now) }
+    requires declared { params_fault (view_params declared.now.template.now.params) [] ≡ None }
     ensures { Finds (body_fault (view_all all.now) (view_declared declared.now)) result }
 {
     let params = declared.template.params.items();

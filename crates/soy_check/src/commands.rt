@@ -13,9 +13,10 @@ ghost use Rattle.soy_check.specs.Rules.{is_taken, printed};
 
 use crate::faults::untyped;
 use crate::variables::param_type;
+use crate::visible::Visible;
 use soy_base::{Code, Refusal, Span};
-use soy_expr::{TypeFault, both_mistyped, is_int, is_simple, is_string, type_among};
-use soy_tree::{Expr, Field, Param, SoyType, accepts};
+use soy_expr::{TypeFault, both_mistyped, is_int, is_simple, is_string, type_by};
+use soy_tree::{Expr, Param, SoyType, accepts};
 use std::alloc::Global;
 
 /// Which types a command takes: those made of null, bool, int and string alone, exactly int, or exactly string.
@@ -32,11 +33,11 @@ pub(crate) fn check_print(
     alloc: Global,
     expr: &Expr,
     span: Span,
-    vars: &[Field],
+    vars: &Visible,
 ) -> Result<(), Refusal<TypeFault>>
     ensures { Passes (printed (view_expr expr.now) span (view_vars vars.now)) (view_vars vars.now) result }
 {
-    let of = type_among(alloc, expr, vars)?;
+    let of = type_by(alloc, expr, vars)?;
     if !is_printed(&of) {
         return Err(untyped(alloc, Code::Kind, span.start, &of));
     }
@@ -85,11 +86,11 @@ pub(crate) fn check_expr(
     alloc: Global,
     takes: Takes,
     expr: &Expr,
-    vars: &[Field],
+    vars: &Visible,
 ) -> Result<(), Refusal<TypeFault>>
     ensures { Passes (passing (is_taken takes) (view_expr expr.now) (view_vars vars.now)) (view_vars vars.now) result }
 {
-    let of = type_among(alloc, expr, vars)?;
+    let of = type_by(alloc, expr, vars)?;
     if !is_taken(takes, &of) {
         return Err(untyped(alloc, Code::Mistyped, expr.span.start, &of));
     }
@@ -111,7 +112,7 @@ fn is_taken(takes: Takes, of: &SoyType) -> bool
 pub(crate) fn check_values(
     alloc: Global,
     values: &[Expr],
-    vars: &[Field],
+    vars: &Visible,
 ) -> Result<(), Refusal<TypeFault>>
     ensures { Passes (each_passing (view_exprs values.now) (view_vars vars.now)) (view_vars vars.now) result }
 {
@@ -127,12 +128,12 @@ pub(crate) fn check_plain(
     alloc: Global,
     expr: &Expr,
     param: &Param,
-    vars: &[Field],
+    vars: &Visible,
 ) -> Result<(), Refusal<TypeFault>>
     ensures { Passes (plain_argument (view_expr expr.now) (view_param param.now) (view_vars vars.now))
         (view_vars vars.now) result }
 {
-    let of = type_among(alloc, expr, vars)?;
+    let of = type_by(alloc, expr, vars)?;
     check_accepted(alloc, &param_type(alloc, param)?, expr.span, &of)
 }
 

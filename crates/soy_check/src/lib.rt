@@ -21,5 +21,6 @@ mod template;
 mod templates;
 mod type_faults;
 mod variables;
+mod visible;
 
 pub use checker::{CheckFault, check};

@@ -1,35 +1,34 @@
 //! The variables of a branch, in which a condition takes null away.
 
-ghost use Rattle.std.specs.Prelude.{◌≡◌, ◌<◌, IfSome, OnOk, if◌then◌else◌, length};
-ghost use Rattle.std.specs.List.{position};
+ghost use Rattle.std.specs.Prelude.{◌≡◌, OnOk, if◌then◌else◌};
 ghost use Rattle.soy_tree.specs.Narrowing.{name_narrowed, narrowed, variable_narrowed};
 ghost use Rattle.soy_tree.specs.TypeOf.{is_null_literal};
 ghost use Rattle.soy_tree.specs.ViewExpressions.{view_expr};
 ghost use Rattle.soy_expr.specs.ViewScope.{view_vars};
-ghost use Rattle.soy_check.specs.PutBack.{is_variable, put_back, type_at, with_type};
+ghost use Rattle.soy_check.specs.PutBack.{put_back};
 
+use crate::visible::Visible;
 use soy_base::{OutOfMemory, Text};
-use soy_tree::{BinaryOp, Expr, ExprNode, Field, SoyType, narrow};
+use soy_tree::{BinaryOp, Expr, ExprNode, SoyType, narrow};
 use std::alloc::Global;
-use std::mem;
 
 /// The type that a variable has outside a branch.
 #[derive(Drop)]
-pub(crate) struct Outside {
-    pub(crate) at: usize,
+pub(crate) struct Outside<'w> {
+    pub(crate) name: &'w Text,
     pub(crate) of: SoyType,
 }
 
 /// Takes null away from the variables of a condition, and adds the types that they have outside.
 #[cycle(narrowing)]
-pub(crate) fn narrow_variables(
+pub(crate) fn narrow_variables<'w>(
     alloc: Global,
-    when: &Expr,
-    vars: &mut Vec<Field>,
-    outside: &mut Vec<Outside>,
+    when: &'w Expr,
+    vars: &mut Visible,
+    outside: &mut Vec<Outside<'w>>,
 ) -> Result<(), OutOfMemory>
-    ensures narrowed { OnOk result (view_vars vars.new.items ≡ narrowed (view_expr when.now) (view_vars vars.old.items)) }
-    ensures put_back { OnOk result (put_back outside.new.items vars.new.items ≡ put_back outside.old.items vars.old.items) }
+    ensures narrowed { OnOk result (view_vars vars.new ≡ narrowed (view_expr when.now) (view_vars vars.old)) }
+    ensures put_back { OnOk result (put_back outside.new.items vars.new ≡ put_back outside.old.items vars.old) }
 {
     match &when.node {
         ExprNode::Var(name) => narrow_name(alloc, name, vars, outside),
@@ -45,17 +44,17 @@ pub(crate) fn narrow_variables(
 }
 
 /// Takes null away from a variable that is unequal to the literal null.
-fn narrow_unequal(
+fn narrow_unequal<'w>(
     alloc: Global,
-    left: &Expr,
+    left: &'w Expr,
     right: &Expr,
-    vars: &mut Vec<Field>,
-    outside: &mut Vec<Outside>,
+    vars: &mut Visible,
+    outside: &mut Vec<Outside<'w>>,
 ) -> Result<(), OutOfMemory>
-    ensures narrowed { OnOk result (view_vars vars.new.items
-        ≡ (if is_null_literal (view_expr right.now) then variable_narrowed (view_expr left.now) (view_vars vars.old.items)
-        else view_vars vars.old.items)) }
-    ensures put_back { OnOk result (put_back outside.new.items vars.new.items ≡ put_back outside.old.items vars.old.items) }
+    ensures narrowed { OnOk result (view_vars vars.new
+        ≡ (if is_null_literal (view_expr right.now) then variable_narrowed (view_expr left.now) (view_vars vars.old)
+        else view_vars vars.old)) }
+    ensures put_back { OnOk result (put_back outside.new.items vars.new ≡ put_back outside.old.items vars.old) }
 {
     match (&left.node, &right.node) {
         (ExprNode::Var(name), ExprNode::Null) => narrow_name(alloc, name, vars, outside),
@@ -64,59 +63,32 @@ fn narrow_unequal(
 }
 
 /// Takes null away from the variable of a name, if there is one.
-fn narrow_name(
+fn narrow_name<'w>(
     alloc: Global,
-    name: &Text,
-    vars: &mut Vec<Field>,
-    outside: &mut Vec<Outside>,
+    name: &'w Text,
+    vars: &mut Visible,
+    outside: &mut Vec<Outside<'w>>,
 ) -> Result<(), OutOfMemory>
-    ensures narrowed { OnOk result (view_vars vars.new.items ≡ name_narrowed name.now (view_vars vars.old.items)) }
-    ensures put_back { OnOk result (put_back outside.new.items vars.new.items ≡ put_back outside.old.items vars.old.items) }
+    ensures narrowed { OnOk result (view_vars vars.new ≡ name_narrowed name.now (view_vars vars.old)) }
+    ensures put_back { OnOk result (put_back outside.new.items vars.new ≡ put_back outside.old.items vars.old) }
 {
-    let Some(at) = position_of(vars.as_slice(), name) else {
+    let Some(of) = vars.find(name) else {
         return Ok(());
     };
-    let narrowed = narrow(alloc, &vars[at].of)?;
-    let of = replace_type(vars, at, narrowed);
-    outside.push(Outside { at, of })?;
+    let narrowed = narrow(alloc, of)?;
+    if let Some(of) = vars.set(name, narrowed) {
+        outside.push(Outside { name, of })?;
+    }
     Ok(())
-}
-
-/// Where the first variable of a name stands.
-fn position_of(vars: &[Field], name: &Text) -> Option<usize>
-    ensures at { result ≡ position (is_variable name.now) vars.now }
-    ensures within { IfSome result (λ at. at < length vars.now) }
-{
-    vars.iter()
-        .position(|variable| variable.name.is(name.text()))
-}
-
-/// Gives a variable another type, and answers the one that it had.
-fn replace_type(vars: &mut Vec<Field>, at: usize, of: SoyType) -> SoyType
-    requires { at < length vars.old.items }
-    ensures vars { vars.new.items ≡ with_type at of vars.old.items }
-    ensures before { type_at vars.old.items at ≡ Some result }
-{
-    mem::replace(&mut vars[at].of, of)
 }
 
 /// Gives the variables the types that they have outside the branch.
 #[tactic(auto, using(crate::proofs::Undoing::put_back_last))]
-pub(crate) fn restore(vars: &mut Vec<Field>, outside: Vec<Outside>)
-    ensures { vars.new.items ≡ put_back outside.items vars.old.items }
+pub(crate) fn restore(vars: &mut Visible, outside: Vec<Outside>)
+    ensures { vars.new ≡ put_back outside.entry.items vars.old }
 {
     let mut outside = outside;
-    while let Some(Outside { at, of }) = outside.pop() {
-        put_type(vars, at, of);
-    }
-}
-
-/// Gives a variable another type, if there is one there.
-#[tactic(auto, using(crate::proofs::Undoing::with_type_past))]
-fn put_type(vars: &mut Vec<Field>, at: usize, of: SoyType)
-    ensures { vars.new.items ≡ with_type at of vars.old.items }
-{
-    if at < vars.len() {
-        replace_type(vars, at, of);
+    while let Some(Outside { name, of }) = outside.pop() {
+        vars.set(name, of);
     }
 }

@@ -1,10 +1,10 @@
-//! The variables that are visible. The innermost stands first, as an expression looks for it.
+//! What commands and parameters make visible.
 
-ghost use Rattle.std.specs.Prelude.{◌≡◌, ◌-◌, ◌∷◌, IfOk, OnOk, Ok, drop, length, option_map};
+ghost use Rattle.std.specs.Prelude.{◌≡◌, ◌∷◌, [], None, IfOk, OnOk, Ok, bytes_eq, false, option_map};
 ghost use Rattle.soy_tree.specs.Bodies.{new_variable, new_variables};
+ghost use Rattle.soy_tree.specs.Declarations.{params_fault};
 ghost use Rattle.soy_tree.specs.Faults.{followed_by};
 ghost use Rattle.soy_tree.specs.Templates.{kind_type, param_scope, param_type};
-ghost use Rattle.soy_tree.specs.TypeOf.{variable_type};
 ghost use Rattle.soy_tree.specs.Types.{IntType};
 ghost use Rattle.soy_tree.specs.ViewExpressions.{view_expr};
 ghost use Rattle.soy_tree.specs.ViewTrees.{view_param, view_params};
@@ -13,23 +13,28 @@ ghost use Rattle.soy_expr.specs.ViewScope.{view_vars};
 ghost use Rattle.soy_check.specs.Answers.{Passes};
 ghost use Rattle.soy_check.specs.Grows.{Grows};
 ghost use Rattle.soy_check.specs.Rules.{item_type, let_scope, loop_start, with_pair};
+ghost use Rattle.soy_check.specs.TypeNamed.{AreNew, type_named};
 ghost use Rattle.soy_check.specs.Visible.{variable};
 
 use crate::faults::{misnamed, untyped};
+use crate::visible::Visible;
 use soy_base::{Code, Kind, OutOfMemory, Refusal, Span, Text};
-use soy_expr::{TypeFault, joined, type_among};
-use soy_tree::{Expr, Field, Param, SoyType};
+use soy_expr::{TypeFault, joined, type_by};
+use soy_tree::{Expr, Param, SoyType};
 use std::alloc::Global;
 
 /// The parameters of a template as variables.
-pub(crate) fn param_variables(alloc: Global, params: &[Param]) -> Result<Vec<Field>, OutOfMemory>
-    ensures { IfOk result (λ vars. view_vars vars.items ≡ param_scope (view_params params.now)) }
+pub(crate) fn param_variables(alloc: Global, params: &[Param]) -> Result<Visible, OutOfMemory>
+    requires { params_fault (view_params params.now) [] ≡ None }
+    ensures { IfOk result (λ vars. view_vars vars ≡ param_scope (view_params params.now)) }
 {
-    let mut vars = Vec::new(alloc);
-    for param in params {
-        let name = param.name.copy(alloc)?;
+    let mut vars = Visible::new(alloc);
+    let mut left = params.len();
+    while left > 0 {
+        left -= 1;
+        let param = &params[left];
         let of = param_type(alloc, param)?;
-        vars.push(Field { name, of })?;
+        vars.add(alloc, &param.name, of)?;
     }
     Ok(vars)
 }
@@ -56,29 +61,18 @@ pub(crate) fn kind_type(kind: Kind) -> SoyType
     }
 }
 
-/// The type of the variable of a name.
-pub(crate) fn variable_of<'v>(vars: &'v [Field], name: &Text) -> Option<&'v SoyType>
-    ensures { option_map (λ t. view_type t.now) result ≡ variable_type name.now (view_vars vars.now) }
-{
-    for variable in vars {
-        if variable.name.is(name.text()) {
-            return Some(&variable.of);
-        }
-    }
-    None
-}
-
 /// Refuses a variable that is already visible.
 #[tactic(auto, using(crate::proofs::Refusals::kept))]
 pub(crate) fn check_new(
     alloc: Global,
     name: &Text,
     span: Span,
-    vars: &[Field],
+    vars: &Visible,
 ) -> Result<(), Refusal<TypeFault>>
-    ensures { Passes (new_variable name.now span (view_vars vars.now)) (view_vars vars.now) result }
+    ensures passes { Passes (new_variable name.now span (view_vars vars.now)) (view_vars vars.now) result }
+    ensures new { OnOk result (type_named name.now vars.now ≡ None) }
 {
-    match variable_of(vars, name) {
+    match vars.find(name) {
         Some(_) => Err(misnamed(alloc, Code::Twice, span, name)),
         None => Ok(()),
     }
@@ -89,26 +83,14 @@ pub(crate) fn declare(
     alloc: Global,
     name: &Text,
     of: SoyType,
-    vars: &mut Vec<Field>,
+    vars: &mut Visible,
 ) -> Result<(), OutOfMemory>
-    ensures scope { OnOk result (vars.new.items ≡ variable name.now of ∷ vars.old.items) }
-    ensures grown { OnOk result (Grows vars.old.items vars.new.items) }
+    requires { type_named name.now vars.old ≡ None }
+    ensures scope { OnOk result (vars.new ≡ variable name.now of ∷ vars.old) }
+    ensures grown { OnOk result (Grows vars.old vars.new) }
 {
-    let name = name.copy(alloc)?;
-    vars.insert(0, Field { name, of })?;
+    vars.add(alloc, name, of)?;
     Ok(())
-}
-
-/// Leaves the variables that were there when there were so many.
-pub(crate) fn leave(vars: &mut Vec<Field>, mark: usize)
-    ensures { vars.new.items ≡ drop (length vars.old.items - mark) vars.old.items }
-{
-    if vars.len() <= mark {
-        return;
-    }
-    let inner = vars.len() - mark;
-    vars.rotate_left(inner);
-    vars.truncate(mark);
 }
 
 /// The variable of a let, which is visible after it.
@@ -118,14 +100,14 @@ pub(crate) fn check_let(
     name: &Text,
     expr: &Expr,
     span: Span,
-    vars: &mut Vec<Field>,
+    vars: &mut Visible,
 ) -> Result<(), Refusal<TypeFault>>
-    ensures passes { Passes (let_scope name.now (view_expr expr.now) span (view_vars vars.old.items))
-        (view_vars vars.new.items) result }
-    ensures grown { OnOk result (Grows vars.old.items vars.new.items) }
+    ensures passes { Passes (let_scope name.now (view_expr expr.now) span (view_vars vars.old))
+        (view_vars vars.new) result }
+    ensures grown { OnOk result (Grows vars.old vars.new) }
 {
-    check_new(alloc, name, span, vars.as_slice())?;
-    let of = type_among(alloc, expr, vars.as_slice())?;
+    check_new(alloc, name, span, vars)?;
+    let of = type_by(alloc, expr, vars)?;
     Ok(declare(alloc, name, of, vars)?)
 }
 
@@ -137,14 +119,14 @@ pub(crate) fn enter_loop(
     index: &Option<Text>,
     list: &Expr,
     span: Span,
-    vars: &mut Vec<Field>,
+    vars: &mut Visible,
 ) -> Result<(), Refusal<TypeFault>>
-    ensures passes { Passes (loop_start name.now index.now (view_expr list.now) span (view_vars vars.old.items))
-        (view_vars vars.new.items) result }
-    ensures grown { OnOk result (Grows vars.old.items vars.new.items) }
+    ensures passes { Passes (loop_start name.now index.now (view_expr list.now) span (view_vars vars.old))
+        (view_vars vars.new) result }
+    ensures grown { OnOk result (Grows vars.old vars.new) }
 {
-    check_new_pair(alloc, name, index, span, vars.as_slice())?;
-    let of = type_among(alloc, list, vars.as_slice())?;
+    check_new_pair(alloc, name, index, span, vars)?;
+    let of = type_by(alloc, list, vars)?;
     let Some(item) = item_of(&of) else {
         return Err(untyped(alloc, Code::Mistyped, list.span.start, &of));
     };
@@ -167,11 +149,12 @@ fn declare_pair(
     name: &Text,
     index: &Option<Text>,
     item: SoyType,
-    vars: &mut Vec<Field>,
+    vars: &mut Visible,
 ) -> Result<(), OutOfMemory>
-    ensures scope { OnOk result (view_vars vars.new.items
-        ≡ with_pair name.now index.now (view_type item) (view_vars vars.old.items)) }
-    ensures grown { OnOk result (Grows vars.old.items vars.new.items) }
+    requires { AreNew name.now index.now vars.old }
+    ensures scope { OnOk result (view_vars vars.new
+        ≡ with_pair name.now index.now (view_type item) (view_vars vars.old)) }
+    ensures grown { OnOk result (Grows vars.old vars.new) }
 {
     declare(alloc, name, item, vars)?;
     match index {
@@ -190,9 +173,10 @@ fn check_new_pair(
     name: &Text,
     index: &Option<Text>,
     span: Span,
-    vars: &[Field],
+    vars: &Visible,
 ) -> Result<(), Refusal<TypeFault>>
-    ensures { Passes (new_variables name.now index.now span (view_vars vars.now)) (view_vars vars.now) result }
+    ensures passes { Passes (new_variables name.now index.now span (view_vars vars.now)) (view_vars vars.now) result }
+    ensures new { OnOk result (AreNew name.now index.now vars.now) }
 {
     check_new(alloc, name, span, vars)?;
     match index {
@@ -208,10 +192,11 @@ fn check_new_index(
     name: &Text,
     index: &Text,
     span: Span,
-    vars: &[Field],
+    vars: &Visible,
 ) -> Result<(), Refusal<TypeFault>>
-    ensures { Passes (followed_by (new_variable index.now span ((name.now, IntType) ∷ view_vars vars.now))
+    ensures passes { Passes (followed_by (new_variable index.now span ((name.now, IntType) ∷ view_vars vars.now))
         (λ inner. Ok (view_vars vars.now))) (view_vars vars.now) result }
+    ensures new { OnOk result ((bytes_eq name.now index.now ≡ false) × (type_named index.now vars.now ≡ None)) }
 {
     if name.is(index.text()) {
         return Err(misnamed(alloc, Code::Twice, span, index));

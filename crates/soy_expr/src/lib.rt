@@ -25,6 +25,7 @@ mod shallow;
 mod type_fault;
 mod type_text;
 mod typing;
+mod variable_types;
 mod variables;
 
 pub use calls::{eval, test};
@@ -38,5 +39,6 @@ pub use scope::Scope;
 pub use shallow::Shallow;
 pub use type_fault::{TypeFault, both_mistyped};
 pub use type_text::text_of;
-pub use typing::{type_among, type_of};
+pub use typing::{type_among, type_by, type_of};
+pub use variable_types::VariableTypes;
 pub use variables::Variables;

@@ -1,6 +1,6 @@
 //! The type of an expression.
 
-ghost use Rattle.std.specs.Prelude.{◌≡◌, IfOk, Ok, option_map};
+ghost use Rattle.std.specs.Prelude.{◌≡◌, IfOk, Ok};
 ghost use Rattle.soy_tree.specs.Expressions.{Binary, Coalesce, Conditional, Index, Member, Minus};
 ghost use Rattle.soy_tree.specs.Faults.{followed_by, found};
 ghost use Rattle.soy_tree.specs.TypeOf.{type_of, variable_type};
@@ -14,7 +14,8 @@ ghost use Rattle.soy_expr.specs.ViewTyping.{view_typing};
 use crate::access_type::{index_type, member_type};
 use crate::operator_type::{binary_type, choice_type, coalesce_type, minus_type};
 use crate::type_fault::unknown;
-use crate::{Scope, TypeFault};
+use crate::variable_types::Row;
+use crate::{Scope, TypeFault, VariableTypes};
 use soy_base::{OutOfMemory, Refusal, Span, Text};
 use soy_tree::{BinaryOp, Expr, ExprNode, Field, SoyType};
 use std::alloc::Global;
@@ -60,18 +61,29 @@ pub fn type_of(alloc: Global, expr: &Expr, scope: &Scope) -> Result<SoyType, Ref
 pub fn type_among(alloc: Global, expr: &Expr, vars: &[Field]) -> Result<SoyType, Refusal<TypeFault>>
     ensures { Types view_type (type_of (view_expr expr.now) (view_vars vars.now)) result }
 {
+    type_by(alloc, expr, &Row { vars })
+}
+
+/// The type of an expression, whose variables are found by their names; where it has none, its first fault.
+pub fn type_by<V: VariableTypes>(
+    alloc: Global,
+    expr: &Expr,
+    vars: &V,
+) -> Result<SoyType, Refusal<TypeFault>>
+    ensures { Types view_type (type_of (view_expr expr.now) (V.visible vars.now)) result }
+{
     let typing = type_in(alloc, expr, vars)?;
     Ok(typing.owned(alloc)?)
 }
 
 /// The same, not copied where it stands in the scope.
 #[cycle(typing)]
-fn type_in<'a>(
+fn type_in<'a, V: VariableTypes>(
     alloc: Global,
     expr: &Expr,
-    vars: &'a [Field],
+    vars: &'a V,
 ) -> Result<Typing<'a>, Refusal<TypeFault>>
-    ensures { Types view_typing (type_of (view_expr expr.now) (view_vars vars.now)) result }
+    ensures { Types view_typing (type_of (view_expr expr.now) (V.visible vars.now)) result }
 {
     let span = expr.span;
     match &expr.node {
@@ -103,16 +115,16 @@ fn type_in<'a>(
 /// The type of an access to a field.
 #[cycle(typing)]
 #[tactic(auto, using(crate::proofs::Refusals::refused_first))]
-fn member_typing<'a>(
+fn member_typing<'a, V: VariableTypes>(
     alloc: Global,
     span: Span,
     of: &Expr,
     name: &Text,
     takes_null: bool,
-    vars: &'a [Field],
+    vars: &'a V,
 ) -> Result<Typing<'a>, Refusal<TypeFault>>
     ensures { Types view_typing
-        (type_of (Member (view_expr of.now) name.now takes_null span) (view_vars vars.now)) result }
+        (type_of (Member (view_expr of.now) name.now takes_null span) (V.visible vars.now)) result }
 {
     let of = type_in(alloc, of, vars)?;
     member_type(alloc, span, of, name, takes_null)
@@ -121,17 +133,17 @@ fn member_typing<'a>(
 /// The type of an access by an index.
 #[cycle(typing)]
 #[tactic(auto, using(crate::proofs::Refusals::refused_first))]
-fn index_typing<'a>(
+fn index_typing<'a, V: VariableTypes>(
     alloc: Global,
     span: Span,
     of: &Expr,
     index: &Expr,
     takes_null: bool,
-    vars: &'a [Field],
+    vars: &'a V,
 ) -> Result<Typing<'a>, Refusal<TypeFault>>
     ensures { Types view_typing
         (type_of (Index (view_expr of.now) (view_expr index.now) takes_null span)
-        (view_vars vars.now)) result }
+        (V.visible vars.now)) result }
 {
     let of = type_in(alloc, of, vars)?;
     let index = type_in(alloc, index, vars)?;
@@ -141,13 +153,13 @@ fn index_typing<'a>(
 /// The type of `-` before an operand.
 #[cycle(typing)]
 #[tactic(auto, using(crate::proofs::Refusals::refused_first))]
-fn minus_typing<'a>(
+fn minus_typing<'a, V: VariableTypes>(
     alloc: Global,
     span: Span,
     of: &Expr,
-    vars: &'a [Field],
+    vars: &'a V,
 ) -> Result<Typing<'a>, Refusal<TypeFault>>
-    ensures { Types view_typing (type_of (Minus (view_expr of.now) span) (view_vars vars.now)) result }
+    ensures { Types view_typing (type_of (Minus (view_expr of.now) span) (V.visible vars.now)) result }
 {
     let of = type_in(alloc, of, vars)?;
     Ok(Typing::Made(minus_type(alloc, span, of.get())?))
@@ -156,13 +168,13 @@ fn minus_typing<'a>(
 /// The type of `not`.
 #[cycle(typing)]
 #[tactic(auto, using(crate::proofs::Refusals::refused_first))]
-fn not_typing<'a>(
+fn not_typing<'a, V: VariableTypes>(
     alloc: Global,
     of: &Expr,
-    vars: &'a [Field],
+    vars: &'a V,
 ) -> Result<Typing<'a>, Refusal<TypeFault>>
     ensures { Types view_typing
-        (followed_by (type_of (view_expr of.now) (view_vars vars.now)) (λ t. Ok BoolType)) result }
+        (followed_by (type_of (view_expr of.now) (V.visible vars.now)) (λ t. Ok BoolType)) result }
 {
     type_in(alloc, of, vars)?;
     Ok(Typing::Made(SoyType::Bool))
@@ -171,16 +183,16 @@ fn not_typing<'a>(
 /// The type of an operator of two operands.
 #[cycle(typing)]
 #[tactic(auto, using(crate::proofs::Refusals::refused_first))]
-fn binary_typing<'a>(
+fn binary_typing<'a, V: VariableTypes>(
     alloc: Global,
     op: BinaryOp,
     span: Span,
     left: &Expr,
     right: &Expr,
-    vars: &'a [Field],
+    vars: &'a V,
 ) -> Result<Typing<'a>, Refusal<TypeFault>>
     ensures { Types view_typing
-        (type_of (Binary op (view_expr left.now) (view_expr right.now) span) (view_vars vars.now)) result }
+        (type_of (Binary op (view_expr left.now) (view_expr right.now) span) (V.visible vars.now)) result }
 {
     let of_left = type_in(alloc, left, vars)?;
     let of_right = type_in(alloc, right, vars)?;
@@ -198,15 +210,15 @@ fn binary_typing<'a>(
 /// The type of `?:`.
 #[cycle(typing)]
 #[tactic(auto, using(crate::proofs::Refusals::refused_first))]
-fn coalesce_typing<'a>(
+fn coalesce_typing<'a, V: VariableTypes>(
     alloc: Global,
     span: Span,
     left: &Expr,
     right: &Expr,
-    vars: &'a [Field],
+    vars: &'a V,
 ) -> Result<Typing<'a>, Refusal<TypeFault>>
     ensures { Types view_typing
-        (type_of (Coalesce (view_expr left.now) (view_expr right.now) span) (view_vars vars.now)) result }
+        (type_of (Coalesce (view_expr left.now) (view_expr right.now) span) (V.visible vars.now)) result }
 {
     let left = type_in(alloc, left, vars)?;
     let right = type_in(alloc, right, vars)?;
@@ -216,17 +228,17 @@ fn coalesce_typing<'a>(
 /// The type of `c ? a : b`.
 #[cycle(typing)]
 #[tactic(auto, using(crate::proofs::Refusals::refused_first))]
-fn choice_typing<'a>(
+fn choice_typing<'a, V: VariableTypes>(
     alloc: Global,
     span: Span,
     when: &Expr,
     left: &Expr,
     right: &Expr,
-    vars: &'a [Field],
+    vars: &'a V,
 ) -> Result<Typing<'a>, Refusal<TypeFault>>
     ensures { Types view_typing
         (type_of (Conditional (view_expr when.now) (view_expr left.now) (view_expr right.now) span)
-        (view_vars vars.now)) result }
+        (V.visible vars.now)) result }
 {
     let when = type_in(alloc, when, vars)?;
     let left = type_in(alloc, left, vars)?;
@@ -235,28 +247,16 @@ fn choice_typing<'a>(
 }
 
 /// The type of a variable.
-fn variable_typing<'a>(
+fn variable_typing<'a, V: VariableTypes>(
     alloc: Global,
     span: Span,
     name: &Text,
-    vars: &'a [Field],
+    vars: &'a V,
 ) -> Result<Typing<'a>, Refusal<TypeFault>>
-    ensures { Types view_typing (found name.now span (variable_type name.now (view_vars vars.now))) result }
+    ensures { Types view_typing (found name.now span (variable_type name.now (V.visible vars.now))) result }
 {
-    match variable(vars, name) {
+    match vars.type_of_variable(name) {
         Some(of) => Ok(Typing::Declared(of)),
         None => Err(unknown(alloc, span, name)),
     }
-}
-
-/// The type of the first variable of a name.
-fn variable<'a>(vars: &'a [Field], name: &Text) -> Option<&'a SoyType>
-    ensures { option_map (λ t. view_type t.now) result ≡ variable_type name.now (view_vars vars.now) }
-{
-    for variable in vars {
-        if variable.name.is(name.text()) {
-            return Some(&variable.of);
-        }
-    }
-    None
 }

@@ -11,7 +11,7 @@ use Rattle.soy_check.proofs.bodies.+checking.Goals as goal
 pub check_given-returns-in_err-check_accepted-in-Block-clause-passes :
     goal.check_given-returns-in_err-check_accepted-in-Block-clause-passes
 check_given-returns-in_err-check_accepted-in-Block-clause-passes t c =
-    let scope = view_vars c.args.vars.now.items in
+    let scope = view_vars c.args.vars.now in
     let refused = c.in_err-check_accepted-in-Block in
     let out = c.from_residual-in_err-check_accepted-in-Block in
     let p = err_from_is_err_and out.result out.ensures.1 in
@@ -24,9 +24,9 @@ pub check_nodes-loop-node-preserved : goal.check_nodes-loop-node-preserved
 check_nodes-loop-node-preserved t c = record {
   left = c.loop-node.invariant.left
       ∙ nodes_step (view_around c.args.around.now) c.args.nodes.now c.loop-node.node-index c.node-item.result
-      (view_vars c.loop-node.vars.items) (view_vars c.check_node.new.vars.items) c.loop-node-test.true c.node-item.is
+      (view_vars c.loop-node.vars) (view_vars c.check_node.new.vars) c.loop-node-test.true c.node-item.is
       c.in_ok-check_node.ensures.passes;
-  grown = grown_further c.args.vars.now.items c.loop-node.vars.items c.check_node.new.vars.items
+  grown = grown_further c.args.vars.now c.loop-node.vars c.check_node.new.vars
       c.loop-node.invariant.grown c.in_ok-check_node.ensures.grown;
   mark = c.loop-node.invariant.mark;
 }

@@ -12,50 +12,50 @@ use Rattle.soy_check.proofs.bodies.+checking.Given as goal
 abbrev pub invariant-check_nodes-loop-node : goal.invariant-check_nodes-loop-node
 invariant-check_nodes-loop-node l =
     let around = view_around l.around in record {
-      left : after_nodes around (view_nodes l.nodes) (view_vars l.initial.vars.items)
-          ≡ after_nodes around (view_nodes (drop l.node-index l.nodes)) (view_vars l.vars.items);
-      grown : Grows l.initial.vars.items l.vars.items;
-      mark : l.mark ≡ length l.initial.vars.items;
+      left : after_nodes around (view_nodes l.nodes) (view_vars l.initial.vars)
+          ≡ after_nodes around (view_nodes (drop l.node-index l.nodes)) (view_vars l.vars);
+      grown : Grows l.initial.vars l.vars;
+      mark : l.mark ≡ length l.initial.vars;
     }
 
 abbrev pub invariant-check_arms-loop-arm : goal.invariant-check_arms-loop-arm
 invariant-check_arms-loop-arm l =
     let around = view_around l.around in record {
-      left : after_arms around (view_arms l.arms) (view_vars l.initial.vars.items)
-          ≡ after_arms around (view_arms (drop l.arm-index l.arms)) (view_vars l.initial.vars.items);
-      same : l.vars.items ≡ l.initial.vars.items;
+      left : after_arms around (view_arms l.arms) (view_vars l.initial.vars)
+          ≡ after_arms around (view_arms (drop l.arm-index l.arms)) (view_vars l.initial.vars);
+      same : l.vars ≡ l.initial.vars;
     }
 
 abbrev pub invariant-check_cases-loop-case : goal.invariant-check_cases-loop-case
 invariant-check_cases-loop-case l =
     let around = view_around l.around in record {
-      left : after_cases around (view_cases l.cases) (view_vars l.initial.vars.items)
-          ≡ after_cases around (view_cases (drop l.case-index l.cases)) (view_vars l.initial.vars.items);
-      same : l.vars.items ≡ l.initial.vars.items;
+      left : after_cases around (view_cases l.cases) (view_vars l.initial.vars)
+          ≡ after_cases around (view_cases (drop l.case-index l.cases)) (view_vars l.initial.vars);
+      same : l.vars ≡ l.initial.vars;
     }
 
 abbrev pub invariant-check_arguments-loop-argument : goal.invariant-check_arguments-loop-argument
 invariant-check_arguments-loop-argument l =
     let around = view_around l.around in
     let params = view_params l.callee.template.now.params in record {
-      left : after_arguments around (view_arguments l.given) [] params (view_vars l.initial.vars.items)
+      left : after_arguments around (view_arguments l.given) [] params (view_vars l.initial.vars)
           ≡ after_arguments around (view_arguments (drop l.argument-index l.given)) l.before params
-          (view_vars l.initial.vars.items);
-      same : l.vars.items ≡ l.initial.vars.items;
+          (view_vars l.initial.vars);
+      same : l.vars ≡ l.initial.vars;
     }
 
 abbrev pub invariant-check_plural_cases-loop-case : goal.invariant-check_plural_cases-loop-case
 invariant-check_plural_cases-loop-case l =
     let around = view_around l.around in record {
-      left : after_plural_cases around (view_plural_cases l.cases) (view_vars l.initial.vars.items)
-          ≡ after_plural_cases around (view_plural_cases (drop l.case-index l.cases)) (view_vars l.initial.vars.items);
-      same : l.vars.items ≡ l.initial.vars.items;
+      left : after_plural_cases around (view_plural_cases l.cases) (view_vars l.initial.vars)
+          ≡ after_plural_cases around (view_plural_cases (drop l.case-index l.cases)) (view_vars l.initial.vars);
+      same : l.vars ≡ l.initial.vars;
     }
 
 abbrev pub invariant-check_select_cases-loop-case : goal.invariant-check_select_cases-loop-case
 invariant-check_select_cases-loop-case l =
     let around = view_around l.around in record {
-      left : after_select_cases around (view_select_cases l.cases) (view_vars l.initial.vars.items)
-          ≡ after_select_cases around (view_select_cases (drop l.case-index l.cases)) (view_vars l.initial.vars.items);
-      same : l.vars.items ≡ l.initial.vars.items;
+      left : after_select_cases around (view_select_cases l.cases) (view_vars l.initial.vars)
+          ≡ after_select_cases around (view_select_cases (drop l.case-index l.cases)) (view_vars l.initial.vars);
+      same : l.vars ≡ l.initial.vars;
     }

@@ -17,5 +17,5 @@ returns-in-Some c =
     same_passes (handed (param_type p) c.args.span (variable_type p.name scope) scope)
     (accepted to c.args.span t scope) scope c.check_accepted.result
     (handed_is p c.args.span scope (variable_type p.name scope) t to
-    (sym c.variable_of.ensures ∙ ap (option_map (λ t. view_type t.now)) c.in-Some.is) c.in_ok-to.ensures)
+    (sym c.find.ensures.typed ∙ ap (option_map (λ t. view_type t.now)) c.in-Some.is) c.in_ok-to.ensures)
     (c.check_accepted.ensures scope)

@@ -22,6 +22,6 @@ pub returns : goal.returns
 returns c =
     let d = c.args.declared.now in
     body_finds (wanted c.args.all.now d) d.template.now.params d.template.now.params c.items-body.result.now
-    d.template.now.body (view_vars c.in_ok-vars.vars.items) c.check_nodes.result refl c.items-body.ensures
+    d.template.now.body (view_vars c.in_ok-vars.vars) c.check_nodes.result refl c.items-body.ensures
     (c.in_ok-vars.ensures ∙ ap (λ (ps : List code_param.Param). param_scope (view_params ps)) c.items-params.ensures)
     c.check_nodes.ensures.ends

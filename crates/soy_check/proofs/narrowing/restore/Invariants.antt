@@ -2,8 +2,8 @@ use Rattle.std.proofs.Common.{◌≡◌, length}
 use Rattle.soy_check.specs.PutBack.{put_back}
 use Rattle.soy_check.proofs.narrowing.restore.Given as goal
 
-abbrev pub invariant-loop-at : goal.invariant-loop-at
-invariant-loop-at l = put_back l.outside.items l.vars.items ≡ put_back l.initial.outside.items l.initial.vars.items
+abbrev pub invariant-loop-name : goal.invariant-loop-name
+invariant-loop-name l = put_back l.outside.items l.vars ≡ put_back l.initial.outside.items l.initial.vars
 
-abbrev pub decreases-loop-at : goal.decreases-loop-at
-decreases-loop-at l = length l.outside.items
+abbrev pub decreases-loop-name : goal.decreases-loop-name
+decreases-loop-name l = length l.outside.items

@@ -2,4 +2,4 @@ use Rattle.soy_check.proofs.Growth.{grown_one}
 use Rattle.soy_check.proofs.variables.declare.Goals as goal
 
 pub returns-clause-grown : goal.returns-clause-grown
-returns-clause-grown c = grown_one _ _ _ c.in_ok-insert.ensures.items
+returns-clause-grown c = grown_one _ _ _ c.in_ok-add.ensures

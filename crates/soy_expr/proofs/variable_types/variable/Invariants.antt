@@ -1,7 +1,7 @@
 use Rattle.std.proofs.Common.{◌≡◌, drop}
 use Rattle.soy_tree.specs.TypeOf.{variable_type}
 use Rattle.soy_expr.specs.ViewScope.{view_vars}
-use Rattle.soy_expr.proofs.typing.variable.Given as goal
+use Rattle.soy_expr.proofs.variable_types.variable.Given as goal
 
 abbrev pub invariant-loop-variable : goal.invariant-loop-variable
 invariant-loop-variable l =
