@@ -1,10 +1,12 @@
 //! A bundle beside files, and the walk over these under it.
 
-ghost use Rattle.std.specs.Prelude.{◌≤◌, ℕ, List, Some, length, option_map};
+ghost use Rattle.std.specs.Prelude.{◌≡◌, ◌≤◌, ℕ, List, Ok, Some, length, option_map};
 ghost use Rattle.msg_bundle.specs.ReadsBundle.{ReadsBundle};
 ghost use Rattle.msg_extract.specs.declared.catalogue.Listed.{Listed};
 ghost use Rattle.soy_front.specs.Accepted.{Accepted};
 ghost use Rattle.soy_front.specs.Accepts.{Accepts, AcceptsLanguage, Decides, IsOfFiles, ReadsLanguage};
+ghost use Rattle.soy_front.specs.FilesAnswer.{files_answer};
+ghost use Rattle.soy_front.specs.ReadsFiles.{view_files};
 ghost use Rattle.soy_front.specs.ViewSources.{view_contents};
 
 use crate::fault::FrontFault;
@@ -42,16 +44,27 @@ pub fn accept(
     ensures accepts { Accepts (view_contents sources.now) (option_map (λ b. b.now) bundle.entry) result }
     ensures decides { Decides (Accepted (view_contents sources.now) (option_map (λ b. b.now) bundle.entry)) result }
 {
-    let files = match read_files(alloc, sources) {
-        Ok(files) => files,
-        Err(refusal) => return Err(of_files(refusal)),
-    };
+    match read_files(alloc, sources) {
+        Ok(files) => accept_read(alloc, files, bundle),
+        Err(refusal) => Err(of_files(refusal)),
+    }
+}
+
+/// Accepts files that are read, as `accept` does.
+pub(crate) fn accept_read(
+    alloc: Global,
+    files: ReadFiles,
+    bundle: Option<&[u8]>,
+) -> Result<AcceptedFiles, Refusal<FrontFault>>
+    ensures { (contents : List (List ℕ)) → files_answer contents ≡ Ok (view_files files) →
+        Accepts contents (option_map (λ b. b.now) bundle.entry) result }
+{
     let language = accept_language(alloc, &files, bundle)?;
     Ok(AcceptedFiles { files, language })
 }
 
 /// A refusal of files.
-fn of_files(refusal: Refusal<Fault>) -> Refusal<FrontFault>
+pub(crate) fn of_files(refusal: Refusal<Fault>) -> Refusal<FrontFault>
     ensures { IsOfFiles refusal result }
 {
     match refusal {

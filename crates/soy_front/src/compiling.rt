@@ -1,17 +1,19 @@
 //! Files and a bundle as one program.
 
-ghost use Rattle.std.specs.Prelude.{◌≡◌, ◌≤◌, length, option_map};
+ghost use Rattle.std.specs.Prelude.{◌≡◌, ◌≤◌, ℕ, List, Ok, length, option_map};
 ghost use Rattle.std.specs.List.{position};
 ghost use Rattle.std.specs.Str.{chars};
 ghost use Rattle.soy_front.specs.Accepted.{Accepted};
 ghost use Rattle.soy_front.specs.Accepts.{Decides};
 ghost use Rattle.soy_front.specs.Compiled.{CompilesFiles};
 ghost use Rattle.soy_front.specs.Entries.{is_entry_kind, is_entry_routine};
+ghost use Rattle.soy_front.specs.FilesAnswer.{files_answer};
+ghost use Rattle.soy_front.specs.ReadsFiles.{view_files};
 ghost use Rattle.soy_front.specs.ViewSources.{view_contents};
 
-use crate::accepting::{AcceptedFiles, accept};
+use crate::accepting::{AcceptedFiles, accept_read, of_files};
 use crate::fault::FrontFault;
-use crate::files::ReadFiles;
+use crate::files::{ReadFiles, read_files};
 use crate::source::Source;
 use ir_build::build;
 use msg_extract::Catalogue;
@@ -39,7 +41,25 @@ pub fn compile(
     ensures compiles { CompilesFiles (view_contents sources.now) (option_map (λ b. b.now) bundle.entry) result }
     ensures decides { Decides (Accepted (view_contents sources.now) (option_map (λ b. b.now) bundle.entry)) result }
 {
-    let accepted = match accept(alloc, sources, bundle) {
+    match read_files(alloc, sources) {
+        Ok(files) => compile_read(alloc, files, bundle),
+        Err(refusal) => Err(of_files(refusal)),
+    }
+}
+
+/// Compiles files that are read, as `compile` does: of files whose catalogue was wanted first, none is read again.
+pub fn compile_read(
+    alloc: Global,
+    files: ReadFiles,
+    bundle: Option<&[u8]>,
+) -> Result<Compiled, Refusal<FrontFault>>
+    requires { (contents : List (List ℕ)) × (files_answer contents ≡ Ok (view_files files)) }
+    ensures compiles { (contents : List (List ℕ)) → files_answer contents ≡ Ok (view_files files) →
+        CompilesFiles contents (option_map (λ b. b.now) bundle.entry) result }
+    ensures decides { (contents : List (List ℕ)) → files_answer contents ≡ Ok (view_files files) →
+        Decides (Accepted contents (option_map (λ b. b.now) bundle.entry)) result }
+{
+    let accepted = match accept_read(alloc, files, bundle) {
         Ok(accepted) => accepted,
         Err(refusal) => return Err(refusal),
     };

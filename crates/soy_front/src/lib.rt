@@ -18,7 +18,7 @@ mod source;
 mod sources;
 
 pub use accepting::{AcceptedFiles, Language, accept, accept_language};
-pub use compiling::{Compiled, compile};
+pub use compiling::{Compiled, compile, compile_read};
 pub use fault::FrontFault;
 pub use files::{ReadFiles, read_files};
 pub use laws::{law_data_fits, law_files, law_first_fault, law_front_answer, law_source_answer};

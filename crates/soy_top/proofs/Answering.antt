@@ -94,6 +94,22 @@ page_then names files bundle content c answer (Err ending) are h =
     λ page.
     subst (λ x. Refuses x ending) (sym (ap (unless_refused names files bundle (answer page)) are.answered)) (h page)
 
+-- what is answered by files and a bundle that are compiled
+pub compiled_then : (names : List Word) (files : List (List ℕ)) (bundle : Word) (content : Option (List ℕ))
+    (c : Compiled) (answer : Front → Answer) (r : Result Output Ending) → (are : AreCompiled files content c)
+    → Accepts (answer are.of) r → Accepts (accepted_then names files bundle content answer) r
+compiled_then names files bundle content c answer r are h =
+    subst (λ x. Accepts x r) (sym (ap (unless_refused names files bundle answer) are.answered)) h
+
+-- what is answered of a template and data that go by other names
+pub rendered_same : (page : PageAnswer) (json_name : Word) (of : Front) (template template_seen : Word)
+    (json json_seen : List ℕ) (r : Result Output Ending) → template ≡ template_seen → json ≡ json_seen
+    → Accepts (render_answer page template json_name json of) r
+    → Accepts (render_answer page template_seen json_name json_seen of) r
+rendered_same page json_name of template template_seen json json_seen r is_template is_json h =
+    subst (λ x. Accepts (render_answer page template_seen json_name x of) r) is_json
+    (subst (λ x. Accepts (render_answer page x json_name json of) r) is_template h)
+
 -- what is answered by a page, where the content of the bundle, the name of the template and the data go by other names
 pub pages_same : (names : List Word) (files : List (List ℕ)) (page : PageAnswer) (json_name bundle : Word)
     (template template_seen : Word) (json json_seen : List ℕ) (content content_seen : Option (List ℕ))

@@ -1,6 +1,10 @@
 //! The workload of a `gen`: its inputs are made, compiled and rendered, and its page is summed up.
 
-ghost use Rattle.std.specs.Prelude.{◌≡◌, ◌≤◌, [], ◌∷◌, ◌++◌, IfOk, OnOk, Some, codes, encode_utf8_all, length, map};
+ghost use Rattle.std.specs.Prelude.{◌≡◌, ◌≤◌, ℕ, List, [], ◌∷◌, ◌++◌, IfOk, Ok, OnOk, Option, Some, codes};
+ghost use Rattle.std.specs.Prelude.{encode_utf8_all, length, map};
+ghost use Rattle.soy_front.specs.Compiled.{AreCompiled};
+ghost use Rattle.soy_front.specs.FilesAnswer.{files_answer};
+ghost use Rattle.soy_front.specs.ReadsFiles.{view_files};
 ghost use Rattle.soy_front.specs.ViewSources.{view_contents};
 ghost use Rattle.soy_top.specs.Accepts.{Accepts};
 ghost use Rattle.soy_top.specs.Answer.{accepted_then, bundled_answer, gen_answer, read_then, render_answer};
@@ -12,10 +16,10 @@ use crate::catalogue::accept_files;
 use crate::ending::Ending;
 use crate::made_bundle::bundle_text;
 use crate::output::Output;
-use crate::render::accept_page;
+use crate::render::{accept_template, compile_read_front};
 use crate::summary::page_summary;
 use soy_base::{OutOfMemory, Seq, Text};
-use soy_front::Source;
+use soy_front::{Compiled, ReadFiles, Source};
 use std::alloc::Global;
 use work_gen::{Workload, make};
 
@@ -86,32 +90,50 @@ fn accept_files_of<'a>(
     match accept_files(alloc, names, sources) {
         Ok(read) => {
             let bundle = bundle_text(alloc, &read.catalogue)?;
-            accept_bundled(alloc, workload, bundle.as_bytes(), names, sources)
+            accept_bundled(alloc, workload, read, bundle.as_bytes(), names, sources)
         }
         Err(ending) => Err(ending),
     }
 }
 
-/// The summary of a workload with its files and its bundle, or the line of its first fault.
+/// The summary of a workload with its files, which are read, and its bundle, or the line of its first fault.
 fn accept_bundled<'a>(
     alloc: Global,
     workload: &Workload,
+    read: ReadFiles,
     bundle: &[u8],
     names: &[String],
     sources: &[Source],
 ) -> Result<Output<'a>, Ending>
-    requires { length sources.now ≤ 64 }
+    requires { files_answer (view_contents sources.now) ≡ Ok (view_files read) }
     ensures { Accepts (accepted_then (command_words names.now) (view_contents sources.now) (codes "gen.bundle")
         (Some bundle.now) (render_answer summed_page (workload_entry workload.now) (codes "gen.json")
         (workload_json workload.now))) result }
 {
-    match accept_page(
+    match compile_read_front(alloc, names, sources, read, "gen.bundle", Some(bundle)) {
+        Ok(compiled) => accept_compiled(alloc, workload, compiled, names, sources),
+        Err(ending) => Err(ending),
+    }
+}
+
+/// The summary of a workload that is compiled, or the line of the first fault of its template and its data.
+fn accept_compiled<'a>(
+    alloc: Global,
+    workload: &Workload,
+    compiled: Compiled,
+    names: &[String],
+    sources: &[Source],
+) -> Result<Output<'a>, Ending>
+    ensures { (content : Option (List ℕ)) (are : AreCompiled (view_contents sources.now) content compiled) →
+        Accepts (render_answer summed_page (workload_entry workload.now) (codes "gen.json")
+        (workload_json workload.now) are.of) result }
+{
+    match accept_template(
         alloc,
+        compiled,
         workload.entry.text(),
         "gen.json",
         workload.json.text().as_bytes(),
-        "gen.bundle",
-        Some(bundle),
         names,
         sources,
     ) {

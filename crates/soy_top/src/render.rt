@@ -1,7 +1,9 @@
 //! Pages: files and a bundle are compiled, the template is found, and its data are read.
 
-ghost use Rattle.std.specs.Prelude.{◌≡◌, ◌≤◌, ℕ, List, Option, Some, IfOk, length, option_map, slice_get};
-ghost use Rattle.soy_front.specs.Compiled.{AreCompiled};
+ghost use Rattle.std.specs.Prelude.{◌≡◌, ◌≤◌, ℕ, List, Ok, Option, Some, IfOk, length, option_map, slice_get};
+ghost use Rattle.soy_front.specs.Compiled.{AreCompiled, CompilesFiles};
+ghost use Rattle.soy_front.specs.FilesAnswer.{files_answer};
+ghost use Rattle.soy_front.specs.ReadsFiles.{view_files};
 ghost use Rattle.soy_front.specs.ViewSources.{view_contents};
 ghost use Rattle.soy_top.specs.Accepts.{Accepts, AcceptsPage, CompilesFront, IsNumbered};
 ghost use Rattle.soy_top.specs.Answer.{accepted_then, data_answer, entry_answer, inputs_answer, render_answer};
@@ -18,7 +20,7 @@ use crate::line::{entry_line, pointer_line};
 use crate::output::Output;
 use crate::page::Page;
 use soy_base::Refusal;
-use soy_front::{Compiled, Source, compile};
+use soy_front::{Compiled, FrontFault, ReadFiles, Source, compile, compile_read};
 use soy_types::read_data;
 use std::alloc::Global;
 
@@ -71,14 +73,30 @@ pub(crate) fn accept_page<'a>(
     ensures sources { IfOk result (λ page. page.sources.now ≡ sources.now) }
 {
     match compile_front(alloc, names, sources, bundle, content) {
-        Ok(compiled) => {
-            let entry = compiled.entry(template);
-            accept_entry(
-                alloc, compiled, entry, template, json_name, json, names, sources,
-            )
-        }
+        Ok(compiled) => accept_template(alloc, compiled, template, json_name, json, names, sources),
         Err(ending) => Err(ending),
     }
+}
+
+/// The page of a template of a program, or the line of the first fault of the template and of its data.
+pub(crate) fn accept_template<'a>(
+    alloc: Global,
+    compiled: Compiled,
+    template: &str,
+    json_name: &str,
+    json: &[u8],
+    names: &'a [String],
+    sources: &'a [Source],
+) -> Result<Page<'a>, Ending>
+    ensures accepts { (content : Option (List ℕ)) (are : AreCompiled (view_contents sources.now) content compiled) →
+        AcceptsPage (λ page. render_answer page template.now json_name.now json.now are.of) result }
+    ensures names { IfOk result (λ page. page.names.now ≡ names.now) }
+    ensures sources { IfOk result (λ page. page.sources.now ≡ sources.now) }
+{
+    let entry = compiled.entry(template);
+    accept_entry(
+        alloc, compiled, entry, template, json_name, json, names, sources,
+    )
 }
 
 /// The program of files of these names and a bundle, or the line of their first fault.
@@ -93,7 +111,39 @@ pub(crate) fn compile_front(
     ensures { CompilesFront (command_words names.now) (view_contents sources.now) bundle.now
         (option_map (λ b. b.now) content.entry) result }
 {
-    match compile(alloc, sources, content) {
+    let compiled = compile(alloc, sources, content);
+    unless_refused(alloc, names, sources, bundle, compiled)
+}
+
+/// The same of files that are read.
+pub(crate) fn compile_read_front(
+    alloc: Global,
+    names: &[String],
+    sources: &[Source],
+    read: ReadFiles,
+    bundle: &str,
+    content: Option<&[u8]>,
+) -> Result<Compiled, Ending>
+    requires { files_answer (view_contents sources.now) ≡ Ok (view_files read) }
+    ensures { CompilesFront (command_words names.now) (view_contents sources.now) bundle.now
+        (option_map (λ b. b.now) content.entry) result }
+{
+    let compiled = compile_read(alloc, read, content);
+    unless_refused(alloc, names, sources, bundle, compiled)
+}
+
+/// A program, or the line of the first fault of files of these names and a bundle.
+fn unless_refused(
+    alloc: Global,
+    names: &[String],
+    sources: &[Source],
+    bundle: &str,
+    compiled: Result<Compiled, Refusal<FrontFault>>,
+) -> Result<Compiled, Ending>
+    ensures { (content : Option (List ℕ)) → CompilesFiles (view_contents sources.now) content compiled →
+        CompilesFront (command_words names.now) (view_contents sources.now) bundle.now content result }
+{
+    match compiled {
         Ok(compiled) => Ok(compiled),
         Err(Refusal::Because(fault)) => {
             let line = front_line(alloc, names, sources, bundle, fault)?;

@@ -1,11 +1,6 @@
 use Rattle.std.specs.Prelude.{option_map}
-use Rattle.soy_front.specs.ViewSources.{view_contents}
-use Rattle.soy_top.specs.Words.{command_words}
-use Rattle.soy_top.proofs.Answering.{front_refused}
 use Rattle.soy_top.proofs.render.compile_front.Goals as goal
 
-pub returns-in_ok-line-in-Err-Because : goal.returns-in_ok-line-in-Err-Because
-returns-in_ok-line-in-Err-Because c =
-    front_refused (command_words c.args.names.now) (view_contents c.args.sources.now) c.args.bundle.now
-    (option_map (λ b. b.now) c.args.content) c.in-Err-Because.fault c.in_ok-line-in-Err-Because.line
-    (rw c.in-Err-Because.field-0-is at c.in-Err-Because.ensures.compiles) c.in_ok-line-in-Err-Because.ensures
+pub returns : goal.returns
+returns c =
+    c.unless_refused.ensures (option_map (λ b. b.now) c.args.content) c.compile-compiled.ensures.compiles
