@@ -422,7 +422,6 @@ use Rattle.soy_tree.specs.Types.{Name, SoyType, IntType, ListType, RecordType, S
 use Rattle.soy_tree.specs.Expressions.{Expr, Member, Variable}
 use Rattle.soy_tree.specs.Trees.{Param}
 use Rattle.template_ir.specs.Ops.{Op, Program, Routine, ForOp, PrintOp, StaticOp}
-use Rattle.template_ir.specs.declared.op.Block.{Block}
 
 abbrev pub nowhere : Span
 nowhere = record { start = 0; end = 0 }
