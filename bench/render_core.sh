@@ -1,16 +1,13 @@
 #!/usr/bin/env bash
 # Renders a list of items by pulls into a room of 4,096 bytes, by a program that is made here: microseconds an item and
 # MB a second, beside a loop that makes the same bytes of the same data with `escape` and `wrap`; the least of nine runs
-# each. Then the memory that a rendering takes at most beside its data, for lists of three lengths. What is built in
-# this checkout is taken from it. Run it from anywhere: `bench/render_core.sh`.
+# each. Then the memory that a rendering takes at most beside its data, for lists of three lengths. Run it from
+# anywhere: `bench/render_core.sh`.
 set -eu
 . "$(dirname "$0")/setup.sh"
 
-below="soy_base plural_rules esc_table bidi_class script_state escapers bidi_text value_cursor html_state soy_tree
-    soy_expr soy_meaning template_ir render_core"
-# The names are split at their spaces.
-# shellcheck disable=SC2086
-begin bench_render_core $below <<'PROGRAM'
+begin bench_render_core soy_base plural_rules esc_table bidi_class script_state escapers bidi_text value_cursor \
+    html_state soy_tree soy_expr soy_meaning template_ir render_core <<'PROGRAM'
 #![tactic(auto)]
 
 ghost use Rattle.std.specs.Prelude.{◌≡◌, ◌<◌, IfOk, true};
@@ -425,7 +422,6 @@ use Rattle.soy_tree.specs.Types.{Name, SoyType, IntType, ListType, RecordType, S
 use Rattle.soy_tree.specs.Expressions.{Expr, Member, Variable}
 use Rattle.soy_tree.specs.Trees.{Param}
 use Rattle.template_ir.specs.Ops.{Op, Program, Routine, ForOp, PrintOp, StaticOp}
-use Rattle.template_ir.specs.declared.op.Block.{Block}
 
 abbrev pub nowhere : Span
 nowhere = record { start = 0; end = 0 }
@@ -493,10 +489,4 @@ abbrev pub ghosts-pulled : goal.ghosts-pulled
 ghosts-pulled a = record { name = a.blank.name; parts = a.blank.parts }
 PROOF
 
-for crate in $below; do
-    if [ -d "$top/crates/$crate/out/rlib" ]; then
-        mkdir -p "$work/crates/$crate/out"
-        cp -r "$top/crates/$crate/out/rlib" "$work/crates/$crate/out/rlib"
-    fi
-done
 measure bench_render_core

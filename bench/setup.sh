@@ -1,5 +1,6 @@
-# Sourced by the benchmarks: `begin NAME CRATE..` makes a folder with these crates and a program crate NAME over them,
-# whose text is read from standard input, and `measure NAME` builds it and prints its figures.
+# Sourced by the benchmarks: `begin NAME CRATE..` makes a folder with these crates, as far as they are built in this
+# checkout with what was built, and a program crate NAME over them, whose text is read from standard input, and
+# `measure NAME` builds it and prints its figures.
 top=$(cd "$(dirname "${BASH_SOURCE[0]}")/.." && pwd)
 work=$(mktemp -d)
 trap 'rm -rf "$work"' EXIT
@@ -23,6 +24,10 @@ begin() {
     for crate in "$@"; do
         (cd "$top/crates" && tar --exclude=out -cf - "$crate") | (cd "$work/crates" && tar -xf -)
         grep "^$crate:" "$top/crates.txt" >>"$work/crates.txt"
+        if [ -d "$top/crates/$crate/out/rlib" ]; then
+            mkdir "$work/crates/$crate/out"
+            cp -r "$top/crates/$crate/out/rlib" "$work/crates/$crate/out/rlib"
+        fi
     done
     echo "$name: $*" >>"$work/crates.txt"
     cat >"$work/crates/$name/src/main.rt"
