@@ -59,7 +59,7 @@ fn catalogue(alloc: Global, rows: u64) -> Result<Catalogue, OutOfMemory> {
 /// A bundle of about so many bytes, whose translations have so many times the text, under the ids from a number on.
 fn bundle(alloc: Global, size: usize, times: usize, from: u64) -> Result<String, OutOfMemory> {
     let mut out = String::from_str(alloc, "{\"dir\":\"ltr\",\"plural\":{\"one\":\"i = 0,1\"},\"messages\":{")?;
-    let piece = (TRANSLATION.len() * times).saturating_add(26);
+    let piece = TRANSLATION.len().saturating_mul(times).saturating_add(26);
     let count = (size / piece).max(1) as u64;
     for number in 0..count {
         if number > 0 {
@@ -78,7 +78,7 @@ fn bundle(alloc: Global, size: usize, times: usize, from: u64) -> Result<String,
 }
 
 /// The least time of three runs.
-fn report(rt: &(impl Print + Clock), name: &str, text: &str, catalogue: &Catalogue) -> io::Result<()> {
+fn report(rt: &(impl Print + Clock + AllocGlobal), name: &str, text: &str, catalogue: &Catalogue) -> io::Result<()> {
     let alloc = rt.alloc();
     let mut best = u128::MAX;
     let mut found = 0;
@@ -96,7 +96,7 @@ fn report(rt: &(impl Print + Clock), name: &str, text: &str, catalogue: &Catalog
     println!(rt; "{name}, {kib} KiB: {rate} MiB a second ({micros} us, {found} translations)")
 }
 
-fn report_all(rt: &(impl Print + Clock)) -> Result<io::Result<()>, OutOfMemory> {
+fn report_all(rt: &(impl Print + Clock + AllocGlobal)) -> Result<io::Result<()>, OutOfMemory> {
     let alloc = rt.alloc();
     for size in [MIB / 2, 4 * MIB] {
         let whole = catalogue(alloc, (size / 170) as u64)?;
