@@ -1,7 +1,7 @@
 #!/usr/bin/env bash
 # Times 1,000 look-ups `$list[$i].name` in lists of 10, of 1,000 and of 100,000 records, each with a copy of the name
-# that is found, as `eval` makes it. Prints the nanoseconds a look-up; where they grow with the list, a look-up isn't one
-# step. Run it from any folder: `bench/soy_expr.sh`.
+# that is found, as `eval` makes it. Prints the nanoseconds a look-up; where they grow with the list, a look-up isn't
+# one step. Run it from any folder: `bench/soy_expr.sh`.
 set -eu
 . "$(dirname "$0")/setup.sh"
 
