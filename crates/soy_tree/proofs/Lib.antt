@@ -8,6 +8,9 @@ pub mod AcceptsHas
 pub mod ValueTypes
 pub mod Branches
 pub mod TemplateNumbers
+pub mod Drops
+pub mod Firsts
+pub mod FoundTemplates
 pub mod ViewTexts
 pub mod TagScans
 pub mod SameContents

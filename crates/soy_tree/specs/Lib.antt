@@ -21,6 +21,9 @@ pub mod Val
 pub mod Cost
 pub mod Narrowing
 pub mod Templates
+pub mod ViewTemplates
+pub mod FirstNames
+pub mod FullNames
 pub mod Declarations
 pub mod Bodies
 pub mod Demands

@@ -2,7 +2,8 @@
 //! nodes, messages, trees and the parts of translations.
 //!
 //! `accepts` says which type accepts which, `narrow` takes null away from a type, and each `copy` gives
-//! an equal tree. `Typed` holds trees of which everything is true that the checker demands. In specs/
+//! an equal tree. `all_templates` lists the templates of all files, with the names that `called_name`
+//! gives to calls. `Typed` holds trees of which everything is true that the checker demands. In specs/
 //! the same trees stand once more as plain data, with the definitions that other crates cite.
 //! Depends on soy_base and plural_rules.
 #![tactic(auto)]
@@ -12,9 +13,12 @@ mod bundle;
 mod expr;
 mod laws;
 mod message_text;
+mod names;
 mod narrowing;
 mod node;
 mod soy_type;
+mod template;
+mod templates;
 mod tree;
 mod typed;
 mod value;
@@ -29,11 +33,14 @@ pub use laws::{
     law_placeholder_names, law_value_type,
 };
 pub use message_text::{is_message_text, is_message_text_with};
+pub use names::Names;
 pub use narrowing::narrow;
 pub use node::{
     Argument, Arm, Case, Form, Given, Message, MessageBody, Node, PluralCase, SelectCase,
 };
 pub use soy_type::{Field, SoyType};
+pub use template::Declared;
+pub use templates::{Templates, all_templates, called_name};
 pub use tree::{Param, Template, Tree};
 pub use typed::Typed;
 pub use value::{Entry, Value};
