@@ -10,6 +10,7 @@ use Rattle.soy_tree.specs.Trees.{Tree}
 use Rattle.soy_tree.specs.TypeOf.{Scope}
 use Rattle.soy_tree.specs.ViewNodes.{view_nodes}
 use Rattle.soy_tree.specs.ViewTrees.{view_params, view_template}
+use Rattle.soy_tree.specs.declared.bundle.Bundle.{Bundle}
 use Rattle.soy_tree.specs.declared.node.Node as code_node
 use Rattle.soy_tree.specs.declared.soy_type.Field.{Field}
 use Rattle.soy_tree.specs.declared.tree.Param as code_param
@@ -19,11 +20,12 @@ use Rattle.soy_meaning.specs.PlanOfNodes.{PlanContext, declared_plan, nodes_plan
 use Rattle.std.specs.declared.alloc.Global.{Global}
 use Rattle.std.specs.declared.vec.Vec.{Vec}
 use Rattle.soy_meaning.specs.Plan.{Plan, in_turn}
+use Rattle.html_context.specs.ChosenTranslation.{chosen_translation}
 use Rattle.html_context.specs.StandsFor.{StandsFor, Writes, walk_of}
-use Rattle.html_context.specs.ViewDeclared.{view_all, view_declared}
+use Rattle.soy_tree.specs.ViewTemplates.{view_all, view_declared}
 use Rattle.html_context.specs.declared.table.Row.{Row}
 use Rattle.html_context.specs.declared.table.Row.TheVariants as row
-use Rattle.html_context.specs.declared.template.Declared as code
+use Rattle.soy_tree.specs.declared.template.Declared as code
 use Rattle.html_context.proofs.BuiltRows.{written_frame}
 use Rattle.html_context.proofs.WrittenLists.{InTurnSoFar, next_in_turn, written_in_turn}
 use Rattle.html_context.proofs.WrittenRows.{first_of, none_of}
@@ -74,3 +76,16 @@ pub stands : (translation : Message → Option MsgParts) (trees : List Tree) (ds
     → StandsFor (record { rows = rows; root = root }) (trees_plan translation trees)
 stands translation trees ds old rows root e w =
     w.2 ∙ ap (λ (l : List Declared). walk_of (in_turn (map (declared_plan translation l) l))) e
+
+-- the same where the templates and the bundle were looked up in indexes of them
+pub stands_indexed : (trees : List Tree) (given taken : Bundle) (some all : List code.Declared) (old : List Row)
+    (rows : Vec Row Global) (root : ℕ) → taken ≡ given → all ≡ some → view_all some ≡ declared trees
+    → Writes (in_turn (map (declared_plan (chosen_translation taken.messages) (view_all all)) (view_all some))) old
+    rows.items (Ok root)
+    → StandsFor (record { rows = rows; root = root }) (trees_plan (chosen_translation given.messages) trees)
+stands_indexed trees given taken some all old rows root same_bundle same_templates e w =
+    stands (chosen_translation given.messages) trees (view_all some) old rows root e
+    (subst (λ (b : Bundle). Writes (in_turn (map (declared_plan (chosen_translation b.messages) (view_all some))
+    (view_all some))) old rows.items (Ok root)) same_bundle
+    (subst (λ (ds : List code.Declared). Writes (in_turn (map (declared_plan (chosen_translation taken.messages)
+    (view_all ds)) (view_all some))) old rows.items (Ok root)) same_templates w))

@@ -9,6 +9,5 @@ pub mod RowPlans
 pub mod StandsFor
 pub mod TakenClass
 pub mod ViewBuilder
-pub mod ViewDeclared
 pub mod ViewParts
 pub mod Walks

@@ -21,15 +21,13 @@ use crate::parts::all_parts;
 use crate::scope::{body_vars, copied_vars, narrowed, pass};
 use crate::source::Source;
 use crate::table::Row;
-use crate::template::Declared;
 use crate::templates::callee;
-use crate::translations::chosen;
 use crate::writing::{write, write_hole, write_nothing, write_print, write_text};
-use msg_extract::placeholders;
+use msg_extract::{Translations, placeholders};
 use soy_base::{OutOfMemory, Seq, Text};
 use soy_tree::{
-    Argument, Arm, Bundle, Case, Field, Form, Given, Message, MessageBody, Node, PluralCase,
-    SelectCase,
+    Argument, Arm, Case, Field, Form, Given, Message, MessageBody, Node, PluralCase, SelectCase,
+    Templates,
 };
 use std::alloc::Global;
 
@@ -40,8 +38,8 @@ pub(crate) struct Builder<'a> {
     pub alloc: Global,
     pub file: u32,
     pub namespace: &'a Text,
-    pub declared: &'a [Declared<'a>],
-    pub bundle: &'a Bundle,
+    pub declared: &'a Templates<'a>,
+    pub bundle: &'a Translations<'a>,
 }
 
 impl<'a> Builder<'a> {
@@ -85,7 +83,7 @@ impl<'a> Builder<'a> {
             rows.old.items rows.new.items result }
     {
         let mut numbers = before;
-        let Some(parts) = chosen(self.alloc, self.bundle, message)? else {
+        let Some(parts) = self.bundle.find(self.alloc, message)? else {
             return Ok(numbers);
         };
         let placeholders = placeholders(self.alloc, message)?;

@@ -6,25 +6,24 @@ ghost use Rattle.soy_meaning.specs.PlanOfNodes.{declared_plan, trees_plan};
 ghost use Rattle.soy_tree.specs.ViewTrees.{view_trees};
 ghost use Rattle.html_context.specs.ChosenTranslation.{chosen_translation};
 ghost use Rattle.html_context.specs.StandsFor.{StandsFor, Writes};
-ghost use Rattle.html_context.specs.ViewDeclared.{view_all, view_declared};
+ghost use Rattle.soy_tree.specs.ViewTemplates.{view_all, view_declared};
 
 use crate::builder::Builder;
 use crate::fault::Site;
 use crate::scope::param_vars;
 use crate::table::{Row, Table};
-use crate::template::Declared;
-use crate::templates::all_templates;
 use crate::writing::write;
+use msg_extract::Translations;
 use soy_base::{OutOfMemory, Seq};
-use soy_tree::{Bundle, Tree};
+use soy_tree::{Bundle, Declared, Templates, Tree, all_templates};
 use std::alloc::Global;
 
 /// Writes a template.
 fn template(
     alloc: Global,
-    all: &[Declared<'_>],
+    all: &Templates<'_>,
     one: &Declared<'_>,
-    bundle: &Bundle,
+    bundle: &Translations<'_>,
     rows: &mut Vec<Row>,
 ) -> Result<usize, OutOfMemory>
     ensures { Writes
@@ -47,19 +46,20 @@ fn template(
     write(rows, Row::Frame(one.template.kind, end, body))
 }
 
-/// Writes templates, one after the other.
+/// Writes some of the templates, one after the other.
 fn templates(
     alloc: Global,
-    all: &[Declared<'_>],
-    bundle: &Bundle,
+    all: &Templates<'_>,
+    some: &[Declared<'_>],
+    bundle: &Translations<'_>,
     rows: &mut Vec<Row>,
 ) -> Result<usize, OutOfMemory>
     ensures { Writes
-        (in_turn (map (declared_plan (chosen_translation bundle.now.messages) (view_all all.now)) (view_all all.now)))
+        (in_turn (map (declared_plan (chosen_translation bundle.now.messages) (view_all all.now)) (view_all some.now)))
         rows.old.items rows.new.items result }
 {
     let mut numbers = Vec::new(alloc);
-    for one in all {
+    for one in some {
         let number = template(alloc, all, one, bundle, rows)?;
         numbers.push(number)?;
     }
@@ -72,8 +72,11 @@ pub(crate) fn compiled(alloc: Global, trees: &[Tree], bundle: &Bundle) -> Result
     ensures { IfOk result (λ table. StandsFor table
         (trees_plan (chosen_translation bundle.now.messages) (view_trees trees.now))) }
 {
-    let all = all_templates(alloc, trees)?;
+    let declared = all_templates(alloc, trees)?;
+    let declared = declared.as_slice();
+    let all = Templates::new(alloc, declared)?;
+    let translations = Translations::new(alloc, bundle)?;
     let mut rows = Vec::new(alloc);
-    let root = templates(alloc, &all, bundle, &mut rows)?;
+    let root = templates(alloc, &all, declared, &translations, &mut rows)?;
     Ok(Table { rows, root })
 }

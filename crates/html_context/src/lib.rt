@@ -18,10 +18,8 @@ mod scope;
 mod source;
 mod states;
 mod table;
-mod template;
 mod templates;
 mod text;
-mod translations;
 mod walker;
 mod writing;
 

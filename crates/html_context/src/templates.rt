@@ -1,114 +1,23 @@
-//! The templates of all files, in order.
+//! The template that a call means.
 
-ghost use Rattle.std.specs.Prelude.{◌≡◌, ◌<◌, ◌^◌, ◌++◌, ◌==◌, IfOk, OnOk, length, map, option_map};
-ghost use Rattle.std.specs.List.{list_any};
-ghost use Rattle.std.specs.Str.{chars};
-ghost use Rattle.soy_base.specs.Characters.{full_stop};
-ghost use Rattle.soy_tree.specs.Templates.{called_name, callee, declared, declared_in, joined_name, template_of};
-ghost use Rattle.soy_tree.specs.Templates.{visible};
-ghost use Rattle.soy_tree.specs.ViewTrees.{view_template, view_trees};
-ghost use Rattle.html_context.specs.ViewDeclared.{view_all, view_declared};
+ghost use Rattle.std.specs.Prelude.{◌≡◌, IfOk, option_map};
+ghost use Rattle.soy_tree.specs.Templates.{callee, template_of, visible};
+ghost use Rattle.soy_tree.specs.ViewTemplates.{view_all, view_declared};
 
-use crate::template::Declared;
-use soy_base::{OutOfMemory, Text, push_char, push_text};
-use soy_tree::Tree;
+use soy_base::{OutOfMemory, Text};
+use soy_tree::{Declared, Templates, called_name};
 use std::alloc::Global;
 
-/// The templates of all files.
-pub(crate) fn all_templates<'a>(
-    alloc: Global,
-    trees: &'a [Tree],
-) -> Result<Vec<Declared<'a>>, OutOfMemory>
-    requires { length trees.now < 2 ^ 32 }
-    ensures { IfOk result (λ all. view_all all.items ≡ declared (view_trees trees.now)) }
-{
-    let mut all = Vec::new(alloc);
-    for (file, tree) in trees.iter().enumerate() {
-        add_templates(alloc, &mut all, file as u32, tree)?;
-    }
-    Ok(all)
-}
-
-/// Adds the templates of a file.
-fn add_templates<'a>(
-    alloc: Global,
-    all: &mut Vec<Declared<'a>>,
-    file: u32,
-    tree: &'a Tree,
-) -> Result<(), OutOfMemory>
-    ensures { OnOk result (view_all all.new.items
-        ≡ view_all all.old.items ++ declared_in file tree.now.namespace (map view_template tree.now.templates)) }
-{
-    let namespace = &tree.namespace;
-    for template in tree.templates.items() {
-        let full = joined_name(alloc, namespace, &template.name)?;
-        all.push(Declared {
-            file,
-            namespace,
-            template,
-            full,
-        })?;
-    }
-    Ok(())
-}
-
-/// A namespace, a `.` and a name.
-fn joined_name(alloc: Global, namespace: &Text, name: &Text) -> Result<Text, OutOfMemory>
-    ensures { IfOk result (λ full. full ≡ joined_name namespace.now name.now) }
-{
-    let mut full = String::new(alloc);
-    push_text(&mut full, namespace.text())?;
-    push_char(&mut full, '.')?;
-    push_text(&mut full, name.text())?;
-    Ok(Text::new(full))
-}
-
-/// Whether there is a `.` in a name.
-fn is_dotted(name: &str) -> bool
-    ensures { result ≡ list_any (λ c. c == full_stop) (chars name.now) }
-{
-    name.chars().any(is_full_stop)
-}
-
-fn is_full_stop(c: char) -> bool
-    ensures { result ≡ (c == full_stop) }
-{
-    c == '.'
-}
-
-/// The full name that a call means.
-fn called_name(alloc: Global, namespace: &Text, name: &Text) -> Result<Text, OutOfMemory>
-    ensures { IfOk result (λ full. full ≡ called_name namespace.now name.now) }
-{
-    if is_dotted(name.text()) {
-        name.copy(alloc)
-    } else {
-        joined_name(alloc, namespace, name)
-    }
-}
-
-/// The template of a full name.
-fn template_of<'d, 'a>(all: &'d [Declared<'a>], full: &Text) -> Option<&'d Declared<'a>>
-    ensures { option_map (λ d. view_declared d.now) result ≡ template_of full.now (view_all all.now) }
-{
-    for declared in all {
-        if declared.full.is(full.text()) {
-            return Some(declared);
-        }
-    }
-    None
-}
-
 /// The template of a full name, where the namespace sees it.
-fn visible_template<'d, 'a>(
-    all: &'d [Declared<'a>],
+fn visible_template<'a>(
+    all: &Templates<'a>,
     namespace: &Text,
     full: &Text,
-) -> Option<&'d Declared<'a>>
+) -> Option<&'a Declared<'a>>
     ensures { option_map (λ d. view_declared d.now) result
         ≡ visible namespace.now (template_of full.now (view_all all.now)) }
 {
-    let declared = template_of(all, full)?;
+    let declared = all.of_name(full)?;
     if declared.template.private && !declared.namespace.is(namespace.text()) {
         return None;
     }
@@ -116,12 +25,12 @@ fn visible_template<'d, 'a>(
 }
 
 /// What a call in a namespace means by a name.
-pub(crate) fn callee<'d, 'a>(
+pub(crate) fn callee<'a>(
     alloc: Global,
-    all: &'d [Declared<'a>],
+    all: &Templates<'a>,
     namespace: &Text,
     name: &Text,
-) -> Result<Option<&'d Declared<'a>>, OutOfMemory>
+) -> Result<Option<&'a Declared<'a>>, OutOfMemory>
     ensures { IfOk result (λ found.
         option_map (λ d. view_declared d.now) found ≡ callee (view_all all.now) namespace.now name.now) }
 {

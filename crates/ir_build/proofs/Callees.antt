@@ -14,9 +14,10 @@ use Rattle.soy_tree.specs.Templates.{Declared, callee, called_name, full_name, i
 use Rattle.soy_tree.specs.Types.{Name}
 use Rattle.template_ir.specs.Compiles.{callee_number, handed_on_names, number_of, params_there, same_handed}
 use Rattle.template_ir.specs.Ops.{CallOp, Handed}
-use Rattle.ir_build.specs.ViewScene.{call_op, view_all, view_declared}
+use Rattle.soy_tree.specs.ViewTemplates.{view_all, view_declared}
+use Rattle.ir_build.specs.ViewScene.{call_op}
 use Rattle.ir_build.specs.declared.scene.Scene.{Scene}
-use Rattle.ir_build.specs.declared.template.Declared as code
+use Rattle.soy_tree.specs.declared.template.Declared as code
 
 found_at : (b v : Bool) (d : Declared) (ds : List Declared) (n : ℕ) (namespace : Name) (rest : Option Declared)
     → v ≡ is_visible_from namespace d → slice_get ds n ≡ visible namespace rest

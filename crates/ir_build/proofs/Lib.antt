@@ -10,7 +10,6 @@ pub mod NodeSteps
 pub mod PartSteps
 pub mod Placing
 pub mod Choosing
-pub mod Firsts
 pub mod Numbered
 pub mod Callees
 pub mod RoutineSteps

@@ -10,12 +10,13 @@ use Rattle.template_ir.specs.Compiles.{context_of_template}
 use Rattle.template_ir.specs.HoleCounts.{nodes_holes}
 use Rattle.template_ir.specs.Ops.{Op, Program, Routine}
 use Rattle.template_ir.specs.declared.op.Block.{Block}
-use Rattle.ir_build.specs.declared.template.Declared as code
+use Rattle.soy_tree.specs.declared.template.Declared as code
 use Rattle.ir_build.specs.Claims.{block_stands, nodes_stand}
 use Rattle.ir_build.specs.Laid.{Lays, Made, Pushes, laid_block, with_ops}
 use Rattle.ir_build.specs.OnGoing.{RowsOn}
 use Rattle.ir_build.specs.Routines.{template_holes, template_stands, templates_holes, templates_stand}
-use Rattle.ir_build.specs.ViewScene.{context_of, language_of, translation_in, view_all, view_declared}
+use Rattle.soy_tree.specs.ViewTemplates.{view_all, view_declared}
+use Rattle.ir_build.specs.ViewScene.{context_of, language_of, translation_in}
 use Rattle.ir_build.specs.declared.scene.Scene.{Scene}
 use Rattle.soy_tree.specs.declared.node.Node as code_node
 use Rattle.soy_tree.specs.ViewNodes.{view_nodes}

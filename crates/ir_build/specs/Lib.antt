@@ -1,6 +1,3 @@
-pub mod FirstNames
-pub mod FullNames
-pub mod Translations
 pub mod ViewScene
 pub mod Numbers
 pub mod TextOps

@@ -8,22 +8,16 @@ use Rattle.soy_tree.specs.Bodies.{names_given}
 use Rattle.soy_tree.specs.declared.bundle.Bundle.{Bundle}
 use Rattle.soy_tree.specs.MessageParts.{MsgParts}
 use Rattle.soy_tree.specs.Nodes.{Arguments, Message}
-use Rattle.soy_tree.specs.Templates.{Declared, callee}
+use Rattle.soy_tree.specs.Templates.{callee}
 use Rattle.soy_tree.specs.Types.{Name}
-use Rattle.soy_tree.specs.ViewTrees.{view_params, view_template}
-use Rattle.ir_build.specs.Translations.{translation_of}
+use Rattle.soy_tree.specs.ViewTemplates.{view_all}
+use Rattle.soy_tree.specs.ViewTrees.{view_params}
+use Rattle.msg_extract.specs.Translations.{translation_of}
 use Rattle.msg_extract.specs.MessageId.{id_of}
 use Rattle.template_ir.specs.Compiles.{CompileContext, Language, callee_number, handed_on_names, params_there}
 use Rattle.template_ir.specs.Compiles.{same_handed}
 use Rattle.template_ir.specs.Ops.{CallOp, Handed, Op}
 use Rattle.ir_build.specs.declared.scene.Scene.{Scene}
-use Rattle.ir_build.specs.declared.template.Declared as code
-
-abbrev pub view_declared : code.Declared → Declared
-view_declared d = record { file = d.file; namespace = d.namespace.now; template = view_template d.template.now }
-
-abbrev pub view_all : List code.Declared → List Declared
-view_all = map view_declared
 
 -- **what a bundle brings**: the translation of a message is that of its id
 abbrev pub language_of : Bundle → Language

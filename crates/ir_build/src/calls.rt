@@ -5,20 +5,21 @@ ghost use Rattle.soy_tree.specs.Bodies.{names_given, param_of};
 ghost use Rattle.soy_tree.specs.Declarations.{is_among};
 ghost use Rattle.soy_tree.specs.ViewExpressions.{view_expr};
 ghost use Rattle.soy_tree.specs.ViewNodes.{view_arguments};
+ghost use Rattle.soy_tree.specs.ViewTemplates.{view_all};
 ghost use Rattle.soy_tree.specs.ViewTrees.{view_params};
 ghost use Rattle.template_ir.specs.Compiles.{handed_on_names, params_there, same_handed};
 ghost use Rattle.template_ir.specs.Ops.{HandedBlock, HandedValue};
 ghost use Rattle.template_ir.specs.ViewOps.{view_handed, view_ops};
 ghost use Rattle.ir_build.specs.Laid.{laid_block, view_output, with_ops};
 ghost use Rattle.ir_build.specs.Rows.{handed_as};
-ghost use Rattle.ir_build.specs.ViewScene.{call_op, view_all};
+ghost use Rattle.ir_build.specs.ViewScene.{call_op};
 
 use crate::commands::push_op;
 use crate::output::Output;
 use crate::scene::Scene;
-use crate::templates::{Templates, callee_number};
+use crate::templates::callee_number;
 use soy_base::{Kind, OutOfMemory, Place, Seq, Span, Text};
-use soy_tree::{Argument, Expr, Param};
+use soy_tree::{Argument, Expr, Param, Templates};
 use std::alloc::Global;
 use template_ir::{Callee, Handed, HandedBy, Op};
 

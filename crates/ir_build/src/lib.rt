@@ -11,14 +11,11 @@ mod building;
 mod calls;
 mod commands;
 mod messages;
-mod names;
 mod output;
 mod parts;
 mod placeholders;
 mod scene;
 mod source;
-mod template;
 mod templates;
-mod translations;
 
 pub use building::{build, program_parts};

@@ -17,7 +17,6 @@ use crate::output::Output;
 use crate::parts::push_parts;
 use crate::scene::Scene;
 use crate::source::Source;
-use crate::translations::translated;
 use msg_extract::{placeholders, selectors};
 use soy_base::OutOfMemory;
 use soy_tree::{Message, MsgPart};
@@ -80,7 +79,7 @@ pub(crate) fn push_alone(
         no_fallback (view_output out.old) (cut_output old_length out.old) (view_output out.new) (view_ops source.items)
         (view_ops own.old.items) (view_ops own.new.items)) }
 {
-    match translated(scene.alloc, scene.bundle, message)? {
+    match scene.bundle.find(scene.alloc, message)? {
         None => push_all(own, source),
         Some(parts) => {
             out.ops.truncate(old_length);
@@ -106,8 +105,8 @@ pub(crate) fn push_either(
         (cut_output old_length out.old) (view_output out.new) (view_ops source.items) (view_ops own.old.items)
         (view_ops own.new.items)) }
 {
-    let parts = translated(scene.alloc, scene.bundle, message)?;
-    let other_parts = translated(scene.alloc, scene.bundle, other)?;
+    let parts = scene.bundle.find(scene.alloc, message)?;
+    let other_parts = scene.bundle.find(scene.alloc, other)?;
     match (parts, other_parts) {
         (None, None) => push_all(own, source),
         (None, Some(other_parts)) => {

@@ -1,9 +1,8 @@
 //! What the ops of a template go by.
 
-use crate::templates::Templates;
-use crate::translations::Translations;
+use msg_extract::Translations;
 use soy_base::{Place, Text};
-use soy_tree::Param;
+use soy_tree::{Param, Templates};
 use std::alloc::Global;
 
 /// The file, the namespace and the parameters of a template, the templates of all files, the bundle that brings the

@@ -24,7 +24,7 @@ use Rattle.msg_extract.specs.MessagesIn.{tree_messages}
 use Rattle.msg_extract.specs.declared.catalogue.Listed.{Listed}
 use Rattle.msg_extract.specs.declared.role_names.NameKind.TheVariants as kind
 use Rattle.msg_extract.proofs.JoinedTests.{and_left, and_right}
-use Rattle.msg_bundle.specs.BundleFits.{translation_of}
+use Rattle.msg_extract.specs.Translations.{translation_of}
 use Rattle.msg_bundle.specs.Translations.{AreTranslations, IsNext, Translates, text_of}
 use Rattle.msg_bundle.proofs.CatalogueRows.{AreRows, HasRow, HaveRows, HaveRowsOf, catalogue_are, catalogue_has}
 use Rattle.msg_bundle.proofs.CatalogueRows.{row_found}

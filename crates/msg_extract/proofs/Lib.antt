@@ -5,6 +5,7 @@ pub mod ContentHash
 pub mod ContentKeys
 pub mod CutSteps
 pub mod Decimals
+pub mod FoundTranslations
 pub mod ItemLists
 pub mod JoinedItems
 pub mod JoinedTests

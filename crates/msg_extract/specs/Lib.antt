@@ -20,6 +20,7 @@ pub mod SelectorRows
 pub mod SourceParts
 pub mod TagNames
 pub mod TextOfPiece
+pub mod Translations
 pub mod ViewCutter
 pub mod ViewItems
 pub mod ViewKeys

@@ -1,8 +1,8 @@
 //! Messages as a translator is given them: placeholders with their names, canonical texts, ids and the catalogue.
 //!
 //! `extract` lists the messages of files, `write_catalogue` writes them as JSON, and `placeholders` and `message_id`
-//! say the same of one message. The text of a message, read as a pattern, gives the parts of its source:
-//! `law_canonical_text`. Depends on soy_base, soy_tree and plural_rules, and on sha2, hex and serde_json.
+//! say the same of one message; `Translations` finds the one that a bundle has for it. The text of a message, read as
+//! a pattern, gives the parts of its source: `law_canonical_text`. Depends on soy_base, soy_tree and plural_rules, and on sha2, hex and serde_json.
 #![tactic(auto)]
 
 mod ascii;
@@ -22,9 +22,11 @@ mod quoting;
 mod role_names;
 mod same;
 mod selector;
+mod translations;
 
 pub use canonical::message_id;
 pub use catalogue::{Catalogue, Listed, extract, write_catalogue};
 pub use laws::{law_canonical_text, law_equal_parts, law_fits, law_written_text};
 pub use placeholder::{Placeholder, placeholders};
 pub use selector::{Selector, selectors};
+pub use translations::Translations;

@@ -15,4 +15,6 @@ mod reading;
 #[cfg(test)]
 mod rows;
 #[cfg(test)]
+mod templates;
+#[cfg(test)]
 mod written;

@@ -12,8 +12,9 @@ use Rattle.soy_tree.specs.Templates.{full_name, param_scope, param_type}
 use Rattle.soy_tree.specs.Trees.{Param}
 use Rattle.soy_tree.specs.TypeOf.{variable_type}
 use Rattle.soy_tree.specs.ViewTrees.{view_param, view_params}
-use Rattle.soy_check.specs.declared.template.Declared as code_declared
-use Rattle.soy_check.specs.ViewAround.{view_all, view_declared}
+use Rattle.soy_check.specs.declared.template.Indexed.{Indexed}
+use Rattle.soy_tree.specs.ViewTemplates.{view_declared}
+use Rattle.soy_check.specs.ViewAround.{view_all}
 
 -- where neither of two is there, the first isn't and the second isn't
 first_none : {A : Type 0} (a b : Option A) → option_or a b ≡ None → a ≡ None
@@ -84,15 +85,15 @@ new_name (x ∷ params) before (suc i) p h below is =
     (omega arith) is)
 
 -- the parameters of each template have passed
-pub params_passed : (all : List code_declared.Declared) (before : List Name) (i : ℕ) (d : code_declared.Declared)
+pub params_passed : (all : List Indexed) (before : List Name) (i : ℕ) (d : Indexed)
     → declarations_fault (view_all all) before ≡ None → i < length all → d ≡ slice_index_or all i d
-    → params_fault (view_params d.template.now.params) [] ≡ None
+    → params_fault (view_params d.declared.template.now.params) [] ≡ None
 params_passed [] before i d h below is = absurd (omega arith)
 params_passed (x ∷ all) before zero d h below is =
-    subst (λ (y : code_declared.Declared). params_fault (view_params y.template.now.params) [] ≡ None) (sym is)
-    (second_none (twice x.template.now.span.start (full_name (view_declared x)) before) _
-    (map_none (in_file x.file) (declaration_fault (view_declared x) before)
-    (first_none (option_map (in_file x.file) (declaration_fault (view_declared x) before)) _ h)))
+    subst (λ (y : Indexed). params_fault (view_params y.declared.template.now.params) [] ≡ None) (sym is)
+    (second_none (twice x.declared.template.now.span.start (full_name (view_declared x.declared)) before) _
+    (map_none (in_file x.declared.file) (declaration_fault (view_declared x.declared) before)
+    (first_none (option_map (in_file x.declared.file) (declaration_fault (view_declared x.declared) before)) _ h)))
 params_passed (x ∷ all) before (suc i) d h below is =
-    params_passed all (full_name (view_declared x) ∷ before) i d
-    (second_none (option_map (in_file x.file) (declaration_fault (view_declared x) before)) _ h) (omega arith) is
+    params_passed all (full_name (view_declared x.declared) ∷ before) i d
+    (second_none (option_map (in_file x.declared.file) (declaration_fault (view_declared x.declared) before)) _ h) (omega arith) is

@@ -1,6 +1,6 @@
 -- A map of parameters by their names, and what it finds after one more.
 use Rattle.std.proofs.Common.{◌≡◌, ℕ, Bool, true, false, cond, List, [], ◌∷◌, Option, Some, None, option_map, refl, sym}
-use Rattle.std.proofs.Common.{ap, ◌∙◌, Bor, bytes_eq, zero, suc, ◌+◌, ◌<◌, length, drop, slice_index_or, arith}
+use Rattle.std.proofs.Common.{ap, ◌∙◌, Bor, bytes_eq}
 use Rattle.std.proofs.lemmas.Map.Text.{hash_map_updates_str}
 use Rattle.std.specs.HashMap.{HashMap, UpdatesBy, get_by}
 use Rattle.std.specs.Str.{IsUtf8, chars}
@@ -51,10 +51,3 @@ pub view_through_borrows : (found : Option (Bor code.Param))
     → option_map (λ p. view_param p.now) found ≡ option_map view_param (option_map (λ p. p.now) found)
 view_through_borrows None = refl
 view_through_borrows (Some p) = refl
-
-pub params_drop : (params : List code.Param) (i : ℕ) (param : code.Param) → i < length params
-    → param ≡ slice_index_or params i param → drop i params ≡ param ∷ drop (i + 1) params
-params_drop [] i param below is = absurd (omega arith)
-params_drop (x ∷ params) zero param below is = rw is refl
-params_drop (x ∷ params) (suc i) param below is =
-    let e : suc i + 1 ≡ suc (i + 1) = omega arith in rw e (params_drop params i param (omega arith) is)

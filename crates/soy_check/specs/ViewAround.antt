@@ -2,20 +2,21 @@
 use Rattle.std.specs.Prelude.{List, map}
 use Rattle.soy_tree.specs.Templates.{Declared}
 use Rattle.soy_tree.specs.Bodies.{Around}
-use Rattle.soy_tree.specs.ViewTrees.{view_params, view_template}
-use Rattle.soy_check.specs.declared.template.Declared as code_template
+use Rattle.soy_tree.specs.ViewTemplates.{view_declared}
+use Rattle.soy_tree.specs.ViewTrees.{view_params}
+use Rattle.soy_check.specs.declared.template.Indexed.{Indexed}
 use Rattle.soy_check.specs.declared.around.Around as code
 
-abbrev pub view_declared : code_template.Declared → Declared
-view_declared d = record { file = d.file; namespace = d.namespace.now; template = view_template d.template.now }
+abbrev pub view_indexed : Indexed → Declared
+view_indexed one = view_declared one.declared
 
-abbrev pub view_all : List code_template.Declared → List Declared
-view_all = map view_declared
+abbrev pub view_all : List Indexed → List Declared
+view_all = map view_indexed
 
 abbrev pub view_around : code.Around → Around
 view_around a =
     record {
       declared = view_all a.declared.now;
       namespace = a.namespace.now;
-      params = view_params a.own.now.template.now.params;
+      params = view_params a.own.now.declared.template.now.params;
     }

@@ -16,7 +16,7 @@ use crate::calls::{callee_params, check_demands, named_param};
 use crate::commands::{Takes, check_accepted, check_expr, check_plain, check_print, check_values};
 use crate::names::Names;
 use crate::narrowing::{narrow_variables, restore};
-use crate::template::Declared;
+use crate::template::Indexed;
 use crate::variables::{check_let, check_new, declare, enter_loop, kind_type, param_type};
 use crate::visible::Visible;
 use soy_base::{Refusal, Span};
@@ -166,11 +166,11 @@ fn check_arguments(
     alloc: Global,
     around: &Around,
     given: &[Argument],
-    callee: &Declared,
+    callee: &Indexed,
     vars: &mut Visible,
 ) -> Result<(), Refusal<TypeFault>>
     ensures passes { Passes (after_arguments (view_around around.now) (view_arguments given.now) []
-        (view_params callee.now.template.now.params) (view_vars vars.old)) (view_vars vars.old) result }
+        (view_params callee.now.declared.template.now.params) (view_vars vars.old)) (view_vars vars.old) result }
     ensures unchanged { OnOk result (vars.new ≡ vars.old) }
 {
     let mut before = Names::new(alloc);

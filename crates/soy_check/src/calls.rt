@@ -1,32 +1,28 @@
 //! The demands on calls.
 
-ghost use Rattle.std.specs.Prelude.{◌≡◌, ◌∷◌, ◌==◌, false, true, OnOk, IfOk, option_map, slice_get};
-ghost use Rattle.std.specs.List.{list_any};
-ghost use Rattle.std.specs.Str.{chars};
-ghost use Rattle.soy_base.specs.Characters.{full_stop};
+ghost use Rattle.std.specs.Prelude.{◌≡◌, ◌∷◌, false, true, OnOk, IfOk, option_map, slice_get};
 ghost use Rattle.soy_tree.specs.Bodies.{callee_params, handed, hands_on, named_param, names_given, param_demand};
 ghost use Rattle.soy_tree.specs.Bodies.{param_demands, unnamed_demand};
-ghost use Rattle.soy_tree.specs.Templates.{called_name, param_type, template_of, visible};
+ghost use Rattle.soy_tree.specs.Templates.{param_type, template_of, visible};
 ghost use Rattle.soy_tree.specs.TypeOf.{variable_type};
 ghost use Rattle.soy_tree.specs.ViewNodes.{view_arguments};
 ghost use Rattle.soy_tree.specs.ViewTrees.{view_param, view_params};
 ghost use Rattle.soy_expr.specs.ViewScope.{view_vars};
 ghost use Rattle.soy_check.specs.Answers.{Answers, Passes};
 ghost use Rattle.soy_check.specs.Named.{required_in};
-ghost use Rattle.soy_check.specs.ViewAround.{view_all, view_around, view_declared};
+ghost use Rattle.soy_check.specs.ViewAround.{view_all, view_around, view_indexed};
 
 use crate::around::Around;
 use crate::commands::check_accepted;
 use crate::faults::misnamed;
 use crate::names::Names;
 use crate::names_given::NamesGiven;
-use crate::template::Declared;
-use crate::templates::joined_name;
+use crate::template::Indexed;
 use crate::variables::param_type;
 use crate::visible::Visible;
 use soy_base::{Code, OutOfMemory, Refusal, Span, Text};
 use soy_expr::TypeFault;
-use soy_tree::{Argument, Param};
+use soy_tree::{Argument, Param, called_name};
 use std::alloc::Global;
 
 /// The template that a call means by a name.
@@ -36,8 +32,8 @@ pub(crate) fn callee_params<'a, 't>(
     around: &Around<'_, 'a, 't>,
     name: &Text,
     span: Span,
-) -> Result<&'a Declared<'t>, Refusal<TypeFault>>
-    ensures { Answers (λ d. view_params d.now.template.now.params)
+) -> Result<&'a Indexed<'t>, Refusal<TypeFault>>
+    ensures { Answers (λ d. view_params d.now.declared.template.now.params)
         (callee_params (view_around around.now) name.now span) result }
 {
     let full = called_name(alloc, around.namespace, name)?;
@@ -48,20 +44,21 @@ pub(crate) fn callee_params<'a, 't>(
 }
 
 /// The template of a full name, where the namespace sees it.
-fn visible_template<'a, 't>(around: &Around<'_, 'a, 't>, full: &Text) -> Option<&'a Declared<'t>>
-    ensures { option_map (λ d. view_declared d.now) result
+fn visible_template<'a, 't>(around: &Around<'_, 'a, 't>, full: &Text) -> Option<&'a Indexed<'t>>
+    ensures { option_map (λ d. view_indexed d.now) result
         ≡ visible around.now.namespace.now (template_of full.now (view_all around.now.declared.now)) }
 {
-    let declared = template_of(around, full)?;
+    let found = template_of(around, full)?;
+    let declared = &found.declared;
     if declared.template.private && !declared.namespace.is(around.namespace.text()) {
         return None;
     }
-    Some(declared)
+    Some(found)
 }
 
 /// The template of a full name.
-fn template_of<'a, 't>(around: &Around<'_, 'a, 't>, full: &Text) -> Option<&'a Declared<'t>>
-    ensures { option_map (λ d. view_declared d.now) result ≡ template_of full.now (view_all around.now.declared.now) }
+fn template_of<'a, 't>(around: &Around<'_, 'a, 't>, full: &Text) -> Option<&'a Indexed<'t>>
+    ensures { option_map (λ d. view_indexed d.now) result ≡ template_of full.now (view_all around.now.declared.now) }
 {
     match around.names.position(full) {
         Some(at) => declared_at(around.declared, at),
@@ -69,7 +66,7 @@ fn template_of<'a, 't>(around: &Around<'_, 'a, 't>, full: &Text) -> Option<&'a D
     }
 }
 
-fn declared_at<'a, 't>(all: &'a [Declared<'t>], at: usize) -> Option<&'a Declared<'t>>
+fn declared_at<'a, 't>(all: &'a [Indexed<'t>], at: usize) -> Option<&'a Indexed<'t>>
     ensures { option_map (λ d. d.now) result ≡ slice_get all.now at }
 {
     all.get(at)
@@ -84,11 +81,11 @@ pub(crate) fn check_demands(
     all: bool,
     given: &[Argument],
     span: Span,
-    callee: &Declared,
+    callee: &Indexed,
     vars: &Visible,
 ) -> Result<(), Refusal<TypeFault>>
     ensures { Passes (param_demands (view_around around.now) all (names_given (view_arguments given.now)) span
-        (view_params callee.now.template.now.params) (view_vars vars.now)) (view_vars vars.now) result }
+        (view_params callee.now.declared.template.now.params) (view_vars vars.now)) (view_vars vars.now) result }
 {
     let names = NamesGiven::of(alloc, given)?;
     if all {
@@ -97,7 +94,7 @@ pub(crate) fn check_demands(
             around,
             &names,
             span,
-            callee.template.params.items(),
+            callee.declared.template.params.items(),
             vars,
         )
     } else {
@@ -134,12 +131,12 @@ fn check_required(
     around: &Around,
     names: &NamesGiven,
     span: Span,
-    callee: &Declared,
+    callee: &Indexed,
     vars: &Visible,
 ) -> Result<(), Refusal<TypeFault>>
     ensures { Passes (param_demands (view_around around.now) false
         (names_given (view_arguments names.now.given.now)) span
-        (view_params (required_in callee.now.template.now.params)) (view_vars vars.now)) (view_vars vars.now) result }
+        (view_params (required_in callee.now.declared.template.now.params)) (view_vars vars.now)) (view_vars vars.now) result }
 {
     for param in callee.required.iter() {
         if !names.has(&param.name) {
@@ -188,30 +185,6 @@ fn check_handed(
     }
 }
 
-/// The full name that a call means.
-fn called_name(alloc: Global, namespace: &Text, name: &Text) -> Result<Text, OutOfMemory>
-    ensures { IfOk result (λ full. full ≡ called_name namespace.now name.now) }
-{
-    if is_dotted(name.text()) {
-        name.copy(alloc)
-    } else {
-        joined_name(alloc, namespace, name)
-    }
-}
-
-/// Whether there is a `.` in a name.
-fn is_dotted(name: &str) -> bool
-    ensures { result ≡ list_any (λ c. c == full_stop) (chars name.now) }
-{
-    name.chars().any(is_full_stop)
-}
-
-fn is_full_stop(c: char) -> bool
-    ensures { result ≡ (c == full_stop) }
-{
-    c == '.'
-}
-
 /// The callee's parameter that a param names, given once, after params of these names, to which its own is added.
 #[tactic(auto, using(crate::proofs::Refusals::kept))]
 pub(crate) fn named_param<'b, 'p>(
@@ -219,10 +192,10 @@ pub(crate) fn named_param<'b, 'p>(
     name: &'b Text,
     span: Span,
     before: &mut Names<'b>,
-    callee: &Declared<'p>,
+    callee: &Indexed<'p>,
 ) -> Result<&'p Param, Refusal<TypeFault>>
     ensures param { Answers (λ p. view_param p.now)
-        (named_param name.now span before.old (view_params callee.now.template.now.params)) result }
+        (named_param name.now span before.old (view_params callee.now.declared.template.now.params)) result }
     ensures names { OnOk result (before.new ≡ name.now ∷ before.old) }
 {
     if !before.insert(name)? {

@@ -4,22 +4,23 @@ ghost use Rattle.std.specs.Prelude.{◌≡◌, ◌∷◌, ◌<◌, ◌^◌, [], 
 ghost use Rattle.soy_tree.specs.Declarations.{declaration_fault, params_fault};
 ghost use Rattle.soy_tree.specs.Demands.{bodies_fault, body_fault, check_fault, declarations_fault, in_file};
 ghost use Rattle.soy_tree.specs.Formed.{AreFormed};
+ghost use Rattle.soy_tree.specs.ViewTemplates.{view_declared};
 ghost use Rattle.soy_tree.specs.ViewTrees.{view_params, view_trees};
 ghost use Rattle.soy_check.specs.Answers.{Checks, Finds, FindsInFile};
 ghost use Rattle.soy_check.specs.FullNames.{full_names};
-ghost use Rattle.soy_check.specs.ViewAround.{view_all, view_declared};
+ghost use Rattle.soy_check.specs.ViewAround.{view_all};
 
 use crate::around::Around;
 use crate::bodies::check_nodes;
 use crate::declarations::check_declaration;
 use crate::faults::refused_in;
 use crate::names::Names;
-use crate::template::Declared;
-use crate::templates::all_templates;
+use crate::template::Indexed;
+use crate::templates::all_indexed;
 use crate::variables::param_variables;
 use soy_base::{Fault, Refusal, Seq, Text};
 use soy_expr::TypeFault;
-use soy_tree::{Tree, Typed};
+use soy_tree::{Declared, Tree, Typed};
 use std::alloc::Global;
 
 /// The first failure, and the two names or types that differ; where there is only one, the second is empty.
@@ -47,7 +48,7 @@ pub(crate) fn check_trees(alloc: Global, trees: &[Tree]) -> Result<(), Refusal<C
     requires { length trees.now < 2 ^ 32 }
     ensures { FindsInFile (check_fault (view_trees trees.now)) result }
 {
-    let all = all_templates(alloc, trees)?;
+    let all = all_indexed(alloc, trees)?;
     let all = all.as_slice();
     let names = check_declarations(alloc, all)?;
     check_bodies(alloc, all, &names)
@@ -57,14 +58,14 @@ pub(crate) fn check_trees(alloc: Global, trees: &[Tree]) -> Result<(), Refusal<C
 #[tactic(auto, using(crate::proofs::Refusals::found_first_in_file))]
 fn check_declarations<'a, 't>(
     alloc: Global,
-    all: &'a [Declared<'t>],
+    all: &'a [Indexed<'t>],
 ) -> Result<Names<'a>, Refusal<CheckFault>>
     ensures found { FindsInFile (declarations_fault (view_all all.now) []) result }
     ensures names { IfOk result (λ names. names ≡ reverse (full_names all.now)) }
 {
     let mut names = Names::new(alloc);
-    for declared in all {
-        check_declared(alloc, declared, &mut names)?;
+    for one in all {
+        check_declared(alloc, &one.declared, &mut names)?;
     }
     Ok(names)
 }
@@ -89,15 +90,15 @@ fn check_declared<'a, 't>(
 #[tactic(auto, using(crate::proofs::Refusals::found_first_in_file))]
 fn check_bodies<'n, 'a, 't>(
     alloc: Global,
-    all: &'a [Declared<'t>],
+    all: &'a [Indexed<'t>],
     names: &'n Names<'a>,
 ) -> Result<(), Refusal<CheckFault>>
     requires names { names.now ≡ reverse (full_names all.now) }
     requires declared { declarations_fault (view_all all.now) [] ≡ None }
     ensures { FindsInFile (bodies_fault (view_all all.now) (view_all all.now)) result }
 {
-    for declared in all {
-        check_template(alloc, all, names, declared)?;
+    for one in all {
+        check_template(alloc, all, names, one)?;
     }
     Ok(())
 }
@@ -105,39 +106,40 @@ fn check_bodies<'n, 'a, 't>(
 /// The body of a template in its file.
 fn check_template<'n, 'a, 't>(
     alloc: Global,
-    all: &'a [Declared<'t>],
+    all: &'a [Indexed<'t>],
     names: &'n Names<'a>,
-    declared: &'a Declared<'t>,
+    one: &'a Indexed<'t>,
 ) -> Result<(), Refusal<CheckFault>>
     requires names { names.now ≡ reverse (full_names all.now) }
-    requires declared { params_fault (view_params declared.now.template.now.params) [] ≡ None }
-    ensures { FindsInFile (option_map (in_file declared.now.file)
-        (body_fault (view_all all.now) (view_declared declared.now))) result }
+    requires declared { params_fault (view_params one.now.declared.template.now.params) [] ≡ None }
+    ensures { FindsInFile (option_map (in_file one.now.declared.file)
+        (body_fault (view_all all.now) (view_declared one.now.declared))) result }
 {
-    match check_body(alloc, all, names, declared) {
+    match check_body(alloc, all, names, one) {
         Ok(_) => Ok(()),
-        Err(refusal) => Err(refused_in(declared.file, refusal)),
+        Err(refusal) => Err(refused_in(one.declared.file, refusal)),
     }
 }
 
 /// The body of a template.
 fn check_body<'n, 'a, 't>(
     alloc: Global,
-    all: &'a [Declared<'t>],
+    all: &'a [Indexed<'t>],
     names: &'n Names<'a>,
-    declared: &'a Declared<'t>,
+    one: &'a Indexed<'t>,
 ) -> Result<(), Refusal<TypeFault>>
     requires names { names.now ≡ reverse (full_names all.now) }
-    requires declared { params_fault (view_params declared.now.template.now.params) [] ≡ None }
-    ensures { Finds (body_fault (view_all all.now) (view_declared declared.now)) result }
+    requires declared { params_fault (view_params one.now.declared.template.now.params) [] ≡ None }
+    ensures { Finds (body_fault (view_all all.now) (view_declared one.now.declared)) result }
 {
+    let declared = &one.declared;
     let params = declared.template.params.items();
     let body = declared.template.body.items();
     let around = Around {
         declared: all,
         names,
         namespace: declared.namespace,
-        own: declared,
+        own: one,
     };
     let mut vars = param_variables(alloc, params)?;
     check_nodes(alloc, &around, body, &mut vars)

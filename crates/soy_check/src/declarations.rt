@@ -2,17 +2,16 @@
 
 ghost use Rattle.std.specs.Prelude.{◌≡◌, ◌∷◌, [], OnOk};
 ghost use Rattle.soy_tree.specs.Declarations.{declaration_fault, params_fault};
+ghost use Rattle.soy_tree.specs.ViewTemplates.{view_declared};
 ghost use Rattle.soy_tree.specs.ViewTrees.{view_params};
 ghost use Rattle.soy_check.specs.Answers.{Finds};
-ghost use Rattle.soy_check.specs.ViewAround.{view_declared};
 
 use crate::faults::misnamed;
 use crate::names::Names;
-use crate::template::Declared;
 use crate::type_faults::check_type;
 use soy_base::{Code, Refusal};
 use soy_expr::TypeFault;
-use soy_tree::Param;
+use soy_tree::{Declared, Param};
 use std::alloc::Global;
 
 /// The declaration of a template, after templates of these full names, to which its own is added.

@@ -2,35 +2,29 @@
 
 ghost use Rattle.std.specs.Prelude.{◌≡◌, IfOk, option_map};
 ghost use Rattle.soy_tree.specs.Bodies.{param_of};
-ghost use Rattle.soy_tree.specs.Templates.{joined_name};
 ghost use Rattle.soy_tree.specs.ViewTrees.{view_param, view_params};
 ghost use Rattle.soy_check.specs.Named.{FindsParams, in_row, required_in};
 
 use indexmap::IndexMap;
 use soy_base::{OutOfMemory, Text};
-use soy_tree::{Param, Template};
+use soy_tree::{Declared, Param};
 use std::alloc::Global;
 
-/// A template, with the number of its file, its namespace and its full name; its parameters that are required, and its
-/// parameters by their names.
+/// A template; its parameters that are required, and its parameters by their names.
 #[derive(Drop)]
-pub(crate) struct Declared<'a> {
-    pub(crate) file: u32,
-    pub(crate) namespace: &'a Text,
-    pub(crate) template: &'a Template,
-    pub(crate) full: Text,
+pub(crate) struct Indexed<'a> {
+    pub(crate) declared: Declared<'a>,
     pub(crate) required: Vec<&'a Param>,
     pub(crate) first: IndexMap<&'a str, &'a Param>,
-    ghost named: { full ≡ joined_name namespace.now template.now.name },
-    ghost needed: { in_row required.items ≡ required_in template.now.params },
-    ghost found: { FindsParams first.entries template.now.params },
+    ghost needed: { in_row required.items ≡ required_in declared.template.now.params },
+    ghost found: { FindsParams first.entries declared.template.now.params },
 }
 
-impl<'a> Declared<'a> {
+impl<'a> Indexed<'a> {
     /// The first parameter of a name, found without a walk over them.
     pub(crate) fn find(&self, name: &Text) -> Option<&'a Param>
         ensures { option_map (λ p. view_param p.now) result
-            ≡ param_of name.now (view_params self.now.template.now.params) }
+            ≡ param_of name.now (view_params self.now.declared.template.now.params) }
     {
         self.first.get(name.text()).copied()
     }

@@ -15,7 +15,7 @@ use Rattle.template_ir.specs.ViewOps.{view_program}
 use Rattle.template_ir.specs.declared.program.ProgramParts.{ProgramParts}
 use Rattle.template_ir.proofs.CompiledRuns.{compiled_input}
 use Rattle.bundle_fit.proofs.FittingTrees.{trees_fit}
-use Rattle.ir_build.specs.Translations.{translation_of}
+use Rattle.msg_extract.specs.Translations.{translation_of}
 use Rattle.ir_build.specs.ViewScene.{language_of}
 use Rattle.soy_front.specs.Accepts.{Accepts, AreAcceptedAs, Decides}
 use Rattle.soy_front.specs.Compiled.{AreCompiled, CompilesFiles, GivesTheSame}

@@ -1,54 +1,37 @@
--- What a bundle is to the compiler (`language_of`): its translations are those that the walk and the reader of bundles
--- choose, and bundles that bring the same are one language.
-use Rattle.std.proofs.Common.{◌≡◌, ℕ, List, [], ◌∷◌, map, Option, Some, None, refl, sym, ap, ◌∙◌}
+-- What a bundle is to the compiler (`language_of`): its translations are those that the walk chooses, and bundles that
+-- bring the same are one language.
+use Rattle.std.proofs.Common.{◌≡◌, ℕ, List, [], ◌∷◌, Option, Some, None, refl, sym, ap, ◌∙◌}
 use Rattle.std.proofs.Common.{subst}
-use Rattle.std.specs.Prelude.{Ok, bytes_eq, if◌then◌else◌}
-use Rattle.std.proofs.Math.Path.{fun_ext}
+use Rattle.std.specs.Prelude.{Ok}
 use Rattle.plural_rules.specs.Condition.{Alternatives}
 use Rattle.plural_rules.specs.declared.category.Category.{Category}
 use Rattle.soy_base.specs.declared.direction.Dir.{Dir}
 use Rattle.soy_base.specs.declared.place.Place.{Place}
 use Rattle.soy_tree.specs.declared.bundle.Bundle.{Bundle}
-use Rattle.soy_tree.specs.declared.bundle.Translation.{Translation}
 use Rattle.soy_tree.specs.Formed.{AreFormed}
 use Rattle.soy_tree.specs.MessageParts.{MsgParts}
 use Rattle.soy_tree.specs.Nodes.{Message}
 use Rattle.soy_tree.specs.Trees.{Tree}
-use Rattle.soy_tree.specs.ViewMessageParts.{view_parts}
 use Rattle.msg_extract.specs.Catalogue.{catalogue_of}
 use Rattle.msg_extract.specs.Fits.{FitsMessages, FitsTrees}
-use Rattle.msg_extract.specs.MessageId.{id_of}
 use Rattle.msg_extract.specs.MessagesIn.{tree_messages}
 use Rattle.msg_extract.specs.declared.catalogue.Listed.{Listed}
-use Rattle.msg_bundle.specs.BundleFits as bundled
 use Rattle.msg_bundle.specs.BundlesAlike.{BundlesAlike}
 use Rattle.msg_bundle.specs.Translations.{messages_of}
 use Rattle.msg_bundle.proofs.FittingNames.{bundle_fits}
 use Rattle.soy_meaning.specs.AcceptedTrees.{walk_trees}
 use Rattle.soy_meaning.specs.Walk.{walked}
 use Rattle.template_ir.specs.Compiles.{Language}
-use Rattle.html_context.specs.ChosenTranslation as chosen
-use Rattle.html_context.specs.ChosenTranslation.{chosen_translation, view_translation}
-use Rattle.ir_build.specs.Translations.{translation_of}
+use Rattle.html_context.specs.ChosenTranslation.{chosen_translation}
+use Rattle.msg_extract.specs.Translations.{translation_of}
 use Rattle.ir_build.specs.ViewScene.{language_of}
 use Rattle.soy_front.specs.Accepted.{Brings}
 use Rattle.soy_front.proofs.BundleTranslations.{chosen_alike}
 
 -- ---- the translation of a message
 
-listed_translation : (ts : List Translation) (id : List ℕ)
-    → chosen.translation_of (map view_translation ts) id ≡ translation_of ts id
-listed_translation [] id = refl
-listed_translation (t ∷ ts) id =
-    ap (λ o. if bytes_eq t.id id then Some (view_parts t.parts) else o) (listed_translation ts id)
-
-read_translation : (ts : List Translation) (id : List ℕ) → bundled.translation_of ts id ≡ translation_of ts id
-read_translation [] id = refl
-read_translation (t ∷ ts) id =
-    ap (λ o. if bytes_eq t.id id then Some (view_parts t.parts) else o) (read_translation ts id)
-
 same_translations : (bundle : Bundle) → chosen_translation bundle.messages ≡ (language_of bundle).translation
-same_translations bundle = fun_ext (λ m. listed_translation bundle.messages (id_of m))
+same_translations bundle = refl
 
 -- **the walk under a bundle is the walk under the language that the compiler takes of it**
 pub language_walk : (bundle : Bundle) (trees : List Tree) (places : List Place)
@@ -91,7 +74,4 @@ pub language_fits : (bundle : Option (List ℕ)) (rows : List Listed) (language 
 language_fits None rows language trees brings catalogue formed =
     subst (λ (l : Bundle). FitsTrees (translation_of l.messages) trees) (sym brings) (no_translation trees)
 language_fits (Some bytes) rows language trees brings catalogue formed =
-    let read : (id : List ℕ) → bundled.translation_of language.messages id ≡ translation_of language.messages id =
-    λ id. read_translation language.messages id in
-    subst (λ t. FitsTrees t trees) (fun_ext read)
-    (bundle_fits rows (messages_of brings.json) language.messages trees brings.is.messages catalogue formed)
+    bundle_fits rows (messages_of brings.json) language.messages trees brings.is.messages catalogue formed

@@ -3,8 +3,8 @@ use Rattle.std.proofs.Common.{◌≡◌, ℕ, zero, suc, ◌+◌, ◌<◌, Bool,
 use Rattle.std.proofs.Common.{nat_lt, List, [], ◌∷◌, ◌++◌, length, take, slice_index, encode_utf8_all, refl, sym, ap}
 use Rattle.std.proofs.Common.{subst, ◌∙◌, append_assoc, append-nil, length-append, arith}
 use Rattle.std.specs.Char.{len_utf8}
-use Rattle.std.specs.List.{list_any, flat_map, enumerate_from, range_with_len}
-use Rattle.std.proofs.lemmas.Bool.{and_left, and_right, eq-eqb, ne_eqb, or_parts, or_from}
+use Rattle.std.specs.List.{list_all, list_any, flat_map, enumerate_from, range_with_len}
+use Rattle.std.proofs.lemmas.Bool.{and_left, and_parts, and_right, eq-eqb, ne_eqb, or_parts, or_from}
 use Rattle.std.proofs.lemmas.List.{take_at}
 use Rattle.std.proofs.lemmas.List.Folds.{list_any-append}
 use Rattle.std.proofs.lemmas.Str.{len_utf8_bounds}
@@ -12,7 +12,7 @@ use Rattle.bidi_class.specs.Class as classes
 use Rattle.bidi_class.specs.Pairs.{is_in_pair, is_initiator, is_pair}
 use Rattle.bidi_text.specs.Clean.{dropped_byte, is_dropped, is_isolate_control}
 use Rattle.soy_base.specs.ByteLength.{byte_len}
-use Rattle.value_cursor.specs.Cleaned.{Cleans, is_left_out}
+use Rattle.value_cursor.specs.Cleaned.{Cleans, is_clean, is_left_out}
 use Rattle.value_cursor.specs.declared.cleaning.Cleaning.{Cleaning}
 use Rattle.value_cursor.specs.declared.cleaning.Cleaning.TheVariants as cleaning
 use Rattle.value_cursor.proofs.Forms.{byte_len-encodes}
@@ -151,11 +151,23 @@ no_pairs text none index =
     none_in_range (λ other. is_pair text index other || is_pair text other index)
     (λ other. or_from _ _ (no_pair text none index other) (no_pair text none other index)) 0 (length text)
 
+-- a character of a text that is clean
+pub clean_at : (before : List ℕ) (c : ℕ) (after : List ℕ) → list_all is_clean (before ++ (c ∷ after)) ≡ true
+    → is_clean c ≡ true
+clean_at [] c after is = (and_parts _ _ is).0
+clean_at (d ∷ before) c after is = clean_at before c after (and_parts _ _ is).1
+
+no_control : (a b : Bool) → not a ≡ true → (a && false) ≡ (a && b)
+no_control true b h = let e : false ≡ true = h in cc
+no_control false b h = refl
+
 -- what is left out of a wrapped text is what is dropped of it
 pub left_out_is_dropped : (what : Cleaning) (text before : List ℕ) (c : ℕ) (after : List ℕ) → Cleans what text
     → text ≡ before ++ (c ∷ after)
     → (is_isolate_control c && is_left_out what (byte_len before)) ≡ is_dropped text (length before, c)
-left_out_is_dropped cleaning.Nothing text before c after cleans whole = let e : false ≡ true = cleans in cc
+left_out_is_dropped cleaning.Nothing text before c after cleans whole =
+    no_control (is_isolate_control c) (not (is_in_pair text (length before)))
+    (and_parts _ _ (clean_at before c after (subst (λ t. list_all is_clean t ≡ true) whole cleans))).0
 left_out_is_dropped cleaning.Unpaired text before c after cleans whole =
     ap (λ b. is_isolate_control c && not b) (sym (no_pairs text cleans (length before)))
 left_out_is_dropped (cleaning.Marked marks) text before c after cleans whole =

@@ -1,5 +1,5 @@
 -- Runs of characters that stand for themselves, escaped alone or cleaned too.
-use Rattle.std.proofs.Common.{◌≡◌, ℕ, ◌-◌, ◌≤◌, Bool, true, not, ◌&&◌, List, [], ◌∷◌, ◌++◌, length, take, drop}
+use Rattle.std.proofs.Common.{◌≡◌, ℕ, ◌-◌, ◌≤◌, Bool, true, ◌&&◌, List, [], ◌∷◌, ◌++◌, length, take, drop}
 use Rattle.std.proofs.Common.{encode_utf8_all, Some, refl, sym, ap, subst, ◌∙◌, append_assoc, length-append, inl, inr}
 use Rattle.std.proofs.Common.{arith}
 use Rattle.std.specs.List.{list_all}
@@ -10,22 +10,17 @@ use Rattle.std.proofs.lemmas.List.{take_at, drop_at}
 use Rattle.std.proofs.lemmas.Slice.Eq.{bytes_eq-Decides}
 use Rattle.std.proofs.lemmas.Str.{chars_from_encodes, encodes-append, encodes-chars, IsCharBoundary-at_seam}
 use Rattle.std.proofs.lemmas.Str.{IsUtf8-append, IsUtf8-take}
-use Rattle.bidi_class.specs.Class.{bidi_class}
-use Rattle.bidi_text.specs.Clean.{is_isolate_control, is_separator}
+use Rattle.bidi_text.specs.Clean.{is_isolate_control}
 use Rattle.soy_base.specs.Cuts.{after_while, prefix_while}
 use Rattle.escapers.specs.declared.escaper.Escaper.{Escaper}
 use Rattle.escapers.specs.Esc.{escaped_character}
 use Rattle.escapers.specs.PlainPrefix.{plain_prefix, stands_for_itself}
 use Rattle.value_cursor.specs.BytesLeft.{forms}
-use Rattle.value_cursor.specs.Cleaned.{cleaned, cleaned_or_none, is_left_out}
+use Rattle.value_cursor.specs.Cleaned.{cleaned, cleaned_or_none, is_clean, is_left_out}
 use Rattle.value_cursor.specs.declared.cleaning.Cleaning.{Cleaning}
 use Rattle.value_cursor.specs.declared.cleaning.Cleaning.TheVariants as cleaning
 use Rattle.value_cursor.specs.declared.plan.Plan.{Plan}
 use Rattle.value_cursor.proofs.Forms.{forms_themselves}
-
--- cleaning changes no such character
-abbrev pub is_clean : ℕ → Bool
-is_clean c = not (is_isolate_control c) && not (is_separator (bidi_class c))
 
 abbrev is_plain : Escaper → ℕ → Bool
 is_plain how c = stands_for_itself how c && is_clean c
@@ -34,7 +29,7 @@ is_plain how c = stands_for_itself how c && is_clean c
 own_form : (how : Escaper) (c : ℕ) → stands_for_itself how c ≡ true → escaped_character how c ≡ c ∷ []
 own_form how c is = (bytes_eq-Decides (escaped_character how c) (c ∷ [])).0 is
 
-clean_itself : (leaves_out : Bool) (c : ℕ) → is_clean c ≡ true → cleaned_or_none leaves_out c ≡ Some c
+pub clean_itself : (leaves_out : Bool) (c : ℕ) → is_clean c ≡ true → cleaned_or_none leaves_out c ≡ Some c
 clean_itself leaves_out c is =
     let parts = and_parts _ _ is in
     cond-false _ _ _ (and_left (is_isolate_control c) leaves_out (not-true _ parts.0))

@@ -1,8 +1,8 @@
 -- The forms of a wrapped text are those of the cleaned text's characters, escaped by the rows of HTML.
 use Rattle.std.proofs.Common.{◌≡◌, ℕ, ◌+◌, Bool, true, false, ◌&&◌, if◌then◌else◌, List, [], ◌∷◌, ◌++◌, None, Some}
-use Rattle.std.proofs.Common.{length, refl, sym, ap, ◌∙◌, append_assoc, append-nil, length-append, arith}
+use Rattle.std.proofs.Common.{length, refl, sym, ap, subst, ◌∙◌, append_assoc, append-nil, length-append, arith}
 use Rattle.std.specs.Char.{len_utf8}
-use Rattle.std.specs.List.{flat_map, enumerate_from}
+use Rattle.std.specs.List.{flat_map, enumerate_from, list_all}
 use Rattle.std.specs.Option.{option_map_or}
 use Rattle.std.proofs.lemmas.Grind.{flat_map-append}
 use Rattle.bidi_text.specs.Clean.{cleaned_character, cleaned_text, is_dropped, is_isolate_control, spaced}
@@ -12,18 +12,21 @@ use Rattle.escapers.specs.declared.escaper.Escaper.TheVariants as escaper
 use Rattle.escapers.specs.Esc.{escaped_character}
 use Rattle.soy_base.specs.ByteLength.{byte_len}
 use Rattle.value_cursor.specs.BytesLeft.{form, forms}
-use Rattle.value_cursor.specs.Cleaned.{Cleans, cleaned, is_left_out}
+use Rattle.value_cursor.specs.Cleaned.{Cleans, cleaned, is_clean, is_left_out}
 use Rattle.value_cursor.specs.declared.cleaning.Cleaning.{Cleaning}
 use Rattle.value_cursor.specs.declared.cleaning.Cleaning.TheVariants as cleaning
 use Rattle.value_cursor.specs.declared.plan.Plan.{Plan}
-use Rattle.value_cursor.proofs.LeftOut.{left_out_is_dropped}
+use Rattle.value_cursor.proofs.LeftOut.{clean_at, left_out_is_dropped}
+use Rattle.value_cursor.proofs.PlainRuns.{clean_itself}
 
 -- a text that is wrapped is cleaned
-cleaned_is : (what : Cleaning) (text : List ℕ) (offset c : ℕ) → Cleans what text
+cleaned_is : (what : Cleaning) (text before : List ℕ) (offset c : ℕ) (after : List ℕ) → Cleans what text
+    → text ≡ before ++ (c ∷ after)
     → cleaned what offset c ≡ (if is_isolate_control c && is_left_out what offset then None else Some (spaced c))
-cleaned_is cleaning.Nothing text offset c cleans = let e : false ≡ true = cleans in cc
-cleaned_is cleaning.Unpaired text offset c cleans = refl
-cleaned_is (cleaning.Marked marks) text offset c cleans = refl
+cleaned_is cleaning.Nothing text before offset c after cleans whole =
+    sym (clean_itself false c (clean_at before c after (subst (λ t. list_all is_clean t ≡ true) whole cleans)))
+cleaned_is cleaning.Unpaired text before offset c after cleans whole = refl
+cleaned_is (cleaning.Marked marks) text before offset c after cleans whole = refl
 
 -- a character's form, by whether it is left out
 form_by : (flag : Bool) (c : ℕ)
@@ -42,7 +45,7 @@ module _ (plan : Plan) (text : List ℕ) (html : plan.how ≡ escaper.Html) (cle
   form_is before c after whole =
       ap (λ how. option_map_or (escaped_character how) (cleaned plan.cleaning (byte_len before) c) []) html
       ∙ ap (λ o. option_map_or (row_or_character html_rows) o [])
-      (cleaned_is plan.cleaning text (byte_len before) c cleans
+      (cleaned_is plan.cleaning text before (byte_len before) c after cleans whole
       ∙ ap (λ b. if b then None else Some (spaced c))
       (left_out_is_dropped plan.cleaning text before c after cleans whole))
       ∙ form_by (is_dropped text (length before, c)) c

@@ -1,11 +1,9 @@
 //! What is cleaned of a text's characters before they are escaped.
-ghost use Rattle.std.specs.Prelude.{◌≡◌, not, OnErr, IfOk, IsTrue, ◌&&◌};
-ghost use Rattle.std.specs.List.{list_any};
+ghost use Rattle.std.specs.Prelude.{◌≡◌, OnErr, IfOk, IsTrue};
+ghost use Rattle.std.specs.List.{list_all, list_any};
 ghost use Rattle.std.specs.Str.{chars};
-ghost use Rattle.bidi_class.specs.Class.{bidi_class};
 ghost use Rattle.bidi_class.specs.Pairs.{is_initiator};
-ghost use Rattle.bidi_text.specs.Clean.{is_isolate_control, is_separator};
-ghost use Rattle.value_cursor.specs.Cleaned.{MarksAscend, cleaned, is_left_out, Cleans};
+ghost use Rattle.value_cursor.specs.Cleaned.{MarksAscend, cleaned, is_clean, is_left_out, Cleans};
 
 use bidi_class::{Class, class_of, is_initiator};
 use bidi_text::{Marks, marks};
@@ -15,7 +13,7 @@ use std::alloc::Global;
 /// What is cleaned of a text.
 #[derive(Debug, Drop)]
 pub(crate) enum Cleaning {
-    /// Nothing.
+    /// Nothing, since it isn't wrapped or has nothing to clean.
     Nothing,
     /// Every isolate control is left out, since no pair has one, and separators become spaces.
     Unpaired,
@@ -30,6 +28,9 @@ impl Cleaning {
         ensures ascending { IfOk result MarksAscend }
         ensures memory { OnErr result (IsTrue (list_any is_initiator (chars text.now))) }
     {
+        if is_clean_text(text) {
+            return Ok(Cleaning::Nothing);
+        }
         if !has_initiator(text) {
             return Ok(Cleaning::Unpaired);
         }
@@ -66,6 +67,13 @@ impl Cleaning {
     }
 }
 
+/// Whether no cleaning changes the text.
+fn is_clean_text(text: &str) -> bool
+    ensures { result ≡ list_all is_clean (chars text.now) }
+{
+    text.chars().all(is_clean)
+}
+
 /// Whether the text has an isolate initiator.
 fn has_initiator(text: &str) -> bool
     ensures { result ≡ list_any is_initiator (chars text.now) }
@@ -75,7 +83,7 @@ fn has_initiator(text: &str) -> bool
 
 /// Whether no cleaning changes the character or leaves it out.
 pub(crate) fn is_clean(c: char) -> bool
-    ensures { result ≡ (not (is_isolate_control c) && not (is_separator (bidi_class c))) }
+    ensures { result ≡ is_clean c }
 {
     !matches!(
         class_of(c),

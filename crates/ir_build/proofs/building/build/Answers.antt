@@ -15,7 +15,7 @@ use Rattle.template_ir.specs.Sound.{is_sound}
 use Rattle.template_ir.specs.ViewOps.{view_program}
 use Rattle.template_ir.proofs.SoundPrograms.{compiled_is_sound}
 use Rattle.bundle_fit.proofs.FittingTrees.{trees_fit}
-use Rattle.ir_build.specs.Translations.{translation_of}
+use Rattle.msg_extract.specs.Translations.{translation_of}
 use Rattle.ir_build.specs.ViewScene.{language_of}
 use Rattle.ir_build.proofs.building.build.Goals as goal
 

@@ -15,7 +15,7 @@ returns-in-None c =
     (alone_source (translation_in c.args.scene.now) c.args.scene.now.places.now (view_message c.args.message.now)
     (view_output c.args.out.now) (cut_output c.args.old_length c.args.out.now) (view_ops c.args.source.items)
     (view_ops c.args.own.now.items) (view_ops c.push_all.new.own.items) (view_output c.args.out.now)
-    (sym c.in_ok-translated.ensures ∙ ap (option_map (λ parts. view_parts parts.now)) c.in-None.is) refl)
+    (sym c.in_ok-find.ensures ∙ ap (option_map (λ parts. view_parts parts.now)) c.in-None.is) refl)
     c.push_all.ensures
 
 pub returns-in-Some : goal.returns-in-Some
@@ -25,6 +25,6 @@ returns-in-Some c =
     (view_output c.args.out.now) (cut_output c.args.old_length c.args.out.now) (view_ops c.args.source.items)
     (view_ops c.args.own.now.items) (view_ops c.push_translation.new.own.items) _
     (view_output c.push_translation.new.out) (view_parts c.in-Some.parts.now)
-    (sym c.in_ok-translated.ensures ∙ ap (option_map (λ parts. view_parts parts.now)) c.in-Some.is)
+    (sym c.in_ok-find.ensures ∙ ap (option_map (λ parts. view_parts parts.now)) c.in-Some.is)
     (made_cut _ c.truncate.new.self.items (take c.args.old_length c.args.out.now.ops.items) c.args.out.now.holes refl
     c.truncate.ensures.items)) c.push_translation.ensures

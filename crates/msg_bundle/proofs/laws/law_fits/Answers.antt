@@ -3,7 +3,7 @@ use Rattle.soy_tree.specs.Nodes.{Message}
 use Rattle.soy_tree.specs.Trees.{Tree}
 use Rattle.msg_extract.specs.Fits.{FitsMessages, FitsTrees}
 use Rattle.msg_extract.specs.MessagesIn.{tree_messages}
-use Rattle.msg_bundle.specs.BundleFits.{translation_of}
+use Rattle.msg_extract.specs.Translations.{translation_of}
 use Rattle.msg_bundle.specs.Translations.{messages_of}
 use Rattle.msg_bundle.proofs.FittingNames.{bundle_fits}
 use Rattle.msg_bundle.proofs.laws.law_fits.Goals as goal

@@ -37,7 +37,7 @@ invariant-check_cases-loop-case l =
 abbrev pub invariant-check_arguments-loop-argument : goal.invariant-check_arguments-loop-argument
 invariant-check_arguments-loop-argument l =
     let around = view_around l.around in
-    let params = view_params l.callee.template.now.params in record {
+    let params = view_params l.callee.declared.template.now.params in record {
       left : after_arguments around (view_arguments l.given) [] params (view_vars l.initial.vars)
           ≡ after_arguments around (view_arguments (drop l.argument-index l.given)) l.before params
           (view_vars l.initial.vars);

@@ -1,6 +1,7 @@
 use Rattle.std.proofs.Common.{◌≡◌, ◌∷◌, ◌+◌, ◌-◌, ◌<◌, ◌≤◌, length, drop, sym, ap, ◌∙◌, subst, arith}
 use Rattle.soy_check.specs.Named.{FindsParams}
-use Rattle.soy_check.proofs.FirstOfNames.{param_added, params_drop}
+use Rattle.soy_tree.proofs.Drops.{drop_next}
+use Rattle.soy_check.proofs.FirstOfNames.{param_added}
 use Rattle.soy_check.proofs.template.first_of_names.Goals as goal
 
 pub loop-left-preserved : goal.loop-left-preserved
@@ -13,7 +14,7 @@ loop-left-preserved c =
     let next : (left - 1) + 1 ≡ left = omega (arith, some) in
     let param = c.index-params-left.result in
     let dropped : drop (left - 1) params ≡ param ∷ drop left params =
-    params_drop params (left - 1) param below c.index-params-left.is ∙ ap (λ i. param ∷ drop i params) next in
+    drop_next params (left - 1) param below c.index-params-left.is ∙ ap (λ i. param ∷ drop i params) next in
     record {
       within = omega (arith, within, some);
       found =

@@ -11,7 +11,7 @@ use Rattle.soy_expr.specs.ViewScope.{view_vars}
 use Rattle.soy_check.specs.TypeNamed.{type_named}
 use Rattle.soy_check.specs.Visible.{variable}
 use Rattle.soy_check.proofs.DistinctParams.{map_none, new_name}
-use Rattle.soy_check.proofs.FirstOfNames.{params_drop}
+use Rattle.soy_tree.proofs.Drops.{drop_next}
 use Rattle.soy_check.proofs.Undoing.{type_named-view}
 use Rattle.soy_check.proofs.variables.param_variables.Goals as goal
 
@@ -43,7 +43,7 @@ loop-left-preserved c =
     let next : (left - 1) + 1 ≡ left = omega (arith, some) in
     let param = c.index-params-left.result in
     let dropped : drop (left - 1) params ≡ param ∷ drop left params =
-    params_drop params (left - 1) param below c.index-params-left.is
+    drop_next params (left - 1) param below c.index-params-left.is
     ∙ ap (λ (n : ℕ). param ∷ drop n params) next in
     record {
       within = omega (arith, within, some);

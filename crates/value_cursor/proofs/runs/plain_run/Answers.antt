@@ -1,6 +1,7 @@
 use Rattle.std.proofs.Common.{rules}
 use Rattle.std.specs.Str.{chars}
-use Rattle.value_cursor.proofs.PlainRuns.{escaped_run, is_clean, others_within, rest_utf8, run_boundary, run_plain}
+use Rattle.value_cursor.specs.Cleaned.{is_clean}
+use Rattle.value_cursor.proofs.PlainRuns.{escaped_run, others_within, rest_utf8, run_boundary, run_plain}
 use Rattle.value_cursor.proofs.PlainRuns.{run_utf8, run_whole}
 use Rattle.value_cursor.proofs.runs.plain_run.Goals as goal
 

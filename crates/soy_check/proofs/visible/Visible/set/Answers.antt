@@ -1,5 +1,5 @@
 use Rattle.std.proofs.Common.{◌≡◌, ◌∙◌, None, Some, ap, reverse, sym}
-use Rattle.std.specs.Map.{lookup, set_value}
+use Rattle.std.specs.Map.{set_value}
 use Rattle.std.specs.Option.{option_copied_mut}
 use Rattle.soy_tree.specs.declared.soy_type.SoyType as code
 use Rattle.soy_check.specs.TypeNamed.{type_named, with_type}

@@ -1,21 +1,20 @@
-//! The translation that a bundle has for a message.
+//! The translations of a bundle, by the ids of their messages.
 
 ghost use Rattle.std.specs.Prelude.{◌≡◌, option_map, slice_get, map, IfOk};
 ghost use Rattle.soy_tree.specs.ViewMessageParts.{view_parts};
 ghost use Rattle.soy_tree.specs.ViewNodes.{view_message};
-ghost use Rattle.ir_build.specs.Translations.{ids_of, parts_of, translation_of};
+ghost use Rattle.msg_extract.specs.Translations.{ids_of, parts_of, translation_of};
 ghost use Rattle.msg_extract.specs.MessageId.{id_of};
 
-use crate::names::Names;
-use msg_extract::message_id;
+use crate::message_id;
 use soy_base::{OutOfMemory, Text};
-use soy_tree::{Bundle, Message, MsgPart, Translation};
+use soy_tree::{Bundle, Message, MsgPart, Names, Translation};
 use std::alloc::Global;
 use std::marker::Model;
 
 /// A bundle, which contracts see as itself. The first translation of an id is found without a walk over all.
 #[derive(Drop)]
-pub(crate) struct Translations<'b> {
+pub struct Translations<'b> {
     bundle: &'b Bundle,
     ids: Names<'b>,
 }
@@ -23,7 +22,7 @@ pub(crate) struct Translations<'b> {
 impl<'b> Model for Translations<'b> {
     ghost use Rattle.std.specs.Prelude.{◌≡◌};
     ghost use Rattle.soy_tree.specs.declared.bundle.Bundle.{Bundle};
-    ghost use Rattle.ir_build.specs.Translations.{ids_of};
+    ghost use Rattle.msg_extract.specs.Translations.{ids_of};
     ghost use Rattle.std.specs.Coded.{codes};
     ghost use Rattle.soy_tree.specs.contracts.bundle.MsgPart as msg_part;
 
@@ -38,11 +37,27 @@ impl<'b> Model for Translations<'b> {
 
 impl<'b> Translations<'b> {
     /// Those of a bundle.
-    pub(crate) fn new(alloc: Global, bundle: &'b Bundle) -> Result<Translations<'b>, OutOfMemory>
+    pub fn new(alloc: Global, bundle: &'b Bundle) -> Result<Translations<'b>, OutOfMemory>
         ensures { IfOk result (λ all. all ≡ bundle.now) }
     {
         let ids = Names::new(alloc, all_ids(alloc, bundle.messages.items())?)?;
         Ok(Translations { bundle, ids })
+    }
+
+    /// The parts of the translation that the bundle has for a message, if it has one.
+    pub fn find(
+        &self,
+        alloc: Global,
+        message: &Message,
+    ) -> Result<Option<&'b [MsgPart]>, OutOfMemory>
+        ensures { IfOk result (λ found. option_map (λ parts. view_parts parts.now) found
+            ≡ translation_of self.now.messages (id_of (view_message message.now))) }
+    {
+        if self.bundle.messages.items().is_empty() {
+            return Ok(None);
+        }
+        let id = message_id(alloc, message)?;
+        Ok(self.parts(&id))
     }
 
     /// The parts of the translation of an id, of several the first.
@@ -75,20 +90,4 @@ fn parts_at<'b>(messages: &'b [Translation], number: usize) -> Option<&'b [MsgPa
         Some(translation) => Some(translation.parts.items()),
         None => None,
     }
-}
-
-/// The parts of the translation that a bundle has for a message.
-pub(crate) fn translated<'b>(
-    alloc: Global,
-    bundle: &Translations<'b>,
-    message: &Message,
-) -> Result<Option<&'b [MsgPart]>, OutOfMemory>
-    ensures { IfOk result (λ found. option_map (λ parts. view_parts parts.now) found
-        ≡ translation_of bundle.now.messages (id_of (view_message message.now))) }
-{
-    if bundle.bundle.messages.items().is_empty() {
-        return Ok(None);
-    }
-    let id = message_id(alloc, message)?;
-    Ok(bundle.parts(&id))
 }

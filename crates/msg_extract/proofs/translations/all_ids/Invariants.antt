@@ -1,6 +1,6 @@
 use Rattle.std.proofs.Common.{◌≡◌, ◌++◌, drop, map}
-use Rattle.ir_build.specs.Translations.{ids_of}
-use Rattle.ir_build.proofs.translations.all_ids.Given as goal
+use Rattle.msg_extract.specs.Translations.{ids_of}
+use Rattle.msg_extract.proofs.translations.all_ids.Given as goal
 
 abbrev pub invariant-loop-translation : goal.invariant-loop-translation
 invariant-loop-translation l =

@@ -1,8 +1,8 @@
 use Rattle.std.proofs.Common.{◌∙◌, Some, ap, sym}
-use Rattle.ir_build.specs.FirstNames.{first_number}
-use Rattle.ir_build.specs.Translations.{translation_of}
-use Rattle.ir_build.proofs.Numbered.{found_parts, parts_found}
-use Rattle.ir_build.proofs.translations.Translations.parts.Goals as goal
+use Rattle.soy_tree.specs.FirstNames.{first_number}
+use Rattle.msg_extract.specs.Translations.{translation_of}
+use Rattle.msg_extract.proofs.FoundTranslations.{found_parts, parts_found}
+use Rattle.msg_extract.proofs.translations.Translations.parts.Goals as goal
 
 pub returns-in-Some : goal.returns-in-Some
 returns-in-Some c =
