@@ -1,7 +1,7 @@
 -- What a rendering gives at first.
-use Rattle.std.proofs.Common.{◌≡◌, ℕ, zero, suc, ◌+◌, ◌-◌, ◌≤◌, ◌<◌, pos, true, false, List, [], ◌∷◌, ◌++◌, Option}
+use Rattle.std.proofs.Common.{◌≡◌, ℕ, zero, suc, ◌+◌, ◌≤◌, ◌<◌, pos, false, List, [], ◌∷◌, ◌++◌, Option}
 use Rattle.std.proofs.Common.{Some, None}
-use Rattle.std.proofs.Common.{drop, length, map, refl, sym, ap, ◌∙◌, arith, slice_index_or, subst}
+use Rattle.std.proofs.Common.{drop, length, refl, sym, ap, ◌∙◌, arith, slice_index_or, subst}
 use Rattle.std.specs.List.{slice_get}
 use Rattle.soy_tree.specs.Types.{Name}
 use Rattle.soy_tree.specs.Val.{Known, member_value}
@@ -10,7 +10,7 @@ use Rattle.soy_tree.specs.ViewTrees.{view_params}
 use Rattle.soy_tree.specs.declared.tree.Param.{Param}
 use Rattle.soy_expr.specs.Parts.{child}
 use Rattle.soy_meaning.specs.Giving.{RunEnv}
-use Rattle.soy_meaning.specs.Outcome.{Outcome, gives_nothing}
+use Rattle.soy_meaning.specs.Outcome.{Outcome}
 use Rattle.soy_meaning.proofs.Outcomes.{first_none}
 use Rattle.template_ir.specs.Ops as ops
 use Rattle.template_ir.specs.Run.{all_give, block_gives, body_there, input_env, names_of, names_there, run}
@@ -19,9 +19,9 @@ use Rattle.template_ir.specs.declared.op.Block.{Block}
 use Rattle.template_ir.specs.declared.program.ProgramParts.{ProgramParts}
 use Rattle.template_ir.specs.declared.program.Routine.{Routine}
 use Rattle.render_core.specs.Begins.{FieldFound, entry_frame, held_field, root_bound}
-use Rattle.render_core.specs.Frames.{MachineFits, machine_gives, ops_ahead}
-use Rattle.render_core.specs.Rest.{BegunFits, DoneFits, Fits, Rest, begun_left, coming, rest_of, solid}
-use Rattle.render_core.specs.Variables.{Cell, cell_at, cells_of, env_at, held_means, name_or_none, name_there, param_of}
+use Rattle.render_core.specs.Frames.{machine_gives, ops_ahead}
+use Rattle.render_core.specs.Rest.{BegunFits, DoneFits, Fits, begun_left, coming, rest_of, solid}
+use Rattle.render_core.specs.Variables.{Cell, cell_at, cells_of, env_at, name_or_none, name_there, param_of}
 use Rattle.render_core.specs.declared.frame.Frame.TheVariants as frame
 use Rattle.render_core.specs.declared.held.Bound.{Bound}
 use Rattle.render_core.specs.declared.held.Held.{Held}

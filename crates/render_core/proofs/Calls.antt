@@ -1,13 +1,12 @@
 -- Calls: their parameters, one after the other, and their opening.
-use Rattle.std.proofs.Common.{◌≡◌, ℕ, zero, suc, ◌+◌, ◌-◌, ◌*◌, ◌≤◌, ◌<◌, pos, List, [], ◌∷◌, ◌++◌, Option, Some, None, length, map}
-use Rattle.std.proofs.Common.{take, drop, refl, sym, ap, ◌∙◌, arith, subst}
+use Rattle.std.proofs.Common.{◌≡◌, ℕ, zero, suc, ◌+◌, ◌≤◌, ◌<◌, pos, List, [], ◌∷◌, Option, Some, None, length, map}
+use Rattle.std.proofs.Common.{take, drop, refl, sym, ap, ◌∙◌, arith}
 use Rattle.std.specs.List.{slice_get}
 use Rattle.std.specs.Prelude.{option_map}
 use Rattle.soy_base.specs.declared.kind.Kind.{Kind}
-use Rattle.soy_base.specs.declared.kind.Kind.TheVariants as kind
 use Rattle.soy_tree.specs.Values as values
 use Rattle.soy_meaning.specs.Giving.{RunEnv}
-use Rattle.soy_meaning.specs.Outcome.{Outcome, RunEnds, StopsAt, continued_by, gathered, gives_nothing, none_spent}
+use Rattle.soy_meaning.specs.Outcome.{Outcome, RunEnds, StopsAt, continued_by, none_spent}
 use Rattle.soy_meaning.specs.Outcome.{spent_first}
 use Rattle.soy_meaning.specs.Plan.{Site}
 use Rattle.soy_meaning.proofs.Outcomes.{first_none, followed_joined}
@@ -18,16 +17,14 @@ use Rattle.template_ir.specs.Table.{table}
 use Rattle.template_ir.specs.ViewOps.{view_by, view_callee, view_handed, view_program, view_routine}
 use Rattle.template_ir.specs.declared.op.Callee as code_callee
 use Rattle.template_ir.specs.declared.op.Handed as code_handed
-use Rattle.template_ir.specs.declared.op.Op.{Op}
 use Rattle.template_ir.specs.declared.op.Op.TheVariants as op
 use Rattle.template_ir.specs.declared.program.ProgramParts.{ProgramParts}
 use Rattle.template_ir.specs.declared.program.Routine.{Routine}
-use Rattle.render_core.specs.Frames.{FramesFit, MachineFits, call_after, call_of, machine_gives, means_before, ops_ahead}
+use Rattle.render_core.specs.Frames.{FramesFit, MachineFits, call_after, call_of, means_before, ops_ahead}
 use Rattle.render_core.specs.Frames.{over, past}
 use Rattle.render_core.specs.Stepping.{Silent, pending}
 use Rattle.render_core.specs.Variables.{Cell, cells_of, env_at}
 use Rattle.render_core.specs.declared.frame.Ahead.{Ahead}
-use Rattle.render_core.specs.declared.frame.Frame.{Frame}
 use Rattle.render_core.specs.declared.frame.Frame.TheVariants as frame
 use Rattle.render_core.specs.declared.frame.Handing.{Handing}
 use Rattle.render_core.specs.declared.stack.Machine.{Machine}

@@ -1,5 +1,5 @@
 -- Which block is taken, from one branch, case or value on to the next.
-use Rattle.std.proofs.Common.{◌≡◌, ℕ, zero, suc, ◌+◌, ◌<◌, ◌≤◌, Bool, true, false, List, [], ◌∷◌, Option, Some, None}
+use Rattle.std.proofs.Common.{◌≡◌, ℕ, zero, suc, ◌+◌, ◌<◌, ◌≤◌, Bool, true, false, List, [], ◌∷◌, Option, Some}
 use Rattle.std.proofs.Common.{length, map, drop, refl, sym, ap, ◌∙◌, arith, slice_index_or}
 use Rattle.std.proofs.Common.{rules, tests}
 use Rattle.std.specs.Prelude.{ℤ, pos, negsuc, if◌then◌else◌, bytes_eq}

@@ -1,7 +1,7 @@
 -- What the code finds, against what it stands for.
-use Rattle.std.proofs.Common.{◌≡◌, ℕ, zero, suc, ◌+◌, ◌-◌, ◌≤◌, ◌<◌, Bool, true, false, List, [], ◌∷◌, Option, Some}
+use Rattle.std.proofs.Common.{◌≡◌, ℕ, suc, ◌-◌, ◌≤◌, ◌<◌, Bool, true, false, List, [], ◌∷◌, Some}
 use Rattle.std.proofs.Common.{None}
-use Rattle.std.proofs.Common.{take, refl, sym, ap, ◌∙◌, arith, length, subst}
+use Rattle.std.proofs.Common.{take, refl, sym, ap, ◌∙◌, arith, subst}
 use Rattle.std.specs.Prelude.{if◌then◌else◌, bytes_eq}
 use Rattle.std.specs.List.{slice_get}
 use Rattle.soy_tree.specs.Types.{Name}
@@ -13,7 +13,7 @@ use Rattle.soy_tree.specs.Val.{Binding, BlockOf, Env, Known, binding, is_truthy,
 use Rattle.soy_tree.specs.Values.{Value, NullValue}
 use Rattle.soy_expr.specs.ForgottenBlocks.{forgotten, forgotten_env}
 use Rattle.soy_expr.proofs.Forgetting.{forgotten_cost, forgotten_val}
-use Rattle.soy_meaning.specs.Giving.{BoundBlock, RunEnv}
+use Rattle.soy_meaning.specs.Giving.{RunEnv}
 use Rattle.template_ir.specs.declared.program.ProgramParts.{ProgramParts}
 use Rattle.render_core.specs.Finds.{IsPlain, binding_at, bound_binding}
 use Rattle.render_core.specs.Variables.{Cell, bound_means, cell_at, cells_of, env_at, held_means, led, name_or_none}

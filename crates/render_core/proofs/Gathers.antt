@@ -1,6 +1,6 @@
 -- Texts that are gathered.
 use Rattle.std.proofs.Common.{◌≡◌, ℕ, ◌+◌, ◌≤◌, ◌<◌, pos, List, [], ◌∷◌, ◌++◌, Some, length, take, refl, sym}
-use Rattle.std.proofs.Common.{ap, ◌∙◌, append_assoc, arith, subst}
+use Rattle.std.proofs.Common.{ap, ◌∙◌, append_assoc, arith}
 use Rattle.std.specs.List.{slice_get}
 use Rattle.std.proofs.Math.Seq.{take-length}
 use Rattle.soy_base.specs.declared.kind.Kind.TheVariants as kind
@@ -8,41 +8,33 @@ use Rattle.soy_tree.specs.Types.{Name}
 use Rattle.soy_tree.specs.Val.{Known}
 use Rattle.soy_tree.specs.Values.{StringValue}
 use Rattle.soy_tree.specs.Values as values
-use Rattle.soy_expr.specs.declared.evaluated.Made.TheVariants as made
 use Rattle.soy_meaning.specs.Giving.{RunEnv}
 use Rattle.template_ir.specs.Run.{block_gives, one_step}
 use Rattle.template_ir.specs.declared.op.Block.{Block}
-use Rattle.template_ir.specs.declared.op.Op.{Op}
 use Rattle.template_ir.specs.declared.op.Op.TheVariants as op
 use Rattle.template_ir.specs.declared.program.ProgramParts.{ProgramParts}
-use Rattle.render_core.specs.Frames.{FramesFit, MachineFits, after_text, call_of, child_at, machine_gives, means_before}
-use Rattle.render_core.specs.Frames.{ops_ahead, over, past, past_with, shown_by, text_bound}
-use Rattle.render_core.specs.Stepping.{Silent, pending, text_var}
+use Rattle.render_core.specs.Frames.{FramesFit, MachineFits, after_text, child_at, means_before}
+use Rattle.render_core.specs.Frames.{ops_ahead, over, past}
+use Rattle.render_core.specs.Stepping.{Silent, pending}
 use Rattle.render_core.specs.Texts.{innermost, past_innermost}
-use Rattle.render_core.specs.Variables.{Cell, cells_of, env_at, name_or_none, name_there}
+use Rattle.render_core.specs.Variables.{Cell, cells_of, env_at}
 use Rattle.render_core.specs.declared.frame.Ahead.{Ahead}
 use Rattle.render_core.specs.declared.frame.Frame.{Frame}
 use Rattle.render_core.specs.declared.frame.Frame.TheVariants as frame
-use Rattle.render_core.specs.declared.frame.Handing.{Handing}
 use Rattle.render_core.specs.declared.frame.Purpose.{Purpose}
 use Rattle.render_core.specs.declared.frame.Purpose.TheVariants as purpose
 use Rattle.render_core.specs.declared.held.Bound.{Bound}
-use Rattle.render_core.specs.declared.held.Held.TheVariants as held
-use Rattle.render_core.specs.declared.held.Naming.TheVariants as naming
 use Rattle.render_core.specs.declared.stack.Machine.{Machine}
-use Rattle.render_core.proofs.Cells.{env_agree, env_more, get_end, take_end}
-use Rattle.render_core.proofs.Gives.{length_more, take_more}
 use Rattle.render_core.proofs.Lets.{named_by}
 use Rattle.render_core.proofs.Machines.{bound_by, entered}
 use Rattle.render_core.proofs.Moves.{fits_is, fits_top, machine_is}
 use Rattle.render_core.proofs.Ops.{block_within}
 use Rattle.render_core.proofs.Overs.{over_first}
 use Rattle.std.proofs.lemmas.List.{append-nil}
-use Rattle.html_state.specs.AfterPieces.{Piece, Static, Value}
+use Rattle.html_state.specs.AfterPieces.{Static, Value}
 use Rattle.soy_meaning.specs.Meaning.{joined_pieces}
-use Rattle.soy_meaning.specs.Outcome.{GivesPiece, Outcome, RunEnds, Spent, StopsAt, WholeRun, continued_by, gathered}
+use Rattle.soy_meaning.specs.Outcome.{GivesPiece, Outcome, RunEnds, StopsAt, WholeRun, continued_by, gathered}
 use Rattle.soy_meaning.specs.Outcome.{gives_nothing, pieces_of_outcome, spent_first}
-use Rattle.soy_meaning.specs.Outcome.{none_spent}
 use Rattle.soy_meaning.proofs.Outcomes.{first_followed, first_none, none_after}
 
 -- what is gathered and then goes on with the joined pieces is gathered before what goes on

@@ -1,38 +1,35 @@
 -- Steps that give something, and steps that bind.
-use Rattle.std.proofs.Common.{◌≡◌, ℕ, ℤ, zero, suc, ◌+◌, ◌-◌, ◌*◌, ◌≤◌, ◌<◌, pos, min, Bool, true, false, List, [], ◌∷◌}
+use Rattle.std.proofs.Common.{◌≡◌, ℕ, zero, suc, ◌+◌, ◌≤◌, ◌<◌, true, false, List, [], ◌∷◌}
 use Rattle.std.proofs.Common.{◌++◌}
-use Rattle.std.proofs.Common.{Option, Some, None, Result, Ok, Err, length, take, refl, sym, ap, ◌∙◌, arith, subst}
+use Rattle.std.proofs.Common.{Some, Result, Ok, Err, length, take, refl, sym, ap, ◌∙◌, arith, subst}
 use Rattle.std.specs.List.{slice_get}
-use Rattle.std.specs.Prelude.{encode_utf8_all}
 use Rattle.std.proofs.Math.Seq.{take-length}
 use Rattle.soy_base.specs.Cuts.{is_nil}
 use Rattle.soy_base.specs.declared.memory.OutOfMemory.{OutOfMemory}
 use Rattle.soy_base.specs.declared.place.Place.{Place}
 use Rattle.soy_base.specs.declared.place.ValueClass.{ValueClass}
-use Rattle.soy_tree.specs.Types.{Name}
 use Rattle.soy_tree.specs.Val.{Binding, BlockOf, Known}
 use Rattle.soy_tree.specs.Values as values
 use Rattle.soy_expr.specs.Evaluates.{IsWithin}
 use Rattle.html_state.specs.AfterPieces.{Piece, Static, Value}
 use Rattle.soy_meaning.specs.Giving.{BoundBlock, RunEnv, value_class}
-use Rattle.soy_meaning.specs.Outcome.{GivesPiece, Outcome, RunEnds, Spent, WholeRun, and_spent, continued_by}
+use Rattle.soy_meaning.specs.Outcome.{GivesPiece, Outcome, RunEnds, Spent, WholeRun, continued_by}
 use Rattle.soy_meaning.specs.Outcome.{gives_nothing}
 use Rattle.soy_meaning.specs.Outcome.{none_spent, spent_first}
 use Rattle.soy_meaning.proofs.Outcomes.{first_none, none_after}
-use Rattle.template_ir.specs.Run.{block_gives, one_step, print_gives, text_gives, value_gives}
+use Rattle.template_ir.specs.Run.{one_step, print_gives, text_gives}
 use Rattle.template_ir.specs.declared.op.Op.{Op}
 use Rattle.template_ir.specs.declared.program.ProgramParts.{ProgramParts}
 use Rattle.render_core.specs.Forms.{form_at}
 use Rattle.render_core.specs.Frames.{FramesFit, MachineFits, machine_gives, ops_ahead, over, past, past_with}
-use Rattle.render_core.specs.Rest.{PieceFits, first_spent, piece_bytes, piece_left, piece_text, source_text}
+use Rattle.render_core.specs.Rest.{first_spent, piece_bytes, piece_text, source_text}
 use Rattle.render_core.specs.Shows.{Shows, kept_child}
-use Rattle.render_core.specs.Stepping.{Binds, Does, GaveForm, Gives, Goes, GoesIn, IsSame, Silent, Stays, Stepped}
+use Rattle.render_core.specs.Stepping.{Binds, Does, GaveForm, Given, GoesIn, IsSame, Output, Silent}
+use Rattle.render_core.specs.Stepping.{Stays, Stepped, SteppedInto}
 use Rattle.render_core.specs.Stepping.{pending}
-use Rattle.render_core.specs.Stepping.{weight}
 use Rattle.render_core.specs.Texts.{added, is_none}
 use Rattle.render_core.specs.Variables.{cells_of, env_at, held_means, kept_means, name_or_none}
 use Rattle.render_core.specs.Variables.{name_there}
-use Rattle.render_core.specs.declared.begun.Begun.{Begun}
 use Rattle.render_core.specs.declared.frame.Ahead.{Ahead}
 use Rattle.render_core.specs.declared.frame.Frame.{Frame}
 use Rattle.render_core.specs.declared.frame.Frame.TheVariants as frame
@@ -45,7 +42,7 @@ use Rattle.render_core.specs.declared.showing.Source.{Source}
 use Rattle.render_core.specs.declared.stack.Machine.{Machine}
 use Rattle.render_core.specs.declared.stack.Step.{Step}
 use Rattle.render_core.specs.declared.stack.Step.TheVariants as step
-use Rattle.render_core.proofs.Cells.{env_more, take_end}
+use Rattle.render_core.proofs.Cells.{env_more}
 use Rattle.render_core.proofs.Machines.{bound_by, entered}
 use Rattle.render_core.proofs.Moves.{fits_is, fits_top, machine_is, op_spends, same_fits, same_gives, silent_in}
 use Rattle.render_core.proofs.Moves.{stays_in}
@@ -81,12 +78,21 @@ module _ (p : ProgramParts) (input : values.Value) where
 
   -- ---- a piece that is given
 
+  -- a step that gives nothing
+  pub quiet_step : (old new : Machine) (before after : ℕ) (out : Output) (result : Result Step OutOfMemory)
+      → Stepped p input old new before after result → SteppedInto p input old new before after out result
+  quiet_step old new before after out (Ok step.Silent) h = h
+  quiet_step old new before after out (Ok (step.Gives n)) h = absurd h
+  quiet_step old new before after out (Ok step.Done) h = h
+  quiet_step old new before after out (Ok (step.TooDeep call)) h = h
+  quiet_step old new before after out (Err e) h = h
+
   -- before a frame that fits
-  pub gave_next : (old new : Machine) (f : Ahead) (piece : Piece) (result : Result Step OutOfMemory)
+  pub gave_next : (old new : Machine) (f : Ahead) (piece : Piece) (out : Output) (result : Result Step OutOfMemory)
       → FramesFit (frame.Ops (past f) ∷ old.below) (length old.bound.items)
-      → GaveForm p input old new (frame.Ops (past f)) (piece_text piece) result
-      → Does p input old new f (GivesPiece none_spent piece gives_nothing) result
-  gave_next old new f piece (Ok step.Silent) fits h =
+      → GaveForm p input old new (frame.Ops (past f)) (piece_text piece) out result
+      → Does p input old new f (GivesPiece none_spent piece gives_nothing) out result
+  gave_next old new f piece out (Ok step.Silent) fits h =
       let fs : List Frame = frame.Ops (past f) ∷ old.below in
       record {
         gives =
@@ -98,7 +104,7 @@ module _ (p : ProgramParts) (input : values.Value) where
         fits = fits_is p input new (frame.Ops (past f)) old.below old.bound.items h.0 h.1 h.2 fits;
         quiet = ap (pending p) h.0;
       }
-  gave_next old new f piece (Ok (step.Gives b)) fits h =
+  gave_next old new f piece out (Ok (step.Gives n)) fits h =
       let fs : List Frame = frame.Ops (past f) ∷ old.below in (
         piece,
         over_none old.bound.items fs old.texts none_spent piece gives_nothing h.4
@@ -106,30 +112,30 @@ module _ (p : ProgramParts) (input : values.Value) where
             (sym (machine_is p input new (frame.Ops (past f)) old.below old.texts old.bound.items h.0 h.1 h.3 h.2)),
         fits_is p input new (frame.Ops (past f)) old.below old.bound.items h.0 h.1 h.2 fits,
         ap (pending p) h.0,
-        ap (λ (bs : List Bound). piece_left p input bs b) h.2 ∙ h.5,
-        subst (λ (bs : List Bound). PieceFits p input bs b) (sym h.2) h.6,
+        subst (λ (bs : List Bound). Given p input bs (piece_bytes piece) out n) (sym h.2) h.5,
       )
-  gave_next old new f piece (Ok step.Done) fits h = absurd h
-  gave_next old new f piece (Ok (step.TooDeep call)) fits h = absurd h
-  gave_next old new f piece (Err e) fits h = h
+  gave_next old new f piece out (Ok step.Done) fits h = absurd h
+  gave_next old new f piece out (Ok (step.TooDeep call)) fits h = absurd h
+  gave_next old new f piece out (Err e) fits h = h
 
-  pub gave_does : (old new : Machine) (f : Ahead) (piece : Piece) (result : Result Step OutOfMemory)
+  pub gave_does : (old new : Machine) (f : Ahead) (piece : Piece) (out : Output) (result : Result Step OutOfMemory)
       → old.top ≡ frame.Ops f → MachineFits old
-      → GaveForm p input old new (frame.Ops (past f)) (piece_text piece) result
-      → Does p input old new f (GivesPiece none_spent piece gives_nothing) result
-  gave_does old new f piece result top fits h =
-      gave_next old new f piece result (fits_top p input old (frame.Ops f) top fits) h
+      → GaveForm p input old new (frame.Ops (past f)) (piece_text piece) out result
+      → Does p input old new f (GivesPiece none_spent piece gives_nothing) out result
+  gave_does old new f piece out result top fits h =
+      gave_next old new f piece out result (fits_top p input old (frame.Ops f) top fits) h
 
   -- an op of this cost whose outcome is done
-  pub does_step : (old new : Machine) (f : Ahead) (o : Op) (c : ℕ) (x : Outcome) (before after : ℕ)
+  pub does_step : (old new : Machine) (f : Ahead) (o : Op) (c : ℕ) (x : Outcome) (before after : ℕ) (out : Output)
       (result : Result Step OutOfMemory) → old.top ≡ frame.Ops f → MachineFits old → slice_get p.ops f.at ≡ Some o
       → f.at < f.end
       → op_there p f.left f.at o f.number (env_at (cells_of p input old.bound.items) f.env)
       ≡ (spent_first (one_step c) x, env_at (cells_of p input old.bound.items) f.env)
-      → after ≡ before + c → Does p input old new f x result → Stepped p input old new before after result
-  does_step old new f o c x before after (Ok step.Silent) top fits is low means cost h =
+      → after ≡ before + c → Does p input old new f x out result
+      → SteppedInto p input old new before after out result
+  does_step old new f o c x before after out (Ok step.Silent) top fits is low means cost h =
       silent_in p input old new f o c x before after top is low means cost h
-  does_step old new f o c x before after (Ok (step.Gives b)) top fits is low means cost h =
+  does_step old new f o c x before after out (Ok (step.Gives n)) top fits is low means cost h =
       let quiet : pending p new.top ≡ 0 = h.3 in (
         one_step c,
         h.0,
@@ -143,11 +149,10 @@ module _ (p : ProgramParts) (input : values.Value) where
           fits = h.2;
         },
         h.4,
-        h.5,
       )
-  does_step old new f o c x before after (Ok step.Done) top fits is low means cost h = absurd h
-  does_step old new f o c x before after (Ok (step.TooDeep call)) top fits is low means cost h = absurd h
-  does_step old new f o c x before after (Err e) top fits is low means cost h =
+  does_step old new f o c x before after out (Ok step.Done) top fits is low means cost h = absurd h
+  does_step old new f o c x before after out (Ok (step.TooDeep call)) top fits is low means cost h = absurd h
+  does_step old new f o c x before after out (Err e) top fits is low means cost h =
       stays_in p input old new f o c x before after top is low means
       (let a : before ≤ after = omega (arith, cost) in let b : after ≤ before + c = omega (arith, cost) in (a, b)) fits
       h
@@ -193,17 +198,18 @@ module _ (p : ProgramParts) (input : values.Value) where
       }
 
   pub value_prints : (old new : Machine) (f : Ahead) (point : Place) (source : Source) (class : ValueClass) (n : ℕ)
-      (result : Result Step OutOfMemory) (b : Binding BoundBlock) → old.top ≡ frame.Ops f → MachineFits old
+      (out : Output) (result : Result Step OutOfMemory) (b : Binding BoundBlock) → old.top ≡ frame.Ops f → MachineFits old
       → GaveForm p input old new (frame.Ops (past f))
-      (form_at point class (source_text (cells_of p input old.bound.items) source) p.dir) result
+      (form_at point class (source_text (cells_of p input old.bound.items) source) p.dir) out result
       → Shows p (cells_of p input old.bound.items) n b (shown.Value source class)
-      → Does p input old new f (print_gives p.dir point b) result
-  value_prints old new f point source class n result (Known v) top fits gave h =
-      subst (λ (x : Outcome). Does p input old new f x result)
+      → Does p input old new f (print_gives p.dir point b) out result
+  value_prints old new f point source class n out result (Known v) top fits gave h =
+      subst (λ (x : Outcome). Does p input old new f x out result)
       (sym (shown_piece point v source class n old.bound.items h))
       (gave_does old new f
-      (Value (form_at point class (source_text (cells_of p input old.bound.items) source) p.dir)) result top fits gave)
-  value_prints old new f point source class n result (BlockOf block) top fits gave h = absurd h
+      (Value (form_at point class (source_text (cells_of p input old.bound.items) source) p.dir)) out result top fits
+      gave)
+  value_prints old new f point source class n out result (BlockOf block) top fits gave h = absurd h
 
   pub block_prints : (old new : Machine) (f : Ahead) (point : Place) (kept : Kept) (b : Binding BoundBlock)
       → old.top ≡ frame.Ops f → MachineFits old

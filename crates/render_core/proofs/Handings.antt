@@ -14,13 +14,11 @@ use Rattle.soy_tree.specs.Values as values
 use Rattle.soy_tree.specs.ViewExpressions.{view_expr}
 use Rattle.soy_tree.specs.declared.expr.Expr as code_expr
 use Rattle.soy_expr.specs.Evaluates.{IsWithin}
-use Rattle.soy_meaning.specs.FrameRun.{bound_as}
-use Rattle.soy_meaning.specs.Giving.{BoundBlock, RunEnv, with_cost}
-use Rattle.soy_meaning.specs.Meaning.{joined_pieces}
+use Rattle.soy_meaning.specs.Giving.{BoundBlock, RunEnv}
 use Rattle.soy_meaning.specs.Outcome.{GivesPiece, Outcome, RunEnds, Spent, WholeRun, and_spent, continued_by, gathered}
-use Rattle.soy_meaning.specs.Outcome.{gives_nothing, none_spent, pieces_of_outcome, spent_first}
+use Rattle.soy_meaning.specs.Outcome.{none_spent, spent_first}
 use Rattle.soy_meaning.proofs.Outcomes.{first_none}
-use Rattle.template_ir.specs.Run.{OpMeans, block_gives, bound_gives, handed_binding, handed_gives, one_step}
+use Rattle.template_ir.specs.Run.{OpMeans, block_gives, handed_binding, handed_gives}
 use Rattle.template_ir.specs.ViewOps.{view_by}
 use Rattle.template_ir.specs.declared.op.Block.{Block}
 use Rattle.template_ir.specs.declared.op.Callee.{Callee}
@@ -32,12 +30,12 @@ use Rattle.template_ir.specs.declared.op.Op.TheVariants as op
 use Rattle.template_ir.specs.declared.program.ProgramParts.{ProgramParts}
 use Rattle.render_core.specs.Calling.{Hands, callee_of, given_at}
 use Rattle.render_core.specs.Finds.{found_means, held_of}
-use Rattle.render_core.specs.Frames.{FramesFit, MachineFits, after_text, call_of, child_at, frame_gives, machine_gives}
+use Rattle.render_core.specs.Frames.{FramesFit, MachineFits, call_of, child_at, frame_gives, machine_gives}
 use Rattle.render_core.specs.Frames.{means_before, over}
 use Rattle.render_core.specs.Rest.{first_spent}
 use Rattle.render_core.specs.Stepping.{IsBlockKind, IsSame, Silent, Stays, given_count, handed_past, kept_of, pending}
 use Rattle.render_core.specs.Stepping.{weight}
-use Rattle.render_core.specs.Variables.{Cell, cells_of, env_at, handed_name, held_means, kept_means, name_or_none}
+use Rattle.render_core.specs.Variables.{Cell, cells_of, env_at, handed_name, held_means, name_or_none}
 use Rattle.render_core.specs.Variables.{handed_of, name_there, of_op}
 use Rattle.render_core.specs.declared.frame.Ahead.{Ahead}
 use Rattle.render_core.specs.declared.frame.Frame.TheVariants as frame

@@ -1,15 +1,13 @@
 -- The end of a frame.
-use Rattle.std.proofs.Common.{◌≡◌, ℕ, zero, suc, ◌+◌, ◌-◌, ◌*◌, ◌≤◌, ◌<◌, min, max, List, [], ◌∷◌, ◌++◌, Option, Some, None}
+use Rattle.std.proofs.Common.{◌≡◌, ℕ, zero, suc, ◌+◌, ◌≤◌, ◌<◌, List, [], ◌∷◌}
 use Rattle.std.proofs.Common.{length, take, refl, sym, ap, ◌∙◌, arith, subst}
 use Rattle.std.specs.List.{slice_get}
 use Rattle.std.proofs.lemmas.List.{length-take-le}
 use Rattle.soy_tree.specs.Values as values
-use Rattle.soy_meaning.specs.Outcome.{Outcome, RunEnds, Spent, WholeRun, continued_by, gathered, gives_nothing, spent_first}
-use Rattle.soy_meaning.specs.Outcome.{none_spent}
+use Rattle.soy_meaning.specs.Outcome.{Outcome, RunEnds, WholeRun, continued_by, gives_nothing, spent_first}
 use Rattle.soy_meaning.proofs.Outcomes.{first_none}
 use Rattle.template_ir.specs.Run.{one_step}
 use Rattle.template_ir.specs.declared.op.Op.{Op}
-use Rattle.template_ir.specs.declared.op.Op.TheVariants as op
 use Rattle.template_ir.specs.declared.program.ProgramParts.{ProgramParts}
 use Rattle.render_core.specs.Frames.{FramesFit, IsPlainFrame, MachineFits, ended, frame_gives, frame_over, machine_gives}
 use Rattle.render_core.specs.Frames.{mark_of, over, texts_past}
@@ -21,7 +19,7 @@ use Rattle.render_core.specs.declared.frame.Purpose.{Purpose}
 use Rattle.render_core.specs.declared.frame.Purpose.TheVariants as purpose
 use Rattle.render_core.specs.declared.held.Bound.{Bound}
 use Rattle.render_core.specs.declared.stack.Machine.{Machine}
-use Rattle.render_core.proofs.Moves.{fits_is, fits_top, machine_is}
+use Rattle.render_core.proofs.Moves.{fits_is, machine_is}
 use Rattle.render_core.proofs.Overs.{over_first}
 
 -- ---- what is pending

@@ -1,5 +1,5 @@
 -- What lets mean.
-use Rattle.std.proofs.Common.{◌≡◌, ℕ, ℤ, pos, min, List, [], ◌∷◌, Option, Some, None, refl, sym, ap, ◌∙◌, subst}
+use Rattle.std.proofs.Common.{◌≡◌, ℕ, pos, List, ◌∷◌, Option, Some, refl, sym, ap, ◌∙◌}
 use Rattle.std.specs.List.{slice_get}
 use Rattle.soy_base.specs.declared.kind.Kind.{Kind}
 use Rattle.soy_base.specs.declared.kind.Kind.TheVariants as kind
@@ -12,8 +12,7 @@ use Rattle.soy_tree.specs.declared.expr.Expr as code_expr
 use Rattle.soy_meaning.specs.FrameRun.{bound_as}
 use Rattle.soy_meaning.specs.Giving.{BoundBlock, RunEnv}
 use Rattle.soy_meaning.specs.Outcome.{Outcome, RunEnds, WholeRun, spent_first}
-use Rattle.template_ir.specs.Run.{all_give, block_gives, bound_gives, one_step}
-use Rattle.template_ir.specs.ViewOps.{view_program}
+use Rattle.template_ir.specs.Run.{block_gives, bound_gives, one_step}
 use Rattle.template_ir.specs.declared.op.Block.{Block}
 use Rattle.template_ir.specs.declared.op.Op.{Op}
 use Rattle.template_ir.specs.declared.op.Op.TheVariants as op

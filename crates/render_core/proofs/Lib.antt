@@ -3,7 +3,6 @@ mod Calls
 mod Cells
 mod Choices
 mod Conditions
-mod Fills
 mod Finds
 mod Forms
 mod Gathers

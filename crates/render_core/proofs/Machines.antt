@@ -1,32 +1,27 @@
 -- Steps of the machine, by lists: what stands above a stack of frames, and what the stack gives then.
-use Rattle.std.proofs.Common.{◌≡◌, ℕ, ℤ, zero, suc, ◌+◌, ◌-◌, ◌*◌, ◌≤◌, ◌<◌, min, List, [], ◌∷◌, ◌++◌, Option, Some}
-use Rattle.std.proofs.Common.{None}
-use Rattle.std.proofs.Common.{length, take, refl, sym, ap, ◌∙◌, arith, subst}
+use Rattle.std.proofs.Common.{◌≡◌, ℕ, zero, suc, ◌<◌, List, [], ◌∷◌, Option, Some}
+use Rattle.std.proofs.Common.{take, refl, ap, ◌∙◌, arith}
 use Rattle.std.specs.List.{slice_get}
-use Rattle.html_state.specs.AfterPieces.{Piece}
 use Rattle.soy_tree.specs.Values as values
 use Rattle.soy_meaning.specs.Giving.{RunEnv}
-use Rattle.soy_meaning.specs.Outcome.{GivesPiece, Outcome, Spent, continued_by, gathered, gives_nothing, spent_first}
-use Rattle.soy_meaning.proofs.Outcomes.{first_followed, first_none, followed_joined}
-use Rattle.template_ir.specs.Run.{one_step}
+use Rattle.soy_meaning.specs.Outcome.{Outcome, continued_by, gives_nothing}
+use Rattle.soy_meaning.proofs.Outcomes.{first_none}
 use Rattle.template_ir.specs.declared.op.Op.{Op}
 use Rattle.template_ir.specs.declared.program.ProgramParts.{ProgramParts}
-use Rattle.render_core.specs.Frames.{FrameWithin, FramesFit, after_text, call_of, frame_gives, frame_over, mark_of}
+use Rattle.render_core.specs.Frames.{FrameWithin, after_text, call_of, frame_gives}
 use Rattle.render_core.specs.Frames.{over}
-use Rattle.render_core.specs.Frames.{PurposeWithin, ops_ahead, past, shown_by, text_bound, texts_past, turns_of}
+use Rattle.render_core.specs.Frames.{PurposeWithin, ops_ahead, past, shown_by, text_bound, turns_of}
 use Rattle.template_ir.specs.declared.op.Op.TheVariants as op
 use Rattle.render_core.specs.declared.frame.Round.{Round}
 use Rattle.render_core.specs.Variables.{Cell, cell_at, cells_of, env_at}
 use Rattle.render_core.specs.declared.frame.Ahead.{Ahead}
 use Rattle.render_core.specs.declared.frame.Frame.{Frame}
 use Rattle.render_core.specs.declared.frame.Frame.TheVariants as frame
-use Rattle.render_core.specs.declared.frame.Handing.{Handing}
 use Rattle.render_core.specs.declared.frame.Purpose.{Purpose}
 use Rattle.render_core.specs.declared.frame.Purpose.TheVariants as purpose
 use Rattle.render_core.specs.declared.held.Bound.{Bound}
-use Rattle.render_core.proofs.Cells.{cell_agree, env_agree, take_end}
-use Rattle.render_core.proofs.Ops.{ahead_op, op_there, take_twice}
-use Rattle.render_core.proofs.Overs.{over_first, over_piece, over_text}
+use Rattle.render_core.proofs.Cells.{cell_agree, env_agree}
+use Rattle.render_core.proofs.Ops.{ahead_op, op_there}
 
 module _ (p : ProgramParts) (input : values.Value) where
   -- an op that leaves the variables: it comes before its frame past it

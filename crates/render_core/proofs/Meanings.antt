@@ -1,28 +1,25 @@
 -- What ops mean: what they cost, and what they give then.
-use Rattle.std.proofs.Common.{◌≡◌, ℕ, ℤ, ◌+◌, ◌≤◌, pos, Bool, true, false, List, [], ◌∷◌, Option, Some, None, map, refl}
+use Rattle.std.proofs.Common.{◌≡◌, ℕ, ℤ, ◌+◌, pos, Bool, true, false, List, [], ◌∷◌, Option, Some, None, map, refl}
 use Rattle.std.proofs.Common.{sym}
 use Rattle.std.proofs.Common.{ap, ◌∙◌, arith}
-use Rattle.std.specs.Prelude.{if◌then◌else◌, ◌-ℤ◌}
+use Rattle.std.specs.Prelude.{if◌then◌else◌}
 use Rattle.soy_tree.specs.Cost.{cost}
 use Rattle.soy_tree.specs.Val.{is_truthy, val}
 use Rattle.soy_tree.specs.ViewExpressions.{view_expr}
 use Rattle.soy_tree.specs.declared.expr.Expr as code_expr
 use Rattle.soy_tree.specs.Values as values
-use Rattle.soy_meaning.specs.Branch.{int_of, word_of}
 use Rattle.soy_meaning.specs.Giving.{RunEnv, with_cost}
 use Rattle.soy_meaning.specs.Outcome.{Outcome, Spent, spent_first}
 use Rattle.soy_meaning.specs.Pieces.{is_one, valued}
 use Rattle.soy_meaning.proofs.Outcomes.{first_none, first_twice}
 use Rattle.template_ir.specs.Ops.{Branch, Choice}
-use Rattle.template_ir.specs.Run.{OpMeans, arm_gives, block_gives, branches_give, choices_give, one_step, plural_block}
-use Rattle.template_ir.specs.Run.{rest_gives, select_block}
-use Rattle.template_ir.specs.ViewOps.{view_branch, view_choice, view_program}
+use Rattle.template_ir.specs.Run.{OpMeans, arm_gives, block_gives, branches_give, choices_give, one_step}
+use Rattle.template_ir.specs.Run.{rest_gives}
+use Rattle.template_ir.specs.ViewOps.{view_branch, view_choice}
 use Rattle.template_ir.specs.declared.op.Block.{Block}
 use Rattle.template_ir.specs.declared.op.Branch as code_branch
 use Rattle.template_ir.specs.declared.op.Choice as code_choice
 use Rattle.template_ir.specs.declared.op.Op.TheVariants as op
-use Rattle.template_ir.specs.declared.op.PluralOp as code_plural
-use Rattle.template_ir.specs.declared.op.SelectOp as code_select
 use Rattle.template_ir.specs.declared.program.ProgramParts.{ProgramParts}
 use Rattle.render_core.specs.Chosen.{added_cost, branch_chosen, choice_chosen}
 use Rattle.render_core.specs.Frames.{means_before}

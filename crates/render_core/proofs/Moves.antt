@@ -1,21 +1,19 @@
 -- Steps of the machine: from what an op means to what its step does.
-use Rattle.std.proofs.Common.{◌≡◌, ℕ, ℤ, zero, suc, ◌+◌, ◌-◌, ◌*◌, ◌≤◌, ◌<◌, min, List, [], ◌∷◌, ◌++◌, Option, Some}
-use Rattle.std.proofs.Common.{None}
-use Rattle.std.proofs.Common.{length, take, refl, sym, ap, ◌∙◌, arith, subst}
+use Rattle.std.proofs.Common.{◌≡◌, ℕ, ℤ, ◌+◌, ◌≤◌, ◌<◌, List, ◌∷◌, Some}
+use Rattle.std.proofs.Common.{length, refl, sym, ap, ◌∙◌, arith, subst}
 use Rattle.std.specs.List.{slice_get}
 use Rattle.std.proofs.Math.Seq.{take-length}
 use Rattle.soy_expr.specs.Evaluates.{IsWithin}
 use Rattle.soy_tree.specs.Values as values
-use Rattle.soy_meaning.specs.Giving.{RunEnv}
-use Rattle.soy_meaning.specs.Outcome.{GivesPiece, Outcome, RunEnds, Spent, gives_nothing, spent_first}
-use Rattle.template_ir.specs.Run.{arm_gives, block_gives, one_step}
+use Rattle.soy_meaning.specs.Outcome.{GivesPiece, Outcome, RunEnds, gives_nothing, spent_first}
+use Rattle.template_ir.specs.Run.{block_gives, one_step}
 use Rattle.template_ir.specs.declared.op.Block.{Block}
 use Rattle.template_ir.specs.declared.op.Op.{Op}
 use Rattle.template_ir.specs.declared.program.ProgramParts.{ProgramParts}
-use Rattle.render_core.specs.Frames.{FramesFit, MachineFits, child_at, frame_gives, machine_gives, means_before}
-use Rattle.render_core.specs.Frames.{ops_ahead, over, past}
+use Rattle.render_core.specs.Frames.{FramesFit, MachineFits, child_at, machine_gives, means_before}
+use Rattle.render_core.specs.Frames.{over, past}
 use Rattle.render_core.specs.Rest.{first_spent}
-use Rattle.render_core.specs.Stepping.{Goes, GoesIn, IsSame, Silent, Stays, pending, weight}
+use Rattle.render_core.specs.Stepping.{GoesIn, IsSame, Silent, Stays, pending}
 use Rattle.render_core.specs.Variables.{cells_of, env_at}
 use Rattle.render_core.specs.declared.frame.Ahead.{Ahead}
 use Rattle.render_core.specs.declared.frame.Frame.{Frame}

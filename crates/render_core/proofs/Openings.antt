@@ -1,5 +1,5 @@
 -- The print of a text that was gathered, and the opening of a call: what comes before the frame past the op.
-use Rattle.std.proofs.Common.{◌≡◌, ℕ, zero, suc, ◌+◌, ◌-◌, ◌*◌, ◌≤◌, ◌<◌, pos, List, [], ◌∷◌, ◌++◌, Option, Some, None}
+use Rattle.std.proofs.Common.{◌≡◌, ℕ, suc, ◌+◌, ◌-◌, ◌*◌, ◌≤◌, ◌<◌, List, [], ◌∷◌, ◌++◌, Option, Some, None}
 use Rattle.std.proofs.Common.{Result, Ok, Err}
 use Rattle.std.proofs.Common.{length, take, refl, sym, ap, ◌∙◌, arith, subst}
 use Rattle.std.specs.List.{slice_get}
@@ -14,12 +14,12 @@ use Rattle.soy_tree.specs.Val.{value_text}
 use Rattle.soy_tree.specs.Values.{NullValue, StringValue}
 use Rattle.soy_tree.specs.Values as values
 use Rattle.soy_meaning.specs.Giving.{RunEnv}
-use Rattle.soy_meaning.specs.Outcome.{GivesPiece, Outcome, RunEnds, Spent, StopsAt, WholeRun, continued_by}
+use Rattle.soy_meaning.specs.Outcome.{GivesPiece, Outcome, RunEnds, StopsAt, WholeRun, continued_by}
 use Rattle.soy_meaning.specs.Outcome.{end_of_outcome}
-use Rattle.soy_meaning.specs.Outcome.{gathered, gives_nothing, none_spent, pieces_of_outcome, spent_first}
+use Rattle.soy_meaning.specs.Outcome.{gathered, none_spent, pieces_of_outcome, spent_first}
 use Rattle.soy_meaning.specs.Plan.{Site}
-use Rattle.soy_meaning.proofs.Outcomes.{first_followed, first_none, none_after}
-use Rattle.template_ir.specs.Run.{all_give, block_gives, called_at, kind_of_template, one_step, opened_gives, value_at}
+use Rattle.soy_meaning.proofs.Outcomes.{first_followed, first_none}
+use Rattle.template_ir.specs.Run.{called_at, kind_of_template, one_step, opened_gives, value_at}
 use Rattle.template_ir.specs.Run.{value_gives}
 use Rattle.template_ir.specs.ViewOps.{view_callee, view_program, view_routine}
 use Rattle.template_ir.specs.declared.op.Callee.{Callee}
@@ -32,11 +32,11 @@ use Rattle.render_core.specs.Forms.{form_at}
 use Rattle.render_core.specs.Frames.{FramesFit, IsPlainFrame, MachineFits, call_of, call_place, frame_gives}
 use Rattle.render_core.specs.Frames.{machine_gives}
 use Rattle.render_core.specs.Frames.{mark_of, ops_ahead, over, past, shown_by, text_bound}
-use Rattle.render_core.specs.Pulls.{stops_at}
 use Rattle.render_core.specs.Shows.{ShowsValue}
-use Rattle.render_core.specs.Stepping.{Does, GaveForm, GoesIn, IsBlockKind, IsSame, Silent, Stays, Stepped, pending}
+use Rattle.render_core.specs.Stepping.{Does, GaveForm, GoesIn, IsBlockKind, Output, Stepped}
+use Rattle.render_core.specs.Stepping.{SteppedInto, output, pending}
 use Rattle.render_core.specs.Stepping.{weight}
-use Rattle.render_core.specs.Variables.{Cell, cells_of, env_at}
+use Rattle.render_core.specs.Variables.{cells_of, env_at}
 use Rattle.render_core.specs.declared.frame.Ahead.{Ahead}
 use Rattle.render_core.specs.declared.frame.Frame.{Frame}
 use Rattle.render_core.specs.declared.frame.Frame.TheVariants as frame
@@ -115,10 +115,11 @@ module _ (p : ProgramParts) (input : values.Value) where
       ∙ ap (λ (o : Outcome). over p input (take f.mark old.bound.items) old.below old.texts o) gives))
 
   -- a step that does it
-  pub does_after : (old new : Machine) (f : Ahead) (x : Outcome) (n : ℕ) (result : Result Step OutOfMemory)
+  pub does_after : (old new : Machine) (f : Ahead) (x : Outcome) (n : ℕ) (out : Output) (result : Result Step OutOfMemory)
       → machine_gives p input old ≡ over p input old.bound.items (frame.Ops (past f) ∷ old.below) old.texts x
-      → 0 < pending p old.top → MachineFits old → Does p input old new f x result → Stepped p input old new n n result
-  does_after old new f x n (Ok step.Silent) is some fits goes =
+      → 0 < pending p old.top → MachineFits old → Does p input old new f x out result
+      → SteppedInto p input old new n n out result
+  does_after old new f x n out (Ok step.Silent) is some fits goes =
       let quiet : pending p new.top ≡ 0 = goes.quiet in
       let less : pending p new.top < pending p old.top = omega (arith, quiet, some) in (
         none_spent,
@@ -129,7 +130,7 @@ module _ (p : ProgramParts) (input : values.Value) where
           fits = goes.fits;
         },
       )
-  does_after old new f x n (Ok (step.Gives b)) is some fits h =
+  does_after old new f x n out (Ok (step.Gives k)) is some fits h =
       let quiet : pending p new.top ≡ 0 = h.3 in
       let less : pending p new.top < pending p old.top = omega (arith, quiet, some) in (
         none_spent,
@@ -141,20 +142,19 @@ module _ (p : ProgramParts) (input : values.Value) where
           fits = h.2;
         },
         h.4,
-        h.5,
       )
-  does_after old new f x n (Ok step.Done) is some fits h = absurd h
-  does_after old new f x n (Ok (step.TooDeep call)) is some fits h = absurd h
-  does_after old new f x n (Err e) is some fits same = same_stays p input old new n same fits
+  does_after old new f x n out (Ok step.Done) is some fits h = absurd h
+  does_after old new f x n out (Ok (step.TooDeep call)) is some fits h = absurd h
+  does_after old new f x n out (Err e) is some fits same = same_stays p input old new n same fits
 
   -- ---- the print of a text
 
   pub show_gives : (old new : Machine) (f : Ahead) (at n : ℕ) (text : List ℕ) (point : Place)
-      (result : Result Step OutOfMemory) → old.top ≡ frame.Show f at → MachineFits old
+      (out : Output) (result : Result Step OutOfMemory) → old.top ≡ frame.Show f at → MachineFits old
       → point ≡ call_place (slice_get p.ops f.at) → text ≡ text_bound (slice_get old.bound.items at)
-      → GaveForm p input old new (frame.Ops (past f)) (value_at p.dir point (StringValue text)) result
-      → Stepped p input old new n n result
-  show_gives old new f at n text point result top fits place shown gave =
+      → GaveForm p input old new (frame.Ops (past f)) (value_at p.dir point (StringValue text)) out result
+      → SteppedInto p input old new n n out result
+  show_gives old new f at n text point out result top fits place shown gave =
       let text_is : value_gives p.dir point (StringValue text)
       ≡ value_gives p.dir (call_place (slice_get p.ops f.at))
       (StringValue (text_bound (slice_get old.bound.items at))) =
@@ -165,11 +165,11 @@ module _ (p : ProgramParts) (input : values.Value) where
       let one : pending p old.top ≡ 1 = ap (pending p) top in
       let old_fits : FramesFit (frame.Show f at ∷ old.below) (length old.bound.items) =
       fits_top p input old (frame.Show f at) top fits in
-      does_after old new f x n result
+      does_after old new f x n out result
       (opened_over old f (frame.Show f at) x top tt refl
       (ap (λ (o : Outcome). continued_by o (ops_ahead p (past f) env)) (sym text_is)))
       (omega (arith, one)) fits
-      (gave_next p input old new f (Value (value_at p.dir point (StringValue text))) result
+      (gave_next p input old new f (Value (value_at p.dir point (StringValue text))) out result
       (old_fits.0.1, old_fits.1, old_fits.2) gave)
 
   -- ---- a call whose parameters are handed
@@ -211,35 +211,36 @@ module _ (p : ProgramParts) (input : values.Value) where
 
   -- null is given
   pub null_given : (old new : Machine) (f g : Ahead) (point : Place) (text : List ℕ) (class : ValueClass)
-      (result : Result Step OutOfMemory) → g ≡ past f → ShowsValue NullValue text class
-      → GaveForm p input old new (frame.Ops g) (form_at point class text p.dir) result
-      → GaveForm p input old new (frame.Ops (past f)) (value_at p.dir point NullValue) result
-  null_given old new f g point text class result is shows gave =
-      subst (λ (h : Ahead). GaveForm p input old new (frame.Ops h) (value_at p.dir point NullValue) result) is
+      (out : Output) (result : Result Step OutOfMemory) → g ≡ past f → ShowsValue NullValue text class
+      → GaveForm p input old new (frame.Ops g) (form_at point class text p.dir) out result
+      → GaveForm p input old new (frame.Ops (past f)) (value_at p.dir point NullValue) out result
+  null_given old new f g point text class out result is shows gave =
+      subst (λ (h : Ahead). GaveForm p input old new (frame.Ops h) (value_at p.dir point NullValue) out result) is
       (subst (λ (k : ValueClass). GaveForm p input old new (frame.Ops g) (form_at point k (value_text NullValue) p.dir)
-      result)
+      out result)
       shows.1
-      (subst (λ (t : List ℕ). GaveForm p input old new (frame.Ops g) (form_at point class t p.dir) result) shows.0
+      (subst (λ (t : List ℕ). GaveForm p input old new (frame.Ops g) (form_at point class t p.dir) out result) shows.0
       gave))
 
   -- of a template that there isn't
-  pub none_opens : (old new : Machine) (f : Ahead) (h : Handing) (c : Callee) (n : ℕ) (result : Result Step OutOfMemory)
-      → Opens p old f h c → slice_get p.templates c.template ≡ None
-      → GaveForm p input old new (frame.Ops (past f)) (value_at p.dir c.place NullValue) result
-      → Stepped p input old new n n result
-  none_opens old new f h c n result opens none gave =
+  pub none_opens : (old new : Machine) (f : Ahead) (h : Handing) (c : Callee) (n : ℕ) (out : Output)
+      (result : Result Step OutOfMemory) → Opens p old f h c → slice_get p.templates c.template ≡ None
+      → GaveForm p input old new (frame.Ops (past f)) (value_at p.dir c.place NullValue) out result
+      → SteppedInto p input old new n n out result
+  none_opens old new f h c n out result opens none gave =
       let inner : RunEnv = env_at (cells_of p input old.bound.items) h.inner in
       let kind_is : kind_of_template (view_program p) c.template ≡ None =
       ap kind_seen (get_map_none view_routine p.templates c.template none) in
       let fits = call_fits old f h c opens in
       let low : f.env ≤ length old.bound.items = (let w = fits.0 in omega (arith, w)) in
-      does_after old new f (value_gives p.dir c.place NullValue) n result
+      does_after old new f (value_gives p.dir c.place NullValue) n out result
       (call_opens old f h c opens
       ∙ ap (λ (k : Option Kind). over p input old.bound.items (frame.Ops (past f) ∷ old.below) old.texts
       (opened_gives p.dir c.place k
       (called_at (view_program p) f.left (view_callee c).site c.template inner))) kind_is)
       (call_pending old f h c opens) opens.fits
-      (gave_next p input old new f (Value (value_at p.dir c.place NullValue)) result (low, fits.1, fits.2) gave)
+      (gave_next p input old new f (Value (value_at p.dir c.place NullValue)) out result
+      (low, fits.1, fits.2) gave)
 
   -- too deep
   pub stop_opens : (old : Machine) (f : Ahead) (h : Handing) (c : Callee) (r : Routine) (n : ℕ) → Opens p old f h c
@@ -325,7 +326,7 @@ module _ (p : ProgramParts) (input : values.Value) where
   block_opens old new f h c r n opens kinds top below texts bound =
       does_after old new f
       (opened_outcome old f h c)
-      n (Ok step.Silent) (call_opens old f h c opens.opens) (call_pending old f h c opens.opens) opens.opens.fits
+      n (output [] [] None) (Ok step.Silent) (call_opens old f h c opens.opens) (call_pending old f h c opens.opens) opens.opens.fits
       (block_enters old new f h c r opens kinds top below texts bound)
 
   text_enters : (old new : Machine) (f : Ahead) (h : Handing) (c : Callee) (r : Routine) → OpensRoutine p old f h c r
@@ -378,5 +379,5 @@ module _ (p : ProgramParts) (input : values.Value) where
   text_opens old new f h c r n opens text top below texts bound =
       does_after old new f
       (opened_outcome old f h c)
-      n (Ok step.Silent) (call_opens old f h c opens.opens) (call_pending old f h c opens.opens) opens.opens.fits
+      n (output [] [] None) (Ok step.Silent) (call_opens old f h c opens.opens) (call_pending old f h c opens.opens) opens.opens.fits
       (text_enters old new f h c r opens text top below texts bound)

@@ -1,11 +1,11 @@
 -- The next op of a frame, and the end of one.
-use Rattle.std.proofs.Common.{◌≡◌, ℕ, ℤ, zero, suc, ◌+◌, ◌-◌, ◌≤◌, ◌<◌, ◌⊎◌, inl, inr, min, List, [], ◌∷◌, ◌++◌, Option}
-use Rattle.std.proofs.Common.{Some, None, length, map, take, drop, refl, sym, ap, ◌∙◌, arith}
+use Rattle.std.proofs.Common.{◌≡◌, ℕ, ℤ, zero, suc, ◌-◌, ◌≤◌, ◌<◌, ◌⊎◌, inl, inr, min, List, [], ◌∷◌, ◌++◌}
+use Rattle.std.proofs.Common.{Some, None, map, take, drop, refl, ap, ◌∙◌, arith}
 use Rattle.std.specs.List.{slice_get}
 use Rattle.soy_meaning.specs.Giving.{RunEnv}
-use Rattle.soy_meaning.specs.Outcome.{Outcome, RunEnds, WholeRun, continued_by}
-use Rattle.template_ir.specs.Run.{OpMeans, all_give, block_gives, called_at, one_step, op_gives, ops_give, part_of}
-use Rattle.template_ir.specs.Table.{table, table_from}
+use Rattle.soy_meaning.specs.Outcome.{RunEnds, WholeRun, continued_by}
+use Rattle.template_ir.specs.Run.{OpMeans, all_give, block_gives, called_at, one_step, op_gives, ops_give}
+use Rattle.template_ir.specs.Table.{table_from}
 use Rattle.template_ir.specs.ViewOps.{view_op, view_program}
 use Rattle.template_ir.specs.declared.op.Block.{Block}
 use Rattle.template_ir.specs.declared.op.Op.{Op}

@@ -1,11 +1,11 @@
 -- Pulls, from what the machine does.
-use Rattle.std.proofs.Common.{◌≡◌, ℕ, zero, suc, ◌+◌, ◌≤◌, ◌<◌, ◌⊎◌, inl, inr, min, Bool, true, false, List, [], ◌∷◌}
+use Rattle.std.proofs.Common.{◌≡◌, ℕ, ◌≤◌, ◌<◌, ◌⊎◌, inl, inr, Bool, true, false, List, [], ◌∷◌}
 use Rattle.std.proofs.Common.{◌++◌, Option}
 use Rattle.std.proofs.Common.{Some, None, Result, Ok, Err, length, take, drop, refl, sym, ap, ◌∙◌, arith, subst}
 use Rattle.std.proofs.Common.{append_assoc}
 use Rattle.std.specs.Prelude.{IfOk, ◌==◌, encode_utf8_all}
 use Rattle.std.proofs.lemmas.Bool.Decides.{nat_tests}
-use Rattle.std.proofs.lemmas.List.{length-take-le, nil_from_length, take-append-drop, take-append-le, take_all}
+use Rattle.std.proofs.lemmas.List.{length-take-le, take-append-drop, take-append-le, take_all}
 use Rattle.std.proofs.lemmas.Str.{encodes-append}
 use Rattle.html_state.specs.AfterPieces.{Piece, Static, Value}
 use Rattle.soy_base.specs.declared.fault.TooDeep.{TooDeep}
@@ -13,20 +13,17 @@ use Rattle.soy_base.specs.declared.memory.Refusal.{Refusal}
 use Rattle.soy_base.specs.declared.memory.Refusal.TheVariants as refusal
 use Rattle.soy_tree.specs.Values as values
 use Rattle.soy_meaning.specs.Meaning.{joined_pieces}
-use Rattle.soy_meaning.specs.Outcome.{GivesPiece, Outcome, RunEnd, StopsAt, WholeRun, end_of_outcome, pieces_of_outcome}
-use Rattle.soy_meaning.specs.Outcome.{spent_first}
-use Rattle.render_core.specs.Pulls.{AtEnd, Begun, Fresh, Gave, Idle, Next, Pulls, Refused, stops_at}
+use Rattle.soy_meaning.specs.Outcome.{Outcome, WholeRun, end_of_outcome, pieces_of_outcome}
+use Rattle.render_core.specs.Pulls.{Begun, Fresh, Gave, Next, Pulls, Refused, stops_at}
 use Rattle.template_ir.specs.declared.program.ProgramParts.{ProgramParts}
 use Rattle.render_core.specs.Frames.{MachineFits}
-use Rattle.render_core.specs.Rest.{BegunFits, DoneFits, Fits, IsWhole, LeftOf, PieceFits, Rest, begun_left, coming}
-use Rattle.render_core.specs.Rest.{piece_bytes, piece_left}
-use Rattle.render_core.specs.Rest.{piece_text, rest_bytes, rest_end, rest_of}
-use Rattle.render_core.specs.Stepping.{Advanced, Left, NextPiece}
+use Rattle.render_core.specs.Rest.{BegunFits, DoneFits, Fits, IsWhole, Rest, begun_left, coming}
+use Rattle.render_core.specs.Rest.{piece_bytes}
+use Rattle.render_core.specs.Rest.{rest_bytes, rest_end, rest_of}
+use Rattle.render_core.specs.Stepping.{Advanced, IsSpared, Left, output}
 use Rattle.render_core.specs.declared.begun.Begun as code_begun
-use Rattle.render_core.specs.declared.held.Bound.{Bound}
 use Rattle.render_core.specs.declared.rendering.Rendering.{Rendering}
-use Rattle.render_core.specs.declared.stack.Machine.{Machine}
-use Rattle.render_core.proofs.Wents.{end_first, pieces_first}
+use Rattle.render_core.proofs.Wents.{end_first}
 
 -- the bytes of pieces, one after the other
 encodes_piece : (piece : Piece) (pieces : List Piece)
@@ -164,34 +161,11 @@ is_empty n e = grind (arith, nat_tests)
 pub isnt_empty : (n : ℕ) → (n == 0) ≡ false → 0 < n
 isnt_empty n e = grind (arith, nat_tests)
 
-pulls_begun : (left : List ℕ) (old new : Rest) (d e : Bool) (room room_after : List ℕ) (b a : ℕ)
-    (result : Result ℕ (Refusal TooDeep)) → 0 < length left → Begun old new d e room room_after b a result
-    → Pulls left old new d e room room_after b a result
-pulls_begun [] old new d e room room_after b a result some h = absurd (omega arith)
-pulls_begun (c ∷ left) old new d e room room_after b a result some h = h
-
 done_whole : (d : Bool) (piece : Option code_begun.Begun) (o : Outcome) → DoneFits d piece o → d ≡ true → IsWhole o
 done_whole true piece o fits e = fits.1
 done_whole false piece o fits e = cc
 
-not_done : (d : Bool) (piece : code_begun.Begun) (o : Outcome) → DoneFits d (Some piece) o → d ≡ false
-not_done true piece o fits = let e : Some piece ≡ None = fits.0 in cc
-not_done false piece o fits = refl
-
 module _ (p : ProgramParts) (input : values.Value) where
-  -- what is left of a piece is left once it is put back, if it is
-  pub left_same : (bound : List Bound) (piece : code_begun.Begun) (r : Option code_begun.Begun) → LeftOf piece r
-      → PieceFits p input bound piece → begun_left p input bound r ≡ piece_left p input bound piece
-  left_same bound piece (Some same) left fits = ap (piece_left p input bound) left.0
-  left_same bound piece None left fits =
-      sym (nil_from_length (piece_left p input bound piece) (left p input bound fits))
-
-  pub left_fits : (bound : List Bound) (piece : code_begun.Begun) (r : Option code_begun.Begun) → LeftOf piece r
-      → PieceFits p input bound piece → BegunFits p input bound r
-  left_fits bound piece (Some same) left fits =
-      subst (λ (b : code_begun.Begun). BegunFits p input bound (Some b)) (sym left.0) (fits, left.1 p input bound fits)
-  left_fits bound piece None left fits = tt
-
   pub ended_whole : (r : Rendering) → Fits p input r → r.done ≡ true → IsWhole (coming p input r.machine)
   ended_whole r fits e = done_whole r.done r.piece (coming p input r.machine) fits.done e
 
@@ -209,127 +183,81 @@ module _ (p : ProgramParts) (input : values.Value) where
   none_left : (r : Rendering) → r.piece ≡ None → (rest_of p input r).begun ≡ []
   none_left r e = ap (λ (b : Option code_begun.Begun). begun_left p input r.machine.bound.items b) e
 
-  -- more of a piece that has begun
-  pub begun_pulls : (old new : Rendering) (piece : code_begun.Begun) (room room_after : List ℕ) (n steps : ℕ)
-      → old.piece ≡ Some piece → Fits p input old
-      → Gave (piece_left p input old.machine.bound.items piece) (begun_left p input new.machine.bound.items new.piece)
-      room
-      room_after n
-      → BegunFits p input new.machine.bound.items new.piece → new.machine ≡ old.machine → new.done ≡ old.done
-      → Fits p input new
-      × Pulls (rest_of p input old).begun (rest_of p input old) (rest_of p input new) old.done new.done room room_after
-      steps steps (Ok n)
-  begun_pulls old new piece room room_after n steps is fits gave begun machine done =
-      let here : BegunFits p input old.machine.bound.items (Some piece) =
-      subst (λ (b : Option code_begun.Begun). BegunFits p input old.machine.bound.items b) is fits.piece in
-      let left : (rest_of p input old).begun ≡ piece_left p input old.machine.bound.items piece =
-      ap (λ (b : Option code_begun.Begun). begun_left p input old.machine.bound.items b) is in
-      let open_yet : old.done ≡ false =
-      not_done old.done piece (coming p input old.machine)
-      (subst (λ (b : Option code_begun.Begun). DoneFits old.done b (coming p input old.machine)) is fits.done) in (
-        fits_by new (subst MachineFits (sym machine) fits.machine) begun (done ∙ open_yet),
-        pulls_begun (rest_of p input old).begun (rest_of p input old) (rest_of p input new) old.done new.done room
-            room_after
-            steps steps (Ok n) (subst (λ (bs : List ℕ). 0 < length bs) (sym left) here.1) (
-              subst (λ (bs : List ℕ). Gave bs (begun_left p input new.machine.bound.items new.piece) room room_after n)
-                  (sym left) gave,
-              ap (coming p input) machine,
-              done,
-              refl,
-            ),
-      )
-
   -- the next piece
-  pub next_pulls : (old new : Rendering) (mid : Machine) (piece : code_begun.Begun) (room room_after : List ℕ)
-      (before after n : ℕ) → old.done ≡ false → 0 < length room → NextPiece p input old.machine mid before after piece
-      → Gave (piece_left p input mid.bound.items piece) (begun_left p input new.machine.bound.items new.piece) room
-      room_after n
-      → BegunFits p input new.machine.bound.items new.piece → new.machine ≡ mid → new.done ≡ old.done
+  pub next_pulls : (old new : Rendering) (room room_after : List ℕ) (before after n : ℕ) → old.done ≡ false
+      → 0 < length room
+      → Advanced p input old.machine new.machine before after (output room room_after new.piece) (Ok (Some n))
+      → new.done ≡ old.done
       → Fits p input new
       × Fresh (rest_of p input old) (rest_of p input new) old.done new.done room room_after before after (Ok n)
-  next_pulls old new mid piece room room_after before after n open_yet some next gave begun machine done = (
-    fits_by new (subst MachineFits (sym machine) next.fits) begun (done ∙ open_yet),
+  next_pulls old new room room_after before after n open_yet some next done = (
+    fits_by new next.fits next.given.1 (done ∙ open_yet),
     inr (inl (record {
       spent = next.spent;
       piece = next.piece;
-      is =
-          next.same ∙ ap (λ (m : Machine). GivesPiece next.spent next.piece (coming p input m)) (sym machine);
+      is = next.same;
       some = next.some;
       has_room = some;
       done = done;
       cost = next.cost;
-      gave =
-          subst (λ (bs : List ℕ). Gave bs (begun_left p input new.machine.bound.items new.piece) room room_after n)
-          next.bytes gave;
+      gave = next.given.0;
     })),
   )
 
   -- the end
-  pub end_pulls : (old new : Rendering) (room : List ℕ) (before after : ℕ) → old.done ≡ false → 0 < length room
-      → Advanced p input old.machine new.machine before after (Ok None) → new.piece ≡ None → new.done ≡ true
+  pub end_pulls : (old new : Rendering) (room room_after : List ℕ) (before after : ℕ) → old.done ≡ false
+      → 0 < length room
+      → Advanced p input old.machine new.machine before after (output room room_after new.piece) (Ok None)
+      → new.done ≡ true
       → Fits p input new
-      × Fresh (rest_of p input old) (rest_of p input new) old.done new.done room room before after (Ok 0)
-  end_pulls old new room before after open_yet some h none done = (
+      × Fresh (rest_of p input old) (rest_of p input new) old.done new.done room room_after before after (Ok 0)
+  end_pulls old new room room_after before after open_yet some h done = (
     record {
-      machine = h.0.fits;
-      piece = none_fits new none;
-      done = subst (λ (d : Bool). DoneFits d new.piece (coming p input new.machine)) (sym done) (none, h.2);
+      machine = h.1.fits;
+      piece = none_fits new h.0.1;
+      done = subst (λ (d : Bool). DoneFits d new.piece (coming p input new.machine)) (sym done) (h.0.1, h.3);
     },
     inr (inr (record {
       none = refl;
       has_room = some;
-      unchanged = refl;
-      begun = none_left new none;
-      old_whole = h.1;
-      new_whole = h.2;
+      unchanged = h.0.0;
+      begun = none_left new h.0.1;
+      old_whole = h.2;
+      new_whole = h.3;
       was_open = open_yet;
       is_done = done;
-      low = h.0.low;
-      high = h.0.high;
+      low = h.1.low;
+      high = h.1.high;
     })),
   )
 
-  refused : (old new : Rendering) (room : List ℕ) (before after : ℕ) → 0 < length room
-      → Left p input old.machine new.machine before after → new.piece ≡ None → new.done ≡ old.done
-      → Refused (rest_of p input old) (rest_of p input new) old.done new.done room room before after
-  refused old new room before after some h none done = record {
+  refused : (old new : Rendering) (room room_after : List ℕ) (before after : ℕ) → 0 < length room
+      → IsSpared (output room room_after new.piece) → Left p input old.machine new.machine before after
+      → new.done ≡ old.done
+      → Refused (rest_of p input old) (rest_of p input new) old.done new.done room room_after before after
+  refused old new room room_after before after some spared h done = record {
     has_room = some;
-    unchanged = refl;
+    unchanged = spared.0;
     spent = h.spent;
     same = h.same;
-    begun = none_left new none;
+    begun = none_left new spared.1;
     done = done;
     low = h.low;
     high = h.high;
   }
 
   -- a refusal
-  pub refused_pulls : (old new : Rendering) (room : List ℕ) (before after : ℕ) (r : Refusal TooDeep) → old.done ≡ false
-      → 0 < length room → Advanced p input old.machine new.machine before after (Err r) → new.piece ≡ None
+  pub refused_pulls : (old new : Rendering) (room room_after : List ℕ) (before after : ℕ) (r : Refusal TooDeep)
+      → old.done ≡ false → 0 < length room
+      → Advanced p input old.machine new.machine before after (output room room_after new.piece) (Err r)
       → new.done ≡ old.done
       → Fits p input new
-      × Fresh (rest_of p input old) (rest_of p input new) old.done new.done room room before after (Err r)
-  refused_pulls old new room before after (refusal.Because call) open_yet some h none done = (
-    fits_by new h.0.fits (none_fits new none) (done ∙ open_yet),
-    (refused old new room before after some h.0 none done, h.1, h.2),
+      × Fresh (rest_of p input old) (rest_of p input new) old.done new.done room room_after before after (Err r)
+  refused_pulls old new room room_after before after (refusal.Because call) open_yet some h done = (
+    fits_by new h.1.fits (none_fits new h.0.1) (done ∙ open_yet),
+    (refused old new room room_after before after some h.0 h.1 done, h.2, h.3),
   )
-  refused_pulls old new room before after refusal.OutOfMemory open_yet some h none done = (
-    fits_by new h.fits (none_fits new none) (done ∙ open_yet),
-    (refused old new room before after some h none done, open_yet),
+  refused_pulls old new room room_after before after refusal.OutOfMemory open_yet some h done = (
+    fits_by new h.1.fits (none_fits new h.0.1) (done ∙ open_yet),
+    (refused old new room room_after before after some h.0 h.1 done, open_yet),
   )
-
-  -- where no piece has begun
-  pub fresh_pulls : (old mid new : Rendering) (room room_after : List ℕ) (before after : ℕ)
-      (result : Result ℕ (Refusal TooDeep)) → old.piece ≡ None → rest_of p input mid ≡ rest_of p input old
-      → mid.done ≡ old.done
-      → Fresh (rest_of p input mid) (rest_of p input new) mid.done new.done room room_after before after result
-      → Pulls (rest_of p input old).begun (rest_of p input old) (rest_of p input new) old.done new.done room room_after
-      before after result
-  fresh_pulls old mid new room room_after before after result none rest done h =
-      subst (λ (left : List ℕ). Pulls left (rest_of p input old) (rest_of p input new) old.done new.done room
-      room_after before
-      after result) (sym (none_left old none))
-      (subst (λ (d : Bool). Fresh (rest_of p input old) (rest_of p input new) d new.done room room_after before after
-      result) done
-      (subst (λ (r : Rest). Fresh r (rest_of p input new) mid.done new.done room room_after before after result) rest
-      h))

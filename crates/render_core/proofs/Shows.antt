@@ -1,10 +1,8 @@
 -- What is printed of values, as an operator sees them.
-use Rattle.std.proofs.Common.{◌≡◌, ℕ, List, refl}
+use Rattle.std.proofs.Common.{ℕ, List}
 use Rattle.soy_base.specs.declared.place.ValueClass.{ValueClass}
-use Rattle.soy_tree.specs.Val.{value_text}
 use Rattle.soy_tree.specs.Values.{Value, BoolValue, IntValue, ListValue, MapValue, NullValue, RecordValue, StringValue}
 use Rattle.soy_expr.specs.ViewShallow.{shallow_value}
-use Rattle.soy_meaning.specs.Giving.{value_class}
 use Rattle.render_core.specs.Shows.{ShowsValue}
 
 pub shows_seen : (v : Value) (text : List ℕ) (kind : ValueClass) → ShowsValue (shallow_value v) text kind

@@ -1,5 +1,5 @@
 -- What is seen at a point that is made of a machine.
-use Rattle.std.proofs.Common.{◌≡◌, ℕ, Bool, List, Result, length, refl, ap, ◌∙◌, subst}
+use Rattle.std.proofs.Common.{◌≡◌, ℕ, Bool, List, Result, length, ap, ◌∙◌, subst}
 use Rattle.soy_base.specs.declared.memory.OutOfMemory.{OutOfMemory}
 use Rattle.soy_tree.specs.Cost.{cost}
 use Rattle.soy_tree.specs.Expressions.{Expr}

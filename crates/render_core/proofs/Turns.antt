@@ -1,7 +1,7 @@
 -- Loops and their turns.
 use Rattle.std.proofs.Common.{◌≡◌, ℕ, zero, suc, ◌+◌, ◌≤◌, ◌<◌, pos, Bool, true, false, List, [], ◌∷◌, ◌++◌}
 use Rattle.std.proofs.Common.{Option, Some, None, append_assoc, length, take, refl, sym, ap, ◌∙◌, arith, subst}
-use Rattle.std.specs.Prelude.{if◌then◌else◌, is_some}
+use Rattle.std.specs.Prelude.{is_some}
 use Rattle.std.specs.List.{slice_get}
 use Rattle.soy_tree.specs.Types.{Name}
 use Rattle.soy_tree.specs.Cost.{cost}
@@ -13,18 +13,16 @@ use Rattle.soy_tree.specs.Values as values
 use Rattle.soy_expr.specs.Parts.{child}
 use Rattle.soy_expr.specs.declared.evaluated.Made.TheVariants as made
 use Rattle.soy_meaning.specs.Giving.{BoundBlock, RunEnv}
-use Rattle.soy_meaning.specs.Outcome.{Outcome, RunEnds, WholeRun, continued_by, gives_nothing, spent_first}
+use Rattle.soy_meaning.specs.Outcome.{Outcome, RunEnds, WholeRun, continued_by, spent_first}
 use Rattle.soy_meaning.specs.Pieces.{listed_items, with_index}
-use Rattle.soy_meaning.proofs.Outcomes.{first_none}
-use Rattle.template_ir.specs.Run.{all_give, block_gives, one_step, turns_give}
-use Rattle.template_ir.specs.ViewOps.{view_program}
+use Rattle.template_ir.specs.Run.{block_gives, one_step, turns_give}
 use Rattle.template_ir.specs.declared.op.Block.{Block}
 use Rattle.template_ir.specs.declared.op.Op.{Op}
 use Rattle.template_ir.specs.declared.op.Op.TheVariants as op
 use Rattle.template_ir.specs.declared.program.ProgramParts.{ProgramParts}
 use Rattle.soy_tree.specs.declared.expr.Expr as code_expr
 use Rattle.render_core.specs.Finds.{HasItem, found_means, held_of}
-use Rattle.render_core.specs.Frames.{FramesFit, IsPlainFrame, MachineFits, frame_gives, items_after, machine_gives}
+use Rattle.render_core.specs.Frames.{FramesFit, IsPlainFrame, MachineFits, frame_gives, items_after}
 use Rattle.render_core.specs.Frames.{means_before, ops_ahead}
 use Rattle.render_core.specs.Frames.{over, past, turns_of}
 use Rattle.render_core.specs.Rounds.{IsLoopOver, IsNoLoop, LoopAt, first_round, index_bound, item_bound, list_bound}
@@ -37,7 +35,6 @@ use Rattle.render_core.specs.declared.frame.Frame.{Frame}
 use Rattle.render_core.specs.declared.frame.Frame.TheVariants as frame
 use Rattle.render_core.specs.declared.frame.Round.{Round}
 use Rattle.render_core.specs.declared.held.Bound.{Bound}
-use Rattle.render_core.specs.declared.held.Held.TheVariants as held
 use Rattle.render_core.specs.declared.held.Naming.TheVariants as naming
 use Rattle.render_core.specs.declared.stack.Machine.{Machine}
 use Rattle.render_core.specs.declared.valuing.Found.{Found}

@@ -4,18 +4,16 @@ use Rattle.std.proofs.Common.{true, false, arith, drop, length, slice_index_or}
 use Rattle.std.specs.List.{slice_get}
 use Rattle.std.specs.Prelude.{bytes_eq, unwrap_or}
 use Rattle.soy_tree.specs.Has.{entry_value}
-use Rattle.std.specs.Option.{option_map}
-use Rattle.std.specs.Borrow.{Bor}
 use Rattle.soy_tree.specs.Types.{Name}
-use Rattle.soy_tree.specs.Values.{Items, Value, ListValue, NullValue, item, no_item}
+use Rattle.soy_tree.specs.Values.{Value, ListValue, NullValue, item, no_item}
 use Rattle.soy_tree.specs.Val.{item_value}
-use Rattle.soy_tree.specs.ViewValues.{view_entries, view_entry, view_items, view_value}
+use Rattle.soy_tree.specs.ViewValues.{view_entries, view_items, view_value}
 use Rattle.soy_tree.specs.declared.value.Entry as code_entry
 use Rattle.soy_tree.specs.declared.value.Value as code
 use Rattle.soy_expr.specs.Parts.{child, nth_entry_value}
 use Rattle.soy_expr.proofs.PartRows.{entry_nth, item_none, item_some, view_entry_is}
 use Rattle.render_core.proofs.Conditions.{if_true}
-use Rattle.render_core.specs.Finds.{HasItem, part_value}
+use Rattle.render_core.specs.Finds.{HasItem}
 use Rattle.render_core.specs.Frames.{items_after}
 use Rattle.render_core.specs.Variables.{led}
 

@@ -1,7 +1,7 @@
 -- Steps up to a piece.
-use Rattle.std.proofs.Common.{◌≡◌, ℕ, zero, suc, ◌+◌, ◌-◌, ◌*◌, ◌≤◌, ◌<◌, List, [], ◌∷◌, Option, Some, None, Result, Ok, Err, length}
+use Rattle.std.proofs.Common.{◌≡◌, ℕ, ◌+◌, ◌*◌, ◌≤◌, ◌<◌, List, [], ◌∷◌, Option, Some, None, Ok, Err, length}
 use Rattle.std.proofs.Common.{refl, sym, ap, ◌∙◌, arith, subst}
-use Rattle.std.specs.Prelude.{encode_utf8_all}
+use Rattle.std.specs.Prelude.{◌++◌, drop, encode_utf8_all, take}
 use Rattle.std.proofs.Math.Nat.{add-mul}
 use Rattle.std.proofs.lemmas.List.{nil_from_length}
 use Rattle.std.proofs.lemmas.Str.{length-le-encodes}
@@ -10,18 +10,19 @@ use Rattle.soy_base.specs.declared.fault.TooDeep.{TooDeep}
 use Rattle.soy_base.specs.declared.memory.OutOfMemory.{OutOfMemory}
 use Rattle.soy_base.specs.declared.memory.Refusal.TheVariants as refusal
 use Rattle.soy_tree.specs.Values as values
-use Rattle.soy_meaning.specs.Outcome.{GivesPiece, Outcome, RunEnd, RunEnds, Spent, and_spent, end_of_outcome, none_spent}
+use Rattle.soy_meaning.specs.Outcome.{GivesPiece, Outcome, RunEnds, Spent, and_spent, end_of_outcome, none_spent}
 use Rattle.soy_meaning.specs.Outcome.{pieces_of_outcome, spent_first}
 use Rattle.soy_meaning.proofs.Outcomes.{first_none, first_twice}
 use Rattle.template_ir.specs.declared.program.ProgramParts.{ProgramParts}
 use Rattle.render_core.specs.Frames.{MachineFits, machine_gives}
-use Rattle.render_core.specs.Pulls.{stops_at}
-use Rattle.render_core.specs.Rest.{IsWhole, PieceFits, coming, first_spent, piece_bytes, piece_left, piece_text, solid}
+use Rattle.render_core.specs.Pulls.{Gave}
+use Rattle.render_core.specs.Rest.{BegunFits, IsWhole, begun_left, coming, first_spent, piece_bytes, piece_text, solid}
 use Rattle.render_core.specs.Rest.{solid_piece}
-use Rattle.render_core.specs.Stepping.{Advanced, Goes, Left, NextPiece, Stays, Stepped, Went, pending, weight}
+use Rattle.render_core.specs.Stepping.{Advanced, Gives, IsSpared, Left, NextPiece, Output, Stays, Stepped, Went}
+use Rattle.render_core.specs.Stepping.{pending, weight}
 use Rattle.render_core.specs.declared.begun.Begun.{Begun}
+use Rattle.render_core.specs.declared.held.Bound.{Bound}
 use Rattle.render_core.specs.declared.stack.Machine.{Machine}
-use Rattle.render_core.specs.declared.stack.Step.{Step}
 use Rattle.render_core.specs.declared.stack.Step.TheVariants as step
 use Rattle.render_core.proofs.Overs.{solid_first}
 
@@ -74,7 +75,32 @@ cost_solid : (o : Outcome) → (first_spent o).cost ≤ (first_spent (solid o)).
 cost_solid (RunEnds s e) = omega arith
 cost_solid (GivesPiece s piece o) = cost_solid_piece s piece (piece_text piece) (solid o)
 
+-- ---- what is given
+
+none_length : (left after room room_after : List ℕ) (n : ℕ) → Gave left after room room_after n → 0 < length room
+    → n ≡ 0 → length left ≡ 0
+none_length left after room room_after n gave some none = let size = gave.size in omega (arith, size, some, none)
+
+some_length : (left after room room_after : List ℕ) (n : ℕ) → Gave left after room room_after n → 0 < n
+    → 0 < length left
+some_length left after room room_after n gave some = let size = gave.size in omega (arith, size, some)
+
+none_room : (left after room room_after : List ℕ) (n : ℕ) → Gave left after room room_after n → n ≡ 0
+    → room_after ≡ room
+none_room left after room room_after n gave none =
+    gave.given ∙ ap (λ k. take k left ++ drop k room) none
+
+none_after : (left after room room_after : List ℕ) (n : ℕ) → Gave left after room room_after n → 0 < length room
+    → n ≡ 0 → length after ≡ 0
+none_after left after room room_after n gave some none =
+    ap length (gave.begun ∙ ap (λ k. drop k left) none) ∙ none_length left after room room_after n gave some none
+
 module _ (p : ProgramParts) (input : values.Value) where
+  none_begun : (bound : List Bound) (b : Option Begun) → length (begun_left p input bound b) ≡ 0
+      → BegunFits p input bound b → b ≡ None
+  none_begun bound None none fits = refl
+  none_begun bound (Some piece) none fits = let some = fits.1 in absurd (omega (arith, none, some))
+
   -- what a step leads to: so much is left of the work
   abbrev pub measure : Machine → ℕ
   measure m = (first_spent (coming p input m)).work * weight p + pending p m.top
@@ -119,28 +145,34 @@ module _ (p : ProgramParts) (input : values.Value) where
       → measure new < measure mid
   silent_falls mid new m a s = less s.0 mid new (silent_coming mid new m a s) s.1.falls
 
-  empty_coming : (mid new : Machine) (m a : ℕ) (piece : Begun) (s : Stepped p input mid new m a (Ok (step.Gives piece)))
-      → length (piece_left p input new.bound.items piece) ≡ 0
-      → coming p input mid ≡ spent_first s.0 (coming p input new)
-  empty_coming mid new m a piece s none =
+  empty_coming : (mid new : Machine) (m a : ℕ) (out : Output) (n : ℕ) (s : Gives p input mid new m a out n)
+      → 0 < length out.room → n ≡ 0 → coming p input mid ≡ spent_first s.0 (coming p input new)
+  empty_coming mid new m a out n s some none =
       ap solid s.2.same
-      ∙ solid_empty s.0 s.1 (machine_gives p input new) (ap length (sym s.3) ∙ none)
+      ∙ solid_empty s.0 s.1 (machine_gives p input new) (none_length (piece_bytes s.1) _ out.room out.room_after n s.3.0 some none)
 
-  pub went_empty : (old mid new : Machine) (b m a : ℕ) (piece : Begun) → Went p input old mid b m
-      → Stepped p input mid new m a (Ok (step.Gives piece)) → length (piece_left p input new.bound.items piece) ≡ 0
-      → Went p input old new b a
-  went_empty old mid new b m a piece went s none =
-      further old mid new b m a s.0 went s.2.cost (empty_coming mid new m a piece s none) s.2.fits
+  pub went_empty : (old mid new : Machine) (b m a : ℕ) (out : Output) (n : ℕ) → Went p input old mid b m
+      → Gives p input mid new m a out n → 0 < length out.room → n ≡ 0 → Went p input old new b a
+  went_empty old mid new b m a out n went s some none =
+      further old mid new b m a s.0 went s.2.cost (empty_coming mid new m a out n s some none) s.2.fits
 
-  pub empty_falls : (mid new : Machine) (m a : ℕ) (piece : Begun) → Stepped p input mid new m a (Ok (step.Gives piece))
-      → length (piece_left p input new.bound.items piece) ≡ 0 → measure new < measure mid
-  empty_falls mid new m a piece s none = less s.0 mid new (empty_coming mid new m a piece s none) s.2.falls
+  pub empty_falls : (mid new : Machine) (m a : ℕ) (out : Output) (n : ℕ) → Gives p input mid new m a out n
+      → 0 < length out.room → n ≡ 0 → measure new < measure mid
+  empty_falls mid new m a out n s some none =
+      less s.0 mid new (empty_coming mid new m a out n s some none) s.2.falls
 
-  pub went_gives : (old mid new : Machine) (b m a : ℕ) (piece : Begun) → Went p input old mid b m
-      → Stepped p input mid new m a (Ok (step.Gives piece)) → 0 < length (piece_left p input new.bound.items piece)
-      → Advanced p input old new b a (Ok (Some piece))
-  went_gives old mid new b m a piece went s some =
-      let full : 0 < length (piece_bytes s.1) = subst (λ (bs : List ℕ). 0 < length bs) s.3 some in
+  -- a piece without bytes leaves nothing, and does nothing to the room
+  pub empty_spares : (mid new : Machine) (m a : ℕ) (out : Output) (n : ℕ) → Gives p input mid new m a out n
+      → 0 < length out.room → n ≡ 0 → IsSpared out
+  empty_spares mid new m a out n s some none = (
+    none_room (piece_bytes s.1) _ out.room out.room_after n s.3.0 none,
+    none_begun new.bound.items out.begun (none_after (piece_bytes s.1) _ out.room out.room_after n s.3.0 some none) s.3.1,
+  )
+
+  pub went_gives : (old mid new : Machine) (b m a : ℕ) (out : Output) (n : ℕ) → Went p input old mid b m
+      → Gives p input mid new m a out n → 0 < n → NextPiece p input old new b a out n
+  went_gives old mid new b m a out n went s some =
+      let full : 0 < length (piece_bytes s.1) = some_length (piece_bytes s.1) _ out.room out.room_after n s.3.0 some in
       record {
         spent = and_spent went.spent s.0;
         piece = s.1;
@@ -149,9 +181,8 @@ module _ (p : ProgramParts) (input : values.Value) where
         cost =
             (let c = went.cost in let d = s.2.cost in let e : a ≡ b + (went.spent.cost + s.0.cost) = omega (arith, c, d) in e);
         fits = s.2.fits;
-        bytes = s.3;
         some = full;
-        begun = s.4;
+        given = s.3;
       }
 
   left : (old mid new : Machine) (b m a : ℕ) → Went p input old mid b m → Stays p input mid new m a
@@ -186,19 +217,24 @@ module _ (p : ProgramParts) (input : values.Value) where
       ∙ (end_first went.spent (coming p input mid)
       ∙ ap end_of_outcome (solid_none (machine_gives p input mid) none))
 
-  pub went_done : (old mid new : Machine) (b m a : ℕ) → Went p input old mid b m
-      → Stepped p input mid new m a (Ok step.Done) → Advanced p input old new b a (Ok None)
-  went_done old mid new b m a went s =
+  pub went_done : (old mid new : Machine) (b m a : ℕ) (out : Output) → Went p input old mid b m → IsSpared out
+      → Stepped p input mid new m a (Ok step.Done) → Advanced p input old new b a out (Ok None)
+  went_done old mid new b m a out went spared s =
       let whole : IsWhole (coming p input old) =
       (pieces_went old mid new b m went s.1.0, end_went old mid new b m went s.1.0 ∙ s.1.1) in
       let plain : coming p input mid ≡ machine_gives p input mid = solid_none (machine_gives p input mid) s.1.0 in
-      (left old mid new b m a went s.0, whole, subst IsWhole (sym (ap solid s.0.same ∙ plain)) s.1)
+      (spared, left old mid new b m a went s.0, whole, subst IsWhole (sym (ap solid s.0.same ∙ plain)) s.1)
 
-  pub went_deep : (old mid new : Machine) (b m a : ℕ) (call : TooDeep) → Went p input old mid b m
-      → Stepped p input mid new m a (Ok (step.TooDeep call)) → Advanced p input old new b a (Err (refusal.Because call))
-  went_deep old mid new b m a call went s =
-      (left old mid new b m a went s.0, pieces_went old mid new b m went s.1, end_went old mid new b m went s.1 ∙ s.2)
+  pub went_deep : (old mid new : Machine) (b m a : ℕ) (call : TooDeep) (out : Output) → Went p input old mid b m
+      → IsSpared out → Stepped p input mid new m a (Ok (step.TooDeep call))
+      → Advanced p input old new b a out (Err (refusal.Because call))
+  went_deep old mid new b m a call out went spared s = (
+    spared,
+    left old mid new b m a went s.0,
+    pieces_went old mid new b m went s.1,
+    end_went old mid new b m went s.1 ∙ s.2,
+  )
 
-  pub went_memory : (old mid new : Machine) (b m a : ℕ) (e : OutOfMemory) → Went p input old mid b m
-      → Stepped p input mid new m a (Err e) → Advanced p input old new b a (Err refusal.OutOfMemory)
-  went_memory old mid new b m a e went s = left old mid new b m a went s
+  pub went_memory : (old mid new : Machine) (b m a : ℕ) (e : OutOfMemory) (out : Output) → Went p input old mid b m
+      → IsSpared out → Stepped p input mid new m a (Err e) → Advanced p input old new b a out (Err refusal.OutOfMemory)
+  went_memory old mid new b m a e out went spared s = (spared, left old mid new b m a went s)

@@ -4,8 +4,8 @@
 -- first; those below a frame see the variables up to its mark. What stands above a frame that gathers is gathered into
 -- a text, which is bound, printed or handed there. Example: above the op `Static "b"` a frame with the op `Static "a"`
 -- gives `a` and then `b`.
-use Rattle.std.specs.Prelude.{◌≡◌, ℕ, ℤ, zero, suc, ◌+◌, ◌-◌, ◌*◌, ◌≤◌, ◌<◌, pos, List, [], ◌∷◌, Option, Some, None}
-use Rattle.std.specs.Prelude.{drop, length, map, max, min, slice_get, take}
+use Rattle.std.specs.Prelude.{ℕ, ℤ, zero, suc, ◌+◌, ◌≤◌, ◌<◌, pos, List, [], ◌∷◌, Option, Some, None}
+use Rattle.std.specs.Prelude.{drop, length, min, slice_get, take}
 use Rattle.soy_base.specs.declared.place.Place.{Place}
 use Rattle.soy_base.specs.declared.place.Place.TheVariants as place
 use Rattle.soy_tree.specs.Val.{Known}

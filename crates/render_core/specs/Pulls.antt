@@ -6,19 +6,15 @@
 -- pieces and the end: the counter rises by at most the cost of the next piece, or of the end where there is none, and
 -- that cost is then at most what it was. What lies in the room behind the bytes that are given is unchanged.
 -- Example: of `ab` a pull into a room of one byte gives `a`.
-use Rattle.std.specs.Prelude.{◌≡◌, ℕ, ◌+◌, ◌≤◌, ◌<◌, ◌⊎◌, Bool, true, false, List, [], ◌++◌, Option, Some, None}
+use Rattle.std.specs.Prelude.{◌≡◌, ℕ, ◌+◌, ◌≤◌, ◌<◌, ◌⊎◌, Bool, true, false, List, [], ◌++◌}
 use Rattle.std.specs.Prelude.{Result, Ok, Err, drop, length, min, take}
 use Rattle.html_state.specs.AfterPieces.{Piece}
 use Rattle.soy_base.specs.declared.fault.TooDeep.{TooDeep}
 use Rattle.soy_base.specs.declared.memory.Refusal.{Refusal}
 use Rattle.soy_base.specs.declared.memory.Refusal.TheVariants as refusal
-use Rattle.soy_tree.specs.Values as values
-use Rattle.soy_meaning.specs.Outcome.{GivesPiece, Outcome, RunEnd, Spent, StopsAt, end_of_outcome, pieces_of_outcome}
+use Rattle.soy_meaning.specs.Outcome.{GivesPiece, RunEnd, Spent, StopsAt, end_of_outcome, pieces_of_outcome}
 use Rattle.soy_meaning.specs.Outcome.{spent_first}
-use Rattle.soy_meaning.specs.Plan.{Site}
-use Rattle.template_ir.specs.declared.program.ProgramParts.{ProgramParts}
-use Rattle.render_core.specs.Rest.{Fits, IsWhole, Rest, first_spent, piece_bytes, rest_of}
-use Rattle.render_core.specs.declared.rendering.Rendering.{Rendering}
+use Rattle.render_core.specs.Rest.{IsWhole, Rest, first_spent, piece_bytes}
 
 -- the end of a run that stops at this call
 abbrev pub stops_at : TooDeep → RunEnd

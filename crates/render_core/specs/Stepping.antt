@@ -2,7 +2,7 @@
 --
 -- What the frames gave before it is what it spends and gives, and then what they give after it. A step works, or what is
 -- pending falls: how many parameters a call has still to hand.
-use Rattle.std.specs.Prelude.{◌≡◌, ℕ, zero, suc, ◌+◌, ◌-◌, ◌*◌, ◌≤◌, ◌<◌, ◌⊎◌, List, [], ◌∷◌, Option, Some, None, Result, Ok}
+use Rattle.std.specs.Prelude.{◌≡◌, ℕ, ◌+◌, ◌-◌, ◌*◌, ◌≤◌, ◌<◌, ◌⊎◌, List, [], ◌∷◌, Option, Some, None, Result, Ok}
 use Rattle.std.specs.Prelude.{Err, encode_utf8_all, length, max, min, slice_get, take, true, false}
 use Rattle.html_state.specs.AfterPieces.{Piece}
 use Rattle.soy_base.specs.declared.fault.TooDeep.{TooDeep}
@@ -19,8 +19,8 @@ use Rattle.template_ir.specs.declared.op.Op.{Op}
 use Rattle.template_ir.specs.declared.op.Op.TheVariants as op
 use Rattle.template_ir.specs.declared.program.ProgramParts.{ProgramParts}
 use Rattle.render_core.specs.Frames.{MachineFits, machine_gives, ops_ahead, over, past, past_with}
-use Rattle.render_core.specs.Pulls.{stops_at}
-use Rattle.render_core.specs.Rest.{IsWhole, PieceFits, coming, first_spent, piece_bytes, piece_left}
+use Rattle.render_core.specs.Pulls.{Gave, stops_at}
+use Rattle.render_core.specs.Rest.{BegunFits, IsWhole, begun_left, coming, first_spent, piece_bytes}
 use Rattle.render_core.specs.Texts.{added, is_none}
 use Rattle.render_core.specs.Variables.{cells_of, env_at, held_means, name_or_none, name_there}
 use Rattle.render_core.specs.declared.begun.Begun.{Begun}
@@ -110,6 +110,23 @@ pub record IsSame (old new : Machine) : Type 0 where
   pub texts : new.texts ≡ old.texts
   pub bound : new.bound.items ≡ old.bound.items
 
+-- what a step does outside of the machine: the room before and after it, and the piece that has begun then
+pub record Output : Type 0 where
+  pub room : List ℕ
+  pub room_after : List ℕ
+  pub begun : Option Begun
+
+abbrev pub output : List ℕ → List ℕ → Option Begun → Output
+output room room_after begun = record { room = room; room_after = room_after; begun = begun }
+
+abbrev pub IsSpared : Output → Type 0
+IsSpared out = (out.room_after ≡ out.room) × (out.begun ≡ None)
+
+-- only a step that gives does anything there
+abbrev pub Spares : Output → Result Step OutOfMemory → Type 0
+Spares out (Ok (step.Gives n)) = Unit {0}
+Spares out _ = IsSpared out
+
 -- what stands above the frames below the top, past its next op, gives this
 pub record GoesIn (p : ProgramParts) (input : values.Value) (old new : Machine) (f : Ahead) (x : Outcome) : Type 0 where
   pub gives : machine_gives p input new ≡ over p input old.bound.items (frame.Ops (past f) ∷ old.below) old.texts x
@@ -134,20 +151,31 @@ module _ (p : ProgramParts) (input : values.Value) where
   abbrev pub Silent : Machine → Machine → ℕ → ℕ → Type 0
   Silent old new before after = (spent : Spent) × Goes old new before after (spent_first spent) spent
 
-  abbrev pub Gives : Machine → Machine → ℕ → ℕ → Begun → Type 0
-  Gives old new before after b =
-      (spent : Spent) × (piece : Piece) × Goes old new before after (GivesPiece spent piece) spent
-      × (piece_left p input new.bound.items b ≡ piece_bytes piece) × PieceFits p input new.bound.items b
+  -- the first bytes are given into the room, and what is left of them has begun
+  abbrev pub Given : List Bound → List ℕ → Output → ℕ → Type 0
+  Given bound bytes out n =
+      Gave bytes (begun_left p input bound out.begun) out.room out.room_after n × BegunFits p input bound out.begun
 
+  abbrev pub Gives : Machine → Machine → ℕ → ℕ → Output → ℕ → Type 0
+  Gives old new before after out n =
+      (spent : Spent) × (piece : Piece) × Goes old new before after (GivesPiece spent piece) spent
+      × Given new.bound.items (piece_bytes piece) out n
+
+  -- a step that gives nothing
   abbrev pub Stepped : Machine → Machine → ℕ → ℕ → Result Step OutOfMemory → Type 0
   Stepped old new before after (Ok step.Silent) = Silent old new before after
-  Stepped old new before after (Ok (step.Gives b)) = Gives old new before after b
+  Stepped old new before after (Ok (step.Gives n)) = ⊥
   Stepped old new before after (Ok step.Done) =
       Stays old new before after × IsWhole (machine_gives p input old) × (after ≡ before)
   Stepped old new before after (Ok (step.TooDeep call)) =
       Stays old new before after × (pieces_of_outcome (machine_gives p input old) ≡ [])
       × (end_of_outcome (machine_gives p input old) ≡ stops_at call)
   Stepped old new before after (Err e) = Stays old new before after
+
+  -- a step that may give bytes
+  abbrev pub SteppedInto : Machine → Machine → ℕ → ℕ → Output → Result Step OutOfMemory → Type 0
+  SteppedInto old new before after out (Ok (step.Gives n)) = Gives old new before after out n
+  SteppedInto old new before after out result = Stepped old new before after result
 
   -- steps up to the next piece
   pub record Went (old new : Machine) (before after : ℕ) : Type 0 where
@@ -163,48 +191,47 @@ module _ (p : ProgramParts) (input : values.Value) where
     pub high : after ≤ before + (first_spent (coming p input old)).cost
     pub fits : MachineFits new
 
-  pub record NextPiece (old new : Machine) (before after : ℕ) (b : Begun) : Type 0 where
+  pub record NextPiece (old new : Machine) (before after : ℕ) (out : Output) (n : ℕ) : Type 0 where
     pub spent : Spent
     pub piece : Piece
     pub same : coming p input old ≡ GivesPiece spent piece (coming p input new)
     pub cost : after ≡ before + spent.cost
     pub fits : MachineFits new
-    pub bytes : piece_left p input new.bound.items b ≡ piece_bytes piece
     pub some : 0 < length (piece_bytes piece)
-    pub begun : PieceFits p input new.bound.items b
+    pub given : Given new.bound.items (piece_bytes piece) out n
 
-  abbrev pub Advanced : Machine → Machine → ℕ → ℕ → Result (Option Begun) (Refusal TooDeep) → Type 0
-  Advanced old new before after (Ok (Some b)) = NextPiece old new before after b
-  Advanced old new before after (Ok None) =
-      Left old new before after × IsWhole (coming p input old) × IsWhole (coming p input new)
-  Advanced old new before after (Err (refusal.Because call)) =
-      Left old new before after × (pieces_of_outcome (coming p input old) ≡ [])
+  abbrev pub Advanced : Machine → Machine → ℕ → ℕ → Output → Result (Option ℕ) (Refusal TooDeep) → Type 0
+  Advanced old new before after out (Ok (Some n)) = NextPiece old new before after out n
+  Advanced old new before after out (Ok None) =
+      IsSpared out × Left old new before after × IsWhole (coming p input old) × IsWhole (coming p input new)
+  Advanced old new before after out (Err (refusal.Because call)) =
+      IsSpared out × Left old new before after × (pieces_of_outcome (coming p input old) ≡ [])
       × (end_of_outcome (coming p input old) ≡ stops_at call)
-  Advanced old new before after (Err refusal.OutOfMemory) = Left old new before after
+  Advanced old new before after out (Err refusal.OutOfMemory) = IsSpared out × Left old new before after
 
   -- a form of a value is given, or added to the innermost text, and another frame comes next
-  abbrev pub GaveForm : Machine → Machine → Frame → List ℕ → Result Step OutOfMemory → Type 0
-  GaveForm old new next form (Ok step.Silent) =
+  abbrev pub GaveForm : Machine → Machine → Frame → List ℕ → Output → Result Step OutOfMemory → Type 0
+  GaveForm old new next form out (Ok step.Silent) =
       (new.top ≡ next) × (new.below ≡ old.below) × (new.bound.items ≡ old.bound.items)
       × (new.texts ≡ added old.texts form) × (is_none old.texts ≡ false)
-  GaveForm old new next form (Ok (step.Gives b)) =
+  GaveForm old new next form out (Ok (step.Gives n)) =
       (new.top ≡ next) × (new.below ≡ old.below) × (new.bound.items ≡ old.bound.items)
       × (new.texts ≡ old.texts) × (is_none old.texts ≡ true)
-      × (piece_left p input old.bound.items b ≡ encode_utf8_all form) × PieceFits p input old.bound.items b
-  GaveForm old new next form (Ok step.Done) = ⊥
-  GaveForm old new next form (Ok (step.TooDeep call)) = ⊥
-  GaveForm old new next form (Err e) = IsSame old new
+      × Given old.bound.items (encode_utf8_all form) out n
+  GaveForm old new next form out (Ok step.Done) = ⊥
+  GaveForm old new next form out (Ok (step.TooDeep call)) = ⊥
+  GaveForm old new next form out (Err e) = IsSame old new
 
   -- what stood above the frames below the top, past its next op, is done
-  abbrev pub Does : Machine → Machine → Ahead → Outcome → Result Step OutOfMemory → Type 0
-  Does old new f x (Ok step.Silent) = GoesIn p input old new f x
-  Does old new f x (Ok (step.Gives b)) =
+  abbrev pub Does : Machine → Machine → Ahead → Outcome → Output → Result Step OutOfMemory → Type 0
+  Does old new f x out (Ok step.Silent) = GoesIn p input old new f x
+  Does old new f x out (Ok (step.Gives n)) =
       (piece : Piece) × (over p input old.bound.items (frame.Ops (past f) ∷ old.below) old.texts x
       ≡ GivesPiece none_spent piece (machine_gives p input new)) × MachineFits new × (pending p new.top ≡ 0)
-      × (piece_left p input new.bound.items b ≡ piece_bytes piece) × PieceFits p input new.bound.items b
-  Does old new f x (Ok step.Done) = ⊥
-  Does old new f x (Ok (step.TooDeep call)) = ⊥
-  Does old new f x (Err e) = IsSame old new
+      × Given new.bound.items (piece_bytes piece) out n
+  Does old new f x out (Ok step.Done) = ⊥
+  Does old new f x out (Ok (step.TooDeep call)) = ⊥
+  Does old new f x out (Err e) = IsSame old new
 
   -- the variable of an op is bound, and what is past the op comes next
   pub record Binds (old new : Machine) (f : Ahead) (name : Naming) (to : Held) : Type 0 where

@@ -1,16 +1,18 @@
 //! Pieces that have begun.
 
-ghost use Rattle.std.specs.Prelude.{◌≡◌, ◌≤◌, ◌++◌, [], List, IfOk, drop, encode_utf8_all, length, min, slice_get};
-ghost use Rattle.std.specs.Prelude.{take};
+ghost use Rattle.std.specs.Prelude.{◌≡◌, ◌≤◌, ◌++◌, [], List, IfOk, None, OnErr, Some, drop, encode_utf8_all, length};
+ghost use Rattle.std.specs.Prelude.{min, slice_get, take};
 ghost use Rattle.std.specs.Str.{chars};
 ghost use Rattle.soy_tree.specs.Values as values;
 ghost use Rattle.soy_tree.specs.ViewValues.{view_value};
+ghost use Rattle.template_ir.specs.declared.op.Op.TheVariants as op;
 ghost use Rattle.template_ir.specs.declared.program.ProgramParts as code_parts;
 ghost use Rattle.value_cursor.specs.BytesLeft.{CursorFits, bytes_left};
 ghost use Rattle.render_core.specs.Forms.{EscapesAt, form_at};
 ghost use Rattle.render_core.specs.Pulls.{Gave};
 ghost use Rattle.render_core.specs.Rest.{PieceFits, piece_left, source_text, static_text, string_text};
 ghost use Rattle.render_core.specs.Seen.{cells_seen, input_seen, program_seen};
+ghost use Rattle.render_core.specs.Stepping.{Given, IsSpared, output};
 ghost use Rattle.render_core.specs.Variables.{cells_of, path_value};
 ghost use Rattle.render_core.specs.declared.held.Bound.{Bound};
 
@@ -19,7 +21,7 @@ use crate::parts::{Point, part_of};
 use crate::showing::Source;
 use bidi_text::wrap;
 use escapers::{Escaper, escape, escaper_for};
-use soy_base::{OutOfMemory, Place, Text, ValueClass};
+use soy_base::{Dir, OutOfMemory, Place, Text, ValueClass};
 use soy_tree::Value;
 use template_ir::{Op, ProgramParts};
 use value_cursor::Cursor;
@@ -147,32 +149,116 @@ fn escaper_at(place: Place, class: ValueClass) -> Option<Escaper>
     }
 }
 
-/// The piece of a text at a place, of which nothing is given yet.
-#[tactic(auto, using(crate::proofs::Forms::form_bytes, crate::proofs::Forms::form_none))]
-pub(crate) fn begun_value(
+/// Gives the first bytes of the static text of the op at a place, and answers their number. What is left has begun.
+pub(crate) fn give_fixed(
+    at: usize,
+    text: &Text,
+    room: &mut [u8],
+    piece: &mut Option<Begun>,
+) -> usize
+    requires none { piece.old ≡ None }
+    ensures { (p : code_parts.ProgramParts) (input : values.Value) (bound : List Bound)
+        → slice_get p.ops at ≡ Some (op.Static text.now)
+        → Given p input bound (encode_utf8_all text.now) (output room.old room.new piece.new) result }
+{
+    let bytes = text.text().as_bytes();
+    let n = copy_from(bytes, 0, room);
+    if n < bytes.len() {
+        *piece = Some(Begun::Static(Fixed {
+            op: at,
+            start: n,
+            end: bytes.len(),
+        }));
+    }
+    n
+}
+
+/// Gives the first bytes of the form of a text at a place, and answers their number. What is left has begun.
+pub(crate) fn give_form(
     point: Point,
     place: Place,
     source: Source,
     class: ValueClass,
-) -> Result<Begun, OutOfMemory>
-    ensures left { IfOk result (λ b.
-        piece_left (program_seen point.entry) (input_seen point.entry) point.entry.bound.now b
-        ≡ encode_utf8_all (form_at place class (source_text
-        (cells_seen point.entry) source)
-        (program_seen point.entry).dir)) }
-    ensures fits { IfOk result (λ b.
-        PieceFits (program_seen point.entry) (input_seen point.entry) point.entry.bound.now b) }
+    room: &mut [u8],
+    piece: &mut Option<Begun>,
+) -> Result<usize, OutOfMemory>
+    requires none { piece.old ≡ None }
+    ensures given { IfOk result (λ n.
+        Given (program_seen point.entry) (input_seen point.entry) point.entry.bound.now
+        (encode_utf8_all (form_at place class (source_text (cells_seen point.entry) source)
+        (program_seen point.entry).dir)) (output room.old room.new piece.new) n) }
+    ensures refused { OnErr result (IsSpared (output room.old room.new piece.new)) }
 {
     let Some(how) = escaper_at(place, class) else {
-        return Ok(Begun::Nothing);
+        return Ok(0);
     };
-    let alloc = point.scene.alloc;
     let dir = point.scene.program.dir;
-    let cursor = match &source {
-        Source::Made(text) => Cursor::begin(alloc, how, class, text.text(), dir)?,
-        Source::Part(path) => Cursor::begin(alloc, how, class, string_at(point, path), dir)?,
+    match source {
+        Source::Made(text) => give_made(point, how, place, class, dir, text, room, piece),
+        Source::Part(path) => give_part(point, how, place, class, dir, path, room, piece),
+    }
+}
+
+/// The same of a text that was made.
+fn give_made(
+    point: Point,
+    how: Escaper,
+    _place: Place,
+    class: ValueClass,
+    dir: Dir,
+    text: Text,
+    room: &mut [u8],
+    piece: &mut Option<Begun>,
+) -> Result<usize, OutOfMemory>
+    requires escapes { EscapesAt _place class (Some how) }
+    requires none { piece.old ≡ None }
+    ensures given { IfOk result (λ n.
+        Given (program_seen point.entry) (input_seen point.entry) point.entry.bound.now
+        (encode_utf8_all (form_at _place class text dir))
+        (output room.old room.new piece.new) n) }
+    ensures refused { OnErr result (IsSpared (output room.old room.new piece.new)) }
+{
+    let mut cursor = match Cursor::begin(point.scene.alloc, how, class, text.text(), dir) {
+        Ok(cursor) => cursor,
+        Err(_) => return Err(OutOfMemory),
     };
-    Ok(Begun::Escaped(Form { source, cursor }))
+    let n = cursor.fill(text.text(), room);
+    if cursor.left() > 0 {
+        let source = Source::Made(text);
+        *piece = Some(Begun::Escaped(Form { source, cursor }));
+    }
+    Ok(n)
+}
+
+/// The same of a string of the data.
+fn give_part(
+    point: Point,
+    how: Escaper,
+    _place: Place,
+    class: ValueClass,
+    dir: Dir,
+    path: Path,
+    room: &mut [u8],
+    piece: &mut Option<Begun>,
+) -> Result<usize, OutOfMemory>
+    requires escapes { EscapesAt _place class (Some how) }
+    requires none { piece.old ≡ None }
+    ensures given { IfOk result (λ n.
+        Given (program_seen point.entry) (input_seen point.entry) point.entry.bound.now
+        (encode_utf8_all (form_at _place class (string_text (path_value (cells_seen point.entry) path)) dir)) (output room.old room.new piece.new) n) }
+    ensures refused { OnErr result (IsSpared (output room.old room.new piece.new)) }
+{
+    let text = string_at(point, &path);
+    let mut cursor = match Cursor::begin(point.scene.alloc, how, class, text, dir) {
+        Ok(cursor) => cursor,
+        Err(_) => return Err(OutOfMemory),
+    };
+    let n = cursor.fill(text, room);
+    if cursor.left() > 0 {
+        let source = Source::Part(path);
+        *piece = Some(Begun::Escaped(Form { source, cursor }));
+    }
+    Ok(n)
 }
 
 /// The escaped form of a text at a place, whole.

@@ -1,11 +1,11 @@
 //! Steps of the machine, and the run up to the next piece.
 
-ghost use Rattle.std.specs.Prelude.{◌≡◌, ◌<◌, Some, option_map, slice_get};
+ghost use Rattle.std.specs.Prelude.{◌≡◌, ◌<◌, None, Some, length, option_map, slice_get};
 ghost use Rattle.soy_tree.specs.ViewValues.{view_value};
 ghost use Rattle.render_core.specs.Calling.{callee_of};
 ghost use Rattle.render_core.specs.Frames.{MachineFits, call_place};
 ghost use Rattle.render_core.specs.Rest.{LeftOf};
-ghost use Rattle.render_core.specs.Stepping.{Advanced, OpBefore, Stepped};
+ghost use Rattle.render_core.specs.Stepping.{Advanced, OpBefore, Spares, SteppedInto, output};
 ghost use Rattle.render_core.specs.declared.frame.Frame.TheVariants as frame;
 
 use crate::begun::Begun;
@@ -21,19 +21,24 @@ impl Machine {
     pub(crate) fn advance<L: Ledger>(
         &mut self,
         scene: &Scene,
+        room: &mut [u8],
+        piece: &mut Option<Begun>,
         steps: &mut Steps<L>,
-    ) -> Result<Option<Begun>, Refusal<TooDeep>>
-        requires { MachineFits self.old }
+    ) -> Result<Option<usize>, Refusal<TooDeep>>
+        requires fits { MachineFits self.old }
+        requires some { 0 < length room.old }
+        requires none { piece.old ≡ None }
         ensures { Advanced scene.now.program.now (view_value scene.now.input.now) self.old self.new steps.old steps.new
-            result }
+            (output room.old room.new piece.new) result }
     {
         loop {
-            match self.step(scene, steps) {
+            match self.step(scene, room, piece, steps) {
                 Ok(Step::Silent) => {}
-                Ok(Step::Gives(begun)) => match left_of(begun) {
-                    Some(left) => return Ok(Some(left)),
-                    None => {}
-                },
+                Ok(Step::Gives(n)) => {
+                    if n > 0 {
+                        return Ok(Some(n));
+                    }
+                }
                 Ok(Step::Done) => return Ok(None),
                 Ok(Step::TooDeep(call)) => return Err(Refusal::Because(call)),
                 Err(_) => return Err(Refusal::OutOfMemory),
@@ -41,49 +46,67 @@ impl Machine {
         }
     }
 
-    /// One step.
-    fn step<L: Ledger>(&mut self, scene: &Scene, steps: &mut Steps<L>) -> Result<Step, OutOfMemory>
-        requires { MachineFits self.old }
-        ensures { Stepped scene.now.program.now (view_value scene.now.input.now) self.old self.new steps.old steps.new
-            result }
+    /// One step, which may give bytes into the room.
+    #[tactic(auto, using(crate::proofs::Gives::quiet_step))]
+    fn step<L: Ledger>(
+        &mut self,
+        scene: &Scene,
+        room: &mut [u8],
+        piece: &mut Option<Begun>,
+        steps: &mut Steps<L>,
+    ) -> Result<Step, OutOfMemory>
+        requires fits { MachineFits self.old }
+        requires none { piece.old ≡ None }
+        ensures stepped { SteppedInto scene.now.program.now (view_value scene.now.input.now) self.old self.new steps.old
+            steps.new (output room.old room.new piece.new) result }
+        ensures spares { Spares (output room.old room.new piece.new) result }
     {
         match self.top {
             Frame::Ops(ahead) => match op_before(scene.program, ahead) {
-                Some(op) => self.step_op(scene, ahead, op, steps),
+                Some(op) => self.step_op(scene, ahead, op, room, piece, steps),
                 None => Ok(self.leave(scene, ahead.mark)),
             },
             Frame::Turns(round) => self.step_turn(scene, round),
             Frame::Gather(ahead, purpose) => self.step_gathered(scene, ahead, purpose),
             Frame::Show(ahead, at) => {
                 let place = call_place(scene.program, ahead.at);
-                self.step_show(scene, ahead, at, place)
+                self.step_show(scene, ahead, at, place, room, piece)
             }
             Frame::Call(ahead, handing) => match callee_at(scene.program, ahead.at) {
-                Some(callee) => self.step_handing(scene, ahead, handing, callee, steps),
+                Some(callee) => {
+                    self.step_handing(scene, ahead, handing, callee, room, piece, steps)
+                }
                 None => Ok(self.leave(scene, ahead.mark)),
             },
         }
     }
 
     /// One op.
+    #[tactic(auto, using(crate::proofs::Gives::quiet_step))]
     fn step_op<L: Ledger>(
         &mut self,
         scene: &Scene,
         ahead: Ahead,
         op: &Op,
+        room: &mut [u8],
+        piece: &mut Option<Begun>,
         steps: &mut Steps<L>,
     ) -> Result<Step, OutOfMemory>
         requires top { self.old.top ≡ frame.Ops ahead }
         requires fits { MachineFits self.old }
         requires op { slice_get scene.now.program.now.ops ahead.at ≡ Some op.now }
         requires low { ahead.at < ahead.end }
-        ensures { Stepped scene.now.program.now (view_value scene.now.input.now) self.old self.new steps.old steps.new
-            result }
+        requires none { piece.old ≡ None }
+        ensures stepped { SteppedInto scene.now.program.now (view_value scene.now.input.now) self.old self.new steps.old
+            steps.new (output room.old room.new piece.new) result }
+        ensures spares { Spares (output room.old room.new piece.new) result }
     {
         match op {
-            Op::Static(text) => self.step_static(scene, ahead, text),
-            Op::Print(expr, place) => self.step_print(scene, ahead, expr, *place, steps),
-            Op::Number(place) => self.step_number(scene, ahead, *place),
+            Op::Static(text) => self.step_static(scene, ahead, text, room, piece),
+            Op::Print(expr, place) => {
+                self.step_print(scene, ahead, expr, *place, room, piece, steps)
+            }
+            Op::Number(place) => self.step_number(scene, ahead, *place, room, piece),
             Op::If(branches, other) => {
                 self.step_if(scene, ahead, branches.items(), *other, steps)
             }

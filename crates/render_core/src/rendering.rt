@@ -205,9 +205,10 @@ impl Rendering {
             (rest_of scene.now.program.now (view_value scene.now.input.now) self.new)
             (has_ended self.old) (has_ended self.new) room.old room.new steps.old steps.new result }
     {
-        match self.piece.take() {
-            Some(piece) => Ok(self.give(scene, piece, room)),
-            None => self.pull_next(scene, room, steps),
+        if self.piece.is_some() {
+            Ok(self.give(scene, room))
+        } else {
+            self.pull_next(scene, room, steps)
         }
     }
 
@@ -231,8 +232,8 @@ impl Rendering {
         if self.done {
             return Ok(0);
         }
-        match self.machine.advance(scene, steps) {
-            Ok(Some(piece)) => Ok(self.give(scene, piece, room)),
+        match self.machine.advance(scene, room, &mut self.piece, steps) {
+            Ok(Some(n)) => Ok(n),
             Ok(None) => {
                 self.done = true;
                 Ok(0)
@@ -261,11 +262,12 @@ impl Rendering {
         self.done
     }
 
-    /// Gives bytes of a piece.
-    fn give(&mut self, scene: &Scene, piece: Begun, room: &mut [u8]) -> usize
-        requires { PieceFits scene.now.program.now (view_value scene.now.input.now) self.old.machine.bound.items piece }
+    /// Gives bytes of the piece that has begun.
+    fn give(&mut self, scene: &Scene, room: &mut [u8]) -> usize
+        requires { BegunFits scene.now.program.now (view_value scene.now.input.now) self.old.machine.bound.items
+            self.old.piece }
         ensures gives { Gave
-            (piece_left scene.now.program.now (view_value scene.now.input.now) self.old.machine.bound.items piece)
+            (begun_left scene.now.program.now (view_value scene.now.input.now) self.old.machine.bound.items self.old.piece)
             (begun_left scene.now.program.now (view_value scene.now.input.now) self.new.machine.bound.items self.new.piece)
             room.old room.new result }
         ensures fits { BegunFits scene.now.program.now (view_value scene.now.input.now) self.new.machine.bound.items
@@ -273,7 +275,9 @@ impl Rendering {
         ensures machine { self.new.machine ≡ self.old.machine }
         ensures done { self.new.done ≡ self.old.done }
     {
-        let mut piece = piece;
+        let Some(mut piece) = self.piece.take() else {
+            return 0;
+        };
         let n = piece.fill(self.machine.point(scene, 0), room);
         self.piece = left_of(piece);
         n

@@ -1,6 +1,6 @@
 //! The stack of frames, and what all its steps do.
 
-ghost use Rattle.std.specs.Prelude.{◌≡◌, ◌<◌, ◌∷◌, ℕ, [], false, OnOk, OnErr, Ok, Some, length, slice_get};
+ghost use Rattle.std.specs.Prelude.{◌≡◌, ◌<◌, ◌∷◌, ℕ, [], false, OnOk, OnErr, None, Ok, Some, length, slice_get};
 ghost use Rattle.soy_tree.specs.Values as values;
 ghost use Rattle.soy_tree.specs.ViewValues.{view_value};
 ghost use Rattle.soy_meaning.specs.Outcome.{RunEnds, WholeRun};
@@ -8,14 +8,15 @@ ghost use Rattle.template_ir.specs.Run.{arm_gives, one_step};
 ghost use Rattle.template_ir.specs.declared.op.Op.TheVariants as op;
 ghost use Rattle.template_ir.specs.declared.program.ProgramParts as code_parts;
 ghost use Rattle.render_core.specs.Frames.{IsPlainFrame, MachineFits, child_at, frame_gives, mark_of, means_before, past, past_with};
-ghost use Rattle.render_core.specs.Stepping.{GaveForm, GoesIn, IsSame, Stepped};
+ghost use Rattle.render_core.specs.Stepping.{GaveForm, GoesIn, IsSame, Output, Spares, Stepped, SteppedInto, output};
 ghost use Rattle.render_core.specs.Forms.{form_at};
 ghost use Rattle.render_core.specs.Rest.{source_text};
 ghost use Rattle.render_core.specs.Texts.{is_none};
 ghost use Rattle.render_core.specs.Variables.{cells_of, env_at};
 ghost use Rattle.render_core.specs.declared.frame.Frame.TheVariants as frame;
+ghost use Rattle.render_core.specs.declared.stack.Step.TheVariants as step;
 
-use crate::begun::{Begun, Fixed, begun_value, escaped_whole, static_bytes};
+use crate::begun::{Begun, escaped_whole, give_fixed, give_form};
 use crate::frame::{Ahead, Frame};
 use crate::held::Bound;
 use crate::parts::Point;
@@ -38,7 +39,8 @@ pub(crate) struct Machine {
 #[derive(Drop)]
 pub(crate) enum Step {
     Silent,
-    Gives(Begun),
+    /// So many bytes of a piece.
+    Gives(usize),
     Done,
     TooDeep(TooDeep),
 }
@@ -144,17 +146,21 @@ impl Machine {
         place: Place,
         source: Source,
         class: ValueClass,
+        room: &mut [u8],
+        piece: &mut Option<Begun>,
     ) -> Result<Step, OutOfMemory>
-        ensures { GaveForm scene.now.program.now (view_value scene.now.input.now) self.old self.new next
+        requires none { piece.old ≡ None }
+        ensures gave { GaveForm scene.now.program.now (view_value scene.now.input.now) self.old self.new next
             (form_at place class (source_text
             (cells_of scene.now.program.now (view_value scene.now.input.now) self.old.bound.items) source)
-            scene.now.program.now.dir) result }
+            scene.now.program.now.dir) (output room.old room.new piece.new) result }
+        ensures spares { Spares (output room.old room.new piece.new) result }
     {
         if self.texts.is_empty() {
-            match begun_value(self.point(scene, 0), place, source, class) {
-                Ok(begun) => {
+            match give_form(self.point(scene, 0), place, source, class, room, piece) {
+                Ok(n) => {
                     self.top = next;
-                    Ok(Step::Gives(begun))
+                    Ok(Step::Gives(n))
                 }
                 Err(_) => Err(OutOfMemory),
             }
@@ -170,8 +176,9 @@ impl Machine {
     /// Adds to the innermost text, and goes on with another frame.
     fn gather_more(&mut self, next: Frame, more: &Text) -> Result<Step, OutOfMemory>
         requires { is_none self.old.texts ≡ false }
-        ensures { (p : code_parts.ProgramParts) (input : values.Value) →
-            GaveForm p input self.old self.new next more.now result }
+        ensures gave { (p : code_parts.ProgramParts) (input : values.Value) (out : Output) →
+            GaveForm p input self.old self.new next more.now out result }
+        ensures silent { OnOk result (result ≡ Ok step.Silent) }
     {
         match self.texts.append(more) {
             Ok(()) => {
@@ -188,36 +195,46 @@ impl Machine {
         scene: &Scene,
         ahead: Ahead,
         text: &Text,
+        room: &mut [u8],
+        piece: &mut Option<Begun>,
     ) -> Result<Step, OutOfMemory>
         requires top { self.old.top ≡ frame.Ops ahead }
         requires fits { MachineFits self.old }
         requires op { slice_get scene.now.program.now.ops ahead.at ≡ Some (op.Static text.now) }
         requires low { ahead.at < ahead.end }
-        ensures { (n : ℕ) → Stepped scene.now.program.now (view_value scene.now.input.now) self.old self.new n n result }
+        requires none { piece.old ≡ None }
+        ensures stepped { (n : ℕ) → SteppedInto scene.now.program.now (view_value scene.now.input.now) self.old self.new
+            n n (output room.old room.new piece.new) result }
+        ensures spares { Spares (output room.old room.new piece.new) result }
     {
         if text.is_empty() {
             self.top = Frame::Ops(past(ahead));
             return Ok(Step::Silent);
         }
-        self.give_static(scene, ahead, text)
+        self.give_static(ahead, text, room, piece)
     }
 
     /// Gives the static text of the op at a place, and goes past it.
-    fn give_static(&mut self, scene: &Scene, ahead: Ahead, text: &Text) -> Result<Step, OutOfMemory>
-        requires op { slice_get scene.now.program.now.ops ahead.at ≡ Some (op.Static text.now) }
+    fn give_static(
+        &mut self,
+        ahead: Ahead,
+        text: &Text,
+        room: &mut [u8],
+        piece: &mut Option<Begun>,
+    ) -> Result<Step, OutOfMemory>
         requires low { ahead.at < ahead.end }
-        ensures { GaveForm scene.now.program.now (view_value scene.now.input.now) self.old self.new
-            (frame.Ops (past ahead)) text.now result }
+        requires none { piece.old ≡ None }
+        ensures gave { (p : code_parts.ProgramParts) (input : values.Value)
+            → slice_get p.ops ahead.at ≡ Some (op.Static text.now)
+            → GaveForm p input self.old self.new (frame.Ops (past ahead)) text.now
+            (output room.old room.new piece.new) result }
+        ensures spares { Spares (output room.old room.new piece.new) result }
     {
         let next = Frame::Ops(past(ahead));
         if self.texts.is_empty() {
-            let fixed = Fixed {
-                op: ahead.at,
-                start: 0,
-                end: static_bytes(scene.program, ahead.at).len(),
-            };
+            let n = give_fixed(ahead.at, text, room, piece);
             self.top = next;
-            Ok(Step::Gives(Begun::Static(fixed)))
+            Ok(Step::Gives(n))
         } else {
             self.gather_more(next, text)
         }

@@ -10,10 +10,12 @@ ghost use Rattle.template_ir.specs.declared.op.HandedBy.TheVariants as by;
 ghost use Rattle.template_ir.specs.declared.op.Op.TheVariants as op;
 ghost use Rattle.render_core.specs.Calling.{called_child, callee_of, Hands, Opens, OpensRoutine};
 ghost use Rattle.render_core.specs.Frames.{MachineFits, past};
-ghost use Rattle.render_core.specs.Stepping.{GaveForm, IsBlockKind, IsSame, Stepped, handed_past};
+ghost use Rattle.render_core.specs.Stepping.{GaveForm, IsBlockKind, IsSame, Spares, Stepped, SteppedInto, handed_past};
+ghost use Rattle.render_core.specs.Stepping.{output};
 ghost use Rattle.render_core.specs.declared.frame.Frame.TheVariants as frame;
 ghost use Rattle.render_core.specs.declared.held.Naming.TheVariants as naming;
 
+use crate::begun::Begun;
 use crate::binding::{bind, held};
 use crate::frame::{Ahead, Frame, Handing, Purpose};
 use crate::held::{Held, Naming};
@@ -48,23 +50,28 @@ impl Machine {
     }
 
     /// The next parameter of a call, or its opening.
+    #[tactic(auto, using(crate::proofs::Gives::quiet_step))]
     pub(crate) fn step_handing<L: Ledger>(
         &mut self,
         scene: &Scene,
         ahead: Ahead,
         handing: Handing,
         callee: &Callee,
+        room: &mut [u8],
+        piece: &mut Option<Begun>,
         steps: &mut Steps<L>,
     ) -> Result<Step, OutOfMemory>
         requires top { self.old.top ≡ frame.Call ahead handing }
         requires fits { MachineFits self.old }
         requires op { callee_of (slice_get scene.now.program.now.ops ahead.at) ≡ Some callee.now }
-        ensures { Stepped scene.now.program.now (view_value scene.now.input.now) self.old self.new steps.old steps.new
-            result }
+        requires none { piece.old ≡ None }
+        ensures stepped { SteppedInto scene.now.program.now (view_value scene.now.input.now) self.old self.new steps.old
+            steps.new (output room.old room.new piece.new) result }
+        ensures spares { Spares (output room.old room.new piece.new) result }
     {
         match handed_at(callee, handing.next) {
             Some(handed) => self.hand(scene, ahead, handing, handed, steps),
-            None => self.open(scene, ahead, handing, callee),
+            None => self.open(scene, ahead, handing, callee, room, piece),
         }
     }
 
@@ -233,14 +240,18 @@ impl Machine {
         ahead: Ahead,
         handing: Handing,
         callee: &Callee,
+        room: &mut [u8],
+        piece: &mut Option<Begun>,
     ) -> Result<Step, OutOfMemory>
-        requires { Opens scene.now.program.now self.old ahead handing callee.now }
-        ensures { (n : ℕ) → Stepped scene.now.program.now (view_value scene.now.input.now) self.old self.new n n
-            result }
+        requires opens { Opens scene.now.program.now self.old ahead handing callee.now }
+        requires none { piece.old ≡ None }
+        ensures stepped { (n : ℕ) → SteppedInto scene.now.program.now (view_value scene.now.input.now) self.old self.new
+            n n (output room.old room.new piece.new) result }
+        ensures spares { Spares (output room.old room.new piece.new) result }
     {
         match scene.program.template(callee.template) {
             Some(routine) => self.open_there(scene, ahead, handing, callee, routine),
-            None => self.open_none(scene, ahead, handing, callee),
+            None => self.open_none(scene, ahead, handing, callee, room, piece),
         }
     }
 
@@ -251,20 +262,34 @@ impl Machine {
         ahead: Ahead,
         handing: Handing,
         callee: &Callee,
+        room: &mut [u8],
+        piece: &mut Option<Begun>,
     ) -> Result<Step, OutOfMemory>
         requires opens { Opens scene.now.program.now self.old ahead handing callee.now }
-        requires none { slice_get scene.now.program.now.templates callee.now.template ≡ None }
-        ensures { (n : ℕ) → Stepped scene.now.program.now (view_value scene.now.input.now) self.old self.new n n
-            result }
+        requires lacks { slice_get scene.now.program.now.templates callee.now.template ≡ None }
+        requires none { piece.old ≡ None }
+        ensures stepped { (n : ℕ) → SteppedInto scene.now.program.now (view_value scene.now.input.now) self.old self.new
+            n n (output room.old room.new piece.new) result }
+        ensures spares { Spares (output room.old room.new piece.new) result }
     {
-        self.give_null(scene, ahead, callee.place)
+        self.give_null(scene, ahead, callee.place, room, piece)
     }
 
     /// Gives null, and goes past the op.
-    fn give_null(&mut self, scene: &Scene, ahead: Ahead, place: Place) -> Result<Step, OutOfMemory>
-        requires { ahead.at < ahead.end }
-        ensures { GaveForm scene.now.program.now (view_value scene.now.input.now) self.old self.new
-            (frame.Ops (past ahead)) (value_at scene.now.program.now.dir place NullValue) result }
+    fn give_null(
+        &mut self,
+        scene: &Scene,
+        ahead: Ahead,
+        place: Place,
+        room: &mut [u8],
+        piece: &mut Option<Begun>,
+    ) -> Result<Step, OutOfMemory>
+        requires low { ahead.at < ahead.end }
+        requires none { piece.old ≡ None }
+        ensures gave { GaveForm scene.now.program.now (view_value scene.now.input.now) self.old self.new
+            (frame.Ops (past ahead)) (value_at scene.now.program.now.dir place NullValue)
+            (output room.old room.new piece.new) result }
+        ensures spares { Spares (output room.old room.new piece.new) result }
     {
         let (text, class) = match text_of(scene.alloc, Shallow::Null) {
             Ok(shown) => shown,
@@ -276,6 +301,8 @@ impl Machine {
             place,
             Source::Made(text),
             class,
+            room,
+            piece,
         )
     }
 

@@ -1,6 +1,6 @@
 //! Prints.
 
-ghost use Rattle.std.specs.Prelude.{◌≡◌, ◌<◌, ◌∷◌, ℕ, IfOk, OnOk, OnErr, Some, length, slice_get};
+ghost use Rattle.std.specs.Prelude.{◌≡◌, ◌<◌, ◌∷◌, ℕ, IfOk, None, OnOk, OnErr, Some, length, slice_get};
 ghost use Rattle.soy_tree.specs.Val.{Binding};
 ghost use Rattle.soy_tree.specs.ViewValues.{view_value};
 ghost use Rattle.soy_meaning.specs.Giving.{BoundBlock};
@@ -8,10 +8,11 @@ ghost use Rattle.template_ir.specs.Run.{print_gives};
 ghost use Rattle.template_ir.specs.declared.op.Op.TheVariants as op;
 ghost use Rattle.render_core.specs.Frames.{MachineFits, call_place, past, text_bound};
 ghost use Rattle.render_core.specs.Shows.{Shows, kept_child};
-ghost use Rattle.render_core.specs.Stepping.{Does, IsSame, Stepped};
+ghost use Rattle.render_core.specs.Stepping.{Does, IsSame, Spares, SteppedInto, output};
 ghost use Rattle.render_core.specs.Variables.{cells_of};
 ghost use Rattle.render_core.specs.declared.frame.Frame.TheVariants as frame;
 
+use crate::begun::Begun;
 use crate::frame::{Ahead, Frame};
 use crate::held::{Bound, Held, Kept};
 use crate::parts::variable_at;
@@ -32,14 +33,18 @@ impl Machine {
         ahead: Ahead,
         expr: &Expr,
         place: Place,
+        room: &mut [u8],
+        piece: &mut Option<Begun>,
         steps: &mut Steps<L>,
     ) -> Result<Step, OutOfMemory>
         requires top { self.old.top ≡ frame.Ops ahead }
         requires fits { MachineFits self.old }
         requires op { slice_get scene.now.program.now.ops ahead.at ≡ Some (op.Print expr.now place) }
         requires low { ahead.at < ahead.end }
-        ensures { Stepped scene.now.program.now (view_value scene.now.input.now) self.old self.new steps.old steps.new
-            result }
+        requires none { piece.old ≡ None }
+        ensures stepped { SteppedInto scene.now.program.now (view_value scene.now.input.now) self.old self.new steps.old
+            steps.new (output room.old room.new piece.new) result }
+        ensures spares { Spares (output room.old room.new piece.new) result }
     {
         let found = match value_of(self.point(scene, ahead.env), expr, steps) {
             Ok(found) => found,
@@ -49,7 +54,7 @@ impl Machine {
             Ok(shown) => shown,
             Err(_) => return Err(OutOfMemory),
         };
-        self.print_shown(scene, ahead, place, shown)
+        self.print_shown(scene, ahead, place, shown, room, piece)
     }
 
     /// The print of a value or a block.
@@ -59,19 +64,24 @@ impl Machine {
         ahead: Ahead,
         place: Place,
         shown: Shown,
+        room: &mut [u8],
+        piece: &mut Option<Begun>,
     ) -> Result<Step, OutOfMemory>
         requires top { self.old.top ≡ frame.Ops ahead }
         requires fits { MachineFits self.old }
         requires low { ahead.at < ahead.end }
-        ensures { (b : Binding BoundBlock) → Shows scene.now.program.now
+        requires none { piece.old ≡ None }
+        ensures does { (b : Binding BoundBlock) → Shows scene.now.program.now
             (cells_of scene.now.program.now (view_value scene.now.input.now) self.old.bound.items)
             (length self.old.bound.items) b shown →
             Does scene.now.program.now (view_value scene.now.input.now) self.old self.new ahead
-            (print_gives scene.now.program.now.dir place b) result }
+            (print_gives scene.now.program.now.dir place b) (output room.old room.new piece.new) result }
+        ensures spares { Spares (output room.old room.new piece.new) result }
     {
         match shown {
             Shown::Value(source, class) => {
-                self.give_value(scene, Frame::Ops(past(ahead)), place, source, class)
+                let next = Frame::Ops(past(ahead));
+                self.give_value(scene, next, place, source, class, room, piece)
             }
             Shown::Block(kept) => match self.enter_kept(ahead, kept) {
                 Ok(()) => Ok(Step::Silent),
@@ -109,19 +119,24 @@ impl Machine {
         scene: &Scene,
         ahead: Ahead,
         place: Place,
+        room: &mut [u8],
+        piece: &mut Option<Begun>,
     ) -> Result<Step, OutOfMemory>
         requires top { self.old.top ≡ frame.Ops ahead }
         requires fits { MachineFits self.old }
         requires op { slice_get scene.now.program.now.ops ahead.at ≡ Some (op.Number place) }
         requires low { ahead.at < ahead.end }
-        ensures { (n : ℕ) → Stepped scene.now.program.now (view_value scene.now.input.now) self.old self.new n n
-            result }
+        requires none { piece.old ≡ None }
+        ensures stepped { (n : ℕ) → SteppedInto scene.now.program.now (view_value scene.now.input.now) self.old self.new
+            n n (output room.old room.new piece.new) result }
+        ensures spares { Spares (output room.old room.new piece.new) result }
     {
         let (text, class) = match text_of(scene.alloc, Shallow::Int(ahead.number)) {
             Ok(text) => text,
             Err(_) => return Err(OutOfMemory),
         };
-        self.print_shown(scene, ahead, place, Shown::Value(Source::Made(text), class))
+        let shown = Shown::Value(Source::Made(text), class);
+        self.print_shown(scene, ahead, place, shown, room, piece)
     }
 
     /// The print of a text that was gathered.
@@ -131,13 +146,17 @@ impl Machine {
         ahead: Ahead,
         at: usize,
         place: Place,
+        room: &mut [u8],
+        piece: &mut Option<Begun>,
     ) -> Result<Step, OutOfMemory>
         requires top { self.old.top ≡ frame.Show ahead at }
         requires fits { MachineFits self.old }
         requires low { ahead.at < ahead.end }
         requires place { place ≡ call_place (slice_get scene.now.program.now.ops ahead.at) }
-        ensures { (n : ℕ) → Stepped scene.now.program.now (view_value scene.now.input.now) self.old self.new n n
-            result }
+        requires none { piece.old ≡ None }
+        ensures stepped { (n : ℕ) → SteppedInto scene.now.program.now (view_value scene.now.input.now) self.old self.new
+            n n (output room.old room.new piece.new) result }
+        ensures spares { Spares (output room.old room.new piece.new) result }
     {
         let text = match text_at(scene, self.bound.as_slice(), at) {
             Ok(text) => text,
@@ -149,6 +168,8 @@ impl Machine {
             place,
             Source::Made(text),
             ValueClass::Text,
+            room,
+            piece,
         )
     }
 }

@@ -1,8 +1,4 @@
-use Rattle.std.proofs.Common.{◌≤◌, ◌+◌, arith, drop, map}
-use Rattle.soy_tree.specs.Cost.{cost}
-use Rattle.soy_tree.specs.ViewExpressions.{view_expr}
-use Rattle.template_ir.specs.ViewOps.{view_branch}
-use Rattle.render_core.specs.Chosen.{branch_chosen}
+use Rattle.std.proofs.Common.{arith}
 use Rattle.render_core.specs.Seen.{env_seen}
 use Rattle.render_core.proofs.Choices.{branch_least}
 use Rattle.render_core.proofs.choosing.branch_taken.Goals as goal

@@ -1,4 +1,4 @@
-use Rattle.std.proofs.Common.{◌≤◌, ◌+◌, arith}
+use Rattle.std.proofs.Common.{arith}
 use Rattle.soy_expr.specs.ViewShallow.{view_shallow}
 use Rattle.render_core.specs.Seen.{env_seen}
 use Rattle.render_core.proofs.Choices.{choice_least}

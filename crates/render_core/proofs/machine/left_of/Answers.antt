@@ -1,7 +1,7 @@
-use Rattle.std.proofs.Common.{ℕ, ◌≡◌, ◌<◌, length, List, refl, arith}
+use Rattle.std.proofs.Common.{List, refl, arith}
 use Rattle.soy_tree.specs.Values as values
 use Rattle.template_ir.specs.declared.program.ProgramParts.{ProgramParts}
-use Rattle.render_core.specs.Rest.{PieceFits, piece_left}
+use Rattle.render_core.specs.Rest.{PieceFits}
 use Rattle.render_core.specs.declared.held.Bound.{Bound}
 use Rattle.render_core.proofs.machine.left_of.Goals as goal
 

@@ -1,10 +1,8 @@
-use Rattle.std.proofs.Common.{◌≡◌, ℕ, sym, ap, ◌∙◌, take}
-use Rattle.soy_tree.specs.Values.{NullValue}
+use Rattle.std.proofs.Common.{sym, ap, ◌∙◌}
 use Rattle.soy_expr.specs.Parts.{child}
 use Rattle.render_core.specs.Finds.{part_value}
-use Rattle.render_core.specs.Seen.{cells_seen, input_seen, program_seen}
-use Rattle.render_core.specs.Variables.{cell_at, led}
-use Rattle.render_core.specs.declared.held.Held.TheVariants as held
+use Rattle.render_core.specs.Seen.{input_seen, program_seen}
+use Rattle.render_core.specs.Variables.{led}
 use Rattle.render_core.proofs.Cells.{part_is, part_lost, part_lower, part_none}
 use Rattle.render_core.proofs.Values.{led_null}
 use Rattle.render_core.proofs.parts.+part_at.Goals as goal

@@ -1,9 +1,8 @@
-use Rattle.std.proofs.Common.{◌≡◌, ◌+◌, ap, ◌∙◌}
+use Rattle.std.proofs.Common.{◌+◌, ap, ◌∙◌}
 use Rattle.soy_tree.specs.Val.{Known}
 use Rattle.soy_tree.specs.ViewExpressions.{view_expr}
-use Rattle.soy_tree.specs.ViewValues.{view_value}
 use Rattle.soy_expr.specs.ViewEvaluated.{view_made}
-use Rattle.render_core.specs.Seen.{cells_seen, env_seen}
+use Rattle.render_core.specs.Seen.{env_seen}
 use Rattle.render_core.proofs.Finds.{plain_value, same_cost}
 use Rattle.render_core.proofs.valuing.plain_value.Goals as goal
 

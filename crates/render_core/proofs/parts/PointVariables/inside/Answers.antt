@@ -1,4 +1,4 @@
-use Rattle.std.proofs.Common.{◌≡◌, ap, ◌∙◌}
+use Rattle.std.proofs.Common.{ap, ◌∙◌}
 use Rattle.soy_expr.specs.Parts.{child}
 use Rattle.render_core.specs.Seen.{cells_seen}
 use Rattle.render_core.specs.Variables.{cell_at, led}

@@ -1,4 +1,4 @@
-use Rattle.std.proofs.Common.{◌≡◌, ap, ◌∙◌, sym, length, ◌≤◌, arith, ℕ, List, Option}
+use Rattle.std.proofs.Common.{ap, ◌∙◌, sym, length, ◌≤◌, arith, ℕ, List, Option}
 use Rattle.std.specs.List.{slice_get}
 use Rattle.soy_tree.specs.ViewTrees.{view_params}
 use Rattle.soy_tree.specs.ViewValues.{view_value}

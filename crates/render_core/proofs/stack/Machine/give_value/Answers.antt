@@ -1,11 +1,11 @@
 use Rattle.std.proofs.Common.{ℕ, List, refl, sym, ◌∙◌, subst}
 use Rattle.soy_tree.specs.ViewValues.{view_value}
-use Rattle.render_core.specs.Stepping.{GaveForm}
-use Rattle.render_core.proofs.GivenForms.{form_same, left_at, piece_fits_at}
+use Rattle.render_core.specs.Stepping.{GaveForm, output}
+use Rattle.render_core.proofs.GivenForms.{form_same, given_at}
 use Rattle.render_core.proofs.stack.Machine.give_value.Goals as goal
 
-pub returns-in-Ok : goal.returns-in-Ok
-returns-in-Ok c =
+pub returns-in-Ok-clause-gave : goal.returns-in-Ok-clause-gave
+returns-in-Ok-clause-gave c =
     let p = c.args.scene.now.program.now in
     let v = c.args.scene.now.input.now in
     let old = c.args.self.now in
@@ -17,20 +17,20 @@ returns-in-Ok c =
       refl,
       refl,
       sym c.is_empty.ensures ∙ c.if-is_empty.true,
-      left_at pt p v old.bound.items at.program at.input at.bound c.in-Ok.begun c.args.place c.args.source c.args.class
-          known.left,
-      piece_fits_at pt p v old.bound.items at.program at.input at.bound c.in-Ok.begun known.fits,
+      given_at pt p v old.bound.items at.program at.input at.bound c.args.place c.args.source c.args.class
+          (output c.args.room.now c.give_form.new.room c.give_form.new.piece) c.in-Ok.n known.given,
     )
 
-pub returns-in-Ok-escaped_whole : goal.returns-in-Ok-escaped_whole
-returns-in-Ok-escaped_whole c =
+pub returns-in-Ok-escaped_whole-clause-gave : goal.returns-in-Ok-escaped_whole-clause-gave
+returns-in-Ok-escaped_whole-clause-gave c =
     let p = c.args.scene.now.program.now in
     let v = c.args.scene.now.input.now in
     let old = c.args.self.now in
     let pt = c.point-else-is_empty.result in
     let at = c.point-else-is_empty.ensures in
-    subst (λ (form : List ℕ). GaveForm p (view_value v) old c.gather_more.new.self c.args.next form
+    let out = output c.args.room.now c.args.room.now c.args.piece.now in
+    subst (λ (form : List ℕ). GaveForm p (view_value v) old c.gather_more.new.self c.args.next form out
     c.gather_more.result)
     (c.in-Ok-escaped_whole.ensures
     ∙ form_same pt p v old.bound.items at.program at.input at.bound c.args.place c.args.source c.args.class)
-    (c.gather_more.ensures p (view_value v))
+    (c.gather_more.ensures.gave p (view_value v) out)

@@ -1,4 +1,4 @@
-use Rattle.std.proofs.Common.{◌+◌, ◌≤◌, ◌∙◌, ap, arith, sym}
+use Rattle.std.proofs.Common.{◌∙◌, ap, arith, sym}
 use Rattle.soy_tree.specs.Val.{binding}
 use Rattle.soy_tree.specs.ViewValues.{view_value}
 use Rattle.soy_meaning.specs.Giving.{RunEnv}

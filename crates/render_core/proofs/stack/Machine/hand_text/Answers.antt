@@ -1,4 +1,3 @@
-use Rattle.std.proofs.Common.{◌+◌, ◌≤◌, arith}
 use Rattle.soy_tree.specs.ViewValues.{view_value}
 use Rattle.render_core.proofs.Handings.{hand_gathers}
 use Rattle.render_core.proofs.TextEnds.{same_stays}

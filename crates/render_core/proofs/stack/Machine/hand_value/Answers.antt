@@ -1,4 +1,4 @@
-use Rattle.std.proofs.Common.{Ok, ◌+◌, ◌≤◌, arith}
+use Rattle.std.proofs.Common.{Ok, arith}
 use Rattle.soy_tree.specs.ViewExpressions.{view_expr}
 use Rattle.soy_tree.specs.ViewValues.{view_value}
 use Rattle.soy_meaning.specs.Giving.{RunEnv}

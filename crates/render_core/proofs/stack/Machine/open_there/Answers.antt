@@ -1,4 +1,4 @@
-use Rattle.std.proofs.Common.{◌<◌, arith, subst, sym}
+use Rattle.std.proofs.Common.{arith, subst, sym}
 use Rattle.soy_tree.specs.ViewValues.{view_value}
 use Rattle.render_core.specs.Stepping.{IsBlockKind}
 use Rattle.render_core.proofs.Openings.{stop_opens}

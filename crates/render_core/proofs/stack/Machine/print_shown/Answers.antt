@@ -4,15 +4,15 @@ use Rattle.render_core.specs.Variables.{cells_of}
 use Rattle.render_core.specs.Forms.{form_at}
 use Rattle.render_core.specs.Rest.{source_text}
 use Rattle.render_core.specs.Shows.{Shows}
-use Rattle.render_core.specs.Stepping.{GaveForm}
+use Rattle.render_core.specs.Stepping.{GaveForm, output}
 use Rattle.render_core.specs.declared.frame.Ahead.{Ahead}
 use Rattle.render_core.specs.declared.frame.Frame.TheVariants as frame
 use Rattle.render_core.specs.declared.showing.Shown.{Shown}
 use Rattle.render_core.proofs.Gives.{block_prints, value_prints}
 use Rattle.render_core.proofs.stack.Machine.print_shown.Goals as goal
 
-pub returns-in-Value : goal.returns-in-Value
-returns-in-Value c b shows =
+pub returns-in-Value-clause-does : goal.returns-in-Value-clause-does
+returns-in-Value-clause-does c b shows =
     let p = c.args.scene.now.program.now in
     let input = view_value c.args.scene.now.input.now in
     let old = c.args.self.now in
@@ -20,15 +20,16 @@ returns-in-Value c b shows =
     let class = c.in-Value.class in
     let source = c.in-Value.source in
     let n = length old.bound.items in
-    value_prints p input old c.give_value.new.self f c.args.place source class n c.give_value.result b c.requires.top
+    let out = output c.args.room.now c.give_value.new.room c.give_value.new.piece in
+    value_prints p input old c.give_value.new.self f c.args.place source class n out c.give_value.result b c.requires.top
     c.requires.fits
     (subst (λ (g : Ahead). GaveForm p input old c.give_value.new.self (frame.Ops g)
-    (form_at c.args.place class (source_text (cells_of p input old.bound.items) source) p.dir) c.give_value.result)
-    c.past.ensures c.give_value.ensures)
+    (form_at c.args.place class (source_text (cells_of p input old.bound.items) source) p.dir) out c.give_value.result)
+    c.past.ensures c.give_value.ensures.gave)
     (subst (λ (s : Shown). Shows p (cells_of p input old.bound.items) n b s) c.in-Value.is shows)
 
-pub returns-in-Ok : goal.returns-in-Ok
-returns-in-Ok c b shows =
+pub returns-in-Ok-clause-does : goal.returns-in-Ok-clause-does
+returns-in-Ok-clause-does c b shows =
     let p = c.args.scene.now.program.now in
     let input = view_value c.args.scene.now.input.now in
     let old = c.args.self.now in
@@ -37,5 +38,5 @@ returns-in-Ok c b shows =
     c.requires.fits c.in-Ok.ensures.top c.in-Ok.ensures.below c.in-Ok.ensures.texts c.in-Ok.ensures.bound
     (subst (λ (s : Shown). Shows p (cells_of p input old.bound.items) n b s) c.in-Block.is shows)
 
-pub returns-in-Err : goal.returns-in-Err
-returns-in-Err c b shows = c.in-Err.ensures.stays
+pub returns-in-Err-clause-does : goal.returns-in-Err-clause-does
+returns-in-Err-clause-does c b shows = c.in-Err.ensures.stays

@@ -1,10 +1,12 @@
-use Rattle.std.proofs.Common.{◌∙◌, ap, length, subst, sym}
+use Rattle.std.proofs.Common.{Ok, ◌∙◌, ap, subst, sym}
 use Rattle.std.specs.List.{slice_get}
 use Rattle.soy_tree.specs.ViewValues.{view_value}
 use Rattle.render_core.specs.Frames.{IsPlainFrame, frame_gives, mark_of}
 use Rattle.render_core.specs.Variables.{cells_of, env_at}
 use Rattle.render_core.specs.declared.frame.Frame.{Frame}
 use Rattle.render_core.specs.declared.frame.Frame.TheVariants as frame
+use Rattle.render_core.specs.Stepping.{output}
+use Rattle.render_core.proofs.Gives.{quiet_step}
 use Rattle.render_core.proofs.Moves.{fits_top}
 use Rattle.render_core.proofs.Openings.{call_none}
 use Rattle.render_core.proofs.Ops.{ahead_end}
@@ -29,7 +31,7 @@ pub step_show-requires-clause-low : goal.step_show-requires-clause-low
 step_show-requires-clause-low g c =
     let p = c.args.scene.now.program.now in
     let input = view_value c.args.scene.now.input.now in
-    (fits_top p input c.args.self.now (frame.Show c.in-Show.ahead c.in-Show.at) c.in-Show.is c.requires).0.0
+    (fits_top p input c.args.self.now (frame.Show c.in-Show.ahead c.in-Show.at) c.in-Show.is c.requires.fits).0.0
 
 pub step_handing-requires-clause-op : goal.step_handing-requires-clause-op
 step_handing-requires-clause-op g c = sym c.in-Some-callee_at.ensures
@@ -51,17 +53,25 @@ leave-requires-in-None-callee_at-clause-none g c =
     ∙ call_none p f h.next (env_at (cells_of p input bound) f.env) (env_at (cells_of p input bound) h.inner)
     (slice_get p.ops f.at) (sym c.in-None-callee_at.ensures)
 
-pub returns-in-None : goal.returns-in-None
-returns-in-None g c = c.leave.ensures _
+pub returns-in-None-clause-stepped : goal.returns-in-None-clause-stepped
+returns-in-None-clause-stepped g c =
+    quiet_step c.args.scene.now.program.now (view_value c.args.scene.now.input.now) c.args.self.now c.leave.new.self c.args.steps.now
+    c.args.steps.now (output c.args.room.now c.args.room.now c.args.piece.now) (Ok c.leave.result) (c.leave.ensures c.args.steps.now)
 
-pub returns-in-Turns : goal.returns-in-Turns
-returns-in-Turns g c = c.step_turn.ensures _
+pub returns-in-Turns-clause-stepped : goal.returns-in-Turns-clause-stepped
+returns-in-Turns-clause-stepped g c =
+    quiet_step c.args.scene.now.program.now (view_value c.args.scene.now.input.now) c.args.self.now c.step_turn.new.self c.args.steps.now
+    c.args.steps.now (output c.args.room.now c.args.room.now c.args.piece.now) c.step_turn.result (c.step_turn.ensures c.args.steps.now)
 
-pub returns-in-Gather : goal.returns-in-Gather
-returns-in-Gather g c = c.step_gathered.ensures _
+pub returns-in-Gather-clause-stepped : goal.returns-in-Gather-clause-stepped
+returns-in-Gather-clause-stepped g c =
+    quiet_step c.args.scene.now.program.now (view_value c.args.scene.now.input.now) c.args.self.now c.step_gathered.new.self c.args.steps.now
+    c.args.steps.now (output c.args.room.now c.args.room.now c.args.piece.now) c.step_gathered.result (c.step_gathered.ensures c.args.steps.now)
 
-pub returns-in-Show : goal.returns-in-Show
-returns-in-Show g c = c.step_show.ensures _
+pub returns-in-None-callee_at-clause-stepped : goal.returns-in-None-callee_at-clause-stepped
+returns-in-None-callee_at-clause-stepped g c =
+    quiet_step c.args.scene.now.program.now (view_value c.args.scene.now.input.now) c.args.self.now c.leave-in-None-callee_at.new.self c.args.steps.now
+    c.args.steps.now (output c.args.room.now c.args.room.now c.args.piece.now) (Ok c.leave-in-None-callee_at.result) (c.leave-in-None-callee_at.ensures c.args.steps.now)
 
-pub returns-in-None-callee_at : goal.returns-in-None-callee_at
-returns-in-None-callee_at g c = c.leave-in-None-callee_at.ensures _
+pub returns-in-Show-clause-stepped : goal.returns-in-Show-clause-stepped
+returns-in-Show-clause-stepped g c = c.step_show.ensures.stepped _

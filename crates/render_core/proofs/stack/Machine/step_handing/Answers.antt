@@ -9,13 +9,13 @@ hand-requires g c = record {
   given = ap (given_at c.args.handing.next) c.requires.op ∙ sym c.in-Some.ensures;
 }
 
-pub open-requires : goal.open-requires
-open-requires g c = record {
+pub open-requires-clause-opens : goal.open-requires-clause-opens
+open-requires-clause-opens g c = record {
   top = c.requires.top;
   fits = c.requires.fits;
   call = c.requires.op;
   last = sym c.in-None.ensures;
 }
 
-pub returns-in-None : goal.returns-in-None
-returns-in-None g c = c.open.ensures _
+pub returns-in-None-clause-stepped : goal.returns-in-None-clause-stepped
+returns-in-None-clause-stepped g c = c.open.ensures.stepped _

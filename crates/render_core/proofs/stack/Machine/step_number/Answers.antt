@@ -8,11 +8,12 @@ use Rattle.soy_tree.specs.ViewValues.{view_value}
 use Rattle.template_ir.specs.Run.{value_gives}
 use Rattle.template_ir.specs.declared.op.Op.TheVariants as op
 use Rattle.render_core.proofs.Moves.{same_self, stays_in}
+use Rattle.render_core.specs.Stepping.{output}
 use Rattle.render_core.proofs.Gives.{does_step}
 use Rattle.render_core.proofs.stack.Machine.step_number.Goals as goal
 
-pub returns-in-Err : goal.returns-in-Err
-returns-in-Err c n =
+pub returns-in-Err-clause-stepped : goal.returns-in-Err-clause-stepped
+returns-in-Err-clause-stepped c n =
     let p = c.args.scene.now.program.now in
     let input = view_value c.args.scene.now.input.now in
     let old = c.args.self.now in
@@ -22,8 +23,8 @@ returns-in-Err c n =
     (let low : n ≤ n = omega arith in let high : n ≤ n + 0 = omega arith in (low, high)) c.requires.fits
     (same_self p input old)
 
-pub returns : goal.returns
-returns c n =
+pub returns-clause-stepped : goal.returns-clause-stepped
+returns-clause-stepped c n =
     let p = c.args.scene.now.program.now in
     let input = view_value c.args.scene.now.input.now in
     let old = c.args.self.now in
@@ -31,6 +32,7 @@ returns c n =
     let fits : SFits w64 f.number = search rules in
     let shows = simp (to_z-of_z fits) at c.in-Ok.ensures in
     does_step p input old c.print_shown.new.self f (op.Number c.args.place) 0
-    (value_gives p.dir c.args.place (IntValue f.number)) n n c.print_shown.result c.requires.top c.requires.fits
+    (value_gives p.dir c.args.place (IntValue f.number)) n n
+    (output c.args.room.now c.print_shown.new.room c.print_shown.new.piece) c.print_shown.result c.requires.top c.requires.fits
     c.requires.op c.requires.low refl (let same : n ≡ n + 0 = omega arith in same)
-    (c.print_shown.ensures (Known (IntValue f.number)) shows)
+    (c.print_shown.ensures.does (Known (IntValue f.number)) shows)

@@ -1,9 +1,11 @@
-use Rattle.std.proofs.Common.{◌∙◌, Some, ap, refl, subst, sym}
+use Rattle.std.proofs.Common.{Ok, ◌∙◌, Some, ap, refl, subst, sym}
 use Rattle.soy_base.specs.declared.kind.Kind.{Kind}
 use Rattle.template_ir.specs.declared.op.Op.{Op}
 use Rattle.template_ir.specs.declared.op.Op.TheVariants as op
 use Rattle.render_core.specs.Rounds.{IsLoopOver}
-use Rattle.render_core.specs.Stepping.{IsBlockKind}
+use Rattle.render_core.specs.Stepping.{IsBlockKind, output}
+use Rattle.soy_tree.specs.ViewValues.{view_value}
+use Rattle.render_core.proofs.Gives.{quiet_step}
 use Rattle.render_core.proofs.stack.Machine.step_op.Goals as goal
 
 pub step_for-requires-clause-list : goal.step_for-requires-clause-list
@@ -22,20 +24,28 @@ step_let_block-requires-clause-kind g c = subst IsBlockKind (sym c.in-Html.is) t
 pub step_let_block-requires-in-Attributes-clause-kind : goal.step_let_block-requires-in-Attributes-clause-kind
 step_let_block-requires-in-Attributes-clause-kind g c = subst IsBlockKind (sym c.in-Attributes.is) tt
 
-pub returns-in-Static : goal.returns-in-Static
-returns-in-Static g c = c.step_static.ensures _
+pub returns-in-Static-clause-stepped : goal.returns-in-Static-clause-stepped
+returns-in-Static-clause-stepped g c = c.step_static.ensures.stepped _
 
-pub returns-in-Number : goal.returns-in-Number
-returns-in-Number g c = c.step_number.ensures _
+pub returns-in-Number-clause-stepped : goal.returns-in-Number-clause-stepped
+returns-in-Number-clause-stepped g c = c.step_number.ensures.stepped _
 
-pub returns-in-Text : goal.returns-in-Text
-returns-in-Text g c = c.step_let_text.ensures _
+pub returns-in-Text-clause-stepped : goal.returns-in-Text-clause-stepped
+returns-in-Text-clause-stepped g c =
+    quiet_step c.args.scene.now.program.now (view_value c.args.scene.now.input.now) c.args.self.now c.step_let_text.new.self c.args.steps.now
+    c.args.steps.now (output c.args.room.now c.args.room.now c.args.piece.now) c.step_let_text.result (c.step_let_text.ensures c.args.steps.now)
 
-pub returns-in-Html : goal.returns-in-Html
-returns-in-Html g c = c.step_let_block.ensures _
+pub returns-in-Html-clause-stepped : goal.returns-in-Html-clause-stepped
+returns-in-Html-clause-stepped g c =
+    quiet_step c.args.scene.now.program.now (view_value c.args.scene.now.input.now) c.args.self.now c.step_let_block.new.self c.args.steps.now
+    c.args.steps.now (output c.args.room.now c.args.room.now c.args.piece.now) c.step_let_block.result (c.step_let_block.ensures c.args.steps.now)
 
-pub returns-in-Attributes : goal.returns-in-Attributes
-returns-in-Attributes g c = c.step_let_block-in-Attributes.ensures _
+pub returns-in-Attributes-clause-stepped : goal.returns-in-Attributes-clause-stepped
+returns-in-Attributes-clause-stepped g c =
+    quiet_step c.args.scene.now.program.now (view_value c.args.scene.now.input.now) c.args.self.now c.step_let_block-in-Attributes.new.self c.args.steps.now
+    c.args.steps.now (output c.args.room.now c.args.room.now c.args.piece.now) c.step_let_block-in-Attributes.result (c.step_let_block-in-Attributes.ensures c.args.steps.now)
 
-pub returns-in-Call : goal.returns-in-Call
-returns-in-Call g c = c.step_call.ensures _
+pub returns-in-Call-clause-stepped : goal.returns-in-Call-clause-stepped
+returns-in-Call-clause-stepped g c =
+    quiet_step c.args.scene.now.program.now (view_value c.args.scene.now.input.now) c.args.self.now c.step_call.new.self c.args.steps.now
+    c.args.steps.now (output c.args.room.now c.args.room.now c.args.piece.now) (Ok c.step_call.result) (c.step_call.ensures c.args.steps.now)

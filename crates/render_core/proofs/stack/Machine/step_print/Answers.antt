@@ -9,14 +9,15 @@ use Rattle.template_ir.specs.declared.op.Op.TheVariants as op
 use Rattle.render_core.specs.Finds.{found_means}
 use Rattle.render_core.specs.Seen.{cells_seen, program_seen}
 use Rattle.render_core.specs.Shows.{Shows}
+use Rattle.render_core.specs.Stepping.{output}
 use Rattle.render_core.specs.Variables.{cells_of, env_at}
 use Rattle.render_core.proofs.Gives.{does_step}
 use Rattle.render_core.proofs.Moves.{same_self, stays_in}
 use Rattle.render_core.proofs.Sights.{finds_at, finds_err, found_at, shows_at}
 use Rattle.render_core.proofs.stack.Machine.step_print.Goals as goal
 
-pub returns-in-Err : goal.returns-in-Err
-returns-in-Err g c =
+pub returns-in-Err-clause-stepped : goal.returns-in-Err-clause-stepped
+returns-in-Err-clause-stepped g c =
     let p = c.args.scene.now.program.now in
     let v = c.args.scene.now.input.now in
     let input = view_value v in
@@ -28,8 +29,8 @@ returns-in-Err g c =
     stays_in p input old old f (op.Print c.args.expr.now c.args.place) _ _ _ _ c.requires.top c.requires.op
     c.requires.low refl known c.requires.fits (same_self p input old)
 
-pub returns-in-Err-how_shown : goal.returns-in-Err-how_shown
-returns-in-Err-how_shown g c =
+pub returns-in-Err-how_shown-clause-stepped : goal.returns-in-Err-how_shown-clause-stepped
+returns-in-Err-how_shown-clause-stepped g c =
     let p = c.args.scene.now.program.now in
     let v = c.args.scene.now.input.now in
     let input = view_value v in
@@ -41,8 +42,8 @@ returns-in-Err-how_shown g c =
     stays_in p input old old f (op.Print c.args.expr.now c.args.place) _ _ _ _ c.requires.top c.requires.op
     c.requires.low refl (omega (arith, known.2), omega (arith, known.2)) c.requires.fits (same_self p input old)
 
-pub returns : goal.returns
-returns g c =
+pub returns-clause-stepped : goal.returns-clause-stepped
+returns-clause-stepped g c =
     let p = c.args.scene.now.program.now in
     let v = c.args.scene.now.input.now in
     let input = view_value v in
@@ -62,8 +63,9 @@ returns g c =
     let shows = shows_at pt p v old.bound.items there.program there.input there.bound found shown
     c.in-Ok-how_shown.ensures in
     does_step p input old c.print_shown.new.self f (op.Print c.args.expr.now c.args.place) (cost e env)
-    (print_gives p.dir c.args.place (val e env)) c.args.steps.now c.value_of.new.steps c.print_shown.result
+    (print_gives p.dir c.args.place (val e env)) c.args.steps.now c.value_of.new.steps
+    (output c.args.room.now c.print_shown.new.room c.print_shown.new.piece) c.print_shown.result
     c.requires.top c.requires.fits c.requires.op c.requires.low refl known.2
-    (c.print_shown.ensures (val e env)
+    (c.print_shown.ensures.does (val e env)
     (subst (λ (b : Binding BoundBlock). Shows p (cells_of p input old.bound.items) (length old.bound.items) b shown)
     means shows))
