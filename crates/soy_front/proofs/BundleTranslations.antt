@@ -15,7 +15,7 @@ use Rattle.html_context.specs.ChosenTranslation.{chosen_translation}
 use Rattle.soy_front.specs.Accepted.{Brings}
 
 -- the translation of an id, among ids with parts
-brought_parts : List (List ℕ × MsgParts) → List ℕ → Option MsgParts
+abbrev brought_parts : List (List ℕ × MsgParts) → List ℕ → Option MsgParts
 brought_parts [] id = None
 brought_parts (t ∷ ts) id = if bytes_eq t.0 id then Some t.1 else brought_parts ts id
 
