@@ -3,16 +3,17 @@ use Rattle.std.proofs.Common.{◌≡◌, ℕ, zero, suc, ◌+◌, ◌<◌, Bool,
 use Rattle.std.proofs.Common.{nat_lt, List, [], ◌∷◌, ◌++◌, length, take, slice_index, encode_utf8_all, refl, sym, ap}
 use Rattle.std.proofs.Common.{subst, ◌∙◌, append_assoc, append-nil, length-append, arith}
 use Rattle.std.specs.Char.{len_utf8}
-use Rattle.std.specs.List.{list_any, flat_map, enumerate_from, range_with_len}
-use Rattle.std.proofs.lemmas.Bool.{and_left, and_right, eq-eqb, ne_eqb, or_parts, or_from}
+use Rattle.std.specs.List.{list_all, list_any, flat_map, enumerate_from, range_with_len}
+use Rattle.std.proofs.lemmas.Bool.{and_left, and_parts, and_right, eq-eqb, ne_eqb, or_parts, or_from}
 use Rattle.std.proofs.lemmas.List.{take_at}
-use Rattle.std.proofs.lemmas.List.Folds.{list_any-append}
+use Rattle.std.proofs.lemmas.List.Folds.{list_all-append, list_any-append}
 use Rattle.std.proofs.lemmas.Str.{len_utf8_bounds}
 use Rattle.bidi_class.specs.Class as classes
 use Rattle.bidi_class.specs.Pairs.{is_in_pair, is_initiator, is_pair}
-use Rattle.bidi_text.specs.Clean.{dropped_byte, is_dropped, is_isolate_control}
+use Rattle.bidi_class.specs.Class.{bidi_class}
+use Rattle.bidi_text.specs.Clean.{dropped_byte, is_dropped, is_isolate_control, is_separator}
 use Rattle.soy_base.specs.ByteLength.{byte_len}
-use Rattle.value_cursor.specs.Cleaned.{Cleans, is_left_out}
+use Rattle.value_cursor.specs.Cleaned.{Cleans, is_clean, is_left_out}
 use Rattle.value_cursor.specs.declared.cleaning.Cleaning.{Cleaning}
 use Rattle.value_cursor.specs.declared.cleaning.Cleaning.TheVariants as cleaning
 use Rattle.value_cursor.proofs.Forms.{byte_len-encodes}
@@ -151,11 +152,31 @@ no_pairs text none index =
     none_in_range (λ other. is_pair text index other || is_pair text other index)
     (λ other. or_from _ _ (no_pair text none index other) (no_pair text none other index)) 0 (length text)
 
+-- a clean character
+pub clean_within : (text before : List ℕ) (c : ℕ) (after : List ℕ) → list_all is_clean text ≡ true
+    → text ≡ before ++ (c ∷ after) → is_clean c ≡ true
+clean_within text before c after clean whole =
+    let parts = and_parts (list_all is_clean before) (list_all is_clean (c ∷ after))
+    (sym (list_all-append is_clean before (c ∷ after)) ∙ (sym (ap (list_all is_clean) whole) ∙ clean)) in
+    (and_parts (is_clean c) (list_all is_clean after) parts.1).0
+
+clean_control : (c : ℕ) → is_clean c ≡ true → is_isolate_control c ≡ false
+clean_control c clean =
+    not_true (is_isolate_control c)
+    (and_parts (not (is_isolate_control c)) (not (is_separator (bidi_class c))) clean).0
+  where
+    not_true : (b : Bool) → not b ≡ true → b ≡ false
+    not_true true e = cc
+    not_true false e = refl
+
 -- what is left out of a wrapped text is what is dropped of it
 pub left_out_is_dropped : (what : Cleaning) (text before : List ℕ) (c : ℕ) (after : List ℕ) → Cleans what text
     → text ≡ before ++ (c ∷ after)
     → (is_isolate_control c && is_left_out what (byte_len before)) ≡ is_dropped text (length before, c)
-left_out_is_dropped cleaning.Nothing text before c after cleans whole = let e : false ≡ true = cleans in cc
+left_out_is_dropped cleaning.Nothing text before c after cleans whole =
+    ap (λ b. b && false) (clean_control c (clean_within text before c after cleans whole))
+    ∙ sym (ap (λ b. b && not (is_in_pair text (length before)))
+    (clean_control c (clean_within text before c after cleans whole)))
 left_out_is_dropped cleaning.Unpaired text before c after cleans whole =
     ap (λ b. is_isolate_control c && not b) (sym (no_pairs text cleans (length before)))
 left_out_is_dropped (cleaning.Marked marks) text before c after cleans whole =

@@ -5,25 +5,46 @@ use Rattle.std.specs.Char.{len_utf8}
 use Rattle.std.specs.List.{flat_map, enumerate_from}
 use Rattle.std.specs.Option.{option_map_or}
 use Rattle.std.proofs.lemmas.Grind.{flat_map-append}
-use Rattle.bidi_text.specs.Clean.{cleaned_character, cleaned_text, is_dropped, is_isolate_control, spaced}
+use Rattle.std.proofs.lemmas.Bool.{and_parts}
+use Rattle.std.specs.Prelude.{not}
+use Rattle.bidi_class.specs.Class.{bidi_class}
+use Rattle.bidi_text.specs.Clean.{cleaned_character, cleaned_text, is_dropped, is_isolate_control, is_separator, spaced}
+use Rattle.soy_base.specs.Characters.{space}
 use Rattle.esc_table.specs.EscapedText.{escaped_character as row_or_character, escaped_text}
 use Rattle.esc_table.specs.HtmlRows.{html_rows}
 use Rattle.escapers.specs.declared.escaper.Escaper.TheVariants as escaper
 use Rattle.escapers.specs.Esc.{escaped_character}
 use Rattle.soy_base.specs.ByteLength.{byte_len}
 use Rattle.value_cursor.specs.BytesLeft.{form, forms}
-use Rattle.value_cursor.specs.Cleaned.{Cleans, cleaned, is_left_out}
+use Rattle.value_cursor.specs.Cleaned.{Cleans, cleaned, is_clean, is_left_out}
 use Rattle.value_cursor.specs.declared.cleaning.Cleaning.{Cleaning}
 use Rattle.value_cursor.specs.declared.cleaning.Cleaning.TheVariants as cleaning
 use Rattle.value_cursor.specs.declared.plan.Plan.{Plan}
-use Rattle.value_cursor.proofs.LeftOut.{left_out_is_dropped}
+use Rattle.value_cursor.proofs.LeftOut.{clean_within, left_out_is_dropped}
+
+-- a clean character is unchanged
+clean_same : (c : ℕ) → is_clean c ≡ true → spaced c ≡ c
+clean_same c clean =
+    by (is_separator (bidi_class c))
+    (and_parts (not (is_isolate_control c)) (not (is_separator (bidi_class c))) clean).1
+  where
+    by : (b : Bool) → not b ≡ true → (if b then space else c) ≡ c
+    by true e = cc
+    by false e = refl
+
+none_left : (b : Bool) → (b && false) ≡ false
+none_left true = refl
+none_left false = refl
 
 -- a text that is wrapped is cleaned
-cleaned_is : (what : Cleaning) (text : List ℕ) (offset c : ℕ) → Cleans what text
+cleaned_is : (what : Cleaning) (text before : List ℕ) (c : ℕ) (after : List ℕ) (offset : ℕ) → Cleans what text
+    → text ≡ before ++ (c ∷ after)
     → cleaned what offset c ≡ (if is_isolate_control c && is_left_out what offset then None else Some (spaced c))
-cleaned_is cleaning.Nothing text offset c cleans = let e : false ≡ true = cleans in cc
-cleaned_is cleaning.Unpaired text offset c cleans = refl
-cleaned_is (cleaning.Marked marks) text offset c cleans = refl
+cleaned_is cleaning.Nothing text before c after offset cleans whole =
+    ap Some (sym (clean_same c (clean_within text before c after cleans whole)))
+    ∙ ap (λ b. if b then None else Some (spaced c)) (sym (none_left (is_isolate_control c)))
+cleaned_is cleaning.Unpaired text before c after offset cleans whole = refl
+cleaned_is (cleaning.Marked marks) text before c after offset cleans whole = refl
 
 -- a character's form, by whether it is left out
 form_by : (flag : Bool) (c : ℕ)
@@ -42,7 +63,7 @@ module _ (plan : Plan) (text : List ℕ) (html : plan.how ≡ escaper.Html) (cle
   form_is before c after whole =
       ap (λ how. option_map_or (escaped_character how) (cleaned plan.cleaning (byte_len before) c) []) html
       ∙ ap (λ o. option_map_or (row_or_character html_rows) o [])
-      (cleaned_is plan.cleaning text (byte_len before) c cleans
+      (cleaned_is plan.cleaning text before c after (byte_len before) cleans whole
       ∙ ap (λ b. if b then None else Some (spaced c))
       (left_out_is_dropped plan.cleaning text before c after cleans whole))
       ∙ form_by (is_dropped text (length before, c)) c

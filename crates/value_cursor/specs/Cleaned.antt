@@ -1,15 +1,16 @@
 -- What is cleaned of a text, character by character: an isolate control may be left out, by the byte offset at which it
 -- stands, and a separator of paragraphs or segments becomes a space.
 --
--- A text that isn't wrapped is unchanged. Of a wrapped text without an isolate initiator every isolate control is left
+-- A text that isn't wrapped is unchanged, and so is one with neither. Of a wrapped text without an isolate initiator every isolate control is left
 -- out, since none is in a pair; of another, those at the marked offsets (UAX #9, BD9).
 --
 -- Of `a`, U+2069 the character at the offset 1 is left out.
-use Rattle.std.specs.Prelude.{◌≡◌, ℕ, Bool, true, false, IsTrue, ◌&&◌, ◌==◌, List, Option, None, Some, if◌then◌else◌}
-use Rattle.std.specs.List.{list_any}
+use Rattle.std.specs.Prelude.{◌≡◌, ℕ, Bool, true, false, not, ◌&&◌, nat_le, nat_lt, ◌==◌, List, Option, None, Some, if◌then◌else◌}
+use Rattle.std.specs.List.{list_all, list_any}
 use Rattle.std.specs.List.Sorted.{IsStrictlyIncreasing}
 use Rattle.bidi_class.specs.Pairs.{is_initiator}
-use Rattle.bidi_text.specs.Clean.{dropped_bytes, is_isolate_control, spaced}
+use Rattle.bidi_class.specs.Class.{bidi_class}
+use Rattle.bidi_text.specs.Clean.{dropped_bytes, is_isolate_control, is_separator, spaced}
 use Rattle.value_cursor.specs.declared.cleaning.Cleaning.{Cleaning}
 use Rattle.value_cursor.specs.declared.cleaning.Cleaning.TheVariants as cleaning
 
@@ -33,8 +34,16 @@ abbrev pub MarksAscend : Cleaning → Type 0
 MarksAscend (cleaning.Marked marks) = IsStrictlyIncreasing marks.places
 MarksAscend _ = Unit {0}
 
+-- a character that no cleaning changes or leaves out
+abbrev pub is_clean : ℕ → Bool
+is_clean c = not (is_isolate_control c) && not (is_separator (bidi_class c))
+
+-- a printable character of ASCII, which is clean
+abbrev pub is_printable : ℕ → Bool
+is_printable c = nat_le 32 c && nat_lt c 127
+
 -- it is what is cleaned of this text where it is wrapped
 abbrev pub Cleans : Cleaning → List ℕ → Type 0
-Cleans cleaning.Nothing text = IsTrue false
+Cleans cleaning.Nothing text = list_all is_clean text ≡ true
 Cleans cleaning.Unpaired text = list_any is_initiator text ≡ false
 Cleans (cleaning.Marked marks) text = marks.places ≡ dropped_bytes text

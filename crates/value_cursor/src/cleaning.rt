@@ -1,11 +1,9 @@
 //! What is cleaned of a text's characters before they are escaped.
-ghost use Rattle.std.specs.Prelude.{◌≡◌, not, OnErr, IfOk, IsTrue, ◌&&◌};
-ghost use Rattle.std.specs.List.{list_any};
+ghost use Rattle.std.specs.Prelude.{◌≡◌, OnErr, IfOk, IsTrue, true};
+ghost use Rattle.std.specs.List.{list_all, list_any};
 ghost use Rattle.std.specs.Str.{chars};
-ghost use Rattle.bidi_class.specs.Class.{bidi_class};
 ghost use Rattle.bidi_class.specs.Pairs.{is_initiator};
-ghost use Rattle.bidi_text.specs.Clean.{is_isolate_control, is_separator};
-ghost use Rattle.value_cursor.specs.Cleaned.{MarksAscend, cleaned, is_left_out, Cleans};
+ghost use Rattle.value_cursor.specs.Cleaned.{MarksAscend, cleaned, is_clean, is_left_out, is_printable, Cleans};
 
 use bidi_class::{Class, class_of, is_initiator};
 use bidi_text::{Marks, marks};
@@ -30,6 +28,9 @@ impl Cleaning {
         ensures ascending { IfOk result MarksAscend }
         ensures memory { OnErr result (IsTrue (list_any is_initiator (chars text.now))) }
     {
+        if is_printable(text) {
+            return Ok(Cleaning::Nothing);
+        }
         if !has_initiator(text) {
             return Ok(Cleaning::Unpaired);
         }
@@ -66,6 +67,26 @@ impl Cleaning {
     }
 }
 
+/// Whether all characters are printable ones of ASCII. Of those none is left out or becomes a space.
+#[tactic(auto, using(crate::proofs::Printable::printable_clean))]
+fn is_printable(text: &str) -> bool
+    ensures { result ≡ true → list_all is_clean (chars text.now) ≡ true }
+{
+    all_printable(text.as_bytes())
+}
+
+fn all_printable(bytes: &[u8]) -> bool
+    ensures { result ≡ list_all is_printable bytes.now }
+{
+    bytes.iter().all(|byte| is_printable_byte(*byte))
+}
+
+fn is_printable_byte(byte: u8) -> bool
+    ensures { result ≡ is_printable byte }
+{
+    byte >= 0x20 && byte < 0x7f
+}
+
 /// Whether the text has an isolate initiator.
 fn has_initiator(text: &str) -> bool
     ensures { result ≡ list_any is_initiator (chars text.now) }
@@ -75,7 +96,7 @@ fn has_initiator(text: &str) -> bool
 
 /// Whether no cleaning changes the character or leaves it out.
 pub(crate) fn is_clean(c: char) -> bool
-    ensures { result ≡ (not (is_isolate_control c) && not (is_separator (bidi_class c))) }
+    ensures { result ≡ is_clean c }
 {
     !matches!(
         class_of(c),
