@@ -16,7 +16,8 @@ use Rattle.soy_expr.proofs.Forgetting.{forgotten_cost, forgotten_val}
 use Rattle.soy_meaning.specs.Giving.{RunEnv}
 use Rattle.template_ir.specs.declared.program.ProgramParts.{ProgramParts}
 use Rattle.render_core.specs.Finds.{IsPlain, binding_at, bound_binding}
-use Rattle.render_core.specs.Variables.{Cell, bound_means, cell_at, cells_of, env_at, held_means, led, name_or_none}
+use Rattle.render_core.specs.Variables.{Cell, bound_means, cell_at, cells_of, env_at, held_means, led, name_or_none, path_of}
+use Rattle.render_core.specs.Variables.{path_steps}
 use Rattle.render_core.specs.Variables.{name_there, part_held, path_value}
 use Rattle.render_core.specs.declared.held.Bound.{Bound}
 use Rattle.render_core.specs.declared.held.Held.{Held}
@@ -81,13 +82,13 @@ module _ (p : ProgramParts) (input : Value) (bound : List Bound) where
 
   -- ---- variables that are bound to parts
 
-  pub whole_value : (at : ℕ) (path : Path) → path.of ≡ at → path.steps.items ≡ []
+  pub whole_value : (at : ℕ) (path : Path) → path_of path ≡ at → path_steps path ≡ []
       → path_value (cells_of p input bound) path ≡ (cell_at (cells_of p input bound) at).part
   whole_value at path of steps =
-      ap (λ k. led path.steps.items (cell_at (cells_of p input bound) k).part) of
+      ap (λ k. led (path_steps path) (cell_at (cells_of p input bound) k).part) of
       ∙ ap (λ ns. led ns (cell_at (cells_of p input bound) at).part) steps
 
-  part_found : (at : ℕ) (b : Bound) (path : Path) → Some b ≡ slice_get bound at → path.of ≡ at → path.steps.items ≡ []
+  part_found : (at : ℕ) (b : Bound) (path : Path) → Some b ≡ slice_get bound at → path_of path ≡ at → path_steps path ≡ []
       → held_means p input (take at (cells_of p input bound)) b.to
       ≡ Known (part_held input (take at (cells_of p input bound)) b.to)
       → Known (path_value (cells_of p input bound) path) ≡ binding_at p input bound at
@@ -103,24 +104,24 @@ module _ (p : ProgramParts) (input : Value) (bound : List Bound) where
       ap Known (part_there p input bound at b (sym is))
       ∙ (sym means ∙ ap (bound_binding p input (take at (cells_of p input bound))) is)
 
-  pub found_root : (at : ℕ) (b : Bound) (path : Path) → Some b ≡ slice_get bound at → path.of ≡ at
-      → path.steps.items ≡ [] → b.to ≡ held.Root
+  pub found_root : (at : ℕ) (b : Bound) (path : Path) → Some b ≡ slice_get bound at → path_of path ≡ at
+      → path_steps path ≡ [] → b.to ≡ held.Root
       → Known (path_value (cells_of p input bound) path) ≡ binding_at p input bound at
   found_root at b path is of steps to =
       part_found at b path is of steps
       (subst (λ (h : Held). held_means p input (take at (cells_of p input bound)) h
       ≡ Known (part_held input (take at (cells_of p input bound)) h)) (sym to) refl)
 
-  pub found_item : (at : ℕ) (b : Bound) (path : Path) (k n : ℕ) → Some b ≡ slice_get bound at → path.of ≡ at
-      → path.steps.items ≡ [] → b.to ≡ held.Item k n
+  pub found_item : (at : ℕ) (b : Bound) (path : Path) (k n : ℕ) → Some b ≡ slice_get bound at → path_of path ≡ at
+      → path_steps path ≡ [] → b.to ≡ held.Item k n
       → Known (path_value (cells_of p input bound) path) ≡ binding_at p input bound at
   found_item at b path k n is of steps to =
       part_found at b path is of steps
       (subst (λ (h : Held). held_means p input (take at (cells_of p input bound)) h
       ≡ Known (part_held input (take at (cells_of p input bound)) h)) (sym to) refl)
 
-  pub found_path : (at : ℕ) (b : Bound) (path other : Path) → Some b ≡ slice_get bound at → path.of ≡ at
-      → path.steps.items ≡ [] → b.to ≡ held.Part other
+  pub found_path : (at : ℕ) (b : Bound) (path other : Path) → Some b ≡ slice_get bound at → path_of path ≡ at
+      → path_steps path ≡ [] → b.to ≡ held.Part other
       → Known (path_value (cells_of p input bound) path) ≡ binding_at p input bound at
   found_path at b path other is of steps to =
       part_found at b path is of steps

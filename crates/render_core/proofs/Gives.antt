@@ -22,8 +22,8 @@ use Rattle.template_ir.specs.declared.op.Op.{Op}
 use Rattle.template_ir.specs.declared.program.ProgramParts.{ProgramParts}
 use Rattle.render_core.specs.Forms.{form_at}
 use Rattle.render_core.specs.Frames.{FramesFit, MachineFits, machine_gives, ops_ahead, over, past, past_with}
-use Rattle.render_core.specs.Rest.{first_spent, piece_bytes, piece_text, source_text}
-use Rattle.render_core.specs.Shows.{Shows, kept_child}
+use Rattle.render_core.specs.Rest.{first_spent, piece_bytes, piece_text}
+use Rattle.render_core.specs.Shows.{Shows, kept_child, print_text}
 use Rattle.render_core.specs.Stepping.{Binds, Does, GaveForm, Given, GoesIn, IsSame, Output, Silent}
 use Rattle.render_core.specs.Stepping.{Stays, Stepped, SteppedInto}
 use Rattle.render_core.specs.Stepping.{pending}
@@ -38,7 +38,7 @@ use Rattle.render_core.specs.declared.held.Held.{Held}
 use Rattle.render_core.specs.declared.held.Kept.{Kept}
 use Rattle.render_core.specs.declared.held.Naming.{Naming}
 use Rattle.render_core.specs.declared.showing.Shown.TheVariants as shown
-use Rattle.render_core.specs.declared.showing.Source.{Source}
+use Rattle.render_core.specs.declared.showing.Print.{Print}
 use Rattle.render_core.specs.declared.stack.Machine.{Machine}
 use Rattle.render_core.specs.declared.stack.Step.{Step}
 use Rattle.render_core.specs.declared.stack.Step.TheVariants as step
@@ -160,16 +160,16 @@ module _ (p : ProgramParts) (input : values.Value) where
   -- ---- prints
 
   -- a value that is shown so has this piece
-  pub shown_piece : (point : Place) (v : values.Value) (source : Source) (class : ValueClass) (n : ℕ)
+  pub shown_piece : (point : Place) (v : values.Value) (text : Print) (class : ValueClass) (n : ℕ)
       (bound : List Bound)
-      → Shows p (cells_of p input bound) n (Known v) (shown.Value source class)
+      → Shows p (cells_of p input bound) n (Known v) (shown.Value text class)
       → print_gives p.dir point (Known v)
-      ≡ GivesPiece none_spent (Value (form_at point class (source_text (cells_of p input bound) source) p.dir))
+      ≡ GivesPiece none_spent (Value (form_at point class (print_text (cells_of p input bound) text) p.dir))
       gives_nothing
-  shown_piece point v source class n bound h =
-      ap (λ text. GivesPiece none_spent (Value (form_at point (value_class v) text p.dir)) gives_nothing) (sym h.0)
+  shown_piece point v text class n bound h =
+      ap (λ t. GivesPiece none_spent (Value (form_at point (value_class v) t p.dir)) gives_nothing) (sym h.0)
       ∙ ap (λ k. GivesPiece none_spent
-      (Value (form_at point k (source_text (cells_of p input bound) source) p.dir)) gives_nothing)
+      (Value (form_at point k (print_text (cells_of p input bound) text) p.dir)) gives_nothing)
       (sym h.1)
 
   -- a block that is printed
@@ -197,19 +197,19 @@ module _ (p : ProgramParts) (input : values.Value) where
         quiet = ap (pending p) top;
       }
 
-  pub value_prints : (old new : Machine) (f : Ahead) (point : Place) (source : Source) (class : ValueClass) (n : ℕ)
+  pub value_prints : (old new : Machine) (f : Ahead) (point : Place) (text : Print) (class : ValueClass) (n : ℕ)
       (out : Output) (result : Result Step OutOfMemory) (b : Binding BoundBlock) → old.top ≡ frame.Ops f → MachineFits old
       → GaveForm p input old new (frame.Ops (past f))
-      (form_at point class (source_text (cells_of p input old.bound.items) source) p.dir) out result
-      → Shows p (cells_of p input old.bound.items) n b (shown.Value source class)
+      (form_at point class (print_text (cells_of p input old.bound.items) text) p.dir) out result
+      → Shows p (cells_of p input old.bound.items) n b (shown.Value text class)
       → Does p input old new f (print_gives p.dir point b) out result
-  value_prints old new f point source class n out result (Known v) top fits gave h =
+  value_prints old new f point text class n out result (Known v) top fits gave h =
       subst (λ (x : Outcome). Does p input old new f x out result)
-      (sym (shown_piece point v source class n old.bound.items h))
+      (sym (shown_piece point v text class n old.bound.items h))
       (gave_does old new f
-      (Value (form_at point class (source_text (cells_of p input old.bound.items) source) p.dir)) out result top fits
+      (Value (form_at point class (print_text (cells_of p input old.bound.items) text) p.dir)) out result top fits
       gave)
-  value_prints old new f point source class n out result (BlockOf block) top fits gave h = absurd h
+  value_prints old new f point text class n out result (BlockOf block) top fits gave h = absurd h
 
   pub block_prints : (old new : Machine) (f : Ahead) (point : Place) (kept : Kept) (b : Binding BoundBlock)
       → old.top ≡ frame.Ops f → MachineFits old

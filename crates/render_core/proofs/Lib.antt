@@ -7,6 +7,7 @@ mod Finds
 mod Forms
 mod Gathers
 mod GivenForms
+mod Givens
 mod Gives
 mod Handings
 mod Leaves

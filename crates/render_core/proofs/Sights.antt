@@ -1,5 +1,5 @@
 -- What is seen at a point that is made of a machine.
-use Rattle.std.proofs.Common.{◌≡◌, ℕ, Bool, List, Result, length, ap, ◌∙◌, subst}
+use Rattle.std.proofs.Common.{◌≡◌, ℕ, Bool, List, Result, length, ap, sym, ◌∙◌, subst}
 use Rattle.soy_base.specs.declared.memory.OutOfMemory.{OutOfMemory}
 use Rattle.soy_tree.specs.Cost.{cost}
 use Rattle.soy_tree.specs.Expressions.{Expr}
@@ -11,10 +11,11 @@ use Rattle.soy_tree.specs.declared.value.Value as code
 use Rattle.template_ir.specs.declared.program.ProgramParts.{ProgramParts}
 use Rattle.render_core.specs.Finds.{Finds, HasItem, found_means}
 use Rattle.render_core.specs.Seen.{cells_seen, env_seen, program_seen}
-use Rattle.render_core.specs.Shows.{Shows}
+use Rattle.render_core.specs.Shows.{IsAtHand, IsShownAtHand, Shows}
 use Rattle.render_core.specs.Variables.{Cell, cell_at, cells_of, env_at}
 use Rattle.render_core.specs.declared.held.Bound.{Bound}
 use Rattle.render_core.specs.declared.parts.Point.{Point}
+use Rattle.render_core.specs.declared.showing.Print.{Print}
 use Rattle.render_core.specs.declared.showing.Shown.{Shown}
 use Rattle.render_core.specs.declared.valuing.Found.{Found}
 
@@ -41,6 +42,19 @@ shows_at point p v bound program input bounds b s h =
     (subst (λ (cells : List Cell). Shows (program_seen point) cells (length bound) b s)
     (same_cells point p v bound program input bounds)
     (subst (λ (bs : List Bound). Shows (program_seen point) (cells_seen point) (length bs) b s) bounds h))
+
+pub hand_at : (point : Point) (p : ProgramParts) (v : code.Value) (bound : List Bound) → point.scene.program.now ≡ p
+    → point.scene.input.now ≡ v → point.bound.now ≡ bound → (s : Shown) → IsShownAtHand (cells_seen point) s
+    → IsShownAtHand (cells_of p (view_value v) bound) s
+hand_at point p v bound program input bounds s h =
+    subst (λ (cells : List Cell). IsShownAtHand cells s) (same_cells point p v bound program input bounds) h
+
+-- back to the point
+pub hand_seen : (point : Point) (p : ProgramParts) (v : code.Value) (bound : List Bound) → point.scene.program.now ≡ p
+    → point.scene.input.now ≡ v → point.bound.now ≡ bound → (text : Print)
+    → IsAtHand (cells_of p (view_value v) bound) text → IsAtHand (cells_seen point) text
+hand_seen point p v bound program input bounds text h =
+    subst (λ (cells : List Cell). IsAtHand cells text) (sym (same_cells point p v bound program input bounds)) h
 
 pub found_at : (point : Point) (p : ProgramParts) (v : code.Value) (bound : List Bound) → point.scene.program.now ≡ p
     → point.scene.input.now ≡ v → point.bound.now ≡ bound → (f : Found)

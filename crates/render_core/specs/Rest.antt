@@ -69,14 +69,12 @@ module _ (p : ProgramParts) (input : values.Value) where
       drop fixed.start (encode_utf8_all (static_text (slice_get p.ops fixed.op)))
   piece_left bound (begun.Escaped form) =
       bytes_left form.cursor (encode_utf8_all (source_text (cells_of p input bound) form.source))
-  piece_left bound begun.Nothing = []
 
   abbrev pub PieceFits : List Bound → Begun → Type 0
   PieceFits bound (begun.Static fixed) =
       (fixed.start ≤ fixed.end) × (fixed.end ≡ length (encode_utf8_all (static_text (slice_get p.ops fixed.op))))
   PieceFits bound (begun.Escaped form) =
       CursorFits form.cursor (encode_utf8_all (source_text (cells_of p input bound) form.source))
-  PieceFits bound begun.Nothing = Unit {0}
 
   abbrev pub begun_left : List Bound → Option Begun → List ℕ
   begun_left bound None = []

@@ -27,6 +27,7 @@ use Rattle.render_core.specs.declared.held.Kept.{Kept}
 use Rattle.render_core.specs.declared.held.Naming.{Naming}
 use Rattle.render_core.specs.declared.held.Naming.TheVariants as naming
 use Rattle.render_core.specs.declared.held.Path.{Path}
+use Rattle.render_core.specs.declared.held.Path.TheVariants as path
 
 -- ---- names
 
@@ -86,8 +87,19 @@ led (n ∷ ns) v = led ns (child n v)
 abbrev pub cell_at : List Cell → ℕ → Cell
 cell_at cells n = slice_index_or cells n (record { part = NullValue; env = [] })
 
+-- the place of the variable from which a path leads, and the numbers on the way down
+abbrev pub path_of : Path → ℕ
+path_of (path.Whole of) = of
+path_of (path.Child of number) = of
+path_of (path.Deep of steps) = of
+
+abbrev pub path_steps : Path → List ℕ
+path_steps (path.Whole of) = []
+path_steps (path.Child of number) = number ∷ []
+path_steps (path.Deep of steps) = steps.items
+
 abbrev pub path_value : List Cell → Path → Value
-path_value cells path = led path.steps.items (cell_at cells path.of).part
+path_value cells path = led (path_steps path) (cell_at cells (path_of path)).part
 
 abbrev pub env_at : List Cell → ℕ → RunEnv
 env_at cells zero = []

@@ -12,13 +12,14 @@ ghost use Rattle.render_core.specs.Forms.{EscapesAt, form_at};
 ghost use Rattle.render_core.specs.Pulls.{Gave};
 ghost use Rattle.render_core.specs.Rest.{PieceFits, piece_left, source_text, static_text, string_text};
 ghost use Rattle.render_core.specs.Seen.{cells_seen, input_seen, program_seen};
+ghost use Rattle.render_core.specs.Shows.{IsAtHand, print_text};
 ghost use Rattle.render_core.specs.Stepping.{Given, IsSpared, output};
 ghost use Rattle.render_core.specs.Variables.{cells_of, path_value};
 ghost use Rattle.render_core.specs.declared.held.Bound.{Bound};
 
 use crate::held::Path;
 use crate::parts::{Point, part_of};
-use crate::showing::Source;
+use crate::showing::{Print, Source};
 use bidi_text::wrap;
 use escapers::{Escaper, escape, escaper_for};
 use soy_base::{Dir, OutOfMemory, Place, Text, ValueClass};
@@ -46,7 +47,6 @@ pub(crate) struct Form {
 pub(crate) enum Begun {
     Static(Fixed),
     Escaped(Form),
-    Nothing,
 }
 
 impl Begun {
@@ -58,7 +58,6 @@ impl Begun {
         match self {
             Begun::Static(fixed) => fixed.end.saturating_sub(fixed.start) as u128,
             Begun::Escaped(form) => form.cursor.left(),
-            Begun::Nothing => 0,
         }
     }
 
@@ -74,7 +73,6 @@ impl Begun {
         match self {
             Begun::Static(fixed) => fixed.fill(point.scene.program, room),
             Begun::Escaped(form) => form.fill(point, room),
-            Begun::Nothing => 0,
         }
     }
 }
@@ -177,15 +175,16 @@ pub(crate) fn give_fixed(
 pub(crate) fn give_form(
     point: Point,
     place: Place,
-    source: Source,
+    print: Print,
     class: ValueClass,
     room: &mut [u8],
     piece: &mut Option<Begun>,
 ) -> Result<usize, OutOfMemory>
+    requires at_hand { IsAtHand (cells_seen point) print }
     requires none { piece.old ≡ None }
     ensures given { IfOk result (λ n.
         Given (program_seen point.entry) (input_seen point.entry) point.entry.bound.now
-        (encode_utf8_all (form_at place class (source_text (cells_seen point.entry) source)
+        (encode_utf8_all (form_at place class (print_text (cells_seen point.entry) print.entry)
         (program_seen point.entry).dir)) (output room.old room.new piece.new) n) }
     ensures refused { OnErr result (IsSpared (output room.old room.new piece.new)) }
 {
@@ -193,9 +192,11 @@ pub(crate) fn give_form(
         return Ok(0);
     };
     let dir = point.scene.program.dir;
-    match source {
-        Source::Made(text) => give_made(point, how, place, class, dir, text, room, piece),
-        Source::Part(path) => give_part(point, how, place, class, dir, path, room, piece),
+    match print {
+        Print::Made(text) => give_made(point, how, place, class, dir, text, room, piece),
+        Print::Part(path, text) => {
+            give_part(point, how, place, class, dir, path, text, room, piece)
+        }
     }
 }
 
@@ -238,9 +239,12 @@ fn give_part(
     class: ValueClass,
     dir: Dir,
     path: Path,
+    text: &str,
     room: &mut [u8],
     piece: &mut Option<Begun>,
 ) -> Result<usize, OutOfMemory>
+    requires characters { chars text.now ≡ string_text (path_value (cells_seen point) path) }
+    requires bytes { text.now ≡ encode_utf8_all (string_text (path_value (cells_seen point) path)) }
     requires escapes { EscapesAt _place class (Some how) }
     requires none { piece.old ≡ None }
     ensures given { IfOk result (λ n.
@@ -248,7 +252,6 @@ fn give_part(
         (encode_utf8_all (form_at _place class (string_text (path_value (cells_seen point.entry) path)) dir)) (output room.old room.new piece.new) n) }
     ensures refused { OnErr result (IsSpared (output room.old room.new piece.new)) }
 {
-    let text = string_at(point, &path);
     let mut cursor = match Cursor::begin(point.scene.alloc, how, class, text, dir) {
         Ok(cursor) => cursor,
         Err(_) => return Err(OutOfMemory),
@@ -265,16 +268,16 @@ fn give_part(
 pub(crate) fn escaped_whole(
     point: Point,
     place: Place,
-    source: &Source,
+    print: &Print,
     class: ValueClass,
 ) -> Result<Text, OutOfMemory>
-    ensures { IfOk result (λ t. t ≡ form_at place class (source_text
-        (cells_seen point.entry) source.now)
+    requires { IsAtHand (cells_seen point) print.now }
+    ensures { IfOk result (λ t. t ≡ form_at place class (print_text (cells_seen point.entry) print.now)
         (program_seen point.entry).dir) }
 {
-    match source {
-        Source::Made(text) => escaped_text(point, place, text.text(), class),
-        Source::Part(path) => escaped_text(point, place, string_at(point, path), class),
+    match print {
+        Print::Made(text) => escaped_text(point, place, text.text(), class),
+        Print::Part(_, text) => escaped_text(point, place, *text, class),
     }
 }
 

@@ -4,12 +4,15 @@ use soy_base::Kind;
 use soy_expr::Made;
 use template_ir::Block;
 
-/// A part of the data: the one that the variable at a place is bound to, and the way down from it, by the numbers of
-/// items and entries.
+/// A part of the data, by the place of a variable and the way down from the part that it is bound to.
 #[derive(Drop)]
-pub(crate) struct Path {
-    pub(crate) of: usize,
-    pub(crate) steps: Vec<usize>,
+pub(crate) enum Path {
+    /// All of that part.
+    Whole(usize),
+    /// The item, entry or field of a number. Most paths are such, and take no memory.
+    Child(usize, usize),
+    /// The numbers of items and entries on the way down.
+    Deep(usize, Vec<usize>),
 }
 
 /// What a variable is bound to.

@@ -8,7 +8,7 @@ ghost use Rattle.soy_expr.specs.Parts.{child, nth_entry_value};
 ghost use Rattle.soy_expr.specs.ViewEvaluated.{IsBinding};
 ghost use Rattle.render_core.specs.Finds.{binding_at, part_value, place_binding};
 ghost use Rattle.render_core.specs.Seen.{cells_seen, env_seen, input_seen, program_seen};
-ghost use Rattle.render_core.specs.Variables.{cell_at, cells_of, env_at, led, path_value};
+ghost use Rattle.render_core.specs.Variables.{cell_at, cells_of, env_at, led, path_of, path_steps, path_value};
 
 use crate::held::{Bound, Held, Path};
 use crate::names::is_named;
@@ -46,9 +46,18 @@ impl Variables for Point<'_, '_, '_> {
     }
 
     fn inside(&self, path: Path, number: usize) -> Result<Path, OutOfMemory> {
-        let mut path = path;
-        path.steps.push(number)?;
-        Ok(path)
+        match path {
+            Path::Whole(of) => Ok(Path::Child(of, number)),
+            Path::Child(of, first) => {
+                let steps = Vec::from_array(self.scene.alloc, [first, number])?;
+                Ok(Path::Deep(of, steps))
+            }
+            Path::Deep(of, steps) => {
+                let mut steps = steps;
+                steps.push(number)?;
+                Ok(Path::Deep(of, steps))
+            }
+        }
     }
 }
 
@@ -82,7 +91,7 @@ fn named<'i>(point: Point<'_, 'i, '_>, at: usize) -> Evaluated<'i, Path>
         result }
 {
     match part_at(point, at) {
-        Some(value) => Evaluated::Part(value, whole(point, at)),
+        Some(value) => Evaluated::Part(value, whole(at)),
         None => Evaluated::Made(Made::Null),
     }
 }
@@ -106,14 +115,11 @@ pub(crate) fn copied(point: Point, made: &Made) -> Result<Made, OutOfMemory>
 }
 
 /// The path to all that the variable at a place is bound to.
-pub(crate) fn whole(point: Point, at: usize) -> Path
-    ensures of { result.of ≡ at }
-    ensures steps { result.steps.items ≡ [] }
+pub(crate) fn whole(at: usize) -> Path
+    ensures of { path_of result ≡ at }
+    ensures steps { path_steps result ≡ [] }
 {
-    Path {
-        of: at,
-        steps: Vec::new(point.scene.alloc),
-    }
+    Path::Whole(at)
 }
 
 /// The place of the first variable of a name, of those that are visible.
@@ -155,8 +161,9 @@ pub(crate) fn part_at<'i>(point: Point<'_, 'i, '_>, at: usize) -> Option<&'i Val
                 }
             }
             Held::Part(path) => {
-                if path.of < at {
-                    followed_from(part_at(point, path.of), path.steps.as_slice())
+                let root = root_of(path);
+                if root < at {
+                    followed_from(part_at(point, root), path)
                 } else {
                     None
                 }
@@ -171,7 +178,7 @@ pub(crate) fn part_at<'i>(point: Point<'_, 'i, '_>, at: usize) -> Option<&'i Val
 pub(crate) fn part_of<'i>(point: Point<'_, 'i, '_>, path: &Path) -> Option<&'i Value>
     ensures { part_value result ≡ path_value (cells_seen point.entry) path.now }
 {
-    followed_from(part_at(point, path.of), path.steps.as_slice())
+    followed_from(part_at(point, root_of(path)), path)
 }
 
 /// The item, entry or field of a number in a part, if there is one.
@@ -184,9 +191,31 @@ fn child_of(part: Option<&Value>, number: usize) -> Option<&Value>
     }
 }
 
+/// The place of the variable from which a path leads.
+fn root_of(path: &Path) -> usize
+    ensures { result ≡ path_of path.now }
+{
+    match path {
+        Path::Whole(of) => *of,
+        Path::Child(of, _) => *of,
+        Path::Deep(of, _) => *of,
+    }
+}
+
+/// The part to which a path leads from the part of its variable, if there is one.
+fn followed_from<'i>(part: Option<&'i Value>, path: &Path) -> Option<&'i Value>
+    ensures { part_value result ≡ led (path_steps path.now) (part_value part.entry) }
+{
+    match path {
+        Path::Whole(_) => part,
+        Path::Child(_, number) => child_of(part, *number),
+        Path::Deep(_, steps) => led_from(part, steps.as_slice()),
+    }
+}
+
 /// The part to which numbers lead from another, if there is one.
 #[tactic(auto, using(crate::proofs::Values::led_null))]
-fn followed_from<'i>(part: Option<&'i Value>, steps: &[usize]) -> Option<&'i Value>
+fn led_from<'i>(part: Option<&'i Value>, steps: &[usize]) -> Option<&'i Value>
     ensures { part_value result ≡ led steps.now (part_value part.entry) }
 {
     match part {

@@ -7,7 +7,7 @@ ghost use Rattle.soy_expr.specs.ViewEvaluated.{view_made};
 ghost use Rattle.soy_expr.specs.ViewShallow.{view_shallow};
 ghost use Rattle.render_core.specs.Finds.{FoundWithin, found_means, part_value};
 ghost use Rattle.render_core.specs.Seen.{cells_seen, program_seen};
-ghost use Rattle.render_core.specs.Shows.{Shows, ShowsValue};
+ghost use Rattle.render_core.specs.Shows.{IsShownAtHand, Shows, ShowsValue};
 ghost use Rattle.soy_tree.specs.Val.{Known};
 ghost use Rattle.soy_tree.specs.Values.{IntValue};
 ghost use Rattle.render_core.specs.Variables.{path_value};
@@ -29,44 +29,65 @@ pub(crate) enum Source {
     Part(Path),
 }
 
+/// The text of a printed value, at hand.
+#[derive(Drop)]
+pub(crate) enum Print<'i> {
+    /// A text that was made.
+    Made(Text),
+    /// A string of the data, and the path that names it.
+    Part(Path, &'i str),
+}
+
 /// How something is printed: as a text that is escaped, or as a block.
 #[derive(Drop)]
-pub(crate) enum Shown {
-    Value(Source, ValueClass),
+pub(crate) enum Shown<'i> {
+    Value(Print<'i>, ValueClass),
     Block(Kept),
 }
 
 /// How a value is printed.
-pub(crate) fn how_shown(point: Point, found: Found) -> Result<Shown, OutOfMemory>
+pub(crate) fn how_shown<'i>(
+    point: Point<'_, 'i, '_>,
+    found: Found,
+) -> Result<Shown<'i>, OutOfMemory>
     requires { FoundWithin (length point.bound.now) found }
-    ensures { IfOk result (λ s. Shows (program_seen point.entry) (cells_seen point.entry)
+    ensures shows { IfOk result (λ s. Shows (program_seen point.entry) (cells_seen point.entry)
         (length point.entry.bound.now) (found_means (program_seen point.entry) (cells_seen point.entry) found) s) }
+    ensures at_hand { IfOk result (λ s. IsShownAtHand (cells_seen point.entry) s) }
 {
     match found {
         Found::Block(kept) => Ok(Shown::Block(kept)),
         Found::Made(made) => {
             let (text, class) = made_text(point.scene.alloc, made)?;
-            Ok(Shown::Value(Source::Made(text), class))
+            Ok(Shown::Value(Print::Made(text), class))
         }
         Found::Part(path) => shown_part(point, part_of(point, &path), path),
     }
 }
 
 #[tactic(auto, using(crate::proofs::Shows::shows_seen))]
-fn shown_part(point: Point, part: Option<&Value>, path: Path) -> Result<Shown, OutOfMemory>
+fn shown_part<'i>(
+    point: Point,
+    part: Option<&'i Value>,
+    path: Path,
+) -> Result<Shown<'i>, OutOfMemory>
     requires { part_value part ≡ path_value (cells_seen point) path }
-    ensures { IfOk result (λ s. Shows (program_seen point.entry) (cells_seen point.entry)
+    ensures shows { IfOk result (λ s. Shows (program_seen point.entry) (cells_seen point.entry)
         (length point.entry.bound.now) (Known (path_value (cells_seen point.entry) path)) s) }
+    ensures at_hand { IfOk result (λ s. IsShownAtHand (cells_seen point.entry) s) }
 {
     match part {
-        Some(Value::Str(_)) => Ok(Shown::Value(Source::Part(path), ValueClass::Text)),
+        Some(Value::Str(text)) => Ok(Shown::Value(
+            Print::Part(path, text.text()),
+            ValueClass::Text,
+        )),
         Some(value) => {
             let (text, class) = text_of(point.scene.alloc, Shallow::of_value(value))?;
-            Ok(Shown::Value(Source::Made(text), class))
+            Ok(Shown::Value(Print::Made(text), class))
         }
         None => {
             let (text, class) = text_of(point.scene.alloc, Shallow::Null)?;
-            Ok(Shown::Value(Source::Made(text), class))
+            Ok(Shown::Value(Print::Made(text), class))
         }
     }
 }

@@ -10,7 +10,7 @@ ghost use Rattle.template_ir.specs.declared.program.ProgramParts as code_parts;
 ghost use Rattle.render_core.specs.Frames.{IsPlainFrame, MachineFits, child_at, frame_gives, mark_of, means_before, past, past_with};
 ghost use Rattle.render_core.specs.Stepping.{GaveForm, GoesIn, IsSame, Output, Spares, Stepped, SteppedInto, output};
 ghost use Rattle.render_core.specs.Forms.{form_at};
-ghost use Rattle.render_core.specs.Rest.{source_text};
+ghost use Rattle.render_core.specs.Shows.{IsAtHand, print_text};
 ghost use Rattle.render_core.specs.Texts.{is_none};
 ghost use Rattle.render_core.specs.Variables.{cells_of, env_at};
 ghost use Rattle.render_core.specs.declared.frame.Frame.TheVariants as frame;
@@ -21,7 +21,7 @@ use crate::frame::{Ahead, Frame};
 use crate::held::Bound;
 use crate::parts::Point;
 use crate::scene::Scene;
-use crate::showing::Source;
+use crate::showing::Print;
 use crate::texts::Texts;
 use soy_base::{OutOfMemory, Place, Stack, Text, TooDeep, ValueClass};
 use template_ir::Block;
@@ -144,20 +144,22 @@ impl Machine {
         scene: &Scene,
         next: Frame,
         place: Place,
-        source: Source,
+        print: Print,
         class: ValueClass,
         room: &mut [u8],
         piece: &mut Option<Begun>,
     ) -> Result<Step, OutOfMemory>
+        requires at_hand { IsAtHand
+            (cells_of scene.now.program.now (view_value scene.now.input.now) self.old.bound.items) print }
         requires none { piece.old ≡ None }
         ensures gave { GaveForm scene.now.program.now (view_value scene.now.input.now) self.old self.new next
-            (form_at place class (source_text
-            (cells_of scene.now.program.now (view_value scene.now.input.now) self.old.bound.items) source)
+            (form_at place class (print_text
+            (cells_of scene.now.program.now (view_value scene.now.input.now) self.old.bound.items) print.entry)
             scene.now.program.now.dir) (output room.old room.new piece.new) result }
         ensures spares { Spares (output room.old room.new piece.new) result }
     {
         if self.texts.is_empty() {
-            match give_form(self.point(scene, 0), place, source, class, room, piece) {
+            match give_form(self.point(scene, 0), place, print, class, room, piece) {
                 Ok(n) => {
                     self.top = next;
                     Ok(Step::Gives(n))
@@ -165,7 +167,7 @@ impl Machine {
                 Err(_) => Err(OutOfMemory),
             }
         } else {
-            let form = match escaped_whole(self.point(scene, 0), place, &source, class) {
+            let form = match escaped_whole(self.point(scene, 0), place, &print, class) {
                 Ok(form) => form,
                 Err(_) => return Err(OutOfMemory),
             };

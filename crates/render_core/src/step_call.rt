@@ -20,7 +20,7 @@ use crate::binding::{bind, held};
 use crate::frame::{Ahead, Frame, Handing, Purpose};
 use crate::held::{Held, Naming};
 use crate::scene::Scene;
-use crate::showing::{Source, text_of};
+use crate::showing::{Print, text_of};
 use crate::stack::{Machine, Step, past};
 use crate::step_let::{handed_on, kept};
 use crate::valuing::{Found, value_of, variable};
@@ -299,7 +299,7 @@ impl Machine {
             scene,
             Frame::Ops(past(ahead)),
             place,
-            Source::Made(text),
+            Print::Made(text),
             class,
             room,
             piece,

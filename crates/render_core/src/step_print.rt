@@ -7,7 +7,7 @@ ghost use Rattle.soy_meaning.specs.Giving.{BoundBlock};
 ghost use Rattle.template_ir.specs.Run.{print_gives};
 ghost use Rattle.template_ir.specs.declared.op.Op.TheVariants as op;
 ghost use Rattle.render_core.specs.Frames.{MachineFits, call_place, past, text_bound};
-ghost use Rattle.render_core.specs.Shows.{Shows, kept_child};
+ghost use Rattle.render_core.specs.Shows.{IsShownAtHand, Shows, kept_child};
 ghost use Rattle.render_core.specs.Stepping.{Does, IsSame, Spares, SteppedInto, output};
 ghost use Rattle.render_core.specs.Variables.{cells_of};
 ghost use Rattle.render_core.specs.declared.frame.Frame.TheVariants as frame;
@@ -17,7 +17,7 @@ use crate::frame::{Ahead, Frame};
 use crate::held::{Bound, Held, Kept};
 use crate::parts::variable_at;
 use crate::scene::Scene;
-use crate::showing::{Shown, Source, how_shown, text_of};
+use crate::showing::{Print, Shown, how_shown, text_of};
 use crate::stack::{Machine, Step, past};
 use crate::valuing::value_of;
 use soy_base::{OutOfMemory, Place, Steps, Text, ValueClass};
@@ -70,18 +70,20 @@ impl Machine {
         requires top { self.old.top ≡ frame.Ops ahead }
         requires fits { MachineFits self.old }
         requires low { ahead.at < ahead.end }
+        requires at_hand { IsShownAtHand
+            (cells_of scene.now.program.now (view_value scene.now.input.now) self.old.bound.items) shown }
         requires none { piece.old ≡ None }
         ensures does { (b : Binding BoundBlock) → Shows scene.now.program.now
             (cells_of scene.now.program.now (view_value scene.now.input.now) self.old.bound.items)
-            (length self.old.bound.items) b shown →
+            (length self.old.bound.items) b shown.entry →
             Does scene.now.program.now (view_value scene.now.input.now) self.old self.new ahead
             (print_gives scene.now.program.now.dir place b) (output room.old room.new piece.new) result }
         ensures spares { Spares (output room.old room.new piece.new) result }
     {
         match shown {
-            Shown::Value(source, class) => {
+            Shown::Value(print, class) => {
                 let next = Frame::Ops(past(ahead));
-                self.give_value(scene, next, place, source, class, room, piece)
+                self.give_value(scene, next, place, print, class, room, piece)
             }
             Shown::Block(kept) => match self.enter_kept(ahead, kept) {
                 Ok(()) => Ok(Step::Silent),
@@ -135,7 +137,7 @@ impl Machine {
             Ok(text) => text,
             Err(_) => return Err(OutOfMemory),
         };
-        let shown = Shown::Value(Source::Made(text), class);
+        let shown = Shown::Value(Print::Made(text), class);
         self.print_shown(scene, ahead, place, shown, room, piece)
     }
 
@@ -166,7 +168,7 @@ impl Machine {
             scene,
             Frame::Ops(past(ahead)),
             place,
-            Source::Made(text),
+            Print::Made(text),
             ValueClass::Text,
             room,
             piece,

@@ -138,9 +138,9 @@ fn bound_at(point: Point, at: usize) -> Result<Found, OutOfMemory>
         Some(variable) => match &variable.to {
             Held::Made(made) => Ok(Found::Made(copied(point, made)?)),
             Held::Block(kept) => Ok(Found::Block(lowered(*kept, at))),
-            Held::Root => Ok(Found::Part(whole(point, at))),
-            Held::Item(_, _) => Ok(Found::Part(whole(point, at))),
-            Held::Part(_) => Ok(Found::Part(whole(point, at))),
+            Held::Root => Ok(Found::Part(whole(at))),
+            Held::Item(_, _) => Ok(Found::Part(whole(at))),
+            Held::Part(_) => Ok(Found::Part(whole(at))),
         },
         None => Ok(Found::Made(Made::Null)),
     }

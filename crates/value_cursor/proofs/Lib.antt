@@ -7,6 +7,7 @@ mod LeftOut
 mod LenSoFar
 mod Marked
 mod PlainRuns
+mod Printable
 mod Rooms
 mod RunSoFar
 mod SharedRuns

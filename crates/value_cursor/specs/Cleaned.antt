@@ -7,6 +7,7 @@
 --
 -- Of `a`, U+2069 the character at the offset 1 is left out.
 use Rattle.std.specs.Prelude.{◌≡◌, ℕ, Bool, true, false, not, ◌&&◌, ◌==◌, List, Option, None, Some, if◌then◌else◌}
+use Rattle.std.specs.Prelude.{nat_le, nat_lt}
 use Rattle.std.specs.List.{list_all, list_any}
 use Rattle.std.specs.List.Sorted.{IsStrictlyIncreasing}
 use Rattle.bidi_class.specs.Class.{bidi_class}
@@ -38,6 +39,10 @@ MarksAscend _ = Unit {0}
 -- the character is neither an isolate control nor a separator
 abbrev pub is_clean : ℕ → Bool
 is_clean c = not (is_isolate_control c) && not (is_separator (bidi_class c))
+
+-- a printable character of ASCII, which is clean
+abbrev pub is_printable : ℕ → Bool
+is_printable c = nat_le 32 c && nat_lt c 127
 
 -- it is what is cleaned of this text where it is wrapped
 abbrev pub Cleans : Cleaning → List ℕ → Type 0

@@ -1,9 +1,9 @@
 //! What is cleaned of a text's characters before they are escaped.
-ghost use Rattle.std.specs.Prelude.{◌≡◌, OnErr, IfOk, IsTrue};
+ghost use Rattle.std.specs.Prelude.{◌≡◌, OnErr, IfOk, IsTrue, true};
 ghost use Rattle.std.specs.List.{list_all, list_any};
 ghost use Rattle.std.specs.Str.{chars};
 ghost use Rattle.bidi_class.specs.Pairs.{is_initiator};
-ghost use Rattle.value_cursor.specs.Cleaned.{MarksAscend, cleaned, is_clean, is_left_out, Cleans};
+ghost use Rattle.value_cursor.specs.Cleaned.{MarksAscend, cleaned, is_clean, is_left_out, is_printable, Cleans};
 
 use bidi_class::{Class, class_of, is_initiator};
 use bidi_text::{Marks, marks};
@@ -71,7 +71,27 @@ impl Cleaning {
 fn is_clean_text(text: &str) -> bool
     ensures { result ≡ list_all is_clean (chars text.now) }
 {
-    text.chars().all(is_clean)
+    is_printable(text) || text.chars().all(is_clean)
+}
+
+/// Whether all characters are printable ones of ASCII, of which none is changed or left out: most texts are so.
+#[tactic(auto, using(crate::proofs::Printable::printable_clean))]
+fn is_printable(text: &str) -> bool
+    ensures { result ≡ true → list_all is_clean (chars text.now) ≡ true }
+{
+    all_printable(text.as_bytes())
+}
+
+fn all_printable(bytes: &[u8]) -> bool
+    ensures { result ≡ list_all is_printable bytes.now }
+{
+    bytes.iter().all(|byte| is_printable_byte(*byte))
+}
+
+fn is_printable_byte(byte: u8) -> bool
+    ensures { result ≡ is_printable byte }
+{
+    byte >= 0x20 && byte < 0x7f
 }
 
 /// Whether the text has an isolate initiator.

@@ -1,8 +1,7 @@
-use Rattle.std.proofs.Common.{sym, ap, ◌∙◌}
+use Rattle.std.proofs.Common.{sym, ap, take, ◌∙◌}
 use Rattle.soy_expr.specs.Parts.{child}
-use Rattle.render_core.specs.Finds.{part_value}
-use Rattle.render_core.specs.Seen.{input_seen, program_seen}
-use Rattle.render_core.specs.Variables.{led}
+use Rattle.render_core.specs.Seen.{cells_seen, input_seen, program_seen}
+use Rattle.render_core.specs.Variables.{cell_at, led, path_steps}
 use Rattle.render_core.proofs.Cells.{part_is, part_lost, part_lower, part_none}
 use Rattle.render_core.proofs.Values.{led_null}
 use Rattle.render_core.proofs.parts.+part_at.Goals as goal
@@ -43,24 +42,27 @@ returns-else-of-at t c =
     ∙ part_is (program_seen at) (input_seen at) at.bound.now c.args.at c.in-Some.variable.now _ c.in-Some.ensures
     c.in-Item.is
 
-pub returns-then-path-at : goal.returns-then-path-at
-returns-then-path-at t c =
+pub returns-then-root-at : goal.returns-then-root-at
+returns-then-root-at t c =
     let at = c.args.point in
-    let steps = c.in-Part.path.steps.items in
+    let cells = take c.args.at (cells_seen at) in
+    let steps = path_steps c.in-Part.path in
     c.followed_from.ensures
-    ∙ (ap (λ ns. led ns (part_value c.part_at-then-path-at.result)) c.as_slice.ensures.value
-    ∙ (ap (led steps) (c.part_at-then-path-at.ensures
-    ∙ sym (part_lower (program_seen at) (input_seen at) at.bound.now c.args.at c.in-Part.path.of c.if-path-at.true))
+    ∙ (ap (led steps) (c.part_at-then-root-at.ensures
+    ∙ (sym (part_lower (program_seen at) (input_seen at) at.bound.now c.args.at c.root_of-root.result c.if-root-at.true)
+    ∙ ap (λ k. (cell_at cells k).part) c.root_of-root.ensures))
     ∙ part_is (program_seen at) (input_seen at) at.bound.now c.args.at c.in-Some.variable.now _ c.in-Some.ensures
-    c.in-Part.is))
+    c.in-Part.is)
 
-pub returns-else-path-at : goal.returns-else-path-at
-returns-else-path-at t c =
+pub returns-else-root-at : goal.returns-else-root-at
+returns-else-root-at t c =
     let at = c.args.point in
-    let steps = c.in-Part.path.steps.items in
+    let cells = take c.args.at (cells_seen at) in
+    let steps = path_steps c.in-Part.path in
     sym (led_null steps)
     ∙ (ap (led steps)
-    (sym (part_lost (program_seen at) (input_seen at) at.bound.now c.args.at c.in-Part.path.of c.if-path-at.false))
+    (sym (part_lost (program_seen at) (input_seen at) at.bound.now c.args.at c.root_of-root.result c.if-root-at.false)
+    ∙ ap (λ k. (cell_at cells k).part) c.root_of-root.ensures)
     ∙ part_is (program_seen at) (input_seen at) at.bound.now c.args.at c.in-Some.variable.now _ c.in-Some.ensures
     c.in-Part.is)
 

@@ -2,8 +2,7 @@ use Rattle.std.proofs.Common.{subst, length}
 use Rattle.soy_tree.specs.ViewValues.{view_value}
 use Rattle.render_core.specs.Variables.{cells_of}
 use Rattle.render_core.specs.Forms.{form_at}
-use Rattle.render_core.specs.Rest.{source_text}
-use Rattle.render_core.specs.Shows.{Shows}
+use Rattle.render_core.specs.Shows.{Shows, print_text}
 use Rattle.render_core.specs.Stepping.{GaveForm, output}
 use Rattle.render_core.specs.declared.frame.Ahead.{Ahead}
 use Rattle.render_core.specs.declared.frame.Frame.TheVariants as frame
@@ -18,13 +17,13 @@ returns-in-Value-clause-does c b shows =
     let old = c.args.self.now in
     let f = c.args.ahead in
     let class = c.in-Value.class in
-    let source = c.in-Value.source in
+    let text = c.in-Value.print in
     let n = length old.bound.items in
     let out = output c.args.room.now c.give_value.new.room c.give_value.new.piece in
-    value_prints p input old c.give_value.new.self f c.args.place source class n out c.give_value.result b c.requires.top
+    value_prints p input old c.give_value.new.self f c.args.place text class n out c.give_value.result b c.requires.top
     c.requires.fits
     (subst (λ (g : Ahead). GaveForm p input old c.give_value.new.self (frame.Ops g)
-    (form_at c.args.place class (source_text (cells_of p input old.bound.items) source) p.dir) out c.give_value.result)
+    (form_at c.args.place class (print_text (cells_of p input old.bound.items) text) p.dir) out c.give_value.result)
     c.past.ensures c.give_value.ensures.gave)
     (subst (λ (s : Shown). Shows p (cells_of p input old.bound.items) n b s) c.in-Value.is shows)
 

@@ -13,7 +13,7 @@ use Rattle.render_core.specs.Stepping.{output}
 use Rattle.render_core.specs.Variables.{cells_of, env_at}
 use Rattle.render_core.proofs.Gives.{does_step}
 use Rattle.render_core.proofs.Moves.{same_self, stays_in}
-use Rattle.render_core.proofs.Sights.{finds_at, finds_err, found_at, shows_at}
+use Rattle.render_core.proofs.Sights.{finds_at, finds_err, found_at, hand_at, shows_at}
 use Rattle.render_core.proofs.stack.Machine.step_print.Goals as goal
 
 pub returns-in-Err-clause-stepped : goal.returns-in-Err-clause-stepped
@@ -61,7 +61,7 @@ returns-clause-stepped g c =
     let means = found_at pt p v old.bound.items there.program there.input there.bound c.in-Ok.found
     ∙ known.0 in
     let shows = shows_at pt p v old.bound.items there.program there.input there.bound found shown
-    c.in-Ok-how_shown.ensures in
+    c.in-Ok-how_shown.ensures.shows in
     does_step p input old c.print_shown.new.self f (op.Print c.args.expr.now c.args.place) (cost e env)
     (print_gives p.dir c.args.place (val e env)) c.args.steps.now c.value_of.new.steps
     (output c.args.room.now c.print_shown.new.room c.print_shown.new.piece) c.print_shown.result
@@ -69,3 +69,9 @@ returns-clause-stepped g c =
     (c.print_shown.ensures.does (val e env)
     (subst (λ (b : Binding BoundBlock). Shows p (cells_of p input old.bound.items) (length old.bound.items) b shown)
     means shows))
+
+pub print_shown-requires-clause-at_hand : goal.print_shown-requires-clause-at_hand
+print_shown-requires-clause-at_hand g c =
+    let there = c.point-2.ensures in
+    hand_at c.point-2.result c.args.scene.now.program.now c.args.scene.now.input.now c.args.self.now.bound.items
+    there.program there.input there.bound c.in-Ok-how_shown.shown c.in-Ok-how_shown.ensures.at_hand
