@@ -16,6 +16,7 @@ use Rattle.soy_expr.proofs.Forgetting.{forgotten_cost, forgotten_val}
 use Rattle.soy_meaning.specs.Giving.{RunEnv}
 use Rattle.template_ir.specs.declared.program.ProgramParts.{ProgramParts}
 use Rattle.render_core.specs.Finds.{IsPlain, binding_at, bound_binding}
+use Rattle.soy_expr.specs.Parts.{child}
 use Rattle.render_core.specs.Variables.{Cell, bound_means, cell_at, cells_of, env_at, held_means, led, name_or_none, path_of}
 use Rattle.render_core.specs.Variables.{path_steps}
 use Rattle.render_core.specs.Variables.{name_there, part_held, path_value}
@@ -23,8 +24,9 @@ use Rattle.render_core.specs.declared.held.Bound.{Bound}
 use Rattle.render_core.specs.declared.held.Held.{Held}
 use Rattle.render_core.specs.declared.held.Held.TheVariants as held
 use Rattle.render_core.specs.declared.held.Path.{Path}
+use Rattle.render_core.specs.declared.held.Path.TheVariants as path
 use Rattle.render_core.proofs.Conditions.{if_false, if_true}
-use Rattle.render_core.proofs.Cells.{cell_none, cell_there, env_past, env_take, part_there}
+use Rattle.render_core.proofs.Cells.{cell_none, cell_there, env_past, env_take, part_is, part_lower, part_there}
 
 -- ---- variables by their names
 
@@ -140,6 +142,14 @@ module _ (p : ProgramParts) (input : Value) (bound : List Bound) where
   bound_item at b k n is to = part_bound at b is
       (subst (λ (h : Held). held_means p input (take at (cells_of p input bound)) h
       ≡ Known (part_held input (take at (cells_of p input bound)) h)) (sym to) refl)
+
+  -- the same part, named by what it is an item of
+  pub found_child : (at : ℕ) (b : Bound) (k n : ℕ) → Some b ≡ slice_get bound at → b.to ≡ held.Item k n → k < at
+      → Known (path_value (cells_of p input bound) (path.Child k n)) ≡ binding_at p input bound at
+  found_child at b k n is to low =
+      ap Known (ap (child n) (sym (part_lower p input bound at k low))
+      ∙ part_is p input bound at b (held.Item k n) is to)
+      ∙ bound_item at b k n is to
 
   pub bound_path : (at : ℕ) (b : Bound) (other : Path) → Some b ≡ slice_get bound at → b.to ≡ held.Part other
       → Known (cell_at (cells_of p input bound) at).part ≡ binding_at p input bound at

@@ -172,6 +172,7 @@ pub(crate) fn give_fixed(
 }
 
 /// Gives the first bytes of the form of a text at a place, and answers their number. What is left has begun.
+#[inline(always)]
 pub(crate) fn give_form(
     point: Point,
     place: Place,
@@ -201,6 +202,7 @@ pub(crate) fn give_form(
 }
 
 /// The same of a text that was made.
+#[inline(always)]
 fn give_made(
     point: Point,
     how: Escaper,
@@ -232,6 +234,7 @@ fn give_made(
 }
 
 /// The same of a string of the data.
+#[inline(always)]
 fn give_part(
     point: Point,
     how: Escaper,

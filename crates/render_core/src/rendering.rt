@@ -10,7 +10,7 @@ ghost use Rattle.template_ir.specs.ViewOps.{view_program};
 ghost use Rattle.template_ir.specs.declared.program.ProgramParts.{ProgramParts};
 ghost use Rattle.render_core.specs.Begins.{EntryFound, FieldFound, entry_frame, held_field, root_bound};
 ghost use Rattle.render_core.specs.Pulls.{Fresh, Gave, Pulls, stops_at};
-ghost use Rattle.render_core.specs.Rest.{BegunFits, Fits, IsWhole, PieceFits, begun_left, has_ended, piece_left};
+ghost use Rattle.render_core.specs.Rest.{BegunFits, Fits, IsWhole, begun_left, has_ended};
 ghost use Rattle.render_core.specs.Rest.{rest_bytes, rest_end, rest_of, solid};
 ghost use Rattle.render_core.specs.Variables.{cells_of, env_at, name_there, param_of};
 ghost use Rattle.render_core.specs.declared.frame.Frame.TheVariants as frame;

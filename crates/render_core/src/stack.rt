@@ -139,6 +139,7 @@ impl Machine {
     }
 
     /// Gives a value, and goes on with another frame.
+    #[inline(always)]
     pub(crate) fn give_value(
         &mut self,
         scene: &Scene,

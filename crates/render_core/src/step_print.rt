@@ -58,6 +58,7 @@ impl Machine {
     }
 
     /// The print of a value or a block.
+    #[inline(always)]
     fn print_shown(
         &mut self,
         scene: &Scene,

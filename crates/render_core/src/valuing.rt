@@ -127,7 +127,7 @@ pub(crate) fn variable(point: Point, name: &Text) -> Result<Found, OutOfMemory>
 }
 
 /// What the variable at a place is bound to.
-#[tactic(auto, using(crate::proofs::Finds::found_root, crate::proofs::Finds::found_item, crate::proofs::Finds::found_path))]
+#[tactic(auto, using(crate::proofs::Finds::found_root, crate::proofs::Finds::found_item, crate::proofs::Finds::found_child, crate::proofs::Finds::found_path))]
 fn bound_at(point: Point, at: usize) -> Result<Found, OutOfMemory>
     ensures means { IfOk result (λ f. found_means (program_seen point.entry)
         (cells_seen point.entry) f
@@ -139,7 +139,14 @@ fn bound_at(point: Point, at: usize) -> Result<Found, OutOfMemory>
             Held::Made(made) => Ok(Found::Made(copied(point, made)?)),
             Held::Block(kept) => Ok(Found::Block(lowered(*kept, at))),
             Held::Root => Ok(Found::Part(whole(at))),
-            Held::Item(_, _) => Ok(Found::Part(whole(at))),
+            Held::Item(of, number) => {
+                if *of < at {
+                    // The shorter way: what is bound to it needn't be led through this variable.
+                    Ok(Found::Part(Path::Child(*of, *number)))
+                } else {
+                    Ok(Found::Part(whole(at)))
+                }
+            }
             Held::Part(_) => Ok(Found::Part(whole(at))),
         },
         None => Ok(Found::Made(Made::Null)),

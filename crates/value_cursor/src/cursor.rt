@@ -113,12 +113,16 @@ impl Cursor {
         ensures offset { self.new.progress.offset ≡ self.old.progress.offset }
         ensures count { self.new.left ≡ self.old.left }
     {
+        if self.closing.is_empty() {
+            return 0;
+        }
         self.progress.pending.push(self.closing);
         self.closing = "";
         self.progress.pending.take(room)
     }
 
     /// The cursor of a text by an escaper that doesn't wrap.
+    #[inline(always)]
     fn escaped(how: Escaper, class: ValueClass, text: &str) -> Cursor
         requires not_wrapped { how ≢ Escaper.Wrap }
         requires not_as_is { how ≢ Escaper.AsIs }
@@ -140,6 +144,7 @@ impl Cursor {
     }
 
     /// The cursor of a text whose characters have forms of their own, and nothing else.
+    #[inline(always)]
     fn by_characters(how: Escaper, text: &str) -> Cursor
         requires { IsTrue (is_by_characters how) }
         ensures fits { CursorFits result text.now }
@@ -174,6 +179,7 @@ impl Cursor {
     }
 
     /// The cursor of a wrapped text.
+    #[inline(always)]
     fn wrapped(cleaning: Cleaning, text: &str, context: Dir) -> Cursor
         requires cleans { Cleans cleaning (chars text.now) }
         requires ascending { MarksAscend cleaning }
@@ -193,6 +199,7 @@ impl Cursor {
     }
 
     /// The cursor of a form that has an opening, the forms of the characters and a closing.
+    #[inline(always)]
     fn enclosed(plan: Plan, opening: &str, closing: &'static str, text: &str) -> Cursor
         requires plan { IsPlan plan }
         requires opening { length opening.now ≤ 16 }

@@ -85,6 +85,7 @@ impl Plan {
     }
 
     /// How many bytes the forms of all characters of the source take.
+    #[inline(always)]
     pub(crate) fn len(&self, source: &str) -> u128
         requires { IsPlan self.now }
         ensures count { result ≡ length (bytes_from self.now source.now 0) }
@@ -97,6 +98,7 @@ impl Plan {
     }
 
     /// The same by the shares of all bytes, where they say it.
+    #[inline(always)]
     fn len_by_bytes(&self, source: &str) -> Option<u128>
         ensures count { IfSome result (λ len. len ≡ length (bytes_from self.now source.now 0)) }
         ensures bound { IfSome result (λ len. len ≤ 2 ^ 64 * length source.now) }

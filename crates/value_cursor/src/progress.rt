@@ -48,6 +48,9 @@ impl Progress {
         ensures full { result < length room.old → self.new.pending ≡ [] }
     {
         let copied = self.copy_run(plan, source, room);
+        if self.offset >= source.len() {
+            return copied;
+        }
         copied + self.give_next(plan, source, &mut room[copied..])
     }
 
