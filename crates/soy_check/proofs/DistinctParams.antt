@@ -96,4 +96,5 @@ params_passed (x ∷ all) before zero d h below is =
     (first_none (option_map (in_file x.declared.file) (declaration_fault (view_declared x.declared) before)) _ h)))
 params_passed (x ∷ all) before (suc i) d h below is =
     params_passed all (full_name (view_declared x.declared) ∷ before) i d
-    (second_none (option_map (in_file x.declared.file) (declaration_fault (view_declared x.declared) before)) _ h) (omega arith) is
+    (second_none (option_map (in_file x.declared.file) (declaration_fault (view_declared x.declared) before)) _ h)
+    (omega arith) is

@@ -36,8 +36,8 @@ template_at name (d ∷ all) =
     let e : bytes_eq (full_name (view_indexed d)) name ≡ bytes_eq name d.declared.full =
     ap (λ (n : Name). bytes_eq n name) (sym d.declared.named) ∙ bytes_eq-turned d.declared.full name in
     ap (λ b. if b then Some (view_indexed d) else template_of name (view_all all)) e
-    ∙ at_head (bytes_eq name d.declared.full) d all (names_before name all) (template_of name (view_all all)) (template_at name
-    all)
+    ∙ at_head (bytes_eq name d.declared.full) d all (names_before name all) (template_of name (view_all all))
+    (template_at name all)
 
 pub some_is : (b : Bool) (n at : ℕ) → cond b (Some n) None ≡ Some at → n ≡ at
 some_is true n at h = cc

@@ -136,7 +136,8 @@ fn check_required(
 ) -> Result<(), Refusal<TypeFault>>
     ensures { Passes (param_demands (view_around around.now) false
         (names_given (view_arguments names.now.given.now)) span
-        (view_params (required_in callee.now.declared.template.now.params)) (view_vars vars.now)) (view_vars vars.now) result }
+        (view_params (required_in callee.now.declared.template.now.params)) (view_vars vars.now))
+        (view_vars vars.now) result }
 {
     for param in callee.required.iter() {
         if !names.has(&param.name) {
@@ -175,8 +176,8 @@ fn check_handed(
     param: &Param,
     vars: &Visible,
 ) -> Result<(), Refusal<TypeFault>>
-    ensures { Passes (handed (param_type (view_param param.now)) span (variable_type param.now.name (view_vars vars.now))
-        (view_vars vars.now)) (view_vars vars.now) result }
+    ensures { Passes (handed (param_type (view_param param.now)) span
+        (variable_type param.now.name (view_vars vars.now)) (view_vars vars.now)) (view_vars vars.now) result }
 {
     let to = param_type(alloc, param)?;
     match vars.find(&param.name) {

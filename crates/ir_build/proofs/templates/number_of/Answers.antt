@@ -14,5 +14,6 @@ returns-in-Some c =
 pub returns-in-None : goal.returns-in-None
 returns-in-None c =
     let all = c.args.all.now in
-    ap length c.declared-declared.ensures ∙ ap (found_number c.args.namespace.now all) (sym c.in-None.is ∙ c.number.ensures)
+    ap length c.declared-declared.ensures
+    ∙ ap (found_number c.args.namespace.now all) (sym c.in-None.is ∙ c.number.ensures)
     ∙ sym (number_found c.args.namespace.now c.args.full.now all)
