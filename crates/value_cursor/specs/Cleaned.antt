@@ -1,11 +1,12 @@
 -- What is cleaned of a text, character by character: an isolate control may be left out, by the byte offset at which it
 -- stands, and a separator of paragraphs or segments becomes a space.
 --
--- A text that isn't wrapped is unchanged, and so is one with neither. Of a wrapped text without an isolate initiator every isolate control is left
--- out, since none is in a pair; of another, those at the marked offsets (UAX #9, BD9).
+-- A text that isn't wrapped is unchanged, and so is one with neither. Of a wrapped text without an isolate initiator
+-- every isolate control is left out, since none is in a pair; of another, those at the marked offsets (UAX #9, BD9).
 --
 -- Of `a`, U+2069 the character at the offset 1 is left out.
-use Rattle.std.specs.Prelude.{◌≡◌, ℕ, Bool, true, false, not, ◌&&◌, nat_le, nat_lt, ◌==◌, List, Option, None, Some, if◌then◌else◌}
+use Rattle.std.specs.Prelude.{◌≡◌, ℕ, Bool, true, false, not, ◌&&◌, nat_le, nat_lt, ◌==◌, List, Option, None, Some}
+use Rattle.std.specs.Prelude.{if◌then◌else◌}
 use Rattle.std.specs.List.{list_all, list_any}
 use Rattle.std.specs.List.Sorted.{IsStrictlyIncreasing}
 use Rattle.bidi_class.specs.Pairs.{is_initiator}
