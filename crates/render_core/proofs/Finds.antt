@@ -17,8 +17,8 @@ use Rattle.soy_meaning.specs.Giving.{RunEnv}
 use Rattle.template_ir.specs.declared.program.ProgramParts.{ProgramParts}
 use Rattle.render_core.specs.Finds.{IsPlain, binding_at, bound_binding}
 use Rattle.soy_expr.specs.Parts.{child}
-use Rattle.render_core.specs.Variables.{Cell, bound_means, cell_at, cells_of, env_at, held_means, led, name_or_none, path_of}
-use Rattle.render_core.specs.Variables.{path_steps}
+use Rattle.render_core.specs.Variables.{Cell, bound_means, cell_at, cells_of, env_at, held_means, led, name_or_none}
+use Rattle.render_core.specs.Variables.{path_of, path_steps}
 use Rattle.render_core.specs.Variables.{name_there, part_held, path_value}
 use Rattle.render_core.specs.declared.held.Bound.{Bound}
 use Rattle.render_core.specs.declared.held.Held.{Held}
@@ -90,7 +90,8 @@ module _ (p : ProgramParts) (input : Value) (bound : List Bound) where
       ap (λ k. led (path_steps path) (cell_at (cells_of p input bound) k).part) of
       ∙ ap (λ ns. led ns (cell_at (cells_of p input bound) at).part) steps
 
-  part_found : (at : ℕ) (b : Bound) (path : Path) → Some b ≡ slice_get bound at → path_of path ≡ at → path_steps path ≡ []
+  part_found : (at : ℕ) (b : Bound) (path : Path) → Some b ≡ slice_get bound at → path_of path ≡ at
+      → path_steps path ≡ []
       → held_means p input (take at (cells_of p input bound)) b.to
       ≡ Known (part_held input (take at (cells_of p input bound)) b.to)
       → Known (path_value (cells_of p input bound) path) ≡ binding_at p input bound at

@@ -198,7 +198,8 @@ module _ (p : ProgramParts) (input : values.Value) where
       }
 
   pub value_prints : (old new : Machine) (f : Ahead) (point : Place) (text : Print) (class : ValueClass) (n : ℕ)
-      (out : Output) (result : Result Step OutOfMemory) (b : Binding BoundBlock) → old.top ≡ frame.Ops f → MachineFits old
+      (out : Output) (result : Result Step OutOfMemory) (b : Binding BoundBlock) → old.top ≡ frame.Ops f
+      → MachineFits old
       → GaveForm p input old new (frame.Ops (past f))
       (form_at point class (print_text (cells_of p input old.bound.items) text) p.dir) out result
       → Shows p (cells_of p input old.bound.items) n b (shown.Value text class)

@@ -115,7 +115,8 @@ module _ (p : ProgramParts) (input : values.Value) where
       ∙ ap (λ (o : Outcome). over p input (take f.mark old.bound.items) old.below old.texts o) gives))
 
   -- a step that does it
-  pub does_after : (old new : Machine) (f : Ahead) (x : Outcome) (n : ℕ) (out : Output) (result : Result Step OutOfMemory)
+  pub does_after : (old new : Machine) (f : Ahead) (x : Outcome) (n : ℕ) (out : Output)
+      (result : Result Step OutOfMemory)
       → machine_gives p input old ≡ over p input old.bound.items (frame.Ops (past f) ∷ old.below) old.texts x
       → 0 < pending p old.top → MachineFits old → Does p input old new f x out result
       → SteppedInto p input old new n n out result
@@ -326,7 +327,8 @@ module _ (p : ProgramParts) (input : values.Value) where
   block_opens old new f h c r n opens kinds top below texts bound =
       does_after old new f
       (opened_outcome old f h c)
-      n (output [] [] None) (Ok step.Silent) (call_opens old f h c opens.opens) (call_pending old f h c opens.opens) opens.opens.fits
+      n (output [] [] None) (Ok step.Silent) (call_opens old f h c opens.opens)
+      (call_pending old f h c opens.opens) opens.opens.fits
       (block_enters old new f h c r opens kinds top below texts bound)
 
   text_enters : (old new : Machine) (f : Ahead) (h : Handing) (c : Callee) (r : Routine) → OpensRoutine p old f h c r
@@ -379,5 +381,6 @@ module _ (p : ProgramParts) (input : values.Value) where
   text_opens old new f h c r n opens text top below texts bound =
       does_after old new f
       (opened_outcome old f h c)
-      n (output [] [] None) (Ok step.Silent) (call_opens old f h c opens.opens) (call_pending old f h c opens.opens) opens.opens.fits
+      n (output [] [] None) (Ok step.Silent) (call_opens old f h c opens.opens)
+      (call_pending old f h c opens.opens) opens.opens.fits
       (text_enters old new f h c r opens text top below texts bound)

@@ -149,7 +149,8 @@ module _ (p : ProgramParts) (input : values.Value) where
       → 0 < length out.room → n ≡ 0 → coming p input mid ≡ spent_first s.0 (coming p input new)
   empty_coming mid new m a out n s some none =
       ap solid s.2.same
-      ∙ solid_empty s.0 s.1 (machine_gives p input new) (none_length (piece_bytes s.1) _ out.room out.room_after n s.3.0 some none)
+      ∙ solid_empty s.0 s.1 (machine_gives p input new)
+      (none_length (piece_bytes s.1) _ out.room out.room_after n s.3.0 some none)
 
   pub went_empty : (old mid new : Machine) (b m a : ℕ) (out : Output) (n : ℕ) → Went p input old mid b m
       → Gives p input mid new m a out n → 0 < length out.room → n ≡ 0 → Went p input old new b a
@@ -166,7 +167,8 @@ module _ (p : ProgramParts) (input : values.Value) where
       → 0 < length out.room → n ≡ 0 → IsSpared out
   empty_spares mid new m a out n s some none = (
     none_room (piece_bytes s.1) _ out.room out.room_after n s.3.0 none,
-    none_begun new.bound.items out.begun (none_after (piece_bytes s.1) _ out.room out.room_after n s.3.0 some none) s.3.1,
+    none_begun new.bound.items out.begun
+        (none_after (piece_bytes s.1) _ out.room out.room_after n s.3.0 some none) s.3.1,
   )
 
   pub went_gives : (old mid new : Machine) (b m a : ℕ) (out : Output) (n : ℕ) → Went p input old mid b m

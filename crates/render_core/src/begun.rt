@@ -252,7 +252,8 @@ fn give_part(
     requires none { piece.old ≡ None }
     ensures given { IfOk result (λ n.
         Given (program_seen point.entry) (input_seen point.entry) point.entry.bound.now
-        (encode_utf8_all (form_at _place class (string_text (path_value (cells_seen point.entry) path)) dir)) (output room.old room.new piece.new) n) }
+        (encode_utf8_all (form_at _place class (string_text (path_value (cells_seen point.entry) path)) dir))
+        (output room.old room.new piece.new) n) }
     ensures refused { OnErr result (IsSpared (output room.old room.new piece.new)) }
 {
     let mut cursor = match Cursor::begin(point.scene.alloc, how, class, text, dir) {

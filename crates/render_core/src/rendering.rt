@@ -267,7 +267,8 @@ impl Rendering {
         requires { BegunFits scene.now.program.now (view_value scene.now.input.now) self.old.machine.bound.items
             self.old.piece }
         ensures gives { Gave
-            (begun_left scene.now.program.now (view_value scene.now.input.now) self.old.machine.bound.items self.old.piece)
+            (begun_left scene.now.program.now (view_value scene.now.input.now) self.old.machine.bound.items
+            self.old.piece)
             (begun_left scene.now.program.now (view_value scene.now.input.now) self.new.machine.bound.items self.new.piece)
             room.old room.new result }
         ensures fits { BegunFits scene.now.program.now (view_value scene.now.input.now) self.new.machine.bound.items

@@ -2,8 +2,8 @@ use Rattle.std.proofs.Common.{◌≡◌, ◌<◌, ◌∙◌, ℕ, List, Ok, leng
 use Rattle.soy_tree.specs.ViewValues.{view_value}
 use Rattle.render_core.specs.Stepping.{Gives, Spares, SteppedInto, output}
 use Rattle.render_core.specs.declared.stack.Step.{Step}
-use Rattle.render_core.proofs.Wents.{empty_falls, empty_spares, silent_falls, went_deep, went_done, went_empty, went_gives}
-use Rattle.render_core.proofs.Wents.{went_memory, went_none, went_silent}
+use Rattle.render_core.proofs.Wents.{empty_falls, empty_spares, silent_falls, went_deep, went_done, went_empty}
+use Rattle.render_core.proofs.Wents.{went_gives, went_memory, went_none, went_silent}
 use Rattle.render_core.proofs.stack.Machine.advance.Goals as goal
 
 pub loop-n-init : goal.loop-n-init

@@ -55,23 +55,31 @@ leave-requires-in-None-callee_at-clause-none g c =
 
 pub returns-in-None-clause-stepped : goal.returns-in-None-clause-stepped
 returns-in-None-clause-stepped g c =
-    quiet_step c.args.scene.now.program.now (view_value c.args.scene.now.input.now) c.args.self.now c.leave.new.self c.args.steps.now
-    c.args.steps.now (output c.args.room.now c.args.room.now c.args.piece.now) (Ok c.leave.result) (c.leave.ensures c.args.steps.now)
+    let n = c.args.steps.now in
+    quiet_step c.args.scene.now.program.now (view_value c.args.scene.now.input.now) c.args.self.now
+    c.leave.new.self n n (output c.args.room.now c.args.room.now c.args.piece.now)
+    (Ok c.leave.result) (c.leave.ensures n)
 
 pub returns-in-Turns-clause-stepped : goal.returns-in-Turns-clause-stepped
 returns-in-Turns-clause-stepped g c =
-    quiet_step c.args.scene.now.program.now (view_value c.args.scene.now.input.now) c.args.self.now c.step_turn.new.self c.args.steps.now
-    c.args.steps.now (output c.args.room.now c.args.room.now c.args.piece.now) c.step_turn.result (c.step_turn.ensures c.args.steps.now)
+    let n = c.args.steps.now in
+    quiet_step c.args.scene.now.program.now (view_value c.args.scene.now.input.now) c.args.self.now
+    c.step_turn.new.self n n (output c.args.room.now c.args.room.now c.args.piece.now)
+    c.step_turn.result (c.step_turn.ensures n)
 
 pub returns-in-Gather-clause-stepped : goal.returns-in-Gather-clause-stepped
 returns-in-Gather-clause-stepped g c =
-    quiet_step c.args.scene.now.program.now (view_value c.args.scene.now.input.now) c.args.self.now c.step_gathered.new.self c.args.steps.now
-    c.args.steps.now (output c.args.room.now c.args.room.now c.args.piece.now) c.step_gathered.result (c.step_gathered.ensures c.args.steps.now)
+    let n = c.args.steps.now in
+    quiet_step c.args.scene.now.program.now (view_value c.args.scene.now.input.now) c.args.self.now
+    c.step_gathered.new.self n n (output c.args.room.now c.args.room.now c.args.piece.now)
+    c.step_gathered.result (c.step_gathered.ensures n)
 
 pub returns-in-None-callee_at-clause-stepped : goal.returns-in-None-callee_at-clause-stepped
 returns-in-None-callee_at-clause-stepped g c =
-    quiet_step c.args.scene.now.program.now (view_value c.args.scene.now.input.now) c.args.self.now c.leave-in-None-callee_at.new.self c.args.steps.now
-    c.args.steps.now (output c.args.room.now c.args.room.now c.args.piece.now) (Ok c.leave-in-None-callee_at.result) (c.leave-in-None-callee_at.ensures c.args.steps.now)
+    let n = c.args.steps.now in
+    quiet_step c.args.scene.now.program.now (view_value c.args.scene.now.input.now) c.args.self.now
+    c.leave-in-None-callee_at.new.self n n (output c.args.room.now c.args.room.now c.args.piece.now)
+    (Ok c.leave-in-None-callee_at.result) (c.leave-in-None-callee_at.ensures n)
 
 pub returns-in-Show-clause-stepped : goal.returns-in-Show-clause-stepped
 returns-in-Show-clause-stepped g c = c.step_show.ensures.stepped _

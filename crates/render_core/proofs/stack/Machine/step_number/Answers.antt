@@ -33,6 +33,7 @@ returns-clause-stepped c n =
     let shows = simp (to_z-of_z fits) at c.in-Ok.ensures in
     does_step p input old c.print_shown.new.self f (op.Number c.args.place) 0
     (value_gives p.dir c.args.place (IntValue f.number)) n n
-    (output c.args.room.now c.print_shown.new.room c.print_shown.new.piece) c.print_shown.result c.requires.top c.requires.fits
+    (output c.args.room.now c.print_shown.new.room c.print_shown.new.piece) c.print_shown.result
+    c.requires.top c.requires.fits
     c.requires.op c.requires.low refl (let same : n ≡ n + 0 = omega arith in same)
     (c.print_shown.ensures.does (Known (IntValue f.number)) shows)

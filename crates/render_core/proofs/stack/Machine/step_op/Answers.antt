@@ -32,20 +32,28 @@ returns-in-Number-clause-stepped g c = c.step_number.ensures.stepped _
 
 pub returns-in-Text-clause-stepped : goal.returns-in-Text-clause-stepped
 returns-in-Text-clause-stepped g c =
-    quiet_step c.args.scene.now.program.now (view_value c.args.scene.now.input.now) c.args.self.now c.step_let_text.new.self c.args.steps.now
-    c.args.steps.now (output c.args.room.now c.args.room.now c.args.piece.now) c.step_let_text.result (c.step_let_text.ensures c.args.steps.now)
+    let n = c.args.steps.now in
+    quiet_step c.args.scene.now.program.now (view_value c.args.scene.now.input.now) c.args.self.now
+    c.step_let_text.new.self n n (output c.args.room.now c.args.room.now c.args.piece.now)
+    c.step_let_text.result (c.step_let_text.ensures n)
 
 pub returns-in-Html-clause-stepped : goal.returns-in-Html-clause-stepped
 returns-in-Html-clause-stepped g c =
-    quiet_step c.args.scene.now.program.now (view_value c.args.scene.now.input.now) c.args.self.now c.step_let_block.new.self c.args.steps.now
-    c.args.steps.now (output c.args.room.now c.args.room.now c.args.piece.now) c.step_let_block.result (c.step_let_block.ensures c.args.steps.now)
+    let n = c.args.steps.now in
+    quiet_step c.args.scene.now.program.now (view_value c.args.scene.now.input.now) c.args.self.now
+    c.step_let_block.new.self n n (output c.args.room.now c.args.room.now c.args.piece.now)
+    c.step_let_block.result (c.step_let_block.ensures n)
 
 pub returns-in-Attributes-clause-stepped : goal.returns-in-Attributes-clause-stepped
 returns-in-Attributes-clause-stepped g c =
-    quiet_step c.args.scene.now.program.now (view_value c.args.scene.now.input.now) c.args.self.now c.step_let_block-in-Attributes.new.self c.args.steps.now
-    c.args.steps.now (output c.args.room.now c.args.room.now c.args.piece.now) c.step_let_block-in-Attributes.result (c.step_let_block-in-Attributes.ensures c.args.steps.now)
+    let n = c.args.steps.now in
+    quiet_step c.args.scene.now.program.now (view_value c.args.scene.now.input.now) c.args.self.now
+    c.step_let_block-in-Attributes.new.self n n (output c.args.room.now c.args.room.now c.args.piece.now)
+    c.step_let_block-in-Attributes.result (c.step_let_block-in-Attributes.ensures n)
 
 pub returns-in-Call-clause-stepped : goal.returns-in-Call-clause-stepped
 returns-in-Call-clause-stepped g c =
-    quiet_step c.args.scene.now.program.now (view_value c.args.scene.now.input.now) c.args.self.now c.step_call.new.self c.args.steps.now
-    c.args.steps.now (output c.args.room.now c.args.room.now c.args.piece.now) (Ok c.step_call.result) (c.step_call.ensures c.args.steps.now)
+    let n = c.args.steps.now in
+    quiet_step c.args.scene.now.program.now (view_value c.args.scene.now.input.now) c.args.self.now
+    c.step_call.new.self n n (output c.args.room.now c.args.room.now c.args.piece.now)
+    (Ok c.step_call.result) (c.step_call.ensures n)
