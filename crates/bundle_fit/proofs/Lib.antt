@@ -1,3 +1,4 @@
 pub mod FittingNames
 pub mod FittingParts
 pub mod FittingTrees
+pub mod NamedNodes

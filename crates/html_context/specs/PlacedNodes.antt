@@ -1,17 +1,8 @@
--- The texts and prints that stand for a placeholder, at the site of its message.
---
--- Example: for START_BOLD in `<b title="{$x}">` stand the text `<b title="`, the print `{$x}` and the text `">`.
-use Rattle.std.specs.Prelude.{List, [], ◌∷◌, if◌then◌else◌, bytes_eq}
-use Rattle.soy_tree.specs.Types.{Name}
+-- The plan of the texts and prints that stand for a placeholder, at the site of its message.
 use Rattle.soy_tree.specs.TypeOf.{Scope}
 use Rattle.soy_tree.specs.Nodes.{Node, Nodes, TextNode, Print, no_node, node}
 use Rattle.soy_meaning.specs.Plan.{Site, Plan, Nothing, Hole, Then}
 use Rattle.soy_meaning.specs.PlanOfParts.{printed_classes, text_plan}
-
--- the nodes of the first row of a name
-abbrev pub named_nodes : Name → List (Name × Nodes) → Nodes
-named_nodes name [] = no_node
-named_nodes name (row ∷ rows) = if bytes_eq row.0 name then row.1 else named_nodes name rows
 
 abbrev pub placed_node : Scope → Site → Node → Plan
 placed_node scope at (TextNode text span) = text_plan at text

@@ -1,14 +1,13 @@
 //! The rows of a translation, all of which stands at its message.
 
-ghost use Rattle.std.specs.Prelude.{◌≡◌, ◌<◌, length, map};
+ghost use Rattle.std.specs.Prelude.{◌<◌, length, map};
 ghost use Rattle.std.specs.List.{All};
 ghost use Rattle.soy_meaning.specs.PlanOfParts.{cut_plan, placeholder_cut};
 ghost use Rattle.soy_tree.specs.ViewMessageParts.{exact_arms_of, named_arms_of, select_arms_of};
 ghost use Rattle.soy_tree.specs.ViewMessageParts.{view_exact, view_named, view_part, view_parts, view_select_arm};
 ghost use Rattle.soy_tree.specs.ViewNodes.{view_node, view_nodes};
 ghost use Rattle.soy_expr.specs.ViewScope.{view_vars};
-ghost use Rattle.msg_extract.specs.ViewPlaceholders.{view_placeholder};
-ghost use Rattle.html_context.specs.PlacedNodes.{named_nodes, placed_node, placed_nodes};
+ghost use Rattle.html_context.specs.PlacedNodes.{placed_node, placed_nodes};
 ghost use Rattle.html_context.specs.StandsFor.{Writes, WritesEach, WritesMore};
 ghost use Rattle.html_context.specs.ViewParts.{IsNamed, plan_of_part, plan_of_parts, plans_of_exact, plans_of_named};
 ghost use Rattle.html_context.specs.ViewParts.{plans_of_select, source_uses};
@@ -17,21 +16,9 @@ ghost use Rattle.html_context.specs.Walks.{view_site};
 use crate::source::Source;
 use crate::table::Row;
 use crate::writing::{write, write_hole, write_nothing, write_print, write_text};
-use msg_extract::Placeholder;
+use msg_extract::named_nodes;
 use soy_base::{OutOfMemory, Seq, Text, ValueClass};
 use soy_tree::{ExactArm, Form, MsgPart, NamedArm, Node, SelectArm};
-
-/// What the placeholder of a name stands for: the texts and prints of the source; nothing where there is none.
-fn nodes_of<'p>(placeholders: &'p [Placeholder], name: &Text) -> &'p [Node]
-    ensures { view_nodes result.now ≡ named_nodes name.now (map view_placeholder placeholders.now) }
-{
-    for placeholder in placeholders {
-        if placeholder.name.is(name.text()) {
-            return placeholder.nodes.items();
-        }
-    }
-    &[]
-}
 
 /// Writes a text or a print that stands for a placeholder.
 fn placed(source: &Source<'_>, node: &Node, rows: &mut Vec<Row>) -> Result<usize, OutOfMemory>
@@ -69,7 +56,7 @@ fn placeholder(source: &Source<'_>, name: &Text, rows: &mut Vec<Row>) -> Result<
         (placeholder_cut name.now (source_uses source.now) (source_uses source.now)))
         rows.old.items rows.new.items result }
 {
-    all_placed(source, nodes_of(source.placeholders, name), rows)
+    all_placed(source, named_nodes(source.placeholders, name), rows)
 }
 
 /// Writes parts, one after the other.

@@ -1,14 +1,8 @@
--- What stands in the source for a name of a translation: the first row of the name.
+-- What stands in the source for a selector of a translation: the first row of its name and kind.
 use Rattle.std.specs.Prelude.{Bool, true, false, not, ◌&&◌, List, [], ◌∷◌, Option, Some, None, if◌then◌else◌, bytes_eq}
 use Rattle.soy_tree.specs.Expressions.{Expr}
-use Rattle.soy_tree.specs.Nodes.{Nodes, no_node}
 use Rattle.soy_tree.specs.Types.{Name}
 use Rattle.msg_extract.specs.SelectorRows.{SelectorRow}
-
--- the nodes of a placeholder, and none where the name isn't there
-abbrev pub named_nodes : Name → List (Name × Nodes) → Nodes
-named_nodes name [] = no_node
-named_nodes name (row ∷ rows) = if bytes_eq row.0 name then row.1 else named_nodes name rows
 
 -- whether a selector is of a plural, or of a select
 abbrev pub is_of : Bool → Bool → Bool

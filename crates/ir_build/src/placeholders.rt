@@ -5,34 +5,21 @@ ghost use Rattle.soy_meaning.specs.Branch.{selector};
 ghost use Rattle.soy_tree.specs.ViewExpressions.{view_expr};
 ghost use Rattle.soy_tree.specs.ViewNodes.{view_node, view_nodes};
 ghost use Rattle.msg_extract.specs.SelectorRows.{view_selector};
-ghost use Rattle.msg_extract.specs.ViewPlaceholders.{view_placeholder};
 ghost use Rattle.template_ir.specs.HoleCounts.{part_holes};
 ghost use Rattle.template_ir.specs.ViewOps.{view_ops};
 ghost use Rattle.ir_build.specs.Claims.{all_placed_holes, all_placed_stand, part_stands, placed_holes, placed_stands};
 ghost use Rattle.ir_build.specs.Claims.{named_part, source_uses};
 ghost use Rattle.ir_build.specs.HasNames.{HasNames};
 ghost use Rattle.ir_build.specs.Laid.{Pushes, view_output};
-ghost use Rattle.ir_build.specs.NamedRows.{is_of, named_nodes, selector_in};
+ghost use Rattle.ir_build.specs.NamedRows.{is_of, selector_in};
 
 use crate::commands::{push_print, push_text};
 use crate::output::Output;
 use crate::source::Source;
-use msg_extract::{Placeholder, Selector};
+use msg_extract::{Selector, named_nodes};
 use soy_base::{OutOfMemory, Text};
 use soy_tree::{Expr, Form, Node};
 use template_ir::Op;
-
-/// What the placeholder of a name stands for: the texts and prints of the source; nothing where there is none.
-fn nodes_of<'p>(placeholders: &'p [Placeholder], name: &Text) -> &'p [Node]
-    ensures { view_nodes result.now ≡ named_nodes name.now (map view_placeholder placeholders.now) }
-{
-    for placeholder in placeholders {
-        if placeholder.name.is(name.text()) {
-            return placeholder.nodes.items();
-        }
-    }
-    &[]
-}
 
 /// Adds a text or a print that stands for a placeholder.
 fn push_placed(
@@ -87,7 +74,7 @@ pub(crate) fn push_placeholder(
         (part_holes (source_uses source.now) (named_part name.now)) (view_output out.old) (view_output out.new)
         (view_ops own.old.items) (view_ops own.new.items)) }
 {
-    push_all_placed(source, out, own, nodes_of(source.placeholders, name))
+    push_all_placed(source, out, own, named_nodes(source.placeholders, name))
 }
 
 /// Whether a selector is of a plural, or else of a select.

@@ -15,6 +15,7 @@ pub mod MessageNames
 pub mod MessageRows
 pub mod NameGroups
 pub mod NameSteps
+pub mod NoTranslation
 pub mod OwnNames
 pub mod PieceLists
 pub mod PlaceholderNodes

@@ -10,6 +10,7 @@ pub mod ListedIds
 pub mod MessageId
 pub mod MessagesIn
 pub mod NameGroups
+pub mod NamedNodes
 pub mod Pieces
 pub mod PlaceholderNodes
 pub mod PlaceholderRows

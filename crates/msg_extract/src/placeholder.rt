@@ -7,6 +7,7 @@ ghost use Rattle.soy_tree.specs.Nodes.{Print};
 ghost use Rattle.soy_tree.specs.ViewExpressions.{view_expr};
 ghost use Rattle.soy_tree.specs.ViewNodes.{view_message, view_node, view_nodes};
 ghost use Rattle.msg_extract.specs.Catalogue.{with_name};
+ghost use Rattle.msg_extract.specs.NamedNodes.{named_nodes};
 ghost use Rattle.msg_extract.specs.PlaceholderNodes.{begun_after, flushed, nodes_behind, placeholders_of};
 ghost use Rattle.msg_extract.specs.PlaceholderNodes.{role_nodes, row_step, rows_after, text_nodes};
 ghost use Rattle.msg_extract.specs.PlaceholderRows.{HasRowNames};
@@ -219,4 +220,16 @@ pub fn placeholders(alloc: Global, message: &Message) -> Result<Seq<Placeholder>
 {
     let names = names_of(alloc, &message.body)?;
     placeholders_of(alloc, &names)
+}
+
+/// The texts and prints that the placeholder of a name stands for; none where there is no such placeholder.
+pub fn named_nodes<'p>(placeholders: &'p [Placeholder], name: &Text) -> &'p [Node]
+    ensures { view_nodes result.now ≡ named_nodes name.now (map view_placeholder placeholders.now) }
+{
+    for placeholder in placeholders {
+        if placeholder.name.is(name.text()) {
+            return placeholder.nodes.items();
+        }
+    }
+    &[]
 }

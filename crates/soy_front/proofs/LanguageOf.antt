@@ -1,6 +1,6 @@
 -- What a bundle is to the compiler (`language_of`): its translations are those that the walk chooses, and bundles that
 -- bring the same are one language.
-use Rattle.std.proofs.Common.{◌≡◌, ℕ, List, [], ◌∷◌, Option, Some, None, refl, sym, ap, ◌∙◌}
+use Rattle.std.proofs.Common.{◌≡◌, ℕ, List, [], Option, Some, None, refl, sym, ap, ◌∙◌}
 use Rattle.std.proofs.Common.{subst}
 use Rattle.std.specs.Prelude.{Ok}
 use Rattle.plural_rules.specs.Condition.{Alternatives}
@@ -13,8 +13,8 @@ use Rattle.soy_tree.specs.MessageParts.{MsgParts}
 use Rattle.soy_tree.specs.Nodes.{Message}
 use Rattle.soy_tree.specs.Trees.{Tree}
 use Rattle.msg_extract.specs.Catalogue.{catalogue_of}
-use Rattle.msg_extract.specs.Fits.{FitsMessages, FitsTrees}
-use Rattle.msg_extract.specs.MessagesIn.{tree_messages}
+use Rattle.msg_extract.specs.Fits.{FitsTrees}
+use Rattle.msg_extract.proofs.NoTranslation.{no_translation}
 use Rattle.msg_extract.specs.declared.catalogue.Listed.{Listed}
 use Rattle.msg_bundle.specs.BundlesAlike.{BundlesAlike}
 use Rattle.msg_bundle.specs.Translations.{messages_of}
@@ -58,14 +58,6 @@ languages_alike one other alike =
     ∙ ap (λ o. language_with (language_of other).translation other.dir other.plural o) alike.ordinal))
 
 -- ---- what is brought fits
-
-no_message : (ms : List Message) → FitsMessages (translation_of []) ms
-no_message [] = tt
-no_message (m ∷ ms) = (tt, no_message ms)
-
-no_translation : (trees : List Tree) → FitsTrees (translation_of []) trees
-no_translation [] = tt
-no_translation (tree ∷ trees) = (no_message (tree_messages tree), no_translation trees)
 
 -- **the language that a bundle brings fits the trees**
 pub language_fits : (bundle : Option (List ℕ)) (rows : List Listed) (language : Bundle) (trees : List Tree)

@@ -5,7 +5,8 @@ use Rattle.soy_expr.specs.ViewScope.{view_vars}
 use Rattle.soy_meaning.specs.PageMachine.{page_machine}
 use Rattle.soy_meaning.specs.PlanOfParts.{cut_plan, placeholder_cut}
 use Rattle.soy_meaning.specs.Walk.{walk}
-use Rattle.html_context.specs.PlacedNodes.{named_nodes, placed_nodes}
+use Rattle.msg_extract.specs.NamedNodes.{named_nodes}
+use Rattle.html_context.specs.PlacedNodes.{placed_nodes}
 use Rattle.html_context.specs.ViewParts.{source_uses}
 use Rattle.html_context.specs.Walks.{view_site}
 use Rattle.html_context.proofs.PlacedNodes.{placed_cut}
@@ -18,9 +19,9 @@ returns c =
     let scope = view_vars source.vars.now in
     let at = view_site source.at in
     let name = c.args.name.now in
-    writes_same (placed_nodes scope at (view_nodes c.nodes_of.result.now))
+    writes_same (placed_nodes scope at (view_nodes c.named_nodes.result.now))
     (cut_plan scope at (placeholder_cut name (source_uses source) (source_uses source)))
     c.args.rows.now.items c.all_placed.new.rows.items c.all_placed.result c.all_placed.ensures
     (ap (λ ns. λ w. walk page_machine (placed_nodes scope at ns) w)
-    (c.nodes_of.ensures ∙ ap (λ rows. named_nodes name rows) c.requires)
+    (c.named_nodes.ensures ∙ ap (λ rows. named_nodes name rows) c.requires)
     ∙ fun_ext (λ w. placed_cut (view_message source.message.now) name scope at w))

@@ -1,7 +1,7 @@
 use Rattle.std.proofs.Common.{◌≡◌, drop, map}
 use Rattle.msg_extract.specs.ViewPlaceholders.{view_placeholder}
-use Rattle.ir_build.specs.NamedRows.{named_nodes}
-use Rattle.ir_build.proofs.placeholders.nodes_of.Given as goal
+use Rattle.msg_extract.specs.NamedNodes.{named_nodes}
+use Rattle.msg_extract.proofs.placeholder.named_nodes.Given as goal
 
 abbrev pub invariant-loop-placeholder : goal.invariant-loop-placeholder
 invariant-loop-placeholder l =
