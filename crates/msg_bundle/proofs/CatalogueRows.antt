@@ -93,7 +93,14 @@ one_listed done now file m e = at (find_listed (listed m).id done) refl
     new : now ≡ done ++ listed m ∷ [] → find_listed (listed m).id done ≡ None → Lists done now (m ∷ [])
     new k none = record {
       grows = (listed m ∷ [], k);
-      has = ((listed m, rw k (found_last (listed m) done none), rw (id_same (listed m).meaning, id_same (listed m).text) refl), tt);
+      has = (
+        (
+          listed m,
+          rw k (found_last (listed m) done none),
+          rw (id_same (listed m).meaning, id_same (listed m).text) refl,
+        ),
+        tt,
+      );
       are = λ a f. rw k (rows_joined done (listed m ∷ []) a ((m, f.0, refl), tt));
     }
 

@@ -6,7 +6,8 @@ use Rattle.soy_tree.specs.MessageParts.{NumberPart, PluralPart, SelectPart, no_p
 use Rattle.soy_tree.specs.MessageParts.{no_named_arm, named_arm, no_select_arm, select_arm}
 use Rattle.soy_tree.specs.ViewMessageParts.{exact_arms_of, named_arms_of, select_arms_of}
 use Rattle.soy_tree.specs.ViewMessageParts.{exact_layer, named_layer, part_layer, plural_layer, select_arm_layer}
-use Rattle.soy_tree.specs.ViewMessageParts.{select_layer, view_exact, view_named, view_part, view_parts, view_select_arm}
+use Rattle.soy_tree.specs.ViewMessageParts.{select_layer, view_exact, view_named, view_part, view_parts}
+use Rattle.soy_tree.specs.ViewMessageParts.{view_select_arm}
 use Rattle.soy_tree.specs.declared.bundle.MsgPart as code_part
 use Rattle.soy_tree.specs.declared.bundle.MsgPart.TheOpen.{MsgPart-F}
 use Rattle.soy_tree.specs.declared.bundle.MsgPart.TheVariants as code
@@ -90,7 +91,8 @@ mutual
         exact = coded_exact_arms exact;
         named = coded_named_arms named;
       }))
-      ∙ code_plural.fold-roll-PluralPart MsgPart (ℤ × MsgParts) (Category × MsgParts) MsgPart (List ℕ × MsgParts) MsgPart
+      ∙ code_plural.fold-roll-PluralPart MsgPart (ℤ × MsgParts) (Category × MsgParts) MsgPart
+      (List ℕ × MsgParts) MsgPart
       part_layer exact_layer named_layer plural_layer select_arm_layer select_layer (record {
         ordinal = ordinal;
         name = name;

@@ -61,7 +61,8 @@ rules_or_fault : (entries : List (Category × List ℕ))
 rules_or_fault [] = inl ([], tt)
 rules_or_fault (entry ∷ entries) = at (rule_or_fault entry.0 entry.1) (rules_or_fault entries)
   where
-    at : ((says : Alternatives) × Condition entry.0 entry.1 says) ⊎ ((fault : RuleFault) × HasFault (entry.0, entry.1) fault)
+    at : ((says : Alternatives) × Condition entry.0 entry.1 says)
+        ⊎ ((fault : RuleFault) × HasFault (entry.0, entry.1) fault)
         → ((rules : List (Category × Alternatives)) × AreRulesOf entries rules)
         ⊎ ((fault : RuleFault) × HasFirstFault entries fault)
         → ((rules : List (Category × Alternatives)) × AreRulesOf (entry ∷ entries) rules)
@@ -110,7 +111,8 @@ text_or_fault source key text = at (pattern_or_none text)
     at (inr n) = inr (fault_at code.Icu (message_path key), inl (record { offset = n.0; none = n.1; is = refl }))
 
 texts_or_fault : (rows : List Listed) (ms : Members)
-    → ((ts : List Translation) × AreTranslations rows ms ts) ⊎ ((fault : BundleFault) × HasTranslationFault rows ms fault)
+    → ((ts : List Translation) × AreTranslations rows ms ts)
+    ⊎ ((fault : BundleFault) × HasTranslationFault rows ms fault)
 texts_or_fault rows no_members = inl ([], tt)
 texts_or_fault rows (member key json ms) = at (find_listed (chars key) rows) (texts_or_fault rows ms)
   where
@@ -127,7 +129,8 @@ texts_or_fault rows (member key json ms) = at (find_listed (chars key) rows) (te
             → ((ts : List Translation) × AreTranslations rows ms ts)
             ⊎ ((fault : BundleFault) × HasTranslationFault rows ms fault)
             → ((ts : List Translation) × IsNext (Some source) key (text_of json) (AreTranslations rows ms) ts)
-            ⊎ ((fault : BundleFault) × IsFirstFault (Some source) key (text_of json) (HasTranslationFault rows ms) fault)
+            ⊎ ((fault : BundleFault)
+            × IsFirstFault (Some source) key (text_of json) (HasTranslationFault rows ms) fault)
         both (inr fault) rest = inr (fault.0, inl fault.1)
         both (inl t) (inl ts) = inl (t.0 ∷ ts.0, (t.1, ts.1))
         both (inl t) (inr fault) = inr (fault.0, inr ((view_parts t.0.parts, t.1.1), fault.1))
@@ -190,7 +193,8 @@ pub bundle_or_fault : (bytes : List ℕ) (rows : List Listed)
 bundle_or_fault bytes rows = decoded (is_utf8 bytes) refl
   where
     Either : Type 0
-    Either = ((bundle : Bundle) × BringsBundle bytes rows bundle) ⊎ ((fault : BundleFault) × RefusesBundle bytes rows fault)
+    Either = ((bundle : Bundle) × BringsBundle bytes rows bundle)
+        ⊎ ((fault : BundleFault) × RefusesBundle bytes rows fault)
 
     given : (json : Data) → reads.IsJson bytes json
         → ((bundle : Bundle) × IsBundle json rows bundle) ⊎ ((fault : BundleFault) × IsFaultOf json rows fault) → Either

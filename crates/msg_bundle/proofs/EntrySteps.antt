@@ -70,7 +70,8 @@ module _ (rows : List Listed) (whole left rest : Entries) (key : String Global) 
 
   -- what the code does with an entry: `o` is what it finds under the id
   module _ (o : Option Listed) (id id' text : List ℕ) (id_is : id ≡ string_bytes key) (id'_is : id' ≡ string_bytes key)
-      (text_is : text ≡ text_of (view entry)) (o_is : o ≡ find_listed (chars id) rows) (old now : List Translation) where
+      (text_is : text ≡ text_of (view entry)) (o_is : o ≡ find_listed (chars id) rows)
+      (old now : List Translation) where
     found_is : find_listed Id rows ≡ o
     found_is = sym (o_is ∙ ap (λ i. find_listed (chars i) rows) id_is)
 

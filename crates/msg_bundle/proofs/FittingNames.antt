@@ -61,7 +61,8 @@ module _ (l k : Listed) (p : l.placeholders ≡ k.placeholders) (q : l.plurals �
       same_select (select_arm word ps arms) = λ i. option_or (same_parts ps i) (same_select arms i)
 
 same_text : (l k : Listed) → is_same_listed l k ≡ true → l.text ≡ k.text
-same_text l k h = (bytes_eq-Decides l.text k.text).0 (and_right (bytes_eq l.meaning k.meaning) (bytes_eq l.text k.text) h)
+same_text l k h = (bytes_eq-Decides l.text k.text).0
+    (and_right (bytes_eq l.meaning k.meaning) (bytes_eq l.text k.text) h)
 
 -- formed messages of one row refuse the same
 same_fault : (m n : Message) → is_formed_message m ≡ true → is_formed_message n ≡ true

@@ -43,17 +43,21 @@ texts_apart rows no_members ts fault are has = has
 texts_apart rows (member key json ms) ts fault are has =
     at (λ us k f. texts_apart rows ms us fault k f) (find_listed (chars key) rows) ts are has
   where
-    at : ((us : List Translation) → AreTranslations rows ms us → HasTranslationFault rows ms fault → ⊥) → (o : Option Listed) (us : List Translation) → IsNext o key (text_of json) (AreTranslations rows ms) us
+    at : ((us : List Translation) → AreTranslations rows ms us → HasTranslationFault rows ms fault → ⊥)
+        → (o : Option Listed) (us : List Translation) → IsNext o key (text_of json) (AreTranslations rows ms) us
         → IsFirstFault o key (text_of json) (HasTranslationFault rows ms) fault → ⊥
     at more None us k f = more us k f
     at more (Some source) [] k f = k
-    at more (Some source) (t ∷ us) k (inl here) = text_apart source key (text_of json) (view_parts t.parts) fault k.0.1 here
+    at more (Some source) (t ∷ us) k (inl here) =
+        text_apart source key (text_of json) (view_parts t.parts) fault k.0.1 here
     at more (Some source) (t ∷ us) k (inr later) = more us k.1 later.1
 
 json_apart : (json : Data) (rows : List Listed) (bundle : Bundle) (fault : BundleFault) → IsBundle json rows bundle
     → IsFaultOf json rows fault → ⊥
-json_apart json rows bundle fault is (reads.form f) = let e : Some f.path ≡ None = sym f.first ∙ is.form in absurd (cc e)
-json_apart json rows bundle fault is (reads.plural form rule) = rules_apart _ bundle.plural rule.of is.plural.0 rule.first
+json_apart json rows bundle fault is (reads.form f) =
+    let e : Some f.path ≡ None = sym f.first ∙ is.form in absurd (cc e)
+json_apart json rows bundle fault is (reads.plural form rule) =
+    rules_apart _ bundle.plural rule.of is.plural.0 rule.first
 json_apart json rows bundle fault is (reads.ordinal form rules rule) =
     rules_apart _ bundle.ordinal rule.of is.ordinal.0 rule.first
 json_apart json rows bundle fault is (reads.translation form plural ordinal text) =

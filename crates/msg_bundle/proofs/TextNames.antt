@@ -1,7 +1,8 @@
 -- The names that a canonical text has, by which formed messages of one text have the same names.
 -- A reader goes over the text: an apostrophe with one after it is text, and with another character it begins a run; a
 -- brace in a text begins a name, behind which a comma and the letter p or s say that it is a selector's.
-use Rattle.std.proofs.Common.{◌≡◌, ℕ, suc, ◌==◌, ◌&&◌, ◌||◌, not, Bool, true, false, List, [], ◌∷◌, ◌++◌, Option, Some, None}
+use Rattle.std.proofs.Common.{◌≡◌, ℕ, suc, ◌==◌, ◌&&◌, ◌||◌, not, Bool, true, false, List, [], ◌∷◌, ◌++◌, Option, Some}
+use Rattle.std.proofs.Common.{None}
 use Rattle.std.proofs.Common.{map, refl, sym, ap, ◌∙◌, IsTrue, append_assoc, append-nil, arith, nat_le}
 use Rattle.std.specs.Prelude.{codes, if◌then◌else◌}
 use Rattle.std.specs.List.{list_all}
@@ -33,8 +34,8 @@ use Rattle.msg_extract.proofs.JoinedTests.{and_left, and_right, holds_or}
 use Rattle.msg_extract.proofs.MessageCuts.{AreCuts, Holds, expr_base, text_cuts}
 use Rattle.msg_extract.proofs.MessageNames.{base_tag, name_is}
 
--- where the reader is: in text; after an apostrophe of it; in a run; after an apostrophe of it; in a name; behind a name
--- and a comma; between arms
+-- where the reader is: in text; after an apostrophe of it; in a run; after an apostrophe of it; in a name; behind a
+-- name and a comma; between arms
 data Mode : Type 0 where
   InText : Mode
   AfterQuote : Mode
@@ -178,7 +179,8 @@ word_character c h = grind (arith, nat_tests)
 characters_braceless : (word : List ℕ) → list_all is_word_character word ≡ true → list_all is_braceless word ≡ true
 characters_braceless [] h = refl
 characters_braceless (c ∷ cs) h =
-    let here : is_braceless c ≡ true = word_character c (and_left (is_word_character c) (list_all is_word_character cs) h) in
+    let here : is_braceless c ≡ true =
+    word_character c (and_left (is_word_character c) (list_all is_word_character cs) h) in
     rw here (characters_braceless cs (and_right (is_word_character c) (list_all is_word_character cs) h))
 
 word_braceless : (word : List ℕ) → is_case_word word ≡ true → list_all is_braceless word ≡ true

@@ -4,7 +4,8 @@
 -- are asked in this order, the entries of an object in the order of the bytes of their keys, in which `Data` has them.
 -- Null is neither a string nor an object, and other members are passed over.
 -- Example: `{"dir":"ltr","plural":{"one":"n = 1","some":"n = 2"}}` is at fault at `plural`, `some`.
-use Rattle.std.specs.Prelude.{◌≡◌, ℕ, Bool, true, false, ◌&&◌, List, [], ◌∷◌, Option, Some, None, if◌then◌else◌, is_some}
+use Rattle.std.specs.Prelude.{◌≡◌, ℕ, Bool, true, false, ◌&&◌, List, [], ◌∷◌, Option, Some, None, if◌then◌else◌}
+use Rattle.std.specs.Prelude.{is_some}
 use Rattle.std.specs.Prelude.{option_and_then, bytes_eq, codes, Result, Ok, Err}
 use Rattle.std.specs.List.{list_any}
 use Rattle.std.specs.Option.{option_or}

@@ -51,7 +51,8 @@ pub record HasRuleFault (name : List ℕ) (texts : List (Category × List ℕ)) 
   pub first : HasFirstFault texts of
   pub is : fault ≡ fault_at code.Rule (entry_path name (keyword of.category))
 
-abbrev pub ReadsRules : List ℕ → List (Category × List ℕ) → Result (List (Category × Alternatives)) (Refusal BundleFault)
+abbrev pub ReadsRules : List ℕ → List (Category × List ℕ) → Result (List (Category × Alternatives))
+    (Refusal BundleFault)
     → Type 0
 ReadsRules name texts (Ok rules) = AreTheRules texts rules
 ReadsRules name texts (Err (refusal.Because fault)) = HasRuleFault name texts fault

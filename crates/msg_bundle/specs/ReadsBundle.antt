@@ -1,6 +1,6 @@
 -- What `read_bundle` answers of bytes and of the rows of a catalogue.
--- The bytes are UTF-8 and JSON, and the value has the form of a bundle (21); then its rules are asked, those of `plural`
--- before those of `ordinal` (23); and then its translations (22, 24, 25). The first fault is answered.
+-- The bytes are UTF-8 and JSON, and the value has the form of a bundle (21); then its rules are asked, those of
+-- `plural` before those of `ordinal` (23); and then its translations (22, 24, 25). The first fault is answered.
 -- Example: `[]` is refused with 21 and an empty path, and `{"dir":"ltr","plural":{"one":"n % 0 = 1"},"messages":{}}`
 -- with 23 at `plural`, `one`.
 use Rattle.std.specs.Prelude.{◌≡◌, ℕ, List, [], Some, None, Result, Ok, Err, codes}

@@ -22,7 +22,8 @@ pub fn law_bundle()
     ensures apart { (bytes : List ℕ) (rows : List Listed) (bundle : Bundle) (fault : BundleFault)
         → BringsBundle bytes rows bundle → RefusesBundle bytes rows fault → ⊥ }
     ensures either { (bytes : List ℕ) (rows : List Listed)
-        → ((bundle : Bundle) × BringsBundle bytes rows bundle) ⊎ ((fault : BundleFault) × RefusesBundle bytes rows fault) }
+        → ((bundle : Bundle) × BringsBundle bytes rows bundle)
+        ⊎ ((fault : BundleFault) × RefusesBundle bytes rows fault) }
     ensures one_fault { (bytes : List ℕ) (rows : List Listed) (fault other : BundleFault)
         → RefusesBundle bytes rows fault → RefusesBundle bytes rows other → fault ≡ other }
     ensures one_bundle { (bytes : List ℕ) (rows : List Listed) (bundle other : Bundle)

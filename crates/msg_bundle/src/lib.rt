@@ -1,8 +1,9 @@
 //! Translation bundles.
 //!
-//! `read_bundle` reads the JSON of a bundle beside the catalogue of the messages that it translates: a direction, plural
-//! rules, and the parts of each translation; or it says with a code and a path what is at fault first. Ids that the
-//! catalogue lacks are passed over. Depends on soy_base, plural_rules, soy_tree, icu_text, msg_extract and serde_json.
+//! `read_bundle` reads the JSON of a bundle beside the catalogue of the messages that it translates: a direction,
+//! plural rules, and the parts of each translation; or it says with a code and a path what is at fault first. Ids that
+//! the catalogue lacks are passed over. Depends on soy_base, plural_rules, soy_tree, icu_text, msg_extract and
+//! serde_json.
 #![tactic(auto)]
 
 mod fault;

@@ -74,7 +74,8 @@ module _ (uses : List Use) where
   cuts_reads mode n [] h rest q = icu.stop rest
   cuts_reads mode n (TextCut items ∷ cuts) h rest q =
       subst (λ t. Reads mode (suc n) t (cut_parts uses (TextCut items ∷ cuts)) rest)
-      (sym (append_assoc (written_text (is_in_plural mode) (text_of_items items)) (written_cuts uses (is_in_plural mode) cuts)
+      (sym (append_assoc (written_text (is_in_plural mode) (text_of_items items))
+      (written_cuts uses (is_in_plural mode) cuts)
       rest))
       (text_reads mode (suc n) (written_cuts uses (is_in_plural mode) cuts ++ rest) (cut_parts uses cuts) rest
       (cuts_no_quote (is_in_plural mode) cuts h rest q)

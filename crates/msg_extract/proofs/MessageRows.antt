@@ -28,7 +28,8 @@ names_are of body ps e = ap (role_names of) (ap uses_in e ∙ body_pieces_uses f
 
 -- a row of the catalogue, made of what its calls give
 pub row_is : (desc meaning : List ℕ) (body : MessageBody) (span : Span) (ps : List Piece)
-    (id text copied meant : List ℕ) (placeholders plurals selects : List Name) → ps ≡ body_pieces false body → text ≡ pieces_text (uses_in ps) ps
+    (id text copied meant : List ℕ) (placeholders plurals selects : List Name) → ps ≡ body_pieces false body
+    → text ≡ pieces_text (uses_in ps) ps
     → id ≡ id_of_text meaning text → copied ≡ desc → meant ≡ meaning
     → placeholders ≡ role_names kind.Placeholder (uses_in ps) → plurals ≡ role_names kind.Plural (uses_in ps)
     → selects ≡ role_names kind.Select (uses_in ps)

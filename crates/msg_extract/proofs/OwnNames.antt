@@ -41,7 +41,8 @@ text_same : (text : List ℕ) → bytes_eq text text ≡ true
 text_same [] = refl
 text_same (c ∷ cs) = rw (number_same c, text_same cs) refl
 
-among_behind : (names more : List Name) (name : Name) → is_among names name ≡ true → is_among (names ++ more) name ≡ true
+among_behind : (names more : List Name) (name : Name) → is_among names name ≡ true
+    → is_among (names ++ more) name ≡ true
 among_behind [] more name h = absurd (cc h)
 among_behind (n ∷ names) more name h = first (bytes_eq name n) (is_among names name) h (among_behind names more name)
   where

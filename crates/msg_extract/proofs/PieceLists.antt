@@ -67,7 +67,8 @@ select_use e = record { base = base_of_expr e; content = ExprContent e; role = A
 cut_pieces_uses : (flag : Bool) (cuts : List Cut) → uses_in (cut_pieces flag cuts) ≡ cut_uses cuts
 cut_pieces_uses flag [] = refl
 cut_pieces_uses flag (TextCut text ∷ cuts) = cut_pieces_uses flag cuts
-cut_pieces_uses flag (PrintCut e phname span ∷ cuts) = ap (λ us. print_use e phname span ∷ us) (cut_pieces_uses flag cuts)
+cut_pieces_uses flag (PrintCut e phname span ∷ cuts) =
+    ap (λ us. print_use e phname span ∷ us) (cut_pieces_uses flag cuts)
 cut_pieces_uses flag (TagCut tag ∷ cuts) = ap (λ us. tag_use tag ∷ us) (cut_pieces_uses flag cuts)
 
 found_pieces_uses : (flag : Bool) (found : Option (List Cut)) → uses_in (found_pieces flag found) ≡ found_uses found

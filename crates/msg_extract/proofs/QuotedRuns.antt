@@ -9,7 +9,8 @@ use Rattle.msg_extract.specs.QuotedRuns.{written_from, written_step}
 
 -- the first character, and what follows it
 pub character_step : (flag in_run : Bool) (c : ℕ) (cs : List ℕ)
-    → written_from flag in_run (c ∷ cs) ≡ written_step flag in_run c ++ written_from flag (is_run_after flag in_run c) cs
+    → written_from flag in_run (c ∷ cs) ≡ written_step flag in_run c
+    ++ written_from flag (is_run_after flag in_run c) cs
 character_step flag true c cs = in_a_run (is_special flag c) (c == single_quote)
   where
     in_a_run : (special quote : Bool)

@@ -11,7 +11,8 @@ use Rattle.soy_meaning.specs.Outcome.{spent_first}
 use Rattle.soy_meaning.specs.Plan.{Site}
 use Rattle.soy_meaning.proofs.Outcomes.{first_none, followed_joined}
 use Rattle.template_ir.specs.Ops as ops
-use Rattle.template_ir.specs.Run.{OpMeans, all_give, all_handed_give, block_gives, body_there, called_at, handed_binding}
+use Rattle.template_ir.specs.Run.{OpMeans, all_give, all_handed_give, block_gives, body_there, called_at}
+use Rattle.template_ir.specs.Run.{handed_binding}
 use Rattle.template_ir.specs.Run.{handed_env, handed_gives, kind_of_template, one_step, op_gives, opened_gives}
 use Rattle.template_ir.specs.Table.{table}
 use Rattle.template_ir.specs.ViewOps.{view_by, view_callee, view_handed, view_program, view_routine}
@@ -137,14 +138,21 @@ module _ (p : ProgramParts) (input : values.Value) where
               (ap (λ (o : Outcome). over p input (take f.mark old.bound.items) old.below old.texts o)
               (sym (ap (call_of p f 0 env []) is))
               ∙ (sym (plain_top p input old.bound.items (frame.Call f h) old.below old.texts tt)
-              ∙ sym (machine_is p input new (frame.Call f h) old.below old.texts old.bound.items top below texts bound)));
+              ∙ sym
+              (machine_is p input new (frame.Call f h) old.below old.texts old.bound.items top below texts bound)));
           cost = (let e : n ≡ n + 0 = omega arith in e);
           falls =
               (let least = pending_least p (frame.Call f h) in
               let q : pending p new.top ≡ pending p (frame.Call f h) = ap (pending p) top in omega (arith, least, q));
           fits =
               fits_is p input new (frame.Call f h) old.below old.bound.items top below bound (
-                (low, old_fits.0, old_fits.1, (let e : len ≤ len = omega arith in e), (let e : 0 ≤ len = omega arith in e)),
+                (
+                  low,
+                  old_fits.0,
+                  old_fits.1,
+                  (let e : len ≤ len = omega arith in e),
+                  (let e : 0 ≤ len = omega arith in e),
+                ),
                 old_fits.1,
                 old_fits.2,
               );

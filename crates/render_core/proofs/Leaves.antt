@@ -9,7 +9,8 @@ use Rattle.soy_meaning.proofs.Outcomes.{first_none}
 use Rattle.template_ir.specs.Run.{one_step}
 use Rattle.template_ir.specs.declared.op.Op.{Op}
 use Rattle.template_ir.specs.declared.program.ProgramParts.{ProgramParts}
-use Rattle.render_core.specs.Frames.{FramesFit, IsPlainFrame, MachineFits, ended, frame_gives, frame_over, machine_gives}
+use Rattle.render_core.specs.Frames.{FramesFit, IsPlainFrame, MachineFits, ended, frame_gives, frame_over}
+use Rattle.render_core.specs.Frames.{machine_gives}
 use Rattle.render_core.specs.Frames.{mark_of, over, texts_past}
 use Rattle.render_core.specs.Rest.{IsWhole}
 use Rattle.render_core.specs.Stepping.{Silent, given_count, most_given, pending, pending_text, weight}
@@ -64,7 +65,8 @@ module _ (p : ProgramParts) (input : values.Value) where
       → over p input bound (f ∷ fs) texts gives_nothing
       ≡ over p input (take (mark_of f) bound) fs texts (frame_gives p input bound f)
   plain_top bound f fs texts plain =
-      ap (λ (ts : List (List ℕ)). over p input (take (mark_of f) bound) fs ts (frame_over p input bound f texts gives_nothing))
+      ap (λ (ts : List (List ℕ)). over p input (take (mark_of f) bound) fs ts
+      (frame_over p input bound f texts gives_nothing))
       (plain_past f texts plain)
       ∙ ap (λ (o : Outcome). over p input (take (mark_of f) bound) fs texts o)
       (plain_over bound f texts gives_nothing plain ∙ first_none (frame_gives p input bound f))
@@ -92,7 +94,8 @@ module _ (p : ProgramParts) (input : values.Value) where
   left_frame old new f fs n plain is fits gives top below texts bound =
       let kept : List Bound = take (mark_of old.top) old.bound.items in
       let fit : FramesFit (old.top ∷ old.below) (length old.bound.items) = fits in
-      let deep : FramesFit (f ∷ fs) (mark_of old.top) = subst (λ (gs : List Frame). FramesFit gs (mark_of old.top)) is fit.2 in
+      let deep : FramesFit (f ∷ fs) (mark_of old.top) =
+      subst (λ (gs : List Frame). FramesFit gs (mark_of old.top)) is fit.2 in
       let size : length kept ≡ mark_of old.top = length-take-le (mark_of old.top) old.bound.items fit.1 in
       let least = pending_least p f in
       let quiet : pending p new.top ≡ pending p f = ap (pending p) top in (
@@ -100,10 +103,12 @@ module _ (p : ProgramParts) (input : values.Value) where
         record {
           same =
               plain_top old.bound.items old.top old.below old.texts plain
-              ∙ (ap (λ (gs : List Frame). over p input kept gs old.texts (frame_gives p input old.bound.items old.top)) is
+              ∙ (ap (λ (gs : List Frame). over p input kept gs old.texts (frame_gives p input old.bound.items old.top))
+              is
               ∙ (ap (λ (o : Outcome). over p input kept (f ∷ fs) old.texts o) gives
               ∙ (over_first p input (f ∷ fs) kept old.texts (one_step 0) gives_nothing
-              ∙ ap (spent_first (one_step 0)) (sym (machine_is p input new f fs old.texts kept top below texts bound)))));
+              ∙ ap (spent_first (one_step 0))
+              (sym (machine_is p input new f fs old.texts kept top below texts bound)))));
           cost = (let e : n ≡ n + 0 = omega arith in e);
           falls = omega (arith, least, quiet);
           fits = fits_is p input new f fs kept top below bound (subst (λ k. FramesFit (f ∷ fs) k) (sym size) deep);

@@ -179,9 +179,11 @@ module _ (p : ProgramParts) (input : values.Value) where
         spent = and_spent went.spent s.0;
         piece = s.1;
         same =
-            went.same ∙ ap (spent_first went.spent) (ap solid s.2.same ∙ solid_gives s.0 s.1 (machine_gives p input new) full);
+            went.same
+            ∙ ap (spent_first went.spent) (ap solid s.2.same ∙ solid_gives s.0 s.1 (machine_gives p input new) full);
         cost =
-            (let c = went.cost in let d = s.2.cost in let e : a ≡ b + (went.spent.cost + s.0.cost) = omega (arith, c, d) in e);
+            (let c = went.cost in let d = s.2.cost in
+            let e : a ≡ b + (went.spent.cost + s.0.cost) = omega (arith, c, d) in e);
         fits = s.2.fits;
         some = full;
         given = s.3;

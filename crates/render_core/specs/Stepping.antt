@@ -1,7 +1,7 @@
 -- What one step of the machine does.
 --
--- What the frames gave before it is what it spends and gives, and then what they give after it. A step works, or what is
--- pending falls: how many parameters a call has still to hand.
+-- What the frames gave before it is what it spends and gives, and then what they give after it. A step works, or what
+-- is pending falls: how many parameters a call has still to hand.
 use Rattle.std.specs.Prelude.{◌≡◌, ℕ, ◌+◌, ◌-◌, ◌*◌, ◌≤◌, ◌<◌, ◌⊎◌, List, [], ◌∷◌, Option, Some, None, Result, Ok}
 use Rattle.std.specs.Prelude.{Err, encode_utf8_all, length, max, min, slice_get, take, true, false}
 use Rattle.html_state.specs.AfterPieces.{Piece}

@@ -31,8 +31,8 @@ use std::alloc::Global;
 use std::sync::ledger::Ledger;
 use template_ir::{Block, Program, Routine};
 
-/// A template that is being rendered: the frames and variables of what is still to be run, and the piece that has begun.
-/// It is lent program and data at each call.
+/// A template that is being rendered: the frames and variables of what is still to be run, and the piece that has
+/// begun. It is lent program and data at each call.
 #[derive(Drop)]
 pub struct Rendering {
     alloc: Global,
@@ -269,7 +269,8 @@ impl Rendering {
         ensures gives { Gave
             (begun_left scene.now.program.now (view_value scene.now.input.now) self.old.machine.bound.items
             self.old.piece)
-            (begun_left scene.now.program.now (view_value scene.now.input.now) self.new.machine.bound.items self.new.piece)
+            (begun_left scene.now.program.now (view_value scene.now.input.now) self.new.machine.bound.items
+            self.new.piece)
             room.old room.new result }
         ensures fits { BegunFits scene.now.program.now (view_value scene.now.input.now) self.new.machine.bound.items
             self.new.piece }

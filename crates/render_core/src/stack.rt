@@ -7,7 +7,8 @@ ghost use Rattle.soy_meaning.specs.Outcome.{RunEnds, WholeRun};
 ghost use Rattle.template_ir.specs.Run.{arm_gives, one_step};
 ghost use Rattle.template_ir.specs.declared.op.Op.TheVariants as op;
 ghost use Rattle.template_ir.specs.declared.program.ProgramParts as code_parts;
-ghost use Rattle.render_core.specs.Frames.{IsPlainFrame, MachineFits, child_at, frame_gives, mark_of, means_before, past, past_with};
+ghost use Rattle.render_core.specs.Frames.{IsPlainFrame, MachineFits, child_at, frame_gives, mark_of, means_before};
+ghost use Rattle.render_core.specs.Frames.{past, past_with};
 ghost use Rattle.render_core.specs.Stepping.{GaveForm, GoesIn, IsSame, Output, Spares, Stepped, SteppedInto, output};
 ghost use Rattle.render_core.specs.Forms.{form_at};
 ghost use Rattle.render_core.specs.Shows.{IsAtHand, print_text};
@@ -248,8 +249,8 @@ impl Machine {
         requires mark { mark_of self.old.top ≡ mark }
         requires fits { MachineFits self.old }
         requires plain { IsPlainFrame self.old.top }
-        requires none { frame_gives scene.now.program.now (view_value scene.now.input.now) self.old.bound.items self.old.top
-            ≡ RunEnds (one_step 0) WholeRun }
+        requires none { frame_gives scene.now.program.now (view_value scene.now.input.now) self.old.bound.items
+            self.old.top ≡ RunEnds (one_step 0) WholeRun }
         ensures { (n : ℕ) → Stepped scene.now.program.now (view_value scene.now.input.now) self.old self.new n n
             (Ok result) }
     {

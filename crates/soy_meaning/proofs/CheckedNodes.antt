@@ -274,7 +274,8 @@ module _ (a : Around) where
   params_take all given span params (p ∷ ps) scope s sees named each h =
       let one : Stepped (param_demand a all (names_given given) span p scope) _ s =
       stepped (param_demand a all (names_given given) span p scope) _ s h in
-      let first : (if is_some (given_of p.name given) then Ok scope else unnamed_demand a all span p scope) ≡ Ok one.got =
+      let first : (if is_some (given_of p.name given) then Ok scope else unnamed_demand a all span p scope)
+      ≡ Ok one.got =
       subst (λ b. (if b then Ok scope else unnamed_demand a all span p scope) ≡ Ok one.got)
       (given_there p.name given) one.first in (
         param_takes all given span p scope one.got sees (given_of p.name given)

@@ -296,7 +296,8 @@ module _ (c : RunContext) (whole : Plan) (Claim : Type 0) (IsStop : Site → Typ
 
   pub passes : (p : Plan) (before : List Piece) (on : StateSoFar → Outcome) → IsPath p []
       → Goes p before (on (after_so_far before)) on
-  passes p before on path = inl (record { filled = filled_end; path = path; runs = tt; fits = λ k. tt; pieces = refl; ends = refl })
+  passes p before on path =
+      inl (record { filled = filled_end; path = path; runs = tt; fits = λ k. tt; pieces = refl; ends = refl })
 
   pub halts_stopped : (p : Plan) (before : List Piece) (o : Outcome) → HasPath p → Halts IsStop o → Stopped p before o
   halts_stopped p before o has h = record {
@@ -391,7 +392,8 @@ module _ (c : RunContext) (whole : Plan) (Claim : Type 0) (IsStop : Site → Typ
   )
 
   frame_whole : (at : Site) (classes : List ValueClass) (inner : FrameRun) (before : List Piece)
-      (on : StateSoFar → Outcome) → FrameFits inner classes → IsBlockKind inner.kind → IsGivenAt c run at inner → (r : Ran c whole Claim IsStop inner)
+      (on : StateSoFar → Outcome) → FrameFits inner classes → IsBlockKind inner.kind → IsGivenAt c run at inner
+      → (r : Ran c whole Claim IsStop inner)
       → end_of_outcome (run_outcome c inner) ≡ WholeRun
       → Goes (Hole at classes) before (frame_means (run_outcome c inner) (after_so_far before) on) on
   frame_whole at classes inner before on fits is_block given r ends =
@@ -415,7 +417,8 @@ module _ (c : RunContext) (whole : Plan) (Claim : Type 0) (IsStop : Site → Typ
       })
 
   frame_stops : (at : Site) (classes : List ValueClass) (inner : FrameRun) (before : List Piece)
-      (on : StateSoFar → Outcome) → FrameFits inner classes → IsBlockKind inner.kind → IsGivenAt c run at inner → (r : Ran c whole Claim IsStop inner)
+      (on : StateSoFar → Outcome) → FrameFits inner classes → IsBlockKind inner.kind → IsGivenAt c run at inner
+      → (r : Ran c whole Claim IsStop inner)
       (call : Site) → end_of_outcome (run_outcome c inner) ≡ StopsAt call
       → Goes (Hole at classes) before (frame_means (run_outcome c inner) (after_so_far before) on) on
   frame_stops at classes inner before on fits is_block given r call ends =
@@ -435,7 +438,8 @@ module _ (c : RunContext) (whole : Plan) (Claim : Type 0) (IsStop : Site → Typ
       })
 
   frame_by_end : (at : Site) (classes : List ValueClass) (inner : FrameRun) (before : List Piece)
-      (on : StateSoFar → Outcome) → FrameFits inner classes → IsBlockKind inner.kind → IsGivenAt c run at inner → Ran c whole Claim IsStop inner
+      (on : StateSoFar → Outcome) → FrameFits inner classes → IsBlockKind inner.kind → IsGivenAt c run at inner
+      → Ran c whole Claim IsStop inner
       → (end : RunEnd) → end_of_outcome (run_outcome c inner) ≡ end
       → Goes (Hole at classes) before (frame_means (run_outcome c inner) (after_so_far before) on) on
   frame_by_end at classes inner before on fits is_block given r WholeRun ends =
@@ -444,7 +448,8 @@ module _ (c : RunContext) (whole : Plan) (Claim : Type 0) (IsStop : Site → Typ
       frame_stops at classes inner before on fits is_block given r call ends
 
   pub frame_goes : (at : Site) (classes : List ValueClass) (inner : FrameRun) (before : List Piece)
-      (on : StateSoFar → Outcome) → FrameFits inner classes → IsBlockKind inner.kind → IsGivenAt c run at inner → Ran c whole Claim IsStop inner
+      (on : StateSoFar → Outcome) → FrameFits inner classes → IsBlockKind inner.kind → IsGivenAt c run at inner
+      → Ran c whole Claim IsStop inner
       → Goes (Hole at classes) before (frame_means (run_outcome c inner) (after_so_far before) on) on
   frame_goes at classes inner before on fits is_block given r =
       frame_by_end at classes inner before on fits is_block given r (end_of_outcome (run_outcome c inner)) refl

@@ -361,7 +361,8 @@ module _ (c : RunContext) (whole : Plan) (Claim : Type 0) (t : Declared) (left :
         (called_means c.direction d.template.kind (run_outcome c a) (First w before) on)
         (called_means c.direction d.template.kind o (Second w after) following)) (sym (called_more c fewer at d within))
         (twin_called c whole Claim (first w) (second w) P Q at (kind_class d.template.kind ∷ []) d.template.kind a b
-        refl refl there also (λ k. inl refl) (deeper fewer less d inner within member alike one two) some into before after
+        refl refl there also (λ k. inl refl) (deeper fewer less d inner within member alike one two)
+        some into before after
         on following twin))
 
     pub opened_twin : (w : Pair) (name : Name) (all : Bool) (given : Arguments) (span : Span) (ns : Nodes)

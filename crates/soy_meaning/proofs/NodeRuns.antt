@@ -170,7 +170,8 @@ module _ (c : RunContext) (whole : Plan) (Claim : Type 0) (IsStop : Site → Typ
 
   frame_ends : (q : FrameRun) → IsFrameWithin whole q.kind (run_plan c q)
       → Leaves q (run_plan c q) no_node [] (run_outcome c q) at_end → Ran c whole Claim IsStop q
-  frame_ends q within (inl l) = ran q within (goes_whole c whole Claim IsStop q (at_end l.env) (λ s. refl) (inl l.through))
+  frame_ends q within (inl l) = ran q within
+      (goes_whole c whole Claim IsStop q (at_end l.env) (λ s. refl) (inl l.through))
   frame_ends q within (inr k) = ran q within (goes_whole c whole Claim IsStop q (at_end q.env) (λ s. refl) (inr k))
 
   costs_goes : (q : FrameRun) (p : Plan) (before : List Piece) (n : ℕ) (o : Outcome) (on : StateSoFar → Outcome)
@@ -231,7 +232,8 @@ module _ (c : RunContext) (whole : Plan) (Claim : Type 0) (IsStop : Site → Typ
       let given_there : IsGivenAt c q at frame =
       record { command = Call name all given span; rest = ns; env = env; comes = here; gives = (refl, opens) } in
       let ran_there : Ran c whole Claim IsStop frame = deeper fewer (sym facts.same_left ∙ some) d inner among
-      (callee_runs c whole Claim IsStop d.template.params (given_bindings c q given env) all q.template.template.params env
+      (callee_runs c whole Claim IsStop d.template.params (given_bindings c q given env) all
+      q.template.template.params env
       given_run runs) fit (a_call facts.opened here opens) in
       subst (λ o. Gone q (Hole at (kind_class d.template.kind ∷ [])) before
       (called_means c.direction d.template.kind o (At q before) on) on) (sym (called_more c fewer at d inner))
@@ -261,7 +263,8 @@ module _ (c : RunContext) (whole : Plan) (Claim : Type 0) (IsStop : Site → Typ
       → Gone q p before (body (with_index index k ((name, Known v) ∷ env)) (At q before) on) on) →
       (before : List Piece) (on : StateSoFar → Outcome)
       → Gone q (Loop at p) before (turns_mean body name index env n items (At q before) on) on
-  turns_go q at p body name index env n no_item goes before on = passes c whole Claim IsStop q (Loop at p) before on no_turn
+  turns_go q at p body name index env n no_item goes before on =
+      passes c whole Claim IsStop q (Loop at p) before on no_turn
   turns_go q at p body name index env n (item v vs) goes before on =
       let inner : RunEnv = with_index index n ((name, Known v) ∷ env) in
       let following : StateSoFar → Outcome = λ now. turns_mean body name index env (n + 1) vs now on in
@@ -285,7 +288,8 @@ module _ (c : RunContext) (whole : Plan) (Claim : Type 0) (IsStop : Site → Typ
       Some_ q (source ∷ translated_plan (uses_of other) scope at found) before
       (message_means (own q) (called q) (chosen_after other found) m env (At q before) on) on
   after_go q m source scope at env runs before on goes other None fit given uses fitting =
-      some_here c whole Claim IsStop q source [] before (message_means (own q) (called q) TheSource m env (At q before) on) on goes
+      some_here c whole Claim IsStop q source [] before
+      (message_means (own q) (called q) TheSource m env (At q before) on) on goes
   after_go q m source scope at env runs before on goes other (Some parts) fit given uses fitting =
       let p : Plan = parts_plan (uses_of other) scope at parts in
       let o : Outcome = translated_means (own q) (called q) env other parts (At q before) on in
@@ -307,7 +311,8 @@ module _ (c : RunContext) (whole : Plan) (Claim : Type 0) (IsStop : Site → Typ
       on) on
   own_go q m source scope at env runs before on goes None fit given uses fitting no_fallback other_fit other_given
       other_typed =
-      some_here c whole Claim IsStop q source [] before (message_means (own q) (called q) TheSource m env (At q before) on)
+      some_here c whole Claim IsStop q source [] before
+      (message_means (own q) (called q) TheSource m env (At q before) on)
       on goes
   own_go q m source scope at env runs before on goes None fit given uses fitting (fallback other) other_fit
       other_given other_typed =
@@ -416,7 +421,8 @@ module _ (c : RunContext) (whole : Plan) (Claim : Type 0) (IsStop : Site → Typ
         let come : AllCome q (case_bodies cases ++ other_bodies other) env = λ body member. in_an_arm here member in
         let o : Outcome = cases_mean (own q) (called q) (valued e env) cases
         (λ k. otherwise_means (own q) (called q) other k env) 0 env (At q before) (next env) in
-        leaves q (arms_meet at ps) ns before (with_cost (cost e env) o) next (Fitting scope) env runs fitting (past here)
+        leaves q (arms_meet at ps) ns before (with_cost (cost e env) o) next (Fitting scope) env runs fitting
+        (past here)
         (some_meets c whole Claim IsStop q at ps before (with_cost (cost e env) o) (next env)
         (costs_some q ps before (cost e env) o (next env)
         (cases_go q facts (valued e env) cases env (come_left q (case_bodies cases) (other_bodies other) env come) runs
@@ -532,7 +538,8 @@ module _ (c : RunContext) (whole : Plan) (Claim : Type 0) (IsStop : Site → Typ
 
     nodes_go : (q : FrameRun) → IsWithin q → (ns : Nodes) (env : RunEnv) → ComesNext c q ns env → AllGood env
         → (scope : Scope) → FramesIn whole (nodes_plan (of_context q) ns scope) → NodesFit c.translation ns
-        → (Claim → NodesTyped (around q) ns scope) → Fitting scope env → (before : List Piece) (next : RunEnv → StateSoFar → Outcome) →
+        → (Claim → NodesTyped (around q) ns scope) → Fitting scope env
+        → (before : List Piece) (next : RunEnv → StateSoFar → Outcome) →
         Leaves q (nodes_plan (of_context q) ns scope) no_node before
         (nodes_mean (own q) (called q) ns env (At q before) next) next
     nodes_go q facts no_node env here runs scope frames fit typed fitting before next =
@@ -560,7 +567,8 @@ module _ (c : RunContext) (whole : Plan) (Claim : Type 0) (IsStop : Site → Typ
     otherwise_goes : (q : FrameRun) → IsWithin q → (other : Otherwise) (k : ℕ) (env : RunEnv)
         → AllCome q (other_bodies other) env → AllGood env → (scope : Scope)
         → FramesIn whole (other_plan (of_context q) other scope) → OtherFits c.translation other
-        → (Claim → OtherTyped (around q) other scope) → Fitting scope env → (before : List Piece) (on : StateSoFar → Outcome) →
+        → (Claim → OtherTyped (around q) other scope) → Fitting scope env
+        → (before : List Piece) (on : StateSoFar → Outcome) →
         Gone q (other_plan (of_context q) other scope) before
         (otherwise_means (own q) (called q) other k env (At q before) on) on
     otherwise_goes q facts no_otherwise k env come runs scope frames fit typed fitting before on =
@@ -576,7 +584,8 @@ module _ (c : RunContext) (whole : Plan) (Claim : Type 0) (IsStop : Site → Typ
     arms_go : (q : FrameRun) → IsWithin q → (arms : Arms) (env : RunEnv) → AllCome q (arm_bodies arms) env
         → AllGood env → (scope : Scope)
         → AllFramesIn whole (arm_plans (of_context q) arms scope) → ArmsFit c.translation arms
-        → (Claim → ArmsTyped (around q) arms scope) → Fitting scope env → (rest : List Plan) (other : ℕ → Means) (k : ℕ) (before : List Piece) (on : StateSoFar → Outcome) →
+        → (Claim → ArmsTyped (around q) arms scope) → Fitting scope env → (rest : List Plan) (other : ℕ → Means)
+        (k : ℕ) (before : List Piece) (on : StateSoFar → Outcome) →
         ((k : ℕ) → Some_ q rest before (other k (At q before) on) on)
         → Some_ q (arm_plans (of_context q) arms scope ++ rest) before
         (arms_mean (own q) (called q) arms other k env (At q before) on) on
@@ -602,7 +611,8 @@ module _ (c : RunContext) (whole : Plan) (Claim : Type 0) (IsStop : Site → Typ
     cases_go : (q : FrameRun) → IsWithin q → (v : Value) (cases : Cases) (env : RunEnv)
         → AllCome q (case_bodies cases) env → AllGood env → (scope : Scope)
         → AllFramesIn whole (case_plans (of_context q) cases scope) → CasesFit c.translation cases
-        → (Claim → CasesTyped (around q) cases scope) → Fitting scope env → (rest : List Plan) (other : ℕ → Means) (k : ℕ) (before : List Piece) (on : StateSoFar → Outcome) →
+        → (Claim → CasesTyped (around q) cases scope) → Fitting scope env → (rest : List Plan) (other : ℕ → Means)
+        (k : ℕ) (before : List Piece) (on : StateSoFar → Outcome) →
         ((k : ℕ) → Some_ q rest before (other k (At q before) on) on)
         → Some_ q (case_plans (of_context q) cases scope ++ rest) before
         (cases_mean (own q) (called q) v cases other k env (At q before) on) on
@@ -684,7 +694,8 @@ module _ (c : RunContext) (whole : Plan) (Claim : Type 0) (IsStop : Site → Typ
     body_goes : (q : FrameRun) → IsWithin q → (body : MessageBody) (env : RunEnv)
         → AllCome q (source_bodies body) env → AllGood env → (scope : Scope) (at : Site)
         → FramesIn whole (body_plan (of_context q) body scope at) → BodyFits c.translation body
-        → (Claim → BodyTyped (around q) body scope) → Fitting scope env → (before : List Piece) (on : StateSoFar → Outcome) →
+        → (Claim → BodyTyped (around q) body scope) → Fitting scope env
+        → (before : List Piece) (on : StateSoFar → Outcome) →
         Gone q (body_plan (of_context q) body scope at) before (source_means (own q) (called q) body env (At q before)
         on) on
     body_goes q facts (Parts ns) env come runs scope at frames fit typed fitting before on =

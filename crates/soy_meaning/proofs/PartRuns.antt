@@ -54,7 +54,8 @@ choice_same choice o = spent_same (record { cost = 0; work = 1; choices = choice
 
 -- ---- translations
 
-module _ (c : RunContext) (whole : Plan) (Claim : Type 0) (IsStop : Site → Type 0) (q : FrameRun) (uses : List Use) (scope : Scope)
+module _ (c : RunContext) (whole : Plan) (Claim : Type 0) (IsStop : Site → Type 0) (q : FrameRun) (uses : List Use)
+    (scope : Scope)
     (at : Site) (env : RunEnv) (runs : AllRun c whole Claim IsStop env)
     (given : (e : Expr) → HasPlaceholderOf uses e → GivesBlocks c whole Claim IsStop q at (val e env))
     (fits : Claim → (e : Expr) → HasPlaceholderOf uses e → HasClass (val e env) (printed_classes e scope)) where
@@ -233,7 +234,8 @@ module _ (c : RunContext) (whole : Plan) (Claim : Type 0) (IsStop : Site → Typ
       (word_found arms 0 has) in
       let goes : ChosenGoes ps chosen = chosen_or ps (select_of word 0 rows) (select_of (codes "other") 0 rows)
       (select_chosen ps word 0 rows rows_go) (select_chosen ps (codes "other") 0 rows rows_go) in
-      some_meets c whole Claim IsStop q at ps before (with_cost (cost e env) (arm_means chosen (pos 0) (At before) on)) on
+      some_meets c whole Claim IsStop q at ps before (with_cost (cost e env) (arm_means chosen (pos 0) (At before) on))
+      on
       (some_same c whole Claim IsStop q ps before (with_cost (cost e env) (arm_means chosen (pos 0) (At before) on))
       (arm_means chosen (pos 0) (At before) on) on
       (cost_same (cost e env) (arm_means chosen (pos 0) (At before) on))

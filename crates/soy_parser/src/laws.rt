@@ -51,8 +51,8 @@ pub fn law_file_machine()
         (s : FileState) × (file_run tokens file_start ≡ Some s) × (whole_file s ≡ Some x) }
 {}
 
-/// The tree of a file is formed, as the grammar has its ints, names, texts and messages: where the words and variables of
-/// the tokens are names and none lies too deep, and so for each tree that `parse` answers for the tokens of a text.
+/// The tree of a file is formed, as the grammar has its ints, names, texts and messages: where the words and variables
+/// of the tokens are names and none lies too deep, and so for each tree that `parse` answers for the tokens of a text.
 pub fn law_formed_file()
     ensures formed { (tokens : List Token) (ds : List ℕ) (ws : List Bool) (x : Tree) → AreNamed tokens →
         AreWithin 0 ds → SpellsFile tokens ds ws x → is_formed_tree (view_tree x) ≡ true }

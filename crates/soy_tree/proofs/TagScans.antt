@@ -213,7 +213,8 @@ text_after (TextNode other at ∷ ns) text span last = text_after ns text span (
 text_after (Print e phname at ∷ ns) text span last = text_after ns text span (after_print last)
 text_after (_ ∷ ns) text span last = refl
 
-views_append : (ns : List code.Node) (n : code.Node) → map view_node (ns ++ n ∷ []) ≡ map view_node ns ++ view_node n ∷ []
+views_append : (ns : List code.Node) (n : code.Node)
+    → map view_node (ns ++ n ∷ []) ≡ map view_node ns ++ view_node n ∷ []
 views_append [] n = refl
 views_append (m ∷ ns) n = ap (λ l. view_node m ∷ l) (views_append ns n)
 

@@ -14,7 +14,9 @@ use Rattle.soy_tree.specs.ViewNodes.{view_node, view_form, text_node}
 
 view_form-text : (text : List ℕ) (span : Span) → view_form (form.Text text) span ≡ TextNode text span
 view_form-text text span =
-    ap (λ (f : Span → Node). f span) (code_form.fold_out-Form (Span → Node) Given MessageBody (Name × Given × Span) (Expr × Nodes) (List Expr × Nodes) Message
+    ap (λ (f : Span → Node). f span)
+    (code_form.fold_out-Form (Span → Node) Given MessageBody (Name × Given × Span) (Expr × Nodes)
+    (List Expr × Nodes) Message
     Node (ℤ × MessageBody) (List ℕ × MessageBody) form_layer given_layer body_layer argument_layer arm_layer case_layer
     message_layer node_layer plural_case_layer select_case_layer
     (form.Text text))

@@ -93,7 +93,7 @@ fn full_names<'a>(alloc: Global, declared: &'a [Declared<'a>]) -> Result<Vec<&'a
     Ok(names)
 }
 
-/// The templates of all files, in order.
+/// The templates of all files, in order. There are fewer than 2^32 files, since a template has its file's number.
 pub fn all_templates<'a>(alloc: Global, trees: &'a [Tree]) -> Result<Vec<Declared<'a>>, OutOfMemory>
     requires { length trees.now < 2 ^ 32 }
     ensures { IfOk result (λ all. view_all all.items ≡ declared (view_trees trees.now)) }

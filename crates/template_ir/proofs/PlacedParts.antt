@@ -46,7 +46,8 @@ use Rattle.template_ir.specs.Placed.{PrintPlaced, SelectedPlaced, TagPlaced, Wor
 use Rattle.template_ir.proofs.Counts.{all_holes, exact_count, part_count, parts_count, text_count}
 use Rattle.template_ir.proofs.PlacedHoles.{AfterEach, Afterwards, AllGood, At, after_arms, after_then, print_placed}
 use Rattle.template_ir.proofs.PlacedHoles.{text_placed, value_placed}
-use Rattle.template_ir.proofs.SeenHoles.{AllSeen, Seen, all_at, all_split, arms_seen, first_seen, second_seen, seen_same}
+use Rattle.template_ir.proofs.SeenHoles.{AllSeen, Seen, all_at, all_split, arms_seen, first_seen, second_seen}
+use Rattle.template_ir.proofs.SeenHoles.{seen_same}
 
 pub picks : (t : Bool) (X Y : Type 0) → (t ≡ true → X) → Y → Picks t X Y
 picks true X Y f y = f refl

@@ -155,7 +155,8 @@ module _ (shares : List ℕ) where
       (λ other. cond-false (eqb row.0 c) (Some row.1) (row_text rows c) other ∙ no_row rows c parts.1 high known)
       (cases_Bool (eqb row.0 c))
 
-  module _ (rows : List (ℕ × List ℕ)) (low : agree_below (is_share (row_or_character rows) shares) (λ c. true) 128 ≡ true)
+  module _ (rows : List (ℕ × List ℕ))
+      (low : agree_below (is_share (row_or_character rows) shares) (λ c. true) 128 ≡ true)
       (continues : agree_below continue (λ i. true) 64 ≡ true) (leads : agree_below lead (λ i. true) 64 ≡ true)
       (looked_up : list_all is_looked_up rows ≡ true) where
     row_itself : (c : ℕ) → IsScalar c → is_other shares (lead_byte c) ≡ false

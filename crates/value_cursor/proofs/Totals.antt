@@ -1,6 +1,7 @@
 -- The shares of all bytes of a text together.
 use Rattle.std.proofs.Common.{◌≡◌, ℕ, ◌+◌, ◌*◌, ◌<◌, ◌≤◌, true, ◌&&◌, List, [], ◌∷◌, ◌++◌, length, refl, sym}
-use Rattle.std.proofs.Common.{ap, ◌∙◌, ◌^◌, None, Option, Some, encode_utf8, encode_utf8_all, length-append, nat_lt, arith}
+use Rattle.std.proofs.Common.{ap, ◌∙◌, ◌^◌, None, Option, Some, encode_utf8, encode_utf8_all, length-append, nat_lt}
+use Rattle.std.proofs.Common.{arith}
 use Rattle.std.specs.Prelude.{IfSome}
 use Rattle.std.specs.List.{flat_map, list_all}
 use Rattle.std.specs.Str.{all_scalars, chars, IsUtf8}

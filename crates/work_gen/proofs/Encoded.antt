@@ -1,12 +1,14 @@
 -- The bytes of texts, part by part, and what a string grew by.
-use Rattle.std.proofs.Common.{◌≡◌, ℕ, ◌^◌, ◌<◌, Bool, true, false, ◌&&◌, nat_lt, List, [], ◌∷◌, ◌++◌, String, encode_utf8_all}
+use Rattle.std.proofs.Common.{◌≡◌, ℕ, ◌^◌, ◌<◌, Bool, true, false, ◌&&◌, nat_lt, List, [], ◌∷◌, ◌++◌, String}
+use Rattle.std.proofs.Common.{encode_utf8_all}
 use Rattle.std.proofs.Common.{refl, sym, ap, ◌∙◌, append_assoc, append-nil}
 use borrow.Author.Tests.{ltb-true}
 use Rattle.std.specs.Fmt.{decimal}
 use Rattle.std.specs.Str.{IsAscii, IsUtf8, chars}
 use Rattle.std.specs.String.{string_bytes}
 use Rattle.std.proofs.lemmas.Fmt.{IsAscii-decimal}
-use Rattle.std.proofs.lemmas.Str.{chars-IsAscii, chars-nil, chars_from_encodes, encodes-IsAscii, encodes-append, encodes-chars}
+use Rattle.std.proofs.lemmas.Str.{chars-IsAscii, chars-nil, chars_from_encodes, encodes-IsAscii, encodes-append}
+use Rattle.std.proofs.lemmas.Str.{encodes-chars}
 use Rattle.std.proofs.lemmas.Str.{IsUtf8-string_bytes}
 use Rattle.std.proofs.lemmas.Str.Ascii.{IsAscii-cons, IsAscii-nil}
 use Rattle.soy_base.specs.Appends.{Appends}
@@ -68,5 +70,6 @@ appends_first old new cs e grew = grew ∙ ap (λ l. l ++ cs) (ap chars e ∙ ch
 pub appends_none : {A : Type 0} (s : String A) → Appends s s []
 appends_none s = sym (append-nil (chars (string_bytes s)))
 
-pub appends_twice : {A : Type 0} (a b c : String A) (x y : List ℕ) → Appends a b x → Appends b c y → Appends a c (x ++ y)
+pub appends_twice : {A : Type 0} (a b c : String A) (x y : List ℕ) → Appends a b x → Appends b c y
+    → Appends a c (x ++ y)
 appends_twice a b c x y e f = f ∙ ap (λ l. l ++ y) e ∙ append_assoc (chars (string_bytes a)) x y

@@ -58,7 +58,8 @@ items_left before count h = omega arith
 
 pub items_step : (before count state : ℕ) → before < count → items_json before (items_from (count - before) state)
     ≡ comma_after before
-    ++ (item_json (item_from state) ++ items_json (before + 1) (items_from (count - (before + 1)) (state_after 5 state)))
+    ++ (item_json (item_from state)
+    ++ items_json (before + 1) (items_from (count - (before + 1)) (state_after 5 state)))
 unfolding items_from
 items_step before count state h = rw (items_left before count h) (simp add-one)
 

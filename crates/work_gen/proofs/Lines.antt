@@ -1,5 +1,6 @@
 -- The bytes of the lines that a number makes, and the texts of one more number.
-use Rattle.std.proofs.Common.{◌≡◌, ℕ, ◌+◌, ◌^◌, ◌<◌, List, [], ◌++◌, codes, String, refl, ap, ◌∙◌, add-one, append_assoc}
+use Rattle.std.proofs.Common.{◌≡◌, ℕ, ◌+◌, ◌^◌, ◌<◌, List, [], ◌++◌, codes, String, refl, ap, ◌∙◌, add-one}
+use Rattle.std.proofs.Common.{append_assoc}
 use Rattle.std.specs.Fmt.{decimal}
 use Rattle.soy_base.specs.Appends.{Appends}
 use Rattle.work_gen.specs.Source.{call_line, each_below, line}

@@ -6,7 +6,8 @@ use Rattle.msg_extract.proofs.WrittenText.{text_reads}
 use Rattle.msg_extract.proofs.laws.law_written_text.Goals as goal
 
 pub returns-clause-before_more : goal.returns-clause-before_more
-returns-clause-before_more c = λ mode n text rest end ps no_quote reads. text_reads mode n rest ps end no_quote reads text
+returns-clause-before_more c =
+    λ mode n text rest end ps no_quote reads. text_reads mode n rest ps end no_quote reads text
 
 pub returns-clause-pattern : goal.returns-clause-pattern
 returns-clause-pattern c = λ text.

@@ -6,4 +6,5 @@ use Rattle.soy_check.proofs.commands.+searching.Given as goal
 
 abbrev pub invariant-some_has_member-loop-of : goal.invariant-some_has_member-loop-of
 invariant-some_has_member-loop-of l =
-    has_member (union_members (view_members l.types)) ≡ has_member (union_members (view_members (drop l.of-index l.types)))
+    has_member (union_members (view_members l.types))
+    ≡ has_member (union_members (view_members (drop l.of-index l.types)))

@@ -7,7 +7,8 @@ loop-rest-init c = none_counted c.args.shares.now c.args.bytes.now
 
 pub loop-rest-preserved : goal.loop-rest-preserved
 loop-rest-preserved c =
-    chunk_counted c.args.shares.now c.args.bytes.now c.loop-rest.rest.now c.split_at.result.0.now c.split_at.result.1.now
+    chunk_counted c.args.shares.now c.args.bytes.now c.loop-rest.rest.now c.split_at.result.0.now
+    c.split_at.result.1.now
     c.loop-rest.total c.chunk_share-share.result c.loop-rest.invariant
     (rw (c.split_at.ensures.front, c.split_at.ensures.back) (sym (take-append-drop _ c.loop-rest.rest.now)))
     c.chunk_share-share.ensures.total c.chunk_share-share.ensures.bound (omega (arith, c.if-share.false))

@@ -9,7 +9,8 @@ loop-k-init c = begins_each c.args.out.now call_line
 
 pub loop-k-preserved : goal.loop-k-preserved
 loop-k-preserved c =
-    more_of_each c.args.out.now c.loop-k.out c.push_call.new.out c.loop-k.k call_line c.loop-k.invariant c.in_ok-push_call.ensures
+    more_of_each c.args.out.now c.loop-k.out c.push_call.new.out c.loop-k.k call_line c.loop-k.invariant
+    c.in_ok-push_call.ensures
 
 pub returns : goal.returns
 returns c =

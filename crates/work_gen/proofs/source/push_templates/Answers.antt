@@ -9,7 +9,8 @@ loop-k-init c = begins_each c.args.out.now template_lines
 
 pub loop-k-preserved : goal.loop-k-preserved
 loop-k-preserved c =
-    more_of_each c.args.out.now c.loop-k.out c.push_template.new.out c.loop-k.k template_lines c.loop-k.invariant c.in_ok-push_template.ensures
+    more_of_each c.args.out.now c.loop-k.out c.push_template.new.out c.loop-k.k template_lines c.loop-k.invariant
+    c.in_ok-push_template.ensures
 
 pub returns : goal.returns
 returns c =

@@ -26,7 +26,8 @@ returns-then-is_empty-clause-stepped c n =
     let new : Machine = record old { top = frame.Ops c.past.result } in
     quiet_step p input old new n n (output c.args.room.now c.args.room.now c.args.piece.now) (Ok step.Silent)
     (silent_in p input old new f (op.Static text) 0 gives_nothing n n c.requires.top c.requires.op c.requires.low
-    (ap (λ (o : Outcome). (spent_first (one_step 0) o, env)) (text_none text (sym c.is_empty.ensures ∙ c.if-is_empty.true)))
+    (ap (λ (o : Outcome). (spent_first (one_step 0) o, env))
+    (text_none text (sym c.is_empty.ensures ∙ c.if-is_empty.true)))
     (omega arith)
     (into_none p input old new f c.requires.top c.requires.fits (ap frame.Ops c.past.ensures) refl refl refl))
 
@@ -40,9 +41,11 @@ returns-clause-stepped c n =
     let env : RunEnv = env_at (cells_of p input old.bound.items) f.env in
     let text = c.args.text.now in
     let out = output c.args.room.now c.give_static.new.room c.give_static.new.piece in
-    does_step p input old c.give_static.new.self f (op.Static text) 0 (GivesPiece none_spent (Static text) gives_nothing) n n
+    does_step p input old c.give_static.new.self f (op.Static text) 0
+    (GivesPiece none_spent (Static text) gives_nothing) n n
     out c.give_static.result c.requires.top c.requires.fits c.requires.op c.requires.low
-    (ap (λ (o : Outcome). (spent_first (one_step 0) o, env)) (text_some text (sym c.is_empty.ensures ∙ c.if-is_empty.false)))
+    (ap (λ (o : Outcome). (spent_first (one_step 0) o, env))
+    (text_some text (sym c.is_empty.ensures ∙ c.if-is_empty.false)))
     (omega arith)
     (gave_does p input old c.give_static.new.self f (Static text) out c.give_static.result c.requires.top
     c.requires.fits (c.give_static.ensures.gave p input c.requires.op))
