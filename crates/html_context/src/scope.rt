@@ -1,6 +1,6 @@
 //! The variables that are visible. The innermost stands first, as an expression looks for it.
 
-ghost use Rattle.std.specs.Prelude.{◌≡◌, ◌∷◌, ◌++◌, IfOk, OnOk, Ok, if◌then◌else◌};
+ghost use Rattle.std.specs.Prelude.{◌≡◌, ◌∷◌, IfOk, OnOk, Ok, if◌then◌else◌};
 ghost use Rattle.soy_meaning.specs.PlanOfNodes.{body_scope, scope_past};
 ghost use Rattle.soy_tree.specs.Narrowing.{name_narrowed, narrowed, variable_narrowed};
 ghost use Rattle.soy_tree.specs.Templates.{kind_type, param_scope, param_type};
@@ -8,13 +8,13 @@ ghost use Rattle.soy_tree.specs.TypeOf.{is_null_literal, type_of};
 ghost use Rattle.soy_tree.specs.Types.{ListType};
 ghost use Rattle.soy_tree.specs.ViewExpressions.{view_expr};
 ghost use Rattle.soy_tree.specs.ViewNodes.{view_node};
-ghost use Rattle.soy_tree.specs.ViewTrees.{view_param, view_params};
+ghost use Rattle.soy_tree.specs.ViewTrees.{view_params};
 ghost use Rattle.soy_tree.specs.ViewTypes.{view_field, view_type};
 ghost use Rattle.soy_expr.specs.ViewScope.{view_vars};
 ghost use Rattle.html_context.specs.NarrowedVariable.{narrowed_variable};
 
-use soy_base::{Kind, OutOfMemory, Refusal, Text};
-use soy_expr::{joined, type_among};
+use soy_base::{OutOfMemory, Refusal, Text};
+use soy_expr::{kind_type, param_type, type_among};
 use soy_tree::{BinaryOp, Expr, ExprNode, Field, Form, Node, Param, SoyType, narrow};
 use std::alloc::Global;
 
@@ -50,17 +50,6 @@ fn declare(
     let name = name.copy(alloc)?;
     vars.insert(0, Field { name, of })?;
     Ok(())
-}
-
-/// The type of a variable that is bound to a block of a kind.
-fn kind_type(kind: Kind) -> SoyType
-    ensures { view_type result ≡ kind_type kind }
-{
-    match kind {
-        Kind::Html => SoyType::Html,
-        Kind::Attributes => SoyType::Attributes,
-        Kind::Text => SoyType::Str,
-    }
 }
 
 /// The variable of a let is visible past it.
@@ -178,17 +167,6 @@ fn unequal_narrowed(
     match (&left.node, &right.node) {
         (ExprNode::Var(name), ExprNode::Null) => name_narrowed(alloc, name, vars),
         _ => copied_vars(alloc, vars),
-    }
-}
-
-/// The type of a parameter; one that isn't required also takes null.
-fn param_type(alloc: Global, param: &Param) -> Result<SoyType, OutOfMemory>
-    ensures { IfOk result (λ t. view_type t ≡ param_type (view_param param.now)) }
-{
-    if param.required {
-        param.of.copy(alloc)
-    } else {
-        joined(alloc, &param.of, &SoyType::Null)
     }
 }
 

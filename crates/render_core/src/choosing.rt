@@ -1,8 +1,8 @@
 //! Which block a command takes.
 
+ghost use Rattle.std.specs.Option.{option_or};
 ghost use Rattle.std.specs.Prelude.{◌≡◌, map, codes};
 ghost use Rattle.std.specs.Str.{chars};
-ghost use Rattle.std.specs.Option.{option_or};
 ghost use Rattle.soy_tree.specs.Val.{is_same_value, operand, val};
 ghost use Rattle.soy_tree.specs.Cost.{cost};
 ghost use Rattle.soy_tree.specs.ViewExpressions.{view_expr, view_exprs};
@@ -20,7 +20,7 @@ use crate::parts::Point;
 use crate::valuing::is_truthy;
 use plural_rules::Category;
 use soy_base::{OutOfMemory, Steps};
-use soy_expr::{Shallow, evaluate};
+use soy_expr::{Shallow, evaluate, is_same};
 use soy_tree::Expr;
 use std::sync::ledger::Ledger;
 use template_ir::{
@@ -163,19 +163,6 @@ fn has_value<L: Ledger>(
     match evaluate(point.scene.alloc, expr, &point, steps) {
         Ok(value) => Ok(is_same(subject, value.shallow())),
         Err(_) => Err(OutOfMemory),
-    }
-}
-
-/// Whether two operands are of one type and equal.
-fn is_same(left: Shallow, right: Shallow) -> bool
-    ensures { result ≡ is_same_value (view_shallow left.entry) (view_shallow right.entry) }
-{
-    match (left, right) {
-        (Shallow::Null, Shallow::Null) => true,
-        (Shallow::Bool(left), Shallow::Bool(right)) => left == right,
-        (Shallow::Int(left), Shallow::Int(right)) => left == right,
-        (Shallow::Str(left), Shallow::Str(right)) => left.is(right.text()),
-        _ => false,
     }
 }
 

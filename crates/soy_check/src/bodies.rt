@@ -17,10 +17,10 @@ use crate::commands::{Takes, check_accepted, check_expr, check_plain, check_prin
 use crate::names::Names;
 use crate::narrowing::{narrow_variables, restore};
 use crate::template::Indexed;
-use crate::variables::{check_let, check_new, declare, enter_loop, kind_type, param_type};
+use crate::variables::{check_let, check_new, declare, enter_loop};
 use crate::visible::Visible;
 use soy_base::{Refusal, Span};
-use soy_expr::{TypeFault, type_by};
+use soy_expr::{TypeFault, kind_type, param_type, type_by};
 use soy_tree::{
     Argument, Arm, Case, Form, Given, MessageBody, Node, Param, PluralCase, SelectCase,
 };

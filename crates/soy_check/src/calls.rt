@@ -18,10 +18,9 @@ use crate::faults::misnamed;
 use crate::names::Names;
 use crate::names_given::NamesGiven;
 use crate::template::Indexed;
-use crate::variables::param_type;
 use crate::visible::Visible;
 use soy_base::{Code, OutOfMemory, Refusal, Span, Text};
-use soy_expr::TypeFault;
+use soy_expr::{TypeFault, param_type};
 use soy_tree::{Argument, Param, called_name};
 use std::alloc::Global;
 

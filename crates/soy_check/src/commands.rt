@@ -12,10 +12,9 @@ ghost use Rattle.soy_check.specs.Answers.{Passes};
 ghost use Rattle.soy_check.specs.Rules.{is_taken, printed};
 
 use crate::faults::untyped;
-use crate::variables::param_type;
 use crate::visible::Visible;
 use soy_base::{Code, Refusal, Span};
-use soy_expr::{TypeFault, both_mistyped, is_int, is_simple, is_string, type_by};
+use soy_expr::{TypeFault, both_mistyped, is_int, is_simple, is_string, param_type, type_by};
 use soy_tree::{Expr, Param, SoyType, accepts};
 use std::alloc::Global;
 

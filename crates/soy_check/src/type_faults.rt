@@ -2,14 +2,13 @@
 
 ghost use Rattle.std.specs.Prelude.{◌≡◌, [], IfOk};
 ghost use Rattle.soy_tree.specs.Declarations.{fields_fault, members_fault, misplaced, mixes_blocks, type_fault};
-ghost use Rattle.soy_tree.specs.Members.{is_block_member};
 ghost use Rattle.soy_tree.specs.ViewTypes.{view_fields, view_members, view_type};
 ghost use Rattle.soy_check.specs.Answers.{Finds};
 
 use crate::faults::{misnamed, untyped};
 use crate::names::Names;
 use soy_base::{Code, OutOfMemory, Refusal, Span};
-use soy_expr::{TypeFault, has_block};
+use soy_expr::{TypeFault, has_block, is_block};
 use soy_tree::{Field, SoyType, narrow};
 use std::alloc::Global;
 
@@ -93,15 +92,4 @@ fn mixes_blocks(alloc: Global, of: &SoyType) -> Result<bool, OutOfMemory>
         return Ok(false);
     }
     Ok(!is_block(&narrow(alloc, of)?))
-}
-
-/// Whether the type is html or attributes.
-fn is_block(of: &SoyType) -> bool
-    ensures { result ≡ is_block_member (view_type of.now) }
-{
-    match of {
-        SoyType::Html => true,
-        SoyType::Attributes => true,
-        _ => false,
-    }
 }

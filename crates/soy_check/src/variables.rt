@@ -4,10 +4,10 @@ ghost use Rattle.std.specs.Prelude.{◌≡◌, ◌∷◌, [], None, IfOk, OnOk, 
 ghost use Rattle.soy_tree.specs.Bodies.{new_variable, new_variables};
 ghost use Rattle.soy_tree.specs.Declarations.{params_fault};
 ghost use Rattle.soy_tree.specs.Faults.{followed_by};
-ghost use Rattle.soy_tree.specs.Templates.{kind_type, param_scope, param_type};
+ghost use Rattle.soy_tree.specs.Templates.{param_scope, param_type};
 ghost use Rattle.soy_tree.specs.Types.{IntType};
 ghost use Rattle.soy_tree.specs.ViewExpressions.{view_expr};
-ghost use Rattle.soy_tree.specs.ViewTrees.{view_param, view_params};
+ghost use Rattle.soy_tree.specs.ViewTrees.{view_params};
 ghost use Rattle.soy_tree.specs.ViewTypes.{view_type};
 ghost use Rattle.soy_expr.specs.ViewScope.{view_vars};
 ghost use Rattle.soy_check.specs.Answers.{Passes};
@@ -18,8 +18,8 @@ ghost use Rattle.soy_check.specs.Visible.{variable};
 
 use crate::faults::{misnamed, untyped};
 use crate::visible::Visible;
-use soy_base::{Code, Kind, OutOfMemory, Refusal, Span, Text};
-use soy_expr::{TypeFault, joined, type_by};
+use soy_base::{Code, OutOfMemory, Refusal, Span, Text};
+use soy_expr::{TypeFault, param_type, type_by};
 use soy_tree::{Expr, Param, SoyType};
 use std::alloc::Global;
 
@@ -37,28 +37,6 @@ pub(crate) fn param_variables(alloc: Global, params: &[Param]) -> Result<Visible
         vars.add(alloc, &param.name, of)?;
     }
     Ok(vars)
-}
-
-/// The type of a parameter; one that isn't required also takes null.
-pub(crate) fn param_type(alloc: Global, param: &Param) -> Result<SoyType, OutOfMemory>
-    ensures { IfOk result (λ t. view_type t ≡ param_type (view_param param.now)) }
-{
-    if param.required {
-        param.of.copy(alloc)
-    } else {
-        joined(alloc, &param.of, &SoyType::Null)
-    }
-}
-
-/// The type of the variable of a block.
-pub(crate) fn kind_type(kind: Kind) -> SoyType
-    ensures { view_type result ≡ kind_type kind }
-{
-    match kind {
-        Kind::Html => SoyType::Html,
-        Kind::Attributes => SoyType::Attributes,
-        Kind::Text => SoyType::Str,
-    }
 }
 
 /// Refuses a variable that is already visible.

@@ -9,7 +9,7 @@ use crate::Shallow;
 use soy_base::first;
 
 /// Whether two operands are of one type and equal.
-pub(crate) fn is_same(left: Shallow, right: Shallow) -> bool
+pub fn is_same(left: Shallow, right: Shallow) -> bool
     ensures { result ≡ is_same_value (view_shallow left.entry) (view_shallow right.entry) }
 {
     match (left, right) {

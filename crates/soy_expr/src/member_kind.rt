@@ -88,7 +88,8 @@ fn is_null(of: &SoyType) -> bool
     }
 }
 
-fn is_block(of: &SoyType) -> bool
+/// Whether a type is html or attributes.
+pub fn is_block(of: &SoyType) -> bool
     ensures { result ≡ is_block_member (view_type of.now) }
 {
     match of {
