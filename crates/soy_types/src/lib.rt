@@ -13,4 +13,4 @@ mod reading;
 
 pub use data::read_data;
 pub use fault::DataFault;
-pub use laws::{law_data, law_read};
+pub use laws::{law_data, law_read, law_short_data};
