@@ -18,9 +18,14 @@ pub mod IsSumOf
 pub mod IsText
 pub mod Line
 pub mod MadeBundle
+pub mod MarkupKept
 pub mod Numbered
+pub mod OrderKept
+pub mod OtherData
 pub mod Output
+pub mod PageTook
 pub mod Pointer
+pub mod Rendered
 pub mod Shown
 pub mod Summary
 pub mod View
