@@ -15,3 +15,6 @@ pub mod Sums
 pub mod Texts
 pub mod Took
 pub mod Workloads
+pub mod KeptPages
+pub mod PageParts
+pub mod Rendering

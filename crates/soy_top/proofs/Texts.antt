@@ -129,12 +129,12 @@ module _ (files : Files) (before : List FileWanted) (names : List Word) where
   count : length (contents files before ++ named) - length names ≡ length (contents files before)
   count = length_both (contents files before) named (length names) (sym (as_many files names))
 
-  before_named : but_last (length names) (contents files (before ++ map source_file names)) ≡ contents files before
+  pub before_named : but_last (length names) (contents files (before ++ map source_file names)) ≡ contents files before
   before_named =
       ap (but_last (length names)) (contents_both files before (map source_file names))
       ∙ take_before (contents files before) named _ count
 
-  last_named : last (length names) (contents files (before ++ map source_file names)) ≡ named
+  pub last_named : last (length names) (contents files (before ++ map source_file names)) ≡ named
   last_named =
       ap (last (length names)) (contents_both files before (map source_file names))
       ∙ drop_before (contents files before) named _ count

@@ -25,6 +25,7 @@ pub mod OtherData
 pub mod Output
 pub mod PageTook
 pub mod Pointer
+pub mod RenderAsked
 pub mod Rendered
 pub mod Shown
 pub mod Summary
