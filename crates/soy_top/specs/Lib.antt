@@ -1,3 +1,4 @@
+pub mod AcceptedRender
 pub mod Accepts
 pub mod Answer
 pub mod Asked
@@ -9,6 +10,7 @@ pub mod Ending
 pub mod Fetched
 pub mod FilesWanted
 pub mod Generated
+pub mod HoldsInputs
 pub mod Inputs
 pub mod IsCatalogue
 pub mod IsChecked
