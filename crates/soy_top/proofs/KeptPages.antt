@@ -176,3 +176,13 @@ pub same_order : (held : Option Files) (words : List Word)
     → IfSome (known_rendered held words) OrderIsKept
 same_order held words =
     if_any (known_rendered held words) PageParts OrderIsKept (rendered_parts held words) order_kept
+
+abbrev pub IsOneText : Rendered → Type 0
+IsOneText page =
+    page.d.template.kind ≡ kind.Html → (last : State)
+    × (after_piece (start kind.Html) (Static (joined_pieces (page_pieces page page.v))) ≡ Ok last)
+
+-- **an html page, taken as one text, is read without a fault**
+pub one_text : (held : Option Files) (words : List Word) → IfSome (known_rendered held words) IsOneText
+one_text held words =
+    if_any (known_rendered held words) PageParts IsOneText (rendered_parts held words) page_one_text

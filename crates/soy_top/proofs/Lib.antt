@@ -18,3 +18,4 @@ pub mod Workloads
 pub mod KeptPages
 pub mod PageParts
 pub mod Rendering
+pub mod AnsweredTexts
