@@ -20,7 +20,8 @@ use Rattle.soy_front.specs.FrontAnswer.{language_answer, language_or_fault, walk
 use Rattle.soy_front.specs.declared.fault.FrontFault.{FrontFault}
 use Rattle.soy_front.proofs.BundleTranslations.{same_chosen}
 use Rattle.soy_front.proofs.FilesLaws.{files_had, trees_within}
-use Rattle.soy_front.proofs.FrontAnswers.{brought_apart, same_language}
+use Rattle.soy_front.proofs.FirstFaults.{first_apart}
+use Rattle.soy_front.proofs.FrontAnswers.{answered_fault, brought_apart, same_language}
 use Rattle.soy_front.proofs.LanguageOf.{languages_alike}
 use Rattle.soy_io.specs.FileOf.{Files, file_of}
 use Rattle.soy_meaning.specs.AcceptedTrees.{walk_trees}
@@ -137,6 +138,19 @@ accepted_alike page names contents bundle template json_name json content of is 
     let g = deserved_given contents content of is in
     ap (unless_refused names contents bundle (render_answer page template json_name json)) g.answered
     ∙ render_alike g.given of g.files g.language page template json_name json
+
+-- files and a bundle that are accepted have an answer
+record HasAnswer (answer : Result Front FrontFault) : Type 0 where
+  pub of : Front
+  pub answered : answer ≡ Ok of
+
+front_of : (contents : List (List ℕ)) (bundle : Option (List ℕ)) → Accepted contents bundle
+    → HasAnswer (front_answer contents bundle)
+front_of contents bundle accepted = by_answer (front_answer contents bundle) refl where
+  by_answer : (r : Result Front FrontFault) → front_answer contents bundle ≡ r → HasAnswer r
+  by_answer (Ok of) is = record { of = of; answered = refl }
+  by_answer (Err fault) is =
+      absurd (first_apart contents bundle fault accepted (answered_fault contents bundle fault is))
 
 -- ---- files that are held and within their limits
 
