@@ -11,8 +11,9 @@ use Rattle.soy_base.specs.declared.place.Place.TheVariants as place
 use Rattle.soy_base.specs.declared.place.Placing.{Placing}
 use Rattle.soy_base.specs.declared.place.Placing.TheVariants.{Takes, Refuses}
 use Rattle.soy_base.specs.declared.place.ValueClass.{ValueClass}
-use Rattle.html_state.specs.Follows.{Follows, FollowsOutside, FollowsRow, FollowsTag}
+use Rattle.html_state.specs.Follows.{Follows, FollowsOutside, FollowsRow, FollowsTag, FramesAttributes, FramesHtml}
 use Rattle.html_state.specs.Next.{pending}
+use Rattle.html_state.specs.Start.{start}
 use Rattle.html_state.specs.StatePlacing.{placing, quoted_placing, refuses_start, row_placing, tag_row_placing}
 use Rattle.html_state.specs.StatePlacing.{uri_placing}
 use Rattle.html_state.specs.TakesClass.{takes_class}
@@ -29,10 +30,11 @@ use Rattle.html_state.specs.declared.row.UriName.{UriName}
 use Rattle.html_state.specs.declared.row.UriName.TheVariants as uri
 use Rattle.html_state.specs.declared.row.UriPart.{UriPart}
 use Rattle.html_state.specs.declared.row.UriPart.TheVariants as part
+use Rattle.html_state.proofs.PageFrames.{page_attributes, page_html}
 use Rattle.soy_meaning.specs.Filled.{IsBlockKind}
 use Rattle.soy_meaning.specs.FourPoints.{takes_classes}
 use Rattle.soy_meaning.specs.PlanOfNodes.{kind_class}
-use Rattle.soy_meaning.proofs.Pages.{IsSettled, frame_goes_on}
+use Rattle.soy_meaning.proofs.Pages.{IsSettled}
 use Rattle.stable_html.specs.FrameStates.{StandsIn}
 use Rattle.stable_html.specs.PlacedValue.{IsPlaceOf}
 use Rattle.stable_html.specs.RealTag.{in_other_tag, in_real_tag, row_in_other}
@@ -197,10 +199,20 @@ state_places now point (inr is) = row_places now.row point is
 
 -- ---- frames
 
--- a frame of attributes goes on in a tag, and one of HTML in none
-pub stands_in : (around : Option Tag) (page walk : State) (kind : Kind) (block : IsBlockKind kind)
-    (follows : Follows around page walk) (takes : takes_class (placing walk) (kind_class kind) ≡ true)
-    (settled : IsSettled walk) → StandsIn kind (frame_goes_on around page walk kind block follows takes settled).0
-stands_in around page walk kind.Html block follows takes settled = tt
-stands_in around page walk kind.Attributes block follows takes settled = tt
-stands_in around page walk kind.Text block follows takes settled = absurd block
+-- the tag that the page is in where a frame in a hole begins, or none
+pub record FrameBegins (page : State) (kind : Kind) : Type 0 where
+  pub inside : Option Tag
+  pub stands : StandsIn kind inside
+  pub follows : Follows inside page (start kind)
+
+-- a frame of attributes begins in a tag, and one of HTML in none
+pub frame_begins : (around : Option Tag) (page walk : State) (kind : Kind) → IsBlockKind kind
+    → Follows around page walk → takes_class (placing walk) (kind_class kind) ≡ true → IsSettled walk
+    → FrameBegins page kind
+frame_begins around page walk kind.Html block follows takes settled =
+    let f : FramesHtml around page walk = page_html around page walk follows takes settled in
+    record { inside = None; stands = tt; follows = f.0 }
+frame_begins around page walk kind.Attributes block follows takes settled =
+    let f : FramesAttributes around page walk = page_attributes around page walk follows takes settled in
+    record { inside = Some f.0; stands = tt; follows = f.1 }
+frame_begins around page walk kind.Text block follows takes settled = absurd block
