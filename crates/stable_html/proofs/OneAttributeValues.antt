@@ -38,14 +38,18 @@ value_on p is value.Event c = (p, is, refl)
 value_on p is value.NoPrint c = (p, is, refl)
 value_on p is value.Plain c = (p, is, refl)
 
-pub value_may_end : (p : UriPart) (now : AttributeValue) → may_end_value now ≡ true → may_end_value (value_as_one p now) ≡ true
+-- a value that may end, may without the mark
+pub value_may_end : (p : UriPart) (now : AttributeValue) → may_end_value now ≡ true
+    → may_end_value (value_as_one p now) ≡ true
 value_may_end p (value.Style now) is = style_may_end now is
 value_may_end p (value.Uri name before) is = refl
 value_may_end p value.Event is = refl
 value_may_end p value.NoPrint is = refl
 value_may_end p value.Plain is = refl
 
-pub begun_value_self : (now : Attribute) → (p : UriPart) × IsReadable p × (begun_value now ≡ value_as_one p (begun_value now))
+-- a value that begins is read as itself
+pub begun_value_self : (now : Attribute) → (p : UriPart) × IsReadable p
+    × (begun_value now ≡ value_as_one p (begun_value now))
 begun_value_self (attribute.Uri name) = (part.Start, tt, refl)
 begun_value_self attribute.Event = (part.Path, tt, refl)
 begun_value_self attribute.NoPrint = (part.Path, tt, refl)

@@ -5,26 +5,26 @@ use Rattle.std.specs.Char.{is_ascii_whitespace}
 use Rattle.std.specs.Prelude.{None, Option, Some, if◌then◌else◌}
 use Rattle.soy_base.specs.Characters.{asterisk, backslash, comma, double_quote, exclamation_mark, right_brace}
 use Rattle.soy_base.specs.Characters.{right_parenthesis, semicolon, single_quote, slash}
-use Rattle.soy_base.specs.declared.code.Code.{Code}
-use Rattle.soy_base.specs.declared.code.Code.TheVariants as code
 use Rattle.script_state.specs.CssNext.{css_code_next, css_next, is_before_value}
 use Rattle.script_state.specs.declared.css_state.CssState.{CssState}
 use Rattle.script_state.specs.declared.css_state.CssState.TheVariants as css
-use Rattle.html_state.specs.declared.row.Quote.TheVariants as quote
 use Rattle.stable_html.proofs.AsOne.{CssOn, unmarked}
 
 -- ---- styles
 
+-- either way a state that stays the same without the mark
 css_if : (test : Bool) (one other : Option CssState) → CssOn one one → CssOn other other
     → CssOn (if test then one else other) (if test then one else other)
 css_if true one other on on_other = on
 css_if false one other on on_other = on_other
 
+-- the same of states that are there
 state_if : (test : Bool) (one other : CssState) → one ≡ unmarked one → other ≡ unmarked other
     → (if test then one else other) ≡ unmarked (if test then one else other)
 state_if true one other is is_other = is
 state_if false one other is is_other = is_other
 
+-- what follows Code has no mark
 code_self : (c : ℕ) → css_code_next c ≡ unmarked (css_code_next c)
 code_self c =
     state_if (is_before_value c) css.Ready
@@ -38,6 +38,7 @@ code_self c =
     (state_if (eqb c single_quote) css.Single (if eqb c double_quote then css.Double else css.Code) refl
     (state_if (eqb c double_quote) css.Double css.Code refl refl))))
 
+-- what follows within a string has none
 string_self : (quote c : ℕ) (within escape : CssState) → within ≡ unmarked within → escape ≡ unmarked escape →
     CssOn (if eqb c backslash then Some escape else (if eqb c quote then Some css.Code
     else (if eqb c 0x0a || eqb c 0x0d then None else Some within)))
@@ -55,6 +56,7 @@ ready_if : (white : Bool) (c : ℕ) → is_ascii_whitespace c ≡ white → (whi
 ready_if true c same is = rw same refl
 ready_if false c same is = subst (λ d. css_code_next d ≡ css.Ready) (sym (eqb-true c comma is)) refl
 
+-- a character that ends a value leads on from Code to Code
 code_if : (a b d e : Bool) (c : ℕ) → eqb c semicolon ≡ a → eqb c right_parenthesis ≡ b → eqb c exclamation_mark ≡ d
     → eqb c right_brace ≡ e → (((a || b) || d) || e) ≡ true → css_code_next c ≡ css.Code
 code_if true b d e c is_a is_b is_d is_e is = subst (λ x. css_code_next x ≡ css.Code)
@@ -67,6 +69,7 @@ code_if false false false true c is_a is_b is_d is_e is = subst (λ x. css_code_
     (sym (eqb-true c right_brace is_e)) refl
 code_if false false false false c is_a is_b is_d is_e is = let never : ⊥ = cc in absurd never
 
+-- behind a value: white space or a comma, what ends a value, or a fault
 past_if : (first second : Bool) (one : Option CssState) → (first ≡ true → one ≡ Some css.Ready)
     → (second ≡ true → one ≡ Some css.Code)
     → CssOn (if first then Some css.Ready else (if second then Some css.Code else None)) one
@@ -74,6 +77,7 @@ past_if true second one ready code = ready refl
 past_if false true one ready code = code refl
 past_if false false one ready code = tt
 
+-- every state of the table
 pub css_on : (now : CssState) (c : ℕ) → CssOn (css_next now c) (css_next (unmarked now) c)
 css_on css.Code c = ap Some (code_self c)
 css_on css.Ready c = ap Some (code_self c)

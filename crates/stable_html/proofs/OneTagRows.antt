@@ -25,31 +25,38 @@ use Rattle.stable_html.proofs.OneAttributeValues.{begun_value_self, value_may_en
 
 -- ---- rows within a tag
 
+-- either way
 tag_if : (test : Bool) (one other two also : Result (Option TagRow) Code) → TagOn one two → TagOn other also
     → TagOn (if test then one else other) (if test then two else also)
 tag_if true one other two also on on_other = on
 tag_if false one other two also on on_other = on_other
 
+-- either way, as itself
 some_if : (test : Bool) (one other : Option TagRow) → TagOn (Ok one) (Ok one) → TagOn (Ok other) (Ok other)
     → TagOn (Ok (if test then one else other)) (Ok (if test then one else other))
 some_if true one other on on_other = on
 some_if false one other on on_other = on_other
 
+-- a row that is read as itself
 some_leaf : (now : TagRow) → now ≡ tag_row_as_one part.Path now → TagOn (Ok (Some now)) (Ok (Some now))
 some_leaf now is = (part.Path, tt, ap (λ i. Ok (Some i)) is)
 
+-- the end of the tag
 none_leaf : TagOn (Ok None) (Ok None)
 none_leaf = refl
 
+-- a fault of the page
 fault_leaf : (fault : Code) → TagOn (Err fault) (Err fault)
 fault_leaf fault = tt
 
+-- past a name nothing of the page in pieces is left
 pub past_name_self : (c : ℕ) → TagOn (Ok (past_name c)) (Ok (past_name c))
 past_name_self c =
     some_if (eqb c slash) (Some tag_row.SelfClosing) (if eqb c greater_than then None else Some tag_row.BeforeName)
     (some_leaf tag_row.SelfClosing refl)
     (some_if (eqb c greater_than) None (Some tag_row.BeforeName) none_leaf (some_leaf tag_row.BeforeName refl))
 
+-- so it is before a name
 before_name_self : (c : ℕ) → TagOn (before_name c) (before_name c)
 before_name_self c =
     tag_if (ends_name c) _ _ _ _ (past_name_self c)
@@ -69,16 +76,19 @@ value_row holding same (Ok now) one on = (
   ap (and_then (λ following. Ok (Some (holding following)))) on.2 ∙ ap (λ i. Ok (Some i)) (same on.0 now),
 )
 
+-- past a value, which ends where it may
 past_value_on : (test same : Bool) (o : Option TagRow) → (test ≡ true → same ≡ true) → TagOn (Ok o) (Ok o)
     → TagOn (if test then Ok o else Err code.Script) (if same then Ok o else Err code.Script)
 past_value_on true same o is on = subst (λ b. TagOn (Ok o) (if b then Ok o else Err code.Script)) (sym (is refl)) on
 past_value_on false same o is on = tt
 
+-- a value that a quote begins
 quoted_leaf : (quote : Quote) (now : Attribute) → TagOn (Ok (Some (tag_row.Quoted quote (begun_value now))))
     (Ok (Some (tag_row.Quoted quote (begun_value now))))
 quoted_leaf quote now =
     let b = begun_value_self now in (b.0, b.1, ap (λ v. Ok (Some (tag_row.Quoted quote v))) b.2)
 
+-- before a value
 before_value_self : (now : Attribute) (c : ℕ) → TagOn (before_value true now c) (before_value true now c)
 before_value_self now c =
     let b = begun_value_self now in
@@ -91,6 +101,7 @@ before_value_self now c =
     (subst (λ v. ValueOn (value_next true (begun_value now) c) (value_next true v c)) (sym b.2)
     (value_on b.0 b.1 (begun_value now) c))))))
 
+-- every row within a tag
 pub tag_row_on : (p : UriPart) → IsReadable p → (inner : TagRow) (c : ℕ)
     → TagOn (tag_row_next true inner c) (tag_row_next true (tag_row_as_one p inner) c)
 tag_row_on p is tag_row.BeforeName c = before_name_self c

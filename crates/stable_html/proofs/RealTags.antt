@@ -37,7 +37,7 @@ use Rattle.soy_meaning.specs.PlanOfNodes.{kind_class}
 use Rattle.soy_meaning.proofs.Pages.{IsSettled}
 use Rattle.stable_html.specs.FrameStates.{StandsIn}
 use Rattle.stable_html.specs.PlacedValue.{IsPlaceOf}
-use Rattle.stable_html.specs.RealTag.{in_other_tag, in_real_tag, row_in_other}
+use Rattle.stable_html.specs.RealTag.{in_real_tag, row_in_other}
 
 -- ---- the state
 
@@ -140,13 +140,17 @@ page_placed (Some around) page walk classes f takes point is =
 abbrev pub PlacesAt : Placing → Place → Type 0
 PlacesAt own point = (own ≡ Takes point) ⊎ ((own ≡ Refuses code.UriStart) × (point ≡ place.UriStart))
 
+-- placings that take are at one place
 takes_same : (a b : Place) → Takes a ≡ Takes b → a ≡ b
 takes_same a b is = cc
 
-start_places : (refused : Bool) → PlacesAt (if refused then Refuses code.UriStart else Takes place.UriStart) place.UriStart
+-- the start of a URI is taken or refused
+start_places : (refused : Bool)
+    → PlacesAt (if refused then Refuses code.UriStart else Takes place.UriStart) place.UriStart
 start_places true = inr (refl, refl)
 start_places false = inl refl
 
+-- the start of a URI, in a tag of any name
 begun_places : (name : UriName) (tag_ : List ℕ) (point : Place) → Takes place.UriStart ≡ Takes point
     → PlacesAt (uri_placing name tag_ part.Start) point
 begun_places name tag_ point is = subst (λ p. PlacesAt (uri_placing name tag_ part.Start) p)
@@ -167,6 +171,7 @@ uri_places name tag_ part.Query point is = inl is
 uri_places name tag_ part.Fragment point is = inl is
 uri_places name tag_ part.BadScheme point is = inl is
 
+-- a quoted value's place by a tag without a name, and by a real one
 quoted_places : (tag_ : List ℕ) (now : AttributeValue) (point : Place) → quoted_placing [] now ≡ Takes point
     → PlacesAt (quoted_placing tag_ now) point
 quoted_places tag_ (value.Uri name before) point is = uri_places name tag_ before point is
@@ -175,6 +180,7 @@ quoted_places tag_ value.Plain point is = inl is
 quoted_places tag_ value.Event point is = inl is
 quoted_places tag_ value.NoPrint point is = inl is
 
+-- a row's place in a tag, likewise
 tag_row_places : (around : Tag) (inner : TagRow) (point : Place) → tag_row_placing tag.Block inner ≡ Takes point
     → PlacesAt (tag_row_placing around inner) point
 tag_row_places (tag.Named k name) (tag_row.Quoted q now) point is = quoted_places name now point is
@@ -187,6 +193,7 @@ tag_row_places around (tag_row.Unquoted v) point is = inl is
 tag_row_places around tag_row.AfterQuoted point is = inl is
 tag_row_places around tag_row.SelfClosing point is = inl is
 
+-- every row
 row_places : (now : HtmlRow) (point : Place) → row_placing (row_in_other tag.Block now) ≡ Takes point
     → PlacesAt (row_placing now) point
 row_places (row.InTag around inner) point is = tag_row_places around inner point is

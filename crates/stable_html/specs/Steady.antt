@@ -2,8 +2,8 @@
 --
 -- The static texts are read without a fault. Each value stands where it is taken, and leads the state before it to the
 -- one that a value leaves behind, whatever it is.
--- Example: `<p title="`, the value `&quot;`, `">`, and the value `<span dir="ltr">7</span>` are steady from the start of
--- kind html, and without the span's `</span>` they aren't.
+-- Example: `<p title="`, the value `&quot;`, `">`, and the value `<span dir="ltr">7</span>` are steady from the start
+-- of kind html, and without the span's `</span>` they aren't.
 use Rattle.std.specs.Prelude.{◌≡◌, List, [], ◌∷◌, Ok}
 use Rattle.soy_base.specs.declared.direction.Dir.{Dir}
 use Rattle.html_state.specs.AfterPieces.{Piece, Static, Value, after_piece}

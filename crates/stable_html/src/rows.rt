@@ -15,8 +15,8 @@ ghost use Rattle.stable_html.specs.WorkedPages.{input_shape, italic_shape, scrip
 ghost use Rattle.stable_html.specs.WorkedPages.{titled_page, titled_shape};
 
 /// Of templates: two data with the same choices give one shape, and two with other choices different ones. Of pages:
-/// references and an empty value, a script in two runs, and what proves to be no end tag; roles; and the inner roles of a
-/// string in a script.
+/// references and an empty value, a script in two runs, and what proves to be no end tag; roles; and the inner roles of
+/// a string in a script.
 pub fn law_markup_rows()
     ensures block { shape (start kind.Html) (pieces_of_outcome (block_twice (codes "7")))
         ≡ italic_shape (italic_shape []) }
