@@ -1,6 +1,6 @@
 -- Characters that are the same in two lines, as a choice of a character in both.
-use Rattle.std.proofs.Common.{◌≡◌, ◌⊎◌, ℕ, suc, ◌+◌, ◌≤◌, true, inl, inr, List, [], ◌∷◌}
-use Rattle.std.proofs.Common.{◌++◌, map, length, length-append, refl, sym, ap, subst, ◌∙◌, Option, Some, None, arith}
+use Rattle.std.proofs.Common.{◌≡◌, ◌⊎◌, ℕ, suc, ◌+◌, ◌≤◌, true, inl, inr, List, [], ◌∷◌, ◌++◌, map, length}
+use Rattle.std.proofs.Common.{length-append, refl, sym, ap, subst, ◌∙◌, Option, Some, None, arith}
 use Rattle.std.proofs.lemmas.List.{map-append}
 use Rattle.bidi_class.specs.Class.{bidi_class}
 use Rattle.bidi_order.specs.TwoLines.{Both, Chosen, HoldsCleaned, chosen_part, is_surrounding, one_before}
@@ -8,8 +8,8 @@ use Rattle.bidi_order.specs.TwoLines.{one_character, one_labelled, one_line, oth
 use Rattle.bidi_order.specs.TwoLines.{other_labelled, other_line}
 use Rattle.bidi_order.specs.TwoLines.Both.{Shared, Values}
 use Rattle.bidi_order.specs.TwoLines.Chosen.{Outside, Inside}
-use Rattle.bidi_order.specs.WithinLimit.{LabelledCharacter, static_character, value_character}
-use Rattle.bidi_order.specs.WithinLimit.{value_characters, value_initiator}
+use Rattle.bidi_order.specs.WithinLimit.{LabelledCharacter, static_character, value_character, value_characters}
+use Rattle.bidi_order.specs.WithinLimit.{value_initiator}
 use Rattle.stable_bidi.specs.BothLines.{BothNumbered}
 use Rattle.stable_bidi.specs.SameVisualOrder.{static_count}
 use Rattle.stable_bidi.proofs.SameCharacters.{Located, locate, same_head, same_tail}
@@ -17,11 +17,11 @@ use Rattle.stable_bidi.proofs.SameCharacters.Located.{InShared, InValue}
 
 -- ---- the two lines turned round
 
-abbrev swapped_part : Both → Both
+abbrev pub swapped_part : Both → Both
 swapped_part (Shared c) = Shared c
 swapped_part (Values k i j v w) = Values k j i w v
 
-abbrev swapped : List Both → List Both
+abbrev pub swapped : List Both → List Both
 swapped line = map swapped_part line
 
 swapped_back : (line : List Both) → swapped (swapped line) ≡ line
@@ -29,12 +29,12 @@ swapped_back [] = refl
 swapped_back (Shared c ∷ line) = ap (λ l. Shared c ∷ l) (swapped_back line)
 swapped_back (Values k i j v w ∷ line) = ap (λ l. Values k i j v w ∷ l) (swapped_back line)
 
-swapped_labelled : (line : List Both) → one_labelled (swapped line) ≡ other_labelled line
+pub swapped_labelled : (line : List Both) → one_labelled (swapped line) ≡ other_labelled line
 swapped_labelled [] = refl
 swapped_labelled (Shared c ∷ line) = ap (λ l. static_character c ∷ l) (swapped_labelled line)
 swapped_labelled (Values k i j v w ∷ line) = ap (λ l. value_characters k j w ++ l) (swapped_labelled line)
 
-swapped_held : (line : List Both) → HoldsCleaned line → HoldsCleaned (swapped line)
+pub swapped_held : (line : List Both) → HoldsCleaned line → HoldsCleaned (swapped line)
 swapped_held [] held = tt
 swapped_held (Shared c ∷ line) held = swapped_held line held
 swapped_held (Values k i j v w ∷ line) held = ((held.0.1, held.0.0, held.0.3, held.0.2), swapped_held line held.1)
@@ -67,7 +67,8 @@ other_locate line before m after e held seen =
       | InValue prefix k i j begin y end w suffix line_is before_is m_is ↦
           OtherValue (swapped prefix) k j i w begin y end (swapped suffix)
           (unswapped line prefix suffix (Values k i j (begin ++ y ∷ end) w) line_is)
-          (before_is ∙ ap (λ l. l ++ value_initiator k i ∷ map (value_character k) begin) (unswapped_before prefix)) m_is
+          (before_is ∙ ap (λ l. l ++ value_initiator k i ∷ map (value_character k) begin) (unswapped_before prefix))
+          m_is
     ]
 
 -- ---- one part of a line in two ways
@@ -193,7 +194,12 @@ pub other_length : (line : List Both) → length (other_labelled line) ≡ lengt
 other_length [] = refl
 other_length (Shared c ∷ line) = ap suc (other_length line)
 other_length (Values k i j v w ∷ line) =
-    omega (arith, content_length k w (other_labelled line), other_length line, length-append w (0x2069 ∷ other_line line))
+    omega (
+      arith,
+      content_length k w (other_labelled line),
+      other_length line,
+      length-append w (0x2069 ∷ other_line line),
+    )
 
 -- ---- a choice
 
@@ -219,7 +225,7 @@ AreSameAt before m also_before also =
     ((m.label ≡ None) × (also.label ≡ None) × (static_count before ≡ static_count also_before))
     ⊎ ((k : ℕ) × (m.label ≡ Some k) × (also.label ≡ Some k))
 
-never_labelled : (k : ℕ) → ◌≡◌ {A = Option ℕ} None (Some k) → ⊥
+pub never_labelled : (k : ℕ) → ◌≡◌ {A = Option ℕ} None (Some k) → ⊥
 never_labelled k e = cc
 
 same_number : (k l : ℕ) → ◌≡◌ {A = Option ℕ} (Some k) (Some l) → k ≡ l
@@ -325,8 +331,8 @@ choose n line before m also_before also numbered (InValue p k i j begin y end w 
     }
 
 -- the choice of a character of both lines
-pub choice : (line : List Both) (before : List LabelledCharacter) (m : LabelledCharacter) (after : List LabelledCharacter)
-    (also_before : List LabelledCharacter) (also : LabelledCharacter) (also_after : List LabelledCharacter)
+pub choice : (line : List Both) (before : List LabelledCharacter) (m : LabelledCharacter)
+    (after also_before : List LabelledCharacter) (also : LabelledCharacter) (also_after : List LabelledCharacter)
     → HoldsCleaned line → BothNumbered 0 line → one_labelled line ≡ before ++ m ∷ after
     → other_labelled line ≡ also_before ++ also ∷ also_after → is_surrounding (bidi_class m.character) ≡ true
     → is_surrounding (bidi_class also.character) ≡ true → AreSameAt before m also_before also

@@ -1,9 +1,9 @@
 -- What a value holds stands in its line as a cleaned text: what becomes of its characters on the way touches no isolate
 -- control and makes no separator.
-use Rattle.std.proofs.Common.{◌≡◌, ℕ, ◌+◌, suc, true, false, ◌==◌, inl, inr, List, []}
-use Rattle.std.proofs.Common.{◌∷◌, ◌++◌, length, map, refl, sym, ap, subst, ◌∙◌, if◌then◌else◌, arith, eqb-true}
-use Rattle.std.proofs.Common.{◌||◌, ◌≤◌, eq-or-lt_of_le}
-use Rattle.std.proofs.lemmas.Bool.{cond-true, cond-false, cases_Bool, both_ways, ne_eqb, or_cases, and_parts, leb-true}
+use Rattle.std.proofs.Common.{◌≡◌, ℕ, ◌+◌, suc, true, false, ◌==◌, inl, inr, List, [], ◌∷◌, ◌++◌, length, map, refl}
+use Rattle.std.proofs.Common.{sym, ap, subst, ◌∙◌, if◌then◌else◌, arith, eqb-true, ◌||◌, ◌≤◌, eq-or-lt_of_le}
+use Rattle.std.proofs.lemmas.Bool.{cond-true, cond-false, cases_Bool, both_ways, ne_eqb, or_cases, and_parts}
+use Rattle.std.proofs.lemmas.Bool.{leb-true}
 use Rattle.std.proofs.lemmas.List.{nil_from_length}
 use Rattle.std.specs.Char.{is_ascii_whitespace}
 use Rattle.std.specs.Int.{is_in_range}
@@ -14,9 +14,9 @@ use Rattle.bidi_text.proofs.CleanedSoFar.{left_clean, left_clean-cons, left_out,
 use Rattle.bidi_text.proofs.CleanedTwice.{spaced-spaced}
 use Rattle.bidi_text.proofs.Isolates.{lone_closings, lone_initiators, role}
 use Rattle.bidi_text.proofs.Isolates.Role.{Begins, Ends, Stays}
-use Rattle.bidi_text.proofs.LoneBytes.{dropped_bytes-lone_bytes, length-lone_closing_bytes, length-lone_initiator_bytes}
-use Rattle.bidi_text.proofs.LoneBytes.{lone_closing_bytes, lone_closings-begins, lone_closings-ends}
-use Rattle.bidi_text.proofs.LoneBytes.{lone_initiator_bytes}
+use Rattle.bidi_text.proofs.LoneBytes.{dropped_bytes-lone_bytes, length-lone_closing_bytes}
+use Rattle.bidi_text.proofs.LoneBytes.{length-lone_initiator_bytes, lone_closing_bytes, lone_closings-begins}
+use Rattle.bidi_text.proofs.LoneBytes.{lone_closings-ends, lone_initiator_bytes}
 use Rattle.ucd_category.specs.GeneralCategory.{general_category}
 use Rattle.ucd_category.specs.GeneralCategoryRows.{general_category_rows}
 use Rattle.ucd_table.specs.Rows.{value_in}

@@ -1,7 +1,6 @@
 -- The tokens of two pages that differ in their values are the same but for what the values hold.
-use Rattle.std.proofs.Common.{◌≡◌, ℕ, suc, true, false, inl, inr, List, [], ◌∷◌, ◌++◌, map, refl}
-use Rattle.std.proofs.Common.{sym, ap, subst, ◌∙◌, Option, Some, None, Ok, Err, append_assoc, codes}
-use Rattle.std.proofs.Common.{le_refl, arith}
+use Rattle.std.proofs.Common.{◌≡◌, ℕ, suc, true, false, inl, inr, List, [], ◌∷◌, ◌++◌, map, refl, sym, ap, subst, ◌∙◌}
+use Rattle.std.proofs.Common.{Option, Some, None, Ok, Err, append_assoc, codes, le_refl, arith}
 use Rattle.std.proofs.lemmas.Bool.{cases_Bool, both_ways}
 use Rattle.std.specs.Str.{bytes_eq}
 use Rattle.soy_base.specs.declared.code.Code.TheVariants as code
@@ -27,17 +26,17 @@ use Rattle.html_state.specs.declared.row.Tag.TheVariants as tag
 use Rattle.html_state.specs.declared.row.TagKind.{TagKind}
 use Rattle.html_state.specs.declared.row.TagRow.TheVariants as tag_row
 use Rattle.bidi_order.specs.DecodedReferences.{pending_text}
-use Rattle.bidi_order.specs.MarkupTokens.{MarkupToken, PageReading, labelled_characters, no_tag, read_all, tokens_from}
-use Rattle.stable_bidi.specs.KnownPage.{Good, Known, reading, tag_of}
+use Rattle.bidi_order.specs.MarkupTokens.{MarkupToken, PageReading, labelled_characters, read_all, tokens_from}
+use Rattle.stable_bidi.proofs.KnownPage.{Good, Known, reading, tag_of}
 use Rattle.stable_bidi.specs.PagesAlike.{IsValueAt, IsWrapped, PagesAlike}
 use Rattle.stable_bidi.specs.TokenParts.{AreFine, AreNumbered, TokenPart, one_tokens, other_tokens, span_tokens}
 use Rattle.stable_bidi.specs.TokenParts.{unescaped}
 use Rattle.stable_bidi.specs.TokenParts.TokenPart.{SharedToken, ValueSpans}
-use Rattle.stable_bidi.proofs.CharacterSteps.{text_read}
-use Rattle.stable_bidi.proofs.CharacterSteps.TextRead.{Stops, Goes}
 use Rattle.stable_bidi.proofs.CleanedInLine.{cleaned-in_line}
 use Rattle.stable_bidi.proofs.ReadSpans.{reads_wrapped}
-use Rattle.stable_bidi.proofs.RowSteps.{AreStaticTokens}
+use Rattle.stable_bidi.proofs.RowReads.{AreStaticTokens}
+use Rattle.stable_bidi.proofs.TextReads.{text_read}
+use Rattle.stable_bidi.proofs.TextReads.TextRead.{Stops, Goes}
 use Rattle.stable_bidi.proofs.ValueReads.{QuotedRead, WithinRead, quoted_reads, within_reads}
 
 -- two lists of tokens are one list of parts
@@ -102,7 +101,7 @@ no_tokens n = record { parts = []; one_are = refl; other_are = refl; fine = tt; 
 -- ---- a static text
 
 -- what comes behind a static text
-abbrev BehindText : ℕ → List Piece → List MarkupToken × Option PageReading → List MarkupToken
+abbrev pub BehindText : ℕ → List Piece → List MarkupToken × Option PageReading → List MarkupToken
 BehindText n l read = read.0 ++ elim read.1 [
   | None ↦ []
   | Some now ↦ elim (text_end now.state) [ Ok state ↦ tokens_from n now l | Err code ↦ [] ]
@@ -112,7 +111,8 @@ static_alike : (n : ℕ) (s : State) (k : Known) (x y text : List ℕ) (l m : Li
     → ((u : State) (now : Known) (x' y' : List ℕ) → Good u now x' y' → is_decided u.reference ≡ true
     → after_piece s (Static text) ≡ Ok u → TokensAlike n (tokens_from n (reading u now x') l)
     (tokens_from n (reading u now y') m))
-    → TokensAlike n (BehindText n l (read_all None (reading s k x) text)) (BehindText n m (read_all None (reading s k y) text))
+    → TokensAlike n (BehindText n l (read_all None (reading s k x) text))
+    (BehindText n m (read_all None (reading s k y) text))
 static_alike n s k x y text l m good more =
     elim (text_read text s k x y good) [
       | Stops tokens are one other ↦
@@ -122,8 +122,8 @@ static_alike n s k x y text l m good more =
             | inl decided ↦
                 let ends : text_end u ≡ Ok u = rw decided refl in
                 let piece : after_piece s (Static text) ≡ Ok u = ap (and_then text_end) after ∙ ends in
-                rw ends (behind_static n tokens (tokens_from n (reading u now x') l) (tokens_from n (reading u now y') m) are
-                (more u now x' y' fine decided piece))
+                rw ends (behind_static n tokens (tokens_from n (reading u now x') l)
+                (tokens_from n (reading u now y') m) are (more u now x' y' fine decided piece))
             | inr undecided ↦
                 let ends : text_end u ≡ Err code.Ampersand = rw undecided refl in
                 rw ends (behind_static n tokens [] [] are (no_tokens n))
@@ -133,7 +133,7 @@ static_alike n s k x y text l m good more =
 -- ---- a value
 
 -- what comes behind a value
-abbrev BehindValue : ℕ → State → List Piece → List MarkupToken × Option PageReading → List MarkupToken
+abbrev pub BehindValue : ℕ → State → List Piece → List MarkupToken × Option PageReading → List MarkupToken
 BehindValue n s l read = read.0 ++ elim read.1 [
   | None ↦ []
   | Some now ↦ labelled_characters (Some n) (pending_text now.reference)
@@ -141,10 +141,12 @@ BehindValue n s l read = read.0 ++ elim read.1 [
 ]
 
 -- what is known behind a value in data
-abbrev behind_span : ℕ → Known
+abbrev pub behind_span : ℕ → Known
 behind_span n = record { name = []; attribute = []; dir = None; reference = None; opening = Some n }
 
-span_behind : (n : ℕ) (k : Known) (x : List ℕ) (l : List Piece) (out : List ℕ) (w : IsWrapped out) → k.reference ≡ None
+-- a value in data gives its span's tokens
+pub span_behind : (n : ℕ) (k : Known) (x : List ℕ) (l : List Piece) (out : List ℕ) (w : IsWrapped out)
+    → k.reference ≡ None
     → BehindValue n (at_row row.Data) l (read_all (Some n) (reading (at_row row.Data) k x) out)
     ≡ span_tokens n (estimated_direction w.text w.context) (map unescaped (cleaned_text w.text))
     (tokens_from (suc n) (reading (at_row row.Data) (behind_span n) []) l)
@@ -186,8 +188,8 @@ quiet_behind : (n : ℕ) (s now : State) (k : Known) (x : List ℕ) (l : List Pi
 quiet_behind n s now k x l out x' reads none leads =
     ap (BehindValue n s l) reads
     ∙ ap (λ (p : Option (List ℕ)). labelled_characters (Some n) (pending_text p)
-    ++ tokens_from (suc n) (record { state = marked s now; tag = tag_of k x'; reference = None; opening = k.opening }) l)
-    none
+    ++ tokens_from (suc n)
+    (record { state = marked s now; tag = tag_of k x'; reference = None; opening = k.opening }) l) none
     ∙ ap (λ (p : Option (List ℕ)). tokens_from (suc n)
     (record { state = marked s now; tag = tag_of k x'; reference = p; opening = k.opening }) l) (sym none)
     ∙ ap (λ (u : State). tokens_from (suc n) (reading u k x') l) leads
@@ -197,7 +199,8 @@ quoted_alike : (n : ℕ) (how : TagKind) (name : List ℕ) (q : Quote) (v : Attr
     (x y out other : List ℕ) (l m : List Piece)
     → let s : State = pending (row.InTag (tag.Named how name) (tag_row.Quoted q v)) r in
     Good s k x y → IsValueAt s out → IsValueAt s other
-    → ((x' y' : List ℕ) → Good (after_value s) k x' y' → TokensAlike (suc n) (tokens_from (suc n) (reading (after_value s) k x') l)
+    → ((x' y' : List ℕ) → Good (after_value s) k x' y'
+    → TokensAlike (suc n) (tokens_from (suc n) (reading (after_value s) k x') l)
     (tokens_from (suc n) (reading (after_value s) k y') m))
     → TokensAlike n (BehindValue n s l (read_all (Some n) (reading s k x) out))
     (BehindValue n s m (read_all (Some n) (reading s k y) other))
@@ -249,7 +252,8 @@ within_row n e r k x y out other l m good decided is also more =
 -- any value
 abbrev Behind : ℕ → State → List Piece → List Piece → Type 0
 Behind n s l m = (k : Known) (x y : List ℕ) → Good (after_value s) k x y
-    → TokensAlike (suc n) (tokens_from (suc n) (reading (after_value s) k x) l) (tokens_from (suc n) (reading (after_value s) k y) m)
+    → TokensAlike (suc n) (tokens_from (suc n) (reading (after_value s) k x) l)
+    (tokens_from (suc n) (reading (after_value s) k y) m)
 
 value_alike : (n : ℕ) (now : HtmlRow) (r : Reference) (k : Known) (x y out other : List ℕ) (l m : List Piece)
     → Good (pending now r) k x y → is_decided r ≡ true → IsValueAt (pending now r) out → IsValueAt (pending now r) other
@@ -268,13 +272,20 @@ value_alike n (row.InTag (tag.Named how name) (tag_row.Quoted q v)) r k x y out 
 value_alike n (row.InTag tag.Block inner) r k x y out other l m good decided is also more = absurd good.at
 value_alike n (row.Within e) r k x y out other l m good decided is also more =
     within_row n e r k x y out other l m good decided is also (more k x y)
-value_alike n (row.InTag (tag.Named how name) tag_row.BeforeName) r k x y out other l m good decided is also more = absurd is.0
-value_alike n (row.InTag (tag.Named how name) tag_row.AfterPrinted) r k x y out other l m good decided is also more = absurd is.0
-value_alike n (row.InTag (tag.Named how name) (tag_row.AttributeName a)) r k x y out other l m good decided is also more = absurd is.0
-value_alike n (row.InTag (tag.Named how name) (tag_row.BeforeValue a)) r k x y out other l m good decided is also more = absurd is.0
-value_alike n (row.InTag (tag.Named how name) (tag_row.Unquoted v)) r k x y out other l m good decided is also more = absurd is.0
-value_alike n (row.InTag (tag.Named how name) tag_row.AfterQuoted) r k x y out other l m good decided is also more = absurd is.0
-value_alike n (row.InTag (tag.Named how name) tag_row.SelfClosing) r k x y out other l m good decided is also more = absurd is.0
+value_alike n (row.InTag (tag.Named how name) tag_row.BeforeName) r k x y out other l m good decided is also more =
+    absurd is.0
+value_alike n (row.InTag (tag.Named how name) tag_row.AfterPrinted) r k x y out other l m good decided is also more =
+    absurd is.0
+value_alike n (row.InTag (tag.Named how name) (tag_row.AttributeName a)) r k x y out other l m good decided is also
+    more = absurd is.0
+value_alike n (row.InTag (tag.Named how name) (tag_row.BeforeValue a)) r k x y out other l m good decided is also more =
+    absurd is.0
+value_alike n (row.InTag (tag.Named how name) (tag_row.Unquoted v)) r k x y out other l m good decided is also more =
+    absurd is.0
+value_alike n (row.InTag (tag.Named how name) tag_row.AfterQuoted) r k x y out other l m good decided is also more =
+    absurd is.0
+value_alike n (row.InTag (tag.Named how name) tag_row.SelfClosing) r k x y out other l m good decided is also more =
+    absurd is.0
 value_alike n row.TagOpen r k x y out other l m good decided is also more = absurd is.0
 value_alike n row.EndTagOpen r k x y out other l m good decided is also more = absurd is.0
 value_alike n (row.TagName how name) r k x y out other l m good decided is also more = absurd is.0

@@ -18,16 +18,19 @@ use Rattle.bidi_order.specs.Lines.{RestOfLines, base_level, before_rest, element
 use Rattle.bidi_order.specs.Lines.{line_start, lines_from, lines_of_tokens, next_line, past_tag, text_character}
 use Rattle.bidi_order.specs.MarkupTokens.{MarkupToken, labelled_characters}
 use Rattle.bidi_order.specs.MarkupTokens.MarkupToken.{Character, StartTag, EndTag}
+use Rattle.bidi_order.specs.TwoLines.{Both, HoldsCleaned, one_labelled, other_labelled}
 use Rattle.bidi_order.specs.TwoLines.Both.{Values}
-use Rattle.bidi_order.specs.WithinLimit.{LabelledCharacter, is_value_initiator, value_character}
-use Rattle.bidi_order.specs.WithinLimit.{value_characters}
-use Rattle.stable_bidi.specs.BothLines.{LinesAlike, RestsAlike, one_of, other_of}
-use Rattle.stable_bidi.specs.TokenParts.{AreFine, AreNumbered, TokenPart, in_line, one_tokens, other_tokens, span_tokens}
+use Rattle.bidi_order.specs.WithinLimit.{LabelledCharacter, is_value_initiator, value_character, value_characters}
+use Rattle.stable_bidi.specs.BothLines.{BothLine, BothNumbered, HoldCleaned, LinesAlike, LinesNumbered, one_of}
+use Rattle.stable_bidi.specs.BothLines.{other_of}
+use Rattle.stable_bidi.specs.TokenParts.{AreFine, AreNumbered, TokenPart, in_line, one_tokens, other_tokens}
+use Rattle.stable_bidi.specs.TokenParts.{span_tokens}
+use Rattle.stable_bidi.specs.WorkedPages.{span_initiator}
 use Rattle.stable_bidi.specs.TokenParts.TokenPart.{SharedToken, ValueSpans}
 use Rattle.stable_bidi.proofs.StaticCharacters.{AreLeft, AreStatic, AreStaticElements, shared, shared-held}
-use Rattle.stable_bidi.proofs.StaticCharacters.{numbered-lower, shared-ascends}
-use Rattle.stable_bidi.proofs.StaticCharacters.{shared-one, shared-other, static_closed, static_element_start}
-use Rattle.stable_bidi.proofs.StaticCharacters.{static_ends, static_left, static_line_start}
+use Rattle.stable_bidi.proofs.StaticCharacters.{numbered-lower, shared-ascends, shared-one, shared-other}
+use Rattle.stable_bidi.proofs.StaticCharacters.{static_closed, static_element_start, static_ends, static_left}
+use Rattle.stable_bidi.proofs.StaticCharacters.{static_line_start}
 
 -- ---- a direction that goes by the content goes by shared tokens alone
 
@@ -37,7 +40,7 @@ content_characters : (outer : List (List ℕ)) (inner : List InnerElement) (k : 
 content_characters outer inner k [] rest = refl
 content_characters outer inner k (c ∷ text) rest = content_characters outer inner k text rest
 
-content_span : (outer : List (List ℕ)) (inner : List InnerElement) (k : ℕ) (d : Dir) (text : List ℕ)
+pub content_span : (outer : List (List ℕ)) (inner : List InnerElement) (k : ℕ) (d : Dir) (text : List ℕ)
     (rest : List MarkupToken) → content_right_to_left outer inner (span_tokens k d text rest)
     ≡ content_right_to_left outer inner rest
 content_span outer inner k d text rest =
@@ -48,7 +51,8 @@ content_alike : (outer : List (List ℕ)) (inner : List InnerElement) (parts : L
     → content_right_to_left outer inner (one_tokens parts) ≡ content_right_to_left outer inner (other_tokens parts)
 content_alike outer inner [] = refl
 content_alike outer inner (SharedToken (Character c label) ∷ parts) =
-    ap (λ (x : Bool). if counts inner c label then is_right_to_left (bidi_class c) else x) (content_alike outer inner parts)
+    ap (λ (x : Bool). if counts inner c label then is_right_to_left (bidi_class c) else x)
+    (content_alike outer inner parts)
 content_alike outer inner (SharedToken (StartTag name dir label) ∷ parts) =
     content_alike outer (if is_void name then inner else inner_element name dir ∷ inner) parts
 content_alike outer inner (SharedToken (EndTag name) ∷ parts) =
@@ -88,6 +92,17 @@ opened_alike open_ones name dir label parts =
     (direction_alike (map (λ (e : OpenElement). e.name) open_ones) name (dir_attribute dir) parts)
 
 -- ---- rests of lines
+
+-- the rest of a line of two pages, with values from a number on, and the lines after it, as one list
+pub record RestsAlike (n : ℕ) (one other : RestOfLines) : Type 0 where
+  pub parts : List Both
+  pub lines : List BothLine
+  pub one_are : one ≡ (one_labelled parts, map one_of lines)
+  pub other_are : other ≡ (other_labelled parts, map other_of lines)
+  pub held : HoldsCleaned parts
+  pub ascends : BothNumbered n parts
+  pub cleaned : HoldCleaned lines
+  pub numbered : LinesNumbered lines
 
 before_alike : (n : ℕ) (ms : List LabelledCharacter) (a b : RestOfLines) → AreStatic ms → RestsAlike n a b
     → RestsAlike n (before_rest ms a) (before_rest ms b)
@@ -164,7 +179,8 @@ start_static false e none = static_element_start e none
 
 -- ---- an end tag
 
-abbrev Ended : ℕ → ℕ → List ℕ → List OpenElement → List MarkupToken → List MarkupToken → Option (List OpenElement) → Type 0
+abbrev Ended : (n context : ℕ) (name : List ℕ) (open_ones : List OpenElement) (one other : List MarkupToken)
+    (o : Option (List OpenElement)) → Type 0
 Ended n context name open_ones one other o = RestsAlike n (elim o [
   | None ↦ past_tag context name open_ones (lines_from context open_ones one)
   | Some left ↦ before_rest (flat_map element_end (elements_closed name open_ones))
@@ -193,11 +209,7 @@ ended n context name open_ones one other are more (Some left) left_are =
 
 -- ---- a value
 
-abbrev pub span_initiator : Dir → ℕ
-span_initiator Ltr = 0x2066
-span_initiator Rtl = 0x2067
-
-span_initiates : (d : Dir) → is_value_initiator (span_initiator d) ≡ true
+pub span_initiates : (d : Dir) → is_value_initiator (span_initiator d) ≡ true
 span_initiates Ltr = refl
 span_initiates Rtl = refl
 
@@ -216,8 +228,8 @@ abbrev span_element : ℕ → Bool → OpenElement
 span_element k right_to_left =
     record { name = codes "span"; direction = Some right_to_left; overrides = false; label = Some k }
 
-span_lines : (context : ℕ) (open_ones : List OpenElement) (k : ℕ) (d : Dir) (text : List ℕ) (rest : List MarkupToken)
-    → lines_from context open_ones (span_tokens k d text rest)
+pub span_lines : (context : ℕ) (open_ones : List OpenElement) (k : ℕ) (d : Dir) (text : List ℕ)
+    (rest : List MarkupToken) → lines_from context open_ones (span_tokens k d text rest)
     ≡ before_rest (value_characters k (span_initiator d) (in_line text)) (lines_from context open_ones rest)
 span_lines context open_ones k Ltr text rest =
     ap (before_rest (element_start (span_element k false)))

@@ -1,13 +1,14 @@
-//! Laws over definitions: functions with an empty body, whose contracts are the laws.
+//! What holds of the lines of two pages that differ in their values: functions with an empty body, whose contracts are
+//! the laws.
 ghost use Rattle.std.specs.Prelude.{◌≡◌, ℕ, List, map, [], Option, Some};
 ghost use Rattle.soy_base.specs.declared.direction.Dir.{Dir};
+ghost use Rattle.soy_base.specs.declared.kind.Kind.TheVariants as kind;
 ghost use Rattle.bidi_text.specs.Clean.{cleaned_text};
 ghost use Rattle.bidi_text.specs.Estimate.{estimated_direction};
 ghost use Rattle.bidi_text.specs.Wrap.{wrapped_text};
-ghost use Rattle.soy_base.specs.declared.kind.Kind.TheVariants as kind;
 ghost use Rattle.html_state.specs.AfterPieces.{Piece};
 ghost use Rattle.html_state.specs.Start.{start};
-ghost use Rattle.bidi_order.specs.Lines.{lines, lines_of_tokens};
+ghost use Rattle.bidi_order.specs.Lines.{Line, lines, lines_of_tokens};
 ghost use Rattle.bidi_order.specs.MarkupTokens.{TagReading, no_tag, read_all};
 ghost use Rattle.soy_tree.specs.Templates.{Declared, declared};
 ghost use Rattle.soy_tree.specs.Trees.{Tree};
@@ -19,16 +20,13 @@ ghost use Rattle.soy_meaning.specs.States.{IsMember};
 ghost use Rattle.soy_meaning.specs.TranslationFits.{TranslationsFit};
 ghost use Rattle.soy_meaning.specs.TypedData.{AreTypedTrees, FitsData};
 ghost use Rattle.stable_bidi.specs.BothLines.{LinesAlike};
-ghost use Rattle.stable_bidi.specs.SameVisualOrder.{AreCompared, SameVisualOrder};
-ghost use Rattle.std.specs.Prelude.{codes};
-ghost use Rattle.soy_base.specs.declared.direction.Dir.TheVariants.{Ltr, Rtl};
-ghost use Rattle.bidi_order.specs.WorkedLines.{hebrew, line_of, other_line_of, override_line, override_pieces};
 ghost use Rattle.stable_bidi.specs.PagesAlike.{PagesAlike};
-ghost use Rattle.stable_bidi.specs.TokenParts.{AreFine, AreNumbered, TokenPart, in_data, in_line, one_tokens, other_tokens, span_tokens};
-ghost use Rattle.stable_bidi.specs.TokenParts.{unescaped};
+ghost use Rattle.stable_bidi.specs.SameVisualOrder.{SameVisualOrder};
+ghost use Rattle.stable_bidi.specs.TokenParts.{AreFine, AreNumbered, TokenPart, in_data, in_line, one_tokens};
+ghost use Rattle.stable_bidi.specs.TokenParts.{other_tokens, span_tokens, unescaped};
 
 /// Under accepted paths two runs of an html template of typed trees, under data that fit it and with the same choices,
-/// have the same visual order in each line, whatever their values hold.
+/// have the same visual order in each line, whatever their values hold; so have two runs that stop at a call.
 pub fn law_same_order()
     ensures { (c : RunContext) (trees : List Tree) (d : Declared) (env other : RunEnv) →
         c.declared ≡ declared trees → IsMember d c.declared → AreTypedTrees trees →
@@ -39,28 +37,39 @@ pub fn law_same_order()
         (lines context (pieces_of_outcome (template_run c d other))) }
 {}
 
-/// The premises hold of pages and lines of a worked row: `<bdo dir="rtl">a{$x}b</bdo>` with `c` and with two letters of
-/// Hebrew, of which `a` and the value are compared.
-pub fn law_order_rows()
-    ensures pages { PagesAlike (start kind.Html) (override_pieces Ltr (codes "c")) (override_pieces Rtl hebrew) }
-    ensures compared { AreCompared (line_of 0 (override_line 0x2066 (codes "c")))
-        (other_line_of 0 (override_line 0x2067 hebrew)) }
+/// Two such runs, of a template of any kind, give pages that are alike: the same static texts, with values at the same
+/// points, each as its place has it.
+pub fn law_run_pages()
+    ensures { (c : RunContext) (trees : List Tree) (d : Declared) (env other : RunEnv) →
+        c.declared ≡ declared trees → IsMember d c.declared → AreTypedTrees trees →
+        TranslationsFit c.translation c.declared → AcceptedTrees c.translation trees →
+        FitsData d env → FitsData d other →
+        choices_of_outcome (template_run c d env) ≡ choices_of_outcome (template_run c d other) →
+        PagesAlike (start d.template.kind) (pieces_of_outcome (template_run c d env))
+        (pieces_of_outcome (template_run c d other)) }
 {}
 
-/// Two pages that differ in their values have as many lines, and each line of the one is that of the other but for what
-/// the values hold.
+/// Two pages that are alike have as many lines, and each line of the one is that of the other but for what the values
+/// hold, which is a cleaned text, and for the values' directions.
 pub fn law_page_lines()
     ensures { (context : Dir) (l m : List Piece) → PagesAlike (start kind.Html) l m →
         LinesAlike (lines context l) (lines context m) }
 {}
 
-/// The lines of two pages whose tokens are the same but for what values hold.
+/// Such lines have the same visual order.
+pub fn law_lines_order()
+    ensures { (one other : List Line) → LinesAlike one other → SameVisualOrder one other }
+{}
+
+/// So are the lines of two lists of tokens that are the same but for the values' spans, where these hold cleaned texts
+/// and have ascending numbers.
 pub fn law_part_lines()
     ensures { (context : ℕ) (parts : List TokenPart) → AreFine parts → AreNumbered 0 parts →
         LinesAlike (lines_of_tokens context (one_tokens parts)) (lines_of_tokens context (other_tokens parts)) }
 {}
 
-/// The tokens of a value in its span, where it stands in data; and what it holds stands in its line as a cleaned text.
+/// A value in its span, where it stands in data, gives the tokens of the span around its cleaned text; and what it
+/// holds stands in its line as a cleaned text.
 pub fn law_wrapped_tokens()
     ensures tokens { (k : ℕ) (tag : TagReading) (opening : Option ℕ) (text : List ℕ) (context : Dir) →
         read_all (Some k) (in_data tag opening) (wrapped_text text context)
