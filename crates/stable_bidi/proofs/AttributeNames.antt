@@ -57,15 +57,19 @@ module _ (c : ℕ) (k : Known) (x y : List ℕ) where
       (Ok (Some (tag_row.AttributeName (name_with [] c)))) tt
       (name_begins c k x y inner (name_with [] c) (reads.begins (name_with [] c)) refl))
 
+  -- before a name
   pub reads_before : ReadsNames tag_row.BeforeName
   reads_before = record { closing = λ z. refl; end = λ z. refl; before = λ z. refl; begins = λ n z. refl }
 
+  -- behind a quoted value
   pub reads_quoted : ReadsNames tag_row.AfterQuoted
   reads_quoted = record { closing = λ z. refl; end = λ z. refl; before = λ z. refl; begins = λ n z. refl }
 
+  -- behind a `/`
   pub reads_closing : ReadsNames tag_row.SelfClosing
   reads_closing = record { closing = λ z. refl; end = λ z. refl; before = λ z. refl; begins = λ n z. refl }
 
+  -- behind a block of attributes
   reads_printed : ReadsNames tag_row.AfterPrinted
   reads_printed = record { closing = λ z. refl; end = λ z. refl; before = λ z. refl; begins = λ n z. refl }
 

@@ -32,21 +32,26 @@ use Rattle.stable_bidi.proofs.TagReads.{TagStep, TagStepsTo, attribute_ends, sam
 
 -- ---- a value goes on as one that may hold values where it did
 
+-- a value, as what the tables answer where a character is no fault
 abbrev taken_value : AttributeValue → Result AttributeValue Code
 taken_value v = Ok v
 
+-- the same value
 print_same : (v u : AttributeValue) → taken_value v ≡ Ok u → may_print u ≡ may_print v
 print_same v u is = let same : v ≡ u = cc in ap may_print (sym same)
 
+-- a URI goes on as a URI
 print_uri : (name : UriName) (o : Result UriPart Code) (u : AttributeValue)
     → and_then (λ following. Ok (value.Uri name following)) o ≡ Ok u → may_print u ≡ true
 print_uri name (Ok part) u is = print_same (value.Uri name part) u is
 print_uri name (Err fault) u is = let never : ⊥ = cc in absurd never
 
+-- a style goes on as a style
 print_style : (o : Option CssState) (u : AttributeValue) → followed value.Style o ≡ Ok u → may_print u ≡ true
 print_style (Some state) u is = print_same (value.Style state) u is
 print_style None u is = let never : ⊥ = cc in absurd never
 
+-- a value of any kind
 pub print_on : (static : Bool) (c : ℕ) (v u : AttributeValue) → value_next static v c ≡ Ok u → may_print u ≡ may_print v
 print_on true c (value.Uri name part) u is = print_uri name (part_next part c) u is
 print_on false c (value.Uri name part) u is = print_same (value.Uri name part) u is
@@ -57,6 +62,7 @@ print_on static c value.Plain u is = print_same value.Plain u is
 
 -- ---- steps
 
+-- texts that are compared as equal are
 bytes_same : (one other : List ℕ) → bytes_eq one other ≡ true → one ≡ other
 bytes_same one other same = (bytes_eq-Decides one other).0 same
 

@@ -15,6 +15,7 @@ use Rattle.stable_bidi.proofs.PendingReferences.{and_no, pending_next}
 use Rattle.stable_bidi.proofs.RowReads.{RowStep}
 use Rattle.stable_bidi.proofs.RowSteps.{row_stays, row_steps}
 
+-- a row to which a character moves has decided, or a reference may be pending in it
 decided_next : (now : HtmlRow) (r : Reference) (c : ℕ) → r ≡ begun_reference now c
     → (is_decided r ≡ true) ⊎ (has_references now ≡ true)
 decided_next now r c is =
@@ -23,14 +24,17 @@ decided_next now r c is =
       | inr none ↦ inl (ap is_decided is ∙ rw (none, and_no (c == ampersand)) refl)
     ]
 
+-- a step of the row, and what both pages know at the state after it
 pub record CharacterRead (s u : State) (c : ℕ) (k : Known) (x y : List ℕ) : Type 0 where
   pub step : RowStep s s.row u.row c k x y
   pub good : Good u step.next step.x_after step.y_after
 
+-- a step of the row where a character is no fault
 abbrev StepOn : State → ℕ → Known → List ℕ → List ℕ → Result HtmlRow Code → Type 0
 StepOn s c k x y (Ok after) = RowStep s s.row after c k x y
 StepOn s c k x y (Err fault) = Unit {0}
 
+-- a static character that is no fault
 pub character_step : (s u : State) (c : ℕ) (k : Known) (x y : List ℕ) → Good s k x y → next s c ≡ Ok u
     → CharacterRead s u c k x y
 character_step s u c k x y good moves = by (next_is s u c moves)

@@ -17,23 +17,28 @@ use Rattle.stable_bidi.proofs.SameCharacters.Located.{InShared, InValue}
 
 -- ---- the two lines turned round
 
+-- a part with its contents and initiators the other way round
 abbrev pub swapped_part : Both → Both
 swapped_part (Shared c) = Shared c
 swapped_part (Values k i j v w) = Values k j i w v
 
+-- so for all parts
 abbrev pub swapped : List Both → List Both
 swapped line = map swapped_part line
 
+-- twice is once back
 swapped_back : (line : List Both) → swapped (swapped line) ≡ line
 swapped_back [] = refl
 swapped_back (Shared c ∷ line) = ap (λ l. Shared c ∷ l) (swapped_back line)
 swapped_back (Values k i j v w ∷ line) = ap (λ l. Values k i j v w ∷ l) (swapped_back line)
 
+-- its one line is the other line
 pub swapped_labelled : (line : List Both) → one_labelled (swapped line) ≡ other_labelled line
 swapped_labelled [] = refl
 swapped_labelled (Shared c ∷ line) = ap (λ l. static_character c ∷ l) (swapped_labelled line)
 swapped_labelled (Values k i j v w ∷ line) = ap (λ l. value_characters k j w ++ l) (swapped_labelled line)
 
+-- it holds cleaned texts too
 pub swapped_held : (line : List Both) → HoldsCleaned line → HoldsCleaned (swapped line)
 swapped_held [] held = tt
 swapped_held (Shared c ∷ line) held = swapped_held line held
@@ -48,14 +53,17 @@ data OtherLocated (line : List Both) (before : List LabelledCharacter) (m : Labe
       → before ≡ other_labelled prefix ++ value_initiator k j ∷ map (value_character k) begin
       → m ≡ value_character k z → OtherLocated line before m
 
+-- where a part of the line turned round stands in the line
 unswapped : (line prefix suffix : List Both) (part : Both) → swapped line ≡ prefix ++ part ∷ suffix
     → line ≡ swapped prefix ++ swapped_part part ∷ swapped suffix
 unswapped line prefix suffix part e =
     sym (swapped_back line) ∙ ap swapped e ∙ map-append swapped_part prefix (part ∷ suffix)
 
+-- what comes before it in the line turned round is what comes before it in the other line
 unswapped_before : (prefix : List Both) → one_labelled prefix ≡ other_labelled (swapped prefix)
 unswapped_before prefix = ap one_labelled (sym (swapped_back prefix)) ∙ swapped_labelled (swapped prefix)
 
+-- a character of the other line that is seen is static, or in the content of a value
 other_locate : (line : List Both) (before : List LabelledCharacter) (m : LabelledCharacter)
     (after : List LabelledCharacter) → other_labelled line ≡ before ++ m ∷ after → HoldsCleaned line
     → is_surrounding (bidi_class m.character) ≡ true → OtherLocated line before m
@@ -73,31 +81,37 @@ other_locate line before m after e held seen =
 
 -- ---- one part of a line in two ways
 
+-- how many parts are static characters
 abbrev shared_count : List Both → ℕ
 shared_count [] = 0
 shared_count (Shared c ∷ line) = suc (shared_count line)
 shared_count (Values k i j v w ∷ line) = shared_count line
 
+-- the content of a value has no static character
 static_content : (k : ℕ) (v : List ℕ) (rest : List LabelledCharacter)
     → static_count ((map (value_character k) v ++ value_character k 0x2069 ∷ []) ++ rest) ≡ static_count rest
 static_content k [] rest = refl
 static_content k (c ∷ v) rest = static_content k v rest
 
+-- the one line has as many static characters as there are shared parts
 one_count : (line : List Both) → static_count (one_labelled line) ≡ shared_count line
 one_count [] = refl
 one_count (Shared c ∷ line) = ap suc (one_count line)
 one_count (Values k i j v w ∷ line) = static_content k v (one_labelled line) ∙ one_count line
 
+-- so has the other line
 other_count : (line : List Both) → static_count (other_labelled line) ≡ shared_count line
 other_count [] = refl
 other_count (Shared c ∷ line) = ap suc (other_count line)
 other_count (Values k i j v w ∷ line) = static_content k w (other_labelled line) ∙ other_count line
 
+-- two cuts of one list are one cut
 record SameSplit (p q : List Both) (x y : Both) (s t : List Both) : Type 0 where
   prefix_is : p ≡ q
   part_is : x ≡ y
   suffix_is : s ≡ t
 
+-- behind one more part
 split_behind : (z z' : Both) (p q : List Both) (x y : Both) (s t : List Both) → z ≡ z' → SameSplit p q x y s t
     → SameSplit (z ∷ p) (z' ∷ q) x y s t
 split_behind z z' p q x y s t first same = record {
@@ -106,11 +120,13 @@ split_behind z z' p q x y s t first same = record {
   suffix_is = same.suffix_is;
 }
 
+-- before a shared part, and at the list's beginning, stand different numbers of shared parts
 none_more : (part : Both) (c : ℕ) (line : List Both) → part ≡ Shared c → 0 ≡ shared_count (part ∷ line) → ⊥
 none_more part c line is none =
     let counted : 0 ≡ suc (shared_count line) = subst (λ p. 0 ≡ shared_count (p ∷ line)) is none in
     absurd (omega (arith, counted))
 
+-- behind equal parts the counts of the rests are equal
 counts_rest : (z z' : Both) (p q : List Both) → z ≡ z' → shared_count (z ∷ p) ≡ shared_count (z' ∷ q)
     → shared_count p ≡ shared_count q
 counts_rest (Shared c) z' p q same counts =
@@ -119,6 +135,7 @@ counts_rest (Shared c) z' p q same counts =
     omega (arith, counted)
 counts_rest (Values k i j v w) z' p q same counts = counts ∙ ap (λ u. shared_count (u ∷ q)) (sym same)
 
+-- two cuts at shared parts with as many shared parts before them are one cut
 same_shared : (p q : List Both) (c d : ℕ) (s t : List Both) → p ++ Shared c ∷ s ≡ q ++ Shared d ∷ t
     → shared_count p ≡ shared_count q → SameSplit p q (Shared c) (Shared d) s t
 same_shared [] [] c d s t e counts = record {
@@ -144,10 +161,12 @@ low_number n (Shared c ∷ p) k i j v w s are = low_number n p k i j v w s are
 low_number n (Values l a b x y ∷ p) k i j v w s are =
     omega (arith, are.0, low_number (suc l) p k i j v w s are.1)
 
+-- behind a part the numbers ascend from some number on
 rest_numbered : (n : ℕ) (z : Both) (line : List Both) → BothNumbered n (z ∷ line) → (m : ℕ) × BothNumbered m line
 rest_numbered n (Shared c) line are = (n, are)
 rest_numbered n (Values k i j v w) line are = (suc k, are.1)
 
+-- two cuts at the value of one number are one cut
 same_value : (n : ℕ) (p q : List Both) (k i j : ℕ) (v w : List ℕ) (i' j' : ℕ) (v' w' : List ℕ) (s t : List Both)
     → p ++ Values k i j v w ∷ s ≡ q ++ Values k i' j' v' w' ∷ t → BothNumbered n (p ++ Values k i j v w ∷ s)
     → SameSplit p q (Values k i j v w) (Values k i' j' v' w') s t
@@ -175,21 +194,25 @@ same_value n (z ∷ p) (z' ∷ q) k i j v w i' j' v' w' s t e are =
 
 -- ---- lengths
 
+-- a content with labels is as long as the content
 mapped_length : (k : ℕ) (v : List ℕ) → length (map (value_character k) v) ≡ length v
 mapped_length k [] = refl
 mapped_length k (c ∷ v) = ap suc (mapped_length k v)
 
+-- the content and the PDI of a value, before other characters
 content_length : (k : ℕ) (v : List ℕ) (rest : List LabelledCharacter)
     → length ((map (value_character k) v ++ value_character k 0x2069 ∷ []) ++ rest) ≡ length v + 1 + length rest
 content_length k [] rest = omega arith
 content_length k (c ∷ v) rest = omega (arith, content_length k v rest)
 
+-- the one line with labels is as long as the line
 pub one_length : (line : List Both) → length (one_labelled line) ≡ length (one_line line)
 one_length [] = refl
 one_length (Shared c ∷ line) = ap suc (one_length line)
 one_length (Values k i j v w ∷ line) =
     omega (arith, content_length k v (one_labelled line), one_length line, length-append v (0x2069 ∷ one_line line))
 
+-- so is the other line
 pub other_length : (line : List Both) → length (other_labelled line) ≡ length (other_line line)
 other_length [] = refl
 other_length (Shared c ∷ line) = ap suc (other_length line)
@@ -208,6 +231,7 @@ abbrev pub chosen_label : Chosen → Option ℕ
 chosen_label (Outside c) = None
 chosen_label (Inside k i j one_begin y one_end other_begin z other_end) = Some k
 
+-- a character of the one line and one of the other, as a choice in the parts
 pub record ChosenAt (line : List Both) (before : List LabelledCharacter) (m : LabelledCharacter)
     (also_before : List LabelledCharacter) (also : LabelledCharacter) : Type 0 where
   pub chosen : Chosen
@@ -220,17 +244,21 @@ pub record ChosenAt (line : List Both) (before : List LabelledCharacter) (m : La
   pub other_is : also.character ≡ other_character chosen
   pub label_is : m.label ≡ chosen_label chosen
 
+-- the same static character, or characters of one value
 abbrev AreSameAt : List LabelledCharacter → LabelledCharacter → List LabelledCharacter → LabelledCharacter → Type 0
 AreSameAt before m also_before also =
     ((m.label ≡ None) × (also.label ≡ None) × (static_count before ≡ static_count also_before))
     ⊎ ((k : ℕ) × (m.label ≡ Some k) × (also.label ≡ Some k))
 
+-- what is static has no number
 pub never_labelled : (k : ℕ) → ◌≡◌ {A = Option ℕ} None (Some k) → ⊥
 never_labelled k e = cc
 
+-- one label is one number
 same_number : (k l : ℕ) → ◌≡◌ {A = Option ℕ} (Some k) (Some l) → k ≡ l
 same_number k l e = cc
 
+-- the label of a character
 abbrev label_of : LabelledCharacter → Option ℕ
 label_of m = m.label
 
@@ -239,14 +267,17 @@ abbrev one_content : Both → List ℕ
 one_content (Shared c) = []
 one_content (Values k i j v w) = v
 
+-- the content of a part in the other line
 abbrev other_content : Both → List ℕ
 other_content (Shared c) = []
 other_content (Values k i j v w) = w
 
+-- a value in two ways, with the one content of the one and the other content of the other
 value_again : (k i j : ℕ) (v w : List ℕ) (i' j' : ℕ) (v' w' : List ℕ)
     → Values k i j v w ≡ Values k i' j' v' w' → Values k i j v w ≡ Values k i j v w'
 value_again k i j v w i' j' v' w' e = ap (λ u. Values k i j v u) (ap other_content e)
 
+-- two characters that are the same are a choice: by where each stands
 choose : (n : ℕ) (line : List Both) (before : List LabelledCharacter) (m : LabelledCharacter)
     (also_before : List LabelledCharacter) (also : LabelledCharacter) → BothNumbered n line
     → Located line before m → OtherLocated line also_before also → AreSameAt before m also_before also

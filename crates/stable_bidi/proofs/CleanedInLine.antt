@@ -35,14 +35,17 @@ record Keeps (c d : ℕ) : Type 0 where
   ends : is_closing d ≡ is_closing c
   spaces : spaced c ≡ c → spaced d ≡ d
 
+-- what a space is for cleaning
 space_is : (is_initiator 32 ≡ false) × (is_closing 32 ≡ false) × (spaced 32 ≡ 32)
 unfolding bidi_class
 space_is = (refl, refl, refl)
 
+-- U+FFFD
 replacement_is : (is_initiator 0xFFFD ≡ false) × (is_closing 0xFFFD ≡ false) × (spaced 0xFFFD ≡ 0xFFFD)
 unfolding bidi_class general_category value_in general_category_rows
 replacement_is = (refl, refl, refl)
 
+-- U+0000
 null_is : (is_initiator 0 ≡ false) × (is_closing 0 ≡ false)
 unfolding bidi_class
 null_is = (refl, refl)
@@ -51,18 +54,22 @@ null_is = (refl, refl)
 abbrev IsNone : ℕ → Type 0
 IsNone c = (is_initiator c ≡ false) × (is_closing c ≡ false)
 
+-- a tab
 tab_is : (is_initiator 9 ≡ false) × (is_closing 9 ≡ false)
 unfolding bidi_class
 tab_is = (refl, refl)
 
+-- LF
 line_is : (is_initiator 10 ≡ false) × (is_closing 10 ≡ false)
 unfolding bidi_class
 line_is = (refl, refl)
 
+-- U+000C
 feed_is : (is_initiator 12 ≡ false) × (is_closing 12 ≡ false)
 unfolding bidi_class
 feed_is = (refl, refl)
 
+-- CR
 return_is : (is_initiator 13 ≡ false) × (is_closing 13 ≡ false)
 unfolding bidi_class
 return_is = (refl, refl)
@@ -91,12 +98,15 @@ white_is c white =
           | inr over ↦ let is : n + 1 ≡ c = omega (arith, over, below) in subst IsNone is two
         ]
 
+-- a character keeps its own part
 same_keeps : (c d : ℕ) → d ≡ c → Keeps c d
 same_keeps c d is = subst (Keeps c) (sym is) (record { begins = refl; ends = refl; spaces = λ h. h })
 
+-- by an equal character
 kept_as : (c d e : ℕ) → d ≡ e → Keeps c e → Keeps c d
 kept_as c d e is keeps = subst (Keeps c) (sym is) keeps
 
+-- each character keeps its part on the way into a line
 keeps : (c : ℕ) → Keeps c (shown c)
 keeps c =
     elim (cases_Bool (c == 0)) [
@@ -121,6 +131,7 @@ keeps c =
           ]
     ]
 
+-- so what matches does so in the line
 shown_matched : (d : ℕ) (cs : List ℕ) → Matched d cs → Matched d (map shown cs)
 shown_matched d [] matched_end = matched_end
 shown_matched d (c ∷ cs) (matched_opens b more) = matched_opens ((keeps c).begins ∙ b) (shown_matched (suc d) cs more)
@@ -133,6 +144,7 @@ record Lone (d : ℕ) (cs : List ℕ) : Type 0 where
   closings_are : lone_closings cs ≡ d
   initiators_are : lone_initiators cs ≡ 0
 
+-- a text whose isolate controls match
 matched_lone : (d : ℕ) (cs : List ℕ) → Matched d cs → Lone d cs
 matched_lone d [] matched_end = record { closings_are = refl; initiators_are = refl }
 matched_lone d (c ∷ cs) (matched_opens b more) =
@@ -170,6 +182,7 @@ none_dropped cs matched =
     nil_from_length _ (length-lone_initiator_bytes 0 cs ∙ lone.initiators_are) in
     dropped_bytes-lone_bytes cs ∙ ap (λ l. l ++ lone_initiator_bytes 0 cs) no_closings ∙ no_initiators
 
+-- where nothing is left out, the first character isn't
 kept_from : (prefix : List ℕ) (c : ℕ) (cs : List ℕ) → left_out prefix (c ∷ cs) ≡ []
     → (is_dropped (prefix ++ (c ∷ cs)) (length prefix, c) ≡ false) × (left_out (prefix ++ c ∷ []) cs ≡ [])
 kept_from prefix c cs none =
@@ -181,6 +194,7 @@ kept_from prefix c cs none =
     not_empty : (n : ℕ) (ns : List ℕ) → n ∷ ns ≡ [] → ⊥
     not_empty n ns e = cc
 
+-- where nothing is left out, cleaning makes separators spaces
 left_clean-kept : (prefix cs : List ℕ) → left_out prefix cs ≡ [] → left_clean prefix cs ≡ map spaced cs
 left_clean-kept prefix [] none = refl
 left_clean-kept prefix (c ∷ cs) none =
@@ -192,6 +206,7 @@ abbrev AllSpaced : List ℕ → Type 0
 AllSpaced [] = Unit {0}
 AllSpaced (c ∷ cs) = (spaced c ≡ c) × AllSpaced cs
 
+-- a text that was cleaned has none
 cleaned-spaced : (prefix cs : List ℕ) → AllSpaced (left_clean prefix cs)
 cleaned-spaced prefix [] = tt
 cleaned-spaced prefix (c ∷ cs) =
@@ -201,15 +216,18 @@ cleaned-spaced prefix (c ∷ cs) =
           (spaced-spaced c, cleaned-spaced (prefix ++ c ∷ []) cs)
     ]
 
+-- nor has it in the line
 shown-spaced : (cs : List ℕ) → AllSpaced cs → map spaced (map shown cs) ≡ map shown cs
 shown-spaced [] are = refl
 shown-spaced (c ∷ cs) are =
     ap (λ x. x ∷ map spaced (map shown cs)) ((keeps c).spaces are.0) ∙ ap (λ l. shown c ∷ l) (shown-spaced cs are.1)
 
+-- what is decoded and then stands in a line, at once
 map-map : (cs : List ℕ) → in_line (map unescaped cs) ≡ map shown cs
 map-map [] = refl
 map-map (c ∷ cs) = ap (λ l. shown c ∷ l) (map-map cs)
 
+-- what a value holds stands in its line as a text that cleaning leaves unchanged
 pub cleaned-in_line : (text : List ℕ) → cleaned_text (in_line (map unescaped (cleaned_text text)))
     ≡ in_line (map unescaped (cleaned_text text))
 cleaned-in_line text =

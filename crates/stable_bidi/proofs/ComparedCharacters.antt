@@ -21,6 +21,7 @@ use Rattle.stable_bidi.proofs.SameCharacters.{same_head, same_tail}
 
 -- ---- the characters of a line
 
+-- the characters of a content and its PDI
 content_characters : (k : ℕ) (v : List ℕ) (rest : List LabelledCharacter)
     → line_characters ((map (value_character k) v ++ value_character k 0x2069 ∷ []) ++ rest)
     ≡ v ++ 0x2069 ∷ line_characters rest
@@ -47,19 +48,22 @@ content_text : (k : ℕ) (v : List ℕ) (rest : List LabelledCharacter)
 content_text k [] rest = refl
 content_text k (c ∷ v) rest = content_text k v rest
 
-pub same_text : (line : List Both) → static_text (one_labelled line) ≡ static_text (other_labelled line)
-same_text [] = refl
-same_text (Shared c ∷ line) = ap (λ l. c ∷ l) (same_text line)
-same_text (Values k i j v w ∷ line) =
-    content_text k v (one_labelled line) ∙ same_text line ∙ sym (content_text k w (other_labelled line))
+-- they are the same in both lines
+pub same_static_text : (line : List Both) → static_text (one_labelled line) ≡ static_text (other_labelled line)
+same_static_text [] = refl
+same_static_text (Shared c ∷ line) = ap (λ l. c ∷ l) (same_static_text line)
+same_static_text (Values k i j v w ∷ line) =
+    content_text k v (one_labelled line) ∙ same_static_text line ∙ sym (content_text k w (other_labelled line))
 
 -- ---- two cuts of a line
 
+-- the first cut comes before the second, is the second, or comes after it
 data Cuts (p q : List Both) (x y : Both) (s t : List Both) : Type 0 where
   First : (mid : List Both) → q ≡ p ++ x ∷ mid → s ≡ mid ++ y ∷ t → Cuts p q x y s t
   Equal : p ≡ q → x ≡ y → Cuts p q x y s t
   Second : (mid : List Both) → p ≡ q ++ y ∷ mid → Cuts p q x y s t
 
+-- any two cuts
 cuts : (p q : List Both) (x y : Both) (s t : List Both) → p ++ x ∷ s ≡ q ++ y ∷ t → Cuts p q x y s t
 cuts [] [] x y s t e = Equal refl (same_head x y s t e)
 cuts [] (z ∷ q) x y s t e =
@@ -75,6 +79,7 @@ cuts (z ∷ p) (z' ∷ q) x y s t e =
 
 -- ---- lengths
 
+-- of the one line of two lists
 one_more : (p q : List Both) → length (one_line (p ++ q)) ≡ length (one_line p) + length (one_line q)
 one_more [] q = omega arith
 one_more (Shared c ∷ p) q = omega (arith, one_more p q)
@@ -86,6 +91,7 @@ one_more (Values k i j v w ∷ p) q =
       length-append v (0x2069 ∷ one_line p),
     )
 
+-- of the other
 other_more : (p q : List Both) → length (other_line (p ++ q)) ≡ length (other_line p) + length (other_line q)
 other_more [] q = omega arith
 other_more (Shared c ∷ p) q = omega (arith, other_more p q)
@@ -97,6 +103,7 @@ other_more (Values k i j v w ∷ p) q =
       length-append w (0x2069 ∷ other_line p),
     )
 
+-- of the one line of a choice and more
 one_chosen : (e : Chosen) (rest : List Both) → length (one_line (chosen_part e ∷ rest))
     ≡ length (one_before e) + 1 + length (one_after e) + length (one_line rest)
 one_chosen (Outside c) rest = omega arith
@@ -108,6 +115,7 @@ one_chosen (Inside k i j begin y end also_begin z also_end) rest =
       length-append end (0x2069 ∷ []),
     )
 
+-- of the other
 other_chosen : (e : Chosen) (rest : List Both) → length (other_line (chosen_part e ∷ rest))
     ≡ length (other_before e) + 1 + length (other_after e) + length (other_line rest)
 other_chosen (Outside c) rest = omega arith
@@ -121,13 +129,12 @@ other_chosen (Inside k i j begin y end also_begin z also_end) rest =
 
 -- ---- two choices
 
-abbrev IsOf : Both → Chosen → Type 0
-IsOf part e = part ≡ chosen_part e
-
+-- the number of a part, if it is a value
 part_label : Both → Option ℕ
 part_label (Shared c) = None
 part_label (Values k i j v w) = Some k
 
+-- a choice has the number of its part
 label_of_part : (e : Chosen) → chosen_label e ≡ part_label (chosen_part e)
 unfolding part_label
 label_of_part (Outside c) = refl
@@ -151,10 +158,12 @@ record BothChosen (line : List Both) (i j i' j' m n m' n' : ℕ) : Type 0 where
   other_first_is : other_character compared.first ≡ m'
   other_second_is : other_character compared.second ≡ n'
 
+-- a label is none or a number
 labelled_case : (o : Option ℕ) → (o ≡ None) ⊎ ((k : ℕ) × (o ≡ Some k))
 labelled_case None = inl refl
 labelled_case (Some k) = inr (k, refl)
 
+-- two choices, the first before the second and not of one value, are two characters that are compared
 both_chosen : (line : List Both) (b : List LabelledCharacter) (m : LabelledCharacter) (b' : List LabelledCharacter)
     (m' : LabelledCharacter) (d : List LabelledCharacter) (n : LabelledCharacter) (d' : List LabelledCharacter)
     (n' : LabelledCharacter) → ChosenAt line b m b' m' → ChosenAt line d n d' n' → length b < length d
@@ -232,18 +241,22 @@ both_chosen line b m b' m' d n d' n' one two earlier apart =
 
 -- ---- two lines
 
+-- an equal character is seen too
 seen_as : (c d : ℕ) → c ≡ d → is_surrounding (bidi_class d) ≡ true → is_surrounding (bidi_class c) ≡ true
 seen_as c d is seen = ap (λ x. is_surrounding (bidi_class x)) is ∙ seen
 
+-- order in a line of a base
 abbrev left_in : ℕ → List ℕ → ℕ → ℕ → Bool
 left_in base line i j = is_left_of (line_levels base line) i j
 
+-- order in equal lines, at equal indexes
 left_at : (base : ℕ) (line other : List ℕ) (i j i' j' : ℕ) → line ≡ other → i ≡ i' → j ≡ j'
     → left_in base line i j ≡ left_in base other i' j'
 left_at base line other i j i' j' line_is i_is j_is =
     ap (λ l. left_in base l i j) line_is ∙ ap (λ x. left_in base other x j) i_is ∙ ap (left_in base other i') j_is
 
 module _ (l : BothLine) (held : HoldsCleaned l.parts) (numbered : BothNumbered 0 l.parts) where
+  -- two characters that are compared, in the parts of the two lines
   comparison : (c : AreCompared (one_of l) (other_of l))
       → BothChosen l.parts (length c.first.before) (length c.second.before) (length c.also_first.before)
       (length c.also_second.before) c.first.character.character c.second.character.character
@@ -257,6 +270,7 @@ module _ (l : BothLine) (held : HoldsCleaned l.parts) (numbered : BothNumbered 0
       c.also_second.after held numbered c.second.is c.also_second.is c.seen.1 c.seen.3 c.same_second)
       c.apart.0 (λ k one two. c.apart.1 (k, one, two))
 
+  -- they are seen
   surrounding : (c : AreCompared (one_of l) (other_of l)) → are_surrounding (comparison c).compared ≡ true
   surrounding c =
       let b = comparison c in
@@ -266,9 +280,11 @@ module _ (l : BothLine) (held : HoldsCleaned l.parts) (numbered : BothNumbered 0
       (and_from _ _ (seen_as (one_character b.compared.second) c.second.character.character b.second_is c.seen.1)
       (seen_as (other_character b.compared.second) c.also_second.character.character b.other_second_is c.seen.3))
 
+  -- the one line is that of the comparison
   one_is : (whole : List Both) → whole ≡ l.parts → line_characters (one_labelled l.parts) ≡ one_line whole
   one_is whole is = one_characters l.parts ∙ ap one_line (sym is)
 
+  -- so is the other
   other_is : (whole : List Both) → whole ≡ l.parts → other_line whole ≡ line_characters (other_labelled l.parts)
   other_is whole is = ap other_line is ∙ sym (other_characters l.parts)
 

@@ -67,6 +67,7 @@ module _ (s : State) (c : ℕ) (k : Known) (x y : List ℕ) where
     pending = pending;
   }
 
+  -- to data, or to the next `<`
   begun_text : k.opening ≡ None → RowStep s row.TagOpen (data_next c) c k x y
   begun_text none =
       elim (cases_Bool (c == less_than)) [

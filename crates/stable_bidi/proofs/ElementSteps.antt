@@ -98,6 +98,7 @@ module _ (s : State) (c : ℕ) (k : Known) (x y : List ℕ) where
       on (Err fault) = tt
       on (Ok e) = element_step before silent e c
 
+  -- so within an element
   within_silent : (now : Element) → k.opening ≡ None → IsSilent (row.Within now)
   within_silent now none = (
     λ e. nothing_read s c k x y (row.Within now) (row.Within e) (λ z. refl) tt none refl,
@@ -110,6 +111,7 @@ module _ (s : State) (c : ℕ) (k : Known) (x y : List ℕ) where
 
   -- ---- what may be the end tag of an element
 
+  -- so behind a `<` there
   begun_silent : (now : Element) (how : Begun) → k.opening ≡ None → IsSilent (row.BegunEndTag now how)
   begun_silent now how none = (
     λ e. nothing_read s c k x y (row.BegunEndTag now how) (row.Within e) (λ z. refl) tt none refl,

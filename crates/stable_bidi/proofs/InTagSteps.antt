@@ -159,6 +159,7 @@ module _ (s : State) (c : ℕ) (k : Known) (x y : List ℕ) where
     pending = refl;
   }
 
+  -- at any row of a tag
   pub in_tag_step : (how : TagKind) (n : List ℕ) (inner : TagRow) → k.opening ≡ None → AtTagRow inner k.attribute x y
       → RowStepsTo s c k x y (row.InTag (tag.Named how n) inner)
       (row_next true (row.InTag (tag.Named how n) inner) c)
@@ -173,6 +174,7 @@ module _ (s : State) (c : ℕ) (k : Known) (x y : List ℕ) where
 
   -- ---- while a reference in a value isn't decided, the row stays
 
+  -- in quotes
   pub quoted_stays : (how : TagKind) (n : List ℕ) (q : Quote) (v : AttributeValue) → k.opening ≡ None
       → AtTagRow (tag_row.Quoted q v) k.attribute x y
       → RowStep s (row.InTag (tag.Named how n) (tag_row.Quoted q v)) (row.InTag (tag.Named how n) (tag_row.Quoted q v))
@@ -180,6 +182,7 @@ module _ (s : State) (c : ℕ) (k : Known) (x y : List ℕ) where
   quoted_stays how n q v none at =
       tag_on how n (tag_row.Quoted q v) (tag_row.Quoted q v) none (quoted_on c k x y q v v refl at)
 
+  -- without quotes
   pub unquoted_stays : (how : TagKind) (n : List ℕ) (v : AttributeValue) → k.opening ≡ None
       → AtTagRow (tag_row.Unquoted v) k.attribute x y
       → RowStep s (row.InTag (tag.Named how n) (tag_row.Unquoted v)) (row.InTag (tag.Named how n) (tag_row.Unquoted v))

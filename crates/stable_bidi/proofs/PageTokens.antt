@@ -47,29 +47,35 @@ pub record TokensAlike (n : ℕ) (one other : List MarkupToken) : Type 0 where
   pub fine : AreFine parts
   pub numbered : AreNumbered n parts
 
+-- static tokens before other parts
 abbrev shared_parts : List MarkupToken → List TokenPart → List TokenPart
 shared_parts tokens parts = map SharedToken tokens ++ parts
 
-shared-one : (tokens : List MarkupToken) (parts : List TokenPart)
+-- their tokens on the one page
+parts-one : (tokens : List MarkupToken) (parts : List TokenPart)
     → tokens ++ one_tokens parts ≡ one_tokens (shared_parts tokens parts)
-shared-one [] parts = refl
-shared-one (t ∷ tokens) parts = ap (λ l. t ∷ l) (shared-one tokens parts)
+parts-one [] parts = refl
+parts-one (t ∷ tokens) parts = ap (λ l. t ∷ l) (parts-one tokens parts)
 
-shared-other : (tokens : List MarkupToken) (parts : List TokenPart)
+-- and on the other
+parts-other : (tokens : List MarkupToken) (parts : List TokenPart)
     → tokens ++ other_tokens parts ≡ other_tokens (shared_parts tokens parts)
-shared-other [] parts = refl
-shared-other (t ∷ tokens) parts = ap (λ l. t ∷ l) (shared-other tokens parts)
+parts-other [] parts = refl
+parts-other (t ∷ tokens) parts = ap (λ l. t ∷ l) (parts-other tokens parts)
 
-shared-fine : (tokens : List MarkupToken) (parts : List TokenPart) → AreStaticTokens tokens → AreFine parts
+-- they are fine
+parts-fine : (tokens : List MarkupToken) (parts : List TokenPart) → AreStaticTokens tokens → AreFine parts
     → AreFine (shared_parts tokens parts)
-shared-fine [] parts are fine = fine
-shared-fine (t ∷ tokens) parts are fine = (are.0, shared-fine tokens parts are.1 fine)
+parts-fine [] parts are fine = fine
+parts-fine (t ∷ tokens) parts are fine = (are.0, parts-fine tokens parts are.1 fine)
 
-shared-numbered : (n : ℕ) (tokens : List MarkupToken) (parts : List TokenPart) → AreNumbered n parts
+-- and have no numbers
+parts-numbered : (n : ℕ) (tokens : List MarkupToken) (parts : List TokenPart) → AreNumbered n parts
     → AreNumbered n (shared_parts tokens parts)
-shared-numbered n [] parts are = are
-shared-numbered n (t ∷ tokens) parts are = shared-numbered n tokens parts are
+parts-numbered n [] parts are = are
+parts-numbered n (t ∷ tokens) parts are = parts-numbered n tokens parts are
 
+-- numbers from one on are numbers from the one before it on
 numbered_lower : (n : ℕ) (parts : List TokenPart) → AreNumbered (suc n) parts → AreNumbered n parts
 numbered_lower n [] are = tt
 numbered_lower n (SharedToken t ∷ parts) are = numbered_lower n parts are
@@ -85,16 +91,18 @@ lower n one other more = record {
   numbered = numbered_lower n more.parts more.numbered;
 }
 
+-- static tokens before tokens that are alike
 behind_static : (n : ℕ) (tokens one other : List MarkupToken) → AreStaticTokens tokens → TokensAlike n one other
     → TokensAlike n (tokens ++ one) (tokens ++ other)
 behind_static n tokens one other are more = record {
   parts = shared_parts tokens more.parts;
-  one_are = ap (λ l. tokens ++ l) more.one_are ∙ shared-one tokens more.parts;
-  other_are = ap (λ l. tokens ++ l) more.other_are ∙ shared-other tokens more.parts;
-  fine = shared-fine tokens more.parts are more.fine;
-  numbered = shared-numbered n tokens more.parts more.numbered;
+  one_are = ap (λ l. tokens ++ l) more.one_are ∙ parts-one tokens more.parts;
+  other_are = ap (λ l. tokens ++ l) more.other_are ∙ parts-other tokens more.parts;
+  fine = parts-fine tokens more.parts are more.fine;
+  numbered = parts-numbered n tokens more.parts more.numbered;
 }
 
+-- no tokens
 no_tokens : (n : ℕ) → TokensAlike n [] []
 no_tokens n = record { parts = []; one_are = refl; other_are = refl; fine = tt; numbered = tt }
 
@@ -107,6 +115,7 @@ BehindText n l read = read.0 ++ elim read.1 [
   | Some now ↦ elim (text_end now.state) [ Ok state ↦ tokens_from n now l | Err code ↦ [] ]
 ]
 
+-- a static text before pieces that are alike
 static_alike : (n : ℕ) (s : State) (k : Known) (x y text : List ℕ) (l m : List Piece) → Good s k x y
     → ((u : State) (now : Known) (x' y' : List ℕ) → Good u now x' y' → is_decided u.reference ≡ true
     → after_piece s (Static text) ≡ Ok u → TokensAlike n (tokens_from n (reading u now x') l)
@@ -227,6 +236,7 @@ within_after : (e : Element) → (f : Element) × (row_after_value (row.Within e
 within_after (element.Style state) = (element.Style (css_after_value state), refl)
 within_after other = (other, refl)
 
+-- so the two pages go on alike
 within_row : (n : ℕ) (e : Element) (r : Reference) (k : Known) (x y out other : List ℕ) (l m : List Piece)
     → let s : State = pending (row.Within e) r in
     Good s k x y → is_decided r ≡ true → IsValueAt s out → IsValueAt s other
@@ -255,6 +265,7 @@ Behind n s l m = (k : Known) (x y : List ℕ) → Good (after_value s) k x y
     → TokensAlike (suc n) (tokens_from (suc n) (reading (after_value s) k x) l)
     (tokens_from (suc n) (reading (after_value s) k y) m)
 
+-- a value at any row
 value_alike : (n : ℕ) (now : HtmlRow) (r : Reference) (k : Known) (x y out other : List ℕ) (l m : List Piece)
     → Good (pending now r) k x y → is_decided r ≡ true → IsValueAt (pending now r) out → IsValueAt (pending now r) other
     → Behind n (pending now r) l m
@@ -297,6 +308,7 @@ value_alike n row.Plain r k x y out other l m good decided is also more = absurd
 
 -- ---- all pieces
 
+-- two pages from a state on
 pub pages_tokens : (n : ℕ) (s : State) (k : Known) (x y : List ℕ) (l m : List Piece) → Good s k x y
     → is_decided s.reference ≡ true → PagesAlike s l m
     → TokensAlike n (tokens_from n (reading s k x) l) (tokens_from n (reading s k y) m)

@@ -34,19 +34,22 @@ use Rattle.stable_bidi.proofs.StaticCharacters.{static_line_start}
 
 -- ---- a direction that goes by the content goes by shared tokens alone
 
-content_characters : (outer : List (List ℕ)) (inner : List InnerElement) (k : ℕ) (text : List ℕ)
+-- the characters of a value don't count
+content_skips : (outer : List (List ℕ)) (inner : List InnerElement) (k : ℕ) (text : List ℕ)
     (rest : List MarkupToken) → content_right_to_left outer inner (labelled_characters (Some k) text ++ rest)
     ≡ content_right_to_left outer inner rest
-content_characters outer inner k [] rest = refl
-content_characters outer inner k (c ∷ text) rest = content_characters outer inner k text rest
+content_skips outer inner k [] rest = refl
+content_skips outer inner k (c ∷ text) rest = content_skips outer inner k text rest
 
+-- nor does its span
 pub content_span : (outer : List (List ℕ)) (inner : List InnerElement) (k : ℕ) (d : Dir) (text : List ℕ)
     (rest : List MarkupToken) → content_right_to_left outer inner (span_tokens k d text rest)
     ≡ content_right_to_left outer inner rest
 content_span outer inner k d text rest =
-    content_characters outer (inner_element (codes "span") (Some (direction_word d)) ∷ inner) k text
+    content_skips outer (inner_element (codes "span") (Some (direction_word d)) ∷ inner) k text
     (EndTag (codes "span") ∷ rest)
 
+-- so both pages give a content one direction
 content_alike : (outer : List (List ℕ)) (inner : List InnerElement) (parts : List TokenPart)
     → content_right_to_left outer inner (one_tokens parts) ≡ content_right_to_left outer inner (other_tokens parts)
 content_alike outer inner [] = refl
@@ -71,6 +74,7 @@ content_alike outer inner (ValueSpans k d e v w ∷ parts) =
     content_span outer inner k d v (one_tokens parts) ∙ content_alike outer inner parts
     ∙ sym (content_span outer inner k e w (other_tokens parts))
 
+-- an element one direction
 direction_alike : (outer : List (List ℕ)) (name : List ℕ) (dir : Option DirAttribute) (parts : List TokenPart)
     → element_direction outer name dir (one_tokens parts) ≡ element_direction outer name dir (other_tokens parts)
 direction_alike outer name (Some IsLtr) parts = refl
@@ -79,6 +83,7 @@ direction_alike outer name (Some IsAuto) parts = ap Some (content_alike (name �
 direction_alike outer name None parts =
     ap (λ (x : Bool). if bytes_eq name (codes "bdi") then Some x else None) (content_alike (name ∷ outer) [] parts)
 
+-- and a start tag one element
 opened_alike : (open_ones : List OpenElement) (name : List ℕ) (dir : Option (List ℕ)) (label : Option ℕ)
     (parts : List TokenPart) → opened_element open_ones name dir label (one_tokens parts)
     ≡ opened_element open_ones name dir label (other_tokens parts)
@@ -104,6 +109,7 @@ pub record RestsAlike (n : ℕ) (one other : RestOfLines) : Type 0 where
   pub cleaned : HoldCleaned lines
   pub numbered : LinesNumbered lines
 
+-- static characters before the rest of a line
 before_alike : (n : ℕ) (ms : List LabelledCharacter) (a b : RestOfLines) → AreStatic ms → RestsAlike n a b
     → RestsAlike n (before_rest ms a) (before_rest ms b)
 before_alike n ms a b are more = record {
@@ -119,6 +125,7 @@ before_alike n ms a b are more = record {
   numbered = more.numbered;
 }
 
+-- a line ends, and one begins
 next_alike : (n context : ℕ) (open_ones : List OpenElement) (a b : RestOfLines) → AreStaticElements open_ones
     → RestsAlike n a b → RestsAlike n (next_line context open_ones a) (next_line context open_ones b)
 next_alike n context open_ones a b are more =
@@ -149,11 +156,13 @@ next_alike n context open_ones a b are more =
       );
     }
 
+-- a choice that both pages make
 alike_if : (n : ℕ) (b : Bool) (one two other both : RestOfLines) → RestsAlike n one other → RestsAlike n two both
     → RestsAlike n (if b then one else two) (if b then other else both)
 alike_if n true one two other both first second = first
 alike_if n false one two other both first second = second
 
+-- past a tag, which may end the line
 past_alike : (n context : ℕ) (name : List ℕ) (open_ones : List OpenElement) (a b : RestOfLines)
     → AreStaticElements open_ones → RestsAlike n a b
     → RestsAlike n (past_tag context name open_ones a) (past_tag context name open_ones b)
@@ -163,22 +172,26 @@ past_alike n context name open_ones a b are more =
 
 -- ---- a start tag
 
+-- what a start tag of this element gives before the rest
 abbrev started : ℕ → List OpenElement → List ℕ → List MarkupToken → OpenElement → RestOfLines
 started context open_ones name rest e =
     let now = if is_void name then open_ones else e ∷ open_ones in
     before_rest (if is_void name then [] else element_start e) (past_tag context name now (lines_from context now rest))
 
+-- the elements that are open behind a static start tag are static
 static_now : (b : Bool) (e : OpenElement) (open_ones : List OpenElement) → e.label ≡ None
     → AreStaticElements open_ones → AreStaticElements (if b then open_ones else e ∷ open_ones)
 static_now true e open_ones none are = are
 static_now false e open_ones none are = (none, are)
 
+-- what stands for it is static
 start_static : (b : Bool) (e : OpenElement) → e.label ≡ None → AreStatic (if b then [] else element_start e)
 start_static true e none = tt
 start_static false e none = static_element_start e none
 
 -- ---- an end tag
 
+-- what an end tag gives, which closes elements or none
 abbrev Ended : (n context : ℕ) (name : List ℕ) (open_ones : List OpenElement) (one other : List MarkupToken)
     (o : Option (List OpenElement)) → Type 0
 Ended n context name open_ones one other o = RestsAlike n (elim o [
@@ -191,6 +204,7 @@ Ended n context name open_ones one other o = RestsAlike n (elim o [
       (past_tag context name left (lines_from context left other))
 ])
 
+-- an end tag
 ended : (n context : ℕ) (name : List ℕ) (open_ones : List OpenElement) (one other : List MarkupToken)
     → AreStaticElements open_ones
     → ((left : List OpenElement) → AreStaticElements left → RestsAlike n (lines_from context left one)
@@ -209,10 +223,12 @@ ended n context name open_ones one other are more (Some left) left_are =
 
 -- ---- a value
 
+-- a span begins with LRI or RLI
 pub span_initiates : (d : Dir) → is_value_initiator (span_initiator d) ≡ true
 span_initiates Ltr = refl
 span_initiates Rtl = refl
 
+-- the characters of a value in a line
 characters_lines : (context : ℕ) (open_ones : List OpenElement) (k : ℕ) (text : List ℕ) (rest : List MarkupToken)
     → lines_from context open_ones (labelled_characters (Some k) text ++ rest)
     ≡ before_rest (map (value_character k) (in_line text)) (lines_from context open_ones rest)
@@ -220,14 +236,17 @@ characters_lines context open_ones k [] rest = refl
 characters_lines context open_ones k (c ∷ text) rest =
     ap (before_rest (text_character c (Some k) ∷ [])) (characters_lines context open_ones k text rest)
 
+-- what stands before the rest of a line, in three parts
 three_parts : (m : LabelledCharacter) (ms : List LabelledCharacter) (n : LabelledCharacter) (r : RestOfLines)
     → before_rest (m ∷ []) (before_rest ms (before_rest (n ∷ []) r)) ≡ before_rest (m ∷ (ms ++ n ∷ [])) r
 three_parts m ms n r = ap (λ (l : List LabelledCharacter). (m ∷ l, r.1)) (sym (append_assoc ms (n ∷ []) r.0))
 
+-- the element of a value's span
 abbrev span_element : ℕ → Bool → OpenElement
 span_element k right_to_left =
     record { name = codes "span"; direction = Some right_to_left; overrides = false; label = Some k }
 
+-- a value's span in a line
 pub span_lines : (context : ℕ) (open_ones : List OpenElement) (k : ℕ) (d : Dir) (text : List ℕ)
     (rest : List MarkupToken) → lines_from context open_ones (span_tokens k d text rest)
     ≡ before_rest (value_characters k (span_initiator d) (in_line text)) (lines_from context open_ones rest)
@@ -242,6 +261,7 @@ span_lines context open_ones k Rtl text rest =
     ∙ three_parts _ (map (value_character k) (in_line text)) (value_character k 0x2069)
     (lines_from context open_ones rest)
 
+-- a value in both pages before rests that are alike
 value_alike : (n k : ℕ) (d e : Dir) (v w : List ℕ) (a b : RestOfLines) → cleaned_text (in_line v) ≡ in_line v
     → cleaned_text (in_line w) ≡ in_line w → n ≤ k → RestsAlike (suc k) a b
     → RestsAlike n (before_rest (value_characters k (span_initiator d) (in_line v)) a)
@@ -259,9 +279,11 @@ value_alike n k d e v w a b clean also low more = record {
 
 -- ---- all parts
 
+-- a static character stands in its line as one
 static_text : (c : ℕ) (label : Option ℕ) → label ≡ None → AreStatic (text_character c label ∷ [])
 static_text c label none = (ap (text_character c) none, tt)
 
+-- from any open elements of static text on
 pub parts_rests : (n context : ℕ) (open_ones : List OpenElement) (parts : List TokenPart) → AreFine parts
     → AreNumbered n parts → AreStaticElements open_ones
     → RestsAlike n (lines_from context open_ones (one_tokens parts)) (lines_from context open_ones (other_tokens parts))

@@ -28,12 +28,14 @@ use Rattle.stable_bidi.proofs.NextStates.{NextIs, next_is}
 use Rattle.stable_bidi.proofs.NextStates.NextIs.{Moved, Stayed}
 use Rattle.stable_bidi.proofs.RowReads.{reference_after}
 
+-- nothing and false is false
 pub and_no : (b : Bool) → (b && false) ≡ false
 and_no true = refl
 and_no false = refl
 
 -- ---- what may be a reference
 
+-- where nothing is pending, it holds at any state
 none_pending : (now : HtmlRow) (r : Reference) → IsPending now r None
 none_pending row.Data reference.Decided = refl
 none_pending row.Data (reference.Begun prefix) = tt
@@ -51,10 +53,12 @@ none_pending row.Plain r = refl
 
 -- after a character in data
 module _ (held : Option (List ℕ)) (c : ℕ) where
+  -- it holds after a character in data, where the character is no fault
   abbrev Pends : Result State Code → Type 0
   Pends (Ok u) = IsPending u.row u.reference (text_pending held c)
   Pends (Err fault) = Unit {0}
 
+  -- a choice of the table
   pends_if : (b : Bool) (one other : Result State Code) → Pends one → Pends other → Pends (if b then one else other)
   pends_if true one other first second = first
   pends_if false one other first second = second
@@ -63,6 +67,7 @@ module _ (held : Option (List ℕ)) (c : ℕ) where
   abbrev Decides : HtmlRow → Type 0
   Decides f = IsPending f (begun_reference f c) (text_pending held c)
 
+  -- by the table of data
   decides_data : ((c == less_than) ≡ false → (c == ampersand) ≡ false → character_pending held c ≡ None)
       → Decides (data_next c)
   decides_data plain =
@@ -74,12 +79,14 @@ module _ (held : Option (List ℕ)) (c : ℕ) where
         ]
       ]
 
+  -- where the state had decided
   pends_plain : ((c == less_than) ≡ false → (c == ampersand) ≡ false → character_pending held c ≡ None)
       → Pends (plain_next row.Data c)
   pends_plain plain =
       pends_if (c == ampersand && false) (Err code.Reference)
       (Ok (pending (data_next c) (begun_reference (data_next c) c))) tt (decides_data plain)
 
+  -- in a name
   undecided_name : (prefix : List ℕ) → Pends (Ok (pending row.Data (name_begun prefix)))
   undecided_name prefix = begun (is_prefix_among reference_names prefix)
     where
@@ -112,6 +119,7 @@ module _ (held : Option (List ℕ)) (c : ℕ) where
         | inr other ↦ rw (other, goes_on begun, differs) refl
       ]
 
+  -- behind a name that ends
   pends_end : (is_name : Bool) → Pends (name_end row.Data is_name c)
   pends_end is_name =
       elim (cases_Bool (c == semicolon)) [
@@ -120,6 +128,7 @@ module _ (held : Option (List ℕ)) (c : ℕ) where
         | inr differs ↦ rw (differs, and_no (c == equals_sign)) tt
       ]
 
+  -- behind a `&`
   pends_ampersand : Pends (ampersand_next row.Data c)
   pends_ampersand =
       elim (cases_Bool (c == number_sign)) [
@@ -131,6 +140,7 @@ module _ (held : Option (List ℕ)) (c : ℕ) where
         ]
       ]
 
+  -- in a numeric reference
   pends_numeric : (digits : List ℕ) → Pends (and_then (λ following. Ok (pending row.Data following))
       (numeric_next digits c))
   pends_numeric digits =
@@ -151,6 +161,7 @@ module _ (held : Option (List ℕ)) (c : ℕ) where
       goes true = tt
       goes false = tt
 
+  -- in a reference that may be known
   pends_begun : (prefix : List ℕ) → Pends (reference_begun_next row.Data prefix c)
   pends_begun [] = pends_ampersand
   pends_begun (first ∷ rest) =
@@ -158,6 +169,7 @@ module _ (held : Option (List ℕ)) (c : ℕ) where
       (pends_if (is_ascii_alphanumeric c) (Ok (pending row.Data (name_begun (prefix_with (first ∷ rest) c)))) _
       (undecided_name (prefix_with (first ∷ rest) c)) (pends_end (is_among reference_names (first ∷ rest))))
 
+  -- in a name that no reference has
   pends_none : Pends (reference_next row.Data reference.NoName c)
   pends_none =
       pends_if (is_ascii_alphanumeric c) (Ok (pending row.Data reference.NoName)) _ tt (pends_end false)
@@ -166,6 +178,7 @@ module _ (held : Option (List ℕ)) (c : ℕ) where
 plain_none : (c : ℕ) → (c == less_than) ≡ false → (c == ampersand) ≡ false → character_pending None c ≡ None
 plain_none c stays differs = rw differs refl
 
+-- any character in data
 data_pends : (before : Reference) (held : Option (List ℕ)) (c : ℕ) → IsPending row.Data before held
     → Pends held c (reference_next row.Data before c)
 data_pends reference.Decided held c none =
@@ -175,13 +188,16 @@ data_pends reference.NoName held c is = pends_none held c
 
 -- after a `<` in data
 module _ (c : ℕ) where
+  -- it holds after a row to which a `<` leads on
   abbrev Opens : HtmlRow → Type 0
   Opens f = IsPending f (begun_reference f c) (reference_after row.TagOpen f None c)
 
+  -- a choice of the table
   opens_if : (b : Bool) (one other : HtmlRow) → Opens one → Opens other → Opens (if b then one else other)
   opens_if true one other first second = first
   opens_if false one other first second = second
 
+  -- to data, or to the next `<`
   opens_data : Opens (data_next c)
   opens_data =
       elim (cases_Bool (c == less_than)) [
@@ -192,10 +208,12 @@ module _ (c : ℕ) where
         ]
       ]
 
+  -- where the character is no fault
   abbrev OpensOn : Result HtmlRow Code → Type 0
   OpensOn (Ok g) = Opens g
   OpensOn (Err fault) = Unit {0}
 
+  -- any character behind a `<`
   opens_rows : (f : HtmlRow) → row_next true row.TagOpen c ≡ Ok f → Opens f
   opens_rows f is =
       subst OpensOn is
@@ -204,6 +222,7 @@ module _ (c : ℕ) where
       (opens_if (is_ascii_alphabetic c) (row.TagName kind.Start (name_with [] c)) _ refl
       (opens_if (c == question_mark) (row.InDeclaration declaration.BogusComment) _ refl opens_data))))
 
+-- any character at any state
 pending_next : (s u : State) (held : Option (List ℕ)) (c : ℕ) → IsPending s.row s.reference held
     → (is_decided s.reference ≡ true) ⊎ (has_references s.row ≡ true) → next s c ≡ Ok u
     → IsPending u.row u.reference (reference_after s.row u.row held c)

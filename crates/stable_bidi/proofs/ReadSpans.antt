@@ -12,20 +12,19 @@ use Rattle.bidi_text.specs.Wrap.{direction_word, wrapped_text}
 use Rattle.bidi_order.specs.MarkupTokens.{MarkupToken, PageReading, TagReading, labelled_characters, no_tag, read_all}
 use Rattle.bidi_order.specs.MarkupTokens.MarkupToken.{Character, StartTag, EndTag}
 use Rattle.stable_bidi.specs.TokenParts.{in_data, span_tokens, unescaped}
-
--- what is read of a text, as tokens before those of the rest
-abbrev ReadMore : List MarkupToken → List MarkupToken × Option PageReading → List MarkupToken × Option PageReading
-ReadMore tokens more = (tokens ++ more.0, more.1)
+use Rattle.stable_bidi.proofs.TextReads.{tokens_before}
 
 module _ (k : ℕ) (tag : TagReading) (opening : Option ℕ) where
+  -- this text before a rest gives one character and then what the rest gives
   abbrev Reads : List ℕ → ℕ → List ℕ → Type 0
   Reads text c rest = read_all (Some k) (in_data tag opening) (text ++ rest)
-      ≡ ReadMore (Character c (Some k) ∷ []) (read_all (Some k) (in_data tag opening) rest)
+      ≡ tokens_before (Character c (Some k) ∷ []) (read_all (Some k) (in_data tag opening) rest)
 
   -- a character without a row
   reads_plain : (c : ℕ) (rest : List ℕ) → (c == 60) ≡ false → (c == 38) ≡ false → Reads (c ∷ []) c rest
   reads_plain c rest no_tag no_reference = rw (no_tag, no_reference) refl
 
+  -- a character with a row
   reads_row : (c d : ℕ) (text rest : List ℕ) → c ≡ d → escaped_character html_rows d ≡ text
       → Reads text (unescaped d) rest
       → Reads (escaped_character html_rows c) (unescaped c) rest
@@ -33,6 +32,7 @@ module _ (k : ℕ) (tag : TagReading) (opening : Option ℕ) where
       subst (λ x. Reads (escaped_character html_rows x) (unescaped x) rest) (sym is)
       (subst (λ t. Reads t (unescaped d) rest) (sym row_is) reads)
 
+  -- any character, as its row or itself
   reads_one : (c : ℕ) (rest : List ℕ) → Reads (escaped_character html_rows c) (unescaped c) rest
   reads_one c rest =
       elim (cases_Bool (0 == c)) [
@@ -67,26 +67,30 @@ module _ (k : ℕ) (tag : TagReading) (opening : Option ℕ) where
       turned : (n c : ℕ) → (n == c) ≡ false → (c == n) ≡ false
       turned n c differ = ne_eqb c n (λ e. both_ways (n == c) differ (eq-eqb n c (sym e)))
 
+  -- an escaped text before a rest gives its characters
   reads_escaped : (text rest : List ℕ) → read_all (Some k) (in_data tag opening) (escaped_text html_rows text ++ rest)
-      ≡ ReadMore (labelled_characters (Some k) (map unescaped text)) (read_all (Some k) (in_data tag opening) rest)
+      ≡ tokens_before (labelled_characters (Some k) (map unescaped text)) (read_all (Some k) (in_data tag opening) rest)
   reads_escaped [] rest = refl
   reads_escaped (c ∷ text) rest =
       ap (read_all (Some k) (in_data tag opening))
       (append_assoc (escaped_character html_rows c) (escaped_text html_rows text) rest)
       ∙ reads_one c (escaped_text html_rows text ++ rest)
-      ∙ ap (ReadMore (Character (unescaped c) (Some k) ∷ [])) (reads_escaped text rest)
+      ∙ ap (tokens_before (Character (unescaped c) (Some k) ∷ [])) (reads_escaped text rest)
 
+-- a span's start tag before a rest
 reads_start : (k : ℕ) (tag : TagReading) (opening : Option ℕ) (d : Dir) (rest : List ℕ)
     → read_all (Some k) (in_data tag opening) (codes "<span dir=\"" ++ (direction_word d ++ (codes "\">" ++ rest)))
-    ≡ ReadMore (StartTag (codes "span") (Some (direction_word d)) (Some k) ∷ [])
+    ≡ tokens_before (StartTag (codes "span") (Some (direction_word d)) (Some k) ∷ [])
     (read_all (Some k) (in_data no_tag (Some k)) rest)
 reads_start k tag opening Ltr rest = refl
 reads_start k tag opening Rtl rest = refl
 
+-- a span's end tag
 reads_end : (k : ℕ) → read_all (Some k) (in_data no_tag (Some k)) (codes "</span>")
     ≡ (EndTag (codes "span") ∷ [], Some (in_data no_tag (Some k)))
 reads_end k = refl
 
+-- a text in its span
 pub reads_wrapped : (k : ℕ) (tag : TagReading) (opening : Option ℕ) (text : List ℕ) (context : Dir)
     → read_all (Some k) (in_data tag opening) (wrapped_text text context)
     ≡ (
@@ -96,6 +100,7 @@ pub reads_wrapped : (k : ℕ) (tag : TagReading) (opening : Option ℕ) (text : 
 reads_wrapped k tag opening text context =
     reads_start k tag opening (estimated_direction text context)
     (escaped_text html_rows (cleaned_text text) ++ codes "</span>")
-    ∙ ap (ReadMore (StartTag (codes "span") (Some (direction_word (estimated_direction text context))) (Some k) ∷ []))
+    ∙ ap
+    (tokens_before (StartTag (codes "span") (Some (direction_word (estimated_direction text context))) (Some k) ∷ []))
     (reads_escaped k no_tag (Some k) (cleaned_text text) (codes "</span>")
-    ∙ ap (ReadMore (labelled_characters (Some k) (map unescaped (cleaned_text text)))) (reads_end k))
+    ∙ ap (tokens_before (labelled_characters (Some k) (map unescaped (cleaned_text text)))) (reads_end k))

@@ -38,6 +38,7 @@ pub record RowStep (s : State) (before after : HtmlRow) (c : ℕ) (k : Known) (x
   pub opened : IsOpened after next.opening
   pub pending : next.reference ≡ reference_after before after k.reference c
 
+-- characters of static text
 pub static_characters : (cs : List ℕ) → AreStaticTokens (labelled_characters None cs)
 static_characters [] = tt
 static_characters (c ∷ cs) = (refl, static_characters cs)

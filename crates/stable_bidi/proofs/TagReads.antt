@@ -32,10 +32,12 @@ pub record TagStep (inner : TagRow) (o : Option TagRow) (c : ℕ) (k : Known) (x
 
 -- ---- the value of an attribute, which counts where it is the first `dir`
 
+-- the first `dir` of a tag, after a value of an attribute of this name
 abbrev dir_with : List ℕ → List ℕ → Option (List ℕ) → Option (List ℕ)
 dir_with attribute given dir =
     if bytes_eq attribute (codes "dir") then (if is_some dir then dir else Some given) else dir
 
+-- by whether the attribute is `dir`
 valued_if : (b : Bool) (k : Known) (x given : List ℕ)
     → (if b then record (tag_of k x) { dir = if is_some k.dir then k.dir else Some given } else tag_of k x)
     ≡ tag_of (known_tag k k.attribute (if b then (if is_some k.dir then k.dir else Some given) else k.dir)) x

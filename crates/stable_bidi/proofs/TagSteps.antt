@@ -10,6 +10,7 @@ use Rattle.stable_bidi.proofs.AttributeNames.{reads_closing, reads_quoted}
 use Rattle.stable_bidi.proofs.AttributeValues.{quoted_steps, unquoted_steps, value_steps}
 use Rattle.stable_bidi.proofs.TagReads.{TagStepsTo}
 
+-- by the table of the rows in a tag
 pub tag_steps : (c : ℕ) (k : Known) (x y : List ℕ) (inner : TagRow) → AtTagRow inner k.attribute x y
     → TagStepsTo c k x y inner (tag_row_next true inner c)
 tag_steps c k x y tag_row.BeforeName at = before_name_steps c k x y tag_row.BeforeName (reads_before c k x y)

@@ -10,6 +10,7 @@ use Rattle.stable_bidi.proofs.KnownPage.{Good, Known, reading}
 use Rattle.stable_bidi.proofs.CharacterSteps.{CharacterRead, character_step}
 use Rattle.stable_bidi.proofs.RowReads.{AreStaticTokens, RowStep}
 
+-- the text has a fault, up to which both pages give the same tokens; or it has none, and they know the same after it
 pub data TextRead (s : State) (k : Known) (x y text : List ℕ) : Type 0 where
   Stops : (tokens : List MarkupToken) → AreStaticTokens tokens
       → read_all None (reading s k x) text ≡ (tokens, None) → read_all None (reading s k y) text ≡ (tokens, None)
@@ -19,10 +20,11 @@ pub data TextRead (s : State) (k : Known) (x y text : List ℕ) : Type 0 where
       → read_all None (reading s k y) text ≡ (tokens, Some (reading u now y'))
       → Good u now x' y' → after_all next s text ≡ Ok u → TextRead s k x y text
 
-static-append : (one other : List MarkupToken) → AreStaticTokens one → AreStaticTokens other
+-- two lists of static tokens
+static_tokens-append : (one other : List MarkupToken) → AreStaticTokens one → AreStaticTokens other
     → AreStaticTokens (one ++ other)
-static-append [] other are is = is
-static-append (t ∷ one) other are is = (are.0, static-append one other are.1 is)
+static_tokens-append [] other are is = is
+static_tokens-append (t ∷ one) other are is = (are.0, static_tokens-append one other are.1 is)
 
 -- a text with one more character before it
 pub read_more : (label : Option ℕ) (r : PageReading) (c : ℕ) (cs : List ℕ) (u : State)
@@ -34,13 +36,17 @@ pub read_more : (label : Option ℕ) (r : PageReading) (c : ℕ) (cs : List ℕ)
     )
 read_more label r c cs u tokens after is reads = rw (is, reads, read_all) refl
 
+-- a text that begins with a fault
 pub stops_at : (label : Option ℕ) (r : PageReading) (c : ℕ) (cs : List ℕ) (fault : Code)
     → next_by_label label r.state c ≡ Err fault → read_all label r (c ∷ cs) ≡ ([], None)
 stops_at label r c cs fault is = rw (is, read_all) refl
 
-abbrev Behind : List MarkupToken → List MarkupToken × Option PageReading → List MarkupToken × Option PageReading
-Behind tokens more = (tokens ++ more.0, more.1)
+-- what is read of a text, behind tokens
+abbrev pub tokens_before : List MarkupToken → List MarkupToken × Option PageReading
+    → List MarkupToken × Option PageReading
+tokens_before tokens more = (tokens ++ more.0, more.1)
 
+-- any text, a character at a time
 pub text_read : (text : List ℕ) (s : State) (k : Known) (x y : List ℕ) → Good s k x y → TextRead s k x y text
 text_read [] s k x y good = Goes [] tt s k x y refl refl good refl
 text_read (c ∷ text) s k x y good =
@@ -59,10 +65,10 @@ text_read (c ∷ text) s k x y good =
         step.other in
         elim (more u step.next step.x_after step.y_after read.good) [
           | Stops tokens are first second ↦ Stops (step.tokens ++ tokens)
-              (static-append step.tokens tokens step.are are)
-              (one ∙ ap (Behind step.tokens) first) (other ∙ ap (Behind step.tokens) second)
+              (static_tokens-append step.tokens tokens step.are are)
+              (one ∙ ap (tokens_before step.tokens) first) (other ∙ ap (tokens_before step.tokens) second)
           | Goes tokens are v now x' y' first second fine after ↦ Goes (step.tokens ++ tokens)
-              (static-append step.tokens tokens step.are are) v now x' y'
-              (one ∙ ap (Behind step.tokens) first) (other ∙ ap (Behind step.tokens) second) fine
+              (static_tokens-append step.tokens tokens step.are are) v now x' y'
+              (one ∙ ap (tokens_before step.tokens) first) (other ∙ ap (tokens_before step.tokens) second) fine
               (rw is after)
         ]

@@ -6,14 +6,14 @@ use Rattle.bidi_order.proofs.SameLine.{within_both}
 use Rattle.stable_bidi.specs.BothLines.{BothLine, BothNumbered, HoldCleaned, LinesAlike, LinesNumbered, one_of}
 use Rattle.stable_bidi.specs.BothLines.{other_of}
 use Rattle.stable_bidi.specs.SameVisualOrder.{LinesStandAlike, SameVisualOrder}
-use Rattle.stable_bidi.proofs.ComparedCharacters.{order_alike, order_back_alike, same_text}
+use Rattle.stable_bidi.proofs.ComparedCharacters.{order_alike, order_back_alike, same_static_text}
 use Rattle.stable_bidi.proofs.WholeBlocks.{one_blocks, other_blocks}
 
 -- one line
 line_alike : (l : BothLine) → HoldsCleaned l.parts → BothNumbered 0 l.parts → LinesStandAlike (one_of l) (other_of l)
 line_alike l held numbered = record {
   base = refl;
-  text = same_text l.parts;
+  text = same_static_text l.parts;
   limit = within_both l.base l.parts held;
   order = λ within c. order_alike l held numbered within c;
   order_back = λ within c. order_back_alike l held numbered within c;

@@ -79,6 +79,7 @@ module _ (l : BothLine) (held : HoldsCleaned l.parts) (numbered : BothNumbered 0
       ∙ same_left (length b.one.before) (length b.surrounding.before) ∙ left in
       both_ways _ (one_left l held numbered c ∙ ap not other_left) right
 
+  -- wherever the surrounding character stands
   whole_blocks : BlocksAreWhole (other_of l)
   whole_blocks b left right =
       elim (cases_order (length b.surrounding.before) (length b.one.before)) [
@@ -94,34 +95,41 @@ module _ (l : BothLine) (held : HoldsCleaned l.parts) (numbered : BothNumbered 0
 
 -- ---- the one line of two, as both
 
+-- a part with the one content in both lines
 abbrev doubled_part : Both → Both
 doubled_part (Shared c) = Shared c
 doubled_part (Values k i j v w) = Values k i i v v
 
+-- so for all parts
 abbrev doubled : List Both → List Both
 doubled line = map doubled_part line
 
+-- its one line is the one line
 doubled_one : (line : List Both) → one_labelled (doubled line) ≡ one_labelled line
 doubled_one [] = refl
 doubled_one (Shared c ∷ line) = ap (λ l. static_character c ∷ l) (doubled_one line)
 doubled_one (Values k i j v w ∷ line) = ap (λ l. value_characters k i v ++ l) (doubled_one line)
 
+-- and so is its other line
 doubled_other : (line : List Both) → other_labelled (doubled line) ≡ one_labelled line
 doubled_other [] = refl
 doubled_other (Shared c ∷ line) = ap (λ l. static_character c ∷ l) (doubled_other line)
 doubled_other (Values k i j v w ∷ line) = ap (λ l. value_characters k i v ++ l) (doubled_other line)
 
+-- it holds cleaned texts
 doubled_held : (line : List Both) → HoldsCleaned line → HoldsCleaned (doubled line)
 doubled_held [] held = tt
 doubled_held (Shared c ∷ line) held = doubled_held line held
 doubled_held (Values k i j v w ∷ line) held =
     ((held.0.0, held.0.0, held.0.2, held.0.2), doubled_held line held.1)
 
+-- its numbers ascend
 doubled_numbered : (n : ℕ) (line : List Both) → BothNumbered n line → BothNumbered n (doubled line)
 doubled_numbered n [] are = tt
 doubled_numbered n (Shared c ∷ line) are = doubled_numbered n line are
 doubled_numbered n (Values k i j v w ∷ line) are = (are.0, doubled_numbered (suc k) line are.1)
 
+-- so do those of the line turned round
 swapped_numbered : (n : ℕ) (line : List Both) → BothNumbered n line → BothNumbered n (swapped line)
 swapped_numbered n [] are = tt
 swapped_numbered n (Shared c ∷ line) are = swapped_numbered n line are

@@ -22,12 +22,15 @@ use Rattle.stable_bidi.specs.TokenParts.{in_line, unescaped}
 abbrev pub page_around : List ℕ → List ℕ → List ℕ → List Piece
 page_around before after text = Static before ∷ Value (wrapped_text text Ltr) ∷ Static after ∷ []
 
+-- a value in an override
 abbrev pub override_page : List ℕ → List Piece
 override_page text = page_around (codes "<bdo dir=\"rtl\">a") (codes "b</bdo>") text
 
+-- where the direction is found in the text
 abbrev pub auto_page : List ℕ → List Piece
 auto_page text = page_around (codes "<p dir=\"auto\">") (0x20 ∷ (word ++ codes "</p>")) text
 
+-- inside so many spans
 abbrev pub nested_page : ℕ → List ℕ → List Piece
 nested_page depth text =
     page_around (repeated depth (codes "<span dir=\"rtl\">") ++ codes "a")
@@ -38,6 +41,7 @@ abbrev pub span_initiator : Dir → ℕ
 span_initiator Ltr = 0x2066
 span_initiator Rtl = 0x2067
 
+-- what begins the span of a text
 abbrev pub initiator_of_text : List ℕ → ℕ
 initiator_of_text text = span_initiator (estimated_direction text Ltr)
 
@@ -47,11 +51,14 @@ line_text text = in_line (map unescaped (cleaned_text text))
 
 -- ---- the lines of the pages
 
+-- of the override
 abbrev pub override_shown : List ℕ → Line
 override_shown text = other_line_of 0 (override_line (initiator_of_text text) (line_text text))
 
+-- of the paragraph, whose base is from right to left
 abbrev pub auto_shown : List ℕ → Line
 auto_shown text = other_line_of 1 (auto_line (initiator_of_text text) (line_text text))
 
+-- of so many spans
 abbrev pub nested_shown : ℕ → List ℕ → Line
 nested_shown depth text = other_line_of 0 (nested_line depth (initiator_of_text text) (line_text text))
