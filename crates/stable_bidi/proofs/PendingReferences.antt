@@ -223,7 +223,7 @@ module _ (c : ℕ) where
       (opens_if (c == question_mark) (row.InDeclaration declaration.BogusComment) _ refl opens_data))))
 
 -- any character at any state
-pending_next : (s u : State) (held : Option (List ℕ)) (c : ℕ) → IsPending s.row s.reference held
+pub pending_next : (s u : State) (held : Option (List ℕ)) (c : ℕ) → IsPending s.row s.reference held
     → (is_decided s.reference ≡ true) ⊎ (has_references s.row ≡ true) → next s c ≡ Ok u
     → IsPending u.row u.reference (reference_after s.row u.row held c)
 pending_next s u held c is decided moves = rows s.row s.reference is decided moves
