@@ -242,8 +242,8 @@ both_chosen line b m b' m' d n d' n' one two earlier apart =
 -- ---- two lines
 
 -- an equal character is seen too
-seen_as : (c d : ℕ) → c ≡ d → is_surrounding (bidi_class d) ≡ true → is_surrounding (bidi_class c) ≡ true
-seen_as c d is seen = ap (λ x. is_surrounding (bidi_class x)) is ∙ seen
+surrounding_as : (c d : ℕ) → c ≡ d → is_surrounding (bidi_class d) ≡ true → is_surrounding (bidi_class c) ≡ true
+surrounding_as c d is seen = ap (λ x. is_surrounding (bidi_class x)) is ∙ seen
 
 -- order in a line of a base
 abbrev left_in : ℕ → List ℕ → ℕ → ℕ → Bool
@@ -275,10 +275,10 @@ module _ (l : BothLine) (held : HoldsCleaned l.parts) (numbered : BothNumbered 0
   surrounding c =
       let b = comparison c in
       and_from _ _
-      (and_from _ _ (seen_as (one_character b.compared.first) c.first.character.character b.first_is c.seen.0)
-      (seen_as (other_character b.compared.first) c.also_first.character.character b.other_first_is c.seen.2))
-      (and_from _ _ (seen_as (one_character b.compared.second) c.second.character.character b.second_is c.seen.1)
-      (seen_as (other_character b.compared.second) c.also_second.character.character b.other_second_is c.seen.3))
+      (and_from _ _ (surrounding_as (one_character b.compared.first) c.first.character.character b.first_is c.seen.0)
+      (surrounding_as (other_character b.compared.first) c.also_first.character.character b.other_first_is c.seen.2))
+      (and_from _ _ (surrounding_as (one_character b.compared.second) c.second.character.character b.second_is c.seen.1)
+      (surrounding_as (other_character b.compared.second) c.also_second.character.character b.other_second_is c.seen.3))
 
   -- the one line is that of the comparison
   one_is : (whole : List Both) → whole ≡ l.parts → line_characters (one_labelled l.parts) ≡ one_line whole

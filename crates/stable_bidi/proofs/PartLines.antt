@@ -125,7 +125,7 @@ before_alike n ms a b are more = record {
   numbered = more.numbered;
 }
 
--- a line ends, and one begins
+-- the end of a line, and the next one
 next_alike : (n context : ℕ) (open_ones : List OpenElement) (a b : RestOfLines) → AreStaticElements open_ones
     → RestsAlike n a b → RestsAlike n (next_line context open_ones a) (next_line context open_ones b)
 next_alike n context open_ones a b are more =
