@@ -1,9 +1,8 @@
 -- The answer that a page, a stopped page, a refused page, a catalogue, files that are accepted and a summary are.
 use Rattle.std.proofs.Common.{◌≡◌, ◌≤◌, ℕ, Bool, true, false, cond, List, [], ◌∷◌, ◌++◌, length, map, Option, Some, None}
-use Rattle.std.proofs.Common.{refl, sym, ap, ◌∙◌, arith, codes, subst, inl, inr}
+use Rattle.std.proofs.Common.{refl, sym, ap, ◌∙◌, codes, inl, inr}
 use Rattle.std.specs.Prelude.{is_some, unwrap_or, nat_lt, Result, Ok, Err}
 use Rattle.std.specs.Option.{option_map_or}
-use Rattle.std.specs.Str.{chars}
 use Rattle.std.proofs.lemmas.Bool.{le-ltb}
 use Rattle.std.proofs.lemmas.Slice.Eq.{bytes_eq-Decides}
 use Rattle.ir_build.specs.ViewScene.{language_of}
@@ -12,8 +11,8 @@ use Rattle.serde_json.specs.Data.{Data}
 use Rattle.soy_base.specs.declared.code.Code.{Code}
 use Rattle.soy_base.specs.declared.code.Code.TheVariants as code
 use Rattle.soy_base.specs.declared.path.PathStep.{PathStep}
-use Rattle.soy_front.specs.Accepted.{Accepted, AreFiles, Brings}
-use Rattle.soy_front.specs.FilesAnswer.{ReadFiles, files_answer}
+use Rattle.soy_front.specs.Accepted.{Accepted}
+use Rattle.soy_front.specs.FilesAnswer.{ReadFiles}
 use Rattle.soy_front.specs.FilesDeserve.{AreWithin}
 use Rattle.soy_front.specs.FrontAnswer.{DeserveFront, Front, LanguageOrFault, answer_by_files, front_answer}
 use Rattle.soy_front.specs.FrontAnswer.{language_answer, language_or_fault, walk_answer}
@@ -31,7 +30,7 @@ use Rattle.soy_top.specs.AcceptedRender.{AcceptedRender}
 use Rattle.soy_top.specs.Answer.{Answer, Done, PageAnswer, Read, Refused, TooDeep, Usage, accepted_text, accepted_then}
 use Rattle.soy_top.specs.Answer.{answer, asked_answer, bundled_answer, call_fault, catalogue_answer, contents_answer}
 use Rattle.soy_top.specs.Answer.{data_answer, ended_page, entry_answer, entry_of, inputs_answer, limits_answer}
-use Rattle.soy_top.specs.Answer.{page_answer, read_then, render_answer, run_text, summed_page, template_outcome}
+use Rattle.soy_top.specs.Answer.{page_answer, render_answer, run_text, summed_page, template_outcome}
 use Rattle.soy_top.specs.Answer.{unless_faulty, unless_refused, workload_answer}
 use Rattle.soy_top.specs.Asked.{Asked, Check, Extract, Gen, Render, asked_by_words}
 use Rattle.soy_top.specs.FilesWanted.{FileWanted, asked_files, bundle_files, content, contents, data_file}
@@ -50,14 +49,12 @@ use Rattle.soy_top.specs.Line.{entry_line, too_large_line}
 use Rattle.soy_top.specs.MadeBundle.{bundle_text}
 use Rattle.soy_top.specs.Numbered.{numbered, numbered_line}
 use Rattle.soy_top.specs.Pointer.{pointer_line}
-use Rattle.soy_top.specs.Summary.{summary}
 use Rattle.soy_top.specs.Words.{Word}
 use Rattle.soy_top.proofs.SpelledWords.{check_asks, extract_asks, gen_asks, render_asks}
 use Rattle.soy_top.proofs.Texts.{before_named, last_named}
 use Rattle.soy_tree.specs.Templates.{Declared, declared}
 use Rattle.soy_tree.specs.Values.{Value}
 use Rattle.soy_tree.specs.ViewTrees.{view_trees}
-use Rattle.soy_tree.specs.declared.bundle.Bundle.{Bundle}
 use Rattle.soy_types.specs.Paths.{Path}
 use Rattle.soy_types.specs.ReadData.{data_at, json_of, refused, values_at, values_of_json}
 use Rattle.template_ir.specs.Compiles.{Language}

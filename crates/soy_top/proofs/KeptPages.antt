@@ -1,19 +1,16 @@
 -- A page that is rendered keeps its markup and its visual order whatever its values hold.
-use Rattle.std.proofs.Common.{◌≡◌, ◌⊎◌, inl, inr, ℕ, zero, suc, List, [], ◌∷◌, Option, Some, None, refl, sym, arith}
-use Rattle.std.proofs.Common.{subst, length, ◌≤◌}
-use Rattle.std.specs.Prelude.{IfSome, Ok, option_and_then, slice_get}
-use Rattle.std.specs.Str.{chars}
-use Rattle.bidi_order.specs.Lines.{lines}
+use Rattle.std.proofs.Common.{◌≡◌, inl, inr, ℕ, zero, suc, List, [], ◌∷◌, Option, Some, None, refl, sym, arith}
+use Rattle.std.proofs.Common.{subst}
+use Rattle.std.specs.Prelude.{IfSome, Ok, slice_get}
+use Rattle.std.specs.Str.{IsUtf8, chars}
 use Rattle.bundle_fit.proofs.FittingTrees.{trees_fit}
 use Rattle.html_state.specs.AfterPieces.{Static, after_piece}
 use Rattle.html_state.specs.Start.{start}
 use Rattle.html_state.specs.declared.row.State.{State}
 use Rattle.ir_build.specs.ViewScene.{language_of}
 use Rattle.msg_extract.specs.Translations.{translation_of}
-use Rattle.soy_base.specs.declared.direction.Dir.{Dir}
 use Rattle.soy_base.specs.declared.kind.Kind.{Kind}
 use Rattle.soy_base.specs.declared.kind.Kind.TheVariants as kind
-use Rattle.soy_front.specs.Entries.{entry_number}
 use Rattle.soy_front.specs.FrontAnswer.{DeserveFront}
 use Rattle.soy_front.proofs.DataFits.{having_fit, read_have}
 use Rattle.soy_front.proofs.FormedSources.{trees_formed}
@@ -34,15 +31,15 @@ use Rattle.soy_meaning.specs.Walk.{walked}
 use Rattle.soy_meaning.proofs.PageStates.{page_compares}
 use Rattle.soy_meaning.proofs.TypedRuns.{typed_runs_alike}
 use Rattle.soy_meaning.proofs.Walks.{accepted_when_walked}
-use Rattle.soy_top.specs.MarkupKept.{KeepsMarkup, MarkupIsKept}
-use Rattle.soy_top.specs.OrderKept.{KeepsOrder, OrderIsKept, page_lines}
+use Rattle.soy_top.specs.MarkupKept.{MarkupIsKept}
+use Rattle.soy_top.specs.OrderKept.{OrderIsKept, page_lines}
 use Rattle.soy_top.specs.OtherData.{IsOtherData}
-use Rattle.soy_top.specs.Rendered.{Rendered, known_rendered, page_outcome, page_pieces}
+use Rattle.soy_top.specs.OneText.{IsOneText}
+use Rattle.soy_top.specs.Rendered.{Rendered, known_rendered, page_outcome, page_pieces, page_text}
 use Rattle.soy_top.specs.Words.{Word}
 use Rattle.soy_top.proofs.PageParts.{PageParts, rendered_parts}
 use Rattle.soy_tree.specs.Formed.{AreFormed}
-use Rattle.soy_tree.specs.ShortLists.{HasShortLists}
-use Rattle.soy_tree.specs.Templates.{Declared, declared}
+use Rattle.soy_tree.specs.Templates.{declared}
 use Rattle.soy_tree.specs.Trees.{Tree}
 use Rattle.soy_tree.specs.Values.{Value}
 use Rattle.soy_tree.specs.ViewTrees.{view_trees}
@@ -51,7 +48,7 @@ use Rattle.stable_bidi.specs.PagesAlike.{PagesAlike}
 use Rattle.stable_bidi.proofs.PageLines as bidi
 use Rattle.stable_bidi.proofs.TypedPages.{typed_pages}
 use Rattle.stable_bidi.proofs.VisualOrders.{same_visual_order}
-use Rattle.stable_html.proofs.SameMarkups.{template_roles, template_text, templates_same}
+use Rattle.stable_html.proofs.SameMarkups.{template_bytes, template_roles, template_text, templates_same}
 use Rattle.template_ir.specs.Compiles.{Language}
 use Rattle.template_ir.specs.Placed.{language_context}
 use Rattle.template_ir.specs.Run.{input_env, names_of}
@@ -68,11 +65,6 @@ is_member : {A : Type 0} (xs : List A) (number : ℕ) (x : A) → slice_get xs n
 is_member [] number x is = absurd (none_some x is)
 is_member (first ∷ xs) zero x is = inl (sym (some_same first x is))
 is_member (first ∷ xs) (suc number) x is = inr (is_member xs number x is)
-
-found_number : {A : Type 0} (xs : List A) (o : Option ℕ) (x : A) → option_and_then (slice_get xs) o ≡ Some x
-    → (number : ℕ) × (slice_get xs number ≡ Some x)
-found_number xs None x is = absurd (none_some x is)
-found_number xs (Some number) x is = (number, is)
 
 -- ---- the page
 
@@ -110,18 +102,14 @@ module _ (page : Rendered) (parts : PageParts page) where
       accepted_when_walked page_machine page_compares (trees_plan language.translation trees) (walked [] [])
       page.of.walk deserved.walk
 
-  there : (number : ℕ) × (slice_get (declared trees) number ≡ Some page.d)
-  there =
-      found_number (declared trees) (entry_number (chars parts.template) (declared trees)) page.d parts.entry
-
   member : IsMember page.d (declared trees)
-  member = is_member (declared trees) there.0 page.d there.1
+  member = is_member (declared trees) parts.number page.d parts.found
 
   -- the data that were read fit the template
   read_fits : FitsData page.d (env page.v)
   read_fits =
       having_fit page.d page.v
-      (read_have trees there.0 page.d parts.json page.v typed.demands there.1 parts.reads)
+      (read_have trees parts.number page.d parts.json page.v typed.demands parts.found parts.reads)
       (data_short page.d.template.params parts.json page.v (omega (arith, parts.few)) parts.reads)
 
   other_fits : (other : Value) → IsOtherData page other → FitsData page.d (env other)
@@ -162,6 +150,12 @@ module _ (page : Rendered) (parts : PageParts page) where
   page_one_text html =
       template_text context trees refl typed fitting accepted page.d member (env page.v) read_fits html
 
+  -- and so are the characters of its bytes
+  pub page_bytes : page.d.template.kind ≡ kind.Html → (given : List ℕ) → IsUtf8 given → given ≡ page_text page
+      → (last : State) × (after_piece (start kind.Html) (Static (chars given)) ≡ Ok last)
+  page_bytes html given utf8 is =
+      template_bytes context trees refl typed fitting accepted page.d member (env page.v) read_fits html given utf8 is
+
 if_any : {A : Type 0} (o : Option A) (P Q : A → Type 0) → IfSome o P → ((x : A) → P x → Q x) → IfSome o Q
 if_any None P Q holds on = tt
 if_any (Some x) P Q holds on = on x holds
@@ -177,12 +171,8 @@ pub same_order : (held : Option Files) (words : List Word)
 same_order held words =
     if_any (known_rendered held words) PageParts OrderIsKept (rendered_parts held words) order_kept
 
-abbrev pub IsOneText : Rendered → Type 0
-IsOneText page =
-    page.d.template.kind ≡ kind.Html → (last : State)
-    × (after_piece (start kind.Html) (Static (joined_pieces (page_pieces page page.v))) ≡ Ok last)
-
 -- **an html page, taken as one text, is read without a fault**
 pub one_text : (held : Option Files) (words : List Word) → IfSome (known_rendered held words) IsOneText
 one_text held words =
-    if_any (known_rendered held words) PageParts IsOneText (rendered_parts held words) page_one_text
+    if_any (known_rendered held words) PageParts IsOneText (rendered_parts held words)
+    (λ page parts. record { characters = page_one_text page parts; bytes = page_bytes page parts })

@@ -1,10 +1,12 @@
 -- What a page that is rendered was made of.
-use Rattle.std.proofs.Common.{◌≡◌, ◌≤◌, ℕ, Bool, true, false, List, [], ◌∷◌, ◌++◌, map, Option, Some, None, refl, sym, ap}
-use Rattle.std.proofs.Common.{◌∙◌, subst, length, arith}
-use Rattle.std.specs.Prelude.{IfSome, Result, Ok, Err, if◌then◌else◌, nat_lt, option_and_then}
+use Rattle.std.proofs.Common.{◌≡◌, ◌≤◌, ℕ, Bool, true, false, List, ◌∷◌, ◌++◌, map, Option, Some, None, refl, sym, ap}
+use Rattle.std.proofs.Common.{subst, length}
+use Rattle.std.specs.Prelude.{IfSome, Result, Ok, Err, if◌then◌else◌, nat_lt, option_and_then, slice_get}
+use Rattle.std.specs.Str.{chars}
 use Rattle.std.proofs.lemmas.Bool.{ltb-false}
 use Rattle.soy_base.specs.declared.code.Code.{Code}
 use Rattle.soy_base.specs.declared.path.PathStep.{PathStep}
+use Rattle.soy_front.specs.Entries.{entry_number}
 use Rattle.soy_front.specs.FrontAnswer.{Front, front_answer}
 use Rattle.soy_front.specs.declared.fault.FrontFault.{FrontFault}
 use Rattle.soy_io.specs.FileOf.{Files}
@@ -15,37 +17,50 @@ use Rattle.soy_top.specs.FilesWanted.{first_not_held, first_over_limit, known_fi
 use Rattle.soy_top.specs.Inputs.{bundle_content, but_last, last}
 use Rattle.soy_top.specs.Numbered.{numbered}
 use Rattle.soy_top.specs.Rendered.{Rendered, known_rendered, rendered_asked, rendered_contents, rendered_data}
-use Rattle.soy_top.specs.Rendered.{rendered_entry, rendered_files, rendered_front, rendered_inputs, rendered_words}
+use Rattle.soy_top.specs.Rendered.{rendered_entry, rendered_front, rendered_words}
 use Rattle.soy_top.specs.Rendered.{unless_file}
 use Rattle.soy_top.specs.Words.{Word}
 use Rattle.soy_top.proofs.Texts.{before_named}
-use Rattle.soy_tree.specs.Templates.{Declared}
+use Rattle.soy_tree.specs.Templates.{Declared, declared}
 use Rattle.soy_tree.specs.Values.{Value}
+use Rattle.soy_tree.specs.ViewTrees.{view_trees}
 use Rattle.soy_types.specs.ReadData.{data_at}
 
+-- the template is that of a number, and the data are within their limit
 pub record PageParts (page : Rendered) : Type 0 where
-  pub template : Word
   pub json : List ℕ
   pub bundle : Option (List ℕ)
+  pub number : ℕ
   pub front : front_answer page.contents bundle ≡ Ok page.of
-  pub entry : entry_of page.of template ≡ Some page.d
+  pub found : slice_get (declared (view_trees page.of.files.trees)) number ≡ Some page.d
   pub reads : data_at page.d.template.params json ≡ Ok page.v
   pub few : length json ≤ 4194304
+
+some_none : {A : Type 0} (x : A) → ◌≡◌ {A = Option A} None (Some x) → ⊥
+some_none x e = cc
+
+found_number : {A : Type 0} (xs : List A) (o : Option ℕ) (x : A) → option_and_then (slice_get xs) o ≡ Some x
+    → (number : ℕ) × (slice_get xs number ≡ Some x)
+found_number xs None x is = absurd (some_none x is)
+found_number xs (Some number) x is = (number, is)
 
 module _ (names : List Word) (files : List (List ℕ)) (bundle : Option (List ℕ)) (template : Word) (json : List ℕ)
     (few : length json ≤ 4194304) where
   data_parts : (of : Front) (d : Declared) → front_answer files bundle ≡ Ok of → entry_of of template ≡ Some d
       → (r : Result Value (Code × List PathStep)) → data_at d.template.params json ≡ r
       → IfSome (rendered_data names files of d r) PageParts
-  data_parts of d front entry (Ok v) reads = record {
-    template = template;
-    json = json;
-    bundle = bundle;
-    front = front;
-    entry = entry;
-    reads = reads;
-    few = few;
-  }
+  data_parts of d front entry (Ok v) reads =
+      let ds : List Declared = declared (view_trees of.files.trees) in
+      let there = found_number ds (entry_number (chars template) ds) d entry in
+      record {
+        json = json;
+        bundle = bundle;
+        number = there.0;
+        front = front;
+        found = there.1;
+        reads = reads;
+        few = few;
+      }
   data_parts of d front entry (Err fault) reads = tt
 
   entry_parts : (of : Front) → front_answer files bundle ≡ Ok of → (o : Option Declared) → entry_of of template ≡ o

@@ -8,7 +8,7 @@
 -- at the path to the first part that doesn't fit, where they give no values (`IsRefusedPage`).
 -- Example: `<b><span dir="ltr">&lt;i&gt;</span></b>` is the page of `render t.m d.json - t.soy` where t.soy has the
 -- body line `<b>{$x}</b>` and d.json is `{"x":"<i>"}`.
-use Rattle.std.specs.Prelude.{◌≡◌, ℕ, List, [], Option, Some, None, Ok, Err}
+use Rattle.std.specs.Prelude.{◌≡◌, ℕ, List, [], Some, None, Ok, Err}
 use Rattle.ir_build.specs.ViewScene.{language_of}
 use Rattle.serde_json.specs.Data.{Data}
 use Rattle.soy_base.specs.declared.code.Code.TheVariants as code

@@ -22,6 +22,7 @@ pub mod Line
 pub mod MadeBundle
 pub mod MarkupKept
 pub mod Numbered
+pub mod OneText
 pub mod OrderKept
 pub mod OtherData
 pub mod Output

@@ -1,19 +1,15 @@
 //! The laws of the answer: contracts with an empty body, so they hold of the definitions that the code follows.
 
-ghost use Rattle.std.specs.Prelude.{◌≡◌, ℕ, List, Option, Some, Ok, IfSome};
-ghost use Rattle.html_state.specs.AfterPieces.{Static, after_piece};
-ghost use Rattle.html_state.specs.Start.{start};
-ghost use Rattle.html_state.specs.declared.row.State.{State};
-ghost use Rattle.soy_base.specs.declared.kind.Kind.TheVariants as kind;
+ghost use Rattle.std.specs.Prelude.{◌≡◌, ℕ, List, Option, Some, IfSome};
 ghost use Rattle.soy_io.specs.FileOf.{Files};
-ghost use Rattle.soy_meaning.specs.Meaning.{joined_pieces};
 ghost use Rattle.soy_top.specs.AcceptedRender.{AcceptedRender};
 ghost use Rattle.soy_top.specs.Answer.{Done, Refused, TooDeep, answer, known_answer};
 ghost use Rattle.soy_top.specs.Asked.{asked_by_words};
 ghost use Rattle.soy_top.specs.IsPage.{IsRefusedPage, IsStoppedPage};
 ghost use Rattle.soy_top.specs.IsText.{IsText};
+ghost use Rattle.soy_top.specs.OneText.{IsOneText};
 ghost use Rattle.soy_top.specs.RenderAsked.{AsksRender};
-ghost use Rattle.soy_top.specs.Rendered.{Rendered, known_rendered, page_pieces, rendered_answer};
+ghost use Rattle.soy_top.specs.Rendered.{Rendered, known_rendered, rendered_answer};
 ghost use Rattle.soy_top.specs.Words.{Word};
 
 /// The answer is a text exactly where the text is the page or the catalogue of the words and of the files that are held,
@@ -48,10 +44,7 @@ pub fn law_rendered_answer()
         (page : Rendered) × (known_rendered held words ≡ Some page) }
 {}
 
-/// An html page that is rendered, taken as one static text, is read to its end without a fault. So whatever reads it
-/// from its start meets no place that the compiler would refuse.
+/// An html page that is rendered, taken as one static text, is read to its end without a fault.
 pub fn law_page_is_one_text()
-    ensures { (held : Option Files) (words : List Word) → IfSome (known_rendered held words) (λ page.
-        page.d.template.kind ≡ kind.Html → (last : State)
-        × (after_piece (start kind.Html) (Static (joined_pieces (page_pieces page page.v))) ≡ Ok last)) }
+    ensures { (held : Option Files) (words : List Word) → IfSome (known_rendered held words) (λ page. IsOneText page) }
 {}
