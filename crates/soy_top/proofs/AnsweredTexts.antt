@@ -151,9 +151,6 @@ front_of contents bundle accepted = by_answer (front_answer contents bundle) ref
 
 -- ---- files that are held and within their limits
 
-some_same : {A : Type 0} (x y : A) → ◌≡◌ {A = Option A} (Some x) (Some y) → x ≡ y
-some_same x y e = cc
-
 module _ (files : Files) where
   -- a file of data doesn't stand in the way of those behind it
   data_not_missing : (name : Word) (bytes : List ℕ) (rest : List FileWanted) → HoldsData files name bytes

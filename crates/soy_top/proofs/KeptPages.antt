@@ -37,6 +37,7 @@ use Rattle.soy_top.specs.OtherData.{IsOtherData}
 use Rattle.soy_top.specs.OneText.{IsOneText}
 use Rattle.soy_top.specs.Rendered.{Rendered, known_rendered, page_outcome, page_pieces, page_text}
 use Rattle.soy_top.specs.Words.{Word}
+use Rattle.soy_top.proofs.Options.{if_so, none_some, some_same}
 use Rattle.soy_top.proofs.PageParts.{PageParts, rendered_parts}
 use Rattle.soy_tree.specs.Formed.{AreFormed}
 use Rattle.soy_tree.specs.Templates.{declared}
@@ -54,12 +55,6 @@ use Rattle.template_ir.specs.Placed.{language_context}
 use Rattle.template_ir.specs.Run.{input_env, names_of}
 
 -- ---- the template of a number is one of all
-
-none_some : {A : Type 0} (x : A) → ◌≡◌ {A = Option A} None (Some x) → ⊥
-none_some x e = cc
-
-some_same : {A : Type 0} (x y : A) → ◌≡◌ {A = Option A} (Some x) (Some y) → x ≡ y
-some_same x y e = cc
 
 is_member : {A : Type 0} (xs : List A) (number : ℕ) (x : A) → slice_get xs number ≡ Some x → IsMember x xs
 is_member [] number x is = absurd (none_some x is)
@@ -156,23 +151,19 @@ module _ (page : Rendered) (parts : PageParts page) where
   page_bytes html given utf8 is =
       template_bytes context trees refl typed fitting accepted page.d member (env page.v) read_fits html given utf8 is
 
-if_any : {A : Type 0} (o : Option A) (P Q : A → Type 0) → IfSome o P → ((x : A) → P x → Q x) → IfSome o Q
-if_any None P Q holds on = tt
-if_any (Some x) P Q holds on = on x holds
-
 -- **other data with the same choices give the same markup**
 pub same_markup : (held : Option Files) (words : List Word) → IfSome (known_rendered held words) MarkupIsKept
 same_markup held words =
-    if_any (known_rendered held words) PageParts MarkupIsKept (rendered_parts held words) markup_kept
+    if_so (known_rendered held words) PageParts MarkupIsKept (rendered_parts held words) markup_kept
 
 -- **and an html page the same visual order**
 pub same_order : (held : Option Files) (words : List Word)
     → IfSome (known_rendered held words) OrderIsKept
 same_order held words =
-    if_any (known_rendered held words) PageParts OrderIsKept (rendered_parts held words) order_kept
+    if_so (known_rendered held words) PageParts OrderIsKept (rendered_parts held words) order_kept
 
 -- **an html page, taken as one text, is read without a fault**
 pub one_text : (held : Option Files) (words : List Word) → IfSome (known_rendered held words) IsOneText
 one_text held words =
-    if_any (known_rendered held words) PageParts IsOneText (rendered_parts held words)
+    if_so (known_rendered held words) PageParts IsOneText (rendered_parts held words)
     (λ page parts. record { characters = page_one_text page parts; bytes = page_bytes page parts })

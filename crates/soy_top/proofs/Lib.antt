@@ -19,3 +19,4 @@ pub mod KeptPages
 pub mod PageParts
 pub mod Rendering
 pub mod AnsweredTexts
+pub mod Options

@@ -20,7 +20,8 @@ use Rattle.soy_top.specs.Rendered.{Rendered, known_rendered, rendered_asked, ren
 use Rattle.soy_top.specs.Rendered.{rendered_entry, rendered_front, rendered_words}
 use Rattle.soy_top.specs.Rendered.{unless_file}
 use Rattle.soy_top.specs.Words.{Word}
-use Rattle.soy_top.proofs.Texts.{before_named}
+use Rattle.soy_top.proofs.Options.{none_some, some_none}
+use Rattle.soy_top.proofs.Texts.{before_named, first_within}
 use Rattle.soy_tree.specs.Templates.{Declared, declared}
 use Rattle.soy_tree.specs.Values.{Value}
 use Rattle.soy_tree.specs.ViewTrees.{view_trees}
@@ -36,12 +37,9 @@ pub record PageParts (page : Rendered) : Type 0 where
   pub reads : data_at page.d.template.params json ≡ Ok page.v
   pub few : length json ≤ 4194304
 
-some_none : {A : Type 0} (x : A) → ◌≡◌ {A = Option A} None (Some x) → ⊥
-some_none x e = cc
-
 found_number : {A : Type 0} (xs : List A) (o : Option ℕ) (x : A) → option_and_then (slice_get xs) o ≡ Some x
     → (number : ℕ) × (slice_get xs number ≡ Some x)
-found_number xs None x is = absurd (some_none x is)
+found_number xs None x is = absurd (none_some x is)
 found_number xs (Some number) x is = (number, is)
 
 module _ (names : List Word) (files : List (List ℕ)) (bundle : Option (List ℕ)) (template : Word) (json : List ℕ)
@@ -76,19 +74,11 @@ module _ (names : List Word) (files : List (List ℕ)) (bundle : Option (List �
 
 -- ---- the data are within their limit
 
-none_some : {A : Type 0} (x : A) → ◌≡◌ {A = Option A} (Some x) None → ⊥
-none_some x e = cc
-
-first_within : (over : Bool) (n : ℕ) (name : Word) (rest : Option Word) → nat_lt 4194304 n ≡ over
-    → (if over then Some name else rest) ≡ None → n ≤ 4194304
-first_within true n name rest is none = absurd (none_some name none)
-first_within false n name rest is none = ltb-false 4194304 n is
-
 json_within : (files : Files) (json_name : Word) (rest : List FileWanted)
     → first_over_limit files (data_file json_name ∷ rest) ≡ None → length (content files (data_file json_name)) ≤ 4194304
 json_within files json_name rest none =
-    first_within (nat_lt 4194304 (length (content files (data_file json_name))))
-    (length (content files (data_file json_name))) json_name (first_over_limit files rest) refl none
+    let n : ℕ = length (content files (data_file json_name)) in
+    (first_within (nat_lt 4194304 n) n 4194304 json_name (first_over_limit files rest) refl none).0
 
 unless_parts : (o : Option Word) (page : Option Rendered) → (o ≡ None → IfSome page PageParts)
     → IfSome (unless_file o page) PageParts

@@ -28,6 +28,7 @@ use Rattle.soy_top.specs.Rendered.{rendered_contents, rendered_data, rendered_en
 use Rattle.soy_top.specs.Rendered.{rendered_inputs, rendered_words, unless_file}
 use Rattle.soy_top.specs.RenderAsked.{AsksRender, IsRender}
 use Rattle.soy_top.specs.Words.{Word}
+use Rattle.soy_top.proofs.Options.{if_some, none_some, some_same}
 use Rattle.soy_tree.specs.Templates.{Declared}
 use Rattle.soy_tree.specs.Values.{Value}
 use Rattle.soy_types.specs.ReadData.{data_at}
@@ -94,12 +95,6 @@ module _ (template json_name bundle : Word) (names : List Word) where
 
 -- ---- of words and files
 
-none_some : {A : Type 0} (x : A) → ◌≡◌ {A = Option A} None (Some x) → ⊥
-none_some x e = cc
-
-some_same : {A : Type 0} (x y : A) → ◌≡◌ {A = Option A} (Some x) (Some y) → x ≡ y
-some_same x y e = cc
-
 -- other commands have no page
 no_page : (asked : Asked) (before files : List (List ℕ)) (page : Rendered)
     → rendered_inputs asked before files ≡ Some page → IsRender asked
@@ -165,10 +160,6 @@ known_page held words page is = of_files (known_files held (wanted_files words))
   of_files None is = absurd (none_some page is)
   of_files (Some files) is =
       let there = asked_page files (asked_by_words words) page is in (there.0, ap Some there.1)
-
-pub if_some : {A : Type 0} (o : Option A) (P : A → Type 0) → ((x : A) → o ≡ Some x → P x) → IfSome o P
-if_some None P each = tt
-if_some (Some x) P each = each x refl
 
 -- **the page is the answer**
 pub page_is_answer : (held : Option Files) (words : List Word) → IfSome (known_rendered held words) (λ page.

@@ -53,6 +53,7 @@ use Rattle.soy_top.specs.Numbered.{numbered, numbered_line}
 use Rattle.soy_top.specs.Pointer.{pointer_line}
 use Rattle.soy_top.specs.Summary.{summary}
 use Rattle.soy_top.specs.Words.{Word}
+use Rattle.soy_top.proofs.Options.{some_none}
 use Rattle.soy_top.proofs.SpelledWords.{IsSpelled, spelled-asked}
 use Rattle.work_gen.specs.Workload.{workload}
 use Rattle.work_gen.specs.declared.workload.Workload.{Workload}
@@ -170,11 +171,8 @@ held_before files (x ∷ xs) ys h =
     let rest = held_before files xs ys first.1 in
     (ap (λ o. cond (is_some o) (first_not_held files xs) (Some x.name)) first.0 ∙ rest.0, rest.1)
 
-some_none : {A : Type 0} (x : A) → ◌≡◌ {A = Option A} (Some x) None → ⊥
-some_none x e = cc
-
 -- a file that isn't over its limit, before others
-first_within : (over : Bool) (n limit : ℕ) (name : Word) (rest : Option Word) → nat_lt limit n ≡ over
+pub first_within : (over : Bool) (n limit : ℕ) (name : Word) (rest : Option Word) → nat_lt limit n ≡ over
     → cond over (Some name) rest ≡ None → (n ≤ limit) × (rest ≡ None)
 first_within true n limit name rest is none = absurd (some_none name none)
 first_within false n limit name rest is none = (ltb-false limit n is, none)
