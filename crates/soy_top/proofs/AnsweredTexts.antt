@@ -86,6 +86,7 @@ module _ (contents : List (List ℕ)) (bundle : Option (List ℕ)) (of : Front) 
   by_language (inr fault) =
       absurd (brought_apart bundle of.files.rows of.language fault.0 is.brings fault.1)
 
+  -- what is answered of them is of the same files, and of a language that says the same
   deserved_given : IsGiven (front_answer contents bundle) of
   deserved_given =
       let g = by_language (language_or_fault bundle of.files.rows) in
@@ -102,6 +103,7 @@ module _ (given of : Front) (files : given.files ≡ of.files) (language : Bundl
       ap (λ (f : ReadFiles). entry_of (record { files = f; language = given.language; walk = given.walk }) template)
       files
 
+  -- so their templates give the same
   outcome_alike : (d : Declared) (v : Value) → template_outcome given d v ≡ template_outcome of d v
   outcome_alike d v =
       ap (λ (l : Language). template_run (language_context l (declared (view_trees given.files.trees))) d
@@ -121,6 +123,7 @@ module _ (given of : Front) (files : given.files ≡ of.files) (language : Bundl
     found_alike None = refl
     found_alike (Some d) = data_alike d (data_at d.template.params json)
 
+    -- and a render is answered the same
     render_alike : render_answer page template json_name json given ≡ render_answer page template json_name json of
     render_alike =
         ap (entry_answer page template json_name json given) (entry_alike template)
@@ -141,6 +144,7 @@ record HasAnswer (answer : Result Front FrontFault) : Type 0 where
   pub of : Front
   pub answered : answer ≡ Ok of
 
+-- files and a bundle that are accepted are answered by something
 front_of : (contents : List (List ℕ)) (bundle : Option (List ℕ)) → Accepted contents bundle
     → HasAnswer (front_answer contents bundle)
 front_of contents bundle accepted = by_answer (front_answer contents bundle) refl where
@@ -158,9 +162,11 @@ module _ (files : Files) where
   data_not_missing name bytes rest held =
       ap (λ o. cond (is_some o) (first_not_held files rest) (Some name)) held.0
 
+  -- its content is its bytes
   data_content : (name : Word) (bytes : List ℕ) → HoldsData files name bytes → content files (data_file name) ≡ bytes
   data_content name bytes held = ap (λ o. unwrap_or o []) held.0
 
+  -- nor does it by its size
   data_not_large : (name : Word) (bytes : List ℕ) (rest : List FileWanted) → HoldsData files name bytes
       → first_over_limit files (data_file name ∷ rest) ≡ first_over_limit files rest
   data_not_large name bytes rest held =
@@ -174,6 +180,7 @@ module _ (files : Files) where
     pub within : first_over_limit files wanted ≡ None
     pub same : contents files wanted ≡ bytes
 
+  -- one more template file before others
   source_ready : (name : Word) (bytes : List ℕ) (names : List Word) (rest : List (List ℕ))
       → file_of files name ≡ Some bytes → length bytes ≤ 1048576 → AreReady (map source_file names) rest
       → AreReady (map source_file (name ∷ names)) (bytes ∷ rest)
@@ -188,6 +195,7 @@ module _ (files : Files) where
         same = ap (λ bs. bs ∷ contents files (map source_file names)) same ∙ ap (λ bss. bytes ∷ bss) ready.same;
       }
 
+  -- template files that are held, within the limit of what is accepted
   sources_ready : (names : List Word) (bytes : List (List ℕ)) → map (file_of files) names ≡ map Some bytes
       → AreWithin bytes → AreReady (map source_file names) bytes
   sources_ready [] [] held within = record { held = refl; within = refl; same = refl }
@@ -205,6 +213,7 @@ module _ (files : Files) where
     pub alone : bundle_content bundle 0 (contents files (bundle_files bundle)) ≡ bytes
     pub behind : (first : List ℕ) → bundle_content bundle 1 (first ∷ contents files (bundle_files bundle)) ≡ bytes
 
+  -- the bundle `-` is the source language, and no other is
   is_language : (bundle : Word) → bundle ≡ codes "-" → is_source_language bundle ≡ true
   is_language bundle is = (bytes_eq-Decides bundle (codes "-")).1 is
 
@@ -213,6 +222,7 @@ module _ (files : Files) where
   no_language bundle true e never = absurd (never ((bytes_eq-Decides bundle (codes "-")).0 e))
   no_language bundle false e never = e
 
+  -- a bundle that is held, or none, before files none of which stands in the way
   bundle_ready : (bundle : Word) (bytes : Option (List ℕ)) (sources : List FileWanted) → HoldsBundle files bundle bytes
       → first_not_held files sources ≡ None → first_over_limit files sources ≡ None
       → BundleReady bundle bytes sources
@@ -272,6 +282,7 @@ module _ (files : Files) (words : List Word) (r : AcceptedRender files words) wh
   with_bundle : BundleReady files r.bundle r.content sources
   with_bundle = bundle_ready files r.bundle r.content sources r.bundle_held ready.held ready.within
 
+  -- what is answered by all contents is answered by those of the files and of those before them
   inputs_are : contents_answer asked (contents files (before ++ sources))
       ≡ inputs_answer asked (contents files before) r.contents
   inputs_are =
@@ -301,6 +312,7 @@ module _ (files : Files) (words : List Word) (r : AcceptedRender files words) wh
       → answer files words ≡ entry_answer page r.template r.json_name r.json r.of o
   by_template o is = render_is ∙ ap (entry_answer page r.template r.json_name r.json r.of) is
 
+  -- and by what they are read as
   by_data : (d : Declared) (read : Result Value (Code × List PathStep)) → entry_of r.of r.template ≡ Some d
       → data_at d.template.params r.json ≡ read → answer files words ≡ data_answer page r.json_name r.of d read
   by_data d read is reads = by_template (Some d) is ∙ ap (data_answer page r.json_name r.of d) reads
@@ -312,6 +324,7 @@ module _ (files : Files) (words : List Word) (r : AcceptedRender files words) wh
   given_end d v end is reads ends =
       by_data d (Ok v) is reads ∙ ap (ended_page r.names r.contents (run_text (template_outcome r.of d v))) ends
 
+-- a page is the answer, whole; up to a call; and where it is refused
 page_answered : (files : Files) (words : List Word) (text : List ℕ) → IsPage files words text
     → answer files words ≡ Done text
 page_answered files words text p =
@@ -336,6 +349,7 @@ refused_answered files words line (NoValues r d json path entry some none is) =
 
 -- ---- refusals of inputs that are accepted are those of pages
 
+-- lines of one refusal are the same
 refused_same : (line other : List ℕ) → ◌≡◌ {A = Answer} (Refused line) (Refused other) → other ≡ line
 refused_same line other e = cc
 
@@ -355,6 +369,7 @@ module _ (files : Files) (words : List Word) (r : AcceptedRender files words) (l
   values_refused d json (Err path) entry some is h =
       NoValues r d json path entry some is (refused_same (pointer_line r.json_name path code.DataType) line h)
 
+  -- a refusal by what the data are read as is that of the data
   data_refused : (d : Declared) (o : Option Data) → entry_of r.of r.template ≡ Some d → json_of r.json ≡ o
       → data_answer (ended_page r.names r.contents) r.json_name r.of d (values_of_json d.template.params o)
       ≡ Refused line
@@ -364,6 +379,7 @@ module _ (files : Files) (words : List Word) (r : AcceptedRender files words) (l
   data_refused d (Some json) entry some h =
       values_refused d json (values_at d.template.params json) entry some refl h
 
+  -- and one by the template that was found is that of the template, or of the data
   entry_refused : (o : Option Declared) → entry_of r.of r.template ≡ o
       → entry_answer (ended_page r.names r.contents) r.template r.json_name r.json r.of o ≡ Refused line
       → IsRefusedPage files words line
@@ -375,6 +391,7 @@ module _ (files : Files) (words : List Word) (r : AcceptedRender files words) (l
 
 -- ---- files that are accepted, and catalogues
 
+-- that files are accepted is the answer, and so is their catalogue
 checked_answered : (files : Files) (words : List Word) (text : List ℕ) → IsChecked files words text
     → answer files words ≡ Done text
 checked_answered files words text c =
@@ -409,6 +426,7 @@ catalogue_answered files words text c =
 
 -- ---- workloads
 
+-- the summary of a workload is the answer to its number
 summary_answered : (w : Workload) (text : List ℕ) → IsSummary w text → workload_answer w ≡ Done text
 summary_answered w text s =
     let sources : List (List ℕ) = workload_files w in

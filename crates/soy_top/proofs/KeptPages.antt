@@ -77,6 +77,8 @@ module _ (page : Rendered) (parts : PageParts page) where
   abbrev env : Value → RunEnv
   env v = input_env (names_of page.d.template.params) v
 
+  -- the files and the bundle deserve what they are accepted as, so the trees are typed, the translations fit them, and
+  -- all paths of the trees are accepted
   deserved : DeserveFront page.contents parts.bundle page.of
   deserved = answered_deserved page.contents parts.bundle page.of parts.front
 
@@ -110,6 +112,7 @@ module _ (page : Rendered) (parts : PageParts page) where
   other_fits : (other : Value) → IsOtherData page other → FitsData page.d (env other)
   other_fits other is = having_fit page.d other is.have is.short
 
+  -- both runs end whole, or at one call
   ends_alike : (other : Value) → IsOtherData page other
       → end_of_outcome (page_outcome page page.v) ≡ end_of_outcome (page_outcome page other)
   ends_alike other is =

@@ -37,6 +37,7 @@ pub record PageParts (page : Rendered) : Type 0 where
   pub reads : data_at page.d.template.params json ≡ Ok page.v
   pub few : length json ≤ 4194304
 
+-- a template that is found has a number
 found_number : {A : Type 0} (xs : List A) (o : Option ℕ) (x : A) → option_and_then (slice_get xs) o ≡ Some x
     → (number : ℕ) × (slice_get xs number ≡ Some x)
 found_number xs None x is = absurd (none_some x is)
@@ -74,12 +75,14 @@ module _ (names : List Word) (files : List (List ℕ)) (bundle : Option (List �
 
 -- ---- the data are within their limit
 
+-- the first file that is wanted is the data
 json_within : (files : Files) (json_name : Word) (rest : List FileWanted)
     → first_over_limit files (data_file json_name ∷ rest) ≡ None → length (content files (data_file json_name)) ≤ 4194304
 json_within files json_name rest none =
     let n : ℕ = length (content files (data_file json_name)) in
     (first_within (nat_lt 4194304 n) n 4194304 json_name (first_over_limit files rest) refl none).0
 
+-- a page in whose way no file stands is made of its parts
 unless_parts : (o : Option Word) (page : Option Rendered) → (o ≡ None → IfSome page PageParts)
     → IfSome (unless_file o page) PageParts
 unless_parts None page parts = parts refl
@@ -87,6 +90,7 @@ unless_parts (Some file) page parts = tt
 
 -- ---- all commands
 
+-- the page of a `render`; other commands have none
 render_parts : (files : Files) (template json_name bundle : Word) (names : List Word)
     → first_over_limit files (asked_files (Render template json_name bundle names)) ≡ None
     → IfSome (rendered_contents (Render template json_name bundle names)

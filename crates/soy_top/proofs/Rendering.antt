@@ -67,6 +67,7 @@ module _ (template json_name bundle : Word) (names : List Word) where
   abbrev asked : Asked
   asked = Render template json_name bundle names
 
+  -- and all contents of a `render`, behind the limits of its files and behind the question whether they are held
   contents_decided : (contents : List (List ℕ))
       → Decided (rendered_contents asked contents) (contents_answer asked contents)
   contents_decided contents =
@@ -106,11 +107,13 @@ no_page (Play script first second names) before files page is = absurd (none_som
 no_page (Preview template json bundle names) before files page is = absurd (none_some page is)
 no_page (Format name) before files page is = absurd (none_some page is)
 
+-- a page in whose way no file stands
 unless_some : (o : Option Word) (one : Option Rendered) (page : Rendered) → unless_file o one ≡ Some page
     → one ≡ Some page
 unless_some None one page is = is
 unless_some (Some file) one page is = absurd (none_some page is)
 
+-- words that have a page ask for a `render`
 render_asked : (files : Files) (asked : Asked) (wanted : List FileWanted) (page : Rendered)
     → rendered_files files asked wanted ≡ Some page → IsRender asked
 render_asked files asked wanted page is =
@@ -121,6 +124,7 @@ render_asked files asked wanted page is =
     (unless_some (first_not_held files wanted)
     (unless_file (first_over_limit files wanted) (rendered_contents asked all)) page is))
 
+-- a page that is decided by an answer is that answer
 by_decided : (o : Option Rendered) (a : Answer) (page : Rendered) → Decided o a → o ≡ Some page
     → a ≡ rendered_answer page
 by_decided None a page is same = absurd (none_some page same)
@@ -143,6 +147,7 @@ files_page files (Format name) wanted page render is = absurd render
 abbrev IsAnswered : Option Asked → Answer → Rendered → Type 0
 IsAnswered asked a page = AsksRender asked × (a ≡ rendered_answer page)
 
+-- where the words have a page, they ask for a `render` and the page is the answer
 asked_page : (files : Files) (o : Option Asked) (page : Rendered)
     → option_and_then (rendered_asked files) o ≡ Some page
     → IsAnswered o (option_map_or (asked_answer files) o Usage) page
@@ -171,9 +176,11 @@ page_is_answer held words =
 
 -- ---- what the output took
 
+-- a fact of the answer that there is
 from_some : {A : Type 0} (o : Option A) (x : A) (P : A → Type 0) → o ≡ Some x → IfSome o P → P x
 from_some o x P is holds = subst (λ z. IfSome z P) is holds
 
+-- texts of one answer are the same
 done_text : (text other : List ℕ) → ◌≡◌ {A = Answer} (Done text) (Done other) → text ≡ other
 done_text text other e = cc
 
@@ -227,6 +234,7 @@ page_took held words out err SameErr result prefix done deep =
 
 -- ---- a `render` that isn't refused has a page
 
+-- a page that is decided by an answer that is no refusal is there
 there_by : (o : Option Rendered) (a : Answer) → Decided o a → (IsRefused a → ⊥) → (page : Rendered) × (o ≡ Some page)
 there_by None a is not = absurd (not is)
 there_by (Some page) a is not = (page, refl)

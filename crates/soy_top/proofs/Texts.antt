@@ -64,6 +64,7 @@ IsNoRefusal (Read file) = ⊥
 IsNoRefusal (Refused line) = ⊥
 IsNoRefusal _ = Unit {0}
 
+-- such an answer is neither
 not_read : (file : Word) (a : Answer) → IsNoRefusal a → Read file ≡ a → ⊥
 not_read file a fine is = subst IsNoRefusal (sym is) fine
 
@@ -319,6 +320,7 @@ stopped_text : (names : List Word) (contents : List (List ℕ)) (given : List �
 stopped_text names contents given WholeRun text line h = cc
 stopped_text names contents given (StopsAt site) text line h = (site, refl, cc, cc)
 
+-- a text that ends whole is a page, and one that ends too deep a page up to a call
 page_is : (files : Files) (words : List Word) (template json_name bundle : Word) (names : List Word) (text : List ℕ)
     → PageGiven files words template json_name bundle names (Done text) tt → IsPage files words text
 page_is files words template json_name bundle names text p =
@@ -386,6 +388,7 @@ module _ (files : Files) (words : List Word) (bundle : Word) (names : List Word)
 done_same : (text other : List ℕ) → ◌≡◌ {A = Answer} (Done text) (Done other) → other ≡ text
 done_same text other e = cc
 
+-- so a text says that they are accepted
 check_text : (files : Files) (words : List Word) (bundle : Word) (names : List Word) (text : List ℕ)
     → IsSpelled words (Check bundle names) → IsByContents files (Check bundle names) (Done text)
     → IsChecked files words text
@@ -482,6 +485,7 @@ module _ (w : Workload) (a : Answer) (fine : IsNoRefusal a) where
         given = v.2;
       }
 
+-- a text that a workload has is its summary
 summary_text : (w : Workload) (text : List ℕ) → workload_answer w ≡ Done text → IsSummary w text
 summary_text w text h =
     let g = workload_given w (Done text) tt h in
@@ -501,6 +505,7 @@ summary_text w text h =
 
 -- ---- other commands have only refusals
 
+-- a `format`, a `play` and a `preview` are refused, whatever they are asked of
 tree_refused : (name : Word) (bytes : List ℕ) (read : Result Tree Fault) (a : Answer) → IsNoRefusal a
     → tree_answer name bytes read ≡ a → ⊥
 tree_refused name bytes (Ok tree) a fine h = not_refused (not_yet_line (codes "format")) a fine h
@@ -528,6 +533,7 @@ preview_refused template json_name bundle names given read a fine h =
 
 -- ---- all commands
 
+-- a text, by what the words ask for
 asked_text : (files : Files) (words : List Word) (asked : Asked) (text : List ℕ) → IsSpelled words asked
     → IsByContents files asked (Done text) → IsText files words text
 asked_text files words (Render template json_name bundle names) text is by =
@@ -553,6 +559,7 @@ asked_text files words (Format name) text is by =
 done_deep : (text other line : List ℕ) → ◌≡◌ {A = Answer} (Done text) (TooDeep other line) → ⊥
 done_deep text other line e = cc
 
+-- a text that ends too deep, by what the words ask for
 asked_stopped : (files : Files) (words : List Word) (asked : Asked) (text line : List ℕ) → IsSpelled words asked
     → IsByContents files asked (TooDeep text line) → IsStoppedPage files words text line
 asked_stopped files words (Render template json_name bundle names) text line is by =
