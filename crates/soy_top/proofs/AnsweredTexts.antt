@@ -1,6 +1,6 @@
 -- The answer that a page, a stopped page, a refused page, a catalogue, files that are accepted and a summary are.
-use Rattle.std.proofs.Common.{◌≡◌, ◌≤◌, ℕ, Bool, true, false, cond, List, [], ◌∷◌, ◌++◌, length, map, Option, Some, None}
-use Rattle.std.proofs.Common.{refl, sym, ap, ◌∙◌, codes, inl, inr}
+use Rattle.std.proofs.Common.{◌≡◌, ◌≤◌, ℕ, Bool, true, false, cond, List, [], ◌∷◌, ◌++◌, length, map, Option}
+use Rattle.std.proofs.Common.{Some, None, refl, sym, ap, ◌∙◌, codes, inl, inr}
 use Rattle.std.specs.Prelude.{is_some, unwrap_or, nat_lt, Result, Ok, Err}
 use Rattle.std.specs.Option.{option_map_or}
 use Rattle.std.proofs.lemmas.Bool.{le-ltb}
@@ -243,7 +243,8 @@ module _ (files : Files) where
             ∙ (data_not_missing bundle bytes sources held.1 ∙ none);
         within = ap (λ b. first_over_limit files (cond b [] (data_file bundle ∷ []) ++ sources)) is
             ∙ (data_not_large bundle bytes sources held.1 ∙ within);
-        alone = ap (λ b. cond b None (Some (numbered 0 (contents files (cond b [] (data_file bundle ∷ [])))))) is ∙ same;
+        alone = ap (λ b. cond b None (Some (numbered 0 (contents files (cond b [] (data_file bundle ∷ [])))))) is
+            ∙ same;
         behind = λ first.
             ap (λ b. cond b None (Some (numbered 1 (first ∷ contents files (cond b [] (data_file bundle ∷ [])))))) is
             ∙ same;

@@ -77,7 +77,8 @@ module _ (names : List Word) (files : List (List ℕ)) (bundle : Option (List �
 
 -- the first file that is wanted is the data
 json_within : (files : Files) (json_name : Word) (rest : List FileWanted)
-    → first_over_limit files (data_file json_name ∷ rest) ≡ None → length (content files (data_file json_name)) ≤ 4194304
+    → first_over_limit files (data_file json_name ∷ rest) ≡ None
+    → length (content files (data_file json_name)) ≤ 4194304
 json_within files json_name rest none =
     let n : ℕ = length (content files (data_file json_name)) in
     (first_within (nat_lt 4194304 n) n 4194304 json_name (first_over_limit files rest) refl none).0

@@ -1,4 +1,5 @@
--- The page that is rendered is the answer, a `render` that isn't refused has one, and what the output took is its bytes.
+-- The page that is rendered is the answer, a `render` that isn't refused has one, and what the output took is its
+-- bytes.
 use Rattle.std.proofs.Common.{◌≡◌, ℕ, List, Option, Some, None, refl, ap, sym, subst, ◌∙◌}
 use Rattle.std.specs.Prelude.{IfSome, Result, Ok, Err, length, option_map, option_and_then}
 use Rattle.std.specs.Option.{option_map_or}

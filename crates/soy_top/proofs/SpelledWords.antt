@@ -32,7 +32,8 @@ render_spelled : (words : List Word) → IfSome (render_asked words) (IsSpelled 
 render_spelled [] = tt
 render_spelled (t ∷ []) = tt
 render_spelled (t ∷ j ∷ []) = tt
-render_spelled (t ∷ j ∷ b ∷ files) = counted _ (Render t j b files) files (has_file_count files) refl (λ few. (refl, few))
+render_spelled (t ∷ j ∷ b ∷ files) =
+    counted _ (Render t j b files) files (has_file_count files) refl (λ few. (refl, few))
 
 check_spelled : (words : List Word) → IfSome (check_asked words) (IsSpelled (codes "check" ∷ words))
 check_spelled [] = tt
@@ -55,13 +56,15 @@ play_spelled : (words : List Word) → IfSome (play_asked words) (IsSpelled (cod
 play_spelled [] = tt
 play_spelled (s ∷ []) = tt
 play_spelled (s ∷ a ∷ []) = tt
-play_spelled (s ∷ a ∷ b ∷ files) = counted _ (Play s a b files) files (has_file_count files) refl (λ few. (refl, few))
+play_spelled (s ∷ a ∷ b ∷ files) =
+    counted _ (Play s a b files) files (has_file_count files) refl (λ few. (refl, few))
 
 preview_spelled : (words : List Word) → IfSome (preview_asked words) (IsSpelled (codes "preview" ∷ words))
 preview_spelled [] = tt
 preview_spelled (t ∷ []) = tt
 preview_spelled (t ∷ j ∷ []) = tt
-preview_spelled (t ∷ j ∷ b ∷ files) = counted _ (Preview t j b files) files (has_file_count files) refl (λ few. (refl, few))
+preview_spelled (t ∷ j ∷ b ∷ files) =
+    counted _ (Preview t j b files) files (has_file_count files) refl (λ few. (refl, few))
 
 format_spelled : (words : List Word) → IfSome (format_asked words) (IsSpelled (codes "format" ∷ words))
 format_spelled [] = tt

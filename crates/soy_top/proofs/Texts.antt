@@ -545,8 +545,8 @@ asked_text files words (Gen number) text is by =
     Generated (record { number = number; words_are = is; is_summary = summary_text (workload number) text by.given })
 asked_text files words (Play script first second names) text is by =
     let all : List (List ℕ) = contents files (asked_files (Play script first second names)) in
-    absurd (play_refused script first second names (but_last (length names) all) (last (length names) all) (Done text) tt
-    by.given)
+    absurd (play_refused script first second names (but_last (length names) all) (last (length names) all)
+    (Done text) tt by.given)
 asked_text files words (Preview template json_name bundle names) text is by =
     let all : List (List ℕ) = contents files (asked_files (Preview template json_name bundle names)) in
     absurd (preview_refused template json_name bundle names (but_last (length names) all) (last (length names) all)

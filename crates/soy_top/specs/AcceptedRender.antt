@@ -1,5 +1,5 @@
--- The words are `render TEMPLATE DATA BUNDLE FILE..`, the library holds the data, the bundle, but for `-`, and the files,
--- and the files and the bundle are accepted.
+-- The words are `render TEMPLATE DATA BUNDLE FILE..`, the library holds the data, the bundle, but for `-`, and the
+-- files, and the files and the bundle are accepted.
 -- Example: `render t.m d.json - t.soy` where d.json and t.soy are held and t.soy is `{namespace t}`.
 use Rattle.std.specs.Prelude.{◌≡◌, ℕ, List, ◌∷◌, Option, codes}
 use Rattle.soy_front.specs.Accepted.{Accepted}

@@ -1,11 +1,11 @@
--- A text is the page of the words and of the files that are held, whole or up to a call that nests too deep; or a page is
--- refused.
+-- A text is the page of the words and of the files that are held, whole or up to a call that nests too deep; or a page
+-- is refused.
 --
--- The words ask to render files and a bundle that are held and accepted. The template is one that may be rendered under
--- its name, the data give its parameters values, and the text is the meaning of the template under them, which ends
--- whole (`IsPage`); or it is the meaning up to a call, with the line of that call (`IsStoppedPage`). A page is refused
--- with 29 where no template may be rendered under the name, else with 27 where the data are no JSON, and else with 28,
--- at the path to the first part that doesn't fit, where they give no values (`IsRefusedPage`).
+-- The words ask to render files and a bundle that are held and accepted. The template is one that may be rendered
+-- under its name, the data give its parameters values, and the text is the meaning of the template under them, which
+-- ends whole (`IsPage`); or it is the meaning up to a call, with the line of that call (`IsStoppedPage`). A page is
+-- refused with 29 where no template may be rendered under the name, else with 27 where the data are no JSON, and else
+-- with 28, at the path to the first part that doesn't fit, where they give no values (`IsRefusedPage`).
 -- Example: `<b><span dir="ltr">&lt;i&gt;</span></b>` is the page of `render t.m d.json - t.soy` where t.soy has the
 -- body line `<b>{$x}</b>` and d.json is `{"x":"<i>"}`.
 use Rattle.std.specs.Prelude.{◌≡◌, ℕ, List, [], Some, None, Ok, Err}

@@ -1,7 +1,8 @@
--- A page keeps its markup whatever its values hold: any other data with the same choices give the same static texts with
--- values at the same points, the same tokenizer state before each static character and each value, and the same shape,
--- which is the tags, attribute names, comments, texts and the tokens of scripts and styles, with each value taken whole.
--- Of both pages each character of a value stands in the state of its place. Both end whole, or at the same call.
+-- A page keeps its markup whatever its values hold: any other data with the same choices give the same static texts
+-- with values at the same points, the same tokenizer state before each static character and each value, and the same
+-- shape, which is the tags, attribute names, comments, texts and the tokens of scripts and styles, with each value
+-- taken whole. Of both pages each character of a value stands in the state of its place. Both end whole, or at the
+-- same call.
 -- Example: of `<b>{$x}</b>` with "a" the shape is that of `<b>{$x}</b>` with "<script>".
 use Rattle.std.specs.Prelude.{◌≡◌}
 use Rattle.html_state.specs.Start.{start}

@@ -1,5 +1,5 @@
--- An html page, taken as one static text, is read from its start to its end without a fault, and so are the characters of
--- its bytes. So whatever reads a page that was written meets nothing in it that a template may not have.
+-- An html page, taken as one static text, is read from its start to its end without a fault, and so are the characters
+-- of its bytes. So whatever reads a page that was written meets nothing in it that a template may not have.
 -- Example: `<b><span dir="ltr">a</span></b>` is read so, as the text of 31 characters that it is.
 use Rattle.std.specs.Prelude.{◌≡◌, ℕ, List, Ok}
 use Rattle.std.specs.Str.{IsUtf8, chars}

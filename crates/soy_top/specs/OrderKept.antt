@@ -1,6 +1,7 @@
--- An html page keeps its visual order whatever its values hold: any other data with the same choices give as many lines,
--- and on each line that nests within the limit the same order of the characters around the values, and of the values as
--- wholes among them (UAX #9). So it is in a block of either direction. Both pages end whole, or at the same call.
+-- An html page keeps its visual order whatever its values hold: any other data with the same choices give as many
+-- lines, and on each line that nests within the limit the same order of the characters around the values, and of the
+-- values as wholes among them (UAX #9). So it is in a block of either direction. Both pages end whole, or at the same
+-- call.
 -- Example: of `<p>a {$x} b</p>` with Latin text and with Hebrew text, `a`, the value and `b` stand in the same order.
 use Rattle.std.specs.Prelude.{◌≡◌, List}
 use Rattle.bidi_order.specs.Lines.{Line, lines}

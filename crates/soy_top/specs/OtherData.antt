@@ -1,6 +1,6 @@
--- Other data for the template of a page: under the name of each parameter a value of its type, in which no list has more
--- than 2^53 items, and the same choices as of the data that were read. Choices are the arms of conditions, the turns of
--- loops and the texts of messages (soy_meaning, Outcome). Whatever else the values hold is free.
+-- Other data for the template of a page: under the name of each parameter a value of its type, in which no list has
+-- more than 2^53 items, and the same choices as of the data that were read. Choices are the arms of conditions, the
+-- turns of loops and the texts of messages (soy_meaning, Outcome). Whatever else the values hold is free.
 -- Example: where `<b>{$x}</b>` was rendered with `{"x":"a"}`, the string `<script>` is other data; where the body is
 -- `{if $x == 'a'}b{/if}`, it isn't, since it takes another arm.
 use Rattle.std.specs.Prelude.{◌≡◌}

@@ -1,9 +1,9 @@
--- The page that the words of a `render` give, where they give one: the names and the contents of the template files, what
--- these and the bundle are accepted as, the template, and the data that are read for its parameters.
+-- The page that the words of a `render` give, where they give one: the names and the contents of the template files,
+-- what these and the bundle are accepted as, the template, and the data that are read for its parameters.
 --
--- It goes the way of the answer, case by case. So there is none where the words ask for anything else, where a file isn't
--- held or is over its limit, and where the files, the bundle, the template's name or the data are refused; and there is
--- one exactly where the answer to a `render` is a text, whole or up to a call that nests too deep.
+-- It goes the way of the answer, case by case. So there is none where the words ask for anything else, where a file
+-- isn't held or is over its limit, and where the files, the bundle, the template's name or the data are refused; and
+-- there is one exactly where the answer to a `render` is a text, whole or up to a call that nests too deep.
 -- Example: of `render t.m d.json - t.soy` where t.soy has the template `t.m` of `{@param x: string}`, and d.json is
 -- `{"x":"a"}`, it is `t.m` with the record of `x` "a".
 use Rattle.std.specs.Prelude.{ℕ, List, length, Option, None, Some, Result, Ok, Err, String, option_and_then}
