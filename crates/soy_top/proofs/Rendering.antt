@@ -17,6 +17,7 @@ use Rattle.soy_top.specs.Answer.{known_answer, limits_answer, out_text, render_a
 use Rattle.soy_top.specs.Asked.{Asked, Render, Check, Extract, Gen, Play, Preview, Format, asked_by_words}
 use Rattle.soy_top.specs.Asked.{source_files}
 use Rattle.soy_top.specs.Change.{Change, Took, TookPrefix}
+use Rattle.soy_top.specs.Course.{Course, Run}
 use Rattle.soy_top.specs.Ending.{OutPart, TextWritten, TooDeepSaid}
 use Rattle.soy_top.specs.FilesWanted.{FileWanted, asked_files, contents, first_not_held, first_over_limit, known_files}
 use Rattle.soy_top.specs.FilesWanted.{wanted_files}
@@ -29,6 +30,7 @@ use Rattle.soy_top.specs.Rendered.{rendered_contents, rendered_data, rendered_en
 use Rattle.soy_top.specs.Rendered.{rendered_inputs, rendered_words, unless_file}
 use Rattle.soy_top.specs.RenderAsked.{AsksRender, IsRender}
 use Rattle.soy_top.specs.Words.{Word}
+use Rattle.soy_top.proofs.Courses.{done_only, out_part, too_deep_only}
 use Rattle.soy_top.proofs.Options.{if_some, none_some, some_same}
 use Rattle.soy_tree.specs.Templates.{Declared}
 use Rattle.soy_tree.specs.Values.{Value}
@@ -212,7 +214,7 @@ module _ (names : List Word) (files : List (List ℕ)) (text : List ℕ) (out er
       (sym (deep_text text took.0 (numbered_line names files (call_fault site)) took.1 took.2)) took.3
 
 -- **what the output took of a page**, by what it took of the answer
-pub page_took : (held : Option Files) (words : List Word) (out err : Change) (SameErr : Type 0) (result : Status)
+page_took : (held : Option Files) (words : List Word) (out err : Change) (SameErr : Type 0) (result : Status)
     → OutPart (known_answer held words) out
     → (result ≡ status.Done → TextWritten (known_answer held words) out SameErr)
     → (result ≡ status.TooDeep → TooDeepSaid (known_answer held words) out err)
@@ -232,6 +234,17 @@ page_took held words out err SameErr result prefix done deep =
           (λ a. (other : List ℕ) × (line : List ℕ) × (a ≡ TooDeep other line) × Took out other
           × Took err (ended line)) known (deep stopped));
     })
+
+-- **the same by the course of a run**
+pub course_took : (held : Option Files) (words : List Word) (run : Run) (SameOut SameErr : Type 0)
+    → (SameOut → run.out.taken_after ≡ run.out.taken_before) → (SameErr → run.err.taken_after ≡ run.err.taken_before)
+    → run.answer ≡ known_answer held words → Course run SameOut SameErr
+    → IfSome (known_rendered held words) (λ page. PageTook page run.out run.result)
+course_took held words run SameOut SameErr out_keeps err_keeps is course =
+    page_took held words run.out run.err SameErr run.result
+    (subst (λ a. OutPart a run.out) is (out_part run SameOut SameErr out_keeps err_keeps course))
+    (λ e. subst (λ a. TextWritten a run.out SameErr) is (done_only run SameOut SameErr course e))
+    (λ e. subst (λ a. TooDeepSaid a run.out run.err) is (too_deep_only run SameOut SameErr course e))
 
 -- ---- a `render` that isn't refused has a page
 

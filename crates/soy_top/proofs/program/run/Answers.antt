@@ -1,11 +1,11 @@
-use Rattle.std.proofs.Common.{ap}
+use Rattle.std.proofs.Common.{ap, refl}
 use Rattle.soy_top.specs.Words.{command_words}
 use Rattle.soy_top.proofs.Answering.{names-at-usage}
 use Rattle.soy_top.proofs.Courses.{usage_only, usage_due, read_only, read_due, refused_only, refused_due, done_only}
 use Rattle.soy_top.proofs.Courses.{done_due, too_deep_only, too_deep_due, write_only, out_part, err_part}
 use Rattle.soy_top.proofs.Courses.{nothing_written, out_untouched, err_untouched}
 use Rattle.soy_top.proofs.KeptPages.{same_markup, same_order}
-use Rattle.soy_top.proofs.Rendering.{page_took}
+use Rattle.soy_top.proofs.Rendering.{course_took}
 use Rattle.soy_top.proofs.program.run.Goals as goal
 
 pub returns-clause-usage_only : goal.returns-clause-usage_only
@@ -61,10 +61,8 @@ returns-clause-err_untouched g c = λ text. err_untouched _ _ _ text c.perform_a
 
 pub returns-clause-page_taken : goal.returns-clause-page_taken
 returns-clause-page_taken g c =
-    let course = c.perform_and_conclude.ensures.course in
-    page_took _ (command_words c.args.words.now) _ _ _ _
-    (out_part _ _ _ (ap g.K.Sink.taken) (ap g.E.Sink.taken) course) (done_only _ _ _ course)
-    (too_deep_only _ _ _ course)
+    course_took _ (command_words c.args.words.now) _ _ _ (ap g.K.Sink.taken) (ap g.E.Sink.taken) refl
+    c.perform_and_conclude.ensures.course
 
 pub returns-clause-same_markup : goal.returns-clause-same_markup
 returns-clause-same_markup g c = same_markup _ (command_words c.args.words.now)
