@@ -80,28 +80,7 @@ row_is around (row.InTag t i) (row.InTag u tag_row.AfterQuoted) classes f takes 
     tag_is around t u i tag_row.AfterQuoted f.0 f.1
 row_is around (row.InTag t i) (row.InTag u tag_row.SelfClosing) classes f takes =
     tag_is around t u i tag_row.SelfClosing f.0 f.1
-row_is around page row.Data classes f takes = outside_is around page row.Data f
-row_is around page row.TagOpen classes f takes = outside_is around page row.TagOpen f
-row_is around page row.EndTagOpen classes f takes = outside_is around page row.EndTagOpen f
-row_is around page (row.TagName k n) classes f takes = outside_is around page (row.TagName k n) f
-row_is around page (row.MarkupDeclaration p) classes f takes = outside_is around page (row.MarkupDeclaration p) f
-row_is around page (row.InDeclaration d) classes f takes = outside_is around page (row.InDeclaration d) f
-row_is around page (row.Within e) classes f takes = outside_is around page (row.Within e) f
-row_is around page (row.BegunEndTag e b) classes f takes = outside_is around page (row.BegunEndTag e b) f
-row_is around page row.Plain classes f takes = outside_is around page row.Plain f
-row_is around row.Data (row.InTag u j) classes f takes = outside_is around row.Data (row.InTag u j) f
-row_is around row.TagOpen (row.InTag u j) classes f takes = outside_is around row.TagOpen (row.InTag u j) f
-row_is around row.EndTagOpen (row.InTag u j) classes f takes = outside_is around row.EndTagOpen (row.InTag u j) f
-row_is around (row.TagName k n) (row.InTag u j) classes f takes = outside_is around (row.TagName k n) (row.InTag u j) f
-row_is around (row.MarkupDeclaration p) (row.InTag u j) classes f takes =
-    outside_is around (row.MarkupDeclaration p) (row.InTag u j) f
-row_is around (row.InDeclaration d) (row.InTag u j) classes f takes =
-    outside_is around (row.InDeclaration d) (row.InTag u j) f
-row_is around (row.Within e) (row.InTag u j) classes f takes = outside_is around (row.Within e) (row.InTag u j) f
-row_is around (row.BegunEndTag e b) (row.InTag u j) classes f takes =
-    outside_is around (row.BegunEndTag e b) (row.InTag u j) f
-row_is around row.Plain (row.InTag u j) classes f takes = outside_is around row.Plain (row.InTag u j) f
-row_is around row.Outside (row.InTag u j) classes f takes = outside_is around row.Outside (row.InTag u j) f
+row_is around page walk classes f takes = outside_is around page walk f
 
 -- the page's state is the walk's, but for the real tag
 pub page_is : (around : Option Tag) (page walk : State) (classes : List ValueClass) → Follows around page walk
@@ -163,35 +142,20 @@ uri_places uri.Src tag_ part.Start point is = begun_places uri.Src tag_ point is
 uri_places uri.Data tag_ part.Start point is = begun_places uri.Data tag_ point is
 uri_places uri.Href tag_ part.Start point is = begun_places uri.Href tag_ point is
 uri_places uri.Other tag_ part.Start point is = begun_places uri.Other tag_ point is
-uri_places name tag_ (part.Scheme prefix) point is = inl is
-uri_places name tag_ part.NoScheme point is = inl is
-uri_places name tag_ part.AfterStart point is = inl is
-uri_places name tag_ part.Path point is = inl is
-uri_places name tag_ part.Query point is = inl is
-uri_places name tag_ part.Fragment point is = inl is
-uri_places name tag_ part.BadScheme point is = inl is
+uri_places name tag_ _ point is = inl is
 
 -- a quoted value's place by a tag without a name, and by a real one
 quoted_places : (tag_ : List ℕ) (now : AttributeValue) (point : Place) → quoted_placing [] now ≡ Takes point
     → PlacesAt (quoted_placing tag_ now) point
 quoted_places tag_ (value.Uri name before) point is = uri_places name tag_ before point is
-quoted_places tag_ (value.Style now) point is = inl is
-quoted_places tag_ value.Plain point is = inl is
-quoted_places tag_ value.Event point is = inl is
-quoted_places tag_ value.NoPrint point is = inl is
+quoted_places tag_ _ point is = inl is
 
 -- a row's place in a tag, likewise
 tag_row_places : (around : Tag) (inner : TagRow) (point : Place) → tag_row_placing tag.Block inner ≡ Takes point
     → PlacesAt (tag_row_placing around inner) point
 tag_row_places (tag.Named k name) (tag_row.Quoted q now) point is = quoted_places name now point is
 tag_row_places tag.Block (tag_row.Quoted q now) point is = inl is
-tag_row_places around tag_row.BeforeName point is = inl is
-tag_row_places around tag_row.AfterPrinted point is = inl is
-tag_row_places around (tag_row.AttributeName n) point is = inl is
-tag_row_places around (tag_row.BeforeValue a) point is = inl is
-tag_row_places around (tag_row.Unquoted v) point is = inl is
-tag_row_places around tag_row.AfterQuoted point is = inl is
-tag_row_places around tag_row.SelfClosing point is = inl is
+tag_row_places around _ point is = inl is
 
 -- every row
 row_places : (now : HtmlRow) (point : Place) → row_placing (row_in_other tag.Block now) ≡ Takes point
