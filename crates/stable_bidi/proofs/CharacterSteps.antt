@@ -4,7 +4,7 @@ use Rattle.std.proofs.Common.{◌≡◌, ◌⊎◌, ℕ, true, ◌==◌, inl, in
 use Rattle.std.proofs.lemmas.Bool.{cases_Bool, both_ways}
 use Rattle.soy_base.specs.Characters.{ampersand}
 use Rattle.soy_base.specs.declared.code.Code.{Code}
-use Rattle.html_state.specs.Next.{begun_reference, has_references, is_decided, next, pending}
+use Rattle.html_state.specs.Next.{begun_reference, has_references, is_decided, next}
 use Rattle.html_state.specs.declared.row.HtmlRow.{HtmlRow}
 use Rattle.html_state.specs.declared.row.Reference.{Reference}
 use Rattle.html_state.specs.declared.row.State.{State}

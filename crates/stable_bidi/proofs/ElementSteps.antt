@@ -12,7 +12,7 @@ use Rattle.html_state.specs.ElementNext.{element_next, end_tag, may_end_element}
 use Rattle.html_state.specs.EndsName.{ends_name}
 use Rattle.html_state.specs.Kept.{name_with}
 use Rattle.html_state.specs.RowNext.{begun_end, begun_or, end_tag_next, given_up, goes_on_begun, in_declaration}
-use Rattle.html_state.specs.RowNext.{in_tag, markup_declaration_next, opened, within_next}
+use Rattle.html_state.specs.RowNext.{in_tag, markup_declaration_next, within_next}
 use Rattle.html_state.specs.TagRowNext.{past_name}
 use Rattle.html_state.specs.Texts.{and_then, is_prefix}
 use Rattle.html_state.specs.declared.row.Begun.{Begun}

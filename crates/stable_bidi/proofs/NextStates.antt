@@ -14,7 +14,6 @@ use Rattle.html_state.specs.References.{name_begun, reference_names}
 use Rattle.html_state.specs.RowNext.{row_next}
 use Rattle.html_state.specs.Texts.{and_then}
 use Rattle.html_state.specs.declared.row.HtmlRow.{HtmlRow}
-use Rattle.html_state.specs.declared.row.HtmlRow.TheVariants as row
 use Rattle.html_state.specs.declared.row.Reference.{Reference}
 use Rattle.html_state.specs.declared.row.Reference.TheVariants as reference
 use Rattle.html_state.specs.declared.row.State.{State}

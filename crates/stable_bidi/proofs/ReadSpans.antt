@@ -9,7 +9,7 @@ use Rattle.esc_table.specs.HtmlRows.{html_rows}
 use Rattle.bidi_text.specs.Clean.{cleaned_text}
 use Rattle.bidi_text.specs.Estimate.{estimated_direction}
 use Rattle.bidi_text.specs.Wrap.{direction_word, wrapped_text}
-use Rattle.bidi_order.specs.MarkupTokens.{MarkupToken, PageReading, TagReading, labelled_characters, no_tag, read_all}
+use Rattle.bidi_order.specs.MarkupTokens.{TagReading, labelled_characters, no_tag, read_all}
 use Rattle.bidi_order.specs.MarkupTokens.MarkupToken.{Character, StartTag, EndTag}
 use Rattle.stable_bidi.specs.TokenParts.{in_data, span_tokens, unescaped}
 use Rattle.stable_bidi.proofs.TextReads.{tokens_before}

@@ -7,7 +7,6 @@ use Rattle.html_state.specs.RowNext.{opened}
 use Rattle.html_state.specs.declared.row.HtmlRow.{HtmlRow}
 use Rattle.html_state.specs.declared.row.HtmlRow.TheVariants as row
 use Rattle.html_state.specs.declared.row.State.{State}
-use Rattle.html_state.specs.declared.row.Tag.TheVariants as tag
 use Rattle.bidi_order.specs.MarkupTokens.{MarkupToken, character_read, labelled_characters, named_tag, text_pending}
 use Rattle.stable_bidi.proofs.KnownPage.{AtRow, IsOpened, Known, reading}
 use Rattle.stable_bidi.specs.TokenParts.{IsStaticToken}

@@ -5,7 +5,6 @@ use Rattle.std.proofs.Common.{Option, Some, None, Result, Ok, Err, codes, if◌t
 use Rattle.std.specs.Char.{to_ascii_lowercase}
 use Rattle.std.specs.Str.{bytes_eq}
 use Rattle.soy_base.specs.declared.code.Code.{Code}
-use Rattle.html_state.specs.declared.row.AttributeValue.TheVariants as value
 use Rattle.html_state.specs.declared.row.TagRow.{TagRow}
 use Rattle.html_state.specs.declared.row.TagRow.TheVariants as tag_row
 use Rattle.bidi_order.specs.MarkupTokens.{tag_read, with_value}
