@@ -5,8 +5,8 @@ use soy_top::Status;
 use std::alloc::Global;
 
 /// A row: its name; the file before its lines, a line, how many there are, and the file after them; and a part of the
-/// page with how often it stands there. In a line `@` is the number of the line, from 1 on, and `!` that of the
-/// one before; in what follows the lines `@` is the number of the last.
+/// page with how often it stands there. In a line `#` is the number of the line, from 1 on, and `!` that of the
+/// one before; in what follows the lines `#` is the number of the last.
 type ManyRow = (
     &'static str,
     &'static str,
@@ -26,25 +26,25 @@ const MANY: &[ManyRow] = &[
     (
         "lets that name the first",
         "{namespace t}{template m kind=\"text\"}{@param x: string}{let $a0: $x /}",
-        "{let $a@: $a0 /}",
+        "{let $a#: $a0 /}",
         8_000,
-        "{$a@}{/template}",
+        "{$a#}{/template}",
         "v",
         1,
     ),
     (
         "lets that name the first, through 99 calls",
         "{namespace t}{template m kind=\"text\"}{@param n: int}{@param x: string}{let $a0: $x /}",
-        "{let $a@: $a0 /}",
+        "{let $a#: $a0 /}",
         8_000,
-        "{if $n > 0}{call m}{param n: $n - 1 /}{param x: $a@ /}{/call}{/if}{$a@}{/template}",
+        "{if $n > 0}{call m}{param n: $n - 1 /}{param x: $a# /}{/call}{/if}{$a#}{/template}",
         "v",
         100,
     ),
     (
         "prints of the first of many lets",
         "{namespace t}{template m kind=\"text\"}{@param x: string}{let $a0: $x /}",
-        "{let $a@: $a0 /}{$a0}",
+        "{let $a#: $a0 /}{$a0}",
         8_000,
         "{/template}",
         "v",
@@ -53,43 +53,43 @@ const MANY: &[ManyRow] = &[
     (
         "a chain of lets",
         "{namespace t}{template m kind=\"text\"}{@param x: string}{let $a0: $x /}",
-        "{let $a@: $a! /}",
+        "{let $a#: $a! /}",
         20_000,
-        "{$a@}{/template}",
+        "{$a#}{/template}",
         "v",
         1,
     ),
     (
         "a chain of lets, through 99 calls",
         "{namespace t}{template m kind=\"text\"}{@param n: int}{@param x: string}{let $a0: $x /}",
-        "{let $a@: $a! /}",
+        "{let $a#: $a! /}",
         2_000,
-        "{if $n > 0}{call m}{param n: $n - 1 /}{param x: $a@ /}{/call}{/if}{$a@}{/template}",
+        "{if $n > 0}{call m}{param n: $n - 1 /}{param x: $a# /}{/call}{/if}{$a#}{/template}",
         "v",
         100,
     ),
     (
         "a chain of lets of a field",
         "{namespace t}{template m kind=\"text\"}{@param r: [f: string]}{let $a0: $r.f /}",
-        "{let $a@: $a! /}",
+        "{let $a#: $a! /}",
         8_000,
-        "{$a@}{/template}",
+        "{$a#}{/template}",
         "v",
         1,
     ),
     (
         "a chain of lets of a choice",
         "{namespace t}{template m kind=\"text\"}{@param x: string}{let $a0: $x /}",
-        "{let $a@: true ? $a! : $x /}",
+        "{let $a#: true ? $a! : $x /}",
         8_000,
-        "{$a@}{/template}",
+        "{$a#}{/template}",
         "v",
         1,
     ),
     (
         "loops over lists that name one another",
         "{namespace t}{template m kind=\"text\"}{@param l: list<string>}{let $l0: $l /}",
-        "{let $l@: $l! /}{for $i in $l@}{$i}{/for}",
+        "{let $l#: $l! /}{for $i in $l#}{$i}{/for}",
         8_000,
         "{/template}",
         "v",
@@ -98,7 +98,7 @@ const MANY: &[ManyRow] = &[
     (
         "loops whose items name others",
         "{namespace t}{template m kind=\"text\"}{@param l: list<string>}{@param x: string}{let $a0: $x /}",
-        "{let $a@: $a0 /}{for $i in $l}{let $b: $i /}{let $c: $b /}{$c}{$a0}{/for}",
+        "{let $a#: $a0 /}{for $i in $l}{let $b: $i /}{let $c: $b /}{$c}{$a0}{/for}",
         4_000,
         "{/template}",
         "vv",
@@ -107,25 +107,25 @@ const MANY: &[ManyRow] = &[
     (
         "blocks of text that print the one before",
         "{namespace t}{template m kind=\"text\"}{@param x: string}{let $a0 kind=\"text\"}{$x}{/let}",
-        "{let $a@ kind=\"text\"}{$a!}{/let}",
+        "{let $a# kind=\"text\"}{$a!}{/let}",
         8_000,
-        "{$a@}{/template}",
+        "{$a#}{/template}",
         "v",
         1,
     ),
     (
         "blocks that print the one before",
         "{namespace t}{template m}{let $a0 kind=\"html\"}<b>v</b>{/let}",
-        "{let $a@ kind=\"html\"}{$a!}{/let}",
+        "{let $a# kind=\"html\"}{$a!}{/let}",
         8_000,
-        "{$a@}{/template}",
+        "{$a#}{/template}",
         "<b>v</b>",
         1,
     ),
     (
         "cases of a switch",
         "{namespace t}{template m kind=\"text\"}{@param x: string}{let $a0: $x /}{switch $x}",
-        "{case 'a@'}{$a0}",
+        "{case 'a#'}{$a0}",
         8_000,
         "{default}{$x}{/switch}{/template}",
         "v",
@@ -134,7 +134,7 @@ const MANY: &[ManyRow] = &[
     (
         "switches under many lets",
         "{namespace t}{template m kind=\"text\"}{@param x: string}{let $a0: $x /}",
-        "{let $a@: $a0 /}{switch $a@}{case 'v'}{$a0}{/switch}",
+        "{let $a#: $a0 /}{switch $a#}{case 'v'}{$a0}{/switch}",
         4_000,
         "{/template}",
         "v",
@@ -143,7 +143,7 @@ const MANY: &[ManyRow] = &[
     (
         "translations under many lets",
         "{namespace t}{template m kind=\"text\"}{@param x: string}",
-        "{let $a@: $x /}{msg desc=\"d\"}Hi {$x}{/msg}",
+        "{let $a#: $x /}{msg desc=\"d\"}Hi {$x}{/msg}",
         4_000,
         "{/template}",
         "v!",
@@ -151,13 +151,13 @@ const MANY: &[ManyRow] = &[
     ),
 ];
 
-/// Adds a text, with a number for each `@` and the one before it for each `!`.
+/// Adds a text, with a number for each `#` and the one before it for each `!`.
 fn push_numbered(alloc: Global, file: &mut String, text: &str, last: usize) -> Option<()> {
     let own = format!(in alloc; "{}", last.checked_add(1)?).ok()?;
     let before = format!(in alloc; "{last}").ok()?;
     for c in text.chars() {
         match c {
-            '@' => file.push_str(own.as_str()).ok()?,
+            '#' => file.push_str(own.as_str()).ok()?,
             '!' => file.push_str(before.as_str()).ok()?,
             _ => file.push(c).ok()?,
         }
@@ -186,11 +186,11 @@ fn file_of(alloc: Global, row: &ManyRow) -> Option<String> {
 fn file_of_params(alloc: Global) -> Option<String> {
     let head = "{namespace t}{template m kind=\"text\"}{@param x: string}{call k}";
     let mut file = String::from_str(alloc, head).ok()?;
-    push_lines(alloc, &mut file, "{param p@: $x /}", 8_000)?;
+    push_lines(alloc, &mut file, "{param p#: $x /}", 8_000)?;
     let next = "{/call}{/template}{template k kind=\"text\"}";
     file.push_str(next).ok()?;
-    push_lines(alloc, &mut file, "{@param p@: string}", 8_000)?;
-    push_lines(alloc, &mut file, "{$p@}", 8_000)?;
+    push_lines(alloc, &mut file, "{@param p#: string}", 8_000)?;
+    push_lines(alloc, &mut file, "{$p#}", 8_000)?;
     file.push_str("{/template}").ok()?;
     Some(file)
 }
