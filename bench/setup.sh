@@ -5,14 +5,16 @@ top=$(cd "$(dirname "${BASH_SOURCE[0]}")/.." && pwd)
 work=$(mktemp -d)
 trap 'rm -rf "$work"' EXIT
 
-# find_program [PROGRAM]: the program that is named, or ./soyc, which is built where it has to be (with no words it then
-# ends with 2).
+# find_program [PROGRAM]: the program that is named, or the one that ./soyc runs, which it makes where it has to (with no
+# words it then ends with 2).
 find_program() {
     if (($# > 0)); then
         soyc=$1
     else
         "$top/soyc" >/dev/null 2>&1 || [ $? -eq 2 ]
+        . "$top/.ci/made.sh"
         soyc=$top/crates/soyc/out/soyc
+        if is_current dist/out; then soyc=$top/dist/out/soyc; fi
     fi
 }
 
