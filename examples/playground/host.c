@@ -95,6 +95,23 @@ int memcmp(const void *one, const void *other, size_t length) {
     return 0;
 }
 
+/* The product of numbers of 128 bits, which the compiler leaves to a function. */
+union wide {
+    __int128 whole;
+    struct { u64 low, high; } half;
+};
+__int128 __multi3(__int128 one, __int128 other) {
+    const u64 mask = 0xffffffff;
+    union wide a = {one}, b = {other}, made;
+    u64 low = (a.half.low & mask) * (b.half.low & mask);
+    u64 left = (a.half.low >> 32) * (b.half.low & mask) + (low >> 32);
+    u64 right = (a.half.low & mask) * (b.half.low >> 32) + (left & mask);
+    made.half.low = right << 32 | (low & mask);
+    made.half.high = (a.half.low >> 32) * (b.half.low >> 32) + (left >> 32) + (right >> 32);
+    made.half.high += a.half.low * b.half.high + a.half.high * b.half.low;
+    return made.whole;
+}
+
 /* The number of the last failure; the page sets it too. */
 static int number;
 int rattle_errno(void) { return number; }
