@@ -39,9 +39,9 @@ function natively({ words }) {
 
 const digits = (bytes) => Buffer.from(bytes).toString("base64");
 
-async function inNode(module, run, { words, files }) {
+function inNode(module, run, { words, files }) {
   try {
-    const it = await run(module, words, files);
+    const it = run(module, words, files);
     return { status: it.status, out: digits(it.out), err: digits(it.err) };
   } catch (error) {
     return { status: String(error), out: "", err: "" };
@@ -77,10 +77,10 @@ const inPage = `
   }
   let module;
   const begin = async (digits) => void (module = await WebAssembly.compile(bytes(digits)));
-  async function one(words, files) {
+  function one(words, files) {
     for (const name in files) files[name] = bytes(files[name]);
     try {
-      const it = await run(module, words, files);
+      const it = run(module, words, files);
       return { status: it.status, out: digits(it.out), err: digits(it.err) };
     } catch (error) {
       return { status: String(error), out: "", err: "" };
@@ -95,7 +95,7 @@ const browsers = await inChromium(all);
 let differ = 0;
 for (const [index, it] of all.entries()) {
   const wanted = natively(it);
-  for (const [where, gave] of [["node", await inNode(module, run, it)], ["Chromium", browsers[index]]]) {
+  for (const [where, gave] of [["node", inNode(module, run, it)], ["Chromium", browsers[index]]]) {
     for (const what of ["status", "out", "err"]) {
       if (gave[what] === wanted[what]) continue;
       differ++;
