@@ -1,13 +1,9 @@
 #!/usr/bin/env bash
 # Renders a page of 8 MB with the program and prints MB a second, beside a copy of the same bytes, and the time of an
-# empty page: the least of eleven runs each. The program is built before, where it has to be.
+# empty page: the least of eleven runs each. Runs the program that is named, or that of ./soyc.
 set -eu
-top=$(cd "$(dirname "${BASH_SOURCE[0]}")/.." && pwd)
-work=$(mktemp -d)
-trap 'rm -rf "$work"' EXIT
-# With no words it writes its usage text and ends with 2.
-"$top/soyc" >/dev/null 2>&1 || [ $? -eq 2 ]
-soyc=$top/crates/soyc/out/soyc
+. "$(dirname "$0")/setup.sh"
+find_program "$@"
 
 # template NAME BODY: a file of one template with this body.
 template() {

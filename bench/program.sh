@@ -44,19 +44,6 @@ row() {
     }'
 }
 
-# items COUNT: a list of so many items, in words and links like those of the workload of `gen`.
-items() {
-    awk -v count="$1" 'BEGIN {
-        split("tea Käse שלום سلام a<b R&D x,y -", words, " ")
-        split("/a https://e.example/?q=1&r=2 mailto:a@e.example javascript:1", links, " ")
-        printf "{\"items\":["
-        for (i = 0; i < count; i++)
-            printf "%s{\"link\":\"%s\",\"n\":%d,\"text\":\"%s %s\",\"who\":\"%s\"}", i ? "," : "", links[int(i / 3) % 4 + 1],
-                i % 200, words[i * 3 % 8 + 1], words[(i * 7 + int(i / 8)) % 8 + 1], words[i * 5 % 8 + 1]
-        print "]}"
-    }' >"$work/items.json"
-}
-
 # source NUMBER: a file of 1 MiB, of templates with text, tags, values, a branch and a message, filled up by a comment.
 source_file() {
     awk -v number="$1" 'BEGIN {
@@ -83,9 +70,6 @@ else
     printf 'gen 7: %s\n' "$(cat "$work/refusal")"
 fi
 
-printf '%s\n' '{namespace b}' '{template m}' '{@param items: list<[who: string, text: string, link: string, n: int]>}' \
-    '<ul>{for $i in $items}<li><a href="{$i.link}">{$i.who}</a> {$i.text} <i title="{$i.text}">{$i.n}</i></li>{/for}</ul>' \
-    '{/template}' >"$work/items.soy"
 for count in 4000 20000 60000; do
     items "$count"
     words=(render b.m "$work/items.json" - "$work/items.soy")

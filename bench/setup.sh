@@ -5,15 +5,34 @@ top=$(cd "$(dirname "${BASH_SOURCE[0]}")/.." && pwd)
 work=$(mktemp -d)
 trap 'rm -rf "$work"' EXIT
 
-# find_program [PROGRAM]: the program that is named, or ./soyc, which is built where it has to be (with no words it then
-# ends with 2).
+# find_program [PROGRAM]: the program that is named, or the one that ./soyc runs, which it makes where it has to (with no
+# words it then ends with 2).
 find_program() {
     if (($# > 0)); then
         soyc=$1
     else
         "$top/soyc" >/dev/null 2>&1 || [ $? -eq 2 ]
+        . "$top/.ci/made.sh"
         soyc=$top/crates/soyc/out/soyc
+        if is_current dist/out; then soyc=$top/dist/out/soyc; fi
     fi
+}
+
+# items COUNT: items.json and items.soy, a list of so many items, in words and links like those of the workload of `gen`,
+# and the template b.m that renders it.
+items() {
+    awk -v count="$1" 'BEGIN {
+        split("tea Käse שלום سلام a<b R&D x,y -", words, " ")
+        split("/a https://e.example/?q=1&r=2 mailto:a@e.example javascript:1", links, " ")
+        printf "{\"items\":["
+        for (i = 0; i < count; i++)
+            printf "%s{\"link\":\"%s\",\"n\":%d,\"text\":\"%s %s\",\"who\":\"%s\"}", i ? "," : "", links[int(i / 3) % 4 + 1],
+                i % 200, words[i * 3 % 8 + 1], words[(i * 7 + int(i / 8)) % 8 + 1], words[i * 5 % 8 + 1]
+        print "]}"
+    }' >"$work/items.json"
+    printf '%s\n' '{namespace b}' '{template m}' '{@param items: list<[who: string, text: string, link: string, n: int]>}' \
+        '<ul>{for $i in $items}<li><a href="{$i.link}">{$i.who}</a> {$i.text} <i title="{$i.text}">{$i.n}</i></li>{/for}</ul>' \
+        '{/template}' >"$work/items.soy"
 }
 
 begin() {
