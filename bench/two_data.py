@@ -183,9 +183,7 @@ class Page:
         if kind == 13:
             return (
                 f"{{call row}}{{param s: {self.chance.choice(values)} /}}{{param k: $k /}}{{param f: $f /}}"
-                "{param l: $l /}{param n: $n /}"
-                + "".join(f"{{param c{i}: $c{i} /}}" for i in range(3))
-                + "{/call}"
+                "{param l: $l /}{param n: $n /}" + "".join(f"{{param c{i}: $c{i} /}}" for i in range(3)) + "{/call}"
             )
         if kind == 14:
             value = self.chance.choice(values)
@@ -306,20 +304,26 @@ def with_values(tokens):
     return found
 
 
+WORD_PARTS = {"ident", "number", "dimension", "percentage", "hash"}
+
+
 def css_kinds(text, has_rules):
+    """The kinds of a style's tokens. A value of a style has letters, digits, `.`, `%`, `#`, `_` and `-`, of which the
+    tokenizer may make several tokens: those that stand directly beside one another count as one word."""
     made = tinycss2.parse_stylesheet(text) if has_rules else tinycss2.parse_component_value_list(text)
     kinds = []
 
     def walk(nodes):
         for node in nodes:
-            kind = node.type
-            # (a value of a style is a word, a number or a color)
-            kinds.append("word" if kind in ("ident", "number", "dimension", "percentage", "hash") else kind)
+            is_part = node.type in WORD_PARTS or (node.type == "literal" and node.value in ".%#_-")
+            if not (is_part and kinds and kinds[-1] == "word"):
+                kinds.append("word" if is_part else node.type)
             for part in ("prelude", "content", "arguments"):
                 walk(getattr(node, part, None) or [])
+                kinds.append(part)
 
     walk(made)
-    return kinds
+    return [kind for kind in kinds if kind not in ("prelude", "content", "arguments")]
 
 
 def around(tokens, scripts):

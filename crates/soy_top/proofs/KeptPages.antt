@@ -65,94 +65,94 @@ is_member (first ∷ xs) (suc number) x is = inr (is_member xs number x is)
 
 module _ (page : Rendered) (parts : PageParts page) where
   abbrev trees : List Tree
-  trees = view_trees page.of.files.trees
+  trees = view_trees page.accepted.files.trees
 
   abbrev language : Language
-  language = language_of page.of.language
+  language = language_of page.accepted.language
 
   abbrev context : RunContext
   context = language_context language (declared trees)
 
   -- the variables of the template under some data
   abbrev env : Value → RunEnv
-  env v = input_env (names_of page.d.template.params) v
+  env v = input_env (names_of page.entry.template.params) v
 
   -- the files and the bundle deserve what they are accepted as, so the trees are typed, the translations fit them, and
   -- all paths of the trees are accepted
-  deserved : DeserveFront page.contents parts.bundle page.of
-  deserved = answered_deserved page.contents parts.bundle page.of parts.front
+  deserved : DeserveFront page.contents parts.bundle page.accepted
+  deserved = answered_deserved page.contents parts.bundle page.accepted parts.front
 
   formed : AreFormed trees
-  formed = trees_formed page.contents page.of.files.trees deserved.files.have
+  formed = trees_formed page.contents page.accepted.files.trees deserved.files.have
 
   typed : AreTypedTrees trees
   typed = record { demands = deserved.files.demands; formed = formed }
 
   fitting : TranslationsFit language.translation (declared trees)
   fitting =
-      (trees_fit (translation_of page.of.language.messages) 0 trees formed
-      (language_fits parts.bundle page.of.files.rows page.of.language trees deserved.brings deserved.files.catalogue
+      (trees_fit (translation_of page.accepted.language.messages) 0 trees formed
+      (language_fits parts.bundle page.accepted.files.rows page.accepted.language trees deserved.brings deserved.files.catalogue
       formed)).0
 
   accepted : AcceptedTrees language.translation trees
   accepted =
       accepted_when_walked page_machine page_compares (trees_plan language.translation trees) (walked [] [])
-      page.of.walk deserved.walk
+      page.accepted.walk deserved.walk
 
-  member : IsMember page.d (declared trees)
-  member = is_member (declared trees) parts.number page.d parts.found
+  member : IsMember page.entry (declared trees)
+  member = is_member (declared trees) parts.number page.entry parts.found
 
   -- the data that were read fit the template
-  read_fits : FitsData page.d (env page.v)
+  read_fits : FitsData page.entry (env page.input)
   read_fits =
-      having_fit page.d page.v
-      (read_have trees parts.number page.d parts.json page.v typed.demands parts.found parts.reads)
-      (data_short page.d.template.params parts.json page.v (omega (arith, parts.few)) parts.reads)
+      having_fit page.entry page.input
+      (read_have trees parts.number page.entry parts.json page.input typed.demands parts.found parts.reads)
+      (data_short page.entry.template.params parts.json page.input (omega (arith, parts.few)) parts.reads)
 
-  other_fits : (other : Value) → IsOtherData page other → FitsData page.d (env other)
-  other_fits other is = having_fit page.d other is.have is.short
+  other_fits : (other : Value) → IsOtherData page other → FitsData page.entry (env other)
+  other_fits other is = having_fit page.entry other is.have is.short
 
   -- both runs end whole, or at one call
   ends_alike : (other : Value) → IsOtherData page other
-      → end_of_outcome (page_outcome page page.v) ≡ end_of_outcome (page_outcome page other)
+      → end_of_outcome (page_outcome page page.input) ≡ end_of_outcome (page_outcome page other)
   ends_alike other is =
-      (typed_runs_alike context trees refl typed fitting page.d (env page.v) (env other) member read_fits
+      (typed_runs_alike context trees refl typed fitting page.entry (env page.input) (env other) member read_fits
       (other_fits other is) is.choices).ends
 
   markup_kept : MarkupIsKept page
   markup_kept other is = record {
-    same = templates_same context trees refl typed fitting accepted page.d member (env page.v) (env other) read_fits
+    same = templates_same context trees refl typed fitting accepted page.entry member (env page.input) (env other) read_fits
         (other_fits other is) is.choices;
-    roles = template_roles context trees refl typed fitting accepted page.d member (env page.v) read_fits;
-    other_roles = template_roles context trees refl typed fitting accepted page.d member (env other)
+    inner_roles = template_roles context trees refl typed fitting accepted page.entry member (env page.input) read_fits;
+    other_inner_roles = template_roles context trees refl typed fitting accepted page.entry member (env other)
         (other_fits other is);
     ends = ends_alike other is;
   }
 
   order_kept : OrderIsKept page
   order_kept html other is =
-      let one = page_pieces page page.v in
+      let one = page_pieces page page.input in
       let two = page_pieces page other in
       let alike = subst (λ (k : Kind). PagesAlike (start k) one two) html
-      (typed_pages context trees page.d refl member typed fitting accepted (env page.v) (env other) read_fits
+      (typed_pages context trees page.entry refl member typed fitting accepted (env page.input) (env other) read_fits
       (other_fits other is) is.choices) in
       record {
-        same = λ block. same_visual_order (page_lines block page page.v) (page_lines block page other)
-            (bidi.page_lines block one two alike);
+        same = λ direction. same_visual_order (page_lines direction page page.input) (page_lines direction page other)
+            (bidi.page_lines direction one two alike);
         ends = ends_alike other is;
       }
 
   -- **an html page, taken as one text, is read without a fault**, as a preview asks
-  pub page_one_text : page.d.template.kind ≡ kind.Html → (last : State)
-      × (after_piece (start kind.Html) (Static (joined_pieces (page_pieces page page.v))) ≡ Ok last)
+  pub page_one_text : page.entry.template.kind ≡ kind.Html → (last : State)
+      × (after_piece (start kind.Html) (Static (joined_pieces (page_pieces page page.input))) ≡ Ok last)
   page_one_text html =
-      template_text context trees refl typed fitting accepted page.d member (env page.v) read_fits html
+      template_text context trees refl typed fitting accepted page.entry member (env page.input) read_fits html
 
   -- and so are the characters of its bytes
-  pub page_bytes : page.d.template.kind ≡ kind.Html → (given : List ℕ) → IsUtf8 given → given ≡ page_text page
+  pub page_bytes : page.entry.template.kind ≡ kind.Html → (given : List ℕ) → IsUtf8 given → given ≡ page_text page
       → (last : State) × (after_piece (start kind.Html) (Static (chars given)) ≡ Ok last)
   page_bytes html given utf8 is =
-      template_bytes context trees refl typed fitting accepted page.d member (env page.v) read_fits html given utf8 is
+      template_bytes context trees refl typed fitting accepted page.entry member (env page.input) read_fits html given utf8 is
 
 -- **other data with the same choices give the same markup**
 pub same_markup : (held : Option Files) (words : List Word) → IfSome (known_rendered held words) MarkupIsKept

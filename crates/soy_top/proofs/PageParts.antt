@@ -32,9 +32,9 @@ pub record PageParts (page : Rendered) : Type 0 where
   pub json : List ℕ
   pub bundle : Option (List ℕ)
   pub number : ℕ
-  pub front : front_answer page.contents bundle ≡ Ok page.of
-  pub found : slice_get (declared (view_trees page.of.files.trees)) number ≡ Some page.d
-  pub reads : data_at page.d.template.params json ≡ Ok page.v
+  pub front : front_answer page.contents bundle ≡ Ok page.accepted
+  pub found : slice_get (declared (view_trees page.accepted.files.trees)) number ≡ Some page.entry
+  pub reads : data_at page.entry.template.params json ≡ Ok page.input
   pub few : length json ≤ 4194304
 
 -- a template that is found has a number

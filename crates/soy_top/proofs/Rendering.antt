@@ -222,7 +222,7 @@ page_took : (held : Option Files) (words : List Word) (out err : Change) (SameEr
 page_took held words out err SameErr result prefix done deep =
     if_some (known_rendered held words) (λ page. PageTook page out result)
     (λ page is. let known = (known_page held words page is).1 in
-    let end : RunEnd = end_of_outcome (page_outcome page page.v) in
+    let end : RunEnd = end_of_outcome (page_outcome page page.input) in
     record {
       prefix = prefix_by page.names page.contents (page_text page) out err end
           (from_some (known_answer held words) (rendered_answer page) (λ a. TookPrefix out (out_text a)) known prefix);

@@ -11,6 +11,6 @@ use Rattle.soy_tree.specs.Values.{Value}
 use Rattle.soy_types.specs.ParamsHave.{ParamsHave}
 
 pub record IsOtherData (page : Rendered) (other : Value) : Type 0 where
-  pub have : ParamsHave page.d.template.params other
+  pub have : ParamsHave page.entry.template.params other
   pub short : HasShortLists other
-  pub choices : choices_of_outcome (page_outcome page page.v) ≡ choices_of_outcome (page_outcome page other)
+  pub choices : choices_of_outcome (page_outcome page page.input) ≡ choices_of_outcome (page_outcome page other)

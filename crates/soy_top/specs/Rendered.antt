@@ -30,14 +30,17 @@ pub record Rendered : Type 0 where
   -- of the template files
   pub names : List Word
   pub contents : List (List ℕ)
-  pub of : Front
-  pub d : Declared
+  -- what they and the bundle are accepted as
+  pub accepted : Front
+  -- the template
+  pub entry : Declared
   -- the data that are read
-  pub v : Value
+  pub input : Value
 
 abbrev pub rendered_data : List Word → List (List ℕ) → Front → Declared → Result Value (Code × List PathStep)
     → Option Rendered
-rendered_data names files of d (Ok v) = Some (record { names = names; contents = files; of = of; d = d; v = v })
+rendered_data names files of d (Ok v) =
+    Some (record { names = names; contents = files; accepted = of; entry = d; input = v })
 rendered_data names files of d (Err fault) = None
 
 abbrev pub rendered_entry : List Word → List (List ℕ) → List ℕ → Front → Option Declared → Option Rendered
@@ -89,15 +92,15 @@ rendered held words = known_rendered held (command_words words)
 
 -- what its template gives under values of its parameters, these or others
 abbrev pub page_outcome : Rendered → Value → Outcome
-page_outcome page v = template_outcome page.of page.d v
+page_outcome page v = template_outcome page.accepted page.entry v
 
 abbrev pub page_pieces : Rendered → Value → List Piece
 page_pieces page v = pieces_of_outcome (page_outcome page v)
 
 -- the bytes of the page, whole or up to a call that nests too deep
 abbrev pub page_text : Rendered → List ℕ
-page_text page = run_text (page_outcome page page.v)
+page_text page = run_text (page_outcome page page.input)
 
 -- the answer that it is
 abbrev pub rendered_answer : Rendered → Answer
-rendered_answer page = page_answer (ended_page page.names page.contents) (page_outcome page page.v)
+rendered_answer page = page_answer (ended_page page.names page.contents) (page_outcome page page.input)
