@@ -1,7 +1,7 @@
 -- The values of two lines that are one list but for what these hold stand at the same points.
 use Rattle.std.proofs.Common.{◌≡◌, ℕ, suc, Bool, true, false, ◌==◌, ◌&&◌, if◌then◌else◌, List, [], ◌∷◌, ◌++◌, map, refl, sym}
-use Rattle.std.proofs.Common.{ap, ◌∙◌, eqb-refl}
-use Rattle.std.proofs.lemmas.Bool.{and_from}
+use Rattle.std.proofs.Common.{ap, ◌∙◌}
+use Rattle.std.proofs.lemmas.Bool.{and_from, eq-eqb}
 use Rattle.bidi_order.specs.TwoLines.{Both, one_labelled, other_labelled}
 use Rattle.bidi_order.specs.TwoLines.Both.{Shared, Values}
 use Rattle.bidi_order.specs.WithinLimit.{LabelledCharacter, value_character}
@@ -9,7 +9,7 @@ use Rattle.stable_bidi.specs.SameVisualOrder.{points_behind, with_point}
 
 -- a point is the same as itself
 same_point : (n k : ℕ) → (n == n && k == k) ≡ true
-same_point n k = and_from (n == n) (k == k) (eqb-refl n) (eqb-refl k)
+same_point n k = and_from (n == n) (k == k) (eq-eqb n n refl) (eq-eqb k k refl)
 
 -- put before others once more it changes nothing
 point_twice : (n k : ℕ) (points : List (ℕ × ℕ)) → with_point n k (with_point n k points) ≡ with_point n k points
