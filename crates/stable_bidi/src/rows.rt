@@ -12,14 +12,14 @@ ghost use Rattle.stable_bidi.specs.PagesAlike.{PagesAlike};
 ghost use Rattle.stable_bidi.specs.SameVisualOrder.{AreCompared, LinesStandAlike, SameVisualOrder, stands_left};
 ghost use Rattle.stable_bidi.specs.SameVisualOrder.{value_points};
 ghost use Rattle.stable_bidi.specs.WorkedPages.{auto_page, auto_shown, behind_line, between_line, line_text};
-ghost use Rattle.stable_bidi.specs.WorkedPages.{nested_page, nested_shown, override_page, override_shown, page_around};
-ghost use Rattle.stable_bidi.specs.WorkedPages.{valueless_line};
+ghost use Rattle.stable_bidi.specs.WorkedPages.{nested_page, nested_shown, override_page, override_shown};
+ghost use Rattle.stable_bidi.specs.WorkedPages.{page_around, valueless_line};
 
 /// For every two texts of their value the worked pages have the same visual order: the value in `<b>`; in a `bdo` from
 /// right to left, between `a` and `b`, where the pages are also shown to be alike; in a paragraph whose direction is
 /// found in its text; and inside 61 spans from right to left. In the `bdo` the `a` and a letter of the value are
-/// compared, for a value from left to right and one from right to left. Lines of the same static text aren't alike where
-/// the value of the one stands elsewhere in the other, or not at all.
+/// compared, for a value from left to right and one from right to left. Lines of the same static text aren't alike
+/// where the value of the one stands elsewhere in the other, or not at all.
 pub fn law_page_rows()
     ensures in_bold { (text other : List ℕ) → SameVisualOrder
         (lines Ltr (page_around (codes "<b>") (codes "</b>") text))

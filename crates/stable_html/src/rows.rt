@@ -18,9 +18,9 @@ ghost use Rattle.stable_html.specs.WorkedPages.{text_shape, titled_page, titled_
 ghost use Rattle.stable_html.specs.WorkedPages.{upper_page, upper_shape};
 
 /// Of templates: two data with the same choices give one shape, and two with other choices different ones. Of pages:
-/// references and an empty value, a script in two runs, what proves to be no end tag, text with what begins no tag, a
-/// DOCTYPE, comments and RAWTEXT, a style in three runs, attributes without quotes, names in upper case, and tokens that
-/// the page cuts off; roles; and the inner roles of a string in a script.
+/// references and an empty value, a script in two runs, what proves to be no end tag, text with what begins no tag,
+/// a DOCTYPE, comments and RAWTEXT, a style in three runs, attributes without quotes, names in upper case, and tokens
+/// that the page cuts off; roles; and the inner roles of a string in a script.
 pub fn law_markup_rows()
     ensures block { shape (start kind.Html) (pieces_of_outcome (block_twice (codes "7")))
         ≡ italic_shape (italic_shape []) }
