@@ -7,6 +7,7 @@ use Rattle.stable_bidi.specs.BothLines.{BothLine, BothNumbered, HoldCleaned, Lin
 use Rattle.stable_bidi.specs.BothLines.{other_of}
 use Rattle.stable_bidi.specs.SameVisualOrder.{LinesStandAlike, SameVisualOrder}
 use Rattle.stable_bidi.proofs.ComparedCharacters.{order_alike, order_back_alike, same_static_text}
+use Rattle.stable_bidi.proofs.ValuePoints.{same_points}
 use Rattle.stable_bidi.proofs.WholeBlocks.{one_blocks, other_blocks}
 
 -- one line
@@ -14,6 +15,7 @@ line_alike : (l : BothLine) → HoldsCleaned l.parts → BothNumbered 0 l.parts 
 line_alike l held numbered = record {
   base = refl;
   text = same_static_text l.parts;
+  values = same_points 0 l.parts;
   limit = within_both l.base l.parts held;
   order = λ within c. order_alike l held numbered within c;
   order_back = λ within c. order_back_alike l held numbered within c;

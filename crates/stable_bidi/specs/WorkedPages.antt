@@ -15,6 +15,7 @@ use Rattle.bidi_text.specs.Estimate.{estimated_direction}
 use Rattle.bidi_text.specs.Wrap.{wrapped_text}
 use Rattle.html_state.specs.AfterPieces.{Piece, Static, Value}
 use Rattle.bidi_order.specs.Lines.{Line}
+use Rattle.bidi_order.specs.WithinLimit.{LabelledCharacter, static_character, value_characters}
 use Rattle.bidi_order.specs.WorkedLines.{auto_line, nested_line, other_line_of, override_line, repeated, word}
 use Rattle.stable_bidi.specs.TokenParts.{in_line, unescaped}
 
@@ -62,3 +63,18 @@ auto_shown text = other_line_of 1 (auto_line (initiator_of_text text) (line_text
 -- of so many spans
 abbrev pub nested_shown : ℕ → List ℕ → Line
 nested_shown depth text = other_line_of 0 (nested_line depth (initiator_of_text text) (line_text text))
+
+-- ---- lines that aren't alike: `a`, a value and `b`; the value behind both; and no value
+
+abbrev pub value_shown : List LabelledCharacter
+value_shown = value_characters 0 0x2066 (codes "c")
+
+abbrev pub between_line : Line
+between_line =
+    record { base = 0; characters = static_character 0x61 ∷ (value_shown ++ static_character 0x62 ∷ []) }
+
+abbrev pub behind_line : Line
+behind_line = record { base = 0; characters = static_character 0x61 ∷ static_character 0x62 ∷ value_shown }
+
+abbrev pub valueless_line : Line
+valueless_line = record { base = 0; characters = static_character 0x61 ∷ static_character 0x62 ∷ [] }

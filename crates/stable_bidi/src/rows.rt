@@ -9,14 +9,17 @@ ghost use Rattle.bidi_order.specs.TwoLines.{is_surrounding};
 ghost use Rattle.bidi_order.specs.WithinLimit.{is_within_limit};
 ghost use Rattle.bidi_order.specs.WorkedLines.{empty_line, hebrew};
 ghost use Rattle.stable_bidi.specs.PagesAlike.{PagesAlike};
-ghost use Rattle.stable_bidi.specs.SameVisualOrder.{AreCompared, SameVisualOrder, stands_left};
-ghost use Rattle.stable_bidi.specs.WorkedPages.{auto_page, auto_shown, line_text, nested_page, nested_shown};
-ghost use Rattle.stable_bidi.specs.WorkedPages.{override_page, override_shown, page_around};
+ghost use Rattle.stable_bidi.specs.SameVisualOrder.{AreCompared, LinesStandAlike, SameVisualOrder, stands_left};
+ghost use Rattle.stable_bidi.specs.SameVisualOrder.{value_points};
+ghost use Rattle.stable_bidi.specs.WorkedPages.{auto_page, auto_shown, behind_line, between_line, line_text};
+ghost use Rattle.stable_bidi.specs.WorkedPages.{nested_page, nested_shown, override_page, override_shown};
+ghost use Rattle.stable_bidi.specs.WorkedPages.{page_around, valueless_line};
 
 /// For every two texts of their value the worked pages have the same visual order: the value in `<b>`; in a `bdo` from
 /// right to left, between `a` and `b`, where the pages are also shown to be alike; in a paragraph whose direction is
 /// found in its text; and inside 61 spans from right to left. In the `bdo` the `a` and a letter of the value are
-/// compared, for a value from left to right and one from right to left.
+/// compared, for a value from left to right and one from right to left. Lines of the same static text aren't alike
+/// where the value of the one stands elsewhere in the other, or not at all.
 pub fn law_page_rows()
     ensures in_bold { (text other : List ℕ) → SameVisualOrder
         (lines Ltr (page_around (codes "<b>") (codes "</b>") text))
@@ -30,6 +33,11 @@ pub fn law_page_rows()
     ensures nested_kept { (text other : List ℕ) → SameVisualOrder (lines Ltr (nested_page 61 text))
         (lines Ltr (nested_page 61 other)) }
     ensures compared { AreCompared (override_shown (codes "c")) (override_shown hebrew) }
+    ensures points { value_points between_line.characters ≡ (1, 0) ∷ [] }
+    ensures value_gone { LinesStandAlike between_line valueless_line → ⊥ }
+    ensures value_moved { LinesStandAlike between_line behind_line → ⊥ }
+    ensures on_another_line { SameVisualOrder (between_line ∷ valueless_line ∷ [])
+        (valueless_line ∷ between_line ∷ []) → ⊥ }
 {}
 
 /// The lines of these pages for every text, and the order in them, by each character of the text that is seen: in the

@@ -1,5 +1,6 @@
 use Rattle.stable_bidi.proofs.WorkedPages.{auto_kept, bold_kept, nested_kept, override_alike, override_compared}
 use Rattle.stable_bidi.proofs.WorkedPages.{override_kept}
+use Rattle.stable_bidi.proofs.WorkedPages.{never_behind, never_valueless}
 use Rattle.stable_bidi.proofs.rows.law_page_rows.Goals as goal
 
 pub returns-clause-in_bold : goal.returns-clause-in_bold
@@ -19,3 +20,12 @@ returns-clause-nested_kept c = nested_kept
 
 pub returns-clause-compared : goal.returns-clause-compared
 returns-clause-compared c = override_compared
+
+pub returns-clause-value_gone : goal.returns-clause-value_gone
+returns-clause-value_gone c = never_valueless
+
+pub returns-clause-value_moved : goal.returns-clause-value_moved
+returns-clause-value_moved c = never_behind
+
+pub returns-clause-on_another_line : goal.returns-clause-on_another_line
+returns-clause-on_another_line c = λ same. never_valueless same.0
