@@ -319,11 +319,14 @@ def css_kinds(text, has_rules):
             if not (is_part and kinds and kinds[-1] == "word"):
                 kinds.append("word" if is_part else node.type)
             for part in ("prelude", "content", "arguments"):
-                walk(getattr(node, part, None) or [])
-                kinds.append(part)
+                inner = getattr(node, part, None)
+                if inner:
+                    kinds.append("begin")
+                    walk(inner)
+                    kinds.append("end")
 
     walk(made)
-    return [kind for kind in kinds if kind not in ("prelude", "content", "arguments")]
+    return kinds
 
 
 def around(tokens, scripts):
