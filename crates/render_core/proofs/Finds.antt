@@ -158,6 +158,17 @@ module _ (p : ProgramParts) (input : Value) (bound : List Bound) where
       (subst (λ (h : Held). held_means p input (take at (cells_of p input bound)) h
       ≡ Known (part_held input (take at (cells_of p input bound)) h)) (sym to) refl)
 
+  -- the same part, by an equal path that leads from a lower variable
+  pub found_followed : (at : ℕ) (b : Bound) (way copy : Path) → Some b ≡ slice_get bound at → b.to ≡ held.Part way
+      → path_of copy ≡ path_of way → path_steps copy ≡ path_steps way → path_of way < at
+      → Known (path_value (cells_of p input bound) copy) ≡ binding_at p input bound at
+  found_followed at b way copy is to of steps low =
+      ap Known (ap (λ k. led (path_steps copy) (cell_at (cells_of p input bound) k).part) of
+      ∙ (ap (λ ns. led ns (cell_at (cells_of p input bound) (path_of way)).part) steps
+      ∙ (ap (led (path_steps way)) (sym (part_lower p input bound at (path_of way) low))
+      ∙ part_is p input bound at b (held.Part way) is to)))
+      ∙ bound_path at b way is to
+
 -- ---- values where nothing is known of blocks
 
 pub known_again : {A : Type 0} (b : Binding A) (v : Value) → Known v ≡ forgotten b → Known v ≡ b

@@ -122,6 +122,21 @@ pub(crate) fn whole(at: usize) -> Path
     Path::Whole(at)
 }
 
+/// An equal path.
+pub(crate) fn copied_path(point: Point, path: &Path) -> Result<Path, OutOfMemory>
+    ensures of { IfOk result (λ p. path_of p ≡ path_of path.now) }
+    ensures steps { IfOk result (λ p. path_steps p ≡ path_steps path.now) }
+{
+    match path {
+        Path::Whole(of) => Ok(Path::Whole(*of)),
+        Path::Child(of, number) => Ok(Path::Child(*of, *number)),
+        Path::Deep(of, steps) => {
+            let steps = Vec::from_slice(point.scene.alloc, steps.as_slice())?;
+            Ok(Path::Deep(*of, steps))
+        }
+    }
+}
+
 /// The place of the first variable of a name, of those that are visible.
 #[tactic(auto, using(crate::proofs::Finds::found_here, crate::proofs::Finds::found_below, crate::proofs::Finds::found_lost, crate::proofs::Finds::found_none))]
 pub(crate) fn place_of(point: Point, name: &Text) -> Option<usize>
@@ -192,7 +207,7 @@ fn child_of(part: Option<&Value>, number: usize) -> Option<&Value>
 }
 
 /// The place of the variable from which a path leads.
-fn root_of(path: &Path) -> usize
+pub(crate) fn root_of(path: &Path) -> usize
     ensures { result ≡ path_of path.now }
 {
     match path {

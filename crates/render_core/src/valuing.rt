@@ -12,7 +12,9 @@ ghost use Rattle.render_core.specs.Seen.{cells_seen, env_seen, input_seen, progr
 ghost use Rattle.render_core.specs.Variables.{cell_at, cells_of, env_at};
 
 use crate::held::{Held, Kept, Path};
-use crate::parts::{Point, copied, item_at, part_at, part_of, place_of, variable_at, whole};
+use crate::parts::{
+    Point, copied, copied_path, item_at, part_at, part_of, place_of, root_of, variable_at, whole,
+};
 use soy_base::{OutOfMemory, Steps, Text};
 use soy_expr::{Evaluated, Made, evaluate};
 use soy_tree::{Expr, ExprNode, Value};
@@ -126,8 +128,9 @@ pub(crate) fn variable(point: Point, name: &Text) -> Result<Found, OutOfMemory>
     }
 }
 
-/// What the variable at a place is bound to.
-#[tactic(auto, using(crate::proofs::Finds::found_root, crate::proofs::Finds::found_item, crate::proofs::Finds::found_child, crate::proofs::Finds::found_path))]
+/// What the variable at a place is bound to. What is bound to it needn't be led through this variable, so that no
+/// chain of variables grows that name one another.
+#[tactic(auto, using(crate::proofs::Finds::found_root, crate::proofs::Finds::found_item, crate::proofs::Finds::found_child, crate::proofs::Finds::found_path, crate::proofs::Finds::found_followed))]
 fn bound_at(point: Point, at: usize) -> Result<Found, OutOfMemory>
     ensures means { IfOk result (λ f. found_means (program_seen point.entry)
         (cells_seen point.entry) f
@@ -141,13 +144,18 @@ fn bound_at(point: Point, at: usize) -> Result<Found, OutOfMemory>
             Held::Root => Ok(Found::Part(whole(at))),
             Held::Item(of, number) => {
                 if *of < at {
-                    // The shorter way: what is bound to it needn't be led through this variable.
                     Ok(Found::Part(Path::Child(*of, *number)))
                 } else {
                     Ok(Found::Part(whole(at)))
                 }
             }
-            Held::Part(_) => Ok(Found::Part(whole(at))),
+            Held::Part(path) => {
+                if root_of(path) < at {
+                    Ok(Found::Part(copied_path(point, path)?))
+                } else {
+                    Ok(Found::Part(whole(at)))
+                }
+            }
         },
         None => Ok(Found::Made(Made::Null)),
     }

@@ -24,6 +24,8 @@ mod hostile;
 #[cfg(test)]
 mod limits;
 #[cfg(test)]
+mod many;
+#[cfg(test)]
 mod messages;
 #[cfg(test)]
 mod places;

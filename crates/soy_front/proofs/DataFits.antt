@@ -8,13 +8,13 @@ use Rattle.std.proofs.lemmas.Option.{slice_get-map}
 use Rattle.soy_tree.specs.declared.tree.Tree as code
 use Rattle.soy_tree.specs.declared.tree.Template as code_template
 use Rattle.soy_tree.specs.Declarations.{declaration_fault, params_fault, twice}
-use Rattle.soy_tree.specs.Demands.{bodies_fault, declarations_fault, in_file}
+use Rattle.soy_tree.specs.Demands.{bodies_fault, check_fault, declarations_fault, in_file}
 use Rattle.soy_tree.specs.Faults.{TypeFault}
 use Rattle.soy_tree.specs.Fits.{Fits}
 use Rattle.soy_tree.specs.Has.{entry_value}
 use Rattle.soy_tree.specs.ShortLists.{HasShortLists, EntriesShort}
 use Rattle.soy_tree.specs.Templates.{Declared, declared, declared_from, declared_in, full_name, param_scope}
-use Rattle.soy_tree.specs.Trees.{Param, Template}
+use Rattle.soy_tree.specs.Trees.{Param, Template, Tree}
 use Rattle.soy_tree.specs.Typed.{AreTyped, params_at, params_there, templates_of}
 use Rattle.soy_tree.specs.Types.{Name}
 use Rattle.soy_tree.specs.Val.{member_value}
@@ -129,19 +129,30 @@ short_env : (names : List Name) (v : Value) → HasShortLists v → EnvShort (in
 short_env [] v short = tt
 short_env (name ∷ names) v short = (member_short name v short, short_env names v short)
 
+-- **data that have the parameters of a template, and whose lists are short, fit it**
+pub having_fit : (d : Declared) (v : Value) → ParamsHave d.template.params v → HasShortLists v
+    → FitsData d (input_env (names_of d.template.params) v)
+having_fit d v have short = record {
+  fits = fits d.template.params v have;
+  values = binds (names_of d.template.params) v;
+  short = short_env (names_of d.template.params) v short;
+}
+
+-- **data that are read for the parameters of a template of trees without a fault have them**
+pub read_have : (trees : List Tree) (number : ℕ) (d : Declared) (bytes : List ℕ) (v : Value) → check_fault trees ≡ None
+    → slice_get (declared trees) number ≡ Some d → data_at d.template.params bytes ≡ Ok v
+    → ParamsHave d.template.params v
+read_have trees number d bytes v demands is read =
+    let ds : List Declared = declared trees in
+    let parts = neither_fault (declarations_fault ds []) (bodies_fault ds ds) demands in
+    data_have d.template.params bytes v (declared_params ds [] number d parts.0 is) read
+
 -- **data that are read for the parameters of a template fit it**
 pub data_fits : (trees : List code.Tree) (number : ℕ) (d : Declared) (bytes : List ℕ) (v : Value) → AreTyped trees
     → slice_get (declared (view_trees trees)) number ≡ Some d
     → data_at (view_params (params_at number (templates_of trees))) bytes ≡ Ok v → HasShortLists v
     → FitsData d (input_env (names_of d.template.params) v)
 data_fits trees number d bytes v typed is read short =
-    let ds : List Declared = declared (view_trees trees) in
-    let demands = neither_fault (declarations_fault ds []) (bodies_fault ds ds) typed.demands in
-    let fine : params_fault d.template.params [] ≡ None = declared_params ds [] number d demands.0 is in
     let read_at : data_at d.template.params bytes ≡ Ok v =
     subst (λ ps. data_at ps bytes ≡ Ok v) (params_are trees number d is) read in
-    record {
-      fits = fits d.template.params v (data_have d.template.params bytes v fine read_at);
-      values = binds (names_of d.template.params) v;
-      short = short_env (names_of d.template.params) v short;
-    }
+    having_fit d v (read_have (view_trees trees) number d bytes v typed.demands is read_at) short

@@ -64,7 +64,7 @@ within_by bytes _ (NoToken offset is first) = tt
 within_by bytes _ (NoFile tokens fault is are refused) = tt
 within_by bytes _ (File tokens tree is are parsed) = is.within
 
-trees_within : (contents : List (List ℕ)) (trees : List Tree) → HaveTrees contents trees → AreWithin contents
+pub trees_within : (contents : List (List ℕ)) (trees : List Tree) → HaveTrees contents trees → AreWithin contents
 trees_within _ _ none = tt
 trees_within _ _ (one_more bytes tree contents trees d h) =
     (within_by bytes (Ok tree) d, trees_within contents trees h)

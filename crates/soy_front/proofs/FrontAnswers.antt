@@ -34,7 +34,7 @@ use Rattle.soy_front.proofs.BundleTranslations.{same_chosen}
 use Rattle.soy_front.proofs.FilesLaws.{fault_had, files_had, read_as, refused_as}
 
 -- a language that is brought isn't refused
-brought_apart : (bundle : Option (List ℕ)) (rows : List Listed) (language : Bundle) (fault : BundleFault)
+pub brought_apart : (bundle : Option (List ℕ)) (rows : List Listed) (language : Bundle) (fault : BundleFault)
     → Brings bundle rows language → RefusesLanguage bundle rows fault → ⊥
 brought_apart None rows language fault brings refuses = refuses
 brought_apart (Some bytes) rows language fault brings refuses = bundle_apart bytes rows language fault brings refuses

@@ -216,9 +216,12 @@ not_too_deep e = cc
 
 written_of_end : (answer : Option Answer) (text : List ℕ) (end : End) (out err : Change) (SameErr : Type 0)
     (result : Status) → IfSome answer (λ a. a ≡ ended_answer text end) → WritesTo text end out err SameErr result
-    → result ≡ status.Done → TextWritten answer out
-written_of_end answer text Whole out err SameErr result is h e =
-    for_one answer (Done text) _ is (text, refl, (said_whole status.Done status.Done text out result h.0 e (λ s. s)).1)
+    → result ≡ status.Done → TextWritten answer out SameErr
+written_of_end answer text Whole out err SameErr result is h e = (
+  for_one answer (Done text) (λ a. (t : List ℕ) × (a ≡ Done t) × Took out t) is
+      (text, refl, (said_whole status.Done status.Done text out result h.0 e (λ s. s)).1),
+  h.1,
+)
 written_of_end answer text (AtCall line) out err SameErr result is (inl h) e =
     absurd (subst IsStopped e (stops_status text out result h.0))
 written_of_end answer text (AtCall line) out err SameErr result is (inr h) e =
@@ -386,7 +389,7 @@ module _ (run : Run) (SameOut SameErr : Type 0) where
       let whole = said_whole said.wanted shown said.text run.err run.result said.says e never in
       absurd (none said.text (subst (λ s. TextIsDue run s said.text) whole.0 said.due))
 
-  pub done_only : Course run SameOut SameErr → run.result ≡ status.Done → TextWritten run.answer run.out
+  pub done_only : Course run SameOut SameErr → run.result ≡ status.Done → TextWritten run.answer run.out SameErr
   done_only (inl said) e = said_not _ status.Done (λ s. s) (λ text due. usage_text_due run status.Done text due) said e
   done_only (inr (inl wrote)) e =
       written_of_end run.answer wrote.output.text wrote.output.end run.out run.err SameErr run.result wrote.is_answer

@@ -15,3 +15,8 @@ pub mod Sums
 pub mod Texts
 pub mod Took
 pub mod Workloads
+pub mod KeptPages
+pub mod PageParts
+pub mod Rendering
+pub mod AnsweredTexts
+pub mod Options

@@ -1,7 +1,7 @@
 -- Words that ask for something are the command with its words.
 use Rattle.std.proofs.Common.{◌≡◌, ℕ, Bool, true, false, cond, List, [], ◌∷◌, Option, Some, None, option_map, refl, sym}
-use Rattle.std.proofs.Common.{subst, codes}
-use Rattle.std.specs.Prelude.{IfSome}
+use Rattle.std.proofs.Common.{subst, codes, ap, ◌∙◌}
+use Rattle.std.specs.Prelude.{IfSome, IsTrue, if◌then◌else◌}
 use Rattle.std.specs.Str.{bytes_eq}
 use Rattle.std.proofs.lemmas.Slice.Eq.{bytes_eq-Decides}
 use Rattle.soy_top.specs.Asked.{Asked, Render, Check, Extract, Gen, Play, Preview, Format, has_file_count, render_asked}
@@ -12,31 +12,35 @@ use Rattle.soy_top.specs.Words.{Word}
 
 -- the words of what is asked
 abbrev pub IsSpelled : List Word → Asked → Type 0
-IsSpelled words (Render template json bundle files) = words ≡ codes "render" ∷ template ∷ json ∷ bundle ∷ files
-IsSpelled words (Check bundle files) = words ≡ codes "check" ∷ bundle ∷ files
-IsSpelled words (Extract files) = words ≡ codes "extract" ∷ files
+IsSpelled words (Render template json bundle files) =
+    (words ≡ codes "render" ∷ template ∷ json ∷ bundle ∷ files) × IsTrue (has_file_count files)
+IsSpelled words (Check bundle files) = (words ≡ codes "check" ∷ bundle ∷ files) × IsTrue (has_file_count files)
+IsSpelled words (Extract files) = (words ≡ codes "extract" ∷ files) × IsTrue (has_file_count files)
 IsSpelled words (Gen number) = AreGen words number
-IsSpelled words (Play script first second files) = words ≡ codes "play" ∷ script ∷ first ∷ second ∷ files
-IsSpelled words (Preview template json bundle files) = words ≡ codes "preview" ∷ template ∷ json ∷ bundle ∷ files
+IsSpelled words (Play script first second files) =
+    (words ≡ codes "play" ∷ script ∷ first ∷ second ∷ files) × IsTrue (has_file_count files)
+IsSpelled words (Preview template json bundle files) =
+    (words ≡ codes "preview" ∷ template ∷ json ∷ bundle ∷ files) × IsTrue (has_file_count files)
 IsSpelled words (Format file) = words ≡ codes "format" ∷ file ∷ []
 
-counted : (words : List Word) (asked : Asked) (b : Bool) → IsSpelled words asked
-    → IfSome (cond b (Some asked) None) (IsSpelled words)
-counted words asked true h = h
-counted words asked false h = tt
+counted : (words : List Word) (asked : Asked) (files : List Word) (b : Bool) → has_file_count files ≡ b
+    → (IsTrue (has_file_count files) → IsSpelled words asked) → IfSome (cond b (Some asked) None) (IsSpelled words)
+counted words asked files true is h = h is
+counted words asked files false is h = tt
 
 render_spelled : (words : List Word) → IfSome (render_asked words) (IsSpelled (codes "render" ∷ words))
 render_spelled [] = tt
 render_spelled (t ∷ []) = tt
 render_spelled (t ∷ j ∷ []) = tt
-render_spelled (t ∷ j ∷ b ∷ files) = counted _ (Render t j b files) (has_file_count files) refl
+render_spelled (t ∷ j ∷ b ∷ files) =
+    counted _ (Render t j b files) files (has_file_count files) refl (λ few. (refl, few))
 
 check_spelled : (words : List Word) → IfSome (check_asked words) (IsSpelled (codes "check" ∷ words))
 check_spelled [] = tt
-check_spelled (b ∷ files) = counted _ (Check b files) (has_file_count files) refl
+check_spelled (b ∷ files) = counted _ (Check b files) files (has_file_count files) refl (λ few. (refl, few))
 
 extract_spelled : (files : List Word) → IfSome (extract_asked files) (IsSpelled (codes "extract" ∷ files))
-extract_spelled files = counted _ (Extract files) (has_file_count files) refl
+extract_spelled files = counted _ (Extract files) files (has_file_count files) refl (λ few. (refl, few))
 
 number_spelled : (digits : Word) (n : Option ℕ) → number_of digits ≡ n
     → IfSome (option_map Gen n) (IsSpelled (codes "gen" ∷ digits ∷ []))
@@ -52,13 +56,15 @@ play_spelled : (words : List Word) → IfSome (play_asked words) (IsSpelled (cod
 play_spelled [] = tt
 play_spelled (s ∷ []) = tt
 play_spelled (s ∷ a ∷ []) = tt
-play_spelled (s ∷ a ∷ b ∷ files) = counted _ (Play s a b files) (has_file_count files) refl
+play_spelled (s ∷ a ∷ b ∷ files) =
+    counted _ (Play s a b files) files (has_file_count files) refl (λ few. (refl, few))
 
 preview_spelled : (words : List Word) → IfSome (preview_asked words) (IsSpelled (codes "preview" ∷ words))
 preview_spelled [] = tt
 preview_spelled (t ∷ []) = tt
 preview_spelled (t ∷ j ∷ []) = tt
-preview_spelled (t ∷ j ∷ b ∷ files) = counted _ (Preview t j b files) (has_file_count files) refl
+preview_spelled (t ∷ j ∷ b ∷ files) =
+    counted _ (Preview t j b files) files (has_file_count files) refl (λ few. (refl, few))
 
 format_spelled : (words : List Word) → IfSome (format_asked words) (IsSpelled (codes "format" ∷ words))
 format_spelled [] = tt
@@ -92,3 +98,24 @@ spelled_by (command ∷ words) =
 
 pub spelled-asked : (words : List Word) (asked : Asked) → asked_by_words words ≡ Some asked → IsSpelled words asked
 spelled-asked words asked is = subst (λ o. IfSome o (IsSpelled words)) is (spelled_by words)
+
+-- ---- so spelled words ask for it
+
+module _ (words : List Word) where
+  pub render_asks : (template json bundle : Word) (files : List Word)
+      → words ≡ codes "render" ∷ template ∷ json ∷ bundle ∷ files → IsTrue (has_file_count files)
+      → asked_by_words words ≡ Some (Render template json bundle files)
+  render_asks template json bundle files is few =
+      ap asked_by_words is ∙ ap (λ b. if b then Some (Render template json bundle files) else None) few
+
+  pub check_asks : (bundle : Word) (files : List Word) → words ≡ codes "check" ∷ bundle ∷ files
+      → IsTrue (has_file_count files) → asked_by_words words ≡ Some (Check bundle files)
+  check_asks bundle files is few =
+      ap asked_by_words is ∙ ap (λ b. if b then Some (Check bundle files) else None) few
+
+  pub extract_asks : (files : List Word) → words ≡ codes "extract" ∷ files → IsTrue (has_file_count files)
+      → asked_by_words words ≡ Some (Extract files)
+  extract_asks files is few = ap asked_by_words is ∙ ap (λ b. if b then Some (Extract files) else None) few
+
+  pub gen_asks : (number : ℕ) → AreGen words number → asked_by_words words ≡ Some (Gen number)
+  gen_asks number are = ap asked_by_words are.1 ∙ ap (option_map Gen) are.2

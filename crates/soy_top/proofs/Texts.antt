@@ -1,27 +1,35 @@
 -- Where the answer is a text, the words and the files are those of a page, of a catalogue or of files that are
--- accepted, or the words are those of a workload.
+-- accepted, or the words are those of a workload. Where it is a text that ends too deep, they are those of a page that
+-- stops at a call.
 use Rattle.std.proofs.Common.{◌≡◌, ℕ, zero, suc, Bool, true, false, cond, ◌-◌, List, [], ◌∷◌, ◌++◌, length, drop, take}
 use Rattle.std.proofs.Common.{length-append, map, Option, Some, None, refl, sym, ap, ◌∙◌, arith, codes}
+use Rattle.std.proofs.Common.{subst, ◌≤◌}
 use Rattle.std.proofs.lemmas.List.{length-map}
-use Rattle.std.specs.Prelude.{unwrap_or, is_some, Result, Ok, Err}
+use Rattle.std.specs.Prelude.{unwrap_or, is_some, Result, Ok, Err, nat_lt}
+use Rattle.std.proofs.lemmas.Bool.{le-ltb, ltb-false}
 use Rattle.std.specs.Option.{option_map_or}
 use Rattle.std.proofs.lemmas.Slice.Eq.{bytes_eq-Decides}
 use Rattle.soy_base.specs.declared.code.Code.{Code}
 use Rattle.soy_base.specs.declared.fault.Fault.{Fault}
 use Rattle.soy_base.specs.declared.path.PathStep.{PathStep}
+use Rattle.msg_extract.specs.declared.catalogue.Listed.{Listed}
+use Rattle.soy_front.specs.Accepted.{Accepted, AreFiles}
 use Rattle.soy_front.specs.FilesAnswer.{ReadFiles, files_answer}
-use Rattle.soy_front.specs.FrontAnswer.{Front, front_answer}
+use Rattle.soy_front.specs.FrontAnswer.{DeserveFront, Front, front_answer}
 use Rattle.soy_front.specs.declared.fault.FrontFault.{FrontFault}
 use Rattle.soy_front.proofs.FilesLaws.{read_as}
 use Rattle.soy_front.proofs.FrontAnswers.{answered_accepted, answered_deserved}
 use Rattle.soy_front.specs.Sources.{source_answer}
 use Rattle.soy_io.specs.FileOf.{Files, file_of}
 use Rattle.soy_meaning.specs.Outcome.{RunEnd, StopsAt, WholeRun, end_of_outcome}
+use Rattle.soy_meaning.specs.Plan.{Site}
 use Rattle.soy_tree.specs.Templates.{Declared}
 use Rattle.soy_tree.specs.Values.{Value}
 use Rattle.soy_tree.specs.declared.tree.Tree.{Tree}
 use Rattle.soy_types.specs.ReadData.{data_at}
-use Rattle.soy_top.specs.Answer.{Answer, Usage, Read, Refused, Done, data_answer, ended_page, entry_answer, entry_of}
+use Rattle.soy_top.specs.AcceptedRender.{AcceptedRender}
+use Rattle.soy_top.specs.Answer.{Answer, Usage, Read, Refused, Done, TooDeep, data_answer, ended_page, entry_answer}
+use Rattle.soy_top.specs.Answer.{call_fault, entry_of, front_line}
 use Rattle.soy_top.specs.Answer.{PageAnswer, page_answer, render_answer, run_text, template_outcome}
 use Rattle.soy_top.specs.Answer.{contents_answer, asked_answer, limits_answer, answer, not_yet}
 use Rattle.soy_top.specs.Answer.{accepted_text, accepted_then, catalogue_answer, catalogue_text, read_then}
@@ -33,55 +41,71 @@ use Rattle.soy_top.specs.FilesWanted.{first_not_held, first_over_limit, content,
 use Rattle.soy_top.specs.Generated.{workload_entry, workload_files, workload_json, workload_names}
 use Rattle.soy_top.specs.Inputs.{bundle_content, but_last, last, second_number}
 use Rattle.soy_top.specs.IsCatalogue.{IsCatalogue}
-use Rattle.soy_top.specs.IsChecked.{HoldsBundle, IsChecked}
+use Rattle.soy_top.specs.HoldsInputs.{HoldsBundle, HoldsData}
+use Rattle.soy_top.specs.IsChecked.{IsChecked}
 use Rattle.soy_top.specs.IsGenerated.{IsSummary}
-use Rattle.soy_top.specs.IsPage.{IsPage}
+use Rattle.soy_top.specs.IsPage.{IsPage, IsStoppedPage}
 use Rattle.soy_top.specs.IsText.{IsText}
 use Rattle.soy_top.specs.IsText.IsText.{Page, Checked, Catalogue, Generated}
-use Rattle.soy_top.specs.Line.{too_large_line}
+use Rattle.soy_top.specs.Line.{entry_line, fault_line, not_yet_line, too_large_line}
 use Rattle.soy_top.specs.MadeBundle.{bundle_text}
-use Rattle.soy_top.specs.Numbered.{numbered}
+use Rattle.soy_top.specs.Numbered.{numbered, numbered_line}
+use Rattle.soy_top.specs.Pointer.{pointer_line}
 use Rattle.soy_top.specs.Summary.{summary}
 use Rattle.soy_top.specs.Words.{Word}
+use Rattle.soy_top.proofs.Options.{some_none}
 use Rattle.soy_top.proofs.SpelledWords.{IsSpelled, spelled-asked}
 use Rattle.work_gen.specs.Workload.{workload}
 use Rattle.work_gen.specs.declared.workload.Workload.{Workload}
 
--- a text by what a template gives is its text, and it ends whole
-page_text : (names : List Word) (contents : List (List ℕ)) (given : List ℕ) (end : RunEnd) (text : List ℕ)
-    → ended_page names contents given end ≡ Done text → (end ≡ WholeRun) × (text ≡ given)
-page_text names contents given WholeRun text h = (refl, cc)
-page_text names contents given (StopsAt site) text h = cc
+-- an answer that is none of a file and none of a line
+abbrev pub IsNoRefusal : Answer → Type 0
+IsNoRefusal (Read file) = ⊥
+IsNoRefusal (Refused line) = ⊥
+IsNoRefusal _ = Unit {0}
 
--- a text by the data is one of values that were read
-data_text : (page : PageAnswer) (json_name : Word) (of : Front) (d : Declared)
-    (r : Result Value (Code × List PathStep)) (text : List ℕ) → data_answer page json_name of d r ≡ Done text
-    → (v : Value) × (r ≡ Ok v) × (page_answer page (template_outcome of d v) ≡ Done text)
-data_text page json_name of d (Ok v) text h = (v, refl, h)
-data_text page json_name of d (Err fault) text h = cc
+-- such an answer is neither
+not_read : (file : Word) (a : Answer) → IsNoRefusal a → Read file ≡ a → ⊥
+not_read file a fine is = subst IsNoRefusal (sym is) fine
 
--- a text by the template is one of a template that was found
-entry_text : (page : PageAnswer) (template json_name : Word) (json : List ℕ) (of : Front) (o : Option Declared)
-    (text : List ℕ) → entry_answer page template json_name json of o ≡ Done text
-    → (d : Declared) × (o ≡ Some d) × (data_answer page json_name of d (data_at d.template.params json) ≡ Done text)
-entry_text page template json_name json of None text h = cc
-entry_text page template json_name json of (Some d) text h = (d, refl, h)
+not_refused : (line : List ℕ) (a : Answer) → IsNoRefusal a → Refused line ≡ a → ⊥
+not_refused line a fine is = subst IsNoRefusal (sym is) fine
 
--- a text by the files that are held and within their limits is one by their contents
-option_none : (o : Option Word) (f : Word → Answer) (a : Answer) (text : List ℕ) → ((w : Word) → f w ≡ Done text → ⊥)
-    → option_map_or f o a ≡ Done text → (o ≡ None) × (a ≡ Done text)
-option_none None f a text never h = (refl, h)
-option_none (Some w) f a text never h = absurd (never w h)
+-- such an answer by the data is one by values that were read
+data_given : (page : PageAnswer) (json_name : Word) (of : Front) (d : Declared)
+    (r : Result Value (Code × List PathStep)) (a : Answer) → IsNoRefusal a → data_answer page json_name of d r ≡ a
+    → (v : Value) × (r ≡ Ok v) × (page_answer page (template_outcome of d v) ≡ a)
+data_given page json_name of d (Ok v) a fine h = (v, refl, h)
+data_given page json_name of d (Err fault) a fine h =
+    absurd (not_refused (pointer_line json_name fault.1 fault.0) a fine h)
 
-held_text : (files : Files) (asked : Asked) (text : List ℕ) → asked_answer files asked ≡ Done text
-    → (first_not_held files (asked_files asked) ≡ None) ×
-    (contents_answer asked (contents files (asked_files asked)) ≡ Done text)
-held_text files asked text h =
+-- one by the template is one of a template that was found
+entry_given : (page : PageAnswer) (template json_name : Word) (json : List ℕ) (of : Front) (o : Option Declared)
+    (a : Answer) → IsNoRefusal a → entry_answer page template json_name json of o ≡ a
+    → (d : Declared) × (o ≡ Some d) × (data_answer page json_name of d (data_at d.template.params json) ≡ a)
+entry_given page template json_name json of None a fine h = absurd (not_refused (entry_line template) a fine h)
+entry_given page template json_name json of (Some d) a fine h = (d, refl, h)
+
+-- one by the files that are held and within their limits is one by their contents
+option_none : (o : Option Word) (f : Word → Answer) (rest a : Answer) → ((w : Word) → f w ≡ a → ⊥)
+    → option_map_or f o rest ≡ a → (o ≡ None) × (rest ≡ a)
+option_none None f rest a never h = (refl, h)
+option_none (Some w) f rest a never h = absurd (never w h)
+
+record IsByContents (files : Files) (asked : Asked) (a : Answer) : Type 0 where
+  pub held : first_not_held files (asked_files asked) ≡ None
+  pub within : first_over_limit files (asked_files asked) ≡ None
+  pub given : contents_answer asked (contents files (asked_files asked)) ≡ a
+
+by_contents : (files : Files) (asked : Asked) (a : Answer) → IsNoRefusal a → asked_answer files asked ≡ a
+    → IsByContents files asked a
+by_contents files asked a fine h =
     let held = option_none (first_not_held files (asked_files asked)) Read
-    (limits_answer files asked (asked_files asked)) text (λ w e. cc) h in
+    (limits_answer files asked (asked_files asked)) a (λ w e. not_read w a fine e) h in
     let within = option_none (first_over_limit files (asked_files asked)) (λ file. Refused (too_large_line file))
-    (contents_answer asked (contents files (asked_files asked))) text (λ w e. cc) held.1 in
-    (held.0, within.1)
+    (contents_answer asked (contents files (asked_files asked))) a
+    (λ w e. not_refused (too_large_line w) a fine e) held.1 in
+    record { held = held.0; within = within.0; given = within.1 }
 
 -- a file before the first that isn't held is held
 content_held : (o : Option (List ℕ)) (rest : Option Word) (name : Word) → cond (is_some o) rest (Some name) ≡ None
@@ -129,12 +153,12 @@ module _ (files : Files) (before : List FileWanted) (names : List Word) where
   count : length (contents files before ++ named) - length names ≡ length (contents files before)
   count = length_both (contents files before) named (length names) (sym (as_many files names))
 
-  before_named : but_last (length names) (contents files (before ++ map source_file names)) ≡ contents files before
+  pub before_named : but_last (length names) (contents files (before ++ map source_file names)) ≡ contents files before
   before_named =
       ap (but_last (length names)) (contents_both files before (map source_file names))
       ∙ take_before (contents files before) named _ count
 
-  last_named : last (length names) (contents files (before ++ map source_file names)) ≡ named
+  pub last_named : last (length names) (contents files (before ++ map source_file names)) ≡ named
   last_named =
       ap (last (length names)) (contents_both files before (map source_file names))
       ∙ drop_before (contents files before) named _ count
@@ -148,23 +172,51 @@ held_before files (x ∷ xs) ys h =
     let rest = held_before files xs ys first.1 in
     (ap (λ o. cond (is_some o) (first_not_held files xs) (Some x.name)) first.0 ∙ rest.0, rest.1)
 
+-- a file that isn't over its limit, before others
+pub first_within : (over : Bool) (n limit : ℕ) (name : Word) (rest : Option Word) → nat_lt limit n ≡ over
+    → cond over (Some name) rest ≡ None → (n ≤ limit) × (rest ≡ None)
+first_within true n limit name rest is none = absurd (some_none name none)
+first_within false n limit name rest is none = (ltb-false limit n is, none)
+
+-- files before others none of which is over its limit
+within_before : (files : Files) (xs ys : List FileWanted) → first_over_limit files (xs ++ ys) ≡ None
+    → first_over_limit files xs ≡ None
+within_before files [] ys h = refl
+within_before files (x ∷ xs) ys h =
+    let n : ℕ = length (content files x) in
+    let first = first_within (nat_lt x.limit n) n x.limit x.name (first_over_limit files (xs ++ ys)) refl h in
+    ap (λ b. cond b (Some x.name) (first_over_limit files xs)) (le-ltb x.limit n first.0)
+    ∙ within_before files xs ys first.1
+
 -- ---- files that are accepted
 
--- a text by what files are accepted as
-then_text : (names : List Word) (contents : List (List ℕ)) (bundle : Word) (answer : Front → Answer)
-    (r : Result Front FrontFault) (text : List ℕ) → unless_refused names contents bundle answer r ≡ Done text
-    → (of : Front) × (r ≡ Ok of) × (answer of ≡ Done text)
-then_text names contents bundle answer (Ok of) text h = (of, refl, h)
-then_text names contents bundle answer (Err fault) text h = cc
+-- an answer by what files are accepted as
+then_given : (names : List Word) (contents : List (List ℕ)) (bundle : Word) (answer : Front → Answer)
+    (r : Result Front FrontFault) (a : Answer) → IsNoRefusal a → unless_refused names contents bundle answer r ≡ a
+    → (of : Front) × (r ≡ Ok of) × (answer of ≡ a)
+then_given names contents bundle answer (Ok of) a fine h = (of, refl, h)
+then_given names contents bundle answer (Err fault) a fine h =
+    absurd (not_refused (front_line names contents bundle fault) a fine h)
+
+-- a file of data is held with its content, before others
+data_held : (files : Files) (name : Word) (rest : List FileWanted) → first_not_held files (data_file name ∷ rest) ≡ None
+    → first_over_limit files (data_file name ∷ rest) ≡ None
+    → HoldsData files name (unwrap_or (file_of files name) [])
+data_held files name rest held within = (
+  (content_held (file_of files name) (first_not_held files rest) name held).0,
+  (first_within (nat_lt 4194304 (length (content files (data_file name)))) (length (content files (data_file name)))
+      4194304 name (first_over_limit files rest) refl within).0,
+)
 
 -- the bundle of a name is held with its content
 bundle_held : (files : Files) (bundle : Word) (b : Bool) → is_source_language bundle ≡ b
     → first_not_held files (cond b [] (data_file bundle ∷ [])) ≡ None
+    → first_over_limit files (cond b [] (data_file bundle ∷ [])) ≡ None
     → HoldsBundle files bundle (cond b None (Some (unwrap_or (file_of files bundle) [])))
-bundle_held files bundle true e held = (bytes_eq-Decides bundle (codes "-")).0 e
-bundle_held files bundle false e held = (
+bundle_held files bundle true e held within = (bytes_eq-Decides bundle (codes "-")).0 e
+bundle_held files bundle false e held within = (
   (λ same. let f : true ≡ false = sym ((bytes_eq-Decides bundle (codes "-")).1 same) ∙ e in absurd (cc f)),
-  (content_held (file_of files bundle) None bundle held).0,
+  data_held files bundle [] held within,
 )
 
 -- the content of the first bundle, where nothing is before it
@@ -181,49 +233,58 @@ second_content : (files : Files) (json_name bundle : Word) (b : Bool) → is_sou
 second_content files json_name bundle true e = rw e refl
 second_content files json_name bundle false e = rw e refl
 
-module _ (files : Files) (words : List Word) (template json_name bundle : Word) (names : List Word) (text : List ℕ)
-  where
-    abbrev before : List FileWanted
-    before = data_file json_name ∷ bundle_files bundle
+module _ (files : Files) (words : List Word) (template json_name bundle : Word) (names : List Word) (a : Answer)
+    (fine : IsNoRefusal a) where
+  abbrev before : List FileWanted
+  before = data_file json_name ∷ bundle_files bundle
 
-    abbrev sources : List (List ℕ)
-    sources = contents files (map source_file names)
+  abbrev sources : List (List ℕ)
+  sources = contents files (map source_file names)
 
-    abbrev json : List ℕ
-    json = unwrap_or (file_of files json_name) []
+  abbrev json : List ℕ
+  json = unwrap_or (file_of files json_name) []
 
-    abbrev bundle_bytes : Option (List ℕ)
-    bundle_bytes = cond (is_source_language bundle) None (Some (unwrap_or (file_of files bundle) []))
+  abbrev bundle_bytes : Option (List ℕ)
+  bundle_bytes = cond (is_source_language bundle) None (Some (unwrap_or (file_of files bundle) []))
 
-    -- the same answer by the contents of the files and those before them
-    by_inputs :
-        contents_answer (Render template json_name bundle names) (contents files (before ++ map source_file names))
-        ≡ Done text
-        → inputs_answer (Render template json_name bundle names) (contents files before) sources ≡ Done text
-    by_inputs h =
-        let asked : Asked = Render template json_name bundle names in
-        ap (λ x. inputs_answer asked x sources) (sym (before_named files before names))
-        ∙ (ap (λ y. inputs_answer asked (but_last (length names) (contents files (before ++ map source_file names))) y)
-        (sym (last_named files before names)) ∙ h)
+  -- the same answer by the contents of the files and those before them
+  by_inputs :
+      contents_answer (Render template json_name bundle names) (contents files (before ++ map source_file names)) ≡ a
+      → inputs_answer (Render template json_name bundle names) (contents files before) sources ≡ a
+  by_inputs h =
+      let asked : Asked = Render template json_name bundle names in
+      ap (λ x. inputs_answer asked x sources) (sym (before_named files before names))
+      ∙ (ap (λ y. inputs_answer asked (but_last (length names) (contents files (before ++ map source_file names))) y)
+      (sym (last_named files before names)) ∙ h)
 
-    page_is : words ≡ codes "render" ∷ template ∷ json_name ∷ bundle ∷ names
-        → first_not_held files (before ++ map source_file names) ≡ None
-        → contents_answer (Render template json_name bundle names) (contents files (before ++ map source_file names))
-        ≡ Done text → IsPage files words text
-    page_is words_are held h =
-        let here = held_before files before (map source_file names) held in
-        let json_here = content_held (file_of files json_name) (first_not_held files (bundle_files bundle)) json_name
-        here.0 in
-        let page : PageAnswer = ended_page names sources in
-        let t = then_text names sources bundle (render_answer page template json_name json)
-        (front_answer sources (bundle_content bundle 1 (contents files before))) text (by_inputs h) in
-        let answered = ap (λ c. front_answer sources c)
-        (sym (second_content files json_name bundle (is_source_language bundle) refl)) ∙ t.1 in
-        let e = entry_text page template json_name json t.0 (entry_of t.0 template) text t.2 in
-        let v = data_text page json_name t.0 e.0 (data_at e.0.template.params json) text e.2 in
-        let p = page_text names sources (run_text (template_outcome t.0 e.0 v.0))
-        (end_of_outcome (template_outcome t.0 e.0 v.0)) text v.2 in
-        record {
+  -- what is answered by the page of inputs that are accepted, where it isn't refused
+  pub record PageGiven : Type 0 where
+    pub render : AcceptedRender files words
+    pub d : Declared
+    pub v : Value
+    pub entry : entry_of render.of render.template ≡ Some d
+    pub reads : data_at d.template.params render.json ≡ Ok v
+    pub given : page_answer (ended_page render.names render.contents) (template_outcome render.of d v) ≡ a
+
+  page_given : IsSpelled words (Render template json_name bundle names)
+      → IsByContents files (Render template json_name bundle names) a → PageGiven
+  page_given spelled by =
+      let here = held_before files before (map source_file names) by.held in
+      let limits = within_before files before (map source_file names) by.within in
+      let json_here = content_held (file_of files json_name) (first_not_held files (bundle_files bundle)) json_name
+      here.0 in
+      let json_within = first_within (nat_lt 4194304 (length (content files (data_file json_name))))
+      (length (content files (data_file json_name))) 4194304 json_name (first_over_limit files (bundle_files bundle))
+      refl limits in
+      let page : PageAnswer = ended_page names sources in
+      let t = then_given names sources bundle (render_answer page template json_name json)
+      (front_answer sources (bundle_content bundle 1 (contents files before))) a fine (by_inputs by.given) in
+      let answered = ap (λ c. front_answer sources c)
+      (sym (second_content files json_name bundle (is_source_language bundle) refl)) ∙ t.1 in
+      let e = entry_given page template json_name json t.0 (entry_of t.0 template) a fine t.2 in
+      let v = data_given page json_name t.0 e.0 (data_at e.0.template.params json) a fine e.2 in
+      record {
+        render = record {
           template = template;
           json_name = json_name;
           bundle = bundle;
@@ -232,160 +293,320 @@ module _ (files : Files) (words : List Word) (template json_name bundle : Word) 
           content = bundle_bytes;
           contents = sources;
           of = t.0;
-          d = e.0;
-          v = v.0;
-          words_are = words_are;
-          json_held = json_here.0;
-          bundle_held = bundle_held files bundle (is_source_language bundle) refl json_here.1;
-          all_held = all_held files names here.1;
+          words_are = spelled.0;
+          json_held = (json_here.0, json_within.0);
+          bundle_held = bundle_held files bundle (is_source_language bundle) refl json_here.1 json_within.1;
+          files_held = (spelled.1, all_held files names here.1);
           accepted = answered_accepted sources bundle_bytes t.0 answered;
           deserved = answered_deserved sources bundle_bytes t.0 answered;
-          entry = e.1;
-          reads = v.1;
-          whole = p.0;
-          text_is = p.1;
+        };
+        d = e.0;
+        v = v.0;
+        entry = e.1;
+        reads = v.1;
+        given = v.2;
+      }
+
+-- a text by what a template gives is its text, and it ends whole
+page_text : (names : List Word) (contents : List (List ℕ)) (given : List ℕ) (end : RunEnd) (text : List ℕ)
+    → ended_page names contents given end ≡ Done text → (end ≡ WholeRun) × (text ≡ given)
+page_text names contents given WholeRun text h = (refl, cc)
+page_text names contents given (StopsAt site) text h = cc
+
+-- a text that ends too deep is that up to a call
+stopped_text : (names : List Word) (contents : List (List ℕ)) (given : List ℕ) (end : RunEnd) (text line : List ℕ)
+    → ended_page names contents given end ≡ TooDeep text line
+    → (site : Site) × (end ≡ StopsAt site) × (text ≡ given) × (line ≡ numbered_line names contents (call_fault site))
+stopped_text names contents given WholeRun text line h = cc
+stopped_text names contents given (StopsAt site) text line h = (site, refl, cc, cc)
+
+-- a text that ends whole is a page, and one that ends too deep a page up to a call
+page_is : (files : Files) (words : List Word) (template json_name bundle : Word) (names : List Word) (text : List ℕ)
+    → PageGiven files words template json_name bundle names (Done text) tt → IsPage files words text
+page_is files words template json_name bundle names text p =
+    let o = template_outcome p.render.of p.d p.v in
+    let q = page_text p.render.names p.render.contents (run_text o) (end_of_outcome o) text p.given in
+    record {
+      render = p.render;
+      d = p.d;
+      v = p.v;
+      entry = p.entry;
+      reads = p.reads;
+      whole = q.0;
+      text_is = q.1;
+    }
+
+stopped_is : (files : Files) (words : List Word) (template json_name bundle : Word) (names : List Word)
+    (text line : List ℕ) → PageGiven files words template json_name bundle names (TooDeep text line) tt
+    → IsStoppedPage files words text line
+stopped_is files words template json_name bundle names text line p =
+    let o = template_outcome p.render.of p.d p.v in
+    let q = stopped_text p.render.names p.render.contents (run_text o) (end_of_outcome o) text line p.given in
+    record {
+      render = p.render;
+      d = p.d;
+      v = p.v;
+      site = q.0;
+      entry = p.entry;
+      reads = p.reads;
+      stops = q.1;
+      text_is = q.2;
+      line_is = q.3;
+    }
+
+-- the answer to a `check` of files that are accepted
+module _ (files : Files) (words : List Word) (bundle : Word) (names : List Word) (a : Answer) (fine : IsNoRefusal a)
+  where
+    abbrev checked_bytes : Option (List ℕ)
+    checked_bytes = cond (is_source_language bundle) None (Some (unwrap_or (file_of files bundle) []))
+
+    pub record CheckGiven : Type 0 where
+      pub bundle_held : HoldsBundle files bundle checked_bytes
+      pub files_held : map (file_of files) names ≡ map Some (contents files (map source_file names))
+      pub accepted : Accepted (contents files (map source_file names)) checked_bytes
+      pub given : Done accepted_text ≡ a
+
+    check_given : IsByContents files (Check bundle names) a → CheckGiven
+    check_given by =
+        let here = held_before files (bundle_files bundle) (map source_file names) by.held in
+        let limits = within_before files (bundle_files bundle) (map source_file names) by.within in
+        let first = before_named files (bundle_files bundle) names in
+        let rest = last_named files (bundle_files bundle) names in
+        let t = then_given names _ bundle (λ of. Done accepted_text) _ a fine by.given in
+        let bytes = ap (bundle_content bundle 0) first
+        ∙ first_content files bundle (is_source_language bundle) refl in
+        let answered = ap (λ c. front_answer (contents files (map source_file names)) c) (sym bytes)
+        ∙ (ap (λ cs. front_answer cs (bundle_content bundle 0 (but_last (length names)
+        (contents files (bundle_files bundle ++ map source_file names))))) (sym rest) ∙ t.1) in
+        record {
+          bundle_held = bundle_held files bundle (is_source_language bundle) refl here.0 limits;
+          files_held = all_held files names here.1;
+          accepted = answered_accepted _ _ t.0 answered;
+          given = t.2;
         }
 
+done_same : (text other : List ℕ) → ◌≡◌ {A = Answer} (Done text) (Done other) → other ≡ text
+done_same text other e = cc
+
+-- so a text says that they are accepted
 check_text : (files : Files) (words : List Word) (bundle : Word) (names : List Word) (text : List ℕ)
-    → words ≡ codes "check" ∷ bundle ∷ names
-    → first_not_held files (bundle_files bundle ++ map source_file names) ≡ None
-    → contents_answer (Check bundle names) (contents files (bundle_files bundle ++ map source_file names)) ≡ Done text
+    → IsSpelled words (Check bundle names) → IsByContents files (Check bundle names) (Done text)
     → IsChecked files words text
-check_text files words bundle names text words_are held h =
-    let here = held_before files (bundle_files bundle) (map source_file names) held in
-    let first = before_named files (bundle_files bundle) names in
-    let rest = last_named files (bundle_files bundle) names in
-    let t = then_text names _ bundle (λ of. Done accepted_text) _ text h in
-    let bytes = ap (bundle_content bundle 0) first
-    ∙ first_content files bundle (is_source_language bundle) refl in
-    let answered = ap (λ c. front_answer (contents files (map source_file names)) c) (sym bytes)
-    ∙ (ap (λ cs. front_answer cs (bundle_content bundle 0 (but_last (length names)
-    (contents files (bundle_files bundle ++ map source_file names))))) (sym rest) ∙ t.1) in
+check_text files words bundle names text spelled by =
+    let c = check_given files words bundle names (Done text) tt by in
     record {
       bundle = bundle;
       names = names;
-      content = cond (is_source_language bundle) None (Some (unwrap_or (file_of files bundle) []));
+      content = checked_bytes files words bundle names (Done text) tt;
       contents = contents files (map source_file names);
-      words_are = words_are;
-      bundle_held = bundle_held files bundle (is_source_language bundle) refl here.0;
-      all_held = all_held files names here.1;
-      accepted = answered_accepted _ _ t.0 answered;
-      text_is = let e : Done accepted_text ≡ Done text = t.2 in cc e;
+      words_are = spelled.0;
+      bundle_held = c.bundle_held;
+      files_held = (spelled.1, c.files_held);
+      accepted = c.accepted;
+      text_is = done_same accepted_text text c.given;
     }
 
 -- ---- catalogues
 
--- a text by what files are read as
+-- an answer by what files are read as
 read_of : (names : List Word) (contents : List (List ℕ)) (answer : ReadFiles → Answer) (r : Result ReadFiles Fault)
-    (text : List ℕ) → unless_faulty names contents answer r ≡ Done text
-    → (read : ReadFiles) × (r ≡ Ok read) × (answer read ≡ Done text)
-read_of names contents answer (Ok read) text h = (read, refl, h)
-read_of names contents answer (Err fault) text h = cc
+    (a : Answer) → IsNoRefusal a → unless_faulty names contents answer r ≡ a
+    → (read : ReadFiles) × (r ≡ Ok read) × (answer read ≡ a)
+read_of names contents answer (Ok read) a fine h = (read, refl, h)
+read_of names contents answer (Err fault) a fine h =
+    absurd (not_refused (numbered_line names contents fault) a fine h)
+
+module _ (files : Files) (names : List Word) (a : Answer) (fine : IsNoRefusal a) where
+  extract_given : IsByContents files (Extract names) a
+      → (read : ReadFiles) × (files_answer (contents files (map source_file names)) ≡ Ok read)
+      × (catalogue_answer read ≡ a)
+  extract_given by =
+      let sources : List (List ℕ) = contents files (map source_file names) in
+      read_of names sources catalogue_answer (files_answer sources) a fine
+      (ap (λ cs. read_then names cs catalogue_answer) (sym (last_named files [] names)) ∙ by.given)
 
 extract_text : (files : Files) (words : List Word) (names : List Word) (text : List ℕ)
-    → words ≡ codes "extract" ∷ names → first_not_held files (map source_file names) ≡ None
-    → contents_answer (Extract names) (contents files (map source_file names)) ≡ Done text
-    → IsCatalogue files words text
-extract_text files words names text words_are held h =
-    let rest = last_named files [] names in
+    → IsSpelled words (Extract names) → IsByContents files (Extract names) (Done text) → IsCatalogue files words text
+extract_text files words names text spelled by =
     let sources : List (List ℕ) = contents files (map source_file names) in
-    let had = read_of names sources catalogue_answer (files_answer sources) text
-    (ap (λ cs. read_then names cs catalogue_answer) (sym rest) ∙ h) in
+    let had = extract_given files names (Done text) tt by in
     record {
       names = names;
       contents = sources;
       trees = had.0.trees;
       rows = had.0.rows;
-      words_are = words_are;
-      all_held = all_held files names held;
+      words_are = spelled.0;
+      files_held = (spelled.1, all_held files names by.held);
       are_files = read_as sources had.0 had.1;
-      text_is = let e : Done (catalogue_text had.0.rows) ≡ Done text = had.2 in cc e;
+      text_is = done_same (catalogue_text had.0.rows) text had.2;
     }
 
 -- ---- workloads
 
+-- what is answered by the page of a workload is the answer that it gives
+module _ (w : Workload) (a : Answer) (fine : IsNoRefusal a) where
+  pub record WorkloadGiven : Type 0 where
+    pub trees : List Tree
+    pub rows : List Listed
+    pub of : Front
+    pub d : Declared
+    pub v : Value
+    pub are_files : AreFiles (workload_files w) trees rows
+    pub accepted : Accepted (workload_files w) (Some (bundle_text rows))
+    pub deserved : DeserveFront (workload_files w) (Some (bundle_text rows)) of
+    pub entry : entry_of of (workload_entry w) ≡ Some d
+    pub reads : data_at d.template.params (workload_json w) ≡ Ok v
+    pub given : Done (summary (run_text (template_outcome of d v))) ≡ a
+
+  workload_given : workload_answer w ≡ a → WorkloadGiven
+  workload_given h =
+      let sources : List (List ℕ) = workload_files w in
+      let had = read_of workload_names sources (bundled_answer w workload_names sources) (files_answer sources) a fine
+      h in
+      let bundle : List ℕ = bundle_text had.0.rows in
+      let t = then_given workload_names sources (codes "gen.bundle")
+      (render_answer summed_page (workload_entry w) (codes "gen.json") (workload_json w))
+      (front_answer sources (Some bundle)) a fine had.2 in
+      let e = entry_given summed_page (workload_entry w) (codes "gen.json") (workload_json w) t.0
+      (entry_of t.0 (workload_entry w)) a fine t.2 in
+      let v = data_given summed_page (codes "gen.json") t.0 e.0 (data_at e.0.template.params (workload_json w)) a fine
+      e.2 in
+      record {
+        trees = had.0.trees;
+        rows = had.0.rows;
+        of = t.0;
+        d = e.0;
+        v = v.0;
+        are_files = read_as sources had.0 had.1;
+        accepted = answered_accepted sources (Some bundle) t.0 t.1;
+        deserved = answered_deserved sources (Some bundle) t.0 t.1;
+        entry = e.1;
+        reads = v.1;
+        given = v.2;
+      }
+
+-- a text that a workload has is its summary
 summary_text : (w : Workload) (text : List ℕ) → workload_answer w ≡ Done text → IsSummary w text
 summary_text w text h =
-    let sources : List (List ℕ) = workload_files w in
-    let had = read_of workload_names sources (bundled_answer w workload_names sources) (files_answer sources) text h in
-    let bundle : List ℕ = bundle_text had.0.rows in
-    let t = then_text workload_names sources (codes "gen.bundle")
-    (render_answer summed_page (workload_entry w) (codes "gen.json") (workload_json w))
-    (front_answer sources (Some bundle)) text had.2 in
-    let e = entry_text summed_page (workload_entry w) (codes "gen.json") (workload_json w) t.0
-    (entry_of t.0 (workload_entry w)) text t.2 in
-    let v = data_text summed_page (codes "gen.json") t.0 e.0 (data_at e.0.template.params (workload_json w)) text e.2 in
+    let g = workload_given w (Done text) tt h in
     record {
-      trees = had.0.trees;
-      rows = had.0.rows;
-      of = t.0;
-      d = e.0;
-      v = v.0;
-      are_files = read_as sources had.0 had.1;
-      accepted = answered_accepted sources (Some bundle) t.0 t.1;
-      deserved = answered_deserved sources (Some bundle) t.0 t.1;
-      entry = e.1;
-      reads = v.1;
-      text_is = let same : Done (summary (run_text (template_outcome t.0 e.0 v.0))) ≡ Done text = v.2 in cc same;
+      trees = g.trees;
+      rows = g.rows;
+      of = g.of;
+      d = g.d;
+      v = g.v;
+      are_files = g.are_files;
+      accepted = g.accepted;
+      deserved = g.deserved;
+      entry = g.entry;
+      reads = g.reads;
+      text_is = done_same (summary (run_text (template_outcome g.of g.d g.v))) text g.given;
     }
 
--- ---- other commands have no text
+-- ---- other commands have only refusals
 
-tree_no_text : (name : Word) (bytes : List ℕ) (read : Result Tree Fault) (text : List ℕ)
-    → tree_answer name bytes read ≡ Done text → ⊥
-tree_no_text name bytes (Ok tree) text h = cc
-tree_no_text name bytes (Err fault) text h = cc
+-- a `format`, a `play` and a `preview` are refused, whatever they are asked of
+tree_refused : (name : Word) (bytes : List ℕ) (read : Result Tree Fault) (a : Answer) → IsNoRefusal a
+    → tree_answer name bytes read ≡ a → ⊥
+tree_refused name bytes (Ok tree) a fine h = not_refused (not_yet_line (codes "format")) a fine h
+tree_refused name bytes (Err fault) a fine h = not_refused (fault_line name bytes fault) a fine h
 
-play_no_text : (script first second : Word) (names : List Word) (given read : List (List ℕ)) (text : List ℕ)
-    → inputs_answer (Play script first second names) given read ≡ Done text → ⊥
-play_no_text script first second names given read text h =
-    let t = then_text names read first (λ of. accepted_then names read second
+play_refused : (script first second : Word) (names : List Word) (given read : List (List ℕ)) (a : Answer)
+    → IsNoRefusal a → inputs_answer (Play script first second names) given read ≡ a → ⊥
+play_refused script first second names given read a fine h =
+    let t = then_given names read first (λ of. accepted_then names read second
     (bundle_content second (second_number first) given) (λ other. not_yet (codes "play")))
-    (front_answer read (bundle_content first 1 given)) text h in
-    let u = then_text names read second (λ other. not_yet (codes "play"))
-    (front_answer read (bundle_content second (second_number first) given)) text t.2 in
-    let e : not_yet (codes "play") ≡ Done text = u.2 in cc
+    (front_answer read (bundle_content first 1 given)) a fine h in
+    let u = then_given names read second (λ other. not_yet (codes "play"))
+    (front_answer read (bundle_content second (second_number first) given)) a fine t.2 in
+    not_refused (not_yet_line (codes "play")) a fine u.2
 
-preview_no_text : (template json_name bundle : Word) (names : List Word) (given read : List (List ℕ)) (text : List ℕ)
-    → inputs_answer (Preview template json_name bundle names) given read ≡ Done text → ⊥
-preview_no_text template json_name bundle names given read text h =
+preview_refused : (template json_name bundle : Word) (names : List Word) (given read : List (List ℕ)) (a : Answer)
+    → IsNoRefusal a → inputs_answer (Preview template json_name bundle names) given read ≡ a → ⊥
+preview_refused template json_name bundle names given read a fine h =
     let json : List ℕ = numbered 0 given in
-    let t = then_text names read bundle (preview_answer unseen_page template json_name json)
-    (front_answer read (bundle_content bundle 1 given)) text h in
-    let e = entry_text unseen_page template json_name json t.0 (shown_of t.0 template) text t.2 in
-    let v = data_text unseen_page json_name t.0 e.0 (data_at e.0.template.params json) text e.2 in
-    let refused : not_yet (codes "preview") ≡ Done text = v.2 in cc
+    let t = then_given names read bundle (preview_answer unseen_page template json_name json)
+    (front_answer read (bundle_content bundle 1 given)) a fine h in
+    let e = entry_given unseen_page template json_name json t.0 (shown_of t.0 template) a fine t.2 in
+    let v = data_given unseen_page json_name t.0 e.0 (data_at e.0.template.params json) a fine e.2 in
+    not_refused (not_yet_line (codes "preview")) a fine v.2
 
+-- ---- all commands
+
+-- a text, by what the words ask for
 asked_text : (files : Files) (words : List Word) (asked : Asked) (text : List ℕ) → IsSpelled words asked
-    → first_not_held files (asked_files asked) ≡ None
-    → contents_answer asked (contents files (asked_files asked)) ≡ Done text → IsText files words text
-asked_text files words (Render template json_name bundle names) text is held h =
-    Page (page_is files words template json_name bundle names text is held h)
-asked_text files words (Check bundle names) text is held h =
-    Checked (check_text files words bundle names text is held h)
-asked_text files words (Extract names) text is held h = Catalogue (extract_text files words names text is held h)
-asked_text files words (Gen number) text is held h =
-    Generated (record { number = number; words_are = is; is_summary = summary_text (workload number) text h })
-asked_text files words (Play script first second names) text is held h =
+    → IsByContents files asked (Done text) → IsText files words text
+asked_text files words (Render template json_name bundle names) text is by =
+    Page (page_is files words template json_name bundle names text
+    (page_given files words template json_name bundle names (Done text) tt is by))
+asked_text files words (Check bundle names) text is by = Checked (check_text files words bundle names text is by)
+asked_text files words (Extract names) text is by = Catalogue (extract_text files words names text is by)
+asked_text files words (Gen number) text is by =
+    Generated (record { number = number; words_are = is; is_summary = summary_text (workload number) text by.given })
+asked_text files words (Play script first second names) text is by =
     let all : List (List ℕ) = contents files (asked_files (Play script first second names)) in
-    absurd (play_no_text script first second names (but_last (length names) all) (last (length names) all) text h)
-asked_text files words (Preview template json_name bundle names) text is held h =
+    absurd (play_refused script first second names (but_last (length names) all) (last (length names) all)
+    (Done text) tt by.given)
+asked_text files words (Preview template json_name bundle names) text is by =
     let all : List (List ℕ) = contents files (asked_files (Preview template json_name bundle names)) in
-    absurd
-    (preview_no_text template json_name bundle names (but_last (length names) all) (last (length names) all) text h)
-asked_text files words (Format name) text is held h =
+    absurd (preview_refused template json_name bundle names (but_last (length names) all) (last (length names) all)
+    (Done text) tt by.given)
+asked_text files words (Format name) text is by =
     let all : List (List ℕ) = contents files (asked_files (Format name)) in
-    absurd (tree_no_text name (numbered 0 (but_last 0 all)) (source_answer (numbered 0 (but_last 0 all))) text h)
+    absurd (tree_refused name (numbered 0 (but_last 0 all)) (source_answer (numbered 0 (but_last 0 all))) (Done text) tt
+    by.given)
+
+done_deep : (text other line : List ℕ) → ◌≡◌ {A = Answer} (Done text) (TooDeep other line) → ⊥
+done_deep text other line e = cc
+
+-- a text that ends too deep, by what the words ask for
+asked_stopped : (files : Files) (words : List Word) (asked : Asked) (text line : List ℕ) → IsSpelled words asked
+    → IsByContents files asked (TooDeep text line) → IsStoppedPage files words text line
+asked_stopped files words (Render template json_name bundle names) text line is by =
+    stopped_is files words template json_name bundle names text line
+    (page_given files words template json_name bundle names (TooDeep text line) tt is by)
+asked_stopped files words (Check bundle names) text line is by =
+    absurd (done_deep accepted_text text line (check_given files words bundle names (TooDeep text line) tt by).given)
+asked_stopped files words (Extract names) text line is by =
+    let had = extract_given files names (TooDeep text line) tt by in
+    absurd (done_deep (catalogue_text had.0.rows) text line had.2)
+asked_stopped files words (Gen number) text line is by =
+    let g = workload_given (workload number) (TooDeep text line) tt by.given in
+    absurd (done_deep (summary (run_text (template_outcome g.of g.d g.v))) text line g.given)
+asked_stopped files words (Play script first second names) text line is by =
+    let all : List (List ℕ) = contents files (asked_files (Play script first second names)) in
+    absurd (play_refused script first second names (but_last (length names) all) (last (length names) all)
+    (TooDeep text line) tt by.given)
+asked_stopped files words (Preview template json_name bundle names) text line is by =
+    let all : List (List ℕ) = contents files (asked_files (Preview template json_name bundle names)) in
+    absurd (preview_refused template json_name bundle names (but_last (length names) all) (last (length names) all)
+    (TooDeep text line) tt by.given)
+asked_stopped files words (Format name) text line is by =
+    let all : List (List ℕ) = contents files (asked_files (Format name)) in
+    absurd (tree_refused name (numbered 0 (but_last 0 all)) (source_answer (numbered 0 (but_last 0 all)))
+    (TooDeep text line) tt by.given)
 
 answered_text : (files : Files) (words : List Word) (asked : Option Asked) (text : List ℕ)
     → asked_by_words words ≡ asked → option_map_or (asked_answer files) asked Usage ≡ Done text
     → IsText files words text
 answered_text files words None text is h = cc
 answered_text files words (Some asked) text is h =
-    let held = held_text files asked text h in
-    asked_text files words asked text (spelled-asked words asked is) held.0 held.1
+    asked_text files words asked text (spelled-asked words asked is) (by_contents files asked (Done text) tt h)
 
--- a text that is the answer is a page, a catalogue, that files are accepted, or the summary of a workload
+-- **a text that is the answer is a page, a catalogue, that files are accepted, or the summary of a workload**
 pub text-answered : (files : Files) (words : List Word) (text : List ℕ) → answer files words ≡ Done text
     → IsText files words text
 text-answered files words text h = answered_text files words (asked_by_words words) text refl h
+
+answered_stopped : (files : Files) (words : List Word) (asked : Option Asked) (text line : List ℕ)
+    → asked_by_words words ≡ asked → option_map_or (asked_answer files) asked Usage ≡ TooDeep text line
+    → IsStoppedPage files words text line
+answered_stopped files words None text line is h = cc
+answered_stopped files words (Some asked) text line is h =
+    asked_stopped files words asked text line (spelled-asked words asked is)
+    (by_contents files asked (TooDeep text line) tt h)
+
+-- **a text that ends too deep is a page up to a call**
+pub stopped-answered : (files : Files) (words : List Word) (text line : List ℕ)
+    → answer files words ≡ TooDeep text line → IsStoppedPage files words text line
+stopped-answered files words text line h = answered_stopped files words (asked_by_words words) text line refl h

@@ -26,9 +26,9 @@ ReadSaid answer names file_faults err =
 abbrev pub RefusalSaid : Option Answer → Change → Type 0
 RefusalSaid answer err = IfSome answer (λ a. (line : List ℕ) × (a ≡ Refused line) × Took err (ended line))
 
--- Done: the text that is the answer was written
-abbrev pub TextWritten : Option Answer → Change → Type 0
-TextWritten answer out = IfSome answer (λ a. (text : List ℕ) × (a ≡ Done text) × Took out text)
+-- Done: the text that is the answer was written, and standard error is unchanged
+abbrev pub TextWritten : Option Answer → Change → Type 0 → Type 0
+TextWritten answer out SameErr = IfSome answer (λ a. (text : List ℕ) × (a ≡ Done text) × Took out text) × SameErr
 
 -- TooDeep: the text that is the answer was written, and its line was said
 abbrev pub TooDeepSaid : Option Answer → Change → Change → Type 0

@@ -3,16 +3,12 @@
 -- The words are `check BUNDLE FILE..`, the library holds the bundle, but for `-`, and the files, these are accepted,
 -- and the text is `ok` and a line feed.
 -- Example: of `check - t.soy` where t.soy is `{namespace a}`.
-use Rattle.std.specs.Prelude.{◌≡◌, ℕ, List, ◌∷◌, map, Option, Some, None, codes}
+use Rattle.std.specs.Prelude.{◌≡◌, ℕ, List, ◌∷◌, Option, codes}
 use Rattle.soy_front.specs.Accepted.{Accepted}
-use Rattle.soy_io.specs.FileOf.{Files, file_of}
+use Rattle.soy_io.specs.FileOf.{Files}
 use Rattle.soy_top.specs.Answer.{accepted_text}
+use Rattle.soy_top.specs.HoldsInputs.{HoldsBundle, HoldsFiles}
 use Rattle.soy_top.specs.Words.{Word}
-
--- the bundle of a name is held with this content; `-` is no file
-abbrev pub HoldsBundle : Files → Word → Option (List ℕ) → Type 0
-HoldsBundle files bundle None = bundle ≡ codes "-"
-HoldsBundle files bundle (Some bytes) = (bundle ≡ codes "-" → ⊥) × (file_of files bundle ≡ Some bytes)
 
 pub record IsChecked (files : Files) (words : List Word) (text : List ℕ) : Type 0 where
   pub bundle : Word
@@ -21,6 +17,6 @@ pub record IsChecked (files : Files) (words : List Word) (text : List ℕ) : Typ
   pub contents : List (List ℕ)
   pub words_are : words ≡ codes "check" ∷ bundle ∷ names
   pub bundle_held : HoldsBundle files bundle content
-  pub all_held : map (file_of files) names ≡ map Some contents
+  pub files_held : HoldsFiles files names contents
   pub accepted : Accepted contents content
   pub text_is : text ≡ accepted_text

@@ -1,3 +1,4 @@
+pub mod AcceptedRender
 pub mod Accepts
 pub mod Answer
 pub mod Asked
@@ -9,6 +10,7 @@ pub mod Ending
 pub mod Fetched
 pub mod FilesWanted
 pub mod Generated
+pub mod HoldsInputs
 pub mod Inputs
 pub mod IsCatalogue
 pub mod IsChecked
@@ -18,9 +20,16 @@ pub mod IsSumOf
 pub mod IsText
 pub mod Line
 pub mod MadeBundle
+pub mod MarkupKept
 pub mod Numbered
+pub mod OneText
+pub mod OrderKept
+pub mod OtherData
 pub mod Output
+pub mod PageTook
 pub mod Pointer
+pub mod RenderAsked
+pub mod Rendered
 pub mod Shown
 pub mod Summary
 pub mod View

@@ -1,14 +1,50 @@
-//! The law of the answer: a contract with an empty body, so it holds of the definitions that the code follows.
+//! The laws of the answer: contracts with an empty body, so they hold of the definitions that the code follows.
 
-ghost use Rattle.std.specs.Prelude.{◌≡◌, ℕ, List};
+ghost use Rattle.std.specs.Prelude.{◌≡◌, ℕ, List, Option, Some, IfSome};
 ghost use Rattle.soy_io.specs.FileOf.{Files};
-ghost use Rattle.soy_top.specs.Answer.{Done, answer};
+ghost use Rattle.soy_top.specs.AcceptedRender.{AcceptedRender};
+ghost use Rattle.soy_top.specs.Answer.{Done, Refused, TooDeep, answer, known_answer};
+ghost use Rattle.soy_top.specs.Asked.{asked_by_words};
+ghost use Rattle.soy_top.specs.IsPage.{IsRefusedPage, IsStoppedPage};
 ghost use Rattle.soy_top.specs.IsText.{IsText};
+ghost use Rattle.soy_top.specs.OneText.{IsOneText};
+ghost use Rattle.soy_top.specs.RenderAsked.{AsksRender};
+ghost use Rattle.soy_top.specs.Rendered.{Rendered, known_rendered, rendered_answer};
 ghost use Rattle.soy_top.specs.Words.{Word};
 
-/// A text that is the answer is the page or the catalogue of the words and of the files that are held, or says
-/// that these are accepted; or it is the summary of the workload that the words name.
+/// The answer is a text exactly where the text is the page or the catalogue of the words and of the files that are
+/// held, or says that these are accepted, or is the summary of the workload that the words name. It is a text that ends
+/// too deep exactly where that is a page up to a call that nests too deep, with the line of the call. Of a `render`
+/// whose files and bundle are accepted, it is a refusal exactly where no template may be rendered under the name (29),
+/// the data are no JSON (27) or they give no values (28).
 pub fn law_answer_is_text()
-    ensures { (files : Files) (words : List Word) (text : List ℕ) → answer files words ≡ Done text →
+    ensures text { (files : Files) (words : List Word) (text : List ℕ) → answer files words ≡ Done text →
         IsText files words text }
+    ensures only_text { (files : Files) (words : List Word) (text : List ℕ) → IsText files words text →
+        answer files words ≡ Done text }
+    ensures stopped { (files : Files) (words : List Word) (text line : List ℕ) →
+        answer files words ≡ TooDeep text line → IsStoppedPage files words text line }
+    ensures only_stopped { (files : Files) (words : List Word) (text line : List ℕ) →
+        IsStoppedPage files words text line → answer files words ≡ TooDeep text line }
+    ensures refused { (files : Files) (words : List Word) (line : List ℕ) → AcceptedRender files words →
+        answer files words ≡ Refused line → IsRefusedPage files words line }
+    ensures only_refused { (files : Files) (words : List Word) (line : List ℕ) → IsRefusedPage files words line →
+        answer files words ≡ Refused line }
+{}
+
+/// A page that is rendered is the answer, to words that ask for a `render`; and where the answer to such words is a
+/// text, whole or up to a call that nests too deep, a page is rendered.
+pub fn law_rendered_answer()
+    ensures answer { (held : Option Files) (words : List Word) → IfSome (known_rendered held words) (λ page.
+        AsksRender (asked_by_words words) × (known_answer held words ≡ Some (rendered_answer page))) }
+    ensures whole { (held : Option Files) (words : List Word) (text : List ℕ) → AsksRender (asked_by_words words) →
+        known_answer held words ≡ Some (Done text) → (page : Rendered) × (known_rendered held words ≡ Some page) }
+    ensures stopped { (held : Option Files) (words : List Word) (text line : List ℕ) →
+        AsksRender (asked_by_words words) → known_answer held words ≡ Some (TooDeep text line) →
+        (page : Rendered) × (known_rendered held words ≡ Some page) }
+{}
+
+/// An html page that is rendered, taken as one static text, is read to its end without a fault.
+pub fn law_page_is_one_text()
+    ensures { (held : Option Files) (words : List Word) → IfSome (known_rendered held words) (λ page. IsOneText page) }
 {}

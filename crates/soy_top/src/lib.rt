@@ -32,6 +32,6 @@ mod status;
 mod summary;
 mod wanted;
 
-pub use laws::law_answer_is_text;
+pub use laws::{law_answer_is_text, law_page_is_one_text, law_rendered_answer};
 pub use program::run;
 pub use status::Status;

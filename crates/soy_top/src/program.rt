@@ -10,6 +10,10 @@ ghost use Rattle.soy_top.specs.Due.{UsageDue, ReadDue, RefusedDue, DoneDue, TooD
 ghost use Rattle.soy_top.specs.Ending.{UsageSaid, ReadSaid, RefusalSaid, TextWritten, TooDeepSaid, SinkFailed};
 ghost use Rattle.soy_top.specs.Ending.{OutPart, ErrPart, OnNoOutput, OnNothingWritten};
 ghost use Rattle.soy_top.specs.FilesWanted.{wanted_files, wanted_names};
+ghost use Rattle.soy_top.specs.MarkupKept.{MarkupIsKept};
+ghost use Rattle.soy_top.specs.OrderKept.{OrderIsKept};
+ghost use Rattle.soy_top.specs.PageTook.{PageTook};
+ghost use Rattle.soy_top.specs.Rendered.{rendered};
 ghost use Rattle.soy_top.specs.Words.{Word, command_words};
 
 use crate::accept::accept;
@@ -109,9 +113,9 @@ pub fn run<L: Library, K: Sink, E: Sink>(
     ensures refused_due { (line : List ℕ) → answered (L.held files.old) words.now ≡ Some (Refused line) →
         RefusedDue (L.faults files.old, L.faults files.new) (change E.Sink err.old err.new) result }
 
-    // Done comes exactly where there is a text to write, and all of it was written.
+    // Done comes exactly where there is a text to write, and all of it was written and nothing said.
     ensures done_only { result ≡ Status.Done →
-        TextWritten (answered (L.held files.old) words.now) (change K.Sink out.old out.new) }
+        TextWritten (answered (L.held files.old) words.now) (change K.Sink out.old out.new) (err.new ≡ err.old) }
     ensures done_due { (text : List ℕ) → answered (L.held files.old) words.now ≡ Some (Done text) →
         DoneDue (L.faults files.old, L.faults files.new) (change K.Sink out.old out.new) (change E.Sink err.old err.new)
         result }
@@ -134,6 +138,16 @@ pub fn run<L: Library, K: Sink, E: Sink>(
     ensures out_part { OutPart (answered (L.held files.old) words.now) (change K.Sink out.old out.new) }
     ensures err_part { ErrPart (answered (L.held files.old) words.now) (wanted_names words.now)
         (L.faults files.old, L.faults files.new) (change E.Sink err.old err.new) }
+
+    // Where a page is rendered, the output took a prefix of it, and all of it where the run ends whole or too deep.
+    ensures page_taken { IfSome (rendered (L.held files.old) words.now) (λ page.
+        PageTook page (change K.Sink out.old out.new) result) }
+    // Whatever its values hold, the page keeps its tags, attribute names and tokens of scripts and styles: any other
+    // data of the types of its parameters that make the same choices give the same.
+    ensures same_markup { IfSome (rendered (L.held files.old) words.now) (λ page. MarkupIsKept page) }
+    // And where it is html, they give on each line the same visual order of what stands around the values, and of the
+    // values.
+    ensures same_visual_order { IfSome (rendered (L.held files.old) words.now) (λ page. OrderIsKept page) }
 
     // What isn't needed is unchanged, its count of faults included.
     ensures nothing_written { OnNothingWritten result (out.new ≡ out.old) }

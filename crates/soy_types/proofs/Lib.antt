@@ -8,3 +8,5 @@ pub mod ReadHas
 pub mod ReadComplete
 pub mod Shortness
 pub mod ParamsRead
+pub mod JsonWithin
+pub mod ReadWithin

@@ -72,7 +72,7 @@ params_have (p ∷ ps) d done es before ok none e =
     (subst (λ x. ParamsHave (p ∷ ps) (RecordValue (entries_of (done ++ x ∷ h.1)))) k.2 (here, rest'))
 
 -- what is read of data
-refused_ok : (r : Result Value Path) (v : Value) → refused r ≡ Ok v → r ≡ Ok v
+pub refused_ok : (r : Result Value Path) (v : Value) → refused r ≡ Ok v → r ≡ Ok v
 refused_ok (Ok w) v e = cc
 refused_ok (Err path) v e = let no : ⊥ = cc in absurd no
 

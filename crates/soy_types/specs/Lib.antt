@@ -4,3 +4,4 @@ pub mod ReadData
 pub mod Reads
 pub mod Stands
 pub mod ParamsHave
+pub mod ListsWithin

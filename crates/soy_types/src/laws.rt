@@ -1,12 +1,14 @@
 //! Laws of the definitions, each a function that does nothing and whose contract is the law.
 
-ghost use Rattle.std.specs.Prelude.{◌≡◌, ℕ, Bool, List, [], Ok, Err, None};
+ghost use Rattle.std.specs.Prelude.{◌≡◌, ◌≤◌, ℕ, Bool, List, [], Ok, Err, None, length};
 ghost use Rattle.serde_json.specs.Data.{Data};
 ghost use Rattle.soy_tree.specs.Types.{SoyType};
 ghost use Rattle.soy_tree.specs.Values.{Value};
 ghost use Rattle.soy_tree.specs.Has.{Has};
 ghost use Rattle.soy_tree.specs.Declarations.{params_fault, type_fault};
+ghost use Rattle.soy_tree.specs.ShortLists.{HasShortLists};
 ghost use Rattle.soy_tree.specs.Trees.{Param};
+ghost use Rattle.soy_types.specs.ListsWithin.{HasListsWithin};
 ghost use Rattle.soy_types.specs.ParamsHave.{ParamsHave};
 ghost use Rattle.soy_types.specs.Paths.{Path};
 ghost use Rattle.soy_types.specs.Read.{value_at};
@@ -27,4 +29,13 @@ pub fn law_read()
 pub fn law_data()
     ensures { (params : List Param) (bytes : List ℕ) (v : Value) → params_fault params [] ≡ None
         → data_at params bytes ≡ Ok v → ParamsHave params v }
+{}
+
+/// A list that is read of data, at any depth, has no more items than the data have bytes. So the lists of data of at
+/// most 2^53 bytes are short.
+pub fn law_short_data()
+    ensures within { (params : List Param) (bytes : List ℕ) (v : Value) → data_at params bytes ≡ Ok v →
+        HasListsWithin (length bytes) v }
+    ensures short { (params : List Param) (bytes : List ℕ) (v : Value) → length bytes ≤ 9007199254740992 →
+        data_at params bytes ≡ Ok v → HasShortLists v }
 {}

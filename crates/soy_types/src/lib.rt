@@ -2,7 +2,7 @@
 //!
 //! `read_data` gives the values of parameters that are read of JSON, exactly as `Read` says, or the
 //! code and the path of the first part that doesn't fit.
-//! Depends on soy_base, soy_tree and serde_json.
+//! Depends on soy_base, soy_tree, serde_json and json, whose grammar it reads by.
 #![tactic(auto)]
 
 mod data;
@@ -13,4 +13,4 @@ mod reading;
 
 pub use data::read_data;
 pub use fault::DataFault;
-pub use laws::{law_data, law_read};
+pub use laws::{law_data, law_read, law_short_data};

@@ -1,9 +1,11 @@
-use Rattle.std.proofs.Common.{ap}
+use Rattle.std.proofs.Common.{ap, refl}
 use Rattle.soy_top.specs.Words.{command_words}
 use Rattle.soy_top.proofs.Answering.{names-at-usage}
 use Rattle.soy_top.proofs.Courses.{usage_only, usage_due, read_only, read_due, refused_only, refused_due, done_only}
 use Rattle.soy_top.proofs.Courses.{done_due, too_deep_only, too_deep_due, write_only, out_part, err_part}
 use Rattle.soy_top.proofs.Courses.{nothing_written, out_untouched, err_untouched}
+use Rattle.soy_top.proofs.KeptPages.{same_markup, same_order}
+use Rattle.soy_top.proofs.Rendering.{course_took}
 use Rattle.soy_top.proofs.program.run.Goals as goal
 
 pub returns-clause-usage_only : goal.returns-clause-usage_only
@@ -56,3 +58,14 @@ returns-clause-out_untouched g c = out_untouched _ _ _ c.perform_and_conclude.en
 
 pub returns-clause-err_untouched : goal.returns-clause-err_untouched
 returns-clause-err_untouched g c = λ text. err_untouched _ _ _ text c.perform_and_conclude.ensures.course
+
+pub returns-clause-page_taken : goal.returns-clause-page_taken
+returns-clause-page_taken g c =
+    course_took _ (command_words c.args.words.now) _ _ _ (ap g.K.Sink.taken) (ap g.E.Sink.taken) refl
+    c.perform_and_conclude.ensures.course
+
+pub returns-clause-same_markup : goal.returns-clause-same_markup
+returns-clause-same_markup g c = same_markup _ (command_words c.args.words.now)
+
+pub returns-clause-same_visual_order : goal.returns-clause-same_visual_order
+returns-clause-same_visual_order g c = same_order _ (command_words c.args.words.now)

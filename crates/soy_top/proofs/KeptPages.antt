@@ -1,0 +1,172 @@
+-- A page that is rendered keeps its markup and its visual order whatever its values hold.
+use Rattle.std.proofs.Common.{◌≡◌, inl, inr, ℕ, zero, suc, List, [], ◌∷◌, Option, Some, None, refl, sym, arith}
+use Rattle.std.proofs.Common.{subst}
+use Rattle.std.specs.Prelude.{IfSome, Ok, slice_get}
+use Rattle.std.specs.Str.{IsUtf8, chars}
+use Rattle.bundle_fit.proofs.FittingTrees.{trees_fit}
+use Rattle.html_state.specs.AfterPieces.{Static, after_piece}
+use Rattle.html_state.specs.Start.{start}
+use Rattle.html_state.specs.declared.row.State.{State}
+use Rattle.ir_build.specs.ViewScene.{language_of}
+use Rattle.msg_extract.specs.Translations.{translation_of}
+use Rattle.soy_base.specs.declared.kind.Kind.{Kind}
+use Rattle.soy_base.specs.declared.kind.Kind.TheVariants as kind
+use Rattle.soy_front.specs.FrontAnswer.{DeserveFront}
+use Rattle.soy_front.proofs.DataFits.{having_fit, read_have}
+use Rattle.soy_front.proofs.FormedSources.{trees_formed}
+use Rattle.soy_front.proofs.FrontAnswers.{answered_deserved}
+use Rattle.soy_front.proofs.LanguageOf.{language_fits}
+use Rattle.soy_io.specs.FileOf.{Files}
+use Rattle.soy_meaning.specs.AcceptedTrees.{AcceptedTrees}
+use Rattle.soy_meaning.specs.Giving.{RunEnv}
+use Rattle.soy_meaning.specs.Meaning.{joined_pieces}
+use Rattle.soy_meaning.specs.Outcome.{end_of_outcome}
+use Rattle.soy_meaning.specs.PageMachine.{page_machine}
+use Rattle.soy_meaning.specs.Pieces.{RunContext}
+use Rattle.soy_meaning.specs.PlanOfNodes.{trees_plan}
+use Rattle.soy_meaning.specs.States.{IsMember}
+use Rattle.soy_meaning.specs.TranslationFits.{TranslationsFit}
+use Rattle.soy_meaning.specs.TypedData.{AreTypedTrees, FitsData}
+use Rattle.soy_meaning.specs.Walk.{walked}
+use Rattle.soy_meaning.proofs.PageStates.{page_compares}
+use Rattle.soy_meaning.proofs.TypedRuns.{typed_runs_alike}
+use Rattle.soy_meaning.proofs.Walks.{accepted_when_walked}
+use Rattle.soy_top.specs.MarkupKept.{MarkupIsKept}
+use Rattle.soy_top.specs.OrderKept.{OrderIsKept, page_lines}
+use Rattle.soy_top.specs.OtherData.{IsOtherData}
+use Rattle.soy_top.specs.OneText.{IsOneText}
+use Rattle.soy_top.specs.Rendered.{Rendered, known_rendered, page_outcome, page_pieces, page_text}
+use Rattle.soy_top.specs.Words.{Word}
+use Rattle.soy_top.proofs.Options.{if_so, none_some, some_same}
+use Rattle.soy_top.proofs.PageParts.{PageParts, rendered_parts}
+use Rattle.soy_tree.specs.Formed.{AreFormed}
+use Rattle.soy_tree.specs.Templates.{declared}
+use Rattle.soy_tree.specs.Trees.{Tree}
+use Rattle.soy_tree.specs.Values.{Value}
+use Rattle.soy_tree.specs.ViewTrees.{view_trees}
+use Rattle.soy_types.proofs.ReadWithin.{data_short}
+use Rattle.stable_bidi.specs.PagesAlike.{PagesAlike}
+use Rattle.stable_bidi.proofs.PageLines as bidi
+use Rattle.stable_bidi.proofs.TypedPages.{typed_pages}
+use Rattle.stable_bidi.proofs.VisualOrders.{same_visual_order}
+use Rattle.stable_html.proofs.SameMarkups.{template_bytes, template_roles, template_text, templates_same}
+use Rattle.template_ir.specs.Compiles.{Language}
+use Rattle.template_ir.specs.Placed.{language_context}
+use Rattle.template_ir.specs.Run.{input_env, names_of}
+
+-- ---- the template of a number is one of all
+
+is_member : {A : Type 0} (xs : List A) (number : ℕ) (x : A) → slice_get xs number ≡ Some x → IsMember x xs
+is_member [] number x is = absurd (none_some x is)
+is_member (first ∷ xs) zero x is = inl (sym (some_same first x is))
+is_member (first ∷ xs) (suc number) x is = inr (is_member xs number x is)
+
+-- ---- the page
+
+module _ (page : Rendered) (parts : PageParts page) where
+  abbrev trees : List Tree
+  trees = view_trees page.of.files.trees
+
+  abbrev language : Language
+  language = language_of page.of.language
+
+  abbrev context : RunContext
+  context = language_context language (declared trees)
+
+  -- the variables of the template under some data
+  abbrev env : Value → RunEnv
+  env v = input_env (names_of page.d.template.params) v
+
+  -- the files and the bundle deserve what they are accepted as, so the trees are typed, the translations fit them, and
+  -- all paths of the trees are accepted
+  deserved : DeserveFront page.contents parts.bundle page.of
+  deserved = answered_deserved page.contents parts.bundle page.of parts.front
+
+  formed : AreFormed trees
+  formed = trees_formed page.contents page.of.files.trees deserved.files.have
+
+  typed : AreTypedTrees trees
+  typed = record { demands = deserved.files.demands; formed = formed }
+
+  fitting : TranslationsFit language.translation (declared trees)
+  fitting =
+      (trees_fit (translation_of page.of.language.messages) 0 trees formed
+      (language_fits parts.bundle page.of.files.rows page.of.language trees deserved.brings deserved.files.catalogue
+      formed)).0
+
+  accepted : AcceptedTrees language.translation trees
+  accepted =
+      accepted_when_walked page_machine page_compares (trees_plan language.translation trees) (walked [] [])
+      page.of.walk deserved.walk
+
+  member : IsMember page.d (declared trees)
+  member = is_member (declared trees) parts.number page.d parts.found
+
+  -- the data that were read fit the template
+  read_fits : FitsData page.d (env page.v)
+  read_fits =
+      having_fit page.d page.v
+      (read_have trees parts.number page.d parts.json page.v typed.demands parts.found parts.reads)
+      (data_short page.d.template.params parts.json page.v (omega (arith, parts.few)) parts.reads)
+
+  other_fits : (other : Value) → IsOtherData page other → FitsData page.d (env other)
+  other_fits other is = having_fit page.d other is.have is.short
+
+  -- both runs end whole, or at one call
+  ends_alike : (other : Value) → IsOtherData page other
+      → end_of_outcome (page_outcome page page.v) ≡ end_of_outcome (page_outcome page other)
+  ends_alike other is =
+      (typed_runs_alike context trees refl typed fitting page.d (env page.v) (env other) member read_fits
+      (other_fits other is) is.choices).ends
+
+  markup_kept : MarkupIsKept page
+  markup_kept other is = record {
+    same = templates_same context trees refl typed fitting accepted page.d member (env page.v) (env other) read_fits
+        (other_fits other is) is.choices;
+    roles = template_roles context trees refl typed fitting accepted page.d member (env page.v) read_fits;
+    other_roles = template_roles context trees refl typed fitting accepted page.d member (env other)
+        (other_fits other is);
+    ends = ends_alike other is;
+  }
+
+  order_kept : OrderIsKept page
+  order_kept html other is =
+      let one = page_pieces page page.v in
+      let two = page_pieces page other in
+      let alike = subst (λ (k : Kind). PagesAlike (start k) one two) html
+      (typed_pages context trees page.d refl member typed fitting accepted (env page.v) (env other) read_fits
+      (other_fits other is) is.choices) in
+      record {
+        same = λ block. same_visual_order (page_lines block page page.v) (page_lines block page other)
+            (bidi.page_lines block one two alike);
+        ends = ends_alike other is;
+      }
+
+  -- **an html page, taken as one text, is read without a fault**, as a preview asks
+  pub page_one_text : page.d.template.kind ≡ kind.Html → (last : State)
+      × (after_piece (start kind.Html) (Static (joined_pieces (page_pieces page page.v))) ≡ Ok last)
+  page_one_text html =
+      template_text context trees refl typed fitting accepted page.d member (env page.v) read_fits html
+
+  -- and so are the characters of its bytes
+  pub page_bytes : page.d.template.kind ≡ kind.Html → (given : List ℕ) → IsUtf8 given → given ≡ page_text page
+      → (last : State) × (after_piece (start kind.Html) (Static (chars given)) ≡ Ok last)
+  page_bytes html given utf8 is =
+      template_bytes context trees refl typed fitting accepted page.d member (env page.v) read_fits html given utf8 is
+
+-- **other data with the same choices give the same markup**
+pub same_markup : (held : Option Files) (words : List Word) → IfSome (known_rendered held words) MarkupIsKept
+same_markup held words =
+    if_so (known_rendered held words) PageParts MarkupIsKept (rendered_parts held words) markup_kept
+
+-- **and an html page the same visual order**
+pub same_order : (held : Option Files) (words : List Word)
+    → IfSome (known_rendered held words) OrderIsKept
+same_order held words =
+    if_so (known_rendered held words) PageParts OrderIsKept (rendered_parts held words) order_kept
+
+-- **an html page, taken as one text, is read without a fault**
+pub one_text : (held : Option Files) (words : List Word) → IfSome (known_rendered held words) IsOneText
+one_text held words =
+    if_so (known_rendered held words) PageParts IsOneText (rendered_parts held words)
+    (λ page parts. record { characters = page_one_text page parts; bytes = page_bytes page parts })
