@@ -1,7 +1,7 @@
 #!/usr/bin/env bash
-# Renders a list of 40,000 items by the program that cc makes of dist/ and by the proved one, in turn, and prints the least
-# time of fifteen runs of each and how far they are apart; then the least time of fifty starts of ./soyc, and of the
-# program that it runs. The programs are those of ./soyc and of ./soyc --prove, or the two that are named.
+# Renders a list of 40,000 items by the program that cc makes of dist/ and by the proved one, in turn, and prints the
+# least time of fifteen runs of each and how far they are apart; then the least time of fifty starts of ./soyc, and of
+# the program that it runs. The programs are those of ./soyc and of ./soyc --prove, or the two that are named.
 set -eu
 . "$(dirname "$0")/setup.sh"
 made=${1-$top/dist/out/soyc} proved=${2-$top/crates/soyc/out/soyc}

@@ -5,8 +5,8 @@ top=$(cd "$(dirname "${BASH_SOURCE[0]}")/.." && pwd)
 work=$(mktemp -d)
 trap 'rm -rf "$work"' EXIT
 
-# find_program [PROGRAM]: the program that is named, or the one that ./soyc runs, which it makes where it has to (with no
-# words it then ends with 2).
+# find_program [PROGRAM]: the program that is named, or the one that ./soyc runs, which it makes where it has to (with
+# no words it then ends with 2).
 find_program() {
     if (($# > 0)); then
         soyc=$1
@@ -18,8 +18,8 @@ find_program() {
     fi
 }
 
-# items COUNT: items.json and items.soy, a list of so many items, in words and links like those of the workload of `gen`,
-# and the template b.m that renders it.
+# items COUNT: items.json and items.soy, a list of so many items, in words and links like those of the workload of
+# `gen`, and the template b.m that renders it.
 items() {
     awk -v count="$1" 'BEGIN {
         split("tea Käse שלום سلام a<b R&D x,y -", words, " ")

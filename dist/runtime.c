@@ -19,7 +19,8 @@ static struct block block_of(void *address) {
     return address ? (struct block){1, address} : (struct block){0, no_block};
 }
 
-/* No block of the program has an alignment beyond malloc's, 16. A block of no bytes has as many as its alignment says. */
+/* Like the kit's, it takes the alignment of malloc, 16, to be enough. A block of no bytes has as many as its alignment
+   says. */
 struct block rattle_alloc(uint64_t size, uint64_t align) { return block_of(malloc(size ? size : align)); }
 
 struct block rattle_realloc(void *address, uint64_t old_size, uint64_t size, uint64_t align) {
@@ -43,8 +44,8 @@ __attribute__((constructor)) static void keep_words(int count, char **given) {
 
 int64_t rattle_arg_count(void) { return word_count; }
 
-/* Copies a word without the byte that ends it, and gives its length: -1 where there is no such word, -2 where the room is
-   too small. */
+/* Copies a word without the byte that ends it, and gives its length: -1 where there is no such word, -2 where the room
+   is too small. */
 int64_t rattle_arg(uint64_t index, char *room, uint64_t room_size) {
     uint64_t length = 0;
     if (index >= (uint64_t)word_count || !words[index]) return -1;

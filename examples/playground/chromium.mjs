@@ -4,7 +4,8 @@ import { mkdtempSync, rmSync } from "node:fs";
 import { tmpdir } from "node:os";
 import { join } from "node:path";
 
-// Starts it and gives `open(address, width, height)`, which opens a page and gives what can be asked of it, and `close`.
+// Starts it and gives `open(address, width, height)`, which opens a page and gives what can be asked of it, and
+// `close`.
 export async function chromium() {
   const profile = mkdtempSync(join(tmpdir(), "soyc-chromium-"));
   // (root alone needs --no-sandbox)
@@ -44,7 +45,10 @@ export async function chromium() {
     await ask("Emulation.setDeviceMetricsOverride", { width, height, deviceScaleFactor: 1, mobile: false });
     await ask("Page.enable");
     await ask("Page.navigate", { url: address });
-    await value("new Promise((done) => (document.readyState === 'complete' ? done() : addEventListener('load', () => done())))");
+    await value(`new Promise((done) => {
+      if (document.readyState === "complete") done();
+      else addEventListener("load", () => done());
+    })`);
     return { ask, value };
   }
 

@@ -1,6 +1,6 @@
 #!/usr/bin/env node
 // Runs each line of ../commands.txt natively, in node and in headless Chromium, and compares what they write on both
-// streams and their statuses. Prints each that differs and, last, how many were compared; ends with 1 where one differs.
+// streams and their statuses. Prints each that differs and, last, how many were compared; ends with 1 where one does.
 //
 //     compare.mjs [PROGRAM [COMMANDS]]    PROGRAM is ../../soyc where it isn't given; COMMANDS is a file like
 //                                         ../commands.txt, whose runs take place in its folder
@@ -44,7 +44,7 @@ function inNode(module, run, { words, files }) {
     const it = run(module, words, files);
     return { status: it.status, out: digits(it.out), err: digits(it.err) };
   } catch (error) {
-    return { status: String(error), out: "", err: "" };
+    return { status: -1, out: "", err: Buffer.from(String(error)).toString("base64") };
   }
 }
 
@@ -83,10 +83,15 @@ const inPage = `
       const it = run(module, words, files);
       return { status: it.status, out: digits(it.out), err: digits(it.err) };
     } catch (error) {
-      return { status: String(error), out: "", err: "" };
+      return { status: -1, out: "", err: btoa(unescape(encodeURIComponent(String(error)))) };
     }
   }
 `;
+
+// A status, or the begin of a text.
+function shown(given) {
+  return typeof given === "string" ? JSON.stringify(Buffer.from(given, "base64").toString().slice(0, 200)) : given;
+}
 
 const all = cases();
 const run = new Function(`${host}; return run;`)();
@@ -99,8 +104,7 @@ for (const [index, it] of all.entries()) {
     for (const what of ["status", "out", "err"]) {
       if (gave[what] === wanted[what]) continue;
       differ++;
-      const shown = (of) => (what === "status" ? of[what] : JSON.stringify(Buffer.from(of[what], "base64").toString().slice(0, 200)));
-      console.log(`${where}, ${it.line}: ${what} is ${shown(gave)}, and natively ${shown(wanted)}`);
+      console.log(`${where}, ${it.line}: ${what} is ${shown(gave[what])}, and natively ${shown(wanted[what])}`);
     }
   }
 }

@@ -14,8 +14,8 @@ HOST(close) int host_close(int file);
 HOST(read) i64 host_read(int file, char *room, u64 room_size);
 HOST(write) i64 host_write(int file, const char *bytes, u64 length);
 
-/* The heap. A block has a size class, which is kept in the 16 bytes before it: 32, 48, 64, 80, 96, 112, 128, 160 .. bytes
-   in all, four between a power of two and the next. A freed block waits for the next one of its class. */
+/* The heap. A block has a size class, which is kept in the 16 bytes before it: 32, 48, 64, 80, 96, 112, 128, 160 ..
+   bytes in all, four between a power of two and the next. A freed block waits for the next one of its class. */
 struct tried {
     u64 is_there;
     void *address;
@@ -95,7 +95,7 @@ int memcmp(const void *one, const void *other, size_t length) {
     return 0;
 }
 
-/* The product of numbers of 128 bits, which the compiler leaves to a function. */
+/* Products and shifts of numbers of 128 bits, which the compiler leaves to functions. */
 union wide {
     __int128 whole;
     struct { u64 low, high; } half;
@@ -110,6 +110,28 @@ __int128 __multi3(__int128 one, __int128 other) {
     made.half.high = (a.half.low >> 32) * (b.half.low >> 32) + (left >> 32) + (right >> 32);
     made.half.high += a.half.low * b.half.high + a.half.high * b.half.low;
     return made.whole;
+}
+__int128 __ashlti3(__int128 number, int count) {
+    union wide a = {number};
+    if (count >= 64) {
+        a.half.high = a.half.low << (count - 64);
+        a.half.low = 0;
+    } else if (count > 0) {
+        a.half.high = a.half.high << count | a.half.low >> (64 - count);
+        a.half.low <<= count;
+    }
+    return a.whole;
+}
+__int128 __lshrti3(__int128 number, int count) {
+    union wide a = {number};
+    if (count >= 64) {
+        a.half.low = a.half.high >> (count - 64);
+        a.half.high = 0;
+    } else if (count > 0) {
+        a.half.low = a.half.low >> count | a.half.high << (64 - count);
+        a.half.high >>= count;
+    }
+    return a.whole;
 }
 
 /* The number of the last failure; the page sets it too. */

@@ -1,5 +1,5 @@
 #!/usr/bin/env node
-// Types keys into the list of examples/shop and prints the milliseconds from a key to the pages in both languages being
+// Types keys into the body of examples/shop and prints the milliseconds from a key to the pages in both languages being
 // made, and to the first of them being loaded in its frame. Asserts nothing. Needs Debian's nodejs and chromium.
 import { dirname } from "node:path";
 import { fileURLToPath } from "node:url";
@@ -8,7 +8,7 @@ import { chromium } from "./chromium.mjs";
 const KEYS = 100;
 const here = dirname(fileURLToPath(import.meta.url));
 const browser = await chromium();
-const { ask, value } = await browser.open(`file://${here}/index.html#${encodeURIComponent('shop:{"shown":1}')}`);
+const { ask, value } = await browser.open(`file://${here}/index.html#shop`);
 await value(`new Promise((done) => {
   const look = () => (document.documentElement.dataset.turn ? done() : setTimeout(look, 20));
   look();
@@ -40,6 +40,7 @@ for (let key = 0; key < KEYS; key++) {
 for (const name of ["made", "loaded"]) {
   const times = (await value(name)).sort((a, b) => a - b);
   const at = (part) => times[Math.min(times.length - 1, Math.floor(part * times.length))].toFixed(1);
-  console.log(`${name}: ${times.length} keys, least ${at(0)} ms, half within ${at(0.5)}, 95 of 100 within ${at(0.95)}, most ${at(1)}`);
+  const said = `least ${at(0)} ms, half within ${at(0.5)}, 95 of 100 within ${at(0.95)}, most ${at(1)}`;
+  console.log(`${name}: ${times.length} keys, ${said}`);
 }
 await browser.close();
