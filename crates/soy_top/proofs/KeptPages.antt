@@ -91,8 +91,8 @@ module _ (page : Rendered) (parts : PageParts page) where
   fitting : TranslationsFit language.translation (declared trees)
   fitting =
       (trees_fit (translation_of page.accepted.language.messages) 0 trees formed
-      (language_fits parts.bundle page.accepted.files.rows page.accepted.language trees deserved.brings deserved.files.catalogue
-      formed)).0
+      (language_fits parts.bundle page.accepted.files.rows page.accepted.language trees deserved.brings
+      deserved.files.catalogue formed)).0
 
   accepted : AcceptedTrees language.translation trees
   accepted =
@@ -121,8 +121,8 @@ module _ (page : Rendered) (parts : PageParts page) where
 
   markup_kept : MarkupIsKept page
   markup_kept other is = record {
-    same = templates_same context trees refl typed fitting accepted page.entry member (env page.input) (env other) read_fits
-        (other_fits other is) is.choices;
+    same = templates_same context trees refl typed fitting accepted page.entry member (env page.input) (env other)
+        read_fits (other_fits other is) is.choices;
     inner_roles = template_roles context trees refl typed fitting accepted page.entry member (env page.input) read_fits;
     other_inner_roles = template_roles context trees refl typed fitting accepted page.entry member (env other)
         (other_fits other is);
@@ -152,7 +152,8 @@ module _ (page : Rendered) (parts : PageParts page) where
   pub page_bytes : page.entry.template.kind ≡ kind.Html → (given : List ℕ) → IsUtf8 given → given ≡ page_text page
       → (last : State) × (after_piece (start kind.Html) (Static (chars given)) ≡ Ok last)
   page_bytes html given utf8 is =
-      template_bytes context trees refl typed fitting accepted page.entry member (env page.input) read_fits html given utf8 is
+      template_bytes context trees refl typed fitting accepted page.entry member (env page.input) read_fits html given
+      utf8 is
 
 -- **other data with the same choices give the same markup**
 pub same_markup : (held : Option Files) (words : List Word) → IfSome (known_rendered held words) MarkupIsKept
