@@ -1,13 +1,13 @@
 #!/usr/bin/python3
 """Renders pages with two data each, which make the same choices and hold hostile texts, and compares what stands around
 the values: the tokens by html5lib, those of scripts by acorn and of styles by tinycss2, and on each line the visual
-order by fribidi. None of these is a part of this project.
+order by ICU. None of these is a part of this project.
 
     two_data.py [--soyc COMMAND] [--pages N] [--pairs N] [--seed K] [--keep FOLDER]
 
 COMMAND is a line of words (./soyc). N pages are made at random, each rendered with N pairs of data, and those of
 examples/ too. It prints counts and each pair that differs, and ends with 1 where one does. Needs Debian's packages
-python3-html5lib, python3-tinycss2, libfribidi0, nodejs and node-acorn.
+python3-html5lib, python3-tinycss2, libicu72, nodejs and node-acorn.
 """
 import argparse
 import concurrent.futures
@@ -17,6 +17,7 @@ import json
 import os
 import random
 import shlex
+import struct
 import subprocess
 import sys
 import tempfile
@@ -404,10 +405,22 @@ INLINES = set(
     " tt u var".split()
 )
 VOIDS = set("area base br col embed hr img input link meta source track wbr".split())
-fribidi = ctypes.CDLL("libfribidi.so.0")
-fribidi.fribidi_get_bidi_type.restype = ctypes.c_uint32
+ICU = ctypes.CDLL("libicuuc.so.72")
+ICU.ubidi_open_72.restype = ctypes.c_void_p
+ICU.ubidi_close_72.argtypes = [ctypes.c_void_p]
+ICU.ubidi_getVisualMap_72.argtypes = [ctypes.c_void_p] * 3
+ICU.ubidi_setPara_72.argtypes = [ctypes.c_void_p, ctypes.c_void_p, ctypes.c_int32, ctypes.c_uint8] + [
+    ctypes.c_void_p
+] * 2
+
+
+def kind_of(c):
+    """The bidirectional class of a character, by ICU's number."""
+    return ICU.u_charDirection_72(ord(c))
+
+
 TYPES = {
-    name: fribidi.fribidi_get_bidi_type(ord(c))
+    name: kind_of(c)
     for name, c in {
         "L": "a",
         "R": "\u05d0",
@@ -419,10 +432,6 @@ TYPES = {
     }.items()
 }
 CONTROLS = set(LRE + RLE + LRO + RLO + PDF + LRI + RLI + FSI + PDI)
-
-
-def kind_of(c):
-    return fribidi.fribidi_get_bidi_type(ord(c))
 
 
 class Element:
@@ -545,28 +554,30 @@ def nests(line):
 
 def visual_order(base, line):
     """The positions of the line's characters from left to right."""
-    text, count = "".join(c for c, _ in line), len(line)
-    if not count:
+    if not line:
         return []
-    direction = (
-        base.found or "ltr"
-        if isinstance(base, Element) and base.is_auto
-        else base.dir
-        if isinstance(base, Element)
-        else base
-    )
-    codes = (ctypes.c_uint32 * count)(*map(ord, text))
-    types, brackets = (ctypes.c_uint32 * count)(), (ctypes.c_uint32 * count)()
-    fribidi.fribidi_get_bidi_types(codes, count, types)
-    fribidi.fribidi_get_bracket_types(codes, count, types, brackets)
-    levels, places = (ctypes.c_int8 * count)(), (ctypes.c_int * count)(*range(count))
-    # (FRIBIDI_PAR_LTR and FRIBIDI_PAR_RTL)
-    wanted = ctypes.c_uint32(0x110 if direction == "ltr" else 0x111)
-    if not fribidi.fribidi_get_par_embedding_levels_ex(types, brackets, count, ctypes.byref(wanted), levels):
-        raise MemoryError
-    if not fribidi.fribidi_reorder_line(0, types, count, 0, wanted, levels, None, places):
-        raise MemoryError
-    return list(places)
+    if isinstance(base, Element):
+        base = (base.found or "ltr") if base.is_auto else base.dir
+    # (a character above U+FFFF is two units, of which the first stands for it)
+    units = [
+        (unit, at)
+        for at, (c, _) in enumerate(line)
+        for unit in struct.unpack(f"<{len(c.encode('utf-16-le')) // 2}H", c.encode("utf-16-le"))
+    ]
+    count, failed = len(units), ctypes.c_int(0)
+    text, places = (ctypes.c_uint16 * count)(*(unit for unit, _ in units)), (ctypes.c_int32 * count)()
+    bidi = ICU.ubidi_open_72()
+    ICU.ubidi_setPara_72(bidi, text, count, base == "rtl", None, ctypes.byref(failed))
+    ICU.ubidi_getVisualMap_72(bidi, places, ctypes.byref(failed))
+    ICU.ubidi_close_72(bidi)
+    if failed.value > 0:
+        raise ValueError(f"ICU's error {failed.value}")
+    found = []
+    for place in places:
+        at = units[place][1]
+        if not found or found[-1] != at:
+            found.append(at)
+    return found
 
 
 def seen(line):
@@ -772,8 +783,8 @@ def main():
             for name, why in wrong[:3]:
                 print(f"{name}: {why[:300]}")
     print(
-        f"{len(jobs)} pages, {total['refused']} of them refused; {total['pairs']} pairs, {total['too deep']} of them too"
-        f" deep; {total['tokens']} tokens, {total['lines']} lines, {total['deep']} of them nest more than {DEEP},"
+        f"{len(jobs)} pages, {total['refused']} of them refused; {total['pairs']} pairs, {total['too deep']} of them"
+        f" too deep; {total['tokens']} tokens, {total['lines']} lines, {total['deep']} of them nest more than {DEEP},"
         f" {total['values']} values in the others; {differ} differences"
     )
     return 1 if differ else 0
