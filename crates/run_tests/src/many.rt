@@ -210,7 +210,8 @@ fn is_page(alloc: Global, file: &str, part: &str, times: usize) -> Option<bool> 
 /// Whether the page of a row is the right one.
 fn is_right(alloc: Global, row: &ManyRow) -> Option<bool> {
     let (_, _, _, _, _, part, times) = *row;
-    is_page(alloc, file_of(alloc, row)?.as_str(), part, times)
+    let file = file_of(alloc, row)?;
+    is_page(alloc, file.as_str(), part, times)
 }
 
 #[test]
@@ -222,7 +223,8 @@ fn pages_of_many(rt: HostRuntime) {
 
 /// Whether the page of many parameters is the right one.
 fn params_are_right(alloc: Global) -> Option<bool> {
-    is_page(alloc, file_of_params(alloc)?.as_str(), "v", 8_000)
+    let file = file_of_params(alloc)?;
+    is_page(alloc, file.as_str(), "v", 8_000)
 }
 
 #[test]
