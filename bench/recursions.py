@@ -11,7 +11,7 @@ import sys
 
 TOP = os.path.join(os.path.dirname(os.path.abspath(__file__)), "..")
 HEAD = re.compile(r"^[0-9a-f]+ <(.+)>:$")
-CALL = re.compile(r"\t(?:call|jmp|j[a-z]+)\s+[0-9a-f]+ <([^>+]+)(\+0x[0-9a-f]+)?>")
+CALL = re.compile(r"\t(?:call|j[a-z]+)\s+[0-9a-f]+ <(.+?)(\+0x[0-9a-f]+)?>$")
 TAKES = re.compile(r"\tsub\s+\$0x([0-9a-f]+),%rsp")
 
 

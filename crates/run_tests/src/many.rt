@@ -27,7 +27,7 @@ const MANY: &[ManyRow] = &[
         "lets that name the first",
         "{namespace t}{template m kind=\"text\"}{@param x: string}{let $a0: $x /}",
         "{let $a#: $a0 /}",
-        8_000,
+        4_000,
         "{$a#}{/template}",
         "v",
         1,
@@ -36,7 +36,7 @@ const MANY: &[ManyRow] = &[
         "lets that name the first, through 99 calls",
         "{namespace t}{template m kind=\"text\"}{@param n: int}{@param x: string}{let $a0: $x /}",
         "{let $a#: $a0 /}",
-        400,
+        500,
         "{if $n > 0}{call m}{param n: $n - 1 /}{param x: $a# /}{/call}{/if}{$a#}{/template}",
         "v",
         100,
@@ -45,10 +45,10 @@ const MANY: &[ManyRow] = &[
         "prints of the first of many lets",
         "{namespace t}{template m kind=\"text\"}{@param x: string}{let $a0: $x /}",
         "{let $a#: $a0 /}{$a0}",
-        8_000,
+        2_000,
         "{/template}",
         "v",
-        8_000,
+        2_000,
     ),
     (
         "a chain of lets",
@@ -90,25 +90,25 @@ const MANY: &[ManyRow] = &[
         "loops over lists that name one another",
         "{namespace t}{template m kind=\"text\"}{@param l: list<string>}{let $l0: $l /}",
         "{let $l#: $l! /}{for $i in $l#}{$i}{/for}",
-        2_000,
+        1_000,
         "{/template}",
         "v",
-        2_000,
+        1_000,
     ),
     (
         "loops whose items name others",
         "{namespace t}{template m kind=\"text\"}{@param l: list<string>}{@param x: string}{let $a0: $x /}",
         "{let $a#: $a0 /}{for $i in $l}{let $b: $i /}{let $c: $b /}{$c}{$a0}{/for}",
-        4_000,
+        1_000,
         "{/template}",
         "vv",
-        4_000,
+        1_000,
     ),
     (
         "blocks of text that print the one before",
         "{namespace t}{template m kind=\"text\"}{@param x: string}{let $a0 kind=\"text\"}{$x}{/let}",
         "{let $a# kind=\"text\"}{$a!}{/let}",
-        3_000,
+        2_000,
         "{$a#}{/template}",
         "v",
         1,
@@ -117,7 +117,7 @@ const MANY: &[ManyRow] = &[
         "blocks that print the one before",
         "{namespace t}{template m}{let $a0 kind=\"html\"}<b>v</b>{/let}",
         "{let $a# kind=\"html\"}{$a!}{/let}",
-        3_000,
+        2_000,
         "{$a#}{/template}",
         "<b>v</b>",
         1,
@@ -210,7 +210,8 @@ fn is_page(alloc: Global, file: &str, part: &str, times: usize) -> Option<bool> 
 /// Whether the page of a row is the right one.
 fn is_right(alloc: Global, row: &ManyRow) -> Option<bool> {
     let (_, _, _, _, _, part, times) = *row;
-    is_page(alloc, file_of(alloc, row)?.as_str(), part, times)
+    let file = file_of(alloc, row)?;
+    is_page(alloc, file.as_str(), part, times)
 }
 
 #[test]
@@ -222,7 +223,8 @@ fn pages_of_many(rt: HostRuntime) {
 
 /// Whether the page of many parameters is the right one.
 fn params_are_right(alloc: Global) -> Option<bool> {
-    is_page(alloc, file_of_params(alloc)?.as_str(), "v", 8_000)
+    let file = file_of_params(alloc)?;
+    is_page(alloc, file.as_str(), "v", 8_000)
 }
 
 #[test]
