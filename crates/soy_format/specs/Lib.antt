@@ -1,0 +1,6 @@
+pub mod Levels
+pub mod FormattedText
+pub mod FormattedString
+pub mod FormattedExpression
+pub mod FormattedBody
+pub mod Formatted
