@@ -4,9 +4,8 @@
 -- that is empty, an offset of 0 and a `data="all"` that isn't there are left out, and the kind of a block is always
 -- written. A call without arguments closes itself. Each case of a message has one value.
 -- Example: the print of 1 is `{print 1}`, and the call of `.a` without arguments `{call a /}`.
-use Rattle.std.specs.Prelude.{ℕ, Bool, true, false, ◌==◌, List, [], ◌∷◌, ◌++◌, Option, Some, None, codes, if◌then◌else◌}
+use Rattle.std.specs.Prelude.{ℕ, Bool, ◌==◌, List, [], ◌∷◌, ◌++◌, Option, Some, None, codes, if◌then◌else◌}
 use Rattle.std.specs.Fmt.{decimal, signed_decimal}
-use Rattle.soy_base.specs.Characters.{dollar_sign}
 use Rattle.soy_base.specs.declared.kind.Kind.{Kind}
 use Rattle.soy_base.specs.declared.kind.Kind.TheVariants as kind
 use Rattle.soy_tree.specs.Types.{Name}
@@ -16,7 +15,7 @@ use Rattle.soy_tree.specs.Nodes.{PluralCases, SelectCases, TextNode, Print, If, 
 use Rattle.soy_tree.specs.Nodes.{MessageNode, no_node, node, no_otherwise, otherwise, no_arm, arm, no_case, case}
 use Rattle.soy_tree.specs.Nodes.{no_argument, argument, Plain, Block, message, no_fallback, fallback, Parts, Plural}
 use Rattle.soy_tree.specs.Nodes.{Select, no_plural_case, plural_case, no_select_case, select_case}
-use Rattle.soy_format.specs.FormattedExpression.{formatted_expr, formatted_values}
+use Rattle.soy_format.specs.FormattedExpression.{begins_with_variable, formatted_expr, formatted_values, variable_text}
 use Rattle.soy_format.specs.FormattedString.{formatted_string}
 use Rattle.soy_format.specs.FormattedText.{formatted_text}
 
@@ -33,9 +32,8 @@ abbrev pub kind_text : Kind → List ℕ
 kind_text k = attribute_text (codes "kind") (kind_name k)
 
 -- the start of a print, by whether its expression begins with `$`
-abbrev pub print_start : List ℕ → List ℕ
-print_start [] = codes "{print "
-print_start (c ∷ cs) = if c == dollar_sign then codes "{" else codes "{print "
+abbrev pub print_start : Bool → List ℕ
+print_start begins_with_dollar = if begins_with_dollar then codes "{" else codes "{print "
 
 abbrev pub phname_text : Option Name → List ℕ
 phname_text None = []
@@ -43,7 +41,7 @@ phname_text (Some name) = attribute_text (codes "phname") name
 
 abbrev pub index_text : Option Name → List ℕ
 index_text None = []
-index_text (Some name) = codes ", $" ++ name
+index_text (Some name) = codes ", " ++ variable_text name
 
 abbrev pub data_text : Bool → List ℕ
 data_text all = if all then attribute_text (codes "data") (codes "all") else []
@@ -60,22 +58,36 @@ abbrev pub expr_command : List ℕ → Expr → List ℕ
 expr_command word e = word ++ (formatted_expr e ++ codes "}")
 
 abbrev pub print_text : Expr → Option Name → List ℕ
-print_text e phname = print_start (formatted_expr e) ++ (formatted_expr e ++ (phname_text phname ++ codes "}"))
+print_text e phname =
+    print_start (begins_with_variable e) ++ (formatted_expr e ++ (phname_text phname ++ codes "}"))
 
 abbrev pub for_text : Name → Option Name → Expr → List ℕ
-for_text name index e = codes "{for $" ++ (name ++ (index_text index ++ expr_command (codes " in ") e))
+for_text name index e = codes "{for " ++ (variable_text name ++ (index_text index ++ expr_command (codes " in ") e))
+
+-- the expression of a command that closes itself
+abbrev pub value_end : Expr → List ℕ
+value_end e = codes ": " ++ (formatted_expr e ++ codes " /}")
 
 abbrev pub let_text : Name → Expr → List ℕ
-let_text name e = codes "{let $" ++ (name ++ (codes ": " ++ (formatted_expr e ++ codes " /}")))
+let_text name e = codes "{let " ++ (variable_text name ++ value_end e)
 
 abbrev pub let_block_text : Name → Kind → List ℕ
-let_block_text name k = codes "{let $" ++ (name ++ (kind_text k ++ codes "}"))
+let_block_text name k = codes "{let " ++ (variable_text name ++ (kind_text k ++ codes "}"))
 
 abbrev pub call_text : Name → Bool → List ℕ
 call_text name all = codes "{call " ++ (name ++ data_text all)
 
+-- the end of a call's command, which closes itself where no param follows, and the command that closes it else
+abbrev pub call_end : Arguments → List ℕ
+call_end no_argument = codes " /}"
+call_end (argument name given span rest) = codes "}"
+
+abbrev pub call_close : Arguments → List ℕ
+call_close no_argument = []
+call_close (argument name given span rest) = codes "{/call}"
+
 abbrev pub param_text : Name → Expr → List ℕ
-param_text name e = codes "{param " ++ (name ++ (codes ": " ++ (formatted_expr e ++ codes " /}")))
+param_text name e = codes "{param " ++ (name ++ value_end e)
 
 abbrev pub param_block_text : Name → Kind → List ℕ
 param_block_text name k = codes "{param " ++ (name ++ (kind_text k ++ codes "}"))
@@ -101,7 +113,8 @@ abbrev mutual
   formatted_node (For name index e body span) = for_text name index e ++ (formatted_nodes body ++ codes "{/for}")
   formatted_node (Let name e span) = let_text name e
   formatted_node (LetBlock name k body span) = let_block_text name k ++ (formatted_nodes body ++ codes "{/let}")
-  formatted_node (Call name all given span) = call_text name all ++ formatted_given given
+  formatted_node (Call name all given span) =
+      call_text name all ++ (call_end given ++ (formatted_arguments given ++ call_close given))
   formatted_node (MessageNode m other span) =
       formatted_message (codes "{msg") m ++ (formatted_fallback other ++ codes "{/msg}")
 
@@ -124,12 +137,6 @@ abbrev mutual
   formatted_cases no_case = []
   formatted_cases (case values body cases) =
       case_text (formatted_values values) ++ (formatted_nodes body ++ formatted_cases cases)
-
-  -- the end of a call's command, and its params
-  pub formatted_given : Arguments → List ℕ
-  formatted_given no_argument = codes " /}"
-  formatted_given (argument name given span rest) =
-      codes "}" ++ (formatted_arguments (argument name given span rest) ++ codes "{/call}")
 
   pub formatted_arguments : Arguments → List ℕ
   formatted_arguments no_argument = []
