@@ -4,7 +4,7 @@
 -- that is empty, an offset of 0 and a `data="all"` that isn't there are left out, and the kind of a block is always
 -- written. A call without arguments closes itself. Each case of a message has one value.
 -- Example: the print of 1 is `{print 1}`, and the call of `.a` without arguments `{call a /}`.
-use Rattle.std.specs.Prelude.{ℕ, Bool, ◌==◌, List, [], ◌∷◌, ◌++◌, Option, Some, None, codes, if◌then◌else◌}
+use Rattle.std.specs.Prelude.{ℕ, Bool, true, false, ◌==◌, List, [], ◌∷◌, ◌++◌, Option, Some, None, codes, if◌then◌else◌}
 use Rattle.std.specs.Fmt.{decimal, signed_decimal}
 use Rattle.soy_base.specs.declared.kind.Kind.{Kind}
 use Rattle.soy_base.specs.declared.kind.Kind.TheVariants as kind
@@ -57,6 +57,10 @@ offset_text offset = if offset == 0 then [] else attribute_text (codes "offset")
 abbrev pub expr_command : List ℕ → Expr → List ℕ
 expr_command word e = word ++ (formatted_expr e ++ codes "}")
 
+-- the command of an arm
+abbrev pub arm_text : Bool → Expr → List ℕ
+arm_text first e = if first then expr_command (codes "{if ") e else expr_command (codes "{elseif ") e
+
 abbrev pub print_text : Expr → Option Name → List ℕ
 print_text e phname =
     print_start (begins_with_variable e) ++ (formatted_expr e ++ (phname_text phname ++ codes "}"))
@@ -106,7 +110,7 @@ abbrev mutual
   formatted_node (TextNode text span) = formatted_text text
   formatted_node (Print e phname span) = print_text e phname
   formatted_node (If arms other span) =
-      formatted_arms (codes "{if ") arms ++ (formatted_otherwise (codes "{else}") other ++ codes "{/if}")
+      formatted_arms true arms ++ (formatted_otherwise (codes "{else}") other ++ codes "{/if}")
   formatted_node (Switch e cases other span) =
       expr_command (codes "{switch ") e
       ++ (formatted_cases cases ++ (formatted_otherwise (codes "{default}") other ++ codes "{/switch}"))
@@ -127,11 +131,10 @@ abbrev mutual
   formatted_otherwise command no_otherwise = []
   formatted_otherwise command (otherwise body) = command ++ formatted_nodes body
 
-  -- arms, the first of which begins so
-  pub formatted_arms : List ℕ → Arms → List ℕ
-  formatted_arms word no_arm = []
-  formatted_arms word (arm e body arms) =
-      expr_command word e ++ (formatted_nodes body ++ formatted_arms (codes "{elseif ") arms)
+  -- arms, by whether the first of them is the first of its if
+  pub formatted_arms : Bool → Arms → List ℕ
+  formatted_arms first no_arm = []
+  formatted_arms first (arm e body arms) = arm_text first e ++ (formatted_nodes body ++ formatted_arms false arms)
 
   pub formatted_cases : Cases → List ℕ
   formatted_cases no_case = []
