@@ -1,7 +1,7 @@
 -- How the nodes of a body are written in canonical source: one after the other, each command with one space between its
 -- parts, and ` /}` where it closes itself.
--- A print is `{e}` where e begins with `$`, else `{print e}`. Attributes stand in the order `desc`, `meaning`; a meaning
--- that is empty, an offset of 0 and a `data="all"` that isn't there are left out, and the kind of a block is always
+-- A print is `{e}` where e begins with `$`, else `{print e}`. Attributes stand in the order `desc`, `meaning`; a
+-- meaning that is empty, an offset of 0 and a `data="all"` that isn't there are left out, and the kind of a block is always
 -- written. A call without arguments closes itself. Each case of a message has one value.
 -- Example: the print of 1 is `{print 1}`, and the call of `.a` without arguments `{call a /}`.
 use Rattle.std.specs.Prelude.{ℕ, Bool, true, false, ◌==◌, List, [], ◌∷◌, ◌++◌, Option, Some, None, codes, if◌then◌else◌}
@@ -150,7 +150,8 @@ abbrev mutual
   formatted_argument name (Block k body) = param_block_text name k ++ (formatted_nodes body ++ codes "{/param}")
 
   pub formatted_message : List ℕ → Message → List ℕ
-  formatted_message word (message desc meaning body span) = message_text word desc meaning ++ formatted_message_body body
+  formatted_message word (message desc meaning body span) =
+      message_text word desc meaning ++ formatted_message_body body
 
   pub formatted_fallback : Fallback → List ℕ
   formatted_fallback no_fallback = []

@@ -1,6 +1,6 @@
 -- How an expression is written in canonical source.
--- A binary operator has one space on each side, `not` one after it, and `-` stands directly by its operand, with a space
--- between two `-`. Parentheses stand exactly around these operands, by the levels of their operators: the base of an
+-- A binary operator has one space on each side, `not` one after it, and `-` stands directly by its operand, with a
+-- space between two `-`. Parentheses stand exactly around these operands, by the levels of their operators: the base of an
 -- access above level 1; the operand of `-` or `not` above level 2; the left operand of the levels 3 to 8 above that of
 -- its operator, and the right one not below it; the first operand of level 9 where it is of level 9.
 -- Example: the sum of 1 and the difference of 2 and 3 is written `1 + (2 - 3)`.

@@ -3,7 +3,7 @@
 -- follows it. All else is written as it is. A text without characters is `{nil}`. Of the line that a body is written
 -- on, the first and the last character, where they are a space, are written as `{sp}`.
 -- Example: the text `{a}//` is written `{lb}a{rb}/{nil}/`, and the line ` a ` as `{sp}a{sp}`.
-use Rattle.std.specs.Prelude.{ℕ, Bool, true, false, ◌&&◌, ◌||◌, ◌==◌, List, [], ◌∷◌, ◌++◌, codes, if◌then◌else◌}
+use Rattle.std.specs.Prelude.{ℕ, Bool, false, ◌&&◌, ◌||◌, ◌==◌, List, [], ◌∷◌, ◌++◌, codes, if◌then◌else◌}
 use Rattle.soy_base.specs.Characters.{tab, line_feed, carriage_return, space, asterisk, slash, left_brace, right_brace}
 
 abbrev pub text_character : ℕ → List ℕ

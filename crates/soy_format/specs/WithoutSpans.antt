@@ -2,7 +2,7 @@
 -- their spans, so where they differ in spans alone.
 -- Example: the files `{namespace t}{template m}a{/template}` and `{namespace t} {template m} a {/template}` have trees
 -- that are alike.
-use Rattle.std.specs.Prelude.{◌≡◌, List, [], ◌∷◌, map}
+use Rattle.std.specs.Prelude.{◌≡◌, map}
 use Rattle.soy_base.specs.declared.fault.Span.{Span}
 use Rattle.soy_tree.specs.Expressions.{Expr, NullLiteral, BoolLiteral, IntLiteral, StringLiteral, Variable, Member}
 use Rattle.soy_tree.specs.Expressions.{Index, Minus, Not, Binary, Coalesce, Conditional}
