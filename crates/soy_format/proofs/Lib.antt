@@ -1,0 +1,5 @@
+pub mod AsciiTexts
+pub mod Pushes
+pub mod TextLines
+pub mod AlikeTrees
+pub mod Templates
