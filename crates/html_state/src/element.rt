@@ -13,7 +13,6 @@ ghost use Rattle.html_state.specs.declared.row.Tag.TheVariants as tag;
 ghost use Rattle.html_state.specs.declared.row.TagKind.TheVariants as kind;
 
 use crate::name::Name;
-use crate::names::element_name;
 use crate::row::{Begun, Element, HtmlRow, Tag, TagKind};
 use crate::tag::past_tag_name;
 use crate::text::ends_name;
@@ -139,7 +138,7 @@ fn ended(element: &Element, c: char) -> HtmlRow
     ensures { result ≡ in_tag (tag.Named kind.End (element_name element.now)) (past_name c) }
 {
     past_tag_name(
-        Tag::Named(TagKind::End, Name::of_text(element_name(element))),
+        Tag::Named(TagKind::End, Name::of_text(element.name())),
         c,
     )
 }

@@ -56,21 +56,23 @@ pub(crate) fn element_named(name: &Name) -> Option<Element>
     }
 }
 
-/// The name of an element.
-pub(crate) fn element_name(element: &Element) -> &'static [u8]
-    ensures is { result.now ≡ element_name element.now }
-    ensures short { length result.now ≤ 8 }
-{
-    match element {
-        Element::Title => b"title",
-        Element::Textarea => b"textarea",
-        Element::Style(_) => b"style",
-        Element::Xmp => b"xmp",
-        Element::Iframe => b"iframe",
-        Element::Noembed => b"noembed",
-        Element::Noframes => b"noframes",
-        Element::Noscript => b"noscript",
-        Element::Script(_) => b"script",
+impl Element {
+    /// The element's name, in lower case.
+    pub fn name(&self) -> &'static [u8]
+        ensures is { result.now ≡ element_name self.now }
+        ensures short { length result.now ≤ 8 }
+    {
+        match self {
+            Element::Title => b"title",
+            Element::Textarea => b"textarea",
+            Element::Style(_) => b"style",
+            Element::Xmp => b"xmp",
+            Element::Iframe => b"iframe",
+            Element::Noembed => b"noembed",
+            Element::Noframes => b"noframes",
+            Element::Noscript => b"noscript",
+            Element::Script(_) => b"script",
+        }
     }
 }
 

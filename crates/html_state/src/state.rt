@@ -96,6 +96,13 @@ impl State {
         }
     }
 
+    /// The row of the tokenizer's table that the state is in, with what it keeps.
+    pub fn row(&self) -> HtmlRow
+        ensures { result ≡ self.now.row }
+    {
+        self.row
+    }
+
     /// The part of the markup that the state is in.
     pub fn part(&self) -> Part
         ensures { result ≡ part_of self.now }

@@ -59,7 +59,7 @@ text_after fs ps = on fs (expected.Text ps [] quoting.Unquoted)
 abbrev pub add_next : List Frame → List MsgPart → List ℕ → Quoting → ℕ → Option PatternState
 add_next fs ps t q c = on fs (expected.Text ps (t ++ c ∷ []) q)
 
--- at most 64 braces are open
+-- at most 64 arguments, plurals and selects are open at once
 abbrev pub brace_next : List Frame → List MsgPart → Option PatternState
 brace_next fs ps = if nat_le (length fs) 63 then on fs (expected.Name ps) else None
 

@@ -1,7 +1,7 @@
 -- The plural rules of a bundle, and their first fault (23).
 -- `plural` and `ordinal` bring rules under the keywords of their categories; where one is left out there are none. They
 -- are asked in the order zero, one, two, few, many, other.
--- Example: `{"plural":{"one":"n = 1","few":"n is 2"}}` is refused at `plural`, `few`.
+-- Example: `{"dir":"ltr","plural":{"one":"n = 1","few":"n is 2"},"messages":{}}` is refused at `plural`, `few`.
 use Rattle.std.specs.Prelude.{◌≡◌, ℕ, List, [], ◌∷◌, ◌++◌, Option, Some, None, Result, Ok, Err, option_and_then}
 use Rattle.std.specs.Str.{chars}
 use Rattle.serde_json.specs.Data.{Data}

@@ -3,7 +3,7 @@
 -- `{`, `}` or, directly in an arm of a plural, `#` follows it, up to the next single apostrophe or the text's end; two
 -- are one apostrophe; any other is itself. `#` is the number directly in an arm of a plural. Outside all braces a `}`
 -- is text. White space may stand between the parts of an argument. Of two arms of one key the first counts, and `other`
--- is required. A pattern nests at most 64 deep.
+-- is required. At most 64 arguments, plurals and selects are open at once.
 -- Example: `{N, plural, other {# '#'}}` is a plural, in whose arm stand the number and the text ` #`.
 use Rattle.std.specs.Prelude.{◌≡◌, ◌≢◌, ℕ, suc, ◌≤◌, ℤ, pos, neg_ℤ, Bool, true, false, not, ◌||◌, ◌==◌, IsTrue, List}
 use Rattle.std.specs.Prelude.{[], ◌∷◌, ◌++◌, if◌then◌else◌, bytes_eq, codes}
