@@ -1,4 +1,5 @@
 pub mod Answering
+pub mod CanonicalTexts
 pub mod Courses
 pub mod Fetching
 pub mod FewFiles

@@ -14,6 +14,7 @@ pub mod HoldsInputs
 pub mod Inputs
 pub mod IsCatalogue
 pub mod IsChecked
+pub mod IsFormatted
 pub mod IsGenerated
 pub mod IsPage
 pub mod IsSumOf

@@ -12,11 +12,11 @@ ghost use Rattle.soy_top.specs.RenderAsked.{AsksRender};
 ghost use Rattle.soy_top.specs.Rendered.{Rendered, known_rendered, rendered_answer};
 ghost use Rattle.soy_top.specs.Words.{Word};
 
-/// The answer is a text exactly where the text is the page or the catalogue of the words and of the files that are
-/// held, or says that these are accepted, or is the summary of the workload that the words name. It is a text that ends
-/// too deep exactly where that is a page up to a call that nests too deep, with the line of the call. Of a `render`
-/// whose files and bundle are accepted, it is a refusal exactly where no template may be rendered under the name (29),
-/// the data are no JSON (27) or they give no values (28).
+/// The answer is a text exactly where the text is the page, the catalogue or the canonical source of the words and of
+/// the files that are held, or says that these are accepted, or is the summary of the workload that the words name. It
+/// is a text that ends too deep exactly where that is a page up to a call that nests too deep, with the line of the
+/// call. Of a `render` whose files and bundle are accepted, it is a refusal exactly where no template may be rendered
+/// under the name (29), the data are no JSON (27) or they give no values (28).
 pub fn law_answer_is_text()
     ensures text { (files : Files) (words : List Word) (text : List ℕ) → answer files words ≡ Done text →
         IsText files words text }
