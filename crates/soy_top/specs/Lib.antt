@@ -17,6 +17,7 @@ pub mod IsChecked
 pub mod IsFormatted
 pub mod IsGenerated
 pub mod IsPage
+pub mod IsRefusedFormat
 pub mod IsSumOf
 pub mod IsText
 pub mod Line

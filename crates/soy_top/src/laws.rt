@@ -6,6 +6,7 @@ ghost use Rattle.soy_top.specs.AcceptedRender.{AcceptedRender};
 ghost use Rattle.soy_top.specs.Answer.{Done, Refused, TooDeep, answer, known_answer};
 ghost use Rattle.soy_top.specs.Asked.{asked_by_words};
 ghost use Rattle.soy_top.specs.IsPage.{IsRefusedPage, IsStoppedPage};
+ghost use Rattle.soy_top.specs.IsRefusedFormat.{AreFormat, IsRefusedFormat};
 ghost use Rattle.soy_top.specs.IsText.{IsText};
 ghost use Rattle.soy_top.specs.OneText.{IsOneText};
 ghost use Rattle.soy_top.specs.RenderAsked.{AsksRender};
@@ -29,6 +30,15 @@ pub fn law_answer_is_text()
     ensures refused { (files : Files) (words : List Word) (line : List ℕ) → AcceptedRender files words →
         answer files words ≡ Refused line → IsRefusedPage files words line }
     ensures only_refused { (files : Files) (words : List Word) (line : List ℕ) → IsRefusedPage files words line →
+        answer files words ≡ Refused line }
+{}
+
+/// The answer to a `format` is a refusal exactly where its file is held and is over the limit (2), or deserves a fault by
+/// itself: 1, 3, 4, 5, or the 8 of an unknown type name.
+pub fn law_refused_format()
+    ensures refused { (files : Files) (words : List Word) (name : Word) (line : List ℕ) → AreFormat words name →
+        answer files words ≡ Refused line → IsRefusedFormat files words line }
+    ensures only_refused { (files : Files) (words : List Word) (line : List ℕ) → IsRefusedFormat files words line →
         answer files words ≡ Refused line }
 {}
 

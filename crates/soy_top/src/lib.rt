@@ -34,6 +34,6 @@ mod status;
 mod summary;
 mod wanted;
 
-pub use laws::{law_answer_is_text, law_page_is_one_text, law_rendered_answer};
+pub use laws::{law_answer_is_text, law_page_is_one_text, law_refused_format, law_rendered_answer};
 pub use program::run;
 pub use status::Status;
