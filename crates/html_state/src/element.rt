@@ -137,10 +137,7 @@ fn given_up(element: &Element, characters: &[u8], c: char) -> Result<HtmlRow, Co
 fn ended(element: &Element, c: char) -> HtmlRow
     ensures { result ≡ in_tag (tag.Named kind.End (element_name element.now)) (past_name c) }
 {
-    past_tag_name(
-        Tag::Named(TagKind::End, Name::of_text(element.name())),
-        c,
-    )
+    past_tag_name(Tag::Named(TagKind::End, Name::of_text(element.name())), c)
 }
 
 /// The row past the name of the element's end tag, or the fault that its text may not end.
