@@ -17,14 +17,12 @@ use Rattle.soy_front.specs.FilesAnswer.{ReadFiles}
 use Rattle.soy_front.specs.FilesDeserve.{AreWithin}
 use Rattle.soy_front.specs.FrontAnswer.{DeserveFront, Front, LanguageOrFault, answer_by_files, front_answer}
 use Rattle.soy_front.specs.FrontAnswer.{language_answer, language_or_fault, walk_answer}
-use Rattle.soy_front.specs.Sources.{source_answer}
 use Rattle.soy_front.specs.declared.fault.FrontFault.{FrontFault}
 use Rattle.soy_front.proofs.BundleTranslations.{same_chosen}
 use Rattle.soy_front.proofs.FilesLaws.{files_had, trees_within}
 use Rattle.soy_front.proofs.FirstFaults.{first_apart}
 use Rattle.soy_front.proofs.FrontAnswers.{answered_fault, brought_apart, same_language}
 use Rattle.soy_front.proofs.LanguageOf.{languages_alike}
-use Rattle.soy_front.proofs.SourceLaws.{only}
 use Rattle.soy_io.specs.FileOf.{Files, file_of}
 use Rattle.soy_meaning.specs.AcceptedTrees.{walk_trees}
 use Rattle.soy_meaning.specs.Outcome.{Outcome, RunEnd, StopsAt, WholeRun, end_of_outcome}
@@ -34,7 +32,7 @@ use Rattle.soy_top.specs.Answer.{Answer, Done, PageAnswer, Read, Refused, TooDee
 use Rattle.soy_top.specs.Answer.{answer, asked_answer, bundled_answer, call_fault, catalogue_answer, contents_answer}
 use Rattle.soy_top.specs.Answer.{data_answer, ended_page, entry_answer, entry_of, inputs_answer, limits_answer}
 use Rattle.soy_top.specs.Answer.{page_answer, render_answer, run_text, summed_page, template_outcome}
-use Rattle.soy_top.specs.Answer.{tree_answer, unless_faulty, unless_refused, workload_answer}
+use Rattle.soy_top.specs.Answer.{unless_faulty, unless_refused, workload_answer}
 use Rattle.soy_top.specs.Asked.{Asked, Check, Extract, Format, Gen, Render, asked_by_words}
 use Rattle.soy_top.specs.FilesWanted.{FileWanted, asked_files, bundle_files, content, contents, data_file}
 use Rattle.soy_top.specs.FilesWanted.{first_not_held, first_over_limit, is_source_language, source_file}
@@ -459,7 +457,7 @@ formatted_answered files words text f =
     (record { held = refl; within = refl; same = refl }) in
     ready_answer files words (Format f.name) (format_asks words f.name f.words_are) ready.held ready.within
     ∙ (ap (contents_answer (Format f.name)) ready.same
-    ∙ tree_answered f.name f.bytes (source_answer f.bytes) f.tree text (only f.bytes (Ok f.tree) f.deserves) f.text_is)
+    ∙ tree_answered f.name f.bytes f.tree text f.deserves f.text_is)
 
 -- **a text that the words and the files have is the answer**
 pub text_answered : (files : Files) (words : List Word) (text : List ℕ) → IsText files words text

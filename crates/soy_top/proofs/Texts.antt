@@ -14,13 +14,11 @@ use Rattle.soy_base.specs.declared.fault.Fault.{Fault}
 use Rattle.soy_base.specs.declared.path.PathStep.{PathStep}
 use Rattle.msg_extract.specs.declared.catalogue.Listed.{Listed}
 use Rattle.soy_front.specs.Accepted.{Accepted, AreFiles}
-use Rattle.soy_front.specs.Deserves.{Deserves}
 use Rattle.soy_front.specs.FilesAnswer.{ReadFiles, files_answer}
 use Rattle.soy_front.specs.FrontAnswer.{DeserveFront, Front, front_answer}
 use Rattle.soy_front.specs.declared.fault.FrontFault.{FrontFault}
 use Rattle.soy_front.proofs.FilesLaws.{read_as}
 use Rattle.soy_front.proofs.FrontAnswers.{answered_accepted, answered_deserved}
-use Rattle.soy_front.proofs.SourceLaws.{deserved}
 use Rattle.soy_front.specs.Sources.{source_answer}
 use Rattle.soy_io.specs.FileOf.{Files, file_of}
 use Rattle.soy_meaning.specs.Outcome.{RunEnd, StopsAt, WholeRun, end_of_outcome}
@@ -56,6 +54,7 @@ use Rattle.soy_top.specs.Numbered.{numbered, numbered_line}
 use Rattle.soy_top.specs.Pointer.{pointer_line}
 use Rattle.soy_top.specs.Summary.{summary}
 use Rattle.soy_top.specs.Words.{Word}
+use Rattle.soy_top.proofs.CanonicalTexts.{tree_deserved}
 use Rattle.soy_top.proofs.Options.{some_none}
 use Rattle.soy_top.proofs.SpelledWords.{IsSpelled, spelled-asked}
 use Rattle.work_gen.specs.Workload.{workload}
@@ -532,7 +531,7 @@ format_text files words name text spelled by =
       tree = had.0;
       words_are = spelled;
       file_held = (content_held (file_of files name) None name by.held).0;
-      deserves = subst (Deserves source) had.1 (deserved source);
+      deserves = tree_deserved source had.0 had.1;
       text_is = done_same (canonical_source had.0) text had.2;
     }
 
