@@ -307,9 +307,9 @@ const CHECKS: &[Row] = &[
         "format",
         "format t.soy",
         &[("t.soy", UNKNOWN)],
-        Status::Refused,
+        Status::Done,
+        "{namespace t}\n\n{template m}\n{$y}\n{/template}\n",
         "",
-        "format: 30 NotYet\n",
     ),
 ];
 

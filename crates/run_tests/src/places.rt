@@ -618,9 +618,9 @@ const PATHS: &[Row] = &[
         "a format of an open tag",
         "format t.soy",
         &[("t.soy", "{namespace t}\n{template m}\n\n<b\n{/template}\n")],
-        Status::Refused,
+        Status::Done,
+        "{namespace t}\n\n{template m}\n<b\n{/template}\n",
         "",
-        "format: 30 NotYet\n",
     ),
     (
         "an extract of an open tag",

@@ -112,9 +112,9 @@ const WORDS: &[Row] = &[
         "format of one",
         "format t.soy",
         FILES,
-        Status::Refused,
+        Status::Done,
+        "{namespace t}\n\n{template m}\n{@param x: string}\n<b>{$x}</b>\n{/template}\n",
         "",
-        "format: 30 NotYet\n",
     ),
     (
         "extract of one",

@@ -1,4 +1,5 @@
--- The answer that a page, a stopped page, a refused page, a catalogue, files that are accepted and a summary are.
+-- The answer that a page, a stopped page, a refused page, a catalogue, files that are accepted, a summary and a
+-- canonical source are.
 use Rattle.std.proofs.Common.{◌≡◌, ◌≤◌, ℕ, Bool, true, false, cond, List, [], ◌∷◌, ◌++◌, length, map, Option}
 use Rattle.std.proofs.Common.{Some, None, refl, sym, ap, ◌∙◌, codes, inl, inr}
 use Rattle.std.specs.Prelude.{is_some, unwrap_or, nat_lt, Result, Ok, Err}
@@ -32,7 +33,7 @@ use Rattle.soy_top.specs.Answer.{answer, asked_answer, bundled_answer, call_faul
 use Rattle.soy_top.specs.Answer.{data_answer, ended_page, entry_answer, entry_of, inputs_answer, limits_answer}
 use Rattle.soy_top.specs.Answer.{page_answer, render_answer, run_text, summed_page, template_outcome}
 use Rattle.soy_top.specs.Answer.{unless_faulty, unless_refused, workload_answer}
-use Rattle.soy_top.specs.Asked.{Asked, Check, Extract, Gen, Render, asked_by_words}
+use Rattle.soy_top.specs.Asked.{Asked, Check, Extract, Format, Gen, Render, asked_by_words}
 use Rattle.soy_top.specs.FilesWanted.{FileWanted, asked_files, bundle_files, content, contents, data_file}
 use Rattle.soy_top.specs.FilesWanted.{first_not_held, first_over_limit, is_source_language, source_file}
 use Rattle.soy_top.specs.Generated.{workload_entry, workload_files, workload_json, workload_names}
@@ -40,17 +41,19 @@ use Rattle.soy_top.specs.HoldsInputs.{HoldsBundle, HoldsData}
 use Rattle.soy_top.specs.Inputs.{bundle_content, but_last, last}
 use Rattle.soy_top.specs.IsCatalogue.{IsCatalogue}
 use Rattle.soy_top.specs.IsChecked.{IsChecked}
+use Rattle.soy_top.specs.IsFormatted.{IsFormatted}
 use Rattle.soy_top.specs.IsGenerated.{IsGenerated, IsSummary}
 use Rattle.soy_top.specs.IsPage.{IsPage, IsRefusedPage, IsStoppedPage}
 use Rattle.soy_top.specs.IsPage.IsRefusedPage.{NoJson, NoTemplate, NoValues}
 use Rattle.soy_top.specs.IsText.{IsText}
-use Rattle.soy_top.specs.IsText.IsText.{Catalogue, Checked, Generated, Page}
+use Rattle.soy_top.specs.IsText.IsText.{Catalogue, Checked, Formatted, Generated, Page}
 use Rattle.soy_top.specs.Line.{entry_line, too_large_line}
 use Rattle.soy_top.specs.MadeBundle.{bundle_text}
 use Rattle.soy_top.specs.Numbered.{numbered, numbered_line}
 use Rattle.soy_top.specs.Pointer.{pointer_line}
 use Rattle.soy_top.specs.Words.{Word}
-use Rattle.soy_top.proofs.SpelledWords.{check_asks, extract_asks, gen_asks, render_asks}
+use Rattle.soy_top.proofs.CanonicalTexts.{tree_answered, tree_within}
+use Rattle.soy_top.proofs.SpelledWords.{check_asks, extract_asks, format_asks, gen_asks, render_asks}
 use Rattle.soy_top.proofs.Texts.{before_named, last_named}
 use Rattle.soy_tree.specs.Templates.{Declared, declared}
 use Rattle.soy_tree.specs.Values.{Value}
@@ -444,6 +447,18 @@ generated_answered files words text g =
     ready_answer files words (Gen g.number) (gen_asks words g.number g.words_are) refl refl
     ∙ summary_answered (workload g.number) text g.is_summary
 
+-- ---- canonical sources
+
+-- the canonical source of a file that has a tree is the answer
+formatted_answered : (files : Files) (words : List Word) (text : List ℕ) → IsFormatted files words text
+    → answer files words ≡ Done text
+formatted_answered files words text f =
+    let ready = source_ready files f.name f.bytes [] [] f.file_held (tree_within f.bytes f.tree f.deserves)
+    (record { held = refl; within = refl; same = refl }) in
+    ready_answer files words (Format f.name) (format_asks words f.name f.words_are) ready.held ready.within
+    ∙ (ap (contents_answer (Format f.name)) ready.same
+    ∙ tree_answered f.name f.bytes f.tree text f.deserves f.text_is)
+
 -- **a text that the words and the files have is the answer**
 pub text_answered : (files : Files) (words : List Word) (text : List ℕ) → IsText files words text
     → answer files words ≡ Done text
@@ -451,3 +466,4 @@ text_answered files words text (Page p) = page_answered files words text p
 text_answered files words text (Checked c) = checked_answered files words text c
 text_answered files words text (Catalogue c) = catalogue_answered files words text c
 text_answered files words text (Generated g) = generated_answered files words text g
+text_answered files words text (Formatted f) = formatted_answered files words text f

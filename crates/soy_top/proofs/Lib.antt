@@ -1,7 +1,9 @@
 pub mod Answering
+pub mod CanonicalTexts
 pub mod Courses
 pub mod Fetching
 pub mod FewFiles
+pub mod FormatRefusals
 pub mod KeyTexts
 pub mod LastContents
 pub mod MadeBundles

@@ -119,3 +119,6 @@ module _ (words : List Word) where
 
   pub gen_asks : (number : ℕ) → AreGen words number → asked_by_words words ≡ Some (Gen number)
   gen_asks number are = ap asked_by_words are.1 ∙ ap (option_map Gen) are.2
+
+  pub format_asks : (file : Word) → words ≡ codes "format" ∷ file ∷ [] → asked_by_words words ≡ Some (Format file)
+  format_asks file is = ap asked_by_words is

@@ -1,6 +1,6 @@
--- Where the answer is a text, the words and the files are those of a page, of a catalogue or of files that are
--- accepted, or the words are those of a workload. Where it is a text that ends too deep, they are those of a page that
--- stops at a call.
+-- Where the answer is a text, the words and the files are those of a page, of a catalogue, of files that are accepted
+-- or of a canonical source, or the words are those of a workload. Where it is a text that ends too deep, they are those
+-- of a page that stops at a call.
 use Rattle.std.proofs.Common.{◌≡◌, ℕ, zero, suc, Bool, true, false, cond, ◌-◌, List, [], ◌∷◌, ◌++◌, length, drop, take}
 use Rattle.std.proofs.Common.{length-append, map, Option, Some, None, refl, sym, ap, ◌∙◌, arith, codes}
 use Rattle.std.proofs.Common.{subst, ◌≤◌}
@@ -29,7 +29,7 @@ use Rattle.soy_tree.specs.declared.tree.Tree.{Tree}
 use Rattle.soy_types.specs.ReadData.{data_at}
 use Rattle.soy_top.specs.AcceptedRender.{AcceptedRender}
 use Rattle.soy_top.specs.Answer.{Answer, Usage, Read, Refused, Done, TooDeep, data_answer, ended_page, entry_answer}
-use Rattle.soy_top.specs.Answer.{call_fault, entry_of, front_line}
+use Rattle.soy_top.specs.Answer.{call_fault, canonical_source, entry_of, front_line}
 use Rattle.soy_top.specs.Answer.{PageAnswer, page_answer, render_answer, run_text, template_outcome}
 use Rattle.soy_top.specs.Answer.{contents_answer, asked_answer, limits_answer, answer, not_yet}
 use Rattle.soy_top.specs.Answer.{accepted_text, accepted_then, catalogue_answer, catalogue_text, read_then}
@@ -43,16 +43,18 @@ use Rattle.soy_top.specs.Inputs.{bundle_content, but_last, last, second_number}
 use Rattle.soy_top.specs.IsCatalogue.{IsCatalogue}
 use Rattle.soy_top.specs.HoldsInputs.{HoldsBundle, HoldsData}
 use Rattle.soy_top.specs.IsChecked.{IsChecked}
+use Rattle.soy_top.specs.IsFormatted.{IsFormatted}
 use Rattle.soy_top.specs.IsGenerated.{IsSummary}
 use Rattle.soy_top.specs.IsPage.{IsPage, IsStoppedPage}
 use Rattle.soy_top.specs.IsText.{IsText}
-use Rattle.soy_top.specs.IsText.IsText.{Page, Checked, Catalogue, Generated}
+use Rattle.soy_top.specs.IsText.IsText.{Page, Checked, Catalogue, Generated, Formatted}
 use Rattle.soy_top.specs.Line.{entry_line, fault_line, not_yet_line, too_large_line}
 use Rattle.soy_top.specs.MadeBundle.{bundle_text}
 use Rattle.soy_top.specs.Numbered.{numbered, numbered_line}
 use Rattle.soy_top.specs.Pointer.{pointer_line}
 use Rattle.soy_top.specs.Summary.{summary}
 use Rattle.soy_top.specs.Words.{Word}
+use Rattle.soy_top.proofs.CanonicalTexts.{tree_deserved}
 use Rattle.soy_top.proofs.Options.{some_none}
 use Rattle.soy_top.proofs.SpelledWords.{IsSpelled, spelled-asked}
 use Rattle.work_gen.specs.Workload.{workload}
@@ -503,14 +505,39 @@ summary_text w text h =
       text_is = done_same (summary (run_text (template_outcome g.of g.d g.v))) text g.given;
     }
 
+-- ---- canonical sources
+
+-- an answer by what a file is read as is one of a tree that it has
+tree_given : (name : Word) (bytes : List ℕ) (read : Result Tree Fault) (a : Answer) → IsNoRefusal a
+    → tree_answer name bytes read ≡ a → (tree : Tree) × (read ≡ Ok tree) × (Done (canonical_source tree) ≡ a)
+tree_given name bytes (Ok tree) a fine h = (tree, refl, h)
+tree_given name bytes (Err fault) a fine h = absurd (not_refused (fault_line name bytes fault) a fine h)
+
+format_given : (files : Files) (name : Word) (a : Answer) → IsNoRefusal a → IsByContents files (Format name) a
+    → (tree : Tree) × (source_answer (content files (source_file name)) ≡ Ok tree)
+    × (Done (canonical_source tree) ≡ a)
+format_given files name a fine by =
+    let source : List ℕ = content files (source_file name) in
+    tree_given name source (source_answer source) a fine by.given
+
+format_text : (files : Files) (words : List Word) (name : Word) (text : List ℕ) → IsSpelled words (Format name)
+    → IsByContents files (Format name) (Done text) → IsFormatted files words text
+format_text files words name text spelled by =
+    let source : List ℕ = content files (source_file name) in
+    let had = format_given files name (Done text) tt by in
+    record {
+      name = name;
+      bytes = source;
+      tree = had.0;
+      words_are = spelled;
+      file_held = (content_held (file_of files name) None name by.held).0;
+      deserves = tree_deserved source had.0 had.1;
+      text_is = done_same (canonical_source had.0) text had.2;
+    }
+
 -- ---- other commands have only refusals
 
--- a `format`, a `play` and a `preview` are refused, whatever they are asked of
-tree_refused : (name : Word) (bytes : List ℕ) (read : Result Tree Fault) (a : Answer) → IsNoRefusal a
-    → tree_answer name bytes read ≡ a → ⊥
-tree_refused name bytes (Ok tree) a fine h = not_refused (not_yet_line (codes "format")) a fine h
-tree_refused name bytes (Err fault) a fine h = not_refused (fault_line name bytes fault) a fine h
-
+-- a `play` and a `preview` are refused, whatever they are asked of
 play_refused : (script first second : Word) (names : List Word) (given read : List (List ℕ)) (a : Answer)
     → IsNoRefusal a → inputs_answer (Play script first second names) given read ≡ a → ⊥
 play_refused script first second names given read a fine h =
@@ -551,10 +578,7 @@ asked_text files words (Preview template json_name bundle names) text is by =
     let all : List (List ℕ) = contents files (asked_files (Preview template json_name bundle names)) in
     absurd (preview_refused template json_name bundle names (but_last (length names) all) (last (length names) all)
     (Done text) tt by.given)
-asked_text files words (Format name) text is by =
-    let all : List (List ℕ) = contents files (asked_files (Format name)) in
-    absurd (tree_refused name (numbered 0 (but_last 0 all)) (source_answer (numbered 0 (but_last 0 all))) (Done text) tt
-    by.given)
+asked_text files words (Format name) text is by = Formatted (format_text files words name text is by)
 
 done_deep : (text other line : List ℕ) → ◌≡◌ {A = Answer} (Done text) (TooDeep other line) → ⊥
 done_deep text other line e = cc
@@ -582,9 +606,8 @@ asked_stopped files words (Preview template json_name bundle names) text line is
     absurd (preview_refused template json_name bundle names (but_last (length names) all) (last (length names) all)
     (TooDeep text line) tt by.given)
 asked_stopped files words (Format name) text line is by =
-    let all : List (List ℕ) = contents files (asked_files (Format name)) in
-    absurd (tree_refused name (numbered 0 (but_last 0 all)) (source_answer (numbered 0 (but_last 0 all)))
-    (TooDeep text line) tt by.given)
+    let had = format_given files name (TooDeep text line) tt by in
+    absurd (done_deep (canonical_source had.0) text line had.2)
 
 answered_text : (files : Files) (words : List Word) (asked : Option Asked) (text : List ℕ)
     → asked_by_words words ≡ asked → option_map_or (asked_answer files) asked Usage ≡ Done text
@@ -593,7 +616,8 @@ answered_text files words None text is h = cc
 answered_text files words (Some asked) text is h =
     asked_text files words asked text (spelled-asked words asked is) (by_contents files asked (Done text) tt h)
 
--- **a text that is the answer is a page, a catalogue, that files are accepted, or the summary of a workload**
+-- **a text that is the answer is a page, a catalogue, that files are accepted, the summary of a workload, or a
+-- canonical source**
 pub text-answered : (files : Files) (words : List Word) (text : List ℕ) → answer files words ≡ Done text
     → IsText files words text
 text-answered files words text h = answered_text files words (asked_by_words words) text refl h

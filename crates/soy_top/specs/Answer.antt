@@ -10,7 +10,8 @@
 -- call that nests too deep, it is those up to the call, with the call's line. A `gen` asks for the faults of the source
 -- that it makes, and then, under the bundle that it makes of its catalogue, for all that a `render` asks for; the
 -- answer is the summary of the page. A `preview` asks for all that a `render` asks for, but that its template is of
--- kind html. What the program doesn't do yet is refused, which is the rest of a `preview` and every other command.
+-- kind html. The answer of a `format` is the canonical source of the tree that its file has. What the program doesn't
+-- do yet is refused, which is the rest of a `preview` and of a `play`.
 -- Example: the words `render t.zz d.json - t.soy` with a file of t.m are refused by `t.zz: 29 Entry`.
 use Rattle.std.specs.Prelude.{ℕ, List, [], length, Option, None, Some, option_map, option_and_then, slice_get}
 use Rattle.std.specs.Prelude.{codes, String, Result, Ok, Err, encode_utf8_all}
@@ -24,6 +25,7 @@ use Rattle.soy_base.specs.declared.code.Code.{Code}
 use Rattle.soy_base.specs.declared.code.Code.TheVariants as code
 use Rattle.soy_base.specs.declared.fault.Fault.{Fault}
 use Rattle.soy_base.specs.declared.path.PathStep.{PathStep}
+use Rattle.soy_format.specs.Formatted.{formatted_tree}
 use Rattle.soy_front.specs.Entries.{entry_number}
 use Rattle.soy_front.specs.FilesAnswer as read
 use Rattle.soy_front.specs.FilesAnswer.{ReadFiles}
@@ -51,7 +53,7 @@ use Rattle.soy_top.specs.Summary.{summary}
 use Rattle.soy_top.specs.Words.{Word, command_words}
 use Rattle.soy_tree.specs.Templates.{Declared, declared}
 use Rattle.soy_tree.specs.Values.{Value}
-use Rattle.soy_tree.specs.ViewTrees.{view_trees}
+use Rattle.soy_tree.specs.ViewTrees.{view_tree, view_trees}
 use Rattle.soy_tree.specs.declared.tree.Tree.{Tree}
 use Rattle.soy_types.specs.ReadData.{data_at}
 use Rattle.template_ir.specs.Placed.{language_context}
@@ -173,9 +175,13 @@ read_then names files answer = unless_faulty names files answer (read.files_answ
 abbrev pub catalogue_answer : ReadFiles → Answer
 catalogue_answer read = Done (catalogue_text read.rows)
 
+-- the canonical source of a tree
+abbrev pub canonical_source : Tree → List ℕ
+canonical_source tree = encode_utf8_all (formatted_tree (view_tree tree))
+
 -- the answer to a `format` of a file by what it is read as
 abbrev pub tree_answer : Word → List ℕ → Result Tree Fault → Answer
-tree_answer name bytes (Ok tree) = not_yet (codes "format")
+tree_answer name bytes (Ok tree) = Done (canonical_source tree)
 tree_answer name bytes (Err fault) = Refused (fault_line name bytes fault)
 
 -- what is said of files that are accepted

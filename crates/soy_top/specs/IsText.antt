@@ -1,10 +1,12 @@
--- What a text that is the answer is: a page, a catalogue, that files are accepted, or the summary of a workload.
+-- What a text that is the answer is: a page, a catalogue, that files are accepted, the summary of a workload, or the
+-- canonical source of a file.
 --
 -- Example: where the words are `extract t.soy`, it is the catalogue of t.soy.
 use Rattle.std.specs.Prelude.{ℕ, List}
 use Rattle.soy_io.specs.FileOf.{Files}
 use Rattle.soy_top.specs.IsCatalogue.{IsCatalogue}
 use Rattle.soy_top.specs.IsChecked.{IsChecked}
+use Rattle.soy_top.specs.IsFormatted.{IsFormatted}
 use Rattle.soy_top.specs.IsGenerated.{IsGenerated}
 use Rattle.soy_top.specs.IsPage.{IsPage}
 use Rattle.soy_top.specs.Words.{Word}
@@ -14,3 +16,4 @@ pub data IsText (files : Files) (words : List Word) (text : List ℕ) : Type 0 w
   Checked : IsChecked files words text → IsText files words text
   Catalogue : IsCatalogue files words text → IsText files words text
   Generated : IsGenerated words text → IsText files words text
+  Formatted : IsFormatted files words text → IsText files words text

@@ -14,8 +14,10 @@ pub mod HoldsInputs
 pub mod Inputs
 pub mod IsCatalogue
 pub mod IsChecked
+pub mod IsFormatted
 pub mod IsGenerated
 pub mod IsPage
+pub mod IsRefusedFormat
 pub mod IsSumOf
 pub mod IsText
 pub mod Line

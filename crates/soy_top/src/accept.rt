@@ -2,11 +2,10 @@
 
 ghost use Rattle.std.specs.Prelude.{◌≡◌, ◌≤◌, IfOk, length, option_map};
 ghost use Rattle.std.specs.String.{string_bytes};
-ghost use Rattle.soy_front.specs.Sources.{source_answer};
 ghost use Rattle.soy_front.specs.ViewSources.{view_contents};
 ghost use Rattle.soy_top.specs.Accepts.{Accepts, AcceptsFront, Refuses};
 ghost use Rattle.soy_top.specs.Answer.{Done, accepted_text, accepted_then, contents_answer};
-ghost use Rattle.soy_top.specs.Answer.{inputs_answer, not_yet, tree_answer};
+ghost use Rattle.soy_top.specs.Answer.{inputs_answer, not_yet};
 ghost use Rattle.soy_top.specs.Asked.{Play, Preview, source_files};
 ghost use Rattle.soy_top.specs.View.{view_command};
 ghost use Rattle.soy_top.specs.Words.{Word, command_words};
@@ -15,14 +14,15 @@ use crate::catalogue::accept_extract;
 use crate::command::Command;
 use crate::ending::Ending;
 use crate::faults::front_line;
+use crate::formatted::accept_format;
 use crate::generated::accept_gen;
 use crate::inputs::{bundle_content, but_last, content_at, last, second_number, source_names};
-use crate::line::{fault_line, not_yet_line};
+use crate::line::not_yet_line;
 use crate::output::Output;
 use crate::preview::accept_shown;
 use crate::render::accept_render;
 use soy_base::{OutOfMemory, Refusal};
-use soy_front::{AcceptedFiles, Source, accept as accept_sources, read_source};
+use soy_front::{AcceptedFiles, Source, accept as accept_sources};
 use std::alloc::Global;
 
 /// What is to be written for a command with the contents of the files that it wants.
@@ -84,7 +84,7 @@ fn accept_inputs<'a>(
             bundle,
             files,
         } => accept_preview(alloc, template, data_file, bundle, files, before, sources),
-        Command::Format { file } => accept_tree(alloc, file, content_at(before, 0)),
+        Command::Format { file } => accept_format(alloc, file, content_at(before, 0)),
     }
 }
 
@@ -208,20 +208,6 @@ fn accept_preview<'a>(
     ) {
         Ok(_) => Err(not_yet(alloc, "preview")),
         Err(ending) => Err(ending),
-    }
-}
-
-/// That the `format` of a file isn't done yet, or the line of the first fault that the file has by itself.
-fn accept_tree<'a>(alloc: Global, name: &str, bytes: &[u8]) -> Result<Output<'a>, Ending>
-    ensures { Accepts (tree_answer name.now bytes.now (source_answer bytes.now)) result }
-{
-    match read_source(alloc, bytes) {
-        Ok(_) => Err(not_yet(alloc, "format")),
-        Err(Refusal::Because(fault)) => {
-            let line = fault_line(alloc, name, bytes, fault)?;
-            Err(Ending::Refused(line))
-        }
-        Err(Refusal::OutOfMemory) => Err(Ending::Memory),
     }
 }
 

@@ -6,17 +6,18 @@ ghost use Rattle.soy_top.specs.AcceptedRender.{AcceptedRender};
 ghost use Rattle.soy_top.specs.Answer.{Done, Refused, TooDeep, answer, known_answer};
 ghost use Rattle.soy_top.specs.Asked.{asked_by_words};
 ghost use Rattle.soy_top.specs.IsPage.{IsRefusedPage, IsStoppedPage};
+ghost use Rattle.soy_top.specs.IsRefusedFormat.{AreFormat, IsRefusedFormat};
 ghost use Rattle.soy_top.specs.IsText.{IsText};
 ghost use Rattle.soy_top.specs.OneText.{IsOneText};
 ghost use Rattle.soy_top.specs.RenderAsked.{AsksRender};
 ghost use Rattle.soy_top.specs.Rendered.{Rendered, known_rendered, rendered_answer};
 ghost use Rattle.soy_top.specs.Words.{Word};
 
-/// The answer is a text exactly where the text is the page or the catalogue of the words and of the files that are
-/// held, or says that these are accepted, or is the summary of the workload that the words name. It is a text that ends
-/// too deep exactly where that is a page up to a call that nests too deep, with the line of the call. Of a `render`
-/// whose files and bundle are accepted, it is a refusal exactly where no template may be rendered under the name (29),
-/// the data are no JSON (27) or they give no values (28).
+/// The answer is a text exactly where the text is the page, the catalogue or the canonical source of the words and of
+/// the files that are held, or says that these are accepted, or is the summary of the workload that the words name. It
+/// is a text that ends too deep exactly where that is a page up to a call that nests too deep, with the line of the
+/// call. Of a `render` whose files and bundle are accepted, it is a refusal exactly where no template may be rendered
+/// under the name (29), the data are no JSON (27) or they give no values (28).
 pub fn law_answer_is_text()
     ensures text { (files : Files) (words : List Word) (text : List ℕ) → answer files words ≡ Done text →
         IsText files words text }
@@ -29,6 +30,15 @@ pub fn law_answer_is_text()
     ensures refused { (files : Files) (words : List Word) (line : List ℕ) → AcceptedRender files words →
         answer files words ≡ Refused line → IsRefusedPage files words line }
     ensures only_refused { (files : Files) (words : List Word) (line : List ℕ) → IsRefusedPage files words line →
+        answer files words ≡ Refused line }
+{}
+
+/// The answer to a `format` is a refusal exactly where its file is held and is over the limit (2), or deserves a fault by
+/// itself: 1, 3, 4, 5, or the 8 of an unknown type name.
+pub fn law_refused_format()
+    ensures refused { (files : Files) (words : List Word) (name : Word) (line : List ℕ) → AreFormat words name →
+        answer files words ≡ Refused line → IsRefusedFormat files words line }
+    ensures only_refused { (files : Files) (words : List Word) (line : List ℕ) → IsRefusedFormat files words line →
         answer files words ≡ Refused line }
 {}
 

@@ -5,11 +5,12 @@
 //! unchanged; running out of memory alone is free. Each command fetches its files and refuses the first
 //! template file that has a fault, and then, but for `format`, what the trees of all template files may not
 //! have, and, but for `extract`, what the bundle and the paths of the pages may not have. `render` writes
-//! pages, pull by pull, `check` says that all is accepted, `extract` writes the catalogue of messages, and
-//! `gen` sums up a page of files that it makes.
+//! pages, pull by pull, `check` says that all is accepted, `extract` writes the catalogue of messages, `gen` sums up a
+//! page of files that it makes, and `format` writes the canonical source of a file.
 //!
 //! Depends on soy_base and soy_io; on soy_front for the files and the bundle as one program; on soy_types for
-//! the data, render_core for the page, msg_extract for the catalogue, and work_gen for what `gen` renders.
+//! the data, render_core for the page, msg_extract for the catalogue, soy_format for canonical source, and work_gen for
+//! what `gen` renders.
 #![tactic(auto)]
 
 mod accept;
@@ -18,6 +19,7 @@ mod command;
 mod ending;
 mod faults;
 mod fetch;
+mod formatted;
 mod generated;
 mod inputs;
 mod laws;
@@ -32,6 +34,6 @@ mod status;
 mod summary;
 mod wanted;
 
-pub use laws::{law_answer_is_text, law_page_is_one_text, law_rendered_answer};
+pub use laws::{law_answer_is_text, law_page_is_one_text, law_refused_format, law_rendered_answer};
 pub use program::run;
 pub use status::Status;

@@ -39,6 +39,6 @@ returns-in-Preview c =
 pub returns-in-Format : goal.returns-in-Format
 returns-in-Format c =
     subst (λ command. Accepts (inputs_answer (view_command command) (view_contents c.args.before.now)
-    (view_contents c.args.sources.now)) c.accept_tree.result) (sym c.in-Format.is)
-    (subst (λ bytes. Accepts (tree_answer c.in-Format.file.now bytes (source_answer bytes)) c.accept_tree.result)
-    c.content_at.ensures c.accept_tree.ensures)
+    (view_contents c.args.sources.now)) c.accept_format.result) (sym c.in-Format.is)
+    (subst (λ bytes. Accepts (tree_answer c.in-Format.file.now bytes (source_answer bytes)) c.accept_format.result)
+    c.content_at.ensures c.accept_format.ensures)
