@@ -5,7 +5,7 @@ ghost use Rattle.soy_desk.specs.DeskRun.{Close, Open, Publish, Pull, StepsTo};
 ghost use Rattle.soy_desk.specs.DeskState.{desk_with, entry_named};
 
 use crate::fault::{DeskFault, Full, Unknown, Unopened};
-use crate::slot::{Slot, place_of, pull_at};
+use crate::slot::{Slot, begin_last, place_of, pull_at};
 use soy_base::{OutOfMemory, Refusal, Steps};
 use soy_tree::Value;
 use std::alloc::Global;
@@ -101,8 +101,12 @@ impl Desk {
                 input,
             });
         }
-        match Slot::begin(self.alloc, self.opened, &self.published, input, template) {
-            Ok(slot) => self.put(slot),
+        let name = self.opened;
+        match begin_last(&mut self.slots, self.alloc, name, &self.published, input, template) {
+            Ok(()) => {
+                self.opened += 1;
+                Ok(name)
+            }
             Err(input) => Err(Unopened {
                 cause: Refusal::OutOfMemory,
                 input,
