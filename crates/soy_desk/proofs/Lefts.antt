@@ -88,15 +88,15 @@ same_is answer begun coming new d e room room_after room_is begun_is pieces_is e
     λ i. (answer, room_is i, left_with (begun_is i) (pieces_is i) (end_is i), done i)
 
 module _ (coming : Outcome) (new : Rest) (e : Bool) (room_after : List ℕ) (before after : ℕ) where
-  abbrev old : Rest
-  old = record { begun = []; coming = coming }
+  abbrev none_begun : Rest
+  none_begun = record { begun = []; coming = coming }
 
-  idle_is : (d : Bool) (room : List ℕ) (n : ℕ) → Idle old new d e room room_after before after n
+  idle_is : (d : Bool) (room : List ℕ) (n : ℕ) → Idle none_begun new d e room room_after before after n
       → ◌≡◌ {A = Pulled} (Ok n, room_after, left_of new, e)
       (Ok 0, room, left_with [] (pieces_of_outcome coming) (end_of_outcome coming), d)
   idle_is d room n idle = λ i. (Ok (idle.none i), idle.unchanged i, left_of (idle.rest i), idle.done i)
 
-  done_idle : (d : Bool) (r : ℕ) (room : List ℕ) (n : ℕ) → Idle old new d e (r ∷ room) room_after before after n
+  done_idle : (d : Bool) (r : ℕ) (room : List ℕ) (n : ℕ) → Idle none_begun new d e (r ∷ room) room_after before after n
       → (length (r ∷ room) ≡ 0) ⊎ (d ≡ true)
       → ◌≡◌ {A = Pulled} (Ok n, room_after, left_of new, e)
       (pulled_next d (pieces_of_outcome coming) (end_of_outcome coming) (r ∷ room))
@@ -104,8 +104,8 @@ module _ (coming : Outcome) (new : Rest) (e : Bool) (room_after : List ℕ) (bef
   done_idle true r room n idle (inr is) = idle_is true (r ∷ room) n idle
   done_idle false r room n idle (inr is) = cc
 
-  next_is : (d : Bool) (r : ℕ) (room : List ℕ) (n : ℕ) → Settled (left_of old) d
-      → Next old new d e (r ∷ room) room_after before after n
+  next_is : (d : Bool) (r : ℕ) (room : List ℕ) (n : ℕ) → Settled (left_of none_begun) d
+      → Next none_begun new d e (r ∷ room) room_after before after n
       → ◌≡◌ {A = Pulled} (Ok n, room_after, left_of new, e)
       (pulled_next d (pieces_of_outcome coming) (end_of_outcome coming) (r ∷ room))
   next_is true r room n settled next =
@@ -118,7 +118,7 @@ module _ (coming : Outcome) (new : Rest) (e : Bool) (room_after : List ℕ) (bef
       (gave_is (piece_bytes next.piece) (pieces_of_outcome new.coming) (end_of_outcome new.coming) false e (r ∷ room)
       room_after n new next.gave refl refl next.done)
 
-  end_is : (d : Bool) (r : ℕ) (room : List ℕ) (n : ℕ) → AtEnd old new d e (r ∷ room) room_after before after n
+  end_is : (d : Bool) (r : ℕ) (room : List ℕ) (n : ℕ) → AtEnd none_begun new d e (r ∷ room) room_after before after n
       → ◌≡◌ {A = Pulled} (Ok n, room_after, left_of new, e)
       (pulled_next d (pieces_of_outcome coming) (end_of_outcome coming) (r ∷ room))
   end_is true r room n end = let open_yet = end.was_open in cc
@@ -134,7 +134,7 @@ module _ (coming : Outcome) (new : Rest) (e : Bool) (room_after : List ℕ) (bef
 
   -- what a refusal leaves
   refused_is : (d : Bool) (room : List ℕ) (answer : RenderingAnswer)
-      → Refused old new d e room room_after before after
+      → Refused none_begun new d e room room_after before after
       → ◌≡◌ {A = Pulled} (answer, room_after, left_of new, e)
       (answer, room, left_with [] (pieces_of_outcome coming) (end_of_outcome coming), d)
   refused_is d room answer h =
@@ -142,8 +142,8 @@ module _ (coming : Outcome) (new : Rest) (e : Bool) (room_after : List ℕ) (bef
       (sym (ap pieces_of_outcome h.same ∙ pieces_spent h.spent new.coming))
       (sym (ap end_of_outcome h.same ∙ end_spent h.spent new.coming)) h.done
 
-  deep_is : (d : Bool) (room : List ℕ) (call : TooDeep) → Settled (left_of old) d
-      → Refused old new d e room room_after before after → pieces_of_outcome coming ≡ []
+  deep_is : (d : Bool) (room : List ℕ) (call : TooDeep) → Settled (left_of none_begun) d
+      → Refused none_begun new d e room room_after before after → pieces_of_outcome coming ≡ []
       → end_of_outcome coming ≡ stops_at call
       → ◌≡◌ {A = Pulled} (Err (refusal.Because call), room_after, left_of new, e)
       (pulled_next d (pieces_of_outcome coming) (end_of_outcome coming) room)
@@ -158,9 +158,9 @@ module _ (coming : Outcome) (new : Rest) (e : Bool) (room_after : List ℕ) (bef
           ≡ pulled_next false [] (stops_at call) room = λ i. pulled_next false (pieces i) (stop i) room in
       here ∙ sym there
 
-  fresh_is : (d : Bool) (room : List ℕ) (answer : RenderingAnswer) → Settled (left_of old) d → IsNotMemory answer
-      → Fresh old new d e room room_after before after answer
-      → ◌≡◌ {A = Pulled} (answer, room_after, left_of new, e) (pulled (left_of old) d room)
+  fresh_is : (d : Bool) (room : List ℕ) (answer : RenderingAnswer) → Settled (left_of none_begun) d → IsNotMemory answer
+      → Fresh none_begun new d e room room_after before after answer
+      → ◌≡◌ {A = Pulled} (answer, room_after, left_of new, e) (pulled (left_of none_begun) d room)
   fresh_is d [] (Ok n) settled not (inl idle) = idle_is d [] n idle
   fresh_is d [] (Ok n) settled not (inr (inl next)) = absurd (omega (arith, next.has_room))
   fresh_is d [] (Ok n) settled not (inr (inr end)) = absurd (omega (arith, end.has_room))
