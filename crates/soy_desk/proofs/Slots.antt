@@ -1,14 +1,16 @@
 -- Slots, and the open renderings that they stand for.
 use Rattle.std.proofs.Common.{◌≡◌, ℕ, zero, suc, ◌+◌, ◌<◌, ◌≤◌, ◌⊎◌, inl, inr, Bool, true, false, List, [], ◌∷◌, ◌++◌}
-use Rattle.std.proofs.Common.{Some, None, Ok, ap, refl, sym, ◌∙◌, arith, ◌==◌, get_or, length, set}
+use Rattle.std.proofs.Common.{Some, None, Ok, Err, ap, refl, sym, ◌∙◌, arith, ◌==◌, get_or, length, set}
 use Rattle.std.specs.List.{remove}
 use Rattle.std.specs.Prelude.{if◌then◌else◌}
 use Rattle.std.proofs.lemmas.Bool.{cases_lt}
 use Rattle.std.proofs.lemmas.List.{get_or_default}
+use Rattle.soy_base.specs.declared.memory.Refusal.TheVariants as refusal
 use Rattle.soy_tree.specs.ViewValues.{view_value}
 use Rattle.template_ir.specs.declared.program.ProgramParts.{ProgramParts}
 use Rattle.render_core.specs.Rest.{has_ended, rest_of}
-use Rattle.soy_desk.specs.DeskRun.{CloseStep, PullCall, PullsNamed, RenderingAnswer}
+use Rattle.soy_desk.specs.DeskAnswers.{desk_answer}
+use Rattle.soy_desk.specs.DeskRun.{CloseStep, DeskAnswer, PullCall, PullStep, PullsNamed, RenderingAnswer, answered}
 use Rattle.soy_desk.specs.DeskState.{DeskState, Entry, entry_named, first_entry, first_rest, pulled_entry, with_entry}
 use Rattle.soy_desk.specs.DeskState.{without}
 use Rattle.soy_desk.specs.ViewSlots.{PullsSlot, StandsAt, view_slot, view_slots}
@@ -118,6 +120,12 @@ same_pulled old new c h = λ i. record {
   rest = (view_slot new).rest;
   done = (view_slot new).done;
 }
+
+pub pull_step : (before after : DeskState) (name : ℕ) (c : PullCall DeskAnswer) (answer : RenderingAnswer)
+    → PullsNamed before name (answered c answer) after → PullStep before name c (desk_answer answer) after
+pull_step before after name c (Ok n) h = h
+pull_step before after name c (Err (refusal.Because call)) h = h
+pull_step before after name c (Err refusal.OutOfMemory) h = h
 
 module _ (slots : List Slot) (opened : ℕ) (published : ProgramParts) where
   abbrev pub state_of : List Slot → DeskState

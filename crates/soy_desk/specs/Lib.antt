@@ -1,5 +1,6 @@
 pub mod DeskState
 pub mod DeskRun
+pub mod DeskAnswers
 pub mod Alone
 pub mod Given
 pub mod Openings

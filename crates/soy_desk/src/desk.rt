@@ -2,11 +2,12 @@
 
 ghost use Rattle.std.specs.Prelude.{◌≡◌, ◌<◌, IfErr, IfOk, Ok, Err, option_map};
 ghost use Rattle.soy_desk.specs.DeskRun.{Close, Open, Publish, Pull, StepsTo};
+ghost use Rattle.soy_desk.specs.DeskAnswers.{desk_answer};
 ghost use Rattle.soy_desk.specs.DeskState.{desk_with, entry_named};
 
 use crate::fault::{DeskFault, Full, Unknown, Unopened};
-use crate::slot::{Slot, begin_last, place_of, pull_at};
-use soy_base::{OutOfMemory, Refusal, Steps};
+use crate::slot::{Slot, begin_last, give_up, place_of, pull_at};
+use soy_base::{OutOfMemory, Refusal, Steps, TooDeep};
 use soy_tree::Value;
 use std::alloc::Global;
 use std::marker::Model;
@@ -132,11 +133,7 @@ impl Desk {
         let Some(at) = place_of(self.slots.as_slice(), name) else {
             return Err(Refusal::Because(DeskFault::Unknown));
         };
-        match pull_at(&mut self.slots, at, room, steps) {
-            Ok(n) => Ok(n),
-            Err(Refusal::Because(call)) => Err(Refusal::Because(DeskFault::TooDeep(call))),
-            Err(Refusal::OutOfMemory) => Err(Refusal::OutOfMemory),
-        }
+        on_desk(pull_at(&mut self.slots, at, room, steps))
     }
 
     /// Whether the rendering of a name is done, where one is open. Takes no memory.
@@ -153,10 +150,21 @@ impl Desk {
     {
         match place_of(self.slots.as_slice(), name) {
             Some(at) => {
-                let _closed = self.slots.remove(at);
+                give_up(self.slots.remove(at));
                 Ok(())
             }
             None => Err(Unknown),
         }
+    }
+}
+
+/// What a desk answers for a rendering's answer.
+fn on_desk(answer: Result<usize, Refusal<TooDeep>>) -> Result<usize, Refusal<DeskFault>>
+    ensures { result ≡ desk_answer answer }
+{
+    match answer {
+        Ok(n) => Ok(n),
+        Err(Refusal::Because(call)) => Err(Refusal::Because(DeskFault::TooDeep(call))),
+        Err(Refusal::OutOfMemory) => Err(Refusal::OutOfMemory),
     }
 }
