@@ -1,5 +1,5 @@
 -- A rendering on a desk, followed through the steps: each step leaves it, pulls it or closes it.
-use Rattle.std.proofs.Common.{◌≡◌, ℕ, ◌+◌, ◌<◌, ◌≤◌, ◌⊎◌, inl, inr, Bool, true, false, List, [], ◌∷◌, ◌++◌, Option}
+use Rattle.std.proofs.Common.{◌≡◌, ℕ, ◌+◌, ◌<◌, ◌≤◌, ◌⊎◌, inl, inr, Bool, true, false, List, [], ◌∷◌, ◌++◌}
 use Rattle.std.proofs.Common.{Some, None, Result, Ok, Err, refl, sym, ap, ◌∙◌, subst, arith, ◌==◌}
 use Rattle.std.specs.Prelude.{if◌then◌else◌}
 use Rattle.std.proofs.lemmas.Bool.{cases_lt}
@@ -9,18 +9,16 @@ use Rattle.soy_base.specs.declared.memory.Refusal.TheVariants as refusal
 use Rattle.soy_tree.specs.declared.value.Value.{Value}
 use Rattle.template_ir.specs.declared.program.ProgramParts.{ProgramParts}
 use Rattle.render_core.specs.Rest.{Rest}
-use Rattle.soy_desk.specs.Alone.{Alone}
 use Rattle.soy_desk.specs.DeskRun.{CloseStep, DeskAnswer, DeskRun, OpenStep, PullCall, PullStep, PullsNamed, PullsRest}
 use Rattle.soy_desk.specs.DeskRun.{RenderingAnswer, Step, StepsTo, Close, Open, Publish, Pull, answered}
 use Rattle.soy_desk.specs.DeskState.{DeskState, Entry, entry_named, first_entry, pulled_entry, with_entry, without}
 use Rattle.soy_desk.specs.Given.{pull_alone, pulls_by, pulls_of}
 use Rattle.soy_desk.specs.ManyRenderings.{IsAlone, entry_of}
 use Rattle.soy_desk.specs.Openings.{Opening, opening_of}
-use Rattle.soy_desk.specs.declared.fault.DeskFault.{DeskFault}
 use Rattle.soy_desk.specs.declared.fault.DeskFault.TheVariants as fault
 use Rattle.soy_desk.specs.declared.fault.Full.{Full}
 use Rattle.soy_desk.specs.declared.fault.Unknown.{Unknown}
-use Rattle.soy_desk.proofs.Entries.{Ascends, above_none, ascends_within, differs, differs_below, is_itself, is_same}
+use Rattle.soy_desk.proofs.Entries.{Ascends, above_none, differs, is_itself, is_same}
 use Rattle.soy_desk.proofs.Entries.{named_below, named_kept, named_name, named_new, named_none, push_ascends}
 use Rattle.soy_desk.proofs.Entries.{with_ascends, with_other, with_same, without_ascends, without_other, without_same}
 
@@ -94,7 +92,7 @@ named_apart : (before : DeskState) (name other : ℕ) (c : PullCall RenderingAns
 named_apart before name other c after none h =
     differs other name
     (λ same. let is : entry_named other before.entries ≡ None =
-        subst (λ (n : ℕ). entry_named n before.entries ≡ None) (sym same) none in
+    subst (λ (n : ℕ). entry_named n before.entries ≡ None) (sym same) none in
     let bad : Some h.entry ≡ None = sym h.is_open ∙ is in cc)
 
 none_either : (c : PullCall DeskAnswer) (b : Bool)
@@ -129,8 +127,8 @@ pulled_none : (before : DeskState) (name other : ℕ) (c : PullCall RenderingAns
 pulled_none before name other c after none h =
     let new : Entry = pulled_entry h.entry h.rest h.done in
     let apart : (new.name == name) ≡ false =
-        ap (λ (n : ℕ). n == name) (named_name other before.entries h.entry h.is_open)
-        ∙ named_apart before name other c after none h in
+    ap (λ (n : ℕ). n == name) (named_name other before.entries h.entry h.is_open)
+    ∙ named_apart before name other c after none h in
     ap (λ (s : DeskState). entry_named name s.entries) h.after_is
     ∙ (with_other name before.entries new apart ∙ none)
 
@@ -222,7 +220,7 @@ past_gives [] before after name sound past run = record {
 }
 past_gives (step ∷ steps) before after name sound past run =
     let rest = past_gives steps run.0 after name (step_sound before step run.0 sound run.1)
-        (step_past before step run.0 name sound past run.1) run.2 in
+    (step_past before step run.0 name sound past run.1) run.2 in
     record {
       pulls = (λ i. step_gives_none before step run.0 name past.none run.1 i ++ rest.pulls i);
       none = rest.none;
@@ -247,9 +245,9 @@ pulled_same before name c after e calls is h calls_are =
     let new : Entry = pulled_entry e h.rest h.done in
     let name_is : e.name ≡ name = named_name name before.entries e is in
     let put : entry_named new.name (with_entry new before.entries) ≡ Some new =
-        with_same before.entries new e (ap (λ (n : ℕ). entry_named n before.entries) name_is ∙ is) in
+    with_same before.entries new e (ap (λ (n : ℕ). entry_named n before.entries) name_is ∙ is) in
     let stands : entry_named name (with_entry new before.entries) ≡ Some new =
-        subst (λ (n : ℕ). entry_named n (with_entry new before.entries) ≡ Some new) name_is put in
+    subst (λ (n : ℕ). entry_named n (with_entry new before.entries) ≡ Some new) name_is put in
     PullsIt c h.rest h.done calls_are
     (subst (λ (f : Entry). PullsRest f.rest f.done c h.rest h.done) same h.pulls)
     (ap (λ (s : DeskState). entry_named name s.entries) h.after_is
@@ -264,7 +262,7 @@ pulled_other : (before : DeskState) (name other : ℕ) (c : PullCall RenderingAn
 pulled_other before name other c after e test is h =
     let new : Entry = pulled_entry h.entry h.rest h.done in
     let apart : (new.name == name) ≡ false =
-        ap (λ (n : ℕ). n == name) (named_name other before.entries h.entry h.is_open) ∙ test in
+    ap (λ (n : ℕ). n == name) (named_name other before.entries h.entry h.is_open) ∙ test in
     ap (λ (s : DeskState). entry_named name s.entries) h.after_is
     ∙ (with_other name before.entries new apart ∙ is)
 
@@ -436,8 +434,8 @@ begin_case steps before middle after name input template other o true test sound
     let named : before.opened ≡ name = sym h.1 ∙ is_same other name test in
     let new : Entry = first_entry before.opened before.published input template in
     let stands : entry_named name middle.entries ≡ Some new =
-        ap (λ (s : DeskState). entry_named name s.entries) h.2
-        ∙ named_new name before.entries new (ahead_none before name sound ahead) named in
+    ap (λ (s : DeskState). entry_named name s.entries) h.2
+    ∙ named_new name before.entries new (ahead_none before name sound ahead) named in
     subst (λ (f : Opening). IsAlone (entry_of name f) (pulls_of name steps) name after) opening_is
     (subst (λ (n : ℕ). IsAlone (first_entry n before.published input template) (pulls_of name steps) name after) named
     (follow steps middle after name new (open_sound before input template (Ok other) middle sound h) stands run))

@@ -1,5 +1,5 @@
 -- The law of many renderings, from what each step does.
-use Rattle.std.proofs.Common.{◌≡◌, ℕ, ◌+◌, Bool, true, false, List, [], ◌∷◌, ◌++◌, Option, Some, None, Result, Ok, Err}
+use Rattle.std.proofs.Common.{◌≡◌, ℕ, ◌+◌, Bool, true, false, List, [], ◌∷◌, ◌++◌, Some, Result, Ok, Err}
 use Rattle.std.proofs.Common.{refl, sym, ap, ◌∙◌, subst, arith, ◌==◌}
 use Rattle.std.specs.Prelude.{encode_utf8_all, if◌then◌else◌}
 use Rattle.std.proofs.lemmas.Option.{same_Some}
@@ -9,20 +9,19 @@ use Rattle.soy_base.specs.declared.memory.Refusal.TheVariants as refusal
 use Rattle.soy_tree.specs.ViewValues.{view_value}
 use Rattle.soy_tree.specs.declared.value.Value as code
 use Rattle.soy_meaning.specs.Meaning.{joined_pieces}
-use Rattle.soy_meaning.specs.Outcome.{GivesPiece, Outcome, RunEnds, Spent, pieces_of_outcome, spent_first}
+use Rattle.soy_meaning.specs.Outcome.{GivesPiece, Outcome, RunEnds, Spent, pieces_of_outcome}
 use Rattle.template_ir.specs.Run.{run}
 use Rattle.template_ir.specs.ViewOps.{view_program}
 use Rattle.template_ir.specs.declared.program.ProgramParts.{ProgramParts}
 use Rattle.render_core.specs.Rest.{Rest, piece_text, rest_bytes, solid, solid_piece}
-use Rattle.soy_desk.specs.Alone.{Alone, Left, NoneRefused, all_given, answers_of, left_of, rooms_of}
-use Rattle.soy_desk.specs.DeskRun.{CloseStep, DeskAnswer, DeskRun, OpenStep, PullCall, PullStep, PullsNamed}
+use Rattle.soy_desk.specs.Alone.{Alone, Left, NoneRefused, answers_of, left_of, rooms_of}
+use Rattle.soy_desk.specs.DeskRun.{DeskAnswer, DeskRun, OpenStep, PullCall, PullStep, PullsNamed}
 use Rattle.soy_desk.specs.DeskRun.{RenderingAnswer, Step, StepsTo, Close, Open, Publish, Pull, answered}
 use Rattle.soy_desk.specs.DeskState.{DeskState, Entry, desk_with, entry_named, first_rest, pulled_entry, with_entry}
 use Rattle.soy_desk.specs.Given.{given, pulls_of}
 use Rattle.soy_desk.specs.ManyRenderings.{IsAlone, IsPrefix, entry_of, lefts}
 use Rattle.soy_desk.specs.Openings.{Opening, opening_of, openings, published_after, run_bytes}
 use Rattle.soy_desk.specs.declared.fault.Full.{Full}
-use Rattle.soy_desk.specs.declared.fault.Unknown.{Unknown}
 use Rattle.soy_desk.proofs.Entries.{named_name}
 use Rattle.soy_desk.proofs.Followed.{begin, closed_opened, closed_published, pulled_opened, pulled_published}
 use Rattle.soy_desk.proofs.Lefts.{Settled, alone_bytes, pieces_spent, refused_leaves, same_answers}
@@ -80,11 +79,12 @@ pub desk_prefix : (program : ProgramParts) (steps : List Step) (after : DeskStat
     → DeskRun (desk_with program) steps after → (name : ℕ) (o : Opening) → opening_of name program steps ≡ Some o
     → IsPrefix (given name steps) (run_bytes o)
 desk_prefix program steps after run name o is =
-    let on_desk = desk_alone program steps after run name o is in
-    (rest_bytes on_desk.rest,
-    sym (first_bytes o)
-    ∙ alone_bytes (pulls_of name steps) (first_rest o.program o.input o.template) false on_desk.rest on_desk.done
-    (first_settled o) on_desk.alone)
+    let on_desk = desk_alone program steps after run name o is in (
+      rest_bytes on_desk.rest,
+      sym (first_bytes o)
+          ∙ alone_bytes (pulls_of name steps) (first_rest o.program o.input o.template) false on_desk.rest on_desk.done
+          (first_settled o) on_desk.alone,
+    )
 
 -- ---- a refused pull
 
@@ -115,7 +115,7 @@ named_leaves before name c after is h =
     let new : Entry = pulled_entry h.entry h.rest h.done in
     let same = refused_leaves h.entry.rest h.entry.done c h.rest h.done is h.pulls in
     let stands : entry_named new.name before.entries ≡ Some h.entry =
-        ap (λ (n : ℕ). entry_named n before.entries) (named_name name before.entries h.entry h.is_open) ∙ h.is_open in
+    ap (λ (n : ℕ). entry_named n before.entries) (named_name name before.entries h.entry h.is_open) ∙ h.is_open in
     ap (λ (s : DeskState). lefts s.entries) h.after_is
     ∙ same_lefts before.entries h.entry new refl same.0 same.1 stands
 
@@ -124,7 +124,7 @@ pub desk_refused : (before after : DeskState) (name : ℕ) (c : PullCall DeskAns
     → StepsTo before (Pull name c) after → lefts after.entries ≡ lefts before.entries
 desk_refused before after name c is h =
     let pulled : PullStep before name c (Err refusal.OutOfMemory) after =
-        subst (λ (a : DeskAnswer). PullStep before name c a after) is h in
+    subst (λ (a : DeskAnswer). PullStep before name c a after) is h in
     named_leaves before name (answered c (Err refusal.OutOfMemory)) after refl pulled
 
 -- ---- the openings and the published program

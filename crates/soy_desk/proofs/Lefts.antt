@@ -1,12 +1,11 @@
 -- What a pull does to what is left, as a function: so the same pulls of what is left alike are answered alike.
-use Rattle.std.proofs.Common.{◌≡◌, ℕ, ◌≤◌, ◌<◌, ◌⊎◌, inl, inr, Bool, true, false, List, [], ◌∷◌, ◌++◌, Result, Ok}
+use Rattle.std.proofs.Common.{◌≡◌, ℕ, ◌≤◌, ◌⊎◌, inl, inr, Bool, true, false, List, [], ◌∷◌, ◌++◌, Ok}
 use Rattle.std.proofs.Common.{Err, length, take, drop, refl, sym, ap, ◌∙◌, arith, subst, append_assoc}
 use Rattle.std.specs.Prelude.{encode_utf8_all, min}
 use Rattle.std.proofs.lemmas.List.{length-take-le, take-append-drop, take-append-le, take_all}
 use Rattle.std.proofs.lemmas.Str.{encodes-append}
 use Rattle.html_state.specs.AfterPieces.{Piece, Static, Value}
 use Rattle.soy_base.specs.declared.fault.TooDeep.{TooDeep}
-use Rattle.soy_base.specs.declared.memory.Refusal.{Refusal}
 use Rattle.soy_base.specs.declared.memory.Refusal.TheVariants as refusal
 use Rattle.soy_meaning.specs.Meaning.{joined_pieces}
 use Rattle.soy_meaning.specs.Outcome.{GivesPiece, Outcome, RunEnd, RunEnds, Spent, StopsAt, WholeRun}
@@ -71,8 +70,8 @@ gave_is : (bytes : List ℕ) (pieces : List Piece) (end : RunEnd) (d e : Bool) (
     → ◌≡◌ {A = Pulled} (Ok n, room_after, left_of new, e) (gives_of bytes pieces end d room)
 gave_is bytes pieces end d e room room_after n new gave pieces_is end_is done =
     let first : ◌≡◌ {A = Pulled} (Ok n, room_after, left_of new, e)
-        (Ok n, take n bytes ++ drop n room, left_with (drop n bytes) pieces end, d) =
-        λ i. (Ok n, gave.given i, left_with (gave.begun i) (pieces_is i) (end_is i), done i) in
+    (Ok n, take n bytes ++ drop n room, left_with (drop n bytes) pieces end, d) =
+    λ i. (Ok n, gave.given i, left_with (gave.begun i) (pieces_is i) (end_is i), done i) in
     first
     ∙ ap (λ (m : ℕ). let p : Pulled = (Ok m, take m bytes ++ drop m room, left_with (drop m bytes) pieces end, d) in p)
     gave.size
@@ -110,7 +109,7 @@ module _ (coming : Outcome) (new : Rest) (e : Bool) (room_after : List ℕ) (bef
       (pulled_next d (pieces_of_outcome coming) (end_of_outcome coming) (r ∷ room))
   next_is true r room n settled next =
       let none : (next.piece ∷ pieces_of_outcome new.coming) ≡ [] =
-          sym (ap pieces_of_outcome next.is) ∙ (settled refl).1 in
+      sym (ap pieces_of_outcome next.is) ∙ (settled refl).1 in
       cc
   next_is false r room n settled next =
       subst (λ (o : Outcome). ◌≡◌ {A = Pulled} (Ok n, room_after, left_of new, e)
@@ -124,12 +123,16 @@ module _ (coming : Outcome) (new : Rest) (e : Bool) (room_after : List ℕ) (bef
   end_is true r room n end = let open_yet = end.was_open in cc
   end_is false r room n end =
       let here : ◌≡◌ {A = Pulled} (Ok n, room_after, left_of new, e)
-          (Ok 0, r ∷ room, left_with [] [] WholeRun, true) =
-          λ i. (Ok (end.none i), end.unchanged i,
-          left_with (end.begun i) (end.new_whole.0 i) (end.new_whole.1 i), end.is_done i) in
+      (Ok 0, r ∷ room, left_with [] [] WholeRun, true) =
+      λ i. (
+        Ok (end.none i),
+        end.unchanged i,
+        left_with (end.begun i) (end.new_whole.0 i) (end.new_whole.1 i),
+        end.is_done i,
+      ) in
       let there : pulled_next false (pieces_of_outcome coming) (end_of_outcome coming) (r ∷ room)
-          ≡ pulled_next false [] WholeRun (r ∷ room) =
-          λ i. pulled_next false (end.old_whole.0 i) (end.old_whole.1 i) (r ∷ room) in
+      ≡ pulled_next false [] WholeRun (r ∷ room) =
+      λ i. pulled_next false (end.old_whole.0 i) (end.old_whole.1 i) (r ∷ room) in
       here ∙ sym there
 
   -- what a refusal leaves
@@ -151,11 +154,11 @@ module _ (coming : Outcome) (new : Rest) (e : Bool) (room_after : List ℕ) (bef
       let whole : WholeRun ≡ stops_at call = sym ((settled refl).2) ∙ stop in cc
   deep_is false room call settled h pieces stop =
       let here : ◌≡◌ {A = Pulled} (Err (refusal.Because call), room_after, left_of new, e)
-          (Err (refusal.Because call), room, left_with [] [] (stops_at call), false) =
-          refused_is false room (Err (refusal.Because call)) h
-          ∙ (λ i. (Err (refusal.Because call), room, left_with [] (pieces i) (stop i), false)) in
+      (Err (refusal.Because call), room, left_with [] [] (stops_at call), false) =
+      refused_is false room (Err (refusal.Because call)) h
+      ∙ (λ i. (Err (refusal.Because call), room, left_with [] (pieces i) (stop i), false)) in
       let there : pulled_next false (pieces_of_outcome coming) (end_of_outcome coming) room
-          ≡ pulled_next false [] (stops_at call) room = λ i. pulled_next false (pieces i) (stop i) room in
+      ≡ pulled_next false [] (stops_at call) room = λ i. pulled_next false (pieces i) (stop i) room in
       here ∙ sym there
 
   fresh_is : (d : Bool) (room : List ℕ) (answer : RenderingAnswer) → Settled (left_of none_begun) d → IsNotMemory answer
@@ -347,12 +350,12 @@ same_answers (c ∷ calls) [] old d new e old' d' new' e' settled left done h h'
 same_answers (c ∷ calls) (c' ∷ others) old d new e old' d' new' e' settled left done h h' rooms none none' =
     let alike = same_room c.room c'.room (rooms_of calls) (rooms_of others) rooms in
     let settled' : Settled (left_of old') d' =
-        subst (λ (l : Left). Settled l d') left (subst (λ (b : Bool). Settled (left_of old) b) done settled) in
+    subst (λ (l : Left). Settled l d') left (subst (λ (b : Bool). Settled (left_of old) b) done settled) in
     let both : ◌≡◌ {A = Pulled} (c.answer, c.room_after, left_of h.0, h.1)
-        (c'.answer, c'.room_after, left_of h'.0, h'.1) =
-        pull_is old d c h.0 h.1 settled none.0 h.2
-        ∙ ((λ i. pulled (left i) (done i) (alike.0 i))
-        ∙ sym (pull_is old' d' c' h'.0 h'.1 settled' none'.0 h'.2)) in
+    (c'.answer, c'.room_after, left_of h'.0, h'.1) =
+    pull_is old d c h.0 h.1 settled none.0 h.2
+    ∙ ((λ i. pulled (left i) (done i) (alike.0 i))
+    ∙ sym (pull_is old' d' c' h'.0 h'.1 settled' none'.0 h'.2)) in
     let rest = same_answers calls others h.0 h.1 new e h'.0 h'.1 new' e' (settles old d c h.0 h.1 settled h.2)
-        (ap (λ (p : Pulled). p.2) both) (ap (λ (p : Pulled). p.3) both) h.3 h'.3 alike.1 none.1 none'.1 in
+    (ap (λ (p : Pulled). p.2) both) (ap (λ (p : Pulled). p.3) both) h.3 h'.3 alike.1 none.1 none'.1 in
     λ i. (ap (λ (p : Pulled). p.0) both i, ap (λ (p : Pulled). p.1) both i) ∷ rest i

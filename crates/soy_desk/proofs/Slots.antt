@@ -1,5 +1,5 @@
 -- Slots, and the open renderings that they stand for.
-use Rattle.std.proofs.Common.{◌≡◌, ℕ, zero, suc, ◌+◌, ◌<◌, ◌≤◌, ◌⊎◌, inl, inr, Bool, true, false, List, [], ◌∷◌, ◌++◌}
+use Rattle.std.proofs.Common.{◌≡◌, ℕ, zero, suc, ◌+◌, ◌<◌, ◌≤◌, ◌⊎◌, inl, inr, Bool, false, List, [], ◌∷◌, ◌++◌}
 use Rattle.std.proofs.Common.{Some, None, Ok, Err, ap, refl, sym, ◌∙◌, arith, ◌==◌, get_or, length, set}
 use Rattle.std.specs.List.{remove}
 use Rattle.std.specs.Prelude.{if◌then◌else◌}
@@ -46,7 +46,7 @@ none_more_case slots name at x within is not none k d lt (inl below) hit = none 
 none_more_case slots name at x within is not none k d lt (inr above) hit =
     let here : k ≡ at = omega (arith, lt, above) in
     let read : get_or slots k d ≡ x =
-        ap (λ (n : ℕ). get_or slots n d) here ∙ (get_or_default slots at d x within ∙ sym is) in
+    ap (λ (n : ℕ). get_or slots n d) here ∙ (get_or_default slots at d x within ∙ sym is) in
     not (sym (ap (λ (s : Slot). s.name) read) ∙ hit)
 
 pub none_more : (slots : List Slot) (name at : ℕ) (x : Slot) → at < length slots → x ≡ get_or slots at x
@@ -136,7 +136,7 @@ module _ (slots : List Slot) (opened : ℕ) (published : ProgramParts) where
       → PullsNamed (state_of slots) name c (state_of (set slots at new))
   pulled_named name at c old new h old_is pulls =
       let is_open : entry_named name (view_slots slots) ≡ Some (view_slot old) =
-          h.named old ∙ ap (λ (s : Slot). Some (view_slot s)) (sym old_is) in
+      h.named old ∙ ap (λ (s : Slot). Some (view_slot s)) (sym old_is) in
       let name_is : new.name ≡ name = pulls.name ∙ named_name name (view_slots slots) (view_slot old) is_open in
       record {
         entry = view_slot old;
@@ -157,5 +157,5 @@ module _ (slots : List Slot) (opened : ℕ) (published : ProgramParts) where
     view_slot (get_or slots at d),
     h.named d,
     ap (λ (es : List Entry). let s : DeskState =
-    record { entries = es; opened = opened; published = published } in s) h.removed,
+        record { entries = es; opened = opened; published = published } in s) h.removed,
   )

@@ -3,7 +3,7 @@
 -- Two Rests are the same where the bytes of the piece that has begun, the pieces to come and the ends are the same:
 -- what is spent isn't compared.
 -- Example: a pull that memory refused leaves the same Rest.
-use Rattle.std.specs.Prelude.{◌≡◌, ℕ, Bool, List, [], ◌∷◌, ◌++◌, Result, Ok, Err, take}
+use Rattle.std.specs.Prelude.{◌≡◌, ℕ, Bool, List, [], ◌∷◌, ◌++◌, Ok, Err, take}
 use Rattle.html_state.specs.AfterPieces.{Piece}
 use Rattle.soy_base.specs.declared.memory.Refusal.TheVariants.{Because, OutOfMemory}
 use Rattle.soy_meaning.specs.Outcome.{RunEnd, end_of_outcome, pieces_of_outcome}

@@ -3,7 +3,7 @@
 -- Each open rendering has a name, the input and the program of its opening, what it has still to give, and whether it
 -- is done. No two have the same name; of a name the first counts.
 -- Example: on a new desk nothing is open, and the program that it was made with is published.
-use Rattle.std.specs.Prelude.{ℕ, ◌+◌, Bool, false, List, [], ◌∷◌, ◌++◌, Option, Some, None, ◌==◌, if◌then◌else◌}
+use Rattle.std.specs.Prelude.{ℕ, Bool, false, List, [], ◌∷◌, Option, Some, None, ◌==◌, if◌then◌else◌}
 use Rattle.soy_tree.specs.ViewValues.{view_value}
 use Rattle.soy_tree.specs.declared.value.Value.{Value}
 use Rattle.template_ir.specs.Run.{run}

@@ -5,7 +5,7 @@
 use Rattle.std.specs.Prelude.{ℕ, List, [], ◌∷◌, ◌++◌, Ok, Err, ◌==◌, if◌then◌else◌}
 use Rattle.soy_base.specs.declared.memory.Refusal.TheVariants.{Because, OutOfMemory}
 use Rattle.soy_desk.specs.Alone.{all_given}
-use Rattle.soy_desk.specs.DeskRun.{DeskAnswer, PullCall, RenderingAnswer, Step, Close, Open, Publish, Pull, answered}
+use Rattle.soy_desk.specs.DeskRun.{DeskAnswer, PullCall, RenderingAnswer, Step, Pull, answered}
 use Rattle.soy_desk.specs.declared.fault.DeskFault.TheVariants as fault
 
 -- the pull of the rendering that a pull on the desk was, or none

@@ -1,6 +1,6 @@
 -- The open rendering that a slot stands for, and when it fits its program and input.
-use Rattle.std.specs.Prelude.{◌≡◌, ℕ, ◌<◌, ◌≤◌, List, [], ◌∷◌, Some, get_or, length, map, set}
-use Rattle.std.specs.List.{All, remove}
+use Rattle.std.specs.Prelude.{◌≡◌, ℕ, ◌<◌, List, Some, get_or, length, map, set}
+use Rattle.std.specs.List.{remove}
 use Rattle.soy_tree.specs.ViewValues.{view_value}
 use Rattle.render_core.specs.Rest.{Fits, has_ended, rest_of}
 use Rattle.soy_desk.specs.DeskRun.{PullCall, PullsRest, RenderingAnswer}

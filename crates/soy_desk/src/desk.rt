@@ -103,7 +103,14 @@ impl Desk {
             });
         }
         let name = self.opened;
-        match begin_last(&mut self.slots, self.alloc, name, &self.published, input, template) {
+        match begin_last(
+            &mut self.slots,
+            self.alloc,
+            name,
+            &self.published,
+            input,
+            template,
+        ) {
             Ok(()) => {
                 self.opened += 1;
                 Ok(name)

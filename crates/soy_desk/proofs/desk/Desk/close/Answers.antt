@@ -1,7 +1,7 @@
 use Rattle.std.proofs.Common.{List, Ok, subst, sym}
 use Rattle.soy_desk.specs.DeskRun.{CloseStep}
 use Rattle.soy_desk.specs.DeskState.{DeskState}
-use Rattle.soy_desk.specs.ViewSlots.{StandsAt, view_slots}
+use Rattle.soy_desk.specs.ViewSlots.{StandsAt}
 use Rattle.soy_desk.specs.declared.slot.Slot.{Slot}
 use Rattle.soy_desk.proofs.Slots.{closed_step, state_of}
 use Rattle.soy_desk.proofs.desk.Desk.close.Goals as goal

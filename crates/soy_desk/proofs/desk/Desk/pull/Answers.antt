@@ -2,7 +2,7 @@ use Rattle.std.proofs.Common.{List, subst, sym}
 use Rattle.soy_desk.specs.DeskAnswers.{desk_answer}
 use Rattle.soy_desk.specs.DeskRun.{DeskAnswer, PullCall, PullStep, PullsNamed, RenderingAnswer}
 use Rattle.soy_desk.specs.DeskState.{DeskState}
-use Rattle.soy_desk.specs.ViewSlots.{StandsAt, view_slots}
+use Rattle.soy_desk.specs.ViewSlots.{StandsAt}
 use Rattle.soy_desk.specs.declared.slot.Slot.{Slot}
 use Rattle.soy_desk.proofs.Slots.{pull_step, pulled_named, state_of}
 use Rattle.soy_desk.proofs.desk.Desk.pull.Goals as goal
