@@ -1,0 +1,6 @@
+mod Entries
+mod Slots
+mod Lefts
+mod Followed
+mod Law
+mod Meanings

@@ -1,0 +1,9 @@
+pub mod DeskState
+pub mod DeskRun
+pub mod DeskAnswers
+pub mod Alone
+pub mod Given
+pub mod Openings
+pub mod ManyRenderings
+pub mod Codes
+pub mod ViewSlots
