@@ -8,8 +8,8 @@ import sys
 
 HERE = os.path.dirname(os.path.abspath(__file__))
 EXAMPLES = [
-    ("hello", "hello.page", ["page.soy"], "data.json", None),
-    ("shop", "shop.list.main", ["layout.soy", "list.soy", "product.soy"], "data.json", "he.json"),
+    ("hello", "hello.page", ["page.soy"], "data.json", None, None),
+    ("shop", "shop.list.main", ["layout.soy", "list.soy", "product.soy"], "data.json", "data.he.json", "he.json"),
 ]
 
 
@@ -18,12 +18,13 @@ def text_of(folder, name):
         return file.read()
 
 
-def example(name, template, sources, data, bundle):
+def example(name, template, sources, data, bundle_data, bundle):
     return {
         "name": name,
         "template": template,
         "sources": [{"name": it, "text": text_of(name, it)} for it in sources],
         "data": text_of(name, data),
+        "bundleData": text_of(name, bundle_data) if bundle_data else "",
         "bundle": text_of(name, bundle) if bundle else "",
     }
 
