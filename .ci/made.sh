@@ -1,6 +1,6 @@
-# Sourced by ./soyc and .ci/prove, which set `top`, the checkout: whether a program that was made earlier is that of the
-# files as they are now. Beside FOLDER/soyc stand soyc.files (the names of what it was made of and its own, each ended
-# by NUL), soyc.times (the size of each and when it was changed last) and soyc.sums (SHA-256).
+# Sourced by .ci/start and .ci/prove, which set `top`, the checkout: whether a program that was made earlier is that of
+# the files as they are now. Beside FOLDER/soyc stand soyc.files (the names of what it was made of and its own, each
+# ended by NUL), soyc.times (the size of each and when it was changed last) and soyc.sums (SHA-256).
 
 say() { printf 'soyc: %s\n' "$*" >&2; }
 
