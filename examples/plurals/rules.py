@@ -22,7 +22,10 @@ def read_rules(file, folder=FOLDER):
 if __name__ == "__main__":
     if len(sys.argv) not in (2, 3):
         sys.exit(__doc__)
-    plural, ordinal = (read_rules(file, *sys.argv[2:]).get(sys.argv[1]) for file in ("plurals", "ordinals"))
+    try:
+        plural, ordinal = (read_rules(file, *sys.argv[2:]).get(sys.argv[1]) for file in ("plurals", "ordinals"))
+    except FileNotFoundError as fault:
+        sys.exit(f"there is no file {fault.filename}, which Debian's unicode-cldr-core has")
     if plural is None:
         sys.exit(f"CLDR has no plural rules of {sys.argv[1]}")
     members = {"locale": sys.argv[1], "plural": plural, "ordinal": ordinal or {}}
