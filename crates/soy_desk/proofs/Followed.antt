@@ -461,8 +461,8 @@ begin_open steps before middle after name input template (Err refusal.OutOfMemor
     claimed o (moved Sound middle before h.1 sound) (moved (IsAhead name) middle before h.1 ahead)
     (ap (λ (s : DeskState). opening_of name s.published steps) h.1 ∙ is)
 
-pub pulled_published : (before : DeskState) (other : ℕ) (c : PullCall DeskAnswer) (answer : DeskAnswer) (after : DeskState)
-    → PullStep before other c answer after → after.published ≡ before.published
+pub pulled_published : (before : DeskState) (other : ℕ) (c : PullCall DeskAnswer) (answer : DeskAnswer)
+    (after : DeskState) → PullStep before other c answer after → after.published ≡ before.published
 pulled_published before other c (Ok n) after h = ap (λ (s : DeskState). s.published) h.after_is
 pulled_published before other c (Err (refusal.Because (fault.TooDeep call))) after h =
     ap (λ (s : DeskState). s.published) h.after_is

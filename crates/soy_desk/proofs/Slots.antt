@@ -105,7 +105,8 @@ begun_slot slot template rest_is done_is = λ i. record {
   done = done_is i;
 }
 
-pub view_push : (slots : List Slot) (slot : Slot) → view_slots (slots ++ slot ∷ []) ≡ view_slots slots ++ view_slot slot ∷ []
+pub view_push : (slots : List Slot) (slot : Slot)
+    → view_slots (slots ++ slot ∷ []) ≡ view_slots slots ++ view_slot slot ∷ []
 view_push [] slot = refl
 view_push (s ∷ slots) slot = ap (λ (es : List Entry). view_slot s ∷ es) (view_push slots slot)
 

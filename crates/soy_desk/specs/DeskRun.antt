@@ -1,9 +1,9 @@
 -- The plain machine of a desk: what each call does to it, by the call's answer.
 --
 -- A call is one of `publish`, `open`, `pull` and `close`. What is published is the program of later openings; those
--- that are open keep theirs. An opening has the number of openings before it as its name; it is refused as full where 64
--- are open. A pull of a name is a pull of its rendering (render_core, Pulls). What is closed makes room for another. A
--- name that isn't open is unknown, and then nothing changes.
+-- that are open keep theirs. An opening has the number of openings before it as its name; it is refused as full where
+-- 64 are open. A pull of a name is a pull of its rendering (render_core, Pulls). What is closed makes room for another.
+-- A name that isn't open is unknown, and then nothing changes.
 -- Example: two openings are named 0 and 1; after the close of 0 a pull of 0 is answered by Unknown, and the next
 -- opening is named 2.
 use Rattle.std.specs.Prelude.{◌≡◌, ℕ, ◌+◌, ◌<◌, Bool, List, [], ◌∷◌, ◌++◌, Some, None, Result, Ok, Err, length}

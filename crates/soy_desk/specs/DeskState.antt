@@ -1,4 +1,4 @@
--- What stands on a desk: the renderings that are open, the number of openings, and the program that is published.
+-- What a desk holds: the renderings that are open, the number of openings, and the program that is published.
 --
 -- Each open rendering has a name, the input and the program of its opening, what it has still to give, and whether it
 -- is done. No two have the same name; of a name the first counts.

@@ -6,7 +6,7 @@ ghost use Rattle.soy_desk.specs.DeskAnswers.{desk_answer};
 ghost use Rattle.soy_desk.specs.DeskState.{desk_with, entry_named};
 
 use crate::fault::{DeskFault, Full, Unknown, Unopened};
-use crate::slot::{Slot, begin_last, give_up, place_of, pull_at};
+use crate::slot::{Slot, begin_last, give_up, index_of, pull_at};
 use soy_base::{OutOfMemory, Refusal, Steps, TooDeep};
 use soy_tree::Value;
 use std::alloc::Global;
@@ -40,7 +40,13 @@ impl Model for Desk {
 
     ghost Value = { DeskState };
 
-    ghost coded = { Prim.hlevel (codes, soy_type.the_row.coded, expr.the_row.coded, value.the_row.coded, coded_outcome) };
+    ghost coded = { Prim.hlevel (
+      codes,
+      soy_type.the_row.coded,
+      expr.the_row.coded,
+      value.the_row.coded,
+      coded_outcome,
+    ) };
 
     ghost use Rattle.soy_desk.specs.ViewSlots.{SlotFits, view_slots};
 
@@ -137,7 +143,7 @@ impl Desk {
           answer = result;
         })) self.new }
     {
-        let Some(at) = place_of(self.slots.as_slice(), name) else {
+        let Some(at) = index_of(self.slots.as_slice(), name) else {
             return Err(Refusal::Because(DeskFault::Unknown));
         };
         on_desk(pull_at(&mut self.slots, at, room, steps))
@@ -147,7 +153,7 @@ impl Desk {
     pub fn is_done(&self, name: u64) -> Option<bool>
         ensures { result ≡ option_map (λ e. e.done) (entry_named name self.now.entries) }
     {
-        let at = place_of(self.slots.as_slice(), name)?;
+        let at = index_of(self.slots.as_slice(), name)?;
         Some(self.slots[at].rendering.is_done())
     }
 
@@ -155,7 +161,7 @@ impl Desk {
     pub fn close(&mut self, name: u64) -> Result<(), Unknown>
         ensures { StepsTo self.old (Close name result) self.new }
     {
-        match place_of(self.slots.as_slice(), name) {
+        match index_of(self.slots.as_slice(), name) {
             Some(at) => {
                 give_up(self.slots.remove(at));
                 Ok(())

@@ -1,7 +1,7 @@
 //! Slots, each of a rendering that is open.
 
-ghost use Rattle.std.specs.Prelude.{◌≡◌, ◌<◌, ◌∷◌, ◌++◌, [], IfErr, IfOk, MatchOption, None, OnErr, OnOk, slice_index_or};
-ghost use Rattle.std.specs.Prelude.{slice_set, vec_len};
+ghost use Rattle.std.specs.Prelude.{◌≡◌, ◌<◌, ◌∷◌, ◌++◌, [], IfErr, IfOk, MatchOption, None, OnErr, OnOk};
+ghost use Rattle.std.specs.Prelude.{slice_index_or, slice_set, vec_len};
 ghost use Rattle.std.specs.List.{All};
 ghost use Rattle.soy_desk.specs.DeskState.{entry_named, first_entry};
 ghost use Rattle.soy_desk.specs.ViewSlots.{PullsSlot, SlotFits, StandsAt, view_slot, view_slots};
@@ -118,8 +118,8 @@ fn put_last(slots: &mut Vec<Slot>, slot: Slot) -> Result<(), Value>
     }
 }
 
-/// The place of the slot of a name.
-pub(crate) fn place_of(slots: &[Slot], name: u64) -> Option<usize>
+/// The index of the slot of a name.
+pub(crate) fn index_of(slots: &[Slot], name: u64) -> Option<usize>
     ensures { MatchOption result (entry_named name (view_slots slots.now) ≡ None) (StandsAt slots.now name) }
 {
     for (at, slot) in slots.iter().enumerate() {

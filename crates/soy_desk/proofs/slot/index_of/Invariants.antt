@@ -1,5 +1,5 @@
 use Rattle.soy_desk.proofs.Slots.{NoneBefore}
-use Rattle.soy_desk.proofs.slot.place_of.Given as goal
+use Rattle.soy_desk.proofs.slot.index_of.Given as goal
 
 abbrev pub invariant-loop-at : goal.invariant-loop-at
 invariant-loop-at l = NoneBefore l.slots l.name l.at

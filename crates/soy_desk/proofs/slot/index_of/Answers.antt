@@ -1,6 +1,6 @@
 use Rattle.std.proofs.Common.{arith}
 use Rattle.soy_desk.proofs.Slots.{none_stands, stands}
-use Rattle.soy_desk.proofs.slot.place_of.Goals as goal
+use Rattle.soy_desk.proofs.slot.index_of.Goals as goal
 
 pub returns-then-slot-name : goal.returns-then-slot-name
 returns-then-slot-name c =
