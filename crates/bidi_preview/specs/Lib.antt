@@ -1,0 +1,6 @@
+pub mod WeakSteps
+pub mod NeutralSteps
+pub mod ExplicitSteps
+pub mod NextCharacter
+pub mod SequenceSteps
+pub mod ResetSteps

@@ -1,0 +1,34 @@
+//! The levels of a line (UAX #9, X1 to L1).
+ghost use Rattle.std.specs.Prelude.{◌≡◌, IfOk};
+ghost use Rattle.bidi_order.specs.Levels.{line_levels};
+ghost use Rattle.bidi_order.specs.Lines.{direction_level};
+
+use crate::explicit::{read_classes, read_explicit};
+use crate::reset::reset_levels;
+use crate::sequence::resolve_line;
+use soy_base::{Dir, OutOfMemory, Seq};
+use std::alloc::Global;
+
+/// The level of each character of a line, and `None` for one that X9 removes, or that memory ran out.
+///
+/// The time is linear in the line: 63 brackets at most are open at a time, and each sequence is read once.
+pub fn levels(alloc: Global, base: Dir, line: &[char]) -> Result<Seq<Option<u8>>, OutOfMemory>
+    ensures { IfOk result (λ levels. levels ≡ line_levels (direction_level base) line.now) }
+{
+    let base = base_level(base);
+    let classes = read_classes(alloc, line)?;
+    let kept = read_explicit(alloc, base, line, &classes)?;
+    let mut levels = resolve_line(alloc, base, &kept)?;
+    reset_levels(base, &classes, &mut levels);
+    Ok(Seq::new(levels))
+}
+
+/// The level of a direction.
+fn base_level(base: Dir) -> u8
+    ensures { result ≡ direction_level base }
+{
+    match base {
+        Dir::Ltr => 0,
+        Dir::Rtl => 1,
+    }
+}
