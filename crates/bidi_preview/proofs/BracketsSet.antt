@@ -1,11 +1,11 @@
 -- A bracket that gets a class, and with it what was NSM directly after it, one index at a time.
 use Rattle.std.proofs.Common.{◌≡◌, ℕ, zero, suc, ◌+◌, ◌<◌, ◌≤◌, Bool, true, false, List, [], ◌∷◌, ◌++◌, take, drop, map}
-use Rattle.std.proofs.Common.{length, get_or, refl, sym, ap, ◌∙◌, arith}
-use Rattle.std.proofs.Math.ListN.{set}
-use Rattle.std.proofs.lemmas.Bool.{both_ways}
-use Rattle.std.proofs.lemmas.List.{take-append-drop}
+use Rattle.std.proofs.Common.{length, get_or, min, ◌-◌, inl, inr, refl, sym, ap, ◌∙◌, arith}
+use Rattle.std.proofs.Math.ListN.{drop_of_length-le, set}
+use Rattle.std.proofs.lemmas.Bool.{both_ways, cases_lt}
+use Rattle.std.proofs.lemmas.List.{length-take}
 use Rattle.bidi_class.specs.declared.class.Class.{Class}
-use Rattle.bidi_order.specs.Resolve.{is_nonspacing, set_bracket, set_nonspacing}
+use Rattle.bidi_order.specs.Resolve.{is_nonspacing, pair_direction, set_bracket, set_nonspacing}
 
 pub set_bracket_past : (index : ℕ) (to : Class) (were : List Bool) (cs : List Class) → length cs ≤ index
     → set_bracket index to were cs ≡ cs
@@ -69,3 +69,58 @@ nonspacing_ends zero to (g ∷ given) (c ∷ cs) d h long is =
     ap (λ b. set_nonspacing to (b ∷ map is_nonspacing given) (c ∷ cs)) is
 nonspacing_ends (suc n) to (g ∷ given) (c ∷ cs) d h long is =
     ap (λ l. c ∷ l) (nonspacing_ends n to given cs d (omega (arith, h)) (omega (arith, long)) is)
+
+-- ---- what stands inside a pair of brackets
+
+minus : (b a : ℕ) → suc b - suc a ≡ b - a
+minus b a = omega arith
+
+taken-nil : (n : ℕ) → take {A = Class} n [] ≡ []
+taken-nil zero = refl
+taken-nil (suc n) = refl
+
+taken-dropped : (a b : ℕ) (xs : List Class) → take (b - a) (drop a xs) ≡ drop a (take b xs)
+taken-dropped zero b xs = let e : b - 0 ≡ b = omega arith in ap (λ n. take n xs) e
+taken-dropped (suc a) zero xs = let e : 0 - suc a ≡ 0 = omega arith in ap (λ n. take n (drop (suc a) xs)) e
+taken-dropped (suc a) (suc b) [] = taken-nil (suc b - suc a)
+taken-dropped (suc a) (suc b) (x ∷ xs) = ap (λ n. take n (drop a xs)) (minus b a) ∙ taken-dropped a b xs
+
+taken-all : (n : ℕ) (xs : List Class) → length xs ≤ n → take n xs ≡ xs
+taken-all zero [] h = refl
+taken-all (suc n) [] h = refl
+taken-all zero (x ∷ xs) h = absurd (omega (arith, h))
+taken-all (suc n) (x ∷ xs) h = ap (λ l. x ∷ l) (taken-all n xs (omega (arith, h)))
+
+taken-min : (n : ℕ) (xs : List Class) (e : ℕ) → e ≡ min n (length xs) → take e xs ≡ take n xs
+taken-min n xs e is =
+    elim (cases_lt (length xs) n) [
+      | inl less ↦ let whole : e ≡ length xs = omega arith in
+          taken-all e xs (omega arith) ∙ sym (taken-all n xs (omega arith))
+      | inr more ↦ let same : e ≡ n = omega arith in ap (λ m. take m xs) same
+    ]
+
+dropped-min : (n : ℕ) (xs : List Class) (s : ℕ) → s ≡ min n (length xs) → drop s xs ≡ drop n xs
+dropped-min n xs s is =
+    elim (cases_lt (length xs) n) [
+      | inl less ↦ drop_of_length-le xs (omega arith) ∙ sym (drop_of_length-le xs (omega arith))
+      | inr more ↦ let same : s ≡ n = omega arith in ap (λ m. drop m xs) same
+    ]
+
+pub inside_is : (own sos : Bool) (cs : List Class) (first last s e : ℕ) → first < length cs → e ≡ min last (length cs)
+    → s ≡ min (first + 1) e → pair_direction own sos (take (e - s) (drop s cs)) (take (first - 0) cs)
+    ≡ pair_direction own sos (drop (suc first) (take last cs)) (take first cs)
+inside_is own sos cs first last s e h end start =
+    let zero_less : first - 0 ≡ first = omega arith in
+    let long : length (take last cs) ≡ e = length-take last cs ∙ sym end in
+    ap (λ l. pair_direction own sos l (take (first - 0) cs))
+    (taken-dropped s e cs ∙ ap (drop s) (taken-min last cs e end)
+    ∙ dropped-min (suc first) (take last cs) s (omega (arith, start, long)))
+    ∙ ap (λ n. pair_direction own sos (drop (suc first) (take last cs)) (take n cs)) zero_less
+
+pub inside_as : (own sos : Bool) (cs : List Class) (first last s e : ℕ) → first < length cs → e ≡ min last (length cs)
+    → s ≡ min (first + 1) e → pair_direction own sos (take (e - s) (drop s cs)) (take first cs)
+    ≡ pair_direction own sos (drop (suc first) (take last cs)) (take first cs)
+inside_as own sos cs first last s e h end start =
+    let zero_less : first ≡ first - 0 = omega arith in
+    ap (λ n. pair_direction own sos (take (e - s) (drop s cs)) (take n cs)) zero_less
+    ∙ inside_is own sos cs first last s e h end start

@@ -19,3 +19,5 @@ pub mod BracketsSet
 pub mod NextKept
 pub mod ReadSequences
 pub mod ResolveLines
+pub mod LineLevels
+pub mod UnknownLists

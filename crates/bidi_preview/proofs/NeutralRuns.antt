@@ -1,12 +1,12 @@
 -- N1 and N2 in place: the neutrals since the last direction are set once the next one is known.
 use Rattle.std.proofs.Common.{◌≡◌, ℕ, zero, suc, ◌+◌, ◌<◌, ◌≤◌, Bool, List, [], ◌∷◌, ◌++◌, take, drop, length, get_or}
 use Rattle.std.proofs.Common.{refl, sym, ap, ◌∙◌, append_assoc, arith, Option, Some, None}
-use Rattle.std.proofs.Math.ListN.{set}
-use Rattle.std.proofs.Math.Seq.{drop-cons}
-use Rattle.std.proofs.lemmas.List.{take_more}
+use Rattle.std.proofs.Math.ListN.{drop_of_length-le, set}
+use Rattle.std.proofs.Math.Seq.{drop-cons, take-length}
+use Rattle.std.proofs.lemmas.List.{append-nil, take_more}
 use Rattle.bidi_class.specs.declared.class.Class.{Class}
 use Rattle.bidi_order.specs.Resolve.{between, class_direction, n1, next_direction}
-use Rattle.bidi_preview.specs.NeutralSteps.{filled}
+use Rattle.bidi_preview.specs.NeutralSteps.{filled, neutrals_so_far}
 
 pub filled-more : (c : Class) (s i : ℕ) (cs : List Class) → s ≤ i → i < length cs
     → take (suc i) (filled c s (suc i) cs) ≡ take i (filled c s i cs) ++ c ∷ []
@@ -50,12 +50,15 @@ filled_length c s (suc i) [] = refl
 filled_length c zero (suc i) (x ∷ cs) = ap suc (filled_length c zero i cs)
 filled_length c (suc s) (suc i) (x ∷ cs) = ap suc (filled_length c s i cs)
 
-module _ (own eos : Bool) where
-  -- the classes so far, the neutrals since the last direction by the next one
-  abbrev pub neutrals_so_far : Bool → ℕ → ℕ → List Class → List Class
-  neutrals_so_far before start i cs =
-      take i (filled (between own before (next_direction eos (drop i cs))) start i cs) ++ n1 own before eos (drop i cs)
+any_default : (cs : List Class) (i : ℕ) (d e : Class) → i < length cs → get_or cs i d ≡ get_or cs i e
+any_default [] i d e h = absurd (omega (arith, h))
+any_default (c ∷ cs) zero d e h = refl
+any_default (c ∷ cs) (suc i) d e h = any_default cs i d e (omega (arith, h))
 
+same : (cs : List Class) (i : ℕ) (d : Class) → i < length cs → get_or cs i d ≡ get_or cs i (get_or cs i d)
+same cs i d h = any_default cs i d (get_or cs i d) h
+
+module _ (own eos : Bool) where
   next-none : (c : Class) (cs : List Class) → class_direction c ≡ None → next_direction eos (c ∷ cs)
       ≡ next_direction eos cs
   next-none c cs e = ap (λ (o : Option Bool). elim o [ None ↦ next_direction eos cs | Some d ↦ d ]) e
@@ -81,14 +84,14 @@ module _ (own eos : Bool) where
   one_more i = omega arith
 
   -- one more neutral
-  pub neutrals_none : (before : Bool) (start i : ℕ) (cs : List Class) (c : Class) → start ≤ i → i < length cs
-      → c ≡ get_or cs i c → class_direction c ≡ None → neutrals_so_far before start (i + 1) cs
-      ≡ neutrals_so_far before start i cs
-  neutrals_none before start i cs c order within here none =
+  neutral-more : (before : Bool) (start i : ℕ) (cs : List Class) (c : Class) → start ≤ i → i < length cs
+      → c ≡ get_or cs i c → class_direction c ≡ None → neutrals_so_far own eos before start (i + 1) cs
+      ≡ neutrals_so_far own eos before start i cs
+  neutral-more before start i cs c order within here none =
       let rest : List Class = drop (suc i) cs in
       let b : Class = between own before (next_direction eos rest) in
       let parts : drop i cs ≡ c ∷ rest = drop-cons cs i c within ∙ ap (λ x. x ∷ rest) (sym here) in
-      ap (λ n. neutrals_so_far before start n cs) (one_more i)
+      ap (λ n. neutrals_so_far own eos before start n cs) (one_more i)
       ∙ ap (λ l. l ++ n1 own before eos rest) (filled-more b start i cs order within)
       ∙ append_assoc (take i (filled b start i cs)) (b ∷ []) (n1 own before eos rest)
       ∙ ap (λ l. take i (filled b start i cs) ++ l) (sym (n1-none before c rest none))
@@ -98,11 +101,11 @@ module _ (own eos : Bool) where
       (sym parts)
 
   -- a direction
-  pub neutrals_some : (before : Bool) (start i : ℕ) (cs : List Class) (c : Class) (d : Bool) → i < length cs
+  direction-more : (before : Bool) (start i : ℕ) (cs : List Class) (c : Class) (d : Bool) → i < length cs
       → c ≡ get_or cs i c → class_direction c ≡ Some d
-      → neutrals_so_far d (i + 1) (i + 1) (filled (between own before d) start i cs)
-      ≡ neutrals_so_far before start i cs
-  neutrals_some before start i cs c d within here some =
+      → neutrals_so_far own eos d (i + 1) (i + 1) (filled (between own before d) start i cs)
+      ≡ neutrals_so_far own eos before start i cs
+  direction-more before start i cs c d within here some =
       let rest : List Class = drop (suc i) cs in
       let b : Class = between own before d in
       let F : List Class = filled b start i cs in
@@ -124,3 +127,29 @@ module _ (own eos : Bool) where
       (sym (next-some c rest d some))
       ∙ ap (λ l. take i (filled (between own before (next_direction eos l)) start i cs) ++ n1 own before eos l)
       (sym parts)
+
+  pub neutrals_none : (before : Bool) (start i : ℕ) (cs : List Class) (d : Class) → start ≤ i → i < length cs
+      → class_direction (get_or cs i d) ≡ None → neutrals_so_far own eos before start (i + 1) cs
+      ≡ neutrals_so_far own eos before start i cs
+  neutrals_none before start i cs d order within e =
+      neutral-more before start i cs (get_or cs i d) order within (same cs i d within) e
+
+  pub neutrals_some : (before : Bool) (start i : ℕ) (cs : List Class) (d : Class) (e : Bool) → i < length cs
+      → class_direction (get_or cs i d) ≡ Some e
+      → neutrals_so_far own eos e (i + 1) (i + 1) (filled (between own before e) start i cs)
+      ≡ neutrals_so_far own eos before start i cs
+  neutrals_some before start i cs d e within is =
+      direction-more before start i cs (get_or cs i d) e within (same cs i d within) is
+
+  pub neutrals_end : (before : Bool) (start : ℕ) (cs : List Class) (i : ℕ) → i ≡ length cs
+      → filled (between own before eos) start i cs ≡ neutrals_so_far own eos before start i cs
+  neutrals_end before start cs i e =
+      let past : drop i cs ≡ [] = drop_of_length-le cs (omega arith) in
+      sym (ap (λ l. take i (filled (between own before (next_direction eos l)) start i cs) ++ n1 own before eos l) past
+      ∙ append-nil (take i (filled (between own before eos) start i cs))
+      ∙ ap (λ n. take n (filled (between own before eos) start i cs))
+      (e ∙ sym (filled_length (between own before eos) start i cs))
+      ∙ take-length (filled (between own before eos) start i cs))
+
+pub neutrals_start : (own sos eos : Bool) (cs : List Class) → neutrals_so_far own eos sos 0 0 cs ≡ n1 own sos eos cs
+neutrals_start own sos eos cs = refl

@@ -12,7 +12,7 @@ use Rattle.bidi_preview.specs.NextCharacter.{next_character, next_from, next_kep
 use Rattle.bidi_preview.specs.NextCharacter.NextCharacter.{GoesOn, Ends}
 use Rattle.bidi_preview.specs.SequenceSteps.{HasEnds}
 
-kept_index : (X : List (Option KeptCharacter)) (i : ℕ) → is_some (get_or X i None) ≡ true → i < length X
+pub kept_index : (X : List (Option KeptCharacter)) (i : ℕ) → is_some (get_or X i None) ≡ true → i < length X
 kept_index [] i e = absurd (both_ways false refl e)
 kept_index (x ∷ X) zero e = omega arith
 kept_index (x ∷ X) (suc i) e = omega (arith, kept_index X i e)

@@ -1,15 +1,15 @@
 -- Pairs of brackets by their opening ones: the pairs found so far, put in order, are those that the partners list.
 use Rattle.std.proofs.Common.{◌≡◌, ◌≢◌, ◌==◌, ℕ, zero, suc, ◌+◌, ◌<◌, ◌≤◌, Bool, true, false, nat_lt, inl, inr, List, [], ◌∷◌, ◌++◌}
-use Rattle.std.proofs.Common.{drop, length, get_or, refl, sym, ap, subst, ◌∙◌, append_assoc, arith, Option, Some, None}
-use Rattle.std.proofs.lemmas.Bool.{cases_Bool, cases_lt, cond-true, cond-false, lt-ltb, le-ltb}
-use Rattle.std.proofs.lemmas.List.{append-nil, get_or-set_other}
+use Rattle.std.proofs.Common.{drop, length, get_or, reverse, refl, sym, ap, subst, ◌∙◌, append_assoc, arith, Option, Some, None}
+use Rattle.std.proofs.lemmas.Bool.{cases_Bool, cases_lt, cond-true, cond-false, eq-eqb, lt-ltb, le-ltb, ne_eqb}
+use Rattle.std.proofs.lemmas.List.{append-nil, get_or-set_other, length-reverse, reverse-append}
 use Rattle.std.proofs.Math.ListN.{drop_of_length-le, replicate, set}
 use Rattle.bidi_class.specs.declared.brackets.Bracket.{Bracket}
 use Rattle.bidi_class.specs.declared.brackets.Bracket.TheVariants.{Opens, Closes}
 use Rattle.bidi_class.specs.declared.class.Class.{Class}
 use Rattle.bidi_order.specs.Resolve.{bracket_pairs_from, matching_opening, neutral_bracket, pair_inserted}
 use Rattle.bidi_order.specs.Resolve.{pairs_in_order}
-use Rattle.bidi_preview.specs.NeutralSteps.{counting_brackets, listed_pairs}
+use Rattle.bidi_preview.specs.NeutralSteps.{AreOpen, PairsSoFar, counting_brackets, listed_pairs}
 
 inserted-first : (p o : ℕ × ℕ) (os : List (ℕ × ℕ)) → p.0 < o.0 → pair_inserted p (o ∷ os) ≡ p ∷ (o ∷ os)
 inserted-first p o os h = cond-true _ _ _ (lt-ltb p.0 o.0 h)
@@ -108,20 +108,6 @@ listed-free (None ∷ P) a (suc n) i e free = listed-free P (suc a) n i (omega a
 listed-free (Some l ∷ P) a (suc n) i e free =
     ((λ h. omega arith), listed-free P (suc a) n i (omega arith) free)
 
--- the open brackets stand in the order of their indexes, below a bound, and none has a partner
-abbrev pub AreOpen : List (Option ℕ) → ℕ → List (ℕ × ℕ) → Type 0
-AreOpen partners bound [] = Unit {0}
-AreOpen partners bound (o ∷ opened) =
-    (o.1 < bound) × ((get_or partners o.1 None ≡ None) × AreOpen partners o.1 opened)
-
-pub record PairsSoFar (brackets : List (Option Bracket)) (i : ℕ) (opened : List (ℕ × ℕ)) (partners : List (Option ℕ)) :
-    Type 0 where
-  pub done : List (ℕ × ℕ)
-  pub found : bracket_pairs_from 0 [] brackets ≡ done ++ bracket_pairs_from i opened (drop i brackets)
-  pub listed : pairs_in_order done ≡ listed_pairs 0 partners
-  pub are_open : AreOpen partners i opened
-  pub fresh : (k : ℕ) → i ≤ k → get_or partners k None ≡ None
-
 -- ---- one more character
 
 open-wider : (partners : List (Option ℕ)) (b : ℕ) (opened : List (ℕ × ℕ)) → AreOpen partners b opened
@@ -149,6 +135,9 @@ pub record IsOpened (partners : List (Option ℕ)) (bound first : ℕ) (others :
   pub free : get_or partners first None ≡ None
   pub are_open : AreOpen partners first others
 
+of_some : {A : Type 0} {x y : A} → Some x ≡ Some y → x ≡ y
+of_some e = cc
+
 opened-matching : (partners : List (Option ℕ)) (bound c : ℕ) (opened : List (ℕ × ℕ)) (first : ℕ)
     (others : List (ℕ × ℕ)) → AreOpen partners bound opened → matching_opening c opened ≡ Some (first, others)
     → IsOpened partners bound first others
@@ -156,9 +145,11 @@ opened-matching partners bound c [] first others h e = absurd (cc)
 opened-matching partners bound c (o ∷ opened) first others h e =
     elim (cases_Bool (c == o.0)) [
       | inl is ↦
-          let same : Some (o.1, opened) ≡ Some (first, others) = sym (cond-true _ _ _ is) ∙ e in
-          let index : o.1 ≡ first = cc in
-          let rest : opened ≡ others = cc in
+          let same : ◌≡◌ {A = Option (ℕ × List (ℕ × ℕ))} (Some (o.1, opened)) (Some (first, others)) =
+              sym (cond-true _ _ _ is) ∙ e in
+          let pair : ◌≡◌ {A = ℕ × List (ℕ × ℕ)} (o.1, opened) (first, others) = of_some same in
+          let index : o.1 ≡ first = ap (λ (p : ℕ × List (ℕ × ℕ)). p.0) pair in
+          let rest : opened ≡ others = ap (λ (p : ℕ × List (ℕ × ℕ)). p.1) pair in
           record {
             below = subst (λ i. i < bound) index h.0;
             free = subst (λ i. get_or partners i None ≡ None) index h.1.0;
@@ -241,23 +232,23 @@ module _ (brackets : List (Option Bracket)) (i : ℕ) (opened : List (ℕ × ℕ
       ∙ ap (λ l. p.done ++ bracket_pairs_from i opened l) (drop_of_length-le brackets h) ∙ append-nil p.done)
       ∙ p.listed)
 
+none-listed : (a n : ℕ) → listed_pairs a (replicate n None) ≡ []
+none-listed a zero = refl
+none-listed a (suc n) = none-listed (suc a) n
+
+pub none_at : (n k : ℕ) → get_or {A = Option ℕ} (replicate n None) k None ≡ None
+none_at zero k = refl
+none_at (suc n) zero = refl
+none_at (suc n) (suc k) = none_at n k
+
 pub found_start : (brackets : List (Option Bracket)) (n : ℕ) → PairsSoFar brackets 0 [] (replicate n None)
 found_start brackets n = record {
   done = [];
   found = refl;
   listed = sym (none-listed 0 n);
   are_open = tt;
-  fresh = λ k h. none-at n k;
+  fresh = λ k h. none_at n k;
 }
-  where
-    none-listed : (a n : ℕ) → listed_pairs a (replicate n None) ≡ []
-    none-listed a zero = refl
-    none-listed a (suc n) = none-listed (suc a) n
-
-    none-at : (n k : ℕ) → get_or (replicate n None) k None ≡ None
-    none-at zero k = refl
-    none-at (suc n) zero = refl
-    none-at (suc n) (suc k) = none-at n k
 
 -- the brackets that count, from an index on
 pub counting_drop : (cs : List Class) (brackets : List (Option Bracket)) (i : ℕ) (c : Class) (b : Option Bracket)
@@ -268,3 +259,85 @@ counting_drop (x ∷ cs) [] i c b h long = absurd (omega (arith, long))
 counting_drop (x ∷ cs) (y ∷ brackets) zero c b h long = refl
 counting_drop (x ∷ cs) (y ∷ brackets) (suc i) c b h long =
     counting_drop cs brackets i c b (omega (arith, h)) (omega (arith, long))
+
+-- ---- the same by indexes
+
+up : (i : ℕ) → suc i ≡ i + 1
+up i = omega arith
+
+module _ (cs : List Class) (brackets : List (Option Bracket)) (i : ℕ) (opened : List (ℕ × ℕ))
+    (partners : List (Option ℕ)) (c : Class) (b : Option Bracket) (within : i < length cs)
+    (long : length brackets ≡ length cs) (p : PairsSoFar (counting_brackets cs brackets) i opened partners) where
+  here : (x : Option Bracket) → neutral_bracket (get_or cs i c) (get_or brackets i b) ≡ x
+      → drop i (counting_brackets cs brackets) ≡ x ∷ drop (suc i) (counting_brackets cs brackets)
+  here x e = counting_drop cs brackets i c b within long
+      ∙ ap (λ y. y ∷ drop (suc i) (counting_brackets cs brackets)) e
+
+  pub read_none : neutral_bracket (get_or cs i c) (get_or brackets i b) ≡ None
+      → PairsSoFar (counting_brackets cs brackets) (i + 1) opened partners
+  read_none e = subst (λ n. PairsSoFar (counting_brackets cs brackets) n opened partners) (up i)
+      (found_none (counting_brackets cs brackets) i opened partners p (here None e))
+
+  pub read_opens : (x : ℕ) → neutral_bracket (get_or cs i c) (get_or brackets i b) ≡ Some (Opens x)
+      → (length opened == 63) ≡ false → PairsSoFar (counting_brackets cs brackets) (i + 1) ((x, i) ∷ opened) partners
+  read_opens x e room = subst (λ n. PairsSoFar (counting_brackets cs brackets) n ((x, i) ∷ opened) partners) (up i)
+      (found_opens (counting_brackets cs brackets) i opened partners p x (here (Some (Opens x)) e) room)
+
+  pub read_full : (x : ℕ) → neutral_bracket (get_or cs i c) (get_or brackets i b) ≡ Some (Opens x)
+      → (length opened == 63) ≡ true
+      → listed_pairs 0 partners ≡ pairs_in_order (bracket_pairs_from 0 [] (counting_brackets cs brackets))
+  read_full x e full = found_full (counting_brackets cs brackets) i opened partners p x (here (Some (Opens x)) e) full
+
+  pub read_lone : (x : ℕ) → neutral_bracket (get_or cs i c) (get_or brackets i b) ≡ Some (Closes x)
+      → matching_opening x opened ≡ None → PairsSoFar (counting_brackets cs brackets) (i + 1) opened partners
+  read_lone x e alone = subst (λ n. PairsSoFar (counting_brackets cs brackets) n opened partners) (up i)
+      (found_lone (counting_brackets cs brackets) i opened partners p x (here (Some (Closes x)) e) alone)
+
+  pub read_pair : (x first : ℕ) (others : List (ℕ × ℕ))
+      → neutral_bracket (get_or cs i c) (get_or brackets i b) ≡ Some (Closes x)
+      → matching_opening x opened ≡ Some (first, others) → length partners ≡ length cs
+      → PairsSoFar (counting_brackets cs brackets) (i + 1) others (set partners first (Some i))
+  read_pair x first others e matches same =
+      subst (λ n. PairsSoFar (counting_brackets cs brackets) n others (set partners first (Some i))) (up i)
+      (found_pair (counting_brackets cs brackets) i opened partners p x first others (here (Some (Closes x)) e) matches
+      (omega arith))
+
+  pub read_first : (x first : ℕ) (others : List (ℕ × ℕ)) → matching_opening x opened ≡ Some (first, others)
+      → first < i
+  read_first x first others matches =
+      let o : IsOpened partners i first others = opened-matching partners i x opened first others p.are_open matches in
+      o.below
+
+pub counting_long : (cs : List Class) (brackets : List (Option Bracket)) → length brackets ≡ length cs
+    → length (counting_brackets cs brackets) ≡ length cs
+counting_long [] brackets long = refl
+counting_long (c ∷ cs) [] long = absurd (omega (arith, long))
+counting_long (c ∷ cs) (b ∷ brackets) long = ap suc (counting_long cs brackets (omega (arith, long)))
+
+pub read_end : (cs : List Class) (brackets : List (Option Bracket)) (i : ℕ) (opened : List (ℕ × ℕ))
+    (partners : List (Option ℕ)) → length brackets ≡ length cs → length cs ≤ i
+    → PairsSoFar (counting_brackets cs brackets) i opened partners
+    → listed_pairs 0 partners ≡ pairs_in_order (bracket_pairs_from 0 [] (counting_brackets cs brackets))
+read_end cs brackets i opened partners long h p = found_end (counting_brackets cs brackets) i opened partners p
+    (omega (arith, counting_long cs brackets long, h))
+
+-- the open brackets as a list with its last item last
+pub full_items : (cs : List Class) (brackets : List (Option Bracket)) (i : ℕ) (items : List (ℕ × ℕ))
+    (partners : List (Option ℕ)) (c : Class) (b : Option Bracket) → i < length cs → length brackets ≡ length cs
+    → PairsSoFar (counting_brackets cs brackets) i (reverse items) partners → (x : ℕ)
+    → neutral_bracket (get_or cs i c) (get_or brackets i b) ≡ Some (Opens x) → length items ≡ 63
+    → listed_pairs 0 partners ≡ pairs_in_order (bracket_pairs_from 0 [] (counting_brackets cs brackets))
+full_items cs brackets i items partners c b within long p x e full =
+    read_full cs brackets i (reverse items) partners c b within long p x e
+    (eq-eqb (length (reverse items)) 63 (length-reverse items ∙ full))
+
+pub opens_items : (cs : List Class) (brackets : List (Option Bracket)) (i : ℕ) (items : List (ℕ × ℕ))
+    (partners : List (Option ℕ)) (c : Class) (b : Option Bracket) → i < length cs → length brackets ≡ length cs
+    → PairsSoFar (counting_brackets cs brackets) i (reverse items) partners → (x : ℕ)
+    → neutral_bracket (get_or cs i c) (get_or brackets i b) ≡ Some (Opens x) → (length items ≡ 63 → ⊥)
+    → PairsSoFar (counting_brackets cs brackets) (i + 1) (reverse (items ++ (x, i) ∷ [])) partners
+opens_items cs brackets i items partners c b within long p x e room =
+    subst (λ o. PairsSoFar (counting_brackets cs brackets) (i + 1) o partners)
+    (sym (reverse-append items ((x, i) ∷ [])))
+    (read_opens cs brackets i (reverse items) partners c b within long p x e
+    (ne_eqb (length (reverse items)) 63 (λ h. room (sym (length-reverse items) ∙ h))))

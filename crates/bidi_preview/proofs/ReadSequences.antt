@@ -7,13 +7,13 @@ use Rattle.bidi_preview.specs.NextCharacter.{NextCharacter, character_at, next_c
 use Rattle.bidi_preview.specs.NextCharacter.NextCharacter.{GoesOn, Ends}
 use Rattle.bidi_preview.specs.SequenceSteps.{Chain, IsExplicit, ReadSoFar}
 use Rattle.bidi_preview.specs.SequenceSteps.Chain.{chain_end, chain_more}
-use Rattle.bidi_preview.proofs.NextCharacters.{NextAt}
+use Rattle.bidi_preview.proofs.NextKept.{kept_index}
 use Rattle.bidi_preview.proofs.SequenceLevels.{next_at, next_here, next_later}
 
 -- a character stands where the sequence goes on
 abbrev pub IsHere : List (Option KeptCharacter) → Option ℕ → Type 0
 IsHere line None = Unit {0}
-IsHere line (Some i) = is_some (character_at line i) ≡ true
+IsHere line (Some i) = (is_some (character_at line i) ≡ true) × (i < length line)
 
 -- how many indexes are left
 abbrev pub left_over : List (Option KeptCharacter) → Option ℕ → ℕ
@@ -42,3 +42,7 @@ pub goes_here : (base : ℕ) (line : List (Option KeptCharacter)) (i j : ℕ) (k
     → character_at line i ≡ Some k → next_character base line i k ≡ GoesOn j → is_some (character_at line j) ≡ true
 goes_here base line i j k explicit here next =
     ap is_some (next_here base line explicit i k here j (next_at base line explicit i k here j next))
+
+pub goes_within : (base : ℕ) (line : List (Option KeptCharacter)) (i j : ℕ) (k : KeptCharacter) → IsExplicit base line
+    → character_at line i ≡ Some k → next_character base line i k ≡ GoesOn j → j < length line
+goes_within base line i j k explicit here next = kept_index line j (goes_here base line i j k explicit here next)

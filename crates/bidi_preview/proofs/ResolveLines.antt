@@ -17,6 +17,7 @@ use Rattle.bidi_preview.specs.SequenceSteps.{BeginsSequence, Chain, HasLevel, Is
 use Rattle.bidi_preview.specs.SequenceSteps.{WritesSequence, bracket_at, class_at, written}
 use Rattle.bidi_preview.specs.SequenceSteps.Chain.{chain_end, chain_more}
 use Rattle.bidi_preview.proofs.LastOpened.{reverse-take}
+use Rattle.bidi_preview.proofs.PairsFound.{none_at}
 use Rattle.bidi_preview.proofs.SequenceLevels.{first-unwritten, levels-done, sequence-levels}
 use Rattle.bidi_preview.proofs.Written.{kept-within, written-first, written-progress, written-stays}
 
@@ -121,18 +122,13 @@ module _ (base : ℕ) (X : List (Option KeptCharacter)) (i b : ℕ) (levels : Li
   pub up_end : length X ≤ i → levels ≡ resolved_levels_from base [] X
   up_end h = levels-done base X levels r.progress (λ j k here. r.done j k (omega (arith, kept-within X j k here)) here)
 
-none-at : (n k : ℕ) → get_or (replicate n None) k None ≡ None
-none-at zero k = refl
-none-at (suc n) zero = refl
-none-at (suc n) (suc k) = none-at n k
-
 pub up_start : (base : ℕ) (X : List (Option KeptCharacter)) (n : ℕ) → n ≡ length X → base ≤ 125
     → ResolvedUpTo base X 0 base (replicate n None)
 up_start base X n long low = record {
   progress = record {
     long = length-replicate n None ∙ long;
-    right = λ i level e. absurd (never (sym (none-at n i) ∙ e));
-    closed = λ i j k here h goes. absurd (both_ways false refl (sym (ap is_some (none-at n i)) ∙ h));
+    right = λ i level e. absurd (never (sym (none_at n i) ∙ e));
+    closed = λ i j k here h goes. absurd (both_ways false refl (sym (ap is_some (none_at n i)) ∙ h));
   };
   done = λ j k h. absurd (omega (arith, h));
   bound = low;

@@ -3,8 +3,8 @@ use Rattle.std.proofs.Common.{◌≡◌, ℕ, zero, suc, ◌+◌, ◌<◌, max, 
 use Rattle.std.proofs.Common.{reverse, take, drop, get_or, length, map, refl, sym, ap, subst, ◌∙◌, append_assoc, arith}
 use Rattle.std.proofs.Common.{length-append, Option, Some, None}
 use Rattle.std.proofs.lemmas.Bool.{both_ways}
-use Rattle.std.proofs.lemmas.List.{append-nil, get_or-append-add, reverse-append, take-append-drop}
-use Rattle.std.proofs.Math.Seq.{drop-append-add, drop-cons, get_or-append_seam, length_front, take-append_seam}
+use Rattle.std.proofs.lemmas.List.{append-nil, length-take-le, reverse-append, take-append-drop}
+use Rattle.std.proofs.Math.Seq.{drop-append-add, drop-cons, get_or-append_seam, take-append_seam}
 use Rattle.std.specs.Option.{is_some}
 use Rattle.bidi_class.specs.declared.class.Class.{Class}
 use Rattle.bidi_class.specs.declared.brackets.Bracket.{Bracket}
@@ -31,7 +31,7 @@ line_cut X i k here =
 
 front_long : (X : List (Option KeptCharacter)) (i : ℕ) (k : KeptCharacter) → character_at X i ≡ Some k
     → length (take i X) ≡ i
-front_long X i k here = let within : i < length X = kept-within X i k here in length_front i X (omega arith)
+front_long X i k here = let within : i < length X = kept-within X i k here in length-take-le i X (omega arith)
 
 -- what a character of a sequence is
 abbrev resolved_at : List (Option KeptCharacter) → ℕ → ℕ → SequenceCharacter
@@ -227,24 +227,22 @@ module _ (base : ℕ) (X : List (Option KeptCharacter)) (explicit : IsExplicit b
         | inr from ↦ absurd (both_ways (is_some (get_or levels i None)) none (reached from))
       ]
     where
-      abbrev From : Type 0
-      From = ComesFrom base (initial_status base) explicit.text (take i X) k (drop (suc i) X) (explicit_cut i k here)
-
-      near_here : (f : From) → character_at X (length f.prefix) ≡ Some f.near
+      near_here : (f : ComesFrom base (initial_status base) explicit.text (take i X) k (drop (suc i) X) (explicit_cut i k here)) → character_at X (length f.prefix) ≡ Some f.near
       near_here f = ap (λ l. get_or l (length f.prefix) None) (line_cut X i k here
           ∙ ap (λ l. l ++ Some k ∷ drop (suc i) X) f.before_is
           ∙ append_assoc f.prefix (Some f.near ∷ f.between) (Some k ∷ drop (suc i) X))
           ∙ get_or-append_seam f.prefix (Some f.near) (f.between ++ Some k ∷ drop (suc i) X) None
 
-      goes : (f : From) → next_character base X (length f.prefix) f.near ≡ GoesOn i
+      goes : (f : ComesFrom base (initial_status base) explicit.text (take i X) k (drop (suc i) X) (explicit_cut i k here)) → next_character base X (length f.prefix) f.near ≡ GoesOn i
       goes f = ap (λ l. next_character base l (length f.prefix) f.near) (line_cut X i k here) ∙ f.goes
           ∙ ap GoesOn (front_long X i k here)
 
-      below : (f : From) → length f.prefix < i
+      below : (f : ComesFrom base (initial_status base) explicit.text (take i X) k (drop (suc i) X) (explicit_cut i k here)) → length f.prefix < i
       below f = omega (arith, ap length f.before_is, length-append f.prefix (Some f.near ∷ f.between),
-      front_long X i k here)
+          front_long X i k here)
 
-      reached : From → is_some (get_or levels i None) ≡ true
+      reached : ComesFrom base (initial_status base) explicit.text (take i X) k (drop (suc i) X) (explicit_cut i k here)
+          → is_some (get_or levels i None) ≡ true
       reached f = p.closed (length f.prefix) i f.near (near_here f)
           (done (length f.prefix) f.near (below f) (near_here f)) (goes f)
 
@@ -274,7 +272,7 @@ levels-get base back (Some k ∷ R) (suc j) = levels-get base (Some k ∷ back) 
         → reverse (x ∷ F) ++ back ≡ reverse F ++ x ∷ back
     turned x F back = ap (λ l. l ++ back) (reverse-append (x ∷ []) F) ∙ append_assoc (reverse F) (x ∷ []) back
 
-levels-long : (base : ℕ) (back R : List (Option KeptCharacter)) → length (resolved_levels_from base back R) ≡ length R
+pub levels-long : (base : ℕ) (back R : List (Option KeptCharacter)) → length (resolved_levels_from base back R) ≡ length R
 levels-long base back [] = refl
 levels-long base back (None ∷ R) = ap suc (levels-long base (None ∷ back) R)
 levels-long base back (Some k ∷ R) = ap suc (levels-long base (Some k ∷ back) R)

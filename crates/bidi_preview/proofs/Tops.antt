@@ -1,15 +1,18 @@
 -- The top of a status, and what a directed class does.
-use Rattle.std.proofs.Common.{◌≡◌, ◌<◌, ℕ, zero, suc, ◌+◌, drop, length, map, get_or, subst, arith, Bool, true, false, ◌⊎◌, inl, inr, List, [], ◌∷◌, refl, sym, ap, ◌∙◌, Option, Some, None, if◌then◌else◌}
+use Rattle.std.proofs.Common.{◌≡◌, ◌<◌, ℕ, zero, suc, ◌+◌, ◌++◌, append_assoc, drop, length, map, get_or, subst, arith, Bool, true, false, ◌⊎◌, inl, inr, List, [], ◌∷◌, refl, sym, ap, ◌∙◌, Option, Some, None, if◌then◌else◌}
 use Rattle.std.proofs.lemmas.Bool.{both_ways, cases_Bool, cond-true, cond-false}
 use Rattle.std.proofs.Math.Seq.{drop-cons}
 use Rattle.soy_base.specs.Stacks.{top_of}
 use Rattle.bidi_class.specs.declared.class.Class.{Class}
-use Rattle.bidi_class.specs.declared.class.Class.TheVariants.{LRI, RLI, FSI}
+use Rattle.bidi_class.specs.declared.class.Class.TheVariants.{LRI, RLI, FSI, PDI, LRE, RLE, LRO, RLO, PDF, BN}
 use Rattle.bidi_class.specs.Class.{bidi_class, begins_isolate}
 use Rattle.bidi_order.specs.DirectionalStatus.{DirectionalStatus, StatusEntry, act_of_class, begins_right_to_left}
-use Rattle.bidi_order.specs.DirectionalStatus.{last_entry, status_after}
-use Rattle.bidi_order.specs.Explicit.{act_of_character, explicit_character, explicit_from}
-use Rattle.bidi_order.specs.DirectionalStatus.ExplicitAct.{Isolates}
+use Rattle.bidi_order.specs.DirectionalStatus.{last_entry, status_after, top_entry}
+use Rattle.bidi_order.specs.Explicit.{KeptCharacter, act_of_character, explicit_character}
+use Rattle.bidi_order.specs.Explicit.{explicit_from, kept_character}
+use Rattle.bidi_order.specs.Explicit.IsolateRole.{Neither}
+use Rattle.bidi_class.specs.Brackets.{bracket}
+use Rattle.bidi_order.specs.DirectionalStatus.ExplicitAct.{Isolates, Stays}
 use Rattle.bidi_preview.specs.ExplicitSteps.{IsDirected, directed_by, directed_classes}
 
 abbrev pub entry_or : ℕ → Option StatusEntry → StatusEntry
@@ -85,3 +88,55 @@ pub explicit_at : (s : DirectionalStatus) (line : List ℕ) (i c : ℕ) → i < 
     ≡ explicit_character (get_or line i c) (act_of_character (get_or line i c) (drop (suc i) line)) s
     ∷ explicit_from (status_after (act_of_character (get_or line i c) (drop (suc i) line)) s) (drop (suc i) line)
 explicit_at s line i c h = ap (explicit_from s) (drop-cons line i c h)
+
+-- a character that does nothing to the status
+pub record IsPlain (class given : Class) : Type 0 where
+  pub act : act_of_class class [] ≡ Stays
+  pub same : class ≡ given
+
+pub plain : (class given : Class) → (class ≡ BN → ⊥) → (class ≡ LRE → ⊥) → (class ≡ LRO → ⊥) → (class ≡ RLE → ⊥)
+    → (class ≡ RLO → ⊥) → (class ≡ PDF → ⊥) → (class ≡ LRI → ⊥) → (class ≡ FSI → ⊥) → (class ≡ RLI → ⊥)
+    → (class ≡ PDI → ⊥) → IsDirected class given → IsPlain class given
+plain BN given a b c d e f g h i j is = absurd (a refl)
+plain LRE given a b c d e f g h i j is = absurd (b refl)
+plain LRO given a b c d e f g h i j is = absurd (c refl)
+plain RLE given a b c d e f g h i j is = absurd (d refl)
+plain RLO given a b c d e f g h i j is = absurd (e refl)
+plain PDF given a b c d e f g h i j is = absurd (f refl)
+plain LRI given a b c d e f g h i j is = absurd (g refl)
+plain FSI given a b c d e f g h i j is = absurd (h refl)
+plain RLI given a b c d e f g h i j is = absurd (i refl)
+plain PDI given a b c d e f g h i j is = absurd (j refl)
+plain class given a b c d e f g h i j (inl same) = record { act = refl; same = same }
+plain class given a b c d e f g h i j (inr both) = absurd (both_ways false refl both.0)
+
+pub plain_character : (c : ℕ) (class : Class) (s : DirectionalStatus) → IsPlain class (bidi_class c)
+    → kept_character (top_entry s) Neither class (bracket c) ≡ explicit_character c (act_of_class class []) s
+plain_character c class s p = ap (λ k. kept_character (top_entry s) Neither k (bracket c)) p.same
+    ∙ ap (λ a. explicit_character c a s) (sym p.act)
+
+pub plain_status : (class given : Class) (s : DirectionalStatus) → IsPlain class given
+    → s ≡ status_after (act_of_class class []) s
+plain_status class given s p = ap (λ a. status_after a s) (sym p.act)
+
+-- one more explicit character, in the list of all
+pub explicit_more : (s after : DirectionalStatus) (line : List ℕ) (classes : List Class) (i c ch : ℕ) (k : Class)
+    (x : Option KeptCharacter) (done whole : List (Option KeptCharacter)) → i < length line
+    → ch ≡ get_or line i c → classes ≡ directed_classes (map bidi_class line)
+    → x ≡ explicit_character ch (act_of_class (get_or classes i k) []) s
+    → after ≡ status_after (act_of_class (get_or classes i k) []) s
+    → done ++ explicit_from s (drop i line) ≡ whole
+    → (done ++ x ∷ []) ++ explicit_from after (drop (i + 1) line) ≡ whole
+explicit_more s after line classes i c ch k x done whole h same are is to so_far =
+    let act : act_of_class (get_or classes i k) [] ≡ act_of_character (get_or line i c) (drop (suc i) line) =
+        ap (λ l. act_of_class (get_or l i k) []) are ∙ act_at line i k c h in
+    let up : i + 1 ≡ suc i = omega arith in
+    append_assoc done (x ∷ []) (explicit_from after (drop (i + 1) line))
+    ∙ ap (λ n. done ++ x ∷ explicit_from after (drop n line)) up
+    ∙ ap (λ y. done ++ y ∷ explicit_from after (drop (suc i) line)) is
+    ∙ ap (λ t. done ++ explicit_character ch (act_of_class (get_or classes i k) []) s
+    ∷ explicit_from t (drop (suc i) line)) to
+    ∙ ap (λ a. done ++ explicit_character ch a s ∷ explicit_from (status_after a s) (drop (suc i) line)) act
+    ∙ ap (λ n. done ++ explicit_character n (act_of_character (get_or line i c) (drop (suc i) line)) s
+    ∷ explicit_from (status_after (act_of_character (get_or line i c) (drop (suc i) line)) s) (drop (suc i) line)) same
+    ∙ ap (λ l. done ++ l) (sym (explicit_at s line i c h)) ∙ so_far

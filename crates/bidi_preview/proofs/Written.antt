@@ -2,8 +2,8 @@
 use Rattle.std.proofs.Common.{◌≡◌, ◌≢◌, ◌==◌, ℕ, zero, suc, ◌+◌, ◌<◌, Bool, true, false, ◌⊎◌, inl, inr, List, [], ◌∷◌, ◌++◌}
 use Rattle.std.proofs.Common.{length, get_or, map, refl, sym, ap, subst, ◌∙◌, arith, Option, Some, None}
 use Rattle.std.proofs.lemmas.Bool.{cases_Bool, eqb-true, ne_eqb, both_ways, eq-eqb}
-use Rattle.std.proofs.lemmas.List.{get_or-set_other, get_or-set_same}
-use Rattle.std.proofs.Math.ListN.{set, length-set}
+use Rattle.std.proofs.lemmas.List.{get_or-set_other, get_or-set_same, length-set}
+use Rattle.std.proofs.Math.ListN.{set}
 use Rattle.std.specs.Option.{is_some}
 use Rattle.bidi_order.specs.Explicit.{KeptCharacter}
 use Rattle.bidi_preview.specs.NextCharacter.{NextCharacter, character_at, level_at, next_character}
@@ -87,6 +87,10 @@ module _ (base : ℕ) (line : List (Option KeptCharacter)) where
   written-right is vs levels (levels_more {i = i} {v = v} {indexes = is'} {values = vs'} has more) right =
       written-right is' vs' (set levels i (Some v)) more (set-right levels i v has right)
 
+  first-within : (i : ℕ) (is : List ℕ) (level : ℕ) → Chain base line i is level → i < length line
+  first-within i is level (chain_end {k = k} here next) = kept-within line i k here
+  first-within i is level (chain_more {k = k} here next c) = kept-within line i k here
+
   -- the first index of a chain gets a level
   first-written : (i level : ℕ) (is vs : List ℕ) (levels : List (Option ℕ)) → Chain base line i is level
       → AreLevels base line is vs → i < length levels → has_level (written is vs levels) i ≡ true
@@ -134,16 +138,12 @@ module _ (base : ℕ) (line : List (Option KeptCharacter)) where
                   ∙ subst (λ n. next_character base line n k ≡ GoesOn m) same goes in
                   subst (λ n. has_level (written is' vs' (set levels i (Some v))) n ≡ true) (goes_is next_is)
                   (first-written n level is' vs' (set levels i (Some v)) c more
-                  (subst (λ l. n < l) (sym (length-set levels i (Some v) ∙ long)) (chain-within n is' level c))))
+                  (subst (λ l. n < l) (sym (length-set levels i (Some v) ∙ long)) (first-within n is' level c))))
             ]
       ]
     where
       goes_is : {a b : ℕ} → GoesOn a ≡ GoesOn b → a ≡ b
       goes_is e = cc
-
-      chain-within : (n : ℕ) (is : List ℕ) (level : ℕ) → Chain base line n is level → n < length line
-      chain-within n is level (chain_end {k = k} here next) = kept-within line n k here
-      chain-within n is level (chain_more {k = k} here next c) = kept-within line n k here
 
   -- levels in progress after a sequence is written
   pub written-progress : (i level : ℕ) (is vs : List ℕ) (levels : List (Option ℕ)) → Chain base line i is level
@@ -160,8 +160,4 @@ module _ (base : ℕ) (line : List (Option KeptCharacter)) where
   pub written-first : (i level : ℕ) (is vs : List ℕ) (levels : List (Option ℕ)) → Chain base line i is level
       → AreLevels base line is vs → IsInProgress base line levels → has_level (written is vs levels) i ≡ true
   written-first i level is vs levels c a p =
-      first-written i level is vs levels c a (subst (λ n. i < n) (sym p.long) (within c))
-    where
-      within : Chain base line i is level → i < length line
-      within (chain_end {k = k} here next) = kept-within line i k here
-      within (chain_more {k = k} here next d) = kept-within line i k here
+      first-written i level is vs levels c a (subst (λ n. i < n) (sym p.long) (first-within i is level c))

@@ -2,15 +2,11 @@
 -- character does goes by its own class alone.
 --
 -- Of FSI, `1`, U+05D0, PDI the classes are RLI, EN, R, PDI.
-use Rattle.std.specs.Prelude.{◌≡◌, ℕ, Bool, true, false, ◌⊎◌, List, [], ◌∷◌, drop, Option, Some, None, if◌then◌else◌, IsTrue}
+use Rattle.std.specs.Prelude.{◌≡◌, ℕ, Bool, true, false, ◌⊎◌, List, [], ◌∷◌, drop, take, length, slice_index_or, if◌then◌else◌, IsTrue}
 use Rattle.bidi_class.specs.declared.class.Class.{Class}
 use Rattle.bidi_class.specs.declared.class.Class.TheVariants.{L, R, AL, LRI, RLI, FSI, PDI}
 use Rattle.bidi_class.specs.Class.{begins_isolate}
 use Rattle.bidi_order.specs.DirectionalStatus.{DirectionalStatus, begins_right_to_left}
-use Rattle.bidi_order.specs.Explicit.{IsolateRole}
-use Rattle.bidi_order.specs.Explicit.IsolateRole as isolate
-use Rattle.bidi_preview.specs.declared.kept.Role.{Role}
-use Rattle.bidi_preview.specs.declared.kept.Role.TheVariants as role
 use Rattle.bidi_preview.specs.declared.status.Status.{Status}
 
 -- X5c, by the direction that the isolate begins with
@@ -34,12 +30,6 @@ sides_before R sides = true ∷ drop 1 sides
 sides_before AL sides = true ∷ drop 1 sides
 sides_before c sides = sides
 
--- what the code's type stands for
-abbrev pub isolate_role : Role → IsolateRole
-isolate_role role.Initiates = isolate.Initiates
-isolate_role role.Terminates = isolate.Terminates
-isolate_role role.Neither = isolate.Neither
-
 -- a status of the code as the definition has it
 abbrev pub view_status : Status → DirectionalStatus
 view_status s = record {
@@ -53,3 +43,14 @@ view_status s = record {
 -- the class, which stands for an FSI too, is that of the character
 abbrev pub IsDirected : Class → Class → Type 0
 IsDirected class given = (class ≡ given) ⊎ (IsTrue (begins_isolate class) × IsTrue (begins_isolate given))
+
+-- for each number of open isolates the direction of the first strong character behind their ends
+abbrev pub KnowsSides : List Bool → List Class → Type 0
+KnowsSides sides cs = (n : ℕ) → slice_index_or sides n false ≡ begins_right_to_left n cs
+
+-- the classes of a line, which are directed from an index on
+pub record DirectedFrom (initial : List Class) (i : ℕ) (sides : List Bool) (classes : List Class) : Type 0 where
+  pub long : length classes ≡ length initial
+  pub left : take i classes ≡ take i initial
+  pub done : drop i classes ≡ directed_classes (drop i initial)
+  pub knows : KnowsSides sides (drop i initial)

@@ -1,3 +1,4 @@
+pub mod Roles
 pub mod WeakSteps
 pub mod NeutralSteps
 pub mod ExplicitSteps

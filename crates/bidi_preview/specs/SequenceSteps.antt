@@ -2,7 +2,7 @@
 -- sequence goes on after the one before, and its levels are written at these indexes.
 --
 -- In `a`, RLI, U+05D0, PDI, `b` at the base 0 the chain from 0 is 0, 1, 3, 4, which ends beside the level 0.
-use Rattle.std.specs.Prelude.{◌≡◌, ◌<◌, ◌≤◌, ℕ, true, List, [], ◌∷◌, ◌++◌, length, reverse, take, slice_index_or, slice_set}
+use Rattle.std.specs.Prelude.{◌≡◌, ◌<◌, ◌≤◌, ℕ, zero, suc, drop, true, List, [], ◌∷◌, ◌++◌, length, reverse, take, slice_index_or, slice_set}
 use Rattle.std.specs.Prelude.{Option, Some, None}
 use Rattle.std.specs.Option.{is_some}
 use Rattle.bidi_class.specs.declared.class.Class.{Class}
@@ -12,7 +12,7 @@ use Rattle.bidi_order.specs.Explicit.{KeptCharacter, SequenceCharacter, explicit
 use Rattle.bidi_order.specs.Sequences.{enters_isolate, scanned_role, sequence_along}
 use Rattle.bidi_order.specs.Sequences.Scan.{Backward}
 use Rattle.bidi_order.specs.Sequences.Following.{Taking}
-use Rattle.bidi_preview.specs.NextCharacter.{NextCharacter, character_at, level_at, level_behind, matching_end}
+use Rattle.bidi_preview.specs.NextCharacter.{NextCharacter, character_at, closing_from, level_at, level_behind, matching_end}
 use Rattle.bidi_preview.specs.NextCharacter.{next_character}
 use Rattle.bidi_preview.specs.NextCharacter.NextCharacter.{GoesOn, Ends}
 use Rattle.bidi_preview.specs.declared.sequence.Next.{Next}
@@ -111,3 +111,17 @@ pub record ResolvedUpTo (base : ℕ) (line : List (Option KeptCharacter)) (i bef
       → is_some (slice_index_or levels j None) ≡ true
   pub bound : before ≤ 125
   pub beside : before ≡ level_behind base (reverse (take i line))
+
+-- the item at an index of a stack
+abbrev pub waiting_at : List ℕ → ℕ → Option ℕ
+waiting_at [] n = None
+waiting_at (i ∷ waiting) zero = Some i
+waiting_at (i ∷ waiting) (suc n) = waiting_at waiting n
+
+-- isolates are matched from an index on: for each number of open isolates the PDI that ends one more waits
+pub record MatchedFrom (line : List (Option KeptCharacter)) (from : ℕ) (waiting : List ℕ) (ends : List (Option ℕ)) :
+    Type 0 where
+  pub long : length ends ≡ length line
+  pub waits : (n : ℕ) → waiting_at waiting n ≡ closing_from from n (drop from line)
+  pub found : (i : ℕ) (k : KeptCharacter) → from ≤ i → character_at line i ≡ Some k → enters_isolate k.role ≡ true
+      → slice_index_or ends i None ≡ matching_end line i

@@ -1,13 +1,14 @@
 //! Paired brackets (UAX #9, BD16 and N0).
 ghost use Rattle.std.specs.Prelude.{◌≡◌, ◌∷◌, ◌+◌, ◌<◌, ◌≤◌, ◌^◌, IfOk, MatchOption, None, Some, drop, length, map, not, reverse};
-ghost use Rattle.std.specs.Prelude.{take, vec_len, []};
+ghost use Rattle.std.specs.Prelude.{suc, take, []};
 ghost use Rattle.std.specs.List.{list_any};
 ghost use Rattle.bidi_order.specs.DirectionalStatus.{strong_class};
 ghost use Rattle.bidi_order.specs.Resolve.{bracket_pairs_from, class_direction, is_direction, is_nonspacing};
 ghost use Rattle.bidi_order.specs.Resolve.{last_direction, matching_opening, n0, neutral_bracket, pair_direction};
 ghost use Rattle.bidi_order.specs.Resolve.{pairs_in_order, set_bracket};
-ghost use Rattle.bidi_preview.specs.NeutralSteps.{counting_brackets, listed_pairs};
+ghost use Rattle.bidi_preview.specs.NeutralSteps.{PairsSoFar, SearchGoesOn, counting_brackets, listed_pairs};
 
+use crate::absent::no_indexes;
 use bidi_class::{Bracket, Class};
 use soy_base::OutOfMemory;
 use std::alloc::Global;
@@ -16,16 +17,7 @@ use std::alloc::Global;
 const OPEN_BRACKETS: usize = 63;
 
 /// BD16: for each bracket that opens a pair the index of that which closes it.
-#[tactic(auto, using(
-    crate::proofs::PairsFound::counting_drop,
-    crate::proofs::PairsFound::found_none,
-    crate::proofs::PairsFound::found_opens,
-    crate::proofs::PairsFound::found_full,
-    crate::proofs::PairsFound::found_lone,
-    crate::proofs::PairsFound::found_pair,
-    crate::proofs::PairsFound::found_end,
-    crate::proofs::PairsFound::found_start
-))]
+#[tactic(auto, using(crate::proofs::PairsFound::found_start, crate::proofs::PairsFound::read_end))]
 pub(crate) fn find_pairs(
     alloc: Global,
     classes: &[Class],
@@ -34,27 +26,58 @@ pub(crate) fn find_pairs(
     requires { length brackets.now ≡ length classes.now }
     ensures pairs { IfOk result (λ partners. listed_pairs 0 partners.items
         ≡ pairs_in_order (bracket_pairs_from 0 [] (counting_brackets classes.now brackets.now))) }
-    ensures long { IfOk result (λ partners. vec_len partners ≡ length classes.now) }
+    ensures long { IfOk result (λ partners. length partners.items ≡ length classes.now) }
 {
-    let mut partners = vec![in alloc; None; classes.len()]?;
+    let mut partners = no_indexes(alloc, classes.len())?;
     let mut opened = Vec::new(alloc);
     for index in 0..classes.len() {
-        match neutral_bracket(classes[index], brackets[index]) {
-            Some(Bracket::Opens(closing)) => {
-                if opened.len() == OPEN_BRACKETS {
-                    return Ok(partners);
-                }
-                opened.push((closing, index))?;
-            }
-            Some(Bracket::Closes(closing)) => {
-                if let Some(first) = take_opening(&mut opened, closing) {
-                    partners[first] = Some(index);
-                }
-            }
-            None => {}
+        if !read_bracket(classes, brackets, index, &mut opened, &mut partners)? {
+            return Ok(partners);
         }
     }
     Ok(partners)
+}
+
+/// BD16: reads the bracket at an index, and says whether the search goes on.
+#[tactic(auto, using(
+    crate::proofs::PairsFound::read_none,
+    crate::proofs::PairsFound::read_opens,
+    crate::proofs::PairsFound::read_full,
+    crate::proofs::PairsFound::read_lone,
+    crate::proofs::PairsFound::read_pair,
+    crate::proofs::PairsFound::read_first
+))]
+fn read_bracket(
+    classes: &[Class],
+    brackets: &[Option<Bracket>],
+    index: usize,
+    opened: &mut Vec<(char, usize)>,
+    partners: &mut [Option<usize>],
+) -> Result<bool, OutOfMemory>
+    requires long { length brackets.now ≡ length classes.now }
+    requires partners { length partners.old ≡ length classes.now }
+    requires within { index < length classes.now }
+    requires so_far { PairsSoFar (counting_brackets classes.now brackets.now) index (reverse opened.old.items) partners.old }
+    ensures { IfOk result (λ goes. SearchGoesOn goes (counting_brackets classes.now brackets.now) (index + 1)
+        (reverse opened.new.items) partners.new) }
+{
+    match neutral_bracket(classes[index], brackets[index]) {
+        None => Ok(true),
+        Some(Bracket::Opens(closing)) => {
+            if opened.len() == OPEN_BRACKETS {
+                return Ok(false);
+            }
+            opened.push((closing, index))?;
+            Ok(true)
+        }
+        Some(Bracket::Closes(closing)) => match take_opening(opened, closing) {
+            None => Ok(true),
+            Some(first) => {
+                partners[first] = Some(index);
+                Ok(true)
+            }
+        },
+    }
 }
 
 /// A bracket counts where its class is still ON.
@@ -110,14 +133,22 @@ fn resolve_pair(own: bool, sos: bool, given: &[Class], first: usize, last: usize
     requires opening { first < length classes.old }
     ensures { classes.new ≡ n0 own sos (map is_nonspacing given.now) ((first, last) ∷ []) classes.old }
 {
-    let end = last.min(classes.len());
-    let start = (first + 1).min(end);
-    let direction = pair_direction(own, sos, &classes[start..end], &classes[..first]);
-    if let Some(right_to_left) = direction {
+    if let Some(right_to_left) = direction_of(own, sos, first, last, classes) {
         let class = strong_class(right_to_left);
         set_bracket(first, class, given, classes);
         set_bracket(last, class, given, classes);
     }
+}
+
+/// N0: the direction that the pair of brackets at two indexes gets.
+#[tactic(auto, using(crate::proofs::BracketsSet::inside_is))]
+fn direction_of(own: bool, sos: bool, first: usize, last: usize, classes: &[Class]) -> Option<bool>
+    requires { first < length classes.now }
+    ensures { result ≡ pair_direction own sos (drop (suc first) (take last classes.now)) (take first classes.now) }
+{
+    let end = last.min(classes.len());
+    let start = (first + 1).min(end);
+    pair_direction(own, sos, &classes[start..end], &classes[..first])
 }
 
 /// N0: the direction that a pair gets, by what stands inside and before it.

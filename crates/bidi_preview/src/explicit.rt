@@ -1,8 +1,9 @@
 //! Explicit levels (UAX #9, 3.3.2, X1 to X9).
-ghost use Rattle.std.specs.Prelude.{◌≡◌, ◌∷◌, ◌≤◌, IfOk, OnOk, drop, length, map, slice_index_or, false};
+ghost use Rattle.std.specs.Prelude.{◌≡◌, ◌+◌, ◌<◌, ◌∷◌, ◌≤◌, List, IfOk, OnOk, drop, length, map, slice_index_or, false};
+ghost use Rattle.bidi_class.specs.declared.class.Class.{Class};
 ghost use Rattle.bidi_class.specs.Class.{bidi_class};
 ghost use Rattle.bidi_order.specs.Explicit.{explicit_characters};
-ghost use Rattle.bidi_preview.specs.ExplicitSteps.{directed_by, directed_classes, sides_before};
+ghost use Rattle.bidi_preview.specs.ExplicitSteps.{DirectedFrom, directed_by, directed_classes, sides_before};
 
 use crate::kept::Kept;
 use crate::status::Status;
@@ -24,7 +25,7 @@ pub(crate) fn read_classes(alloc: Global, line: &[char]) -> Result<Vec<Class>, O
 
 /// X5c: the FSIs of a line, which is read from its end on. For each number of isolates that may be open the direction of
 /// the first strong character behind their ends is known.
-#[tactic(auto, using(crate::proofs::Directions::sides_read, crate::proofs::Directions::sides_none))]
+#[tactic(auto, using(crate::proofs::Directions::directed_start, crate::proofs::Directions::directed_end))]
 fn direct_isolates(alloc: Global, classes: &mut [Class]) -> Result<(), OutOfMemory>
     ensures { OnOk result (classes.new ≡ directed_classes classes.old) }
 {
@@ -32,12 +33,21 @@ fn direct_isolates(alloc: Global, classes: &mut [Class]) -> Result<(), OutOfMemo
     let mut index = classes.len();
     while index > 0 {
         index -= 1;
-        let class = classes[index];
-        let right_to_left = is_right_to_left(&sides);
-        classes[index] = directed_class(class, right_to_left);
-        read_side(&mut sides, class)?;
+        direct_at(index, classes, &mut sides)?;
     }
     Ok(())
+}
+
+/// X5c: the character at an index, where those behind it were read.
+#[tactic(auto, using(crate::proofs::Directions::directed_more))]
+fn direct_at(index: usize, classes: &mut [Class], sides: &mut Stack<bool>) -> Result<(), OutOfMemory>
+    requires { index < length classes.old }
+    ensures { OnOk result ((initial : List Class) → DirectedFrom initial (index + 1) sides.old classes.old
+        → DirectedFrom initial index sides.new classes.new) }
+{
+    let class = classes[index];
+    classes[index] = directed_class(class, is_right_to_left(sides));
+    read_side(sides, class)
 }
 
 /// The direction that counts where no isolate is open.
@@ -85,7 +95,7 @@ fn set_top(sides: &mut Stack<bool>, side: bool) -> Result<(), OutOfMemory>
 }
 
 /// X1 to X9: each character that is kept, at its level, and `None` for one that is removed.
-#[tactic(auto, using(crate::proofs::Tops::act_at, crate::proofs::Tops::directed_at, crate::proofs::Tops::directed_long, crate::proofs::Tops::explicit_at))]
+#[tactic(auto, using(crate::proofs::Tops::act_at, crate::proofs::Tops::directed_at, crate::proofs::Tops::explicit_more))]
 pub(crate) fn read_explicit(
     alloc: Global,
     base: u8,
@@ -94,6 +104,7 @@ pub(crate) fn read_explicit(
 ) -> Result<Vec<Option<Kept>>, OutOfMemory>
     requires base { base ≤ 125 }
     requires classes { classes.now ≡ directed_classes (map bidi_class line.now) }
+    requires long { length classes.now ≡ length line.now }
     ensures { IfOk result (λ kept. kept.items ≡ explicit_characters base line.now) }
 {
     let mut status = Status::new(alloc, base);

@@ -2,7 +2,7 @@
 ghost use Rattle.std.specs.Prelude.{◌≡◌, ◌≤◌, IsTrue};
 ghost use Rattle.bidi_order.specs.Explicit.{KeptCharacter, SequenceCharacter};
 ghost use Rattle.bidi_order.specs.Sequences.{enters_isolate};
-ghost use Rattle.bidi_preview.specs.ExplicitSteps.{isolate_role};
+ghost use Rattle.bidi_preview.specs.Roles.{isolate_role};
 
 use bidi_class::{Bracket, Class};
 use std::marker::Model;
@@ -27,7 +27,7 @@ pub(crate) struct Kept {
 impl Model for Kept {
     ghost use Rattle.std.specs.Prelude.{◌≤◌};
     ghost use Rattle.bidi_order.specs.Explicit.{KeptCharacter};
-    ghost use Rattle.bidi_preview.specs.ExplicitSteps.{isolate_role};
+    ghost use Rattle.bidi_preview.specs.Roles.{isolate_role};
 
     ghost Value = { KeptCharacter };
 

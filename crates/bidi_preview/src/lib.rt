@@ -6,6 +6,7 @@
 //! bidi_class for classes and brackets, and on soy_base.
 #![tactic(auto)]
 
+mod absent;
 mod brackets;
 mod explicit;
 mod kept;

@@ -1,5 +1,5 @@
 //! The levels of a line (UAX #9, X1 to L1).
-ghost use Rattle.std.specs.Prelude.{◌≡◌, IfOk};
+ghost use Rattle.std.specs.Prelude.{◌≡◌, ◌≤◌, IfOk};
 ghost use Rattle.bidi_order.specs.Levels.{line_levels};
 ghost use Rattle.bidi_order.specs.Lines.{direction_level};
 
@@ -12,6 +12,12 @@ use std::alloc::Global;
 /// The level of each character of a line, and `None` for one that X9 removes, or that memory ran out.
 ///
 /// The time is linear in the line: 63 brackets at most are open at a time, and each sequence is read once.
+#[tactic(auto, using(
+    crate::proofs::LineLevels::classes_long,
+    crate::proofs::LineLevels::explicit_is,
+    crate::proofs::LineLevels::levels_by,
+    crate::proofs::LineLevels::line_long
+))]
 pub fn levels(alloc: Global, base: Dir, line: &[char]) -> Result<Seq<Option<u8>>, OutOfMemory>
     ensures { IfOk result (λ levels. levels ≡ line_levels (direction_level base) line.now) }
 {
@@ -25,7 +31,8 @@ pub fn levels(alloc: Global, base: Dir, line: &[char]) -> Result<Seq<Option<u8>>
 
 /// The level of a direction.
 fn base_level(base: Dir) -> u8
-    ensures { result ≡ direction_level base }
+    ensures value { result ≡ direction_level base }
+    ensures bound { result ≤ 1 }
 {
     match base {
         Dir::Ltr => 0,

@@ -1,27 +1,46 @@
 //! Neutrals and isolate controls (UAX #9, N1 and N2), and implicit levels (I1 and I2).
-ghost use Rattle.std.specs.Prelude.{◌≡◌, ◌≤◌, length};
+ghost use Rattle.std.specs.Prelude.{◌≡◌, ◌+◌, ◌<◌, ◌≤◌, Bool, length};
 ghost use Rattle.bidi_order.specs.Resolve.{between, implicit, n1};
-ghost use Rattle.bidi_preview.specs.NeutralSteps.{filled};
+ghost use Rattle.bidi_preview.specs.NeutralSteps.{filled, neutrals_so_far};
 
 use crate::brackets::{class_direction, strong_class};
 use bidi_class::Class;
 
 /// N1, N2: each run of neutrals takes the direction on both sides, or the level's own.
-#[tactic(auto, using(crate::proofs::NeutralRuns::neutrals_none, crate::proofs::NeutralRuns::neutrals_some, crate::proofs::NeutralRuns::filled_length))]
+#[tactic(auto, using(crate::proofs::NeutralRuns::neutrals_end, crate::proofs::NeutralRuns::filled_length))]
 pub(crate) fn resolve_neutrals(own: bool, sos: bool, eos: bool, classes: &mut [Class])
     ensures { classes.new ≡ n1 own sos eos classes.old }
 {
     let mut before = sos;
     let mut start = 0;
     for index in 0..classes.len() {
-        if let Some(direction) = class_direction(classes[index]) {
-            fill(between(own, before, direction), start, index, classes);
-            before = direction;
-            start = index + 1;
-        }
+        (start, before) = read_class(own, before, start, index, classes);
     }
     let end = classes.len();
     fill(between(own, before, eos), start, end, classes);
+}
+
+/// Reads the class at an index. Where it has a direction, the neutrals since the last one are set. Says where the neutrals
+/// now begin, and the direction before them.
+#[tactic(auto, using(
+    crate::proofs::NeutralRuns::filled_length,
+    crate::proofs::NeutralRuns::neutrals_none,
+    crate::proofs::NeutralRuns::neutrals_some
+))]
+fn read_class(own: bool, before: bool, start: usize, index: usize, classes: &mut [Class]) -> (usize, bool)
+    requires order { start ≤ index }
+    requires within { index < length classes.old }
+    ensures order { result.0 ≤ index + 1 }
+    ensures list { (eos : Bool) → neutrals_so_far own eos result.1 result.0 (index + 1) classes.new
+        ≡ neutrals_so_far own eos before start index classes.old }
+{
+    match class_direction(classes[index]) {
+        Some(direction) => {
+            fill(between(own, before, direction), start, index, classes);
+            (index + 1, direction)
+        }
+        None => (start, before),
+    }
 }
 
 /// The class of neutrals between two directions.

@@ -7,6 +7,7 @@ ghost use Rattle.bidi_preview.specs.NextCharacter.{character_at, goes_past, next
 ghost use Rattle.bidi_preview.specs.SequenceSteps.{BeginsSequence, BoundsEnd, Chain, HasEnds, IsExplicit};
 ghost use Rattle.bidi_preview.specs.SequenceSteps.{ReadSoFar, ResolvedUpTo, WritesSequence, bracket_at, class_at, view_next, written};
 
+use crate::absent::no_levels;
 use crate::kept::Kept;
 use crate::links::match_isolates;
 use crate::neutral::implicit;
@@ -106,6 +107,7 @@ fn read_sequence(
     requires explicit { IsExplicit base line.now }
     requires ends { HasEnds line.now ends.now }
     requires here { is_some (character_at line.now first) ≡ true }
+    requires within { first < length line.now }
     ensures chain { IfOk result (λ s. Chain base line.now first s.indexes.items s.beside) }
     ensures classes { IfOk result (λ s. s.classes.items ≡ map (class_at base line.now) s.indexes.items) }
     ensures brackets { IfOk result (λ s. s.brackets.items ≡ map (bracket_at base line.now) s.indexes.items) }
@@ -126,7 +128,7 @@ fn read_sequence(
 
 impl Sequence {
     /// Reads the character at an index, and says where the sequence goes on, or ends it.
-    #[tactic(auto, using(crate::proofs::ReadSequences::read_more, crate::proofs::ReadSequences::read_end, crate::proofs::ReadSequences::goes_later, crate::proofs::ReadSequences::goes_here))]
+    #[tactic(auto, using(crate::proofs::ReadSequences::goes_within, crate::proofs::ReadSequences::read_more, crate::proofs::ReadSequences::read_end, crate::proofs::ReadSequences::goes_later, crate::proofs::ReadSequences::goes_here))]
     fn read(
         &mut self,
         base: u8,
@@ -138,13 +140,14 @@ impl Sequence {
         requires explicit { IsExplicit base line.now }
         requires ends { HasEnds line.now ends.now }
         requires here { is_some (character_at line.now index) ≡ true }
+        requires within { index < length line.now }
         requires beside { self.old.beside ≤ 125 }
         ensures chain { IfOk result (λ next. (first : ℕ)
             → ReadSoFar base line.now first (Some index) self.old.indexes.items self.old.beside
             → ReadSoFar base line.now first next self.new.indexes.items self.new.beside) }
         ensures later { IfOk result (λ next. IfSome next (λ i. index < i)) }
         ensures still { IfOk result (λ next. IfSome next (λ i. is_some (character_at line.now i) ≡ true)) }
-        ensures within { index < length line.now }
+        ensures within { IfOk result (λ next. IfSome next (λ i. i < length line.now)) }
         ensures classes { OnOk result (self.new.classes.items
             ≡ self.old.classes.items ++ class_at base line.now index ∷ []) }
         ensures brackets { OnOk result (self.new.brackets.items
@@ -173,7 +176,7 @@ pub(crate) fn resolve_line(alloc: Global, base: u8, line: &[Option<Kept>]) -> Re
     ensures { IfOk result (λ levels. levels.items ≡ resolved_levels_from base [] line.now) }
 {
     let ends = match_isolates(alloc, line)?;
-    let mut levels = vec![in alloc; None; line.len()]?;
+    let mut levels = no_levels(alloc, line.len())?;
     let mut before = base;
     for index in 0..line.len() {
         before = resolve_at(alloc, base, line, &ends, index, before, &mut levels)?;
@@ -232,6 +235,7 @@ fn resolve_from(
     requires explicit { IsExplicit base line.now }
     requires ends { HasEnds line.now ends.now }
     requires long { length levels.old ≡ length line.now }
+    requires within { first < length line.now }
     requires first { IfSome (character_at line.now first) (λ k. BeginsSequence base line.now first k before) }
     ensures { OnOk result (WritesSequence base line.now first levels.old levels.new) }
 {

@@ -6,7 +6,8 @@ ghost use Rattle.bidi_order.specs.DirectionalStatus.{act_of_class, has_room, ini
 ghost use Rattle.bidi_order.specs.DirectionalStatus.{embedding_popped, isolate_popped, strong_class, top_entry};
 ghost use Rattle.bidi_order.specs.DirectionalStatus.ExplicitAct.{Embeds, EndsEmbedding, EndsIsolate, Isolates};
 ghost use Rattle.bidi_order.specs.Explicit.{explicit_character, kept_character};
-ghost use Rattle.bidi_preview.specs.ExplicitSteps.{IsDirected, isolate_role, view_status};
+ghost use Rattle.bidi_preview.specs.ExplicitSteps.{IsDirected, view_status};
+ghost use Rattle.bidi_preview.specs.Roles.{isolate_role};
 
 use crate::brackets::strong_class;
 use crate::kept::{Kept, Role};
@@ -200,7 +201,7 @@ impl Status {
         ensures valid { OnOk result (self.new.valid_isolates ≤ self.old.valid_isolates + 1) }
     {
         match class {
-            Class::LRI => self.initiator(false),
+            Class::LRI | Class::FSI => self.initiator(false),
             Class::RLI => self.initiator(true),
             Class::PDI => {
                 self.end_isolate();

@@ -52,7 +52,6 @@ fn nonspacing_class(before: Class) -> Class
 }
 
 /// W2: EN becomes AN after AL.
-#[tactic(auto, using(crate::proofs::StrongSteps::w2_step))]
 fn resolve_arabic_numbers(sos: Class, classes: &mut [Class])
     ensures { classes.new ≡ w2 sos classes.old }
 {
@@ -208,7 +207,6 @@ fn w6(class: Class) -> Class
 }
 
 /// W7: EN becomes L after L.
-#[tactic(auto, using(crate::proofs::StrongSteps::w7_step))]
 fn resolve_european_numbers(sos: Class, classes: &mut [Class])
     ensures { classes.new ≡ w7 sos classes.old }
 {

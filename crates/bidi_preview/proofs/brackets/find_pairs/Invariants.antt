@@ -1,6 +1,5 @@
 use Rattle.std.proofs.Common.{◌≡◌, length, reverse}
-use Rattle.bidi_preview.specs.NeutralSteps.{counting_brackets}
-use Rattle.bidi_preview.proofs.PairsFound.{PairsSoFar}
+use Rattle.bidi_preview.specs.NeutralSteps.{PairsSoFar, counting_brackets}
 use Rattle.bidi_preview.proofs.brackets.find_pairs.Given as goal
 
 abbrev pub invariant-loop-index : goal.invariant-loop-index

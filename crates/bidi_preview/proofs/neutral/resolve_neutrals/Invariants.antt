@@ -1,6 +1,6 @@
 use Rattle.std.proofs.Common.{◌≡◌, ◌≤◌, length}
 use Rattle.bidi_order.specs.Resolve.{n1}
-use Rattle.bidi_preview.proofs.NeutralRuns.{neutrals_so_far}
+use Rattle.bidi_preview.specs.NeutralSteps.{neutrals_so_far}
 use Rattle.bidi_preview.proofs.neutral.resolve_neutrals.Given as goal
 
 abbrev pub invariant-loop-index : goal.invariant-loop-index
