@@ -1,5 +1,5 @@
 -- A sequence that is read one character at a time.
-use Rattle.std.proofs.Common.{◌≡◌, ℕ, suc, ◌+◌, ◌-◌, ◌<◌, Bool, true, List, [], ◌∷◌, ◌++◌, length, get_or, refl, sym, ap}
+use Rattle.std.proofs.Common.{◌≡◌, ℕ, zero, suc, ◌+◌, ◌-◌, ◌<◌, Bool, true, List, [], ◌∷◌, ◌++◌, length, get_or, refl, sym, ap}
 use Rattle.std.proofs.Common.{subst, ◌∙◌, append_assoc, arith, Option, Some, None}
 use Rattle.std.specs.Option.{is_some}
 use Rattle.bidi_order.specs.Explicit.{KeptCharacter}
@@ -46,3 +46,10 @@ goes_here base line i j k explicit here next =
 pub goes_within : (base : ℕ) (line : List (Option KeptCharacter)) (i j : ℕ) (k : KeptCharacter) → IsExplicit base line
     → character_at line i ≡ Some k → next_character base line i k ≡ GoesOn j → j < length line
 goes_within base line i j k explicit here next = kept_index line j (goes_here base line i j k explicit here next)
+
+-- a character that is read stands at its index
+pub here_is : (line : List (Option KeptCharacter)) (i : ℕ) (x other : Option KeptCharacter) (k : KeptCharacter)
+    → i < length line → x ≡ get_or line i other → x ≡ Some k → character_at line i ≡ Some k
+here_is [] i x other k within is e = absurd (omega (arith, within))
+here_is (y ∷ line) zero x other k within is e = sym is ∙ e
+here_is (y ∷ line) (suc i) x other k within is e = here_is line i x other k (omega (arith, within)) is e

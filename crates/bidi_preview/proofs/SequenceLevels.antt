@@ -7,6 +7,7 @@ use Rattle.std.proofs.lemmas.List.{append-nil, length-take-le, reverse-append, t
 use Rattle.std.proofs.Math.Seq.{drop-append-add, drop-cons, get_or-append_seam, take-append_seam}
 use Rattle.std.specs.Option.{is_some}
 use Rattle.bidi_class.specs.declared.class.Class.{Class}
+use Rattle.bidi_class.specs.declared.class.Class.TheVariants.{ON}
 use Rattle.bidi_class.specs.declared.brackets.Bracket.{Bracket}
 use Rattle.bidi_order.specs.DirectionalStatus.{initial_status}
 use Rattle.bidi_order.specs.Explicit.{KeptCharacter, SequenceCharacter, explicit_from}
@@ -44,11 +45,12 @@ characters-map X base (i ∷ is) = ap (λ l. resolved_at X base i ∷ l) (charac
 
 resolved-here : (X : List (Option KeptCharacter)) (base i : ℕ) (k : KeptCharacter) → character_at X i ≡ Some k
     → resolved_at X base i ≡ k.resolved
-resolved-here X base i k here = ap (λ (o : Option KeptCharacter). by o) here
-  where
-    by : Option KeptCharacter → SequenceCharacter
-    by None = resolved_at [] base i
-    by (Some k) = k.resolved
+resolved-here X base i k here =
+    let by : Option KeptCharacter → SequenceCharacter = λ o. record {
+      class = elim o [ None ↦ ON | Some k ↦ k.resolved.class ];
+      bracket = elim o [ None ↦ None | Some k ↦ k.resolved.bracket ];
+    } in
+    ap by here
 
 some_is : {A : Type 0} {x y : A} → Some x ≡ Some y → x ≡ y
 some_is e = cc

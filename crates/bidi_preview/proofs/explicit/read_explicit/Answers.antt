@@ -7,9 +7,9 @@ use Rattle.bidi_preview.proofs.explicit.read_explicit.Goals as goal
 pub loop-index-preserved : goal.loop-index-preserved
 loop-index-preserved c = record {
   base = c.in_ok-k.ensures.base ∙ c.loop-index.invariant.base;
-  isolates = omega arith;
-  embeddings = omega arith;
-  valid = omega arith;
+  isolates = omega (arith, c.in_ok-k.ensures.isolates, c.loop-index.invariant.isolates);
+  embeddings = omega (arith, c.in_ok-k.ensures.embeddings, c.loop-index.invariant.embeddings);
+  valid = omega (arith, c.in_ok-k.ensures.valid, c.loop-index.invariant.valid);
   list = subst (λ l. l ++ explicit_from (view_status c.read.new.self) (drop (c.loop-index.index + 1) c.args.line.now)
       ≡ explicit_characters c.args.base c.args.line.now) (sym c.in_ok-push.ensures.items)
       (explicit_more (view_status c.loop-index.status) (view_status c.read.new.self) c.args.line.now
