@@ -137,3 +137,7 @@ up_start base X n long low = record {
   where
     never : {v : ℕ} → None ≡ Some v → ⊥
     never e = cc
+
+pub never_none : (base : ℕ) (X : List (Option KeptCharacter)) (i : ℕ) (old new : List (Option ℕ))
+    → is_some (character_at X i) ≡ true → character_at X i ≡ None → WritesSequence base X i old new
+never_none base X i old new some gone = absurd (both_ways (is_some (character_at X i)) (ap is_some gone) some)

@@ -1,5 +1,5 @@
 //! The classes of one sequence, resolved (UAX #9, W1 to N2).
-ghost use Rattle.std.specs.Prelude.{◌≡◌, ◌≤◌, OnOk, length, map};
+ghost use Rattle.std.specs.Prelude.{◌≡◌, ◌≤◌, IfOk, OnOk, length, map};
 ghost use Rattle.bidi_order.specs.Resolve.{implicit, resolve};
 ghost use Rattle.bidi_order.specs.Sequences.{side_class};
 ghost use Rattle.bidi_text.specs.Estimate.{is_right_to_left};
@@ -33,6 +33,25 @@ pub(crate) fn resolve_sequence(
     resolve_pairs(own, is_right_to_left(sos), &given, &partners, classes);
     resolve_neutrals(own, is_right_to_left(sos), is_right_to_left(eos), classes);
     Ok(())
+}
+
+/// The classes of a sequence, resolved.
+pub(crate) fn resolved_classes(
+    alloc: Global,
+    level: u8,
+    sos: Class,
+    eos: Class,
+    brackets: &[Option<Bracket>],
+    given: &[Class],
+) -> Result<Vec<Class>, OutOfMemory>
+    requires { length brackets.now ≡ length given.now }
+    ensures levels { IfOk result (λ classes. map (implicit level) classes.items
+        ≡ resolve level sos eos (characters_of given.now brackets.now)) }
+    ensures long { IfOk result (λ classes. length classes.items ≡ length given.now) }
+{
+    let mut classes = Vec::from_slice(alloc, given)?;
+    resolve_sequence(alloc, level, sos, eos, brackets, &mut classes)?;
+    Ok(classes)
 }
 
 /// The class of the side of a level.

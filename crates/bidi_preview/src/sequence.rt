@@ -11,7 +11,7 @@ use crate::absent::no_levels;
 use crate::kept::Kept;
 use crate::links::match_isolates;
 use crate::neutral::implicit;
-use crate::resolve::{resolve_sequence, side_class};
+use crate::resolve::{resolved_classes, side_class};
 use bidi_class::{Bracket, Class};
 use soy_base::OutOfMemory;
 use std::alloc::Global;
@@ -220,7 +220,7 @@ fn resolve_at(
 }
 
 /// Resolves the sequence whose first character stands at the index, and writes its levels.
-#[tactic(auto, using(crate::proofs::ResolveLines::writes, crate::proofs::ResolveLines::chain_within))]
+#[tactic(auto, using(crate::proofs::ResolveLines::chain_within, crate::proofs::ResolveLines::never_none))]
 fn resolve_from(
     alloc: Global,
     base: u8,
@@ -236,16 +236,17 @@ fn resolve_from(
     requires ends { HasEnds line.now ends.now }
     requires long { length levels.old ≡ length line.now }
     requires within { first < length line.now }
+    requires here { is_some (character_at line.now first) ≡ true }
     requires first { IfSome (character_at line.now first) (λ k. BeginsSequence base line.now first k before) }
     ensures { OnOk result (WritesSequence base line.now first levels.old levels.new) }
 {
     if let Some(k) = &line[first] {
         let level = k.level();
-        let mut sequence = read_sequence(alloc, base, line, ends, first)?;
+        let sequence = read_sequence(alloc, base, line, ends, first)?;
         let sos = side_class(level.max(before));
         let eos = side_class(level.max(sequence.beside));
-        resolve_sequence(alloc, level, sos, eos, &sequence.brackets, &mut sequence.classes)?;
-        write_levels(level, &sequence.indexes, &sequence.classes, levels);
+        let resolved = resolved_classes(alloc, level, sos, eos, &sequence.brackets, &sequence.classes)?;
+        write_levels(level, &sequence.indexes, &resolved, levels);
     }
     Ok(())
 }
