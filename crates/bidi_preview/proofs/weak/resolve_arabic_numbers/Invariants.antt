@@ -1,0 +1,7 @@
+use Rattle.std.proofs.Common.{◌≡◌, ◌++◌, take, drop, map}
+use Rattle.bidi_order.specs.Resolve.{w1, w2, w3, w4, w6, w7}
+use Rattle.bidi_preview.specs.WeakSteps.{following_terminators}
+use Rattle.bidi_preview.proofs.weak.resolve_arabic_numbers.Given as goal
+
+abbrev pub invariant-loop-class : goal.invariant-loop-class
+invariant-loop-class l = take l.class-index l.classes ++ w2 l.strong (drop l.class-index l.classes) ≡ w2 l.fn.sos l.initial.classes

@@ -1,0 +1,51 @@
+//! The levels of a line (UAX #9, X1 to L1).
+ghost use Rattle.std.specs.Prelude.{◌≡◌, ◌≤◌, IfOk, length, map};
+ghost use Rattle.bidi_order.specs.Levels.{line_levels};
+ghost use Rattle.bidi_order.specs.Lines.{direction_level};
+ghost use Rattle.bidi_order.specs.Reset.{reset_kind, reset_levels};
+
+use crate::explicit::{read_classes, read_explicit};
+use crate::reset::reset_levels;
+use crate::sequence::resolve_line;
+use bidi_class::Class;
+use soy_base::{Dir, OutOfMemory, Seq};
+use std::alloc::Global;
+
+/// The level of each character of a line, and `None` for one that X9 removes, or that memory ran out.
+///
+/// The time is linear in the line: 63 brackets at most are open at a time, and each sequence is read once.
+#[tactic(auto, using(
+    crate::proofs::LineLevels::classes_long,
+    crate::proofs::LineLevels::explicit_is,
+    crate::proofs::LineLevels::levels_by,
+    crate::proofs::LineLevels::line_long
+))]
+pub fn levels(alloc: Global, base: Dir, line: &[char]) -> Result<Seq<Option<u8>>, OutOfMemory>
+    ensures { IfOk result (λ levels. levels ≡ line_levels (direction_level base) line.now) }
+{
+    let base = base_level(base);
+    let classes = read_classes(alloc, line)?;
+    let kept = read_explicit(alloc, base, line, &classes)?;
+    let levels = resolve_line(alloc, base, &kept)?;
+    Ok(Seq::new(reset_line(base, &classes, levels)))
+}
+
+/// The levels after L1.
+fn reset_line(base: u8, classes: &[Class], mut levels: Vec<Option<u8>>) -> Vec<Option<u8>>
+    requires { length classes.now ≡ length levels.items }
+    ensures { result.items ≡ reset_levels base (map reset_kind classes.now) levels.items }
+{
+    reset_levels(base, classes, &mut levels);
+    levels
+}
+
+/// The level of a direction.
+fn base_level(base: Dir) -> u8
+    ensures value { result ≡ direction_level base }
+    ensures bound { result ≤ 1 }
+{
+    match base {
+        Dir::Ltr => 0,
+        Dir::Rtl => 1,
+    }
+}
