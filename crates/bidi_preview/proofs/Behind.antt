@@ -1,6 +1,7 @@
 -- Where a sequence comes from: a character that is the first of its sequence has before it the level of the last kept
 -- character; any other is the next one of a character before it.
-use Rattle.std.proofs.Common.{◌≡◌, ℕ, zero, suc, ◌+◌, ◌<◌, Bool, true, false, ◌==◌, ◌⊎◌, inl, inr, List, [], ◌∷◌, ◌++◌}
+use Rattle.std.proofs.Common.{◌≡◌, ℕ, zero, suc, ◌+◌, ◌<◌, Bool, true, false, ◌==◌, ◌⊎◌, inl, inr, List, [], ◌∷◌}
+use Rattle.std.proofs.Common.{◌++◌}
 use Rattle.std.proofs.Common.{reverse, length, refl, sym, ap, subst, ◌∙◌, append_assoc, arith, Option, Some, None}
 use Rattle.std.proofs.lemmas.Bool.{both_ways, cases_Bool, eq-eqb, eqb-true}
 use Rattle.bidi_order.specs.Explicit.{IsolateRole, SequenceCharacter, KeptCharacter}
@@ -147,7 +148,7 @@ before-other : (base : ℕ) (q : KeptCharacter) (B : List (Option KeptCharacter)
     → (q.level == k.level) ≡ false → (role : IsolateRole) → k.role ≡ role → Before base (Some q ∷ B) k
 before-other base q B k other Terminates is =
     let entered : before_in base (Some q ∷ B) k
-        ≡ sequence_along Backward base k.level (Passing 0 q.level) (Some q ∷ B) =
+    ≡ sequence_along Backward base k.level (Passing 0 q.level) (Some q ∷ B) =
     ap (λ r. sequence_along Backward base k.level (Taking (enters_isolate (scanned_role Backward r))) (Some q ∷ B)) is
     ∙ taking-passing Backward base k.level q B other in
     elim (find base k.level q.level (Some q ∷ B) 0) [

@@ -1,5 +1,6 @@
 -- The directions behind the ends of open isolates, known from the end of a line on (UAX #9, X5c).
-use Rattle.std.proofs.Common.{◌≡◌, ℕ, zero, suc, ◌+◌, ◌<◌, Bool, true, false, List, [], ◌∷◌, drop, get_or, refl, sym, ap, ◌∙◌}
+use Rattle.std.proofs.Common.{◌≡◌, ℕ, zero, suc, ◌+◌, ◌<◌, Bool, true, false, List, [], ◌∷◌, drop, get_or, refl, sym}
+use Rattle.std.proofs.Common.{ap, ◌∙◌}
 use Rattle.std.proofs.Common.{arith, take, length, subst}
 use Rattle.std.proofs.Math.ListN.{drop_of_length-le, set}
 use Rattle.std.proofs.lemmas.List.{drop-set, drop_more, get_or-take, length-set, take-set}
@@ -56,7 +57,7 @@ directed_more initial i sides xs d h p =
     let within : i < length initial = omega (arith, p.long) in
     let same : x ≡ get_or initial i d = front-get i xs initial d p.left in
     let parts : drop i initial ≡ x ∷ drop (i + 1) initial =
-        drop_more initial i d within ∙ ap (λ y. y ∷ drop (i + 1) initial) (sym same) in
+    drop_more initial i d within ∙ ap (λ y. y ∷ drop (i + 1) initial) (sym same) in
     record {
       long = length-set xs i v ∙ p.long;
       left = take-set xs i v ∙ front-less i xs initial p.left;

@@ -1,13 +1,16 @@
 -- Two neighbours of a sequence: both see one and the same sequence, with the same ends, the later one index further.
-use Rattle.std.proofs.Common.{◌≡◌, ℕ, zero, suc, ◌+◌, max, Bool, true, false, ◌==◌, List, [], ◌∷◌, ◌++◌, reverse, take}
-use Rattle.std.proofs.Common.{drop, get_or, length, refl, sym, ap, subst, ◌∙◌, append_assoc, arith, Option, Some, None}
+use Rattle.std.proofs.Common.{◌≡◌, ℕ, zero, suc, ◌+◌, max, Bool, true, false, ◌==◌, List, [], ◌∷◌, ◌++◌, reverse}
+use Rattle.std.proofs.Common.{take}
+use Rattle.std.proofs.Common.{drop, get_or, length, refl, sym, ap, subst, ◌∙◌, append_assoc, arith, Option, Some}
+use Rattle.std.proofs.Common.{None}
 use Rattle.std.proofs.lemmas.Bool.{eq-eqb}
 use Rattle.std.proofs.lemmas.List.{reverse-append}
 use Rattle.std.proofs.Math.Seq.{drop-append-add, take-append_seam}
 use Rattle.bidi_order.specs.Explicit.{IsolateRole, SequenceCharacter, KeptCharacter}
 use Rattle.bidi_order.specs.Explicit.IsolateRole.{Initiates, Terminates, Neither}
 use Rattle.bidi_order.specs.Resolve.{resolve}
-use Rattle.bidi_order.specs.Sequences.{Scan, scanned_role, enters_isolate, step_in_sequence, sequence_along, side_class}
+use Rattle.bidi_order.specs.Sequences.{Scan, scanned_role, enters_isolate, step_in_sequence, sequence_along}
+use Rattle.bidi_order.specs.Sequences.{side_class}
 use Rattle.bidi_order.specs.Sequences.Scan.{Forward, Backward}
 use Rattle.bidi_order.specs.Sequences.Following.{Taking}
 use Rattle.bidi_order.specs.Sequences.SequenceStep.{Take}
@@ -36,8 +39,10 @@ pub record Neighbours (base : ℕ) (back : List (Option KeptCharacter)) (k : Kep
 -- the next kept character, where it has the same level
 taken : (scan : Scan) (base level : ℕ) (entered : Bool) (k : KeptCharacter) (rest : List (Option KeptCharacter))
     → k.level ≡ level → sequence_along scan base level (Taking entered) (Some k ∷ rest)
-    ≡ (k.resolved ∷ (sequence_along scan base level (Taking (enters_isolate (scanned_role scan k.role))) rest).0,
-    (sequence_along scan base level (Taking (enters_isolate (scanned_role scan k.role))) rest).1)
+    ≡ (
+      k.resolved ∷ (sequence_along scan base level (Taking (enters_isolate (scanned_role scan k.role))) rest).0,
+      (sequence_along scan base level (Taking (enters_isolate (scanned_role scan k.role))) rest).1,
+    )
 taken scan base level entered k rest same =
     sequence_along-sequence_step scan base level (Taking entered) k rest Take
     (ap (λ b. step_in_sequence b entered (scanned_role scan k.role)) (eq-eqb k.level level same))
@@ -47,13 +52,17 @@ pub neighbours-next : (base : ℕ) (back : List (Option KeptCharacter)) (k q : K
 neighbours-next base back k q R same = record {
   level = same;
   ahead = taken Forward base k.level (enters_isolate (scanned_role Forward k.role)) q R (sym same)
-      ∙ ap (λ l. (q.resolved
-      ∷ (sequence_along Forward base l (Taking (enters_isolate (scanned_role Forward q.role))) R).0,
-      (sequence_along Forward base l (Taking (enters_isolate (scanned_role Forward q.role))) R).1)) same;
+      ∙ ap (λ l. (
+        q.resolved
+            ∷ (sequence_along Forward base l (Taking (enters_isolate (scanned_role Forward q.role))) R).0,
+        (sequence_along Forward base l (Taking (enters_isolate (scanned_role Forward q.role))) R).1,
+      )) same;
   behind = taken Backward base q.level (enters_isolate (scanned_role Backward q.role)) k back same
-      ∙ ap (λ l. (k.resolved
-      ∷ (sequence_along Backward base l (Taking (enters_isolate (scanned_role Backward k.role))) back).0,
-      (sequence_along Backward base l (Taking (enters_isolate (scanned_role Backward k.role))) back).1)) (sym same);
+      ∙ ap (λ l. (
+        k.resolved
+            ∷ (sequence_along Backward base l (Taking (enters_isolate (scanned_role Backward k.role))) back).0,
+        (sequence_along Backward base l (Taking (enters_isolate (scanned_role Backward k.role))) back).1,
+      )) (sym same);
 }
 
 -- the same over removed characters

@@ -9,7 +9,8 @@ use Rattle.bidi_order.specs.DirectionalStatus.{DirectionalStatus, top_entry, nex
 use Rattle.bidi_order.specs.DirectionalStatus.{status_after}
 use Rattle.bidi_order.specs.DirectionalStatus.ExplicitAct.{Isolates, EndsIsolate}
 use Rattle.bidi_order.specs.Explicit.{KeptCharacter, explicit_character, act_of_character, explicit_from}
-use Rattle.bidi_order.proofs.RestoredStatus.{Matched, Other, act_of_class-begins, act_of_class-ends, act_of_class-other}
+use Rattle.bidi_order.proofs.RestoredStatus.{Matched, Other, act_of_class-begins, act_of_class-ends}
+use Rattle.bidi_order.proofs.RestoredStatus.{act_of_class-other}
 use Rattle.bidi_order.proofs.RestoredStatus.{opening, closing, Value, valid}
 use Rattle.bidi_order.proofs.RestoredStatus.Matched.{matched_end, matched_opens, matched_ends, matched_plain}
 use Rattle.bidi_order.proofs.RestoredStatus.Other.{other_embeds, other_pops, other_drops, other_stands}
@@ -121,4 +122,3 @@ isolate s i p v back bi ep m =
       | inl has ↦ of_valid (valid s i p v back does.0 does.1 has ep m)
       | inr full ↦ of_overflow (overflow s i p v back does.0 does.1 full ep m)
     ]
-

@@ -1,6 +1,8 @@
 -- Pairs of brackets by their opening ones: the pairs found so far, put in order, are those that the partners list.
-use Rattle.std.proofs.Common.{◌≡◌, ◌≢◌, ◌==◌, ℕ, zero, suc, ◌+◌, ◌<◌, ◌≤◌, Bool, true, false, nat_lt, inl, inr, List, [], ◌∷◌, ◌++◌}
-use Rattle.std.proofs.Common.{drop, length, get_or, reverse, refl, sym, ap, subst, ◌∙◌, append_assoc, arith, Option, Some, None}
+use Rattle.std.proofs.Common.{◌≡◌, ◌≢◌, ◌==◌, ℕ, zero, suc, ◌+◌, ◌<◌, ◌≤◌, Bool, true, false, nat_lt, inl, inr, List}
+use Rattle.std.proofs.Common.{[], ◌∷◌, ◌++◌}
+use Rattle.std.proofs.Common.{drop, length, get_or, reverse, refl, sym, ap, subst, ◌∙◌, append_assoc, arith, Option}
+use Rattle.std.proofs.Common.{Some, None}
 use Rattle.std.proofs.lemmas.Bool.{cases_Bool, cases_lt, cond-true, cond-false, eq-eqb, lt-ltb, le-ltb, ne_eqb}
 use Rattle.std.proofs.lemmas.List.{append-nil, get_or-set_other, length-reverse, reverse-append}
 use Rattle.std.proofs.Math.ListN.{drop_of_length-le, replicate, set}
@@ -125,9 +127,13 @@ open-set : (partners : List (Option ℕ)) (b f v : ℕ) (opened : List (ℕ × �
     → AreOpen (set partners f (Some v)) b opened
 open-set partners b f v [] e h = tt
 open-set partners b f v (o ∷ opened) e h =
-    let differs : o.1 ≢ f = λ same. omega (arith, h.0) in
-    (h.0, (get_or-set_other partners f o.1 (Some v) None differs ∙ h.1.0,
-    open-set partners o.1 f v opened (omega (arith, h.0)) h.1.1))
+    let differs : o.1 ≢ f = λ same. omega (arith, h.0) in (
+      h.0,
+      (
+        get_or-set_other partners f o.1 (Some v) None differs ∙ h.1.0,
+        open-set partners o.1 f v opened (omega (arith, h.0)) h.1.1,
+      ),
+    )
 
 -- what a closing bracket matches
 pub record IsOpened (partners : List (Option ℕ)) (bound first : ℕ) (others : List (ℕ × ℕ)) : Type 0 where
@@ -146,7 +152,7 @@ opened-matching partners bound c (o ∷ opened) first others h e =
     elim (cases_Bool (c == o.0)) [
       | inl is ↦
           let same : ◌≡◌ {A = Option (ℕ × List (ℕ × ℕ))} (Some (o.1, opened)) (Some (first, others)) =
-              sym (cond-true _ _ _ is) ∙ e in
+          sym (cond-true _ _ _ is) ∙ e in
           let pair : ◌≡◌ {A = ℕ × List (ℕ × ℕ)} (o.1, opened) (first, others) = of_some same in
           let index : o.1 ≡ first = ap (λ (p : ℕ × List (ℕ × ℕ)). p.0) pair in
           let rest : opened ≡ others = ap (λ (p : ℕ × List (ℕ × ℕ)). p.1) pair in

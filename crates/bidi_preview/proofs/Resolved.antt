@@ -4,7 +4,8 @@ use Rattle.bidi_class.specs.declared.class.Class.{Class}
 use Rattle.bidi_class.specs.declared.brackets.Bracket.{Bracket}
 use Rattle.bidi_order.specs.DirectionalStatus.{is_odd}
 use Rattle.bidi_order.specs.Explicit.{SequenceCharacter}
-use Rattle.bidi_order.specs.Resolve.{bracket_pairs_from, brackets_of, implicit, is_nonspacing, n0, n1, neutral_bracket}
+use Rattle.bidi_order.specs.Resolve.{bracket_pairs_from, brackets_of, implicit, is_nonspacing, n0, n1}
+use Rattle.bidi_order.specs.Resolve.{neutral_bracket}
 use Rattle.bidi_order.specs.Resolve.{pairs_in_order, resolve, weak_types}
 use Rattle.bidi_text.specs.Estimate.{is_right_to_left}
 use Rattle.bidi_preview.specs.NeutralSteps.{characters_of, counting_brackets}

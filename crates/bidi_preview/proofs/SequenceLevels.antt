@@ -1,6 +1,7 @@
 -- The levels of a sequence that is read once: those of each of its characters.
 use Rattle.std.proofs.Common.{◌≡◌, ℕ, zero, suc, ◌+◌, ◌<◌, max, Bool, true, false, ◌⊎◌, inl, inr, List, [], ◌∷◌, ◌++◌}
-use Rattle.std.proofs.Common.{reverse, take, drop, get_or, length, map, refl, sym, ap, subst, ◌∙◌, append_assoc, arith}
+use Rattle.std.proofs.Common.{reverse, take, drop, get_or, length, map, refl, sym, ap, subst, ◌∙◌, append_assoc}
+use Rattle.std.proofs.Common.{arith}
 use Rattle.std.proofs.Common.{length-append, Option, Some, None}
 use Rattle.std.proofs.lemmas.Bool.{both_ways}
 use Rattle.std.proofs.lemmas.List.{append-nil, length-take-le, reverse-append, take-append-drop}
@@ -16,7 +17,8 @@ use Rattle.bidi_order.specs.Sequences.{resolved_level, resolved_levels_from, sid
 use Rattle.bidi_preview.specs.NextCharacter.{NextCharacter, character_at, level_at, level_behind, next_character}
 use Rattle.bidi_preview.specs.NextCharacter.NextCharacter.{GoesOn, Ends}
 use Rattle.bidi_preview.specs.NeutralSteps.{characters_of}
-use Rattle.bidi_preview.specs.SequenceSteps.{AreLevels, Chain, HasLevel, IsExplicit, IsInProgress, bracket_at, class_at}
+use Rattle.bidi_preview.specs.SequenceSteps.{AreLevels, Chain, HasLevel, IsExplicit, IsInProgress, bracket_at}
+use Rattle.bidi_preview.specs.SequenceSteps.{class_at}
 use Rattle.bidi_preview.specs.SequenceSteps.Chain.{chain_end, chain_more}
 use Rattle.bidi_preview.proofs.Neighbours.{SeesSequence, after_in, before_in, level-seen, level_in, sees-next}
 use Rattle.bidi_preview.proofs.NextCharacters.{ComesFrom, NextAt, begins, ends_at, goes_on}
@@ -143,7 +145,7 @@ module _ (base : ℕ) (X : List (Option KeptCharacter)) (explicit : IsExplicit b
       next_at i k there j (ap (next_character base X i) (sym same) ∙ next) in
       let more : Follows n.next j is' level = chain-follows j level is' c n.next (next_here i k there j n) in
       let ahead : after_in base k (drop (suc i) X)
-          ≡ (n.next.resolved ∷ (after_in base n.next n.rest).0, (after_in base n.next n.rest).1) =
+      ≡ (n.next.resolved ∷ (after_in base n.next n.rest).0, (after_in base n.next n.rest).1) =
       ap (after_in base k) n.is ∙ n.neighbours.ahead in
       record {
         rest = ap (λ (a : List SequenceCharacter × ℕ). k.resolved ∷ a.0) ahead
@@ -185,7 +187,7 @@ module _ (base : ℕ) (X : List (Option KeptCharacter)) (explicit : IsExplicit b
       let n : NextAt base (take i X) k (drop (suc i) X) j =
       next_at i k there j (ap (next_character base X i) (sym same) ∙ next) in
       let sees : SeesSequence base (reverse n.between ++ Some k ∷ reverse (take i X)) n.next n.rest of sos eos whole
-          (suc index) =
+      (suc index) =
       sees-next base (reverse (take i X)) k n.between n.next n.rest of sos eos whole index n.neighbours
       (subst (λ l. SeesSequence base (reverse (take i X)) k l of sos eos whole index) n.is s) in
       levels_more (here-level i k there of sos eos whole index s v vs e)
@@ -240,8 +242,12 @@ module _ (base : ℕ) (X : List (Option KeptCharacter)) (explicit : IsExplicit b
           ∙ ap GoesOn (front_long X i k here)
 
       below : (f : ComesFrom base (initial_status base) explicit.text (take i X) k (drop (suc i) X) (explicit_cut i k here)) → length f.prefix < i
-      below f = omega (arith, ap length f.before_is, length-append f.prefix (Some f.near ∷ f.between),
-          front_long X i k here)
+      below f = omega (
+        arith,
+        ap length f.before_is,
+        length-append f.prefix (Some f.near ∷ f.between),
+        front_long X i k here,
+      )
 
       reached : ComesFrom base (initial_status base) explicit.text (take i X) k (drop (suc i) X) (explicit_cut i k here)
           → is_some (get_or levels i None) ≡ true

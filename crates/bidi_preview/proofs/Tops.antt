@@ -1,5 +1,7 @@
 -- The top of a status, and what a directed class does.
-use Rattle.std.proofs.Common.{◌≡◌, ◌<◌, ℕ, zero, suc, ◌+◌, ◌++◌, append_assoc, drop, length, map, get_or, subst, arith, Bool, true, false, ◌⊎◌, inl, inr, List, [], ◌∷◌, refl, sym, ap, ◌∙◌, Option, Some, None, if◌then◌else◌}
+use Rattle.std.proofs.Common.{◌≡◌, ◌<◌, ℕ, zero, suc, ◌+◌, ◌++◌, append_assoc, drop, length, map, get_or, subst}
+use Rattle.std.proofs.Common.{arith, Bool, true, false, ◌⊎◌, inl, inr, List, [], ◌∷◌, refl, sym, ap, ◌∙◌, Option}
+use Rattle.std.proofs.Common.{Some, None, if◌then◌else◌}
 use Rattle.std.proofs.lemmas.Bool.{both_ways, cases_Bool, cond-true, cond-false}
 use Rattle.std.proofs.Math.Seq.{drop-cons}
 use Rattle.soy_base.specs.Stacks.{top_of}
@@ -129,7 +131,7 @@ pub explicit_more : (s after : DirectionalStatus) (line : List ℕ) (classes : L
     → (done ++ x ∷ []) ++ explicit_from after (drop (i + 1) line) ≡ whole
 explicit_more s after line classes i c ch k x done whole h same are is to so_far =
     let act : act_of_class (get_or classes i k) [] ≡ act_of_character (get_or line i c) (drop (suc i) line) =
-        ap (λ l. act_of_class (get_or l i k) []) are ∙ act_at line i k c h in
+    ap (λ l. act_of_class (get_or l i k) []) are ∙ act_at line i k c h in
     let up : i + 1 ≡ suc i = omega arith in
     append_assoc done (x ∷ []) (explicit_from after (drop (i + 1) line))
     ∙ ap (λ n. done ++ x ∷ explicit_from after (drop n line)) up

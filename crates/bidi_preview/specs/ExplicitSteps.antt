@@ -2,7 +2,8 @@
 -- character does goes by its own class alone.
 --
 -- Of FSI, `1`, U+05D0, PDI the classes are RLI, EN, R, PDI.
-use Rattle.std.specs.Prelude.{◌≡◌, ℕ, Bool, true, false, ◌⊎◌, List, [], ◌∷◌, drop, take, length, slice_index_or, if◌then◌else◌, IsTrue}
+use Rattle.std.specs.Prelude.{◌≡◌, ℕ, Bool, true, false, ◌⊎◌, List, [], ◌∷◌, drop, take, length, slice_index_or}
+use Rattle.std.specs.Prelude.{if◌then◌else◌, IsTrue}
 use Rattle.bidi_class.specs.declared.class.Class.{Class}
 use Rattle.bidi_class.specs.declared.class.Class.TheVariants.{L, R, AL, LRI, RLI, FSI, PDI}
 use Rattle.bidi_class.specs.Class.{begins_isolate}

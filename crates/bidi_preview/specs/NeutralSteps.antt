@@ -2,7 +2,8 @@
 -- pairs of brackets by the index of the opening one, so that they stand in order.
 --
 -- Of `(`, `a`, `)` the partners are 2, none, none, and the one pair listed is (0, 2).
-use Rattle.std.specs.Prelude.{◌≡◌, ◌<◌, ◌≤◌, ℕ, zero, suc, Bool, true, false, List, [], ◌∷◌, ◌++◌, drop, take, slice_index_or, Option, Some, None}
+use Rattle.std.specs.Prelude.{◌≡◌, ◌<◌, ◌≤◌, ℕ, zero, suc, Bool, true, false, List, [], ◌∷◌, ◌++◌, drop, take}
+use Rattle.std.specs.Prelude.{slice_index_or, Option, Some, None}
 use Rattle.bidi_class.specs.declared.class.Class.{Class}
 use Rattle.bidi_class.specs.declared.brackets.Bracket.{Bracket}
 use Rattle.bidi_order.specs.Explicit.{SequenceCharacter}

@@ -3,7 +3,8 @@
 --
 -- In `a`, RLI, U+05D0, PDI, `b` at the base 0 the sequence goes on after the RLI at the PDI, 3, and it ends beside the
 -- base after U+05D0, whose next character has another level, 0.
-use Rattle.std.specs.Prelude.{ℕ, zero, suc, ◌+◌, max, Bool, true, false, ◌==◌, List, [], ◌∷◌, ◌++◌, reverse, length, take}
+use Rattle.std.specs.Prelude.{ℕ, zero, suc, ◌+◌, max, Bool, true, false, ◌==◌, List, [], ◌∷◌, ◌++◌, reverse, length}
+use Rattle.std.specs.Prelude.{take}
 use Rattle.std.specs.Prelude.{drop, slice_index_or, if◌then◌else◌, Option, Some, None}
 use Rattle.bidi_order.specs.Explicit.{IsolateRole, SequenceCharacter, KeptCharacter}
 use Rattle.bidi_order.specs.Explicit.IsolateRole.{Initiates, Terminates, Neither}

@@ -2,7 +2,8 @@
 -- sequence goes on after the one before, and its levels are written at these indexes.
 --
 -- In `a`, RLI, U+05D0, PDI, `b` at the base 0 the chain from 0 is 0, 1, 3, 4, which ends beside the level 0.
-use Rattle.std.specs.Prelude.{◌≡◌, ◌<◌, ◌≤◌, ℕ, zero, suc, drop, true, List, [], ◌∷◌, ◌++◌, length, reverse, take, slice_index_or, slice_set}
+use Rattle.std.specs.Prelude.{◌≡◌, ◌<◌, ◌≤◌, ℕ, zero, suc, drop, true, List, [], ◌∷◌, ◌++◌, length, reverse, take}
+use Rattle.std.specs.Prelude.{slice_index_or, slice_set}
 use Rattle.std.specs.Prelude.{Option, Some, None}
 use Rattle.std.specs.Option.{is_some}
 use Rattle.bidi_class.specs.declared.class.Class.{Class}
@@ -12,7 +13,8 @@ use Rattle.bidi_order.specs.Explicit.{KeptCharacter, SequenceCharacter, explicit
 use Rattle.bidi_order.specs.Sequences.{enters_isolate, scanned_role, sequence_along}
 use Rattle.bidi_order.specs.Sequences.Scan.{Backward}
 use Rattle.bidi_order.specs.Sequences.Following.{Taking}
-use Rattle.bidi_preview.specs.NextCharacter.{NextCharacter, character_at, closing_from, level_at, level_behind, matching_end}
+use Rattle.bidi_preview.specs.NextCharacter.{NextCharacter, character_at, closing_from, level_at, level_behind}
+use Rattle.bidi_preview.specs.NextCharacter.{matching_end}
 use Rattle.bidi_preview.specs.NextCharacter.{next_character}
 use Rattle.bidi_preview.specs.NextCharacter.NextCharacter.{GoesOn, Ends}
 use Rattle.bidi_preview.specs.declared.sequence.Next.{Next}

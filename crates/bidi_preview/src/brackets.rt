@@ -1,5 +1,6 @@
 //! Paired brackets (UAX #9, BD16 and N0).
-ghost use Rattle.std.specs.Prelude.{◌≡◌, ◌∷◌, ◌+◌, ◌<◌, ◌≤◌, ◌^◌, IfOk, MatchOption, None, Some, drop, length, map, not, reverse};
+ghost use Rattle.std.specs.Prelude.{◌≡◌, ◌∷◌, ◌+◌, ◌<◌, ◌≤◌, ◌^◌, IfOk, MatchOption, None, Some, drop, length, map};
+ghost use Rattle.std.specs.Prelude.{not, reverse};
 ghost use Rattle.std.specs.Prelude.{suc, take, []};
 ghost use Rattle.std.specs.List.{list_any};
 ghost use Rattle.bidi_order.specs.DirectionalStatus.{strong_class};
@@ -39,14 +40,7 @@ pub(crate) fn find_pairs(
 }
 
 /// BD16: reads the bracket at an index, and says whether the search goes on.
-#[tactic(auto, using(
-    crate::proofs::PairsFound::read_none,
-    crate::proofs::PairsFound::read_opens,
-    crate::proofs::PairsFound::read_full,
-    crate::proofs::PairsFound::read_lone,
-    crate::proofs::PairsFound::read_pair,
-    crate::proofs::PairsFound::read_first
-))]
+#[tactic(auto, using(crate::proofs::PairsFound::read_none, crate::proofs::PairsFound::read_opens, crate::proofs::PairsFound::read_full, crate::proofs::PairsFound::read_lone, crate::proofs::PairsFound::read_pair, crate::proofs::PairsFound::read_first))]
 fn read_bracket(
     classes: &[Class],
     brackets: &[Option<Bracket>],
@@ -128,7 +122,14 @@ pub(crate) fn resolve_pairs(
 }
 
 /// N0: one pair.
-fn resolve_pair(own: bool, sos: bool, given: &[Class], first: usize, last: usize, classes: &mut [Class])
+fn resolve_pair(
+    own: bool,
+    sos: bool,
+    given: &[Class],
+    first: usize,
+    last: usize,
+    classes: &mut [Class],
+)
     requires long { length given.now ≡ length classes.old }
     requires opening { first < length classes.old }
     ensures { classes.new ≡ n0 own sos (map is_nonspacing given.now) ((first, last) ∷ []) classes.old }

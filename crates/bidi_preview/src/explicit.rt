@@ -1,5 +1,6 @@
 //! Explicit levels (UAX #9, 3.3.2, X1 to X9).
-ghost use Rattle.std.specs.Prelude.{◌≡◌, ◌+◌, ◌<◌, ◌∷◌, ◌≤◌, List, IfOk, OnOk, drop, length, map, slice_index_or, false};
+ghost use Rattle.std.specs.Prelude.{◌≡◌, ◌+◌, ◌<◌, ◌∷◌, ◌≤◌, List, IfOk, OnOk, drop, length, map, slice_index_or};
+ghost use Rattle.std.specs.Prelude.{false};
 ghost use Rattle.bidi_class.specs.declared.class.Class.{Class};
 ghost use Rattle.bidi_class.specs.Class.{bidi_class};
 ghost use Rattle.bidi_order.specs.Explicit.{explicit_characters};
@@ -40,7 +41,11 @@ fn direct_isolates(alloc: Global, classes: &mut [Class]) -> Result<(), OutOfMemo
 
 /// X5c: the character at an index, where those behind it were read.
 #[tactic(auto, using(crate::proofs::Directions::directed_more))]
-fn direct_at(index: usize, classes: &mut [Class], sides: &mut Stack<bool>) -> Result<(), OutOfMemory>
+fn direct_at(
+    index: usize,
+    classes: &mut [Class],
+    sides: &mut Stack<bool>,
+) -> Result<(), OutOfMemory>
     requires { index < length classes.old }
     ensures { OnOk result ((initial : List Class) → DirectedFrom initial (index + 1) sides.old classes.old
         → DirectedFrom initial index sides.new classes.new) }
@@ -65,7 +70,11 @@ fn directed_class(class: Class, right_to_left: bool) -> Class
     ensures { result ≡ directed_by class right_to_left }
 {
     match class {
-        Class::FSI => if right_to_left { Class::RLI } else { Class::LRI },
+        Class::FSI => if right_to_left {
+            Class::RLI
+        } else {
+            Class::LRI
+        },
         _ => class,
     }
 }

@@ -32,9 +32,9 @@ impl Model for Kept {
     ghost Value = { KeptCharacter };
 
     ghost view = { λ k. record {
-        level = k.level;
-        role = isolate_role k.role;
-        resolved = record { class = k.class; bracket = k.bracket };
+      level = k.level;
+      role = isolate_role k.role;
+      resolved = record { class = k.class; bracket = k.bracket };
     } };
 
     ghost invariant = { λ k. k.level ≤ 125 };
@@ -44,12 +44,17 @@ impl Kept {
     pub(crate) fn new(level: u8, role: Role, class: Class, bracket: Option<Bracket>) -> Kept
         requires { level ≤ 125 }
         ensures { result ≡ record {
-            level = level;
-            role = isolate_role role;
-            resolved = record { class = class; bracket = bracket };
+          level = level;
+          role = isolate_role role;
+          resolved = record { class = class; bracket = bracket };
         } }
     {
-        Kept { level, role, class, bracket }
+        Kept {
+            level,
+            role,
+            class,
+            bracket,
+        }
     }
 
     pub(crate) fn level(&self) -> u8

@@ -11,7 +11,6 @@ mod brackets;
 mod explicit;
 mod kept;
 mod line;
-
 mod links;
 mod neutral;
 mod reset;
@@ -21,3 +20,6 @@ mod status;
 mod weak;
 
 pub use line::levels;
+
+#[cfg(test)]
+mod tests;

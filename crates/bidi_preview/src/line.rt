@@ -14,12 +14,7 @@ use std::alloc::Global;
 /// The level of each character of a line, and `None` for one that X9 removes, or that memory ran out.
 ///
 /// The time is linear in the line: 63 brackets at most are open at a time, and each sequence is read once.
-#[tactic(auto, using(
-    crate::proofs::LineLevels::classes_long,
-    crate::proofs::LineLevels::explicit_is,
-    crate::proofs::LineLevels::levels_by,
-    crate::proofs::LineLevels::line_long
-))]
+#[tactic(auto, using(crate::proofs::LineLevels::classes_long, crate::proofs::LineLevels::explicit_is, crate::proofs::LineLevels::levels_by, crate::proofs::LineLevels::line_long))]
 pub fn levels(alloc: Global, base: Dir, line: &[char]) -> Result<Seq<Option<u8>>, OutOfMemory>
     ensures { IfOk result (λ levels. levels ≡ line_levels (direction_level base) line.now) }
 {

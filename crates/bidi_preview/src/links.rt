@@ -10,7 +10,10 @@ use std::alloc::Global;
 /// For each initiator the index of the PDI that matches it, if one does. The line is read from its end on, and the PDIs
 /// that wait for an initiator stand on a stack.
 #[tactic(auto, using(crate::proofs::Waiting::matched_start, crate::proofs::Waiting::matched_end))]
-pub(crate) fn match_isolates(alloc: Global, line: &[Option<Kept>]) -> Result<Vec<Option<usize>>, OutOfMemory>
+pub(crate) fn match_isolates(
+    alloc: Global,
+    line: &[Option<Kept>],
+) -> Result<Vec<Option<usize>>, OutOfMemory>
     ensures { IfOk result (λ ends. HasEnds line.now ends.items) }
 {
     let mut ends = no_indexes(alloc, line.len())?;
@@ -24,12 +27,7 @@ pub(crate) fn match_isolates(alloc: Global, line: &[Option<Kept>]) -> Result<Vec
 }
 
 /// The character at an index, where those behind it were read.
-#[tactic(auto, using(
-    crate::proofs::Waiting::matched_removed,
-    crate::proofs::Waiting::matched_neither,
-    crate::proofs::Waiting::matched_pushed,
-    crate::proofs::Waiting::matched_popped
-))]
+#[tactic(auto, using(crate::proofs::Waiting::matched_removed, crate::proofs::Waiting::matched_neither, crate::proofs::Waiting::matched_pushed, crate::proofs::Waiting::matched_popped))]
 fn match_at(
     line: &[Option<Kept>],
     index: usize,

@@ -22,12 +22,14 @@ pub(crate) fn resolve_neutrals(own: bool, sos: bool, eos: bool, classes: &mut [C
 
 /// Reads the class at an index. Where it has a direction, the neutrals since the last one are set. Says where the neutrals
 /// now begin, and the direction before them.
-#[tactic(auto, using(
-    crate::proofs::NeutralRuns::filled_length,
-    crate::proofs::NeutralRuns::neutrals_none,
-    crate::proofs::NeutralRuns::neutrals_some
-))]
-fn read_class(own: bool, before: bool, start: usize, index: usize, classes: &mut [Class]) -> (usize, bool)
+#[tactic(auto, using(crate::proofs::NeutralRuns::filled_length, crate::proofs::NeutralRuns::neutrals_none, crate::proofs::NeutralRuns::neutrals_some))]
+fn read_class(
+    own: bool,
+    before: bool,
+    start: usize,
+    index: usize,
+    classes: &mut [Class],
+) -> (usize, bool)
     requires order { start ≤ index }
     requires within { index < length classes.old }
     ensures order { result.0 ≤ index + 1 }
@@ -47,7 +49,11 @@ fn read_class(own: bool, before: bool, start: usize, index: usize, classes: &mut
 fn between(own: bool, before: bool, after: bool) -> Class
     ensures { result ≡ between own before after }
 {
-    if before == after { strong_class(before) } else { strong_class(own) }
+    if before == after {
+        strong_class(before)
+    } else {
+        strong_class(own)
+    }
 }
 
 /// Sets the classes from one index up to another.

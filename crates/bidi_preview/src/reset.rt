@@ -28,7 +28,9 @@ fn reset_state(class: Class, trailing: bool) -> (bool, bool)
     match class {
         Class::S => (true, true),
         Class::WS | Class::LRI | Class::RLI | Class::FSI | Class::PDI => (trailing, trailing),
-        Class::LRE | Class::RLE | Class::LRO | Class::RLO | Class::PDF | Class::BN => (false, trailing),
+        Class::LRE | Class::RLE | Class::LRO | Class::RLO | Class::PDF | Class::BN => (
+            false, trailing,
+        ),
         _ => (false, false),
     }
 }

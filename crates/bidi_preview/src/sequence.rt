@@ -1,11 +1,13 @@
 //! Isolating run sequences (UAX #9, BD13 and X10).
-ghost use Rattle.std.specs.Prelude.{◌≡◌, ℕ, None, Some, true, ◌<◌, ◌≤◌, ◌+◌, ◌++◌, ◌∷◌, [], IfOk, IfSome, OnOk, length, map, slice_index};
+ghost use Rattle.std.specs.Prelude.{◌≡◌, ℕ, None, Some, true, ◌<◌, ◌≤◌, ◌+◌, ◌++◌, ◌∷◌, [], IfOk, IfSome, OnOk};
+ghost use Rattle.std.specs.Prelude.{length, map, slice_index};
 ghost use Rattle.std.specs.Option.{is_some};
 ghost use Rattle.bidi_order.specs.Resolve.{implicit};
 ghost use Rattle.bidi_order.specs.Sequences.{resolved_levels_from};
 ghost use Rattle.bidi_preview.specs.NextCharacter.{character_at, goes_past, next_character, next_from, next_kept};
 ghost use Rattle.bidi_preview.specs.SequenceSteps.{BeginsSequence, BoundsEnd, Chain, HasEnds, IsExplicit};
-ghost use Rattle.bidi_preview.specs.SequenceSteps.{ReadSoFar, ResolvedUpTo, WritesSequence, bracket_at, class_at, view_next, written};
+ghost use Rattle.bidi_preview.specs.SequenceSteps.{ReadSoFar, ResolvedUpTo, WritesSequence, bracket_at, class_at};
+ghost use Rattle.bidi_preview.specs.SequenceSteps.{view_next, written};
 
 use crate::absent::no_levels;
 use crate::kept::Kept;
@@ -42,7 +44,13 @@ fn next_kept(line: &[Option<Kept>], from: usize) -> usize
 
 /// Where a sequence goes on after a character.
 #[tactic(auto, using(crate::proofs::NextKept::next_by, crate::proofs::NextKept::next_none))]
-fn next_character(base: u8, line: &[Option<Kept>], ends: &[Option<usize>], index: usize, k: &Kept) -> Next
+fn next_character(
+    base: u8,
+    line: &[Option<Kept>],
+    ends: &[Option<usize>],
+    index: usize,
+    k: &Kept,
+) -> Next
     requires base { base ≤ 125 }
     requires here { character_at line.now index ≡ Some k.now }
     requires within { index < length line.now }
@@ -170,7 +178,11 @@ impl Sequence {
 
 /// The levels of a line before L1, each sequence at its first character (UAX #9, X10 to I2).
 #[tactic(auto, using(crate::proofs::ResolveLines::up_start, crate::proofs::ResolveLines::up_end))]
-pub(crate) fn resolve_line(alloc: Global, base: u8, line: &[Option<Kept>]) -> Result<Vec<Option<u8>>, OutOfMemory>
+pub(crate) fn resolve_line(
+    alloc: Global,
+    base: u8,
+    line: &[Option<Kept>],
+) -> Result<Vec<Option<u8>>, OutOfMemory>
     requires base { base ≤ 125 }
     requires explicit { IsExplicit base line.now }
     ensures { IfOk result (λ levels. levels.items ≡ resolved_levels_from base [] line.now) }
@@ -186,12 +198,7 @@ pub(crate) fn resolve_line(alloc: Global, base: u8, line: &[Option<Kept>]) -> Re
 
 /// Resolves the sequence whose first character stands at the index, if one does, and says which level stands beside the
 /// next index.
-#[tactic(auto, using(
-    crate::proofs::ResolveLines::up_none,
-    crate::proofs::ResolveLines::up_old,
-    crate::proofs::ResolveLines::up_new,
-    crate::proofs::ResolveLines::up_begins
-))]
+#[tactic(auto, using(crate::proofs::ResolveLines::up_none, crate::proofs::ResolveLines::up_old, crate::proofs::ResolveLines::up_new, crate::proofs::ResolveLines::up_begins))]
 fn resolve_at(
     alloc: Global,
     base: u8,
@@ -245,7 +252,14 @@ fn resolve_from(
         let sequence = read_sequence(alloc, base, line, ends, first)?;
         let sos = side_class(level.max(before));
         let eos = side_class(level.max(sequence.beside));
-        let resolved = resolved_classes(alloc, level, sos, eos, &sequence.brackets, &sequence.classes)?;
+        let resolved = resolved_classes(
+            alloc,
+            level,
+            sos,
+            eos,
+            &sequence.brackets,
+            &sequence.classes,
+        )?;
         write_levels(level, &sequence.indexes, &resolved, levels);
     }
     Ok(())

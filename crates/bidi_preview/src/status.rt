@@ -2,7 +2,8 @@
 ghost use Rattle.std.specs.Prelude.{◌≡◌, ◌+◌, ◌^◌, ◌<◌, ◌≤◌, [], IfOk, OnOk};
 ghost use Rattle.std.specs.Option.{option_map_or};
 ghost use Rattle.bidi_class.specs.Class.{bidi_class};
-ghost use Rattle.bidi_order.specs.DirectionalStatus.{act_of_class, has_room, initial_status, next_level, status_after};
+ghost use Rattle.bidi_order.specs.DirectionalStatus.{act_of_class, has_room, initial_status, next_level};
+ghost use Rattle.bidi_order.specs.DirectionalStatus.{status_after};
 ghost use Rattle.bidi_order.specs.DirectionalStatus.{embedding_popped, isolate_popped, strong_class, top_entry};
 ghost use Rattle.bidi_order.specs.DirectionalStatus.ExplicitAct.{Embeds, EndsEmbedding, EndsIsolate, Isolates};
 ghost use Rattle.bidi_order.specs.Explicit.{explicit_character, kept_character};
@@ -122,7 +123,11 @@ impl Status {
     {
         let level = next_level(right_to_left, self.top_level());
         if self.has_room(level) {
-            self.stack.push(Entry { level, direction, isolate: false })?;
+            self.stack.push(Entry {
+                level,
+                direction,
+                isolate: false,
+            })?;
         } else if self.overflow_isolates == 0 {
             self.overflow_embeddings += 1;
         }
@@ -142,7 +147,11 @@ impl Status {
     {
         let level = next_level(right_to_left, self.top_level());
         if self.has_room(level) {
-            self.stack.push(Entry { level, direction: None, isolate: true })?;
+            self.stack.push(Entry {
+                level,
+                direction: None,
+                isolate: true,
+            })?;
             self.valid_isolates += 1;
         } else {
             self.overflow_isolates += 1;
@@ -248,7 +257,11 @@ impl Status {
     }
 
     /// X2 to X5: an embedding or an override, which is removed.
-    fn removed_embedding(&mut self, right_to_left: bool, direction: Option<bool>) -> Result<Option<Kept>, OutOfMemory>
+    fn removed_embedding(
+        &mut self,
+        right_to_left: bool,
+        direction: Option<bool>,
+    ) -> Result<Option<Kept>, OutOfMemory>
         requires base { self.old.base ≤ 125 }
         requires embeddings { self.old.overflow_embeddings + 1 < 2 ^ 64 }
         ensures kept { IfOk result (λ k. k ≡ None) }

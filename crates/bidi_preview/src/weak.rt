@@ -2,7 +2,8 @@
 ghost use Rattle.std.specs.Prelude.{◌≡◌, ◌<◌, ◌∷◌, map, length, drop};
 ghost use Rattle.bidi_order.specs.Resolve.{nonspacing_class, separator_class, weak_types, w1, w2, w3, w4, w5, w6, w7};
 ghost use Rattle.bidi_preview.specs.WeakSteps.{following_class, following_terminators, leading_class};
-ghost use Rattle.bidi_preview.specs.WeakSteps.{leading_terminators, side_after, strong_after, w1_class, w2_class, w7_class};
+ghost use Rattle.bidi_preview.specs.WeakSteps.{leading_terminators, side_after, strong_after, w1_class, w2_class};
+ghost use Rattle.bidi_preview.specs.WeakSteps.{w7_class};
 
 use bidi_class::Class;
 

@@ -11,15 +11,18 @@ returns-then-len-eq-OPEN_BRACKETS c = full_items c.args.classes.now c.args.brack
     c.in-Some-Opens.closing (sym c.neutral_bracket.ensures ∙ (cc)) (omega arith)
 
 pub bounds-partners-first : goal.bounds-partners-first
-bounds-partners-first c = omega (arith, read_first c.args.classes.now c.args.brackets.now c.args.index
-    (reverse c.args.opened.now.items) c.args.partners.now ON None c.requires.within c.requires.long c.requires.so_far
-    c.in-Some-Closes.closing c.in-Some.first _ c.in-Some.ensures)
+bounds-partners-first c = omega (
+  arith,
+  read_first c.args.classes.now c.args.brackets.now c.args.index
+      (reverse c.args.opened.now.items) c.args.partners.now ON None c.requires.within c.requires.long c.requires.so_far
+      c.in-Some-Closes.closing c.in-Some.first _ c.in-Some.ensures,
+)
 
 pub offset_bounds-partners-first : goal.offset_bounds-partners-first
 offset_bounds-partners-first c =
     let below : c.in-Some.first < c.args.index = read_first c.args.classes.now c.args.brackets.now c.args.index
-        (reverse c.args.opened.now.items) c.args.partners.now ON None c.requires.within c.requires.long
-        c.requires.so_far c.in-Some-Closes.closing c.in-Some.first _ c.in-Some.ensures in
+    (reverse c.args.opened.now.items) c.args.partners.now ON None c.requires.within c.requires.long
+    c.requires.so_far c.in-Some-Closes.closing c.in-Some.first _ c.in-Some.ensures in
     let within : c.in-Some.first < length c.args.partners.now = omega arith in
     first_of (search rules, omega arith, grind (arith, common_steps))
 

@@ -9,8 +9,8 @@ pub returns-in-Some : goal.returns-in-Some
 returns-in-Some c =
     let is : c.index-line-index.result ≡ Some c.in-Some.k = cc in
     let here : character_at c.args.line.now c.args.index ≡ Some c.in-Some.k =
-        here_is c.args.line.now c.args.index c.index-line-index.result _ c.in-Some.k c.requires.within
-        c.index-line-index.is is in
+    here_is c.args.line.now c.args.index c.index-line-index.result _ c.in-Some.k c.requires.within
+    c.index-line-index.is is in
     subst (λ n. ResolvedUpTo c.args.base c.args.line.now (c.args.index + 1) n c.resolve_from.new.levels)
     (sym c.level-level.ensures.value)
     (up_new c.args.base c.args.line.now c.args.index c.args.before c.args.levels.now c.requires.so_far c.in-Some.k

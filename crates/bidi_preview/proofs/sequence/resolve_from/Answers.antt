@@ -10,8 +10,8 @@ pub returns-in_ok-resolved : goal.returns-in_ok-resolved
 returns-in_ok-resolved c =
     let is : c.index-line-first.result ≡ Some c.in-Some.k = cc in
     let here : character_at c.args.line.now c.args.first ≡ Some c.in-Some.k =
-        here_is c.args.line.now c.args.first c.index-line-first.result _ c.in-Some.k c.requires.within
-        c.index-line-first.is is in
+    here_is c.args.line.now c.args.first c.index-line-first.result _ c.in-Some.k c.requires.within
+    c.index-line-first.is is in
     writes c.args.base c.args.line.now c.requires.explicit c.args.first c.in-Some.k c.args.before
     c.in_ok-sequence.sequence.beside c.in_ok-sequence.sequence.indexes.items c.in_ok-sequence.sequence.classes.items
     c.in_ok-resolved.resolved.items c.in_ok-sequence.sequence.brackets.items c.args.levels.now

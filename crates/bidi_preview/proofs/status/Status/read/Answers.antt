@@ -10,9 +10,9 @@ use Rattle.bidi_preview.proofs.status.Status.read.Goals as goal
 pub returns-in_default : goal.returns-in_default
 returns-in_default c =
     let p : IsPlain c.args.class (bidi_class c.args.c) =
-        plain c.args.class (bidi_class c.args.c) c.in_default.not-BN c.in_default.not-LRE c.in_default.not-LRO
-        c.in_default.not-RLE c.in_default.not-RLO c.in_default.not-PDF c.in_default.not-LRI c.in_default.not-FSI
-        c.in_default.not-RLI c.in_default.not-PDI c.requires.class in
+    plain c.args.class (bidi_class c.args.c) c.in_default.not-BN c.in_default.not-LRE c.in_default.not-LRO
+    c.in_default.not-RLE c.in_default.not-RLO c.in_default.not-PDF c.in_default.not-LRI c.in_default.not-FSI
+    c.in_default.not-RLI c.in_default.not-PDI c.requires.class in
     record {
       kept = c.kept-in_default.ensures
           ∙ ap (kept_character (top_entry (view_status c.args.self.now)) Neither c.args.class) c.bracket_of.ensures
