@@ -1,6 +1,7 @@
 #!/usr/bin/env node
-// Types keys into the body of examples/shop and prints the milliseconds from a key to the pages in both languages being
-// made, and to the first of them being loaded in its frame. Asserts nothing. Needs Debian's nodejs and chromium.
+// Types keys into the body of examples/shop and prints the milliseconds from a key until the first page is made and put
+// into its frame, until both pages are, and until the first is loaded there. Asserts nothing. Needs Debian's nodejs and
+// chromium.
 import { dirname } from "node:path";
 import { fileURLToPath } from "node:url";
 import { chromium } from "./chromium.mjs";
@@ -14,12 +15,14 @@ await value(`new Promise((done) => {
   look();
 })`);
 await value(`{
+  window.first = [];
   window.made = [];
   window.loaded = [];
   let begun = 0, wait;
   document.addEventListener("keydown", (event) => (begun = event.timeStamp), true);
   pages[0].parts.frame.addEventListener("load", () => {
     loaded.push(performance.now() - begun);
+    first.push(Number(document.documentElement.dataset.first));
     made.push(Number(document.documentElement.dataset.milliseconds));
     wait?.();
   });
@@ -37,7 +40,7 @@ for (let key = 0; key < KEYS; key++) {
   await ask("Input.dispatchKeyEvent", { type: "keyUp", key: "x", code: "KeyX" });
   await next;
 }
-for (const name of ["made", "loaded"]) {
+for (const name of ["first", "made", "loaded"]) {
   const times = (await value(name)).sort((a, b) => a - b);
   const at = (part) => times[Math.min(times.length - 1, Math.floor(part * times.length))].toFixed(1);
   const said = `least ${at(0)} ms, half within ${at(0.5)}, 95 of 100 within ${at(0.95)}, most ${at(1)}`;
