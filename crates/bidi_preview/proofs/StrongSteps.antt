@@ -25,31 +25,34 @@ w7_step L EN cs = refl
 w7_step strong EN cs = refl
 w7_step strong c cs = refl
 
--- the rules in place
+-- a rule that goes by what it remembers, in place: one step of it is one character of the list
+module _
+    (rule : Class → List Class → List Class)
+    (becomes remembers : Class → Class → Class)
+    (step : (strong c : Class) (cs : List Class) → rule strong (c ∷ cs) ≡ becomes c strong ∷ rule (remembers strong c) cs)
+  where
+    in_place : (strong after : Class) (xs : List Class) (i : ℕ) (d v : Class) (whole : List Class) → i < length xs
+        → v ≡ becomes (get_or xs i d) strong → after ≡ remembers strong (get_or xs i d)
+        → take i xs ++ rule strong (drop i xs) ≡ whole
+        → take (i + 1) (set xs i v) ++ rule after (drop (i + 1) (set xs i v)) ≡ whole
+    in_place strong after xs i d v whole h is to so_far =
+        let x : Class = get_or xs i d in
+        let rest : List Class = drop (i + 1) xs in
+        ap (λ l. l ++ rule after (drop (i + 1) (set xs i v))) (take_more_set xs i v h)
+        ∙ ap (λ l. (take i xs ++ v ∷ []) ++ rule after l) (drop-set-lt (i + 1) xs i v (omega arith))
+        ∙ append_assoc (take i xs) (v ∷ []) (rule after rest)
+        ∙ ap (λ u. take i xs ++ u ∷ rule after rest) is ∙ ap (λ t. take i xs ++ becomes x strong ∷ rule t rest) to
+        ∙ ap (λ l. take i xs ++ l) (sym (step strong x rest))
+        ∙ ap (λ l. take i xs ++ rule strong l) (sym (drop_more xs i d h)) ∙ so_far
+
 pub w2_in_place : (strong after : Class) (xs : List Class) (i : ℕ) (d v : Class) (whole : List Class) → i < length xs
     → v ≡ w2_class (get_or xs i d) strong → after ≡ strong_after strong (get_or xs i d)
     → take i xs ++ w2 strong (drop i xs) ≡ whole
     → take (i + 1) (set xs i v) ++ w2 after (drop (i + 1) (set xs i v)) ≡ whole
-w2_in_place strong after xs i d v whole h is to so_far =
-    let x : Class = get_or xs i d in
-    let rest : List Class = drop (i + 1) xs in
-    ap (λ l. l ++ w2 after (drop (i + 1) (set xs i v))) (take_more_set xs i v h)
-    ∙ ap (λ l. (take i xs ++ v ∷ []) ++ w2 after l) (drop-set-lt (i + 1) xs i v (omega arith))
-    ∙ append_assoc (take i xs) (v ∷ []) (w2 after rest)
-    ∙ ap (λ u. take i xs ++ u ∷ w2 after rest) is ∙ ap (λ t. take i xs ++ w2_class x strong ∷ w2 t rest) to
-    ∙ ap (λ l. take i xs ++ l) (sym (w2_step strong x rest))
-    ∙ ap (λ l. take i xs ++ w2 strong l) (sym (drop_more xs i d h)) ∙ so_far
+w2_in_place = in_place w2 w2_class strong_after w2_step
 
 pub w7_in_place : (strong after : Class) (xs : List Class) (i : ℕ) (d v : Class) (whole : List Class) → i < length xs
     → v ≡ w7_class (get_or xs i d) strong → after ≡ side_after strong (get_or xs i d)
     → take i xs ++ w7 strong (drop i xs) ≡ whole
     → take (i + 1) (set xs i v) ++ w7 after (drop (i + 1) (set xs i v)) ≡ whole
-w7_in_place strong after xs i d v whole h is to so_far =
-    let x : Class = get_or xs i d in
-    let rest : List Class = drop (i + 1) xs in
-    ap (λ l. l ++ w7 after (drop (i + 1) (set xs i v))) (take_more_set xs i v h)
-    ∙ ap (λ l. (take i xs ++ v ∷ []) ++ w7 after l) (drop-set-lt (i + 1) xs i v (omega arith))
-    ∙ append_assoc (take i xs) (v ∷ []) (w7 after rest)
-    ∙ ap (λ u. take i xs ++ u ∷ w7 after rest) is ∙ ap (λ t. take i xs ++ w7_class x strong ∷ w7 t rest) to
-    ∙ ap (λ l. take i xs ++ l) (sym (w7_step strong x rest))
-    ∙ ap (λ l. take i xs ++ w7 strong l) (sym (drop_more xs i d h)) ∙ so_far
+w7_in_place = in_place w7 w7_class side_after w7_step

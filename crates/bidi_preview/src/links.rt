@@ -8,7 +8,7 @@ use soy_base::{OutOfMemory, Stack};
 use std::alloc::Global;
 
 /// For each initiator the index of the PDI that matches it, if one does. The line is read from its end on, and the PDIs
-/// that wait for an initiator stand on a stack.
+/// that wait for an initiator are kept on a stack.
 #[tactic(auto, using(crate::proofs::Waiting::matched_start, crate::proofs::Waiting::matched_end))]
 pub(crate) fn match_isolates(
     alloc: Global,
