@@ -9,7 +9,7 @@ ghost use Rattle.bidi_order.specs.Resolve.{last_direction, matching_opening, n0,
 ghost use Rattle.bidi_order.specs.Resolve.{pairs_in_order, set_bracket};
 ghost use Rattle.bidi_preview.specs.NeutralSteps.{PairsSoFar, SearchGoesOn, counting_brackets, listed_pairs};
 
-use crate::absent::no_indexes;
+use crate::absent::unknown;
 use bidi_class::{Bracket, Class};
 use soy_base::OutOfMemory;
 use std::alloc::Global;
@@ -29,7 +29,7 @@ pub(crate) fn find_pairs(
         ≡ pairs_in_order (bracket_pairs_from 0 [] (counting_brackets classes.now brackets.now))) }
     ensures long { IfOk result (λ partners. length partners.items ≡ length classes.now) }
 {
-    let mut partners = no_indexes(alloc, classes.len())?;
+    let mut partners = unknown(alloc, classes.len())?;
     let mut opened = Vec::new(alloc);
     for index in 0..classes.len() {
         if !read_bracket(classes, brackets, index, &mut opened, &mut partners)? {

@@ -2,7 +2,7 @@
 ghost use Rattle.std.specs.Prelude.{◌+◌, ◌<◌, IfOk, OnOk, length};
 ghost use Rattle.bidi_preview.specs.SequenceSteps.{HasEnds, MatchedFrom};
 
-use crate::absent::no_indexes;
+use crate::absent::unknown;
 use crate::kept::{Kept, Role};
 use soy_base::{OutOfMemory, Stack};
 use std::alloc::Global;
@@ -16,7 +16,7 @@ pub(crate) fn match_isolates(
 ) -> Result<Vec<Option<usize>>, OutOfMemory>
     ensures { IfOk result (λ ends. HasEnds line.now ends.items) }
 {
-    let mut ends = no_indexes(alloc, line.len())?;
+    let mut ends = unknown(alloc, line.len())?;
     let mut waiting = Stack::empty(alloc);
     let mut index = line.len();
     while index > 0 {

@@ -9,7 +9,7 @@ ghost use Rattle.bidi_preview.specs.SequenceSteps.{BeginsSequence, BoundsEnd, Ch
 ghost use Rattle.bidi_preview.specs.SequenceSteps.{ReadSoFar, ResolvedUpTo, WritesSequence, bracket_at, class_at};
 ghost use Rattle.bidi_preview.specs.SequenceSteps.{view_next, written};
 
-use crate::absent::no_levels;
+use crate::absent::unknown;
 use crate::kept::Kept;
 use crate::links::match_isolates;
 use crate::neutral::implicit;
@@ -188,7 +188,7 @@ pub(crate) fn resolve_line(
     ensures { IfOk result (λ levels. levels.items ≡ resolved_levels_from base [] line.now) }
 {
     let ends = match_isolates(alloc, line)?;
-    let mut levels = no_levels(alloc, line.len())?;
+    let mut levels = unknown(alloc, line.len())?;
     let mut before = base;
     for index in 0..line.len() {
         before = resolve_at(alloc, base, line, &ends, index, before, &mut levels)?;

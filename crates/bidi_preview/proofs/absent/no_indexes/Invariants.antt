@@ -1,6 +1,0 @@
-use Rattle.std.proofs.Common.{◌≡◌, None}
-use Rattle.std.proofs.Math.ListN.{replicate}
-use Rattle.bidi_preview.proofs.absent.no_indexes.Given as goal
-
-abbrev pub invariant-loop-index : goal.invariant-loop-index
-invariant-loop-index l = l.absent.items ≡ replicate l.index None
