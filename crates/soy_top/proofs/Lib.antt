@@ -22,3 +22,7 @@ pub mod PageParts
 pub mod Rendering
 pub mod AnsweredTexts
 pub mod Options
+pub mod PlayedDesk
+pub mod PlayChecks
+pub mod ScriptTexts
+pub mod StepsAlike
