@@ -28,11 +28,10 @@ use Rattle.soy_front.specs.declared.fault.FrontFault.{FrontFault}
 use Rattle.soy_front.proofs.DataFits.{having_fit, params_are, read_have}
 use Rattle.soy_front.proofs.EntryNumbers.{entry_declared}
 use Rattle.soy_front.proofs.FilesLaws.{read_as}
-use Rattle.soy_meaning.specs.AcceptedTrees.{walk_trees}
 use Rattle.soy_meaning.specs.Outcome.{GivesPiece, Outcome, RunEnds, Spent, end_of_outcome, pieces_of_outcome}
 use Rattle.soy_meaning.specs.Pieces.{template_run}
+use Rattle.soy_meaning.specs.TypedData.{FitsData}
 use Rattle.soy_meaning.specs.Walk.{WalkFault, Walked}
-use Rattle.html_context.specs.ChosenTranslation.{chosen_translation}
 use Rattle.soy_top.specs.declared.ending.Ending.TheVariants as ending
 use Rattle.soy_top.specs.declared.play.Play.{Play}
 use Rattle.soy_top.specs.declared.play.StepFault.{StepFault}
@@ -96,6 +95,19 @@ same_left o p same =
     end_solid o ∙ (ap (λ t. t.1) same ∙ sym (end_solid p)) in
     λ i. record { begun = []; pieces = pieces i; end = end i }
 
+-- **a program that files are compiled to gives at first what the template gives**
+pub compiled_left : (contents : List (List ℕ)) (bundle : Option (List ℕ)) (c : Compiled)
+    (are : AreCompiled contents bundle c) (number : ℕ) (d : Declared)
+    → slice_get (declared (view_trees c.typed)) number ≡ Some d → (v : Value)
+    → FitsData d (input_env (names_of d.template.params) v)
+    → program_left c.program number v ≡ first_left (template_outcome are.of d v)
+compiled_left contents bundle c are number d found v fits =
+    same_left (run (view_program c.program) number v) (template_outcome are.of d v)
+    (are.gives number d found v fits
+    ∙ ap (λ (xs : List Declared). pieces_end_costs (template_run (language_context (language_of are.of.language) xs) d
+    (input_env (names_of d.template.params) v)))
+    (sym (ap (λ (f : ReadFiles). declared (view_trees f.trees)) are.files)))
+
 -- ---- files that are accepted are read
 
 by_walk : (files : ReadFiles) (language : Bundle) (r : Result (Walked State) WalkFault) (of : Front)
@@ -106,7 +118,7 @@ by_walk files language (Err fault) of is = cc
 by_language : (bundle : Option (List ℕ)) (files : ReadFiles) (either : LanguageOrFault bundle files.rows) (of : Front)
     → language_answer bundle files either ≡ Ok of → files ≡ of.files
 by_language bundle files (inl brought) of is =
-    by_walk files brought.0 (walk_trees (chosen_translation brought.0.messages) (view_trees files.trees)) of is
+    by_walk files brought.0 _ of is
 by_language bundle files (inr refused) of is = cc
 
 by_files : (bundle : Option (List ℕ)) (r : Result ReadFiles Fault) (of : Front) → answer_by_files bundle r ≡ Ok of
@@ -148,9 +160,6 @@ module _ (contents : List (List ℕ)) (bundle other_bundle : Option (List ℕ)) 
       ap (λ (f : ReadFiles). declared (view_trees f.trees)) are.files
       ∙ ap (λ (ts : List code_tree.Tree). declared (view_trees ts)) same_typed
 
-  templates_other : declared (view_trees are_other.of.files.trees) ≡ ds
-  templates_other = ap (λ (f : ReadFiles). declared (view_trees f.trees)) are_other.files
-
   entry_is : (name : Name) → play_entry play name ≡ entry_number name ds
   entry_is name =
       ap (λ (p : ProgramParts). position (is_entry_routine name) p.templates) first_is
@@ -171,26 +180,20 @@ module _ (contents : List (List ℕ)) (bundle other_bundle : Option (List ℕ)) 
 
   module _ (number : ℕ) (d : Declared) (found : slice_get ds number ≡ Some d) (json : List ℕ) (v : Value)
       (read : data_at d.template.params json ≡ Ok v) (short : HasShortLists v) where
+    fits : FitsData d (input_env (names_of d.template.params) v)
     fits = having_fit d v (read_have (view_trees other.typed) number d json v are_files.demands found read) short
 
     first_gives : program_left play.first.value number v ≡ first_left (template_outcome are.of d v)
     first_gives =
         ap (λ (p : ProgramParts). program_left p number v) first_is
-        ∙ same_left (run (view_program one.program) number v) (template_outcome are.of d v)
-        (are.gives number d (subst (λ (ts : List code_tree.Tree). slice_get (declared (view_trees ts)) number ≡ Some d)
-        (sym same_typed) found) v fits
-        ∙ ap (λ (xs : List Declared). pieces_end_costs (template_run (language_context (language_of are.of.language) xs)
-        d (input_env (names_of d.template.params) v)))
-        (ap (λ (ts : List code_tree.Tree). declared (view_trees ts)) same_typed ∙ sym templates_one))
+        ∙ compiled_left contents bundle one are number d
+        (subst (λ (ts : List code_tree.Tree). slice_get (declared (view_trees ts)) number ≡ Some d) (sym same_typed)
+        found) v fits
 
     second_gives : program_left play.second.value number v ≡ first_left (template_outcome are_other.of d v)
     second_gives =
         ap (λ (p : ProgramParts). program_left p number v) second_is
-        ∙ same_left (run (view_program other.program) number v) (template_outcome are_other.of d v)
-        (are_other.gives number d found v fits
-        ∙ ap (λ (xs : List Declared). pieces_end_costs
-        (template_run (language_context (language_of are_other.of.language) xs) d
-        (input_env (names_of d.template.params) v))) (sym templates_other))
+        ∙ compiled_left contents other_bundle other are_other number d found v fits
 
     opens_is : play_opens play number v ≡ opens_of are.of are_other.of d v
     opens_is = λ i. Opens (first_gives i) (second_gives i)
