@@ -23,6 +23,7 @@ pub mod Rendering
 pub mod AnsweredTexts
 pub mod Options
 pub mod PlayedDesk
+pub mod PlayedLines
 pub mod PlayChecks
 pub mod ScriptTexts
 pub mod StepsAlike

@@ -11,7 +11,7 @@ use Rattle.soy_base.specs.declared.memory.Refusal.{Refusal}
 use Rattle.soy_base.specs.declared.memory.Refusal.TheVariants as refusal
 use Rattle.render_core.specs.Rest.{Rest, piece_bytes}
 use Rattle.soy_desk.specs.Alone.{Left, left_of}
-use Rattle.soy_desk.specs.DeskRun as desk
+use Rattle.soy_desk.specs.DeskRun as desk_run
 use Rattle.soy_desk.specs.DeskRun.{CloseStep, DeskAnswer, DeskRun, OpenStep, PullCall, PullStep, PullsNamed, PullsNone}
 use Rattle.soy_desk.specs.DeskRun.{RenderingAnswer, Step, StepsTo, answered}
 use Rattle.soy_desk.specs.DeskState.{DeskState, Entry, desk_with, entry_named, first_entry, first_rest, pulled_entry}
@@ -407,15 +407,15 @@ module _ (first second : ProgramParts) where
     -- **the line that a desk shows for a step is the one that is written, and the states go together**
     pub step_alike : (p : PlayStep) (s : Step) (line : List ℕ) → Shows first second p s line → StepsTo before s after
         → Alike after line (show_step state p)
-    step_alike (Opens one other) (desk.Open input template answer) line shows step =
+    step_alike (Opens one other) (desk_run.Open input template answer) line shows step =
         open_alike one other input template answer line shows.0 shows.1 step
-    step_alike (Pulls name count) (desk.Pull other c) line shows step =
+    step_alike (Pulls name count) (desk_run.Pull other c) line shows step =
         pull_alike name count c c.answer line shows.1 shows.2
         (subst (λ (m : ℕ). PullStep before m c c.answer after) shows.0 step)
-    step_alike (Closes name) (desk.Close other answer) line shows step =
+    step_alike (Closes name) (desk_run.Close other answer) line shows step =
         close_alike name answer line shows.1
         (subst (λ (m : ℕ). CloseStep before m answer after) shows.0 step)
-    step_alike (Publishes bundle) (desk.Publish program) line shows step = (
+    step_alike (Publishes bundle) (desk_run.Publish program) line shows step = (
       shows.1,
       subst (λ (d : DeskState). Stands d (record state { published = bundle })) (sym step) (record {
         pages = stands.pages;
@@ -424,18 +424,18 @@ module _ (first second : ProgramParts) where
         settled = stands.settled;
       }),
     )
-    step_alike (Opens one other) (desk.Pull name c) line shows step = absurd shows
-    step_alike (Opens one other) (desk.Close name answer) line shows step = absurd shows
-    step_alike (Opens one other) (desk.Publish program) line shows step = absurd shows
-    step_alike (Pulls name count) (desk.Open input template answer) line shows step = absurd shows
-    step_alike (Pulls name count) (desk.Close other answer) line shows step = absurd shows
-    step_alike (Pulls name count) (desk.Publish program) line shows step = absurd shows
-    step_alike (Closes name) (desk.Open input template answer) line shows step = absurd shows
-    step_alike (Closes name) (desk.Pull other c) line shows step = absurd shows
-    step_alike (Closes name) (desk.Publish program) line shows step = absurd shows
-    step_alike (Publishes bundle) (desk.Open input template answer) line shows step = absurd shows
-    step_alike (Publishes bundle) (desk.Pull name c) line shows step = absurd shows
-    step_alike (Publishes bundle) (desk.Close name answer) line shows step = absurd shows
+    step_alike (Opens one other) (desk_run.Pull name c) line shows step = absurd shows
+    step_alike (Opens one other) (desk_run.Close name answer) line shows step = absurd shows
+    step_alike (Opens one other) (desk_run.Publish program) line shows step = absurd shows
+    step_alike (Pulls name count) (desk_run.Open input template answer) line shows step = absurd shows
+    step_alike (Pulls name count) (desk_run.Close other answer) line shows step = absurd shows
+    step_alike (Pulls name count) (desk_run.Publish program) line shows step = absurd shows
+    step_alike (Closes name) (desk_run.Open input template answer) line shows step = absurd shows
+    step_alike (Closes name) (desk_run.Pull other c) line shows step = absurd shows
+    step_alike (Closes name) (desk_run.Publish program) line shows step = absurd shows
+    step_alike (Publishes bundle) (desk_run.Open input template answer) line shows step = absurd shows
+    step_alike (Publishes bundle) (desk_run.Pull name c) line shows step = absurd shows
+    step_alike (Publishes bundle) (desk_run.Close name answer) line shows step = absurd shows
 
   -- ---- all steps
 

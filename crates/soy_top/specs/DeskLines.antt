@@ -9,7 +9,7 @@ use Rattle.soy_base.specs.declared.code.Code.{Code}
 use Rattle.soy_base.specs.declared.memory.Refusal.{Refusal}
 use Rattle.soy_base.specs.declared.memory.Refusal.TheVariants.{Because, OutOfMemory}
 use Rattle.soy_desk.specs.Alone.{Left, left_of}
-use Rattle.soy_desk.specs.DeskRun as desk
+use Rattle.soy_desk.specs.DeskRun as desk_run
 use Rattle.soy_desk.specs.DeskRun.{DeskAnswer, PullCall, Step, StepsTo}
 use Rattle.soy_desk.specs.DeskState.{DeskState, first_rest}
 use Rattle.soy_desk.specs.declared.fault.DeskFault.TheVariants as fault
@@ -49,12 +49,12 @@ module _ (first second : ProgramParts) where
 
   -- **the step of a script stands for this step of a desk, which shows this line**
   abbrev pub Shows : PlayStep → Step → List ℕ → Type 0
-  Shows (Opens one other) (desk.Open input template answer) line =
+  Shows (Opens one other) (desk_run.Open input template answer) line =
       OpensAs one other input template × OpenShows answer line
-  Shows (Pulls name count) (desk.Pull other c) line =
+  Shows (Pulls name count) (desk_run.Pull other c) line =
       (other ≡ name) × (length c.room ≡ count) × PullShows name c.room_after c.answer line
-  Shows (Closes name) (desk.Close other answer) line = (other ≡ name) × CloseShows name answer line
-  Shows (Publishes bundle) (desk.Publish program) line =
+  Shows (Closes name) (desk_run.Close other answer) line = (other ≡ name) × CloseShows name answer line
+  Shows (Publishes bundle) (desk_run.Publish program) line =
       (program ≡ program_of bundle) × (line ≡ named_line (codes "published") (bundle_number bundle))
   Shows _ _ line = ⊥
 

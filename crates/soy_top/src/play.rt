@@ -137,6 +137,8 @@ impl Play<'_> {
         ensures later { K.faults out.old ≤ K.faults out.new }
         ensures failed { IfErr result (λ fault. PutRose fault (K.faults out.old) (K.faults out.new)) }
     {
+        // Openings are no more than lines, and these no more than bytes, whose number has a successor.
+        let _bytes = self.script.len();
         let mut desk = desk;
         let mut room = Vec::new(alloc);
         let mut steps = Steps::<L>::new(blank);
@@ -164,6 +166,7 @@ impl Play<'_> {
         steps: &mut Steps<L>,
         line: Option<ScriptLine<'_>>,
     ) -> Result<String, OutOfMemory>
+        requires { desk.old.opened < u64.MAX }
         ensures { IfOk result (λ text.
             PlaysLine self.now (option_map view_line line.entry) desk.old desk.new (string_bytes text)) }
     {
@@ -184,14 +187,11 @@ impl Play<'_> {
         template: &str,
         json: &str,
     ) -> Result<String, OutOfMemory>
+        requires { desk.old.opened < u64.MAX }
         ensures { IfOk result (λ text.
             PlaysLine self.now (Some (Open (chars template.now) (chars json.now))) desk.old desk.new
             (string_bytes text)) }
     {
-        // There are fewer lines than names.
-        if desk.opened() == u64::MAX {
-            return Err(OutOfMemory);
-        }
         match self.read_open(alloc, template, json) {
             Ok((number, input)) => match desk.open(input, number) {
                 Ok(name) => named_line(alloc, "opened", name),
