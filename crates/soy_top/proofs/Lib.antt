@@ -3,6 +3,7 @@ pub mod CanonicalTexts
 pub mod Courses
 pub mod Fetching
 pub mod FewFiles
+pub mod CheckedLines
 pub mod FormatRefusals
 pub mod KeyTexts
 pub mod LastContents
