@@ -32,6 +32,8 @@ mod messages;
 #[cfg(test)]
 mod places;
 #[cfg(test)]
+mod plays;
+#[cfg(test)]
 mod plurals;
 #[cfg(test)]
 mod prints;

@@ -130,7 +130,7 @@ const WORDS: &[Row] = &[
         FILES,
         Status::Refused,
         "",
-        "play: 30 NotYet\n",
+        "d.json:1:1: 32 Step\n",
     ),
     (
         "preview of one",

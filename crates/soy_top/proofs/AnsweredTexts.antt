@@ -2,10 +2,12 @@
 -- canonical source are.
 use Rattle.std.proofs.Common.{◌≡◌, ◌≤◌, ℕ, Bool, true, false, cond, List, [], ◌∷◌, ◌++◌, length, map, Option}
 use Rattle.std.proofs.Common.{Some, None, refl, sym, ap, ◌∙◌, codes, inl, inr}
-use Rattle.std.specs.Prelude.{is_some, unwrap_or, nat_lt, Result, Ok, Err}
+use Rattle.std.specs.Prelude.{encode_utf8_all, is_some, unwrap_or, nat_lt, Result, Ok, Err}
 use Rattle.std.specs.Option.{option_map_or}
 use Rattle.std.proofs.lemmas.Bool.{le-ltb}
 use Rattle.std.proofs.lemmas.Slice.Eq.{bytes_eq-Decides}
+use Rattle.std.proofs.lemmas.Str.{is_utf8-from_IsUtf8}
+use Rattle.std.specs.Str.{chars, is_utf8}
 use Rattle.ir_build.specs.ViewScene.{language_of}
 use Rattle.msg_bundle.specs.BundlesAlike.{BundlesAlike}
 use Rattle.serde_json.specs.Data.{Data}
@@ -32,30 +34,37 @@ use Rattle.soy_top.specs.Answer.{Answer, Done, PageAnswer, Read, Refused, TooDee
 use Rattle.soy_top.specs.Answer.{answer, asked_answer, bundled_answer, call_fault, catalogue_answer, contents_answer}
 use Rattle.soy_top.specs.Answer.{data_answer, ended_page, entry_answer, entry_of, inputs_answer, limits_answer}
 use Rattle.soy_top.specs.Answer.{page_answer, render_answer, run_text, summed_page, template_outcome}
+use Rattle.soy_top.specs.Answer.{open_of, opens_of, params_of, play_answer, steps_answer, steps_of, utf8_fault}
 use Rattle.soy_top.specs.Answer.{unless_faulty, unless_refused, workload_answer}
-use Rattle.soy_top.specs.Asked.{Asked, Check, Extract, Format, Gen, Render, asked_by_words}
+use Rattle.soy_top.specs.Asked.{Asked, Check, Extract, Format, Gen, Play, Render, asked_by_words}
 use Rattle.soy_top.specs.FilesWanted.{FileWanted, asked_files, bundle_files, content, contents, data_file}
 use Rattle.soy_top.specs.FilesWanted.{first_not_held, first_over_limit, is_source_language, source_file}
 use Rattle.soy_top.specs.Generated.{workload_entry, workload_files, workload_json, workload_names}
 use Rattle.soy_top.specs.HoldsInputs.{HoldsBundle, HoldsData}
-use Rattle.soy_top.specs.Inputs.{bundle_content, but_last, last}
+use Rattle.soy_top.specs.Inputs.{bundle_content, but_last, last, second_number}
 use Rattle.soy_top.specs.IsCatalogue.{IsCatalogue}
 use Rattle.soy_top.specs.IsChecked.{IsChecked}
 use Rattle.soy_top.specs.IsFormatted.{IsFormatted}
 use Rattle.soy_top.specs.IsGenerated.{IsGenerated, IsSummary}
 use Rattle.soy_top.specs.IsPage.{IsPage, IsRefusedPage, IsStoppedPage}
 use Rattle.soy_top.specs.IsPage.IsRefusedPage.{NoJson, NoTemplate, NoValues}
+use Rattle.soy_top.specs.IsPlayed.{AcceptedPlay, IsPlayed}
 use Rattle.soy_top.specs.IsText.{IsText}
-use Rattle.soy_top.specs.IsText.IsText.{Catalogue, Checked, Formatted, Generated, Page}
-use Rattle.soy_top.specs.Line.{entry_line, too_large_line}
+use Rattle.soy_top.specs.IsText.IsText.{Catalogue, Checked, Formatted, Generated, Page, Played}
+use Rattle.soy_top.specs.Line.{entry_line, fault_line, too_large_line}
 use Rattle.soy_top.specs.MadeBundle.{bundle_text}
 use Rattle.soy_top.specs.Numbered.{numbered, numbered_line}
+use Rattle.soy_top.specs.Played.{PlayStep, Opens, first_left}
 use Rattle.soy_top.specs.Pointer.{pointer_line}
+use Rattle.soy_top.specs.Script.{script_lines}
+use Rattle.soy_top.specs.ScriptSteps.{open_entry, open_step, opening, read_values}
 use Rattle.soy_top.specs.Words.{Word}
 use Rattle.soy_top.proofs.CanonicalTexts.{tree_answered, tree_within}
-use Rattle.soy_top.proofs.SpelledWords.{check_asks, extract_asks, format_asks, gen_asks, render_asks}
-use Rattle.soy_top.proofs.Texts.{before_named, last_named}
+use Rattle.soy_top.proofs.SpelledWords.{check_asks, extract_asks, format_asks, gen_asks, play_asks, render_asks}
+use Rattle.soy_top.proofs.StepsAlike.{steps_same}
+use Rattle.soy_top.proofs.Texts.{before_named, first_bundle, last_named, play_all, play_before, second_bundle}
 use Rattle.soy_tree.specs.Templates.{Declared, declared}
+use Rattle.soy_tree.specs.Types.{Name}
 use Rattle.soy_tree.specs.Values.{Value}
 use Rattle.soy_tree.specs.ViewTrees.{view_trees}
 use Rattle.soy_types.specs.Paths.{Path}
@@ -447,6 +456,138 @@ generated_answered files words text g =
     ready_answer files words (Gen g.number) (gen_asks words g.number g.words_are) refl refl
     ∙ summary_answered (workload g.number) text g.is_summary
 
+-- ---- scripts
+
+-- the content of a bundle that is held
+content_is : (files : Files) (bundle : Word) (bytes : Option (List ℕ)) → HoldsBundle files bundle bytes
+    → cond (is_source_language bundle) None (Some (unwrap_or (file_of files bundle) [])) ≡ bytes
+content_is files bundle None held =
+    ap (λ b. cond b None (Some (unwrap_or (file_of files bundle) []))) (is_language files bundle held)
+content_is files bundle (Some bytes) held =
+    ap (λ b. cond b None (Some (unwrap_or (file_of files bundle) [])))
+    (no_language files bundle (is_source_language bundle) refl held.0)
+    ∙ ap Some (data_content files bundle bytes held.1)
+
+-- what files and bundles are accepted as, and what they deserve, have the same steps
+module _ (given of : Front) (files : given.files ≡ of.files) (language : BundlesAlike given.language of.language)
+    (given_other other : Front) (other_files : given_other.files ≡ other.files)
+    (other_language : BundlesAlike given_other.language other.language) where
+  opens_alike : (d : Declared) (v : Value) → opens_of given given_other d v ≡ opens_of of other d v
+  opens_alike d v = λ i. Opens (first_left (outcome_alike given of files language d v i))
+      (first_left (outcome_alike given_other other other_files other_language d v i))
+
+  abbrev given_step : Result (Declared × Value) Code → Result PlayStep Code
+  given_step = open_step (open_of given) params_of (opens_of given given_other)
+
+  abbrev deserved_step : Result (Declared × Value) Code → Result PlayStep Code
+  deserved_step = open_step (open_of of) params_of (opens_of of other)
+
+  values_alike : (d : Declared) (r : Result Value (Code × List PathStep))
+      → given_step (read_values (open_of given) params_of d r) ≡ deserved_step (read_values (open_of of) params_of d r)
+  values_alike d (Ok v) = ap Ok (opens_alike d v)
+  values_alike d (Err fault) = refl
+
+  opened_alike : (json : List ℕ) (o : Option Declared)
+      → given_step (open_entry (open_of given) params_of json o)
+      ≡ deserved_step (open_entry (open_of of) params_of json o)
+  opened_alike json None = refl
+  opened_alike json (Some d) = values_alike d (data_at d.template.params (encode_utf8_all json))
+
+  open_alike : (name : Name) (json : List ℕ)
+      → given_step (opening (open_of given) params_of name json)
+      ≡ deserved_step (opening (open_of of) params_of name json)
+  open_alike name json =
+      ap (λ (f : ReadFiles). given_step (open_entry (open_of given) params_of json
+      (open_of (record { files = f; language = given.language; walk = given.walk }) name))) files
+      ∙ opened_alike json (open_of of name)
+
+  steps_alike : (bytes : List ℕ) → steps_of given given_other bytes ≡ steps_of of other bytes
+  steps_alike bytes =
+      steps_same (open_of given) params_of (opens_of given given_other) (open_of of) params_of (opens_of of other)
+      open_alike 1 (script_lines (chars bytes))
+
+module _ (files : Files) (words : List Word) (p : AcceptedPlay files words) where
+  abbrev play_asked : Asked
+  play_asked = Play p.script p.first p.second p.names
+
+  abbrev play_files : List FileWanted
+  play_files = map source_file p.names
+
+  abbrev play_first : List FileWanted
+  play_first = play_before p.script p.first p.second p.names
+
+  play_ready : AreReady files play_files p.contents
+  play_ready =
+      sources_ready files p.names p.contents p.files_held.1
+      (trees_within p.contents p.of.files.trees p.deserved.files.have)
+
+  second_ready : BundleReady files p.second p.other_content play_files
+  second_ready =
+      bundle_ready files p.second p.other_content play_files p.second_held play_ready.held play_ready.within
+
+  first_ready : BundleReady files p.first p.content (bundle_files p.second ++ play_files)
+  first_ready =
+      bundle_ready files p.first p.content (bundle_files p.second ++ play_files) p.first_held second_ready.held
+      second_ready.within
+
+  play_inputs_are : contents_answer play_asked (contents files (asked_files play_asked))
+      ≡ inputs_answer play_asked (contents files play_first) p.contents
+  play_inputs_are =
+      ap (λ fs. contents_answer play_asked (contents files fs)) (sym (play_all p.script p.first p.second p.names))
+      ∙ (ap (λ x. inputs_answer play_asked x (last (length p.names) (contents files (play_first ++ play_files))))
+      (before_named files play_first p.names)
+      ∙ ap (inputs_answer play_asked (contents files play_first))
+      (last_named files play_first p.names ∙ play_ready.same))
+
+  -- the answer by what the files are accepted as under the second bundle
+  second_then : (given : Front)
+      → accepted_then p.names p.contents p.second p.other_content (play_answer p.script p.bytes given)
+      ≡ play_answer p.script p.bytes given (deserved_given p.contents p.other_content p.other p.other_deserved).given
+  second_then given =
+      ap (unless_refused p.names p.contents p.second (play_answer p.script p.bytes given))
+      (deserved_given p.contents p.other_content p.other p.other_deserved).answered
+
+  -- **the answer is that by what the inputs deserve**
+  play_is : answer files words ≡ play_answer p.script p.bytes p.of p.other
+  play_is =
+      let g = deserved_given p.contents p.content p.of p.deserved in
+      let h = deserved_given p.contents p.other_content p.other p.other_deserved in
+      let rest : List FileWanted = bundle_files p.first ++ (bundle_files p.second ++ play_files) in
+      ready_answer files words play_asked
+      (play_asks words p.script p.first p.second p.names p.words_are p.files_held.0)
+      (data_not_missing files p.script p.bytes rest p.script_held ∙ first_ready.held)
+      (data_not_large files p.script p.bytes rest p.script_held ∙ first_ready.within)
+      ∙ (play_inputs_are
+      ∙ (ap (λ bs. accepted_then p.names p.contents p.first (bundle_content p.first 1 (contents files play_first)) (λ of.
+      accepted_then p.names p.contents p.second
+      (bundle_content p.second (second_number p.first) (contents files play_first)) (play_answer p.script bs of)))
+      (data_content files p.script p.bytes p.script_held)
+      ∙ (ap (λ c. accepted_then p.names p.contents p.first c (λ of. accepted_then p.names p.contents p.second
+      (bundle_content p.second (second_number p.first) (contents files play_first))
+      (play_answer p.script p.bytes of)))
+      (first_bundle files p.script p.first p.second (is_source_language p.first) refl
+      ∙ content_is files p.first p.content p.first_held)
+      ∙ (ap (λ c. accepted_then p.names p.contents p.first p.content (λ of. accepted_then p.names p.contents p.second c
+      (play_answer p.script p.bytes of)))
+      (second_bundle files p.script p.first p.second (is_source_language p.first) (is_source_language p.second) refl refl
+      ∙ content_is files p.second p.other_content p.second_held)
+      ∙ (ap (unless_refused p.names p.contents p.first (λ of. accepted_then p.names p.contents p.second p.other_content
+      (play_answer p.script p.bytes of))) g.answered
+      ∙ (second_then g.given
+      ∙ ap (λ r. cond (is_utf8 p.bytes) (steps_answer p.script r)
+      (Refused (fault_line p.script p.bytes (utf8_fault p.bytes))))
+      (steps_alike g.given p.of g.files g.language h.given p.other h.files h.language p.bytes)))))))
+
+-- the lines of a script are the answer
+played_answered : (files : Files) (words : List Word) (text : List ℕ) → IsPlayed files words text
+    → answer files words ≡ Done text
+played_answered files words text p =
+    let bytes : List ℕ = p.play.bytes in
+    play_is files words p.play
+    ∙ (ap (λ b. cond b (steps_answer p.play.script (steps_of p.play.of p.play.other bytes))
+    (Refused (fault_line p.play.script bytes (utf8_fault bytes)))) (is_utf8-from_IsUtf8 bytes p.utf8)
+    ∙ (ap (steps_answer p.play.script) p.checked ∙ ap Done (sym p.text_is)))
+
 -- ---- canonical sources
 
 -- the canonical source of a file that has a tree is the answer
@@ -466,4 +607,5 @@ text_answered files words text (Page p) = page_answered files words text p
 text_answered files words text (Checked c) = checked_answered files words text c
 text_answered files words text (Catalogue c) = catalogue_answered files words text c
 text_answered files words text (Generated g) = generated_answered files words text g
+text_answered files words text (Played p) = played_answered files words text p
 text_answered files words text (Formatted f) = formatted_answered files words text f

@@ -1,8 +1,9 @@
 -- What is known of the answer from what the words ask for and from what was fetched.
 use Rattle.std.proofs.Common.{◌≡◌, ℕ, List, [], ◌∷◌, Option, Some, None, Err, length}
-use Rattle.std.proofs.Common.{refl, sym, ap, subst, ◌∙◌, codes, inl, inr, ◌⊎◌}
+use Rattle.std.proofs.Common.{refl, sym, ap, subst, ◌∙◌, codes, inl, inr, ◌⊎◌, cond, Bool, true, false}
 use Rattle.std.specs.Prelude.{IfSome, Result, Ok, option_map}
 use Rattle.std.specs.Option.{option_map_or}
+use Rattle.std.specs.Str.{is_utf8}
 use Rattle.soy_base.specs.declared.code.Code.{Code}
 use Rattle.soy_base.specs.declared.fault.Fault.{Fault}
 use Rattle.soy_base.specs.declared.path.PathStep.{PathStep}
@@ -25,6 +26,7 @@ use Rattle.soy_top.specs.declared.ending.Ending.{Ending}
 use Rattle.soy_top.specs.declared.ending.Ending.TheVariants as ending
 use Rattle.soy_top.specs.declared.output.Output.{Output}
 use Rattle.soy_top.specs.declared.page.Page.{Page}
+use Rattle.soy_top.specs.declared.play.StepFault.{StepFault}
 use Rattle.soy_top.specs.Accepts.{Accepts, AcceptsPage, Refuses}
 use Rattle.soy_top.specs.Answer.{Answer, Usage, Read, Refused, Done, not_yet, data_answer, ended_page, entry_answer}
 use Rattle.soy_top.specs.Answer.{PageAnswer, bundled_answer, entry_of, render_answer, run_text, summed_page}
@@ -32,6 +34,7 @@ use Rattle.soy_top.specs.Answer.{preview_answer, shown_of, template_outcome, uns
 use Rattle.soy_top.specs.Answer.{contents_answer, limits_answer, asked_answer, answer, known_answer}
 use Rattle.soy_top.specs.Answer.{accepted_text, accepted_then, catalogue_answer, inputs_answer, read_then}
 use Rattle.soy_top.specs.Answer.{front_line, tree_answer, unless_faulty, unless_refused}
+use Rattle.soy_top.specs.Answer.{play_answer, steps_answer, steps_of, utf8_fault}
 use Rattle.soy_top.specs.Asked.{Asked, Render, Check, Extract, Gen, Play, Preview, Format, asked_by_words}
 use Rattle.soy_top.specs.Asked.{source_files}
 use Rattle.soy_top.specs.Concludes.{MayEnd}
@@ -40,9 +43,10 @@ use Rattle.soy_top.specs.FilesWanted.{FileWanted, asked_files, wanted_files, fil
 use Rattle.soy_top.specs.FilesWanted.{first_over_limit, contents}
 use Rattle.soy_top.specs.Generated.{workload_entry, workload_files, workload_json, workload_names}
 use Rattle.soy_top.specs.Inputs.{bundle_content, but_last, last, second_number}
-use Rattle.soy_top.specs.Line.{ended, too_large_line}
+use Rattle.soy_top.specs.Line.{ended, fault_line, too_large_line}
 use Rattle.soy_top.specs.MadeBundle.{bundle_text}
 use Rattle.soy_top.specs.Numbered.{numbered}
+use Rattle.soy_top.specs.Played.{PlayStep}
 use Rattle.soy_top.specs.Words.{Word}
 use Rattle.soy_tree.specs.Templates.{Declared}
 use Rattle.soy_tree.specs.Values.{Value}
@@ -69,19 +73,21 @@ front_refused names files bundle content fault text first is answer = (
   is,
 )
 
--- what is answered by a second bundle, where a first one is accepted
-pub play_then : (names : List Word) (files : List (List ℕ)) (first second : Word)
-    (one one_seen other other_seen : Option (List ℕ)) (accepted : AcceptedFiles) (r : Result Output Ending)
-    → one ≡ one_seen → other ≡ other_seen → IsFront (front_answer files one) accepted
-    → Accepts (accepted_then names files second other (λ of. not_yet (codes "play"))) r
-    → Accepts (accepted_then names files first one_seen
-    (λ of. accepted_then names files second other_seen (λ of. not_yet (codes "play")))) r
-play_then names files first second one one_seen other other_seen accepted r same_one same_other is h =
-    subst (λ x. Accepts (accepted_then names files first x
-    (λ of. accepted_then names files second other_seen (λ of. not_yet (codes "play")))) r) same_one
-    (accepts_then names files first one accepted
-    (accepted_then names files second other_seen (λ of. not_yet (codes "play"))) r is
-    (subst (λ x. Accepts (accepted_then names files second x (λ of. not_yet (codes "play"))) r) same_other h))
+-- what is answered to a `play` whose script and bundles go by other names
+pub play_same : (names : List Word) (files : List (List ℕ)) (script first second : Word) (bytes bytes_seen : List ℕ)
+    (one one_seen other other_seen : Option (List ℕ)) (r : Result Output Ending) → bytes ≡ bytes_seen
+    → one ≡ one_seen → other ≡ other_seen
+    → Accepts (accepted_then names files first one (λ of.
+    accepted_then names files second other (play_answer script bytes of))) r
+    → Accepts (accepted_then names files first one_seen (λ of.
+    accepted_then names files second other_seen (play_answer script bytes_seen of))) r
+play_same names files script first second bytes bytes_seen one one_seen other other_seen r same same_one same_other h =
+    subst (λ x. Accepts (accepted_then names files first x (λ of.
+    accepted_then names files second other_seen (play_answer script bytes_seen of))) r) same_one
+    (subst (λ x. Accepts (accepted_then names files first one (λ of.
+    accepted_then names files second x (play_answer script bytes_seen of))) r) same_other
+    (subst (λ x. Accepts (accepted_then names files first one (λ of.
+    accepted_then names files second other (play_answer script x of))) r) same h))
 
 -- a page of a program, where files and a bundle are compiled
 pub page_then : (names : List Word) (files : List (List ℕ)) (bundle : Word) (content : Option (List ℕ)) (c : Compiled)
@@ -175,6 +181,19 @@ tree_not_usage : (name : Word) (bytes : List ℕ) (read : Result Tree Fault) →
 tree_not_usage name bytes (Ok tree) e = cc
 tree_not_usage name bytes (Err fault) e = cc
 
+steps_not_usage : (script : Word) (r : Result (List PlayStep) StepFault) → steps_answer script r ≡ Usage → ⊥
+steps_not_usage script (Ok steps) e = cc
+steps_not_usage script (Err fault) e = cc
+
+script_not_usage : (script : Word) (r : Result (List PlayStep) StepFault) (line : List ℕ) (b : Bool)
+    → cond b (steps_answer script r) (Refused line) ≡ Usage → ⊥
+script_not_usage script r line true e = steps_not_usage script r e
+script_not_usage script r line false e = cc
+
+play_not_usage : (script : Word) (bytes : List ℕ) (of other : Front) → play_answer script bytes of other ≡ Usage → ⊥
+play_not_usage script bytes of other e =
+    script_not_usage script (steps_of of other bytes) (fault_line script bytes (utf8_fault bytes)) (is_utf8 bytes) e
+
 bundled_not_usage : (w : Workload) (names : List Word) (files : List (List ℕ)) (read : ReadFiles)
     → bundled_answer w names files read ≡ Usage → ⊥
 bundled_not_usage w names files read e =
@@ -201,8 +220,9 @@ inputs_not_usage (Extract names) before files e =
 inputs_not_usage (Gen number) before files e = workload_not_usage (workload number) e
 inputs_not_usage (Play script first second names) before files e =
     then_not_usage names files first _ (front_answer files (bundle_content first 1 before))
-    (λ of. then_not_usage names files second (λ other. not_yet (codes "play"))
-    (front_answer files (bundle_content second (second_number first) before)) (λ other u. cc)) e
+    (λ of. then_not_usage names files second (play_answer script (numbered 0 before) of)
+    (front_answer files (bundle_content second (second_number first) before))
+    (λ other. play_not_usage script (numbered 0 before) of other)) e
 inputs_not_usage (Preview template json_name bundle names) before files e =
     then_not_usage names files bundle (preview_answer unseen_page template json_name (numbered 0 before))
     (front_answer files (bundle_content bundle 1 before)) (λ of. entry_not_usage unseen_page (λ text end u. cc)

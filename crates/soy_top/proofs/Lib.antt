@@ -3,6 +3,7 @@ pub mod CanonicalTexts
 pub mod Courses
 pub mod Fetching
 pub mod FewFiles
+pub mod CheckedLines
 pub mod FormatRefusals
 pub mod KeyTexts
 pub mod LastContents
@@ -22,3 +23,8 @@ pub mod PageParts
 pub mod Rendering
 pub mod AnsweredTexts
 pub mod Options
+pub mod PlayedDesk
+pub mod PlayedLines
+pub mod PlayChecks
+pub mod ScriptTexts
+pub mod StepsAlike

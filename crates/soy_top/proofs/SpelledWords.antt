@@ -120,5 +120,11 @@ module _ (words : List Word) where
   pub gen_asks : (number : ℕ) → AreGen words number → asked_by_words words ≡ Some (Gen number)
   gen_asks number are = ap asked_by_words are.1 ∙ ap (option_map Gen) are.2
 
+  pub play_asks : (script first second : Word) (files : List Word)
+      → words ≡ codes "play" ∷ script ∷ first ∷ second ∷ files → IsTrue (has_file_count files)
+      → asked_by_words words ≡ Some (Play script first second files)
+  play_asks script first second files is few =
+      ap asked_by_words is ∙ ap (λ b. if b then Some (Play script first second files) else None) few
+
   pub format_asks : (file : Word) → words ≡ codes "format" ∷ file ∷ [] → asked_by_words words ≡ Some (Format file)
   format_asks file is = ap asked_by_words is

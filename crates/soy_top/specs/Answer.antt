@@ -10,13 +10,15 @@
 -- call that nests too deep, it is those up to the call, with the call's line. A `gen` asks for the faults of the source
 -- that it makes, and then, under the bundle that it makes of its catalogue, for all that a `render` asks for; the
 -- answer is the summary of the page. A `preview` asks for all that a `render` asks for, but that its template is of
--- kind html. The answer of a `format` is the canonical source of the tree that its file has. What the program doesn't
--- do yet is refused, which is the rest of a `preview` and of a `play`.
+-- kind html. A `play` asks for the faults of its files under the first bundle and then under the second, and then for
+-- those of its script; the answer is the lines of the steps of the script. The answer of a `format` is the canonical
+-- source of the tree that its file has. What the program doesn't do yet is refused, which is the rest of a `preview`.
 -- Example: the words `render t.zz d.json - t.soy` with a file of t.m are refused by `t.zz: 29 Entry`.
 use Rattle.std.specs.Prelude.{ℕ, List, [], length, Option, None, Some, option_map, option_and_then, slice_get}
-use Rattle.std.specs.Prelude.{codes, String, Result, Ok, Err, encode_utf8_all}
+use Rattle.std.specs.Prelude.{codes, String, Result, Ok, Err, encode_utf8_all, if◌then◌else◌}
 use Rattle.std.specs.Option.{option_map_or}
-use Rattle.std.specs.Str.{chars}
+use Rattle.std.specs.Str.{chars, is_utf8}
+use Rattle.std.specs.Str.Lossy.{utf8_valid_len}
 use Rattle.serde_json.specs.Written.{compact_text}
 use Rattle.ir_build.specs.ViewScene.{language_of}
 use Rattle.msg_extract.specs.CatalogueText.{catalogue_data}
@@ -47,11 +49,16 @@ use Rattle.soy_top.specs.Inputs.{bundle_content, but_last, last, second_number}
 use Rattle.soy_top.specs.Line.{not_yet_line, too_large_line, entry_line, fault_line, read_line, usage_text, ended}
 use Rattle.soy_top.specs.MadeBundle.{bundle_text}
 use Rattle.soy_top.specs.Numbered.{numbered, numbered_line}
+use Rattle.soy_top.specs.Played.{PlayStep, Opens, first_left, played_text}
 use Rattle.soy_top.specs.Pointer.{pointer_line}
+use Rattle.soy_top.specs.ScriptSteps.{script_steps, step_line}
 use Rattle.soy_top.specs.Shown.{shown_number}
 use Rattle.soy_top.specs.Summary.{summary}
+use Rattle.soy_top.specs.declared.play.StepFault.{StepFault}
 use Rattle.soy_top.specs.Words.{Word, command_words}
 use Rattle.soy_tree.specs.Templates.{Declared, declared}
+use Rattle.soy_tree.specs.Trees.{Param}
+use Rattle.soy_tree.specs.Types.{Name}
 use Rattle.soy_tree.specs.Values.{Value}
 use Rattle.soy_tree.specs.ViewTrees.{view_tree, view_trees}
 use Rattle.soy_tree.specs.declared.tree.Tree.{Tree}
@@ -207,6 +214,39 @@ workload_answer w = read_then workload_names (workload_files w) (bundled_answer 
 abbrev pub gen_answer : ℕ → Answer
 gen_answer number = workload_answer (workload number)
 
+-- ---- scripts
+
+-- the template that may be opened under a name, its parameters, and what its rendering has to give at first for these
+-- data, under each of the two bundles
+abbrev pub open_of : Front → Name → Option Declared
+open_of of name =
+    option_and_then (slice_get (declared (view_trees of.files.trees)))
+    (entry_number name (declared (view_trees of.files.trees)))
+
+abbrev pub params_of : Declared → List Param
+params_of d = d.template.params
+
+abbrev pub opens_of : Front → Front → Declared → Value → PlayStep
+opens_of of other d v = Opens (first_left (template_outcome of d v)) (first_left (template_outcome other d v))
+
+-- the steps of a script, or its first refusal
+abbrev pub steps_of : Front → Front → List ℕ → Result (List PlayStep) StepFault
+steps_of of other bytes = script_steps (open_of of) params_of (opens_of of other) (chars bytes)
+
+abbrev pub steps_answer : Word → Result (List PlayStep) StepFault → Answer
+steps_answer script (Ok steps) = Done (played_text steps)
+steps_answer script (Err fault) = Refused (step_line script fault)
+
+-- the fault of a script that isn't UTF-8
+abbrev pub utf8_fault : List ℕ → Fault
+utf8_fault bytes = record { code = code.NotUtf8; file = 0; at = utf8_valid_len bytes }
+
+-- the answer to a `play` by its script, where its files are accepted under both bundles
+abbrev pub play_answer : Word → List ℕ → Front → Front → Answer
+play_answer script bytes of other =
+    if is_utf8 bytes then steps_answer script (steps_of of other bytes)
+    else Refused (fault_line script bytes (utf8_fault bytes))
+
 -- ---- all commands
 
 -- the answer to what is asked by the contents of its template files and of those before them
@@ -221,7 +261,7 @@ inputs_answer (Gen number) before files = gen_answer number
 inputs_answer (Play script first second names) before files =
     accepted_then names files first (bundle_content first 1 before) (λ of.
     accepted_then names files second (bundle_content second (second_number first) before) (λ other.
-    not_yet (codes "play")))
+    play_answer script (numbered 0 before) of other))
 inputs_answer (Preview template json_name bundle names) before files =
     accepted_then names files bundle (bundle_content bundle 1 before) (λ of.
     preview_answer unseen_page template json_name (numbered 0 before) of)

@@ -1,10 +1,12 @@
 pub mod AcceptedRender
 pub mod Accepts
+pub mod AcceptsScript
 pub mod Answer
 pub mod Asked
 pub mod Change
 pub mod Concludes
 pub mod Course
+pub mod DeskLines
 pub mod Due
 pub mod Ending
 pub mod Fetched
@@ -17,6 +19,7 @@ pub mod IsChecked
 pub mod IsFormatted
 pub mod IsGenerated
 pub mod IsPage
+pub mod IsPlayed
 pub mod IsRefusedFormat
 pub mod IsSumOf
 pub mod IsText
@@ -29,11 +32,16 @@ pub mod OrderKept
 pub mod OtherData
 pub mod Output
 pub mod PageTook
+pub mod Played
 pub mod Pointer
 pub mod RenderAsked
 pub mod Rendered
+pub mod Script
+pub mod ScriptSteps
 pub mod Shown
 pub mod Summary
 pub mod View
 pub mod ViewOutput
+pub mod ViewPlay
+pub mod ViewScript
 pub mod Words

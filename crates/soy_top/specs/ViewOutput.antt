@@ -14,6 +14,7 @@ use Rattle.soy_top.specs.Answer.{call_fault, run_text}
 use Rattle.soy_top.specs.Line.{ended}
 use Rattle.soy_top.specs.Numbered.{numbered_line}
 use Rattle.soy_top.specs.Output as output
+use Rattle.soy_top.specs.ViewPlay.{view_play}
 use Rattle.soy_top.specs.Words.{Word, command_words}
 use Rattle.soy_tree.specs.ViewValues.{view_value}
 use Rattle.template_ir.specs.Run.{run}
@@ -38,6 +39,7 @@ view_page page = record {
 abbrev pub view_output : Output → output.Output
 view_output (variant.Text text) = record { text = string_bytes text; end = output.Whole }
 view_output (variant.Page page) = view_page page
+view_output (variant.Play play) = view_play play
 
 -- this is how the output ends
 abbrev pub IsEnd : output.End → End → Type 0

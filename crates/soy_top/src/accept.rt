@@ -6,9 +6,9 @@ ghost use Rattle.soy_front.specs.ViewSources.{view_contents};
 ghost use Rattle.soy_top.specs.Accepts.{Accepts, AcceptsFront, Refuses};
 ghost use Rattle.soy_top.specs.Answer.{Done, accepted_text, accepted_then, contents_answer};
 ghost use Rattle.soy_top.specs.Answer.{inputs_answer, not_yet};
-ghost use Rattle.soy_top.specs.Asked.{Play, Preview, source_files};
+ghost use Rattle.soy_top.specs.Asked.{Preview, source_files};
 ghost use Rattle.soy_top.specs.View.{view_command};
-ghost use Rattle.soy_top.specs.Words.{Word, command_words};
+ghost use Rattle.soy_top.specs.Words.{command_words};
 
 use crate::catalogue::accept_extract;
 use crate::command::Command;
@@ -16,9 +16,10 @@ use crate::ending::Ending;
 use crate::faults::front_line;
 use crate::formatted::accept_format;
 use crate::generated::accept_gen;
-use crate::inputs::{bundle_content, but_last, content_at, last, second_number, source_names};
+use crate::inputs::{bundle_content, but_last, content_at, last, source_names};
 use crate::line::not_yet_line;
 use crate::output::Output;
+use crate::played::accept_play;
 use crate::preview::accept_shown;
 use crate::render::accept_render;
 use soy_base::{OutOfMemory, Refusal};
@@ -47,7 +48,7 @@ pub(crate) fn accept<'a>(
 fn accept_inputs<'a>(
     alloc: Global,
     command: Command<'a>,
-    before: &[Source],
+    before: &'a [Source],
     sources: &'a [Source],
 ) -> Result<Output<'a>, Ending>
     requires { length sources.now ≤ 64 }
@@ -73,11 +74,11 @@ fn accept_inputs<'a>(
         Command::Extract { files } => accept_extract(alloc, files, sources),
         Command::Gen { number } => accept_gen(alloc, number),
         Command::Play {
+            script,
             first,
             second,
             files,
-            ..
-        } => accept_play(alloc, first, second, files, before, sources),
+        } => accept_play(alloc, script, first, second, files, before, sources),
         Command::Preview {
             template,
             data_file,
@@ -133,53 +134,6 @@ fn accepted_text(alloc: Global) -> Result<String, OutOfMemory>
     ensures { IfOk result (λ text. string_bytes text ≡ accepted_text) }
 {
     Ok(String::from_str(alloc, "ok\n")?)
-}
-
-/// That a command isn't done yet, or the line of the first fault of its files and its bundle.
-fn accept_not_yet<'a>(
-    alloc: Global,
-    command: &str,
-    names: &[String],
-    sources: &[Source],
-    bundle: &str,
-    content: Option<&[u8]>,
-) -> Result<Output<'a>, Ending>
-    requires { length sources.now ≤ 64 }
-    ensures { Accepts (accepted_then (command_words names.now) (view_contents sources.now) bundle.now
-        (option_map (λ b. b.now) content.entry) (λ of. not_yet command.now)) result }
-{
-    match accept_front(alloc, names, sources, bundle, content) {
-        Ok(_) => Err(not_yet(alloc, command)),
-        Err(ending) => Err(ending),
-    }
-}
-
-/// That a `play` isn't done yet, or the line of the first fault of its files and bundles.
-fn accept_play<'a>(
-    alloc: Global,
-    first: &str,
-    second: &str,
-    names: &[String],
-    before: &[Source],
-    sources: &[Source],
-) -> Result<Output<'a>, Ending>
-    requires { length sources.now ≤ 64 }
-    ensures { (script : Word) → Accepts (inputs_answer (Play script first.now second.now (command_words names.now))
-        (view_contents before.now) (view_contents sources.now)) result }
-{
-    match accept_front(
-        alloc,
-        names,
-        sources,
-        first,
-        bundle_content(first, 1, before),
-    ) {
-        Ok(_) => {
-            let content = bundle_content(second, second_number(first), before);
-            accept_not_yet(alloc, "play", names, sources, second, content)
-        }
-        Err(ending) => Err(ending),
-    }
 }
 
 /// That a `preview` isn't done yet, or the line of the first fault of its files, its bundle, its template and its data.

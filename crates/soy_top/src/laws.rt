@@ -1,20 +1,35 @@
 //! The laws of the answer: contracts with an empty body, so they hold of the definitions that the code follows.
 
-ghost use Rattle.std.specs.Prelude.{◌≡◌, ℕ, List, Option, Some, IfSome};
+ghost use Rattle.std.specs.Prelude.{◌≡◌, ℕ, List, Option, Some, IfSome, slice_get};
+ghost use Rattle.soy_desk.specs.Alone.{left_of};
+ghost use Rattle.soy_desk.specs.DeskRun.{DeskRun, Step};
+ghost use Rattle.soy_desk.specs.DeskState.{DeskState, desk_with, first_rest};
+ghost use Rattle.soy_front.specs.Compiled.{AreCompiled};
+ghost use Rattle.soy_front.specs.declared.compiling.Compiled.{Compiled};
 ghost use Rattle.soy_io.specs.FileOf.{Files};
 ghost use Rattle.soy_top.specs.AcceptedRender.{AcceptedRender};
-ghost use Rattle.soy_top.specs.Answer.{Done, Refused, TooDeep, answer, known_answer};
+ghost use Rattle.soy_meaning.specs.TypedData.{FitsData};
+ghost use Rattle.soy_top.specs.Answer.{Done, Refused, TooDeep, answer, known_answer, template_outcome};
 ghost use Rattle.soy_top.specs.Asked.{asked_by_words};
+ghost use Rattle.soy_top.specs.DeskLines.{ShowsAll};
 ghost use Rattle.soy_top.specs.IsPage.{IsRefusedPage, IsStoppedPage};
 ghost use Rattle.soy_top.specs.IsRefusedFormat.{AreFormat, IsRefusedFormat};
 ghost use Rattle.soy_top.specs.IsText.{IsText};
 ghost use Rattle.soy_top.specs.OneText.{IsOneText};
+ghost use Rattle.soy_top.specs.Played.{PlayStep, first_left, played_text};
 ghost use Rattle.soy_top.specs.RenderAsked.{AsksRender};
 ghost use Rattle.soy_top.specs.Rendered.{Rendered, known_rendered, rendered_answer};
 ghost use Rattle.soy_top.specs.Words.{Word};
+ghost use Rattle.soy_tree.specs.Templates.{Declared, declared};
+ghost use Rattle.soy_tree.specs.ViewTrees.{view_trees};
+ghost use Rattle.soy_tree.specs.ViewValues.{view_value};
+ghost use Rattle.soy_tree.specs.declared.value.Value.{Value};
+ghost use Rattle.template_ir.specs.Run.{input_env, names_of};
+ghost use Rattle.template_ir.specs.declared.program.ProgramParts.{ProgramParts};
 
-/// The answer is a text exactly where the text is the page, the catalogue or the canonical source of the words and of
-/// the files that are held, or says that these are accepted, or is the summary of the workload that the words name. It
+/// The answer is a text exactly where the text is the page, the catalogue, the lines of the script or the canonical
+/// source of the words and of the files that are held, or says that these are accepted, or is the summary of the
+/// workload that the words name. It
 /// is a text that ends too deep exactly where that is a page up to a call that nests too deep, with the line of the
 /// call. Of a `render` whose files and bundle are accepted, it is a refusal exactly where no template may be rendered
 /// under the name (29), the data are no JSON (27) or they give no values (28).
@@ -40,6 +55,25 @@ pub fn law_refused_format()
         answer files words ≡ Refused line → IsRefusedFormat files words line }
     ensures only_refused { (files : Files) (words : List Word) (line : List ℕ) → IsRefusedFormat files words line →
         answer files words ≡ Refused line }
+{}
+
+/// What is written for the steps of a script is what a desk shows: for every list of steps of a new desk, on which the
+/// program of the first bundle is published, of which each stands for one step of the script and none was refused by
+/// memory.
+pub fn law_desk_shows()
+    ensures { (first second : ProgramParts) (steps : List PlayStep) (run : List Step) (after : DeskState)
+        (text : List ℕ) → DeskRun (desk_with first) run after → ShowsAll first second steps run text →
+        text ≡ played_text steps }
+{}
+
+/// What a rendering has to give at first, of a program that files are compiled to under a bundle, is what the template
+/// gives under the bundle.
+pub fn law_first_left()
+    ensures { (contents : List (List ℕ)) (bundle : Option (List ℕ)) (c : Compiled)
+        (are : AreCompiled contents bundle c) (number : ℕ) (d : Declared) →
+        slice_get (declared (view_trees c.typed)) number ≡ Some d → (input : Value) →
+        FitsData d (input_env (names_of d.template.params) (view_value input)) →
+        left_of (first_rest c.program input number) ≡ first_left (template_outcome are.of d (view_value input)) }
 {}
 
 /// A page that is rendered is the answer, to words that ask for a `render`; and where the answer to such words is a

@@ -7,7 +7,9 @@ ghost use Rattle.std.specs.String.{string_bytes};
 ghost use Rattle.soy_top.specs.Line.{refusal_line, not_yet_line, too_large_line, fault_line, entry_line, read_line};
 ghost use Rattle.soy_top.specs.Line.{ended};
 ghost use Rattle.soy_top.specs.Pointer.{key_character, pointer, pointer_line, pointer_step};
+ghost use Rattle.soy_top.specs.ScriptSteps.{step_line};
 
+use crate::play::StepFault;
 use soy_base::{Code, Fault, OutOfMemory, PathStep, Position, line_of};
 use std::alloc::Global;
 
@@ -58,6 +60,19 @@ pub(crate) fn fault_line(
     let Position { line, column } = line_of(bytes, fault.at);
     let position = format!(in alloc; "{name}:{line}:{column}")?;
     refusal_line(alloc, position.as_str(), fault.code)
+}
+
+/// The line of the refusal of a line of a script.
+pub(crate) fn step_line(
+    alloc: Global,
+    script: &str,
+    fault: StepFault,
+) -> Result<String, OutOfMemory>
+    ensures { IfOk result (λ line. string_bytes line ≡ ended (step_line script.now fault)) }
+{
+    let StepFault { line, code } = fault;
+    let position = format!(in alloc; "{script}:{line}:1")?;
+    refusal_line(alloc, position.as_str(), code)
 }
 
 /// The line of a fault of a JSON file, at a JSON pointer.

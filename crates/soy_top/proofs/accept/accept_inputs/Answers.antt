@@ -28,8 +28,7 @@ returns-in-Gen c =
 pub returns-in-Play : goal.returns-in-Play
 returns-in-Play c =
     subst (λ command. Accepts (inputs_answer (view_command command) (view_contents c.args.before.now)
-    (view_contents c.args.sources.now)) c.accept_play.result) (sym c.in-Play.is)
-    (c.accept_play.ensures c.in-Play.script.now)
+    (view_contents c.args.sources.now)) c.accept_play.result) (sym c.in-Play.is) c.accept_play.ensures
 
 pub returns-in-Preview : goal.returns-in-Preview
 returns-in-Preview c =

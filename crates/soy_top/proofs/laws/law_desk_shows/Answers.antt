@@ -1,0 +1,5 @@
+use Rattle.soy_top.proofs.PlayedDesk.{desk_shows}
+use Rattle.soy_top.proofs.laws.law_desk_shows.Goals as goal
+
+pub returns : goal.returns
+returns c = desk_shows
