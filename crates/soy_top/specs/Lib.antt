@@ -17,7 +17,9 @@ pub mod IsChecked
 pub mod IsFormatted
 pub mod IsGenerated
 pub mod IsPage
+pub mod IsPreview
 pub mod IsRefusedFormat
+pub mod IsStopped
 pub mod IsSumOf
 pub mod IsText
 pub mod Line
@@ -32,7 +34,9 @@ pub mod PageTook
 pub mod Pointer
 pub mod RenderAsked
 pub mod Rendered
+pub mod SeenText
 pub mod Shown
+pub mod ShownPage
 pub mod Summary
 pub mod View
 pub mod ViewOutput

@@ -6,7 +6,7 @@ ghost use Rattle.soy_front.specs.ViewSources.{view_contents};
 ghost use Rattle.soy_top.specs.Accepts.{Accepts, AcceptsFront, Refuses};
 ghost use Rattle.soy_top.specs.Answer.{Done, accepted_text, accepted_then, contents_answer};
 ghost use Rattle.soy_top.specs.Answer.{inputs_answer, not_yet};
-ghost use Rattle.soy_top.specs.Asked.{Play, Preview, source_files};
+ghost use Rattle.soy_top.specs.Asked.{Play, source_files};
 ghost use Rattle.soy_top.specs.View.{view_command};
 ghost use Rattle.soy_top.specs.Words.{Word, command_words};
 
@@ -19,7 +19,7 @@ use crate::generated::accept_gen;
 use crate::inputs::{bundle_content, but_last, content_at, last, second_number, source_names};
 use crate::line::not_yet_line;
 use crate::output::Output;
-use crate::preview::accept_shown;
+use crate::preview::accept_preview;
 use crate::render::accept_render;
 use soy_base::{OutOfMemory, Refusal};
 use soy_front::{AcceptedFiles, Source, accept as accept_sources};
@@ -178,35 +178,6 @@ fn accept_play<'a>(
             let content = bundle_content(second, second_number(first), before);
             accept_not_yet(alloc, "play", names, sources, second, content)
         }
-        Err(ending) => Err(ending),
-    }
-}
-
-/// That a `preview` isn't done yet, or the line of the first fault of its files, its bundle, its template and its data.
-fn accept_preview<'a>(
-    alloc: Global,
-    template: &str,
-    json_name: &str,
-    bundle: &str,
-    names: &[String],
-    before: &[Source],
-    sources: &[Source],
-) -> Result<Output<'a>, Ending>
-    requires { length sources.now ≤ 64 }
-    ensures { Accepts (inputs_answer (Preview template.now json_name.now bundle.now (command_words names.now))
-        (view_contents before.now) (view_contents sources.now)) result }
-{
-    match accept_shown(
-        alloc,
-        template,
-        json_name,
-        content_at(before, 0),
-        bundle,
-        bundle_content(bundle, 1, before),
-        names,
-        sources,
-    ) {
-        Ok(_) => Err(not_yet(alloc, "preview")),
         Err(ending) => Err(ending),
     }
 }

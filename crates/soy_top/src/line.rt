@@ -5,7 +5,7 @@ ghost use Rattle.std.specs.List.{flat_map};
 ghost use Rattle.std.specs.Str.{chars};
 ghost use Rattle.std.specs.String.{string_bytes};
 ghost use Rattle.soy_top.specs.Line.{refusal_line, not_yet_line, too_large_line, fault_line, entry_line, read_line};
-ghost use Rattle.soy_top.specs.Line.{ended};
+ghost use Rattle.soy_top.specs.Line.{ended, too_long_line};
 ghost use Rattle.soy_top.specs.Pointer.{key_character, pointer, pointer_line, pointer_step};
 
 use soy_base::{Code, Fault, OutOfMemory, PathStep, Position, line_of};
@@ -127,6 +127,13 @@ pub(crate) fn entry_line(alloc: Global, template: &str) -> Result<String, OutOfM
     ensures { IfOk result (λ line. string_bytes line ≡ ended (entry_line template.now)) }
 {
     refusal_line(alloc, template, Code::Entry)
+}
+
+/// The line of a page that is too long to be shown.
+pub(crate) fn too_long_line(alloc: Global) -> Result<String, OutOfMemory>
+    ensures { IfOk result (λ line. string_bytes line ≡ ended too_long_line) }
+{
+    refusal_line(alloc, "preview", Code::TooLong)
 }
 
 /// The line of a file that could not be read, with its line feed.
