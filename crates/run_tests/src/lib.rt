@@ -34,6 +34,8 @@ mod places;
 #[cfg(test)]
 mod plurals;
 #[cfg(test)]
+mod previews;
+#[cfg(test)]
 mod prints;
 #[cfg(test)]
 mod running;
