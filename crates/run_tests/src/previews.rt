@@ -1,5 +1,5 @@
-//! Rows of `preview`: pages with their lines as they are seen, pages that stop at a call, and pages at the limit of what
-//! is shown.
+//! Rows of `preview`: pages with their lines as they are seen, pages that stop at a call, and pages at the limit of
+//! what is shown.
 
 use crate::directions::nested;
 use crate::faults::{four_loops, only};
@@ -211,8 +211,8 @@ fn rows_of_the_limit(rt: HostRuntime) {
     }
 }
 
-/// A preview of a page that stops at a call, with an output that fails at its first put, and a standard error that fails
-/// at this one.
+/// A preview of a page that stops at a call, with an output that fails at its first put, and a standard error that
+/// fails at this one.
 fn with_failing_sinks(alloc: Global, err_put: u64) -> Option<Ended> {
     let words = split_words(alloc, PREVIEW)?;
     let held = files_of(alloc, &[("t.soy", WITHOUT_END), ("d.json", "{}")])?;
