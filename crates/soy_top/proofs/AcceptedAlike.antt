@@ -18,11 +18,9 @@ use Rattle.soy_front.proofs.LanguageOf.{languages_alike}
 use Rattle.soy_meaning.specs.AcceptedTrees.{walk_trees}
 use Rattle.soy_meaning.specs.Pieces.{template_run}
 use Rattle.soy_top.specs.Answer.{PageAnswer, accepted_then}
-use Rattle.soy_top.specs.Answer.{answer}
 use Rattle.soy_top.specs.Answer.{data_answer, entry_answer, entry_of}
 use Rattle.soy_top.specs.Answer.{page_answer, render_answer, template_outcome}
 use Rattle.soy_top.specs.Answer.{unless_refused}
-use Rattle.soy_top.specs.FilesWanted.{content, contents}
 use Rattle.soy_top.specs.Words.{Word}
 use Rattle.soy_tree.specs.Templates.{Declared, declared}
 use Rattle.soy_tree.specs.Values.{Value}

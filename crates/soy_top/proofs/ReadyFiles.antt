@@ -20,7 +20,6 @@ use Rattle.soy_top.specs.Inputs.{bundle_content, but_last, last}
 use Rattle.soy_top.specs.Line.{too_large_line}
 use Rattle.soy_top.specs.Numbered.{numbered}
 use Rattle.soy_top.specs.Words.{Word}
-use Rattle.soy_top.proofs.Texts.{before_named, last_named}
 use Rattle.soy_top.specs.AcceptedRender.{AcceptedPage}
 use Rattle.soy_top.proofs.HeldContents.{before_named, last_named}
 

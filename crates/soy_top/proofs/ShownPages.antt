@@ -1,6 +1,6 @@
 -- What is answered by a page that may be shown: by its gathered text, and by the files that it was compiled of.
-use Rattle.std.proofs.Common.{◌≡◌, ◌≤◌, ◌<◌, ℕ, List, Option, length, refl, sym, subst, ap, ◌∙◌}
-use Rattle.std.specs.Prelude.{Result, Ok, Err, String}
+use Rattle.std.proofs.Common.{◌≡◌, ◌≤◌, ◌<◌, ℕ, List, Option, Some, None, length, refl, sym, subst, ap, ◌∙◌}
+use Rattle.std.specs.Prelude.{IfSome, Result, Ok, Err, String, slice_get}
 use Rattle.std.specs.String.{string_bytes}
 use Rattle.std.specs.declared.alloc.Global.{Global}
 use Rattle.render_core.specs.Pulls.{stops_at}
@@ -15,7 +15,7 @@ use Rattle.soy_top.specs.declared.ending.Ending.TheVariants as ending
 use Rattle.soy_top.specs.declared.output.Output.{Output}
 use Rattle.soy_top.specs.declared.output.Output.TheVariants as output
 use Rattle.soy_top.specs.declared.page.Page.{Page}
-use Rattle.soy_top.specs.Accepts.{Accepts, AcceptsPage, Refuses}
+use Rattle.soy_top.specs.Accepts.{Accepts, AcceptsPage, IsNumbered, Refuses}
 use Rattle.soy_top.specs.Answer.{Answer, Done, PageAnswer, accepted_then, entry_answer, page_answer, preview_answer}
 use Rattle.soy_top.specs.Answer.{run_text, seen_lines, seen_page, shown_of, unless_refused}
 use Rattle.soy_top.specs.Line.{ended, too_long_line}
@@ -24,6 +24,7 @@ use Rattle.soy_top.specs.ShownPage.{AcceptsShown}
 use Rattle.soy_top.specs.ViewOutput.{page_run}
 use Rattle.soy_top.specs.Words.{Word, command_words}
 use Rattle.soy_top.proofs.SeenAnswers.{seen_long, seen_short}
+use Rattle.soy_tree.specs.Templates.{Declared}
 
 -- ---- by what was gathered
 
@@ -65,3 +66,17 @@ module _ (names : List Word) (files : List (List ℕ)) (bundle : Word) (content 
 
   pub shown_refused : (e : Ending) → AcceptsPage found (Err e) → AcceptsShown answer (Err e)
   shown_refused e h = λ page. subst (λ x. Refuses x e) (sym (by_found page)) (h (page are.of.language.dir))
+
+-- ---- a template that is there
+
+module _ (ds : List Declared) (P : Type 0) (Q : Declared → Type 0) where
+  there_by : (number : ℕ) (o : Option Declared) → IsNumbered ds (Some number) o → IfSome o Q
+      → ((d : Declared) → slice_get ds number ≡ Some d → Q d → P) → P
+  there_by number None numbered q h = absurd numbered
+  there_by number (Some d) numbered q h = h d numbered q
+
+  -- what follows from a fact of the template of a number
+  pub numbered_there : (entry : Option ℕ) (number : ℕ) (o : Option Declared) → entry ≡ Some number
+      → IsNumbered ds entry o → IfSome o Q → ((d : Declared) → slice_get ds number ≡ Some d → Q d → P) → P
+  numbered_there entry number o is numbered q h =
+      there_by number o (subst (λ e. IsNumbered ds e o) is numbered) q h

@@ -9,7 +9,8 @@ ghost use Rattle.soy_top.specs.Accepts.{Accepts, AcceptsPage, CompilesFront, IsN
 ghost use Rattle.soy_top.specs.Answer.{accepted_then, data_answer, entry_answer, inputs_answer, render_answer};
 ghost use Rattle.soy_top.specs.Answer.{run_text};
 ghost use Rattle.soy_top.specs.Asked.{Render};
-ghost use Rattle.soy_top.specs.ShownPage.{IsHtml, IsPageText};
+ghost use Rattle.soy_top.specs.Shown.{IsHtml};
+ghost use Rattle.soy_top.specs.ShownPage.{IsPageText};
 ghost use Rattle.soy_top.specs.ViewOutput.{page_run};
 ghost use Rattle.soy_top.specs.Words.{command_words};
 ghost use Rattle.soy_tree.specs.Templates.{Declared, declared};
