@@ -15,6 +15,7 @@ use Rattle.soy_top.specs.declared.ending.Ending.TheVariants as ending
 use Rattle.soy_top.specs.declared.output.Output.{Output}
 use Rattle.soy_top.specs.declared.output.Output.TheVariants as output
 use Rattle.soy_top.specs.declared.page.Page.{Page}
+use Rattle.soy_top.specs.declared.preview.ShownPage as code
 use Rattle.soy_top.specs.Accepts.{Accepts, AcceptsPage, IsNumbered, Refuses}
 use Rattle.soy_top.specs.Answer.{Answer, Done, PageAnswer, accepted_then, entry_answer, page_answer, preview_answer}
 use Rattle.soy_top.specs.Answer.{run_text, seen_lines, seen_page, shown_of, unless_refused}
@@ -43,6 +44,26 @@ module _ (names : List Word) (contents : List (List ℕ)) (context : Dir) (o : O
       seen_short names contents context (run_text o) (end_of_outcome o) few
       ∙ (ap (seen_lines names contents context (run_text o)) whole
       ∙ ap Done (sym (is ∙ ap (seen_text context) all)))
+
+  -- stopped at a call, with nothing
+  pub shown_stopped : (call : TooDeep) → length (run_text o) ≤ 1048576 → end_of_outcome o ≡ stops_at call
+      → page_answer (seen_page names contents context) o ≡ seen_lines names contents context (run_text o) (stops_at call)
+  shown_stopped call few is =
+      seen_short names contents context (run_text o) (end_of_outcome o) few
+      ∙ ap (seen_lines names contents context (run_text o)) is
+
+-- what is shown of an accepted page is the answer
+pub shown_accepted : (answer : (Dir → PageAnswer) → Answer) (names : List Word) (contents : List (List ℕ))
+    (shown : code.ShownPage) (r : Result Output Ending) → command_words shown.page.names.now ≡ names
+    → view_contents shown.page.sources.now ≡ contents → AcceptsShown answer (Ok shown)
+    → Accepts (page_answer (seen_page (command_words shown.page.names.now) (view_contents shown.page.sources.now)
+    shown.context) (page_run shown.page)) r
+    → Accepts (answer (seen_page names contents)) r
+shown_accepted answer names contents shown r is_names is_contents h accepts =
+    subst (λ a. Accepts a r) (sym (h (seen_page names contents)))
+    (subst (λ ns. Accepts (page_answer (seen_page ns contents shown.context) (page_run shown.page)) r) is_names
+    (subst (λ cs. Accepts (page_answer (seen_page (command_words shown.page.names.now) cs shown.context)
+    (page_run shown.page)) r) is_contents accepts))
 
 -- ---- by the files that its program was compiled of
 
