@@ -145,7 +145,7 @@ fn rows_of_directions(rt: HostRuntime) {
 }
 
 /// A template whose value stands in so many spans, between an `a` and a `b`.
-fn nested(alloc: Global, count: usize) -> Option<String> {
+pub(crate) fn nested(alloc: Global, count: usize) -> Option<String> {
     let mut file = String::from_str(
         alloc,
         "{namespace t}\n{template m}\n{@param x: string}\n",

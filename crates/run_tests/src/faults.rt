@@ -49,7 +49,7 @@ const REFUSED: &[(&str, &str)] = &[
 const PAGE: &[u8] = b"<b><span dir=\"ltr\">&lt;i&gt;</span></b>";
 
 /// A list of one call.
-fn only(alloc: Global, call: u64) -> Option<Vec<u64>> {
+pub(crate) fn only(alloc: Global, call: u64) -> Option<Vec<u64>> {
     let mut calls = Vec::new(alloc);
     calls.push(call).ok()?;
     Some(calls)
@@ -120,7 +120,7 @@ fn failing_out(rt: HostRuntime) {
 }
 
 /// Four loops inside one another, over a list of 1,000 ints.
-fn four_loops(alloc: Global) -> Option<Vec<NamedFile>> {
+pub(crate) fn four_loops(alloc: Global) -> Option<Vec<NamedFile>> {
     let file = "{namespace t}\n{template m}\n{@param l: list<int>}\n\
         {for $a in $l}{for $b in $l}{for $c in $l}{for $d in $l}x{/for}{/for}{/for}{/for}\n{/template}\n";
     let mut json = String::from_str(alloc, "{\"l\":[0").ok()?;

@@ -36,6 +36,8 @@ mod plays;
 #[cfg(test)]
 mod plurals;
 #[cfg(test)]
+mod previews;
+#[cfg(test)]
 mod prints;
 #[cfg(test)]
 mod running;

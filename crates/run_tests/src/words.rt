@@ -136,9 +136,9 @@ const WORDS: &[Row] = &[
         "preview of one",
         "preview t.m d.json - t.soy",
         FILES,
-        Status::Refused,
+        Status::Done,
+        "<i>\n",
         "",
-        "preview: 30 NotYet\n",
     ),
     (
         "preview of a template of the second file",
@@ -148,9 +148,9 @@ const WORDS: &[Row] = &[
             ("u.soy", "{namespace u}\n{template m}\na\n{/template}\n"),
             ("d.json", "{}"),
         ],
-        Status::Refused,
+        Status::Done,
+        "a\n",
         "",
-        "preview: 30 NotYet\n",
     ),
     (
         "preview of a template of kind text",

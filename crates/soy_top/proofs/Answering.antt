@@ -28,9 +28,9 @@ use Rattle.soy_top.specs.declared.output.Output.{Output}
 use Rattle.soy_top.specs.declared.page.Page.{Page}
 use Rattle.soy_top.specs.declared.play.StepFault.{StepFault}
 use Rattle.soy_top.specs.Accepts.{Accepts, AcceptsPage, Refuses}
-use Rattle.soy_top.specs.Answer.{Answer, Usage, Read, Refused, Done, not_yet, data_answer, ended_page, entry_answer}
+use Rattle.soy_top.specs.Answer.{Answer, Usage, Read, Refused, Done, data_answer, ended_page, entry_answer}
 use Rattle.soy_top.specs.Answer.{PageAnswer, bundled_answer, entry_of, render_answer, run_text, summed_page}
-use Rattle.soy_top.specs.Answer.{preview_answer, shown_of, template_outcome, unseen_page, workload_answer}
+use Rattle.soy_top.specs.Answer.{preview_answer, seen_page, shown_of, template_outcome, workload_answer}
 use Rattle.soy_top.specs.Answer.{contents_answer, limits_answer, asked_answer, answer, known_answer}
 use Rattle.soy_top.specs.Answer.{accepted_text, accepted_then, catalogue_answer, inputs_answer, read_then}
 use Rattle.soy_top.specs.Answer.{front_line, tree_answer, unless_faulty, unless_refused}
@@ -48,6 +48,7 @@ use Rattle.soy_top.specs.MadeBundle.{bundle_text}
 use Rattle.soy_top.specs.Numbered.{numbered}
 use Rattle.soy_top.specs.Played.{PlayStep}
 use Rattle.soy_top.specs.Words.{Word}
+use Rattle.soy_top.proofs.SeenAnswers.{seen_not_usage}
 use Rattle.soy_tree.specs.Templates.{Declared}
 use Rattle.soy_tree.specs.Values.{Value}
 use Rattle.soy_tree.specs.declared.tree.Tree.{Tree}
@@ -224,9 +225,9 @@ inputs_not_usage (Play script first second names) before files e =
     (front_answer files (bundle_content second (second_number first) before))
     (λ other. play_not_usage script (numbered 0 before) of other)) e
 inputs_not_usage (Preview template json_name bundle names) before files e =
-    then_not_usage names files bundle (preview_answer unseen_page template json_name (numbered 0 before))
-    (front_answer files (bundle_content bundle 1 before)) (λ of. entry_not_usage unseen_page (λ text end u. cc)
-    template json_name (numbered 0 before) of (shown_of of template)) e
+    then_not_usage names files bundle (preview_answer (seen_page names files) template json_name (numbered 0 before))
+    (front_answer files (bundle_content bundle 1 before)) (λ of. entry_not_usage (seen_page names files of.language.dir)
+    (seen_not_usage names files of.language.dir) template json_name (numbered 0 before) of (shown_of of template)) e
 inputs_not_usage (Format name) before files e =
     tree_not_usage name (numbered 0 before) (source_answer (numbered 0 before)) e
 

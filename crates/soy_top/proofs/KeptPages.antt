@@ -1,5 +1,5 @@
 -- A page that is rendered keeps its markup and its visual order whatever its values hold.
-use Rattle.std.proofs.Common.{◌≡◌, inl, inr, ℕ, zero, suc, List, [], ◌∷◌, Option, Some, None, refl, sym, arith}
+use Rattle.std.proofs.Common.{◌≡◌, inl, inr, ℕ, zero, suc, List, [], ◌∷◌, Option, Some, refl, sym}
 use Rattle.std.proofs.Common.{subst}
 use Rattle.std.specs.Prelude.{IfSome, Ok, slice_get}
 use Rattle.std.specs.Str.{IsUtf8, chars}
@@ -44,7 +44,6 @@ use Rattle.soy_tree.specs.Templates.{declared}
 use Rattle.soy_tree.specs.Trees.{Tree}
 use Rattle.soy_tree.specs.Values.{Value}
 use Rattle.soy_tree.specs.ViewTrees.{view_trees}
-use Rattle.soy_types.proofs.ReadWithin.{data_short}
 use Rattle.stable_bidi.specs.PagesAlike.{PagesAlike}
 use Rattle.stable_bidi.proofs.PageLines as bidi
 use Rattle.stable_bidi.proofs.TypedPages.{typed_pages}
@@ -106,8 +105,7 @@ module _ (page : Rendered) (parts : PageParts page) where
   read_fits : FitsData page.entry (env page.input)
   read_fits =
       having_fit page.entry page.input
-      (read_have trees parts.number page.entry parts.json page.input typed.demands parts.found parts.reads)
-      (data_short page.entry.template.params parts.json page.input (omega (arith, parts.few)) parts.reads)
+      (read_have trees parts.number page.entry parts.json page.input typed.demands parts.found parts.reads) parts.short
 
   other_fits : (other : Value) → IsOtherData page other → FitsData page.entry (env other)
   other_fits other is = having_fit page.entry other is.have is.short

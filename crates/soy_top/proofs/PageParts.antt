@@ -1,9 +1,8 @@
 -- What a page that is rendered was made of.
-use Rattle.std.proofs.Common.{◌≡◌, ◌≤◌, ℕ, Bool, true, false, List, ◌∷◌, ◌++◌, map, Option, Some, None, refl, sym, ap}
-use Rattle.std.proofs.Common.{subst, length}
-use Rattle.std.specs.Prelude.{IfSome, Result, Ok, Err, if◌then◌else◌, nat_lt, option_and_then, slice_get}
+use Rattle.std.proofs.Common.{◌≡◌, ◌≤◌, ℕ, List, ◌∷◌, ◌++◌, map, Option, Some, None, refl, sym, ap}
+use Rattle.std.proofs.Common.{subst, length, arith}
+use Rattle.std.specs.Prelude.{IfSome, Result, Ok, Err, nat_lt, option_and_then, slice_get}
 use Rattle.std.specs.Str.{chars}
-use Rattle.std.proofs.lemmas.Bool.{ltb-false}
 use Rattle.soy_base.specs.declared.code.Code.{Code}
 use Rattle.soy_base.specs.declared.path.PathStep.{PathStep}
 use Rattle.soy_front.specs.Entries.{entry_number}
@@ -20,14 +19,16 @@ use Rattle.soy_top.specs.Rendered.{Rendered, known_rendered, rendered_asked, ren
 use Rattle.soy_top.specs.Rendered.{rendered_entry, rendered_front, rendered_words}
 use Rattle.soy_top.specs.Rendered.{unless_file}
 use Rattle.soy_top.specs.Words.{Word}
-use Rattle.soy_top.proofs.Options.{none_some, some_none}
-use Rattle.soy_top.proofs.Texts.{before_named, first_within}
+use Rattle.soy_top.proofs.Options.{none_some}
+use Rattle.soy_top.proofs.HeldContents.{before_named, first_within}
+use Rattle.soy_tree.specs.ShortLists.{HasShortLists}
 use Rattle.soy_tree.specs.Templates.{Declared, declared}
 use Rattle.soy_tree.specs.Values.{Value}
 use Rattle.soy_tree.specs.ViewTrees.{view_trees}
 use Rattle.soy_types.specs.ReadData.{data_at}
+use Rattle.soy_types.proofs.ReadWithin.{data_short}
 
--- the template is that of a number, and the data are within their limit
+-- the template is that of a number, and the lists of the data are short
 pub record PageParts (page : Rendered) : Type 0 where
   pub json : List ℕ
   pub bundle : Option (List ℕ)
@@ -35,7 +36,7 @@ pub record PageParts (page : Rendered) : Type 0 where
   pub front : front_answer page.contents bundle ≡ Ok page.accepted
   pub found : slice_get (declared (view_trees page.accepted.files.trees)) number ≡ Some page.entry
   pub reads : data_at page.entry.template.params json ≡ Ok page.input
-  pub few : length json ≤ 4194304
+  pub short : HasShortLists page.input
 
 -- a template that is found has a number
 found_number : {A : Type 0} (xs : List A) (o : Option ℕ) (x : A) → option_and_then (slice_get xs) o ≡ Some x
@@ -58,7 +59,7 @@ module _ (names : List Word) (files : List (List ℕ)) (bundle : Option (List �
         front = front;
         found = there.1;
         reads = reads;
-        few = few;
+        short = data_short d.template.params json v (omega (arith, few)) reads;
       }
   data_parts of d front entry (Err fault) reads = tt
 

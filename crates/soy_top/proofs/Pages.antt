@@ -99,7 +99,7 @@ module _ (ds : List Declared) (of : Front) (template json_name : Word) (json : L
 
 module _ (contents : List (List ℕ)) (content : Option (List ℕ)) (c : Compiled)
     (are : AreCompiled contents content c) where
-  same_templates : declared (view_trees are.of.files.trees) ≡ declared (view_trees c.typed)
+  pub same_templates : declared (view_trees are.of.files.trees) ≡ declared (view_trees c.typed)
   same_templates = ap (λ (f : ReadFiles). declared (view_trees f.trees)) are.files
 
   -- the template of a number that is found in the trees, and so is there
@@ -135,7 +135,7 @@ module _ (contents : List (List ℕ)) (content : Option (List ℕ)) (c : Compile
 
   module _ (json_name : Word) (json : List ℕ) (number : ℕ) (d : Declared)
       (found : slice_get (declared (view_trees c.typed)) number ≡ Some d) where
-    read_at : (r : Result Value (Code × List PathStep))
+    pub read_at : (r : Result Value (Code × List PathStep))
         → data_at (view_params (params_at number (templates_of c.typed))) json ≡ r → data_at d.template.params json ≡ r
     read_at r is = subst (λ ps. data_at ps json ≡ r) (params_are c.typed number d found) is
 

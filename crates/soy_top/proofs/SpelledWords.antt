@@ -108,6 +108,12 @@ module _ (words : List Word) where
   render_asks template json bundle files is few =
       ap asked_by_words is ∙ ap (λ b. if b then Some (Render template json bundle files) else None) few
 
+  pub preview_asks : (template json bundle : Word) (files : List Word)
+      → words ≡ codes "preview" ∷ template ∷ json ∷ bundle ∷ files → IsTrue (has_file_count files)
+      → asked_by_words words ≡ Some (Preview template json bundle files)
+  preview_asks template json bundle files is few =
+      ap asked_by_words is ∙ ap (λ b. if b then Some (Preview template json bundle files) else None) few
+
   pub check_asks : (bundle : Word) (files : List Word) → words ≡ codes "check" ∷ bundle ∷ files
       → IsTrue (has_file_count files) → asked_by_words words ≡ Some (Check bundle files)
   check_asks bundle files is few =

@@ -10,9 +10,11 @@
 -- call that nests too deep, it is those up to the call, with the call's line. A `gen` asks for the faults of the source
 -- that it makes, and then, under the bundle that it makes of its catalogue, for all that a `render` asks for; the
 -- answer is the summary of the page. A `preview` asks for all that a `render` asks for, but that its template is of
--- kind html. A `play` asks for the faults of its files under the first bundle and then under the second, and then for
--- those of its script; the answer is the lines of the steps of the script. The answer of a `format` is the canonical
--- source of the tree that its file has. What the program doesn't do yet is refused, which is the rest of a `preview`.
+-- kind html, and then for a page that isn't too long (33); the answer is the lines of the page as they are seen in a
+-- context of the bundle's direction, and where the page stops at a call, nothing, with the call's line. A `play` asks
+-- for the faults of its files under the first bundle and then under the second, and then for those of its script; the
+-- answer is the lines of the steps of the script. The answer of a `format` is the canonical source of the tree that its
+-- file has.
 -- Example: the words `render t.zz d.json - t.soy` with a file of t.m are refused by `t.zz: 29 Entry`.
 use Rattle.std.specs.Prelude.{ℕ, List, [], length, Option, None, Some, option_map, option_and_then, slice_get}
 use Rattle.std.specs.Prelude.{codes, String, Result, Ok, Err, encode_utf8_all, if◌then◌else◌}
@@ -25,6 +27,7 @@ use Rattle.msg_extract.specs.CatalogueText.{catalogue_data}
 use Rattle.msg_extract.specs.declared.catalogue.Listed.{Listed}
 use Rattle.soy_base.specs.declared.code.Code.{Code}
 use Rattle.soy_base.specs.declared.code.Code.TheVariants as code
+use Rattle.soy_base.specs.declared.direction.Dir.{Dir}
 use Rattle.soy_base.specs.declared.fault.Fault.{Fault}
 use Rattle.soy_base.specs.declared.path.PathStep.{PathStep}
 use Rattle.soy_format.specs.Formatted.{formatted_tree}
@@ -46,12 +49,14 @@ use Rattle.soy_top.specs.FilesWanted.{FileWanted, asked_files, wanted_files, kno
 use Rattle.soy_top.specs.FilesWanted.{first_over_limit, contents}
 use Rattle.soy_top.specs.Generated.{workload_entry, workload_files, workload_json, workload_names}
 use Rattle.soy_top.specs.Inputs.{bundle_content, but_last, last, second_number}
-use Rattle.soy_top.specs.Line.{not_yet_line, too_large_line, entry_line, fault_line, read_line, usage_text, ended}
+use Rattle.soy_top.specs.Line.{too_large_line, entry_line, fault_line, read_line, usage_text, ended}
+use Rattle.soy_top.specs.Line.{too_long_line}
 use Rattle.soy_top.specs.MadeBundle.{bundle_text}
 use Rattle.soy_top.specs.Numbered.{numbered, numbered_line}
 use Rattle.soy_top.specs.Played.{PlayStep, Opens, first_left, played_text}
 use Rattle.soy_top.specs.Pointer.{pointer_line}
 use Rattle.soy_top.specs.ScriptSteps.{script_steps, step_line}
+use Rattle.soy_top.specs.SeenText.{is_too_long, seen_text}
 use Rattle.soy_top.specs.Shown.{shown_number}
 use Rattle.soy_top.specs.Summary.{summary}
 use Rattle.soy_top.specs.declared.play.StepFault.{StepFault}
@@ -79,10 +84,6 @@ pub data Answer : Type 0 where
   Done : List ℕ → Answer
   -- the text for the output up to a call that nests too deep, and the line of that call for standard error
   TooDeep : List ℕ → List ℕ → Answer
-
--- that the program doesn't do this yet
-abbrev pub not_yet : Word → Answer
-not_yet command = Refused (not_yet_line command)
 
 -- ---- pages
 
@@ -141,14 +142,20 @@ shown_of of template =
     option_and_then (slice_get (declared (view_trees of.files.trees)))
     (shown_number (chars template) (declared (view_trees of.files.trees)))
 
--- the same by the page of a template that may be previewed
-abbrev pub preview_answer : PageAnswer → Word → Word → List ℕ → Front → Answer
+-- the same by the page of a template that may be previewed, in a context of the bundle's direction
+abbrev pub preview_answer : (Dir → PageAnswer) → Word → Word → List ℕ → Front → Answer
 preview_answer page template json_name json of =
-    entry_answer page template json_name json of (shown_of of template)
+    entry_answer (page of.language.dir) template json_name json of (shown_of of template)
 
--- a page whose lines aren't shown yet, however it ends
-abbrev pub unseen_page : PageAnswer
-unseen_page text end = not_yet (codes "preview")
+-- the lines of a page that ends whole, as they are seen; nothing of one that stops at a call
+abbrev pub seen_lines : List Word → List (List ℕ) → Dir → PageAnswer
+seen_lines names files context text WholeRun = Done (seen_text context text)
+seen_lines names files context text (StopsAt site) = TooDeep [] (numbered_line names files (call_fault site))
+
+-- the same, unless the page is too long, however it ends
+abbrev pub seen_page : List Word → List (List ℕ) → Dir → PageAnswer
+seen_page names files context text end =
+    if is_too_long text then Refused too_long_line else seen_lines names files context text end
 
 -- ---- files and bundles
 
@@ -264,7 +271,7 @@ inputs_answer (Play script first second names) before files =
     play_answer script (numbered 0 before) of other))
 inputs_answer (Preview template json_name bundle names) before files =
     accepted_then names files bundle (bundle_content bundle 1 before) (λ of.
-    preview_answer unseen_page template json_name (numbered 0 before) of)
+    preview_answer (seen_page names files) template json_name (numbered 0 before) of)
 inputs_answer (Format name) before files = tree_answer name (numbered 0 before) (source_answer (numbered 0 before))
 
 -- the same by the contents of all its files

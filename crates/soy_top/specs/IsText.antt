@@ -1,5 +1,5 @@
 -- What a text that is the answer is: a page, a catalogue, that files are accepted, the summary of a workload, the lines
--- of a script, or the canonical source of a file.
+-- of a script, the lines of a page as they are seen, or the canonical source of a file.
 --
 -- Example: where the words are `extract t.soy`, it is the catalogue of t.soy.
 use Rattle.std.specs.Prelude.{ℕ, List}
@@ -10,6 +10,7 @@ use Rattle.soy_top.specs.IsFormatted.{IsFormatted}
 use Rattle.soy_top.specs.IsGenerated.{IsGenerated}
 use Rattle.soy_top.specs.IsPage.{IsPage}
 use Rattle.soy_top.specs.IsPlayed.{IsPlayed}
+use Rattle.soy_top.specs.IsPreview.{IsPreview}
 use Rattle.soy_top.specs.Words.{Word}
 
 pub data IsText (files : Files) (words : List Word) (text : List ℕ) : Type 0 where
@@ -19,3 +20,4 @@ pub data IsText (files : Files) (words : List Word) (text : List ℕ) : Type 0 w
   Generated : IsGenerated words text → IsText files words text
   Played : IsPlayed files words text → IsText files words text
   Formatted : IsFormatted files words text → IsText files words text
+  Previewed : IsPreview files words text → IsText files words text

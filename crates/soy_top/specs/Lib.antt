@@ -20,7 +20,9 @@ pub mod IsFormatted
 pub mod IsGenerated
 pub mod IsPage
 pub mod IsPlayed
+pub mod IsPreview
 pub mod IsRefusedFormat
+pub mod IsStopped
 pub mod IsSumOf
 pub mod IsText
 pub mod Line
@@ -38,7 +40,9 @@ pub mod RenderAsked
 pub mod Rendered
 pub mod Script
 pub mod ScriptSteps
+pub mod SeenText
 pub mod Shown
+pub mod ShownPage
 pub mod Summary
 pub mod View
 pub mod ViewOutput

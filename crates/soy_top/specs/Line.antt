@@ -2,12 +2,12 @@
 --
 -- A refusal is shown by what it speaks of, a colon, a space, the number of its code in decimal
 -- digits, a space and the code's word. What it speaks of is a file with a position, a template, or
--- the command where the program doesn't do yet what is asked.
+-- the command that doesn't show what is too long.
 -- Example: `t.zz: 29 Entry`.
 use Rattle.std.specs.Prelude.{ℕ, ◌+◌, List, [], ◌∷◌, ◌++◌, codes}
 use Rattle.std.specs.Fmt.{decimal}
 use Rattle.soy_base.specs.declared.code.Code.{Code}
-use Rattle.soy_base.specs.declared.code.Code.TheVariants.{NotYet, TooLarge, Entry}
+use Rattle.soy_base.specs.declared.code.Code.TheVariants.{TooLarge, Entry, TooLong}
 use Rattle.soy_base.specs.declared.fault.Fault.{Fault}
 use Rattle.soy_base.specs.Code.{code_number, code_word}
 use Rattle.soy_base.specs.Position.{breaks_within, characters_before}
@@ -16,10 +16,6 @@ use Rattle.soy_top.specs.Words.{Word}
 abbrev pub refusal_line : List ℕ → Code → List ℕ
 refusal_line subject code =
     subject ++ (codes ": " ++ (decimal (code_number code) ++ (codes " " ++ code_word code)))
-
--- the program doesn't do what the command asks for yet
-abbrev pub not_yet_line : Word → List ℕ
-not_yet_line command = refusal_line command NotYet
 
 -- the file is longer than its limit, which is shown at its first line and column
 abbrev pub too_large_line : Word → List ℕ
@@ -34,6 +30,10 @@ fault_line file bytes fault =
 -- the template may not be rendered
 abbrev pub entry_line : Word → List ℕ
 entry_line template = refusal_line template Entry
+
+-- the page is too long to be shown
+abbrev pub too_long_line : List ℕ
+too_long_line = refusal_line (codes "preview") TooLong
 
 -- the file could not be read
 abbrev pub read_line : Word → List ℕ

@@ -1,7 +1,7 @@
 -- Which template may be previewed under a full name: the first public one of kind html that has it. (In typed trees no
 -- other has it.)
 -- Example: a template `m` of kind text of the namespace `t` is rendered under `t.m`, and isn't previewed.
-use Rattle.std.specs.Prelude.{ℕ, Bool, true, false, not, ◌&&◌, List, Option, bytes_eq}
+use Rattle.std.specs.Prelude.{◌≡◌, ℕ, Bool, true, false, not, ◌&&◌, List, Option, bytes_eq}
 use Rattle.std.specs.List.{position}
 use Rattle.soy_base.specs.declared.kind.Kind.{Kind}
 use Rattle.soy_base.specs.declared.kind.Kind.TheVariants as kind
@@ -13,6 +13,10 @@ abbrev pub is_shown_kind : Kind → Bool
 is_shown_kind kind.Html = true
 is_shown_kind kind.Attributes = false
 is_shown_kind kind.Text = false
+
+-- the template is of kind html
+abbrev pub IsHtml : Declared → Type 0
+IsHtml d = d.template.kind ≡ kind.Html
 
 abbrev pub is_shown : Name → Name → Bool → Kind → Bool
 is_shown name full private kind = bytes_eq full name && not private && is_shown_kind kind

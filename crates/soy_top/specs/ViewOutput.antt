@@ -1,14 +1,16 @@
 -- What is to be written, as the definitions see it.
 --
 -- Example: a page is seen as the bytes of the pieces that its program gives, with the line of the call where they stop.
-use Rattle.std.specs.Prelude.{◌≡◌, ℕ, List}
+use Rattle.std.specs.Prelude.{◌≡◌, ℕ, List, []}
 use Rattle.std.specs.String.{string_bytes}
+use Rattle.render_core.specs.Pulls.{stops_at}
 use Rattle.soy_front.specs.ViewSources.{view_contents}
 use Rattle.soy_meaning.specs.Outcome.{Outcome, RunEnd, StopsAt, WholeRun, end_of_outcome}
 use Rattle.soy_top.specs.declared.output.Output.{Output}
 use Rattle.soy_top.specs.declared.output.Output.TheVariants as variant
 use Rattle.soy_top.specs.declared.output.End.{End}
 use Rattle.soy_top.specs.declared.output.End.TheVariants as end
+use Rattle.soy_top.specs.declared.page.DeepCall.{DeepCall}
 use Rattle.soy_top.specs.declared.page.Page.{Page}
 use Rattle.soy_top.specs.Answer.{call_fault, run_text}
 use Rattle.soy_top.specs.Line.{ended}
@@ -36,10 +38,18 @@ view_page page = record {
   end = view_end (command_words page.names.now) (view_contents page.sources.now) (end_of_outcome (page_run page));
 }
 
+-- nothing, up to a call
+abbrev pub view_call : DeepCall → output.Output
+view_call deep = record {
+  text = [];
+  end = view_end (command_words deep.names.now) (view_contents deep.sources.now) (stops_at deep.call);
+}
+
 abbrev pub view_output : Output → output.Output
 view_output (variant.Text text) = record { text = string_bytes text; end = output.Whole }
 view_output (variant.Page page) = view_page page
 view_output (variant.Play play) = view_play play
+view_output (variant.AtCall deep) = view_call deep
 
 -- this is how the output ends
 abbrev pub IsEnd : output.End → End → Type 0

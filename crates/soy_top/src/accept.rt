@@ -3,10 +3,10 @@
 ghost use Rattle.std.specs.Prelude.{◌≡◌, ◌≤◌, IfOk, length, option_map};
 ghost use Rattle.std.specs.String.{string_bytes};
 ghost use Rattle.soy_front.specs.ViewSources.{view_contents};
-ghost use Rattle.soy_top.specs.Accepts.{Accepts, AcceptsFront, Refuses};
+ghost use Rattle.soy_top.specs.Accepts.{Accepts, AcceptsFront};
 ghost use Rattle.soy_top.specs.Answer.{Done, accepted_text, accepted_then, contents_answer};
-ghost use Rattle.soy_top.specs.Answer.{inputs_answer, not_yet};
-ghost use Rattle.soy_top.specs.Asked.{Preview, source_files};
+ghost use Rattle.soy_top.specs.Answer.{inputs_answer};
+ghost use Rattle.soy_top.specs.Asked.{source_files};
 ghost use Rattle.soy_top.specs.View.{view_command};
 ghost use Rattle.soy_top.specs.Words.{command_words};
 
@@ -17,10 +17,9 @@ use crate::faults::front_line;
 use crate::formatted::accept_format;
 use crate::generated::accept_gen;
 use crate::inputs::{bundle_content, but_last, content_at, last, source_names};
-use crate::line::not_yet_line;
 use crate::output::Output;
 use crate::played::accept_play;
-use crate::preview::accept_shown;
+use crate::preview::accept_preview;
 use crate::render::accept_render;
 use soy_base::{OutOfMemory, Refusal};
 use soy_front::{AcceptedFiles, Source, accept as accept_sources};
@@ -134,43 +133,4 @@ fn accepted_text(alloc: Global) -> Result<String, OutOfMemory>
     ensures { IfOk result (λ text. string_bytes text ≡ accepted_text) }
 {
     Ok(String::from_str(alloc, "ok\n")?)
-}
-
-/// That a `preview` isn't done yet, or the line of the first fault of its files, its bundle, its template and its data.
-fn accept_preview<'a>(
-    alloc: Global,
-    template: &str,
-    json_name: &str,
-    bundle: &str,
-    names: &[String],
-    before: &[Source],
-    sources: &[Source],
-) -> Result<Output<'a>, Ending>
-    requires { length sources.now ≤ 64 }
-    ensures { Accepts (inputs_answer (Preview template.now json_name.now bundle.now (command_words names.now))
-        (view_contents before.now) (view_contents sources.now)) result }
-{
-    match accept_shown(
-        alloc,
-        template,
-        json_name,
-        content_at(before, 0),
-        bundle,
-        bundle_content(bundle, 1, before),
-        names,
-        sources,
-    ) {
-        Ok(_) => Err(not_yet(alloc, "preview")),
-        Err(ending) => Err(ending),
-    }
-}
-
-/// That the program doesn't do what a command asks for yet.
-fn not_yet(alloc: Global, command: &str) -> Ending
-    ensures { Refuses (not_yet command.now) result }
-{
-    match not_yet_line(alloc, command) {
-        Ok(line) => Ending::Refused(line),
-        Err(refused) => refused.into(),
-    }
 }

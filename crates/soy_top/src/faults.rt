@@ -3,14 +3,14 @@
 ghost use Rattle.std.specs.Prelude.{◌≡◌, IfOk, length, min};
 ghost use Rattle.std.specs.String.{string_bytes};
 ghost use Rattle.soy_front.specs.ViewSources.{view_contents};
-ghost use Rattle.soy_top.specs.Answer.{front_line};
+ghost use Rattle.soy_top.specs.Answer.{call_fault, front_line};
 ghost use Rattle.soy_top.specs.Line.{ended};
 ghost use Rattle.soy_top.specs.Numbered.{numbered, numbered_line};
 ghost use Rattle.soy_top.specs.Words.{command_words};
 
 use crate::inputs::content_at;
 use crate::line::{fault_line, pointer_line};
-use soy_base::{Fault, OutOfMemory};
+use soy_base::{Code, Fault, OutOfMemory, TooDeep};
 use soy_front::{FrontFault, Source};
 use std::alloc::Global;
 
@@ -44,6 +44,25 @@ pub(crate) fn numbered_line(
     let name = name_at(names, fault.file as usize);
     let bytes = content_at(sources, fault.file as usize);
     fault_line(alloc, name, bytes, within(bytes, fault))
+}
+
+/// The line of a call that nests too deep, in one of the files of these names.
+pub(crate) fn call_line(
+    alloc: Global,
+    names: &[String],
+    sources: &[Source],
+    call: TooDeep,
+) -> Result<String, OutOfMemory>
+    ensures { IfOk result (λ line. string_bytes line
+        ≡ ended (numbered_line (command_words names.now) (view_contents sources.now)
+        (call_fault (record { file = call.file; at = call.at })))) }
+{
+    let fault = Fault {
+        code: Code::TooDeep,
+        file: call.file,
+        at: call.at,
+    };
+    numbered_line(alloc, names, sources, fault)
 }
 
 /// The name of a number, or an empty one where there are fewer.

@@ -7,13 +7,15 @@ ghost use Rattle.soy_desk.specs.DeskState.{DeskState, desk_with, first_rest};
 ghost use Rattle.soy_front.specs.Compiled.{AreCompiled};
 ghost use Rattle.soy_front.specs.declared.compiling.Compiled.{Compiled};
 ghost use Rattle.soy_io.specs.FileOf.{Files};
-ghost use Rattle.soy_top.specs.AcceptedRender.{AcceptedRender};
 ghost use Rattle.soy_meaning.specs.TypedData.{FitsData};
+ghost use Rattle.soy_top.specs.AcceptedRender.{AcceptedPreview, AcceptedRender};
 ghost use Rattle.soy_top.specs.Answer.{Done, Refused, TooDeep, answer, known_answer, template_outcome};
 ghost use Rattle.soy_top.specs.Asked.{asked_by_words};
 ghost use Rattle.soy_top.specs.DeskLines.{ShowsAll};
-ghost use Rattle.soy_top.specs.IsPage.{IsRefusedPage, IsStoppedPage};
+ghost use Rattle.soy_top.specs.IsPage.{IsRefusedPage};
+ghost use Rattle.soy_top.specs.IsPreview.{IsRefusedPreview};
 ghost use Rattle.soy_top.specs.IsRefusedFormat.{AreFormat, IsRefusedFormat};
+ghost use Rattle.soy_top.specs.IsStopped.{IsStopped};
 ghost use Rattle.soy_top.specs.IsText.{IsText};
 ghost use Rattle.soy_top.specs.OneText.{IsOneText};
 ghost use Rattle.soy_top.specs.Played.{PlayStep, first_left, played_text};
@@ -27,24 +29,33 @@ ghost use Rattle.soy_tree.specs.declared.value.Value.{Value};
 ghost use Rattle.template_ir.specs.Run.{input_env, names_of};
 ghost use Rattle.template_ir.specs.declared.program.ProgramParts.{ProgramParts};
 
-/// The answer is a text exactly where the text is the page, the catalogue, the lines of the script or the canonical
-/// source of the words and of the files that are held, or says that these are accepted, or is the summary of the
-/// workload that the words name. It
-/// is a text that ends too deep exactly where that is a page up to a call that nests too deep, with the line of the
-/// call. Of a `render` whose files and bundle are accepted, it is a refusal exactly where no template may be rendered
-/// under the name (29), the data are no JSON (27) or they give no values (28).
+/// The answer is a text exactly where the text is the page, the catalogue, the lines of the script, the shown lines or
+/// the canonical source of the words and of the files that are held, or says that these are accepted, or is the summary
+/// of the workload that the words name. It is a text that ends too deep exactly where that is a page up to a call that
+/// nests too deep, or nothing of a `preview` that ends at one, with the line of the call. Of a `render` whose files and
+/// bundle are accepted, it is a refusal exactly where no template may be rendered under the name (29), the data are no
+/// JSON (27) or they give no values (28).
 pub fn law_answer_is_text()
     ensures text { (files : Files) (words : List Word) (text : List ℕ) → answer files words ≡ Done text →
         IsText files words text }
     ensures only_text { (files : Files) (words : List Word) (text : List ℕ) → IsText files words text →
         answer files words ≡ Done text }
     ensures stopped { (files : Files) (words : List Word) (text line : List ℕ) →
-        answer files words ≡ TooDeep text line → IsStoppedPage files words text line }
+        answer files words ≡ TooDeep text line → IsStopped files words text line }
     ensures only_stopped { (files : Files) (words : List Word) (text line : List ℕ) →
-        IsStoppedPage files words text line → answer files words ≡ TooDeep text line }
+        IsStopped files words text line → answer files words ≡ TooDeep text line }
     ensures refused { (files : Files) (words : List Word) (line : List ℕ) → AcceptedRender files words →
         answer files words ≡ Refused line → IsRefusedPage files words line }
     ensures only_refused { (files : Files) (words : List Word) (line : List ℕ) → IsRefusedPage files words line →
+        answer files words ≡ Refused line }
+{}
+
+/// Of a `preview` whose files and bundle are accepted, the answer is a refusal exactly where no template may be
+/// previewed under the name (29), the data are no JSON (27), they give no values (28) or the page is too long (33).
+pub fn law_refused_preview()
+    ensures refused { (files : Files) (words : List Word) (line : List ℕ) → AcceptedPreview files words →
+        answer files words ≡ Refused line → IsRefusedPreview files words line }
+    ensures only_refused { (files : Files) (words : List Word) (line : List ℕ) → IsRefusedPreview files words line →
         answer files words ≡ Refused line }
 {}
 

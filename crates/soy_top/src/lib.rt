@@ -6,11 +6,12 @@
 //! template file that has a fault, and then, but for `format`, what the trees of all template files may not
 //! have, and, but for `extract`, what the bundle and the paths of the pages may not have. `render` writes
 //! pages, pull by pull, `check` says that all is accepted, `extract` writes the catalogue of messages, `gen` sums up a
-//! page of files that it makes, `play` plays a script on a desk, and `format` writes the canonical source of a file.
+//! page of files that it makes, `play` plays a script on a desk, `preview` writes the lines of a page as they are seen,
+//! and `format` writes the canonical source of a file.
 //!
 //! Depends on soy_base and soy_io; on soy_front for the files and the bundle as one program; on soy_types for
-//! the data, render_core for the page, soy_desk for scripts, msg_extract for the catalogue, soy_format for canonical
-//! source, and work_gen for what `gen` renders.
+//! the data, render_core for the page, soy_desk for scripts, msg_extract for the catalogue, bidi_preview for the lines of
+//! a page, soy_format for canonical source, and work_gen for what `gen` renders.
 #![tactic(auto)]
 
 mod accept;
@@ -33,12 +34,13 @@ mod preview;
 mod program;
 mod render;
 mod script;
+mod seen;
 mod status;
 mod summary;
 mod wanted;
 
 pub use laws::{
-    law_answer_is_text, law_desk_shows, law_first_left, law_page_is_one_text, law_refused_format,
+    law_answer_is_text, law_desk_shows, law_first_left, law_page_is_one_text, law_refused_format, law_refused_preview,
     law_rendered_answer,
 };
 pub use program::run;

@@ -4,8 +4,8 @@ ghost use Rattle.std.specs.Prelude.{◌≡◌, ◌≤◌, ◌++◌, length, IfOk
 ghost use Rattle.std.specs.List.{flat_map};
 ghost use Rattle.std.specs.Str.{chars};
 ghost use Rattle.std.specs.String.{string_bytes};
-ghost use Rattle.soy_top.specs.Line.{refusal_line, not_yet_line, too_large_line, fault_line, entry_line, read_line};
-ghost use Rattle.soy_top.specs.Line.{ended};
+ghost use Rattle.soy_top.specs.Line.{refusal_line, too_large_line, fault_line, entry_line, read_line};
+ghost use Rattle.soy_top.specs.Line.{ended, too_long_line};
 ghost use Rattle.soy_top.specs.Pointer.{key_character, pointer, pointer_line, pointer_step};
 ghost use Rattle.soy_top.specs.ScriptSteps.{step_line};
 
@@ -30,13 +30,6 @@ fn refusal_line(alloc: Global, subject: &str, code: Code) -> Result<String, OutO
     let number = code.number();
     let word = code.word();
     Ok(format!(in alloc; "{subject}: {number} {word}\n")?)
-}
-
-/// The line of a command that the program doesn't do yet.
-pub(crate) fn not_yet_line(alloc: Global, command: &str) -> Result<String, OutOfMemory>
-    ensures { IfOk result (λ line. string_bytes line ≡ ended (not_yet_line command.now)) }
-{
-    refusal_line(alloc, command, Code::NotYet)
 }
 
 /// The line of a file over its limit.
@@ -142,6 +135,13 @@ pub(crate) fn entry_line(alloc: Global, template: &str) -> Result<String, OutOfM
     ensures { IfOk result (λ line. string_bytes line ≡ ended (entry_line template.now)) }
 {
     refusal_line(alloc, template, Code::Entry)
+}
+
+/// The line of a page that is too long to be shown.
+pub(crate) fn too_long_line(alloc: Global) -> Result<String, OutOfMemory>
+    ensures { IfOk result (λ line. string_bytes line ≡ ended too_long_line) }
+{
+    refusal_line(alloc, "preview", Code::TooLong)
 }
 
 /// The line of a file that could not be read, with its line feed.

@@ -8,18 +8,20 @@ ghost use Rattle.soy_top.specs.Output.{OnNoText};
 ghost use Rattle.soy_top.specs.ViewOutput.{IsEnd, view_output};
 
 use crate::ending::{put_status, say};
-use crate::page::{Page, put_bytes};
+use crate::page::{DeepCall, Page, put_bytes};
 use crate::play::Play;
 use crate::status::Status;
 use soy_io::{PutFault, Sink};
 use std::alloc::Global;
 
-/// What was accepted: a text that is there, a page that is put by pieces, or a script that is played.
+/// What was accepted: a text that is there, a page that is put by pieces, a script that is played, or nothing up to a
+/// call that nests too deep.
 #[derive(Drop)]
 pub(crate) enum Output<'a> {
     Text(String),
     Page(Page<'a>),
     Play(Play<'a>),
+    AtCall(DeepCall<'a>),
 }
 
 /// How what was put ended: whole, or before a call that nests too deep, with the line of that call.
@@ -43,6 +45,7 @@ impl Output<'_> {
             Output::Text(text) => put_text(text.as_str(), out),
             Output::Page(page) => page.put(alloc, out),
             Output::Play(play) => play.put(alloc, out),
+            Output::AtCall(deep) => deep.end(alloc),
         }
     }
 

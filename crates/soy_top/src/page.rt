@@ -1,21 +1,15 @@
 //! Puts a page, pull by pull.
 
 ghost use Rattle.std.specs.Prelude.{◌≡◌, ◌≤◌, ◌<◌, length, IfErr, IfOk, OnOk};
-ghost use Rattle.std.specs.String.{string_bytes};
-ghost use Rattle.soy_front.specs.ViewSources.{view_contents};
 ghost use Rattle.soy_io.specs.PutRose.{PutRose};
-ghost use Rattle.soy_top.specs.Answer.{call_fault};
 ghost use Rattle.soy_top.specs.Change.{change, Took, TookPrefix};
-ghost use Rattle.soy_top.specs.Line.{ended};
-ghost use Rattle.soy_top.specs.Numbered.{numbered_line};
 ghost use Rattle.soy_top.specs.Output.{OnNoText};
-ghost use Rattle.soy_top.specs.ViewOutput.{IsEnd, view_page};
-ghost use Rattle.soy_top.specs.Words.{command_words};
+ghost use Rattle.soy_top.specs.ViewOutput.{IsEnd, view_call, view_page};
 
-use crate::faults::numbered_line;
+use crate::faults::call_line;
 use crate::output::End;
 use render_core::Rendering;
-use soy_base::{Code, Fault, OutOfMemory, Refusal, Steps, TooDeep};
+use soy_base::{OutOfMemory, Refusal, Steps, TooDeep};
 use soy_front::Source;
 use soy_io::{PutFault, Sink, put_all};
 use soy_tree::Value;
@@ -34,6 +28,14 @@ pub(crate) struct Page<'a> {
     pub(crate) program: Program,
     pub(crate) template: usize,
     pub(crate) input: Value,
+    pub(crate) names: &'a [String],
+    pub(crate) sources: &'a [Source],
+}
+
+/// A call that nests too deep, at which nothing is put; and the names and the contents of the files, for its line.
+#[derive(Drop)]
+pub(crate) struct DeepCall<'a> {
+    pub(crate) call: TooDeep,
     pub(crate) names: &'a [String],
     pub(crate) sources: &'a [Source],
 }
@@ -116,7 +118,12 @@ impl Page<'_> {
                         return Err(stop.cause);
                     }
                 }
-                Err(Refusal::Because(call)) => match self.call_line(alloc, call) {
+                Err(Refusal::Because(call)) => match call_line(
+                    alloc,
+                    self.names,
+                    self.sources,
+                    call,
+                ) {
                     Ok(line) => return Ok(End::AtCall(line)),
                     Err(OutOfMemory) => return Err(PutFault::OutOfMemory),
                 },
@@ -124,18 +131,17 @@ impl Page<'_> {
             }
         }
     }
+}
 
-    /// The line of a call that nests too deep.
-    fn call_line(&self, alloc: Global, call: TooDeep) -> Result<String, OutOfMemory>
-        ensures { IfOk result (λ line. string_bytes line
-            ≡ ended (numbered_line (command_words self.now.names.now) (view_contents self.now.sources.now)
-            (call_fault (record { file = call.file; at = call.at })))) }
+impl DeepCall<'_> {
+    /// The end at the call, with its line.
+    pub(crate) fn end(&self, alloc: Global) -> Result<End, PutFault>
+        ensures ok { IfOk result (λ end. IsEnd (view_call self.now).end end) }
+        ensures err { IfErr result (λ fault. fault ≡ PutFault.OutOfMemory) }
     {
-        let fault = Fault {
-            code: Code::TooDeep,
-            file: call.file,
-            at: call.at,
-        };
-        numbered_line(alloc, self.names, self.sources, fault)
+        match call_line(alloc, self.names, self.sources, self.call) {
+            Ok(line) => Ok(End::AtCall(line)),
+            Err(OutOfMemory) => Err(PutFault::OutOfMemory),
+        }
     }
 }

@@ -1,13 +1,17 @@
 //! Pages: files and a bundle are compiled, the template is found, and its data are read.
 
-ghost use Rattle.std.specs.Prelude.{◌≡◌, ◌≤◌, ℕ, List, Ok, Option, Some, IfOk, length, option_map, slice_get};
+ghost use Rattle.std.specs.Prelude.{◌≡◌, ◌≤◌, ℕ, List, Ok, Option, Some, IfOk, IfSome, length, option_map, slice_get};
 ghost use Rattle.soy_front.specs.Compiled.{AreCompiled, CompilesFiles};
 ghost use Rattle.soy_front.specs.FilesAnswer.{files_answer};
 ghost use Rattle.soy_front.specs.ReadsFiles.{view_files};
 ghost use Rattle.soy_front.specs.ViewSources.{view_contents};
 ghost use Rattle.soy_top.specs.Accepts.{Accepts, AcceptsPage, CompilesFront, IsNumbered};
 ghost use Rattle.soy_top.specs.Answer.{accepted_then, data_answer, entry_answer, inputs_answer, render_answer};
+ghost use Rattle.soy_top.specs.Answer.{run_text};
 ghost use Rattle.soy_top.specs.Asked.{Render};
+ghost use Rattle.soy_top.specs.Shown.{IsHtml};
+ghost use Rattle.soy_top.specs.ShownPage.{IsPageText};
+ghost use Rattle.soy_top.specs.ViewOutput.{page_run};
 ghost use Rattle.soy_top.specs.Words.{command_words};
 ghost use Rattle.soy_tree.specs.Templates.{Declared, declared};
 ghost use Rattle.soy_tree.specs.ViewTrees.{view_trees};
@@ -154,7 +158,7 @@ fn unless_refused(
 }
 
 /// The page of the template of a number, or the line of the fault of its data; or the line that there is no such
-/// template, where there is no number.
+/// template, where there is no number. The characters of an html page, taken as one text, are read without a fault.
 pub(crate) fn accept_entry<'a>(
     alloc: Global,
     compiled: Compiled,
@@ -168,6 +172,9 @@ pub(crate) fn accept_entry<'a>(
     ensures accepts { (content : Option (List ℕ)) (are : AreCompiled (view_contents sources.now) content compiled)
         (d : Option Declared) → IsNumbered (declared (view_trees compiled.typed)) entry d →
         AcceptsPage (λ page. entry_answer page template.now json_name.now json.now are.of d) result }
+    ensures text { (content : Option (List ℕ)) (are : AreCompiled (view_contents sources.now) content compiled)
+        (d : Option Declared) → IsNumbered (declared (view_trees compiled.typed)) entry d → IfSome d IsHtml →
+        IfOk result (λ page. IsPageText (run_text (page_run page))) }
     ensures names { IfOk result (λ page. page.names.now ≡ names.now) }
     ensures sources { IfOk result (λ page. page.sources.now ≡ sources.now) }
 {
@@ -180,7 +187,8 @@ pub(crate) fn accept_entry<'a>(
     }
 }
 
-/// The page of the template of a number, or the line of the fault of its data.
+/// The page of the template of a number, or the line of the fault of its data. The characters of an html page, taken as
+/// one text, are read without a fault.
 fn accept_data<'a>(
     alloc: Global,
     compiled: Compiled,
@@ -193,6 +201,9 @@ fn accept_data<'a>(
     ensures accepts { (content : Option (List ℕ)) (are : AreCompiled (view_contents sources.now) content compiled)
         (d : Declared) → slice_get (declared (view_trees compiled.typed)) number ≡ Some d →
         AcceptsPage (λ page. data_answer page json_name.now are.of d (data_at d.template.params json.now)) result }
+    ensures text { (content : Option (List ℕ)) (are : AreCompiled (view_contents sources.now) content compiled)
+        (d : Declared) → slice_get (declared (view_trees compiled.typed)) number ≡ Some d → IsHtml d →
+        IfOk result (λ page. IsPageText (run_text (page_run page))) }
     ensures names { IfOk result (λ page. page.names.now ≡ names.now) }
     ensures sources { IfOk result (λ page. page.sources.now ≡ sources.now) }
 {

@@ -2,6 +2,7 @@ use Rattle.std.proofs.Common.{sym, subst, ap, ◌∙◌}
 use Rattle.soy_front.specs.ViewSources.{view_contents}
 use Rattle.soy_top.specs.Line.{ended}
 use Rattle.soy_top.specs.Pointer.{pointer_line}
+use Rattle.soy_top.proofs.HtmlTexts.{html_text}
 use Rattle.soy_top.proofs.Pages.{fault_answered, page_answered}
 use Rattle.soy_tree.specs.Typed.{AreTyped}
 use Rattle.soy_tree.specs.ViewTrees.{view_params}
@@ -15,6 +16,13 @@ returns-in-Ok-clause-accepts c = λ content are d found.
     let typed : AreTyped c.args.compiled.typed = subst (λ ts. AreTyped ts) c.drop.view_is c.drop.invariant in
     page_answered (view_contents c.args.sources.now) content c.args.compiled are c.args.json_name.now c.args.json.now
     c.args.number d found typed (view_value c.in-Ok.input) read c.in-Ok.ensures.short
+
+pub returns-in-Ok-clause-text : goal.returns-in-Ok-clause-text
+returns-in-Ok-clause-text c = λ content are d found html.
+    let read = ap (λ ps. data_at (view_params ps) c.args.json.now) (sym c.params.ensures) ∙ c.in-Ok.ensures.value in
+    let typed : AreTyped c.args.compiled.typed = subst (λ ts. AreTyped ts) c.drop.view_is c.drop.invariant in
+    html_text (view_contents c.args.sources.now) content c.args.compiled are c.args.json_name.now c.args.json.now
+    c.args.number d found typed (view_value c.in-Ok.input) read c.in-Ok.ensures.short html
 
 pub returns-in-Err-Because-clause-accepts : goal.returns-in-Err-Because-clause-accepts
 returns-in-Err-Because-clause-accepts c = λ content are d found page.

@@ -1,0 +1,50 @@
+use Rattle.std.proofs.Common.{◌≡◌, ◌≤◌, length, refl, sym, subst, ap, ◌∙◌, arith}
+use Rattle.render_core.specs.Rest.{rest_bytes, rest_end}
+use Rattle.soy_top.specs.ViewOutput.{page_run}
+use Rattle.soy_top.proofs.Gathering.{gathered_more, gathered_none, gathered_whole, too_many}
+use Rattle.soy_top.proofs.Pulling.{done_whole, end_solid, pulled_none, pulled_stop, pulled_within, text_solid}
+use Rattle.soy_top.proofs.seen.gather_pulls.Goals as goal
+
+pub loop-bytes-init : goal.loop-bytes-init
+loop-bytes-init g c =
+    let o = page_run c.args.page.now in record {
+      fits = c.in-Ok.ensures.fits;
+      so_far = gathered_none _ _ _ (ap rest_bytes c.in-Ok.ensures.rest ∙ text_solid o) c.new-bytes.ensures.items;
+      same_end = ap rest_end c.in-Ok.ensures.rest ∙ end_solid o;
+      few = omega (arith, ap length c.new-bytes.ensures.items);
+      has_room = c.requires.room;
+    }
+
+pub returns-in-Ok-eq0 : goal.returns-in-Ok-eq0
+returns-in-Ok-eq0 g c =
+    let inv = c.loop-bytes.invariant in
+    let zero_given : c.in-Ok-eq0.field-0 ≡ 0 = omega (arith, c.in-Ok-eq0.field-0-test) in
+    let none = pulled_none _ _ _ _ _ _ _ _ _ c.in-Ok-eq0.field-0 refl c.in-Ok-eq0.ensures.pulls zero_given
+    inv.has_room (done_whole _ _ _ inv.fits.done) in
+    let whole = gathered_whole _ _ _ inv.so_far none.0 in
+    (omega (arith, inv.few, ap length whole), whole, sym inv.same_end ∙ none.1)
+
+pub returns-in-Ok-pull : goal.returns-in-Ok-pull
+returns-in-Ok-pull g c =
+    let inv = c.loop-bytes.invariant in
+    too_many _ _ _ inv.so_far 1048576 c.in-Ok-pull.n c.pull.new.room _ c.in-Ok-pull.ensures.bytes
+    (omega (arith, pulled_within _ _ _ _ _ _ _ _ _ c.in-Ok-pull.n c.in-Ok-pull.ensures.pulls, c.pull.auto.room))
+    (omega arith)
+
+pub loop-bytes-preserved : goal.loop-bytes-preserved
+loop-bytes-preserved g c =
+    let inv = c.loop-bytes.invariant in record {
+      fits = c.in-Ok-pull.ensures.fits;
+      so_far = gathered_more _ _ _ inv.so_far _ _ c.in-Ok-pull.ensures.bytes;
+      same_end = sym c.in-Ok-pull.ensures.end ∙ inv.same_end;
+      few = omega arith;
+      has_room = omega (arith, inv.has_room, c.pull.auto.room);
+    }
+
+pub returns-in-Err-Because : goal.returns-in-Err-Because
+returns-in-Err-Because g c =
+    let inv = c.loop-bytes.invariant in
+    let stop = pulled_stop _ _ _ _ _ _ _ _ _ c.in-Err-Because.call c.in-Err-Because.field-0
+    c.in-Err-Because.field-0-is refl c.in-Err-Because.ensures.pulls in
+    let whole = gathered_whole _ _ _ inv.so_far stop.0 in
+    (omega (arith, inv.few, ap length whole), sym inv.same_end ∙ stop.1)
