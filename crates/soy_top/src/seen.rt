@@ -37,8 +37,8 @@ pub(crate) enum Gathered {
 /// long.
 pub(crate) fn show<'a>(alloc: Global, page: Page<'a>, context: Dir) -> Result<Output<'a>, Ending>
     requires { IsPageText (run_text (page_run page)) }
-    ensures { Accepts (page_answer (seen_page (command_words page.names.now) (view_contents page.sources.now) context)
-        (page_run page)) result }
+    ensures { Accepts (page_answer (seen_page (command_words page.entry.names.now)
+        (view_contents page.entry.sources.now) context) (page_run page.entry)) result }
 {
     match gather(alloc, &page)? {
         Gathered::TooLong => Err(Ending::Refused(too_long_line(alloc)?)),
