@@ -33,7 +33,7 @@ use Rattle.soy_base.specs.declared.direction.Dir.{Dir}
 use Rattle.soy_top.specs.Answer.{preview_answer, shown_of}
 
 -- the same files, and a language that says the same
-record IsGiven (answer : Result Front FrontFault) (of : Front) : Type 0 where
+pub record IsGiven (answer : Result Front FrontFault) (of : Front) : Type 0 where
   pub given : Front
   pub answered : answer ≡ Ok given
   pub files : given.files ≡ of.files
@@ -54,7 +54,7 @@ module _ (contents : List (List ℕ)) (bundle : Option (List ℕ)) (of : Front) 
       absurd (brought_apart bundle of.files.rows of.language fault.0 is.brings fault.1)
 
   -- what is answered of them is of the same files, and of a language that says the same
-  deserved_given : IsGiven (front_answer contents bundle) of
+  pub deserved_given : IsGiven (front_answer contents bundle) of
   deserved_given =
       let g = by_language (language_or_fault bundle of.files.rows) in
       record {
@@ -71,7 +71,7 @@ module _ (given of : Front) (files : given.files ≡ of.files) (language : Bundl
       files
 
   -- so their templates give the same
-  outcome_alike : (d : Declared) (v : Value) → template_outcome given d v ≡ template_outcome of d v
+  pub outcome_alike : (d : Declared) (v : Value) → template_outcome given d v ≡ template_outcome of d v
   outcome_alike d v =
       ap (λ (l : Language). template_run (language_context l (declared (view_trees given.files.trees))) d
       (input_env (names_of d.template.params) v)) (languages_alike given.language of.language language)
