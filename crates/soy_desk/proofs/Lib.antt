@@ -1,6 +1,6 @@
-mod Entries
+pub mod Entries
 mod Slots
-mod Lefts
+pub mod Lefts
 mod Followed
 mod Law
 mod Meanings
