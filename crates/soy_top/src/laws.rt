@@ -16,9 +16,9 @@ ghost use Rattle.soy_top.specs.Rendered.{Rendered, known_rendered, rendered_answ
 ghost use Rattle.soy_top.specs.Words.{Word};
 
 /// The answer is a text exactly where the text is the page, the catalogue, the canonical source or the shown lines of
-/// the words and of the files that are held, or says that these are accepted, or is the summary of the workload that the
-/// words name. It is a text that ends too deep exactly where that is a page up to a call that nests too deep, or nothing
-/// of a `preview` that ends at one, with the line of the call. Of a `render` whose files and bundle are accepted, it is
+/// the words and of the files that are held, or says that these are accepted, or is the summary of the workload that
+/// the words name. It is a text that ends too deep exactly where that is a page up to a call that nests too deep, or
+/// nothing of a `preview` that ends at one, with the line of the call. Of a `render` whose files and bundle are accepted, it is
 /// a refusal exactly where no template may be rendered under the name (29), the data are no JSON (27) or they give no
 /// values (28).
 pub fn law_answer_is_text()

@@ -6,8 +6,8 @@
 //! template file that has a fault, and then, but for `format`, what the trees of all template files may not
 //! have, and, but for `extract`, what the bundle and the paths of the pages may not have. `render` writes
 //! pages, pull by pull, `check` says that all is accepted, `extract` writes the catalogue of messages, `gen` sums up a
-//! page of files that it makes, `preview` writes the lines of a page as they are seen, and `format` writes the canonical
-//! source of a file.
+//! page of files that it makes, `preview` writes the lines of a page as they are seen, and `format` writes the
+//! canonical source of a file.
 //!
 //! Depends on soy_base and soy_io; on soy_front for the files and the bundle as one program; on soy_types for
 //! the data, render_core for the page, msg_extract for the catalogue, bidi_preview for the lines of a page, soy_format
