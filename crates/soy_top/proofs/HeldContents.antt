@@ -1,5 +1,5 @@
--- What is known of files that are held, and of an answer that is no refusal: the contents are those of files within their
--- limits, and those of inputs that are accepted.
+-- What is known of files that are held, and of an answer that is no refusal: the contents are those of files within
+-- their limits, and those of inputs that are accepted.
 use Rattle.std.proofs.Common.{◌≡◌, ◌≤◌, ℕ, zero, suc, Bool, true, false, cond, ◌-◌, List, [], ◌∷◌, ◌++◌, length, drop}
 use Rattle.std.proofs.Common.{take, length-append, map, Option, Some, None, refl, sym, ap, ◌∙◌, arith, codes, subst}
 use Rattle.std.proofs.lemmas.List.{length-map}

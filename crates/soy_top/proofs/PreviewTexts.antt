@@ -1,5 +1,5 @@
--- Where the answer to a `preview` is a text, the words and the files are those of a page whose lines are shown; where it
--- ends too deep, they are those of a page that stops at a call, and the text is empty.
+-- Where the answer to a `preview` is a text, the words and the files are those of a page whose lines are shown; where
+-- it ends too deep, they are those of a page that stops at a call, and the text is empty.
 use Rattle.std.proofs.Common.{◌≡◌, ◌≤◌, ℕ, Bool, true, false, List, [], Some, ap, length, refl, codes}
 use Rattle.std.specs.Prelude.{Ok, if◌then◌else◌}
 use Rattle.std.proofs.lemmas.Bool.{ltb-false}

@@ -1,4 +1,5 @@
--- Files that are held and within their limits don't stand in the way of an answer, which is then that by their contents.
+-- Files that are held and within their limits don't stand in the way of an answer, which is then that by their
+-- contents.
 use Rattle.std.proofs.Common.{◌≡◌, ◌≤◌, ℕ, Bool, true, false, cond, List, [], ◌∷◌, ◌++◌, length, map, Option}
 use Rattle.std.proofs.Common.{Some, None, refl, ap, ◌∙◌, codes}
 use Rattle.std.specs.Prelude.{is_some, unwrap_or, nat_lt}
@@ -31,7 +32,8 @@ module _ (files : Files) where
       ap (λ o. cond (is_some o) (first_not_held files rest) (Some name)) held.0
 
   -- its content is its bytes
-  pub data_content : (name : Word) (bytes : List ℕ) → HoldsData files name bytes → content files (data_file name) ≡ bytes
+  pub data_content : (name : Word) (bytes : List ℕ) → HoldsData files name bytes
+      → content files (data_file name) ≡ bytes
   data_content name bytes held = ap (λ o. unwrap_or o []) held.0
 
   -- nor does it by its size
@@ -91,8 +93,8 @@ module _ (files : Files) where
   no_language bundle false e never = e
 
   -- a bundle that is held, or none, before files none of which stands in the way
-  pub bundle_ready : (bundle : Word) (bytes : Option (List ℕ)) (sources : List FileWanted) → HoldsBundle files bundle bytes
-      → first_not_held files sources ≡ None → first_over_limit files sources ≡ None
+  pub bundle_ready : (bundle : Word) (bytes : Option (List ℕ)) (sources : List FileWanted)
+      → HoldsBundle files bundle bytes → first_not_held files sources ≡ None → first_over_limit files sources ≡ None
       → BundleReady bundle bytes sources
   bundle_ready bundle None sources held none within =
       let is = is_language bundle held in

@@ -37,7 +37,13 @@ first_stands test x xs from at true is e later =
     record { index = 0; item = x; counted = omega arith; there = refl; passes = is }
 first_stands test x xs from at false is e later =
     let s = later e in
-    record { index = suc s.index; item = s.item; counted = omega (arith, s.counted); there = s.there; passes = s.passes }
+    record {
+      index = suc s.index;
+      item = s.item;
+      counted = omega (arith, s.counted);
+      there = s.there;
+      passes = s.passes;
+    }
 
 found_stands : {X : Type 0} (test : X → Bool) (xs : List X) (from at : ℕ) → position_from test from xs ≡ Some at
     → Stands test xs from at

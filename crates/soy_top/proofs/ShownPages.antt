@@ -47,7 +47,8 @@ module _ (names : List Word) (contents : List (List ℕ)) (context : Dir) (o : O
 
   -- stopped at a call, with nothing
   pub shown_stopped : (call : TooDeep) → length (run_text o) ≤ 1048576 → end_of_outcome o ≡ stops_at call
-      → page_answer (seen_page names contents context) o ≡ seen_lines names contents context (run_text o) (stops_at call)
+      → page_answer (seen_page names contents context) o
+      ≡ seen_lines names contents context (run_text o) (stops_at call)
   shown_stopped call few is =
       seen_short names contents context (run_text o) (end_of_outcome o) few
       ∙ ap (seen_lines names contents context (run_text o)) is

@@ -1,5 +1,5 @@
--- A text is what is shown by the words of a `preview` and the files that are held; or a preview ends at a call that nests
--- too deep; or it is refused.
+-- A text is what is shown by the words of a `preview` and the files that are held; or a preview ends at a call that
+-- nests too deep; or it is refused.
 --
 -- The words ask to preview files and a bundle that are held and accepted. The template is a public one of kind html
 -- that has its name, and the data give its parameters values. Where the meaning of the template under them isn't over

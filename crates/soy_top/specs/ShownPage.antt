@@ -1,5 +1,5 @@
--- What is said of a page that is to be shown: it is accepted with the direction of its context, its text is read as one,
--- and what is gathered of it.
+-- What is said of a page that is to be shown: it is accepted with the direction of its context, its text is read as
+-- one, and what is gathered of it.
 --
 -- Example: of a page of 1,048,577 bytes it is gathered that it is too long, however it ends.
 use Rattle.std.specs.Prelude.{◌≡◌, ◌≤◌, ◌<◌, ℕ, List, Result, Ok, Err, length}

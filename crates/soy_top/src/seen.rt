@@ -93,8 +93,8 @@ fn gather_pulls<L: Ledger>(
     }
 }
 
-/// The lines of a page as they are seen, by its bytes. All pages are UTF-8; what isn't, which can't come, is answered as
-/// out of memory.
+/// The lines of a page as they are seen, by its bytes. All pages are UTF-8; what isn't, which can't come, is answered
+/// as out of memory.
 fn seen_text(alloc: Global, page: &[u8], context: Dir) -> Result<String, OutOfMemory>
     requires { IsPageText page.now }
     ensures { IfOk result (λ text. string_bytes text ≡ seen_text context page.now) }

@@ -1,8 +1,10 @@
-use Rattle.std.proofs.Common.{◌≡◌, ◌≤◌, length, refl, sym, subst, ap, ◌∙◌, arith}
-use Rattle.render_core.specs.Rest.{rest_bytes, rest_end}
+use Rattle.std.proofs.Common.{◌≡◌, ℕ, List, length, refl, sym, ap, ◌∙◌, arith, rules}
+use Rattle.render_core.specs.Rest.{rest_bytes, rest_end, rest_of}
+use Rattle.soy_tree.specs.ViewValues.{view_value}
+use Rattle.soy_top.specs.Answer.{run_text}
 use Rattle.soy_top.specs.ViewOutput.{page_run}
-use Rattle.soy_top.proofs.Gathering.{gathered_more, gathered_none, gathered_whole, too_many}
-use Rattle.soy_top.proofs.Pulling.{done_whole, end_solid, pulled_none, pulled_stop, pulled_within, text_solid}
+use Rattle.soy_top.proofs.Gathering.{gathered_more, gathered_none, gathered_whole}
+use Rattle.soy_top.proofs.Pulling.{done_whole, end_solid, pulled_none, pulled_stop, text_solid}
 use Rattle.soy_top.proofs.seen.gather_pulls.Goals as goal
 
 pub loop-bytes-init : goal.loop-bytes-init
@@ -24,27 +26,23 @@ returns-in-Ok-eq0 g c =
     let whole = gathered_whole _ _ _ inv.so_far none.0 in
     (omega (arith, inv.few, ap length whole), whole, sym inv.same_end ∙ none.1)
 
-pub returns-in-Ok-pull : goal.returns-in-Ok-pull
-returns-in-Ok-pull g c =
-    let inv = c.loop-bytes.invariant in
-    too_many _ _ _ inv.so_far 1048576 c.in-Ok-pull.n c.pull.new.room _ c.in-Ok-pull.ensures.bytes
-    (omega (arith, pulled_within _ _ _ _ _ _ _ _ _ c.in-Ok-pull.n c.in-Ok-pull.ensures.pulls, c.pull.auto.room))
-    (omega arith)
-
 pub loop-bytes-preserved : goal.loop-bytes-preserved
 loop-bytes-preserved g c =
     let inv = c.loop-bytes.invariant in record {
       fits = c.in-Ok-pull.ensures.fits;
       so_far = gathered_more _ _ _ inv.so_far _ _ c.in-Ok-pull.ensures.bytes;
       same_end = sym c.in-Ok-pull.ensures.end ∙ inv.same_end;
-      few = omega arith;
+      few = search rules;
       has_room = omega (arith, inv.has_room, c.pull.auto.room);
     }
 
 pub returns-in-Err-Because : goal.returns-in-Err-Because
 returns-in-Err-Because g c =
     let inv = c.loop-bytes.invariant in
+    let rest : List ℕ = rest_bytes (rest_of c.args.page.now.program (view_value c.args.page.now.input)
+    c.loop-bytes.rendering) in
     let stop = pulled_stop _ _ _ _ _ _ _ _ _ c.in-Err-Because.call c.in-Err-Because.field-0
     c.in-Err-Because.field-0-is refl c.in-Err-Because.ensures.pulls in
-    let whole = gathered_whole _ _ _ inv.so_far stop.0 in
+    let whole : c.loop-bytes.bytes.items ≡ run_text (page_run c.args.page.now) =
+    gathered_whole (run_text (page_run c.args.page.now)) rest c.loop-bytes.bytes.items inv.so_far stop.0 in
     (omega (arith, inv.few, ap length whole), sym inv.same_end ∙ stop.1)
