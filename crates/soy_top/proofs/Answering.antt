@@ -28,7 +28,7 @@ use Rattle.soy_top.specs.declared.output.Output.{Output}
 use Rattle.soy_top.specs.declared.page.Page.{Page}
 use Rattle.soy_top.specs.declared.play.StepFault.{StepFault}
 use Rattle.soy_top.specs.Accepts.{Accepts, AcceptsPage, Refuses}
-use Rattle.soy_top.specs.Answer.{Answer, Usage, Read, Refused, Done, not_yet, data_answer, ended_page, entry_answer}
+use Rattle.soy_top.specs.Answer.{Answer, Usage, Read, Refused, Done, data_answer, ended_page, entry_answer}
 use Rattle.soy_top.specs.Answer.{PageAnswer, bundled_answer, entry_of, render_answer, run_text, summed_page}
 use Rattle.soy_top.specs.Answer.{preview_answer, shown_of, template_outcome, unseen_page, workload_answer}
 use Rattle.soy_top.specs.Answer.{contents_answer, limits_answer, asked_answer, answer, known_answer}

@@ -33,7 +33,7 @@ use Rattle.soy_top.specs.AcceptedRender.{AcceptedRender}
 use Rattle.soy_top.specs.Answer.{Answer, Usage, Read, Refused, Done, TooDeep, data_answer, ended_page, entry_answer}
 use Rattle.soy_top.specs.Answer.{call_fault, canonical_source, entry_of, front_line}
 use Rattle.soy_top.specs.Answer.{PageAnswer, page_answer, render_answer, run_text, template_outcome}
-use Rattle.soy_top.specs.Answer.{contents_answer, asked_answer, limits_answer, answer, not_yet}
+use Rattle.soy_top.specs.Answer.{contents_answer, asked_answer, limits_answer, answer}
 use Rattle.soy_top.specs.Answer.{accepted_text, accepted_then, catalogue_answer, catalogue_text, read_then}
 use Rattle.soy_top.specs.Answer.{bundled_answer, inputs_answer, summed_page, tree_answer, unless_faulty, unless_refused}
 use Rattle.soy_top.specs.Answer.{play_answer, steps_answer, steps_of, utf8_fault}
