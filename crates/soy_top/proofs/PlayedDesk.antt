@@ -1,5 +1,5 @@
 -- A desk shows the lines that are written for the steps of a script.
-use Rattle.std.proofs.Common.{◌≡◌, ℕ, ◌+◌, ◌≤◌, ◌<◌, Bool, true, false, List, [], ◌∷◌, ◌++◌, Option, Some, None}
+use Rattle.std.proofs.Common.{◌≡◌, ℕ, suc, ◌+◌, ◌≤◌, ◌<◌, Bool, true, false, List, [], ◌∷◌, ◌++◌, Option, Some, None}
 use Rattle.std.proofs.Common.{Ok, Err, length, take, drop, refl, sym, ap, ◌∙◌, arith, subst, nat_lt, ◌==◌, codes}
 use Rattle.std.specs.Prelude.{if◌then◌else◌, min, option_map, Result}
 use Rattle.std.proofs.lemmas.Bool.{lt-ltb}
@@ -85,7 +85,7 @@ more_pages (x ∷ es) e = ap (λ (ps : List OpenPage). view_page x ∷ ps) (more
 
 count_pages : (es : List Entry) → length (view_pages es) ≡ length es
 count_pages [] = refl
-count_pages (e ∷ es) = ap (λ (n : ℕ). n + 1) (count_pages es)
+count_pages (e ∷ es) = ap (λ (n : ℕ). suc n) (count_pages es)
 
 -- a page in its own place changes nothing
 own_by : (b : Bool) (p x : OpenPage) (ps : List OpenPage)

@@ -72,16 +72,21 @@ impl Play<'_> {
         ensures { ChecksLine self.now (option_map view_line line.entry) result }
     {
         match line {
-            Some(ScriptLine::Open { template, json }) => {
-                match self.read_open(alloc, template, json) {
-                    Ok(_) => Ok(()),
-                    Err(refusal) => Err(refusal),
-                }
-            }
+            Some(ScriptLine::Open { template, json }) => self.check_open(alloc, template, json),
             Some(ScriptLine::Pull { .. }) => Ok(()),
             Some(ScriptLine::Close { .. }) => Ok(()),
             Some(ScriptLine::Publish(_)) => Ok(()),
             None => Err(Refusal::Because(Code::Step)),
+        }
+    }
+
+    /// Checks what an `open` opens.
+    fn check_open(&self, alloc: Global, template: &str, json: &str) -> Result<(), Refusal<Code>>
+        ensures { ChecksLine self.now (Some (Open (chars template.now) (chars json.now))) result }
+    {
+        match self.read_open(alloc, template, json) {
+            Ok(_) => Ok(()),
+            Err(refusal) => Err(refusal),
         }
     }
 

@@ -1,0 +1,52 @@
+use Rattle.std.proofs.Common.{ap, length, take, refl, codes, ◌∙◌}
+use Rattle.std.proofs.lemmas.Result.{IfOk-weaker}
+use Rattle.soy_desk.specs.DeskRun.{DeskAnswer, PullCall}
+use Rattle.soy_top.specs.Line.{ended}
+use Rattle.soy_top.specs.Played.{given_line, named_line}
+use Rattle.soy_top.proofs.CheckedLines.{pull_shows}
+use Rattle.soy_top.proofs.play.pull.Goals as goal
+
+pub returns-in-Ok : goal.returns-in-Ok
+returns-in-Ok g c =
+    let call : PullCall DeskAnswer = record {
+      room = c.as_mut_slice.result.now;
+      room_after = c.pull.new.room;
+      steps = c.args.steps.now;
+      steps_after = c.pull.new.steps;
+      answer = c.pull.result;
+    } in
+    IfOk-weaker c.given_line.result _ _ (λ text is first second.
+    pull_shows first second c.args.name c.args.count call _ _ _ _ _ c.in-Ok.is
+    (ap length c.as_mut_slice.ensures.value ∙ c.in_ok-resize.ensures.len) c.pull.ensures refl
+    (is ∙ ap (λ bs. ended (given_line c.args.name bs))
+    (c.as_slice.ensures.value ∙ (c.truncate.ensures.items ∙ ap (λ items. take c.in-Ok.n items)
+    c.as_mut_slice.ensures.writes_back)))) c.given_line.ensures
+
+pub returns-in-Err-Because-TooDeep : goal.returns-in-Err-Because-TooDeep
+returns-in-Err-Because-TooDeep g c =
+    let call : PullCall DeskAnswer = record {
+      room = c.as_mut_slice.result.now;
+      room_after = c.pull.new.room;
+      steps = c.args.steps.now;
+      steps_after = c.pull.new.steps;
+      answer = c.pull.result;
+    } in
+    IfOk-weaker c.named_line.result _ _ (λ text is first second.
+    pull_shows first second c.args.name c.args.count call _ (named_line (codes "toodeep") c.args.name) _ _ _
+    (rw (← c.in-Err-Because-TooDeep.field-0-0-is, ← c.in-Err-Because-TooDeep.field-0-is) c.in-Err-Because-TooDeep.is)
+    (ap length c.as_mut_slice.ensures.value ∙ c.in_ok-resize.ensures.len) c.pull.ensures refl is) c.named_line.ensures
+
+pub returns-in-Err-Because-Unknown : goal.returns-in-Err-Because-Unknown
+returns-in-Err-Because-Unknown g c =
+    let call : PullCall DeskAnswer = record {
+      room = c.as_mut_slice.result.now;
+      room_after = c.pull.new.room;
+      steps = c.args.steps.now;
+      steps_after = c.pull.new.steps;
+      answer = c.pull.result;
+    } in
+    IfOk-weaker c.named_line-in-Err-Because-Unknown.result _ _ (λ text is first second.
+    pull_shows first second c.args.name c.args.count call _ (named_line (codes "unknown") c.args.name) _ _ _
+    (rw (← c.in-Err-Because-Unknown.field-0-0-is, ← c.in-Err-Because-Unknown.field-0-is) c.in-Err-Because-Unknown.is)
+    (ap length c.as_mut_slice.ensures.value ∙ c.in_ok-resize.ensures.len) c.pull.ensures refl is)
+    c.named_line-in-Err-Because-Unknown.ensures
