@@ -1,3 +1,5 @@
+pub mod Seen
+pub mod OneText
 pub mod Roles
 pub mod WeakSteps
 pub mod NeutralSteps
