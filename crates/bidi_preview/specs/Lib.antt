@@ -7,3 +7,9 @@ pub mod ExplicitSteps
 pub mod NextCharacter
 pub mod SequenceSteps
 pub mod ResetSteps
+pub mod OrderSteps
+pub mod AutoDirections
+pub mod DirValues
+pub mod ReadingSteps
+pub mod PageSteps
+pub mod LinesSoFar
