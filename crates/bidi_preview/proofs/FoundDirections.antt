@@ -149,17 +149,17 @@ longer opened answers [] = omega arith
 longer opened answers (Character c (Some l) ∷ ts) = longer opened answers ts
 longer opened answers (Character c None ∷ ts) =
     let more : length (character_answers (top_waits opened) c answers)
-        ≤ length (answers_from opened (character_answers (top_waits opened) c answers) ts) =
-        longer opened (character_answers (top_waits opened) c answers) ts in
+    ≤ length (answers_from opened (character_answers (top_waits opened) c answers) ts) =
+    longer opened (character_answers (top_waits opened) c answers) ts in
     subst (λ n. n ≤ length (answers_from opened (character_answers (top_waits opened) c answers) ts))
     (character-long (top_waits opened) c answers) more
 longer opened answers (StartTag name dir label ∷ ts) =
     let more : length (start_answers name (dir_attribute dir) answers)
-        ≤ length (answers_from opened answers (StartTag name dir label ∷ ts)) =
-        longer (start_opened name (dir_attribute dir) (length answers) opened)
-        (start_answers name (dir_attribute dir) answers) ts in
+    ≤ length (answers_from opened answers (StartTag name dir label ∷ ts)) =
+    longer (start_opened name (dir_attribute dir) (length answers) opened)
+    (start_answers name (dir_attribute dir) answers) ts in
     let start : length answers ≤ length (start_answers name (dir_attribute dir) answers) =
-        start-long name (dir_attribute dir) answers in
+    start-long name (dir_attribute dir) answers in
     at_most start more
   where
     at_most : {a b c : ℕ} → a ≤ b → b ≤ c → a ≤ c
@@ -277,9 +277,9 @@ module _ (k : ℕ) (e : OpenName) (outer : List OpenName) (waiting : e.waits ≡
       → k < length answers → answer answers k ≡ None
       → ((others : List (Option Bool)) → k < length others → answer others k ≡ None → Agrees is inner others ts)
       → or_left (answer (answers_from (inner ++ e ∷ outer)
-        (if strong then with_answer waits (is_right_to_left (bidi_class c)) answers else answers) ts) k)
+      (if strong then with_answer waits (is_right_to_left (bidi_class c)) answers else answers) ts) k)
       ≡ (if (if apart then false else strong) then is_right_to_left (bidi_class c)
-        else content_right_to_left (e.name ∷ map (λ (w : OpenName). w.name) outer) is ts)
+      else content_right_to_left (e.name ∷ map (λ (w : OpenName). w.name) outer) is ts)
   character-agrees c ts inner is answers true true waits for within none later =
       later (with_answer waits (is_right_to_left (bidi_class c)) answers)
       (omega (arith, with-long waits (is_right_to_left (bidi_class c)) answers))
@@ -301,7 +301,7 @@ module _ (k : ℕ) (e : OpenName) (outer : List OpenName) (waiting : e.waits ≡
 
   ends-alike : (name : List ℕ) (is : List InnerElement) (inner : List OpenName) → Tracks k is inner
       → EndsBy name (left_open (λ (w : OpenName). w.name) name (inner ++ e ∷ outer))
-        (left_open (λ (i : InnerElement). i.name) name is)
+      (left_open (λ (i : InnerElement). i.name) name is)
   ends-alike name [] [] tracks = refl
   ends-alike name [] (w ∷ ws) tracks = absurd tracks
   ends-alike name (i ∷ is) [] tracks = absurd tracks
@@ -312,7 +312,7 @@ module _ (k : ℕ) (e : OpenName) (outer : List OpenName) (waiting : e.waits ≡
       go : (b d : Bool) → b ≡ d → (o : Option (List InnerElement))
           → EndsBy name (left_open (λ (w : OpenName). w.name) name (ws ++ e ∷ outer)) o
           → EndsBy name (if d then Some (ws ++ e ∷ outer)
-              else left_open (λ (w : OpenName). w.name) name (ws ++ e ∷ outer)) (if b then Some is else o)
+          else left_open (λ (w : OpenName). w.name) name (ws ++ e ∷ outer)) (if b then Some is else o)
       go true true same o later = (ws, refl, tracks.2)
       go true false same o later = absurd (cc)
       go false true same o later = absurd (cc)
@@ -337,11 +337,11 @@ module _ (k : ℕ) (e : OpenName) (outer : List OpenName) (waiting : e.waits ≡
   past-agrees : (name : List ℕ) (ts : List MarkupToken) (is : List InnerElement) (inner : List OpenName)
       (answers : List (Option Bool)) → k < length answers → answer answers k ≡ None → Agrees is inner answers ts
       → or_left (answer (answers_from (elim (left_open (λ (w : OpenName). w.name) name (e ∷ outer)) [
-          | None ↦ inner ++ e ∷ outer
-          | Some left ↦ left
-        ]) answers ts) k)
+        | None ↦ inner ++ e ∷ outer
+        | Some left ↦ left
+      ]) answers ts) k)
       ≡ (if is_among (e.name ∷ map (λ (w : OpenName). w.name) outer) name then false
-        else content_right_to_left (e.name ∷ map (λ (w : OpenName). w.name) outer) is ts)
+      else content_right_to_left (e.name ∷ map (λ (w : OpenName). w.name) outer) is ts)
   past-agrees name ts is inner answers within none later = go (bytes_eq e.name name) (bytes_eq name e.name)
       (same_bytes e.name name) (left_open (λ (w : OpenName). w.name) name outer)
       (is_among (map (λ (w : OpenName). w.name) outer) name) (among-left name outer)
@@ -350,11 +350,11 @@ module _ (k : ℕ) (e : OpenName) (outer : List OpenName) (waiting : e.waits ≡
       go : (b d : Bool) → b ≡ d → (o : Option (List OpenName)) → (among : Bool) → is_some o ≡ among
           → ((ls : List OpenName) → o ≡ Some ls → NoneWaits k ls)
           → or_left (answer (answers_from (elim (if b then Some outer else o) [
-              | None ↦ inner ++ e ∷ outer
-              | Some left ↦ left
-            ]) answers ts) k)
+            | None ↦ inner ++ e ∷ outer
+            | Some left ↦ left
+          ]) answers ts) k)
           ≡ (if (d || among) then false
-            else content_right_to_left (e.name ∷ map (λ (w : OpenName). w.name) outer) is ts)
+          else content_right_to_left (e.name ∷ map (λ (w : OpenName). w.name) outer) is ts)
       go true true same o among has waits = ap or_left (closed-answer outer answers ts k within none others)
       go true false same o among has waits = absurd (cc)
       go false true same o among has waits = absurd (cc)
@@ -384,7 +384,7 @@ module _ (k : ℕ) (e : OpenName) (outer : List OpenName) (waiting : e.waits ≡
       ≡ elim o [
         | Some left ↦ content_right_to_left (e.name ∷ map (λ (w : OpenName). w.name) outer) left ts
         | None ↦ if is_among (e.name ∷ map (λ (w : OpenName). w.name) outer) name then false
-          else content_right_to_left (e.name ∷ map (λ (w : OpenName). w.name) outer) is ts
+            else content_right_to_left (e.name ∷ map (λ (w : OpenName). w.name) outer) is ts
       ]
   end-agrees name ts is inner answers within none None alike inside later =
       ap (λ o. or_left (answer (answers_from (elim o [
@@ -414,17 +414,20 @@ module _ (k : ℕ) (e : OpenName) (outer : List OpenName) (waiting : e.waits ≡
       let n : ℕ = length answers in
       let x : OpenName = new_name name d n (inner ++ e ∷ outer) in
       let given : List (Option Bool) =
-          if goes_by_content name d then answers ++ None ∷ [] else answers in
+      if goes_by_content name d then answers ++ None ∷ [] else answers in
       either (λ v. or_left (answer (answers_from (if v then inner ++ e ∷ outer else x ∷ (inner ++ e ∷ outer))
-        (if v then answers else (if goes_by_content name d then answers ++ None ∷ [] else answers)) ts) k)
-        ≡ content_right_to_left (e.name ∷ map (λ (w : OpenName). w.name) outer)
-        (if v then is else inner_element name dir ∷ is) ts)
+      (if v then answers else (if goes_by_content name d then answers ++ None ∷ [] else answers)) ts) k)
+      ≡ content_right_to_left (e.name ∷ map (λ (w : OpenName). w.name) outer)
+      (if v then is else inner_element name dir ∷ is) ts)
       (open-answer is inner answers ts within none tracks)
       (open-answer (inner_element name dir ∷ is) (x ∷ inner) given ts
-        (given-within (goes_by_content name d) answers within) (given-none (goes_by_content name d) answers within none)
-        (refl, tracked-waits (goes_by_content name d) (is_apart name d)
-          (list_any (λ (e : InnerElement). e.is_apart) is) n k (top_waits (inner ++ e ∷ outer)) (goes-apart name d)
-          (new-other n k within) (tracked-top is inner tracks), tracks))
+      (given-within (goes_by_content name d) answers within) (given-none (goes_by_content name d) answers within none) (
+        refl,
+        tracked-waits (goes_by_content name d) (is_apart name d)
+            (list_any (λ (e : InnerElement). e.is_apart) is) n k (top_waits (inner ++ e ∷ outer)) (goes-apart name d)
+            (new-other n k within) (tracked-top is inner tracks),
+        tracks,
+      ))
       (is_void name)
   open-answer is inner answers (EndTag name ∷ ts) within none tracks =
       end-agrees name ts is inner answers within none
@@ -515,15 +518,15 @@ name_with name waits = record { name = name; waits = waits }
 started-found : (name : List ℕ) (opened : List OpenName) (answers : List (Option Bool)) (ts : List MarkupToken)
     → AllBelow (length answers) opened → (goes apart : Bool)
     → ((now : Option ℕ) → AllBelow (length (answers ++ None ∷ [])) (name_with name now ∷ opened)
-      → map or_left (drop (length (answers ++ None ∷ []))
-      (answers_from (name_with name now ∷ opened) (answers ++ None ∷ []) ts))
-      ≡ auto_directions (name ∷ map (λ (w : OpenName). w.name) opened) ts)
+    → map or_left (drop (length (answers ++ None ∷ []))
+    (answers_from (name_with name now ∷ opened) (answers ++ None ∷ []) ts))
+    ≡ auto_directions (name ∷ map (λ (w : OpenName). w.name) opened) ts)
     → ((now : Option ℕ) → AllBelow (length answers) (name_with name now ∷ opened)
-      → map or_left (drop (length answers) (answers_from (name_with name now ∷ opened) answers ts))
-      ≡ auto_directions (name ∷ map (λ (w : OpenName). w.name) opened) ts)
+    → map or_left (drop (length answers) (answers_from (name_with name now ∷ opened) answers ts))
+    ≡ auto_directions (name ∷ map (λ (w : OpenName). w.name) opened) ts)
     → map or_left (drop (length answers) (answers_from
-      (name_with name (if goes then Some (length answers) else (if apart then None else top_waits opened)) ∷ opened)
-      (if goes then answers ++ None ∷ [] else answers) ts))
+    (name_with name (if goes then Some (length answers) else (if apart then None else top_waits opened)) ∷ opened)
+    (if goes then answers ++ None ∷ [] else answers) ts))
     ≡ (if goes then content_right_to_left (name ∷ map (λ (w : OpenName). w.name) opened) [] ts ∷ [] else [])
     ++ auto_directions (name ∷ map (λ (w : OpenName). w.name) opened) ts
 started-found name opened answers ts below false apart with_new without_new =
@@ -540,17 +543,17 @@ started-found name opened answers ts below true apart with_new without_new =
     let long : length more ≡ n + 1 = one-more answers in
     let inside : n < length all = omega (arith, longer (x ∷ opened) more ts) in
     let first : or_left (get_or all n None)
-        ≡ content_right_to_left (name ∷ map (λ (w : OpenName). w.name) opened) [] ts =
-        open-answer n x opened refl (none-below n opened below) [] [] more ts (omega arith)
-        (get_or_at answers None [] None n refl) tt in
+    ≡ content_right_to_left (name ∷ map (λ (w : OpenName). w.name) opened) [] ts =
+    open-answer n x opened refl (none-below n opened below) [] [] more ts (omega arith)
+    (get_or_at answers None [] None n refl) tt in
     let within : AllBelow (length more) (x ∷ opened) =
-        subst (λ m. AllBelow m (x ∷ opened)) (sym long) (omega arith, below-more n opened below) in
+    subst (λ m. AllBelow m (x ∷ opened)) (sym long) (omega arith, below-more n opened below) in
     ap (map or_left) (drop_more all n None inside)
     ∙ ap (λ b. b ∷ map or_left (drop (n + 1) all)) first
     ∙ ap (λ m. content_right_to_left (name ∷ map (λ (w : OpenName). w.name) opened) [] ts ∷ map or_left (drop m all))
-      (sym long)
+    (sym long)
     ∙ ap (λ l. content_right_to_left (name ∷ map (λ (w : OpenName). w.name) opened) [] ts ∷ l)
-      (with_new (Some n) within)
+    (with_new (Some n) within)
 
 pub found-from : (opened : List OpenName) (answers : List (Option Bool)) (ts : List MarkupToken)
     → AllBelow (length answers) opened
@@ -568,15 +571,15 @@ found-from opened answers (StartTag name dir label ∷ ts) below =
     let n : ℕ = length answers in
     let x : OpenName = new_name name d n opened in
     either (λ v. map or_left (drop (length answers) (answers_from (if v then opened else x ∷ opened)
-      (if v then answers else (if goes_by_content name d then answers ++ None ∷ [] else answers)) ts))
-      ≡ (if v then [] else (if goes_by_content name d
-        then content_right_to_left (name ∷ map (λ (w : OpenName). w.name) opened) [] ts ∷ [] else []))
-      ++ auto_directions (if v then map (λ (w : OpenName). w.name) opened
-        else name ∷ map (λ (w : OpenName). w.name) opened) ts)
+    (if v then answers else (if goes_by_content name d then answers ++ None ∷ [] else answers)) ts))
+    ≡ (if v then [] else (if goes_by_content name d
+    then content_right_to_left (name ∷ map (λ (w : OpenName). w.name) opened) [] ts ∷ [] else []))
+    ++ auto_directions (if v then map (λ (w : OpenName). w.name) opened
+    else name ∷ map (λ (w : OpenName). w.name) opened) ts)
     (found-from opened answers ts below)
     (started-found name opened answers ts below (goes_by_content name d) (is_apart name d)
-      (λ now within. found-from (record { name = name; waits = now } ∷ opened) (answers ++ None ∷ []) ts within)
-      (λ now within. found-from (record { name = name; waits = now } ∷ opened) answers ts within))
+    (λ now within. found-from (record { name = name; waits = now } ∷ opened) (answers ++ None ∷ []) ts within)
+    (λ now within. found-from (record { name = name; waits = now } ∷ opened) answers ts within))
     (is_void name)
 found-from opened answers (EndTag name ∷ ts) below =
     found-from (end_opened name opened) answers ts (below-end (length answers) name opened below)

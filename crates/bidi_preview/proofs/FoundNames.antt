@@ -41,7 +41,7 @@ module _ {X : Type 0} (name_of : X → List ℕ) (name : List ℕ) where
       ap (λ m. left_open name_of name (reverse (take m xs))) up
       ∙ ap (left_open name_of name) (reverse-take xs (n - 1) d (omega arith))
       ∙ ap (λ b. if b then Some (reverse (take (n - 1) xs))
-        else left_open name_of name (reverse (take (n - 1) xs))) is
+      else left_open name_of name (reverse (take (n - 1) xs))) is
 
   -- or it has another
   pub left_past : (xs : List X) (n : ℕ) (d : X) → 0 < n → n ≤ length xs
@@ -52,4 +52,4 @@ module _ {X : Type 0} (name_of : X → List ℕ) (name : List ℕ) where
       sym (ap (λ m. left_open name_of name (reverse (take m xs))) up
       ∙ ap (left_open name_of name) (reverse-take xs (n - 1) d (omega arith))
       ∙ ap (λ b. if b then Some (reverse (take (n - 1) xs))
-        else left_open name_of name (reverse (take (n - 1) xs))) is)
+      else left_open name_of name (reverse (take (n - 1) xs))) is)

@@ -29,5 +29,5 @@ pub mod FoundDirections
 pub mod GivenAnswers
 pub mod Numbers
 pub mod PageReadings
-pub mod TextReadings
 pub mod PageLines
+pub mod PageEnds

@@ -26,7 +26,7 @@ reversed-mapped : (text : List ℕ) (level : ℕ) (run xs : List LeveledCharacte
     ≡ reversed_from level (map (with_character text) run) (map (with_character text) xs)
 reversed-mapped text level run [] = refl
 reversed-mapped text level run (x ∷ xs) = go (nat_le level x.level)
-  (reversed-mapped text level (x ∷ run) xs) (reversed-mapped text level [] xs)
+    (reversed-mapped text level (x ∷ run) xs) (reversed-mapped text level [] xs)
   where
     go : (kept : Bool)
         → map (with_character text) (reversed_from level (x ∷ run) xs)
@@ -34,11 +34,11 @@ reversed-mapped text level run (x ∷ xs) = go (nat_le level x.level)
         → map (with_character text) (reversed_from level [] xs)
         ≡ reversed_from level [] (map (with_character text) xs)
         → map (with_character text) (if kept then reversed_from level (x ∷ run) xs
-          else run ++ x ∷ reversed_from level [] xs)
+        else run ++ x ∷ reversed_from level [] xs)
         ≡ (if kept then reversed_from level (with_character text x ∷ map (with_character text) run)
-          (map (with_character text) xs)
-          else map (with_character text) run ++ with_character text x
-            ∷ reversed_from level [] (map (with_character text) xs))
+        (map (with_character text) xs)
+        else map (with_character text) run ++ with_character text x
+        ∷ reversed_from level [] (map (with_character text) xs))
     go true longer ends = longer
     go false longer ends = map-append (with_character text) run (x ∷ reversed_from level [] xs)
         ∙ ap (λ l. map (with_character text) run ++ with_character text x ∷ l) ends
@@ -102,7 +102,7 @@ leveled_more text levels done now i c d level o within long here is now_is =
     ∙ ap (λ k. done ++ (leveled_of k level ++ leveled_from (drop (i + 1) text) (drop (i + 1) levels))) here
     ∙ ap (λ k. done ++ (leveled_of (get_or text i d) k ++ leveled_from (drop (i + 1) text) (drop (i + 1) levels))) is
     ∙ ap (λ l. done ++ leveled_from (get_or text i d ∷ drop (i + 1) text) l)
-      (sym (drop_more levels i o (omega (arith, long))))
+    (sym (drop_more levels i o (omega (arith, long))))
     ∙ ap (λ l. done ++ leveled_from l (drop i levels)) (sym (drop_more text i d within))
 
 -- ---- reversals in place
@@ -129,10 +129,10 @@ run_goes_on level start i xs x order within here high =
     let one : i + 1 - start ≡ (i - start) + 1 = omega arith in
     let back : start + (i - start) ≡ i = omega arith in
     let longer : reverse (take (i + 1 - start) (drop start xs)) ≡ x ∷ run =
-        ap (λ n. reverse (take n (drop start xs))) one
-        ∙ ap reverse (take_more (drop start xs) (i - start) x (omega (arith, length-drop start xs)))
-        ∙ reverse-append (take (i - start) (drop start xs)) (get_or (drop start xs) (i - start) x ∷ [])
-        ∙ ap (λ y. y ∷ run) (get_or-drop start xs (i - start) x ∙ ap (λ n. get_or xs n x) back ∙ sym here) in
+    ap (λ n. reverse (take n (drop start xs))) one
+    ∙ ap reverse (take_more (drop start xs) (i - start) x (omega (arith, length-drop start xs)))
+    ∙ reverse-append (take (i - start) (drop start xs)) (get_or (drop start xs) (i - start) x ∷ [])
+    ∙ ap (λ y. y ∷ run) (get_or-drop start xs (i - start) x ∙ ap (λ n. get_or xs n x) back ∙ sym here) in
     ap (λ n. take start xs ++ reversed_from level (reverse (take (i + 1 - start) (drop start xs))) (drop n xs)) (up i)
     ∙ ap (λ r. take start xs ++ reversed_from level r rest) longer
     ∙ ap (λ l. take start xs ++ l) (sym (kept-run level run x rest high))
@@ -147,11 +147,11 @@ run_ends level start i xs ys x order within here low is =
     let mid : List LeveledCharacter = take (i - start) (drop start xs) in
     let parts : drop i xs ≡ x ∷ rest = drop-cons xs i x within ∙ ap (λ y. y ∷ rest) (sym here) in
     let mid_long : length (reverse mid) ≡ i - start =
-        length-reverse mid ∙ length-take-le (i - start) (drop start xs) (omega (arith, length-drop start xs)) in
+    length-reverse mid ∙ length-take-le (i - start) (drop start xs) (omega (arith, length-drop start xs)) in
     let far : drop i ys ≡ x ∷ rest = ap (drop i) is
-        ∙ drop-put_mid start (i - start) xs (reverse mid) i (omega arith) (omega arith) mid_long ∙ parts in
+    ∙ drop-put_mid start (i - start) xs (reverse mid) i (omega arith) (omega arith) mid_long ∙ parts in
     let taken : take i ys ≡ take start xs ++ reverse mid = ap (take i) is
-        ∙ take-put_mid start (i - start) xs (reverse mid) i (omega arith) (omega arith) in
+    ∙ take-put_mid start (i - start) xs (reverse mid) i (omega arith) (omega arith) in
     let inside : i < length ys = omega (arith, length-drop i ys, ap length far) in
     let cut : drop i ys ≡ get_or ys i x ∷ drop (suc i) ys = drop-cons ys i x inside in
     let at : get_or ys i x ≡ x = cc in
@@ -167,4 +167,3 @@ run_ends level start i xs ys x order within here low is =
     ∙ append_assoc (take start xs) (reverse mid) (x ∷ reversed_from level [] rest)
     ∙ ap (λ l. take start xs ++ l) (sym (ended-run level (reverse mid) x rest low))
     ∙ ap (λ l. take start xs ++ reversed_from level (reverse mid) l) (sym parts)
-

@@ -32,9 +32,9 @@ pub characters_added : (p : PageSoFar) (cs : List LabelledCharacter) (now : List
     → with_rest p (before_rest cs rest) ≡ with_rest (record p { characters = now }) rest
 characters_added p cs now rest is =
     let added : p.characters ++ line_characters (cs ++ rest.0) ≡ now ++ line_characters rest.0 =
-        ap (λ l. p.characters ++ l) (line-append cs rest.0)
-        ∙ sym (append_assoc p.characters (line_characters cs) (line_characters rest.0))
-        ∙ ap (λ l. l ++ line_characters rest.0) (sym is) in
+    ap (λ l. p.characters ++ l) (line-append cs rest.0)
+    ∙ sym (append_assoc p.characters (line_characters cs) (line_characters rest.0))
+    ∙ ap (λ l. l ++ line_characters rest.0) (sym is) in
     ap (λ l. p.texts ++ filter is_shown (shown_text p.base l ∷ map shown_line rest.1)) added
 
 shown-first : (text : List ℕ) (texts : List (List ℕ))
@@ -54,20 +54,20 @@ pub line_ended : (context : ℕ) (p : PageSoFar) (base : ℕ) (characters : List
     ≡ with_rest (record p { base = base; characters = characters; texts = texts }) rest
 line_ended context p base characters texts rest ended based begun =
     let begins : shown_line (record { base = base_level context p.opened; characters = line_start p.opened ++ rest.0 })
-        ≡ shown_text base (characters ++ line_characters rest.0) =
-        ap (shown_text (base_level context p.opened)) (line-append (line_start p.opened) rest.0)
-        ∙ ap (λ l. shown_text (base_level context p.opened) (l ++ line_characters rest.0)) (sym begun)
-        ∙ ap (λ b. shown_text b (characters ++ line_characters rest.0)) (sym based) in
+    ≡ shown_text base (characters ++ line_characters rest.0) =
+    ap (shown_text (base_level context p.opened)) (line-append (line_start p.opened) rest.0)
+    ∙ ap (λ l. shown_text (base_level context p.opened) (l ++ line_characters rest.0)) (sym begun)
+    ∙ ap (λ b. shown_text b (characters ++ line_characters rest.0)) (sym based) in
     ap (λ l. p.texts ++ filter is_shown (shown_text p.base l
-      ∷ (shown_line (record { base = base_level context p.opened; characters = line_start p.opened ++ rest.0 })
-      ∷ map shown_line rest.1))) (append-nil p.characters)
+    ∷ (shown_line (record { base = base_level context p.opened; characters = line_start p.opened ++ rest.0 })
+    ∷ map shown_line rest.1))) (append-nil p.characters)
     ∙ ap (λ t. p.texts ++ filter is_shown (shown_text p.base p.characters ∷ (t ∷ map shown_line rest.1))) begins
     ∙ ap (λ l. p.texts ++ l) (shown-first (shown_text p.base p.characters)
-      (shown_text base (characters ++ line_characters rest.0) ∷ map shown_line rest.1))
+    (shown_text base (characters ++ line_characters rest.0) ∷ map shown_line rest.1))
     ∙ sym (append_assoc p.texts (shown_of (shown_text p.base p.characters))
-      (filter is_shown (shown_text base (characters ++ line_characters rest.0) ∷ map shown_line rest.1)))
+    (filter is_shown (shown_text base (characters ++ line_characters rest.0) ∷ map shown_line rest.1)))
     ∙ ap (λ l. l ++ filter is_shown (shown_text base (characters ++ line_characters rest.0) ∷ map shown_line rest.1))
-      (sym ended)
+    (sym ended)
 
 -- the last line ends
 pub page_ended : (p : PageSoFar) → with_rest p ([], []) ≡ p.texts ++ shown_of (shown_text p.base p.characters)
@@ -83,8 +83,8 @@ pub character_stays : (context : ℕ) (p : PageSoFar) (c : ℕ) (now : List ℕ)
     → GoOn context p (Character c None ∷ []) (record p { characters = now })
 character_stays context p c now stays is rest known = (
   ap (λ b. with_rest p (if b then next_line context p.opened (lines_from context p.opened rest)
-    else before_rest (text_character c None ∷ []) (lines_from context p.opened rest))) stays
-  ∙ characters_added p (text_character c None ∷ []) now (lines_from context p.opened rest) is,
+      else before_rest (text_character c None ∷ []) (lines_from context p.opened rest))) stays
+      ∙ characters_added p (text_character c None ∷ []) now (lines_from context p.opened rest) is,
   known,
 )
 
@@ -92,9 +92,9 @@ pub character_ends : (context : ℕ) (p after : PageSoFar) (c : ℕ) → ends_li
     → EndsLine context p after → GoOn context p (Character c None ∷ []) after
 character_ends context p after c ends line rest known = (
   ap (λ b. with_rest p (if b then next_line context p.opened (lines_from context p.opened rest)
-    else before_rest (text_character c None ∷ []) (lines_from context p.opened rest))) ends
-  ∙ line.2 (lines_from context p.opened rest)
-  ∙ ap (λ o. with_rest after (lines_from context o rest)) (sym line.0),
+      else before_rest (text_character c None ∷ []) (lines_from context p.opened rest))) ends
+      ∙ line.2 (lines_from context p.opened rest)
+      ∙ ap (λ o. with_rest after (lines_from context o rest)) (sym line.0),
   line.1 ∙ known ∙ ap (λ o. auto_directions (names_of o) rest) (sym line.0),
 )
 
@@ -104,12 +104,12 @@ pub start_void : (context : ℕ) (p : PageSoFar) (name : List ℕ) (value : Opti
     → GoesPast context p (StartTag name value None) name p
 start_void context p name value void rest known = (
   ap (λ b. with_rest p (before_rest
-    (if b then [] else element_start (opened_element p.opened name value None rest))
-    (past_tag context name (if b then p.opened else opened_element p.opened name value None rest ∷ p.opened)
-    (lines_from context (if b then p.opened else opened_element p.opened name value None rest ∷ p.opened) rest)))) void,
+      (if b then [] else element_start (opened_element p.opened name value None rest))
+      (past_tag context name (if b then p.opened else opened_element p.opened name value None rest ∷ p.opened)
+      (lines_from context (if b then p.opened else opened_element p.opened name value None rest ∷ p.opened) rest)))) void,
   known ∙ ap (λ b. (if b then [] else (if goes_by_content name (dir_attribute value)
       then content_right_to_left (name ∷ names_of p.opened) [] rest ∷ [] else []))
-    ++ auto_directions (if b then names_of p.opened else name ∷ names_of p.opened) rest) void,
+      ++ auto_directions (if b then names_of p.opened else name ∷ names_of p.opened) rest) void,
 )
 
 element-known : (name : List ℕ) (d : Option DirAttribute) (names : List (List ℕ)) (rest : List MarkupToken)
@@ -126,7 +126,7 @@ element-known name None names rest directions later known = go (bytes_eq name (c
     go : (b : Bool)
         → directions ≡ (if b then content_right_to_left (name ∷ names) [] rest ∷ [] else []) ++ later
         → ((if b then Some (slice_index_or directions 0 false) else None)
-          ≡ (if b then Some (content_right_to_left (name ∷ names) [] rest) else None))
+        ≡ (if b then Some (content_right_to_left (name ∷ names) [] rest) else None))
         × ((if b then drop 1 directions else directions) ≡ later)
     go true known = (ap (λ (l : List Bool). Some (slice_index_or l 0 false)) known, ap (drop 1) known)
     go false known = (refl, known)
@@ -142,27 +142,26 @@ start_opens context p name value content rest known =
     let d : Option DirAttribute = dir_attribute value in
     let e : OpenElement = known_element name d p.directions in
     let there : p.directions ≡ (if goes_by_content name d
-        then content_right_to_left (name ∷ names_of p.opened) [] rest ∷ [] else [])
-        ++ auto_directions (name ∷ names_of p.opened) rest =
-        known ∙ ap (λ b. (if b then [] else (if goes_by_content name d
-          then content_right_to_left (name ∷ names_of p.opened) [] rest ∷ [] else []))
-        ++ auto_directions (if b then names_of p.opened else name ∷ names_of p.opened) rest) content in
+    then content_right_to_left (name ∷ names_of p.opened) [] rest ∷ [] else [])
+    ++ auto_directions (name ∷ names_of p.opened) rest =
+    known ∙ ap (λ b. (if b then [] else (if goes_by_content name d
+    then content_right_to_left (name ∷ names_of p.opened) [] rest ∷ [] else []))
+    ++ auto_directions (if b then names_of p.opened else name ∷ names_of p.opened) rest) content in
     let both : (taken_direction name d p.directions ≡ element_direction (names_of p.opened) name d rest)
-        × (left_directions name d p.directions ≡ auto_directions (name ∷ names_of p.opened) rest) =
-        element-known name d (names_of p.opened) rest p.directions (auto_directions (name ∷ names_of p.opened) rest)
-        there in
+    × (left_directions name d p.directions ≡ auto_directions (name ∷ names_of p.opened) rest) =
+    element-known name d (names_of p.opened) rest p.directions (auto_directions (name ∷ names_of p.opened) rest)
+    there in
     let same : opened_element p.opened name value None rest ≡ e =
-        ap (λ (o : Option Bool). directed name d o) (sym both.0) in
-    (
+    ap (λ (o : Option Bool). directed name d o) (sym both.0) in (
       ap (λ b. with_rest p (before_rest
-        (if b then [] else element_start (opened_element p.opened name value None rest))
-        (past_tag context name (if b then p.opened else opened_element p.opened name value None rest ∷ p.opened)
-        (lines_from context (if b then p.opened else opened_element p.opened name value None rest ∷ p.opened) rest))))
-        content
-      ∙ ap (λ (x : OpenElement). with_rest p (before_rest (element_start x)
-        (past_tag context name (x ∷ p.opened) (lines_from context (x ∷ p.opened) rest)))) same
-      ∙ characters_added p (element_start e) (p.characters ++ line_characters (element_start e))
-        (past_tag context name (e ∷ p.opened) (lines_from context (e ∷ p.opened) rest)) refl,
+          (if b then [] else element_start (opened_element p.opened name value None rest))
+          (past_tag context name (if b then p.opened else opened_element p.opened name value None rest ∷ p.opened)
+          (lines_from context (if b then p.opened else opened_element p.opened name value None rest ∷ p.opened) rest))))
+          content
+          ∙ ap (λ (x : OpenElement). with_rest p (before_rest (element_start x)
+          (past_tag context name (x ∷ p.opened) (lines_from context (x ∷ p.opened) rest)))) same
+          ∙ characters_added p (element_start e) (p.characters ++ line_characters (element_start e))
+          (past_tag context name (e ∷ p.opened) (lines_from context (e ∷ p.opened) rest)) refl,
       both.1,
     )
 
@@ -199,7 +198,7 @@ known-left : (p : PageSoFar) (name : List ℕ) (rest : List MarkupToken) → Are
     ])) rest
 known-left p name rest known = known
     ∙ ap (λ ns. auto_directions ns rest) (names-left p.opened (elements_left name p.opened)
-      (left_open (λ (n : List ℕ). n) name (names_of p.opened)) (left-alike name p.opened))
+    (left_open (λ (n : List ℕ). n) name (names_of p.opened)) (left-alike name p.opened))
 
 pub end_none : (context : ℕ) (p : PageSoFar) (name : List ℕ) → elements_left name p.opened ≡ None
     → GoesPast context p (EndTag name) name p
@@ -207,13 +206,13 @@ end_none context p name none rest known = (
   ap (λ (o : Option (List OpenElement)). with_rest p (elim o [
     | None ↦ past_tag context name p.opened (lines_from context p.opened rest)
     | Some left ↦ before_rest (flat_map element_end (elements_closed name p.opened))
-      (past_tag context name left (lines_from context left rest))
+        (past_tag context name left (lines_from context left rest))
   ])) none,
   known-left p name rest known
-  ∙ ap (λ (o : Option (List OpenElement)). auto_directions (names_of (elim o [
-    | None ↦ p.opened
-    | Some left ↦ left
-  ])) rest) none,
+      ∙ ap (λ (o : Option (List OpenElement)). auto_directions (names_of (elim o [
+        | None ↦ p.opened
+        | Some left ↦ left
+      ])) rest) none,
 )
 
 pub end_closes : (context : ℕ) (p : PageSoFar) (name : List ℕ) (left : List OpenElement) (now : List ℕ)
@@ -224,15 +223,15 @@ end_closes context p name left now some is rest known = (
   ap (λ (o : Option (List OpenElement)). with_rest p (elim o [
     | None ↦ past_tag context name p.opened (lines_from context p.opened rest)
     | Some left ↦ before_rest (flat_map element_end (elements_closed name p.opened))
-      (past_tag context name left (lines_from context left rest))
+        (past_tag context name left (lines_from context left rest))
   ])) some
-  ∙ characters_added p (flat_map element_end (elements_closed name p.opened)) now
-    (past_tag context name left (lines_from context left rest)) is,
+      ∙ characters_added p (flat_map element_end (elements_closed name p.opened)) now
+      (past_tag context name left (lines_from context left rest)) is,
   known-left p name rest known
-  ∙ ap (λ (o : Option (List OpenElement)). auto_directions (names_of (elim o [
-    | None ↦ p.opened
-    | Some left ↦ left
-  ])) rest) some,
+      ∙ ap (λ (o : Option (List OpenElement)). auto_directions (names_of (elim o [
+        | None ↦ p.opened
+        | Some left ↦ left
+      ])) rest) some,
 )
 
 -- what follows a tag
@@ -241,21 +240,21 @@ pub tag_goes_on : (context : ℕ) (p now after : PageSoFar) (token : MarkupToken
     → GoOn context p (token ∷ []) after
 tag_goes_on context p now after token name past ends rest known =
     let steps : (page_texts context p (token ∷ rest)
-        ≡ with_rest now (past_tag context name now.opened (lines_from context now.opened rest)))
-        × AreKnown now rest = past rest known in
+    ≡ with_rest now (past_tag context name now.opened (lines_from context now.opened rest)))
+    × AreKnown now rest = past rest known in
     go (is_inline name) ends steps
   where
     go : (inline : Bool) → EndsUnless inline context now after
         → (page_texts context p (token ∷ rest)
-          ≡ with_rest now (if inline then lines_from context now.opened rest
-            else next_line context now.opened (lines_from context now.opened rest)))
+        ≡ with_rest now (if inline then lines_from context now.opened rest
+        else next_line context now.opened (lines_from context now.opened rest)))
         × AreKnown now rest
         → (page_texts context p (token ∷ rest) ≡ page_texts context after rest) × AreKnown after rest
     go true same steps =
         subst (λ q. (page_texts context p (token ∷ rest) ≡ page_texts context q rest) × AreKnown q rest) same steps
     go false line steps = (
       steps.0 ∙ line.2 (lines_from context now.opened rest)
-      ∙ ap (λ o. with_rest after (lines_from context o rest)) (sym line.0),
+          ∙ ap (λ o. with_rest after (lines_from context o rest)) (sym line.0),
       line.1 ∙ steps.1 ∙ ap (λ o. auto_directions (names_of o) rest) (sym line.0),
     )
 
@@ -264,9 +263,9 @@ pub go_on_more : (context : ℕ) (p now after : PageSoFar) (token : MarkupToken)
     → GoOn context p (token ∷ []) now → GoOn context now tokens after → GoOn context p (token ∷ tokens) after
 go_on_more context p now after token tokens first later rest known =
     let one : (page_texts context p (token ∷ (tokens ++ rest)) ≡ page_texts context now (tokens ++ rest))
-        × AreKnown now (tokens ++ rest) = first (tokens ++ rest) known in
+    × AreKnown now (tokens ++ rest) = first (tokens ++ rest) known in
     let all : (page_texts context now (tokens ++ rest) ≡ page_texts context after rest) × AreKnown after rest =
-        later rest one.1 in
+    later rest one.1 in
     (one.0 ∙ all.0, all.1)
 
 -- ---- the elements that an end tag closes
@@ -298,8 +297,8 @@ cancelled (x ∷ xs) (y ∷ ys) zs same = both x y xs ys (heads same) (cancelled
     tails : (x ∷ xs) ++ zs ≡ (y ∷ ys) ++ zs → xs ++ zs ≡ ys ++ zs
     tails same = cc
 
-    both : (a b : OpenElement) (as bs : List OpenElement) → a ≡ b → as ≡ bs → a ∷ as ≡ b ∷ bs
-    both a b as bs p q = cc
+    both : (a b : OpenElement) (vs ws : List OpenElement) → a ≡ b → vs ≡ ws → a ∷ vs ≡ b ∷ ws
+    both a b vs ws p q = cc
 
 pub closed_are : (name : List ℕ) (items : List OpenElement) (left : ℕ)
     → elements_left name (reverse items) ≡ Some (reverse (take left items))
@@ -321,5 +320,5 @@ pub lines_more : (context : ℕ) (texts : List (List ℕ)) (before after : PageS
 lines_more context texts before after tokens rest all is goes so_far =
     let there : ReadSoFar context texts before (tokens ++ rest) = subst (ReadSoFar context texts before) is so_far in
     let steps : (page_texts context before (tokens ++ rest) ≡ page_texts context after rest) × AreKnown after rest =
-        goes rest there.1 in
+    goes rest there.1 in
     (sym steps.0 ∙ there.0, steps.1)

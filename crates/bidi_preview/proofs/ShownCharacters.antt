@@ -48,7 +48,7 @@ in-order-left (z ∷ a) mid b x y = by_index (z.index == x.index)
     by_index : (t : Bool) → has_index y.index (a ++ x ∷ (mid ++ y ∷ b)) ≡ true
         → comes_first x.index y.index (a ++ x ∷ (mid ++ y ∷ b)) ≡ true
         → (if t then has_index y.index (a ++ x ∷ (mid ++ y ∷ b))
-          else comes_first x.index y.index (a ++ x ∷ (mid ++ y ∷ b))) ≡ true
+        else comes_first x.index y.index (a ++ x ∷ (mid ++ y ∷ b))) ≡ true
     by_index true has later = has
     by_index false has later = later
 

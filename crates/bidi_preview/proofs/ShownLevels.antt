@@ -21,4 +21,3 @@ pub levels_long : (base : ℕ) (line : List ℕ) → length (line_levels base li
 unfolding line_levels
 levels_long base line = reset-long base (map (λ (c : ℕ). reset_kind (bidi_class c)) line)
     (levels_before_reset base line) (mapped-long line ∙ sym (line_long base line)) ∙ line_long base line
-

@@ -58,7 +58,7 @@ shown_of text = if is_shown text then text ∷ [] else []
 abbrev pub GoesPast : ℕ → PageSoFar → MarkupToken → List ℕ → PageSoFar → Type 0
 GoesPast context before token name now = (rest : List MarkupToken) → AreKnown before (token ∷ rest)
     → (page_texts context before (token ∷ rest)
-      ≡ with_rest now (past_tag context name now.opened (lines_from context now.opened rest)))
+    ≡ with_rest now (past_tag context name now.opened (lines_from context now.opened rest)))
     × AreKnown now rest
 
 -- a line has ended, and one has begun

@@ -11,8 +11,8 @@ ghost use Rattle.bidi_preview.specs.ReadingSteps.{tokens_given};
 ghost use Rattle.bidi_order.specs.MarkupTokens.{MarkupToken, labelled_characters};
 ghost use Rattle.bidi_preview.specs.AutoDirections.{answers_from};
 
-use crate::reading::{Given, GivenTag};
 use crate::names::{is_lower, is_same, is_text, is_void};
+use crate::reading::{Given, GivenTag};
 use bidi_class::{Class, class_of};
 use soy_base::OutOfMemory;
 use std::alloc::Global;
@@ -127,11 +127,7 @@ impl Directions {
     }
 
     /// Reads a start tag.
-    fn read_start(
-        &mut self,
-        name: Vec<char>,
-        dir: Option<DirValue>,
-    ) -> Result<(), OutOfMemory>
+    fn read_start(&mut self, name: Vec<char>, dir: Option<DirValue>) -> Result<(), OutOfMemory>
         ensures opened { OnOk result (reverse self.new.opened.items
             ≡ start_opened name.items (option_map view_dir dir) (length self.old.answers.items)
             (reverse self.old.opened.items)) }

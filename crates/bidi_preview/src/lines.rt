@@ -1,6 +1,6 @@
 //! The lines of a page, by the tags that end a line, with what stands in a line for its elements (UAX #9, 4.3, HL3).
-ghost use Rattle.std.specs.Prelude.{◌≡◌, ◌++◌, [], ◌∷◌, false, IfOk, MatchOption, None, OnOk, Some, drop, option_map};
-ghost use Rattle.std.specs.Prelude.{reverse, slice_index_or, take};
+ghost use Rattle.std.specs.Prelude.{◌≡◌, ◌++◌, [], ◌∷◌, ◌≤◌, false, IfOk, IfSome, MatchOption, None, OnOk, Some, drop, option_map};
+ghost use Rattle.std.specs.Prelude.{length, reverse, slice_index_or, take};
 ghost use Rattle.bidi_order.specs.Elements.{elements_left, has_override};
 ghost use Rattle.bidi_order.specs.Lines.{base_level, block_direction, direction_level, element_end, element_start};
 ghost use Rattle.bidi_order.specs.Lines.{ends_line};
@@ -64,9 +64,17 @@ impl Element {
             return Ok(());
         }
         if let Some(right_to_left) = self.direction {
-            line.push(if right_to_left { '\u{2067}' } else { '\u{2066}' })?;
+            line.push(if right_to_left {
+                '\u{2067}'
+            } else {
+                '\u{2066}'
+            })?;
             if self.overrides {
-                line.push(if right_to_left { '\u{202e}' } else { '\u{202d}' })?;
+                line.push(if right_to_left {
+                    '\u{202e}'
+                } else {
+                    '\u{202d}'
+                })?;
             }
         }
         Ok(())
@@ -90,7 +98,11 @@ impl Element {
     fn block_direction(&self) -> Option<bool>
         ensures { result ≡ block_direction self.now }
     {
-        if is_inline(&self.name) { None } else { self.direction }
+        if is_inline(&self.name) {
+            None
+        } else {
+            self.direction
+        }
     }
 }
 
@@ -174,12 +186,13 @@ impl Lines {
         if ends_line(c) {
             return self.end_line(alloc);
         }
-        self.characters.push(if c.is_ascii_whitespace() { ' ' } else { c })?;
+        self.characters
+            .push(if c.is_ascii_whitespace() { ' ' } else { c })?;
         Ok(())
     }
 
     /// Reads a start tag.
-    #[tactic(auto, using(crate::proofs::PageLines::start_void, crate::proofs::PageLines::tag_goes_on))]
+    #[tactic(auto, using(crate::proofs::PageLines::start_opens, crate::proofs::PageLines::start_void, crate::proofs::PageLines::tag_goes_on))]
     fn read_start(
         &mut self,
         alloc: Global,
@@ -194,7 +207,8 @@ impl Lines {
         if !is_void(&name) {
             self.open(name, read_dir(&dir))?;
         }
-        self.end_unless(alloc, inline)
+        self.end_unless(alloc, inline)?;
+        Ok(())
     }
 
     /// Opens an element, with what stands for its start.
@@ -248,7 +262,7 @@ impl Lines {
     }
 
     /// Reads an end tag.
-    #[tactic(auto, using(crate::proofs::PageLines::end_closes, crate::proofs::PageLines::end_none, crate::proofs::PageLines::tag_goes_on))]
+    #[tactic(auto, using(crate::proofs::PageLines::closed_are, crate::proofs::PageLines::end_closes, crate::proofs::PageLines::end_none, crate::proofs::PageLines::tag_goes_on))]
     fn read_end(&mut self, alloc: Global, name: &[char]) -> Result<(), OutOfMemory>
         ensures context { OnOk result (self.new.context ≡ self.old.context) }
         ensures texts { OnOk result (GoOn (direction_level self.old.context) (view_lines self.old)
@@ -258,7 +272,8 @@ impl Lines {
             push_ends(&self.opened[left..], &mut self.characters)?;
             self.opened.truncate(left);
         }
-        self.end_unless(alloc, is_inline(name))
+        self.end_unless(alloc, is_inline(name))?;
+        Ok(())
     }
 
     /// The line ends, and one begins inside the open elements.
@@ -342,7 +357,8 @@ fn base_of(context: Dir, opened: &[Element]) -> Dir
 /// How many elements stay open where the innermost of a name is closed, if one has the name.
 #[tactic(auto, using(crate::proofs::FoundNames::left_found, crate::proofs::FoundNames::left_past))]
 fn left_of(opened: &[Element], name: &[char]) -> Option<usize>
-    ensures { MatchOption result
+    ensures within { IfSome result (λ left. left ≤ length opened.now) }
+    ensures left { MatchOption result
         (elements_left name.now (reverse opened.now) ≡ None)
         (λ left. elements_left name.now (reverse opened.now) ≡ Some (reverse (take left opened.now))) }
 {

@@ -224,7 +224,6 @@ impl Reader {
     }
 
     /// Reads a character, by the row before it and the row after it.
-    #[tactic(auto, using(crate::proofs::TextReadings::text_gives, crate::proofs::TextReadings::less_gives))]
     fn read(
         &mut self,
         alloc: Global,

@@ -66,5 +66,8 @@ fn is_white_space(class: Class) -> bool
 fn is_isolate_control(c: char) -> bool
     ensures { result ≡ is_isolate_control c }
 {
-    matches!(class_of(c), Class::LRI | Class::RLI | Class::FSI | Class::PDI)
+    matches!(
+        class_of(c),
+        Class::LRI | Class::RLI | Class::FSI | Class::PDI
+    )
 }

@@ -117,7 +117,11 @@ fn has_lines(alloc: Global, context: Dir, page: &str, wanted: &[&str]) -> bool {
     match show_page(alloc, page, context) {
         Ok(lines) => {
             lines.items().len() == wanted.len()
-                && lines.items().iter().zip(wanted).all(|(line, given)| line.is(given))
+                && lines
+                    .items()
+                    .iter()
+                    .zip(wanted)
+                    .all(|(line, given)| line.is(given))
         }
         Err(_) => false,
     }

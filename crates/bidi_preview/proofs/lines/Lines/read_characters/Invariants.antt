@@ -11,8 +11,8 @@ invariant-loop-c l = record {
   texts : (rest : List MarkupToken)
       → AreKnown (view_lines l.initial.self) (labelled_characters None l.characters ++ rest)
       → (page_texts (direction_level l.initial.self.context) (view_lines l.initial.self)
-          (labelled_characters None l.characters ++ rest)
-        ≡ page_texts (direction_level l.initial.self.context) (view_lines l.self)
-          (labelled_characters None (drop l.c-index l.characters) ++ rest))
+      (labelled_characters None l.characters ++ rest)
+      ≡ page_texts (direction_level l.initial.self.context) (view_lines l.self)
+      (labelled_characters None (drop l.c-index l.characters) ++ rest))
       × AreKnown (view_lines l.self) (labelled_characters None (drop l.c-index l.characters) ++ rest);
 }
