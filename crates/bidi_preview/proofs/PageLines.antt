@@ -322,3 +322,16 @@ lines_more context texts before after tokens rest all is goes so_far =
     let steps : (page_texts context before (tokens ++ rest) ≡ page_texts context after rest) × AreKnown after rest =
     goes rest there.1 in
     (sym steps.0 ∙ there.0, steps.1)
+
+-- an end tag whose name is open, where the elements are given outermost first
+pub end_leaves : (context : ℕ) (p : PageSoFar) (name : List ℕ) (items kept : List OpenElement) (left : ℕ)
+    (now : List ℕ) → p.opened ≡ reverse items → elements_left name (reverse items) ≡ Some (reverse (take left items))
+    → kept ≡ take left items
+    → now ≡ p.characters ++ line_characters (flat_map element_end (reverse (drop left items)))
+    → GoesPast context p (EndTag name) name (record p { opened = reverse kept; characters = now })
+end_leaves context p name items kept left now opened some cut is =
+    let closes : now ≡ p.characters ++ line_characters (flat_map element_end (elements_closed name p.opened)) =
+    is ∙ ap (λ es. p.characters ++ line_characters (flat_map element_end es)) (sym (closed_are name items left some))
+    ∙ ap (λ es. p.characters ++ line_characters (flat_map element_end (elements_closed name es))) (sym opened) in
+    end_closes context p name (reverse kept) now (ap (elements_left name) opened ∙ some
+    ∙ ap (λ (es : List OpenElement). Some (reverse es)) (sym cut)) closes

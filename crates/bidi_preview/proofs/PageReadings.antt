@@ -55,7 +55,7 @@ tokens_whole text = ap (λ l. (read_all None first_reading text).0 ++ l) (nothin
 
 -- ---- one more character of a page that is read for its directions, or for its lines
 
-gives : (more : Bool) (before after : PageReading) (c : ℕ) (tokens : List MarkupToken) (rest later : List ℕ)
+pub gives : (more : Bool) (before after : PageReading) (c : ℕ) (tokens : List MarkupToken) (rest later : List ℕ)
     → more ≡ true → rest ≡ c ∷ later → GivesRest more before c tokens after
     → (read_all None before rest).0 ≡ tokens ++ (read_all None after later).0
 gives true before after c tokens rest later is there given =

@@ -8,7 +8,8 @@ ghost use Rattle.bidi_order.specs.MarkupTokens.{labelled_characters};
 ghost use Rattle.bidi_order.specs.MarkupTokens.MarkupToken.{Character, EndTag, StartTag};
 ghost use Rattle.bidi_order.specs.WithinLimit.{line_characters};
 ghost use Rattle.bidi_preview.specs.LinesSoFar.{view_lines};
-ghost use Rattle.bidi_preview.specs.PageSteps.{EndsLine, EndsUnless, GoOn, left_directions, page_opened, shown_of};
+ghost use Rattle.bidi_preview.specs.PageSteps.{EndsLine, EndsUnless, GoOn, GoesPast, left_directions, page_opened};
+ghost use Rattle.bidi_preview.specs.PageSteps.{shown_of};
 ghost use Rattle.bidi_preview.specs.PageSteps.{taken_direction, with_rest};
 ghost use Rattle.bidi_preview.specs.ReadingSteps.{tokens_given};
 ghost use Rattle.bidi_preview.specs.Seen.{shown_text};
@@ -192,7 +193,7 @@ impl Lines {
     }
 
     /// Reads a start tag.
-    #[tactic(auto, using(crate::proofs::PageLines::start_opens, crate::proofs::PageLines::start_void, crate::proofs::PageLines::tag_goes_on))]
+    #[tactic(auto, using(crate::proofs::PageLines::tag_goes_on))]
     fn read_start(
         &mut self,
         alloc: Global,
@@ -204,11 +205,25 @@ impl Lines {
             (StartTag name.items (option_map (λ d. d.items) dir) None ∷ []) (view_lines self.new)) }
     {
         let inline = is_inline(&name);
-        if !is_void(&name) {
-            self.open(name, read_dir(&dir))?;
+        self.open_content(name, &dir)?;
+        self.end_unless(alloc, inline)
+    }
+
+    /// Opens the element of a start tag, unless it is void.
+    #[tactic(auto, using(crate::proofs::PageLines::start_opens, crate::proofs::PageLines::start_void))]
+    fn open_content(
+        &mut self,
+        name: Vec<char>,
+        dir: &Option<Vec<char>>,
+    ) -> Result<(), OutOfMemory>
+        ensures context { OnOk result (self.new.context ≡ self.old.context) }
+        ensures past { OnOk result (GoesPast (direction_level self.old.context) (view_lines self.old)
+            (StartTag name.items (option_map (λ d. d.items) dir.now) None) name.items (view_lines self.new)) }
+    {
+        if is_void(&name) {
+            return Ok(());
         }
-        self.end_unless(alloc, inline)?;
-        Ok(())
+        self.open(name, read_dir(dir))
     }
 
     /// Opens an element, with what stands for its start.
@@ -262,17 +277,26 @@ impl Lines {
     }
 
     /// Reads an end tag.
-    #[tactic(auto, using(crate::proofs::PageLines::closed_are, crate::proofs::PageLines::end_closes, crate::proofs::PageLines::end_none, crate::proofs::PageLines::tag_goes_on))]
+    #[tactic(auto, using(crate::proofs::PageLines::tag_goes_on))]
     fn read_end(&mut self, alloc: Global, name: &[char]) -> Result<(), OutOfMemory>
         ensures context { OnOk result (self.new.context ≡ self.old.context) }
         ensures texts { OnOk result (GoOn (direction_level self.old.context) (view_lines self.old)
             (EndTag name.now ∷ []) (view_lines self.new)) }
     {
+        self.close(name)?;
+        self.end_unless(alloc, is_inline(name))
+    }
+
+    /// Closes the innermost element of a name, if one is open, and those in it.
+    fn close(&mut self, name: &[char]) -> Result<(), OutOfMemory>
+        ensures context { OnOk result (self.new.context ≡ self.old.context) }
+        ensures past { OnOk result (GoesPast (direction_level self.old.context) (view_lines self.old)
+            (EndTag name.now) name.now (view_lines self.new)) }
+    {
         if let Some(left) = left_of(&self.opened, name) {
             push_ends(&self.opened[left..], &mut self.characters)?;
             self.opened.truncate(left);
         }
-        self.end_unless(alloc, is_inline(name))?;
         Ok(())
     }
 
