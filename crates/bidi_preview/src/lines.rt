@@ -211,11 +211,7 @@ impl Lines {
 
     /// Opens the element of a start tag, unless it is void.
     #[tactic(auto, using(crate::proofs::PageLines::start_opens, crate::proofs::PageLines::start_void))]
-    fn open_content(
-        &mut self,
-        name: Vec<char>,
-        dir: &Option<Vec<char>>,
-    ) -> Result<(), OutOfMemory>
+    fn open_content(&mut self, name: Vec<char>, dir: &Option<Vec<char>>) -> Result<(), OutOfMemory>
         ensures context { OnOk result (self.new.context ≡ self.old.context) }
         ensures past { OnOk result (GoesPast (direction_level self.old.context) (view_lines self.old)
             (StartTag name.items (option_map (λ d. d.items) dir.now) None) name.items (view_lines self.new)) }

@@ -15,8 +15,12 @@ returns-in_ok-push_ends-clause-past c =
     cc (c.in-Some.ensures.left, c.deref.ensures.value) in
     let is : c.push_ends.new.line.items ≡ c.args.self.now.characters.items
     ++ line_characters (flat_map element_end (reverse (drop c.in-Some.left c.args.self.now.opened.items))) =
-    cc (c.in_ok-push_ends.ensures, c.deref-in-Some.ensures.value,
-    take_rest c.deref-in-Some.result.now c.in-Some.left, take_rest c.args.self.now.opened.items c.in-Some.left) in
+    cc (
+      c.in_ok-push_ends.ensures,
+      c.deref-in-Some.ensures.value,
+      take_rest c.deref-in-Some.result.now c.in-Some.left,
+      take_rest c.args.self.now.opened.items c.in-Some.left,
+    ) in
     end_leaves (direction_level c.args.self.now.context) (view_lines c.args.self.now) c.args.name.now
     c.args.self.now.opened.items c.truncate.new.self.items c.in-Some.left c.push_ends.new.line.items refl some
     c.truncate.ensures.items is
