@@ -1,10 +1,10 @@
 -- The answers that one pass finds are the directions of the elements that go by their content.
-use Rattle.std.proofs.Common.{◌≡◌, ◌==◌, ◌&&◌, ◌||◌, not, ℕ, zero, suc, ◌+◌, ◌<◌, ◌≤◌, Bool, true, false, if◌then◌else◌}
+use Rattle.std.proofs.Common.{◌≡◌, ◌==◌, ◌||◌, not, ℕ, zero, suc, ◌+◌, ◌<◌, ◌≤◌, Bool, true, false, if◌then◌else◌}
 use Rattle.std.proofs.Common.{List, [], ◌∷◌, ◌++◌, map, length, get_or, drop, refl, sym, ap, subst, ◌∙◌, arith, Option, Some}
 use Rattle.std.proofs.Common.{None}
 use Rattle.std.proofs.Math.Seq.{drop-length}
 use Rattle.std.proofs.lemmas.Bool.{eq-eqb, eqb-false, eqb-true, ne_eqb}
-use Rattle.std.proofs.lemmas.List.{drop_more, get_or_at, get_or_past, length-append}
+use Rattle.std.proofs.lemmas.List.{drop_more, get_or_at, length-append}
 use Rattle.std.proofs.lemmas.List.{get_or_append_left}
 use Rattle.std.specs.List.{list_any}
 use Rattle.std.specs.Option.{is_some}
@@ -12,13 +12,13 @@ use Rattle.std.specs.Str.{bytes_eq}
 use Rattle.soy_base.specs.Among.{is_among}
 use Rattle.bidi_class.specs.Class.{bidi_class}
 use Rattle.bidi_text.specs.Estimate.{is_right_to_left, is_strong}
-use Rattle.bidi_order.specs.Elements.{DirAttribute, InnerElement, content_right_to_left, counts, dir_attribute}
+use Rattle.bidi_order.specs.Elements.{DirAttribute, InnerElement, content_right_to_left, dir_attribute}
 use Rattle.bidi_order.specs.Elements.{inner_element, is_void, left_open}
 use Rattle.bidi_order.specs.MarkupTokens.{MarkupToken}
 use Rattle.bidi_order.specs.MarkupTokens.MarkupToken.{Character, StartTag, EndTag}
 use Rattle.bidi_preview.specs.AutoDirections.{OpenName, answer_at, answers_from, auto_directions, character_answers}
 use Rattle.bidi_preview.specs.AutoDirections.{end_names, end_opened, goes_by_content, is_apart, new_name, or_left}
-use Rattle.bidi_preview.specs.AutoDirections.{own_direction, start_answers, start_names, start_opened, top_waits}
+use Rattle.bidi_preview.specs.AutoDirections.{start_answers, start_opened, top_waits}
 use Rattle.bidi_preview.specs.AutoDirections.{with_answer}
 use Rattle.bidi_preview.proofs.FoundNames.{same_bytes}
 

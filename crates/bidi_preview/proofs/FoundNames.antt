@@ -1,6 +1,6 @@
 -- Texts of different lengths differ, and the innermost open element of a name is found from the end of a list on.
 use Rattle.std.proofs.Common.{◌≡◌, ◌≢◌, ◌&&◌, ℕ, suc, ◌+◌, ◌-◌, ◌<◌, ◌≤◌, Bool, true, false, if◌then◌else◌, List, []}
-use Rattle.std.proofs.Common.{◌∷◌, length, get_or, reverse, take, refl, sym, ap, ◌∙◌, arith, Option, Some, None, eqb}
+use Rattle.std.proofs.Common.{◌∷◌, length, get_or, reverse, take, refl, sym, ap, ◌∙◌, arith, Some, eqb}
 use Rattle.std.proofs.Common.{◌==◌}
 use Rattle.std.proofs.lemmas.Bool.{eq-eqb, eqb-false, eqb-true, ne_eqb}
 use Rattle.std.specs.Str.{bytes_eq}

@@ -10,7 +10,7 @@ use Rattle.std.proofs.lemmas.Slice.{drop-put_mid, take-put_mid}
 use borrow.Rule.Slice.PartMut.{put_mid}
 use Rattle.std.specs.Prelude.{nat_le}
 use Rattle.bidi_order.specs.VisualOrder.{LeveledCharacter, highest_level, indexed_from, least_odd_level, reordered}
-use Rattle.bidi_order.specs.VisualOrder.{reversed_from, visual_order}
+use Rattle.bidi_order.specs.VisualOrder.{reversed_from}
 use Rattle.bidi_preview.specs.OrderSteps.{characters_in_order, leveled_from, leveled_of, runs_so_far}
 use Rattle.bidi_preview.specs.OrderSteps.{with_character}
 

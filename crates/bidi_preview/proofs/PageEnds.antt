@@ -1,5 +1,5 @@
 -- A page at its start and at its end: the directions that were found, and the texts of its lines.
-use Rattle.std.proofs.Common.{◌≡◌, ℕ, Bool, true, List, [], ◌∷◌, map, refl, sym, ap, subst, ◌∙◌, Option, None, Result, Ok}
+use Rattle.std.proofs.Common.{◌≡◌, ℕ, Bool, true, List, [], ◌∷◌, map, sym, ap, subst, ◌∙◌, Option, None, Result, Ok}
 use Rattle.std.proofs.Common.{Err}
 use Rattle.std.specs.Result.{IfOk}
 use Rattle.soy_base.specs.declared.direction.Dir.{Dir}
@@ -7,7 +7,7 @@ use Rattle.html_state.specs.AfterPieces.Piece.{Static}
 use Rattle.bidi_order.specs.Lines.{direction_level, lines, lines_of_tokens}
 use Rattle.bidi_order.specs.MarkupTokens.{MarkupToken, PageReading, first_reading, read_all, tokens_of}
 use Rattle.bidi_preview.specs.AutoDirections.{OpenName, answers_from, auto_directions, or_left}
-use Rattle.bidi_preview.specs.PageSteps.{AreKnown, GoOn, PageSoFar, page_texts, with_rest}
+use Rattle.bidi_preview.specs.PageSteps.{GoOn, PageSoFar, page_texts, with_rest}
 use Rattle.bidi_preview.specs.ReadingSteps.{GivesRest}
 use Rattle.bidi_preview.specs.Seen.{seen, shown_lines}
 use Rattle.bidi_preview.proofs.FoundDirections.{found}

@@ -1,6 +1,6 @@
 -- One more token of a page: the texts that it comes to have stay the same.
-use Rattle.std.proofs.Common.{◌≡◌, ℕ, zero, suc, ◌+◌, ◌-◌, ◌<◌, ◌≤◌, Bool, true, false, if◌then◌else◌, List, [], ◌∷◌, ◌++◌}
-use Rattle.std.proofs.Common.{map, length, reverse, drop, take, get_or, refl, sym, ap, subst, ◌∙◌, append_assoc, arith, Option}
+use Rattle.std.proofs.Common.{◌≡◌, ℕ, Bool, true, false, if◌then◌else◌, List, [], ◌∷◌, ◌++◌}
+use Rattle.std.proofs.Common.{map, length, reverse, drop, take, refl, sym, ap, subst, ◌∙◌, append_assoc, arith, Option}
 use Rattle.std.proofs.Common.{Some, None}
 use Rattle.std.specs.Prelude.{codes, filter, slice_index_or}
 use Rattle.std.specs.Str.{bytes_eq}
@@ -10,12 +10,12 @@ use Rattle.bidi_order.specs.Elements.{DirAttribute, OpenElement, content_right_t
 use Rattle.bidi_order.specs.Elements.{elements_closed, elements_left, has_override, is_inline, is_void}
 use Rattle.bidi_order.specs.Elements.{left_open, opened_element}
 use Rattle.bidi_order.specs.Elements.DirAttribute.{IsLtr, IsRtl, IsAuto}
-use Rattle.bidi_order.specs.Lines.{Line, RestOfLines, base_level, before_rest, element_end, element_start, ends_line}
+use Rattle.bidi_order.specs.Lines.{RestOfLines, base_level, before_rest, element_end, element_start, ends_line}
 use Rattle.bidi_order.specs.Lines.{line_start, lines_from, next_line, past_tag, text_character}
 use Rattle.bidi_order.specs.MarkupTokens.{MarkupToken}
 use Rattle.bidi_order.specs.MarkupTokens.MarkupToken.{Character, StartTag, EndTag}
 use Rattle.bidi_order.specs.WithinLimit.{LabelledCharacter, line_characters}
-use Rattle.bidi_preview.specs.AutoDirections.{auto_directions, end_names, goes_by_content, start_names}
+use Rattle.bidi_preview.specs.AutoDirections.{auto_directions, goes_by_content}
 use Rattle.bidi_preview.specs.PageSteps.{AreKnown, EndsLine, EndsUnless, GoOn, GoesPast, PageSoFar, left_directions}
 use Rattle.bidi_preview.specs.PageSteps.{known_element, names_of, page_opened, page_texts, shown_of}
 use Rattle.bidi_preview.specs.PageSteps.{taken_direction, with_rest}

@@ -3,7 +3,7 @@
 use Rattle.std.specs.Prelude.{◌≡◌, ℕ, Bool, true, false, if◌then◌else◌, List, [], ◌∷◌, ◌++◌, map, filter, drop, Option, Some}
 use Rattle.std.specs.Prelude.{None, slice_index_or}
 use Rattle.bidi_order.specs.Elements.{DirAttribute, OpenElement, has_override}
-use Rattle.bidi_order.specs.Elements.DirAttribute.{IsLtr, IsRtl, IsAuto}
+use Rattle.bidi_order.specs.Elements.DirAttribute.{IsLtr, IsRtl}
 use Rattle.bidi_order.specs.Lines.{RestOfLines, element_start, lines_from, next_line, past_tag}
 use Rattle.bidi_order.specs.MarkupTokens.{MarkupToken}
 use Rattle.bidi_order.specs.WithinLimit.{line_characters}

@@ -9,8 +9,7 @@ ghost use Rattle.bidi_order.specs.MarkupTokens.MarkupToken.{Character, EndTag, S
 ghost use Rattle.bidi_order.specs.WithinLimit.{line_characters};
 ghost use Rattle.bidi_preview.specs.LinesSoFar.{view_lines};
 ghost use Rattle.bidi_preview.specs.PageSteps.{EndsLine, EndsUnless, GoOn, GoesPast, left_directions, page_opened};
-ghost use Rattle.bidi_preview.specs.PageSteps.{shown_of};
-ghost use Rattle.bidi_preview.specs.PageSteps.{taken_direction, with_rest};
+ghost use Rattle.bidi_preview.specs.PageSteps.{shown_of, taken_direction, with_rest};
 ghost use Rattle.bidi_preview.specs.ReadingSteps.{tokens_given};
 ghost use Rattle.bidi_preview.specs.Seen.{shown_text};
 ghost use Rattle.std.specs.List.{flat_map};

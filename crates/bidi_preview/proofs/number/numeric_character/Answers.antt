@@ -1,4 +1,4 @@
-use Rattle.std.proofs.Common.{sym, subst, ◌∙◌, ap}
+use Rattle.std.proofs.Common.{sym, subst, ◌∙◌}
 use Rattle.bidi_preview.proofs.Numbers.{numeric_some}
 use Rattle.std.specs.Char.{IsScalar}
 use Rattle.std.specs.Option.{SomeIff}
