@@ -1,16 +1,16 @@
 -- Where a sequence comes from: a character that is the first of its sequence has before it the level of the last kept
 -- character; any other is the next one of a character before it.
-use Rattle.std.proofs.Common.{◌≡◌, ℕ, zero, suc, ◌+◌, ◌<◌, Bool, true, false, ◌==◌, ◌⊎◌, inl, inr, List, [], ◌∷◌}
+use Rattle.std.proofs.Common.{◌≡◌, ℕ, zero, suc, ◌+◌, true, false, ◌==◌, ◌⊎◌, inl, inr, List, [], ◌∷◌}
 use Rattle.std.proofs.Common.{◌++◌}
-use Rattle.std.proofs.Common.{reverse, length, refl, sym, ap, subst, ◌∙◌, append_assoc, arith, Option, Some, None}
+use Rattle.std.proofs.Common.{reverse, length, refl, sym, ap, ◌∙◌, arith, Option, Some, None}
 use Rattle.std.proofs.lemmas.Bool.{both_ways, cases_Bool, eq-eqb, eqb-true}
-use Rattle.bidi_order.specs.Explicit.{IsolateRole, SequenceCharacter, KeptCharacter}
+use Rattle.bidi_order.specs.Explicit.{IsolateRole, KeptCharacter}
 use Rattle.bidi_order.specs.Explicit.IsolateRole.{Initiates, Terminates, Neither}
-use Rattle.bidi_order.specs.Sequences.{Scan, scanned_role, enters_isolate, SequenceStep, step_in_sequence}
+use Rattle.bidi_order.specs.Sequences.{Scan, scanned_role, enters_isolate, step_in_sequence}
 use Rattle.bidi_order.specs.Sequences.{sequence_along, step_past_isolate, unmatched_level}
-use Rattle.bidi_order.specs.Sequences.Scan.{Forward, Backward}
+use Rattle.bidi_order.specs.Sequences.Scan.{Backward}
 use Rattle.bidi_order.specs.Sequences.Following.{Taking, Passing}
-use Rattle.bidi_order.specs.Sequences.SequenceStep.{Take, Pass, Stop}
+use Rattle.bidi_order.specs.Sequences.SequenceStep.{Pass, Stop}
 use Rattle.bidi_order.proofs.FollowedSequences.{sequence_along-sequence_step, reverse-prefix}
 use Rattle.bidi_preview.specs.NextCharacter.{closing_from, level_behind}
 use Rattle.bidi_preview.proofs.Following.{AllRemoved, closing_from-step}

@@ -1,12 +1,11 @@
 -- The directions behind the ends of open isolates, known from the end of a line on (UAX #9, X5c).
-use Rattle.std.proofs.Common.{◌≡◌, ℕ, zero, suc, ◌+◌, ◌<◌, Bool, true, false, List, [], ◌∷◌, drop, get_or, refl, sym}
+use Rattle.std.proofs.Common.{◌≡◌, ℕ, zero, suc, ◌+◌, ◌<◌, Bool, false, List, [], ◌∷◌, drop, get_or, refl, sym}
 use Rattle.std.proofs.Common.{ap, ◌∙◌}
 use Rattle.std.proofs.Common.{arith, take, length, subst}
 use Rattle.std.proofs.Math.ListN.{drop_of_length-le, set}
 use Rattle.std.proofs.lemmas.List.{drop-set, drop_more, get_or-take, length-set, take-set}
 use Rattle.bidi_class.specs.declared.class.Class.{Class}
 use Rattle.bidi_class.specs.declared.class.Class.TheVariants.{L, R, AL, LRI, RLI, FSI, PDI}
-use Rattle.bidi_order.specs.DirectionalStatus.{begins_right_to_left}
 use Rattle.bidi_preview.specs.ExplicitSteps.{DirectedFrom, KnowsSides, directed_by, directed_classes, sides_before}
 
 second : (sides : List Bool) (n : ℕ) → get_or (drop 1 sides) n false ≡ get_or sides (suc n) false

@@ -1,19 +1,17 @@
 -- How a sequence is followed over removed characters, and over the end of an isolate that is sought.
-use Rattle.std.proofs.Common.{◌≡◌, ℕ, zero, suc, ◌+◌, Bool, true, false, ◌==◌, List, [], ◌∷◌, ◌++◌, reverse, take}
-use Rattle.std.proofs.Common.{drop}
-use Rattle.std.proofs.Common.{length, refl, sym, ap, subst, ◌∙◌, ◌⊎◌, inl, inr, append_assoc, arith, Option, Some}
+use Rattle.std.proofs.Common.{◌≡◌, ℕ, zero, suc, List, [], ◌∷◌, ◌++◌, reverse}
+use Rattle.std.proofs.Common.{length, refl, sym, ap, subst, ◌∙◌, ◌⊎◌, inl, inr, Option, Some}
 use Rattle.std.proofs.Common.{None}
-use Rattle.std.proofs.lemmas.Bool.{eq-eqb}
 use Rattle.std.proofs.lemmas.List.{reverse-append}
-use Rattle.bidi_order.specs.Explicit.{IsolateRole, SequenceCharacter, KeptCharacter}
+use Rattle.bidi_order.specs.Explicit.{IsolateRole, KeptCharacter}
 use Rattle.bidi_order.specs.Explicit.IsolateRole.{Initiates, Terminates, Neither}
-use Rattle.bidi_order.specs.Sequences.{Scan, scanned_role, enters_isolate, Following, SequenceStep, step_in_sequence}
-use Rattle.bidi_order.specs.Sequences.{sequence_along, unmatched_level, step_past_isolate}
-use Rattle.bidi_order.specs.Sequences.Scan.{Forward, Backward}
-use Rattle.bidi_order.specs.Sequences.Following.{Taking, Passing}
+use Rattle.bidi_order.specs.Sequences.{Scan, Following, SequenceStep}
+use Rattle.bidi_order.specs.Sequences.{sequence_along, step_past_isolate}
+use Rattle.bidi_order.specs.Sequences.Scan.{Forward}
+use Rattle.bidi_order.specs.Sequences.Following.{Passing}
 use Rattle.bidi_order.specs.Sequences.SequenceStep.{Take, Pass, Stop}
-use Rattle.bidi_order.proofs.FollowedSequences.{sequence_along-sequence_step, reverse-prefix}
-use Rattle.bidi_preview.specs.NextCharacter.{leading_removed, closing_from, level_behind}
+use Rattle.bidi_order.proofs.FollowedSequences.{sequence_along-sequence_step}
+use Rattle.bidi_preview.specs.NextCharacter.{leading_removed, closing_from}
 
 -- nothing is kept
 pub data AllRemoved : List (Option KeptCharacter) → Type 0 where

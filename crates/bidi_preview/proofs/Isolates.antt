@@ -1,25 +1,23 @@
 -- What stands in an isolate of a line, by indexes: an initiator and the PDI that matches have one level, and all that
 -- stands between them has higher levels, or all of it has that level too.
-use Rattle.std.proofs.Common.{◌≡◌, ℕ, zero, suc, ◌+◌, Bool, true, false, ◌⊎◌, inl, inr, List, [], ◌∷◌, ◌++◌, map}
+use Rattle.std.proofs.Common.{◌≡◌, ℕ, zero, suc, ◌+◌, true, false, ◌⊎◌, inl, inr, List, [], ◌∷◌, ◌++◌, map}
 use Rattle.std.proofs.Common.{length}
-use Rattle.std.proofs.Common.{drop, get_or, refl, sym, ap, subst, ◌∙◌, arith, Option, Some, None}
+use Rattle.std.proofs.Common.{refl, sym, ap, subst, ◌∙◌, arith, Option, Some, None}
 use Rattle.std.proofs.lemmas.Bool.{cases_Bool}
 use Rattle.bidi_class.specs.Class.{bidi_class}
 use Rattle.bidi_class.specs.Pairs.{is_initiator, is_closing}
 use Rattle.bidi_order.specs.DirectionalStatus.{DirectionalStatus, ExplicitAct, status_after}
-use Rattle.bidi_order.specs.DirectionalStatus.ExplicitAct.{Embeds, Isolates, EndsIsolate, EndsEmbedding, IsRemoved}
-use Rattle.bidi_order.specs.DirectionalStatus.ExplicitAct.{Stays}
+use Rattle.bidi_order.specs.DirectionalStatus.ExplicitAct.{Embeds, Isolates, EndsIsolate, EndsEmbedding}
 use Rattle.bidi_order.specs.Explicit.{IsolateRole, KeptCharacter, explicit_character, act_of_character, explicit_from}
 use Rattle.bidi_order.specs.Explicit.IsolateRole.{Initiates, Terminates, Neither}
-use Rattle.bidi_order.specs.Sequences.SequenceStep.{Take, Pass, Stop}
 use Rattle.bidi_order.proofs.FollowedSequences.{Within}
 use Rattle.bidi_order.proofs.RestoredStatus.{Matched, Other, act_of_class-begins, act_of_class-ends}
 use Rattle.bidi_order.proofs.RestoredStatus.{act_of_class-other}
-use Rattle.bidi_order.proofs.RestoredStatus.{opening, closing, Value}
+use Rattle.bidi_order.proofs.RestoredStatus.{opening, closing}
 use Rattle.bidi_order.proofs.RestoredStatus.Matched.{matched_end, matched_opens, matched_ends, matched_plain}
 use Rattle.bidi_order.proofs.RestoredStatus.Other.{other_embeds, other_pops, other_drops, other_stands}
 use Rattle.bidi_preview.specs.NextCharacter.{closing_from}
-use Rattle.bidi_preview.proofs.OverflowIsolates.{AllAt, Isolate, Overflow, isolate}
+use Rattle.bidi_preview.proofs.OverflowIsolates.{AllAt, Isolate, isolate}
 use Rattle.bidi_preview.proofs.OverflowIsolates.Isolate.{of_valid, of_overflow}
 
 -- a text up to the character that ends so many open isolates and one more

@@ -21,3 +21,13 @@ pub mod ReadSequences
 pub mod ResolveLines
 pub mod LineLevels
 pub mod UnknownLists
+pub mod Orders
+pub mod ShownCharacters
+pub mod ShownLevels
+pub mod FoundNames
+pub mod FoundDirections
+pub mod GivenAnswers
+pub mod Numbers
+pub mod PageReadings
+pub mod PageLines
+pub mod PageEnds

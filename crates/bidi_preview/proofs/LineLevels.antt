@@ -1,14 +1,12 @@
 -- The levels of a line, from its directed classes and its explicit characters.
-use Rattle.std.proofs.Common.{◌≡◌, ℕ, suc, Bool, true, false, List, [], ◌∷◌, map, length, refl, sym, ap, ◌∙◌}
-use Rattle.std.proofs.Common.{if◌then◌else◌, Option}
+use Rattle.std.proofs.Common.{◌≡◌, ℕ, suc, Bool, true, false, List, [], ◌∷◌, map, length, refl, ap, ◌∙◌}
 use Rattle.bidi_class.specs.declared.class.Class.{Class}
-use Rattle.bidi_class.specs.declared.class.Class.TheVariants.{LRI, RLI, FSI}
+use Rattle.bidi_class.specs.declared.class.Class.TheVariants.{FSI}
 use Rattle.bidi_class.specs.Class.{bidi_class}
 use Rattle.bidi_order.specs.DirectionalStatus.{DirectionalStatus, begins_right_to_left, initial_status, status_after}
 use Rattle.bidi_order.specs.Explicit.{act_of_character, explicit_characters, explicit_from}
 use Rattle.bidi_order.specs.Levels.{line_levels}
-use Rattle.bidi_order.specs.Reset.{ResetKind, reset_kind, reset_levels}
-use Rattle.bidi_order.specs.Reset.ResetKind.{Whitespace}
+use Rattle.bidi_order.specs.Reset.{reset_kind, reset_levels}
 use Rattle.bidi_order.specs.Sequences.{resolved_levels_from}
 use Rattle.bidi_preview.specs.ExplicitSteps.{directed_by, directed_classes}
 use Rattle.bidi_preview.specs.SequenceSteps.{IsExplicit}

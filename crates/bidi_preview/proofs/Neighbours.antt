@@ -1,13 +1,10 @@
 -- Two neighbours of a sequence: both see one and the same sequence, with the same ends, the later one index further.
-use Rattle.std.proofs.Common.{◌≡◌, ℕ, zero, suc, ◌+◌, max, Bool, true, false, ◌==◌, List, [], ◌∷◌, ◌++◌, reverse}
-use Rattle.std.proofs.Common.{take}
-use Rattle.std.proofs.Common.{drop, get_or, length, refl, sym, ap, subst, ◌∙◌, append_assoc, arith, Option, Some}
-use Rattle.std.proofs.Common.{None}
+use Rattle.std.proofs.Common.{◌≡◌, ℕ, suc, max, Bool, List, [], ◌∷◌, ◌++◌, reverse}
+use Rattle.std.proofs.Common.{get_or, length, sym, ap, ◌∙◌, append_assoc, Option, Some}
 use Rattle.std.proofs.lemmas.Bool.{eq-eqb}
 use Rattle.std.proofs.lemmas.List.{reverse-append}
-use Rattle.std.proofs.Math.Seq.{drop-append-add, take-append_seam}
-use Rattle.bidi_order.specs.Explicit.{IsolateRole, SequenceCharacter, KeptCharacter}
-use Rattle.bidi_order.specs.Explicit.IsolateRole.{Initiates, Terminates, Neither}
+use Rattle.bidi_order.specs.Explicit.{SequenceCharacter, KeptCharacter}
+use Rattle.bidi_order.specs.Explicit.IsolateRole.{Initiates, Terminates}
 use Rattle.bidi_order.specs.Resolve.{resolve}
 use Rattle.bidi_order.specs.Sequences.{Scan, scanned_role, enters_isolate, step_in_sequence, sequence_along}
 use Rattle.bidi_order.specs.Sequences.{side_class}
@@ -16,7 +13,6 @@ use Rattle.bidi_order.specs.Sequences.Following.{Taking}
 use Rattle.bidi_order.specs.Sequences.SequenceStep.{Take}
 use Rattle.bidi_order.proofs.FollowedSequences.{Within, sequence_along-sequence_step}
 use Rattle.bidi_order.proofs.DeletedContent.{ahead_inside, behind_inside}
-use Rattle.bidi_preview.specs.NextCharacter.{level_at}
 use Rattle.bidi_preview.proofs.Following.{AllRemoved, AllRemoved-reverse, along-removed}
 
 -- what stands in a character's sequence before it and after it, each with the level beside the end

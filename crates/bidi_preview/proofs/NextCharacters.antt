@@ -1,22 +1,22 @@
 -- Where a sequence goes on in a line, by indexes: the next character and the one before it are neighbours; where it
 -- ends, nothing follows; and a character that isn't the first of its sequence is the next one of another.
-use Rattle.std.proofs.Common.{◌≡◌, ℕ, zero, suc, ◌+◌, ◌<◌, Bool, true, false, ◌==◌, ◌⊎◌, inl, inr, List, [], ◌∷◌}
+use Rattle.std.proofs.Common.{◌≡◌, ℕ, suc, ◌+◌, ◌<◌, true, false, ◌==◌, ◌⊎◌, inl, inr, List, [], ◌∷◌}
 use Rattle.std.proofs.Common.{◌++◌}
-use Rattle.std.proofs.Common.{reverse, take, drop, get_or, length, refl, sym, ap, subst, ◌∙◌, append_assoc, arith}
+use Rattle.std.proofs.Common.{reverse, drop, get_or, length, refl, sym, ap, subst, ◌∙◌, append_assoc, arith}
 use Rattle.std.proofs.Common.{length-append, Option, Some, None, if◌then◌else◌}
 use Rattle.std.proofs.lemmas.Bool.{both_ways, cases_Bool, cond-true, cond-false, eq-eqb, eqb-true, ne_eqb}
 use Rattle.std.proofs.lemmas.List.{get_or-append-add, length-reverse, reverse-append, reverse-reverse}
-use Rattle.std.proofs.Math.Seq.{drop-append-add, get_or-append_seam, drop-append_seam, take-append_seam}
+use Rattle.std.proofs.Math.Seq.{drop-append-add}
 use Rattle.bidi_order.specs.DirectionalStatus.{DirectionalStatus}
-use Rattle.bidi_order.specs.Explicit.{IsolateRole, KeptCharacter, SequenceCharacter, explicit_from}
+use Rattle.bidi_order.specs.Explicit.{IsolateRole, KeptCharacter, explicit_from}
 use Rattle.bidi_order.specs.Explicit.IsolateRole.{Initiates, Terminates, Neither}
 use Rattle.bidi_order.specs.Sequences.{enters_isolate, scanned_role, sequence_along, step_past_isolate}
-use Rattle.bidi_order.specs.Sequences.Scan.{Forward, Backward}
+use Rattle.bidi_order.specs.Sequences.Scan.{Forward}
 use Rattle.bidi_order.specs.Sequences.Following.{Taking, Passing}
 use Rattle.bidi_order.specs.Sequences.SequenceStep.{Take}
-use Rattle.bidi_order.proofs.FollowedSequences.{Within, Above, Above-Within}
+use Rattle.bidi_order.proofs.FollowedSequences.{Above, Above-Within}
 use Rattle.bidi_order.proofs.FollowedSequences.Above.{above_end, above_none, above_some}
-use Rattle.bidi_preview.specs.NextCharacter.{NextCharacter, closing_from, goes_past, leading_removed, level_behind}
+use Rattle.bidi_preview.specs.NextCharacter.{closing_from, goes_past, leading_removed, level_behind}
 use Rattle.bidi_preview.specs.NextCharacter.{next_character, next_from}
 use Rattle.bidi_preview.specs.NextCharacter.NextCharacter.{GoesOn, Ends}
 use Rattle.bidi_preview.proofs.Following.{AllRemoved, AllRemoved-reverse, Led, along-removed, closing_from-step, led}
@@ -26,7 +26,7 @@ use Rattle.bidi_preview.proofs.OverflowIsolates.{AllAt}
 use Rattle.bidi_preview.proofs.OverflowIsolates.AllAt.{at_end, at_none, at_some}
 use Rattle.bidi_preview.proofs.Isolates.{Pair, pair_at}
 use Rattle.bidi_preview.proofs.Neighbours.{Neighbours, after_in, before_in, neighbours-isolate, neighbours-removed}
-use Rattle.bidi_preview.proofs.Behind.{Before, EndsIsolateOf, Opened, SameBefore, before, passes_into, stops}
+use Rattle.bidi_preview.proofs.Behind.{Opened, SameBefore, before, passes_into, stops}
 use Rattle.bidi_preview.proofs.Behind.Before.{is_first, is_beside, is_end}
 
 -- ---- the next character, by the parts of a line

@@ -1,14 +1,14 @@
 -- The next kept character, one index at a time, and where a sequence goes on by it.
 use Rattle.std.proofs.Common.{◌≡◌, ℕ, zero, suc, ◌+◌, ◌<◌, ◌≤◌, Bool, true, false, List, [], ◌∷◌, drop, get_or}
 use Rattle.std.proofs.Common.{length}
-use Rattle.std.proofs.Common.{refl, sym, ap, subst, ◌∙◌, ◌==◌, if◌then◌else◌, arith, inl, inr, Option, Some, None}
-use Rattle.std.proofs.lemmas.Bool.{both_ways, cases_Bool, cond-true, cond-false}
+use Rattle.std.proofs.Common.{refl, sym, ap, ◌∙◌, ◌==◌, if◌then◌else◌, arith, inl, inr, Option, Some, None}
+use Rattle.std.proofs.lemmas.Bool.{both_ways, cases_Bool}
 use Rattle.std.proofs.Math.ListN.{drop_of_length-le}
 use Rattle.std.proofs.Math.Seq.{drop-cons}
 use Rattle.std.specs.Option.{is_some}
 use Rattle.bidi_order.specs.Explicit.{KeptCharacter}
 use Rattle.bidi_order.specs.Sequences.{enters_isolate}
-use Rattle.bidi_preview.specs.NextCharacter.{NextCharacter, character_at, goes_past, leading_removed, matching_end}
+use Rattle.bidi_preview.specs.NextCharacter.{character_at, goes_past, leading_removed, matching_end}
 use Rattle.bidi_preview.specs.NextCharacter.{next_character, next_from, next_kept}
 use Rattle.bidi_preview.specs.NextCharacter.NextCharacter.{GoesOn, Ends}
 use Rattle.bidi_preview.specs.SequenceSteps.{HasEnds}

@@ -1,7 +1,7 @@
 -- Any matched isolate of a line gives back the status before it. What stands inside has higher levels, or, where the
 -- isolate overflows, all of it has the same level.
 use Rattle.std.proofs.Common.{◌≡◌, ℕ, suc, ◌+◌, ◌-◌, Bool, true, false, ◌==◌, ◌&&◌, nat_le, inl, inr, List, [], ◌∷◌}
-use Rattle.std.proofs.Common.{◌++◌, map, length, refl, sym, ap, ◌∙◌, arith, Option, Some, None}
+use Rattle.std.proofs.Common.{◌++◌, map, length, refl, ap, ◌∙◌, arith, Option, Some, None}
 use Rattle.std.proofs.lemmas.Bool.{cond-true, cond-false, cases_Bool, lt-ltb, ne_eqb}
 use Rattle.bidi_class.specs.Class.{bidi_class}
 use Rattle.bidi_class.specs.Pairs.{is_initiator, is_closing}

@@ -1,5 +1,5 @@
 -- Pairs of brackets by their opening ones: the pairs found so far, put in order, are those that the partners list.
-use Rattle.std.proofs.Common.{◌≡◌, ◌≢◌, ◌==◌, ℕ, zero, suc, ◌+◌, ◌<◌, ◌≤◌, Bool, true, false, nat_lt, inl, inr, List}
+use Rattle.std.proofs.Common.{◌≡◌, ◌≢◌, ◌==◌, ℕ, zero, suc, ◌+◌, ◌<◌, ◌≤◌, true, false, inl, inr, List}
 use Rattle.std.proofs.Common.{[], ◌∷◌, ◌++◌}
 use Rattle.std.proofs.Common.{drop, length, get_or, reverse, refl, sym, ap, subst, ◌∙◌, append_assoc, arith, Option}
 use Rattle.std.proofs.Common.{Some, None}

@@ -1,10 +1,10 @@
 -- A sequence that is read one character at a time.
-use Rattle.std.proofs.Common.{◌≡◌, ℕ, zero, suc, ◌+◌, ◌-◌, ◌<◌, Bool, true, List, [], ◌∷◌, ◌++◌, length, get_or, refl}
+use Rattle.std.proofs.Common.{◌≡◌, ℕ, zero, suc, ◌-◌, ◌<◌, true, List, [], ◌∷◌, ◌++◌, length, get_or}
 use Rattle.std.proofs.Common.{sym, ap}
 use Rattle.std.proofs.Common.{subst, ◌∙◌, append_assoc, arith, Option, Some, None}
 use Rattle.std.specs.Option.{is_some}
 use Rattle.bidi_order.specs.Explicit.{KeptCharacter}
-use Rattle.bidi_preview.specs.NextCharacter.{NextCharacter, character_at, next_character}
+use Rattle.bidi_preview.specs.NextCharacter.{character_at, next_character}
 use Rattle.bidi_preview.specs.NextCharacter.NextCharacter.{GoesOn, Ends}
 use Rattle.bidi_preview.specs.SequenceSteps.{Chain, IsExplicit, ReadSoFar}
 use Rattle.bidi_preview.specs.SequenceSteps.Chain.{chain_end, chain_more}

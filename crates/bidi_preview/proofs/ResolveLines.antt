@@ -1,7 +1,7 @@
 -- The sequences of a line, resolved one after the other.
-use Rattle.std.proofs.Common.{◌≡◌, ◌==◌, ℕ, zero, suc, ◌+◌, ◌<◌, ◌≤◌, max, Bool, true, false, ◌⊎◌, inl, inr, List, []}
-use Rattle.std.proofs.Common.{◌∷◌, ◌++◌}
-use Rattle.std.proofs.Common.{reverse, take, drop, get_or, length, map, refl, sym, ap, subst, ◌∙◌, arith, Option}
+use Rattle.std.proofs.Common.{◌≡◌, ◌==◌, ℕ, zero, suc, ◌+◌, ◌<◌, ◌≤◌, max, true, false, inl, inr, List, []}
+use Rattle.std.proofs.Common.{◌∷◌}
+use Rattle.std.proofs.Common.{reverse, take, get_or, length, map, refl, sym, ap, subst, ◌∙◌, arith, Option}
 use Rattle.std.proofs.Common.{Some, None}
 use Rattle.std.proofs.lemmas.Bool.{both_ways, cases_Bool, eq-eqb, eqb-true}
 use Rattle.std.proofs.lemmas.List.{length-replicate}
@@ -12,10 +12,9 @@ use Rattle.bidi_class.specs.declared.brackets.Bracket.{Bracket}
 use Rattle.bidi_order.specs.Explicit.{KeptCharacter}
 use Rattle.bidi_order.specs.Resolve.{implicit, resolve}
 use Rattle.bidi_order.specs.Sequences.{resolved_levels_from, side_class}
-use Rattle.bidi_preview.specs.NextCharacter.{NextCharacter, character_at, level_behind, next_character}
-use Rattle.bidi_preview.specs.NextCharacter.NextCharacter.{GoesOn}
+use Rattle.bidi_preview.specs.NextCharacter.{character_at, level_behind}
 use Rattle.bidi_preview.specs.NeutralSteps.{characters_of}
-use Rattle.bidi_preview.specs.SequenceSteps.{BeginsSequence, Chain, HasLevel, IsExplicit, IsInProgress, ResolvedUpTo}
+use Rattle.bidi_preview.specs.SequenceSteps.{BeginsSequence, Chain, IsExplicit, IsInProgress, ResolvedUpTo}
 use Rattle.bidi_preview.specs.SequenceSteps.{WritesSequence, bracket_at, class_at, written}
 use Rattle.bidi_preview.specs.SequenceSteps.Chain.{chain_end, chain_more}
 use Rattle.bidi_preview.proofs.LastOpened.{reverse-take}

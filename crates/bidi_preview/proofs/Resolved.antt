@@ -1,5 +1,5 @@
 -- The rules from W1 to I2 over two lists, of classes and of brackets.
-use Rattle.std.proofs.Common.{◌≡◌, ℕ, suc, List, [], ◌∷◌, map, length, refl, sym, ap, ◌∙◌, arith, Option}
+use Rattle.std.proofs.Common.{◌≡◌, ℕ, List, [], ◌∷◌, map, length, refl, sym, ap, ◌∙◌, arith, Option}
 use Rattle.bidi_class.specs.declared.class.Class.{Class}
 use Rattle.bidi_class.specs.declared.brackets.Bracket.{Bracket}
 use Rattle.bidi_order.specs.DirectionalStatus.{is_odd}

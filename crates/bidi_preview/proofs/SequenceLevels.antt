@@ -1,5 +1,5 @@
 -- The levels of a sequence that is read once: those of each of its characters.
-use Rattle.std.proofs.Common.{◌≡◌, ℕ, zero, suc, ◌+◌, ◌<◌, max, Bool, true, false, ◌⊎◌, inl, inr, List, [], ◌∷◌, ◌++◌}
+use Rattle.std.proofs.Common.{◌≡◌, ℕ, zero, suc, ◌+◌, ◌<◌, max, true, false, inl, inr, List, [], ◌∷◌, ◌++◌}
 use Rattle.std.proofs.Common.{reverse, take, drop, get_or, length, map, refl, sym, ap, subst, ◌∙◌, append_assoc}
 use Rattle.std.proofs.Common.{arith}
 use Rattle.std.proofs.Common.{length-append, Option, Some, None}
@@ -9,18 +9,17 @@ use Rattle.std.proofs.Math.Seq.{drop-append-add, drop-cons, get_or-append_seam, 
 use Rattle.std.specs.Option.{is_some}
 use Rattle.bidi_class.specs.declared.class.Class.{Class}
 use Rattle.bidi_class.specs.declared.class.Class.TheVariants.{ON}
-use Rattle.bidi_class.specs.declared.brackets.Bracket.{Bracket}
 use Rattle.bidi_order.specs.DirectionalStatus.{initial_status}
 use Rattle.bidi_order.specs.Explicit.{KeptCharacter, SequenceCharacter, explicit_from}
 use Rattle.bidi_order.specs.Resolve.{implicit, resolve}
 use Rattle.bidi_order.specs.Sequences.{resolved_level, resolved_levels_from, side_class}
-use Rattle.bidi_preview.specs.NextCharacter.{NextCharacter, character_at, level_at, level_behind, next_character}
+use Rattle.bidi_preview.specs.NextCharacter.{character_at, level_at, level_behind, next_character}
 use Rattle.bidi_preview.specs.NextCharacter.NextCharacter.{GoesOn, Ends}
 use Rattle.bidi_preview.specs.NeutralSteps.{characters_of}
 use Rattle.bidi_preview.specs.SequenceSteps.{AreLevels, Chain, HasLevel, IsExplicit, IsInProgress, bracket_at}
 use Rattle.bidi_preview.specs.SequenceSteps.{class_at}
 use Rattle.bidi_preview.specs.SequenceSteps.Chain.{chain_end, chain_more}
-use Rattle.bidi_preview.proofs.Neighbours.{SeesSequence, after_in, before_in, level-seen, level_in, sees-next}
+use Rattle.bidi_preview.proofs.Neighbours.{SeesSequence, after_in, before_in, level-seen, sees-next}
 use Rattle.bidi_preview.proofs.NextCharacters.{ComesFrom, NextAt, begins, ends_at, goes_on}
 use Rattle.bidi_preview.specs.SequenceSteps.AreLevels.{levels_end, levels_more}
 use Rattle.bidi_preview.proofs.Written.{kept-within}

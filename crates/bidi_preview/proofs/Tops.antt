@@ -1,13 +1,13 @@
 -- The top of a status, and what a directed class does.
 use Rattle.std.proofs.Common.{◌≡◌, ◌<◌, ℕ, zero, suc, ◌+◌, ◌++◌, append_assoc, drop, length, map, get_or, subst}
-use Rattle.std.proofs.Common.{arith, Bool, true, false, ◌⊎◌, inl, inr, List, [], ◌∷◌, refl, sym, ap, ◌∙◌, Option}
+use Rattle.std.proofs.Common.{arith, Bool, true, false, inl, inr, List, [], ◌∷◌, refl, sym, ap, ◌∙◌, Option}
 use Rattle.std.proofs.Common.{Some, None, if◌then◌else◌}
-use Rattle.std.proofs.lemmas.Bool.{both_ways, cases_Bool, cond-true, cond-false}
+use Rattle.std.proofs.lemmas.Bool.{both_ways}
 use Rattle.std.proofs.Math.Seq.{drop-cons}
 use Rattle.soy_base.specs.Stacks.{top_of}
 use Rattle.bidi_class.specs.declared.class.Class.{Class}
 use Rattle.bidi_class.specs.declared.class.Class.TheVariants.{LRI, RLI, FSI, PDI, LRE, RLE, LRO, RLO, PDF, BN}
-use Rattle.bidi_class.specs.Class.{bidi_class, begins_isolate}
+use Rattle.bidi_class.specs.Class.{bidi_class}
 use Rattle.bidi_order.specs.DirectionalStatus.{DirectionalStatus, StatusEntry, act_of_class, begins_right_to_left}
 use Rattle.bidi_order.specs.DirectionalStatus.{last_entry, status_after, top_entry}
 use Rattle.bidi_order.specs.Explicit.{KeptCharacter, act_of_character, explicit_character}

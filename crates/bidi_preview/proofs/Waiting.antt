@@ -1,5 +1,5 @@
 -- The PDIs that wait for an initiator, from the end of a line on (UAX #9, BD9).
-use Rattle.std.proofs.Common.{◌≡◌, ℕ, zero, suc, ◌+◌, ◌<◌, ◌≤◌, Bool, true, false, List, [], ◌∷◌, drop, get_or}
+use Rattle.std.proofs.Common.{◌≡◌, ℕ, zero, suc, ◌+◌, ◌<◌, ◌≤◌, true, List, [], ◌∷◌, drop, get_or}
 use Rattle.std.proofs.Common.{length, refl}
 use Rattle.std.proofs.Common.{sym, ap, subst, ◌∙◌, ◌==◌, arith, inl, inr, Option, Some, None}
 use Rattle.std.proofs.lemmas.Bool.{both_ways, cases_Bool, eq-eqb, eqb-true}
@@ -7,10 +7,10 @@ use Rattle.std.proofs.lemmas.List.{get_or-set_other, get_or-set_same, length-rep
 use Rattle.std.proofs.Math.ListN.{drop_of_length-le, replicate, set}
 use Rattle.std.proofs.Math.Seq.{drop-cons}
 use Rattle.soy_base.specs.Stacks.{Pops}
-use Rattle.bidi_order.specs.Explicit.{IsolateRole, KeptCharacter}
+use Rattle.bidi_order.specs.Explicit.{KeptCharacter}
 use Rattle.bidi_order.specs.Explicit.IsolateRole.{Initiates, Terminates, Neither}
 use Rattle.bidi_order.specs.Sequences.{enters_isolate, step_past_isolate}
-use Rattle.bidi_order.specs.Sequences.SequenceStep.{Take, Pass, Stop}
+use Rattle.bidi_order.specs.Sequences.SequenceStep.{Take, Pass}
 use Rattle.bidi_preview.specs.NextCharacter.{character_at, closing_from, matching_end}
 use Rattle.bidi_preview.specs.SequenceSteps.{HasEnds, MatchedFrom, waiting_at}
 use Rattle.bidi_preview.proofs.Following.{closing_from-step}

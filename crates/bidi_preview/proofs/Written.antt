@@ -1,13 +1,11 @@
 -- Levels written for a whole sequence: all that is written is right, and nothing is lost.
-use Rattle.std.proofs.Common.{◌≡◌, ◌≢◌, ◌==◌, ℕ, zero, suc, ◌+◌, ◌<◌, Bool, true, false, ◌⊎◌, inl, inr, List, [], ◌∷◌}
-use Rattle.std.proofs.Common.{◌++◌}
-use Rattle.std.proofs.Common.{length, get_or, map, refl, sym, ap, subst, ◌∙◌, arith, Option, Some, None}
-use Rattle.std.proofs.lemmas.Bool.{cases_Bool, eqb-true, ne_eqb, both_ways, eq-eqb}
-use Rattle.std.proofs.lemmas.List.{get_or-set_other, get_or-set_same, length-set}
+use Rattle.std.proofs.Common.{◌≡◌, ℕ, zero, suc, ◌<◌, Bool, true, ◌⊎◌, inl, inr, List, [], ◌∷◌}
+use Rattle.std.proofs.Common.{length, get_or, refl, sym, ap, subst, ◌∙◌, arith, Option, Some, None}
+use Rattle.std.proofs.lemmas.List.{get_or-set_same, length-set}
 use Rattle.std.proofs.Math.ListN.{set}
 use Rattle.std.specs.Option.{is_some}
 use Rattle.bidi_order.specs.Explicit.{KeptCharacter}
-use Rattle.bidi_preview.specs.NextCharacter.{NextCharacter, character_at, level_at, next_character}
+use Rattle.bidi_preview.specs.NextCharacter.{character_at, next_character}
 use Rattle.bidi_preview.specs.NextCharacter.NextCharacter.{GoesOn, Ends}
 use Rattle.bidi_preview.specs.SequenceSteps.{AreLevels, Chain, HasLevel, IsInProgress, written}
 use Rattle.bidi_preview.specs.SequenceSteps.AreLevels.{levels_end, levels_more}

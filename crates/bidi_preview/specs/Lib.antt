@@ -1,3 +1,5 @@
+pub mod Seen
+pub mod OneText
 pub mod Roles
 pub mod WeakSteps
 pub mod NeutralSteps
@@ -5,3 +7,9 @@ pub mod ExplicitSteps
 pub mod NextCharacter
 pub mod SequenceSteps
 pub mod ResetSteps
+pub mod OrderSteps
+pub mod AutoDirections
+pub mod DirValues
+pub mod ReadingSteps
+pub mod PageSteps
+pub mod LinesSoFar

@@ -3,12 +3,11 @@
 --
 -- In `a`, RLI, U+05D0, PDI, `b` at the base 0 the sequence goes on after the RLI at the PDI, 3, and it ends beside the
 -- base after U+05D0, whose next character has another level, 0.
-use Rattle.std.specs.Prelude.{ℕ, zero, suc, ◌+◌, max, Bool, true, false, ◌==◌, List, [], ◌∷◌, ◌++◌, reverse, length}
+use Rattle.std.specs.Prelude.{ℕ, suc, ◌+◌, ◌==◌, List, [], ◌∷◌, reverse}
 use Rattle.std.specs.Prelude.{take}
 use Rattle.std.specs.Prelude.{drop, slice_index_or, if◌then◌else◌, Option, Some, None}
-use Rattle.bidi_order.specs.Explicit.{IsolateRole, SequenceCharacter, KeptCharacter}
-use Rattle.bidi_order.specs.Explicit.IsolateRole.{Initiates, Terminates, Neither}
-use Rattle.bidi_order.specs.Sequences.{SequenceStep, enters_isolate, resolved_level, step_past_isolate}
+use Rattle.bidi_order.specs.Explicit.{KeptCharacter}
+use Rattle.bidi_order.specs.Sequences.{enters_isolate, resolved_level, step_past_isolate}
 use Rattle.bidi_order.specs.Sequences.SequenceStep.{Take, Pass, Stop}
 
 -- a character of the line, if it is kept

@@ -9,7 +9,7 @@ use Rattle.std.specs.Option.{is_some}
 use Rattle.bidi_class.specs.declared.class.Class.{Class}
 use Rattle.bidi_class.specs.declared.class.Class.TheVariants.{ON}
 use Rattle.bidi_class.specs.declared.brackets.Bracket.{Bracket}
-use Rattle.bidi_order.specs.Explicit.{KeptCharacter, SequenceCharacter, explicit_characters}
+use Rattle.bidi_order.specs.Explicit.{KeptCharacter, explicit_characters}
 use Rattle.bidi_order.specs.Sequences.{enters_isolate, scanned_role, sequence_along}
 use Rattle.bidi_order.specs.Sequences.Scan.{Backward}
 use Rattle.bidi_order.specs.Sequences.Following.{Taking}

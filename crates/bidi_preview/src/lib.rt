@@ -1,25 +1,39 @@
-//! The order in which the lines of a page are seen: the levels of their characters, computed (UAX #9, X1 to L1).
+//! The order in which the lines of a page are seen, computed: levels (UAX #9, X1 to L1), their order (L2), and pages.
 //!
 //! `levels` answers exactly bidi_order's `line_levels` of a line of characters, or that memory ran out, in a time that
 //! is linear in the line: the explicit levels in one pass with a stack, isolates matched in one pass with a stack, and
-//! each isolating run sequence read, resolved in place and written once. Depends on bidi_order for the definitions, on
-//! bidi_class for classes and brackets, and on soy_base.
+//! each isolating run sequence read, resolved in place and written once. `preview` answers exactly `seen` of a page, or
+//! that memory ran out: the page is read twice, for the directions that go by content and for its lines. Depends on
+//! bidi_order for the definitions, on html_state for the tokenizer's states, on bidi_class for classes and brackets, and
+//! on soy_base.
 #![tactic(auto)]
 
 mod absent;
 mod brackets;
+mod direction;
 mod explicit;
 mod kept;
+mod laws;
 mod line;
+mod lines;
 mod links;
+mod names;
 mod neutral;
+mod number;
+mod order;
+mod page;
+mod reading;
+mod reference;
 mod reset;
 mod resolve;
 mod sequence;
+mod shown;
 mod status;
 mod weak;
 
+pub use laws::law_seen_order;
 pub use line::levels;
+pub use page::preview;
 
 #[cfg(test)]
 mod tests;

@@ -1,6 +1,7 @@
-//! The levels of worked lines. The figures are those of an implementation apart.
+//! The levels of worked lines, and worked pages as they are seen. The figures are those of an implementation apart.
 
 use crate::levels;
+use crate::page::show_page;
 use soy_base::Dir;
 use std::alloc::Global;
 
@@ -67,5 +68,68 @@ fn has_levels(alloc: Global, base: Dir, line: &[char], wanted: &[u8]) -> bool {
 fn worked_lines(rt: HostRuntime) {
     for (base, line, wanted) in LINES {
         assert!(rt; has_levels(rt.alloc(), *base, line, wanted));
+    }
+}
+
+/// The direction of the context, a page, and each line of it as it is seen, from left to right.
+const PAGES: &[(Dir, &str, &[&str])] = &[
+    (
+        Dir::Ltr,
+        "<span dir=\"rtl\">\u{5d0}\u{5d1}</span> (5)",
+        &["\u{5d1}\u{5d0} (5)"],
+    ),
+    (Dir::Rtl, "a <span dir=\"ltr\">b</span>", &["b a"]),
+    (
+        Dir::Ltr,
+        "<bdo dir=\"rtl\">a<span dir=\"ltr\">c</span>b</bdo>",
+        &["bca"],
+    ),
+    (
+        Dir::Ltr,
+        "<p dir=\"auto\"><span dir=\"ltr\">abc</span> \u{5e9}\u{5dc}\u{5d5}\u{5dd}</p>",
+        &["\u{5dd}\u{5d5}\u{5dc}\u{5e9} abc"],
+    ),
+    (
+        Dir::Ltr,
+        "a<br> <br>&nbsp;<br>b&#x5d0;&amp;&lt;",
+        &["a", "\u{a0}", "b\u{5d0}&<"],
+    ),
+    (
+        Dir::Ltr,
+        "<p DIR=rtl>1 <i>a</i> - \u{5d0}\u{5d1}</p>x",
+        &["\u{5d1}\u{5d0} - a 1", "x"],
+    ),
+    (
+        Dir::Ltr,
+        "<bdi>1 \u{5d0}\u{5d1} a</bdi>!<!-- z --><title>t</title></b>",
+        &["a \u{5d1}\u{5d0} 1!"],
+    ),
+    (Dir::Rtl, "a < b </> &shy;c", &["a < b  c"]),
+    (
+        Dir::Ltr,
+        "<p dir=x dir=rtl>\u{5d0}\u{5d1}!</p>",
+        &["\u{5d1}\u{5d0}!"],
+    ),
+    (Dir::Ltr, "", &[]),
+];
+
+fn has_lines(alloc: Global, context: Dir, page: &str, wanted: &[&str]) -> bool {
+    match show_page(alloc, page, context) {
+        Ok(lines) => {
+            lines.items().len() == wanted.len()
+                && lines
+                    .items()
+                    .iter()
+                    .zip(wanted)
+                    .all(|(line, given)| line.is(given))
+        }
+        Err(_) => false,
+    }
+}
+
+#[test]
+fn worked_pages(rt: HostRuntime) {
+    for (context, page, wanted) in PAGES {
+        assert!(rt; has_lines(rt.alloc(), *context, page, wanted));
     }
 }

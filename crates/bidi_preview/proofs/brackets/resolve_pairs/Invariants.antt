@@ -1,4 +1,4 @@
-use Rattle.std.proofs.Common.{◌≡◌, ◌≤◌, drop, length, map}
+use Rattle.std.proofs.Common.{◌≡◌, drop, length, map}
 use Rattle.bidi_order.specs.Resolve.{is_nonspacing, n0}
 use Rattle.bidi_preview.specs.NeutralSteps.{listed_pairs}
 use Rattle.bidi_preview.proofs.brackets.resolve_pairs.Given as goal

@@ -1,4 +1,4 @@
-use Rattle.std.proofs.Common.{◌≡◌, ◌≤◌, ◌++◌, drop, length}
+use Rattle.std.proofs.Common.{◌≡◌, ◌≤◌, ◌++◌, drop}
 use Rattle.bidi_order.specs.Explicit.{explicit_characters, explicit_from}
 use Rattle.bidi_preview.specs.ExplicitSteps.{view_status}
 use Rattle.bidi_preview.proofs.explicit.read_explicit.Given as goal

@@ -1,4 +1,4 @@
-use Rattle.std.proofs.Common.{◌≡◌, ◌≤◌, ◌-◌, ◌+◌, ℕ, length, map, Option, Some, None}
+use Rattle.std.proofs.Common.{◌≡◌, ◌≤◌, map}
 use Rattle.bidi_preview.specs.SequenceSteps.{ReadSoFar, bracket_at, class_at}
 use Rattle.bidi_preview.proofs.ReadSequences.{IsHere, left_over}
 use Rattle.bidi_preview.proofs.sequence.read_sequence.Given as goal

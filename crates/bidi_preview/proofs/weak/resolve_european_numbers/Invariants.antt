@@ -1,6 +1,5 @@
-use Rattle.std.proofs.Common.{◌≡◌, ◌++◌, take, drop, map}
-use Rattle.bidi_order.specs.Resolve.{w1, w2, w3, w4, w6, w7}
-use Rattle.bidi_preview.specs.WeakSteps.{following_terminators}
+use Rattle.std.proofs.Common.{◌≡◌, ◌++◌, take, drop}
+use Rattle.bidi_order.specs.Resolve.{w7}
 use Rattle.bidi_preview.proofs.weak.resolve_european_numbers.Given as goal
 
 abbrev pub invariant-loop-class : goal.invariant-loop-class

@@ -1,4 +1,4 @@
-use Rattle.std.proofs.Common.{◌≡◌, ◌++◌, ℕ, Some, sym, subst, arith}
+use Rattle.std.proofs.Common.{◌≡◌, ◌++◌, Some, sym, subst}
 use Rattle.bidi_preview.specs.NextCharacter.{character_at}
 use Rattle.bidi_preview.specs.SequenceSteps.{Chain}
 use Rattle.bidi_preview.proofs.ReadSequences.{here_is, read_end, read_more}

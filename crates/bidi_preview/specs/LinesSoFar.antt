@@ -1,0 +1,14 @@
+-- What the code keeps of a page, as the definitions have it: open elements innermost first.
+use Rattle.std.specs.Prelude.{reverse, drop}
+use Rattle.bidi_order.specs.Lines.{direction_level}
+use Rattle.bidi_preview.specs.PageSteps.{PageSoFar}
+use Rattle.bidi_preview.specs.declared.lines.Lines.{Lines}
+
+abbrev pub view_lines : Lines → PageSoFar
+view_lines l = record {
+  opened = reverse l.opened.items;
+  directions = drop l.next l.directions.items;
+  base = direction_level l.base;
+  characters = l.characters.items;
+  texts = l.texts;
+}
