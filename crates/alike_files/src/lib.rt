@@ -1,0 +1,2 @@
+//! Files whose trees are alike.
+#![tactic(auto)]
