@@ -6,3 +6,15 @@ pub mod DeclarationFaults
 pub mod CommandFaults
 pub mod NodeFaults
 pub mod AllDemands
+pub mod MessageCuts
+pub mod BaseNames
+pub mod PlaceholderNames
+pub mod CanonicalTexts
+pub mod Catalogues
+pub mod PartPlans
+pub mod NodePlans
+pub mod Walks
+pub mod Outcomes
+pub mod Branches
+pub mod Calls
+pub mod NodeRuns

@@ -1,1 +1,4 @@
 pub mod WithoutSpans
+pub mod RunWithoutPositions
+pub mod WithoutPositions
+pub mod IdsIn
