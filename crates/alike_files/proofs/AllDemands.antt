@@ -1,7 +1,6 @@
 -- What is demanded of the trees of all files reads no more of spans than where a fault is.
-use Rattle.std.proofs.Common.{◌≡◌, ℕ, List, [], ◌∷◌, map, Option, Some, None, refl, ap, ◌∙◌}
-use Rattle.std.specs.Prelude.{Result, Ok, Err, option_map}
-use Rattle.std.specs.Option.{option_or}
+use Rattle.std.proofs.Common.{◌≡◌, ℕ, List, [], ◌∷◌, map, Option, Some, None, refl}
+use Rattle.std.specs.Prelude.{Ok, Err, option_map}
 use Rattle.soy_tree.specs.Bodies.{Around, Checked, after_nodes}
 use Rattle.soy_tree.specs.Declarations.{declaration_fault}
 use Rattle.soy_tree.specs.Demands.{CheckFault, bodies_fault, body_fault, check_fault, declarations_fault, fault_of}
@@ -9,9 +8,8 @@ use Rattle.soy_tree.specs.Demands.{in_file}
 use Rattle.soy_tree.specs.Faults.{TypeFault}
 use Rattle.soy_tree.specs.Templates.{Declared, declared, full_name, param_scope}
 use Rattle.soy_tree.specs.Trees.{Tree}
-use Rattle.soy_tree.specs.TypeOf.{Scope}
 use Rattle.soy_tree.specs.Types.{Name}
-use Rattle.alike_files.specs.WithoutSpans.{tree_without_spans}
+use Rattle.soy_format.specs.WithoutSpans.{tree_without_spans}
 use Rattle.alike_files.proofs.DeclarationFaults.{declaration_same}
 use Rattle.alike_files.proofs.DeclaredTemplates.{declared_same, declared_without_spans, param_scope_same}
 use Rattle.alike_files.proofs.Faults.{fault_placeless, first_same, placeless}

@@ -1,5 +1,5 @@
 -- The base names of prints, selectors and tags read none of their spans.
-use Rattle.std.proofs.Common.{◌≡◌, Bool, List, [], ◌∷◌, ◌++◌, map, Option, Some, None, refl, sym, ap, ◌∙◌}
+use Rattle.std.proofs.Common.{◌≡◌, Bool, List, [], ◌∷◌, ◌++◌, Option, Some, None, refl, sym, ap, ◌∙◌}
 use Rattle.std.specs.Prelude.{reverse, if◌then◌else◌}
 use Rattle.std.proofs.lemmas.List.{map-append, reverse-append}
 use Rattle.soy_tree.specs.BaseNames.{base_of_expr, base_of_print, base_of_tag, begins_as_closed, is_closed_tag}
@@ -8,7 +8,7 @@ use Rattle.soy_tree.specs.Expressions.{Expr, NullLiteral, BoolLiteral, IntLitera
 use Rattle.soy_tree.specs.Expressions.{Index, Minus, Not, Binary, Coalesce, Conditional}
 use Rattle.soy_tree.specs.MessageText.{Character, MessageItem, Printed}
 use Rattle.soy_tree.specs.Types.{Name}
-use Rattle.alike_files.specs.WithoutSpans.{expr_without_spans}
+use Rattle.soy_format.specs.WithoutSpans.{expr_without_spans}
 use Rattle.alike_files.proofs.ExpressionValues.{through_if}
 use Rattle.alike_files.proofs.MessageCuts.{item_without_spans, items_without_spans}
 
@@ -49,8 +49,11 @@ tag_name_same [] = refl
 tag_name_same (first ∷ []) = refl
 tag_name_same (first ∷ (second ∷ rest)) =
     let is_end : Bool = is_end_tag (first ∷ (second ∷ rest)) in
-    rw (end_tag_same (first ∷ (second ∷ rest)), through_if items_without_spans is_end rest (second ∷ rest),
-    leading_same (if is_end then rest else second ∷ rest)) refl
+    rw (
+      end_tag_same (first ∷ (second ∷ rest)),
+      through_if items_without_spans is_end rest (second ∷ rest),
+      leading_same (if is_end then rest else second ∷ rest),
+    ) refl
 
 begins_closed_same : (items : List MessageItem)
     → begins_as_closed (items_without_spans items) ≡ begins_as_closed items

@@ -1,5 +1,5 @@
 -- What a translation gives reads no span: without spans it gives the same, without positions.
-use Rattle.std.proofs.Common.{◌≡◌, ℕ, ◌+◌, ℤ, pos, Bool, true, false, List, [], ◌∷◌, ◌++◌, map, Option, Some, None}
+use Rattle.std.proofs.Common.{◌≡◌, ℕ, ◌+◌, ℤ, pos, Bool, true, false, List, [], ◌∷◌, ◌++◌, Option, Some, None}
 use Rattle.std.proofs.Common.{bytes_eq, refl, sym, ap, ◌∙◌}
 use Rattle.std.specs.Prelude.{◌-ℤ◌, codes, option_map, if◌then◌else◌}
 use Rattle.std.specs.Option.{option_or}
@@ -16,19 +16,19 @@ use Rattle.soy_tree.specs.MessageText.{Character, Cut, MessageItem, PrintCut, Pr
 use Rattle.soy_tree.specs.Placeholders.{AsPlaceholder, AsPlural, AsSelect, Role, Use, name_of}
 use Rattle.soy_tree.specs.Types.{Name}
 use Rattle.soy_tree.specs.Val.{is_same_int, operand, val}
-use Rattle.soy_tree.specs.Values.{IntValue, Value}
-use Rattle.soy_meaning.specs.Branch.{PartMeans, arm_means, cut_means, exact_of, exact_rows, int_of, named_of, named_rows}
+use Rattle.soy_tree.specs.Values.{IntValue}
+use Rattle.soy_meaning.specs.Branch.{PartMeans, arm_means, cut_means, exact_of, exact_rows, int_of, named_of}
+use Rattle.soy_meaning.specs.Branch.{named_rows}
 use Rattle.soy_meaning.specs.Branch.{part_means, parts_means, plural_means, print_means, row_count, select_means}
 use Rattle.soy_meaning.specs.Branch.{select_of, select_rows, selector, selector_of_role, tag_means, word_of}
-use Rattle.soy_meaning.specs.Giving.{Means, RunEnv, StateSoFar, printed_means, with_choice}
-use Rattle.soy_meaning.specs.Outcome.{ArmTaken, Outcome}
+use Rattle.soy_meaning.specs.Giving.{RunEnv, printed_means, with_choice}
+use Rattle.soy_meaning.specs.Outcome.{ArmTaken}
 use Rattle.soy_meaning.specs.PlanOfParts.{placeholder_cut}
-use Rattle.alike_files.specs.RunWithoutPositions.{outcome_without_positions}
-use Rattle.alike_files.specs.WithoutSpans.{expr_without_spans}
+use Rattle.soy_format.specs.WithoutSpans.{expr_without_spans}
 use Rattle.alike_files.proofs.ExpressionValues.{cost_same, operand_same, through_if, value_same}
 use Rattle.alike_files.proofs.Faults.{first_same}
 use Rattle.alike_files.proofs.MessageCuts.{cut_without_spans, either_same, items_without_spans}
-use Rattle.alike_files.proofs.Outcomes.{MeansSame, NextSame, block_placeless, choice_next, cost_next, env_placeless}
+use Rattle.alike_files.proofs.Outcomes.{MeansSame, block_placeless, choice_next, cost_next, env_placeless}
 use Rattle.alike_files.proofs.Outcomes.{print_given, text_given, value_given}
 use Rattle.alike_files.proofs.PartPlans.{placeholder_cut_same}
 use Rattle.alike_files.proofs.PlaceholderNames.{name_of_same, role_without_spans, uses_without_spans}

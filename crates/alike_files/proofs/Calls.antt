@@ -1,30 +1,30 @@
 -- What loops, cases, calls and messages go by reads no span: without spans it is the same, without positions.
-use Rattle.std.proofs.Common.{◌≡◌, ℕ, ◌+◌, pos, Bool, true, false, List, [], ◌∷◌, ◌++◌, map, Option, Some, None}
+use Rattle.std.proofs.Common.{◌≡◌, ℕ, ◌+◌, pos, Bool, List, [], ◌∷◌, ◌++◌, map, Option, Some, None}
 use Rattle.std.proofs.Common.{bytes_eq, refl, ap, ◌∙◌}
-use Rattle.std.specs.Prelude.{◌&&◌, is_some, option_map, if◌then◌else◌}
+use Rattle.std.specs.Prelude.{◌&&◌, is_some, option_map}
 use Rattle.soy_tree.specs.Bodies.{param_of}
-use Rattle.soy_tree.specs.Cost.{cost}
 use Rattle.soy_tree.specs.Expressions.{Expr}
 use Rattle.soy_tree.specs.MessageParts.{MsgParts}
 use Rattle.soy_tree.specs.Nodes.{Fallback, Message, no_fallback, fallback}
 use Rattle.soy_tree.specs.Templates.{Declared}
 use Rattle.soy_tree.specs.Trees.{Param}
 use Rattle.soy_tree.specs.Types.{Name}
-use Rattle.soy_tree.specs.Val.{Binding, Known, binding, is_same_value}
-use Rattle.soy_tree.specs.Values.{IntValue, Items, NullValue, Value, item, no_item}
-use Rattle.soy_meaning.specs.Giving.{BoundBlock, Means, RunEnv, StateSoFar, called_means}
+use Rattle.soy_tree.specs.Val.{Binding, Known, binding}
+use Rattle.soy_tree.specs.Values.{Items, NullValue, Value, item, no_item}
+use Rattle.soy_meaning.specs.Giving.{BoundBlock, Means, RunEnv, called_means}
 use Rattle.soy_meaning.specs.Outcome.{Outcome}
 use Rattle.soy_meaning.specs.Pieces.{ChosenText, GivenArguments, RunContext, TheFallback, TheOwn, TheSource, callee_env}
-use Rattle.soy_meaning.specs.Pieces.{chosen_after, chosen_of, chosen_text, fallback_text, given_binding, handed_on, is_one}
-use Rattle.soy_meaning.specs.Pieces.{opened_means, param_binding, translated_means, turns_mean, valued, with_index}
+use Rattle.soy_meaning.specs.Pieces.{chosen_after, chosen_of, chosen_text, fallback_text, given_binding, handed_on}
+use Rattle.soy_meaning.specs.Pieces.{is_one}
+use Rattle.soy_meaning.specs.Pieces.{opened_means, param_binding, translated_means, turns_mean, with_index}
 use Rattle.soy_meaning.specs.Plan.{Site}
 use Rattle.soy_meaning.specs.PlanOfNodes.{uses_of}
 use Rattle.alike_files.specs.RunWithoutPositions.{outcome_without_positions, site_without_position}
-use Rattle.alike_files.specs.WithoutSpans.{expr_without_spans, fallback_without_spans, message_without_spans}
-use Rattle.alike_files.specs.WithoutSpans.{param_without_spans}
+use Rattle.soy_format.specs.WithoutSpans.{expr_without_spans, fallback_without_spans, message_without_spans}
+use Rattle.soy_format.specs.WithoutSpans.{param_without_spans}
 use Rattle.alike_files.proofs.Branches.{parts_given, valued_same}
 use Rattle.alike_files.proofs.DeclaredTemplates.{declared_without_spans, has_param_same}
-use Rattle.alike_files.proofs.ExpressionValues.{binding_same, cost_same, env_by, through_if}
+use Rattle.alike_files.proofs.ExpressionValues.{binding_same, cost_same, through_if}
 use Rattle.alike_files.proofs.NodePlans.{ReadsNoSpan, uses_of_same}
 use Rattle.alike_files.proofs.Outcomes.{MeansSame, binding_placeless, block_placeless, call_given, env_placeless}
 use Rattle.alike_files.proofs.Outcomes.{value_given}
@@ -85,10 +85,14 @@ callee_env_same : (ps : List Param) (given : GivenArguments) (all : Bool) (own :
 callee_env_same [] given all own env = refl
 callee_env_same (p ∷ ps) given all own env =
     let hands : Bool = all && is_some (param_of p.name own) in
-    rw (given_same p.name given, has_param_same p.name own, binding_same block_placeless p.name env,
-    handed_same hands (binding p.name env),
-    param_same (given_binding p.name given) (handed_on hands (binding p.name env)),
-    callee_env_same ps given all own env) refl
+    rw (
+      given_same p.name given,
+      has_param_same p.name own,
+      binding_same block_placeless p.name env,
+      handed_same hands (binding p.name env),
+      param_same (given_binding p.name given) (handed_on hands (binding p.name env)),
+      callee_env_same ps given all own env,
+    ) refl
 
 -- ---- which text of a message
 

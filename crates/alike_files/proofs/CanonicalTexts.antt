@@ -1,5 +1,5 @@
 -- The canonical text and the id of a message read none of its spans.
-use Rattle.std.proofs.Common.{◌≡◌, ℕ, Bool, true, false, List, [], ◌∷◌, ◌++◌, map, Option, Some, None, refl, ap, ◌∙◌}
+use Rattle.std.proofs.Common.{◌≡◌, Bool, true, false, List, [], ◌∷◌, ◌++◌, map, Option, Some, None, refl, ap, ◌∙◌}
 use Rattle.std.specs.Prelude.{codes, option_map}
 use Rattle.soy_base.specs.Characters.{left_brace, right_brace}
 use Rattle.soy_tree.specs.BaseNames.{base_of_expr, base_of_print, base_of_tag}
@@ -14,9 +14,9 @@ use Rattle.msg_extract.specs.CanonicalText.{canonical_text, text_of_items, writt
 use Rattle.msg_extract.specs.CanonicalText.{written_found, written_name, written_offset, written_plural_cases}
 use Rattle.msg_extract.specs.CanonicalText.{written_select_cases}
 use Rattle.msg_extract.specs.MessageId.{id_of}
-use Rattle.alike_files.specs.WithoutSpans.{body_without_spans, expr_without_spans, message_without_spans}
-use Rattle.alike_files.specs.WithoutSpans.{plural_cases_without_spans}
-use Rattle.alike_files.specs.WithoutSpans.{select_cases_without_spans}
+use Rattle.soy_format.specs.WithoutSpans.{body_without_spans, expr_without_spans, message_without_spans}
+use Rattle.soy_format.specs.WithoutSpans.{plural_cases_without_spans}
+use Rattle.soy_format.specs.WithoutSpans.{select_cases_without_spans}
 use Rattle.alike_files.proofs.BaseNames.{base_of_expr_same, base_of_print_same, base_of_tag_same}
 use Rattle.alike_files.proofs.MessageCuts.{cut_without_spans, cuts_same, items_without_spans}
 use Rattle.alike_files.proofs.PlaceholderNames.{body_uses_same, name_of_same, uses_without_spans}

@@ -1,12 +1,12 @@
 -- The messages of trees without spans are those of the trees, without spans, and their catalogue has the same rows; its
 -- fault is the same but for its position.
-use Rattle.std.proofs.Common.{◌≡◌, ℕ, ◌+◌, Bool, true, false, List, [], ◌∷◌, ◌++◌, map, Option, Some, None, refl, sym}
+use Rattle.std.proofs.Common.{◌≡◌, ℕ, ◌+◌, List, [], ◌∷◌, ◌++◌, map, Option, Some, None, refl}
 use Rattle.std.proofs.Common.{ap, ◌∙◌}
 use Rattle.std.specs.Prelude.{Result, Ok, Err, if◌then◌else◌}
 use Rattle.std.proofs.lemmas.List.{map-append}
 use Rattle.soy_base.specs.declared.code.Code.TheVariants as code
 use Rattle.soy_base.specs.declared.fault.Fault.{Fault}
-use Rattle.soy_tree.specs.Nodes.{Node, Nodes, Otherwise, Arms, Cases, Arguments, Given, Message, Fallback, TextNode}
+use Rattle.soy_tree.specs.Nodes.{Node, Nodes, Otherwise, Arms, Cases, Arguments, Given, Message, TextNode}
 use Rattle.soy_tree.specs.Nodes.{Print, If, Switch, For, Let, LetBlock, Call, MessageNode, no_node, node, no_otherwise}
 use Rattle.soy_tree.specs.Nodes.{otherwise, no_arm, arm, no_case, case, no_argument, argument, Plain, Block, message}
 use Rattle.soy_tree.specs.Nodes.{no_fallback, fallback}
@@ -15,17 +15,17 @@ use Rattle.soy_tree.specs.Trees.{Template, Tree}
 use Rattle.soy_tree.specs.Types.{Name}
 use Rattle.msg_extract.specs.Catalogue.{all_listed, catalogue_of, find_listed, is_of_kind, is_same_listed, listed}
 use Rattle.msg_extract.specs.Catalogue.{listed_after, names_after, then_listed, trees_listed, with_listed, with_name}
-use Rattle.msg_extract.specs.MessagesIn.{argument_messages, arm_messages, case_messages, fallback_messages}
+use Rattle.msg_extract.specs.MessagesIn.{argument_messages, arm_messages, case_messages}
 use Rattle.msg_extract.specs.MessagesIn.{given_messages, messages_in, node_messages, otherwise_messages}
 use Rattle.msg_extract.specs.MessagesIn.{template_messages, tree_messages}
 use Rattle.msg_extract.specs.declared.catalogue.Listed.{Listed}
 use Rattle.msg_extract.specs.declared.role_names.NameKind.{NameKind}
 use Rattle.msg_extract.specs.declared.role_names.NameKind.TheVariants as kind
-use Rattle.alike_files.specs.WithoutPositions.{fault_without_position, result_without_position}
-use Rattle.alike_files.specs.WithoutSpans.{arguments_without_spans, arms_without_spans, cases_without_spans}
-use Rattle.alike_files.specs.WithoutSpans.{fallback_without_spans, given_without_spans, message_without_spans}
-use Rattle.alike_files.specs.WithoutSpans.{node_without_spans, nodes_without_spans, otherwise_without_spans}
-use Rattle.alike_files.specs.WithoutSpans.{template_without_spans, tree_without_spans}
+use Rattle.alike_files.specs.WithoutPositions.{result_without_position}
+use Rattle.soy_format.specs.WithoutSpans.{arguments_without_spans, arms_without_spans, cases_without_spans}
+use Rattle.soy_format.specs.WithoutSpans.{given_without_spans, message_without_spans}
+use Rattle.soy_format.specs.WithoutSpans.{node_without_spans, nodes_without_spans, otherwise_without_spans}
+use Rattle.soy_format.specs.WithoutSpans.{template_without_spans, tree_without_spans}
 use Rattle.alike_files.proofs.CanonicalTexts.{canonical_same}
 use Rattle.alike_files.proofs.ExpressionValues.{through_if}
 use Rattle.alike_files.proofs.PlaceholderNames.{body_uses_same, content_without_spans, name_of_same, role_without_spans}
@@ -41,11 +41,17 @@ mutual
   node_messages_same (TextNode text span) = refl
   node_messages_same (Print e phname span) = refl
   node_messages_same (If arms other span) =
-      rw (arm_messages_same arms, other_messages_same other,
-      map-append message_without_spans (arm_messages arms) (otherwise_messages other)) refl
+      rw (
+        arm_messages_same arms,
+        other_messages_same other,
+        map-append message_without_spans (arm_messages arms) (otherwise_messages other),
+      ) refl
   node_messages_same (Switch e cases other span) =
-      rw (case_messages_same cases, other_messages_same other,
-      map-append message_without_spans (case_messages cases) (otherwise_messages other)) refl
+      rw (
+        case_messages_same cases,
+        other_messages_same other,
+        map-append message_without_spans (case_messages cases) (otherwise_messages other),
+      ) refl
   node_messages_same (For name index e body span) = messages_same body
   node_messages_same (Let name e span) = refl
   node_messages_same (LetBlock name kind body span) = messages_same body
@@ -68,22 +74,31 @@ mutual
       → arm_messages (arms_without_spans arms) ≡ messages_without_spans (arm_messages arms)
   arm_messages_same no_arm = refl
   arm_messages_same (arm e body arms) =
-      rw (messages_same body, arm_messages_same arms,
-      map-append message_without_spans (messages_in body) (arm_messages arms)) refl
+      rw (
+        messages_same body,
+        arm_messages_same arms,
+        map-append message_without_spans (messages_in body) (arm_messages arms),
+      ) refl
 
   case_messages_same : (cases : Cases)
       → case_messages (cases_without_spans cases) ≡ messages_without_spans (case_messages cases)
   case_messages_same no_case = refl
   case_messages_same (case values body cases) =
-      rw (messages_same body, case_messages_same cases,
-      map-append message_without_spans (messages_in body) (case_messages cases)) refl
+      rw (
+        messages_same body,
+        case_messages_same cases,
+        map-append message_without_spans (messages_in body) (case_messages cases),
+      ) refl
 
   argument_messages_same : (given : Arguments)
       → argument_messages (arguments_without_spans given) ≡ messages_without_spans (argument_messages given)
   argument_messages_same no_argument = refl
   argument_messages_same (argument name given span rest) =
-      rw (given_messages_same given, argument_messages_same rest,
-      map-append message_without_spans (given_messages given) (argument_messages rest)) refl
+      rw (
+        given_messages_same given,
+        argument_messages_same rest,
+        map-append message_without_spans (given_messages given) (argument_messages rest),
+      ) refl
 
   given_messages_same : (given : Given)
       → given_messages (given_without_spans given) ≡ messages_without_spans (given_messages given)
@@ -94,8 +109,11 @@ template_messages_same : (ts : List Template)
     → template_messages (map template_without_spans ts) ≡ messages_without_spans (template_messages ts)
 template_messages_same [] = refl
 template_messages_same (t ∷ ts) =
-    rw (messages_same t.body, template_messages_same ts,
-    map-append message_without_spans (messages_in t.body) (template_messages ts)) refl
+    rw (
+      messages_same t.body,
+      template_messages_same ts,
+      map-append message_without_spans (messages_in t.body) (template_messages ts),
+    ) refl
 
 -- **the messages of a file**
 pub tree_messages_same : (tree : Tree)
@@ -131,9 +149,13 @@ names_same of all names (u ∷ uses) =
 -- **the row**
 pub row_same : (m : Message) → listed (message_without_spans m) ≡ listed m
 row_same (message desc meaning body span) =
-    rw (canonical_same body, body_uses_same body, names_same kind.Placeholder (body_uses body) [] (body_uses body),
-    names_same kind.Plural (body_uses body) [] (body_uses body),
-    names_same kind.Select (body_uses body) [] (body_uses body)) refl
+    rw (
+      canonical_same body,
+      body_uses_same body,
+      names_same kind.Placeholder (body_uses body) [] (body_uses body),
+      names_same kind.Plural (body_uses body) [] (body_uses body),
+      names_same kind.Select (body_uses body) [] (body_uses body),
+    ) refl
 
 -- ---- the rows of all
 

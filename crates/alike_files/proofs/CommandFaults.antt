@@ -1,10 +1,11 @@
 -- What a command demands of its variables, its expressions and its params reads no more of spans than where a fault is.
-use Rattle.std.proofs.Common.{◌≡◌, Bool, true, false, List, [], ◌∷◌, map, Option, Some, None, refl, ap}
-use Rattle.std.specs.Prelude.{Ok, ◌&&◌, is_some, option_map}
+use Rattle.std.proofs.Common.{◌≡◌, Bool, true, false, List, [], ◌∷◌, map, Option, Some, None, refl}
+use Rattle.std.specs.Prelude.{is_some, option_map}
 use Rattle.soy_base.specs.declared.fault.Span.{Span}
 use Rattle.soy_tree.specs.Accepts.{accepts}
 use Rattle.soy_tree.specs.Bodies.{Around, accepted, callee_params, each_passing, handed, hands_on, known_param}
-use Rattle.soy_tree.specs.Bodies.{left_out, loop_scope, named_param, names_given, new_variable, new_variables, param_demand}
+use Rattle.soy_tree.specs.Bodies.{left_out, loop_scope, named_param, names_given, new_variable, new_variables}
+use Rattle.soy_tree.specs.Bodies.{param_demand}
 use Rattle.soy_tree.specs.Bodies.{param_demands, param_of, params_of, passing, plain_argument, unnamed_demand}
 use Rattle.soy_tree.specs.Declarations.{is_among}
 use Rattle.soy_tree.specs.Expressions.{Expr, NullLiteral, BoolLiteral, IntLiteral, StringLiteral, Variable, Member}
@@ -16,7 +17,7 @@ use Rattle.soy_tree.specs.Templates.{Declared, callee, called_name, param_type}
 use Rattle.soy_tree.specs.Trees.{Param}
 use Rattle.soy_tree.specs.TypeOf.{Scope, type_of, variable_type}
 use Rattle.soy_tree.specs.Types.{Name, SoyType, IntType, ListType}
-use Rattle.alike_files.specs.WithoutSpans.{arguments_without_spans, expr_without_spans, no_span, param_without_spans}
+use Rattle.soy_format.specs.WithoutSpans.{arguments_without_spans, expr_without_spans, no_span, param_without_spans}
 use Rattle.alike_files.proofs.DeclaredTemplates.{callee_same, declared_without_spans, has_param_same, param_of_same}
 use Rattle.alike_files.proofs.ExpressionTypes.{type_same}
 use Rattle.alike_files.proofs.Faults.{followed, placeless, placeless_by, tested}

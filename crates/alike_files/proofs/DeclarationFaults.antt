@@ -1,6 +1,6 @@
 -- What is demanded of declarations reads no more of spans than where a fault is.
-use Rattle.std.proofs.Common.{◌≡◌, ℕ, Bool, true, false, List, [], ◌∷◌, map, Option, Some, None, refl, ap}
-use Rattle.std.specs.Prelude.{option_map, not, if◌then◌else◌}
+use Rattle.std.proofs.Common.{◌≡◌, ℕ, Bool, true, false, List, [], ◌∷◌, map, Some, None, refl}
+use Rattle.std.specs.Prelude.{option_map, not}
 use Rattle.std.specs.Option.{option_or}
 use Rattle.soy_base.specs.declared.code.Code.TheVariants as code
 use Rattle.soy_tree.specs.Types.{Name, SoyType, Members, FieldTypes, HtmlType, AttributesType, ListType, MapType}
@@ -10,7 +10,7 @@ use Rattle.soy_tree.specs.Declarations.{declaration_fault, fields_fault, is_amon
 use Rattle.soy_tree.specs.Declarations.{mixes_blocks, params_fault, twice, type_fault}
 use Rattle.soy_tree.specs.Templates.{Declared, full_name}
 use Rattle.soy_tree.specs.Trees.{Param}
-use Rattle.alike_files.specs.WithoutSpans.{param_without_spans}
+use Rattle.soy_format.specs.WithoutSpans.{param_without_spans}
 use Rattle.alike_files.proofs.DeclaredTemplates.{declared_without_spans}
 use Rattle.alike_files.proofs.ExpressionValues.{through_if}
 use Rattle.alike_files.proofs.Faults.{fault_placeless, first_same}

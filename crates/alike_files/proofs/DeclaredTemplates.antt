@@ -1,14 +1,14 @@
 -- The templates that are declared by trees without spans are those of the trees, without spans; so is what a name in a
 -- call means.
-use Rattle.std.proofs.Common.{◌≡◌, ℕ, ◌+◌, Bool, List, [], ◌∷◌, ◌++◌, map, Option, Some, None, bytes_eq, refl, ap}
-use Rattle.std.specs.Prelude.{option_map, is_some, if◌then◌else◌}
+use Rattle.std.proofs.Common.{◌≡◌, ℕ, ◌+◌, List, [], ◌∷◌, map, Option, Some, None, bytes_eq, refl, ap}
+use Rattle.std.specs.Prelude.{option_map, is_some}
 use Rattle.std.proofs.lemmas.List.{map-append}
-use Rattle.soy_tree.specs.Types.{Name, SoyType}
+use Rattle.soy_tree.specs.Types.{Name}
 use Rattle.soy_tree.specs.Bodies.{param_of}
 use Rattle.soy_tree.specs.Templates.{Declared, callee, called_name, declared, declared_from, declared_in, full_name}
 use Rattle.soy_tree.specs.Templates.{is_visible_from, param_scope, param_type, template_of, visible}
 use Rattle.soy_tree.specs.Trees.{Param, Template, Tree}
-use Rattle.alike_files.specs.WithoutSpans.{param_without_spans, template_without_spans, tree_without_spans}
+use Rattle.soy_format.specs.WithoutSpans.{param_without_spans, template_without_spans, tree_without_spans}
 use Rattle.alike_files.proofs.ExpressionValues.{through_if}
 
 abbrev pub declared_without_spans : Declared → Declared
@@ -26,9 +26,12 @@ declared_from_same : (file : ℕ) (trees : List Tree)
     → declared_from file (map tree_without_spans trees) ≡ map declared_without_spans (declared_from file trees)
 declared_from_same file [] = refl
 declared_from_same file (tree ∷ trees) =
-    rw (declared_in_same file tree.namespace tree.templates, declared_from_same (file + 1) trees,
-    map-append declared_without_spans (declared_in file tree.namespace tree.templates)
-    (declared_from (file + 1) trees)) refl
+    rw (
+      declared_in_same file tree.namespace tree.templates,
+      declared_from_same (file + 1) trees,
+      map-append declared_without_spans (declared_in file tree.namespace tree.templates)
+          (declared_from (file + 1) trees),
+    ) refl
 
 -- **the templates of all trees**
 pub declared_same : (trees : List Tree)

@@ -1,6 +1,6 @@
 -- The value and the cost of an expression read none of its spans, and of what blocks are bound to no more than that
 -- they are blocks; nor does a condition's scope.
-use Rattle.std.proofs.Common.{◌≡◌, Bool, true, false, List, [], ◌∷◌, bytes_eq, refl, ap, ◌∙◌}
+use Rattle.std.proofs.Common.{◌≡◌, Bool, true, false, [], ◌∷◌, bytes_eq, refl, ap, ◌∙◌}
 use Rattle.std.specs.Prelude.{if◌then◌else◌}
 use Rattle.soy_tree.specs.declared.expr.BinaryOp.TheVariants as op
 use Rattle.soy_tree.specs.Types.{Name}
@@ -10,7 +10,7 @@ use Rattle.soy_tree.specs.Expressions.{Index, Minus, Not, Binary, Coalesce, Cond
 use Rattle.soy_tree.specs.Narrowing.{narrowed, variable_narrowed}
 use Rattle.soy_tree.specs.TypeOf.{Scope}
 use Rattle.soy_tree.specs.Val.{Binding, BlockOf, Env, Known, binding, is_null, is_truthy, operand, val}
-use Rattle.alike_files.specs.WithoutSpans.{expr_without_spans}
+use Rattle.soy_format.specs.WithoutSpans.{expr_without_spans}
 use Rattle.alike_files.proofs.ExpressionTypes.{null_literal_same}
 
 -- ---- bindings whose blocks are changed by a function

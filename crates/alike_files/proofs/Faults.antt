@@ -1,5 +1,5 @@
 -- Faults of types and demands without their positions, and what follows results without them.
-use Rattle.std.proofs.Common.{◌≡◌, Bool, true, false, Option, Some, None, refl, ap, ◌∙◌}
+use Rattle.std.proofs.Common.{◌≡◌, Bool, true, false, Option, Some, None, refl}
 use Rattle.std.specs.Prelude.{Result, Ok, Err, option_map, if◌then◌else◌}
 use Rattle.std.specs.Option.{option_or}
 use Rattle.soy_tree.specs.Faults.{TypeFault, followed_by}

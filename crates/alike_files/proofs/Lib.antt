@@ -18,3 +18,5 @@ pub mod Outcomes
 pub mod Branches
 pub mod Calls
 pub mod NodeRuns
+pub mod AlikeAnswers
+pub mod AlikeMeanings

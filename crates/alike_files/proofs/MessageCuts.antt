@@ -1,5 +1,6 @@
 -- A message's text without spans is cut as the text is.
-use Rattle.std.proofs.Common.{◌≡◌, ℕ, Bool, true, false, List, [], ◌∷◌, ◌++◌, map, Option, Some, None, refl, sym, ap, ◌∙◌}
+use Rattle.std.proofs.Common.{◌≡◌, ℕ, Bool, true, false, List, [], ◌∷◌, ◌++◌, map, Option, Some, None, refl, sym, ap}
+use Rattle.std.proofs.Common.{◌∙◌}
 use Rattle.std.specs.Prelude.{option_map, ◌&&◌, ◌==◌, if◌then◌else◌}
 use Rattle.std.proofs.lemmas.List.{map-append}
 use Rattle.soy_base.specs.Characters.{less_than}
@@ -8,9 +9,10 @@ use Rattle.soy_tree.specs.MessageText.{Character, Cut, MessageItem, PrintCut, Pr
 use Rattle.soy_tree.specs.MessageText.{begins_with_letter, characters, cuts_after_text, cuts_in_tag, cuts_of, ends_tag}
 use Rattle.soy_tree.specs.MessageText.{goes_on_as_tag, joined_items, message_items, node_message_items, quote_after}
 use Rattle.soy_tree.specs.MessageText.{text_cut}
-use Rattle.soy_tree.specs.Nodes.{Node, Nodes, TextNode, Print, If, Switch, For, Let, LetBlock, Call, MessageNode, no_node}
+use Rattle.soy_tree.specs.Nodes.{Node, Nodes, TextNode, Print, If, Switch, For, Let, LetBlock, Call, MessageNode}
+use Rattle.soy_tree.specs.Nodes.{no_node}
 use Rattle.soy_tree.specs.Nodes.{node}
-use Rattle.alike_files.specs.WithoutSpans.{expr_without_spans, no_span, node_without_spans, nodes_without_spans}
+use Rattle.soy_format.specs.WithoutSpans.{expr_without_spans, no_span, node_without_spans, nodes_without_spans}
 
 abbrev pub item_without_spans : MessageItem → MessageItem
 item_without_spans (Character c span) = Character c no_span
@@ -75,7 +77,8 @@ goes_on_same [] = refl
 goes_on_same (Character c span ∷ rest) = rw (letter_same rest) refl
 goes_on_same (Printed e phname span ∷ rest) = refl
 
-text_cut_same : (items : List MessageItem) → text_cut (items_without_spans items) ≡ map cut_without_spans (text_cut items)
+text_cut_same : (items : List MessageItem)
+    → text_cut (items_without_spans items) ≡ map cut_without_spans (text_cut items)
 text_cut_same [] = refl
 text_cut_same (p ∷ ps) = refl
 

@@ -1,9 +1,8 @@
 -- What is demanded of a body reads no more of spans than where a fault is: the scope after it is the same, or the first
 -- fault but for its position.
-use Rattle.std.proofs.Common.{◌≡◌, Bool, true, false, List, [], ◌∷◌, map, Option, Some, None, refl, ap}
-use Rattle.std.specs.Prelude.{Ok}
+use Rattle.std.proofs.Common.{◌≡◌, List, [], ◌∷◌, map, refl}
 use Rattle.soy_base.specs.declared.fault.Span.{Span}
-use Rattle.soy_tree.specs.Bodies.{Around, Checked, accepted, after_arguments, after_arms, after_body, after_cases}
+use Rattle.soy_tree.specs.Bodies.{Around, accepted, after_arguments, after_arms, after_body, after_cases}
 use Rattle.soy_tree.specs.Bodies.{after_fallback, after_given, after_message, after_node, after_nodes, after_otherwise}
 use Rattle.soy_tree.specs.Bodies.{after_plural_cases, after_select_cases, callee_params, each_passing, is_printed}
 use Rattle.soy_tree.specs.Bodies.{loop_scope, named_param, names_given, new_variable, new_variables, param_demands}
@@ -19,11 +18,11 @@ use Rattle.soy_tree.specs.Templates.{kind_type, param_type}
 use Rattle.soy_tree.specs.Trees.{Param}
 use Rattle.soy_tree.specs.TypeOf.{Scope, is_int, is_string, type_of}
 use Rattle.soy_tree.specs.Types.{Name}
-use Rattle.alike_files.specs.WithoutSpans.{arguments_without_spans, arms_without_spans, body_without_spans}
-use Rattle.alike_files.specs.WithoutSpans.{cases_without_spans, expr_without_spans, fallback_without_spans}
-use Rattle.alike_files.specs.WithoutSpans.{given_without_spans, message_without_spans, no_span, node_without_spans}
-use Rattle.alike_files.specs.WithoutSpans.{nodes_without_spans, otherwise_without_spans, param_without_spans}
-use Rattle.alike_files.specs.WithoutSpans.{plural_cases_without_spans, select_cases_without_spans}
+use Rattle.soy_format.specs.WithoutSpans.{arguments_without_spans, arms_without_spans, body_without_spans}
+use Rattle.soy_format.specs.WithoutSpans.{cases_without_spans, expr_without_spans, fallback_without_spans}
+use Rattle.soy_format.specs.WithoutSpans.{given_without_spans, message_without_spans, no_span, node_without_spans}
+use Rattle.soy_format.specs.WithoutSpans.{nodes_without_spans, otherwise_without_spans, param_without_spans}
+use Rattle.soy_format.specs.WithoutSpans.{plural_cases_without_spans, select_cases_without_spans}
 use Rattle.alike_files.proofs.CommandFaults.{accepted_same, around_without_spans, callee_params_same, each_passing_same}
 use Rattle.alike_files.proofs.CommandFaults.{loop_scope_same, named_param_same, names_given_same, new_variable_same}
 use Rattle.alike_files.proofs.CommandFaults.{new_variables_same, param_demands_same, passing_same, plain_argument_same}

@@ -1,5 +1,5 @@
 -- The plans of nodes and of trees read no more of spans than where a fault is.
-use Rattle.std.proofs.Common.{◌≡◌, ℕ, List, [], ◌∷◌, ◌++◌, map, Option, Some, None, refl, ap, ◌∙◌}
+use Rattle.std.proofs.Common.{◌≡◌, List, [], ◌∷◌, map, Option, Some, None, refl, ap, ◌∙◌}
 use Rattle.std.specs.Prelude.{Result, Ok, Err, option_map}
 use Rattle.soy_base.specs.declared.fault.Span.{Span}
 use Rattle.soy_tree.specs.Expressions.{Expr}
@@ -17,22 +17,23 @@ use Rattle.soy_tree.specs.Trees.{Template, Tree}
 use Rattle.soy_tree.specs.TypeOf.{Scope, type_of}
 use Rattle.soy_tree.specs.Types.{Name, SoyType}
 use Rattle.soy_meaning.specs.Plan.{Frame, Loop, Plan, Site, in_turn}
-use Rattle.soy_meaning.specs.PlanOfNodes.{PlanContext, argument_frames, arm_plans, body_plan, body_scope, called_classes}
+use Rattle.soy_meaning.specs.PlanOfNodes.{PlanContext, argument_frames, arm_plans, body_plan, body_scope}
+use Rattle.soy_meaning.specs.PlanOfNodes.{called_classes}
 use Rattle.soy_meaning.specs.PlanOfNodes.{case_plans, closes_at, declared_plan, fallback_plans, given_frame, node_plan}
 use Rattle.soy_meaning.specs.PlanOfNodes.{nodes_plan, other_plan, plural_plans, scope_past, select_plans, source_plan}
 use Rattle.soy_meaning.specs.PlanOfNodes.{starts_at, template_plan, translated_plan, translation_plans, trees_plan}
 use Rattle.soy_meaning.specs.PlanOfNodes.{uses_of, with_variable}
 use Rattle.alike_files.specs.RunWithoutPositions.{site_without_position}
-use Rattle.alike_files.specs.WithoutSpans.{arguments_without_spans, arms_without_spans, body_without_spans}
-use Rattle.alike_files.specs.WithoutSpans.{cases_without_spans, expr_without_spans, fallback_without_spans}
-use Rattle.alike_files.specs.WithoutSpans.{given_without_spans, message_without_spans, no_span, node_without_spans}
-use Rattle.alike_files.specs.WithoutSpans.{nodes_without_spans, otherwise_without_spans, plural_cases_without_spans}
-use Rattle.alike_files.specs.WithoutSpans.{select_cases_without_spans, template_without_spans, tree_without_spans}
+use Rattle.soy_format.specs.WithoutSpans.{arguments_without_spans, arms_without_spans, body_without_spans}
+use Rattle.soy_format.specs.WithoutSpans.{cases_without_spans, expr_without_spans, fallback_without_spans}
+use Rattle.soy_format.specs.WithoutSpans.{given_without_spans, message_without_spans, no_span, node_without_spans}
+use Rattle.soy_format.specs.WithoutSpans.{nodes_without_spans, otherwise_without_spans, plural_cases_without_spans}
+use Rattle.soy_format.specs.WithoutSpans.{select_cases_without_spans, template_without_spans, tree_without_spans}
 use Rattle.alike_files.proofs.DeclaredTemplates.{callee_same, declared_same, declared_without_spans, param_scope_same}
 use Rattle.alike_files.proofs.ExpressionTypes.{type_same}
 use Rattle.alike_files.proofs.ExpressionValues.{narrowed_same}
 use Rattle.alike_files.proofs.Faults.{placeless}
-use Rattle.alike_files.proofs.PartPlans.{arms_meet_same, both_meet, in_turn_same, parts_same, plan_placeless}
+use Rattle.alike_files.proofs.PartPlans.{both_meet, in_turn_same, parts_same, plan_placeless}
 use Rattle.alike_files.proofs.PartPlans.{plans_placeless, printed_same, text_plan_same}
 use Rattle.alike_files.proofs.PlaceholderNames.{body_uses_same, uses_without_spans}
 
@@ -129,8 +130,11 @@ module _ (c : PlanContext) (same : ReadsNoSpan c.translation) where
     node_same (LetBlock name kind body span) scope =
         ap (λ p. Frame kind (closes_at c.file no_span) p) (nodes_same body scope)
     node_same (Call name all given span) scope =
-        rw (callee_same c.declared c.namespace name, called_classes_same (callee c.declared c.namespace name),
-        arguments_same given scope) refl
+        rw (
+          callee_same c.declared c.namespace name,
+          called_classes_same (callee c.declared c.namespace name),
+          arguments_same given scope,
+        ) refl
     node_same (MessageNode m other span) scope =
         both_meet (starts_at c.file span)
         (source_plan c m scope (starts_at c.file span) ∷ translation_plans c m scope (starts_at c.file span))

@@ -1,15 +1,14 @@
 -- What nodes and templates give reads no span: without spans they give the same, without positions.
-use Rattle.std.proofs.Common.{◌≡◌, ℕ, zero, suc, ◌+◌, ℤ, pos, Bool, true, false, List, [], ◌∷◌, ◌++◌, map, Option}
+use Rattle.std.proofs.Common.{◌≡◌, ℕ, zero, suc, ◌+◌, ℤ, Bool, [], ◌∷◌, ◌++◌}
 use Rattle.std.proofs.Common.{Some, None, bytes_eq, refl, sym, ap, ◌∙◌}
 use Rattle.std.specs.Prelude.{Ok, if◌then◌else◌}
 use Rattle.soy_base.specs.declared.kind.Kind.{Kind}
 use Rattle.html_state.specs.Start.{start}
 use Rattle.soy_tree.specs.Cost.{cost}
-use Rattle.soy_tree.specs.MessageParts.{MsgParts}
-use Rattle.soy_tree.specs.Nodes.{Node, Nodes, Otherwise, Arms, Cases, Arguments, Given, Message, Fallback, MessageBody}
+use Rattle.soy_tree.specs.Nodes.{Node, Nodes, Otherwise, Arms, Cases, Arguments, Given, Message, MessageBody}
 use Rattle.soy_tree.specs.Nodes.{PluralCases, SelectCases, TextNode, Print, If, Switch, For, Let, LetBlock, Call}
 use Rattle.soy_tree.specs.Nodes.{MessageNode, no_node, node, no_otherwise, otherwise, no_arm, arm, no_case, case}
-use Rattle.soy_tree.specs.Nodes.{no_argument, argument, Plain, Block, message, no_fallback, fallback, Parts, Plural}
+use Rattle.soy_tree.specs.Nodes.{no_argument, argument, Plain, Block, message, Parts, Plural}
 use Rattle.soy_tree.specs.Nodes.{Select, no_plural_case, plural_case, no_select_case, select_case}
 use Rattle.soy_tree.specs.ShortLists.{item_count}
 use Rattle.soy_tree.specs.Templates.{Declared, callee}
@@ -17,21 +16,23 @@ use Rattle.soy_tree.specs.Types.{Name}
 use Rattle.soy_tree.specs.Val.{Binding, is_same_int, is_truthy, val}
 use Rattle.soy_tree.specs.Values.{Value}
 use Rattle.soy_meaning.specs.Branch.{int_of, word_of}
-use Rattle.soy_meaning.specs.Giving.{BoundBlock, Means, RunEnv, StateSoFar, block_bound, printed_means, with_choice}
-use Rattle.soy_meaning.specs.Outcome.{ArmTaken, FallbackTranslation, Outcome, OwnTranslation, SourceText, TextTaken, Turns}
+use Rattle.soy_meaning.specs.Giving.{BoundBlock, Means, RunEnv, StateSoFar, block_bound, with_choice}
+use Rattle.soy_meaning.specs.Outcome.{ArmTaken, FallbackTranslation, Outcome, OwnTranslation, SourceText, TextTaken}
+use Rattle.soy_meaning.specs.Outcome.{Turns}
 use Rattle.soy_meaning.specs.Pieces.{ChosenText, GivenArguments, RunContext, TheFallback, TheOwn, TheSource}
-use Rattle.soy_meaning.specs.Pieces.{arguments_mean, arms_mean, at_end, called_within, cases_mean, chosen_text, context_in}
+use Rattle.soy_meaning.specs.Pieces.{arguments_mean, arms_mean, at_end, called_within, cases_mean, chosen_text}
+use Rattle.soy_meaning.specs.Pieces.{context_in}
 use Rattle.soy_meaning.specs.Pieces.{frame_outcome, given_means, is_one, listed_items, message_means, node_means}
 use Rattle.soy_meaning.specs.Pieces.{nodes_mean, otherwise_means, plural_cases_mean, select_cases_mean, source_means}
-use Rattle.soy_meaning.specs.Pieces.{template_run, turns_mean, unbound, valued}
+use Rattle.soy_meaning.specs.Pieces.{template_run, unbound, valued}
 use Rattle.soy_meaning.specs.Plan.{Site}
 use Rattle.soy_meaning.specs.PlanOfNodes.{starts_at}
-use Rattle.alike_files.specs.RunWithoutPositions.{outcome_without_positions, site_without_position}
-use Rattle.alike_files.specs.WithoutSpans.{arguments_without_spans, arms_without_spans, body_without_spans}
-use Rattle.alike_files.specs.WithoutSpans.{cases_without_spans, expr_without_spans, given_without_spans}
-use Rattle.alike_files.specs.WithoutSpans.{message_without_spans, node_without_spans, nodes_without_spans}
-use Rattle.alike_files.specs.WithoutSpans.{otherwise_without_spans, plural_cases_without_spans}
-use Rattle.alike_files.specs.WithoutSpans.{select_cases_without_spans}
+use Rattle.alike_files.specs.RunWithoutPositions.{outcome_without_positions}
+use Rattle.soy_format.specs.WithoutSpans.{arguments_without_spans, arms_without_spans, body_without_spans}
+use Rattle.soy_format.specs.WithoutSpans.{cases_without_spans, given_without_spans}
+use Rattle.soy_format.specs.WithoutSpans.{message_without_spans, node_without_spans, nodes_without_spans}
+use Rattle.soy_format.specs.WithoutSpans.{otherwise_without_spans, plural_cases_without_spans}
+use Rattle.soy_format.specs.WithoutSpans.{select_cases_without_spans}
 use Rattle.alike_files.proofs.Branches.{valued_same}
 use Rattle.alike_files.proofs.Calls.{CallsSame, chosen_same, chosen_without_spans, context_without_spans, env_append}
 use Rattle.alike_files.proofs.Calls.{one_same, opened_given, translation_given, turns_given}
@@ -39,7 +40,7 @@ use Rattle.alike_files.proofs.DeclaredTemplates.{callee_same, declared_without_s
 use Rattle.alike_files.proofs.ExpressionValues.{cost_same, truthy_same, value_same}
 use Rattle.alike_files.proofs.MessageCuts.{either_same}
 use Rattle.alike_files.proofs.NodePlans.{ReadsNoSpan}
-use Rattle.alike_files.proofs.Outcomes.{MeansSame, NextSame, binding_placeless, block_placeless, bound_given, choice_next}
+use Rattle.alike_files.proofs.Outcomes.{MeansSame, binding_placeless, block_placeless, bound_given, choice_next}
 use Rattle.alike_files.proofs.Outcomes.{cost_next, env_placeless, print_given, text_given}
 
 -- what comes next, under variables, gives the same without positions
@@ -121,8 +122,11 @@ module _ (c : RunContext) (called other_called : Site → Declared → RunEnv �
         (arms_mean (context_without_spans c) other_called (arms_without_spans arms) last' k (env_placeless env))
     arms_given no_arm last last' lasts k env so_far next other h = lasts k so_far next other h
     arms_given (arm e body arms) last last' lasts k env so_far next other h =
-        rw (cost_same block_placeless e env, value_same block_placeless e env,
-        truthy_same block_placeless (val e env))
+        rw (
+          cost_same block_placeless e env,
+          value_same block_placeless e env,
+          truthy_same block_placeless (val e env),
+        )
         (cost_next (cost e env) _ _
         (one_or_other (is_truthy (val e env))
         (with_choice (ArmTaken (Some k)) (nodes_mean c called body env so_far (unbound next)))

@@ -1,4 +1,5 @@
--- The plan of a translation reads no more of spans than where a fault is: without them it is the plan without positions.
+-- The plan of a translation reads no more of spans than where a fault is: without them it is the plan without
+-- positions.
 use Rattle.std.proofs.Common.{◌≡◌, List, [], ◌∷◌, ◌++◌, map, Option, Some, None, bytes_eq, refl, sym, ap, ◌∙◌}
 use Rattle.std.specs.Prelude.{Result, Ok, Err, option_map}
 use Rattle.std.proofs.lemmas.List.{map-append}
@@ -17,7 +18,7 @@ use Rattle.soy_meaning.specs.PlanOfParts.{cut_of_role, cut_plan, exact_plans, kn
 use Rattle.soy_meaning.specs.PlanOfParts.{parts_plan, placeholder_cut, printed_classes, select_arm_plans, tag_plan}
 use Rattle.soy_meaning.specs.PlanOfParts.{text_plan}
 use Rattle.alike_files.specs.RunWithoutPositions.{site_without_position}
-use Rattle.alike_files.specs.WithoutSpans.{expr_without_spans}
+use Rattle.soy_format.specs.WithoutSpans.{expr_without_spans}
 use Rattle.alike_files.proofs.ExpressionTypes.{type_same}
 use Rattle.alike_files.proofs.Faults.{first_same, placeless}
 use Rattle.alike_files.proofs.MessageCuts.{cut_without_spans, either_same, items_without_spans}
@@ -43,7 +44,8 @@ pub in_turn_same : (ps : List Plan) → in_turn (plans_placeless ps) ≡ plan_pl
 in_turn_same [] = refl
 in_turn_same (p ∷ ps) = ap (λ q. Then (plan_placeless p) q) (in_turn_same ps)
 
-any_of_same : (p : Plan) (ps : List Plan) → any_of (plan_placeless p) (plans_placeless ps) ≡ plan_placeless (any_of p ps)
+any_of_same : (p : Plan) (ps : List Plan)
+    → any_of (plan_placeless p) (plans_placeless ps) ≡ plan_placeless (any_of p ps)
 any_of_same p [] = refl
 any_of_same p (q ∷ qs) = any_of_same (Either p q) qs
 

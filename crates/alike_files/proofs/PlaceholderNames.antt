@@ -1,10 +1,9 @@
 -- The uses of names in a message and the names of its contents read none of its spans.
-use Rattle.std.proofs.Common.{◌≡◌, ℕ, zero, suc, ◌+◌, Bool, true, false, List, [], ◌∷◌, ◌++◌, map, Option, Some, None}
+use Rattle.std.proofs.Common.{◌≡◌, ℕ, zero, suc, ◌+◌, List, [], ◌∷◌, ◌++◌, map, Option, Some, None}
 use Rattle.std.proofs.Common.{bytes_eq, length, refl, sym, ap, ◌∙◌}
 use Rattle.std.specs.Prelude.{option_map, ◌||◌, if◌then◌else◌}
 use Rattle.std.specs.List.{list_any}
 use Rattle.std.proofs.lemmas.List.{length-map, map-append}
-use Rattle.soy_tree.specs.BaseNames.{base_of_expr, base_of_print, base_of_tag}
 use Rattle.soy_tree.specs.Expressions.{Expr, NullLiteral, BoolLiteral, IntLiteral, StringLiteral, Variable, Member}
 use Rattle.soy_tree.specs.Expressions.{Index, Minus, Not, Binary, Coalesce, Conditional}
 use Rattle.soy_tree.specs.MessageText.{Character, Cut, MessageItem, PrintCut, Printed, TagCut, TextCut, cuts_of}
@@ -13,12 +12,13 @@ use Rattle.soy_tree.specs.Nodes.{MessageBody, PluralCases, SelectCases, Parts, P
 use Rattle.soy_tree.specs.Nodes.{plural_case, no_select_case, select_case}
 use Rattle.soy_tree.specs.Placeholders.{AsPlaceholder, AsPlural, AsSelect, Content, ExprContent, Role, TagContent, Use}
 use Rattle.soy_tree.specs.Placeholders.{are_same_message_items, body_uses, content_name, contents_after, cut_uses}
-use Rattle.soy_tree.specs.Placeholders.{found_uses, free_number, has_base, is_same_content, is_same_message_item, name_of}
+use Rattle.soy_tree.specs.Placeholders.{found_uses, free_number, has_base, is_same_content, is_same_message_item}
+use Rattle.soy_tree.specs.Placeholders.{name_of}
 use Rattle.soy_tree.specs.Placeholders.{named_contents, numbered, numbered_name, plural_uses, select_uses, with_content}
 use Rattle.soy_tree.specs.SameExpression.{is_same_expr}
 use Rattle.soy_tree.specs.Types.{Name}
-use Rattle.alike_files.specs.WithoutSpans.{body_without_spans, expr_without_spans, no_span, plural_cases_without_spans}
-use Rattle.alike_files.specs.WithoutSpans.{select_cases_without_spans}
+use Rattle.soy_format.specs.WithoutSpans.{body_without_spans, expr_without_spans, plural_cases_without_spans}
+use Rattle.soy_format.specs.WithoutSpans.{select_cases_without_spans}
 use Rattle.alike_files.proofs.BaseNames.{base_of_expr_same, base_of_print_same, base_of_tag_same}
 use Rattle.alike_files.proofs.ExpressionValues.{through_if}
 use Rattle.alike_files.proofs.MessageCuts.{cut_without_spans, cuts_same, either_same, item_without_spans}
@@ -96,25 +96,39 @@ mutual
   pub body_uses_same : (b : MessageBody) → body_uses (body_without_spans b) ≡ uses_without_spans (body_uses b)
   body_uses_same (Parts ns) = rw (cuts_same ns) (found_uses_same (cuts_of (message_items ns)))
   body_uses_same (Plural e offset cases other) =
-      rw (base_of_expr_same e, plural_uses_same cases, body_uses_same other,
-      map-append use_without_spans (plural_uses cases) (body_uses other)) refl
+      rw (
+        base_of_expr_same e,
+        plural_uses_same cases,
+        body_uses_same other,
+        map-append use_without_spans (plural_uses cases) (body_uses other),
+      ) refl
   body_uses_same (Select e cases other) =
-      rw (base_of_expr_same e, select_uses_same cases, body_uses_same other,
-      map-append use_without_spans (select_uses cases) (body_uses other)) refl
+      rw (
+        base_of_expr_same e,
+        select_uses_same cases,
+        body_uses_same other,
+        map-append use_without_spans (select_uses cases) (body_uses other),
+      ) refl
 
   plural_uses_same : (cases : PluralCases)
       → plural_uses (plural_cases_without_spans cases) ≡ uses_without_spans (plural_uses cases)
   plural_uses_same no_plural_case = refl
   plural_uses_same (plural_case n body cases) =
-      rw (body_uses_same body, plural_uses_same cases,
-      map-append use_without_spans (body_uses body) (plural_uses cases)) refl
+      rw (
+        body_uses_same body,
+        plural_uses_same cases,
+        map-append use_without_spans (body_uses body) (plural_uses cases),
+      ) refl
 
   select_uses_same : (cases : SelectCases)
       → select_uses (select_cases_without_spans cases) ≡ uses_without_spans (select_uses cases)
   select_uses_same no_select_case = refl
   select_uses_same (select_case word body cases) =
-      rw (body_uses_same body, select_uses_same cases,
-      map-append use_without_spans (body_uses body) (select_uses cases)) refl
+      rw (
+        body_uses_same body,
+        select_uses_same cases,
+        map-append use_without_spans (body_uses body) (select_uses cases),
+      ) refl
 
 -- ---- the names of contents
 
@@ -161,8 +175,11 @@ numbered_same : (base : Name) (uses : List Use) (n : ℕ) (contents : List Conte
 numbered_same base uses n [] = refl
 numbered_same base uses n (content ∷ contents) =
     let free : ℕ = free_number (length uses) base n uses in
-    rw (length-map uses use_without_spans, free_number_same (length uses) base n uses,
-    numbered_same base uses (free + 1) contents) refl
+    rw (
+      length-map uses use_without_spans,
+      free_number_same (length uses) base n uses,
+      numbered_same base uses (free + 1) contents,
+    ) refl
 
 named_contents_same : (base : Name) (uses : List Use) (contents : List Content)
     → named_contents base (uses_without_spans uses) (map content_without_spans contents)

@@ -1,12 +1,11 @@
 -- The walk over a plan without positions is that over the plan; its first fault is the same but for its position.
-use Rattle.std.proofs.Common.{◌≡◌, ℕ, zero, suc, Bool, true, false, List, [], ◌∷◌, ◌++◌, map, Option, Some, None}
-use Rattle.std.proofs.Common.{length, nat_lt, refl, ap, ◌∙◌}
+use Rattle.std.proofs.Common.{◌≡◌, ℕ, zero, suc, List, [], ◌∷◌, Option, Some, None}
+use Rattle.std.proofs.Common.{length, nat_lt, refl}
 use Rattle.std.specs.Prelude.{Result, Ok, Err, ◌==◌, if◌then◌else◌}
 use Rattle.std.specs.List.{list_all}
 use Rattle.soy_base.specs.declared.code.Code.{Code}
 use Rattle.soy_base.specs.declared.code.Code.TheVariants as code
 use Rattle.soy_base.specs.declared.kind.Kind.{Kind}
-use Rattle.soy_base.specs.declared.place.Place.{Place}
 use Rattle.soy_base.specs.declared.place.Placing.{Placing}
 use Rattle.soy_base.specs.declared.place.Placing.TheVariants.{Takes, Refuses}
 use Rattle.soy_base.specs.declared.place.ValueClass.{ValueClass}
@@ -16,7 +15,8 @@ use Rattle.soy_meaning.specs.Machine.{Machine}
 use Rattle.soy_meaning.specs.Plan.{Either, Frame, Hole, Loop, Meet, Nothing, Nowhere, Plan, Site, StaticText, Then}
 use Rattle.soy_meaning.specs.States.{joined_states}
 use Rattle.soy_meaning.specs.Walk.{WalkFault, Walked, after_turn, agreed_place, all_may_end, frame_end, met_at}
-use Rattle.soy_meaning.specs.Walk.{other_placing, place_of_hole, states_after_text, taken_place, turns, walk, walk_fault}
+use Rattle.soy_meaning.specs.Walk.{other_placing, place_of_hole, states_after_text, taken_place, turns, walk}
+use Rattle.soy_meaning.specs.Walk.{walk_fault}
 use Rattle.soy_meaning.specs.Walk.{walked, within_limit}
 use Rattle.alike_files.specs.RunWithoutPositions.{site_without_position}
 use Rattle.alike_files.proofs.ExpressionValues.{through_if}

@@ -1,4 +1,7 @@
-pub mod WithoutSpans
-pub mod RunWithoutPositions
 pub mod WithoutPositions
+pub mod RunWithoutPositions
+pub mod AlikeFiles
+pub mod AnswersWithoutPositions
 pub mod IdsIn
+pub mod MeaningUnder
+pub mod WorkedTrees
