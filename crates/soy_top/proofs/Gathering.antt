@@ -13,6 +13,10 @@ module _ (text rest got : List ℕ) (far : text ≡ got ++ rest) where
   gathered_more piece others same =
       far ∙ (ap (λ r. got ++ r) same ∙ sym (append_assoc got piece others))
 
+  pub gathered_with : (piece others added : List ℕ) → rest ≡ piece ++ others → added ≡ got ++ piece
+      → text ≡ added ++ others
+  gathered_with piece others added same is = gathered_more piece others same ∙ ap (λ g. g ++ others) (sym is)
+
   -- where nothing is left, all was
   pub gathered_whole : rest ≡ [] → got ≡ text
   gathered_whole none = sym (far ∙ (ap (λ r. got ++ r) none ∙ append-nil got))

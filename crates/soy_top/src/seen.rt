@@ -1,6 +1,6 @@
 //! A page as it is seen: it is gathered whole, and its lines are written in visual order.
 
-ghost use Rattle.std.specs.Prelude.{◌≡◌, ◌<◌, ◌++◌, IfOk, OnOk, encode_utf8_all, length};
+ghost use Rattle.std.specs.Prelude.{◌+◌, ◌≤◌, take, ◌≡◌, ◌<◌, ◌++◌, IfOk, OnOk, encode_utf8_all, length};
 ghost use Rattle.std.specs.String.{string_bytes};
 ghost use Rattle.soy_front.specs.ViewSources.{view_contents};
 ghost use Rattle.soy_top.specs.Accepts.{Accepts};
@@ -85,12 +85,23 @@ fn gather_pulls<L: Ledger>(
                 if SHOWN_LIMIT - bytes.len() < n {
                     return Ok(Gathered::TooLong);
                 }
-                bytes.extend_from_slice(&room[..n])?;
+                push_given(&mut bytes, room, n)?;
             }
             Err(Refusal::Because(call)) => return Ok(Gathered::AtCall(call)),
             Err(Refusal::OutOfMemory) => return Err(OutOfMemory),
         }
     }
+}
+
+/// Adds what a pull gave at the beginning of a room, if the page isn't too long with it.
+fn push_given(bytes: &mut Vec<u8>, room: &[u8], count: usize) -> Result<(), OutOfMemory>
+    requires within { count ≤ length room.now }
+    requires few { length bytes.old.items + count ≤ 1048576 }
+    ensures bytes { OnOk result (bytes.new.items ≡ bytes.old.items ++ take count room.now) }
+    ensures few { OnOk result (length bytes.new.items ≤ 1048576) }
+{
+    bytes.extend_from_slice(&room[..count])?;
+    Ok(())
 }
 
 /// The lines of a page as they are seen, by its bytes. All pages are UTF-8; what isn't, which can't come, is answered

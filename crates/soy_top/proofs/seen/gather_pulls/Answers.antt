@@ -1,9 +1,9 @@
-use Rattle.std.proofs.Common.{◌≡◌, ℕ, List, length, refl, sym, ap, ◌∙◌, arith, rules}
+use Rattle.std.proofs.Common.{◌≡◌, ℕ, List, length, refl, sym, ap, ◌∙◌, arith}
 use Rattle.render_core.specs.Rest.{rest_bytes, rest_end, rest_of}
 use Rattle.soy_tree.specs.ViewValues.{view_value}
 use Rattle.soy_top.specs.Answer.{run_text}
 use Rattle.soy_top.specs.ViewOutput.{page_run}
-use Rattle.soy_top.proofs.Gathering.{gathered_more, gathered_none, gathered_whole}
+use Rattle.soy_top.proofs.Gathering.{gathered_none, gathered_whole, gathered_with}
 use Rattle.soy_top.proofs.Pulling.{done_whole, end_solid, pulled_none, pulled_stop, text_solid}
 use Rattle.soy_top.proofs.seen.gather_pulls.Goals as goal
 
@@ -30,9 +30,10 @@ pub loop-bytes-preserved : goal.loop-bytes-preserved
 loop-bytes-preserved g c =
     let inv = c.loop-bytes.invariant in record {
       fits = c.in-Ok-pull.ensures.fits;
-      so_far = gathered_more _ _ _ inv.so_far _ _ c.in-Ok-pull.ensures.bytes;
+      so_far = gathered_with _ _ _ inv.so_far _ _ _ c.in-Ok-pull.ensures.bytes
+          c.in_ok-push_given-in-Ok-pull.ensures.bytes;
       same_end = sym c.in-Ok-pull.ensures.end ∙ inv.same_end;
-      few = search rules;
+      few = c.in_ok-push_given-in-Ok-pull.ensures.few;
       has_room = omega (arith, inv.has_room, c.pull.auto.room);
     }
 
