@@ -237,7 +237,7 @@ impl Play<'_> {
     }
 }
 
-/// The number of the bytes of a text, which are no fewer than its characters. No text is so long that it has no successor.
+/// The number of a text's bytes, which are no fewer than its characters. No text is so long that it has no successor.
 fn bytes_of(text: &str) -> usize
     ensures within { length (chars text.now) ≤ result }
     ensures small { result < u64.MAX }

@@ -1,4 +1,4 @@
-use Rattle.std.proofs.Common.{Some, None, ap, subst, sym, ◌∙◌}
+use Rattle.std.proofs.Common.{ap, subst, sym, ◌∙◌}
 use Rattle.std.specs.Str.{IsUtf8}
 use Rattle.soy_top.specs.Answer.{play_answer}
 use Rattle.soy_top.specs.ScriptSteps.{step_line}

@@ -1,4 +1,4 @@
-use Rattle.std.proofs.Common.{◌+◌, ◌∷◌, List, ℕ, Option, None, Ok, Err, length, ap, ◌∙◌, subst, arith}
+use Rattle.std.proofs.Common.{◌+◌, Option, None, Ok, Err, length, ap, ◌∙◌, subst, arith}
 use Rattle.std.specs.Str.{chars}
 use Rattle.soy_top.specs.Script.{ScriptLine, script_lines}
 use Rattle.soy_top.specs.ViewPlay.{ChecksLine}

@@ -1,4 +1,4 @@
-use Rattle.std.proofs.Common.{◌+◌, ◌≡◌, ◌≤◌, ◌∷◌, List, ℕ, Option, Ok, length, take, ap, sym, ◌∙◌, subst, arith}
+use Rattle.std.proofs.Common.{◌+◌, ◌≡◌, ◌≤◌, List, ℕ, Option, length, take, ap, ◌∙◌, subst, arith}
 use Rattle.std.specs.Str.{chars}
 use Rattle.std.specs.String.{string_bytes}
 use Rattle.soy_desk.specs.DeskState.{DeskState}
@@ -6,7 +6,7 @@ use Rattle.soy_io.specs.Added.{added}
 use Rattle.soy_top.specs.Script.{ScriptLine, script_line}
 use Rattle.soy_top.specs.ViewPlay.{PlaysLine, read_step}
 use Rattle.soy_top.specs.ViewScript.{lines_left}
-use Rattle.soy_top.proofs.CheckedLines.{fewer_left, left_count, some_left}
+use Rattle.soy_top.proofs.CheckedLines.{fewer_left, some_left}
 use Rattle.soy_top.proofs.PlayedLines.{PlaysOn, line_opens, plays_more, plays_none, plays_part, plays_prefix}
 use Rattle.soy_top.proofs.play.Play.put_lines.Goals as goal
 
