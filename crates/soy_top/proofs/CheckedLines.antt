@@ -3,7 +3,8 @@ use Rattle.std.proofs.Common.{◌≡◌, ◌≤◌, ◌<◌, ◌+◌, ℕ, List,
 use Rattle.std.proofs.Common.{ap, ◌∙◌, subst, arith, codes}
 use Rattle.std.specs.Prelude.{IfSome, Result, encode_utf8_all}
 use Rattle.std.specs.Option.{option_map_or}
-use Rattle.std.specs.Str.{chars}
+use Rattle.std.specs.Str.{chars, IsUtf8}
+use Rattle.std.proofs.lemmas.Str.{encodes-chars, length-le-encodes}
 use denote.Ref.{Bor}
 use Rattle.soy_base.specs.declared.code.Code.{Code}
 use Rattle.soy_base.specs.declared.code.Code.TheVariants as code
@@ -59,6 +60,11 @@ some_left rest text number n is few =
     let h : number + left_count (Some text) ≤ n + 1 =
     subst (λ (o : Option (Bor (List ℕ))). number + left_count o ≤ n + 1) is few in
     omega (arith, h)
+
+-- a text has no more characters than bytes
+pub characters_within : (text : List ℕ) → IsUtf8 text → length (chars text) ≤ length text
+characters_within text utf8 =
+    subst (λ (bs : List ℕ). length (chars text) ≤ length bs) (encodes-chars text utf8) (length-le-encodes (chars text))
 
 -- ---- a check of lines
 

@@ -1,8 +1,7 @@
 -- What the output took of the lines of a script, as they are played one after the other.
 use Rattle.std.proofs.Common.{◌≡◌, ◌≤◌, ◌+◌, arith, ℕ, List, [], ◌∷◌, ◌++◌, Option, Ok, Err, length, take, refl, sym, ap, ◌∙◌, subst}
 use Rattle.std.specs.Prelude.{Result}
-use Rattle.std.specs.Str.{chars, IsUtf8}
-use Rattle.std.proofs.lemmas.Str.{encodes-chars, length-le-encodes}
+use Rattle.std.specs.Str.{chars}
 use Rattle.soy_base.specs.declared.code.Code.{Code}
 use Rattle.soy_base.specs.declared.memory.Refusal.TheVariants as refusal
 use Rattle.soy_desk.specs.DeskRun as desk_run
@@ -76,11 +75,6 @@ pub line_opens : (first second : ProgramParts) (r : Result PlayStep Code) (befor
     → LineShows first second r before after text → after.opened ≤ before.opened + 1
 line_opens first second (Ok p) before after text (s, line, step, shows, is) = step_opens before after s step
 line_opens first second (Err fault) before after text (same, none) = subst (OpensOne before) (sym same) (omega arith)
-
--- a text has no more characters than bytes
-pub characters_within : (text : List ℕ) → IsUtf8 text → length (chars text) ≤ length text
-characters_within text utf8 =
-    subst (λ (bs : List ℕ). length (chars text) ≤ length bs) (encodes-chars text utf8) (length-le-encodes (chars text))
 
 -- ---- all lines
 

@@ -1,6 +1,6 @@
 //! Plays a script on a desk, line by line.
 
-ghost use Rattle.std.specs.Prelude.{◌≡◌, ◌≤◌, ◌<◌, IfErr, IfOk, Ok, Some, option_map};
+ghost use Rattle.std.specs.Prelude.{◌≡◌, ◌≤◌, ◌<◌, IfErr, IfOk, Ok, Some, length, option_map};
 ghost use Rattle.std.specs.List.{position};
 ghost use Rattle.std.specs.Str.{chars};
 ghost use Rattle.std.specs.String.{string_bytes};
@@ -52,8 +52,8 @@ impl Play<'_> {
     pub(crate) fn check(&self, alloc: Global) -> Result<(), Refusal<StepFault>>
         ensures { ChecksScript self.now result }
     {
-        // Lines are no more than bytes, whose number has a successor.
-        let _bytes = self.script.len();
+        // Lines are no more than bytes.
+        let _bytes = bytes_of(self.script);
         let mut number = 0u64;
         let mut rest = Some(self.script);
         while let Some(text) = rest {
@@ -151,8 +151,8 @@ impl Play<'_> {
         ensures later { K.faults out.old ≤ K.faults out.new }
         ensures failed { IfErr result (λ fault. PutRose fault (K.faults out.old) (K.faults out.new)) }
     {
-        // Openings are no more than lines, and these no more than bytes, whose number has a successor.
-        let _bytes = self.script.len();
+        // Openings are no more than lines, and these no more than bytes.
+        let _bytes = bytes_of(self.script);
         let mut desk = desk;
         let mut room = Vec::new(alloc);
         let mut steps = Steps::<L>::new(blank);
@@ -262,6 +262,14 @@ impl Play<'_> {
             ScriptBundle::Second => Ok(self.second.clone()?),
         }
     }
+}
+
+/// The number of a text's bytes, which are no fewer than its characters. No text is so long that it has no successor.
+fn bytes_of(text: &str) -> usize
+    ensures within { length (chars text.now) ≤ result }
+    ensures small { result < u64.MAX }
+{
+    text.len()
 }
 
 /// A refusal of a line, which is that of this number.
