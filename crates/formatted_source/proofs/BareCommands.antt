@@ -14,7 +14,8 @@ use Rattle.soy_parser.specs.SpellsCommand.{SpellsCommand}
 use Rattle.soy_parser.specs.SpellsHead.{SpellsHead, bare_head}
 use Rattle.formatted_source.specs.CommandPieces.{braced, end_lexeme}
 use Rattle.formatted_source.specs.Lexemes.{Lexeme, lexemes}
-use Rattle.formatted_source.proofs.CommandTerms.{CommandSpelled, HeadSpelled, IsWhole, bare_spelled, command-lexeme, lexeme_command}
+use Rattle.formatted_source.proofs.CommandTerms.{CommandSpelled, HeadSpelled, IsWhole, bare_spelled, command-lexeme}
+use Rattle.formatted_source.proofs.CommandTerms.{lexeme_command}
 use Rattle.formatted_source.proofs.CommandTerms.{plain_starts}
 use Rattle.formatted_source.proofs.LexemeLists.{Alone, alone}
 

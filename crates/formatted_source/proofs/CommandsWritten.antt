@@ -1,5 +1,6 @@
 -- Commands, as they are written.
-use Rattle.std.proofs.Common.{◌≡◌, ℕ, ℤ, pos, negsuc, ◌==◌, ◌&&◌, ◌≤◌, nat_le, Bool, true, false, List, [], ◌∷◌, ◌++◌, Option}
+use Rattle.std.proofs.Common.{◌≡◌, ℕ, ℤ, pos, negsuc, ◌==◌, ◌&&◌, ◌≤◌, nat_le, Bool, true, false, List, [], ◌∷◌}
+use Rattle.std.proofs.Common.{◌++◌, Option}
 use Rattle.std.proofs.Common.{Some, None, refl, sym, ap, subst, ◌∙◌, append_assoc, arith, if◌then◌else◌}
 use Rattle.std.specs.Prelude.{codes}
 use Rattle.std.specs.Fmt.{decimal, signed_decimal}
@@ -166,10 +167,12 @@ values_written (e ∷ es) f =
 
 pub case_written : (es : List Expr) → list_all is_formed_expr es ≡ true
     → IsCommand (case_text (formatted_values es)) (braced ((kind.Word, codes "case") ∷ values_lexemes es))
-case_written es f = word_command (codes "case") (formatted_values es) (values_lexemes es) case_word (values_written es f)
+case_written es f = word_command (codes "case") (formatted_values es) (values_lexemes es) case_word
+    (values_written es f)
 
 pub plural_case_written : (n : ℤ) → is_formed_int n ≡ true
-    → IsCommand (case_text (signed_decimal n)) (braced ((kind.Word, codes "case") ∷ ((kind.Int, signed_decimal n) ∷ [])))
+    → IsCommand (case_text (signed_decimal n)) (braced ((kind.Word, codes "case") ∷
+    ((kind.Int, signed_decimal n) ∷ [])))
 plural_case_written (pos n) f =
     let within : n ≤ largest_int = grind (arith, nat_tests, f) in
     word_command (codes "case") (decimal n) ((kind.Int, decimal n) ∷ []) case_word (int_written n within)
@@ -185,8 +188,10 @@ select_case_written word =
 in_written : (e : Expr) → is_formed_expr e ≡ true
     → HasLexemes ends_name (codes " in " ++ formatted_expr e) ((kind.Word, codes "in") ∷ expr_lexemes e)
 in_written e f =
-    after ends_name (codes " ") (codes "in " ++ formatted_expr e) [] ((kind.Word, codes "in") ∷ expr_lexemes e) space_written
-    (spaced_then ends_name kind.Word (codes "in") (formatted_expr e) (expr_lexemes e) refl (λ rest. refl) (expr_written e f))
+    after ends_name (codes " ") (codes "in " ++ formatted_expr e) [] ((kind.Word, codes "in") ∷ expr_lexemes e)
+    space_written
+    (spaced_then ends_name kind.Word (codes "in") (formatted_expr e) (expr_lexemes e) refl (λ rest. refl)
+    (expr_written e f))
 
 index_in : (index : Option Name) (e : Expr) → if_there is_name index ≡ true → is_formed_expr e ≡ true
     → HasLexemes ends_name (index_text index ++ (codes " in " ++ formatted_expr e))
@@ -233,7 +238,8 @@ value_whole : (start : List ℕ) (e : Expr)
 value_whole start e = append_assoc start (codes ": " ++ formatted_expr e) (32 ∷ 47 ∷ 125 ∷ [])
 
 pub let_written : (name : Name) (e : Expr) → is_name name ≡ true → is_formed_expr e ≡ true
-    → IsCommand (let_text name e) (slashed ((kind.Word, codes "let") ∷ ((kind.Variable, name) ∷ ((kind.Symbol, codes ":")
+    → IsCommand (let_text name e) (slashed ((kind.Word, codes "let") ∷ ((kind.Variable, name) ∷
+    ((kind.Symbol, codes ":")
     ∷ expr_lexemes e))))
 let_written name e is f =
     subst (λ t. IsCommand (codes "{let " ++ t) (slashed ((kind.Word, codes "let") ∷ ((kind.Variable, name)
@@ -244,7 +250,8 @@ let_written name e is f =
     ((kind.Symbol, codes ":") ∷ expr_lexemes e) (variable_written name is) (value_written e f) (λ rest h. refl)))
 
 pub param_written : (name : Name) (e : Expr) → is_name name ≡ true → is_formed_expr e ≡ true
-    → IsCommand (param_text name e) (slashed ((kind.Word, codes "param") ∷ ((kind.Word, name) ∷ ((kind.Symbol, codes ":")
+    → IsCommand (param_text name e) (slashed ((kind.Word, codes "param") ∷ ((kind.Word, name) ∷
+    ((kind.Symbol, codes ":")
     ∷ expr_lexemes e))))
 param_written name e is f =
     subst (λ t. IsCommand (codes "{param " ++ t) (slashed ((kind.Word, codes "param") ∷ ((kind.Word, name)

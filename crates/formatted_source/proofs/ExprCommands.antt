@@ -1,5 +1,6 @@
 -- Commands of a word and an expression: their lexemes spell what they are written for.
-use Rattle.std.proofs.Common.{◌≡◌, ℕ, ◌+◌, ◌≤◌, ◌&&◌, Bool, true, false, List, [], ◌∷◌, ◌++◌, Option, Some, None, refl, sym, ap}
+use Rattle.std.proofs.Common.{◌≡◌, ℕ, ◌+◌, ◌≤◌, ◌&&◌, Bool, true, false, List, [], ◌∷◌, ◌++◌, Option, Some, None}
+use Rattle.std.proofs.Common.{refl, sym, ap}
 use Rattle.std.proofs.Common.{subst, ◌∙◌, arith}
 use Rattle.std.specs.Prelude.{codes}
 use Rattle.soy_lexer.specs.declared.token.Token.{Token}
@@ -65,7 +66,7 @@ word_head blocks us word make e le f within heads same =
     })
 
 -- which says it as a whole
-whole_head : (make : code.Expr → CommandForm) (e : Expr) (h : Head) → HeadOfExpr (λ x. head.Whole (make x)) e h
+pub whole_head : (make : code.Expr → CommandForm) (e : Expr) (h : Head) → HeadOfExpr (λ x. head.Whole (make x)) e h
     → IsWhole h terminal.End (SaysExpr make e)
 whole_head make e h s = record {
   form = make s.expr;
@@ -73,7 +74,7 @@ whole_head make e h s = record {
   said = record { expr = s.expr; is = refl; alike = s.alike };
 }
 
-head_as : (blocks : ℕ) (us : List Token) (Q R : Head → Type 0) → ((h : Head) → Q h → R h) → HeadSpelled blocks us Q
+pub head_as : (blocks : ℕ) (us : List Token) (Q R : Head → Type 0) → ((h : Head) → Q h → R h) → HeadSpelled blocks us Q
     → HeadSpelled blocks us R
 head_as blocks us Q R then_ h = record {
   head = h.head;
@@ -96,7 +97,8 @@ pub expr_command : (blocks : ℕ) (ts : List Token) (word : List ℕ) (make : co
     → lexemes ts ≡ braced ((kind.Word, word) ∷ expr_lexemes e) → CommandSpelled blocks ts (SaysExpr make e)
 expr_command blocks ts word make e le f within heads same =
     bare_spelled blocks ts ((kind.Word, word) ∷ expr_lexemes e) end_lexeme (SaysExpr make e) le refl
-    (λ us own. head_as blocks us (HeadOfExpr (λ x. head.Whole (make x)) e) (λ h. IsWhole h terminal.End (SaysExpr make e))
+    (λ us own. head_as blocks us (HeadOfExpr (λ x. head.Whole (make x)) e) (λ h. IsWhole h terminal.End
+    (SaysExpr make e))
     (whole_head make e) (word_head blocks us word (λ x. head.Whole (make x)) e le f within heads own)) same
 
 -- what the words of these commands are

@@ -151,7 +151,8 @@ index_spelled : (n : ℕ) (ts : List Token) (span : Span) (e i : Expr) (takes_nu
     → lexemes ts ≡ ls ++ ((kind.Symbol, bracket_text takes_null) ∷ (expr_lexemes i ++ ((kind.Symbol, codes "]") ∷ [])))
     → IsSpelled n ts (Index e i takes_null span) (deeper height (expr_height i))
 index_spelled n ts span e i takes_null height ls base own h =
-    let parts = split ts ls ((kind.Symbol, bracket_text takes_null) ∷ (expr_lexemes i ++ ((kind.Symbol, codes "]") ∷ []))) h in
+    let parts = split ts ls ((kind.Symbol, bracket_text takes_null) ∷ (expr_lexemes i ++
+    ((kind.Symbol, codes "]") ∷ []))) h in
     let opening = begun parts.second (kind.Symbol, bracket_text takes_null)
     (expr_lexemes i ++ ((kind.Symbol, codes "]") ∷ [])) parts.seconds in
     let within = split opening.rest (expr_lexemes i) ((kind.Symbol, codes "]") ∷ []) opening.rests in
@@ -274,7 +275,8 @@ conditional_spelled : (n : ℕ) (ts : List Token) (span : Span) (c a b : Expr) (
     → lexemes ts ≡ ls ++ ((kind.Symbol, codes "?") ∷ (expr_lexemes a ++ ((kind.Symbol, codes ":") ∷ expr_lexemes b)))
     → IsSpelled n ts (Conditional c a b span) (deeper (max g (expr_height a)) (expr_height b))
 conditional_spelled n ts span c a b g ls fits left middle right h =
-    let parts = split ts ls ((kind.Symbol, codes "?") ∷ (expr_lexemes a ++ ((kind.Symbol, codes ":") ∷ expr_lexemes b))) h in
+    let parts = split ts ls ((kind.Symbol, codes "?") ∷ (expr_lexemes a ++
+    ((kind.Symbol, codes ":") ∷ expr_lexemes b))) h in
     let question = begun parts.second (kind.Symbol, codes "?")
     (expr_lexemes a ++ ((kind.Symbol, codes ":") ∷ expr_lexemes b)) parts.seconds in
     let within = split question.rest (expr_lexemes a) ((kind.Symbol, codes ":") ∷ expr_lexemes b) question.rests in
@@ -301,7 +303,8 @@ conditional_spelled n ts span c a b g ls fits left middle right h =
           (joined x.operand.span z.operand.span))
           ∙ (ap (λ w. Conditional w (expr_without_spans (view_expr y.operand.expr))
           (expr_without_spans (view_expr z.operand.expr)) no_span) x.alike
-          ∙ (ap (λ w. Conditional (expr_without_spans c) w (expr_without_spans (view_expr z.operand.expr)) no_span) y.alike
+          ∙ (ap (λ w. Conditional (expr_without_spans c) w (expr_without_spans
+          (view_expr z.operand.expr)) no_span) y.alike
           ∙ ap (λ w. Conditional (expr_without_spans c) (expr_without_spans a) w no_span) z.alike));
       height_is = ap (λ w. deeper (max w y.operand.height) z.operand.height) x.height_is
           ∙ (ap (λ w. deeper (max g w) z.operand.height) y.height_is

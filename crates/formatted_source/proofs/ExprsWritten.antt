@@ -46,17 +46,28 @@ spaced_written k text goes found rest =
 
 -- and between two spaces
 op_written : (o : BinaryOp) → HasLexemes before_any (op_text o) (op_lexeme o ∷ [])
-op_written op.Mul rest h = white_ _ (32 ∷ []) _ _ _ refl (spaced_written kind.Symbol (codes "*") refl (λ more. refl) rest)
-op_written op.Rem rest h = white_ _ (32 ∷ []) _ _ _ refl (spaced_written kind.Symbol (codes "%") refl (λ more. refl) rest)
-op_written op.Add rest h = white_ _ (32 ∷ []) _ _ _ refl (spaced_written kind.Symbol (codes "+") refl (λ more. refl) rest)
-op_written op.Sub rest h = white_ _ (32 ∷ []) _ _ _ refl (spaced_written kind.Symbol (codes "-") refl (λ more. refl) rest)
-op_written op.Lt rest h = white_ _ (32 ∷ []) _ _ _ refl (spaced_written kind.Symbol (codes "<") refl (λ more. refl) rest)
-op_written op.Gt rest h = white_ _ (32 ∷ []) _ _ _ refl (spaced_written kind.Symbol (codes ">") refl (λ more. refl) rest)
-op_written op.Le rest h = white_ _ (32 ∷ []) _ _ _ refl (spaced_written kind.Symbol (codes "<=") refl (λ more. refl) rest)
-op_written op.Ge rest h = white_ _ (32 ∷ []) _ _ _ refl (spaced_written kind.Symbol (codes ">=") refl (λ more. refl) rest)
-op_written op.Eq rest h = white_ _ (32 ∷ []) _ _ _ refl (spaced_written kind.Symbol (codes "==") refl (λ more. refl) rest)
-op_written op.Ne rest h = white_ _ (32 ∷ []) _ _ _ refl (spaced_written kind.Symbol (codes "!=") refl (λ more. refl) rest)
-op_written op.And rest h = white_ _ (32 ∷ []) _ _ _ refl (spaced_written kind.Word (codes "and") refl (λ more. refl) rest)
+op_written op.Mul rest h = white_ _ (32 ∷ []) _ _ _ refl (spaced_written kind.Symbol (codes "*") refl
+    (λ more. refl) rest)
+op_written op.Rem rest h = white_ _ (32 ∷ []) _ _ _ refl (spaced_written kind.Symbol (codes "%") refl
+    (λ more. refl) rest)
+op_written op.Add rest h = white_ _ (32 ∷ []) _ _ _ refl (spaced_written kind.Symbol (codes "+") refl
+    (λ more. refl) rest)
+op_written op.Sub rest h = white_ _ (32 ∷ []) _ _ _ refl (spaced_written kind.Symbol (codes "-") refl
+    (λ more. refl) rest)
+op_written op.Lt rest h = white_ _ (32 ∷ []) _ _ _ refl (spaced_written kind.Symbol (codes "<") refl
+    (λ more. refl) rest)
+op_written op.Gt rest h = white_ _ (32 ∷ []) _ _ _ refl (spaced_written kind.Symbol (codes ">") refl
+    (λ more. refl) rest)
+op_written op.Le rest h = white_ _ (32 ∷ []) _ _ _ refl (spaced_written kind.Symbol (codes "<=") refl
+    (λ more. refl) rest)
+op_written op.Ge rest h = white_ _ (32 ∷ []) _ _ _ refl (spaced_written kind.Symbol (codes ">=") refl
+    (λ more. refl) rest)
+op_written op.Eq rest h = white_ _ (32 ∷ []) _ _ _ refl (spaced_written kind.Symbol (codes "==") refl
+    (λ more. refl) rest)
+op_written op.Ne rest h = white_ _ (32 ∷ []) _ _ _ refl (spaced_written kind.Symbol (codes "!=") refl
+    (λ more. refl) rest)
+op_written op.And rest h = white_ _ (32 ∷ []) _ _ _ refl (spaced_written kind.Word (codes "and") refl
+    (λ more. refl) rest)
 op_written op.Or rest h = white_ _ (32 ∷ []) _ _ _ refl (spaced_written kind.Word (codes "or") refl (λ more. refl) rest)
 
 coalesce_written : HasLexemes before_any (codes " ?: ") ((kind.Symbol, codes "?:") ∷ [])
@@ -86,7 +97,8 @@ op_ends op.Ne more rest = refl
 op_ends op.And more rest = refl
 op_ends op.Or more rest = refl
 
-dot_written : (takes_null : Bool) → HasLexemes before_any (dot_text takes_null) ((kind.Symbol, dot_text takes_null) ∷ [])
+dot_written : (takes_null : Bool) → HasLexemes before_any (dot_text takes_null)
+    ((kind.Symbol, dot_text takes_null) ∷ [])
 dot_written true = symbol_written (codes "?.") (λ rest. refl)
 dot_written false = symbol_written (codes ".") (λ rest. refl)
 
@@ -132,7 +144,8 @@ closed_written text close ls one two ends =
 brackets_written : (b : Bool) (text : List ℕ) (ls : List Lexeme) → HasLexemes ends_name text ls
     → HasLexemes ends_name (in_parentheses b text) (bracketed b ls)
 brackets_written true text ls one =
-    after ends_name (codes "(") (text ++ codes ")") ((kind.Symbol, codes "(") ∷ []) (ls ++ ((kind.Symbol, codes ")") ∷ []))
+    after ends_name (codes "(") (text ++ codes ")") ((kind.Symbol, codes "(") ∷ []) (ls ++
+    ((kind.Symbol, codes ")") ∷ []))
     (symbol_written (codes "(") (λ rest. refl))
     (closed_written text (codes ")") ls one (symbol_written (codes ")") (λ rest. refl)) (λ rest. refl))
 brackets_written false text ls one = one
@@ -150,12 +163,14 @@ expr_written (NullLiteral span) f = word_written (codes "null") refl
 expr_written (BoolLiteral b span) f = bool_written b
 expr_written (IntLiteral (pos n) span) f = int_written n (within_largest n f)
 expr_written (IntLiteral (negsuc n) span) f = cc
-expr_written (StringLiteral text span) f = weaker ends_name (formatted_string text) ((kind.Str, text) ∷ []) (string_written text)
+expr_written (StringLiteral text span) f = weaker ends_name (formatted_string text) ((kind.Str, text) ∷ [])
+    (string_written text)
 expr_written (Variable name span) f = variable_written name f
 expr_written (Member e name takes_null span) f =
     let fs = both (is_formed_expr e) (is_name name) f in
     let base = brackets_written (nat_lt 1 (level_of e)) (formatted_expr e) (expr_lexemes e) (expr_written e fs.0) in
-    join ends_name ends_name _ (dot_text takes_null ++ name) _ ((kind.Symbol, dot_text takes_null) ∷ (kind.Word, name) ∷ [])
+    join ends_name ends_name _ (dot_text takes_null ++ name) _ ((kind.Symbol, dot_text takes_null) ∷
+    (kind.Word, name) ∷ [])
     base (after ends_name (dot_text takes_null) name ((kind.Symbol, dot_text takes_null) ∷ []) ((kind.Word, name) ∷ [])
     (dot_written takes_null) (word_written name fs.1)) (λ rest h. dot_ends takes_null name rest)
 expr_written (Index e i takes_null span) f =
@@ -200,7 +215,8 @@ expr_written (Conditional c a b span) f =
     colon_written (expr_written b fs.1) in
     join ends_name ends_name _ _ _ _
     (brackets_written (nat_le 9 (level_of c)) (formatted_expr c) (expr_lexemes c) (expr_written c gs.0))
-    (after ends_name (codes " ? ") (formatted_expr a ++ (codes " : " ++ formatted_expr b)) ((kind.Symbol, codes "?") ∷ [])
+    (after ends_name (codes " ? ") (formatted_expr a ++ (codes " : " ++ formatted_expr b))
+    ((kind.Symbol, codes "?") ∷ [])
     (expr_lexemes a ++ ((kind.Symbol, codes ":") ∷ expr_lexemes b)) question_written
     (join ends_name ends_name (formatted_expr a) (codes " : " ++ formatted_expr b) (expr_lexemes a)
     ((kind.Symbol, codes ":") ∷ expr_lexemes b) (expr_written a gs.1) last (λ rest h. refl)))

@@ -1,4 +1,6 @@
+pub mod AttributeCommands
 pub mod BareCommands
+pub mod CaseCommands
 pub mod CharactersWritten
 pub mod CommandReads
 pub mod CommandTerms
@@ -10,8 +12,11 @@ pub mod ExprsLower
 pub mod ExprsSpelled
 pub mod ExprsWritten
 pub mod Ints
+pub mod LexedTexts
 pub mod LexemeLists
+pub mod NameCommands
 pub mod Names
+pub mod NodeLexemes
 pub mod NodesWritten
 pub mod PartsWritten
 pub mod PieceEdges
@@ -23,11 +28,13 @@ pub mod ReadTexts
 pub mod ReadTokens
 pub mod Reading
 pub mod Runs
+pub mod SegmentTexts
 pub mod SourcedCommands
 pub mod SourcedNodes
 pub mod SpokenCommands
 pub mod Strings
 pub mod TemplatesWritten
+pub mod TextsSpelled
 pub mod TextsWritten
 pub mod TokenTexts
 pub mod TreesWritten
@@ -35,4 +42,5 @@ pub mod TypeWords
 pub mod TypesRespelled
 pub mod TypesSpelled
 pub mod TypesWritten
+pub mod ValueCommands
 pub mod Values

@@ -1,5 +1,6 @@
 -- Nodes, as they are written: pieces of a line.
-use Rattle.std.proofs.Common.{◌≡◌, ℕ, ◌==◌, ◌||◌, ◌&&◌, not, Bool, true, false, if◌then◌else◌, List, [], ◌∷◌, ◌++◌, refl, sym, ap}
+use Rattle.std.proofs.Common.{◌≡◌, ℕ, ◌==◌, ◌||◌, ◌&&◌, not, Bool, true, false, if◌then◌else◌, List, [], ◌∷◌, ◌++◌}
+use Rattle.std.proofs.Common.{refl, sym, ap}
 use Rattle.std.proofs.Common.{subst, ◌∙◌, nat_le}
 use Rattle.std.specs.Prelude.{codes}
 use Rattle.std.specs.List.{list_all}
@@ -9,13 +10,15 @@ use Rattle.soy_tree.specs.Expressions.{Expr}
 use Rattle.soy_tree.specs.Formed.{are_formed_arguments, are_formed_arms, are_formed_cases, are_formed_nodes}
 use Rattle.soy_tree.specs.Formed.{are_formed_plural_cases, are_formed_select_cases, begins_with_text, if_there}
 use Rattle.soy_tree.specs.Formed.{is_case_word, is_formed_body, is_formed_expr, is_formed_fallback, is_formed_given}
-use Rattle.soy_tree.specs.Formed.{is_formed_int, is_formed_message, is_formed_node, is_formed_otherwise, is_message_text}
+use Rattle.soy_tree.specs.Formed.{is_formed_int, is_formed_message, is_formed_node, is_formed_otherwise}
+use Rattle.soy_tree.specs.Formed.{is_message_text}
 use Rattle.soy_tree.specs.Formed.{is_text, nesting}
 use Rattle.soy_tree.specs.Ints.{largest}
 use Rattle.soy_tree.specs.Nodes.{Node, Nodes, Otherwise, Arms, Cases, Arguments, Given, Message, Fallback, MessageBody}
 use Rattle.soy_tree.specs.Nodes.{PluralCases, SelectCases, TextNode, Print, If, Switch, For, Let, LetBlock, Call}
 use Rattle.soy_tree.specs.Nodes.{MessageNode, no_node, node, no_otherwise, otherwise, no_arm, arm, no_case, case}
-use Rattle.soy_tree.specs.Nodes.{no_argument, argument, Plain as PlainGiven, Block, message, no_fallback, fallback, Parts}
+use Rattle.soy_tree.specs.Nodes.{no_argument, argument, Plain as PlainGiven, Block, message, no_fallback, fallback}
+use Rattle.soy_tree.specs.Nodes.{Parts}
 use Rattle.soy_tree.specs.Nodes.{Plural, Select, no_plural_case, plural_case, no_select_case, select_case}
 use Rattle.soy_tree.specs.Types.{Name}
 use Rattle.formatted_source.specs.CommandPieces.{arm_piece, call_close_pieces, call_piece, close_piece}
@@ -29,10 +32,12 @@ use Rattle.formatted_source.specs.SourcedTrees.{are_sourced_nodes, are_sourced_p
 use Rattle.formatted_source.specs.SourcedTrees.{has_arm, has_value, is_source_value, is_sourced_body}
 use Rattle.formatted_source.specs.SourcedTrees.{is_sourced_fallback, is_sourced_given, is_sourced_message}
 use Rattle.formatted_source.specs.SourcedTrees.{is_sourced_node, is_sourced_otherwise}
-use Rattle.formatted_source.proofs.CharactersWritten.{call_close_is, default_is, else_is, for_close, if_close, let_close}
+use Rattle.formatted_source.proofs.CharactersWritten.{call_close_is, default_is, else_is, for_close, if_close}
+use Rattle.formatted_source.proofs.CharactersWritten.{let_close}
 use Rattle.formatted_source.proofs.CharactersWritten.{msg_close, param_close, plural_close, select_close, switch_close}
 use Rattle.formatted_source.proofs.CommandsWritten.{IsCommandWord, case_written, elseif_word, expr_command_written}
-use Rattle.formatted_source.proofs.CommandsWritten.{fallbackmsg_word, for_written, if_word, let_block_written, let_written}
+use Rattle.formatted_source.proofs.CommandsWritten.{fallbackmsg_word, for_written, if_word, let_block_written}
+use Rattle.formatted_source.proofs.CommandsWritten.{let_written}
 use Rattle.formatted_source.proofs.CommandsWritten.{msg_word, param_block_written, param_written, plural_case_written}
 use Rattle.formatted_source.proofs.CommandsWritten.{select_case_written, select_word, switch_word}
 use Rattle.formatted_source.proofs.Names.{both}
@@ -63,12 +68,14 @@ ends_append b [] qs = refl
 ends_append b (Plain c ∷ ps) qs = ends_append (c == 47) ps qs
 ends_append b (Written text ls ∷ ps) qs = ends_append false ps qs
 
-ends_close : (b : Bool) (ps : List Piece) (text name : List ℕ) → ends_slash b (ps ++ (close_piece text name ∷ [])) ≡ false
+ends_close : (b : Bool) (ps : List Piece) (text name : List ℕ) → ends_slash b (ps ++ (close_piece text name ∷ []))
+    ≡ false
 ends_close b ps text name = ends_append b ps (close_piece text name ∷ [])
 
 ends_call : (given : Arguments) → ends_slash false (arguments_pieces given ++ call_close_pieces given) ≡ false
 ends_call no_argument = refl
-ends_call (argument name g span rest) = ends_close false (arguments_pieces (argument name g span rest)) (codes "{/call}")
+ends_call (argument name g span rest) = ends_close false (arguments_pieces (argument name g span rest))
+    (codes "{/call}")
     (codes "call")
 
 -- a node that is no text ends with a command
@@ -76,7 +83,8 @@ ends_written : (n : Node) → is_text n ≡ false → (b : Bool) → ends_slash 
 ends_written (TextNode text span) h b = cc
 ends_written (Print e phname span) h b = refl
 ends_written (If arms other span) h b =
-    ends_append b (arms_pieces true arms) (otherwise_pieces else_piece other ++ (close_piece (codes "{/if}") (codes "if") ∷ []))
+    ends_append b (arms_pieces true arms) (otherwise_pieces else_piece other ++ (close_piece (codes "{/if}")
+    (codes "if") ∷ []))
     ∙ ends_close (ends_slash b (arms_pieces true arms)) (otherwise_pieces else_piece other) (codes "{/if}") (codes "if")
 ends_written (Switch e cases other span) h b =
     ends_append false (cases_pieces cases)
@@ -162,21 +170,24 @@ mutual
         then_any false (cases_pieces cases)
             (otherwise_pieces default_piece other ++ (close_piece (codes "{/switch}") (codes "switch") ∷ []))
             (cases_are cases fs.1 ss.0 false)
-            (λ d. then_any d (otherwise_pieces default_piece other) (close_piece (codes "{/switch}") (codes "switch") ∷ [])
+            (λ d. then_any d (otherwise_pieces default_piece other) (close_piece (codes "{/switch}")
+            (codes "switch") ∷ [])
             (otherwise_are _ _ default_is other fs.2 ss.1 d) (λ c. (switch_close, tt))),
       )
   node_are m (For name index e body span) f s b stands =
       let fs = four (is_name name) (if_there is_name index) (is_formed_expr e) (are_formed_nodes body) f in (
         for_written name index e fs.0 fs.1 fs.2,
         then_any false (nodes_pieces body)
-            (close_piece (codes "{/for}") (codes "for") ∷ []) (nodes_are false body fs.3 s false tt) (λ c. (for_close, tt)),
+            (close_piece (codes "{/for}") (codes "for") ∷ []) (nodes_are false body fs.3 s false tt) (λ c.
+            (for_close, tt)),
       )
   node_are m (Let name e span) f s b stands =
       let fs = both (is_name name) (is_formed_expr e) f in (let_written name e fs.0 fs.1, tt)
   node_are m (LetBlock name k body span) f s b stands =
       let fs = both (is_name name) (are_formed_nodes body) f in (
         let_block_written name k fs.0,
-        then_any false (nodes_pieces body) (close_piece (codes "{/let}") (codes "let") ∷ [])
+        then_any false (nodes_pieces body) (close_piece (codes "{/let}")
+            (codes "let") ∷ [])
             (nodes_are false body fs.1 s false tt) (λ c. (let_close, tt)),
       )
   node_are m (Call name all given span) f s b stands =
@@ -219,7 +230,8 @@ mutual
       (then_any false (nodes_pieces body) (arms_pieces false arms) (nodes_are false body fs.1 ss.0 false tt)
       (arms_are false arms fs.2 ss.1)) b
 
-  cases_are : (cases : Cases) → are_formed_cases cases ≡ true → are_sourced_cases cases ≡ true → Any (cases_pieces cases)
+  cases_are : (cases : Cases) → are_formed_cases cases ≡ true → are_sourced_cases cases ≡ true
+      → Any (cases_pieces cases)
   cases_are no_case f s b = tt
   cases_are (case values body cases) f s b =
       let fs = three (list_all is_formed_expr values) (are_formed_nodes body) (are_formed_cases cases) f in
@@ -244,7 +256,8 @@ mutual
   argument_are name (Block k body) is f s b = (
     param_block_written name k is,
     then_any false (nodes_pieces body)
-        (close_piece (codes "{/param}") (codes "param") ∷ []) (nodes_are false body f s false tt) (λ c. (param_close, tt)),
+        (close_piece (codes "{/param}") (codes "param") ∷ []) (nodes_are false body f s false tt) (λ c.
+        (param_close, tt)),
   )
 
   message_are : (word : List ℕ) → IsCommandWord word → (m : Message) → is_formed_message m ≡ true
@@ -266,7 +279,8 @@ mutual
   body_are (Parts ns) f s =
       let fs = both (are_formed_nodes ns) (is_message_text ns) f in nodes_are true ns fs.0 s false tt
   body_are (Plural e offset cases other) f s =
-      let fs = four (is_formed_expr e) (nat_le offset largest) (are_formed_plural_cases cases) (is_formed_body other) f in
+      let fs = four (is_formed_expr e) (nat_le offset largest) (are_formed_plural_cases cases)
+      (is_formed_body other) f in
       let ss = both (are_sourced_plural_cases cases) (is_sourced_body other) s in (
         plural_written e offset fs.0 fs.1,
         then_any false (plural_cases_pieces cases)

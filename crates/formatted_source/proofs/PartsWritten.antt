@@ -1,5 +1,6 @@
 -- Parts of commands, as they are written: words, names joined by `.`, and attributes.
-use Rattle.std.proofs.Common.{◌≡◌, ℕ, ◌==◌, ◌&&◌, Bool, true, false, List, [], ◌∷◌, ◌++◌, Option, Some, None, refl, sym, ap}
+use Rattle.std.proofs.Common.{◌≡◌, ℕ, ◌==◌, ◌&&◌, Bool, true, false, List, [], ◌∷◌, ◌++◌, Option, Some, None, refl}
+use Rattle.std.proofs.Common.{sym, ap}
 use Rattle.std.proofs.Common.{subst, ◌∙◌, append_assoc, cond, arith}
 use Rattle.std.proofs.lemmas.Bool.Decides.{nat_tests}
 use Rattle.std.specs.Prelude.{codes}
@@ -76,7 +77,8 @@ dotted_written name h =
     (names_written (slice_split (λ c. c == 46) name) s.first s.more s.are h)
 
 -- an attribute, without the space before it and with it
-pub named_value : (name value : List ℕ) → is_name name ≡ true → lacks (34 ∷ []) value ≡ true → lacks (0 ∷ []) value ≡ true
+pub named_value : (name value : List ℕ) → is_name name ≡ true → lacks (34 ∷ []) value ≡ true
+    → lacks (0 ∷ []) value ≡ true
     → HasLexemes before_any (name ++ (61 ∷ (34 ∷ (value ++ 34 ∷ [])))) (attribute_lexemes name value)
 named_value name value is quote null =
     join ends_name before_any name (61 ∷ (34 ∷ (value ++ 34 ∷ []))) ((kind.Word, name) ∷ [])
@@ -86,7 +88,8 @@ named_value name value is quote null =
 pub attribute_written : (name value : List ℕ) → is_name name ≡ true → lacks (34 ∷ []) value ≡ true
     → lacks (0 ∷ []) value ≡ true → HasLexemes before_any (attribute_text name value) (attribute_lexemes name value)
 attribute_written name value is quote null =
-    after before_any (codes " ") (name ++ (61 ∷ (34 ∷ (value ++ 34 ∷ [])))) [] (attribute_lexemes name value) space_written
+    after before_any (codes " ") (name ++ (61 ∷ (34 ∷ (value ++ 34 ∷ [])))) []
+    (attribute_lexemes name value) space_written
     (named_value name value is quote null)
 
 pub kind_written : (k : Kind) → HasLexemes before_any (kind_text k) (kind_lexemes k)
@@ -107,7 +110,8 @@ module _ (test : ℕ → Bool) (d : ℕ) (none : test d ≡ false) where
       other c is = over (c == d) refl
         where
           over : (t : Bool) → (c == d) ≡ t → t ≡ false
-          over true e = let same : c ≡ d = grind (arith, nat_tests, e) in let no : true ≡ false = sym is ∙ (ap test same ∙ none) in absurd (cc)
+          over true e = let same : c ≡ d = grind (arith, nat_tests, e) in let no : true ≡ false = sym is
+              ∙ (ap test same ∙ none) in absurd (cc)
           over false e = refl
 
 -- so a name has neither

@@ -1,5 +1,6 @@
 -- Pieces of a line, as they are read outside of commands.
-use Rattle.std.proofs.Common.{◌≡◌, ℕ, ◌==◌, ◌||◌, ◌&&◌, not, Bool, true, false, List, [], ◌∷◌, ◌++◌, refl, sym, ap, subst}
+use Rattle.std.proofs.Common.{◌≡◌, ℕ, ◌==◌, ◌||◌, ◌&&◌, not, Bool, true, false, List, [], ◌∷◌, ◌++◌, refl, sym, ap}
+use Rattle.std.proofs.Common.{subst}
 use Rattle.std.proofs.Common.{◌∙◌, arith, append_assoc, append-nil}
 use Rattle.std.specs.List.{list_all}
 use Rattle.std.proofs.lemmas.Bool.Decides.{nat_tests}
@@ -34,7 +35,8 @@ pub record IsCommand (text : List ℕ) (ls : List Lexeme) : Type 0 where
 -- pieces of a line, the first of which stands after a `/` or doesn't
 abbrev pub ArePieces : Bool → List Piece → Type 0
 ArePieces slash [] = Unit {0}
-ArePieces slash (Plain c ∷ ps) = (is_plain c ≡ true) × ((slash && (c == 47 || c == 42)) ≡ false) × ArePieces (c == 47) ps
+ArePieces slash (Plain c ∷ ps) = (is_plain c ≡ true) × ((slash && (c == 47 || c == 42))
+    ≡ false) × ArePieces (c == 47) ps
 ArePieces slash (Written text ls ∷ ps) = IsCommand text ls × ArePieces false ps
 
 -- what a test of a character that stands for itself says
@@ -156,7 +158,8 @@ pieces_read white lead slash line (Written text ls ∷ ps) rest a h k clear =
     record {
       white_after = more.white_after;
       lead_after = more.lead_after;
-      reads = subst (λ l. Reads (Outside white) (feed lead ++ line) l (text_lexemes line ++ (ls ++ closed_lexemes [] ps))
+      reads = subst (λ l. Reads (Outside white) (feed lead ++ line) l (text_lexemes line ++
+          (ls ++ closed_lexemes [] ps))
           (Outside more.white_after) (feed more.lead_after ++ open_line [] ps) rest)
           (sym (append_assoc text (pieces_text ps) rest))
           (subst (λ l. Reads (Outside white) (feed lead ++ line) (text ++ (pieces_text ps ++ rest)) l

@@ -1,5 +1,6 @@
 -- The pieces of nodes are what is written for them.
-use Rattle.std.proofs.Common.{◌≡◌, ℕ, Bool, true, false, ◌==◌, ◌||◌, ◌&&◌, if◌then◌else◌, List, [], ◌∷◌, ◌++◌, refl, sym, ap}
+use Rattle.std.proofs.Common.{◌≡◌, ℕ, Bool, true, false, ◌==◌, ◌||◌, ◌&&◌, if◌then◌else◌, List, [], ◌∷◌, ◌++◌, refl}
+use Rattle.std.proofs.Common.{sym, ap}
 use Rattle.std.proofs.Common.{◌∙◌, append_assoc, append-nil}
 use Rattle.std.specs.Fmt.{signed_decimal}
 use Rattle.std.specs.Prelude.{codes}
@@ -8,7 +9,8 @@ use Rattle.soy_tree.specs.Expressions.{Expr}
 use Rattle.soy_tree.specs.Nodes.{Node, Nodes, Otherwise, Arms, Cases, Arguments, Given, Message, Fallback, MessageBody}
 use Rattle.soy_tree.specs.Nodes.{PluralCases, SelectCases, TextNode, Print, If, Switch, For, Let, LetBlock, Call}
 use Rattle.soy_tree.specs.Nodes.{MessageNode, no_node, node, no_otherwise, otherwise, no_arm, arm, no_case, case}
-use Rattle.soy_tree.specs.Nodes.{no_argument, argument, Plain as PlainGiven, Block, message, no_fallback, fallback, Parts}
+use Rattle.soy_tree.specs.Nodes.{no_argument, argument, Plain as PlainGiven, Block, message, no_fallback, fallback}
+use Rattle.soy_tree.specs.Nodes.{Parts}
 use Rattle.soy_tree.specs.Nodes.{Plural, Select, no_plural_case, plural_case, no_select_case, select_case}
 use Rattle.soy_format.specs.FormattedBody.{arm_text, call_close, call_end, call_text, formatted_argument}
 use Rattle.soy_format.specs.FormattedBody.{formatted_arguments, formatted_arms, formatted_cases, formatted_fallback}
@@ -22,7 +24,8 @@ use Rattle.soy_format.specs.FormattedText.{comment_break, formatted_text, text_c
 use Rattle.formatted_source.specs.CommandPieces.{arm_piece, call_close_pieces, close_piece}
 use Rattle.formatted_source.specs.NodePieces.{arguments_pieces, argument_pieces, arms_pieces, body_pieces, break_pieces}
 use Rattle.formatted_source.specs.NodePieces.{cases_pieces, character_piece, characters_pieces, default_piece}
-use Rattle.formatted_source.specs.NodePieces.{else_piece, fallback_pieces, message_pieces, nil_piece, node_pieces, nodes_pieces}
+use Rattle.formatted_source.specs.NodePieces.{else_piece, fallback_pieces, message_pieces, nil_piece, node_pieces}
+use Rattle.formatted_source.specs.NodePieces.{nodes_pieces}
 use Rattle.formatted_source.specs.NodePieces.{otherwise_pieces, plural_cases_pieces, select_cases_pieces, text_pieces}
 use Rattle.formatted_source.specs.Pieces.{Piece, piece_text, pieces_text}
 
@@ -82,7 +85,8 @@ mutual
   node_text (TextNode text span) = text_text text
   node_text (Print e phname span) = append-nil (print_text e phname)
   node_text (If arms other span) =
-      joined (arms_pieces true arms) (otherwise_pieces else_piece other ++ (close_piece (codes "{/if}") (codes "if") ∷ []))
+      joined (arms_pieces true arms) (otherwise_pieces else_piece other ++ (close_piece (codes "{/if}")
+      (codes "if") ∷ []))
       (formatted_arms true arms) (formatted_otherwise (codes "{else}") other ++ codes "{/if}") (arms_text true arms)
       (joined (otherwise_pieces else_piece other) (close_piece (codes "{/if}") (codes "if") ∷ [])
       (formatted_otherwise (codes "{else}") other) (codes "{/if}") (otherwise_text else_piece other) refl)
@@ -93,14 +97,17 @@ mutual
       (joined (otherwise_pieces default_piece other) (close_piece (codes "{/switch}") (codes "switch") ∷ [])
       (formatted_otherwise (codes "{default}") other) (codes "{/switch}") (otherwise_text default_piece other) refl))
   node_text (For name index e body span) =
-      ap (λ l. for_text name index e ++ l) (joined (nodes_pieces body) (close_piece (codes "{/for}") (codes "for") ∷ []) (formatted_nodes body)
+      ap (λ l. for_text name index e ++ l) (joined (nodes_pieces body) (close_piece (codes "{/for}")
+      (codes "for") ∷ []) (formatted_nodes body)
       (codes "{/for}") (nodes_text body) refl)
   node_text (Let name e span) = append-nil (let_text name e)
   node_text (LetBlock name k body span) =
-      ap (λ l. let_block_text name k ++ l) (joined (nodes_pieces body) (close_piece (codes "{/let}") (codes "let") ∷ []) (formatted_nodes body)
+      ap (λ l. let_block_text name k ++ l) (joined (nodes_pieces body) (close_piece (codes "{/let}")
+      (codes "let") ∷ []) (formatted_nodes body)
       (codes "{/let}") (nodes_text body) refl)
   node_text (Call name all given span) =
-      append_assoc (call_text name all) (call_end given) (pieces_text (arguments_pieces given ++ call_close_pieces given))
+      append_assoc (call_text name all) (call_end given) (pieces_text (arguments_pieces given ++ call_close_pieces
+      given))
       ∙ ap (λ l. call_text name all ++ (call_end given ++ l)) (joined (arguments_pieces given) (call_close_pieces given)
       (formatted_arguments given) (call_close given) (arguments_text given) (close_is given))
   node_text (MessageNode m other span) =
@@ -125,7 +132,8 @@ mutual
   arms_text : (first : Bool) (arms : Arms) → pieces_text (arms_pieces first arms) ≡ formatted_arms first arms
   arms_text first no_arm = refl
   arms_text first (arm e body arms) =
-      two (piece_text (arm_piece first e)) (pieces_text (nodes_pieces body ++ arms_pieces false arms)) (arm_text first e)
+      two (piece_text (arm_piece first e)) (pieces_text (nodes_pieces body ++ arms_pieces false arms))
+      (arm_text first e)
       (formatted_nodes body ++ formatted_arms false arms) (arm_is first e)
       (joined (nodes_pieces body) (arms_pieces false arms) (formatted_nodes body) (formatted_arms false arms)
       (nodes_text body) (arms_text false arms))
@@ -133,7 +141,8 @@ mutual
   cases_text : (cases : Cases) → pieces_text (cases_pieces cases) ≡ formatted_cases cases
   cases_text no_case = refl
   cases_text (case values body cases) =
-      ap (λ l. case_text (formatted_values values) ++ l) (joined (nodes_pieces body) (cases_pieces cases) (formatted_nodes body) (formatted_cases cases)
+      ap (λ l. case_text (formatted_values values) ++ l) (joined (nodes_pieces body) (cases_pieces cases)
+      (formatted_nodes body) (formatted_cases cases)
       (nodes_text body) (cases_text cases))
 
   arguments_text : (given : Arguments) → pieces_text (arguments_pieces given) ≡ formatted_arguments given
@@ -142,13 +151,16 @@ mutual
       joined (argument_pieces name given) (arguments_pieces rest) (formatted_argument name given)
       (formatted_arguments rest) (argument_text name given) (arguments_text rest)
 
-  argument_text : (name : Name) (given : Given) → pieces_text (argument_pieces name given) ≡ formatted_argument name given
+  argument_text : (name : Name) (given : Given) → pieces_text (argument_pieces name given)
+      ≡ formatted_argument name given
   argument_text name (PlainGiven e) = append-nil (param_text name e)
   argument_text name (Block k body) =
-      ap (λ l. param_block_text name k ++ l) (joined (nodes_pieces body) (close_piece (codes "{/param}") (codes "param") ∷ [])
+      ap (λ l. param_block_text name k ++ l) (joined (nodes_pieces body) (close_piece (codes "{/param}")
+      (codes "param") ∷ [])
       (formatted_nodes body) (codes "{/param}") (nodes_text body) refl)
 
-  message_is : (start word : List ℕ) (m : Message) → pieces_text (message_pieces start word m) ≡ formatted_message start m
+  message_is : (start word : List ℕ) (m : Message) → pieces_text (message_pieces start word m)
+      ≡ formatted_message start m
   message_is start word (message desc meaning body span) =
       ap (λ l. message_text start desc meaning ++ l) (body_text body)
 
@@ -176,11 +188,13 @@ mutual
   plural_cases_text : (cases : PluralCases) → pieces_text (plural_cases_pieces cases) ≡ formatted_plural_cases cases
   plural_cases_text no_plural_case = refl
   plural_cases_text (plural_case n body cases) =
-      ap (λ l. case_text (signed_decimal n) ++ l) (joined (body_pieces body) (plural_cases_pieces cases) (formatted_message_body body)
+      ap (λ l. case_text (signed_decimal n) ++ l) (joined (body_pieces body) (plural_cases_pieces cases)
+      (formatted_message_body body)
       (formatted_plural_cases cases) (body_text body) (plural_cases_text cases))
 
   select_cases_text : (cases : SelectCases) → pieces_text (select_cases_pieces cases) ≡ formatted_select_cases cases
   select_cases_text no_select_case = refl
   select_cases_text (select_case word body cases) =
-      ap (λ l. case_text (formatted_string word) ++ l) (joined (body_pieces body) (select_cases_pieces cases) (formatted_message_body body)
+      ap (λ l. case_text (formatted_string word) ++ l) (joined (body_pieces body) (select_cases_pieces cases)
+      (formatted_message_body body)
       (formatted_select_cases cases) (body_text body) (select_cases_text cases))

@@ -27,7 +27,8 @@ use Rattle.formatted_source.specs.CommandPieces.{print_word}
 use Rattle.formatted_source.specs.ExprLexemes.{bracketed, expr_lexemes}
 use Rattle.formatted_source.specs.Lexemes.{Lexeme}
 use Rattle.formatted_source.proofs.CommandReads.{Opens, begins_both}
-use Rattle.formatted_source.proofs.CommandsWritten.{IsCommandWord, braced_command, call_word, plural_word, print_is_word}
+use Rattle.formatted_source.proofs.CommandsWritten.{IsCommandWord, braced_command, call_word, plural_word}
+use Rattle.formatted_source.proofs.CommandsWritten.{print_is_word}
 use Rattle.formatted_source.proofs.CommandsWritten.{word_alone, word_command}
 use Rattle.formatted_source.proofs.ExprsWritten.{expr_written}
 use Rattle.formatted_source.proofs.Ints.{digits-decimal}
@@ -137,11 +138,13 @@ print_written e phname f h = over (begins_with_variable e) refl
     body : List ℕ
     body = formatted_expr e ++ phname_text phname
 
-    whole : (formatted_expr e ++ phname_text phname) ++ (125 ∷ []) ≡ formatted_expr e ++ (phname_text phname ++ (125 ∷ []))
+    whole : (formatted_expr e ++ phname_text phname) ++ (125 ∷ []) ≡ formatted_expr e ++ (phname_text phname ++
+        (125 ∷ []))
     whole = append_assoc (formatted_expr e) (phname_text phname) (125 ∷ [])
 
     over : (t : Bool) → begins_with_variable e ≡ t
-        → IsCommand ((if t then codes "{" else codes "{print ") ++ (formatted_expr e ++ (phname_text phname ++ codes "}")))
+        → IsCommand ((if t then codes "{" else codes "{print ") ++ (formatted_expr e ++
+        (phname_text phname ++ codes "}")))
         (braced (print_word t ++ (expr_lexemes e ++ phname_lexemes phname)))
     over false is =
         subst (λ l. IsCommand (codes "{print " ++ l) (braced ((kind.Word, codes "print")
@@ -168,7 +171,8 @@ data_ends false rest h = h
 
 data_written : (all : Bool) → HasLexemes ends_name (data_text all) (data_lexemes all)
 data_written true =
-    weaker ends_name (data_text true) (data_lexemes true) (attribute_written (codes "data") (codes "all") refl refl refl)
+    weaker ends_name (data_text true) (data_lexemes true) (attribute_written (codes "data")
+    (codes "all") refl refl refl)
 data_written false = nothing ends_name
 
 called : (name : Name) (all : Bool) → is_dotted_name name ≡ true
@@ -180,7 +184,8 @@ called name all is =
 pub call_written : (name : Name) (all : Bool) (given : Arguments) → is_dotted_name name ≡ true
     → IsCommand (call_text name all ++ call_end given) (call_ends given (call_lexemes name all))
 call_written name all no_argument is =
-    word_alone (codes "call") (name ++ data_text all) (dotted_lexemes name ++ data_lexemes all) call_word (called name all is)
+    word_alone (codes "call") (name ++ data_text all) (dotted_lexemes name ++ data_lexemes all) call_word
+    (called name all is)
 call_written name all (argument n g span rest) is =
     word_command (codes "call") (name ++ data_text all) (dotted_lexemes name ++ data_lexemes all) call_word
     (called name all is)
@@ -221,12 +226,14 @@ offset_written offset h = over (offset == 0)
         (if t then [] else attribute_lexemes (codes "offset") (decimal offset))
     over true = nothing ends_name
     over false =
-        let small : offset < 2 ^ 64 = let within : offset ≤ largest = grind (arith, nat_tests, h) in omega (arith, within) in
+        let small : offset < 2 ^ 64 = let within : offset ≤ largest = grind (arith, nat_tests, h) in omega
+        (arith, within) in
         let digits = digits-decimal offset small in
         weaker ends_name (attribute_text (codes "offset") (decimal offset))
         (attribute_lexemes (codes "offset") (decimal offset))
         (attribute_written (codes "offset") (decimal offset) refl
-        (lacks-all is_ascii_digit 34 refl (decimal offset) digits) (lacks-all is_ascii_digit 0 refl (decimal offset) digits))
+        (lacks-all is_ascii_digit 34 refl (decimal offset) digits) (lacks-all is_ascii_digit 0 refl
+        (decimal offset) digits))
 
 offset_ends : (offset : ℕ) (rest : List ℕ) → ends_name rest ≡ true → ends_name (offset_text offset ++ rest) ≡ true
 offset_ends offset rest h = over (offset == 0)
@@ -237,10 +244,12 @@ offset_ends offset rest h = over (offset == 0)
     over false = refl
 
 pub plural_written : (e : Expr) (offset : ℕ) → is_formed_expr e ≡ true → nat_le offset largest ≡ true
-    → IsCommand (plural_text e offset) (braced ((kind.Word, codes "plural") ∷ (expr_lexemes e ++ offset_lexemes offset)))
+    → IsCommand (plural_text e offset) (braced ((kind.Word, codes "plural") ∷
+    (expr_lexemes e ++ offset_lexemes offset)))
 plural_written e offset f h =
     subst (λ l. IsCommand (codes "{plural " ++ l) (braced ((kind.Word, codes "plural")
     ∷ (expr_lexemes e ++ offset_lexemes offset)))) (append_assoc (formatted_expr e) (offset_text offset) (125 ∷ []))
     (word_command (codes "plural") (formatted_expr e ++ offset_text offset) (expr_lexemes e ++ offset_lexemes offset)
-    plural_word (join ends_name ends_name (formatted_expr e) (offset_text offset) (expr_lexemes e) (offset_lexemes offset)
+    plural_word (join ends_name ends_name (formatted_expr e) (offset_text offset) (expr_lexemes e)
+    (offset_lexemes offset)
     (expr_written e f) (offset_written offset h) (offset_ends offset)))

@@ -69,7 +69,8 @@ reads_append _ _ u _ _ _ rest _ last _ ms (Reads.character_ w v run text c ls mi
 reads_append _ _ u _ _ _ rest _ last _ ms (Reads.skipped_ w v run text skipped after ls mid middle e d) next =
     Reads.skipped_ w u run text skipped after (ls ++ ms) last rest e
     (reads_append _ v u _ after middle rest mid last ls ms d next)
-reads_append _ _ u _ _ _ rest _ last _ ms (Reads.token_ w v run text source value after k before ls mid middle e r d) next =
+reads_append _ _ u _ _ _ rest _ last _ ms (Reads.token_ w v run text source value after k before ls mid middle e r d)
+    next =
     subst (λ l. Reads w run text l u last rest) (sym (append_assoc before ((k, value) ∷ ls) ms))
     (Reads.token_ w u run text source value after k before (ls ++ ms) last rest e r
     (reads_append _ v u _ after middle rest mid last ls ms d next))

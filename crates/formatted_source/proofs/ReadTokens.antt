@@ -13,7 +13,8 @@ use Rattle.soy_lexer.specs.declared.token.Token.{Token}
 use Rattle.soy_lexer.specs.declared.token.TokenKind.{TokenKind}
 use Rattle.formatted_source.specs.Lexemes.{Lexeme, lexeme, lexemes}
 use Rattle.formatted_source.specs.ReadsAs.{HasTokens}
-use Rattle.formatted_source.proofs.ReadTexts.{Where, Outside, Opened, Inside, segment_at, after_token, after_skipped, Reads}
+use Rattle.formatted_source.proofs.ReadTexts.{Where, Outside, Opened, Inside, segment_at, after_token}
+use Rattle.formatted_source.proofs.ReadTexts.{after_skipped, Reads}
 use Rattle.formatted_source.proofs.ReadTexts.{SegmentsAt, ends_at, character_at, skipped_at, after_at, token_at}
 use Rattle.formatted_source.proofs.Runs.{RunLexemes}
 
@@ -82,7 +83,8 @@ segments_of _ _ _ _ _ _ _ end (Reads.character_ w v run text c ls last rest e d)
 segments_of _ _ _ _ _ _ _ end (Reads.skipped_ w v run text skipped next ls last rest e d) none ends offset r is =
     with_skipped w offset r text skipped next (ls ++ end) e
     (segments_of _ v _ next rest last ls end d none ends (offset + byte_len skipped) r is)
-segments_of _ _ _ _ _ _ _ end (Reads.token_ w v run text source value next k before ls last rest e b d) none ends offset r is =
+segments_of _ _ _ _ _ _ _ end (Reads.token_ w v run text source value next k before ls last rest e b d) none ends
+    offset r is =
     subst (HasSegments w offset r text) (sym (append_assoc before ((k, value) ∷ ls) end))
     (with_token w offset r text source value next k before (ls ++ end) e (b r is)
     (segments_of _ v _ next rest last ls end d none ends (offset + byte_len source) [] refl))

@@ -1,11 +1,13 @@
 -- Text runs of canonical source: a line without breaks, perhaps with a line feed before and behind it. Their text is
 -- that line.
-use Rattle.std.proofs.Common.{◌≡◌, ℕ, Bool, true, false, not, ◌&&◌, List, [], ◌∷◌, ◌++◌, map, cond, if◌then◌else◌, reverse}
+use Rattle.std.proofs.Common.{◌≡◌, ℕ, Bool, true, false, not, ◌&&◌, List, [], ◌∷◌, ◌++◌, map, cond, if◌then◌else◌}
+use Rattle.std.proofs.Common.{reverse}
 use Rattle.std.proofs.Common.{refl, sym, ap, subst, ◌∙◌, append_assoc, append-nil}
 use Rattle.std.specs.List.{filter, list_all, onto_first, slice_split}
 use Rattle.std.proofs.lemmas.List.{reverse-append, reverse-reverse}
 use Rattle.soy_base.specs.WhiteSpace.{is_template_space, is_line_break}
-use Rattle.soy_lexer.specs.Lines.{RunCharacter, Line, characters, has_characters, joined, lines_of, trimmed, trimmed_after}
+use Rattle.soy_lexer.specs.Lines.{RunCharacter, Line, characters, has_characters, joined, lines_of, trimmed}
+use Rattle.soy_lexer.specs.Lines.{trimmed_after}
 use Rattle.soy_lexer.specs.Lines.{without_end, without_start}
 use Rattle.soy_lexer.specs.Tokens.{run_token, token_of_lines}
 use Rattle.soy_lexer.specs.declared.token.TokenKind.TheVariants as kind
@@ -96,7 +98,8 @@ end_stays (c ∷ cs) h =
         → without_start (c ∷ cs) ≡ c ∷ cs
     start_kept c cs e = rw e refl
 
-line_lexemes : (line : Line) → lexemes (token_of_lines (filter has_characters (line ∷ []))) ≡ text_lexemes (characters line)
+line_lexemes : (line : Line) → lexemes (token_of_lines (filter has_characters (line ∷ [])))
+    ≡ text_lexemes (characters line)
 line_lexemes [] = refl
 line_lexemes (c ∷ cs) = refl
 

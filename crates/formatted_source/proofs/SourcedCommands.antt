@@ -29,11 +29,12 @@ use Rattle.soy_parser.specs.declared.terminal.CommandTerminal.{CommandTerminal}
 use Rattle.soy_parser.specs.declared.terminal.CommandTerminal.TheVariants as terminal
 use Rattle.soy_parser.specs.declared.terminal.CommandWord.TheVariants as word
 use Rattle.soy_parser.specs.CommandTerminals.{command_terminal, command_terminal_of, command_symbol}
-use Rattle.soy_parser.specs.Heads.{SpellsAttributes, with_attribute, with_kind, kind_named, form_at, plain_form, slash_form}
+use Rattle.soy_parser.specs.Heads.{SpellsAttributes, with_attribute, with_kind, kind_named, form_at, plain_form}
+use Rattle.soy_parser.specs.Heads.{slash_form}
 use Rattle.soy_parser.specs.SpellsCommand.{SpellsCommand, SpellsCommands}
 use Rattle.soy_parser.specs.SpellsHead.{SpellsHead, SpellsValues, bare_head, expr_head}
 use Rattle.formatted_source.specs.SourcedTrees.{has_value, is_source_text, is_source_value}
-use Rattle.formatted_source.proofs.TokenTexts.{AreSourced, IsSourced}
+use Rattle.formatted_source.proofs.SegmentTexts.{AreSourced, IsSourced}
 
 abbrev SourcedOpening : Opening → Type 0
 SourcedOpening (opening.Message desc meaning) = (is_source_value desc ≡ true) × (is_source_value meaning ≡ true)
@@ -198,7 +199,10 @@ attribute_sourced a attribute.Desc text f v = record { desc = v; meaning = f.mea
 attribute_sourced a attribute.Meaning text f v = record { desc = f.desc; meaning = v }
 attribute_sourced a attribute.Offset text f v = over (is_int text)
   where
-    over : (b : Bool) → SourcedAttributesIf (if b then Some (record a { offset = Some (number_after 0 text) }) else None)
+    over : (b : Bool) → SourcedAttributesIf (if b then Some (record a {
+      offset = Some
+          (number_after 0 text);
+    }) else None)
     over true = record { desc = f.desc; meaning = f.meaning }
     over false = tt
 attribute_sourced a attribute.Phname text f v = over (is_name text)

@@ -1,5 +1,6 @@
 -- Tokens that spell commands, each with the blocks around it, none too deep and each type's words known.
-use Rattle.std.proofs.Common.{◌≡◌, ℕ, ◌+◌, Bool, List, [], ◌∷◌, ◌++◌, map, refl, sym, ap, subst, ◌∙◌, arith, append_assoc}
+use Rattle.std.proofs.Common.{◌≡◌, ℕ, ◌+◌, Bool, List, [], ◌∷◌, ◌++◌, map, refl, sym, ap, subst, ◌∙◌, arith}
+use Rattle.std.proofs.Common.{append_assoc}
 use Rattle.std.proofs.Common.{false, append-nil}
 use Rattle.soy_lexer.specs.declared.token.Token.{Token}
 use Rattle.expr_parser.specs.Depths.{AreWithin}
@@ -64,7 +65,8 @@ spoken_append ts us cs bs ls ks one two = record {
 pub one_spoken : (blocks : ℕ) (ts : List Token) (P : CommandForm → Type 0) → (c : CommandSpelled blocks ts P)
     → Spoken ts (c.command ∷ []) (blocks ∷ [])
 one_spoken blocks ts P c =
-    let s : SpellsCommands (ts ++ []) (inside_blocks blocks c.depths ++ []) (c.words ++ []) (c.command ∷ []) (blocks ∷ []) =
+    let s : SpellsCommands (ts ++ []) (inside_blocks blocks c.depths ++ []) (c.words ++ []) (c.command ∷ [])
+    (blocks ∷ []) =
     SpellsCommands.more_ ts [] c.depths [] c.words [] c.command [] blocks [] c.spells SpellsCommands.none_ in
     let whole : SpellsCommands ts (inside_blocks blocks c.depths) c.words (c.command ∷ []) (blocks ∷ []) =
     subst (λ l. SpellsCommands l (inside_blocks blocks c.depths) c.words (c.command ∷ []) (blocks ∷ [])) (append-nil ts)

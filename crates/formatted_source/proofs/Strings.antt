@@ -74,7 +74,8 @@ characters_read (c ∷ cs) rest =
 
 no_null : (text : List ℕ) → lacks (0 ∷ []) (string_characters text) ≡ true
 no_null [] = refl
-no_null (c ∷ cs) = lacks-append (0 ∷ []) (string_character c) (string_characters cs) (character_read c).no_null (no_null cs)
+no_null (c ∷ cs) = lacks-append (0 ∷ []) (string_character c) (string_characters cs) (character_read c).no_null
+    (no_null cs)
 
 string_found : (text rest : List ℕ) → command_segment (39 ∷ (string_characters text ++ (39 ∷ rest)))
     ≡ Begins (CommandToken kind.Str (39 ∷ (string_characters text ++ 39 ∷ [])) text) rest

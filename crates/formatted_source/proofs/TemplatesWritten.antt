@@ -1,5 +1,6 @@
 -- The commands of a file and of its templates, as they are written.
-use Rattle.std.proofs.Common.{◌≡◌, ℕ, ◌&&◌, Bool, true, false, List, [], ◌∷◌, ◌++◌, refl, sym, ap, subst, ◌∙◌, append_assoc}
+use Rattle.std.proofs.Common.{◌≡◌, ℕ, ◌&&◌, Bool, true, false, List, [], ◌∷◌, ◌++◌, refl, sym, ap, subst, ◌∙◌}
+use Rattle.std.proofs.Common.{append_assoc}
 use Rattle.std.specs.Prelude.{codes, if◌then◌else◌}
 use Rattle.soy_base.specs.Names.{is_dotted_name, is_name}
 use Rattle.soy_base.specs.declared.kind.Kind.{Kind}
@@ -26,7 +27,8 @@ use Rattle.formatted_source.proofs.TypesWritten.{type_written}
 pub namespace_written : (name : Name) → is_dotted_name name ≡ true
     → IsCommand (123 ∷ (codes "namespace" ++ (32 ∷ (name ++ (125 ∷ [])))))
     (braced ((kind.Word, codes "namespace") ∷ dotted_lexemes name))
-namespace_written name is = word_command (codes "namespace") name (dotted_lexemes name) namespace_word (dotted_written name is)
+namespace_written name is = word_command (codes "namespace") name (dotted_lexemes name) namespace_word
+    (dotted_written name is)
 
 -- the attributes of a template
 visibility_ends : (private : Bool) (rest : List ℕ) → ends_name rest ≡ true
@@ -60,8 +62,10 @@ attributes_end block_kind.Attributes private rest h = refl
 attributes_end block_kind.Text private rest h = refl
 
 pub template_written : (name : Name) (k : Kind) (private : Bool) → is_name name ≡ true
-    → IsCommand (123 ∷ (codes "template" ++ (32 ∷ ((name ++ (template_kind_text k ++ visibility_text private)) ++ (125 ∷ [])))))
-    (braced ((kind.Word, codes "template") ∷ ((kind.Word, name) ∷ (template_kind_lexemes k ++ visibility_lexemes private))))
+    → IsCommand (123 ∷ (codes "template" ++ (32 ∷ ((name ++ (template_kind_text k ++ visibility_text private)) ++
+    (125 ∷ [])))))
+    (braced ((kind.Word, codes "template") ∷ ((kind.Word, name) ∷ (template_kind_lexemes k ++ visibility_lexemes
+    private))))
 template_written name k private is =
     word_command (codes "template") (name ++ (template_kind_text k ++ visibility_text private))
     ((kind.Word, name) ∷ (template_kind_lexemes k ++ visibility_lexemes private)) template_word
@@ -83,7 +87,8 @@ typed name t is f =
 at_param : HasLexemes before_any (codes "@param ") ((kind.Symbol, codes "@") ∷ ((kind.Word, codes "param") ∷ []))
 at_param =
     after before_any (codes "@") (codes "param ") ((kind.Symbol, codes "@") ∷ []) ((kind.Word, codes "param") ∷ [])
-    (symbol_written (codes "@") (λ rest. refl)) (λ rest h. spaced_written kind.Word (codes "param") refl (λ more. refl) rest)
+    (symbol_written (codes "@") (λ rest. refl)) (λ rest h. spaced_written kind.Word (codes "param") refl
+    (λ more. refl) rest)
 
 at_param_optional : HasLexemes before_any (codes "@param? ")
     ((kind.Symbol, codes "@") ∷ ((kind.Word, codes "param") ∷ ((kind.Symbol, codes "?") ∷ [])))
@@ -110,7 +115,8 @@ param_line_written true name t is f =
 param_line_written false name t is f =
     braced_before ends_type (codes "{@param? " ++ ((name ++ (codes ": " ++ type_text t)) ++ (125 ∷ [])))
     (codes "@param? " ++ (name ++ (codes ": " ++ type_text t))) (kind.Symbol, codes "@")
-    ((kind.Word, codes "param") ∷ ((kind.Symbol, codes "?") ∷ ((kind.Word, name) ∷ ((kind.Symbol, codes ":") ∷ type_lexemes t))))
+    ((kind.Word, codes "param") ∷ ((kind.Symbol, codes "?") ∷ ((kind.Word, name) ∷
+    ((kind.Symbol, codes ":") ∷ type_lexemes t))))
     refl (λ rest. (begins_both _ refl refl, refl))
     (after ends_type (codes "@param? ") (name ++ (codes ": " ++ type_text t))
     ((kind.Symbol, codes "@") ∷ ((kind.Word, codes "param") ∷ ((kind.Symbol, codes "?") ∷ [])))

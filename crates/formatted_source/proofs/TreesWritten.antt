@@ -1,5 +1,6 @@
 -- A tree as it is written has the tokens that it is written for.
-use Rattle.std.proofs.Common.{◌≡◌, ℕ, ◌&&◌, Bool, true, false, List, [], ◌∷◌, ◌++◌, refl, sym, ap, subst, ◌∙◌, append_assoc}
+use Rattle.std.proofs.Common.{◌≡◌, ℕ, ◌&&◌, Bool, true, false, List, [], ◌∷◌, ◌++◌, refl, sym, ap, subst, ◌∙◌}
+use Rattle.std.proofs.Common.{append_assoc}
 use Rattle.std.proofs.Common.{append-nil}
 use Rattle.std.specs.Prelude.{codes}
 use Rattle.std.specs.List.{list_all}
@@ -21,7 +22,8 @@ use Rattle.formatted_source.specs.Pieces.{Piece, closed_lexemes, open_line, piec
 use Rattle.formatted_source.specs.ReadsAs.{HasTokens}
 use Rattle.formatted_source.specs.SourcedTrees.{are_sourced_nodes, is_sourced_tree}
 use Rattle.formatted_source.specs.TreeLexemes.{line_lexemes, opening_lexemes, param_lexemes, params_lexemes}
-use Rattle.formatted_source.specs.TreeLexemes.{namespace_lexemes, template_close_lexemes, template_lexemes, templates_lexemes}
+use Rattle.formatted_source.specs.TreeLexemes.{namespace_lexemes, template_close_lexemes, template_lexemes}
+use Rattle.formatted_source.specs.TreeLexemes.{templates_lexemes}
 use Rattle.formatted_source.specs.TreeLexemes.{tree_lexemes}
 use Rattle.formatted_source.proofs.CharactersWritten.{sp_is, template_close}
 use Rattle.formatted_source.proofs.Names.{both}
@@ -85,8 +87,10 @@ line_of text line ls c is rest =
 -- a parameter
 param_is : (p : Param)
     → param_line p ≡ (param_start p.required ++ ((p.name ++ (codes ": " ++ type_text p.of)) ++ (125 ∷ []))) ++ (10 ∷ [])
-param_is p = sym (append_assoc (param_start p.required) ((p.name ++ (codes ": " ++ type_text p.of)) ++ (125 ∷ [])) (10 ∷ [])
-    ∙ ap (λ l. param_start p.required ++ l) (append_assoc (p.name ++ (codes ": " ++ type_text p.of)) (125 ∷ []) (10 ∷ [])
+param_is p = sym (append_assoc (param_start p.required) ((p.name ++ (codes ": " ++ type_text p.of)) ++ (125 ∷ []))
+    (10 ∷ [])
+    ∙ ap (λ l. param_start p.required ++ l) (append_assoc (p.name ++ (codes ": " ++ type_text p.of)) (125 ∷ [])
+    (10 ∷ [])
     ∙ (append_assoc p.name (codes ": " ++ type_text p.of) (125 ∷ 10 ∷ [])
     ∙ ap (λ l. p.name ++ l) (append_assoc (codes ": ") (type_text p.of) (125 ∷ 10 ∷ [])))))
 
@@ -140,7 +144,8 @@ line_and_close (p ∷ ps) a rest =
     subst (λ l. Reads (Outside true) (10 ∷ []) l (line_lexemes (p ∷ ps) ++ template_close_lexemes) (Outside true)
     (10 ∷ []) rest) (sym text_is)
     (subst (λ l. Reads (Outside true) (10 ∷ [])
-    (pieces_text (edged_pieces (p ∷ ps)) ++ (10 ∷ (codes "{/template}" ++ (10 ∷ rest)))) l (Outside true) (10 ∷ []) rest)
+    (pieces_text (edged_pieces (p ∷ ps)) ++ (10 ∷ (codes "{/template}" ++ (10 ∷ rest)))) l (Outside true)
+    (10 ∷ []) rest)
     (sym (append_assoc (closed_lexemes [] (edged_pieces (p ∷ ps))) (text_lexemes (open_line [] (edged_pieces (p ∷ ps))))
     template_close_lexemes)) whole)
 
@@ -151,14 +156,16 @@ within_template : (t : Template) → is_formed_template t ≡ true → are_sourc
 within_template t f s =
     let fs = both (is_name t.name && list_all is_formed_param t.params) (are_formed_nodes t.body) f in
     let gs = both (is_name t.name) (list_all is_formed_param t.params) fs.0 in
-    followed (param_lines t.params) (body_line (formatted_nodes t.body) ++ codes "{/template}\n") (params_lexemes t.params)
+    followed (param_lines t.params) (body_line (formatted_nodes t.body) ++ codes "{/template}\n")
+    (params_lexemes t.params)
     (line_lexemes (nodes_pieces t.body) ++ template_close_lexemes) (params_are t.params gs.1)
     (subst (λ l. Lines (body_line l ++ codes "{/template}\n")
     (line_lexemes (nodes_pieces t.body) ++ template_close_lexemes)) (nodes_text t.body)
     (line_and_close (nodes_pieces t.body) (nodes_are false t.body fs.1 s false tt)))
 
 opening_is : (t : Template) → template_line t.name t.kind t.private
-    ≡ (123 ∷ (codes "template" ++ (32 ∷ ((t.name ++ (template_kind_text t.kind ++ visibility_text t.private)) ++ (125 ∷ [])))))
+    ≡ (123 ∷ (codes "template" ++ (32 ∷ ((t.name ++ (template_kind_text t.kind ++ visibility_text t.private)) ++
+    (125 ∷ [])))))
     ++ (10 ∷ [])
 opening_is t = ap (λ l. codes "{template " ++ l) (sym (
     append_assoc (t.name ++ (template_kind_text t.kind ++ visibility_text t.private)) (125 ∷ []) (10 ∷ [])
@@ -173,25 +180,29 @@ template_is t f s rest =
     let gs = both (is_name t.name) (list_all is_formed_param t.params) fs.0 in
     let inner : List ℕ = param_lines t.params ++ (body_line (formatted_nodes t.body) ++ codes "{/template}\n") in
     let opening = command_line
-    (123 ∷ (codes "template" ++ (32 ∷ ((t.name ++ (template_kind_text t.kind ++ visibility_text t.private)) ++ (125 ∷ [])))))
+    (123 ∷ (codes "template" ++ (32 ∷ ((t.name ++ (template_kind_text t.kind ++ visibility_text t.private)) ++
+    (125 ∷ [])))))
     (opening_lexemes t) (template_written t.name t.kind t.private gs.0) true (10 ∷ 10 ∷ [])
     ((param_lines t.params ++ (body_line (formatted_nodes t.body) ++ codes "{/template}\n")) ++ rest) [] feeds_run in
     let text_is : formatted_template t ++ rest
-    ≡ (123 ∷ (codes "template" ++ (32 ∷ ((t.name ++ (template_kind_text t.kind ++ visibility_text t.private)) ++ (125 ∷ [])))))
+    ≡ (123 ∷ (codes "template" ++ (32 ∷ ((t.name ++ (template_kind_text t.kind ++ visibility_text t.private)) ++
+    (125 ∷ [])))))
     ++ (10 ∷ ((param_lines t.params ++ (body_line (formatted_nodes t.body) ++ codes "{/template}\n")) ++ rest)) =
     append_assoc (template_line t.name t.kind t.private)
     (param_lines t.params ++ (body_line (formatted_nodes t.body) ++ codes "{/template}\n")) rest
     ∙ (ap (λ l. l ++ ((param_lines t.params ++ (body_line (formatted_nodes t.body) ++ codes "{/template}\n")) ++ rest))
     (opening_is t)
     ∙ append_assoc
-    (123 ∷ (codes "template" ++ (32 ∷ ((t.name ++ (template_kind_text t.kind ++ visibility_text t.private)) ++ (125 ∷ [])))))
+    (123 ∷ (codes "template" ++ (32 ∷ ((t.name ++ (template_kind_text t.kind ++ visibility_text t.private)) ++
+    (125 ∷ [])))))
     (10 ∷ []) ((param_lines t.params ++ (body_line (formatted_nodes t.body) ++ codes "{/template}\n")) ++ rest)) in
     reads_append (Outside true) (Outside true) (Outside true) (10 ∷ []) (10 ∷ (formatted_template t ++ rest))
     (formatted_template t ++ rest) rest (10 ∷ 10 ∷ []) (10 ∷ []) [] (template_lexemes t)
     (read_feed true (10 ∷ []) (formatted_template t ++ rest))
     (subst (λ l. Reads (Outside true) (10 ∷ 10 ∷ []) l (template_lexemes t) (Outside true) (10 ∷ []) rest) (sym text_is)
     (reads_append (Outside true) (Outside true) (Outside true) (10 ∷ 10 ∷ [])
-    ((123 ∷ (codes "template" ++ (32 ∷ ((t.name ++ (template_kind_text t.kind ++ visibility_text t.private)) ++ (125 ∷ [])))))
+    ((123 ∷ (codes "template" ++ (32 ∷ ((t.name ++ (template_kind_text t.kind ++ visibility_text t.private)) ++
+    (125 ∷ [])))))
     ++ (10 ∷ ((param_lines t.params ++ (body_line (formatted_nodes t.body) ++ codes "{/template}\n")) ++ rest)))
     ((param_lines t.params ++ (body_line (formatted_nodes t.body) ++ codes "{/template}\n")) ++ rest) rest (10 ∷ [])
     (10 ∷ []) (opening_lexemes t)
@@ -217,7 +228,8 @@ tree_written t f s =
     (namespace_written t.namespace fs.0) true [] (formatted_templates t.templates) [] no_run in
     let text_is : formatted_tree t
     ≡ (123 ∷ (codes "namespace" ++ (32 ∷ (t.namespace ++ (125 ∷ []))))) ++ (10 ∷ formatted_templates t.templates) =
-    ap (λ l. codes "{namespace " ++ l) (sym (append_assoc t.namespace (125 ∷ []) (10 ∷ formatted_templates t.templates))) in
+    ap (λ l. codes "{namespace " ++ l) (sym (append_assoc t.namespace (125 ∷ [])
+    (10 ∷ formatted_templates t.templates))) in
     let rest : Reads (Outside true) (10 ∷ []) (formatted_templates t.templates) (templates_lexemes t.templates)
     (Outside true) (10 ∷ []) [] =
     subst (λ l. Reads (Outside true) (10 ∷ []) l (templates_lexemes t.templates) (Outside true) (10 ∷ []) [])

@@ -1,5 +1,6 @@
 -- The lexemes of tokens that the grammar of types knows: each of its words and symbols is written in one way.
-use Rattle.std.proofs.Common.{◌≡◌, ℕ, ◌+◌, ◌<◌, ◌≤◌, ◌&&◌, ◌⊎◌, inl, inr, nat_lt, Bool, true, false, List, [], ◌∷◌, ◌++◌}
+use Rattle.std.proofs.Common.{◌≡◌, ℕ, ◌+◌, ◌<◌, ◌≤◌, ◌&&◌, ◌⊎◌, inl, inr, nat_lt, Bool, true, false, List, [], ◌∷◌}
+use Rattle.std.proofs.Common.{◌++◌}
 use Rattle.std.proofs.Common.{length, length-append, get_or, if◌then◌else◌, refl, sym, ap, subst, ◌∙◌, arith}
 use Rattle.std.specs.Prelude.{codes, encode_utf8, encode_utf8_all}
 use Rattle.std.specs.List.{list_all}
@@ -23,7 +24,13 @@ pub ascii_text : (text bs : List ℕ) → encode_utf8_all text ≡ bs → list_a
 ascii_text [] [] e all = refl
 ascii_text [] (b ∷ bs) e all = absurd (cc)
 ascii_text (c ∷ cs) [] e all =
-    absurd (omega (arith, ap length e, length-append (encode_utf8 c) (encode_utf8_all cs), length-encode c, (len_utf8_bounds c).0))
+    absurd (omega (
+      arith,
+      ap length e,
+      length-append (encode_utf8 c) (encode_utf8_all cs),
+      length-encode c,
+      (len_utf8_bounds c).0,
+    ))
 ascii_text (c ∷ cs) (b ∷ bs) e all =
     let parts = both (nat_lt b 128) (list_all (λ b. nat_lt b 128) bs) all in
     let low : b < 128 = grind (arith, nat_tests, parts.0) in
@@ -72,16 +79,18 @@ name_bytes text n e known =
             | inl p ↦ known_by name.Str n text (codes "string") p.0 p.1 refl
             | inr q ↦ elim (tested text (codes "html") (bytes_eq text (codes "html")) name.Html _ n refl q) [
               | inl p ↦ known_by name.Html n text (codes "html") p.0 p.1 refl
-              | inr q ↦ elim (tested text (codes "attributes") (bytes_eq text (codes "attributes")) name.Attributes _ n refl q) [
-                | inl p ↦ known_by name.Attributes n text (codes "attributes") p.0 p.1 refl
-                | inr q ↦ elim (tested text (codes "list") (bytes_eq text (codes "list")) name.List _ n refl q) [
-                  | inl p ↦ known_by name.List n text (codes "list") p.0 p.1 refl
-                  | inr q ↦ elim (tested text (codes "map") (bytes_eq text (codes "map")) name.Map name.Unknown n refl q) [
-                    | inl p ↦ known_by name.Map n text (codes "map") p.0 p.1 refl
-                    | inr q ↦ absurd (subst IsKnown (sym q) known)
+              | inr q ↦ elim (tested text (codes "attributes") (bytes_eq text
+                  (codes "attributes")) name.Attributes _ n refl q) [
+                    | inl p ↦ known_by name.Attributes n text (codes "attributes") p.0 p.1 refl
+                    | inr q ↦ elim (tested text (codes "list") (bytes_eq text (codes "list")) name.List _ n refl q) [
+                      | inl p ↦ known_by name.List n text (codes "list") p.0 p.1 refl
+                      | inr q ↦ elim (tested text (codes "map") (bytes_eq text
+                          (codes "map")) name.Map name.Unknown n refl q) [
+                            | inl p ↦ known_by name.Map n text (codes "map") p.0 p.1 refl
+                            | inr q ↦ absurd (subst IsKnown (sym q) known)
+                          ]
+                    ]
                   ]
-                ]
-              ]
             ]
           ]
         ]
@@ -122,7 +131,8 @@ symbol_bytes text n e known =
               | inl p ↦ symbol_by terminal.Bar n text (codes "|") p.0 p.1 refl
               | inr q ↦ elim (tested text (codes "[") (bytes_eq text (codes "[")) terminal.OpenBracket _ n refl q) [
                 | inl p ↦ symbol_by terminal.OpenBracket n text (codes "[") p.0 p.1 refl
-                | inr q ↦ elim (tested text (codes "]") (bytes_eq text (codes "]")) terminal.CloseBracket terminal.Other n
+                | inr q ↦ elim (tested text (codes "]") (bytes_eq text (codes "]")) terminal.CloseBracket
+                    terminal.Other n
                     refl q) [
                       | inl p ↦ symbol_by terminal.CloseBracket n text (codes "]") p.0 p.1 refl
                       | inr q ↦ absurd (subst IsSymbol (sym q) known)
@@ -175,14 +185,17 @@ pair_is k l text word e f =
     first ∙ ap (λ (x : List ℕ). lexeme_of l x) f
 
 -- no symbol is a word
-if_word : (t : Bool) (m else_ : TypeTerminal) → (IsWord m → ⊥) → (IsWord else_ → ⊥) → IsWord (if t then m else else_) → ⊥
+if_word : (t : Bool) (m else_ : TypeTerminal) → (IsWord m → ⊥) → (IsWord else_ → ⊥) → IsWord (if t then m else else_)
+    → ⊥
 if_word true m else_ one two w = one w
 if_word false m else_ one two w = two w
 
 symbol_no_word : (text : List ℕ) → IsWord (type_symbol text) → ⊥
 symbol_no_word text =
-    if_word (bytes_eq text (codes "<")) terminal.Less _ (λ w. w) (if_word (bytes_eq text (codes ">")) terminal.Greater _ (λ w. w)
-    (if_word (bytes_eq text (codes ",")) terminal.Comma _ (λ w. w) (if_word (bytes_eq text (codes ":")) terminal.Colon _ (λ w. w)
+    if_word (bytes_eq text (codes "<")) terminal.Less _ (λ w. w) (if_word (bytes_eq text
+    (codes ">")) terminal.Greater _ (λ w. w)
+    (if_word (bytes_eq text (codes ",")) terminal.Comma _ (λ w. w) (if_word (bytes_eq text
+    (codes ":")) terminal.Colon _ (λ w. w)
     (if_word (bytes_eq text (codes "|")) terminal.Bar _ (λ w. w)
     (if_word (bytes_eq text (codes "[")) terminal.OpenBracket _ (λ w. w)
     (if_word (bytes_eq text (codes "]")) terminal.CloseBracket terminal.Other (λ w. w) (λ w. w)))))))

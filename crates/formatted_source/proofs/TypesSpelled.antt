@@ -1,5 +1,6 @@
 -- The tokens of a type have the lexemes that it is written for.
-use Rattle.std.proofs.Common.{◌≡◌, ℕ, ◌+◌, max, Bool, true, false, List, [], ◌∷◌, ◌++◌, length, map, refl, sym, ap, subst}
+use Rattle.std.proofs.Common.{◌≡◌, ℕ, ◌+◌, max, Bool, true, false, List, [], ◌∷◌, ◌++◌, length, map, refl, sym, ap}
+use Rattle.std.proofs.Common.{subst}
 use Rattle.std.proofs.Common.{◌∙◌, arith, append_assoc, append-nil, length-append}
 use Rattle.std.specs.Prelude.{codes}
 use Rattle.std.proofs.lemmas.List.{map-append}
@@ -14,7 +15,8 @@ use Rattle.soy_tree.specs.Members.{members_of}
 use Rattle.soy_tree.specs.Types.{Name, SoyType, Members, FieldTypes, NullType, BoolType, IntType, StringType, HtmlType}
 use Rattle.soy_tree.specs.Types.{AttributesType, ListType, MapType, RecordType, UnionType, no_member, member, no_field}
 use Rattle.soy_tree.specs.Types.{field as field_of}
-use Rattle.soy_tree.specs.ViewTypes.{view_type, view_field, view_members, view_fields, type_layer, field_layer, fields_of}
+use Rattle.soy_tree.specs.ViewTypes.{view_type, view_field, view_members, view_fields, type_layer, field_layer}
+use Rattle.soy_tree.specs.ViewTypes.{fields_of}
 use Rattle.expr_parser.specs.declared.type_frame.TypeOperand.{TypeOperand}
 use Rattle.expr_parser.specs.declared.type_terminal.TypeName.{TypeName}
 use Rattle.expr_parser.specs.declared.type_terminal.TypeName.TheVariants as name
@@ -26,7 +28,8 @@ use Rattle.expr_parser.specs.TypeOperands.{field, type_of_name}
 use Rattle.expr_parser.specs.TypeTerminals.{begins_with_less, is_less, is_type_name, names_type, type_terminal_of}
 use Rattle.expr_parser.specs.TypeTerminals.{word_names_type}
 use Rattle.formatted_source.specs.Lexemes.{Lexeme, lexeme, lexemes}
-use Rattle.formatted_source.specs.TypeLexemes.{fields_lexemes, members_lexemes, more_fields_lexemes, more_members_lexemes}
+use Rattle.formatted_source.specs.TypeLexemes.{fields_lexemes, members_lexemes, more_fields_lexemes}
+use Rattle.formatted_source.specs.TypeLexemes.{more_members_lexemes}
 use Rattle.formatted_source.specs.TypeLexemes.{type_lexemes}
 use Rattle.formatted_source.proofs.TypeWords.{IsKnown, name_lexeme, name_text, symbol_lexeme, word_lexeme}
 
@@ -77,7 +80,8 @@ abbrev field_lexemes : Name × SoyType → List Lexeme
 field_lexemes f = (kind.Word, f.0) ∷ ((kind.Symbol, codes ":") ∷ type_lexemes f.1)
 
 more_fields_are : (f : Name × SoyType) (fs : List (Name × SoyType))
-    → more_fields_lexemes (fields_of (f ∷ fs)) ≡ (kind.Symbol, codes ",") ∷ (field_lexemes f ++ more_fields_lexemes (fields_of fs))
+    → more_fields_lexemes (fields_of (f ∷ fs)) ≡ (kind.Symbol, codes ",") ∷ (field_lexemes f ++ more_fields_lexemes
+    (fields_of fs))
 more_fields_are f fs = refl
 
 fields_more : (g : Name × SoyType) (gs : List (Name × SoyType)) (f : Name × SoyType)
@@ -85,14 +89,16 @@ fields_more : (g : Name × SoyType) (gs : List (Name × SoyType)) (f : Name × S
     ≡ fields_lexemes (fields_of (g ∷ gs)) ++ ((kind.Symbol, codes ",") ∷ field_lexemes f)
 fields_more g gs f =
     ap (λ l. field_lexemes g ++ l) (more gs)
-    ∙ sym (append_assoc (field_lexemes g) (more_fields_lexemes (fields_of gs)) ((kind.Symbol, codes ",") ∷ field_lexemes f))
+    ∙ sym (append_assoc (field_lexemes g) (more_fields_lexemes (fields_of gs))
+    ((kind.Symbol, codes ",") ∷ field_lexemes f))
   where
     more : (gs : List (Name × SoyType)) → more_fields_lexemes (fields_of (gs ++ (f ∷ [])))
         ≡ more_fields_lexemes (fields_of gs) ++ ((kind.Symbol, codes ",") ∷ field_lexemes f)
     more [] = ap (λ l. (kind.Symbol, codes ",") ∷ l) (append-nil (field_lexemes f))
     more (h ∷ hs) =
         ap (λ l. (kind.Symbol, codes ",") ∷ (field_lexemes h ++ l)) (more hs)
-        ∙ ap (λ l. (kind.Symbol, codes ",") ∷ l) (sym (append_assoc (field_lexemes h) (more_fields_lexemes (fields_of hs))
+        ∙ ap (λ l. (kind.Symbol, codes ",") ∷ l) (sym (append_assoc (field_lexemes h) (more_fields_lexemes
+        (fields_of hs))
         ((kind.Symbol, codes ",") ∷ field_lexemes f)))
 
 -- a word at each token of a type
@@ -225,7 +231,8 @@ three : (a b : Lexeme) (cs : List Lexeme) (x y : Lexeme) (zs : List Lexeme) → 
     → a ∷ (b ∷ cs) ≡ x ∷ (y ∷ zs)
 three a b cs x y zs e f g = ap (λ l. l ∷ (b ∷ cs)) e ∙ (ap (λ l. x ∷ (l ∷ cs)) f ∙ ap (λ l. x ∷ (y ∷ l)) g)
 
-one_field : (key colon : Token) (ts : List Token) (n : TypeName) (x : TypeOperand) → type_terminal_of key ≡ terminal.Word n
+one_field : (key colon : Token) (ts : List Token) (n : TypeName) (x : TypeOperand)
+    → type_terminal_of key ≡ terminal.Word n
     → type_terminal_of colon ≡ terminal.Colon → lexemes ts ≡ type_lexemes (view_type x.of)
     → lexemes (key ∷ (colon ∷ ts)) ≡ field_lexemes (key.text, view_type x.of)
 one_field key colon ts n x a b same =
@@ -258,7 +265,8 @@ record_more fs f s =
     ap (λ l. fields_lexemes (fields_of (map view_field (l ++ (f ∷ []))))) s.are
     ∙ (ap (λ l. fields_lexemes (fields_of (view_field s.first ∷ l))) (map-append view_field s.more (f ∷ []))
     ∙ (fields_more (view_field s.first) (map view_field s.more) (view_field f)
-    ∙ ap (λ l. fields_lexemes (view_fields l) ++ ((kind.Symbol, codes ",") ∷ field_lexemes (view_field f))) (sym s.are)))
+    ∙ ap (λ l. fields_lexemes (view_fields l) ++ ((kind.Symbol, codes ",") ∷ field_lexemes (view_field f)))
+    (sym s.are)))
 
 mutual
   member_lexemes : (ts : List Token) (ds : List ℕ) (ws : List Bool) (x : TypeOperand) (rest : List Token)
@@ -301,10 +309,12 @@ mutual
       let inner = names_before ts (close ∷ []) ws (false ∷ []) rest (fields_words ts ds ws fields h d) names.1 in
       let last : lexemes (close ∷ []) ≡ (kind.Symbol, codes "]") ∷ [] =
       ap (λ l. l ∷ []) (symbol_lexeme close terminal.CloseBracket b tt) in
-      let whole : lexemes (ts ++ (close ∷ [])) ≡ fields_lexemes (view_fields fields) ++ ((kind.Symbol, codes "]") ∷ []) =
+      let whole : lexemes (ts ++ (close ∷ [])) ≡ fields_lexemes (view_fields fields) ++
+      ((kind.Symbol, codes "]") ∷ []) =
       map-append lexeme ts (close ∷ []) ∙ two (lexemes ts) (lexemes (close ∷ [])) (fields_lexemes (view_fields fields))
       ((kind.Symbol, codes "]") ∷ [])
-      (spelled_fields ts ds ws fields h (close ∷ rest) d inner.0 (not_less close terminal.CloseBracket rest b refl)) last in
+      (spelled_fields ts ds ws fields h (close ∷ rest) d inner.0 (not_less close terminal.CloseBracket rest b refl))
+      last in
       (ap (λ l. l ∷ lexemes (ts ++ (close ∷ []))) (symbol_lexeme opening terminal.OpenBracket a tt)
       ∙ ap (λ l. (kind.Symbol, codes "[") ∷ l) whole)
       ∙ sym (ap type_lexemes (view-Fields fields))
@@ -316,7 +326,8 @@ mutual
       one_field key colon ts n x a b (spelled_lexemes ts ds ws x rest d names.1.1 none)
       ∙ sym (append-nil (field_lexemes (key.text, view_type x.of)))
       ∙ ap (λ f. field_lexemes f ++ []) (sym (view-field key.text x.of))
-  spelled_fields _ _ _ _ _ rest (SpellsFields.more_ comma key colon n ts us ds es ws vs fields h x c a b d e) names none =
+  spelled_fields _ _ _ _ _ rest (SpellsFields.more_ comma key colon n ts us ds es ws vs fields h x c a b d e) names
+      none =
       let parts = names_before ts (comma ∷ (key ∷ (colon ∷ us))) ws (false ∷ (false ∷ (false ∷ vs))) rest
       (fields_words ts ds ws fields h d) names in
       let front = spelled_fields ts ds ws fields h (comma ∷ (key ∷ (colon ∷ (us ++ rest)))) d parts.0
@@ -349,4 +360,5 @@ mutual
       let parts = names_before ts (bar ∷ us) ws (false ∷ vs) rest (members_words ts ds ws ms h d) names in
       next_member ts bar us ms x b (spelled_members ts ds ws ms h (bar ∷ (us ++ rest)) d parts.0
       (not_less bar terminal.Bar (us ++ rest) b refl)) (member_lexemes us es vs x rest e parts.1.1 none)
-      ∙ (sym (union_more ms x.of (some_members ts ds ws ms h d)) ∙ sym (ap type_lexemes (view-Union (ms ++ (x.of ∷ [])))))
+      ∙ (sym (union_more ms x.of (some_members ts ds ws ms h d)) ∙ sym (ap type_lexemes (view-Union (ms ++
+      (x.of ∷ [])))))

@@ -1,5 +1,6 @@
 -- Types, as they are written in a command.
-use Rattle.std.proofs.Common.{◌≡◌, ℕ, ◌==◌, ◌||◌, ◌&&◌, not, Bool, true, false, List, [], ◌∷◌, ◌++◌, refl, sym, ap, subst}
+use Rattle.std.proofs.Common.{◌≡◌, ℕ, ◌==◌, ◌||◌, ◌&&◌, not, Bool, true, false, List, [], ◌∷◌, ◌++◌, refl, sym, ap}
+use Rattle.std.proofs.Common.{subst}
 use Rattle.std.proofs.Common.{◌∙◌, arith, append_assoc, append-nil}
 use Rattle.std.specs.Prelude.{codes}
 use Rattle.std.proofs.lemmas.Bool.Decides.{nat_tests}
@@ -98,7 +99,8 @@ in_angles : (text : List ℕ) (ls : List Lexeme) → HasLexemes ends_type text l
 in_angles text ls one =
     join ends_type ends_type text (codes ">") ls ((kind.Symbol, codes ">") ∷ []) one greater_written (λ rest h. refl)
 
-list_start : (t : SoyType) → HasLexemes ends_type (type_text t ++ codes ">") (type_lexemes t ++ ((kind.Symbol, codes ">") ∷ []))
+list_start : (t : SoyType) → HasLexemes ends_type (type_text t ++ codes ">") (type_lexemes t ++
+    ((kind.Symbol, codes ">") ∷ []))
     → HasLexemes ends_type (codes "list<" ++ (type_text t ++ codes ">")) (type_lexemes (ListType t))
 list_start t one =
     join ends_name ends_type (codes "list") (codes "<" ++ (type_text t ++ codes ">")) ((kind.Word, codes "list") ∷ [])
@@ -109,13 +111,16 @@ list_start t one =
     (type_begins t (codes ">" ++ rest) refl)))
     (λ rest h. refl)
 
-map_start : (t : SoyType) → HasLexemes ends_type (type_text t ++ codes ">") (type_lexemes t ++ ((kind.Symbol, codes ">") ∷ []))
+map_start : (t : SoyType) → HasLexemes ends_type (type_text t ++ codes ">") (type_lexemes t ++
+    ((kind.Symbol, codes ">") ∷ []))
     → HasLexemes ends_type (codes "map<string, " ++ (type_text t ++ codes ">")) (type_lexemes (MapType t))
 map_start t one =
-    join ends_name ends_type (codes "map") (codes "<string, " ++ (type_text t ++ codes ">")) ((kind.Word, codes "map") ∷ [])
+    join ends_name ends_type (codes "map") (codes "<string, " ++ (type_text t ++ codes ">"))
+    ((kind.Word, codes "map") ∷ [])
     ((kind.Symbol, codes "<") ∷ ((kind.Word, codes "string") ∷ ((kind.Symbol, codes ",")
     ∷ (type_lexemes t ++ ((kind.Symbol, codes ">") ∷ []))))) (word_written (codes "map") refl)
-    (join no_equals ends_type (codes "<") (codes "string, " ++ (type_text t ++ codes ">")) ((kind.Symbol, codes "<") ∷ [])
+    (join no_equals ends_type (codes "<") (codes "string, " ++ (type_text t ++ codes ">"))
+    ((kind.Symbol, codes "<") ∷ [])
     ((kind.Word, codes "string") ∷ ((kind.Symbol, codes ",") ∷ (type_lexemes t ++ ((kind.Symbol, codes ">") ∷ []))))
     less_written
     (join ends_name ends_type (codes "string") (codes ", " ++ (type_text t ++ codes ">"))

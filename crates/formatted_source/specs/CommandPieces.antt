@@ -1,6 +1,7 @@
 -- The commands of canonical source as pieces of a line: each as it is written, with its lexemes.
 -- Example: the piece of the print of 1 is `{print 1}` with the lexemes `{`, `print`, `1` and `}`.
-use Rattle.std.specs.Prelude.{ℕ, ℤ, Bool, true, false, ◌==◌, if◌then◌else◌, List, [], ◌∷◌, ◌++◌, Option, Some, None, codes}
+use Rattle.std.specs.Prelude.{ℕ, ℤ, Bool, true, false, ◌==◌, if◌then◌else◌, List, [], ◌∷◌, ◌++◌, Option, Some, None}
+use Rattle.std.specs.Prelude.{codes}
 use Rattle.std.specs.Fmt.{decimal, signed_decimal}
 use Rattle.std.specs.List.{slice_split}
 use Rattle.soy_base.specs.Characters.{full_stop}
@@ -66,7 +67,8 @@ phname_lexemes (Some name) = attribute_lexemes (codes "phname") name
 
 abbrev pub print_piece : Expr → Option Name → Piece
 print_piece e phname =
-    Written (print_text e phname) (braced (print_word (begins_with_variable e) ++ (expr_lexemes e ++ phname_lexemes phname)))
+    Written (print_text e phname) (braced (print_word (begins_with_variable e) ++
+    (expr_lexemes e ++ phname_lexemes phname)))
 
 -- a command of a word and an expression
 abbrev pub expr_piece : List ℕ → List ℕ → Expr → Piece
@@ -85,7 +87,8 @@ values_lexemes [] = []
 values_lexemes (e ∷ es) = expr_lexemes e ++ more_values_lexemes es
 
 abbrev pub case_piece : List Expr → Piece
-case_piece values = Written (case_text (formatted_values values)) (braced ((kind.Word, codes "case") ∷ values_lexemes values))
+case_piece values = Written (case_text (formatted_values values)) (braced
+    ((kind.Word, codes "case") ∷ values_lexemes values))
 
 abbrev pub plural_case_piece : ℤ → Piece
 plural_case_piece n =

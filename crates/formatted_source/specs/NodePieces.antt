@@ -7,7 +7,8 @@ use Rattle.soy_tree.specs.Types.{Name}
 use Rattle.soy_tree.specs.Nodes.{Node, Nodes, Otherwise, Arms, Cases, Arguments, Given, Message, Fallback, MessageBody}
 use Rattle.soy_tree.specs.Nodes.{PluralCases, SelectCases, TextNode, Print, If, Switch, For, Let, LetBlock, Call}
 use Rattle.soy_tree.specs.Nodes.{MessageNode, no_node, node, no_otherwise, otherwise, no_arm, arm, no_case, case}
-use Rattle.soy_tree.specs.Nodes.{no_argument, argument, Plain as PlainGiven, Block, message, no_fallback, fallback, Parts}
+use Rattle.soy_tree.specs.Nodes.{no_argument, argument, Plain as PlainGiven, Block, message, no_fallback, fallback}
+use Rattle.soy_tree.specs.Nodes.{Parts}
 use Rattle.soy_tree.specs.Nodes.{Plural, Select, no_plural_case, plural_case, no_select_case, select_case}
 use Rattle.formatted_source.specs.CommandPieces.{arm_piece, braced, call_close_pieces, call_piece, case_piece}
 use Rattle.formatted_source.specs.CommandPieces.{close_piece, expr_piece, for_piece, let_block_piece, let_piece}

@@ -2,7 +2,12 @@
 -- A written expression is read as one in a command, before a rest, where it begins with lexemes such that all tokens of
 -- these lexemes spell an expression that is alike, none of them too deep inside so many blocks; and so is a type.
 -- Example: `1 + (2 - 3)` is read as the sum of 1 and a difference before `}`, and isn't before `x`.
-use Rattle.std.specs.Prelude.{◌≡◌, ℕ, Bool, List, [], ◌++◌}
+use Rattle.std.specs.Prelude.{◌≡◌, ℕ, Bool, List, ◌++◌, Result, Ok, Err}
+use Rattle.std.specs.declared.alloc.Global.{Global}
+use Rattle.std.specs.declared.vec.Vec.{Vec}
+use Rattle.soy_base.specs.declared.fault.Fault.{Fault}
+use Rattle.soy_base.specs.declared.memory.Refusal.{Refusal}
+use Rattle.soy_base.specs.declared.memory.Refusal.TheVariants.{Because, OutOfMemory}
 use Rattle.soy_lexer.specs.Tokens.{Tokens}
 use Rattle.soy_lexer.specs.declared.token.Token.{Token}
 use Rattle.soy_tree.specs.Expressions.{Expr}
@@ -40,3 +45,9 @@ pub record HasTokens (text : List ℕ) (ls : List Lexeme) : Type 0 where
   pub tokens : List Token
   pub whole : Tokens text tokens
   pub are : lexemes tokens ≡ ls
+
+-- what `lex` answers are tokens of these lexemes, where memory doesn't run out
+abbrev pub LexesAs : List Lexeme → Result (Vec Token Global) (Refusal Fault) → Type 0
+LexesAs ls (Ok tokens) = lexemes tokens.items ≡ ls
+LexesAs ls (Err (Because fault)) = ⊥
+LexesAs ls (Err OutOfMemory) = Unit {0}

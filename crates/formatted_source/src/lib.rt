@@ -3,7 +3,8 @@
 //! Nothing here runs: the definitions of specs/ say which tokens canonical source has, and the law functions, each a
 //! contract with an empty body, say that it has them, and that they spell what was written.
 //!
-//! Depends on `soy_format` for how a tree is written, and on `soy_lexer` and `expr_parser` for how a text is read.
+//! Depends on `soy_format` for how a tree is written, and on `soy_lexer`, `expr_parser` and `soy_parser` for how a text
+//! is read.
 #![tactic(auto)]
 
 mod laws;
