@@ -1,9 +1,8 @@
 -- Commands with attributes: their lexemes spell what they are written for.
-use Rattle.std.proofs.Common.{◌≡◌, ℕ, ◌+◌, ◌≤◌, ◌<◌, ◌^◌, ◌&&◌, ◌==◌, nat_le, Bool, true, false, if◌then◌else◌}
+use Rattle.std.proofs.Common.{◌≡◌, ℕ, ◌≤◌, true, false}
 use Rattle.std.proofs.Common.{List, [], ◌∷◌}
-use Rattle.std.proofs.Common.{◌++◌, Option, Some, None, refl, sym, ap, subst, ◌∙◌, arith, append_assoc}
+use Rattle.std.proofs.Common.{◌++◌, Some, refl, sym, ap, subst, ◌∙◌, arith}
 use Rattle.std.specs.Prelude.{codes, encode_utf8_all}
-use Rattle.soy_base.specs.Names.{is_name}
 use Rattle.soy_base.specs.declared.kind.Kind.{Kind}
 use Rattle.soy_base.specs.declared.kind.Kind.TheVariants as block_kind
 use Rattle.soy_lexer.specs.declared.token.Token.{Token}
@@ -25,13 +24,12 @@ use Rattle.soy_parser.specs.CommandTerminals.{command_terminal_of, command_word}
 use Rattle.soy_parser.specs.Heads.{SpellsAttributes, allows, attribute_name, form_at, no_attributes, with_attribute}
 use Rattle.soy_parser.specs.Heads.{with_kind}
 use Rattle.soy_parser.specs.SpellsHead.{SpellsHead, bare_head}
-use Rattle.soy_parser.specs.TypeWords.{no_words}
 use Rattle.soy_format.specs.FormattedBody.{kind_name}
 use Rattle.formatted_source.specs.CommandPieces.{attribute_lexemes, braced, end_lexeme, kind_lexemes, meaning_lexemes}
 use Rattle.formatted_source.specs.Lexemes.{Lexeme, lexemes}
 use Rattle.formatted_source.proofs.CommandTerms.{CommandSpelled, FormSaid, HeadSpelled, command_spelled, command-lexeme}
-use Rattle.formatted_source.proofs.CommandTerms.{lexeme_command, names_none, same_none}
-use Rattle.formatted_source.proofs.LexemeLists.{Alone, alone, Begun, begun, Splits, split}
+use Rattle.formatted_source.proofs.CommandTerms.{lexeme_command}
+use Rattle.formatted_source.proofs.LexemeLists.{alone, begun, split}
 
 -- a token of a lexeme is what the lexeme is
 is_as : (t : Token) (l : Lexeme) (m : CommandTerminal) → t.kind ≡ l.0 → t.text ≡ l.1 → lexeme_command l ≡ m

@@ -1,5 +1,5 @@
 -- Commands of one word or symbol, closes of blocks, and texts: their lexemes spell what they are written for.
-use Rattle.std.proofs.Common.{◌≡◌, ℕ, ◌+◌, ◌≤◌, false, List, [], ◌∷◌, ◌++◌, Some, refl, sym, ap, subst, ◌∙◌, arith}
+use Rattle.std.proofs.Common.{◌≡◌, ℕ, ◌≤◌, false, List, [], ◌∷◌, Some, refl, sym, ap, subst, ◌∙◌, arith}
 use Rattle.std.specs.Prelude.{codes}
 use Rattle.soy_lexer.specs.declared.token.Token.{Token}
 use Rattle.soy_lexer.specs.declared.token.TokenKind.TheVariants as kind
@@ -17,7 +17,7 @@ use Rattle.formatted_source.specs.Lexemes.{Lexeme, lexemes}
 use Rattle.formatted_source.proofs.CommandTerms.{CommandSpelled, HeadSpelled, IsWhole, bare_spelled, command-lexeme}
 use Rattle.formatted_source.proofs.CommandTerms.{lexeme_command}
 use Rattle.formatted_source.proofs.CommandTerms.{plain_starts}
-use Rattle.formatted_source.proofs.LexemeLists.{Alone, alone}
+use Rattle.formatted_source.proofs.LexemeLists.{alone}
 
 -- a command of one lexeme that says this
 abbrev pub Says : Lexeme → CommandForm → Type 0

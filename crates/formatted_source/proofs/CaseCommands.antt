@@ -1,11 +1,11 @@
 -- Cases: their lexemes spell what they are written for.
-use Rattle.std.proofs.Common.{◌≡◌, ℕ, ℤ, pos, negsuc, zero, suc, ◌+◌, ◌≤◌, ◌<◌, ◌^◌, ◌&&◌, ◌==◌, nat_le, Bool, true}
+use Rattle.std.proofs.Common.{◌≡◌, ℕ, pos, zero, suc, ◌+◌, ◌≤◌, ◌<◌, ◌^◌, ◌==◌, nat_le, true}
 use Rattle.std.proofs.Common.{false}
 use Rattle.std.proofs.Common.{List, [], ◌∷◌, ◌++◌, map, refl, sym, ap, subst, ◌∙◌, arith, append_assoc, append-nil}
-use Rattle.std.proofs.Common.{length, get_or}
-use Rattle.std.specs.Prelude.{codes, encode_utf8_all, if◌then◌else◌}
+use Rattle.std.proofs.Common.{get_or}
+use Rattle.std.specs.Prelude.{codes}
 use Rattle.std.specs.Char.{is_ascii_digit}
-use Rattle.std.specs.Fmt.{decimal, signed_decimal}
+use Rattle.std.specs.Fmt.{decimal}
 use Rattle.std.specs.List.{list_all}
 use Rattle.std.proofs.lemmas.Bool.Decides.{nat_tests}
 use Rattle.std.proofs.lemmas.Fmt.{decimal_digit, first_decimal}
@@ -22,24 +22,22 @@ use Rattle.expr_parser.specs.Depths.{AreWithin}
 use Rattle.soy_parser.specs.declared.command.CommandForm.{CommandForm}
 use Rattle.soy_parser.specs.declared.command.CommandForm.TheVariants as says
 use Rattle.soy_parser.specs.declared.command.Middle.TheVariants as middle
-use Rattle.soy_parser.specs.declared.head.Head.{Head}
 use Rattle.soy_parser.specs.declared.head.Head.TheVariants as head
 use Rattle.soy_parser.specs.declared.terminal.CommandTerminal.{CommandTerminal}
 use Rattle.soy_parser.specs.declared.terminal.CommandTerminal.TheVariants as terminal
 use Rattle.soy_parser.specs.declared.terminal.CommandWord.TheVariants as word
 use Rattle.soy_parser.specs.CommandTerminals.{command_terminal_of}
-use Rattle.soy_parser.specs.Depth.{none_deep}
 use Rattle.soy_parser.specs.SpellsHead.{SpellsHead, SpellsCaseWords, SpellsInts, SpellsValues}
 use Rattle.soy_parser.specs.TypeWords.{no_words}
 use Rattle.soy_format.specs.WithoutSpans.{expr_without_spans}
 use Rattle.formatted_source.specs.CommandPieces.{braced, end_lexeme, more_values_lexemes, values_lexemes}
-use Rattle.formatted_source.specs.ExprHeight.{expr_height}
+use Rattle.formatted_source.proofs.WrittenHeight.{expr_height}
 use Rattle.formatted_source.specs.ExprLexemes.{expr_lexemes}
 use Rattle.formatted_source.specs.Lexemes.{Lexeme, lexemes}
 use Rattle.formatted_source.proofs.CommandTerms.{CommandSpelled, HeadSpelled, IsWhole, bare_spelled, command-lexeme}
-use Rattle.formatted_source.proofs.CommandTerms.{lexeme_command, names_none, same_none, within_append, within_none}
+use Rattle.formatted_source.proofs.CommandTerms.{lexeme_command, names_none, same_none, within_append}
 use Rattle.formatted_source.proofs.Ints.{digits-decimal, number-decimal}
-use Rattle.formatted_source.proofs.LexemeLists.{Alone, alone, Begun, begun, Splits, split}
+use Rattle.formatted_source.proofs.LexemeLists.{alone, begun, split}
 use Rattle.formatted_source.proofs.Names.{both}
 use Rattle.formatted_source.proofs.ReadParts.{spelled_within}
 

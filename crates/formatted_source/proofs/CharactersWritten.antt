@@ -6,9 +6,8 @@ use Rattle.soy_lexer.specs.CommandSegment.{command_segment, opened_segment}
 use Rattle.soy_lexer.specs.Found.Found.{Begins}
 use Rattle.soy_lexer.specs.Segment.Segment.{CommandToken}
 use Rattle.soy_lexer.specs.declared.token.TokenKind.TheVariants as kind
-use Rattle.formatted_source.specs.CommandLexemes.{HasLexemes, ends_name}
-use Rattle.formatted_source.specs.CommandPieces.{begin_lexeme, braced, end_lexeme}
-use Rattle.formatted_source.specs.Lexemes.{Lexeme}
+use Rattle.formatted_source.specs.CommandLexemes.{ends_name}
+use Rattle.formatted_source.specs.CommandPieces.{braced}
 use Rattle.formatted_source.proofs.CommandReads.{MayBegin, Opens, begins_both, close_lexemes, close_read}
 use Rattle.formatted_source.proofs.CommandsWritten.{braced_command}
 use Rattle.formatted_source.proofs.ExprsWritten.{symbol_written}

@@ -1,15 +1,15 @@
 -- Whole commands, as they are written outside of commands: a `{`, a part or the close of a block, and an end.
-use Rattle.std.proofs.Common.{◌≡◌, ℕ, Bool, true, false, List, [], ◌∷◌, ◌++◌, refl, sym, ap, subst, ◌∙◌, append_assoc}
+use Rattle.std.proofs.Common.{◌≡◌, ℕ, Bool, true, false, List, [], ◌∷◌, ◌++◌, refl, sym, subst, append_assoc}
 use Rattle.std.specs.Prelude.{codes}
 use Rattle.soy_lexer.specs.CommandSegment.{command_segment, opened_segment}
 use Rattle.soy_lexer.specs.Found.Found.{Begins}
 use Rattle.soy_lexer.specs.Segment.Segment.{CommandToken}
 use Rattle.soy_lexer.specs.TextSegment.{text_segment}
 use Rattle.soy_lexer.specs.declared.token.TokenKind.TheVariants as kind
-use Rattle.formatted_source.specs.CommandLexemes.{CommandLexemes, HasLexemes, before_any, ends_name}
+use Rattle.formatted_source.specs.CommandLexemes.{HasLexemes, ends_name}
 use Rattle.formatted_source.specs.CommandPieces.{begin_lexeme, end_lexeme, slash_end_lexeme}
 use Rattle.formatted_source.specs.Lexemes.{Lexeme}
-use Rattle.formatted_source.proofs.ReadTexts.{Where, Outside, Opened, Inside, Reads, opened_reads, reads_append}
+use Rattle.formatted_source.proofs.ReadTexts.{Outside, Opened, Inside, Reads, opened_reads, reads_append}
 use Rattle.formatted_source.proofs.Runs.{RunLexemes, no_run}
 
 -- a written command has these lexemes, wherever it stands outside of commands and whatever follows it

@@ -1,29 +1,28 @@
 -- What the lexemes of commands are to the grammar.
-use Rattle.std.proofs.Common.{◌≡◌, ℕ, ◌+◌, ◌≤◌, Bool, true, false, List, [], ◌∷◌, ◌++◌, map, Option, Some, refl}
+use Rattle.std.proofs.Common.{◌≡◌, ℕ, ◌≤◌, Bool, true, false, List, [], ◌∷◌, ◌++◌, Some, refl}
 use Rattle.std.proofs.Common.{sym, ap, subst}
 use Rattle.std.proofs.Common.{◌∙◌, arith, append_assoc, append-nil}
-use Rattle.std.specs.Prelude.{codes, encode_utf8_all}
+use Rattle.std.specs.Prelude.{encode_utf8_all}
 use Rattle.soy_lexer.specs.declared.token.Token.{Token}
 use Rattle.soy_lexer.specs.declared.token.TokenKind.{TokenKind}
 use Rattle.soy_lexer.specs.declared.token.TokenKind.TheVariants as kind
 use Rattle.expr_parser.specs.Depths.{AreWithin}
 use Rattle.expr_parser.specs.ParsesType.{NamesTypeIf, NameTypes}
-use Rattle.expr_parser.specs.TypeTerminals.{begins_with_less, is_less, type_terminal, type_terminal_of}
+use Rattle.expr_parser.specs.TypeTerminals.{begins_with_less, is_less, type_terminal}
 use Rattle.soy_parser.specs.declared.command.Command.{Command}
 use Rattle.soy_parser.specs.declared.command.CommandForm.{CommandForm}
 use Rattle.soy_parser.specs.declared.head.Head.{Head}
 use Rattle.soy_parser.specs.declared.attributes.Attributes.{Attributes}
 use Rattle.soy_parser.specs.declared.terminal.CommandTerminal.{CommandTerminal}
-use Rattle.soy_parser.specs.declared.terminal.CommandTerminal.TheVariants as terminal
 use Rattle.soy_parser.specs.CommandTerminals.{command_terminal, command_terminal_of}
 use Rattle.soy_parser.specs.Depth.{inside_blocks, none_deep}
 use Rattle.soy_parser.specs.Heads.{SpellsAttributes, form_at, no_attributes}
-use Rattle.soy_parser.specs.SpellsCommand.{SpellsCommand, SpellsCommands}
+use Rattle.soy_parser.specs.SpellsCommand.{SpellsCommand}
 use Rattle.soy_parser.specs.SpellsHead.{SpellsHead}
 use Rattle.soy_parser.specs.TypeWords.{no_words}
 use Rattle.formatted_source.specs.CommandPieces.{begin_lexeme}
 use Rattle.formatted_source.specs.Lexemes.{Lexeme, lexeme, lexemes}
-use Rattle.formatted_source.proofs.LexemeLists.{Alone, alone, Begun, begun, Splits, split}
+use Rattle.formatted_source.proofs.LexemeLists.{alone, begun, split}
 
 -- what a lexeme is to a command, and so a token of it
 abbrev pub lexeme_command : Lexeme → CommandTerminal

@@ -1,13 +1,12 @@
 -- Commands, as they are written.
-use Rattle.std.proofs.Common.{◌≡◌, ℕ, ℤ, pos, negsuc, ◌==◌, ◌&&◌, ◌≤◌, nat_le, Bool, true, false, List, [], ◌∷◌}
+use Rattle.std.proofs.Common.{◌≡◌, ℕ, ℤ, pos, negsuc, ◌≤◌, Bool, true, List, [], ◌∷◌}
 use Rattle.std.proofs.Common.{◌++◌, Option}
-use Rattle.std.proofs.Common.{Some, None, refl, sym, ap, subst, ◌∙◌, append_assoc, arith, if◌then◌else◌}
+use Rattle.std.proofs.Common.{Some, None, refl, sym, ap, subst, ◌∙◌, append_assoc, arith}
 use Rattle.std.specs.Prelude.{codes}
 use Rattle.std.specs.Fmt.{decimal, signed_decimal}
 use Rattle.std.specs.List.{list_all}
 use Rattle.std.proofs.lemmas.Bool.Decides.{nat_tests}
-use Rattle.soy_base.specs.Among.{lacks}
-use Rattle.soy_base.specs.Names.{begins_name, continues_name, is_name, is_dotted_name}
+use Rattle.soy_base.specs.Names.{is_name}
 use Rattle.soy_base.specs.declared.kind.Kind.{Kind}
 use Rattle.soy_lexer.specs.CommandSegment.{command_segment, opened_segment, largest_int}
 use Rattle.soy_lexer.specs.Found.Found.{Begins}
@@ -15,16 +14,15 @@ use Rattle.soy_lexer.specs.Segment.Segment.{CommandToken}
 use Rattle.soy_lexer.specs.declared.token.TokenKind.TheVariants as kind
 use Rattle.soy_tree.specs.Expressions.{Expr}
 use Rattle.soy_tree.specs.Formed.{if_there, is_formed_expr, is_formed_int}
-use Rattle.soy_tree.specs.Ints.{largest}
 use Rattle.soy_tree.specs.Types.{Name}
-use Rattle.soy_format.specs.FormattedBody.{attribute_text, case_text, expr_command, for_text, index_text, kind_text}
-use Rattle.soy_format.specs.FormattedBody.{let_block_text, let_text, param_block_text, param_text, phname_text}
+use Rattle.soy_format.specs.FormattedBody.{case_text, for_text, index_text, kind_text}
+use Rattle.soy_format.specs.FormattedBody.{let_block_text, let_text, param_block_text, param_text}
 use Rattle.soy_format.specs.FormattedBody.{value_end}
-use Rattle.soy_format.specs.FormattedExpression.{formatted_expr, formatted_values, more_values, variable_text}
+use Rattle.soy_format.specs.FormattedExpression.{formatted_expr, formatted_values, more_values}
 use Rattle.soy_format.specs.FormattedString.{formatted_string}
-use Rattle.formatted_source.specs.CommandLexemes.{CommandLexemes, HasLexemes, before_any, ends_name}
+use Rattle.formatted_source.specs.CommandLexemes.{HasLexemes, before_any, ends_name}
 use Rattle.formatted_source.specs.CommandPieces.{braced, slashed, index_lexemes, kind_lexemes, more_values_lexemes}
-use Rattle.formatted_source.specs.CommandPieces.{phname_lexemes, values_lexemes}
+use Rattle.formatted_source.specs.CommandPieces.{values_lexemes}
 use Rattle.formatted_source.specs.ExprLexemes.{expr_lexemes}
 use Rattle.formatted_source.specs.Lexemes.{Lexeme}
 use Rattle.formatted_source.proofs.CommandReads.{IsRead, MayBegin, Opens, alone_read, begins_both, command_read}

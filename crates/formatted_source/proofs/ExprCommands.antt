@@ -1,5 +1,5 @@
 -- Commands of a word and an expression: their lexemes spell what they are written for.
-use Rattle.std.proofs.Common.{◌≡◌, ℕ, ◌+◌, ◌≤◌, ◌&&◌, Bool, true, false, List, [], ◌∷◌, ◌++◌, Option, Some, None}
+use Rattle.std.proofs.Common.{◌≡◌, ℕ, ◌+◌, ◌≤◌, true, false, List, ◌∷◌, Some}
 use Rattle.std.proofs.Common.{refl, sym, ap}
 use Rattle.std.proofs.Common.{subst, ◌∙◌, arith}
 use Rattle.std.specs.Prelude.{codes}
@@ -16,7 +16,6 @@ use Rattle.soy_parser.specs.declared.command.Opening.TheVariants as opening
 use Rattle.soy_parser.specs.declared.command.Single.TheVariants as single
 use Rattle.soy_parser.specs.declared.head.Head.{Head}
 use Rattle.soy_parser.specs.declared.head.Head.TheVariants as head
-use Rattle.soy_parser.specs.declared.terminal.CommandTerminal.{CommandTerminal}
 use Rattle.soy_parser.specs.declared.terminal.CommandTerminal.TheVariants as terminal
 use Rattle.soy_parser.specs.CommandTerminals.{command_terminal_of}
 use Rattle.soy_parser.specs.Heads.{form_at, no_attributes}
@@ -24,12 +23,12 @@ use Rattle.soy_parser.specs.SpellsHead.{SpellsHead, expr_head}
 use Rattle.soy_parser.specs.TypeWords.{no_words}
 use Rattle.soy_format.specs.WithoutSpans.{expr_without_spans}
 use Rattle.formatted_source.specs.CommandPieces.{braced, end_lexeme}
-use Rattle.formatted_source.specs.ExprHeight.{expr_height}
+use Rattle.formatted_source.proofs.WrittenHeight.{expr_height}
 use Rattle.formatted_source.specs.ExprLexemes.{expr_lexemes}
-use Rattle.formatted_source.specs.Lexemes.{Lexeme, lexemes}
+use Rattle.formatted_source.specs.Lexemes.{lexemes}
 use Rattle.formatted_source.proofs.CommandTerms.{CommandSpelled, HeadSpelled, IsWhole, bare_spelled, command-lexeme}
 use Rattle.formatted_source.proofs.CommandTerms.{lexeme_command, names_none, same_none}
-use Rattle.formatted_source.proofs.LexemeLists.{Begun, begun}
+use Rattle.formatted_source.proofs.LexemeLists.{begun}
 use Rattle.formatted_source.proofs.ReadParts.{spelled_within}
 
 -- a command says something of an expression that is alike to this one

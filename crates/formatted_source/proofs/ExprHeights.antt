@@ -1,28 +1,12 @@
 -- The depths at the tokens of an expression, and the nodes on its longest branch: canonical source has no parentheses
 -- but those that an expression needs, so an expression is written with no longer branch than it was read with.
-use Rattle.std.proofs.Common.{◌≡◌, ℕ, ◌+◌, ◌-◌, ◌^◌, ◌≤◌, ◌<◌, ◌⊎◌, inl, inr, max, min, nat_lt, nat_le, Bool, true}
-use Rattle.std.proofs.Common.{false}
-use Rattle.std.proofs.Common.{List, [], ◌∷◌, ◌++◌, Option, Some, None, refl, sym, ap, subst, ◌∙◌, arith}
-use Rattle.std.proofs.lemmas.Bool.Decides.{nat_tests}
+use Rattle.std.proofs.Common.{◌≡◌, ℕ, ◌+◌, ◌-◌, ◌^◌, ◌≤◌, ◌⊎◌, inl, inr, max}
+use Rattle.std.proofs.Common.{List, [], ◌∷◌, ◌++◌, refl, ap, arith}
 use Rattle.soy_lexer.specs.declared.token.Token.{Token}
-use Rattle.soy_tree.specs.declared.expr.ExprNode.{ExprNode}
-use Rattle.soy_tree.specs.declared.expr.ExprNode.TheVariants as node
-use Rattle.soy_tree.specs.Expressions.{Expr, NullLiteral, BoolLiteral, IntLiteral, StringLiteral, Variable, Member}
-use Rattle.soy_tree.specs.Expressions.{Index, Minus, Not, Binary, Coalesce, Conditional}
-use Rattle.soy_tree.specs.ViewExpressions.{view_expr}
 use Rattle.expr_parser.specs.declared.operand.Operand.{Operand}
-use Rattle.expr_parser.specs.declared.terminal.Terminal.{Terminal}
-use Rattle.expr_parser.specs.declared.terminal.Terminal.TheVariants as terminal
 use Rattle.expr_parser.specs.Depths.{AreWithin, beside, deeper}
-use Rattle.expr_parser.specs.Operands.{expr_of, joined, level_of as op_level}
-use Rattle.expr_parser.specs.SpellsExpr.{SpellsExpr, atom_of}
-use Rattle.expr_parser.specs.Terminals.{terminal_of}
-use Rattle.expr_parser.proofs.ViewExprs.{view-Null, view-Bool, view-Int, view-Str, view-Var, view-Member, view-Index}
-use Rattle.expr_parser.proofs.ViewExprs.{view-Neg, view-Not, view-Binary, view-Coalesce, view-Cond}
-use Rattle.soy_format.specs.Levels.{level_of, level_of_op}
-use Rattle.formatted_source.specs.ExprHeight.{bracketed_height, expr_height}
-use Rattle.formatted_source.proofs.ExprTerminals.{level_is}
-use Rattle.formatted_source.proofs.ExprsSpelled.{levels_end}
+use Rattle.expr_parser.specs.Operands.{level_of as op_level}
+use Rattle.expr_parser.specs.SpellsExpr.{SpellsExpr}
 
 -- the largest height, at which counting stays
 abbrev most : ℕ

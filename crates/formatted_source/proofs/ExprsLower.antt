@@ -1,7 +1,6 @@
 -- An expression is written with no longer branch than it was read with.
-use Rattle.std.proofs.Common.{◌≡◌, ℕ, ◌+◌, ◌-◌, ◌^◌, ◌≤◌, ◌<◌, max, min, nat_lt, nat_le, Bool, true, false, List}
-use Rattle.std.proofs.Common.{[], ◌∷◌}
-use Rattle.std.proofs.Common.{◌++◌, Option, Some, None, refl, sym, ap, subst, ◌∙◌, arith}
+use Rattle.std.proofs.Common.{◌≡◌, ℕ, ◌-◌, ◌^◌, ◌≤◌, max, nat_lt, nat_le, Bool, true, false, List}
+use Rattle.std.proofs.Common.{Some, refl, sym, ap, subst, ◌∙◌, arith}
 use Rattle.std.proofs.lemmas.Bool.Decides.{nat_tests}
 use Rattle.soy_base.specs.declared.fault.Span.{Span}
 use Rattle.soy_lexer.specs.declared.token.Token.{Token}
@@ -20,7 +19,7 @@ use Rattle.expr_parser.specs.Terminals.{terminal_of}
 use Rattle.expr_parser.proofs.ViewExprs.{view-Null, view-Bool, view-Int, view-Str, view-Var, view-Member, view-Index}
 use Rattle.expr_parser.proofs.ViewExprs.{view-Neg, view-Not, view-Binary, view-Coalesce, view-Cond}
 use Rattle.soy_format.specs.Levels.{level_of, level_of_op}
-use Rattle.formatted_source.specs.ExprHeight.{bracketed_height, expr_height}
+use Rattle.formatted_source.proofs.WrittenHeight.{bracketed_height, expr_height}
 use Rattle.formatted_source.proofs.ExprTerminals.{level_is}
 use Rattle.formatted_source.proofs.ExprsSpelled.{levels_end}
 

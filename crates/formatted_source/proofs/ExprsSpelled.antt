@@ -1,5 +1,5 @@
 -- The lexemes of an expression spell one that is alike, with the nodes of the written one on its longest branch.
-use Rattle.std.proofs.Common.{◌≡◌, ℕ, ℤ, pos, negsuc, ◌+◌, ◌-◌, ◌≤◌, ◌<◌, ◌&&◌, max, nat_lt, nat_le, Bool, true, false}
+use Rattle.std.proofs.Common.{◌≡◌, ℕ, pos, negsuc, ◌+◌, ◌-◌, ◌≤◌, ◌<◌, ◌&&◌, max, nat_lt, nat_le, Bool, true, false}
 use Rattle.std.proofs.Common.{List, [], ◌∷◌, ◌++◌, Some, refl, sym, ap, subst, ◌∙◌, arith}
 use Rattle.std.specs.Prelude.{codes}
 use Rattle.std.specs.Fmt.{signed_decimal}
@@ -29,13 +29,13 @@ use Rattle.expr_parser.proofs.ViewExprs.{view-Neg, view-Not, view-Binary, view-C
 use Rattle.soy_format.specs.FormattedExpression.{bool_text, bracket_text, dot_text}
 use Rattle.soy_format.specs.Levels.{level_of, level_of_op}
 use Rattle.soy_format.specs.WithoutSpans.{expr_without_spans, no_span}
-use Rattle.formatted_source.specs.ExprHeight.{bracketed_height, expr_height}
+use Rattle.formatted_source.proofs.WrittenHeight.{bracketed_height, expr_height}
 use Rattle.formatted_source.specs.ExprLexemes.{bracketed, expr_lexemes, op_lexeme}
 use Rattle.formatted_source.specs.Lexemes.{Lexeme, lexemes}
 use Rattle.formatted_source.proofs.ExprTerminals.{lexeme_terminal, terminal-lexeme, null_is, bool_is, int_is, not_is}
 use Rattle.formatted_source.proofs.ExprTerminals.{minus_is, open_is, close_is, bracket_close_is, bracket_is, dot_is}
 use Rattle.formatted_source.proofs.ExprTerminals.{coalesce_is, question_is, colon_is, op_is, level_is}
-use Rattle.formatted_source.proofs.LexemeLists.{Alone, alone, Begun, begun, Splits, split}
+use Rattle.formatted_source.proofs.LexemeLists.{alone, begun, split}
 use Rattle.formatted_source.proofs.Names.{both}
 
 -- the tokens spell an expression at this level that is alike, with a longest branch of this height

@@ -1,16 +1,15 @@
 -- Ints, as they are written in a command: decimal digits.
-use Rattle.std.proofs.Common.{◌≡◌, ◌≢◌, ℕ, zero, suc, ◌+◌, ◌-◌, ◌*◌, ◌^◌, ◌≤◌, ◌<◌, Bool, true, false, not, ◌&&◌, ◌||◌}
-use Rattle.std.proofs.Common.{List, [], ◌∷◌, ◌++◌, unwrap_or, if◌then◌else◌, nat_le, length, get_or, refl, sym, ap}
+use Rattle.std.proofs.Common.{◌≡◌, ◌≢◌, ℕ, zero, suc, ◌+◌, ◌-◌, ◌*◌, ◌^◌, ◌≤◌, ◌<◌, Bool, true, false, not, ◌||◌}
+use Rattle.std.proofs.Common.{List, [], ◌∷◌, ◌++◌, if◌then◌else◌, nat_le, get_or, refl, sym, ap}
 use Rattle.std.proofs.Common.{subst, ◌∙◌, arith}
 use Rattle.std.specs.Char.{is_ascii_digit}
 use Rattle.std.specs.Fmt.{decimal}
 use Rattle.std.specs.List.{list_all}
-use Rattle.std.specs.Str.Parse.{AllDigits, digits_value}
+use Rattle.std.specs.Str.Parse.{AllDigits}
 use Rattle.std.proofs.lemmas.Bool.Decides.{nat_tests}
 use Rattle.std.proofs.lemmas.Fmt.{decimal_digit, decimal_is_IsNumeral, digits_value-decimal, first_decimal}
 use Rattle.std.proofs.lemmas.Str.Parse.{digit_from_value, numerals_by_fold, tells_digits, FoldsDigits}
-use Rattle.soy_base.specs.Cuts.{prefix_while, after_while}
-use Rattle.soy_base.specs.Names.{begins_name, continues_name}
+use Rattle.soy_base.specs.Names.{begins_name}
 use Rattle.soy_base.specs.WhiteSpace.{is_template_space}
 use Rattle.soy_lexer.specs.CommandSegment.{command_segment, number_after, largest_int}
 use Rattle.soy_lexer.specs.Found.Found.{Begins, Fails}

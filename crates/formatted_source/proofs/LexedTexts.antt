@@ -1,5 +1,5 @@
 -- What `lex` answers for a text with tokens of known lexemes.
-use Rattle.std.proofs.Common.{◌≡◌, ℕ, ◌≤◌, List, [], length, Result, Ok, Err, None, Some, inl, inr, refl, sym, ap}
+use Rattle.std.proofs.Common.{◌≡◌, ℕ, ◌≤◌, List, [], length, Result, Ok, Err, None, Some, inl, inr, sym, ap}
 use Rattle.std.proofs.Common.{subst, ◌∙◌, arith}
 use Rattle.std.specs.Str.{chars}
 use Rattle.std.specs.declared.alloc.Global.{Global}
@@ -7,7 +7,7 @@ use Rattle.std.specs.declared.vec.Vec.{Vec}
 use Rattle.soy_base.specs.declared.fault.Fault.{Fault}
 use Rattle.soy_base.specs.declared.memory.Refusal.{Refusal}
 use Rattle.soy_base.specs.declared.memory.Refusal.TheVariants.{Because, OutOfMemory}
-use Rattle.soy_lexer.specs.Lexes.{Lexes, NoToken, TooLarge, largest_file}
+use Rattle.soy_lexer.specs.Lexes.{Lexes, largest_file}
 use Rattle.soy_lexer.specs.Tokens.{FirstFault, Tokens, tokens_of}
 use Rattle.soy_lexer.specs.declared.token.Token.{Token}
 use Rattle.soy_lexer.proofs.OneSegments.{one_segments}

@@ -1,7 +1,6 @@
 -- Tokens whose lexemes are known: where they are cut, and what kind and text each of them has.
-use Rattle.std.proofs.Common.{◌≡◌, ℕ, List, [], ◌∷◌, ◌++◌, refl, ap, ◌∙◌, length}
+use Rattle.std.proofs.Common.{◌≡◌, List, [], ◌∷◌, ◌++◌, refl, ap, ◌∙◌}
 use Rattle.soy_lexer.specs.declared.token.Token.{Token}
-use Rattle.soy_lexer.specs.declared.token.TokenKind.{TokenKind}
 use Rattle.formatted_source.specs.Lexemes.{Lexeme, lexeme, lexemes}
 
 -- tokens in two parts, by their lexemes

@@ -11,12 +11,15 @@ pub mod ExprTerminals
 pub mod ExprsLower
 pub mod ExprsSpelled
 pub mod ExprsWritten
+pub mod FittingCommands
+pub mod FittingTrees
 pub mod Ints
 pub mod LexedTexts
 pub mod LexemeLists
 pub mod NameCommands
 pub mod Names
 pub mod NodeLexemes
+pub mod NodesPieces
 pub mod NodesWritten
 pub mod PartsWritten
 pub mod PieceEdges
@@ -44,3 +47,4 @@ pub mod TypesSpelled
 pub mod TypesWritten
 pub mod ValueCommands
 pub mod Values
+pub mod WrittenHeight

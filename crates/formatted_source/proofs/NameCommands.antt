@@ -1,15 +1,11 @@
 -- Calls, and the commands of a file and of its templates: their lexemes spell what they are written for.
-use Rattle.std.proofs.Common.{◌≡◌, ℕ, ◌+◌, ◌≤◌, ◌&&◌, ◌==◌, Bool, true, false, if◌then◌else◌, List, [], ◌∷◌, ◌++◌}
-use Rattle.std.proofs.Common.{Option}
-use Rattle.std.proofs.Common.{Some, None, refl, sym, ap, subst, ◌∙◌, arith, append_assoc, append-nil, cond}
+use Rattle.std.proofs.Common.{◌≡◌, ℕ, ◌≤◌, ◌==◌, Bool, true, false, if◌then◌else◌, List, [], ◌∷◌, ◌++◌}
+use Rattle.std.proofs.Common.{Some, refl, sym, ap, subst, ◌∙◌, append_assoc, append-nil, cond}
 use Rattle.std.specs.Prelude.{codes, encode_utf8_all}
 use Rattle.std.specs.List.{join_with_byte, onto_first, slice_split}
 use Rattle.std.proofs.lemmas.List.Splits.{join_with_byte-slice_split}
-use Rattle.soy_base.specs.declared.kind.Kind.{Kind}
-use Rattle.soy_base.specs.declared.kind.Kind.TheVariants as block_kind
 use Rattle.soy_lexer.specs.declared.token.Token.{Token}
 use Rattle.soy_lexer.specs.declared.token.TokenKind.TheVariants as kind
-use Rattle.soy_tree.specs.Nodes.{Arguments, no_argument, argument}
 use Rattle.soy_tree.specs.Types.{Name}
 use Rattle.soy_parser.specs.declared.attributes.AttributeName.TheVariants as attribute
 use Rattle.soy_parser.specs.declared.attributes.Attributes.{Attributes}
@@ -17,7 +13,6 @@ use Rattle.soy_parser.specs.declared.command.CommandForm.{CommandForm}
 use Rattle.soy_parser.specs.declared.command.CommandForm.TheVariants as says
 use Rattle.soy_parser.specs.declared.command.Opening.TheVariants as opening
 use Rattle.soy_parser.specs.declared.command.Single.TheVariants as single
-use Rattle.soy_parser.specs.declared.head.Head.{Head}
 use Rattle.soy_parser.specs.declared.head.Head.TheVariants as head
 use Rattle.soy_parser.specs.declared.terminal.CommandTerminal.{CommandTerminal}
 use Rattle.soy_parser.specs.declared.terminal.CommandTerminal.TheVariants as terminal
@@ -35,7 +30,7 @@ use Rattle.formatted_source.proofs.CommandTerms.{BeginPlain, CommandSpelled, For
 use Rattle.formatted_source.proofs.CommandTerms.{bare_spelled}
 use Rattle.formatted_source.proofs.CommandTerms.{command_spelled, command-lexeme, lexeme_command, names_none, same_none}
 use Rattle.formatted_source.proofs.CommandTerms.{within_none}
-use Rattle.formatted_source.proofs.LexemeLists.{Alone, alone, Begun, begun, Splits, split}
+use Rattle.formatted_source.proofs.LexemeLists.{begun}
 
 is_as : (t : Token) (l : Lexeme) (m : CommandTerminal) → t.kind ≡ l.0 → t.text ≡ l.1 → lexeme_command l ≡ m
     → command_terminal_of t ≡ m

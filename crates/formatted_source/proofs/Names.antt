@@ -1,24 +1,18 @@
 -- Names, variables, ints and values in double quotes, as they are written in a command.
-use Rattle.std.proofs.Common.{◌≡◌, ◌≢◌, ℕ, ◌≤◌, ◌<◌, Bool, true, false, not, ◌&&◌, ◌||◌, ◌==◌, List, [], ◌∷◌, ◌++◌}
-use Rattle.std.proofs.Common.{Option, Some, None, unwrap_or, if◌then◌else◌, nat_le, refl, sym, ap, subst, ◌∙◌, arith}
-use Rattle.std.proofs.Common.{append_assoc, append-nil}
-use Rattle.std.specs.Char.{is_ascii_digit}
+use Rattle.std.proofs.Common.{◌≡◌, ℕ, Bool, true, false, not, ◌&&◌, List, [], ◌∷◌, ◌++◌}
+use Rattle.std.proofs.Common.{unwrap_or, refl, ap, ◌∙◌, arith}
 use Rattle.std.specs.List.{list_all}
 use Rattle.std.proofs.lemmas.Bool.Decides.{nat_tests}
-use Rattle.soy_base.specs.Among.{lacks}
-use Rattle.soy_base.specs.Cuts.{cut, prefix_while, after_while}
+use Rattle.soy_base.specs.Cuts.{prefix_while, after_while}
 use Rattle.soy_base.specs.Names.{begins_name, continues_name, is_name}
 use Rattle.soy_base.specs.WhiteSpace.{is_template_space}
-use Rattle.soy_base.proofs.CutAt.{cut-at, cut-lacks}
-use Rattle.soy_lexer.specs.CommandSegment.{command_segment, name_prefix, name_segment, number_after, largest_int}
+use Rattle.soy_lexer.specs.CommandSegment.{command_segment, name_prefix}
 use Rattle.soy_lexer.specs.Found.Found.{Begins, Fails}
 use Rattle.soy_lexer.specs.Segment.Segment.{CommandToken}
-use Rattle.soy_lexer.specs.declared.token.TokenKind.{TokenKind}
 use Rattle.soy_lexer.specs.declared.token.TokenKind.TheVariants as kind
 use Rattle.soy_lexer.proofs.CommandSegments.{begins_named, begins_variable, name_at, name_after, some_parts}
-use Rattle.formatted_source.specs.Lexemes.{Lexeme}
-use Rattle.formatted_source.specs.CommandLexemes.{CommandLexemes, HasLexemes, before_any, ends_name}
-use Rattle.formatted_source.specs.CommandLexemes.CommandLexemes.{here_, white_, token_}
+use Rattle.formatted_source.specs.CommandLexemes.{HasLexemes, ends_name}
+use Rattle.formatted_source.specs.CommandLexemes.CommandLexemes.{here_, token_}
 
 pub both : (a b : Bool) → (a && b) ≡ true → (a ≡ true) × (b ≡ true)
 both true b h = (refl, h)

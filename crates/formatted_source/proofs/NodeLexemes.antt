@@ -1,7 +1,7 @@
 -- The lexemes of pieces with the text after their last command, part by part.
-use Rattle.std.proofs.Common.{◌≡◌, ℕ, ◌==◌, ◌&&◌, Bool, true, false, if◌then◌else◌, List, [], ◌∷◌, ◌++◌, refl, sym}
-use Rattle.std.proofs.Common.{ap, subst}
-use Rattle.std.proofs.Common.{◌∙◌, append_assoc, append-nil}
+use Rattle.std.proofs.Common.{◌≡◌, ℕ, List, [], ◌∷◌, ◌++◌, sym}
+use Rattle.std.proofs.Common.{ap}
+use Rattle.std.proofs.Common.{◌∙◌, append_assoc}
 use Rattle.formatted_source.specs.Lexemes.{Lexeme}
 use Rattle.formatted_source.specs.Pieces.{Piece, Plain, Written, closed_lexemes, open_line, text_lexemes}
 

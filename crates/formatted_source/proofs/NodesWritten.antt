@@ -1,6 +1,6 @@
 -- Nodes, as they are written: pieces of a line.
-use Rattle.std.proofs.Common.{◌≡◌, ℕ, ◌==◌, ◌||◌, ◌&&◌, not, Bool, true, false, if◌then◌else◌, List, [], ◌∷◌, ◌++◌}
-use Rattle.std.proofs.Common.{refl, sym, ap}
+use Rattle.std.proofs.Common.{◌≡◌, ℕ, ◌==◌, ◌&&◌, not, Bool, true, false, List, [], ◌∷◌, ◌++◌}
+use Rattle.std.proofs.Common.{refl, sym}
 use Rattle.std.proofs.Common.{subst, ◌∙◌, nat_le}
 use Rattle.std.specs.Prelude.{codes}
 use Rattle.std.specs.List.{list_all}
@@ -21,7 +21,7 @@ use Rattle.soy_tree.specs.Nodes.{no_argument, argument, Plain as PlainGiven, Blo
 use Rattle.soy_tree.specs.Nodes.{Parts}
 use Rattle.soy_tree.specs.Nodes.{Plural, Select, no_plural_case, plural_case, no_select_case, select_case}
 use Rattle.soy_tree.specs.Types.{Name}
-use Rattle.formatted_source.specs.CommandPieces.{arm_piece, call_close_pieces, call_piece, close_piece}
+use Rattle.formatted_source.specs.CommandPieces.{arm_piece, call_close_pieces, close_piece}
 use Rattle.formatted_source.specs.Lexemes.{Lexeme}
 use Rattle.formatted_source.specs.NodePieces.{argument_pieces, arguments_pieces, arms_pieces, body_pieces, cases_pieces}
 use Rattle.formatted_source.specs.NodePieces.{default_piece, else_piece, fallback_pieces, message_pieces, node_pieces}

@@ -1,30 +1,29 @@
 -- Parts of commands, as they are written: words, names joined by `.`, and attributes.
-use Rattle.std.proofs.Common.{◌≡◌, ℕ, ◌==◌, ◌&&◌, Bool, true, false, List, [], ◌∷◌, ◌++◌, Option, Some, None, refl}
+use Rattle.std.proofs.Common.{◌≡◌, ℕ, ◌==◌, Bool, true, false, List, [], ◌∷◌, ◌++◌, refl}
 use Rattle.std.proofs.Common.{sym, ap}
 use Rattle.std.proofs.Common.{subst, ◌∙◌, append_assoc, cond, arith}
 use Rattle.std.proofs.lemmas.Bool.Decides.{nat_tests}
 use Rattle.std.specs.Prelude.{codes}
-use Rattle.std.specs.Fmt.{decimal}
 use Rattle.std.specs.List.{join_with_byte, list_all, onto_first, slice_split}
 use Rattle.std.proofs.lemmas.List.Splits.{join_with_byte-slice_split}
 use Rattle.soy_base.specs.Among.{lacks}
 use Rattle.soy_base.specs.Names.{begins_name, continues_name, is_name, is_dotted_name}
 use Rattle.soy_base.specs.declared.kind.Kind.{Kind}
 use Rattle.soy_base.specs.declared.kind.Kind.TheVariants as block_kind
-use Rattle.soy_lexer.specs.CommandSegment.{command_segment, largest_int}
+use Rattle.soy_lexer.specs.CommandSegment.{command_segment}
 use Rattle.soy_lexer.specs.Found.Found.{Begins}
 use Rattle.soy_lexer.specs.Segment.Segment.{CommandToken}
 use Rattle.soy_lexer.specs.declared.token.TokenKind.{TokenKind}
 use Rattle.soy_lexer.specs.declared.token.TokenKind.TheVariants as kind
 use Rattle.soy_tree.specs.Types.{Name}
-use Rattle.soy_format.specs.FormattedBody.{attribute_text, kind_name, kind_text}
+use Rattle.soy_format.specs.FormattedBody.{attribute_text, kind_text}
 use Rattle.formatted_source.specs.CommandLexemes.{CommandLexemes, HasLexemes, before_any, ends_name, goes_on}
 use Rattle.formatted_source.specs.CommandLexemes.CommandLexemes.{here_, white_, token_}
 use Rattle.formatted_source.specs.CommandPieces.{attribute_lexemes, dotted_lexemes, kind_lexemes, names_lexemes}
 use Rattle.formatted_source.specs.Lexemes.{Lexeme}
 use Rattle.formatted_source.proofs.ExprsWritten.{symbol_written}
 use Rattle.formatted_source.proofs.Names.{both, word_written}
-use Rattle.formatted_source.proofs.Reading.{after, join, reads_on, weaker}
+use Rattle.formatted_source.proofs.Reading.{after, join}
 use Rattle.formatted_source.proofs.Values.{value_written}
 
 -- a space

@@ -1,8 +1,7 @@
 -- Pieces of a line, as they are read outside of commands.
-use Rattle.std.proofs.Common.{◌≡◌, ℕ, ◌==◌, ◌||◌, ◌&&◌, not, Bool, true, false, List, [], ◌∷◌, ◌++◌, refl, sym, ap}
+use Rattle.std.proofs.Common.{◌≡◌, ℕ, ◌==◌, ◌||◌, ◌&&◌, not, Bool, true, false, List, [], ◌∷◌, ◌++◌, refl, sym}
 use Rattle.std.proofs.Common.{subst}
 use Rattle.std.proofs.Common.{◌∙◌, arith, append_assoc, append-nil}
-use Rattle.std.specs.List.{list_all}
 use Rattle.std.proofs.lemmas.Bool.Decides.{nat_tests}
 use Rattle.std.proofs.lemmas.List.Folds.{list_all-append}
 use Rattle.soy_base.specs.WhiteSpace.{is_template_space, is_line_break}
@@ -10,12 +9,11 @@ use Rattle.soy_lexer.specs.Found.Found.{Begins}
 use Rattle.soy_lexer.specs.Segment.Segment.{TextCharacter}
 use Rattle.soy_lexer.specs.TextSegment.{text_segment}
 use Rattle.formatted_source.specs.Lexemes.{Lexeme}
-use Rattle.formatted_source.specs.Pieces.{Piece, Plain, Written, closed_lexemes, open_line, piece_text, pieces_text}
+use Rattle.formatted_source.specs.Pieces.{Piece, Plain, Written, closed_lexemes, open_line, pieces_text}
 use Rattle.formatted_source.specs.Pieces.{text_lexemes}
 use Rattle.formatted_source.proofs.CommandReads.{IsRead}
-use Rattle.formatted_source.proofs.Names.{both}
-use Rattle.formatted_source.proofs.ReadTexts.{Where, Outside, Reads, reads_append}
-use Rattle.formatted_source.proofs.Runs.{RunLexemes, begins_black, feed, is_unbroken, may_follow, run_lexemes}
+use Rattle.formatted_source.proofs.ReadTexts.{Outside, Reads, reads_append}
+use Rattle.formatted_source.proofs.Runs.{RunLexemes, feed, is_unbroken, may_follow, run_lexemes}
 
 -- a character that stands for itself is no brace, no white space but a space, and no U+0000
 abbrev pub is_plain : ℕ → Bool

@@ -1,13 +1,12 @@
 -- Prints, calls and the commands of messages, as they are written.
-use Rattle.std.proofs.Common.{◌≡◌, ℕ, ◌==◌, ◌&&◌, ◌≤◌, ◌<◌, ◌^◌, nat_lt, nat_le, Bool, true, false, List, [], ◌∷◌, ◌++◌}
-use Rattle.std.proofs.Common.{Option, Some, None, refl, sym, ap, subst, ◌∙◌, append_assoc, arith, if◌then◌else◌}
+use Rattle.std.proofs.Common.{◌≡◌, ℕ, ◌==◌, ◌≤◌, ◌<◌, ◌^◌, nat_lt, nat_le, Bool, true, false, List, [], ◌∷◌, ◌++◌}
+use Rattle.std.proofs.Common.{Option, Some, None, refl, sym, ap, subst, append_assoc, arith, if◌then◌else◌}
 use Rattle.std.specs.Prelude.{codes}
 use Rattle.std.specs.Char.{is_ascii_digit}
 use Rattle.std.specs.Fmt.{decimal}
 use Rattle.std.proofs.lemmas.Bool.Decides.{nat_tests}
 use Rattle.soy_base.specs.Among.{lacks}
 use Rattle.soy_base.specs.Names.{is_name, is_dotted_name}
-use Rattle.soy_lexer.specs.CommandSegment.{command_segment}
 use Rattle.soy_lexer.specs.declared.token.TokenKind.TheVariants as kind
 use Rattle.soy_tree.specs.Expressions.{Expr, NullLiteral, BoolLiteral, IntLiteral, StringLiteral, Variable, Member}
 use Rattle.soy_tree.specs.Expressions.{Index, Minus, Not, Binary, Coalesce, Conditional}
@@ -20,7 +19,7 @@ use Rattle.soy_format.specs.FormattedBody.{offset_text, phname_text, plural_text
 use Rattle.soy_format.specs.FormattedExpression.{begins_with_variable, bracket_text, dot_text, formatted_expr}
 use Rattle.soy_format.specs.FormattedExpression.{in_parentheses, op_text}
 use Rattle.soy_format.specs.Levels.{level_of, level_of_op}
-use Rattle.formatted_source.specs.CommandLexemes.{HasLexemes, before_any, ends_name}
+use Rattle.formatted_source.specs.CommandLexemes.{HasLexemes, ends_name}
 use Rattle.formatted_source.specs.CommandPieces.{attribute_lexemes, braced, call_ends, call_lexemes, data_lexemes}
 use Rattle.formatted_source.specs.CommandPieces.{dotted_lexemes, meaning_lexemes, offset_lexemes, phname_lexemes}
 use Rattle.formatted_source.specs.CommandPieces.{print_word}

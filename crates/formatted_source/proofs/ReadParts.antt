@@ -1,10 +1,9 @@
 -- Expressions and types of a text, as they are written, are read as what they are.
-use Rattle.std.proofs.Common.{◌≡◌, ℕ, ◌+◌, ◌≤◌, nat_lt, Bool, true, false, List, [], ◌++◌, refl, sym, ap, subst}
+use Rattle.std.proofs.Common.{◌≡◌, ℕ, ◌+◌, ◌≤◌, Bool, true, List, [], refl, sym}
 use Rattle.std.proofs.Common.{◌∙◌, arith}
-use Rattle.std.proofs.lemmas.Bool.Decides.{nat_tests}
 use Rattle.soy_lexer.specs.declared.token.Token.{Token}
 use Rattle.soy_tree.specs.Expressions.{Expr}
-use Rattle.soy_tree.specs.Formed.{is_formed_expr, is_formed_type}
+use Rattle.soy_tree.specs.Formed.{is_formed_expr}
 use Rattle.soy_tree.specs.TypeText.{type_text}
 use Rattle.soy_tree.specs.ViewExpressions.{view_expr}
 use Rattle.soy_tree.specs.ViewTypes.{view_type}
@@ -19,7 +18,7 @@ use Rattle.expr_parser.proofs.ExprForms.{formed}
 use Rattle.expr_parser.proofs.TypeForms.{formed_type}
 use Rattle.soy_format.specs.FormattedExpression.{formatted_expr}
 use Rattle.formatted_source.specs.CommandLexemes.{ends_name, ends_type}
-use Rattle.formatted_source.specs.ExprHeight.{expr_height}
+use Rattle.formatted_source.proofs.WrittenHeight.{expr_height}
 use Rattle.formatted_source.specs.ExprLexemes.{expr_lexemes}
 use Rattle.formatted_source.specs.Lexemes.{lexemes}
 use Rattle.formatted_source.specs.ReadsAs.{IsReadAsExpr, IsReadAsType, SpellAlike}

@@ -1,25 +1,21 @@
 -- What is read of a whole text: its lexemes, by where they are read, and the run that is open.
-use Rattle.std.proofs.Common.{◌≡◌, ℕ, ◌+◌, Bool, true, false, List, [], ◌∷◌, ◌++◌, map, None, refl, sym, ap, subst, ◌∙◌}
+use Rattle.std.proofs.Common.{◌≡◌, ℕ, ◌+◌, Bool, true, false, List, [], ◌∷◌, ◌++◌, None, refl, sym, subst, ◌∙◌}
 use Rattle.std.proofs.Common.{append_assoc}
-use Rattle.std.proofs.lemmas.List.{map-append}
 use Rattle.soy_base.specs.ByteLength.{byte_len}
 use Rattle.soy_base.specs.WhiteSpace.{is_template_space}
 use Rattle.soy_lexer.specs.CommandSegment.{command_segment, opened_segment}
 use Rattle.soy_lexer.specs.Found.{Found}
 use Rattle.soy_lexer.specs.Found.Found.{Begins}
-use Rattle.soy_lexer.specs.Lines.{RunCharacter, characters}
 use Rattle.soy_lexer.specs.ModeAfter.{mode_after, mode_after_token}
-use Rattle.soy_lexer.specs.Segment.{Segment, source_text}
-use Rattle.soy_lexer.specs.Segment.Segment.{TextCharacter, Skipped, Literal, CommandToken}
+use Rattle.soy_lexer.specs.Segment.{Segment}
+use Rattle.soy_lexer.specs.Segment.Segment.{TextCharacter, Skipped, CommandToken}
 use Rattle.soy_lexer.specs.Segments.{Segments}
 use Rattle.soy_lexer.specs.Segments.Segments.{Ended, Goes}
 use Rattle.soy_lexer.specs.TextSegment.{text_segment}
-use Rattle.soy_lexer.specs.Tokens.{Tokens, run_token, segment_tokens, run_after, tokens_of, token}
-use Rattle.soy_lexer.specs.declared.token.Token.{Token}
 use Rattle.soy_lexer.specs.declared.token.TokenKind.{TokenKind}
 use Rattle.soy_lexer.specs.declared.token.TokenKind.TheVariants as kind
 use Rattle.formatted_source.specs.CommandLexemes.{CommandLexemes, goes_on}
-use Rattle.formatted_source.specs.Lexemes.{Lexeme, lexeme, lexemes}
+use Rattle.formatted_source.specs.Lexemes.{Lexeme}
 use Rattle.formatted_source.proofs.Runs.{RunLexemes, no_run}
 
 -- where a text is read: outside of commands, where white space or the start of the text may stand before it; directly

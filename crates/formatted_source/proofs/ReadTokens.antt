@@ -1,14 +1,14 @@
 -- What is read of a whole text are its tokens.
-use Rattle.std.proofs.Common.{◌≡◌, ℕ, ◌+◌, Bool, true, false, List, [], ◌∷◌, ◌++◌, map, refl, sym, ap, subst, ◌∙◌}
+use Rattle.std.proofs.Common.{◌≡◌, ℕ, ◌+◌, true, false, List, [], ◌∷◌, ◌++◌, refl, sym, ap, subst, ◌∙◌}
 use Rattle.std.proofs.Common.{append_assoc}
 use Rattle.std.proofs.lemmas.List.{map-append}
 use Rattle.soy_base.specs.ByteLength.{byte_len}
 use Rattle.soy_base.specs.WhiteSpace.{is_template_space}
 use Rattle.soy_lexer.specs.Found.Found.{Begins}
 use Rattle.soy_lexer.specs.Lines.{RunCharacter, characters}
-use Rattle.soy_lexer.specs.Segment.{Segment, source_text}
-use Rattle.soy_lexer.specs.Segment.Segment.{TextCharacter, Skipped, Literal, CommandToken}
-use Rattle.soy_lexer.specs.Tokens.{Tokens, run_token, tokens_of, token}
+use Rattle.soy_lexer.specs.Segment.{Segment}
+use Rattle.soy_lexer.specs.Segment.Segment.{TextCharacter, Skipped, CommandToken}
+use Rattle.soy_lexer.specs.Tokens.{run_token, tokens_of, token}
 use Rattle.soy_lexer.specs.declared.token.Token.{Token}
 use Rattle.soy_lexer.specs.declared.token.TokenKind.{TokenKind}
 use Rattle.formatted_source.specs.Lexemes.{Lexeme, lexeme, lexemes}

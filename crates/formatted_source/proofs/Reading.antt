@@ -1,6 +1,5 @@
 -- Written parts of commands, one after the other.
-use Rattle.std.proofs.Common.{◌≡◌, ℕ, Bool, true, List, [], ◌∷◌, ◌++◌, refl, sym, subst, append_assoc}
-use Rattle.soy_lexer.specs.declared.token.TokenKind.{TokenKind}
+use Rattle.std.proofs.Common.{◌≡◌, ℕ, Bool, true, List, [], ◌++◌, refl, sym, subst, append_assoc}
 use Rattle.formatted_source.specs.Lexemes.{Lexeme}
 use Rattle.formatted_source.specs.CommandLexemes.{CommandLexemes, HasLexemes, before_any}
 use Rattle.formatted_source.specs.CommandLexemes.CommandLexemes.{here_, white_, token_}

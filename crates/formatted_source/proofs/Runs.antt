@@ -1,16 +1,14 @@
 -- Text runs of canonical source: a line without breaks, perhaps with a line feed before and behind it. Their text is
 -- that line.
-use Rattle.std.proofs.Common.{◌≡◌, ℕ, Bool, true, false, not, ◌&&◌, List, [], ◌∷◌, ◌++◌, map, cond, if◌then◌else◌}
+use Rattle.std.proofs.Common.{◌≡◌, ℕ, Bool, true, false, not, List, [], ◌∷◌, ◌++◌}
 use Rattle.std.proofs.Common.{reverse}
-use Rattle.std.proofs.Common.{refl, sym, ap, subst, ◌∙◌, append_assoc, append-nil}
-use Rattle.std.specs.List.{filter, list_all, onto_first, slice_split}
+use Rattle.std.proofs.Common.{refl, sym, ap, ◌∙◌, append-nil}
+use Rattle.std.specs.List.{filter, list_all, slice_split}
 use Rattle.std.proofs.lemmas.List.{reverse-append, reverse-reverse}
 use Rattle.soy_base.specs.WhiteSpace.{is_template_space, is_line_break}
-use Rattle.soy_lexer.specs.Lines.{RunCharacter, Line, characters, has_characters, joined, lines_of, trimmed}
-use Rattle.soy_lexer.specs.Lines.{trimmed_after}
+use Rattle.soy_lexer.specs.Lines.{RunCharacter, Line, characters, has_characters, lines_of, trimmed}
 use Rattle.soy_lexer.specs.Lines.{without_end, without_start}
 use Rattle.soy_lexer.specs.Tokens.{run_token, token_of_lines}
-use Rattle.soy_lexer.specs.declared.token.TokenKind.TheVariants as kind
 use Rattle.formatted_source.specs.Lexemes.{Lexeme, lexemes}
 use Rattle.formatted_source.specs.Pieces.{text_lexemes}
 use Rattle.formatted_source.proofs.Names.{both}

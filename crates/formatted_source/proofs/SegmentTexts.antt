@@ -1,18 +1,14 @@
 -- What the segments of a text give has no U+0000, and its values in double quotes no double quote.
-use Rattle.std.proofs.Common.{◌≡◌, ℕ, zero, suc, ◌+◌, ◌==◌, ◌&&◌, ◌||◌, not, nat_le, if◌then◌else◌, Bool, true}
+use Rattle.std.proofs.Common.{◌≡◌, ℕ, zero, suc, ◌==◌, ◌&&◌, nat_le, if◌then◌else◌, Bool, true}
 use Rattle.std.proofs.Common.{false, List}
-use Rattle.std.proofs.Common.{[], ◌∷◌, ◌++◌, Option, Some, None, IfSome, option_map, unwrap_or, reverse, refl, sym, ap}
-use Rattle.std.proofs.Common.{subst, ◌∙◌, arith, cond}
+use Rattle.std.proofs.Common.{[], ◌∷◌, ◌++◌, Option, Some, None, IfSome, option_map, unwrap_or, refl}
+use Rattle.std.proofs.Common.{subst, arith}
 use Rattle.std.proofs.Common.{codes}
 use Rattle.std.specs.Char.{is_ascii_digit}
-use Rattle.std.specs.List.{filter, onto_first, slice_split}
 use Rattle.std.specs.Option.{option_or}
 use Rattle.std.proofs.lemmas.Bool.Decides.{nat_tests}
-use Rattle.std.proofs.lemmas.List.{map-append, reverse-append}
 use Rattle.soy_base.specs.Among.{lacks}
-use Rattle.soy_base.specs.ByteLength.{byte_len}
-use Rattle.soy_base.specs.WhiteSpace.{is_template_space, is_line_break}
-use Rattle.soy_base.specs.Names.{begins_name, continues_name}
+use Rattle.soy_base.specs.WhiteSpace.{is_template_space}
 use Rattle.soy_base.specs.Cuts.{after_prefix, cut, prefix_while, after_while}
 use Rattle.soy_lexer.specs.CommandSegment.{white_segment, fixed_segment, name_prefix, name_segment, variable_segment}
 use Rattle.soy_lexer.specs.CommandSegment.{number_after, largest_int}
@@ -23,21 +19,16 @@ use Rattle.soy_lexer.specs.CommandSegment.{close_segment, opened_segment}
 use Rattle.soy_lexer.specs.Found.{Found, begins, unless_null}
 use Rattle.soy_lexer.specs.Found.Found.{Begins, Fails}
 use Rattle.soy_lexer.specs.ModeAfter.{mode_after, mode_after_token, mode_after_skipped}
-use Rattle.soy_lexer.specs.Lines.{RunCharacter, Line, characters, has_characters, joined, line_joint, lines_of, trimmed}
-use Rattle.soy_lexer.specs.Lines.{trimmed_after, without_end, without_start}
 use Rattle.soy_lexer.specs.Segment.{Segment, source_text}
 use Rattle.soy_lexer.specs.Segment.Segment.{TextCharacter, Skipped, Literal, CommandToken}
 use Rattle.soy_lexer.specs.Segments.{Segments}
 use Rattle.soy_lexer.specs.Strings.{Quoted, quoted}
 use Rattle.soy_lexer.specs.TextSegment.{closed_comment, block_comment, line_comment, closed_literal, literal_segment}
 use Rattle.soy_lexer.specs.TextSegment.{may_begin, plain_segment, text_segment, continues_line, segment_of}
-use Rattle.soy_lexer.specs.Tokens.{Tokens, token_of_lines, run_token, segment_tokens, run_after, tokens_of}
 use Rattle.soy_lexer.specs.declared.token.Token.{Token}
 use Rattle.soy_lexer.specs.declared.token.TokenKind.{TokenKind}
 use Rattle.soy_lexer.specs.declared.token.TokenKind.TheVariants as kind
 use Rattle.formatted_source.specs.SourcedTrees.{is_source_text, is_source_value}
-use Rattle.formatted_source.proofs.Names.{both}
-use Rattle.formatted_source.proofs.Values.{lacks-append}
 
 -- what the text of a token lacks
 abbrev pub IsSourced : TokenKind → List ℕ → Type 0

@@ -1,14 +1,12 @@
 -- The tree of a text is one that a text may have: what its commands say lacks what its tokens lack.
-use Rattle.std.proofs.Common.{◌≡◌, ℕ, ℤ, ◌&&◌, ◌||◌, not, Bool, true, false, List, [], ◌∷◌, ◌++◌, map, Some, None}
+use Rattle.std.proofs.Common.{◌≡◌, ℕ, ℤ, ◌&&◌, Bool, true, false, List, [], ◌∷◌, ◌++◌, map, Some, None}
 use Rattle.std.proofs.Common.{refl, ap}
 use Rattle.std.proofs.Common.{subst, ◌∙◌}
-use Rattle.std.specs.Prelude.{Option}
 use Rattle.std.specs.List.{list_all}
 use Rattle.soy_base.specs.declared.fault.Span.{Span}
 use Rattle.soy_lexer.specs.Tokens.{Tokens}
 use Rattle.soy_lexer.specs.declared.token.Token.{Token}
-use Rattle.soy_tree.specs.Nodes as tree
-use Rattle.soy_tree.specs.ViewExpressions.{view_expr, view_exprs}
+use Rattle.soy_tree.specs.ViewExpressions.{view_exprs}
 use Rattle.soy_tree.specs.ViewNodes.{view_node, view_nodes, view_arm, view_arms, view_case, view_cases, view_argument}
 use Rattle.soy_tree.specs.ViewNodes.{view_arguments, view_given, view_message, view_body, view_plural_case}
 use Rattle.soy_tree.specs.ViewNodes.{view_plural_cases, view_select_case, view_select_cases, arms_of, cases_of}
@@ -23,7 +21,6 @@ use Rattle.soy_tree.specs.declared.node.Form.TheVariants as form
 use Rattle.soy_tree.specs.declared.node.Given.{Given}
 use Rattle.soy_tree.specs.declared.node.Given.TheVariants as given
 use Rattle.soy_tree.specs.declared.node.MessageBody.{MessageBody}
-use Rattle.soy_tree.specs.declared.node.MessageBody.TheVariants as message_body
 use Rattle.soy_tree.specs.declared.node.Node.{Node}
 use Rattle.soy_tree.specs.declared.node.PluralCase.{PluralCase}
 use Rattle.soy_tree.specs.declared.node.SelectCase.{SelectCase}

@@ -1,15 +1,14 @@
 -- Tokens that spell commands, each with the blocks around it, none too deep and each type's words known.
-use Rattle.std.proofs.Common.{◌≡◌, ℕ, ◌+◌, Bool, List, [], ◌∷◌, ◌++◌, map, refl, sym, ap, subst, ◌∙◌, arith}
+use Rattle.std.proofs.Common.{◌≡◌, ℕ, Bool, List, [], ◌∷◌, ◌++◌, sym, subst}
 use Rattle.std.proofs.Common.{append_assoc}
 use Rattle.std.proofs.Common.{false, append-nil}
 use Rattle.soy_lexer.specs.declared.token.Token.{Token}
 use Rattle.expr_parser.specs.Depths.{AreWithin}
-use Rattle.expr_parser.specs.ParsesType.{NameTypes}
 use Rattle.expr_parser.specs.TypeTerminals.{begins_with_less}
 use Rattle.soy_parser.specs.declared.command.Command.{Command}
 use Rattle.soy_parser.specs.declared.command.CommandForm.{CommandForm}
 use Rattle.soy_parser.specs.Depth.{inside_blocks}
-use Rattle.soy_parser.specs.SpellsCommand.{SpellsCommand, SpellsCommands}
+use Rattle.soy_parser.specs.SpellsCommand.{SpellsCommands}
 use Rattle.formatted_source.proofs.CommandTerms.{CommandSpelled, Names, SameLength, names_append, same_append}
 use Rattle.formatted_source.proofs.CommandTerms.{within_append, within_inside}
 

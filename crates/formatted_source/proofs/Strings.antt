@@ -1,9 +1,8 @@
 -- String literals, as they are written in a command.
-use Rattle.std.proofs.Common.{◌≡◌, ◌≢◌, ℕ, Bool, true, false, not, ◌&&◌, ◌||◌, ◌==◌, List, [], ◌∷◌, ◌++◌, Option, Some}
-use Rattle.std.proofs.Common.{None, option_map, if◌then◌else◌, refl, sym, ap, subst, ◌∙◌, arith, append_assoc}
+use Rattle.std.proofs.Common.{◌≡◌, ℕ, Bool, true, false, ◌==◌, List, [], ◌∷◌, ◌++◌, Some}
+use Rattle.std.proofs.Common.{option_map, if◌then◌else◌, refl, sym, ap, subst, ◌∙◌, arith, append_assoc}
 use Rattle.std.proofs.lemmas.Bool.Decides.{nat_tests}
 use Rattle.soy_base.specs.Among.{lacks}
-use Rattle.soy_base.specs.Cuts.{cut}
 use Rattle.soy_base.proofs.CutAt.{cut-lacks}
 use Rattle.soy_lexer.specs.CommandSegment.{command_segment, quoted_segment}
 use Rattle.soy_lexer.specs.Found.Found.{Begins}

@@ -1,7 +1,6 @@
 -- The commands of a file and of its templates, as they are written.
-use Rattle.std.proofs.Common.{◌≡◌, ℕ, ◌&&◌, Bool, true, false, List, [], ◌∷◌, ◌++◌, refl, sym, ap, subst, ◌∙◌}
-use Rattle.std.proofs.Common.{append_assoc}
-use Rattle.std.specs.Prelude.{codes, if◌then◌else◌}
+use Rattle.std.proofs.Common.{◌≡◌, ℕ, Bool, true, false, List, [], ◌∷◌, ◌++◌, refl}
+use Rattle.std.specs.Prelude.{codes}
 use Rattle.soy_base.specs.Names.{is_dotted_name, is_name}
 use Rattle.soy_base.specs.declared.kind.Kind.{Kind}
 use Rattle.soy_base.specs.declared.kind.Kind.TheVariants as block_kind
@@ -12,14 +11,13 @@ use Rattle.soy_tree.specs.TypeText.{type_text}
 use Rattle.soy_format.specs.Formatted.{param_start, template_kind_text, visibility_text}
 use Rattle.formatted_source.specs.CommandLexemes.{HasLexemes, before_any, ends_name, ends_type}
 use Rattle.formatted_source.specs.CommandPieces.{braced, dotted_lexemes}
-use Rattle.formatted_source.specs.Lexemes.{Lexeme}
 use Rattle.formatted_source.specs.TreeLexemes.{required_lexemes, template_kind_lexemes, visibility_lexemes}
 use Rattle.formatted_source.specs.TypeLexemes.{type_lexemes}
-use Rattle.formatted_source.proofs.CommandReads.{Opens, begins_both}
+use Rattle.formatted_source.proofs.CommandReads.{begins_both}
 use Rattle.formatted_source.proofs.CommandsWritten.{braced_before, namespace_word, template_word, word_command}
 use Rattle.formatted_source.proofs.ExprsWritten.{spaced_written, symbol_written}
 use Rattle.formatted_source.proofs.Names.{word_written}
-use Rattle.formatted_source.proofs.PartsWritten.{attribute_written, dotted_written, kind_written, spaced_then}
+use Rattle.formatted_source.proofs.PartsWritten.{attribute_written, dotted_written, kind_written}
 use Rattle.formatted_source.proofs.PieceReads.{IsCommand}
 use Rattle.formatted_source.proofs.Reading.{after, join, nothing, weaker}
 use Rattle.formatted_source.proofs.TypesWritten.{type_written}

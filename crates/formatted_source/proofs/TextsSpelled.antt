@@ -1,7 +1,6 @@
 -- The pieces of a text spell that text: each character and each command among them is a part of it.
 use Rattle.std.proofs.Common.{◌≡◌, ℕ, ◌+◌, ◌≤◌, ◌==◌, ◌||◌, ◌&&◌, Bool, true, false, if◌then◌else◌, List, [], ◌∷◌, ◌++◌}
-use Rattle.std.proofs.Common.{Option, Some, refl, sym, ap, subst, ◌∙◌, arith, append_assoc, append-nil}
-use Rattle.std.specs.Prelude.{codes}
+use Rattle.std.proofs.Common.{Some, refl, sym, ap, subst, ◌∙◌, arith, append_assoc, append-nil}
 use Rattle.std.proofs.lemmas.Bool.Decides.{nat_tests}
 use Rattle.soy_base.specs.declared.fault.Span.{Span}
 use Rattle.soy_lexer.specs.declared.token.Token.{Token}
@@ -12,14 +11,13 @@ use Rattle.soy_parser.specs.declared.command.CommandForm.TheVariants as says
 use Rattle.soy_parser.specs.Depth.{inside_blocks}
 use Rattle.soy_parser.specs.SpellsTree.{SpellsText, text_of}
 use Rattle.formatted_source.specs.CommandPieces.{braced}
-use Rattle.formatted_source.specs.EdgedPieces.{after_first_piece, edge_piece, edged_pieces, space_piece}
 use Rattle.formatted_source.specs.Lexemes.{Lexeme, lexemes}
-use Rattle.formatted_source.specs.NodePieces.{break_pieces, character_piece, characters_pieces, nil_piece, text_pieces}
+use Rattle.formatted_source.specs.NodePieces.{character_piece, characters_pieces, nil_piece, text_pieces}
 use Rattle.formatted_source.specs.Pieces.{Piece, Plain, Written, closed_lexemes, open_line, text_lexemes}
 use Rattle.formatted_source.proofs.BareCommands.{Says, bare_command, feed_says, lb_says, nil_says, rb_says, return_says}
-use Rattle.formatted_source.proofs.BareCommands.{sp_says, tab_says, text_command}
+use Rattle.formatted_source.proofs.BareCommands.{tab_says, text_command}
 use Rattle.formatted_source.proofs.CommandTerms.{CommandSpelled}
-use Rattle.formatted_source.proofs.LexemeLists.{Splits, split}
+use Rattle.formatted_source.proofs.LexemeLists.{split}
 use Rattle.formatted_source.proofs.SpokenCommands.{Spoken, none_spoken, one_spoken, spoken_append}
 
 -- these pieces are the characters of this text

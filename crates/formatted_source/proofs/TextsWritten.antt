@@ -1,14 +1,14 @@
 -- Texts, as they are written: pieces of a line.
 use Rattle.std.proofs.Common.{◌≡◌, ℕ, ◌==◌, ◌||◌, ◌&&◌, not, Bool, true, false, if◌then◌else◌, List, [], ◌∷◌, ◌++◌}
-use Rattle.std.proofs.Common.{refl, sym}
-use Rattle.std.proofs.Common.{ap, subst, ◌∙◌, arith}
+use Rattle.std.proofs.Common.{refl}
+use Rattle.std.proofs.Common.{subst, arith}
 use Rattle.std.proofs.lemmas.Bool.Decides.{nat_tests}
 use Rattle.soy_base.specs.Among.{lacks}
-use Rattle.formatted_source.specs.NodePieces.{break_pieces, character_piece, characters_pieces, nil_piece, text_pieces}
-use Rattle.formatted_source.specs.Pieces.{Piece, Plain, Written}
+use Rattle.formatted_source.specs.NodePieces.{character_piece, characters_pieces, nil_piece, text_pieces}
+use Rattle.formatted_source.specs.Pieces.{Piece}
 use Rattle.formatted_source.proofs.CharactersWritten.{feed_is, lb_is, nil_is, rb_is, return_is, tab_is}
 use Rattle.formatted_source.proofs.Names.{both}
-use Rattle.formatted_source.proofs.PieceReads.{ArePieces, IsCommand, is_plain}
+use Rattle.formatted_source.proofs.PieceReads.{ArePieces}
 
 -- a choice between two pieces
 chosen : (A : Piece → Type 0) (t : Bool) (p q : Piece) → (t ≡ true → A p) → (t ≡ false → A q)

@@ -31,7 +31,7 @@ use Rattle.formatted_source.proofs.NodesWritten.{nodes_are}
 use Rattle.formatted_source.proofs.PieceEdges.{are_edged, edged_text, first_black, last_black}
 use Rattle.formatted_source.proofs.PieceReads.{ArePieces, IsCommand, pieces_read}
 use Rattle.formatted_source.proofs.PieceTexts.{nodes_text}
-use Rattle.formatted_source.proofs.ReadTexts.{Where, Outside, Reads, reads_append}
+use Rattle.formatted_source.proofs.ReadTexts.{Outside, Reads, reads_append}
 use Rattle.formatted_source.proofs.ReadTokens.{reads_tokens}
 use Rattle.formatted_source.proofs.Runs.{RunLexemes, feed, no_run, run_lexemes}
 use Rattle.formatted_source.proofs.TemplatesWritten.{namespace_written, param_line_written, template_written}

@@ -1,7 +1,7 @@
 -- The lexemes of tokens that the grammar of types knows: each of its words and symbols is written in one way.
-use Rattle.std.proofs.Common.{◌≡◌, ℕ, ◌+◌, ◌<◌, ◌≤◌, ◌&&◌, ◌⊎◌, inl, inr, nat_lt, Bool, true, false, List, [], ◌∷◌}
+use Rattle.std.proofs.Common.{◌≡◌, ℕ, ◌<◌, ◌⊎◌, inl, inr, nat_lt, Bool, true, false, List, [], ◌∷◌}
 use Rattle.std.proofs.Common.{◌++◌}
-use Rattle.std.proofs.Common.{length, length-append, get_or, if◌then◌else◌, refl, sym, ap, subst, ◌∙◌, arith}
+use Rattle.std.proofs.Common.{length, length-append, if◌then◌else◌, refl, sym, ap, subst, ◌∙◌, arith}
 use Rattle.std.specs.Prelude.{codes, encode_utf8, encode_utf8_all}
 use Rattle.std.specs.List.{list_all}
 use Rattle.std.specs.Str.{bytes_eq}

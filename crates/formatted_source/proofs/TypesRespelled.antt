@@ -1,9 +1,8 @@
 -- Tokens with the lexemes of a type's tokens spell the same type, at the same depths.
-use Rattle.std.proofs.Common.{◌≡◌, ℕ, max, Bool, true, false, List, [], ◌∷◌, ◌++◌, map, refl, sym, ap, subst, ◌∙◌}
+use Rattle.std.proofs.Common.{◌≡◌, ℕ, max, Bool, true, false, List, [], ◌∷◌, ◌++◌, sym, ap, subst, ◌∙◌}
 use Rattle.std.specs.Prelude.{encode_utf8_all}
 use Rattle.std.proofs.lemmas.List.{map-append}
 use Rattle.soy_lexer.specs.declared.token.Token.{Token}
-use Rattle.soy_lexer.specs.declared.token.TokenKind.{TokenKind}
 use Rattle.soy_tree.specs.declared.soy_type.Field.{Field}
 use Rattle.soy_tree.specs.declared.soy_type.SoyType.{SoyType}
 use Rattle.expr_parser.specs.declared.type_frame.TypeOperand.{TypeOperand}
@@ -12,8 +11,8 @@ use Rattle.expr_parser.specs.Depths.{beside}
 use Rattle.expr_parser.specs.SpellsType.{SpellsMember, SpellsFields, SpellsMembers, SpellsType}
 use Rattle.expr_parser.specs.TypeOperands.{named, listed, mapped, recorded, united, field}
 use Rattle.expr_parser.specs.TypeTerminals.{type_terminal, type_terminal_of}
-use Rattle.formatted_source.specs.Lexemes.{Lexeme, lexeme, lexemes}
-use Rattle.formatted_source.proofs.LexemeLists.{Alone, alone, Begun, begun, Splits, split}
+use Rattle.formatted_source.specs.Lexemes.{lexeme, lexemes}
+use Rattle.formatted_source.proofs.LexemeLists.{alone, begun, split}
 
 -- a token is to a type what its lexeme is
 same_terminal : (u t : Token) (m : TypeTerminal) → u.kind ≡ t.kind → u.text ≡ t.text → type_terminal_of t ≡ m

@@ -1,5 +1,5 @@
 -- The tokens of a type have the lexemes that it is written for.
-use Rattle.std.proofs.Common.{◌≡◌, ℕ, ◌+◌, max, Bool, true, false, List, [], ◌∷◌, ◌++◌, length, map, refl, sym, ap}
+use Rattle.std.proofs.Common.{◌≡◌, ℕ, Bool, true, false, List, [], ◌∷◌, ◌++◌, length, map, refl, sym, ap}
 use Rattle.std.proofs.Common.{subst}
 use Rattle.std.proofs.Common.{◌∙◌, arith, append_assoc, append-nil, length-append}
 use Rattle.std.specs.Prelude.{codes}
@@ -11,10 +11,8 @@ use Rattle.soy_tree.specs.declared.soy_type.Field.{Field}
 use Rattle.soy_tree.specs.declared.soy_type.SoyType as code
 use Rattle.soy_tree.specs.declared.soy_type.SoyType.TheOpen.{SoyType-F}
 use Rattle.soy_tree.specs.declared.soy_type.SoyType.TheVariants as soy
-use Rattle.soy_tree.specs.Members.{members_of}
-use Rattle.soy_tree.specs.Types.{Name, SoyType, Members, FieldTypes, NullType, BoolType, IntType, StringType, HtmlType}
-use Rattle.soy_tree.specs.Types.{AttributesType, ListType, MapType, RecordType, UnionType, no_member, member, no_field}
-use Rattle.soy_tree.specs.Types.{field as field_of}
+use Rattle.soy_tree.specs.Types.{Name, SoyType, NullType, BoolType, IntType, StringType, HtmlType}
+use Rattle.soy_tree.specs.Types.{AttributesType, ListType, MapType, RecordType, UnionType}
 use Rattle.soy_tree.specs.ViewTypes.{view_type, view_field, view_members, view_fields, type_layer, field_layer}
 use Rattle.soy_tree.specs.ViewTypes.{fields_of}
 use Rattle.expr_parser.specs.declared.type_frame.TypeOperand.{TypeOperand}
@@ -25,7 +23,7 @@ use Rattle.expr_parser.specs.declared.type_terminal.TypeTerminal.TheVariants as 
 use Rattle.expr_parser.specs.ParsesType.{NamesTypeIf, NameTypes}
 use Rattle.expr_parser.specs.SpellsType.{SpellsMember, SpellsFields, SpellsMembers, SpellsType}
 use Rattle.expr_parser.specs.TypeOperands.{field, type_of_name}
-use Rattle.expr_parser.specs.TypeTerminals.{begins_with_less, is_less, is_type_name, names_type, type_terminal_of}
+use Rattle.expr_parser.specs.TypeTerminals.{begins_with_less, is_less, names_type, type_terminal_of}
 use Rattle.expr_parser.specs.TypeTerminals.{word_names_type}
 use Rattle.formatted_source.specs.Lexemes.{Lexeme, lexeme, lexemes}
 use Rattle.formatted_source.specs.TypeLexemes.{fields_lexemes, members_lexemes, more_fields_lexemes}

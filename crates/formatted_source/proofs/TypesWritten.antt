@@ -1,10 +1,10 @@
 -- Types, as they are written in a command.
-use Rattle.std.proofs.Common.{◌≡◌, ℕ, ◌==◌, ◌||◌, ◌&&◌, not, Bool, true, false, List, [], ◌∷◌, ◌++◌, refl, sym, ap}
+use Rattle.std.proofs.Common.{◌≡◌, ℕ, ◌==◌, ◌&&◌, not, true, false, List, [], ◌∷◌, ◌++◌, refl, sym}
 use Rattle.std.proofs.Common.{subst}
-use Rattle.std.proofs.Common.{◌∙◌, arith, append_assoc, append-nil}
+use Rattle.std.proofs.Common.{arith, append_assoc}
 use Rattle.std.specs.Prelude.{codes}
 use Rattle.std.proofs.lemmas.Bool.Decides.{nat_tests}
-use Rattle.soy_base.specs.Names.{continues_name, is_name}
+use Rattle.soy_base.specs.Names.{is_name}
 use Rattle.soy_lexer.specs.CommandSegment.{command_segment}
 use Rattle.soy_lexer.specs.Found.Found.{Begins}
 use Rattle.soy_lexer.specs.Segment.Segment.{CommandToken}
@@ -14,9 +14,9 @@ use Rattle.soy_tree.specs.TypeText.{type_text, members_text, more_members_text, 
 use Rattle.soy_tree.specs.Types.{SoyType, Members, FieldTypes, NullType, BoolType, IntType, StringType, HtmlType}
 use Rattle.soy_tree.specs.Types.{AttributesType, ListType, MapType, RecordType, UnionType, no_member, member, no_field}
 use Rattle.soy_tree.specs.Types.{field}
-use Rattle.formatted_source.specs.CommandLexemes.{CommandLexemes, HasLexemes, before_any, ends_name, ends_type}
+use Rattle.formatted_source.specs.CommandLexemes.{HasLexemes, before_any, ends_name, ends_type}
 use Rattle.formatted_source.specs.CommandLexemes.{no_equals}
-use Rattle.formatted_source.specs.CommandLexemes.CommandLexemes.{here_, white_, token_}
+use Rattle.formatted_source.specs.CommandLexemes.CommandLexemes.{here_, token_}
 use Rattle.formatted_source.specs.Lexemes.{Lexeme}
 use Rattle.formatted_source.specs.TypeLexemes.{type_lexemes, members_lexemes, more_members_lexemes, fields_lexemes}
 use Rattle.formatted_source.specs.TypeLexemes.{more_fields_lexemes}

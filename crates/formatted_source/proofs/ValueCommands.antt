@@ -1,23 +1,15 @@
 -- Lets, params, loops and cases: their lexemes spell what they are written for.
-use Rattle.std.proofs.Common.{◌≡◌, ℕ, ℤ, pos, negsuc, ◌+◌, ◌≤◌, ◌<◌, ◌^◌, ◌&&◌, ◌==◌, nat_le, Bool, true, false}
+use Rattle.std.proofs.Common.{◌≡◌, ℕ, ◌+◌, ◌≤◌, true}
 use Rattle.std.proofs.Common.{List, []}
-use Rattle.std.proofs.Common.{◌∷◌, ◌++◌, map, Option, Some, None, refl, sym, ap, subst, ◌∙◌, arith, append_assoc}
-use Rattle.std.specs.Prelude.{codes, encode_utf8_all, if◌then◌else◌}
-use Rattle.std.specs.Char.{is_ascii_digit}
-use Rattle.std.specs.Fmt.{decimal, signed_decimal}
-use Rattle.std.specs.List.{list_all}
-use Rattle.std.proofs.lemmas.Bool.Decides.{nat_tests}
+use Rattle.std.proofs.Common.{◌∷◌, ◌++◌, Option, Some, None, refl, sym, ap, subst, ◌∙◌, arith}
+use Rattle.std.specs.Prelude.{codes, encode_utf8_all}
 use Rattle.soy_lexer.specs.declared.token.Token.{Token}
 use Rattle.soy_lexer.specs.declared.token.TokenKind.TheVariants as kind
 use Rattle.soy_tree.specs.Expressions.{Expr}
 use Rattle.soy_tree.specs.Formed.{is_formed_expr}
 use Rattle.soy_tree.specs.Types.{Name}
-use Rattle.soy_tree.specs.ViewExpressions.{view_expr, view_exprs}
 use Rattle.soy_tree.specs.declared.expr.Expr as code
-use Rattle.expr_parser.specs.Depths.{AreWithin}
-use Rattle.soy_parser.specs.declared.command.CommandForm.{CommandForm}
 use Rattle.soy_parser.specs.declared.command.CommandForm.TheVariants as says
-use Rattle.soy_parser.specs.declared.command.Middle.TheVariants as middle
 use Rattle.soy_parser.specs.declared.command.Opening.TheVariants as opening
 use Rattle.soy_parser.specs.declared.command.Single.{Single}
 use Rattle.soy_parser.specs.declared.command.Single.TheVariants as single
@@ -25,26 +17,22 @@ use Rattle.soy_parser.specs.declared.head.Head.{Head}
 use Rattle.soy_parser.specs.declared.head.Head.TheVariants as head
 use Rattle.soy_parser.specs.declared.terminal.CommandTerminal.{CommandTerminal}
 use Rattle.soy_parser.specs.declared.terminal.CommandTerminal.TheVariants as terminal
-use Rattle.soy_parser.specs.declared.terminal.CommandWord.{CommandWord}
 use Rattle.soy_parser.specs.declared.terminal.CommandWord.TheVariants as word
 use Rattle.soy_parser.specs.CommandTerminals.{command_terminal_of, command_word}
 use Rattle.soy_parser.specs.Depth.{none_deep}
 use Rattle.soy_parser.specs.Heads.{form_at, no_attributes}
-use Rattle.soy_parser.specs.SpellsHead.{SpellsHead, SpellsValues, SpellsVariables}
+use Rattle.soy_parser.specs.SpellsHead.{SpellsHead, SpellsVariables}
 use Rattle.soy_parser.specs.TypeWords.{no_words}
-use Rattle.soy_format.specs.WithoutSpans.{expr_without_spans}
-use Rattle.formatted_source.specs.CommandPieces.{braced, end_lexeme, index_lexemes, more_values_lexemes}
+use Rattle.formatted_source.specs.CommandPieces.{braced, end_lexeme, index_lexemes}
 use Rattle.formatted_source.specs.CommandPieces.{slash_end_lexeme}
-use Rattle.formatted_source.specs.CommandPieces.{slashed, values_lexemes}
-use Rattle.formatted_source.specs.ExprHeight.{expr_height}
+use Rattle.formatted_source.specs.CommandPieces.{slashed}
+use Rattle.formatted_source.proofs.WrittenHeight.{expr_height}
 use Rattle.formatted_source.specs.ExprLexemes.{expr_lexemes}
-use Rattle.formatted_source.specs.Lexemes.{Lexeme, lexeme, lexemes}
-use Rattle.formatted_source.specs.ReadsAs.{SpellAlike}
+use Rattle.formatted_source.specs.Lexemes.{Lexeme, lexemes}
 use Rattle.formatted_source.proofs.CommandTerms.{CommandSpelled, HeadSpelled, IsWhole, bare_spelled, command-lexeme}
-use Rattle.formatted_source.proofs.CommandTerms.{lexeme_command, names_none, same_none, within_append, within_none}
+use Rattle.formatted_source.proofs.CommandTerms.{lexeme_command, names_none, same_none}
 use Rattle.formatted_source.proofs.ExprCommands.{HeadOfExpr, SaysExpr, head_as, whole_head}
-use Rattle.formatted_source.proofs.LexemeLists.{Alone, alone, Begun, begun, Splits, split}
-use Rattle.formatted_source.proofs.Names.{both}
+use Rattle.formatted_source.proofs.LexemeLists.{begun}
 use Rattle.formatted_source.proofs.ReadParts.{spelled_within}
 
 let_is : lexeme_command (kind.Word, codes "let") ≡ terminal.Word word.Let

@@ -1,10 +1,8 @@
 -- Values in double quotes, as they are written in a command.
-use Rattle.std.proofs.Common.{◌≡◌, ℕ, Bool, true, false, not, ◌&&◌, List, [], ◌∷◌, ◌++◌, Some, None, refl, sym, ap}
+use Rattle.std.proofs.Common.{◌≡◌, ℕ, Bool, true, false, ◌&&◌, List, [], ◌∷◌, ◌++◌, refl, sym, ap}
 use Rattle.std.proofs.Common.{subst}
 use Rattle.std.proofs.Common.{◌∙◌, append_assoc}
-use Rattle.std.specs.List.{list_all}
 use Rattle.soy_base.specs.Among.{lacks}
-use Rattle.soy_base.specs.Cuts.{cut}
 use Rattle.soy_base.proofs.CutAt.{cut-at, cut-lacks}
 use Rattle.soy_lexer.specs.CommandSegment.{command_segment, value_segment}
 use Rattle.soy_lexer.specs.Found.Found.{Begins}

@@ -1,6 +1,6 @@
 -- The commands of canonical source as pieces of a line: each as it is written, with its lexemes.
 -- Example: the piece of the print of 1 is `{print 1}` with the lexemes `{`, `print`, `1` and `}`.
-use Rattle.std.specs.Prelude.{ℕ, ℤ, Bool, true, false, ◌==◌, if◌then◌else◌, List, [], ◌∷◌, ◌++◌, Option, Some, None}
+use Rattle.std.specs.Prelude.{ℕ, ℤ, Bool, ◌==◌, if◌then◌else◌, List, [], ◌∷◌, ◌++◌, Option, Some, None}
 use Rattle.std.specs.Prelude.{codes}
 use Rattle.std.specs.Fmt.{decimal, signed_decimal}
 use Rattle.std.specs.List.{slice_split}
@@ -10,14 +10,14 @@ use Rattle.soy_lexer.specs.declared.token.TokenKind.TheVariants as kind
 use Rattle.soy_tree.specs.Types.{Name}
 use Rattle.soy_tree.specs.Expressions.{Expr}
 use Rattle.soy_tree.specs.Nodes.{Arguments, no_argument, argument}
-use Rattle.soy_format.specs.FormattedBody.{arm_text, call_end, call_text, case_text, expr_command, for_text, kind_name}
+use Rattle.soy_format.specs.FormattedBody.{call_end, call_text, case_text, expr_command, for_text, kind_name}
 use Rattle.soy_format.specs.FormattedBody.{let_block_text, let_text, message_text, param_block_text, param_text}
 use Rattle.soy_format.specs.FormattedBody.{plural_text, print_text}
 use Rattle.soy_format.specs.FormattedExpression.{begins_with_variable, formatted_values}
 use Rattle.soy_format.specs.FormattedString.{formatted_string}
 use Rattle.formatted_source.specs.ExprLexemes.{expr_lexemes}
 use Rattle.formatted_source.specs.Lexemes.{Lexeme}
-use Rattle.formatted_source.specs.Pieces.{Piece, Plain, Written}
+use Rattle.formatted_source.specs.Pieces.{Piece, Written}
 
 abbrev pub begin_lexeme : Lexeme
 begin_lexeme = (kind.Begin, codes "{")

@@ -1,9 +1,8 @@
 -- The pieces of the line of a body: where its first or last piece is a space, that is written as `{sp}`.
 -- Example: the pieces ` `, `a` and ` ` are those of the line `{sp}a{sp}`.
-use Rattle.std.specs.Prelude.{ℕ, ◌==◌, if◌then◌else◌, List, [], ◌∷◌, codes}
+use Rattle.std.specs.Prelude.{◌==◌, if◌then◌else◌, List, [], ◌∷◌, codes}
 use Rattle.soy_base.specs.Characters.{space}
 use Rattle.formatted_source.specs.CommandPieces.{word_piece}
-use Rattle.formatted_source.specs.Lexemes.{Lexeme}
 use Rattle.formatted_source.specs.Pieces.{Piece, Plain, Written}
 
 abbrev pub space_piece : Piece

@@ -1,7 +1,6 @@
 pub mod CommandLexemes
 pub mod CommandPieces
 pub mod EdgedPieces
-pub mod ExprHeight
 pub mod ExprLexemes
 pub mod Lexemes
 pub mod NodePieces

@@ -1,7 +1,7 @@
 -- The lexemes of a tree as it is written in canonical source.
 -- Example: those of the file of a template `m` with the body `a` are those of `{namespace t}` and `{template m}`, the
 -- text `a`, and those of `{/template}`.
-use Rattle.std.specs.Prelude.{ℕ, Bool, if◌then◌else◌, List, [], ◌∷◌, ◌++◌, codes}
+use Rattle.std.specs.Prelude.{Bool, if◌then◌else◌, List, [], ◌∷◌, ◌++◌, codes}
 use Rattle.soy_base.specs.declared.kind.Kind.{Kind}
 use Rattle.soy_base.specs.declared.kind.Kind.TheVariants as block_kind
 use Rattle.soy_lexer.specs.declared.token.TokenKind.TheVariants as kind
