@@ -153,7 +153,7 @@ case_command blocks ts e es le f low same =
     })) same
 
 -- the digits of a number are an int
-decimal_int : (n : ℕ) → n ≤ largest_int → is_int (decimal n) ≡ true
+pub decimal_int : (n : ℕ) → n ≤ largest_int → is_int (decimal n) ≡ true
 decimal_int zero within = ap is_int (decimal_digit 0 (omega arith))
 decimal_int (suc n) within =
     let small : suc n < 2 ^ 64 = omega arith in

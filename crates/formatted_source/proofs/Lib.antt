@@ -2,9 +2,11 @@ pub mod AttributeCommands
 pub mod BareCommands
 pub mod CaseCommands
 pub mod CharactersWritten
+pub mod CommandLevels
 pub mod CommandReads
 pub mod CommandTerms
 pub mod CommandsWritten
+pub mod EdgedNodes
 pub mod ExprCommands
 pub mod ExprHeights
 pub mod ExprTerminals
@@ -16,6 +18,7 @@ pub mod FittingTrees
 pub mod Ints
 pub mod LexedTexts
 pub mod LexemeLists
+pub mod MessageCommands
 pub mod NameCommands
 pub mod Names
 pub mod NodeLexemes
@@ -36,6 +39,7 @@ pub mod SourcedCommands
 pub mod SourcedNodes
 pub mod SpokenCommands
 pub mod Strings
+pub mod TemplateCommands
 pub mod TemplatesWritten
 pub mod TextsSpelled
 pub mod TextsWritten

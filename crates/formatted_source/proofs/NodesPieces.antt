@@ -41,13 +41,13 @@ edge_is c text ps d = over (c == 32) refl
     over false e = TextPieces.plain_ c text ps d
 
 -- the first piece of a text
-first_edge : (text : List ℕ) (p : Piece) (ps : List Piece) → TextPieces text (p ∷ ps)
+pub first_edge : (text : List ℕ) (p : Piece) (ps : List Piece) → TextPieces text (p ∷ ps)
     → TextPieces text (edge_piece p ∷ ps)
 first_edge _ _ _ (TextPieces.plain_ c text ps d) = edge_is c text ps d
 first_edge _ _ _ (TextPieces.command_ written l value text ps s d) = TextPieces.command_ written l value text ps s d
 
 -- and the last one
-last_edge : (text : List ℕ) (ps : List Piece) → TextPieces text ps → TextPieces text (after_first_piece ps)
+pub last_edge : (text : List ℕ) (ps : List Piece) → TextPieces text ps → TextPieces text (after_first_piece ps)
 last_edge _ _ TextPieces.none_ = TextPieces.none_
 last_edge _ _ (TextPieces.plain_ c text [] d) = edge_is c text [] d
 last_edge _ _ (TextPieces.plain_ c text (p ∷ ps) d) =
