@@ -30,14 +30,14 @@ use Rattle.soy_parser.specs.SpellsHead.{SpellsHead, SpellsValues, bare_head, exp
 use Rattle.formatted_source.proofs.FittingTrees.{ExprFits, ValuesFit}
 use Rattle.formatted_source.proofs.ReadParts.{written_within}
 
-abbrev SingleFits : ℕ → Single → Type 0
+abbrev pub SingleFits : ℕ → Single → Type 0
 SingleFits blocks (single.Print e) = ExprFits blocks (view_expr e)
 SingleFits blocks (single.MessagePrint e phname) = ExprFits blocks (view_expr e)
 SingleFits blocks (single.Let n e) = ExprFits blocks (view_expr e)
 SingleFits blocks (single.Call n all) = Unit {0}
 SingleFits blocks (single.Param n e) = ExprFits blocks (view_expr e)
 
-abbrev OpeningFits : ℕ → Opening → Type 0
+abbrev pub OpeningFits : ℕ → Opening → Type 0
 OpeningFits blocks (opening.If e) = ExprFits blocks (view_expr e)
 OpeningFits blocks (opening.Switch e) = ExprFits blocks (view_expr e)
 OpeningFits blocks (opening.For n index e) = ExprFits blocks (view_expr e)
@@ -45,7 +45,7 @@ OpeningFits blocks (opening.Plural e offset) = ExprFits blocks (view_expr e)
 OpeningFits blocks (opening.Select e) = ExprFits blocks (view_expr e)
 OpeningFits blocks _ = Unit {0}
 
-abbrev MiddleFits : ℕ → Middle → Type 0
+abbrev pub MiddleFits : ℕ → Middle → Type 0
 MiddleFits blocks (middle.ElseIf e) = ExprFits blocks (view_expr e)
 MiddleFits blocks (middle.Case values) = ValuesFit blocks (view_exprs values)
 MiddleFits blocks _ = Unit {0}

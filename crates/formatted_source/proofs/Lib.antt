@@ -14,6 +14,8 @@ pub mod ExprsLower
 pub mod ExprsSpelled
 pub mod ExprsWritten
 pub mod FittingCommands
+pub mod FittingNodes
+pub mod FittingParts
 pub mod FittingTrees
 pub mod Ints
 pub mod LexedTexts
