@@ -16,7 +16,7 @@ use Rattle.formatted_source.proofs.NodesPieces.{HasPiece, NodesPieces, first_edg
 use Rattle.formatted_source.proofs.TextsSpelled.{TextPieces, text_are}
 
 -- pieces that end with a command
-data Closed : List Piece → Type 0 where
+pub data Closed : List Piece → Type 0 where
   last_ : (text : List ℕ) (ls : List Lexeme) → Closed (Written text ls ∷ [])
   more_ : (p : Piece) (ps : List Piece) → Closed ps → Closed (p ∷ ps)
 
@@ -30,7 +30,7 @@ closed_on : (ps qs : List Piece) → Closed qs → Closed (ps ++ qs)
 closed_on [] qs c = c
 closed_on (p ∷ ps) qs c = Closed.more_ p (ps ++ qs) (closed_on ps qs c)
 
-node_closed : (n : Node) → is_text n ≡ false → Closed (node_pieces n)
+pub node_closed : (n : Node) → is_text n ≡ false → Closed (node_pieces n)
 node_closed (TextNode text span) k = absurd (cc)
 node_closed (Print e phname span) k = Closed.last_ _ _
 node_closed (If arms other span) k =
@@ -48,10 +48,10 @@ node_closed (MessageNode m other span) k =
     closed_on (message_pieces _ _ m) _ (closed_on (fallback_pieces other) _ (Closed.last_ _ _))
 
 -- pieces that begin with a command
-data Opened : List Piece → Type 0 where
+pub data Opened : List Piece → Type 0 where
   opened_ : (text : List ℕ) (ls : List Lexeme) (ps : List Piece) → Opened (Written text ls ∷ ps)
 
-node_opened : (n : Node) → is_text n ≡ false → Opened (node_pieces n)
+pub node_opened : (n : Node) → is_text n ≡ false → Opened (node_pieces n)
 node_opened (TextNode text span) k = absurd (cc)
 node_opened (Print e phname span) k = Opened.opened_ _ _ _
 node_opened (If no_arm no_otherwise span) k = Opened.opened_ _ _ _

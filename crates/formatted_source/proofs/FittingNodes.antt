@@ -1,57 +1,44 @@
 -- The tree of a text fits the limit on depth as it is written: its commands do.
-use Rattle.std.proofs.Common.{◌≡◌, ℕ, ℤ, ◌+◌, ◌≤◌, Bool, List, [], ◌∷◌, ◌++◌, map, Some, None, refl, sym, ap, subst}
-use Rattle.std.proofs.Common.{◌∙◌, arith, length}
+use Rattle.std.proofs.Common.{ℕ, ◌+◌, List, [], ◌∷◌, ◌++◌, map, None, refl, sym, ap, subst}
 use Rattle.soy_base.specs.declared.fault.Span.{Span}
 use Rattle.soy_lexer.specs.declared.token.Token.{Token}
-use Rattle.soy_tree.specs.ViewExpressions.{view_expr, view_exprs}
-use Rattle.soy_tree.specs.ViewNodes.{view_node, view_nodes, view_arm, view_arms, view_case, view_cases, view_argument}
-use Rattle.soy_tree.specs.ViewNodes.{view_arguments, view_given, view_message, view_body, view_plural_case}
-use Rattle.soy_tree.specs.ViewNodes.{view_plural_cases, view_select_case, view_select_cases, arms_of, cases_of}
-use Rattle.soy_tree.specs.ViewNodes.{arguments_of}
+use Rattle.soy_tree.specs.ViewNodes.{view_node, view_nodes, view_arms, view_cases}
+use Rattle.soy_tree.specs.ViewNodes.{view_arguments}
+use Rattle.soy_tree.specs.ViewNodes.{arms_of}
 use Rattle.soy_tree.specs.ViewTrees.{view_template, view_tree}
 use Rattle.soy_tree.specs.Trees as trees
-use Rattle.soy_tree.specs.declared.expr.Expr.{Expr}
 use Rattle.soy_tree.specs.declared.node.Argument.{Argument}
 use Rattle.soy_tree.specs.declared.node.Arm.{Arm}
 use Rattle.soy_tree.specs.declared.node.Case.{Case}
-use Rattle.soy_tree.specs.declared.node.Form.TheVariants as form
-use Rattle.soy_tree.specs.declared.node.Given.{Given}
 use Rattle.soy_tree.specs.declared.node.Given.TheVariants as given
-use Rattle.soy_tree.specs.declared.node.MessageBody.{MessageBody}
 use Rattle.soy_tree.specs.declared.node.Node.{Node}
-use Rattle.soy_tree.specs.declared.node.PluralCase.{PluralCase}
-use Rattle.soy_tree.specs.declared.node.SelectCase.{SelectCase}
 use Rattle.soy_tree.specs.declared.tree.Template.{Template}
 use Rattle.soy_tree.specs.declared.tree.Tree.{Tree}
 use Rattle.expr_parser.specs.Operands.{joined}
 use Rattle.soy_parser.specs.declared.command.Command.{Command}
-use Rattle.soy_parser.specs.declared.command.CommandForm.{CommandForm}
 use Rattle.soy_parser.specs.declared.command.CommandForm.TheVariants as says
 use Rattle.soy_parser.specs.declared.command.Middle.TheVariants as middle
 use Rattle.soy_parser.specs.declared.command.Opening.TheVariants as opening
 use Rattle.soy_parser.specs.declared.command.Single.TheVariants as single
 use Rattle.soy_parser.specs.Depth.{inside_blocks}
-use Rattle.soy_parser.specs.Nodes.{node_of, arm_of, case_of, argument_of, whole_message, plural_cases, select_cases}
+use Rattle.soy_parser.specs.Nodes.{arm_of, whole_message}
 use Rattle.soy_parser.specs.Nodes.{up_to}
 use Rattle.soy_parser.specs.ParsesFile.{IsFile}
-use Rattle.soy_parser.specs.SpellsTree.{SpellsText, SpellsPrints, SpellsParts, SpellsMessageBody, SpellsChoice}
-use Rattle.soy_parser.specs.SpellsTree.{SpellsPluralCases, SpellsSelectCases, SpellsNodes, SpellsBody, SpellsNode}
+use Rattle.soy_parser.specs.SpellsTree.{SpellsNodes, SpellsBody, SpellsNode}
 use Rattle.soy_parser.specs.SpellsTree.{SpellsArms, SpellsCases, SpellsArguments, SpellsTemplates, SpellsTree}
 use Rattle.soy_parser.specs.SpellsTree.{template_of}
-use Rattle.soy_parser.proofs.NodeViews.{view_text, view_print}
+use Rattle.soy_parser.proofs.NodeViews.{view_print}
 use Rattle.soy_parser.proofs.ViewForms.{view-If, view-IfElse, view-Switch, view-SwitchDefault, view-For, view-Let}
 use Rattle.soy_parser.proofs.ViewForms.{view-LetBlock, view-Call, view-Message, view-MessageFallback, view-arm}
-use Rattle.soy_parser.proofs.ViewForms.{view-case, view-argument, view-Plain, view-Block, view-message, view-Parts}
-use Rattle.soy_parser.proofs.ViewForms.{view-Plural, view-Select, view-plural-case, view-select-case}
-use Rattle.formatted_source.proofs.CommandLevels.{Even, arguments_even, arms_even, body_even, cases_even, choice_even}
-use Rattle.formatted_source.proofs.CommandLevels.{message_even, node_even, nodes_even, params_even, parts_even}
-use Rattle.formatted_source.proofs.CommandLevels.{plural_even, prints_even, select_even, templates_even, text_even}
+use Rattle.soy_parser.proofs.ViewForms.{view-Plain, view-Block}
+use Rattle.formatted_source.proofs.CommandLevels.{arguments_even, arms_even, body_even, cases_even}
+use Rattle.formatted_source.proofs.CommandLevels.{message_even, nodes_even, params_even}
+use Rattle.formatted_source.proofs.CommandLevels.{templates_even}
 use Rattle.formatted_source.proofs.CommandLevels.{white_even}
-use Rattle.formatted_source.proofs.FittingCommands.{AllFit, CommandFits, FormFits, commands_fit}
-use Rattle.formatted_source.proofs.FittingTrees.{ArgumentsFit, ArmsFit, BodyFits, CasesFit, ExprFits, FirstFits}
+use Rattle.formatted_source.proofs.FittingCommands.{AllFit, commands_fit}
+use Rattle.formatted_source.proofs.FittingTrees.{ArgumentsFit, CasesFit, FirstFits}
 use Rattle.formatted_source.proofs.FittingTrees.{GivenFits}
-use Rattle.formatted_source.proofs.FittingTrees.{MessageFits, NodeFits, NodesFit, PluralCasesFit, SelectCasesFit}
-use Rattle.formatted_source.proofs.FittingTrees.{ValuesFit}
+use Rattle.formatted_source.proofs.FittingTrees.{NodeFits, NodesFit}
 use Rattle.formatted_source.proofs.FittingParts.{ArmsAre, Fit, arguments_append, arms_append, cases_append, fit_deeper}
 use Rattle.formatted_source.proofs.FittingParts.{fit_left, fit_right, fits_as, inside_none, last_level, level_is}
 use Rattle.formatted_source.proofs.FittingParts.{nodes_more}

@@ -26,6 +26,8 @@ pub mod Names
 pub mod NodeLexemes
 pub mod NodesPieces
 pub mod NodesWritten
+pub mod ParsedTexts
+pub mod PartLexemes
 pub mod PartsWritten
 pub mod PieceEdges
 pub mod PieceReads
