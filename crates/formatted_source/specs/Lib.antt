@@ -1,0 +1,11 @@
+pub mod CommandLexemes
+pub mod CommandPieces
+pub mod EdgedPieces
+pub mod ExprLexemes
+pub mod Lexemes
+pub mod NodePieces
+pub mod Pieces
+pub mod ReadsAs
+pub mod SourcedTrees
+pub mod TreeLexemes
+pub mod TypeLexemes
