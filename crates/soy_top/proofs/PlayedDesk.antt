@@ -190,7 +190,8 @@ left_agrees : (begun : List ℕ) (pieces : List Piece) (end : RunEnd) (done : Bo
     → Agrees (pulled (left_with begun pieces end) done room).0 (pulled (left_with begun pieces end) done room).1
     (pulled (left_with begun pieces end) done room).2 (left_with begun pieces end)
     (pull_left (length room) (left_with begun pieces end))
-left_agrees (b ∷ begun) pieces end done [] settled = refl
+left_agrees (b ∷ begun) pieces end done [] settled =
+    given_agrees (b ∷ begun) pieces end done [] (left_with (b ∷ begun) pieces end)
 left_agrees (b ∷ begun) pieces end done (r ∷ room) settled =
     given_agrees (b ∷ begun) pieces end done (r ∷ room) (left_with (b ∷ begun) pieces end)
 left_agrees [] pieces end done [] settled = refl

@@ -72,11 +72,20 @@ impl Play<'_> {
         ensures { ChecksLine self.now (option_map view_line line.entry) result }
     {
         match line {
-            Some(ScriptLine::Open { template, json }) => self.check_open(alloc, template, json),
-            Some(ScriptLine::Pull { .. }) => Ok(()),
-            Some(ScriptLine::Close { .. }) => Ok(()),
-            Some(ScriptLine::Publish(_)) => Ok(()),
+            Some(line) => self.check_step(alloc, line),
             None => Err(Refusal::Because(Code::Step)),
+        }
+    }
+
+    /// Checks what a line asks for that is one of a script.
+    fn check_step(&self, alloc: Global, line: ScriptLine<'_>) -> Result<(), Refusal<Code>>
+        ensures { ChecksLine self.now (Some (view_line line.entry)) result }
+    {
+        match line {
+            ScriptLine::Open { template, json } => self.check_open(alloc, template, json),
+            ScriptLine::Pull { .. } => Ok(()),
+            ScriptLine::Close { .. } => Ok(()),
+            ScriptLine::Publish(_) => Ok(()),
         }
     }
 
@@ -176,11 +185,29 @@ impl Play<'_> {
             PlaysLine self.now (option_map view_line line.entry) desk.old desk.new (string_bytes text)) }
     {
         match line {
-            Some(ScriptLine::Open { template, json }) => self.open(alloc, desk, template, json),
-            Some(ScriptLine::Pull { name, count }) => pull(alloc, desk, room, steps, name, count),
-            Some(ScriptLine::Close { name }) => close(alloc, desk, name),
-            Some(ScriptLine::Publish(bundle)) => self.publish(alloc, desk, bundle),
+            Some(line) => self.play_step(alloc, desk, room, steps, line),
             None => Ok(String::new(alloc)),
+        }
+    }
+
+    /// Plays what a line asks for that is one of a script.
+    fn play_step<L: Ledger>(
+        &self,
+        alloc: Global,
+        desk: &mut Desk,
+        room: &mut Vec<u8>,
+        steps: &mut Steps<L>,
+        line: ScriptLine<'_>,
+    ) -> Result<String, OutOfMemory>
+        requires { desk.old.opened < u64.MAX }
+        ensures { IfOk result (λ text.
+            PlaysLine self.now (Some (view_line line.entry)) desk.old desk.new (string_bytes text)) }
+    {
+        match line {
+            ScriptLine::Open { template, json } => self.open(alloc, desk, template, json),
+            ScriptLine::Pull { name, count } => pull(alloc, desk, room, steps, name, count),
+            ScriptLine::Close { name } => close(alloc, desk, name),
+            ScriptLine::Publish(bundle) => self.publish(alloc, desk, bundle),
         }
     }
 

@@ -12,6 +12,6 @@ returns-in-Ok c =
 
 pub returns-in-Err : goal.returns-in-Err
 returns-in-Err c =
-    IfOk-weaker c.named_line.result _ _ (λ text is first second.
+    IfOk-weaker c.named_line-in-Err.result _ _ (λ text is first second.
     close_shows first second c.args.name c.close.result _ (named_line (codes "unknown") c.args.name) _ _ _ c.in-Err.is
-    c.close.ensures refl is) c.named_line.ensures
+    c.close.ensures refl is) c.named_line-in-Err.ensures
