@@ -1,5 +1,5 @@
 -- Lines of a script, as they are checked and as they are played.
-use Rattle.std.proofs.Common.{◌≡◌, ◌≤◌, ◌<◌, ◌+◌, ℕ, List, [], ◌∷◌, Option, None, Some, Ok, Err, length, take, refl, sym}
+use Rattle.std.proofs.Common.{◌≡◌, ◌≤◌, ◌<◌, ◌+◌, ℕ, List, [], ◌∷◌, Option, None, Some, Ok, Err, length, refl, sym}
 use Rattle.std.proofs.Common.{ap, ◌∙◌, subst, arith, codes}
 use Rattle.std.specs.Prelude.{IfSome, Result, encode_utf8_all}
 use Rattle.std.specs.Option.{option_map_or}
@@ -21,14 +21,12 @@ use Rattle.soy_top.specs.declared.play.StepFault.{StepFault}
 use Rattle.soy_top.specs.DeskLines.{CloseShows, LineShows, OpenShows, PullShows, program_of}
 use Rattle.soy_top.specs.Line.{ended}
 use Rattle.soy_top.specs.Played.{Closes, Pulls, bundle_number, named_line}
-use Rattle.soy_top.specs.Script.{ScriptBundle, ScriptLine, Open, Publish, script_line, script_lines}
+use Rattle.soy_top.specs.Script.{ScriptBundle, Open, Publish, script_line, script_lines}
 use Rattle.soy_top.specs.ScriptSteps.{open_entry, open_step, read_values}
 use Rattle.soy_top.specs.ViewPlay.{AtLine, Checks, ChecksLine, ChecksScript, IsShort, PlaysLine, ReadsOpen, play_entry}
-use Rattle.soy_top.specs.ViewPlay.{play_opening, play_opens, play_params, read_step}
-use Rattle.soy_top.specs.ViewPlay.Checks.{Ended, Passes, Stops}
-use Rattle.soy_top.specs.ViewScript.{lines_left}
+use Rattle.soy_top.specs.ViewPlay.{play_opening, play_opens, play_params}
+use Rattle.soy_top.specs.ViewPlay.Checks.{Passes, Stops}
 use Rattle.soy_tree.specs.ShortLists.{HasShortLists}
-use Rattle.soy_tree.specs.Types.{Name}
 use Rattle.soy_tree.specs.Values.{Value}
 use Rattle.soy_tree.specs.ViewValues.{view_value}
 use Rattle.soy_tree.specs.declared.value.Value as code_value

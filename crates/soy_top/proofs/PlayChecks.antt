@@ -1,12 +1,10 @@
 -- What is answered to a `play` by a script that was checked.
-use Rattle.std.proofs.Common.{◌≡◌, ℕ, ◌+◌, Bool, true, false, cond, List, [], ◌∷◌, Option, None, Some, Ok, Err, length}
+use Rattle.std.proofs.Common.{◌≡◌, ℕ, ◌+◌, Bool, true, false, cond, List, [], ◌∷◌, Option, None, Some, Ok, Err}
 use Rattle.std.proofs.Common.{refl, ap, sym, ◌∙◌, subst, inl, inr}
-use Rattle.std.specs.Prelude.{Result, encode_utf8_all, option_and_then, slice_get, String}
+use Rattle.std.specs.Prelude.{Result, encode_utf8_all, option_and_then, slice_get}
 use Rattle.std.specs.List.{position}
 use Rattle.std.specs.Str.{chars, is_utf8, IsUtf8}
 use Rattle.std.specs.Str.Lossy.{utf8_valid_len}
-use Rattle.std.specs.String.{string_bytes}
-use Rattle.std.specs.declared.alloc.Global.{Global}
 use Rattle.std.proofs.lemmas.Str.{IsUtf8-from_is_utf8, is_utf8-from_IsUtf8}
 use Rattle.html_state.specs.AfterPieces.{Piece}
 use Rattle.html_state.specs.declared.row.State.{State}
@@ -24,7 +22,6 @@ use Rattle.soy_front.specs.FilesAnswer.{ReadFiles, files_answer}
 use Rattle.soy_front.specs.FrontAnswer.{Front, LanguageOrFault, answer_by_files, front_answer, language_answer}
 use Rattle.soy_front.specs.FrontAnswer.{language_or_fault, walk_answer}
 use Rattle.soy_front.specs.declared.compiling.Compiled.{Compiled}
-use Rattle.soy_front.specs.declared.fault.FrontFault.{FrontFault}
 use Rattle.soy_front.proofs.DataFits.{having_fit, params_are, read_have}
 use Rattle.soy_front.proofs.EntryNumbers.{entry_declared}
 use Rattle.soy_front.proofs.FilesLaws.{read_as}
@@ -32,13 +29,11 @@ use Rattle.soy_meaning.specs.Outcome.{GivesPiece, Outcome, RunEnds, Spent, end_o
 use Rattle.soy_meaning.specs.Pieces.{template_run}
 use Rattle.soy_meaning.specs.TypedData.{FitsData}
 use Rattle.soy_meaning.specs.Walk.{WalkFault, Walked}
-use Rattle.soy_top.specs.declared.ending.Ending.TheVariants as ending
 use Rattle.soy_top.specs.declared.play.Play.{Play}
 use Rattle.soy_top.specs.declared.play.StepFault.{StepFault}
-use Rattle.soy_top.specs.Accepts.{Refuses}
-use Rattle.soy_top.specs.Answer.{Answer, Done, Refused, open_of, opens_of, params_of, play_answer, steps_answer, steps_of}
+use Rattle.soy_top.specs.Answer.{Done, Refused, open_of, opens_of, params_of, play_answer, steps_answer, steps_of}
 use Rattle.soy_top.specs.Answer.{template_outcome, utf8_fault}
-use Rattle.soy_top.specs.Line.{ended, fault_line}
+use Rattle.soy_top.specs.Line.{fault_line}
 use Rattle.soy_top.specs.Played.{PlayStep, Opens, first_left, played_text}
 use Rattle.soy_top.specs.Script.{ScriptLine, Open, script_line, script_lines}
 use Rattle.soy_top.specs.ScriptSteps.{and_steps, line_step, open_entry, open_step, opening, read_values, step_line}

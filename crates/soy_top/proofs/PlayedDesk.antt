@@ -6,10 +6,9 @@ use Rattle.std.proofs.lemmas.Bool.{lt-ltb}
 use Rattle.std.proofs.lemmas.Bool.Decides.{nat_tests}
 use Rattle.std.proofs.lemmas.List.{drop_min, length-take-le, take-append-le, take_all, take_min}
 use Rattle.html_state.specs.AfterPieces.{Piece}
-use Rattle.soy_base.specs.declared.fault.TooDeep.{TooDeep}
 use Rattle.soy_base.specs.declared.memory.Refusal.{Refusal}
 use Rattle.soy_base.specs.declared.memory.Refusal.TheVariants as refusal
-use Rattle.render_core.specs.Rest.{Rest, piece_bytes}
+use Rattle.render_core.specs.Rest.{piece_bytes}
 use Rattle.soy_desk.specs.Alone.{Left, left_of}
 use Rattle.soy_desk.specs.DeskRun as desk_run
 use Rattle.soy_desk.specs.DeskRun.{CloseStep, DeskAnswer, DeskRun, OpenStep, PullCall, PullStep, PullsNamed, PullsNone}
@@ -22,10 +21,10 @@ use Rattle.soy_desk.specs.declared.fault.Unknown.{Unknown}
 use Rattle.soy_desk.proofs.Entries.{named_name}
 use Rattle.soy_desk.proofs.Lefts.{Pulled, Settled, gives_of, left_with, pull_is, pulled, settles}
 use Rattle.soy_meaning.specs.Outcome.{RunEnd, StopsAt, WholeRun}
-use Rattle.soy_top.specs.DeskLines.{CloseShows, LineShows, OpenShows, OpensAs, PullShows, Shows, ShowsAll, program_of}
+use Rattle.soy_top.specs.DeskLines.{CloseShows, OpenShows, OpensAs, PullShows, Shows, ShowsAll, program_of}
 use Rattle.soy_top.specs.Line.{ended}
 use Rattle.soy_top.specs.Played.{Given, OpenPage, PlayState, PlayStep, Opens, Pulls, Closes, Publishes, Shown}
-use Rattle.soy_top.specs.Played.{bundle_number, full_line, given_line, given_of, named_line, next_given, opened_left}
+use Rattle.soy_top.specs.Played.{full_line, given_of, named_line, next_given, opened_left}
 use Rattle.soy_top.specs.Played.{page_named, play_start, played_from, played_text, pull_left, show_close, show_given}
 use Rattle.soy_top.specs.Played.{show_open, show_pull, show_step, with_page, without_page}
 use Rattle.soy_top.specs.Script.{ScriptBundle, FirstBundle, SecondBundle}

@@ -1,11 +1,10 @@
 -- Two readings of a script that open the same have the same steps.
-use Rattle.std.proofs.Common.{◌≡◌, ℕ, ◌+◌, List, [], ◌∷◌, Option, None, Some, Ok, Err, refl, ap, ◌∙◌}
+use Rattle.std.proofs.Common.{◌≡◌, ℕ, ◌+◌, List, [], ◌∷◌, Option, None, Some, refl, ap, ◌∙◌}
 use Rattle.std.specs.Prelude.{Result}
 use Rattle.soy_base.specs.declared.code.Code.{Code}
 use Rattle.soy_tree.specs.Trees.{Param}
 use Rattle.soy_tree.specs.Types.{Name}
 use Rattle.soy_tree.specs.Values.{Value}
-use Rattle.soy_top.specs.declared.play.StepFault.{StepFault}
 use Rattle.soy_top.specs.Played.{PlayStep}
 use Rattle.soy_top.specs.Script.{ScriptLine, Open, Pull, Close, Publish, script_line}
 use Rattle.soy_top.specs.ScriptSteps.{and_steps, line_step, open_step, opening, steps_from}

@@ -1,4 +1,4 @@
-use Rattle.std.proofs.Common.{Ok, Err, refl, sym, codes}
+use Rattle.std.proofs.Common.{refl, codes}
 use Rattle.std.proofs.lemmas.Result.{IfOk-weaker}
 use Rattle.soy_top.specs.Played.{named_line}
 use Rattle.soy_top.proofs.CheckedLines.{close_shows}

@@ -23,7 +23,8 @@ returns-in-Ok g c =
     omega (arith, c.pull.auto.room, value, c.resize.new.self.ok.0) in
     IfOk-weaker c.given_line.result _ _ (λ text is first second.
     pull_shows first second c.args.name c.args.count call _ _ _ _ _ c.in-Ok.is
-    (ap length c.as_mut_slice.ensures.value ∙ (sym c.resize.new.self.ok.0 ∙ c.in_ok-resize.ensures.len)) c.pull.ensures refl
+    (ap length c.as_mut_slice.ensures.value ∙ (sym c.resize.new.self.ok.0 ∙ c.in_ok-resize.ensures.len))
+    c.pull.ensures refl
     (is ∙ ap (λ (bs : List ℕ). ended (given_line c.args.name bs))
     (c.as_slice.ensures.value ∙ (c.truncate.ensures.items ∙ ap (λ (bs : List ℕ). take c.in-Ok.n bs)
     (with_items_is c.resize.new.self c.pull.new.room same))))) c.given_line.ensures
@@ -39,8 +40,10 @@ returns-in-Err-Because-TooDeep g c =
     } in
     IfOk-weaker c.named_line.result _ _ (λ text is first second.
     pull_shows first second c.args.name c.args.count call _ (named_line (codes "toodeep") c.args.name) _ _ _
-    (c.in-Err-Because-TooDeep.is ∙ ap Err (c.in-Err-Because-TooDeep.field-0-is ∙ ap Because c.in-Err-Because-TooDeep.field-0-0-is))
-    (ap length c.as_mut_slice.ensures.value ∙ (sym c.resize.new.self.ok.0 ∙ c.in_ok-resize.ensures.len)) c.pull.ensures refl is) c.named_line.ensures
+    (c.in-Err-Because-TooDeep.is
+    ∙ ap Err (c.in-Err-Because-TooDeep.field-0-is ∙ ap Because c.in-Err-Because-TooDeep.field-0-0-is))
+    (ap length c.as_mut_slice.ensures.value ∙ (sym c.resize.new.self.ok.0 ∙ c.in_ok-resize.ensures.len))
+    c.pull.ensures refl is) c.named_line.ensures
 
 pub returns-in-Err-Because-Unknown : goal.returns-in-Err-Because-Unknown
 returns-in-Err-Because-Unknown g c =
@@ -53,6 +56,8 @@ returns-in-Err-Because-Unknown g c =
     } in
     IfOk-weaker c.named_line-in-Err-Because-Unknown.result _ _ (λ text is first second.
     pull_shows first second c.args.name c.args.count call _ (named_line (codes "unknown") c.args.name) _ _ _
-    (c.in-Err-Because-Unknown.is ∙ ap Err (c.in-Err-Because-Unknown.field-0-is ∙ ap Because c.in-Err-Because-Unknown.field-0-0-is))
-    (ap length c.as_mut_slice.ensures.value ∙ (sym c.resize.new.self.ok.0 ∙ c.in_ok-resize.ensures.len)) c.pull.ensures refl is)
+    (c.in-Err-Because-Unknown.is
+    ∙ ap Err (c.in-Err-Because-Unknown.field-0-is ∙ ap Because c.in-Err-Because-Unknown.field-0-0-is))
+    (ap length c.as_mut_slice.ensures.value ∙ (sym c.resize.new.self.ok.0 ∙ c.in_ok-resize.ensures.len))
+    c.pull.ensures refl is)
     c.named_line-in-Err-Because-Unknown.ensures

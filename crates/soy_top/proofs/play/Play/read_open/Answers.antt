@@ -1,6 +1,5 @@
-use Rattle.std.proofs.Common.{◌≡◌, ◌∙◌, ap, sym, Some, Ok, Err}
+use Rattle.std.proofs.Common.{◌∙◌, ap, sym, Ok, Err}
 use Rattle.std.specs.List.{position}
-use Rattle.std.specs.Prelude.{encode_utf8_all}
 use Rattle.std.specs.Str.{chars}
 use Rattle.std.proofs.lemmas.Str.{encodes-chars}
 use Rattle.soy_front.specs.Entries.{is_entry_routine}
