@@ -1,5 +1,6 @@
 -- What the output took of the lines of a script, as they are played one after the other.
-use Rattle.std.proofs.Common.{◌≡◌, ◌≤◌, ◌+◌, arith, ℕ, List, [], ◌∷◌, ◌++◌, Option, Ok, Err, length, take, refl, sym, ap, ◌∙◌, subst}
+use Rattle.std.proofs.Common.{◌≡◌, ◌≤◌, ◌+◌, arith, ℕ, List, [], ◌∷◌, ◌++◌, Option, Ok, Err}
+use Rattle.std.proofs.Common.{length, take, refl, sym, ap, ◌∙◌, subst}
 use Rattle.std.specs.Prelude.{Result}
 use Rattle.std.specs.Str.{chars}
 use Rattle.soy_base.specs.declared.code.Code.{Code}
@@ -62,7 +63,8 @@ line_follows first second state (Err fault) steps before after text stands (same
 -- a line opens one rendering at most
 step_opens : (before after : DeskState) (s : Step) → StepsTo before s after → after.opened ≤ before.opened + 1
 step_opens before after (desk_run.Publish program) step = subst (OpensOne before) (sym step) (omega arith)
-step_opens before after (desk_run.Open input template (Ok name)) step = subst (OpensOne before) (sym step.2) (omega arith)
+step_opens before after (desk_run.Open input template (Ok name)) step =
+    subst (OpensOne before) (sym step.2) (omega arith)
 step_opens before after (desk_run.Open input template (Err (refusal.Because full))) step =
     subst (OpensOne before) (sym step.1) (omega arith)
 step_opens before after (desk_run.Open input template (Err refusal.OutOfMemory)) step =
@@ -110,8 +112,8 @@ module _ (play : Play) where
         record {
           state = f.next;
           stands = f.stands;
-          so_far = put_more before now then (view_play play).text (played_from on.state (play_steps play (line ∷ lines)))
-              text (played_from f.next (play_steps play lines)) on.so_far f.split took;
+          so_far = put_more before now then (view_play play).text
+              (played_from on.state (play_steps play (line ∷ lines))) text (played_from f.next (play_steps play lines)) on.so_far f.split took;
         }
 
     -- a prefix of it was put

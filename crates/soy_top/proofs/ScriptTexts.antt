@@ -1,5 +1,5 @@
 -- Lines and numbers of scripts.
-use Rattle.std.proofs.Common.{◌≡◌, ℕ, ◌^◌, ◌<◌, Bool, true, false, ◌&&◌, not, List, [], ◌∷◌, Option, Some, None, ◌==◌}
+use Rattle.std.proofs.Common.{◌≡◌, ℕ, ◌^◌, ◌<◌, Bool, true, false, ◌&&◌, List, [], ◌∷◌, Option, Some, None, ◌==◌}
 use Rattle.std.proofs.Common.{Result, Ok, Err, length, refl, ap, ◌∙◌, sym, arith, cond, nat_lt, subst}
 use Rattle.std.specs.Char.{is_ascii_digit}
 use Rattle.std.specs.List.{list_all, onto_first, slice_split}

@@ -1,4 +1,4 @@
-use Rattle.std.proofs.Common.{◌∙◌, ap, sym, option_map, codes}
+use Rattle.std.proofs.Common.{◌∙◌, ap, sym, option_map}
 use Rattle.std.specs.Str.{chars}
 use Rattle.soy_top.specs.Script.{close_line, open_line, publish_line, pull_line}
 use Rattle.soy_top.proofs.ScriptTexts.{chosen, passed}
