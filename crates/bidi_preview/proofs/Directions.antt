@@ -78,4 +78,5 @@ directed_start initial i e =
 
 pub directed_end : (initial : List Class) (i : ℕ) (sides : List Bool) (xs : List Class) → i ≡ 0
     → DirectedFrom initial i sides xs → xs ≡ directed_classes initial
-directed_end initial i sides xs e p = sym (ap (λ n. drop n xs) e) ∙ p.done ∙ ap (λ n. directed_classes (drop n initial)) e
+directed_end initial i sides xs e p = sym (ap (λ n. drop n xs) e) ∙ p.done
+    ∙ ap (λ n. directed_classes (drop n initial)) e

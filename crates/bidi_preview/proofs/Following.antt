@@ -94,7 +94,8 @@ passing-none-step : (base level i n o : ℕ) (k : KeptCharacter) (X : List (Opti
     → closing_from i n (Some k ∷ X) ≡ None → (t : SequenceStep) → step_past_isolate n k.role ≡ t
     → ((m : ℕ) → closing_from (suc i) m X ≡ None → sequence_along Forward base level (Passing m o) X ≡ ([], o))
     → sequence_along Forward base level (Passing n o) (Some k ∷ X) ≡ ([], o)
-passing-none-step base level i n o k X h Take e more = absurd (never_some i (sym (closing_from-step i n k X Take e) ∙ h))
+passing-none-step base level i n o k X h Take e more = absurd
+    (never_some i (sym (closing_from-step i n k X Take e) ∙ h))
 passing-none-step base level i n o k X h (Pass m) e more =
     sequence_along-sequence_step Forward base level (Passing n o) k X (Pass m) e
     ∙ more m (sym (closing_from-step i n k X (Pass m) e) ∙ h)

@@ -19,34 +19,42 @@ use Rattle.bidi_order.proofs.RestoredStatus.Other.{other_embeds, other_pops, oth
 pub data AllAt (level : ℕ) : List (Option KeptCharacter) → Type 0 where
   at_end : AllAt level []
   at_none : {V : List (Option KeptCharacter)} → AllAt level V → AllAt level (None ∷ V)
-  at_some : {k : KeptCharacter} {V : List (Option KeptCharacter)} → k.level ≡ level → AllAt level V → AllAt level (Some k ∷ V)
+  at_some : {k : KeptCharacter} {V : List (Option KeptCharacter)} → k.level ≡ level → AllAt level V
+      → AllAt level (Some k ∷ V)
 
 -- a status with so many more overflow isolates
 abbrev pub overflowed : DirectionalStatus → ℕ → DirectionalStatus
 overflowed s n = record s { overflow_isolates = s.overflow_isolates + n }
 
 has_room-overflowed : (level n : ℕ) (s : DirectionalStatus) → has_room level (overflowed s (suc n)) ≡ false
-has_room-overflowed level n s = go (nat_le level 125) (s.overflow_isolates + suc n == 0) (s.overflow_embeddings == 0) (ne_eqb (s.overflow_isolates + suc n) 0 (λ e. omega arith))
+has_room-overflowed level n s = go (nat_le level 125) (s.overflow_isolates + suc n == 0) (s.overflow_embeddings == 0)
+    (ne_eqb (s.overflow_isolates + suc n) 0 (λ e. omega arith))
   where
     go : (a b c : Bool) → b ≡ false → (a && (b && c)) ≡ false
     go true b c e = ap (λ b. b && c) e
     go false b c e = refl
 
-same_count : (s : DirectionalStatus) (m n : ℕ) → m ≡ n → record s { overflow_isolates = m } ≡ record s { overflow_isolates = n }
+same_count : (s : DirectionalStatus) (m n : ℕ) → m ≡ n → record s { overflow_isolates = m }
+    ≡ record s { overflow_isolates = n }
 same_count s m n e = ap (λ (k : ℕ). record s { overflow_isolates = k }) e
 
-status_after-overflowed : (a : ExplicitAct) (n : ℕ) (s : DirectionalStatus) → Other a → status_after a (overflowed s (suc n)) ≡ overflowed s (suc n)
+status_after-overflowed : (a : ExplicitAct) (n : ℕ) (s : DirectionalStatus) → Other a
+    → status_after a (overflowed s (suc n)) ≡ overflowed s (suc n)
 status_after-overflowed a n s (other_embeds b o) =
-    cond-false _ _ _ (has_room-overflowed (next_level b (top_entry s).level) n s) ∙ cond-false _ _ _ (ne_eqb (s.overflow_isolates + suc n) 0 (λ e. omega arith))
+    cond-false _ _ _ (has_room-overflowed (next_level b (top_entry s).level) n s)
+    ∙ cond-false _ _ _ (ne_eqb (s.overflow_isolates + suc n) 0 (λ e. omega arith))
 status_after-overflowed a n s other_pops = cond-true _ _ _ (lt-ltb 0 (s.overflow_isolates + suc n) (omega arith))
 status_after-overflowed a n s other_drops = refl
 status_after-overflowed a n s other_stands = refl
 
-isolates-overflowed : (b : Bool) (n : ℕ) (s : DirectionalStatus) → status_after (Isolates b) (overflowed s (suc n)) ≡ overflowed s (suc (suc n))
-isolates-overflowed b n s = cond-false _ _ _ (has_room-overflowed (next_level b (top_entry s).level) n s) ∙ same_count s (s.overflow_isolates + suc n + 1) (s.overflow_isolates + suc (suc n)) (omega arith)
+isolates-overflowed : (b : Bool) (n : ℕ) (s : DirectionalStatus) → status_after (Isolates b) (overflowed s (suc n))
+    ≡ overflowed s (suc (suc n))
+isolates-overflowed b n s = cond-false _ _ _ (has_room-overflowed (next_level b (top_entry s).level) n s)
+    ∙ same_count s (s.overflow_isolates + suc n + 1) (s.overflow_isolates + suc (suc n)) (omega arith)
 
 ends-overflowed : (n : ℕ) (s : DirectionalStatus) → status_after EndsIsolate (overflowed s (suc n)) ≡ overflowed s n
-ends-overflowed n s = cond-true _ _ _ (lt-ltb 0 (s.overflow_isolates + suc n) (omega arith)) ∙ same_count s (s.overflow_isolates + suc n - 1) (s.overflow_isolates + n) (omega arith)
+ends-overflowed n s = cond-true _ _ _ (lt-ltb 0 (s.overflow_isolates + suc n) (omega arith))
+    ∙ same_count s (s.overflow_isolates + suc n - 1) (s.overflow_isolates + n) (omega arith)
 
 overflowed-none : (s : DirectionalStatus) → overflowed s 0 ≡ s
 overflowed-none s = same_count s (s.overflow_isolates + 0) s.overflow_isolates (omega arith)
@@ -58,17 +66,23 @@ record Flat (d : ℕ) (s : DirectionalStatus) (v rest : List ℕ) : Type 0 where
   flat : AllAt (top_entry s).level slots
   long : length slots ≡ length v
 
-flat-more : (d e : ℕ) (s : DirectionalStatus) (c : ℕ) (cs rest : List ℕ) (a : ExplicitAct) → act_of_character c (cs ++ rest) ≡ a → status_after a (overflowed s (suc d)) ≡ overflowed s (suc e) → Flat e s cs rest
-    → ((V : List (Option KeptCharacter)) → AllAt (top_entry s).level V → AllAt (top_entry s).level (explicit_character c a (overflowed s (suc d)) ∷ V)) → Flat d s (c ∷ cs) rest
+flat-more : (d e : ℕ) (s : DirectionalStatus) (c : ℕ) (cs rest : List ℕ) (a : ExplicitAct)
+    → act_of_character c (cs ++ rest) ≡ a → status_after a (overflowed s (suc d)) ≡ overflowed s (suc e)
+    → Flat e s cs rest
+    → ((V : List (Option KeptCharacter)) → AllAt (top_entry s).level V
+    → AllAt (top_entry s).level (explicit_character c a (overflowed s (suc d)) ∷ V)) → Flat d s (c ∷ cs) rest
 flat-more d e s c cs rest a is to more level = record {
   slots = explicit_character c a (overflowed s (suc d)) ∷ more.slots;
-  is = ap (λ a. explicit_character c a (overflowed s (suc d)) ∷ explicit_from (status_after a (overflowed s (suc d))) (cs ++ rest)) is
-      ∙ ap (λ t. explicit_character c a (overflowed s (suc d)) ∷ explicit_from t (cs ++ rest)) to ∙ ap (λ l. explicit_character c a (overflowed s (suc d)) ∷ l) more.is;
+  is = ap (λ a. explicit_character c a (overflowed s (suc d)) ∷ explicit_from (status_after a (overflowed s (suc d)))
+      (cs ++ rest)) is
+      ∙ ap (λ t. explicit_character c a (overflowed s (suc d)) ∷ explicit_from t (cs ++ rest)) to
+      ∙ ap (λ l. explicit_character c a (overflowed s (suc d)) ∷ l) more.is;
   flat = level more.slots more.flat;
   long = ap suc more.long;
 }
 
-level-other : (c d : ℕ) (s : DirectionalStatus) (a : ExplicitAct) → Other a → (V : List (Option KeptCharacter)) → AllAt (top_entry s).level V → AllAt (top_entry s).level (explicit_character c a (overflowed s (suc d)) ∷ V)
+level-other : (c d : ℕ) (s : DirectionalStatus) (a : ExplicitAct) → Other a → (V : List (Option KeptCharacter))
+    → AllAt (top_entry s).level V → AllAt (top_entry s).level (explicit_character c a (overflowed s (suc d)) ∷ V)
 level-other c d s a (other_embeds b o) V l = at_none l
 level-other c d s a other_pops V l = at_none l
 level-other c d s a other_drops V l = at_none l
@@ -78,13 +92,16 @@ flat_content : (d : ℕ) (s : DirectionalStatus) (v rest : List ℕ) → Matched
 flat_content d s v rest matched_end = record { slots = []; is = refl; flat = at_end; long = refl }
 flat_content d s v rest (matched_opens {c = c} {cs = cs} b m) =
     let does = act_of_class-begins (bidi_class c) (map bidi_class (cs ++ rest)) b in
-    flat-more d (suc d) s c cs rest (Isolates does.0) does.1 (isolates-overflowed does.0 d s) (flat_content (suc d) s cs rest m) (λ V l. at_some refl l)
+    flat-more d (suc d) s c cs rest (Isolates does.0) does.1 (isolates-overflowed does.0 d s)
+    (flat_content (suc d) s cs rest m) (λ V l. at_some refl l)
 flat_content d s v rest (matched_ends {d = e} {c = c} {cs = cs} b m) =
-    flat-more (suc e) e s c cs rest EndsIsolate (act_of_class-ends (bidi_class c) (map bidi_class (cs ++ rest)) b) (ends-overflowed (suc e) s) (flat_content e s cs rest m)
+    flat-more (suc e) e s c cs rest EndsIsolate (act_of_class-ends (bidi_class c) (map bidi_class (cs ++ rest)) b)
+    (ends-overflowed (suc e) s) (flat_content e s cs rest m)
     (λ V l. at_some (ap (λ t. (top_entry t).level) (ends-overflowed (suc e) s)) l)
 flat_content d s v rest (matched_plain {c = c} {cs = cs} b e m) =
     let other = act_of_class-other (bidi_class c) (map bidi_class (cs ++ rest)) b e in
-    flat-more d d s c cs rest (act_of_character c (cs ++ rest)) refl (status_after-overflowed (act_of_character c (cs ++ rest)) d s other) (flat_content d s cs rest m)
+    flat-more d d s c cs rest (act_of_character c (cs ++ rest)) refl
+    (status_after-overflowed (act_of_character c (cs ++ rest)) d s other) (flat_content d s cs rest m)
     (level-other c d s (act_of_character c (cs ++ rest)) other)
 
 -- an isolate in overflow
@@ -94,7 +111,9 @@ pub record Overflow (s : DirectionalStatus) (i p : ℕ) (v back : List ℕ) : Ty
   pub flat : AllAt (top_entry s).level slots
   pub long : length slots ≡ length v
 
-pub overflow : (s : DirectionalStatus) (i p : ℕ) (v back : List ℕ) (b : Bool) → act_of_character i (v ++ p ∷ back) ≡ Isolates b → has_room (next_level b (top_entry s).level) s ≡ false → is_closing p ≡ true → Matched 0 v → Overflow s i p v back
+pub overflow : (s : DirectionalStatus) (i p : ℕ) (v back : List ℕ) (b : Bool) → act_of_character i (v ++ p ∷ back)
+    ≡ Isolates b → has_room (next_level b (top_entry s).level) s ≡ false → is_closing p ≡ true → Matched 0 v
+    → Overflow s i p v back
 unfolding opening closing
 overflow s i p v back b does full ep m =
     let inside : Flat 0 s v (p ∷ back) = flat_content 0 s v (p ∷ back) m in
@@ -104,7 +123,8 @@ overflow s i p v back b does full ep m =
       is = ap (λ a. explicit_character i a s ∷ explicit_from (status_after a s) (v ++ p ∷ back)) does
           ∙ ap (λ t. Some (opening s) ∷ explicit_from t (v ++ p ∷ back)) (cond-false _ _ _ full)
           ∙ ap (λ l. Some (opening s) ∷ l) (inside.is ∙ ap (λ l. inside.slots ++ l) (
-          ap (λ a. explicit_character p a (overflowed s 1) ∷ explicit_from (status_after a (overflowed s 1)) back) (act_of_class-ends (bidi_class p) (map bidi_class back) ep)
+          ap (λ a. explicit_character p a (overflowed s 1) ∷ explicit_from (status_after a (overflowed s 1)) back)
+          (act_of_class-ends (bidi_class p) (map bidi_class back) ep)
           ∙ ap (λ t. Some (closing t) ∷ explicit_from t back) restored));
       flat = inside.flat;
       long = inside.long;
@@ -115,7 +135,8 @@ pub data Isolate (s : DirectionalStatus) (i p : ℕ) (v back : List ℕ) : Type 
   of_valid : Value s i p v back → Isolate s i p v back
   of_overflow : Overflow s i p v back → Isolate s i p v back
 
-pub isolate : (s : DirectionalStatus) (i p : ℕ) (v back : List ℕ) → is_initiator i ≡ true → is_closing p ≡ true → Matched 0 v → Isolate s i p v back
+pub isolate : (s : DirectionalStatus) (i p : ℕ) (v back : List ℕ) → is_initiator i ≡ true → is_closing p ≡ true
+    → Matched 0 v → Isolate s i p v back
 isolate s i p v back bi ep m =
     let does = act_of_class-begins (bidi_class i) (map bidi_class (v ++ p ∷ back)) bi in
     elim (cases_Bool (has_room (next_level does.0 (top_entry s).level) s)) [

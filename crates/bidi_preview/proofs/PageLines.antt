@@ -6,7 +6,8 @@ use Rattle.std.specs.Prelude.{codes, filter, slice_index_or}
 use Rattle.std.specs.Str.{bytes_eq}
 use Rattle.std.specs.List.{flat_map}
 use Rattle.std.proofs.lemmas.List.{append-nil, length-append, reverse-append, take-append-drop}
-use Rattle.bidi_order.specs.Elements.{DirAttribute, OpenElement, content_right_to_left, dir_attribute, element_direction}
+use Rattle.bidi_order.specs.Elements.{DirAttribute, OpenElement, content_right_to_left, dir_attribute}
+use Rattle.bidi_order.specs.Elements.{element_direction}
 use Rattle.bidi_order.specs.Elements.{elements_closed, elements_left, has_override, is_inline, is_void}
 use Rattle.bidi_order.specs.Elements.{left_open, opened_element}
 use Rattle.bidi_order.specs.Elements.DirAttribute.{IsLtr, IsRtl, IsAuto}
@@ -106,7 +107,8 @@ start_void context p name value void rest known = (
   ap (λ b. with_rest p (before_rest
       (if b then [] else element_start (opened_element p.opened name value None rest))
       (past_tag context name (if b then p.opened else opened_element p.opened name value None rest ∷ p.opened)
-      (lines_from context (if b then p.opened else opened_element p.opened name value None rest ∷ p.opened) rest)))) void,
+      (lines_from context (if b then p.opened else opened_element p.opened name value None rest ∷ p.opened) rest))))
+      void,
   known ∙ ap (λ b. (if b then [] else (if goes_by_content name (dir_attribute value)
       then content_right_to_left (name ∷ names_of p.opened) [] rest ∷ [] else []))
       ++ auto_directions (if b then names_of p.opened else name ∷ names_of p.opened) rest) void,

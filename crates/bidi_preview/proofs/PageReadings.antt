@@ -5,7 +5,8 @@ use Rattle.soy_base.specs.declared.code.Code.{Code}
 use Rattle.html_state.specs.declared.row.State.{State}
 use Rattle.html_state.specs.AfterPieces.Piece.{Static}
 use Rattle.html_state.specs.Next.{next, text_end}
-use Rattle.bidi_order.specs.MarkupTokens.{MarkupToken, PageReading, character_read, first_reading, read_all, tokens_from}
+use Rattle.bidi_order.specs.MarkupTokens.{MarkupToken, PageReading, character_read, first_reading, read_all}
+use Rattle.bidi_order.specs.MarkupTokens.{tokens_from}
 use Rattle.bidi_order.specs.MarkupTokens.{tokens_of}
 use Rattle.bidi_preview.specs.AutoDirections.{OpenName, answers_from}
 use Rattle.bidi_preview.specs.ReadingSteps.{GivesRest}
@@ -23,7 +24,8 @@ reads_more before after now c tokens text is gives =
           (read.0 ++ more.0, more.1)
       | Err code ↦ ([], None)
     ]).0) is
-    ∙ sym (ap (λ (p : List MarkupToken × PageReading). p.0 ++ (read_all None (record p.1 { state = now }) text).0) gives)
+    ∙ sym (ap (λ (p : List MarkupToken × PageReading). p.0 ++ (read_all None (record p.1 { state = now }) text).0)
+    gives)
 
 pub reads_none : (before : PageReading) (code : Code) (c : ℕ) (text : List ℕ) → next before.state c ≡ Err code
     → (read_all None before (c ∷ text)).0 ≡ []

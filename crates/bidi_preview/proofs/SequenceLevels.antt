@@ -127,7 +127,8 @@ module _ (base : ℕ) (X : List (Option KeptCharacter)) (explicit : IsExplicit b
     pub rest : k.resolved ∷ (after_in base k (drop (suc i) X)).0 ≡ map (resolved_at X base) is
     pub beside : (after_in base k (drop (suc i) X)).1 ≡ level
 
-  chain-follows : (i level : ℕ) (is : List ℕ) → Chain base X i is level → (k : KeptCharacter) → character_at X i ≡ Some k
+  chain-follows : (i level : ℕ) (is : List ℕ) → Chain base X i is level → (k : KeptCharacter) → character_at X i
+      ≡ Some k
       → Follows k i is level
   chain-follows i level is (chain_end {k = q} here next) k there =
       let same : q ≡ k = some_is (sym here ∙ there) in
@@ -230,17 +231,20 @@ module _ (base : ℕ) (X : List (Option KeptCharacter)) (explicit : IsExplicit b
         | inr from ↦ absurd (both_ways (is_some (get_or levels i None)) none (reached from))
       ]
     where
-      near_here : (f : ComesFrom base (initial_status base) explicit.text (take i X) k (drop (suc i) X) (explicit_cut i k here)) → character_at X (length f.prefix) ≡ Some f.near
+      near_here : (f : ComesFrom base (initial_status base) explicit.text (take i X) k (drop (suc i) X)
+          (explicit_cut i k here)) → character_at X (length f.prefix) ≡ Some f.near
       near_here f = ap (λ l. get_or l (length f.prefix) None) (line_cut X i k here
           ∙ ap (λ l. l ++ Some k ∷ drop (suc i) X) f.before_is
           ∙ append_assoc f.prefix (Some f.near ∷ f.between) (Some k ∷ drop (suc i) X))
           ∙ get_or-append_seam f.prefix (Some f.near) (f.between ++ Some k ∷ drop (suc i) X) None
 
-      goes : (f : ComesFrom base (initial_status base) explicit.text (take i X) k (drop (suc i) X) (explicit_cut i k here)) → next_character base X (length f.prefix) f.near ≡ GoesOn i
+      goes : (f : ComesFrom base (initial_status base) explicit.text (take i X) k (drop (suc i) X)
+          (explicit_cut i k here)) → next_character base X (length f.prefix) f.near ≡ GoesOn i
       goes f = ap (λ l. next_character base l (length f.prefix) f.near) (line_cut X i k here) ∙ f.goes
           ∙ ap GoesOn (front_long X i k here)
 
-      below : (f : ComesFrom base (initial_status base) explicit.text (take i X) k (drop (suc i) X) (explicit_cut i k here)) → length f.prefix < i
+      below : (f : ComesFrom base (initial_status base) explicit.text (take i X) k (drop (suc i) X)
+          (explicit_cut i k here)) → length f.prefix < i
       below f = omega (
         arith,
         ap length f.before_is,
@@ -279,7 +283,8 @@ levels-get base back (Some k ∷ R) (suc j) = levels-get base (Some k ∷ back) 
         → reverse (x ∷ F) ++ back ≡ reverse F ++ x ∷ back
     turned x F back = ap (λ l. l ++ back) (reverse-append (x ∷ []) F) ∙ append_assoc (reverse F) (x ∷ []) back
 
-pub levels-long : (base : ℕ) (back R : List (Option KeptCharacter)) → length (resolved_levels_from base back R) ≡ length R
+pub levels-long : (base : ℕ) (back R : List (Option KeptCharacter)) → length (resolved_levels_from base back R)
+    ≡ length R
 levels-long base back [] = refl
 levels-long base back (None ∷ R) = ap suc (levels-long base (None ∷ back) R)
 levels-long base back (Some k ∷ R) = ap suc (levels-long base (Some k ∷ back) R)

@@ -29,7 +29,8 @@ w7_step strong c cs = refl
 module _
     (rule : Class → List Class → List Class)
     (becomes remembers : Class → Class → Class)
-    (step : (strong c : Class) (cs : List Class) → rule strong (c ∷ cs) ≡ becomes c strong ∷ rule (remembers strong c) cs)
+    (step : (strong c : Class) (cs : List Class) → rule strong (c ∷ cs)
+    ≡ becomes c strong ∷ rule (remembers strong c) cs)
   where
     in_place : (strong after : Class) (xs : List Class) (i : ℕ) (d v : Class) (whole : List Class) → i < length xs
         → v ≡ becomes (get_or xs i d) strong → after ≡ remembers strong (get_or xs i d)

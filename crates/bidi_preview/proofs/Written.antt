@@ -95,7 +95,8 @@ module _ (base : ℕ) (line : List (Option KeptCharacter)) where
       → AreLevels base line is vs → i < length levels → has_level (written is vs levels) i ≡ true
   first-written i level is vs levels (chain_end here next) (levels_more {v = v} {values = vs'} has more) h =
       written-stays [] vs' (set levels i (Some v)) i (set-here levels i v h)
-  first-written i level is vs levels (chain_more {indexes = is'} here next c) (levels_more {v = v} {values = vs'} has more) h =
+  first-written i level is vs levels (chain_more {indexes = is'} here next c)
+      (levels_more {v = v} {values = vs'} has more) h =
       written-stays is' vs' (set levels i (Some v)) i (set-here levels i v h)
 
   -- an index after which its sequence doesn't go on without a level
@@ -113,9 +114,11 @@ module _ (base : ℕ) (line : List (Option KeptCharacter)) where
   written-closed : (i level : ℕ) (is vs : List ℕ) (levels : List (Option ℕ)) → length levels ≡ length line
       → Chain base line i is level → AreLevels base line is vs → (j : ℕ) → has_level (written is vs levels) j ≡ true
       → (has_level levels j ≡ true) ⊎ ClosedAt (written is vs levels) j
-  written-closed i level is vs levels long (chain_end {k = q} here next) (levels_more {v = v} {values = vs'} has more) j h =
+  written-closed i level is vs levels long (chain_end {k = q} here next)
+      (levels_more {v = v} {values = vs'} has more) j h =
       elim (set-before levels i v j h) [
-        | inl same ↦ inr (λ m k there goes. absurd (never (sym (subst (λ n. next_character base line n k ≡ GoesOn m) same
+        | inl same ↦ inr (λ m k there goes. absurd
+            (never (sym (subst (λ n. next_character base line n k ≡ GoesOn m) same
             goes) ∙ ap (next_character base line i) (same_character i k q
             (subst (λ n. character_at line n ≡ Some k) same there) here) ∙ next)))
         | inr old ↦ inl old

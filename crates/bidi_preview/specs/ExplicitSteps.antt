@@ -1,5 +1,5 @@
--- How the explicit levels are read (UAX #9, X1 to X9): each FSI stands as the RLI or LRI that it acts as, so that what a
--- character does goes by its own class alone.
+-- How the explicit levels are read (UAX #9, X1 to X9): each FSI stands as the RLI or LRI that it acts as, so that what
+-- a character does goes by its own class alone.
 --
 -- Of FSI, `1`, U+05D0, PDI the classes are RLI, EN, R, PDI.
 use Rattle.std.specs.Prelude.{◌≡◌, ℕ, Bool, true, false, ◌⊎◌, List, [], ◌∷◌, drop, take, length, slice_index_or}

@@ -1,5 +1,5 @@
--- How brackets and neutrals are resolved in place (UAX #9, N0 to N2): the characters of a sequence as two lists, and the
--- pairs of brackets by the index of the opening one, so that they stand in order.
+-- How brackets and neutrals are resolved in place (UAX #9, N0 to N2): the characters of a sequence as two lists, and
+-- the pairs of brackets by the index of the opening one, so that they stand in order.
 --
 -- Of `(`, `a`, `)` the partners are 2, none, none, and the one pair listed is (0, 2).
 use Rattle.std.specs.Prelude.{◌≡◌, ◌<◌, ◌≤◌, ℕ, zero, suc, Bool, true, false, List, [], ◌∷◌, ◌++◌, drop, take}

@@ -1,5 +1,6 @@
 -- The order of a line on its characters themselves (UAX #9, L2), where the definition has their indexes.
-use Rattle.std.specs.Prelude.{ℕ, ◌-◌, not, if◌then◌else◌, List, [], ◌∷◌, ◌++◌, map, filter, get_or, take, drop, reverse, Option, Some, None}
+use Rattle.std.specs.Prelude.{ℕ, ◌-◌, not, if◌then◌else◌, List, [], ◌∷◌, ◌++◌, map, filter, get_or, take, drop, reverse}
+use Rattle.std.specs.Prelude.{Option, Some, None}
 use Rattle.bidi_text.specs.Clean.{is_isolate_control}
 use Rattle.bidi_order.specs.VisualOrder.{LeveledCharacter, reversed_from, visual_order}
 

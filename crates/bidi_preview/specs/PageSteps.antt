@@ -1,6 +1,7 @@
 -- A page read token by token, as the code keeps what is known of it: the texts of the lines that ended, and the line
 -- that has begun.
-use Rattle.std.specs.Prelude.{◌≡◌, ℕ, Bool, true, false, if◌then◌else◌, List, [], ◌∷◌, ◌++◌, map, filter, drop, Option, Some}
+use Rattle.std.specs.Prelude.{◌≡◌, ℕ, Bool, true, false, if◌then◌else◌, List, [], ◌∷◌, ◌++◌, map, filter, drop, Option}
+use Rattle.std.specs.Prelude.{Some}
 use Rattle.std.specs.Prelude.{None, slice_index_or}
 use Rattle.bidi_order.specs.Elements.{DirAttribute, OpenElement, has_override}
 use Rattle.bidi_order.specs.Elements.DirAttribute.{IsLtr, IsRtl}

@@ -1,7 +1,7 @@
 -- A page read one character at a time, as the code keeps what is known of it, and what a character gives.
 --
--- What is known of a page beside the tokenizer's state is the tag that is being read, and the characters of text that may
--- be a reference. A static text has no label.
+-- What is known of a page beside the tokenizer's state is the tag that is being read, and the characters of text that
+-- may be a reference. A static text has no label.
 use Rattle.std.specs.Prelude.{◌≡◌, ℕ, Bool, true, false, List, [], ◌∷◌, ◌++◌, Option, Some, None, option_map}
 use Rattle.html_state.specs.declared.row.State.{State}
 use Rattle.bidi_order.specs.MarkupTokens.{MarkupToken, PageReading, labelled_characters, read_all}

@@ -104,8 +104,8 @@ abbrev pub BoundsEnd : Next → Type 0
 BoundsEnd (code.GoesOn i) = Unit {0}
 BoundsEnd (code.Ends level) = level ≤ 125
 
--- the sequences that begin before an index have their levels, and so has each character before it; beside it stands this
--- level
+-- the sequences that begin before an index have their levels, and so has each character before it; beside it stands
+-- this level
 pub record ResolvedUpTo (base : ℕ) (line : List (Option KeptCharacter)) (i before : ℕ) (levels : List (Option ℕ)) :
     Type 0 where
   pub progress : IsInProgress base line levels

@@ -51,7 +51,8 @@ fn read_bracket(
     requires long { length brackets.now ≡ length classes.now }
     requires partners { length partners.old ≡ length classes.now }
     requires within { index < length classes.now }
-    requires so_far { PairsSoFar (counting_brackets classes.now brackets.now) index (reverse opened.old.items) partners.old }
+    requires so_far { PairsSoFar (counting_brackets classes.now brackets.now) index
+        (reverse opened.old.items) partners.old }
     ensures { IfOk result (λ goes. SearchGoesOn goes (counting_brackets classes.now brackets.now) (index + 1)
         (reverse opened.new.items) partners.new) }
 {

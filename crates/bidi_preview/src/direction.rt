@@ -209,7 +209,8 @@ fn answer_at(k: usize, right_to_left: bool, answers: &mut [Option<bool>])
 fn left_of(opened: &[Searched], name: &[char]) -> Option<usize>
     ensures { MatchOption result
         (left_open (λ (w : OpenName). w.name) name.now (reverse opened.now) ≡ None)
-        (λ left. left_open (λ (w : OpenName). w.name) name.now (reverse opened.now) ≡ Some (reverse (take left opened.now))) }
+        (λ left. left_open (λ (w : OpenName). w.name) name.now (reverse opened.now)
+        ≡ Some (reverse (take left opened.now))) }
 {
     let mut above = opened.len();
     while above > 0 {

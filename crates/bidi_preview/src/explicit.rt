@@ -24,8 +24,8 @@ pub(crate) fn read_classes(alloc: Global, line: &[char]) -> Result<Vec<Class>, O
     Ok(classes)
 }
 
-/// X5c: the FSIs of a line, which is read from its end on. For each number of isolates that may be open the direction of
-/// the first strong character behind their ends is known.
+/// X5c: the FSIs of a line, which is read from its end on. For each number of isolates that may be open the direction
+/// of the first strong character behind their ends is known.
 #[tactic(auto, using(crate::proofs::Directions::directed_start, crate::proofs::Directions::directed_end))]
 fn direct_isolates(alloc: Global, classes: &mut [Class]) -> Result<(), OutOfMemory>
     ensures { OnOk result (classes.new ≡ directed_classes classes.old) }

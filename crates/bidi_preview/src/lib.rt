@@ -4,8 +4,8 @@
 //! is linear in the line: the explicit levels in one pass with a stack, isolates matched in one pass with a stack, and
 //! each isolating run sequence read, resolved in place and written once. `preview` answers exactly `seen` of a page, or
 //! that memory ran out: the page is read twice, for the directions that go by content and for its lines. Depends on
-//! bidi_order for the definitions, on html_state for the tokenizer's states, on bidi_class for classes and brackets, and
-//! on soy_base.
+//! bidi_order for the definitions, on html_state for the tokenizer's states, on bidi_class for classes and brackets,
+//! and on soy_base.
 #![tactic(auto)]
 
 mod absent;

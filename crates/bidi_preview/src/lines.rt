@@ -1,5 +1,6 @@
 //! The lines of a page, by the tags that end a line, with what stands in a line for its elements (UAX #9, 4.3, HL3).
-ghost use Rattle.std.specs.Prelude.{◌≡◌, ◌++◌, [], ◌∷◌, ◌≤◌, false, IfOk, IfSome, MatchOption, None, OnOk, Some, drop, option_map};
+ghost use Rattle.std.specs.Prelude.{◌≡◌, ◌++◌, [], ◌∷◌, ◌≤◌, false, IfOk, IfSome, MatchOption, None, OnOk, Some, drop};
+ghost use Rattle.std.specs.Prelude.{option_map};
 ghost use Rattle.std.specs.Prelude.{length, reverse, slice_index_or, take};
 ghost use Rattle.bidi_order.specs.Elements.{elements_left, has_override};
 ghost use Rattle.bidi_order.specs.Lines.{base_level, block_direction, direction_level, element_end, element_start};
@@ -224,7 +225,8 @@ impl Lines {
     /// Opens an element, with what stands for its start.
     fn open(&mut self, name: Vec<char>, dir: Option<DirValue>) -> Result<(), OutOfMemory>
         ensures context { OnOk result (self.new.context ≡ self.old.context) }
-        ensures page { OnOk result (view_lines self.new ≡ page_opened name.items (option_map view_dir dir) (view_lines self.old)) }
+        ensures page { OnOk result (view_lines self.new
+            ≡ page_opened name.items (option_map view_dir dir) (view_lines self.old)) }
     {
         let overrides = dir_overrides(&name, dir);
         let direction = self.direction_of(&name, dir);
@@ -299,7 +301,8 @@ impl Lines {
     #[tactic(auto, using(crate::proofs::PageLines::line_ended))]
     fn end_line(&mut self, alloc: Global) -> Result<(), OutOfMemory>
         ensures context { OnOk result (self.new.context ≡ self.old.context) }
-        ensures ends { OnOk result (EndsLine (direction_level self.old.context) (view_lines self.old) (view_lines self.new)) }
+        ensures ends { OnOk result (EndsLine (direction_level self.old.context) (view_lines self.old)
+            (view_lines self.new)) }
     {
         push_line(alloc, self.base, &self.characters, &mut self.texts)?;
         self.base = base_of(self.context, &self.opened);
@@ -310,7 +313,8 @@ impl Lines {
     /// The line ends unless the tag was inline.
     fn end_unless(&mut self, alloc: Global, inline: bool) -> Result<(), OutOfMemory>
         ensures context { OnOk result (self.new.context ≡ self.old.context) }
-        ensures ends { OnOk result (EndsUnless inline (direction_level self.old.context) (view_lines self.old) (view_lines self.new)) }
+        ensures ends { OnOk result (EndsUnless inline (direction_level self.old.context) (view_lines self.old)
+            (view_lines self.new)) }
     {
         if inline {
             return Ok(());

@@ -20,8 +20,8 @@ pub(crate) fn resolve_neutrals(own: bool, sos: bool, eos: bool, classes: &mut [C
     fill(between(own, before, eos), start, end, classes);
 }
 
-/// Reads the class at an index. Where it has a direction, the neutrals since the last one are set. Says where the neutrals
-/// now begin, and the direction before them.
+/// Reads the class at an index. Where it has a direction, the neutrals since the last one are set. Says where the
+/// neutrals now begin, and the direction before them.
 #[tactic(auto, using(crate::proofs::NeutralRuns::filled_length, crate::proofs::NeutralRuns::neutrals_none, crate::proofs::NeutralRuns::neutrals_some))]
 fn read_class(
     own: bool,

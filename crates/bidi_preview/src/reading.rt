@@ -3,7 +3,8 @@ ghost use Rattle.std.specs.Prelude.{◌≡◌, ◌++◌, ◌∷◌, [], None, So
 ghost use Rattle.std.specs.Char.{to_ascii_lowercase};
 ghost use Rattle.html_state.specs.declared.row.State.{State};
 ghost use Rattle.bidi_order.specs.MarkupTokens.{character_read, named_tag, no_tag, row_in_tag, tag_read};
-ghost use Rattle.bidi_order.specs.MarkupTokens.{first_reading, in_tag_read, tag_token, text_given, text_pending, with_value};
+ghost use Rattle.bidi_order.specs.MarkupTokens.{first_reading, in_tag_read, tag_token, text_given, text_pending};
+ghost use Rattle.bidi_order.specs.MarkupTokens.{with_value};
 ghost use Rattle.bidi_preview.specs.ReadingSteps.{GivesRest, pending_of, tokens_given, view_reader};
 
 use crate::names::is_text;
@@ -234,7 +235,8 @@ impl Reader {
     ) -> Result<(), OutOfMemory>
         requires characters { given.old.characters.items ≡ [] }
         requires tag { given.old.tag ≡ None }
-        ensures { OnOk result ((s : State) → (tokens_given given.new.characters.items given.new.tag, view_reader s self.new)
+        ensures { OnOk result ((s : State)
+            → (tokens_given given.new.characters.items given.new.tag, view_reader s self.new)
             ≡ character_read before.now after.now None c (view_reader s self.old)) }
     {
         match (before, after) {
@@ -295,7 +297,8 @@ impl Reader {
     ) -> Result<(), OutOfMemory>
         requires characters { given.old.characters.items ≡ [] }
         requires tag { given.old.tag ≡ None }
-        ensures { OnOk result ((s : State) → (tokens_given given.new.characters.items given.new.tag, view_reader s self.new)
+        ensures { OnOk result ((s : State)
+            → (tokens_given given.new.characters.items given.new.tag, view_reader s self.new)
             ≡ in_tag_read kind (tag_read before.now (row_in_tag after.now) c self.old.tag) after.now None
             (view_reader s self.old)) }
     {

@@ -139,7 +139,8 @@ impl Status {
         requires base { self.old.base ≤ 125 }
         requires overflow { self.old.overflow_isolates + 1 < 2 ^ 64 }
         requires valid { self.old.valid_isolates + 1 < 2 ^ 64 }
-        ensures status { OnOk result (view_status self.new ≡ status_after (Isolates right_to_left) (view_status self.old)) }
+        ensures status { OnOk result (view_status self.new
+            ≡ status_after (Isolates right_to_left) (view_status self.old)) }
         ensures base { OnOk result (self.new.base ≡ self.old.base) }
         ensures isolates { OnOk result (self.new.overflow_isolates ≤ self.old.overflow_isolates + 1) }
         ensures embeddings { OnOk result (self.new.overflow_embeddings ≡ self.old.overflow_embeddings) }
@@ -194,8 +195,8 @@ impl Status {
         }
     }
 
-    /// X5a to X6a and X9: the character as it is kept, if it is, and the status after it. Its class is RLI or LRI where it
-    /// is an FSI.
+    /// X5a to X6a and X9: the character as it is kept, if it is, and the status after it. Its class is RLI or LRI where
+    /// it is an FSI.
     pub(crate) fn read(&mut self, c: char, class: Class) -> Result<Option<Kept>, OutOfMemory>
         requires base { self.old.base ≤ 125 }
         requires isolates { self.old.overflow_isolates + 1 < 2 ^ 64 }
@@ -203,7 +204,8 @@ impl Status {
         requires valid { self.old.valid_isolates + 1 < 2 ^ 64 }
         requires class { IsDirected class (bidi_class c) }
         ensures kept { IfOk result (λ k. k ≡ explicit_character c (act_of_class class []) (view_status self.old)) }
-        ensures status { OnOk result (view_status self.new ≡ status_after (act_of_class class []) (view_status self.old)) }
+        ensures status { OnOk result (view_status self.new
+            ≡ status_after (act_of_class class []) (view_status self.old)) }
         ensures base { OnOk result (self.new.base ≡ self.old.base) }
         ensures isolates { OnOk result (self.new.overflow_isolates ≤ self.old.overflow_isolates + 1) }
         ensures embeddings { OnOk result (self.new.overflow_embeddings ≤ self.old.overflow_embeddings + 1) }
@@ -245,7 +247,8 @@ impl Status {
         requires valid { self.old.valid_isolates + 1 < 2 ^ 64 }
         ensures kept { IfOk result (λ k. k
             ≡ kept_character (top_entry (view_status self.old)) (isolate_role Role.Initiates) Class.LRI None) }
-        ensures status { OnOk result (view_status self.new ≡ status_after (Isolates right_to_left) (view_status self.old)) }
+        ensures status { OnOk result (view_status self.new
+            ≡ status_after (Isolates right_to_left) (view_status self.old)) }
         ensures base { OnOk result (self.new.base ≡ self.old.base) }
         ensures isolates { OnOk result (self.new.overflow_isolates ≤ self.old.overflow_isolates + 1) }
         ensures embeddings { OnOk result (self.new.overflow_embeddings ≡ self.old.overflow_embeddings) }

@@ -32,7 +32,8 @@ returns-then-not-more c =
     let ends : c.in_ok-more.more ≡ false = grind (arith, c.if-not-more.true) in
     if_ok_then _ _ c.done.result (λ directions here. directions_end (reverse c.loop-c.directions.opened.items)
     c.loop-c.directions.answers.items
-    (read_all None (view_reader c.loop-c.reader.state c.loop-c.reader.reader) (chars (chars_rest c.loop-c.c-iterator))).0
+    (read_all None (view_reader c.loop-c.reader.state c.loop-c.reader.reader)
+    (chars (chars_rest c.loop-c.c-iterator))).0
     (tokens_of (Static (chars c.args.page.now) ∷ [])) directions.items
     (ends_page c.in_ok-more.more _ _ c.in-Some.c _ _ _ ends left c.in_ok-more.ensures)
     c.loop-c.invariant.found here) c.done.ensures
@@ -40,7 +41,8 @@ returns-then-not-more c =
 pub returns : goal.returns
 returns c = if_ok_then _ _ c.done-2.result (λ directions here. directions_end (reverse c.loop-c.directions.opened.items)
     c.loop-c.directions.answers.items
-    (read_all None (view_reader c.loop-c.reader.state c.loop-c.reader.reader) (chars (chars_rest c.loop-c.c-iterator))).0
+    (read_all None (view_reader c.loop-c.reader.state c.loop-c.reader.reader)
+    (chars (chars_rest c.loop-c.c-iterator))).0
     (tokens_of (Static (chars c.args.page.now) ∷ [])) directions.items
     (ap (λ l. (read_all None (view_reader c.loop-c.reader.state c.loop-c.reader.reader) l).0)
     (ap chars (nil_from_length (chars_rest c.loop-c.c-iterator) c.in-None.ensures.steps.0.0) ∙ chars-nil))

@@ -62,7 +62,8 @@ returns-then-not-more c =
     c.loop-c.invariant.utf8 c.in-Some.ensures.steps.0 in
     let ends : c.in_ok-more.more ≡ false = grind (arith, c.if-not-more.true) in
     if_ok_then _ _ c.done.result (λ texts here. lines_end (direction_level c.args.context) (view_lines c.loop-c.lines)
-    (read_all None (view_reader c.loop-c.reader.state c.loop-c.reader.reader) (chars (chars_rest c.loop-c.c-iterator))).0
+    (read_all None (view_reader c.loop-c.reader.state c.loop-c.reader.reader)
+    (chars (chars_rest c.loop-c.c-iterator))).0
     texts (seen (chars c.args.page.now) c.args.context)
     (ends_page c.in_ok-more.more _ _ c.in-Some.c _ _ _ ends left c.in_ok-more.ensures)
     c.loop-c.invariant.texts here) c.done.ensures
@@ -70,7 +71,8 @@ returns-then-not-more c =
 pub returns : goal.returns
 returns c = if_ok_then _ _ c.done-2.result (λ texts here. lines_end (direction_level c.args.context)
     (view_lines c.loop-c.lines)
-    (read_all None (view_reader c.loop-c.reader.state c.loop-c.reader.reader) (chars (chars_rest c.loop-c.c-iterator))).0
+    (read_all None (view_reader c.loop-c.reader.state c.loop-c.reader.reader)
+    (chars (chars_rest c.loop-c.c-iterator))).0
     texts (seen (chars c.args.page.now) c.args.context)
     (ap (λ l. (read_all None (view_reader c.loop-c.reader.state c.loop-c.reader.reader) l).0)
     (ap chars (nil_from_length (chars_rest c.loop-c.c-iterator) c.in-None.ensures.steps.0.0) ∙ chars-nil))
