@@ -135,8 +135,8 @@ module _ (files : Files) (words : List Word) (p : AcceptedPlay files words) wher
       (data_not_missing files p.script p.bytes rest p.script_held ∙ first_ready.held)
       (data_not_large files p.script p.bytes rest p.script_held ∙ first_ready.within)
       ∙ (play_inputs_are
-      ∙ (ap (λ bs. accepted_then p.names p.contents p.first (bundle_content p.first 1 (contents files play_first)) (λ of.
-      accepted_then p.names p.contents p.second
+      ∙ (ap (λ bs. accepted_then p.names p.contents p.first (bundle_content p.first 1 (contents files play_first))
+      (λ of. accepted_then p.names p.contents p.second
       (bundle_content p.second (second_number p.first) (contents files play_first)) (play_answer p.script bs of)))
       (data_content files p.script p.bytes p.script_held)
       ∙ (ap (λ c. accepted_then p.names p.contents p.first c (λ of. accepted_then p.names p.contents p.second
@@ -146,7 +146,8 @@ module _ (files : Files) (words : List Word) (p : AcceptedPlay files words) wher
       ∙ content_is files p.first p.content p.first_held)
       ∙ (ap (λ c. accepted_then p.names p.contents p.first p.content (λ of. accepted_then p.names p.contents p.second c
       (play_answer p.script p.bytes of)))
-      (second_bundle files p.script p.first p.second (is_source_language p.first) (is_source_language p.second) refl refl
+      (second_bundle files p.script p.first p.second (is_source_language p.first) (is_source_language p.second) refl
+      refl
       ∙ content_is files p.second p.other_content p.second_held)
       ∙ (ap (unless_refused p.names p.contents p.first (λ of. accepted_then p.names p.contents p.second p.other_content
       (play_answer p.script p.bytes of))) g.answered

@@ -1,5 +1,5 @@
--- Where the answer to a `play` is a text, the words, the files and the script are those of steps, whose lines it is; and it
--- never ends too deep.
+-- Where the answer to a `play` is a text, the words, the files and the script are those of steps, whose lines it is;
+-- and it never ends too deep.
 use Rattle.std.proofs.Common.{◌≡◌, ℕ, Bool, true, false, cond, List, [], ◌∷◌, ◌++◌, length, map, Option, Some, None}
 use Rattle.std.proofs.Common.{refl, sym, ap, ◌∙◌, codes, append_assoc}
 use Rattle.std.specs.Prelude.{unwrap_or, Result, Ok, Err, nat_lt}

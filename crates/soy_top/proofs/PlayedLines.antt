@@ -113,7 +113,8 @@ module _ (play : Play) where
           state = f.next;
           stands = f.stands;
           so_far = put_more before now then (view_play play).text
-              (played_from on.state (play_steps play (line ∷ lines))) text (played_from f.next (play_steps play lines)) on.so_far f.split took;
+              (played_from on.state (play_steps play (line ∷ lines))) text (played_from f.next (play_steps play lines))
+              on.so_far f.split took;
         }
 
     -- a prefix of it was put

@@ -1,6 +1,6 @@
 -- Where the answer is a text, the words and the files are those of a page, of a catalogue, of files that are accepted,
--- of a script, of a canonical source or of a `preview`, or the words are those of a workload. Where it is a text that ends too deep,
--- they are those of a page that stops at a call, or of a `preview` of one.
+-- of a script, of a canonical source or of a `preview`, or the words are those of a workload. Where it is a text that
+-- ends too deep, they are those of a page that stops at a call, or of a `preview` of one.
 use Rattle.std.proofs.Common.{◌≡◌, ℕ, cond, List, [], ◌++◌, length}
 use Rattle.std.proofs.Common.{map, Option, Some, None, refl, sym, ap, ◌∙◌, codes}
 use Rattle.std.specs.Prelude.{unwrap_or, Result, Ok, Err}
@@ -371,8 +371,8 @@ answered_text files words None text is h = cc
 answered_text files words (Some asked) text is h =
     asked_text files words asked text (spelled-asked words asked is) (by_contents files asked (Done text) tt h)
 
--- **a text that is the answer is a page, a catalogue, that files are accepted, the summary of a workload, the lines of a
--- script, a canonical source, or the lines of a page as they are seen**
+-- **a text that is the answer is a page, a catalogue, that files are accepted, the summary of a workload, the lines of
+-- a script, a canonical source, or the lines of a page as they are seen**
 pub text-answered : (files : Files) (words : List Word) (text : List ℕ) → answer files words ≡ Done text
     → IsText files words text
 text-answered files words text h = answered_text files words (asked_by_words words) text refl h

@@ -59,8 +59,8 @@ pub fn law_refused_preview()
         answer files words ≡ Refused line }
 {}
 
-/// The answer to a `format` is a refusal exactly where its file is held and is over the limit (2), or deserves a fault by
-/// itself: 1, 3, 4, 5, or the 8 of an unknown type name.
+/// The answer to a `format` is a refusal exactly where its file is held and is over the limit (2), or deserves a fault
+/// by itself: 1, 3, 4, 5, or the 8 of an unknown type name.
 pub fn law_refused_format()
     ensures refused { (files : Files) (words : List Word) (name : Word) (line : List ℕ) → AreFormat words name →
         answer files words ≡ Refused line → IsRefusedFormat files words line }

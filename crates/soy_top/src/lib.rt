@@ -10,8 +10,8 @@
 //! and `format` writes the canonical source of a file.
 //!
 //! Depends on soy_base and soy_io; on soy_front for the files and the bundle as one program; on soy_types for
-//! the data, render_core for the page, soy_desk for scripts, msg_extract for the catalogue, bidi_preview for the lines of
-//! a page, soy_format for canonical source, and work_gen for what `gen` renders.
+//! the data, render_core for the page, soy_desk for scripts, msg_extract for the catalogue, bidi_preview for the lines
+//! of a page, soy_format for canonical source, and work_gen for what `gen` renders.
 #![tactic(auto)]
 
 mod accept;

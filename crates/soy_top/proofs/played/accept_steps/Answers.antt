@@ -11,7 +11,8 @@ returns-in-Ok c = λ contents bundle other_bundle one are are_other same.
     let made = c.in_ok-play.ensures in
     ap (λ bs. play_answer c.args.script.now bs are.of are_other.of) (sym made.script)
     ∙ script_played contents bundle other_bundle one c.args.other are are_other play made.typed (made.first ∙ sym same)
-    made.second c.args.script.now play.script.now (subst (λ bs. IsUtf8 bs) (sym made.script) c.utf8.text) c.in-Ok.ensures
+    made.second c.args.script.now play.script.now (subst (λ bs. IsUtf8 bs) (sym made.script) c.utf8.text)
+    c.in-Ok.ensures
 
 pub returns-in-Err-Because : goal.returns-in-Err-Because
 returns-in-Err-Because c = λ contents bundle other_bundle one are are_other same.
