@@ -1,6 +1,7 @@
 #!/usr/bin/env bash
-# Lets each call to the system fail in turn, one a run, while the shop's Hebrew page is rendered, its files are checked
-# and its messages listed: allocations, opens, reads and writes; and on a longer page each write. Then a full disk, a
+# Lets each call to the system fail in turn, one a run, while the shop's Hebrew page is rendered and previewed, its files
+# are checked, its messages listed, and a script of ten lines played: allocations, opens, reads and writes; and on a
+# longer page each write. Then a full disk, a
 # closed pipe and a closed stream. Prints how many were tried, and each run whose status isn't that of the failure or
 # whose output is no prefix of the page; ends with 1 where there is one. Runs the program that is named, or ./soyc,
 # which is built where it has to be. Needs cc and glibc.
@@ -90,7 +91,13 @@ files=("$shop/layout.soy" "$shop/list.soy" "$shop/product.soy")
 render=(render shop.list.main "$shop/data.he.json" "$shop/he.json" "${files[@]}")
 check=(check "$shop/he.json" "${files[@]}")
 extract=(extract "${files[@]}")
-for words in render check extract; do
+preview=(preview shop.list.main "$shop/data.he.json" "$shop/he.json" "${files[@]}")
+printf '%s\n' '{namespace b}' '{template m}' '{@param l: list<int>}' '{for $x in $l}<p title="{$x}">{$x}</p>{/for}' \
+    '{/template}' >"$work/b.soy"
+printf '%s\n' 'open b.m {"l":[1,2,3]}' 'open b.m {"l":[]}' 'pull 0 20' 'pull 1 9' 'publish 2' 'open b.m {"l":[7]}' \
+    'pull 2 4096' 'close 0' 'pull 0 1' 'pull 2 4096' >"$work/script"
+play=(play "$work/script" - - "$work/b.soy")
+for words in render check extract preview play; do
     declare -n all=$words
     run "${all[@]}" || { status=$? && differs "$words"; }
     cp "$work/out" "$work/page"
@@ -100,8 +107,6 @@ for words in render check extract; do
     each write 4 "$work/page" "${all[@]}"
 done
 
-printf '%s\n' '{namespace b}' '{template m}' '{@param l: list<int>}' '{for $x in $l}<p title="{$x}">{$x}</p>{/for}' \
-    '{/template}' >"$work/b.soy"
 { printf '{"l":[0'; seq -f ',%.0f' 1 20000; printf ']}'; } | tr -d '\n' >"$work/b.json"
 long=(render b.m "$work/b.json" - "$work/b.soy")
 run "${long[@]}" || { status=$? && differs 'long page'; }
