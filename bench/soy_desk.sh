@@ -94,7 +94,7 @@ fn rounds<L: Ledger>(
 /// The number of bytes that all pages give, pulled in turn.
 fn in_turn(alloc: Global, program: &Rc<Program>, inputs: Vec<Value>, number: usize) -> Option<usize> {
     let mut room = [0u8; 4096];
-    let mut desk = Desk::new(alloc, program.clone()).ok()?;
+    let mut desk = Desk::new(alloc, program.clone().ok()?).ok()?;
     let names = opened(alloc, &mut desk, inputs, number)?;
     rounds::<Brand>(&mut desk, names.as_slice(), room.as_mut_slice(), u64::MAX, Blank::new(1))
 }
