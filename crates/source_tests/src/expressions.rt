@@ -94,11 +94,11 @@ fn read(alloc: Global, text: &str, depth: u32) -> Result<(String, usize), (Code,
             let mut out = String::new(alloc);
             match write(&mut out, &expr) {
                 Ok(()) => Ok((out, count)),
-                Err(_) => Err((Code::NotYet, 0)),
+                Err(_) => Err((Code::TooLarge, 0)),
             }
         }
         Err(Refusal::Because(Fault { code, file: _, at })) => Err((code, at)),
-        Err(Refusal::OutOfMemory) => Err((Code::NotYet, 0)),
+        Err(Refusal::OutOfMemory) => Err((Code::TooLarge, 0)),
     }
 }
 
@@ -271,11 +271,11 @@ fn read_type(alloc: Global, text: &str, depth: u32) -> Result<(String, usize), (
             let mut out = String::new(alloc);
             match write_type(&mut out, &of) {
                 Ok(()) => Ok((out, count)),
-                Err(_) => Err((Code::NotYet, 0)),
+                Err(_) => Err((Code::TooLarge, 0)),
             }
         }
         Err(Refusal::Because(Fault { code, file: _, at })) => Err((code, at)),
-        Err(Refusal::OutOfMemory) => Err((Code::NotYet, 0)),
+        Err(Refusal::OutOfMemory) => Err((Code::TooLarge, 0)),
     }
 }
 

@@ -110,7 +110,7 @@ fn read(alloc: Global, text: &str) -> Result<Tree, (Code, u64)> {
     match parse(alloc, tokens.as_slice(), 7) {
         Ok(tree) => Ok(tree),
         Err(Refusal::Because(Fault { code, file: 7, at })) => Err((code, at)),
-        Err(_) => Err((Code::NotYet, 0)),
+        Err(_) => Err((Code::TooLarge, 0)),
     }
 }
 

@@ -9,7 +9,7 @@ use Rattle.soy_base.specs.declared.code.Code.TheVariants.{NotUtf8, TooLarge, Lex
 use Rattle.soy_base.specs.declared.code.Code.TheVariants.{Mistyped, Argument, Place, Mixed, EndState, InName, States}
 use Rattle.soy_base.specs.declared.code.Code.TheVariants.{Ampersand, Reference, Script, UriStart, Kind, Bundle, Icu}
 use Rattle.soy_base.specs.declared.code.Code.TheVariants.{Rule, Placeholder, Selector, IdClash, NotJson, DataType}
-use Rattle.soy_base.specs.declared.code.Code.TheVariants.{Entry, NotYet, TooDeep, Step, TooLong}
+use Rattle.soy_base.specs.declared.code.Code.TheVariants.{Entry, TooDeep, Step, TooLong}
 
 -- the number of a code
 abbrev pub code_number : Code → ℕ
@@ -41,7 +41,6 @@ code_number IdClash = 26
 code_number NotJson = 27
 code_number DataType = 28
 code_number Entry = 29
-code_number NotYet = 30
 code_number TooDeep = 31
 code_number Step = 32
 code_number TooLong = 33
@@ -76,7 +75,6 @@ code_word IdClash = codes "IdClash"
 code_word NotJson = codes "Data"
 code_word DataType = codes "DataType"
 code_word Entry = codes "Entry"
-code_word NotYet = codes "NotYet"
 code_word TooDeep = codes "TooDeep"
 code_word Step = codes "Step"
 code_word TooLong = codes "TooLong"

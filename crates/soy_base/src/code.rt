@@ -61,8 +61,6 @@ pub enum Code {
     DataType = 28,
     /// No such template may be rendered.
     Entry = 29,
-    /// The program doesn't do this yet.
-    NotYet = 30,
     /// Calls nest too deep.
     TooDeep = 31,
     /// A line of a script isn't a step.
@@ -112,7 +110,6 @@ impl Code {
             Code::NotJson => "Data",
             Code::DataType => "DataType",
             Code::Entry => "Entry",
-            Code::NotYet => "NotYet",
             Code::TooDeep => "TooDeep",
             Code::Step => "Step",
             Code::TooLong => "TooLong",

@@ -19,7 +19,6 @@ fn codes_have_their_numbers_and_words(rt: HostRuntime) {
         (Code::Place, 11, "Place"),
         (Code::NotJson, 27, "Data"),
         (Code::Entry, 29, "Entry"),
-        (Code::NotYet, 30, "NotYet"),
         (Code::TooLong, 33, "TooLong"),
     ];
     for (code, number, word) in codes {
