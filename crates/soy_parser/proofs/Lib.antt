@@ -28,6 +28,7 @@ pub mod FileReads
 pub mod FileAnswers
 pub mod Ints
 pub mod Cases
+pub mod Reaching
 pub mod Literals
 pub mod ReadingSteps
 pub mod DottedNames

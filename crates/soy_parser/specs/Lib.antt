@@ -2,6 +2,7 @@ pub mod CommandTerminals
 pub mod Depth
 pub mod TypeWords
 pub mod Heads
+pub mod Reached
 pub mod SpellsHead
 pub mod SpellsCommand
 pub mod Nodes

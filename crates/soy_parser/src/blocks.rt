@@ -1,10 +1,12 @@
 //! What goes on with a block that has a body, and what closes it.
 
-ghost use Rattle.std.specs.Prelude.{◌≡◌, ◌++◌, ◌∷◌, [], IfOk, None};
+ghost use Rattle.std.specs.Prelude.{◌≡◌, ◌++◌, ◌∷◌, [], false, IfOk, None, if◌then◌else◌};
+ghost use Rattle.soy_base.specs.Stacks.{Pops};
 ghost use Rattle.soy_parser.specs.CommandSteps.{adds, arm_goes_on, begins, begins_parts, body_closes, body_goes_on};
 ghost use Rattle.soy_parser.specs.CommandSteps.{case_goes_on, closed_body, closed_if, closed_switch, closed_template};
-ghost use Rattle.soy_parser.specs.CommandSteps.{closes_body, state, with_arm, with_case, with_param};
+ghost use Rattle.soy_parser.specs.CommandSteps.{closes_body, ended, state, with_arm, with_case, with_param};
 ghost use Rattle.soy_parser.specs.Nodes.{argument_of, node_of};
+ghost use Rattle.soy_parser.specs.Reached.{reached};
 ghost use Rattle.soy_parser.specs.SpellsTree.{template_of};
 ghost use Rattle.soy_parser.specs.declared.block.Content.TheVariants as content;
 
@@ -12,56 +14,117 @@ use crate::block::{Block, CommandState, Content, Nodes, OpenIf, OpenSwitch, Open
 use crate::command::{Middle, TemplateOpening};
 use crate::nodes::{joined, up_to, with_node};
 use crate::terminal::BlockName;
-use soy_base::{OutOfMemory, Row, Seq, Span, Stack, Text};
+use soy_base::{OutOfMemory, Row, Seq, Span, Text};
 use soy_tree::{Argument, Arm, Case, Expr, Form, Given, Node, Param, Template};
 use std::alloc::Global;
+use std::mem::replace;
+
+impl CommandState {
+    /// The content of the innermost block, for a step that says what it is next.
+    pub(crate) fn take_content(&mut self) -> Content
+        ensures content { result ≡ self.old.content }
+        ensures blocks { self.new.blocks ≡ self.old.blocks }
+    {
+        replace(&mut self.content, Content::White)
+    }
+
+    /// This is the content of the innermost block.
+    fn set_content(&mut self, content: Content)
+        ensures { self.new ≡ record { blocks = self.old.blocks; content = content } }
+    {
+        let before = replace(&mut self.content, content);
+        drop(before);
+    }
+
+    /// This is the content of the innermost block, if this holds.
+    #[tactic(auto, using(crate::proofs::Reaching::reached_if))]
+    pub(crate) fn holds_if(&mut self, content: Content, holds: bool) -> bool
+        ensures { reached result self.new ≡ (if holds then state self.old.blocks content else None) }
+    {
+        self.set_content(content);
+        holds
+    }
+
+    /// This is the content of the innermost block.
+    pub(crate) fn holds(&mut self, content: Content) -> bool
+        ensures { reached result self.new ≡ state self.old.blocks content }
+    {
+        self.holds_if(content, true)
+    }
+
+    /// Takes the innermost block, if one is open.
+    pub(crate) fn pop(&mut self) -> Option<Block>
+        ensures { Pops self.old.blocks self.new.blocks result }
+    {
+        self.blocks.pop()
+    }
+}
+
+/// A block opens, and this is its content.
+pub(crate) fn opens_with(
+    commands: &mut CommandState,
+    block: Block,
+    content: Content,
+) -> Result<bool, OutOfMemory>
+    ensures { IfOk result (λ on. reached on commands.new ≡ state (block ∷ commands.old.blocks) content) }
+{
+    commands.set_content(content);
+    commands.blocks.push(block)?;
+    Ok(true)
+}
 
 /// A node has come.
 pub(crate) fn adds(
-    blocks: Stack<Block>,
+    commands: &mut CommandState,
     before: Row<Node>,
     form: Form,
     span: Span,
-) -> Result<Option<CommandState>, OutOfMemory>
-    ensures { IfOk result (λ to. to ≡ adds blocks before (node_of form span)) }
+) -> Result<bool, OutOfMemory>
+    ensures { IfOk result (λ on. reached on commands.new ≡ adds commands.old.blocks before (node_of form span)) }
 {
     let items = with_node(before, form, span)?;
-    Ok(Some(CommandState {
-        blocks,
-        content: Content::Body(Nodes { items, run: None }),
-    }))
+    Ok(commands.holds(Content::Body(Nodes { items, run: None })))
+}
+
+/// A node has come, after these.
+pub(crate) fn adds_after(
+    commands: &mut CommandState,
+    before: Nodes,
+    form: Form,
+    span: Span,
+) -> Result<bool, OutOfMemory>
+    ensures { IfOk result (λ on. reached on commands.new ≡
+        adds commands.old.blocks (ended before) (node_of form span)) }
+{
+    match before.ended() {
+        Ok(before) => adds(commands, before, form, span),
+        Err(out) => {
+            drop(form);
+            Err(out)
+        }
+    }
 }
 
 /// A body begins inside a block.
 pub(crate) fn begins(
     alloc: Global,
-    blocks: Stack<Block>,
+    commands: &mut CommandState,
     block: Block,
-) -> Result<Option<CommandState>, OutOfMemory>
-    ensures { IfOk result (λ to. to ≡ begins blocks block) }
+) -> Result<bool, OutOfMemory>
+    ensures { IfOk result (λ on. reached on commands.new ≡ begins commands.old.blocks block) }
 {
-    let mut blocks = blocks;
-    blocks.push(block)?;
-    Ok(Some(CommandState {
-        blocks,
-        content: Content::Body(Nodes::none(alloc)),
-    }))
+    opens_with(commands, block, Content::Body(Nodes::none(alloc)))
 }
 
 /// What a message holds begins inside a block.
 pub(crate) fn begins_parts(
     alloc: Global,
-    blocks: Stack<Block>,
+    commands: &mut CommandState,
     block: Block,
-) -> Result<Option<CommandState>, OutOfMemory>
-    ensures { IfOk result (λ to. to ≡ begins_parts blocks block) }
+) -> Result<bool, OutOfMemory>
+    ensures { IfOk result (λ on. reached on commands.new ≡ begins_parts commands.old.blocks block) }
 {
-    let mut blocks = blocks;
-    blocks.push(block)?;
-    Ok(Some(CommandState {
-        blocks,
-        content: Content::Parts(Nodes::none(alloc), true),
-    }))
+    opens_with(commands, block, Content::Parts(Nodes::none(alloc), true))
 }
 
 impl OpenTemplate {
@@ -106,36 +169,34 @@ impl OpenSwitch {
 /// A body's block goes on.
 pub(crate) fn body_goes_on(
     alloc: Global,
-    blocks: Stack<Block>,
+    commands: &mut CommandState,
     nodes: Row<Node>,
     of: Middle,
-) -> Result<Option<CommandState>, OutOfMemory>
-    ensures { IfOk result (λ to. to ≡ body_goes_on blocks nodes of) }
+) -> Result<bool, OutOfMemory>
+    ensures { IfOk result (λ on. reached on commands.new ≡ body_goes_on commands.old.blocks nodes of) }
 {
-    let mut blocks = blocks;
-    match blocks.pop() {
-        Some(block) => block_goes_on(alloc, blocks, block, nodes, of),
-        None => Ok(None),
+    match commands.pop() {
+        Some(block) => block_goes_on(alloc, commands, block, nodes, of),
+        None => Ok(refused_middle(of)),
     }
 }
 
 /// This block goes on.
 fn block_goes_on(
     alloc: Global,
-    blocks: Stack<Block>,
+    commands: &mut CommandState,
     block: Block,
     nodes: Row<Node>,
     of: Middle,
-) -> Result<Option<CommandState>, OutOfMemory>
-    ensures { IfOk result (λ to. to ≡ body_goes_on (block ∷ blocks) nodes of) }
+) -> Result<bool, OutOfMemory>
+    ensures { IfOk result (λ on. reached on commands.new ≡ body_goes_on (block ∷ commands.old.blocks) nodes of) }
 {
     match block {
-        Block::Arm(part, when) => arm_ends(alloc, blocks, part, when, nodes, of),
-        Block::Case(part, values) => case_ends(alloc, blocks, part, values, nodes, of),
+        Block::Arm(part, when) => arm_ends(alloc, commands, part, when, nodes, of),
+        Block::Case(part, values) => case_ends(alloc, commands, part, values, nodes, of),
         block => {
-            drop(nodes);
-            drop(of);
-            Ok(refused(blocks, block))
+            refused_middle(of);
+            Ok(refused(block))
         }
     }
 }
@@ -143,62 +204,74 @@ fn block_goes_on(
 /// An arm of an if ends, and the if goes on.
 fn arm_ends(
     alloc: Global,
-    blocks: Stack<Block>,
+    commands: &mut CommandState,
     part: OpenIf,
     when: Expr,
     nodes: Row<Node>,
     of: Middle,
-) -> Result<Option<CommandState>, OutOfMemory>
-    ensures { IfOk result (λ to. to ≡ arm_goes_on blocks (with_arm part when nodes) of) }
+) -> Result<bool, OutOfMemory>
+    ensures { IfOk result (λ on. reached on commands.new ≡
+        arm_goes_on commands.old.blocks (with_arm part when nodes) of) }
 {
-    let part = part.with_arm(when, nodes)?;
-    arm_goes_on(alloc, blocks, part, of)
+    match part.with_arm(when, nodes) {
+        Ok(part) => arm_goes_on(alloc, commands, part, of),
+        Err(out) => {
+            refused_middle(of);
+            Err(out)
+        }
+    }
 }
 
 /// A case of a switch ends, and the switch goes on.
 fn case_ends(
     alloc: Global,
-    blocks: Stack<Block>,
+    commands: &mut CommandState,
     part: OpenSwitch,
     values: Row<Expr>,
     nodes: Row<Node>,
     of: Middle,
-) -> Result<Option<CommandState>, OutOfMemory>
-    ensures { IfOk result (λ to. to ≡ case_goes_on blocks (with_case part values nodes) of) }
+) -> Result<bool, OutOfMemory>
+    ensures { IfOk result (λ on. reached on commands.new ≡
+        case_goes_on commands.old.blocks (with_case part values nodes) of) }
 {
-    let part = part.with_case(values, nodes)?;
-    case_goes_on(alloc, blocks, part, of)
+    match part.with_case(values, nodes) {
+        Ok(part) => case_goes_on(alloc, commands, part, of),
+        Err(out) => {
+            refused_middle(of);
+            Err(out)
+        }
+    }
 }
 
 /// An if goes on.
 fn arm_goes_on(
     alloc: Global,
-    blocks: Stack<Block>,
+    commands: &mut CommandState,
     part: OpenIf,
     of: Middle,
-) -> Result<Option<CommandState>, OutOfMemory>
-    ensures { IfOk result (λ to. to ≡ arm_goes_on blocks part of) }
+) -> Result<bool, OutOfMemory>
+    ensures { IfOk result (λ on. reached on commands.new ≡ arm_goes_on commands.old.blocks part of) }
 {
     match of {
-        Middle::ElseIf(when) => begins(alloc, blocks, Block::Arm(part, when)),
-        Middle::Else => begins(alloc, blocks, Block::Else(part)),
-        _ => Ok(None),
+        Middle::ElseIf(when) => begins(alloc, commands, Block::Arm(part, when)),
+        Middle::Else => begins(alloc, commands, Block::Else(part)),
+        of => Ok(refused_middle(of)),
     }
 }
 
 /// A switch goes on.
 pub(crate) fn case_goes_on(
     alloc: Global,
-    blocks: Stack<Block>,
+    commands: &mut CommandState,
     part: OpenSwitch,
     of: Middle,
-) -> Result<Option<CommandState>, OutOfMemory>
-    ensures { IfOk result (λ to. to ≡ case_goes_on blocks part of) }
+) -> Result<bool, OutOfMemory>
+    ensures { IfOk result (λ on. reached on commands.new ≡ case_goes_on commands.old.blocks part of) }
 {
     match of {
-        Middle::Case(values) => begins(alloc, blocks, Block::Case(part, values)),
-        Middle::Default => begins(alloc, blocks, Block::SwitchDefault(part)),
-        _ => Ok(None),
+        Middle::Case(values) => begins(alloc, commands, Block::Case(part, values)),
+        Middle::Default => begins(alloc, commands, Block::SwitchDefault(part)),
+        of => Ok(refused_middle(of)),
     }
 }
 
@@ -219,138 +292,167 @@ pub(crate) fn closes_body(block: &Block, name: BlockName) -> bool
 
 /// A command that closes a body's block.
 pub(crate) fn body_closes(
-    blocks: Stack<Block>,
+    commands: &mut CommandState,
     nodes: Row<Node>,
     name: BlockName,
     end: Span,
-) -> Result<Option<CommandState>, OutOfMemory>
-    ensures { IfOk result (λ to. to ≡ body_closes blocks nodes name end) }
+) -> Result<bool, OutOfMemory>
+    ensures { IfOk result (λ on. reached on commands.new ≡ body_closes commands.old.blocks nodes name end) }
 {
-    let mut blocks = blocks;
-    match blocks.pop() {
-        Some(block) => block_closes(blocks, block, nodes, name, end),
-        None => Ok(None),
+    match commands.pop() {
+        Some(block) => block_closes(commands, block, nodes, name, end),
+        None => Ok(false),
     }
 }
 
 /// A command that closes this block.
 fn block_closes(
-    blocks: Stack<Block>,
+    commands: &mut CommandState,
     block: Block,
     nodes: Row<Node>,
     name: BlockName,
     end: Span,
-) -> Result<Option<CommandState>, OutOfMemory>
-    ensures { IfOk result (λ to. to ≡ body_closes (block ∷ blocks) nodes name end) }
+) -> Result<bool, OutOfMemory>
+    ensures { IfOk result (λ on. reached on commands.new ≡ body_closes (block ∷ commands.old.blocks) nodes name end) }
 {
     if closes_body(&block, name) {
-        closed_body(blocks, block, nodes, end)
+        closed_body(commands, block, nodes, end)
     } else {
-        drop(block);
-        drop(nodes);
-        Ok(None)
+        Ok(refused(block))
     }
 }
 
 /// The end of a block that has a body.
 fn closed_body(
-    blocks: Stack<Block>,
+    commands: &mut CommandState,
     block: Block,
     nodes: Row<Node>,
     end: Span,
-) -> Result<Option<CommandState>, OutOfMemory>
-    ensures { IfOk result (λ to. to ≡ closed_body blocks block nodes end) }
+) -> Result<bool, OutOfMemory>
+    ensures { IfOk result (λ on. reached on commands.new ≡ closed_body commands.old.blocks block nodes end) }
 {
     match block {
-        Block::Template(template) => closed_template(blocks, template, nodes, end),
-        Block::Arm(part, when) => closed_if(blocks, part.with_arm(when, nodes)?, None, end),
-        Block::Else(part) => closed_if(blocks, part, Some(nodes.done()), end),
+        Block::Template(template) => closed_template(commands, template, nodes, end),
+        Block::Arm(part, when) => closed_arm(commands, part, when, nodes, end),
+        Block::Else(part) => closed_if(commands, part, Some(nodes.done()), end),
         Block::For(before, start, name, index, list) => {
             let form = Form::For(name, index, list, nodes.done());
-            adds(blocks, before, form, joined(start, end))
+            adds(commands, before, form, joined(start, end))
         }
         Block::Let(before, start, name, kind) => {
             let form = Form::LetBlock(name, kind, nodes.done());
-            adds(blocks, before, form, up_to(start, end))
+            adds(commands, before, form, up_to(start, end))
         }
         Block::Param(arguments, start, name, kind) => {
             let given = Given::Block(kind, nodes.done());
-            adds_argument(blocks, arguments, name, given, up_to(start, end))
+            adds_argument(commands, arguments, name, given, up_to(start, end))
         }
-        Block::Case(part, values) => {
-            closed_switch(blocks, part.with_case(values, nodes)?, None, end)
-        }
-        Block::SwitchDefault(part) => closed_switch(blocks, part, Some(nodes.done()), end),
-        block => {
-            drop(nodes);
-            Ok(refused(blocks, block))
-        }
+        Block::Case(part, values) => closed_case(commands, part, values, nodes, end),
+        Block::SwitchDefault(part) => closed_switch(commands, part, Some(nodes.done()), end),
+        block => Ok(refused(block)),
     }
 }
 
-/// A block in which no file goes on.
-pub(crate) fn refused(blocks: Stack<Block>, block: Block) -> Option<CommandState>
-    ensures { result ≡ None }
+/// The end of an if after one of its arms.
+fn closed_arm(
+    commands: &mut CommandState,
+    part: OpenIf,
+    when: Expr,
+    nodes: Row<Node>,
+    end: Span,
+) -> Result<bool, OutOfMemory>
+    ensures { IfOk result (λ on. reached on commands.new ≡
+        closed_if commands.old.blocks (with_arm part when nodes) None end) }
 {
-    drop(blocks);
+    closed_if(commands, part.with_arm(when, nodes)?, None, end)
+}
+
+/// The end of a switch after one of its cases.
+fn closed_case(
+    commands: &mut CommandState,
+    part: OpenSwitch,
+    values: Row<Expr>,
+    nodes: Row<Node>,
+    end: Span,
+) -> Result<bool, OutOfMemory>
+    ensures { IfOk result (λ on. reached on commands.new ≡
+        closed_switch commands.old.blocks (with_case part values nodes) None end) }
+{
+    closed_switch(commands, part.with_case(values, nodes)?, None, end)
+}
+
+/// A block in which no file goes on.
+pub(crate) fn refused(block: Block) -> bool
+    ensures { result ≡ false }
+{
     drop(block);
-    None
+    false
+}
+
+/// A command with which no block goes on.
+pub(crate) fn refused_middle(of: Middle) -> bool
+    ensures { result ≡ false }
+{
+    drop(of);
+    false
 }
 
 /// A param of a call has come.
 pub(crate) fn adds_argument(
-    blocks: Stack<Block>,
+    commands: &mut CommandState,
     arguments: Row<Argument>,
     name: Text,
     given: Given,
     span: Span,
-) -> Result<Option<CommandState>, OutOfMemory>
-    ensures { IfOk result (λ to. to ≡ state blocks (content.Arguments
+) -> Result<bool, OutOfMemory>
+    ensures { IfOk result (λ on. reached on commands.new ≡ state commands.old.blocks (content.Arguments
         (arguments ++ (argument_of name given span ∷ [])))) }
 {
     let mut arguments = arguments;
     arguments.push(Argument { name, given, span })?;
-    Ok(Some(CommandState {
-        blocks,
-        content: Content::Arguments(arguments),
-    }))
+    Ok(commands.holds(Content::Arguments(arguments)))
 }
 
 /// The end of an if.
 fn closed_if(
-    blocks: Stack<Block>,
+    commands: &mut CommandState,
     part: OpenIf,
     other: Option<Seq<Node>>,
     end: Span,
-) -> Result<Option<CommandState>, OutOfMemory>
-    ensures { IfOk result (λ to. to ≡ closed_if blocks part other end) }
+) -> Result<bool, OutOfMemory>
+    ensures { IfOk result (λ on. reached on commands.new ≡ closed_if commands.old.blocks part other end) }
 {
     let span = joined(part.start, end);
-    adds(blocks, part.before, Form::If(part.arms.done(), other), span)
+    adds(
+        commands,
+        part.before,
+        Form::If(part.arms.done(), other),
+        span,
+    )
 }
 
 /// The end of a switch.
 pub(crate) fn closed_switch(
-    blocks: Stack<Block>,
+    commands: &mut CommandState,
     part: OpenSwitch,
     other: Option<Seq<Node>>,
     end: Span,
-) -> Result<Option<CommandState>, OutOfMemory>
-    ensures { IfOk result (λ to. to ≡ closed_switch blocks part other end) }
+) -> Result<bool, OutOfMemory>
+    ensures { IfOk result (λ on. reached on commands.new ≡ closed_switch commands.old.blocks part other end) }
 {
     let span = joined(part.start, end);
     let form = Form::Switch(part.subject, part.cases.done(), other);
-    adds(blocks, part.before, form, span)
+    adds(commands, part.before, form, span)
 }
 
 /// The end of a template.
 fn closed_template(
-    blocks: Stack<Block>,
+    commands: &mut CommandState,
     template: OpenTemplate,
     body: Row<Node>,
     end: Span,
-) -> Result<Option<CommandState>, OutOfMemory>
-    ensures { IfOk result (λ to. to ≡ closed_template blocks template body end) }
+) -> Result<bool, OutOfMemory>
+    ensures { IfOk result (λ on. reached on commands.new ≡ closed_template commands.old.blocks template body end) }
 {
     let OpenTemplate {
         namespace,
@@ -361,10 +463,7 @@ fn closed_template(
     } = template;
     let mut templates = templates;
     templates.push(template_of(head, params, body, up_to(start, end)))?;
-    Ok(Some(CommandState {
-        blocks,
-        content: Content::Templates(namespace, templates),
-    }))
+    Ok(commands.holds(Content::Templates(namespace, templates)))
 }
 
 /// The template of these parts.

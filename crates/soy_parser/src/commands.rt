@@ -1,12 +1,13 @@
 //! The machine that reads commands: what each does between templates, in a body and in a call.
 
-ghost use Rattle.std.specs.Prelude.{◌≡◌, ◌∷◌, IfOk, None, if◌then◌else◌};
+ghost use Rattle.std.specs.Prelude.{◌≡◌, ◌∷◌, false, IfOk, None, if◌then◌else◌};
 ghost use Rattle.soy_parser.specs.CommandSteps.{argument_opens, argument_single, arguments_step, before_cases_step};
 ghost use Rattle.soy_parser.specs.CommandSteps.{body_step, cases_begin, closed_bare_switch, closed_call};
 ghost use Rattle.soy_parser.specs.CommandSteps.{command_start, command_step, template_param_step, is_call, is_switch};
 ghost use Rattle.soy_parser.specs.CommandSteps.{body_closes, body_goes_on, ended, is_empty, opening_step};
 ghost use Rattle.soy_parser.specs.CommandSteps.{single_step, state, template_opens, templates_step, white_step};
 ghost use Rattle.soy_parser.specs.CommandSteps.{with_text};
+ghost use Rattle.soy_parser.specs.Reached.{reached};
 ghost use Rattle.soy_parser.specs.declared.block.Content.TheVariants as content;
 
 use crate::block::{
@@ -14,11 +15,11 @@ use crate::block::{
     OpenTemplate,
 };
 use crate::blocks::{
-    adds, adds_argument, begins, begins_parts, body_closes, body_goes_on, case_goes_on,
-    closed_switch, refused,
+    adds, adds_after, adds_argument, begins, begins_parts, body_closes, body_goes_on, case_goes_on,
+    closed_switch, opens_with, refused, refused_middle,
 };
 use crate::command::{Command, CommandForm, Middle, Opening, Single};
-use crate::messages::{choice, parts, plural_goes_on, refused_form, select_goes_on};
+use crate::messages::{choice, parts, plural_goes_on, select_goes_on};
 use crate::nodes::{is_white, joined};
 use crate::terminal::BlockName;
 use soy_base::{OutOfMemory, Row, Seq, Span, Stack, Text};
@@ -36,94 +37,71 @@ impl CommandState {
         }
     }
 
-    /// What was read once a command has come, or none where no file goes on with it.
-    pub(crate) fn step(
-        self,
-        alloc: Global,
-        command: Command,
-    ) -> Result<Option<CommandState>, OutOfMemory>
-        ensures { IfOk result (λ to. to ≡ command_step self command) }
+    /// Takes a command, and says whether some file goes on with it; if none does, what was read is of no use.
+    pub(crate) fn step(&mut self, alloc: Global, command: Command) -> Result<bool, OutOfMemory>
+        ensures { IfOk result (λ on. reached on self.new ≡ command_step self.old command) }
     {
-        let CommandState { blocks, content } = self;
         let Command { form, span } = command;
-        match content {
-            Content::White => Ok(white(alloc, blocks, Command { form, span })),
+        match self.take_content() {
+            Content::White => Ok(white(alloc, self, form, span)),
             Content::Templates(namespace, templates) => between_templates(
-                alloc, blocks, namespace, templates, form, span,
+                alloc, self, namespace, templates, form, span,
             ),
-            Content::Body(nodes) => body(alloc, blocks, nodes, form, span),
-            Content::Arguments(arguments) => in_call(alloc, blocks, arguments, form, span),
-            Content::BeforeCases => before_cases(alloc, blocks, form, span),
-            Content::Parts(nodes, white) => parts(alloc, blocks, nodes, white, form, span),
-            Content::Choice(message) => choice(alloc, blocks, message, form, span),
+            Content::Body(nodes) => body(alloc, self, nodes, form, span),
+            Content::Arguments(arguments) => in_call(alloc, self, arguments, form, span),
+            Content::BeforeCases => before_cases(alloc, self, form, span),
+            Content::Parts(nodes, white) => parts(alloc, self, nodes, white, form, span),
+            Content::Choice(message) => choice(alloc, self, message, form, span),
         }
     }
 }
 
 /// Before the namespace.
-fn white(alloc: Global, blocks: Stack<Block>, command: Command) -> Option<CommandState>
-    ensures { result ≡ white_step blocks command.form command.span }
+fn white(alloc: Global, commands: &mut CommandState, form: CommandForm, span: Span) -> bool
+    ensures { reached result commands.new ≡ white_step commands.old.blocks form span }
 {
-    match command.form {
-        CommandForm::Text(text) => {
-            if is_white(&text) {
-                Some(CommandState {
-                    blocks,
-                    content: Content::White,
-                })
-            } else {
-                None
-            }
+    match form {
+        CommandForm::Text(text) => commands.holds_if(Content::White, is_white(&text)),
+        CommandForm::Namespace(namespace) => {
+            commands.holds(Content::Templates(namespace, Row::empty(alloc)))
         }
-        CommandForm::Namespace(namespace) => Some(CommandState {
-            blocks,
-            content: Content::Templates(namespace, Row::empty(alloc)),
-        }),
-        form => refused_form(blocks, form),
+        form => refused_form(form),
     }
 }
 
 /// Between the templates of a file.
 fn between_templates(
     alloc: Global,
-    blocks: Stack<Block>,
+    commands: &mut CommandState,
     namespace: Text,
     templates: Row<Template>,
     form: CommandForm,
     span: Span,
-) -> Result<Option<CommandState>, OutOfMemory>
-    ensures { IfOk result (λ to. to ≡ templates_step blocks namespace templates form span) }
+) -> Result<bool, OutOfMemory>
+    ensures { IfOk result (λ on. reached on commands.new ≡
+        templates_step commands.old.blocks namespace templates form span) }
 {
     match form {
         CommandForm::Text(text) => {
-            if is_white(&text) {
-                Ok(Some(CommandState {
-                    blocks,
-                    content: Content::Templates(namespace, templates),
-                }))
-            } else {
-                Ok(None)
-            }
+            let content = Content::Templates(namespace, templates);
+            Ok(commands.holds_if(content, is_white(&text)))
         }
-        CommandForm::Opens(of) => opens_template(alloc, blocks, namespace, templates, of, span),
-        form => {
-            drop(namespace);
-            drop(templates);
-            Ok(refused_form(blocks, form))
-        }
+        CommandForm::Opens(of) => opens_template(alloc, commands, namespace, templates, of, span),
+        form => Ok(refused_form(form)),
     }
 }
 
 /// A template begins.
 fn opens_template(
     alloc: Global,
-    blocks: Stack<Block>,
+    commands: &mut CommandState,
     namespace: Text,
     templates: Row<Template>,
     of: Opening,
     span: Span,
-) -> Result<Option<CommandState>, OutOfMemory>
-    ensures { IfOk result (λ to. to ≡ template_opens blocks namespace templates of span) }
+) -> Result<bool, OutOfMemory>
+    ensures { IfOk result (λ on. reached on commands.new ≡
+        template_opens commands.old.blocks namespace templates of span) }
 {
     match of {
         Opening::Template(head) => {
@@ -134,26 +112,26 @@ fn opens_template(
                 start: span,
                 params: Row::empty(alloc),
             };
-            begins(alloc, blocks, Block::Template(template))
+            begins(alloc, commands, Block::Template(template))
         }
-        _ => Ok(None),
+        of => Ok(refused_opening(of)),
     }
 }
 
 /// In a body.
 fn body(
     alloc: Global,
-    blocks: Stack<Block>,
+    commands: &mut CommandState,
     nodes: Nodes,
     form: CommandForm,
     span: Span,
-) -> Result<Option<CommandState>, OutOfMemory>
-    ensures { IfOk result (λ to. to ≡ body_step blocks nodes form span) }
+) -> Result<bool, OutOfMemory>
+    ensures { IfOk result (λ on. reached on commands.new ≡ body_step commands.old.blocks nodes form span) }
 {
     match form {
-        CommandForm::Text(text) => text_in_body(blocks, nodes, text, span),
-        CommandForm::Character(text) => text_in_body(blocks, nodes, text, span),
-        CommandForm::Namespace(_) => Ok(None),
+        CommandForm::Text(text) => text_in_body(commands, nodes, text, span),
+        CommandForm::Character(text) => text_in_body(commands, nodes, text, span),
+        CommandForm::Namespace(_) => Ok(false),
         CommandForm::TemplateParam(name, required, of) => {
             let param = Param {
                 name,
@@ -161,170 +139,157 @@ fn body(
                 required,
                 span,
             };
-            param_in_body(alloc, blocks, nodes, param)
+            param_in_body(alloc, commands, nodes, param)
         }
-        CommandForm::Single(of) => single_after(alloc, blocks, nodes, of, span),
-        CommandForm::Opens(of) => opens_after(alloc, blocks, nodes, of, span),
-        CommandForm::GoesOn(of) => goes_on_after(alloc, blocks, nodes, of),
-        CommandForm::Closes(name) => closes_after(blocks, nodes, name, span),
+        CommandForm::Single(of) => single_in_body(alloc, commands, nodes, of, span),
+        CommandForm::Opens(of) => opens_in_body(alloc, commands, nodes, of, span),
+        CommandForm::GoesOn(of) => goes_on_after(alloc, commands, nodes, of),
+        CommandForm::Closes(name) => closes_after(commands, nodes, name, span),
     }
-}
-
-/// A command that holds no block, after these nodes.
-fn single_after(
-    alloc: Global,
-    blocks: Stack<Block>,
-    nodes: Nodes,
-    of: Single,
-    span: Span,
-) -> Result<Option<CommandState>, OutOfMemory>
-    ensures { IfOk result (λ to. to ≡ single_step blocks (ended nodes) of span) }
-{
-    let nodes = nodes.ended()?;
-    single_in_body(alloc, blocks, nodes, of, span)
-}
-
-/// A command that opens a block, after these nodes.
-fn opens_after(
-    alloc: Global,
-    blocks: Stack<Block>,
-    nodes: Nodes,
-    of: Opening,
-    span: Span,
-) -> Result<Option<CommandState>, OutOfMemory>
-    ensures { IfOk result (λ to. to ≡ opening_step blocks (ended nodes) of span) }
-{
-    let nodes = nodes.ended()?;
-    opens_in_body(alloc, blocks, nodes, of, span)
 }
 
 /// A command with which a block goes on, after these nodes.
 fn goes_on_after(
     alloc: Global,
-    blocks: Stack<Block>,
+    commands: &mut CommandState,
     nodes: Nodes,
     of: Middle,
-) -> Result<Option<CommandState>, OutOfMemory>
-    ensures { IfOk result (λ to. to ≡ body_goes_on blocks (ended nodes) of) }
+) -> Result<bool, OutOfMemory>
+    ensures { IfOk result (λ on. reached on commands.new ≡ body_goes_on commands.old.blocks (ended nodes) of) }
 {
-    let nodes = nodes.ended()?;
-    body_goes_on(alloc, blocks, nodes, of)
+    match nodes.ended() {
+        Ok(nodes) => body_goes_on(alloc, commands, nodes, of),
+        Err(out) => {
+            refused_middle(of);
+            Err(out)
+        }
+    }
 }
 
 /// A command that closes a block, after these nodes.
 fn closes_after(
-    blocks: Stack<Block>,
+    commands: &mut CommandState,
     nodes: Nodes,
     name: BlockName,
     end: Span,
-) -> Result<Option<CommandState>, OutOfMemory>
-    ensures { IfOk result (λ to. to ≡ body_closes blocks (ended nodes) name end) }
+) -> Result<bool, OutOfMemory>
+    ensures { IfOk result (λ on. reached on commands.new ≡ body_closes commands.old.blocks (ended nodes) name end) }
 {
-    let nodes = nodes.ended()?;
-    body_closes(blocks, nodes, name, end)
+    body_closes(commands, nodes.ended()?, name, end)
 }
 
 /// A text of a body has come.
 fn text_in_body(
-    blocks: Stack<Block>,
+    commands: &mut CommandState,
     nodes: Nodes,
     text: Text,
     span: Span,
-) -> Result<Option<CommandState>, OutOfMemory>
-    ensures { IfOk result (λ to. to ≡ state blocks (content.Body (with_text nodes text span))) }
+) -> Result<bool, OutOfMemory>
+    ensures { IfOk result (λ on. reached on commands.new ≡
+        state commands.old.blocks (content.Body (with_text nodes text span))) }
 {
     let nodes = nodes.with_text(text, span)?;
-    Ok(Some(CommandState {
-        blocks,
-        content: Content::Body(nodes),
-    }))
+    Ok(commands.holds(Content::Body(nodes)))
 }
 
 /// A parameter, after these nodes.
 fn param_in_body(
     alloc: Global,
-    blocks: Stack<Block>,
+    commands: &mut CommandState,
     nodes: Nodes,
     param: Param,
-) -> Result<Option<CommandState>, OutOfMemory>
-    ensures { IfOk result (λ to. to ≡ (if is_empty nodes then template_param_step blocks param else None)) }
+) -> Result<bool, OutOfMemory>
+    ensures { IfOk result (λ on. reached on commands.new ≡
+        (if is_empty nodes then template_param_step commands.old.blocks param else None)) }
 {
     if nodes.is_empty() {
-        template_param(alloc, blocks, param)
+        template_param(alloc, commands, param)
     } else {
-        drop(nodes);
-        drop(param);
-        Ok(None)
+        Ok(false)
     }
 }
 
 /// A parameter, at the head of a template.
 fn template_param(
     alloc: Global,
-    blocks: Stack<Block>,
+    commands: &mut CommandState,
     param: Param,
-) -> Result<Option<CommandState>, OutOfMemory>
-    ensures { IfOk result (λ to. to ≡ template_param_step blocks param) }
+) -> Result<bool, OutOfMemory>
+    ensures { IfOk result (λ on. reached on commands.new ≡ template_param_step commands.old.blocks param) }
 {
-    let mut blocks = blocks;
-    match blocks.pop() {
-        Some(block) => block_param(alloc, blocks, block, param),
-        None => Ok(None),
+    match commands.pop() {
+        Some(block) => block_param(alloc, commands, block, param),
+        None => Ok(false),
     }
 }
 
 /// A parameter, at the head of this block.
 fn block_param(
     alloc: Global,
-    blocks: Stack<Block>,
+    commands: &mut CommandState,
     block: Block,
     param: Param,
-) -> Result<Option<CommandState>, OutOfMemory>
-    ensures { IfOk result (λ to. to ≡ template_param_step (block ∷ blocks) param) }
+) -> Result<bool, OutOfMemory>
+    ensures { IfOk result (λ on. reached on commands.new ≡ template_param_step (block ∷ commands.old.blocks) param) }
 {
     match block {
         Block::Template(template) => {
             let template = template.with_param(param)?;
-            begins(alloc, blocks, Block::Template(template))
+            begins(alloc, commands, Block::Template(template))
         }
-        block => {
-            drop(param);
-            Ok(refused(blocks, block))
-        }
+        block => Ok(refused(block)),
     }
 }
 
 /// A command that holds no block, in a body.
 fn single_in_body(
     alloc: Global,
-    blocks: Stack<Block>,
-    nodes: Row<Node>,
+    commands: &mut CommandState,
+    nodes: Nodes,
     of: Single,
     span: Span,
-) -> Result<Option<CommandState>, OutOfMemory>
-    ensures { IfOk result (λ to. to ≡ single_step blocks nodes of span) }
+) -> Result<bool, OutOfMemory>
+    ensures { IfOk result (λ on. reached on commands.new ≡ single_step commands.old.blocks (ended nodes) of span) }
 {
     match of {
-        Single::Print(expr) => adds(blocks, nodes, Form::Print(expr, None), span),
-        Single::Let(name, expr) => adds(blocks, nodes, Form::Let(name, expr), span),
+        Single::Print(expr) => adds_after(commands, nodes, Form::Print(expr, None), span),
+        Single::Let(name, expr) => adds_after(commands, nodes, Form::Let(name, expr), span),
         Single::Call(name, all) => {
             let given = Seq::new(Vec::new(alloc));
-            adds(blocks, nodes, Form::Call(name, all, given), span)
+            adds_after(commands, nodes, Form::Call(name, all, given), span)
         }
-        Single::MessagePrint(_, _) => Ok(None),
-        Single::Param(_, _) => Ok(None),
+        of => Ok(refused_single(of)),
     }
 }
 
 /// A command that opens a block, in a body.
 fn opens_in_body(
     alloc: Global,
-    blocks: Stack<Block>,
+    commands: &mut CommandState,
+    nodes: Nodes,
+    of: Opening,
+    span: Span,
+) -> Result<bool, OutOfMemory>
+    ensures { IfOk result (λ on. reached on commands.new ≡ opening_step commands.old.blocks (ended nodes) of span) }
+{
+    match nodes.ended() {
+        Ok(nodes) => opens_after(alloc, commands, nodes, of, span),
+        Err(out) => {
+            refused_opening(of);
+            Err(out)
+        }
+    }
+}
+
+/// A command that opens a block, after these nodes.
+fn opens_after(
+    alloc: Global,
+    commands: &mut CommandState,
     nodes: Row<Node>,
     of: Opening,
     span: Span,
-) -> Result<Option<CommandState>, OutOfMemory>
-    ensures { IfOk result (λ to. to ≡ opening_step blocks nodes of span) }
+) -> Result<bool, OutOfMemory>
+    ensures { IfOk result (λ on. reached on commands.new ≡ opening_step commands.old.blocks nodes of span) }
 {
     match of {
         Opening::If(when) => {
@@ -333,20 +298,19 @@ fn opens_in_body(
                 start: span,
                 arms: Row::empty(alloc),
             };
-            begins(alloc, blocks, Block::Arm(part, when))
+            begins(alloc, commands, Block::Arm(part, when))
         }
         Opening::Switch(subject) => {
             let block = Block::Switch(nodes, span, subject);
-            opens_with(blocks, block, Content::BeforeCases)
+            opens_with(commands, block, Content::BeforeCases)
         }
         Opening::For(name, index, list) => {
-            let block = Block::For(nodes, span, name, index, list);
-            begins(alloc, blocks, block)
+            begins(alloc, commands, Block::For(nodes, span, name, index, list))
         }
-        Opening::Let(name, kind) => begins(alloc, blocks, Block::Let(nodes, span, name, kind)),
+        Opening::Let(name, kind) => begins(alloc, commands, Block::Let(nodes, span, name, kind)),
         Opening::Call(name, all) => {
             let block = Block::Call(nodes, span, name, all);
-            opens_with(blocks, block, Content::Arguments(Row::empty(alloc)))
+            opens_with(commands, block, Content::Arguments(Row::empty(alloc)))
         }
         Opening::Message(desc, meaning) => {
             let part = OpenMessage {
@@ -355,217 +319,193 @@ fn opens_in_body(
                 desc,
                 meaning,
             };
-            begins_parts(alloc, blocks, Block::Message(part))
+            begins_parts(alloc, commands, Block::Message(part))
         }
-        of => {
-            drop(nodes);
-            Ok(refused_opening(blocks, of))
-        }
+        of => Ok(refused_opening(of)),
     }
 }
 
 /// A block that doesn't open there.
-fn refused_opening(blocks: Stack<Block>, of: Opening) -> Option<CommandState>
-    ensures { result ≡ None }
+pub(crate) fn refused_opening(of: Opening) -> bool
+    ensures { result ≡ false }
 {
-    drop(blocks);
     drop(of);
-    None
+    false
 }
 
-/// A block opens, and this is its content.
-pub(crate) fn opens_with(
-    blocks: Stack<Block>,
-    block: Block,
-    content: Content,
-) -> Result<Option<CommandState>, OutOfMemory>
-    ensures { IfOk result (λ to. to ≡ state (block ∷ blocks) content) }
+/// A command that doesn't stand there.
+pub(crate) fn refused_single(of: Single) -> bool
+    ensures { result ≡ false }
 {
-    let mut blocks = blocks;
-    blocks.push(block)?;
-    Ok(Some(CommandState { blocks, content }))
+    drop(of);
+    false
+}
+
+/// A command with which no file goes on.
+pub(crate) fn refused_form(form: CommandForm) -> bool
+    ensures { result ≡ false }
+{
+    drop(form);
+    false
 }
 
 /// In a call.
 fn in_call(
     alloc: Global,
-    blocks: Stack<Block>,
+    commands: &mut CommandState,
     arguments: Row<Argument>,
     form: CommandForm,
     span: Span,
-) -> Result<Option<CommandState>, OutOfMemory>
-    ensures { IfOk result (λ to. to ≡ arguments_step blocks arguments form span) }
+) -> Result<bool, OutOfMemory>
+    ensures { IfOk result (λ on. reached on commands.new ≡ arguments_step commands.old.blocks arguments form span) }
 {
     match form {
         CommandForm::Text(text) => {
-            if is_white(&text) {
-                Ok(Some(CommandState {
-                    blocks,
-                    content: Content::Arguments(arguments),
-                }))
-            } else {
-                Ok(None)
-            }
+            Ok(commands.holds_if(Content::Arguments(arguments), is_white(&text)))
         }
-        CommandForm::Single(of) => single_argument(blocks, arguments, of, span),
-        CommandForm::Opens(of) => opens_argument(alloc, blocks, arguments, of, span),
-        CommandForm::Closes(name) => argument_closes(blocks, arguments, name, span),
-        _ => Ok(None),
+        CommandForm::Single(of) => single_argument(commands, arguments, of, span),
+        CommandForm::Opens(of) => opens_argument(alloc, commands, arguments, of, span),
+        CommandForm::Closes(name) => argument_closes(commands, arguments, name, span),
+        form => Ok(refused_form(form)),
     }
 }
 
 /// A command that closes a block, in a call.
 fn argument_closes(
-    blocks: Stack<Block>,
+    commands: &mut CommandState,
     arguments: Row<Argument>,
     name: BlockName,
     end: Span,
-) -> Result<Option<CommandState>, OutOfMemory>
-    ensures { IfOk result (λ to. to ≡ (if is_call name then closed_call blocks arguments end else None)) }
+) -> Result<bool, OutOfMemory>
+    ensures { IfOk result (λ on. reached on commands.new ≡
+        (if is_call name then closed_call commands.old.blocks arguments end else None)) }
 {
     if matches!(name, BlockName::Call) {
-        call_closes(blocks, arguments, end)
+        call_closes(commands, arguments, end)
     } else {
-        Ok(None)
+        Ok(false)
     }
 }
 
 /// A param that is an expression.
 fn single_argument(
-    blocks: Stack<Block>,
+    commands: &mut CommandState,
     arguments: Row<Argument>,
     of: Single,
     span: Span,
-) -> Result<Option<CommandState>, OutOfMemory>
-    ensures { IfOk result (λ to. to ≡ argument_single blocks arguments of span) }
+) -> Result<bool, OutOfMemory>
+    ensures { IfOk result (λ on. reached on commands.new ≡ argument_single commands.old.blocks arguments of span) }
 {
     match of {
         Single::Param(name, expr) => {
-            adds_argument(blocks, arguments, name, Given::Plain(expr), span)
+            adds_argument(commands, arguments, name, Given::Plain(expr), span)
         }
-        _ => Ok(None),
+        of => Ok(refused_single(of)),
     }
 }
 
 /// A param that is a block begins.
 fn opens_argument(
     alloc: Global,
-    blocks: Stack<Block>,
+    commands: &mut CommandState,
     arguments: Row<Argument>,
     of: Opening,
     span: Span,
-) -> Result<Option<CommandState>, OutOfMemory>
-    ensures { IfOk result (λ to. to ≡ argument_opens blocks arguments of span) }
+) -> Result<bool, OutOfMemory>
+    ensures { IfOk result (λ on. reached on commands.new ≡ argument_opens commands.old.blocks arguments of span) }
 {
     match of {
         Opening::Param(name, kind) => {
-            begins(alloc, blocks, Block::Param(arguments, span, name, kind))
+            begins(alloc, commands, Block::Param(arguments, span, name, kind))
         }
-        _ => Ok(None),
+        of => Ok(refused_opening(of)),
     }
 }
 
 /// The end of a call.
 fn call_closes(
-    blocks: Stack<Block>,
+    commands: &mut CommandState,
     arguments: Row<Argument>,
     end: Span,
-) -> Result<Option<CommandState>, OutOfMemory>
-    ensures { IfOk result (λ to. to ≡ closed_call blocks arguments end) }
+) -> Result<bool, OutOfMemory>
+    ensures { IfOk result (λ on. reached on commands.new ≡ closed_call commands.old.blocks arguments end) }
 {
-    let mut blocks = blocks;
-    match blocks.pop() {
-        Some(block) => closed_call(blocks, block, arguments, end),
-        None => Ok(None),
+    match commands.pop() {
+        Some(block) => closed_call(commands, block, arguments, end),
+        None => Ok(false),
     }
 }
 
 /// The end of a call, if this block is one.
 fn closed_call(
-    blocks: Stack<Block>,
+    commands: &mut CommandState,
     block: Block,
     arguments: Row<Argument>,
     end: Span,
-) -> Result<Option<CommandState>, OutOfMemory>
-    ensures { IfOk result (λ to. to ≡ closed_call (block ∷ blocks) arguments end) }
+) -> Result<bool, OutOfMemory>
+    ensures { IfOk result (λ on. reached on commands.new ≡ closed_call (block ∷ commands.old.blocks) arguments end) }
 {
     match block {
         Block::Call(before, start, name, all) => {
             let form = Form::Call(name, all, arguments.done());
-            adds(blocks, before, form, joined(start, end))
+            adds(commands, before, form, joined(start, end))
         }
-        block => {
-            drop(arguments);
-            Ok(refused(blocks, block))
-        }
+        block => Ok(refused(block)),
     }
 }
 
 /// Before the first case of a switch, plural or select.
 fn before_cases(
     alloc: Global,
-    blocks: Stack<Block>,
+    commands: &mut CommandState,
     form: CommandForm,
     span: Span,
-) -> Result<Option<CommandState>, OutOfMemory>
-    ensures { IfOk result (λ to. to ≡ before_cases_step blocks form span) }
+) -> Result<bool, OutOfMemory>
+    ensures { IfOk result (λ on. reached on commands.new ≡ before_cases_step commands.old.blocks form span) }
 {
     match form {
-        CommandForm::Text(text) => {
-            if is_white(&text) {
-                Ok(Some(CommandState {
-                    blocks,
-                    content: Content::BeforeCases,
-                }))
-            } else {
-                Ok(None)
-            }
-        }
-        CommandForm::GoesOn(of) => cases_begin(alloc, blocks, of),
-        CommandForm::Closes(name) => bare_closes(alloc, blocks, name, span),
-        form => Ok(refused_form(blocks, form)),
+        CommandForm::Text(text) => { Ok(commands.holds_if(Content::BeforeCases, is_white(&text))) }
+        CommandForm::GoesOn(of) => cases_begin(alloc, commands, of),
+        CommandForm::Closes(name) => bare_closes(alloc, commands, name, span),
+        form => Ok(refused_form(form)),
     }
 }
 
 /// A command that closes a block, before the first case.
 fn bare_closes(
     alloc: Global,
-    blocks: Stack<Block>,
+    commands: &mut CommandState,
     name: BlockName,
     end: Span,
-) -> Result<Option<CommandState>, OutOfMemory>
-    ensures { IfOk result (λ to. to ≡ (if is_switch name then closed_bare_switch blocks end else None)) }
+) -> Result<bool, OutOfMemory>
+    ensures { IfOk result (λ on. reached on commands.new ≡
+        (if is_switch name then closed_bare_switch commands.old.blocks end else None)) }
 {
     if matches!(name, BlockName::Switch) {
-        bare_switch_closes(alloc, blocks, end)
+        bare_switch_closes(alloc, commands, end)
     } else {
-        Ok(None)
+        Ok(false)
     }
 }
 
 /// The first case, or the default.
-fn cases_begin(
-    alloc: Global,
-    blocks: Stack<Block>,
-    of: Middle,
-) -> Result<Option<CommandState>, OutOfMemory>
-    ensures { IfOk result (λ to. to ≡ cases_begin blocks of) }
+fn cases_begin(alloc: Global, commands: &mut CommandState, of: Middle) -> Result<bool, OutOfMemory>
+    ensures { IfOk result (λ on. reached on commands.new ≡ cases_begin commands.old.blocks of) }
 {
-    let mut blocks = blocks;
-    match blocks.pop() {
-        Some(block) => block_cases_begin(alloc, blocks, block, of),
-        None => Ok(None),
+    match commands.pop() {
+        Some(block) => block_cases_begin(alloc, commands, block, of),
+        None => Ok(refused_middle(of)),
     }
 }
 
 /// The first case, or the default, of this block.
 fn block_cases_begin(
     alloc: Global,
-    blocks: Stack<Block>,
+    commands: &mut CommandState,
     block: Block,
     of: Middle,
-) -> Result<Option<CommandState>, OutOfMemory>
-    ensures { IfOk result (λ to. to ≡ cases_begin (block ∷ blocks) of) }
+) -> Result<bool, OutOfMemory>
+    ensures { IfOk result (λ on. reached on commands.new ≡ cases_begin (block ∷ commands.old.blocks) of) }
 {
     match block {
         Block::Switch(before, start, subject) => {
@@ -576,7 +516,7 @@ fn block_cases_begin(
                 subject,
                 cases,
             };
-            case_goes_on(alloc, blocks, part, of)
+            case_goes_on(alloc, commands, part, of)
         }
         Block::Plural(selector, offset) => {
             let cases = Row::empty(alloc);
@@ -585,15 +525,15 @@ fn block_cases_begin(
                 offset,
                 cases,
             };
-            plural_goes_on(alloc, blocks, part, of)
+            plural_goes_on(alloc, commands, part, of)
         }
         Block::Select(selector) => {
             let cases = Row::empty(alloc);
-            select_goes_on(alloc, blocks, OpenSelect { selector, cases }, of)
+            select_goes_on(alloc, commands, OpenSelect { selector, cases }, of)
         }
         block => {
-            drop(of);
-            Ok(refused(blocks, block))
+            refused_middle(of);
+            Ok(refused(block))
         }
     }
 }
@@ -601,26 +541,25 @@ fn block_cases_begin(
 /// The end of a switch without cases.
 fn bare_switch_closes(
     alloc: Global,
-    blocks: Stack<Block>,
+    commands: &mut CommandState,
     end: Span,
-) -> Result<Option<CommandState>, OutOfMemory>
-    ensures { IfOk result (λ to. to ≡ closed_bare_switch blocks end) }
+) -> Result<bool, OutOfMemory>
+    ensures { IfOk result (λ on. reached on commands.new ≡ closed_bare_switch commands.old.blocks end) }
 {
-    let mut blocks = blocks;
-    match blocks.pop() {
-        Some(block) => closed_bare_switch(alloc, blocks, block, end),
-        None => Ok(None),
+    match commands.pop() {
+        Some(block) => closed_bare_switch(alloc, commands, block, end),
+        None => Ok(false),
     }
 }
 
 /// The end of a switch without cases, if this block is one.
 fn closed_bare_switch(
     alloc: Global,
-    blocks: Stack<Block>,
+    commands: &mut CommandState,
     block: Block,
     end: Span,
-) -> Result<Option<CommandState>, OutOfMemory>
-    ensures { IfOk result (λ to. to ≡ closed_bare_switch (block ∷ blocks) end) }
+) -> Result<bool, OutOfMemory>
+    ensures { IfOk result (λ on. reached on commands.new ≡ closed_bare_switch (block ∷ commands.old.blocks) end) }
 {
     match block {
         Block::Switch(before, start, subject) => {
@@ -631,8 +570,8 @@ fn closed_bare_switch(
                 subject,
                 cases,
             };
-            closed_switch(blocks, part, None, end)
+            closed_switch(commands, part, None, end)
         }
-        block => Ok(refused(blocks, block)),
+        block => Ok(refused(block)),
     }
 }

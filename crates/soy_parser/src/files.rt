@@ -1,9 +1,11 @@
 //! The machine that reads a file, a token a step: what is between commands, and how a command begins.
 
-ghost use Rattle.std.specs.Prelude.{◌≡◌, IfOk, Some, None};
-ghost use Rattle.soy_parser.specs.FileSteps.{bare_expr, bare_opens, between_step, case_opens, ended_command};
+ghost use Rattle.std.specs.Prelude.{◌≡◌, IfOk, Some, None, if◌then◌else◌};
+ghost use Rattle.soy_parser.specs.CommandSteps.{command_step};
+ghost use Rattle.soy_parser.specs.FileSteps.{bare_expr, bare_opens, between_step, case_opens, ended_command, file_at};
 ghost use Rattle.soy_parser.specs.FileSteps.{file_start, file_step, opened_step, opens_if, print_opens, print_use};
 ghost use Rattle.soy_parser.specs.FileSteps.{depth_in, stands, taken, tree_of, unknown_in, whole_file};
+ghost use Rattle.soy_parser.specs.Reached.{reached};
 ghost use Rattle.soy_parser.specs.SpellsHead.{bare_head};
 ghost use Rattle.expr_parser.specs.ExprRuns.{expr_start};
 ghost use Rattle.soy_parser.specs.declared.spot.Spot.TheVariants as spot;
@@ -22,6 +24,7 @@ use soy_base::{OutOfMemory, Row, Span, Text};
 use soy_lexer::Token;
 use soy_tree::Tree;
 use std::alloc::Global;
+use std::mem::replace;
 
 impl FileState {
     /// Nothing was read. Takes no memory.
@@ -34,26 +37,48 @@ impl FileState {
         }
     }
 
-    /// What was read once a token has come, or none where no file goes on with it.
-    pub(crate) fn step(self, alloc: Global, token: &Token) -> Result<Option<FileState>, OutOfMemory>
-        ensures { IfOk result (λ to. to ≡ file_step self token.now) }
+    /// Takes a token, and says whether some file goes on with it; if none does, what was read is of no use.
+    pub(crate) fn step(&mut self, alloc: Global, token: &Token) -> Result<bool, OutOfMemory>
+        ensures { IfOk result (λ on. reached on self.new ≡ file_step self.old token.now) }
     {
-        let FileState { commands, spot } = self;
         let terminal = CommandTerminal::of(token);
-        match spot {
-            CommandSpot::Between => between(alloc, commands, token, terminal),
-            CommandSpot::Opened(from) => opened(alloc, commands, from, token, terminal),
-            CommandSpot::Inside(from, spot) => inside(alloc, commands, from, spot, token, terminal),
+        match self.take_spot() {
+            CommandSpot::Between => between(alloc, self, token, terminal),
+            CommandSpot::Opened(from) => opened(alloc, self, from, token, terminal),
+            CommandSpot::Inside(from, spot) => inside(alloc, self, from, spot, token, terminal),
         }
     }
 
-    /// What was read, if it is a whole file.
-    pub(crate) fn finish(self) -> Option<Tree>
-        ensures { result ≡ whole_file self }
+    /// Where the reading stands, for a step that says where it stands next.
+    fn take_spot(&mut self) -> CommandSpot
+        ensures spot { result ≡ self.old.spot }
+        ensures commands { self.new.commands ≡ self.old.commands }
     {
-        let FileState { commands, spot } = self;
-        match spot {
-            CommandSpot::Between => tree_of(commands.content),
+        replace(&mut self.spot, CommandSpot::Between)
+    }
+
+    /// The reading stands there.
+    pub(crate) fn set_spot(&mut self, spot: CommandSpot)
+        ensures { self.new ≡ record { commands = self.old.commands; spot = spot } }
+    {
+        self.spot = spot;
+    }
+
+    /// The reading stands there, if this holds.
+    #[tactic(auto, using(crate::proofs::Reaching::reached_if))]
+    fn stands_if(&mut self, spot: CommandSpot, holds: bool) -> bool
+        ensures { reached result self.new ≡ (if holds then file_at self.old.commands spot else None) }
+    {
+        self.set_spot(spot);
+        holds
+    }
+
+    /// What was read, if it is a whole file.
+    pub(crate) fn finish(&mut self) -> Option<Tree>
+        ensures { result ≡ whole_file self.old }
+    {
+        match &self.spot {
+            CommandSpot::Between => tree_of(self.commands.take_content()),
             _ => None,
         }
     }
@@ -92,186 +117,176 @@ fn tree_of(content: Content) -> Option<Tree>
             namespace,
             templates: templates.done(),
         }),
-        _ => None,
+        content => {
+            drop(content);
+            None
+        }
     }
 }
 
 /// A command goes on here.
-pub(crate) fn stands(commands: CommandState, from: Span, spot: Spot) -> Option<FileState>
-    ensures { result ≡ stands commands from spot }
+pub(crate) fn stands(file: &mut FileState, from: Span, spot: Spot) -> bool
+    ensures { reached result file.new ≡ stands file.old.commands from spot }
 {
-    Some(FileState {
-        commands,
-        spot: CommandSpot::Inside(from, spot),
-    })
+    file.stands_if(CommandSpot::Inside(from, spot), true)
 }
 
-/// A command was taken.
-fn taken(commands: Option<CommandState>) -> Option<FileState>
-    ensures { result ≡ taken commands }
+/// A command goes on here, if this holds.
+pub(crate) fn stands_if(file: &mut FileState, from: Span, spot: Spot, holds: bool) -> bool
+    ensures { reached result file.new ≡ (if holds then stands file.old.commands from spot else None) }
 {
-    match commands {
-        Some(commands) => Some(FileState {
-            commands,
-            spot: CommandSpot::Between,
-        }),
-        None => None,
+    file.stands_if(CommandSpot::Inside(from, spot), holds)
+}
+
+/// A command has come, as a whole.
+fn takes(
+    alloc: Global,
+    file: &mut FileState,
+    form: CommandForm,
+    span: Span,
+) -> Result<bool, OutOfMemory>
+    ensures { IfOk result (λ on. reached on file.new ≡
+        taken (command_step file.old.commands (record { form = form; span = span }))) }
+{
+    let is_taken = file.commands.step(alloc, Command { form, span })?;
+    Ok(taken(file, is_taken))
+}
+
+/// A command was taken, if this says so.
+fn taken(file: &mut FileState, is_taken: bool) -> bool
+    ensures { reached result file.new ≡ taken (reached is_taken file.old.commands) }
+{
+    if is_taken {
+        file.stands_if(CommandSpot::Between, true)
+    } else {
+        false
     }
 }
 
 /// A command ends.
 pub(crate) fn ended_command(
     alloc: Global,
-    commands: CommandState,
+    file: &mut FileState,
     from: Span,
     form: Option<CommandForm>,
     token: &Token,
-) -> Result<Option<FileState>, OutOfMemory>
-    ensures { IfOk result (λ to. to ≡ ended_command commands from form token.now) }
+) -> Result<bool, OutOfMemory>
+    ensures { IfOk result (λ on. reached on file.new ≡ ended_command file.old.commands from form token.now) }
 {
     match form {
-        Some(form) => {
-            let span = joined(from, token.span);
-            Ok(taken(commands.step(alloc, Command { form, span })?))
-        }
-        None => Ok(None),
+        Some(form) => takes(alloc, file, form, joined(from, token.span)),
+        None => Ok(false),
     }
 }
 
 /// A token between commands.
 fn between(
     alloc: Global,
-    commands: CommandState,
+    file: &mut FileState,
     token: &Token,
     terminal: CommandTerminal,
-) -> Result<Option<FileState>, OutOfMemory>
-    ensures { IfOk result (λ to. to ≡ between_step commands token.now terminal) }
+) -> Result<bool, OutOfMemory>
+    ensures { IfOk result (λ on. reached on file.new ≡ between_step file.old.commands token.now terminal) }
 {
     match terminal {
         CommandTerminal::Text => {
             let form = CommandForm::Text(token.text.copy(alloc)?);
-            let span = token.span;
-            Ok(taken(commands.step(alloc, Command { form, span })?))
+            takes(alloc, file, form, token.span)
         }
-        CommandTerminal::Begin => Ok(Some(FileState {
-            commands,
-            spot: CommandSpot::Opened(token.span),
-        })),
-        _ => Ok(None),
+        CommandTerminal::Begin => Ok(file.stands_if(CommandSpot::Opened(token.span), true)),
+        _ => Ok(false),
     }
 }
 
 /// A command goes on here, if some file goes on with one of this kind.
-fn opens_if(commands: CommandState, from: Span, kind: HeadKind, spot: Spot) -> Option<FileState>
-    ensures { result ≡ opens_if commands from kind spot }
+fn opens_if(file: &mut FileState, from: Span, kind: HeadKind, spot: Spot) -> bool
+    ensures { reached result file.new ≡ opens_if file.old.commands from kind spot }
 {
-    if commands.admits(kind) {
-        stands(commands, from, spot)
-    } else {
-        None
-    }
+    let is_admitted = file.commands.admits(kind);
+    stands_if(file, from, spot, is_admitted)
 }
 
 /// A token directly after the `{` of a command.
 fn opened(
     alloc: Global,
-    commands: CommandState,
+    file: &mut FileState,
     from: Span,
     token: &Token,
     terminal: CommandTerminal,
-) -> Result<Option<FileState>, OutOfMemory>
-    ensures { IfOk result (λ to. to ≡ opened_step commands from token.now terminal) }
+) -> Result<bool, OutOfMemory>
+    ensures { IfOk result (λ on. reached on file.new ≡ opened_step file.old.commands from token.now terminal) }
 {
     match terminal {
         CommandTerminal::At => Ok(opens_if(
-            commands,
+            file,
             from,
             HeadKind::TemplateParam,
             Spot::TemplateParam,
         )),
-        CommandTerminal::Word(word) => opened_word(alloc, commands, from, token, word),
-        terminal => opens_bare(alloc, commands, from, token, terminal),
+        CommandTerminal::Word(word) => opened_word(alloc, file, from, token, word),
+        terminal => opens_bare(alloc, file, from, token, terminal),
     }
 }
 
 /// A head of one token, or an expression, directly after the `{` of a command.
 fn opens_bare(
     alloc: Global,
-    commands: CommandState,
+    file: &mut FileState,
     from: Span,
     token: &Token,
     terminal: CommandTerminal,
-) -> Result<Option<FileState>, OutOfMemory>
-    ensures { IfOk result (λ to. to ≡ bare_opens commands from (bare_head terminal) token.now) }
+) -> Result<bool, OutOfMemory>
+    ensures { IfOk result (λ on. reached on file.new ≡
+        bare_opens file.old.commands from (bare_head terminal) token.now) }
 {
     let head = Head::bare(alloc, terminal)?;
-    bare_opens(alloc, commands, from, head, token)
+    bare_opens(alloc, file, from, head, token)
 }
 
 /// A word directly after the `{` of a command.
 fn opened_word(
     alloc: Global,
-    commands: CommandState,
+    file: &mut FileState,
     from: Span,
     token: &Token,
     word: CommandWord,
-) -> Result<Option<FileState>, OutOfMemory>
-    ensures { IfOk result (λ to. to ≡ opened_step commands from token.now (terminal.Word word)) }
+) -> Result<bool, OutOfMemory>
+    ensures { IfOk result (λ on. reached on file.new ≡
+        opened_step file.old.commands from token.now (terminal.Word word)) }
 {
     match word {
         CommandWord::Namespace => {
             let spot = Spot::DottedName(DottedUse::Namespace, Text::empty(alloc));
-            Ok(opens_if(commands, from, HeadKind::Namespace, spot))
+            Ok(opens_if(file, from, HeadKind::Namespace, spot))
         }
-        CommandWord::Template => Ok(opens_if(commands, from, HeadKind::Template, Spot::Template)),
-        CommandWord::If => { Ok(opens_if(commands, from, HeadKind::If, in_expr(alloc, Use::If))) }
-        CommandWord::ElseIf => {
-            Ok(opens_if(
-                commands,
-                from,
-                HeadKind::ElseIf,
-                in_expr(alloc, Use::ElseIf),
-            ))
-        }
-        CommandWord::Switch => {
-            Ok(opens_if(
-                commands,
-                from,
-                HeadKind::Switch,
-                in_expr(alloc, Use::Switch),
-            ))
-        }
-        CommandWord::Plural => {
-            Ok(opens_if(
-                commands,
-                from,
-                HeadKind::Plural,
-                in_expr(alloc, Use::Plural),
-            ))
-        }
-        CommandWord::Select => {
-            Ok(opens_if(
-                commands,
-                from,
-                HeadKind::Select,
-                in_expr(alloc, Use::Select),
-            ))
-        }
-        CommandWord::For => Ok(opens_if(commands, from, HeadKind::For, Spot::For)),
-        CommandWord::Let => Ok(opens_if(commands, from, HeadKind::Let, Spot::Let)),
-        CommandWord::Call => Ok(opens_if(commands, from, HeadKind::Call, Spot::Call)),
-        CommandWord::Param => Ok(opens_if(commands, from, HeadKind::Param, Spot::Param)),
-        CommandWord::Print => Ok(print_opens(alloc, commands, from)),
-        CommandWord::Case => Ok(case_opens(alloc, commands, from)),
-        word => opens_bare(alloc, commands, from, token, CommandTerminal::Word(word)),
+        CommandWord::Template => Ok(opens_if(file, from, HeadKind::Template, Spot::Template)),
+        CommandWord::If => Ok(opens_expr_if(alloc, file, from, HeadKind::If, Use::If)),
+        CommandWord::ElseIf => Ok(opens_expr_if(alloc, file, from, HeadKind::ElseIf, Use::ElseIf)),
+        CommandWord::Switch => Ok(opens_expr_if(alloc, file, from, HeadKind::Switch, Use::Switch)),
+        CommandWord::Plural => Ok(opens_expr_if(alloc, file, from, HeadKind::Plural, Use::Plural)),
+        CommandWord::Select => Ok(opens_expr_if(alloc, file, from, HeadKind::Select, Use::Select)),
+        CommandWord::For => Ok(opens_if(file, from, HeadKind::For, Spot::For)),
+        CommandWord::Let => Ok(opens_if(file, from, HeadKind::Let, Spot::Let)),
+        CommandWord::Call => Ok(opens_if(file, from, HeadKind::Call, Spot::Call)),
+        CommandWord::Param => Ok(opens_if(file, from, HeadKind::Param, Spot::Param)),
+        CommandWord::Print => Ok(print_opens(alloc, file, from)),
+        CommandWord::Case => Ok(case_opens(alloc, file, from)),
+        word => opens_bare(alloc, file, from, token, CommandTerminal::Word(word)),
     }
 }
 
 /// Where an expression is expected.
-fn in_expr(alloc: Global, of: Use) -> Spot
+pub(crate) fn in_expr(alloc: Global, of: Use) -> Spot
     ensures { result ≡ spot.Expr of expr_start }
 {
     Spot::Expr(of, ExprState::start(alloc))
+}
+
+/// An expression is expected here, if some file goes on with a command of this kind.
+fn opens_expr_if(alloc: Global, file: &mut FileState, from: Span, kind: HeadKind, of: Use) -> bool
+    ensures { reached result file.new ≡ opens_if file.old.commands from kind (spot.Expr of expr_start) }
+{
+    opens_if(file, from, kind, in_expr(alloc, of))
 }
 
 /// What an expression is for that begins a command, where a print may stand.
@@ -288,87 +303,85 @@ fn print_use(commands: &CommandState) -> Option<Use>
 }
 
 /// After the word `print`.
-fn print_opens(alloc: Global, commands: CommandState, from: Span) -> Option<FileState>
-    ensures { result ≡ print_opens commands from (print_use commands) }
+fn print_opens(alloc: Global, file: &mut FileState, from: Span) -> bool
+    ensures { reached result file.new ≡ print_opens file.old.commands from (print_use file.old.commands) }
 {
-    match print_use(&commands) {
-        Some(of) => stands(commands, from, in_expr(alloc, of)),
-        None => None,
+    match print_use(&file.commands) {
+        Some(of) => stands(file, from, in_expr(alloc, of)),
+        None => false,
     }
 }
 
 /// After the word `case`.
-fn case_opens(alloc: Global, commands: CommandState, from: Span) -> Option<FileState>
-    ensures { result ≡ case_opens commands from }
+fn case_opens(alloc: Global, file: &mut FileState, from: Span) -> bool
+    ensures { reached result file.new ≡ case_opens file.old.commands from }
 {
-    if commands.admits(HeadKind::Case) {
-        stands(commands, from, in_expr(alloc, Use::Case(Row::empty(alloc))))
-    } else if commands.admits(HeadKind::PluralCase) {
-        stands(commands, from, Spot::IntValue(Row::empty(alloc)))
+    if file.commands.admits(HeadKind::Case) {
+        stands(file, from, in_expr(alloc, Use::Case(Row::empty(alloc))))
+    } else if file.commands.admits(HeadKind::PluralCase) {
+        stands(file, from, Spot::IntValue(Row::empty(alloc)))
     } else {
         let spot = Spot::CaseWord(Row::empty(alloc));
-        opens_if(commands, from, HeadKind::SelectCase, spot)
+        opens_if(file, from, HeadKind::SelectCase, spot)
     }
 }
 
 /// A command that begins with a head of one token, or with an expression.
 fn bare_opens(
     alloc: Global,
-    commands: CommandState,
+    file: &mut FileState,
     from: Span,
     head: Option<Head>,
     token: &Token,
-) -> Result<Option<FileState>, OutOfMemory>
-    ensures { IfOk result (λ to. to ≡ bare_opens commands from head token.now) }
+) -> Result<bool, OutOfMemory>
+    ensures { IfOk result (λ on. reached on file.new ≡ bare_opens file.old.commands from head token.now) }
 {
     match head {
         Some(head) => {
             let kind = head.kind();
             let spot = Spot::Attributes(head, Attributes::none());
-            Ok(opens_if(commands, from, kind, spot))
+            Ok(opens_if(file, from, kind, spot))
         }
-        None => opens_expr(alloc, commands, from, token),
+        None => opens_expr(alloc, file, from, token),
     }
 }
 
 /// A token that begins an expression, if one may stand there.
 fn opens_expr(
     alloc: Global,
-    commands: CommandState,
+    file: &mut FileState,
     from: Span,
     token: &Token,
-) -> Result<Option<FileState>, OutOfMemory>
-    ensures { IfOk result (λ to. to ≡ bare_opens commands from None token.now) }
+) -> Result<bool, OutOfMemory>
+    ensures { IfOk result (λ on. reached on file.new ≡ bare_opens file.old.commands from None token.now) }
 {
     let step = ExprState::start(alloc).step(alloc, token)?;
-    Ok(bare_expr(commands, from, step))
+    Ok(bare_expr(file, from, step))
 }
 
 /// A command that begins with an expression.
-fn bare_expr(commands: CommandState, from: Span, step: ExprStep) -> Option<FileState>
-    ensures { result ≡ bare_expr commands from (print_use commands) step }
+fn bare_expr(file: &mut FileState, from: Span, step: ExprStep) -> bool
+    ensures { reached result file.new ≡ bare_expr file.old.commands from (print_use file.old.commands) step }
 {
-    match print_use(&commands) {
-        Some(of) => expr_opens(commands, from, of, step),
+    match print_use(&file.commands) {
+        Some(of) => expr_opens(file, from, of, step),
         None => {
-            drop(commands);
             drop(step);
-            None
+            false
         }
     }
 }
 
 /// A command that begins with an expression for this use.
-fn expr_opens(commands: CommandState, from: Span, of: Use, step: ExprStep) -> Option<FileState>
-    ensures { result ≡ bare_expr commands from (Some of) step }
+fn expr_opens(file: &mut FileState, from: Span, of: Use, step: ExprStep) -> bool
+    ensures { reached result file.new ≡ bare_expr file.old.commands from (Some of) step }
 {
     match step {
-        ExprStep::Next(state) => stands(commands, from, Spot::Expr(of, state)),
+        ExprStep::Next(state) => stands(file, from, Spot::Expr(of, state)),
         ExprStep::End(operand) => {
             drop(operand);
             drop(of);
-            drop(commands);
-            None
+            false
         }
     }
 }

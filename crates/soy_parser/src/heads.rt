@@ -1,10 +1,10 @@
 //! The attributes that a command takes after its head, and what it says with them and its end.
 
 ghost use Rattle.std.specs.Prelude.{◌≡◌, ◌∷◌, [], IfOk, Some, None, option_map, unwrap_or, true, if◌then◌else◌};
-ghost use Rattle.soy_parser.specs.FileSteps.{head_of};
 ghost use Rattle.soy_parser.specs.Heads.{allows, attribute_name, kind_named, no_attributes, plain_form, slash_form};
 ghost use Rattle.soy_parser.specs.Heads.{form_at};
 ghost use Rattle.soy_parser.specs.Heads.{template_form, with_attribute, with_kind, with_offset, with_phname};
+ghost use Rattle.soy_parser.specs.Reached.{reached};
 ghost use Rattle.soy_parser.specs.SpellsHead.{bare_head};
 ghost use Rattle.soy_parser.specs.declared.command.Opening.TheVariants as opening;
 ghost use Rattle.soy_parser.specs.declared.command.CommandForm.TheVariants as says;
@@ -14,10 +14,8 @@ ghost use Rattle.soy_parser.specs.declared.terminal.CommandTerminal.TheVariants 
 use crate::attributes::{AttributeName, Attributes};
 use crate::command::{CommandForm, Middle, Opening, Single, TemplateOpening};
 use crate::head::Head;
-use crate::spot::Use;
 use crate::terminal::{BlockName, CommandTerminal, CommandWord};
 use crate::values::written_int;
-use expr_parser::Operand;
 use soy_base::{Kind, OutOfMemory, Text, is_name, push_char};
 use std::alloc::Global;
 
@@ -55,99 +53,92 @@ impl Attributes {
         }
     }
 
-    /// The attributes with one more, or none where the value isn't allowed there.
+    /// One more attribute; says whether its value is allowed there.
     #[tactic(auto, using(crate::proofs::Literals::chars_private, crate::proofs::Literals::chars_all))]
-    pub(crate) fn with(
-        self,
+    pub(crate) fn add(
+        &mut self,
         alloc: Global,
         name: AttributeName,
         value: &Text,
-    ) -> Result<Option<Attributes>, OutOfMemory>
-        ensures { IfOk result (λ to. to ≡ with_attribute self name value.now) }
+    ) -> Result<bool, OutOfMemory>
+        ensures { IfOk result (λ on. reached on self.new ≡ with_attribute self.old name value.now) }
     {
         match name {
-            AttributeName::Kind => Ok(self.with_kind(kind_named(value))),
-            AttributeName::Visibility => Ok(self.with_private(value.is("private"))),
-            AttributeName::Data => Ok(self.with_all(value.is("all"))),
+            AttributeName::Kind => Ok(self.add_kind(kind_named(value))),
+            AttributeName::Visibility => Ok(self.add_private(value.is("private"))),
+            AttributeName::Data => Ok(self.add_all(value.is("all"))),
             AttributeName::Desc => {
-                let mut attributes = self;
-                attributes.desc = Some(value.copy(alloc)?);
-                Ok(Some(attributes))
+                self.desc = Some(value.copy(alloc)?);
+                Ok(true)
             }
             AttributeName::Meaning => {
-                let mut attributes = self;
-                attributes.meaning = Some(value.copy(alloc)?);
-                Ok(Some(attributes))
+                self.meaning = Some(value.copy(alloc)?);
+                Ok(true)
             }
-            AttributeName::Offset => Ok(self.with_offset(value)),
-            AttributeName::Phname => self.with_phname(alloc, value),
+            AttributeName::Offset => Ok(self.add_offset(value)),
+            AttributeName::Phname => self.add_phname(alloc, value),
         }
     }
 
-    /// The attributes with a kind.
-    fn with_kind(self, kind: Option<Kind>) -> Option<Attributes>
-        ensures { result ≡ option_map (with_kind self) kind }
+    /// A kind, if the value names one.
+    fn add_kind(&mut self, kind: Option<Kind>) -> bool
+        ensures { reached result self.new ≡ option_map (with_kind self.old) kind }
     {
         match kind {
             Some(kind) => {
-                let mut attributes = self;
-                attributes.kind = Some(kind);
-                Some(attributes)
+                self.kind = Some(kind);
+                true
             }
-            None => None,
+            None => false,
         }
     }
 
-    /// The attributes with `visibility="private"`, if its value is allowed.
-    fn with_private(self, allowed: bool) -> Option<Attributes>
-        ensures { result ≡ (if allowed then Some (record self { private = true }) else None) }
+    /// `visibility="private"`, if its value is allowed.
+    fn add_private(&mut self, allowed: bool) -> bool
+        ensures { reached result self.new ≡ (if allowed then Some (record self.old { private = true }) else None) }
     {
         if allowed {
-            let mut attributes = self;
-            attributes.private = true;
-            Some(attributes)
+            self.private = true;
+            true
         } else {
-            None
+            false
         }
     }
 
-    /// The attributes with `data="all"`, if its value is allowed.
-    fn with_all(self, allowed: bool) -> Option<Attributes>
-        ensures { result ≡ (if allowed then Some (record self { all = true }) else None) }
+    /// `data="all"`, if its value is allowed.
+    fn add_all(&mut self, allowed: bool) -> bool
+        ensures { reached result self.new ≡ (if allowed then Some (record self.old { all = true }) else None) }
     {
         if allowed {
-            let mut attributes = self;
-            attributes.all = true;
-            Some(attributes)
+            self.all = true;
+            true
         } else {
-            None
+            false
         }
     }
 
-    /// The attributes with an offset, if its value is an int.
-    fn with_offset(self, value: &Text) -> Option<Attributes>
-        ensures { result ≡ with_offset self value.now }
+    /// An offset, if the value is an int.
+    fn add_offset(&mut self, value: &Text) -> bool
+        ensures { reached result self.new ≡ with_offset self.old value.now }
     {
         match written_int(value.text()) {
             Some(offset) => {
-                let mut attributes = self;
-                attributes.offset = Some(offset);
-                Some(attributes)
+                self.offset = Some(offset);
+                true
             }
-            None => None,
+            None => false,
         }
     }
 
-    /// The attributes with a `phname`, if its value is a name.
-    fn with_phname(self, alloc: Global, name: &Text) -> Result<Option<Attributes>, OutOfMemory>
-        ensures { IfOk result (λ to. to ≡ with_phname self name.now) }
+    /// A `phname`, if the value is a name.
+    fn add_phname(&mut self, alloc: Global, name: &Text) -> Result<bool, OutOfMemory>
+        ensures { IfOk result (λ on. reached on self.new ≡ with_phname self.old name.now) }
     {
         if is_name(name.text()) {
-            let mut attributes = self;
-            attributes.phname = Some(name.copy(alloc)?);
-            Ok(Some(attributes))
+            self.phname = Some(name.copy(alloc)?);
+            Ok(true)
         } else {
-            Ok(None)
+            Ok(false)
         }
     }
 }
@@ -193,28 +184,29 @@ impl Head {
     pub(crate) fn form(
         self,
         alloc: Global,
-        attributes: Attributes,
+        attributes: &mut Attributes,
         terminal: CommandTerminal,
     ) -> Option<CommandForm>
-        ensures { result ≡ form_at self attributes terminal }
+        ensures { result ≡ form_at self attributes.old terminal }
     {
         match terminal {
             CommandTerminal::End => self.plain_form(alloc, attributes),
             CommandTerminal::SlashEnd => self.slash_form(attributes),
-            _ => no_form(self, attributes),
+            _ => no_form(self),
         }
     }
 
     /// What the command says that ends with `}`.
-    fn plain_form(self, alloc: Global, attributes: Attributes) -> Option<CommandForm>
-        ensures { result ≡ plain_form self attributes }
+    fn plain_form(self, alloc: Global, attributes: &mut Attributes) -> Option<CommandForm>
+        ensures { result ≡ plain_form self attributes.old }
     {
         match self {
             Head::Whole(form) => Some(form),
-            Head::Alone(_) => None,
+            Head::Alone(of) => no_single(of),
             Head::Template(name) => Some(template_form(name, attributes)),
             Head::MessagePrint(expr) => {
-                Some(CommandForm::Single(Single::MessagePrint(expr, attributes.phname)))
+                let phname = attributes.phname.take();
+                Some(CommandForm::Single(Single::MessagePrint(expr, phname)))
             }
             Head::Let(name) => let_form(name, attributes.kind),
             Head::Param(name) => param_form(name, attributes.kind),
@@ -229,13 +221,13 @@ impl Head {
     }
 
     /// What the command says that ends with `/}`.
-    fn slash_form(self, attributes: Attributes) -> Option<CommandForm>
-        ensures { result ≡ slash_form self attributes }
+    fn slash_form(self, attributes: &Attributes) -> Option<CommandForm>
+        ensures { result ≡ slash_form self attributes.now }
     {
         match self {
             Head::Alone(single) => Some(CommandForm::Single(single)),
             Head::Call(name) => Some(CommandForm::Single(Single::Call(name, attributes.all))),
-            head => no_form(head, attributes),
+            head => no_form(head),
         }
     }
 
@@ -274,40 +266,21 @@ impl Head {
             _ => Ok(None),
         }
     }
-
-    /// The head that an expression ends.
-    pub(crate) fn of_use(of: Use, operand: Operand) -> Result<Head, OutOfMemory>
-        ensures { IfOk result (λ head. head ≡ head_of of operand) }
-    {
-        let expr = operand.expr;
-        Ok(match of {
-            Use::Print => Head::Whole(CommandForm::Single(Single::Print(expr))),
-            Use::MessagePrint => Head::MessagePrint(expr),
-            Use::If => Head::Whole(CommandForm::Opens(Opening::If(expr))),
-            Use::ElseIf => Head::Whole(CommandForm::GoesOn(Middle::ElseIf(expr))),
-            Use::Switch => Head::Whole(CommandForm::Opens(Opening::Switch(expr))),
-            Use::Plural => Head::Plural(expr),
-            Use::Select => Head::Whole(CommandForm::Opens(Opening::Select(expr))),
-            Use::Case(values) => {
-                let mut values = values;
-                values.push(expr)?;
-                Head::Whole(CommandForm::GoesOn(Middle::Case(values)))
-            }
-            Use::For(name, index) => Head::Whole(CommandForm::Opens(Opening::For(
-                name, index, expr,
-            ))),
-            Use::Let(name) => Head::Alone(Single::Let(name, expr)),
-            Use::Param(name) => Head::Alone(Single::Param(name, expr)),
-        })
-    }
 }
 
 /// A command that has no such end.
-fn no_form(head: Head, attributes: Attributes) -> Option<CommandForm>
+fn no_form(head: Head) -> Option<CommandForm>
     ensures { result ≡ None }
 {
     drop(head);
-    drop(attributes);
+    None
+}
+
+/// A command that holds no block and has no such end.
+fn no_single(of: Single) -> Option<CommandForm>
+    ensures { result ≡ None }
+{
+    drop(of);
     None
 }
 
@@ -332,30 +305,34 @@ fn param_form(name: Text, kind: Option<Kind>) -> Option<CommandForm>
 }
 
 /// What a message says, if its `desc` is there.
-fn message_form(alloc: Global, attributes: Attributes) -> Option<CommandForm>
-    ensures { result ≡ plain_form head.Message attributes }
+fn message_form(alloc: Global, attributes: &mut Attributes) -> Option<CommandForm>
+    ensures { result ≡ plain_form head.Message attributes.old }
 {
-    let Attributes { desc, meaning, .. } = attributes;
-    match desc {
-        Some(desc) => Some(CommandForm::Opens(Opening::Message(desc, or_empty(alloc, meaning)))),
+    match attributes.desc.take() {
+        Some(desc) => {
+            let meaning = or_empty(alloc, attributes.meaning.take());
+            Some(CommandForm::Opens(Opening::Message(desc, meaning)))
+        }
         None => None,
     }
 }
 
 /// What a fallback says, if its `desc` is there.
-fn fallback_form(alloc: Global, attributes: Attributes) -> Option<CommandForm>
-    ensures { result ≡ plain_form head.Fallback attributes }
+fn fallback_form(alloc: Global, attributes: &mut Attributes) -> Option<CommandForm>
+    ensures { result ≡ plain_form head.Fallback attributes.old }
 {
-    let Attributes { desc, meaning, .. } = attributes;
-    match desc {
-        Some(desc) => Some(CommandForm::GoesOn(Middle::Fallback(desc, or_empty(alloc, meaning)))),
+    match attributes.desc.take() {
+        Some(desc) => {
+            let meaning = or_empty(alloc, attributes.meaning.take());
+            Some(CommandForm::GoesOn(Middle::Fallback(desc, meaning)))
+        }
         None => None,
     }
 }
 
 /// What the opening command of a template says.
-fn template_form(name: Text, attributes: Attributes) -> CommandForm
-    ensures { result ≡ template_form name attributes }
+fn template_form(name: Text, attributes: &Attributes) -> CommandForm
+    ensures { result ≡ template_form name attributes.now }
 {
     CommandForm::Opens(Opening::Template(TemplateOpening {
         name,

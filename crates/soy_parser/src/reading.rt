@@ -47,11 +47,15 @@ fn answer(read: Option<Tree>, file: u32, at: u64) -> Result<Tree, Fault>
     }
 }
 
-/// What is read of the tokens, one after the other.
-fn read(alloc: Global, tokens: &[Token], file: u32) -> Result<Result<Tree, Fault>, OutOfMemory>
-    ensures { IfOk result (λ tree. tree ≡ reading_file file 0 tokens.now file_start) }
+/// What is read of the tokens, one after the other, after what was read before them.
+fn read_on(
+    alloc: Global,
+    state: &mut FileState,
+    tokens: &[Token],
+    file: u32,
+) -> Result<Result<Tree, Fault>, OutOfMemory>
+    ensures { IfOk result (λ tree. tree ≡ reading_file file 0 tokens.now state.old) }
 {
-    let mut state = FileState::start(alloc);
     let mut end = 0;
     for token in tokens {
         if let Some(at) = state.spot.unknown(is_less(token)) {
@@ -60,19 +64,13 @@ fn read(alloc: Global, tokens: &[Token], file: u32) -> Result<Result<Tree, Fault
         }
         let at = token.span.start;
         let blocks = state.commands.blocks.len();
-        match state.step(alloc, token)? {
-            Some(to) => {
-                if is_within(blocks, &to) {
-                    state = to;
-                } else {
-                    let code = Code::Nesting;
-                    return Ok(Err(Fault { code, file, at }));
-                }
-            }
-            None => {
-                let code = Code::Syntax;
-                return Ok(Err(Fault { code, file, at }));
-            }
+        if !state.step(alloc, token)? {
+            let code = Code::Syntax;
+            return Ok(Err(Fault { code, file, at }));
+        }
+        if !is_within(blocks, state) {
+            let code = Code::Nesting;
+            return Ok(Err(Fault { code, file, at }));
         }
         end = token.span.end;
     }
@@ -81,6 +79,14 @@ fn read(alloc: Global, tokens: &[Token], file: u32) -> Result<Result<Tree, Fault
         return Ok(Err(Fault { code, file, at }));
     }
     Ok(answer(state.finish(), file, end))
+}
+
+/// What is read of the tokens of a file.
+fn read(alloc: Global, tokens: &[Token], file: u32) -> Result<Result<Tree, Fault>, OutOfMemory>
+    ensures { IfOk result (λ tree. tree ≡ reading_file file 0 tokens.now file_start) }
+{
+    let mut state = FileState::start(alloc);
+    read_on(alloc, &mut state, tokens, file)
 }
 
 /// The tree that the tokens of a file spell; `file` is the number of the file that faults name. Otherwise 4 at the
