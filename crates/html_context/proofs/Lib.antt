@@ -19,3 +19,6 @@ pub mod WrittenRows
 pub mod PlanCongruence
 pub mod WrittenLists
 pub mod ViewArms
+pub mod Growth
+pub mod Keyed
+pub mod Undoing

@@ -1,6 +1,6 @@
 //! The rows of nodes: each function writes rows that are walked as the plan of what it is given.
 
-ghost use Rattle.std.specs.Prelude.{◌≡◌, ◌<◌, ◌++◌, ◌∷◌, [], length, map, option_map};
+ghost use Rattle.std.specs.Prelude.{◌≡◌, ◌<◌, ◌++◌, ◌∷◌, [], OnOk, length, map, option_map};
 ghost use Rattle.std.specs.List.{All};
 ghost use Rattle.soy_meaning.specs.Plan.{Hole, Then, arms_meet};
 ghost use Rattle.soy_meaning.specs.PlanOfNodes.{argument_frames, arm_plans, body_plan, called_classes, case_plans};
@@ -17,17 +17,18 @@ ghost use Rattle.html_context.specs.Walks.{view_site};
 
 use crate::classes::kind_class;
 use crate::fault::Site;
+use crate::narrowing::{narrow_variables, restore};
 use crate::parts::all_parts;
-use crate::scope::{body_vars, copied_vars, narrowed, pass};
+use crate::scope::{enter_loop, pass};
 use crate::source::Source;
 use crate::table::Row;
 use crate::templates::callee;
+use crate::visible::Visible;
 use crate::writing::{write, write_hole, write_nothing, write_print, write_text};
 use msg_extract::{Translations, placeholders};
 use soy_base::{OutOfMemory, Seq, Text};
 use soy_tree::{
-    Argument, Arm, Case, Field, Form, Given, Message, MessageBody, Node, PluralCase, SelectCase,
-    Templates,
+    Argument, Arm, Case, Form, Given, Message, MessageBody, Node, PluralCase, SelectCase, Templates,
 };
 use std::alloc::Global;
 
@@ -73,7 +74,7 @@ impl<'a> Builder<'a> {
         &self,
         at: Site,
         message: &Message,
-        vars: &[Field],
+        vars: &Visible,
         before: Vec<usize>,
         rows: &mut Vec<Row>,
     ) -> Result<Vec<usize>, OutOfMemory>
@@ -104,7 +105,7 @@ impl<'a> Builder<'a> {
         &self,
         at: Site,
         other: &Option<Message>,
-        vars: &[Field],
+        vars: &Visible,
         before: Vec<usize>,
         rows: &mut Vec<Row>,
     ) -> Result<Vec<usize>, OutOfMemory>
@@ -127,7 +128,7 @@ impl<'a> Builder<'a> {
         source: usize,
         message: &Message,
         other: &Option<Message>,
-        vars: &[Field],
+        vars: &Visible,
         rows: &mut Vec<Row>,
     ) -> Result<usize, OutOfMemory>
         requires { source < length rows.old.items }
@@ -145,30 +146,40 @@ impl<'a> Builder<'a> {
 
     /// Writes nodes, one after the other.
     #[cycle(building)]
+    #[tactic(auto, using(crate::proofs::Growth::grown_same, crate::proofs::Growth::grown_left))]
     pub(crate) fn nodes(
         &self,
         nodes: &[Node],
-        vars: Vec<Field>,
+        vars: &mut Visible,
         rows: &mut Vec<Row>,
     ) -> Result<usize, OutOfMemory>
-        ensures { Writes (nodes_plan (plan_context self.now) (view_nodes nodes.now) (view_vars vars.items))
+        ensures writes { Writes (nodes_plan (plan_context self.now) (view_nodes nodes.now) (view_vars vars.old))
             rows.old.items rows.new.items result }
+        ensures kept { OnOk result (vars.new ≡ vars.old) }
     {
         let mut numbers = Vec::new(self.alloc);
-        let mut vars = vars;
+        let count = vars.count()?;
         for node in nodes {
-            let number = self.node(node, &vars, rows)?;
+            let number = self.node(node, vars, rows)?;
             numbers.push(number)?;
-            pass(self.alloc, node, &mut vars)?;
+            pass(self.alloc, node, vars)?;
         }
+        vars.leave(count);
         write(rows, Row::InTurn(Seq::new(numbers)))
     }
 
     /// Writes a node.
     #[cycle(building)]
-    fn node(&self, node: &Node, vars: &[Field], rows: &mut Vec<Row>) -> Result<usize, OutOfMemory>
-        ensures { Writes (node_plan (plan_context self.now) (view_node node.now) (view_vars vars.now))
+    #[tactic(auto, using(crate::proofs::Growth::grown_left))]
+    fn node(
+        &self,
+        node: &Node,
+        vars: &mut Visible,
+        rows: &mut Vec<Row>,
+    ) -> Result<usize, OutOfMemory>
+        ensures writes { Writes (node_plan (plan_context self.now) (view_node node.now) (view_vars vars.old))
             rows.old.items rows.new.items result }
+        ensures kept { OnOk result (vars.new ≡ vars.old) }
     {
         let at = self.site(node.span.start);
         match &node.form {
@@ -181,14 +192,16 @@ impl<'a> Builder<'a> {
                 self.cases(at, cases.items(), other.items(), vars, rows)
             }
             Form::For(name, index, list, body) => {
-                let inner = body_vars(self.alloc, name, index, list, vars)?;
-                let body = self.nodes(body.items(), inner, rows)?;
+                let count = vars.count()?;
+                enter_loop(self.alloc, name, index, list, vars)?;
+                let body = self.nodes(body.items(), vars, rows)?;
+                vars.leave(count);
                 write(rows, Row::Loop(at, body))
             }
             Form::Let(_, _) => write_nothing(self.alloc, rows),
             Form::LetBlock(_, kind, body) => {
                 let end = self.site(node.span.end);
-                let body = self.nodes(body.items(), copied_vars(self.alloc, vars)?, rows)?;
+                let body = self.nodes(body.items(), vars, rows)?;
                 write(rows, Row::Frame(*kind, end, body))
             }
             Form::Call(name, _, given) => {
@@ -209,21 +222,24 @@ impl<'a> Builder<'a> {
         at: Site,
         arms: &[Arm],
         other: &[Node],
-        vars: &[Field],
+        vars: &mut Visible,
         rows: &mut Vec<Row>,
     ) -> Result<usize, OutOfMemory>
-        ensures { Writes (arms_meet (view_site at)
-            (arm_plans (plan_context self.now) (view_arms arms.now) (view_vars vars.now)
-            ++ (nodes_plan (plan_context self.now) (view_nodes other.now) (view_vars vars.now) ∷ [])))
+        ensures writes { Writes (arms_meet (view_site at)
+            (arm_plans (plan_context self.now) (view_arms arms.now) (view_vars vars.old)
+            ++ (nodes_plan (plan_context self.now) (view_nodes other.now) (view_vars vars.old) ∷ [])))
             rows.old.items rows.new.items result }
+        ensures kept { OnOk result (vars.new ≡ vars.old) }
     {
         let mut numbers = Vec::new(self.alloc);
         for arm in arms {
-            let inner = narrowed(self.alloc, &arm.when, vars)?;
-            let number = self.nodes(arm.body.items(), inner, rows)?;
+            let mut outside = Vec::new(self.alloc);
+            narrow_variables(self.alloc, &arm.when, vars, &mut outside)?;
+            let number = self.nodes(arm.body.items(), vars, rows)?;
+            restore(vars, outside);
             numbers.push(number)?;
         }
-        let past = self.nodes(other, copied_vars(self.alloc, vars)?, rows)?;
+        let past = self.nodes(other, vars, rows)?;
         numbers.push(past)?;
         write(rows, Row::Meet(at, Seq::new(numbers)))
     }
@@ -235,21 +251,21 @@ impl<'a> Builder<'a> {
         at: Site,
         cases: &[Case],
         other: &[Node],
-        vars: &[Field],
+        vars: &mut Visible,
         rows: &mut Vec<Row>,
     ) -> Result<usize, OutOfMemory>
-        ensures { Writes (arms_meet (view_site at)
-            (case_plans (plan_context self.now) (view_cases cases.now) (view_vars vars.now)
-            ++ (nodes_plan (plan_context self.now) (view_nodes other.now) (view_vars vars.now) ∷ [])))
+        ensures writes { Writes (arms_meet (view_site at)
+            (case_plans (plan_context self.now) (view_cases cases.now) (view_vars vars.old)
+            ++ (nodes_plan (plan_context self.now) (view_nodes other.now) (view_vars vars.old) ∷ [])))
             rows.old.items rows.new.items result }
+        ensures kept { OnOk result (vars.new ≡ vars.old) }
     {
         let mut numbers = Vec::new(self.alloc);
         for case in cases {
-            let inner = copied_vars(self.alloc, vars)?;
-            let number = self.nodes(case.body.items(), inner, rows)?;
+            let number = self.nodes(case.body.items(), vars, rows)?;
             numbers.push(number)?;
         }
-        let past = self.nodes(other, copied_vars(self.alloc, vars)?, rows)?;
+        let past = self.nodes(other, vars, rows)?;
         numbers.push(past)?;
         write(rows, Row::Meet(at, Seq::new(numbers)))
     }
@@ -260,13 +276,14 @@ impl<'a> Builder<'a> {
         &self,
         hole: usize,
         arguments: &[Argument],
-        vars: &[Field],
+        vars: &mut Visible,
         rows: &mut Vec<Row>,
     ) -> Result<usize, OutOfMemory>
         requires { hole < length rows.old.items }
-        ensures { Writes (Then (plan_at rows.old.items hole)
-            (argument_frames (plan_context self.now) (view_arguments arguments.now) (view_vars vars.now)))
+        ensures writes { Writes (Then (plan_at rows.old.items hole)
+            (argument_frames (plan_context self.now) (view_arguments arguments.now) (view_vars vars.old)))
             rows.old.items rows.new.items result }
+        ensures kept { OnOk result (vars.new ≡ vars.old) }
     {
         let mut numbers = Vec::new(self.alloc);
         numbers.push(hole)?;
@@ -282,17 +299,18 @@ impl<'a> Builder<'a> {
     fn given(
         &self,
         argument: &Argument,
-        vars: &[Field],
+        vars: &mut Visible,
         rows: &mut Vec<Row>,
     ) -> Result<usize, OutOfMemory>
-        ensures { Writes (given_frame (plan_context self.now) (view_given argument.now.given) argument.now.span
-            (view_vars vars.now)) rows.old.items rows.new.items result }
+        ensures writes { Writes (given_frame (plan_context self.now) (view_given argument.now.given) argument.now.span
+            (view_vars vars.old)) rows.old.items rows.new.items result }
+        ensures kept { OnOk result (vars.new ≡ vars.old) }
     {
         match &argument.given {
             Given::Plain(_) => write_nothing(self.alloc, rows),
             Given::Block(kind, body) => {
                 let end = self.site(argument.span.end);
-                let body = self.nodes(body.items(), copied_vars(self.alloc, vars)?, rows)?;
+                let body = self.nodes(body.items(), vars, rows)?;
                 write(rows, Row::Frame(*kind, end, body))
             }
         }
@@ -304,16 +322,15 @@ impl<'a> Builder<'a> {
         &self,
         at: Site,
         body: &MessageBody,
-        vars: &[Field],
+        vars: &mut Visible,
         rows: &mut Vec<Row>,
     ) -> Result<usize, OutOfMemory>
-        ensures { Writes (body_plan (plan_context self.now) (view_body body.now) (view_vars vars.now) (view_site at))
+        ensures writes { Writes (body_plan (plan_context self.now) (view_body body.now) (view_vars vars.old) (view_site at))
             rows.old.items rows.new.items result }
+        ensures kept { OnOk result (vars.new ≡ vars.old) }
     {
         match body {
-            MessageBody::Parts(nodes) => {
-                self.nodes(nodes.items(), copied_vars(self.alloc, vars)?, rows)
-            }
+            MessageBody::Parts(nodes) => { self.nodes(nodes.items(), vars, rows) }
             MessageBody::Plural(_, _, cases, other) => {
                 self.plural_cases(at, cases.items(), other.get(), vars, rows)
             }
@@ -330,13 +347,14 @@ impl<'a> Builder<'a> {
         at: Site,
         cases: &[PluralCase],
         other: &MessageBody,
-        vars: &[Field],
+        vars: &mut Visible,
         rows: &mut Vec<Row>,
     ) -> Result<usize, OutOfMemory>
-        ensures { Writes (arms_meet (view_site at)
-            (plural_plans (plan_context self.now) (view_plural_cases cases.now) (view_vars vars.now) (view_site at)
-            ++ (body_plan (plan_context self.now) (view_body other.now) (view_vars vars.now) (view_site at) ∷ [])))
+        ensures writes { Writes (arms_meet (view_site at)
+            (plural_plans (plan_context self.now) (view_plural_cases cases.now) (view_vars vars.old) (view_site at)
+            ++ (body_plan (plan_context self.now) (view_body other.now) (view_vars vars.old) (view_site at) ∷ [])))
             rows.old.items rows.new.items result }
+        ensures kept { OnOk result (vars.new ≡ vars.old) }
     {
         let mut numbers = Vec::new(self.alloc);
         for case in cases {
@@ -355,13 +373,14 @@ impl<'a> Builder<'a> {
         at: Site,
         cases: &[SelectCase],
         other: &MessageBody,
-        vars: &[Field],
+        vars: &mut Visible,
         rows: &mut Vec<Row>,
     ) -> Result<usize, OutOfMemory>
-        ensures { Writes (arms_meet (view_site at)
-            (select_plans (plan_context self.now) (view_select_cases cases.now) (view_vars vars.now) (view_site at)
-            ++ (body_plan (plan_context self.now) (view_body other.now) (view_vars vars.now) (view_site at) ∷ [])))
+        ensures writes { Writes (arms_meet (view_site at)
+            (select_plans (plan_context self.now) (view_select_cases cases.now) (view_vars vars.old) (view_site at)
+            ++ (body_plan (plan_context self.now) (view_body other.now) (view_vars vars.old) (view_site at) ∷ [])))
             rows.old.items rows.new.items result }
+        ensures kept { OnOk result (vars.new ≡ vars.old) }
     {
         let mut numbers = Vec::new(self.alloc);
         for case in cases {

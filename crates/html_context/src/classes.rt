@@ -8,9 +8,10 @@ ghost use Rattle.soy_tree.specs.ViewExpressions.{view_expr};
 ghost use Rattle.soy_tree.specs.ViewTypes.{view_members, view_type};
 ghost use Rattle.soy_expr.specs.ViewScope.{view_vars};
 
+use crate::visible::Visible;
 use soy_base::{Kind, OutOfMemory, Refusal, ValueClass};
-use soy_expr::type_among;
-use soy_tree::{Expr, Field, SoyType};
+use soy_expr::type_by;
+use soy_tree::{Expr, SoyType};
 use std::alloc::Global;
 
 /// Adds the class of a type that is no union, where it has one.
@@ -56,12 +57,12 @@ fn push_all(classes: &mut Vec<ValueClass>, members: &[SoyType]) -> Result<(), Ou
 pub(crate) fn printed_classes(
     alloc: Global,
     expr: &Expr,
-    vars: &[Field],
+    vars: &Visible,
 ) -> Result<Vec<ValueClass>, OutOfMemory>
     ensures { IfOk result (λ classes. classes.items ≡ printed_classes (view_expr expr.now) (view_vars vars.now)) }
 {
     let mut classes = Vec::new(alloc);
-    match type_among(alloc, expr, vars) {
+    match type_by(alloc, expr, vars) {
         Ok(of) => push_classes(&mut classes, &of)?,
         Err(Refusal::Because(_fault)) => {}
         Err(Refusal::OutOfMemory) => return Err(OutOfMemory),

@@ -37,12 +37,12 @@ fn template(
         declared: all,
         bundle,
     };
-    let vars = param_vars(alloc, one.template.params.items())?;
+    let mut vars = param_vars(alloc, one.template.params.items())?;
     let end = Site {
         file: one.file,
         at: one.template.span.end,
     };
-    let body = builder.nodes(one.template.body.items(), vars, rows)?;
+    let body = builder.nodes(one.template.body.items(), &mut vars, rows)?;
     write(rows, Row::Frame(one.template.kind, end, body))
 }
 

@@ -13,6 +13,7 @@ mod fault;
 mod hole;
 mod inferring;
 mod memo;
+mod narrowing;
 mod parts;
 mod scope;
 mod source;
@@ -20,6 +21,7 @@ mod states;
 mod table;
 mod templates;
 mod text;
+mod visible;
 mod walker;
 mod writing;
 

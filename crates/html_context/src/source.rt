@@ -1,8 +1,9 @@
 //! What the walk of a translation goes by.
 
 use crate::fault::Site;
+use crate::visible::Visible;
 use msg_extract::Placeholder;
-use soy_tree::{Field, Message};
+use soy_tree::Message;
 use std::alloc::Global;
 
 /// The site of a message, the variables that are visible there, the message and its placeholders.
@@ -10,7 +11,7 @@ use std::alloc::Global;
 pub(crate) struct Source<'a> {
     pub alloc: Global,
     pub at: Site,
-    pub vars: &'a [Field],
+    pub vars: &'a Visible,
     pub message: &'a Message,
     pub placeholders: &'a [Placeholder],
 }

@@ -11,7 +11,7 @@ returns c =
       declared = view_all c.args.all.now;
       translation = chosen_translation c.args.bundle.now.messages;
     })
-    c.args.one.now.template.now c.items-2.result.now c.items.result.now c.in_ok-vars.vars.items c.args.rows.now.items
+    c.args.one.now.template.now c.items-2.result.now c.items.result.now c.in_ok-vars.vars c.args.rows.now.items
     c.nodes.new.rows.items c.write.new.rows.items c.in_ok-body.body c.write.result
-    c.items-2.ensures c.items.ensures c.in_ok-vars.ensures c.in_ok-body.ensures c.write.ensures.rows
+    c.items-2.ensures c.items.ensures c.in_ok-vars.ensures c.in_ok-body.ensures.writes c.write.ensures.rows
     c.write.ensures.number

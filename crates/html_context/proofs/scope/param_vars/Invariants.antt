@@ -1,10 +1,14 @@
-use Rattle.std.proofs.Common.{◌≡◌, ◌++◌, drop}
+use Rattle.std.proofs.Common.{◌≡◌, ◌≤◌, drop, length}
 use Rattle.soy_tree.specs.Templates.{param_scope}
 use Rattle.soy_tree.specs.ViewTrees.{view_params}
 use Rattle.soy_expr.specs.ViewScope.{view_vars}
 use Rattle.html_context.proofs.scope.param_vars.Given as goal
 
-abbrev pub invariant-loop-param : goal.invariant-loop-param
-invariant-loop-param l =
-    view_vars l.vars.items ++ param_scope (view_params (drop l.param-index l.params))
-    ≡ param_scope (view_params l.params)
+abbrev pub invariant-loop-left : goal.invariant-loop-left
+invariant-loop-left l = record {
+  within : l.left ≤ length l.params;
+  scope : view_vars l.vars ≡ param_scope (view_params (drop l.left l.params));
+}
+
+abbrev pub decreases-loop-left : goal.decreases-loop-left
+decreases-loop-left l = l.left

@@ -1,4 +1,4 @@
-use Rattle.std.proofs.Common.{◌+◌, ◌*◌, ◌∷◌, [], ◌++◌, max, map, drop}
+use Rattle.std.proofs.Common.{◌≡◌, ◌+◌, ◌*◌, ◌∷◌, [], ◌++◌, max, map, drop, length}
 use denote.Param.Weighed.{most}
 use Rattle.soy_tree.specs.ViewNodes.{view_arguments, view_arms, view_body, view_cases, view_nodes, view_plural_cases}
 use Rattle.soy_tree.specs.ViewNodes.{view_select_cases}
@@ -13,6 +13,7 @@ use Rattle.soy_expr.specs.ViewScope.{view_vars}
 use Rattle.soy_meaning.specs.Plan.{Then}
 use Rattle.soy_meaning.specs.PlanOfNodes.{argument_frames, arm_plans, body_plan, case_plans, nodes_plan, plural_plans}
 use Rattle.soy_meaning.specs.PlanOfNodes.{select_plans}
+use Rattle.html_context.specs.Grows.{Grows}
 use Rattle.html_context.specs.RowPlans.{plan_at}
 use Rattle.html_context.specs.StandsFor.{walk_of}
 use Rattle.html_context.specs.ViewBuilder.{plan_context}
@@ -21,49 +22,62 @@ use Rattle.html_context.proofs.WrittenLists.{InTurnSoFar, ListSoFar}
 use Rattle.html_context.proofs.builder.Builder.+building.Given as goal
 
 abbrev pub invariant-nodes-loop-node : goal.invariant-nodes-loop-node
-invariant-nodes-loop-node l =
-    InTurnSoFar l.initial.rows.items l.rows.items l.numbers.items
-    (nodes_plan (plan_context l.self) (view_nodes (drop l.node-index l.nodes)) (view_vars l.vars.items))
-    (nodes_plan (plan_context l.self) (view_nodes l.nodes) (view_vars l.fn.vars.items))
+invariant-nodes-loop-node l = record {
+  so_far : InTurnSoFar l.initial.rows.items l.rows.items l.numbers.items
+      (nodes_plan (plan_context l.self) (view_nodes (drop l.node-index l.nodes)) (view_vars l.vars))
+      (nodes_plan (plan_context l.self) (view_nodes l.nodes) (view_vars l.initial.vars));
+  grown : Grows l.initial.vars l.vars;
+  count : l.count ≡ length l.initial.vars;
+}
 
 abbrev pub invariant-arms-loop-arm : goal.invariant-arms-loop-arm
 invariant-arms-loop-arm l =
-    let last = nodes_plan (plan_context l.self) (view_nodes l.other) (view_vars l.vars) in
-    ListSoFar l.initial.rows.items l.rows.items l.numbers.items
-    (arm_plans (plan_context l.self) (view_arms (drop l.arm-index l.arms)) (view_vars l.vars) ++ (last ∷ []))
-    (map walk_of (arm_plans (plan_context l.self) (view_arms l.arms) (view_vars l.vars) ++ (last ∷ [])))
+    let last = nodes_plan (plan_context l.self) (view_nodes l.other) (view_vars l.initial.vars) in record {
+      so_far : ListSoFar l.initial.rows.items l.rows.items l.numbers.items
+          (arm_plans (plan_context l.self) (view_arms (drop l.arm-index l.arms)) (view_vars l.initial.vars) ++ (last ∷ []))
+          (map walk_of (arm_plans (plan_context l.self) (view_arms l.arms) (view_vars l.initial.vars) ++ (last ∷ [])));
+      same : l.vars ≡ l.initial.vars;
+    }
 
 abbrev pub invariant-cases-loop-case : goal.invariant-cases-loop-case
 invariant-cases-loop-case l =
-    let last = nodes_plan (plan_context l.self) (view_nodes l.other) (view_vars l.vars) in
-    ListSoFar l.initial.rows.items l.rows.items l.numbers.items
-    (case_plans (plan_context l.self) (view_cases (drop l.case-index l.cases)) (view_vars l.vars) ++ (last ∷ []))
-    (map walk_of (case_plans (plan_context l.self) (view_cases l.cases) (view_vars l.vars) ++ (last ∷ [])))
+    let last = nodes_plan (plan_context l.self) (view_nodes l.other) (view_vars l.initial.vars) in record {
+      so_far : ListSoFar l.initial.rows.items l.rows.items l.numbers.items
+          (case_plans (plan_context l.self) (view_cases (drop l.case-index l.cases)) (view_vars l.initial.vars) ++ (last ∷ []))
+          (map walk_of (case_plans (plan_context l.self) (view_cases l.cases) (view_vars l.initial.vars) ++ (last ∷ [])));
+      same : l.vars ≡ l.initial.vars;
+    }
 
 abbrev pub invariant-plural_cases-loop-case : goal.invariant-plural_cases-loop-case
 invariant-plural_cases-loop-case l =
-    let last = body_plan (plan_context l.self) (view_body l.other) (view_vars l.vars) (view_site l.at) in
-    ListSoFar l.initial.rows.items l.rows.items l.numbers.items
-    (plural_plans (plan_context l.self) (view_plural_cases (drop l.case-index l.cases)) (view_vars l.vars)
-    (view_site l.at) ++ (last ∷ []))
-    (map walk_of (plural_plans (plan_context l.self) (view_plural_cases l.cases) (view_vars l.vars) (view_site l.at)
-    ++ (last ∷ [])))
+    let last = body_plan (plan_context l.self) (view_body l.other) (view_vars l.initial.vars) (view_site l.at) in record {
+      so_far : ListSoFar l.initial.rows.items l.rows.items l.numbers.items
+          (plural_plans (plan_context l.self) (view_plural_cases (drop l.case-index l.cases)) (view_vars l.initial.vars)
+          (view_site l.at) ++ (last ∷ []))
+          (map walk_of (plural_plans (plan_context l.self) (view_plural_cases l.cases) (view_vars l.initial.vars) (view_site l.at)
+          ++ (last ∷ [])));
+      same : l.vars ≡ l.initial.vars;
+    }
 
 abbrev pub invariant-select_cases-loop-case : goal.invariant-select_cases-loop-case
 invariant-select_cases-loop-case l =
-    let last = body_plan (plan_context l.self) (view_body l.other) (view_vars l.vars) (view_site l.at) in
-    ListSoFar l.initial.rows.items l.rows.items l.numbers.items
-    (select_plans (plan_context l.self) (view_select_cases (drop l.case-index l.cases)) (view_vars l.vars)
-    (view_site l.at) ++ (last ∷ []))
-    (map walk_of (select_plans (plan_context l.self) (view_select_cases l.cases) (view_vars l.vars) (view_site l.at)
-    ++ (last ∷ [])))
+    let last = body_plan (plan_context l.self) (view_body l.other) (view_vars l.initial.vars) (view_site l.at) in record {
+      so_far : ListSoFar l.initial.rows.items l.rows.items l.numbers.items
+          (select_plans (plan_context l.self) (view_select_cases (drop l.case-index l.cases)) (view_vars l.initial.vars)
+          (view_site l.at) ++ (last ∷ []))
+          (map walk_of (select_plans (plan_context l.self) (view_select_cases l.cases) (view_vars l.initial.vars) (view_site l.at)
+          ++ (last ∷ [])));
+      same : l.vars ≡ l.initial.vars;
+    }
 
 abbrev pub invariant-arguments-loop-argument : goal.invariant-arguments-loop-argument
-invariant-arguments-loop-argument l =
-    InTurnSoFar l.initial.rows.items l.rows.items l.numbers.items
-    (argument_frames (plan_context l.self) (view_arguments (drop l.argument-index l.arguments)) (view_vars l.vars))
-    (Then (plan_at l.initial.rows.items l.fn.hole) (argument_frames (plan_context l.self) (view_arguments l.arguments)
-    (view_vars l.vars)))
+invariant-arguments-loop-argument l = record {
+  so_far : InTurnSoFar l.initial.rows.items l.rows.items l.numbers.items
+      (argument_frames (plan_context l.self) (view_arguments (drop l.argument-index l.arguments)) (view_vars l.initial.vars))
+      (Then (plan_at l.initial.rows.items l.fn.hole) (argument_frames (plan_context l.self) (view_arguments l.arguments)
+      (view_vars l.initial.vars)));
+  same : l.vars ≡ l.initial.vars;
+}
 
 abbrev pub decreases-nodes : goal.decreases-nodes
 decreases-nodes l = 8 * most size-Node l.nodes.now + 1
