@@ -121,12 +121,12 @@ module _ (p : ProgramParts) (input : values.Value) where
 
   pub call_begins : (old new : Machine) (f : Ahead) (c : code_callee.Callee) (n : ℕ) → old.top ≡ frame.Ops f
       → MachineFits old → slice_get p.ops f.at ≡ Some (op.Call c) → f.at < f.end
-      → new.top ≡ frame.Call f (no_handing (length old.bound.items)) → new.below ≡ old.below → new.texts ≡ old.texts
-      → new.bound.items ≡ old.bound.items → Silent p input old new n n
+      → new.top ≡ frame.Call f (no_handing (length old.bound)) → new.below ≡ old.below → new.texts ≡ old.texts
+      → new.bound ≡ old.bound → Silent p input old new n n
   call_begins old new f c n old_top fits is low top below texts bound =
-      let len : ℕ = length old.bound.items in
+      let len : ℕ = length old.bound in
       let h : Handing = no_handing len in
-      let cells : List Cell = cells_of p input old.bound.items in
+      let cells : List Cell = cells_of p input old.bound in
       let env : RunEnv = env_at cells f.env in
       let x : Outcome = call_after p f 0 env [] c in
       let old_fits : FramesFit (frame.Ops f ∷ old.below) len = fits_top p input old (frame.Ops f) old_top fits in (
@@ -135,17 +135,17 @@ module _ (p : ProgramParts) (input : values.Value) where
           same =
               op_spends p input old f (op.Call c) 0 x old_top is low refl
               ∙ ap (spent_first (one_step 0))
-              (ap (λ (o : Outcome). over p input (take f.mark old.bound.items) old.below old.texts o)
+              (ap (λ (o : Outcome). over p input (take f.mark old.bound) old.below old.texts o)
               (sym (ap (call_of p f 0 env []) is))
-              ∙ (sym (plain_top p input old.bound.items (frame.Call f h) old.below old.texts tt)
+              ∙ (sym (plain_top p input old.bound (frame.Call f h) old.below old.texts tt)
               ∙ sym
-              (machine_is p input new (frame.Call f h) old.below old.texts old.bound.items top below texts bound)));
+              (machine_is p input new (frame.Call f h) old.below old.texts old.bound top below texts bound)));
           cost = (let e : n ≡ n + 0 = omega arith in e);
           falls =
               (let least = pending_least p (frame.Call f h) in
               let q : pending p new.top ≡ pending p (frame.Call f h) = ap (pending p) top in omega (arith, least, q));
           fits =
-              fits_is p input new (frame.Call f h) old.below old.bound.items top below bound (
+              fits_is p input new (frame.Call f h) old.below old.bound top below bound (
                 (
                   low,
                   old_fits.0,

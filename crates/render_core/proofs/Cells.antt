@@ -1,16 +1,18 @@
 -- Variables: those of a number depend on those before it alone.
 use Rattle.std.proofs.Common.{◌≡◌, ℕ, zero, suc, ◌+◌, ◌≤◌, ◌<◌, List, [], ◌∷◌, ◌++◌, Some, None}
-use Rattle.std.proofs.Common.{length}
+use Rattle.std.proofs.Common.{length, true}
 use Rattle.std.proofs.Common.{take, refl, sym, ap, ◌∙◌, arith, slice_index_or}
 use Rattle.std.specs.List.{slice_get}
 use Rattle.soy_tree.specs.Values as values
 use Rattle.template_ir.specs.Table.{table, table_from}
 use Rattle.template_ir.specs.declared.program.ProgramParts.{ProgramParts}
 use Rattle.template_ir.proofs.Tables.{get_table, take_table_from}
+use Rattle.render_core.specs.Keys.{fits_key}
 use Rattle.render_core.specs.Variables.{Cell, bound_means, cell_at, cells_of, env_at, held_means, name_or_none}
 use Rattle.render_core.specs.Variables.{name_there, part_held}
 use Rattle.render_core.specs.declared.held.Bound.{Bound}
 use Rattle.render_core.specs.declared.held.Held.{Held}
+use Rattle.render_core.proofs.Conditions.{if_true}
 
 index_take : {A : Type 0} (xs : List A) (n k : ℕ) (other : A) → k < n
     → slice_index_or (take n xs) k other ≡ slice_index_or xs k other
@@ -125,9 +127,14 @@ module _ (p : ProgramParts) (input : values.Value) where
       (sym (cells_take (bound ++ b ∷ []) (length bound)) ∙ ap (cells_of p input) (take_end bound (b ∷ [])))
 
   pub env_more : (bound : List Bound) (b : Bound) (n : ℕ) → n ≡ length bound + 1
+      → fits_key b.links (name_or_none (name_there p b.name)) ≡ true
       → env_at (cells_of p input (bound ++ b ∷ [])) n
       ≡ (name_or_none (name_there p b.name), held_means p input (cells_of p input bound) b.to)
       ∷ env_at (cells_of p input bound) b.below
-  env_more bound b n e =
+  env_more bound b n e fits =
       let s : n ≡ suc (length bound) = omega arith in
-      ap (λ k. env_at (cells_of p input (bound ++ b ∷ [])) k) s ∙ ap (λ (c : Cell). c.env) (cell_more bound b)
+      ap (λ k. env_at (cells_of p input (bound ++ b ∷ [])) k) s
+      ∙ (ap (λ (c : Cell). c.env) (cell_more bound b)
+      ∙ if_true (fits_key b.links (name_or_none (name_there p b.name)))
+      ((name_or_none (name_there p b.name), held_means p input (cells_of p input bound) b.to)
+      ∷ env_at (cells_of p input bound) b.below) (env_at (cells_of p input bound) b.below) fits)

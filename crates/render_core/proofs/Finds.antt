@@ -1,7 +1,8 @@
 -- What the code finds, against what it stands for.
-use Rattle.std.proofs.Common.{◌≡◌, ℕ, suc, ◌-◌, ◌≤◌, ◌<◌, Bool, true, false, List, [], ◌∷◌, Some}
+use Rattle.std.proofs.Common.{◌≡◌, ℕ, suc, ◌-◌, ◌<◌, ◌&&◌, Bool, true, false, List, [], ◌∷◌, Some, inl, inr}
 use Rattle.std.proofs.Common.{None}
-use Rattle.std.proofs.Common.{take, refl, sym, ap, ◌∙◌, arith, subst}
+use Rattle.std.proofs.Common.{take, refl, sym, ap, ◌∙◌, arith, subst, lt-ltb, le-ltb}
+use Rattle.std.proofs.lemmas.Bool.{cases_lt}
 use Rattle.std.specs.Prelude.{if◌then◌else◌, bytes_eq}
 use Rattle.std.specs.List.{slice_get}
 use Rattle.soy_tree.specs.Types.{Name}
@@ -17,63 +18,101 @@ use Rattle.soy_meaning.specs.Giving.{RunEnv}
 use Rattle.template_ir.specs.declared.program.ProgramParts.{ProgramParts}
 use Rattle.render_core.specs.Finds.{IsPlain, binding_at, bound_binding}
 use Rattle.soy_expr.specs.Parts.{child}
-use Rattle.render_core.specs.Variables.{Cell, bound_means, cell_at, cells_of, env_at, held_means, led, name_or_none}
+use Rattle.render_core.specs.Keys.{fits_key, key_of, lowered, next_of}
+use Rattle.render_core.specs.Linked.{Leads, is_sought}
+use Rattle.render_core.specs.Variables.{Cell, cell_at, cells_of, env_at, held_means, led, name_or_none}
 use Rattle.render_core.specs.Variables.{path_of, path_steps}
 use Rattle.render_core.specs.Variables.{name_there, part_held, path_value}
 use Rattle.render_core.specs.declared.held.Bound.{Bound}
 use Rattle.render_core.specs.declared.held.Held.{Held}
 use Rattle.render_core.specs.declared.held.Held.TheVariants as held
 use Rattle.render_core.specs.declared.held.Path.{Path}
+use Rattle.render_core.specs.declared.links.Links.{Links}
+use Rattle.render_core.specs.declared.links.Links.TheVariants as links
 use Rattle.render_core.specs.declared.held.Path.TheVariants as path
 use Rattle.render_core.proofs.Conditions.{if_false, if_true}
-use Rattle.render_core.proofs.Cells.{cell_none, cell_there, env_past, env_take, part_is, part_lower, part_there}
+use Rattle.render_core.proofs.Cells.{cell_none, cell_there, cells_take, env_past, env_take, part_is}
+use Rattle.render_core.proofs.Cells.{part_lower, part_there}
 
 -- ---- variables by their names
 
+shown : {A : Type 0} (fits : Bool) (own name : Name) (x : Binding A) (env : Env A)
+    → binding name (if fits then (own, x) ∷ env else env)
+    ≡ (if fits && bytes_eq own name then x else binding name env)
+shown true own name x env = refl
+shown false own name x env = refl
+
+-- the variables of a number from one that is lower
+pub lowered_env : (cells : List Cell) (number next : ℕ) (name : Name) → 0 < number
+    → binding name (env_at (take (number - 1) cells) next) ≡ binding name (env_at cells (lowered number next))
+lowered_env cells number next name some = elim (cases_lt next number) [
+  | inl low ↦
+      rw (lt-ltb next number low)
+      (ap (binding name) (env_take cells (number - 1) next (omega (arith, low, some))))
+  | inr high ↦
+      rw (le-ltb next number high)
+      (ap (binding name) (env_past cells (number - 1) next (omega (arith, high, some))))
+]
+
 module _ (p : ProgramParts) (input : Value) (bound : List Bound) where
-  -- the variables of a number begin with the one below it
-  number_there : (number : ℕ) (b : Bound) → 0 < number → slice_get bound (number - 1) ≡ Some b
-      → env_at (cells_of p input bound) number
-      ≡ (bound_means p input (take (number - 1) (cells_of p input bound)) b).env
-  number_there number b some is =
+  -- the variables of a number begin with the one below it, where that is visible
+  number_there : (number : ℕ) (b : Bound) (name : Name) → 0 < number → slice_get bound (number - 1) ≡ Some b
+      → binding name (env_at (cells_of p input bound) number)
+      ≡ (if is_sought p b name then held_means p input (take (number - 1) (cells_of p input bound)) b.to
+      else binding name (env_at (take (number - 1) (cells_of p input bound)) b.below))
+  number_there number b name some is =
       let s : number ≡ suc (number - 1) = omega arith in
-      ap (λ k. env_at (cells_of p input bound) k) s
-      ∙ ap (λ (c : Cell). c.env) (cell_there p input bound (number - 1) b is)
+      let cells : List Cell = take (number - 1) (cells_of p input bound) in
+      ap (λ k. binding name (env_at (cells_of p input bound) k)) s
+      ∙ (ap (λ (c : Cell). binding name c.env) (cell_there p input bound (number - 1) b is)
+      ∙ shown (fits_key b.links (name_or_none (name_there p b.name))) (name_or_none (name_there p b.name)) name
+      (held_means p input cells b.to) (env_at cells b.below))
 
   pub found_here : (number : ℕ) (b : Bound) (name : Name) → 0 < number → slice_get bound (number - 1) ≡ Some b
-      → bytes_eq (name_or_none (name_there p b.name)) name ≡ true
+      → is_sought p b name ≡ true
       → binding_at p input bound (number - 1) ≡ binding name (env_at (cells_of p input bound) number)
   found_here number b name some is named =
       let cells : List Cell = take (number - 1) (cells_of p input bound) in
       rw is
-      (sym (if_true (bytes_eq (name_or_none (name_there p b.name)) name) (held_means p input cells b.to)
-      (binding name (env_at cells b.below)) named)
-      ∙ ap (binding name) (sym (number_there number b some is)))
+      (sym (if_true (is_sought p b name) (held_means p input cells b.to) (binding name (env_at cells b.below)) named)
+      ∙ sym (number_there number b name some is))
 
   -- past a variable of another name
-  passed : (number : ℕ) (b : Bound) (name : Name) → 0 < number → slice_get bound (number - 1) ≡ Some b
-      → bytes_eq (name_or_none (name_there p b.name)) name ≡ false
-      → binding name (env_at (cells_of p input bound) number)
-      ≡ binding name (env_at (take (number - 1) (cells_of p input bound)) b.below)
-  passed number b name some is other =
-      let cells : List Cell = take (number - 1) (cells_of p input bound) in
-      ap (binding name) (number_there number b some is)
-      ∙ if_false (bytes_eq (name_or_none (name_there p b.name)) name) (held_means p input cells b.to)
-      (binding name (env_at cells b.below)) other
-
   pub found_below : (number : ℕ) (b : Bound) (name : Name) → 0 < number → slice_get bound (number - 1) ≡ Some b
-      → bytes_eq (name_or_none (name_there p b.name)) name ≡ false → b.below < number
-      → binding name (env_at (cells_of p input bound) b.below) ≡ binding name (env_at (cells_of p input bound) number)
-  found_below number b name some is other low =
-      ap (binding name) (sym (env_take (cells_of p input bound) (number - 1) b.below (omega arith)))
-      ∙ sym (passed number b name some is other)
+      → is_sought p b name ≡ false → Leads (take (number - 1) bound) b.links b.below
+      → binding name (env_at (cells_of p input bound) (lowered number (next_of b.links b.below (key_of name))))
+      ≡ binding name (env_at (cells_of p input bound) number)
+  found_below number b name some is other leads =
+      let cells : List Cell = take (number - 1) (cells_of p input bound) in
+      let next : ℕ = next_of b.links b.below (key_of name) in
+      sym (number_there number b name some is
+      ∙ (if_false (is_sought p b name) (held_means p input cells b.to) (binding name (env_at cells b.below)) other
+      ∙ (ap (λ (cs : List Cell). binding name (env_at cs b.below)) (sym (cells_take p input bound (number - 1)))
+      ∙ (leads p input name
+      ∙ (ap (λ (cs : List Cell). binding name (env_at cs next)) (cells_take p input bound (number - 1))
+      ∙ lowered_env (cells_of p input bound) number next name some)))))
 
-  pub found_lost : (number : ℕ) (b : Bound) (name : Name) → 0 < number → slice_get bound (number - 1) ≡ Some b
-      → bytes_eq (name_or_none (name_there p b.name)) name ≡ false → number ≤ b.below
-      → Known NullValue ≡ binding name (env_at (cells_of p input bound) number)
-  found_lost number b name some is other high =
-      ap (binding name) (sym (env_past (cells_of p input bound) (number - 1) b.below (omega arith)))
-      ∙ sym (passed number b name some is other)
+  -- the same where few variables are visible
+  pub found_next : (number : ℕ) (b : Bound) (name : Name) (n : ℕ) → 0 < number
+      → slice_get bound (number - 1) ≡ Some b → b.links ≡ links.Few n
+      → bytes_eq (name_or_none (name_there p b.name)) name ≡ false
+      → binding name (env_at (cells_of p input bound) (lowered number b.below))
+      ≡ binding name (env_at (cells_of p input bound) number)
+  found_next number b name n some is few other =
+      let cells : List Cell = take (number - 1) (cells_of p input bound) in
+      let own : Name = name_or_none (name_there p b.name) in
+      sym (number_there number b name some is
+      ∙ (if_false (is_sought p b name) (held_means p input cells b.to) (binding name (env_at cells b.below))
+      (ap (λ (x : Links). fits_key x own && bytes_eq own name) few ∙ other)
+      ∙ lowered_env (cells_of p input bound) number b.below name some))
+
+  pub found_first : (number : ℕ) (b : Bound) (name : Name) (n : ℕ) → 0 < number
+      → slice_get bound (number - 1) ≡ Some b → b.links ≡ links.Few n
+      → bytes_eq (name_or_none (name_there p b.name)) name ≡ true
+      → binding_at p input bound (number - 1) ≡ binding name (env_at (cells_of p input bound) number)
+  found_first number b name n some is few named =
+      let own : Name = name_or_none (name_there p b.name) in
+      found_here number b name some is (ap (λ (x : Links). fits_key x own && bytes_eq own name) few ∙ named)
 
   pub found_none : (number : ℕ) (name : Name) → 0 < number → slice_get bound (number - 1) ≡ None
       → Known NullValue ≡ binding name (env_at (cells_of p input bound) number)

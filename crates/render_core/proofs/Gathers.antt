@@ -82,41 +82,41 @@ module _ (p : ProgramParts) (input : values.Value) where
 
   pub text_let : (old new : Machine) (f : Ahead) (name : Name) (b : Block) (n : ℕ) → old.top ≡ frame.Ops f
       → MachineFits old → slice_get p.ops f.at ≡ Some (op.LetBlock name kind.Text b) → f.at < f.end
-      → new.top ≡ frame.Ops (child_at f b (pos 0) (length old.bound.items))
+      → new.top ≡ frame.Ops (child_at f b (pos 0) (length old.bound))
       → new.below ≡ frame.Gather f purpose.Bind ∷ old.below → new.texts ≡ [] ∷ old.texts
-      → new.bound.items ≡ old.bound.items → Silent p input old new n n
+      → new.bound ≡ old.bound → Silent p input old new n n
   text_let old new f name b n old_top fits is low top below texts bound =
-      let cells : List Cell = cells_of p input old.bound.items in
+      let cells : List Cell = cells_of p input old.bound in
       let env : RunEnv = env_at cells f.env in
       let o : Outcome = block_gives (means_before p f.left f.at) b (pos 0) env in
       let g : Outcome = gathered [] o (λ whole. gives_nothing) in
       let joined : List ℕ = joined_pieces (pieces_of_outcome o) in
-      let low_frames : Outcome → Outcome = over p input (take f.mark old.bound.items) old.below old.texts in
-      let old_fits : FramesFit (frame.Ops f ∷ old.below) (length old.bound.items)
+      let low_frames : Outcome → Outcome = over p input (take f.mark old.bound) old.below old.texts in
+      let old_fits : FramesFit (frame.Ops f ∷ old.below) (length old.bound)
       = fits_top p input old (frame.Ops f) old_top fits in (
         one_step 0,
         record {
           same =
-              machine_is p input old (frame.Ops f) old.below old.texts old.bound.items old_top refl refl refl
-              ∙ (bound_by p input old.bound.items old.below old.texts f (op.LetBlock name kind.Text b)
+              machine_is p input old (frame.Ops f) old.below old.texts old.bound old_top refl refl refl
+              ∙ (bound_by p input old.bound old.below old.texts f (op.LetBlock name kind.Text b)
               (spent_first (one_step 0) g) ((name, Known (StringValue joined)) ∷ env) is low refl
               ∙ (ap low_frames
               (first_followed (one_step 0) g (ops_ahead p (past f) ((name, Known (StringValue joined)) ∷ env)))
-              ∙ (over_first p input old.below (take f.mark old.bound.items) old.texts (one_step 0) _
+              ∙ (over_first p input old.below (take f.mark old.bound) old.texts (one_step 0) _
               ∙ ap (spent_first (one_step 0))
               (ap (λ (m : Name). low_frames
               (continued_by g (ops_ahead p (past f) ((m, Known (StringValue joined)) ∷ env))))
               (named_by p f.at (op.LetBlock name kind.Text b) name is refl)
               ∙ (ap low_frames (gathered_whole [] o (after_text p cells f purpose.Bind))
-              ∙ (sym (gathers old.bound.items old.below old.texts f purpose.Bind b)
-              ∙ sym (machine_is p input new (frame.Ops (child_at f b (pos 0) (length old.bound.items)))
-              (frame.Gather f purpose.Bind ∷ old.below) ([] ∷ old.texts) old.bound.items top below texts bound)))))));
+              ∙ (sym (gathers old.bound old.below old.texts f purpose.Bind b)
+              ∙ sym (machine_is p input new (frame.Ops (child_at f b (pos 0) (length old.bound)))
+              (frame.Gather f purpose.Bind ∷ old.below) ([] ∷ old.texts) old.bound top below texts bound)))))));
           cost = (let h : n ≡ n + 0 = omega arith in h);
           falls = (let q : pending p new.top ≡ 0 = ap (pending p) top in omega (arith, q));
           fits =
-              fits_is p input new (frame.Ops (child_at f b (pos 0) (length old.bound.items)))
-              (frame.Gather f purpose.Bind ∷ old.below) old.bound.items top below bound
-              (fits_gather old.bound.items old.below f b old_fits low);
+              fits_is p input new (frame.Ops (child_at f b (pos 0) (length old.bound)))
+              (frame.Gather f purpose.Bind ∷ old.below) old.bound top below bound
+              (fits_gather old.bound old.below f b old_fits low);
         },
       )
 

@@ -1,6 +1,5 @@
 -- Steps that give something, and steps that bind.
-use Rattle.std.proofs.Common.{◌≡◌, ℕ, zero, suc, ◌+◌, ◌≤◌, ◌<◌, true, false, List, [], ◌∷◌}
-use Rattle.std.proofs.Common.{◌++◌}
+use Rattle.std.proofs.Common.{◌≡◌, ℕ, ◌+◌, ◌≤◌, ◌<◌, true, false, List, [], ◌∷◌}
 use Rattle.std.proofs.Common.{Some, Result, Ok, Err, length, take, refl, sym, ap, ◌∙◌, arith, subst}
 use Rattle.std.specs.List.{slice_get}
 use Rattle.std.proofs.Math.Seq.{take-length}
@@ -22,6 +21,7 @@ use Rattle.template_ir.specs.declared.op.Op.{Op}
 use Rattle.template_ir.specs.declared.program.ProgramParts.{ProgramParts}
 use Rattle.render_core.specs.Forms.{form_at}
 use Rattle.render_core.specs.Frames.{FramesFit, MachineFits, machine_gives, ops_ahead, over, past, past_with}
+use Rattle.render_core.specs.Linked.{Adds, bound_over}
 use Rattle.render_core.specs.Rest.{first_spent, piece_bytes, piece_text}
 use Rattle.render_core.specs.Shows.{Shows, kept_child, print_text}
 use Rattle.render_core.specs.Stepping.{Binds, Does, GaveForm, Given, GoesIn, IsSame, Output, Silent}
@@ -42,7 +42,7 @@ use Rattle.render_core.specs.declared.showing.Print.{Print}
 use Rattle.render_core.specs.declared.stack.Machine.{Machine}
 use Rattle.render_core.specs.declared.stack.Step.{Step}
 use Rattle.render_core.specs.declared.stack.Step.TheVariants as step
-use Rattle.render_core.proofs.Cells.{env_more}
+use Rattle.render_core.proofs.Adds.{adds_env, adds_length, adds_take}
 use Rattle.render_core.proofs.Machines.{bound_by, entered}
 use Rattle.render_core.proofs.Moves.{fits_is, fits_top, machine_is, op_spends, same_fits, same_gives, silent_in}
 use Rattle.render_core.proofs.Moves.{stays_in}
@@ -89,7 +89,7 @@ module _ (p : ProgramParts) (input : values.Value) where
 
   -- before a frame that fits
   pub gave_next : (old new : Machine) (f : Ahead) (piece : Piece) (out : Output) (result : Result Step OutOfMemory)
-      → FramesFit (frame.Ops (past f) ∷ old.below) (length old.bound.items)
+      → FramesFit (frame.Ops (past f) ∷ old.below) (length old.bound)
       → GaveForm p input old new (frame.Ops (past f)) (piece_text piece) out result
       → Does p input old new f (GivesPiece none_spent piece gives_nothing) out result
   gave_next old new f piece out (Ok step.Silent) fits h =
@@ -97,20 +97,20 @@ module _ (p : ProgramParts) (input : values.Value) where
       record {
         gives =
             machine_is p input new (frame.Ops (past f)) old.below
-            (added old.texts (piece_text piece)) old.bound.items h.0
+            (added old.texts (piece_text piece)) old.bound h.0
             h.1 h.3 h.2
-            ∙ sym (over_some old.bound.items fs old.texts none_spent piece gives_nothing h.4
-            ∙ first_none (over p input old.bound.items fs (added old.texts (piece_text piece)) gives_nothing));
-        fits = fits_is p input new (frame.Ops (past f)) old.below old.bound.items h.0 h.1 h.2 fits;
+            ∙ sym (over_some old.bound fs old.texts none_spent piece gives_nothing h.4
+            ∙ first_none (over p input old.bound fs (added old.texts (piece_text piece)) gives_nothing));
+        fits = fits_is p input new (frame.Ops (past f)) old.below old.bound h.0 h.1 h.2 fits;
         quiet = ap (pending p) h.0;
       }
   gave_next old new f piece out (Ok (step.Gives n)) fits h =
       let fs : List Frame = frame.Ops (past f) ∷ old.below in (
         piece,
-        over_none old.bound.items fs old.texts none_spent piece gives_nothing h.4
+        over_none old.bound fs old.texts none_spent piece gives_nothing h.4
             ∙ ap (λ (o : Outcome). GivesPiece none_spent piece o)
-            (sym (machine_is p input new (frame.Ops (past f)) old.below old.texts old.bound.items h.0 h.1 h.3 h.2)),
-        fits_is p input new (frame.Ops (past f)) old.below old.bound.items h.0 h.1 h.2 fits,
+            (sym (machine_is p input new (frame.Ops (past f)) old.below old.texts old.bound h.0 h.1 h.3 h.2)),
+        fits_is p input new (frame.Ops (past f)) old.below old.bound h.0 h.1 h.2 fits,
         ap (pending p) h.0,
         subst (λ (bs : List Bound). Given p input bs (piece_bytes piece) out n) (sym h.2) h.5,
       )
@@ -129,8 +129,8 @@ module _ (p : ProgramParts) (input : values.Value) where
   pub does_step : (old new : Machine) (f : Ahead) (o : Op) (c : ℕ) (x : Outcome) (before after : ℕ) (out : Output)
       (result : Result Step OutOfMemory) → old.top ≡ frame.Ops f → MachineFits old → slice_get p.ops f.at ≡ Some o
       → f.at < f.end
-      → op_there p f.left f.at o f.number (env_at (cells_of p input old.bound.items) f.env)
-      ≡ (spent_first (one_step c) x, env_at (cells_of p input old.bound.items) f.env)
+      → op_there p f.left f.at o f.number (env_at (cells_of p input old.bound) f.env)
+      ≡ (spent_first (one_step c) x, env_at (cells_of p input old.bound) f.env)
       → after ≡ before + c → Does p input old new f x out result
       → SteppedInto p input old new before after out result
   does_step old new f o c x before after out (Ok step.Silent) top fits is low means cost h =
@@ -174,26 +174,26 @@ module _ (p : ProgramParts) (input : values.Value) where
 
   -- a block that is printed
   pub block_does : (old new : Machine) (f : Ahead) (kept : Kept) (block : BoundBlock) → old.top ≡ frame.Ops f
-      → MachineFits old → kept_means p (cells_of p input old.bound.items) kept ≡ block
-      → kept.env ≤ length old.bound.items
-      → new.top ≡ frame.Ops (kept_child kept (length old.bound.items)) → new.below ≡ frame.Ops (past f) ∷ old.below
-      → new.texts ≡ old.texts → new.bound.items ≡ old.bound.items → GoesIn p input old new f block.outcome
+      → MachineFits old → kept_means p (cells_of p input old.bound) kept ≡ block
+      → kept.env ≤ length old.bound
+      → new.top ≡ frame.Ops (kept_child kept (length old.bound)) → new.below ≡ frame.Ops (past f) ∷ old.below
+      → new.texts ≡ old.texts → new.bound ≡ old.bound → GoesIn p input old new f block.outcome
   block_does old new f kept block old_top fits means low top below texts bound =
-      let child : Ahead = kept_child kept (length old.bound.items) in
-      let old_fits : FramesFit (frame.Ops f ∷ old.below) (length old.bound.items) = fits_top p input old
+      let child : Ahead = kept_child kept (length old.bound) in
+      let old_fits : FramesFit (frame.Ops f ∷ old.below) (length old.bound) = fits_top p input old
       (frame.Ops f) old_top fits in
       record {
         gives =
             machine_is p input new (frame.Ops child)
-            (frame.Ops (past f) ∷ old.below) old.texts old.bound.items top below
+            (frame.Ops (past f) ∷ old.below) old.texts old.bound top below
             texts bound
-            ∙ (entered p input old.bound.items old.bound.items (frame.Ops (past f) ∷ old.below) old.texts child
-            (take-length old.bound.items)
-            ∙ ap (λ (b : BoundBlock). over p input old.bound.items (frame.Ops (past f) ∷ old.below) old.texts b.outcome)
+            ∙ (entered p input old.bound old.bound (frame.Ops (past f) ∷ old.below) old.texts child
+            (take-length old.bound)
+            ∙ ap (λ (b : BoundBlock). over p input old.bound (frame.Ops (past f) ∷ old.below) old.texts b.outcome)
             means);
         fits =
-            fits_is p input new (frame.Ops child) (frame.Ops (past f) ∷ old.below) old.bound.items top below bound
-            (low, (let e : length old.bound.items ≤ length old.bound.items = omega arith in e), old_fits);
+            fits_is p input new (frame.Ops child) (frame.Ops (past f) ∷ old.below) old.bound top below bound
+            (low, (let e : length old.bound ≤ length old.bound = omega arith in e), old_fits);
         quiet = ap (pending p) top;
       }
 
@@ -201,22 +201,22 @@ module _ (p : ProgramParts) (input : values.Value) where
       (out : Output) (result : Result Step OutOfMemory) (b : Binding BoundBlock) → old.top ≡ frame.Ops f
       → MachineFits old
       → GaveForm p input old new (frame.Ops (past f))
-      (form_at point class (print_text (cells_of p input old.bound.items) text) p.dir) out result
-      → Shows p (cells_of p input old.bound.items) n b (shown.Value text class)
+      (form_at point class (print_text (cells_of p input old.bound) text) p.dir) out result
+      → Shows p (cells_of p input old.bound) n b (shown.Value text class)
       → Does p input old new f (print_gives p.dir point b) out result
   value_prints old new f point text class n out result (Known v) top fits gave h =
       subst (λ (x : Outcome). Does p input old new f x out result)
-      (sym (shown_piece point v text class n old.bound.items h))
+      (sym (shown_piece point v text class n old.bound h))
       (gave_does old new f
-      (Value (form_at point class (print_text (cells_of p input old.bound.items) text) p.dir)) out result top fits
+      (Value (form_at point class (print_text (cells_of p input old.bound) text) p.dir)) out result top fits
       gave)
   value_prints old new f point text class n out result (BlockOf block) top fits gave h = absurd h
 
   pub block_prints : (old new : Machine) (f : Ahead) (point : Place) (kept : Kept) (b : Binding BoundBlock)
       → old.top ≡ frame.Ops f → MachineFits old
-      → new.top ≡ frame.Ops (kept_child kept (length old.bound.items)) → new.below ≡ frame.Ops (past f) ∷ old.below
-      → new.texts ≡ old.texts → new.bound.items ≡ old.bound.items
-      → Shows p (cells_of p input old.bound.items) (length old.bound.items) b (shown.Block kept)
+      → new.top ≡ frame.Ops (kept_child kept (length old.bound)) → new.below ≡ frame.Ops (past f) ∷ old.below
+      → new.texts ≡ old.texts → new.bound ≡ old.bound
+      → Shows p (cells_of p input old.bound) (length old.bound) b (shown.Block kept)
       → GoesIn p input old new f (print_gives p.dir point b)
   block_prints old new f point kept (Known v) old_top fits top below texts bound h = absurd h
   block_prints old new f point kept (BlockOf block) old_top fits top below texts bound h =
@@ -224,41 +224,30 @@ module _ (p : ProgramParts) (input : values.Value) where
 
   -- ---- bindings
 
-  pub take_more : (bound : List Bound) (b : Bound) (m : ℕ) → m ≤ length bound → take m (bound ++ b ∷ []) ≡ take m bound
-  take_more bound b zero h = refl
-  take_more [] b (suc m) h = absurd (omega arith)
-  take_more (x ∷ bound) b (suc m) h = ap (λ (bs : List Bound). x ∷ bs) (take_more bound b m (omega arith))
-
-  pub length_more : (bound : List Bound) (b : Bound) → length (bound ++ b ∷ []) ≡ length bound + 1
-  length_more [] b = refl
-  length_more (x ∷ bound) b = let h = length_more bound b in omega (arith, h)
-
   -- past an op, with one more variable
   pub bind_does : (old new : Machine) (f : Ahead) (name : Naming) (to : Held) → old.top ≡ frame.Ops f → MachineFits old
-      → new.top ≡ frame.Ops (past_with f (length old.bound.items + 1)) → new.below ≡ old.below → new.texts ≡ old.texts
-      → new.bound.items ≡ old.bound.items ++ (record { name = name; to = to; below = f.env }) ∷ []
-      → Binds p input old new f name to
-  bind_does old new f name to old_top fits top below texts bound =
-      let b : Bound = record { name = name; to = to; below = f.env } in
-      let n : ℕ = length old.bound.items + 1 in
-      let wider : List Bound = old.bound.items ++ b ∷ [] in
+      → new.top ≡ frame.Ops (past_with f (length old.bound + 1)) → new.below ≡ old.below → new.texts ≡ old.texts
+      → Adds p (bound_over name to f.env) old.bound new.bound → Binds p input old new f name to
+  bind_does old new f name to old_top fits top below texts adds =
+      let b : Bound = bound_over name to f.env in
+      let n : ℕ = length old.bound + 1 in
       let g : Ahead = past_with f n in
-      let old_fits : FramesFit (frame.Ops f ∷ old.below) (length old.bound.items) = fits_top p input old
+      let old_fits : FramesFit (frame.Ops f ∷ old.below) (length old.bound) = fits_top p input old
       (frame.Ops f) old_top fits in
-      let more : length wider ≡ n = length_more old.bound.items b in
+      let more : length new.bound ≡ n = adds_length p b old.bound new.bound adds in
       record {
         gives =
-            machine_is p input new (frame.Ops g) old.below old.texts wider top below texts bound
+            machine_is p input new (frame.Ops g) old.below old.texts new.bound top below texts refl
             ∙ (ap (λ (bs : List Bound). over p input bs old.below old.texts
-            (continued_by gives_nothing (ops_ahead p g (env_at (cells_of p input wider) n))))
-            (take_more old.bound.items b f.mark old_fits.1)
-            ∙ ap (λ (o : Outcome). over p input (take f.mark old.bound.items) old.below old.texts o)
-            (first_none (ops_ahead p g (env_at (cells_of p input wider) n))
-            ∙ ap (λ (env : RunEnv). ops_ahead p (past f) env) (env_more p input old.bound.items b n refl)));
+            (continued_by gives_nothing (ops_ahead p g (env_at (cells_of p input new.bound) n))))
+            (adds_take p b old.bound new.bound adds f.mark old_fits.1)
+            ∙ ap (λ (o : Outcome). over p input (take f.mark old.bound) old.below old.texts o)
+            (first_none (ops_ahead p g (env_at (cells_of p input new.bound) n))
+            ∙ ap (λ (env : RunEnv). ops_ahead p (past f) env) (adds_env p b old.bound new.bound adds input n refl)));
         fits =
-            fits_is p input new (frame.Ops g) old.below wider top below bound (
-              (let e : n ≤ length wider = omega (arith, more) in e),
-              (let m = old_fits.1 in let e : f.mark ≤ length wider = omega (arith, more, m) in e),
+            fits_is p input new (frame.Ops g) old.below new.bound top below refl (
+              (let e : n ≤ length new.bound = omega (arith, more) in e),
+              (let m = old_fits.1 in let e : f.mark ≤ length new.bound = omega (arith, more, m) in e),
               old_fits.2,
             );
         quiet = ap (pending p) top;
@@ -267,24 +256,24 @@ module _ (p : ProgramParts) (input : values.Value) where
   -- an op that only binds
   pub binds_step : (old new : Machine) (f : Ahead) (o : Op) (c : ℕ) (name : Naming) (to : Held) (before after : ℕ)
       → old.top ≡ frame.Ops f → slice_get p.ops f.at ≡ Some o → f.at < f.end
-      → op_there p f.left f.at o f.number (env_at (cells_of p input old.bound.items) f.env)
+      → op_there p f.left f.at o f.number (env_at (cells_of p input old.bound) f.env)
       ≡ (
         RunEnds (one_step c) WholeRun,
-        (name_or_none (name_there p name), held_means p input (cells_of p input old.bound.items) to)
-            ∷ env_at (cells_of p input old.bound.items) f.env,
+        (name_or_none (name_there p name), held_means p input (cells_of p input old.bound) to)
+            ∷ env_at (cells_of p input old.bound) f.env,
       )
       → after ≡ before + c → Binds p input old new f name to → Silent p input old new before after
   binds_step old new f o c name to before after top is low means cost binds =
-      let env : RunEnv = (name_or_none (name_there p name), held_means p input (cells_of p input old.bound.items) to)
-      ∷ env_at (cells_of p input old.bound.items) f.env in
+      let env : RunEnv = (name_or_none (name_there p name), held_means p input (cells_of p input old.bound) to)
+      ∷ env_at (cells_of p input old.bound) f.env in
       let quiet : pending p new.top ≡ 0 = binds.quiet in (
         one_step c,
         record {
           same =
-              machine_is p input old (frame.Ops f) old.below old.texts old.bound.items top refl refl refl
-              ∙ (bound_by p input old.bound.items old.below old.texts f o
+              machine_is p input old (frame.Ops f) old.below old.texts old.bound top refl refl refl
+              ∙ (bound_by p input old.bound old.below old.texts f o
               (RunEnds (one_step c) WholeRun) env is low means
-              ∙ (over_first p input old.below (take f.mark old.bound.items) old.texts (one_step c)
+              ∙ (over_first p input old.below (take f.mark old.bound) old.texts (one_step c)
               (ops_ahead p (past f) env)
               ∙ ap (spent_first (one_step c)) (sym binds.gives)));
           cost = cost;
@@ -295,15 +284,15 @@ module _ (p : ProgramParts) (input : values.Value) where
 
   pub binds_stay : (old new : Machine) (f : Ahead) (o : Op) (c : ℕ) (env : RunEnv) (before after : ℕ)
       → old.top ≡ frame.Ops f → slice_get p.ops f.at ≡ Some o → f.at < f.end
-      → op_there p f.left f.at o f.number (env_at (cells_of p input old.bound.items) f.env)
+      → op_there p f.left f.at o f.number (env_at (cells_of p input old.bound) f.env)
       ≡ (RunEnds (one_step c) WholeRun, env)
       → IsWithin c before after → MachineFits old → IsSame old new → Stays p input old new before after
   binds_stay old new f o c env before after top is low means cost fits same =
       let room : c ≤ (first_spent (machine_gives p input old)).cost =
       within_first c (machine_gives p input old) _
-      (machine_is p input old (frame.Ops f) old.below old.texts old.bound.items top refl refl refl
-      ∙ (bound_by p input old.bound.items old.below old.texts f o (RunEnds (one_step c) WholeRun) env is low means
-      ∙ over_first p input old.below (take f.mark old.bound.items) old.texts (one_step c)
+      (machine_is p input old (frame.Ops f) old.below old.texts old.bound top refl refl refl
+      ∙ (bound_by p input old.bound old.below old.texts f o (RunEnds (one_step c) WholeRun) env is low means
+      ∙ over_first p input old.below (take f.mark old.bound) old.texts (one_step c)
       (ops_ahead p (past f) env))) in
       record {
         same = same_gives p input old new same;

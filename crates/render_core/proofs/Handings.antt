@@ -1,9 +1,8 @@
 -- What a call hands, one parameter after the other.
-use Rattle.std.proofs.Common.{◌≡◌, ℕ, zero, suc, ◌+◌, ◌-◌, ◌*◌, ◌≤◌, ◌<◌, pos, List, [], ◌∷◌, ◌++◌, Option, Some, None}
+use Rattle.std.proofs.Common.{◌≡◌, ℕ, zero, suc, ◌+◌, ◌-◌, ◌*◌, ◌≤◌, ◌<◌, pos, List, [], ◌∷◌, Option, Some, None}
 use Rattle.std.proofs.Common.{length}
 use Rattle.std.proofs.Common.{take, refl, sym, ap, ◌∙◌, arith}
 use Rattle.std.specs.List.{slice_get}
-use Rattle.std.proofs.Math.Seq.{take-length}
 use Rattle.soy_base.specs.declared.kind.Kind.{Kind}
 use Rattle.soy_base.specs.declared.kind.Kind.TheVariants as kind
 use Rattle.soy_tree.specs.Cost.{cost}
@@ -32,9 +31,10 @@ use Rattle.render_core.specs.Calling.{Hands, callee_of, given_at}
 use Rattle.render_core.specs.Finds.{found_means, held_of}
 use Rattle.render_core.specs.Frames.{FramesFit, MachineFits, call_of, child_at, frame_gives, machine_gives}
 use Rattle.render_core.specs.Frames.{means_before, over}
+use Rattle.render_core.specs.Linked.{Adds}
 use Rattle.render_core.specs.Rest.{first_spent}
-use Rattle.render_core.specs.Stepping.{IsBlockKind, IsSame, Silent, Stays, given_count, handed_past, kept_of, pending}
-use Rattle.render_core.specs.Stepping.{weight}
+use Rattle.render_core.specs.Stepping.{IsBlockKind, IsSame, Silent, Stays, given_count, handed_bound, handed_past}
+use Rattle.render_core.specs.Stepping.{kept_of, pending, weight}
 use Rattle.render_core.specs.Variables.{Cell, cells_of, env_at, handed_name, held_means, name_or_none}
 use Rattle.render_core.specs.Variables.{handed_of, name_there, of_op}
 use Rattle.render_core.specs.declared.frame.Ahead.{Ahead}
@@ -48,10 +48,9 @@ use Rattle.render_core.specs.declared.held.Kept.{Kept}
 use Rattle.render_core.specs.declared.held.Naming.TheVariants as naming
 use Rattle.render_core.specs.declared.stack.Machine.{Machine}
 use Rattle.render_core.specs.declared.valuing.Found.{Found}
+use Rattle.render_core.proofs.Adds.{adds_agree, adds_env, adds_length, adds_take}
 use Rattle.render_core.proofs.Calls.{hand_next}
-use Rattle.render_core.proofs.Cells.{env_agree, env_more, take_end}
 use Rattle.render_core.proofs.Gathers.{gathered_whole, gathers}
-use Rattle.render_core.proofs.Gives.{length_more, take_more}
 use Rattle.render_core.proofs.Leaves.{plain_top}
 use Rattle.render_core.proofs.Lets.{bound_kind, held_found, kept_outcome}
 use Rattle.render_core.proofs.Moves.{fits_is, fits_top, machine_is, same_fits, same_gives}
@@ -100,28 +99,28 @@ module _ (p : ProgramParts) (input : values.Value) where
 
   -- what is below the call, after this
   abbrev below_call : Machine → Ahead → Outcome → Outcome
-  below_call m f o = over p input (take f.mark m.bound.items) m.below m.texts o
+  below_call m f o = over p input (take f.mark m.bound) m.below m.texts o
 
   -- the call past the next parameter, which is bound so
   abbrev call_past : Machine → Ahead → Handing → Name → Binding BoundBlock → Outcome
   call_past m f h name b =
-      call_of p f (h.next + 1) (env_at (cells_of p input m.bound.items) f.env)
-      ((name, b) ∷ env_at (cells_of p input m.bound.items) h.inner) (slice_get p.ops f.at)
+      call_of p f (h.next + 1) (env_at (cells_of p input m.bound) f.env)
+      ((name, b) ∷ env_at (cells_of p input m.bound) h.inner) (slice_get p.ops f.at)
 
   hand_gives : (old : Machine) (f : Ahead) (h : Handing) (d : Handed) → Hands p old f h d
       → machine_gives p input old
       ≡ below_call old f (continued_by
-      (handed_gives (means_before p f.left f.at) (view_by d.by) (env_at (cells_of p input old.bound.items) f.env))
+      (handed_gives (means_before p f.left f.at) (view_by d.by) (env_at (cells_of p input old.bound) f.env))
       (call_past old f h d.name
       (handed_binding (means_before p f.left f.at) d.name (view_by d.by)
-      (env_at (cells_of p input old.bound.items) f.env))))
+      (env_at (cells_of p input old.bound) f.env))))
   hand_gives old f h d hands =
-      let env : RunEnv = env_at (cells_of p input old.bound.items) f.env in
-      let inner : RunEnv = env_at (cells_of p input old.bound.items) h.inner in
+      let env : RunEnv = env_at (cells_of p input old.bound) f.env in
+      let inner : RunEnv = env_at (cells_of p input old.bound) h.inner in
       let ms : List OpMeans = means_before p f.left f.at in
       let w = handed_call (slice_get p.ops f.at) h.next d hands.given in
-      machine_is p input old (frame.Call f h) old.below old.texts old.bound.items hands.top refl refl refl
-      ∙ (plain_top p input old.bound.items (frame.Call f h) old.below old.texts tt
+      machine_is p input old (frame.Call f h) old.below old.texts old.bound hands.top refl refl refl
+      ∙ (plain_top p input old.bound (frame.Call f h) old.below old.texts tt
       ∙ ap (λ (o : Outcome). below_call old f o)
       (ap (λ (o : Option Op). call_of p f h.next env inner o) w.1
       ∙ (hand_next p f h.next env inner w.0 d w.2
@@ -130,76 +129,66 @@ module _ (p : ProgramParts) (input : values.Value) where
 
   -- what is spent on it comes first
   hand_spends : (old : Machine) (f : Ahead) (h : Handing) (d : Handed) (s : Spent) → Hands p old f h d
-      → handed_gives (means_before p f.left f.at) (view_by d.by) (env_at (cells_of p input old.bound.items) f.env)
+      → handed_gives (means_before p f.left f.at) (view_by d.by) (env_at (cells_of p input old.bound) f.env)
       ≡ RunEnds s WholeRun
       → machine_gives p input old
       ≡ spent_first s (below_call old f (call_past old f h d.name
       (handed_binding (means_before p f.left f.at) d.name (view_by d.by)
-      (env_at (cells_of p input old.bound.items) f.env))))
+      (env_at (cells_of p input old.bound) f.env))))
   hand_spends old f h d s hands gives =
-      let env : RunEnv = env_at (cells_of p input old.bound.items) f.env in
+      let env : RunEnv = env_at (cells_of p input old.bound) f.env in
       let rest : Outcome = call_past old f h d.name
       (handed_binding (means_before p f.left f.at) d.name (view_by d.by) env) in
       hand_gives old f h d hands
       ∙ (ap (λ (o : Outcome). below_call old f (continued_by o rest)) gives
-      ∙ over_first p input old.below (take f.mark old.bound.items) old.texts s rest)
-
-  -- the variable that a parameter is bound to
-  abbrev pub handed_bound : Ahead → Handing → Held → Bound
-  handed_bound f h to = record { name = naming.Handed f.at h.next; to = to; below = h.inner }
+      ∙ over_first p input old.below (take f.mark old.bound) old.texts s rest)
 
   hand_leads : (old new : Machine) (f : Ahead) (h : Handing) (d : Handed) (to : Held) → Hands p old f h d
-      → new.top ≡ frame.Call f (handed_past h (length old.bound.items)) → new.below ≡ old.below
-      → new.texts ≡ old.texts → new.bound.items ≡ old.bound.items ++ handed_bound f h to ∷ []
+      → new.top ≡ frame.Call f (handed_past h (length old.bound)) → new.below ≡ old.below
+      → new.texts ≡ old.texts → Adds p (handed_bound f h to) old.bound new.bound
       → machine_gives p input new
-      ≡ below_call old f (call_past old f h d.name (held_means p input (cells_of p input old.bound.items) to))
-  hand_leads old new f h d to hands top below texts bound =
-      let len : ℕ = length old.bound.items in
+      ≡ below_call old f (call_past old f h d.name (held_means p input (cells_of p input old.bound) to))
+  hand_leads old new f h d to hands top below texts adds =
+      let len : ℕ = length old.bound in
       let b : Bound = handed_bound f h to in
-      let wider : List Bound = old.bound.items ++ b ∷ [] in
-      let cells : List Cell = cells_of p input old.bound.items in
+      let cells : List Cell = cells_of p input old.bound in
       let env : RunEnv = env_at cells f.env in
-      let inner : RunEnv = env_at cells h.inner in
       let g : Handing = handed_past h len in
       let w = handed_call (slice_get p.ops f.at) h.next d hands.given in
       let old_fits : FramesFit (frame.Call f h ∷ old.below) len =
       fits_top p input old (frame.Call f h) hands.top hands.fits in
       let within = old_fits.0 in
       let low : f.env ≤ len = omega (arith, within) in
-      machine_is p input new (frame.Call f g) old.below old.texts wider top below texts bound
-      ∙ (plain_top p input wider (frame.Call f g) old.below old.texts tt
-      ∙ (ap (λ (bs : List Bound). over p input bs old.below old.texts (frame_gives p input wider (frame.Call f g)))
-      (take_more p input old.bound.items b f.mark old_fits.1)
+      machine_is p input new (frame.Call f g) old.below old.texts new.bound top below texts refl
+      ∙ (plain_top p input new.bound (frame.Call f g) old.below old.texts tt
+      ∙ (ap (λ (bs : List Bound). over p input bs old.below old.texts (frame_gives p input new.bound (frame.Call f g)))
+      (adds_take p b old.bound new.bound adds f.mark old_fits.1)
       ∙ ap (λ (o : Outcome). below_call old f o)
-      (ap (λ (e : RunEnv). call_of p f (h.next + 1) e (env_at (cells_of p input wider) (len + 1))
-      (slice_get p.ops f.at))
-      (env_agree p input wider old.bound.items len f.env
-      (take_end old.bound.items (b ∷ []) ∙ sym (take-length old.bound.items)) low)
+      (ap (λ (e : RunEnv). call_of p f (h.next + 1) e (env_at (cells_of p input new.bound) (len + 1))
+      (slice_get p.ops f.at)) (adds_agree p b old.bound new.bound adds input f.env low)
       ∙ (ap (λ (e : RunEnv). call_of p f (h.next + 1) env e (slice_get p.ops f.at))
-      (env_more p input old.bound.items b (len + 1) refl)
+      (adds_env p b old.bound new.bound adds input (len + 1) refl)
       ∙ ap (λ (n : Name). call_past old f h n (held_means p input cells to)) (named f h d w.0 w.1 w.2)))))
 
   hand_fits : (old new : Machine) (f : Ahead) (h : Handing) (d : Handed) (to : Held) → Hands p old f h d
-      → new.top ≡ frame.Call f (handed_past h (length old.bound.items)) → new.below ≡ old.below
-      → new.bound.items ≡ old.bound.items ++ handed_bound f h to ∷ [] → MachineFits new
-  hand_fits old new f h d to hands top below bound =
-      let len : ℕ = length old.bound.items in
-      let b : Bound = handed_bound f h to in
-      let wider : List Bound = old.bound.items ++ b ∷ [] in
+      → new.top ≡ frame.Call f (handed_past h (length old.bound)) → new.below ≡ old.below
+      → Adds p (handed_bound f h to) old.bound new.bound → MachineFits new
+  hand_fits old new f h d to hands top below adds =
+      let len : ℕ = length old.bound in
       let g : Handing = handed_past h len in
       let old_fits : FramesFit (frame.Call f h ∷ old.below) len =
       fits_top p input old (frame.Call f h) hands.top hands.fits in
-      let more : length wider ≡ len + 1 = length_more p input old.bound.items b in
+      let more : length new.bound ≡ len + 1 = adds_length p (handed_bound f h to) old.bound new.bound adds in
       let within = old_fits.0 in
       let marks = old_fits.1 in
-      let wide : h.mark ≤ length wider = omega (arith, more, within) in
-      let inner : len + 1 ≤ length wider = omega (arith, more) in
-      let mark : f.mark ≤ length wider = omega (arith, more, marks) in
-      fits_is p input new (frame.Call f g) old.below wider top below bound
+      let wide : h.mark ≤ length new.bound = omega (arith, more, within) in
+      let inner : len + 1 ≤ length new.bound = omega (arith, more) in
+      let mark : f.mark ≤ length new.bound = omega (arith, more, marks) in
+      fits_is p input new (frame.Call f g) old.below new.bound top below refl
       ((within.0, within.1, within.2, wide, inner), mark, old_fits.2)
 
   hand_falls : (old new : Machine) (f : Ahead) (h : Handing) (d : Handed) → Hands p old f h d
-      → new.top ≡ frame.Call f (handed_past h (length old.bound.items)) → pending p new.top < pending p old.top
+      → new.top ≡ frame.Call f (handed_past h (length old.bound)) → pending p new.top < pending p old.top
   hand_falls old new f h d hands top =
       let w = handed_call (slice_get p.ops f.at) h.next d hands.given in
       let some : h.next < length w.0.given = get_below w.0.given h.next d w.2 in
@@ -211,33 +200,33 @@ module _ (p : ProgramParts) (input : values.Value) where
   -- a parameter is handed that is valued at this cost
   pub hand_goes : (old new : Machine) (f : Ahead) (h : Handing) (d : Handed) (to : Held) (s : Spent) (before after : ℕ)
       → Hands p old f h d
-      → handed_gives (means_before p f.left f.at) (view_by d.by) (env_at (cells_of p input old.bound.items) f.env)
+      → handed_gives (means_before p f.left f.at) (view_by d.by) (env_at (cells_of p input old.bound) f.env)
       ≡ RunEnds s WholeRun
-      → held_means p input (cells_of p input old.bound.items) to
+      → held_means p input (cells_of p input old.bound) to
       ≡ handed_binding (means_before p f.left f.at) d.name (view_by d.by)
-      (env_at (cells_of p input old.bound.items) f.env)
-      → after ≡ before + s.cost → new.top ≡ frame.Call f (handed_past h (length old.bound.items))
+      (env_at (cells_of p input old.bound) f.env)
+      → after ≡ before + s.cost → new.top ≡ frame.Call f (handed_past h (length old.bound))
       → new.below ≡ old.below → new.texts ≡ old.texts
-      → new.bound.items ≡ old.bound.items ++ handed_bound f h to ∷ [] → Silent p input old new before after
-  hand_goes old new f h d to s before after hands gives means cost top below texts bound = (
+      → Adds p (handed_bound f h to) old.bound new.bound → Silent p input old new before after
+  hand_goes old new f h d to s before after hands gives means cost top below texts adds = (
     s,
     record {
       same =
           hand_spends old f h d s hands gives
           ∙ ap (spent_first s) (ap (λ (b : Binding BoundBlock). below_call old f (call_past old f h d.name b))
           (sym means)
-          ∙ sym (hand_leads old new f h d to hands top below texts bound));
+          ∙ sym (hand_leads old new f h d to hands top below texts adds));
       cost = cost;
       falls =
           below_more (pending p new.top) (pending p old.top) (s.work * weight p) (hand_falls old new f h d hands top);
-      fits = hand_fits old new f h d to hands top below bound;
+      fits = hand_fits old new f h d to hands top below adds;
     },
   )
 
   -- or memory is refused
   pub hand_stays : (old new : Machine) (f : Ahead) (h : Handing) (d : Handed) (s : Spent) (before after : ℕ)
       → Hands p old f h d
-      → handed_gives (means_before p f.left f.at) (view_by d.by) (env_at (cells_of p input old.bound.items) f.env)
+      → handed_gives (means_before p f.left f.at) (view_by d.by) (env_at (cells_of p input old.bound) f.env)
       ≡ RunEnds s WholeRun
       → IsWithin s.cost before after → IsSame old new → Stays p input old new before after
   hand_stays old new f h d s before after hands gives cost same =
@@ -309,12 +298,12 @@ module _ (p : ProgramParts) (input : values.Value) where
 
   -- a block whose text is gathered
   pub hand_gathers : (old new : Machine) (f : Ahead) (h : Handing) (d : Handed) (b : Block) (n : ℕ) → Hands p old f h d
-      → d.by ≡ by.Block kind.Text b → new.top ≡ frame.Ops (child_at f b (pos 0) (length old.bound.items))
+      → d.by ≡ by.Block kind.Text b → new.top ≡ frame.Ops (child_at f b (pos 0) (length old.bound))
       → new.below ≡ frame.Gather f (purpose.Hand h) ∷ old.below → new.texts ≡ [] ∷ old.texts
-      → new.bound.items ≡ old.bound.items → Silent p input old new n n
+      → new.bound ≡ old.bound → Silent p input old new n n
   hand_gathers old new f h d b n hands is top below texts bound =
-      let len : ℕ = length old.bound.items in
-      let cells : List Cell = cells_of p input old.bound.items in
+      let len : ℕ = length old.bound in
+      let cells : List Cell = cells_of p input old.bound in
       let env : RunEnv = env_at cells f.env in
       let ms : List OpMeans = means_before p f.left f.at in
       let o : Outcome = block_gives ms b (pos 0) env in
@@ -332,9 +321,9 @@ module _ (p : ProgramParts) (input : values.Value) where
               ∙ (ap (λ (x : Outcome). below_call old f x) (gathered_whole [] o next)
               ∙ (ap (λ (name : Name). below_call old f (gathered [] o
               (λ text. call_past old f h name (Known (StringValue text))))) (sym (named f h d w.0 w.1 w.2))
-              ∙ (sym (gathers p input old.bound.items old.below old.texts f (purpose.Hand h) b)
+              ∙ (sym (gathers p input old.bound old.below old.texts f (purpose.Hand h) b)
               ∙ (sym (machine_is p input new (frame.Ops (child_at f b (pos 0) len))
-              (frame.Gather f (purpose.Hand h) ∷ old.below) ([] ∷ old.texts) old.bound.items top below texts bound)
+              (frame.Gather f (purpose.Hand h) ∷ old.below) ([] ∷ old.texts) old.bound top below texts bound)
               ∙ sym (first_none (machine_gives p input new)))))));
           cost = (let e : n ≡ n + 0 = omega arith in e);
           falls =
@@ -347,6 +336,6 @@ module _ (p : ProgramParts) (input : values.Value) where
               (let low : f.env ≤ len = omega (arith, within) in
               let e : len ≤ len = omega arith in
               fits_is p input new (frame.Ops (child_at f b (pos 0) len)) (frame.Gather f (purpose.Hand h) ∷ old.below)
-              old.bound.items top below bound (low, e, (old_fits.0, old_fits.1, old_fits.2)));
+              old.bound top below bound (low, e, (old_fits.0, old_fits.1, old_fits.2)));
         },
       )

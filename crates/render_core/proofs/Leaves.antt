@@ -76,34 +76,34 @@ module _ (p : ProgramParts) (input : values.Value) where
   ended_whole (text ∷ texts) = (refl, refl)
 
   pub left_last : (old : Machine) → IsPlainFrame old.top → old.below ≡ []
-      → frame_gives p input old.bound.items old.top ≡ RunEnds (one_step 0) WholeRun
+      → frame_gives p input old.bound old.top ≡ RunEnds (one_step 0) WholeRun
       → IsWhole (machine_gives p input old)
   left_last old plain none gives =
       let e : machine_gives p input old ≡ ended p input old.texts (RunEnds (one_step 0) WholeRun) =
-      plain_top old.bound.items old.top old.below old.texts plain
-      ∙ (ap (λ (fs : List Frame). over p input (take (mark_of old.top) old.bound.items) fs old.texts
-      (frame_gives p input old.bound.items old.top)) none
+      plain_top old.bound old.top old.below old.texts plain
+      ∙ (ap (λ (fs : List Frame). over p input (take (mark_of old.top) old.bound) fs old.texts
+      (frame_gives p input old.bound old.top)) none
       ∙ ap (ended p input old.texts) gives) in
       subst IsWhole (sym e) (ended_whole old.texts)
 
   pub left_frame : (old new : Machine) (f : Frame) (fs : List Frame) (n : ℕ) → IsPlainFrame old.top
       → old.below ≡ f ∷ fs → MachineFits old
-      → frame_gives p input old.bound.items old.top ≡ RunEnds (one_step 0) WholeRun
+      → frame_gives p input old.bound old.top ≡ RunEnds (one_step 0) WholeRun
       → new.top ≡ f → new.below ≡ fs → new.texts ≡ old.texts
-      → new.bound.items ≡ take (mark_of old.top) old.bound.items → Silent p input old new n n
+      → new.bound ≡ take (mark_of old.top) old.bound → Silent p input old new n n
   left_frame old new f fs n plain is fits gives top below texts bound =
-      let kept : List Bound = take (mark_of old.top) old.bound.items in
-      let fit : FramesFit (old.top ∷ old.below) (length old.bound.items) = fits in
+      let kept : List Bound = take (mark_of old.top) old.bound in
+      let fit : FramesFit (old.top ∷ old.below) (length old.bound) = fits in
       let deep : FramesFit (f ∷ fs) (mark_of old.top) =
       subst (λ (gs : List Frame). FramesFit gs (mark_of old.top)) is fit.2 in
-      let size : length kept ≡ mark_of old.top = length-take-le (mark_of old.top) old.bound.items fit.1 in
+      let size : length kept ≡ mark_of old.top = length-take-le (mark_of old.top) old.bound fit.1 in
       let least = pending_least p f in
       let quiet : pending p new.top ≡ pending p f = ap (pending p) top in (
         one_step 0,
         record {
           same =
-              plain_top old.bound.items old.top old.below old.texts plain
-              ∙ (ap (λ (gs : List Frame). over p input kept gs old.texts (frame_gives p input old.bound.items old.top))
+              plain_top old.bound old.top old.below old.texts plain
+              ∙ (ap (λ (gs : List Frame). over p input kept gs old.texts (frame_gives p input old.bound old.top))
               is
               ∙ (ap (λ (o : Outcome). over p input kept (f ∷ fs) old.texts o) gives
               ∙ (over_first p input (f ∷ fs) kept old.texts (one_step 0) gives_nothing

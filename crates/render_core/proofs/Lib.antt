@@ -1,3 +1,4 @@
+mod Adds
 mod Begins
 mod Calls
 mod Cells
@@ -10,8 +11,10 @@ mod GivenForms
 mod Givens
 mod Gives
 mod Handings
+mod Keys
 mod Leaves
 mod Lets
+mod Linking
 mod Machines
 mod Meanings
 mod Moves
@@ -22,6 +25,7 @@ mod Plurals
 mod Pullings
 mod Shows
 mod Sights
+mod Sought
 mod TextEnds
 mod Turns
 mod Values

@@ -33,30 +33,30 @@ within_first n o (GivesPiece s piece rest) e =
 
 module _ (p : ProgramParts) (input : values.Value) where
   pub machine_is : (m : Machine) (top : Frame) (below : List Frame) (texts : List (List ℕ)) (bound : List Bound)
-      → m.top ≡ top → m.below ≡ below → m.texts ≡ texts → m.bound.items ≡ bound
+      → m.top ≡ top → m.below ≡ below → m.texts ≡ texts → m.bound ≡ bound
       → machine_gives p input m ≡ over p input bound (top ∷ below) texts gives_nothing
   machine_is m top below texts bound a b c d =
-      ap (λ (t : Frame). over p input m.bound.items (t ∷ m.below) m.texts gives_nothing) a
-      ∙ (ap (λ (fs : List Frame). over p input m.bound.items (top ∷ fs) m.texts gives_nothing) b
-      ∙ (ap (λ (ts : List (List ℕ)). over p input m.bound.items (top ∷ below) ts gives_nothing) c
+      ap (λ (t : Frame). over p input m.bound (t ∷ m.below) m.texts gives_nothing) a
+      ∙ (ap (λ (fs : List Frame). over p input m.bound (top ∷ fs) m.texts gives_nothing) b
+      ∙ (ap (λ (ts : List (List ℕ)). over p input m.bound (top ∷ below) ts gives_nothing) c
       ∙ ap (λ (bs : List Bound). over p input bs (top ∷ below) texts gives_nothing) d))
 
   -- an op that leaves the variables
   pub op_spends : (old : Machine) (f : Ahead) (o : Op) (c : ℕ) (x : Outcome) → old.top ≡ frame.Ops f
       → slice_get p.ops f.at ≡ Some o → f.at < f.end
-      → op_there p f.left f.at o f.number (env_at (cells_of p input old.bound.items) f.env)
-      ≡ (spent_first (one_step c) x, env_at (cells_of p input old.bound.items) f.env)
+      → op_there p f.left f.at o f.number (env_at (cells_of p input old.bound) f.env)
+      ≡ (spent_first (one_step c) x, env_at (cells_of p input old.bound) f.env)
       → machine_gives p input old
-      ≡ spent_first (one_step c) (over p input old.bound.items (frame.Ops (past f) ∷ old.below) old.texts x)
+      ≡ spent_first (one_step c) (over p input old.bound (frame.Ops (past f) ∷ old.below) old.texts x)
   op_spends old f o c x top is low means =
-      machine_is old (frame.Ops f) old.below old.texts old.bound.items top refl refl refl
-      ∙ (acted p input old.bound.items old.below old.texts f o (spent_first (one_step c) x) is low means
-      ∙ over_first p input (frame.Ops (past f) ∷ old.below) old.bound.items old.texts (one_step c) x)
+      machine_is old (frame.Ops f) old.below old.texts old.bound top refl refl refl
+      ∙ (acted p input old.bound old.below old.texts f o (spent_first (one_step c) x) is low means
+      ∙ over_first p input (frame.Ops (past f) ∷ old.below) old.bound old.texts (one_step c) x)
 
   pub silent_in : (old new : Machine) (f : Ahead) (o : Op) (c : ℕ) (x : Outcome) (before after : ℕ)
       → old.top ≡ frame.Ops f → slice_get p.ops f.at ≡ Some o → f.at < f.end
-      → op_there p f.left f.at o f.number (env_at (cells_of p input old.bound.items) f.env)
-      ≡ (spent_first (one_step c) x, env_at (cells_of p input old.bound.items) f.env)
+      → op_there p f.left f.at o f.number (env_at (cells_of p input old.bound) f.env)
+      ≡ (spent_first (one_step c) x, env_at (cells_of p input old.bound) f.env)
       → after ≡ before + c → GoesIn p input old new f x → Silent p input old new before after
   silent_in old new f o c x before after top is low means cost goes =
       let quiet : pending p new.top ≡ 0 = goes.quiet in (
@@ -71,28 +71,28 @@ module _ (p : ProgramParts) (input : values.Value) where
 
   pub same_gives : (old new : Machine) → IsSame old new → machine_gives p input new ≡ machine_gives p input old
   same_gives old new same =
-      machine_is new old.top old.below old.texts old.bound.items same.top same.below same.texts same.bound
+      machine_is new old.top old.below old.texts old.bound same.top same.below same.texts same.bound
 
   -- a machine by its parts fits
   pub fits_is : (m : Machine) (top : Frame) (below : List Frame) (bound : List Bound) → m.top ≡ top → m.below ≡ below
-      → m.bound.items ≡ bound → FramesFit (top ∷ below) (length bound) → MachineFits m
+      → m.bound ≡ bound → FramesFit (top ∷ below) (length bound) → MachineFits m
   fits_is m top below bound a b c fits =
       let e : ((m.top ∷ m.below) ≡ (top ∷ below)) =
       ap (λ (t : Frame). t ∷ m.below) a ∙ ap (λ (fs : List Frame). top ∷ fs) b in
-      subst (λ (fs : List Frame). FramesFit fs (length m.bound.items)) (sym e)
+      subst (λ (fs : List Frame). FramesFit fs (length m.bound)) (sym e)
       (subst (λ (bs : List Bound). FramesFit (top ∷ below) (length bs)) (sym c) fits)
 
   pub fits_top : (m : Machine) (top : Frame) → m.top ≡ top → MachineFits m
-      → FramesFit (top ∷ m.below) (length m.bound.items)
-  fits_top m top e fits = subst (λ (t : Frame). FramesFit (t ∷ m.below) (length m.bound.items)) e fits
+      → FramesFit (top ∷ m.below) (length m.bound)
+  fits_top m top e fits = subst (λ (t : Frame). FramesFit (t ∷ m.below) (length m.bound)) e fits
 
   pub same_fits : (old new : Machine) → IsSame old new → MachineFits old → MachineFits new
-  same_fits old new same fits = fits_is new old.top old.below old.bound.items same.top same.below same.bound fits
+  same_fits old new same fits = fits_is new old.top old.below old.bound same.top same.below same.bound fits
 
   pub stays_in : (old new : Machine) (f : Ahead) (o : Op) (c : ℕ) (x : Outcome) (before after : ℕ)
       → old.top ≡ frame.Ops f → slice_get p.ops f.at ≡ Some o → f.at < f.end
-      → op_there p f.left f.at o f.number (env_at (cells_of p input old.bound.items) f.env)
-      ≡ (spent_first (one_step c) x, env_at (cells_of p input old.bound.items) f.env)
+      → op_there p f.left f.at o f.number (env_at (cells_of p input old.bound) f.env)
+      ≡ (spent_first (one_step c) x, env_at (cells_of p input old.bound) f.env)
       → IsWithin c before after → MachineFits old → IsSame old new → Stays p input old new before after
   stays_in old new f o c x before after top is low means cost fits same =
       let room : c ≤ (first_spent (machine_gives p input old)).cost =
@@ -108,34 +108,34 @@ module _ (p : ProgramParts) (input : values.Value) where
 
   pub into_none : (old new : Machine) (f : Ahead) → old.top ≡ frame.Ops f → MachineFits old
       → new.top ≡ frame.Ops (past f) → new.below ≡ old.below → new.texts ≡ old.texts
-      → new.bound.items ≡ old.bound.items → GoesIn p input old new f gives_nothing
+      → new.bound ≡ old.bound → GoesIn p input old new f gives_nothing
   into_none old new f old_top fits top below texts bound = record {
-    gives = machine_is new (frame.Ops (past f)) old.below old.texts old.bound.items top below texts bound;
+    gives = machine_is new (frame.Ops (past f)) old.below old.texts old.bound top below texts bound;
     fits =
-        fits_is new (frame.Ops (past f)) old.below old.bound.items top below bound
+        fits_is new (frame.Ops (past f)) old.below old.bound top below bound
         (fits_top old (frame.Ops f) old_top fits);
     quiet = ap (pending p) top;
   }
 
   pub into_block : (old new : Machine) (f : Ahead) (b : Block) (n : ℤ) → old.top ≡ frame.Ops f → MachineFits old
-      → new.top ≡ frame.Ops (child_at f b n (length old.bound.items)) → new.below ≡ frame.Ops (past f) ∷ old.below
-      → new.texts ≡ old.texts → new.bound.items ≡ old.bound.items
+      → new.top ≡ frame.Ops (child_at f b n (length old.bound)) → new.below ≡ frame.Ops (past f) ∷ old.below
+      → new.texts ≡ old.texts → new.bound ≡ old.bound
       → GoesIn p input old new f
-      (block_gives (means_before p f.left f.at) b n (env_at (cells_of p input old.bound.items) f.env))
+      (block_gives (means_before p f.left f.at) b n (env_at (cells_of p input old.bound) f.env))
   into_block old new f b n old_top fits top below texts bound = record {
     gives =
-        machine_is new (frame.Ops (child_at f b n (length old.bound.items))) (frame.Ops (past f) ∷ old.below) old.texts
-        old.bound.items top below texts bound
-        ∙ (entered p input old.bound.items old.bound.items (frame.Ops (past f) ∷ old.below) old.texts
-        (child_at f b n (length old.bound.items)) (take-length old.bound.items)
-        ∙ ap (λ (x : Outcome). over p input old.bound.items (frame.Ops (past f) ∷ old.below) old.texts x)
-        (sym (block_within p f.left f.at b n (env_at (cells_of p input old.bound.items) f.env))));
+        machine_is new (frame.Ops (child_at f b n (length old.bound))) (frame.Ops (past f) ∷ old.below) old.texts
+        old.bound top below texts bound
+        ∙ (entered p input old.bound old.bound (frame.Ops (past f) ∷ old.below) old.texts
+        (child_at f b n (length old.bound)) (take-length old.bound)
+        ∙ ap (λ (x : Outcome). over p input old.bound (frame.Ops (past f) ∷ old.below) old.texts x)
+        (sym (block_within p f.left f.at b n (env_at (cells_of p input old.bound) f.env))));
     fits =
-        let old_fits : FramesFit (frame.Ops f ∷ old.below) (length old.bound.items) = fits_top old
+        let old_fits : FramesFit (frame.Ops f ∷ old.below) (length old.bound) = fits_top old
         (frame.Ops f) old_top fits in
-        fits_is new (frame.Ops (child_at f b n (length old.bound.items)))
-        (frame.Ops (past f) ∷ old.below) old.bound.items top below
-        bound (old_fits.0, (let e : length old.bound.items ≤ length old.bound.items = omega arith in e), old_fits);
+        fits_is new (frame.Ops (child_at f b n (length old.bound)))
+        (frame.Ops (past f) ∷ old.below) old.bound top below
+        bound (old_fits.0, (let e : length old.bound ≤ length old.bound = omega arith in e), old_fits);
     quiet = ap (pending p) top;
   }
 

@@ -104,20 +104,20 @@ module _ (p : ProgramParts) (input : values.Value) where
 
   opened_over : (old : Machine) (f : Ahead) (top : Frame) (x : Outcome) → old.top ≡ top → IsPlainFrame top
       → mark_of top ≡ f.mark
-      → frame_gives p input old.bound.items top
-      ≡ continued_by x (ops_ahead p (past f) (env_at (cells_of p input old.bound.items) f.env))
-      → machine_gives p input old ≡ over p input old.bound.items (frame.Ops (past f) ∷ old.below) old.texts x
+      → frame_gives p input old.bound top
+      ≡ continued_by x (ops_ahead p (past f) (env_at (cells_of p input old.bound) f.env))
+      → machine_gives p input old ≡ over p input old.bound (frame.Ops (past f) ∷ old.below) old.texts x
   opened_over old f top x is plain mark gives =
-      machine_is p input old top old.below old.texts old.bound.items is refl refl refl
-      ∙ (plain_top p input old.bound.items top old.below old.texts plain
-      ∙ (ap (λ k. over p input (take k old.bound.items) old.below old.texts (frame_gives p input old.bound.items top))
+      machine_is p input old top old.below old.texts old.bound is refl refl refl
+      ∙ (plain_top p input old.bound top old.below old.texts plain
+      ∙ (ap (λ k. over p input (take k old.bound) old.below old.texts (frame_gives p input old.bound top))
       mark
-      ∙ ap (λ (o : Outcome). over p input (take f.mark old.bound.items) old.below old.texts o) gives))
+      ∙ ap (λ (o : Outcome). over p input (take f.mark old.bound) old.below old.texts o) gives))
 
   -- a step that does it
   pub does_after : (old new : Machine) (f : Ahead) (x : Outcome) (n : ℕ) (out : Output)
       (result : Result Step OutOfMemory)
-      → machine_gives p input old ≡ over p input old.bound.items (frame.Ops (past f) ∷ old.below) old.texts x
+      → machine_gives p input old ≡ over p input old.bound (frame.Ops (past f) ∷ old.below) old.texts x
       → 0 < pending p old.top → MachineFits old → Does p input old new f x out result
       → SteppedInto p input old new n n out result
   does_after old new f x n out (Ok step.Silent) is some fits goes =
@@ -152,19 +152,19 @@ module _ (p : ProgramParts) (input : values.Value) where
 
   pub show_gives : (old new : Machine) (f : Ahead) (at n : ℕ) (text : List ℕ) (point : Place)
       (out : Output) (result : Result Step OutOfMemory) → old.top ≡ frame.Show f at → MachineFits old
-      → point ≡ call_place (slice_get p.ops f.at) → text ≡ text_bound (slice_get old.bound.items at)
+      → point ≡ call_place (slice_get p.ops f.at) → text ≡ text_bound (slice_get old.bound at)
       → GaveForm p input old new (frame.Ops (past f)) (value_at p.dir point (StringValue text)) out result
       → SteppedInto p input old new n n out result
   show_gives old new f at n text point out result top fits place shown gave =
       let text_is : value_gives p.dir point (StringValue text)
       ≡ value_gives p.dir (call_place (slice_get p.ops f.at))
-      (StringValue (text_bound (slice_get old.bound.items at))) =
+      (StringValue (text_bound (slice_get old.bound at))) =
       ap (λ (k : Place). value_gives p.dir k (StringValue text)) place
       ∙ ap (λ (t : List ℕ). value_gives p.dir (call_place (slice_get p.ops f.at)) (StringValue t)) shown in
-      let env : RunEnv = env_at (cells_of p input old.bound.items) f.env in
+      let env : RunEnv = env_at (cells_of p input old.bound) f.env in
       let x : Outcome = value_gives p.dir point (StringValue text) in
       let one : pending p old.top ≡ 1 = ap (pending p) top in
-      let old_fits : FramesFit (frame.Show f at ∷ old.below) (length old.bound.items) =
+      let old_fits : FramesFit (frame.Show f at ∷ old.below) (length old.bound) =
       fits_top p input old (frame.Show f at) top fits in
       does_after old new f x n out result
       (opened_over old f (frame.Show f at) x top tt refl
@@ -179,7 +179,7 @@ module _ (p : ProgramParts) (input : values.Value) where
   abbrev called_outcome : Machine → Ahead → Handing → Callee → Outcome
   called_outcome m f h c =
       called_at (view_program p) f.left (view_callee c).site c.template
-      (env_at (cells_of p input m.bound.items) h.inner)
+      (env_at (cells_of p input m.bound) h.inner)
 
   abbrev opened_outcome : Machine → Ahead → Handing → Callee → Outcome
   opened_outcome m f h c =
@@ -187,11 +187,11 @@ module _ (p : ProgramParts) (input : values.Value) where
 
   call_opens : (old : Machine) (f : Ahead) (h : Handing) (c : Callee) → Opens p old f h c
       → machine_gives p input old
-      ≡ over p input old.bound.items (frame.Ops (past f) ∷ old.below) old.texts
+      ≡ over p input old.bound (frame.Ops (past f) ∷ old.below) old.texts
       (opened_outcome old f h c)
   call_opens old f h c opens =
-      let env : RunEnv = env_at (cells_of p input old.bound.items) f.env in
-      let inner : RunEnv = env_at (cells_of p input old.bound.items) h.inner in
+      let env : RunEnv = env_at (cells_of p input old.bound) f.env in
+      let inner : RunEnv = env_at (cells_of p input old.bound) h.inner in
       let is : slice_get p.ops f.at ≡ Some (op.Call c) = call_there (slice_get p.ops f.at) c opens.call in
       opened_over old f (frame.Call f h)
       (opened_gives p.dir c.place (kind_of_template (view_program p) c.template)
@@ -204,7 +204,7 @@ module _ (p : ProgramParts) (input : values.Value) where
       let e : pending p old.top ≡ pending p (frame.Call f h) = ap (pending p) opens.top in omega (arith, e)
 
   call_fits : (old : Machine) (f : Ahead) (h : Handing) (c : Callee) → Opens p old f h c
-      → FramesFit (frame.Call f h ∷ old.below) (length old.bound.items)
+      → FramesFit (frame.Call f h ∷ old.below) (length old.bound)
   call_fits old f h c opens = fits_top p input old (frame.Call f h) opens.top opens.fits
 
   pub call_low : (old : Machine) (f : Ahead) (h : Handing) (c : Callee) → Opens p old f h c → f.at < f.end
@@ -229,14 +229,14 @@ module _ (p : ProgramParts) (input : values.Value) where
       → GaveForm p input old new (frame.Ops (past f)) (value_at p.dir c.place NullValue) out result
       → SteppedInto p input old new n n out result
   none_opens old new f h c n out result opens none gave =
-      let inner : RunEnv = env_at (cells_of p input old.bound.items) h.inner in
+      let inner : RunEnv = env_at (cells_of p input old.bound) h.inner in
       let kind_is : kind_of_template (view_program p) c.template ≡ None =
       ap kind_seen (get_map_none view_routine p.templates c.template none) in
       let fits = call_fits old f h c opens in
-      let low : f.env ≤ length old.bound.items = (let w = fits.0 in omega (arith, w)) in
+      let low : f.env ≤ length old.bound = (let w = fits.0 in omega (arith, w)) in
       does_after old new f (value_gives p.dir c.place NullValue) n out result
       (call_opens old f h c opens
-      ∙ ap (λ (k : Option Kind). over p input old.bound.items (frame.Ops (past f) ∷ old.below) old.texts
+      ∙ ap (λ (k : Option Kind). over p input old.bound (frame.Ops (past f) ∷ old.below) old.texts
       (opened_gives p.dir c.place k
       (called_at (view_program p) f.left (view_callee c).site c.template inner))) kind_is)
       (call_pending old f h c opens) opens.fits
@@ -248,20 +248,20 @@ module _ (p : ProgramParts) (input : values.Value) where
       → slice_get p.templates c.template ≡ Some r → f.left ≡ 0
       → Stepped p input old old n n (Ok (step.TooDeep (record { file = c.file; at = c.at })))
   stop_opens old f h c r n opens is none =
-      let inner : RunEnv = env_at (cells_of p input old.bound.items) h.inner in
+      let inner : RunEnv = env_at (cells_of p input old.bound) h.inner in
       let site : Site = (view_callee c).site in
       let fs : List Frame = frame.Ops (past f) ∷ old.below in
       let gives : machine_gives p input old ≡ RunEnds none_spent (StopsAt site) =
       call_opens old f h c opens
-      ∙ (ap (λ (k : Option Kind). over p input old.bound.items fs old.texts
+      ∙ (ap (λ (k : Option Kind). over p input old.bound fs old.texts
       (opened_gives p.dir c.place k (called_at (view_program p) f.left site c.template inner)))
       (kind_there p c.template r is)
-      ∙ (ap (λ (left : ℕ). over p input old.bound.items fs old.texts
+      ∙ (ap (λ (left : ℕ). over p input old.bound fs old.texts
       (opened_gives p.dir c.place (Some r.kind) (called_at (view_program p) left site c.template inner))) none
-      ∙ (ap (λ (o : Outcome). over p input old.bound.items fs old.texts (opened_gives p.dir c.place (Some r.kind) o))
+      ∙ (ap (λ (o : Outcome). over p input old.bound fs old.texts (opened_gives p.dir c.place (Some r.kind) o))
       (stopped p site c.template inner)
-      ∙ (ap (λ (o : Outcome). over p input old.bound.items fs old.texts o) (opened_stop p.dir c.place r.kind site)
-      ∙ over_stop p input fs old.bound.items old.texts none_spent site)))) in (
+      ∙ (ap (λ (o : Outcome). over p input old.bound fs old.texts o) (opened_stop p.dir c.place r.kind site)
+      ∙ over_stop p input fs old.bound old.texts none_spent site)))) in (
         record { same = refl; low = (let l : n ≤ n = omega arith in l); high = omega arith; fits = opens.fits },
         ap pieces_of_outcome gives,
         ap end_of_outcome gives,
@@ -271,9 +271,9 @@ module _ (p : ProgramParts) (input : values.Value) where
 
   routine_body : (old : Machine) (f : Ahead) (h : Handing) (c : Callee) (r : Routine) → OpensRoutine p old f h c r
       → called_outcome old f h c
-      ≡ ops_ahead p (called_child f h r.body) (env_at (cells_of p input old.bound.items) h.inner)
+      ≡ ops_ahead p (called_child f h r.body) (env_at (cells_of p input old.bound) h.inner)
   routine_body old f h c r opens =
-      let inner : RunEnv = env_at (cells_of p input old.bound.items) h.inner in
+      let inner : RunEnv = env_at (cells_of p input old.bound) h.inner in
       let some = opens.left in
       let left : f.left ≡ suc (f.left - 1) = omega (arith, some) in
       ap (λ (k : ℕ). called_at (view_program p) k (view_callee c).site c.template inner) left
@@ -287,27 +287,27 @@ module _ (p : ProgramParts) (input : values.Value) where
 
   block_enters : (old new : Machine) (f : Ahead) (h : Handing) (c : Callee) (r : Routine) → OpensRoutine p old f h c r
       → IsBlockKind r.kind → new.top ≡ frame.Ops (called_child f h r.body) → new.below ≡ frame.Ops (past f) ∷ old.below
-      → new.texts ≡ old.texts → new.bound.items ≡ old.bound.items
+      → new.texts ≡ old.texts → new.bound ≡ old.bound
       → GoesIn p input old new f
       (opened_outcome old f h c)
   block_enters old new f h c r opens kinds top below texts bound =
-      let inner : RunEnv = env_at (cells_of p input old.bound.items) h.inner in
+      let inner : RunEnv = env_at (cells_of p input old.bound) h.inner in
       let child : Ahead = called_child f h r.body in
       let o : Outcome = ops_ahead p child inner in
       let fs : List Frame = frame.Ops (past f) ∷ old.below in
-      let lower : List Bound = take h.mark old.bound.items in
+      let lower : List Bound = take h.mark old.bound in
       let fits = call_fits old f h c opens.opens in
       let within = fits.0 in
       record {
         gives =
-            machine_is p input new (frame.Ops child) fs old.texts old.bound.items top below texts bound
-            ∙ (entered p input lower old.bound.items fs old.texts child refl
+            machine_is p input new (frame.Ops child) fs old.texts old.bound top below texts bound
+            ∙ (entered p input lower old.bound fs old.texts child refl
             ∙ (ap (λ (bs : List Bound). over p input bs old.below old.texts
             (continued_by o (ops_ahead p (past f) (env_at (cells_of p input lower) f.env))))
-            (take_twice old.bound.items f.mark h.mark within.2)
-            ∙ (ap (λ (env : RunEnv). over p input (take f.mark old.bound.items) old.below old.texts
-            (continued_by o (ops_ahead p (past f) env))) (lowered old.bound.items h.mark f within.1)
-            ∙ (ap (λ (x : Outcome). over p input old.bound.items fs old.texts x)
+            (take_twice old.bound f.mark h.mark within.2)
+            ∙ (ap (λ (env : RunEnv). over p input (take f.mark old.bound) old.below old.texts
+            (continued_by o (ops_ahead p (past f) env))) (lowered old.bound h.mark f within.1)
+            ∙ (ap (λ (x : Outcome). over p input old.bound fs old.texts x)
             (sym (ap (λ (k : Option Kind). opened_gives p.dir c.place k
             (called_at (view_program p) f.left (view_callee c).site c.template inner))
             (kind_there p c.template r opens.routine)
@@ -315,14 +315,14 @@ module _ (p : ProgramParts) (input : values.Value) where
             (called_at (view_program p) f.left (view_callee c).site c.template inner) kinds
             ∙ routine_body old f h c r opens)))))));
         fits =
-            fits_is p input new (frame.Ops child) fs old.bound.items top below bound
+            fits_is p input new (frame.Ops child) fs old.bound top below bound
             (within.4, within.3, (within.1, within.2, fits.2));
         quiet = ap (pending p) top;
       }
 
   pub block_opens : (old new : Machine) (f : Ahead) (h : Handing) (c : Callee) (r : Routine) (n : ℕ)
       → OpensRoutine p old f h c r → IsBlockKind r.kind → new.top ≡ frame.Ops (called_child f h r.body)
-      → new.below ≡ frame.Ops (past f) ∷ old.below → new.texts ≡ old.texts → new.bound.items ≡ old.bound.items
+      → new.below ≡ frame.Ops (past f) ∷ old.below → new.texts ≡ old.texts → new.bound ≡ old.bound
       → Stepped p input old new n n (Ok step.Silent)
   block_opens old new f h c r n opens kinds top below texts bound =
       does_after old new f
@@ -334,16 +334,16 @@ module _ (p : ProgramParts) (input : values.Value) where
   text_enters : (old new : Machine) (f : Ahead) (h : Handing) (c : Callee) (r : Routine) → OpensRoutine p old f h c r
       → r.kind ≡ kind.Text → new.top ≡ frame.Ops (called_child f h r.body)
       → new.below ≡ frame.Gather f purpose.Show ∷ old.below → new.texts ≡ [] ∷ old.texts
-      → new.bound.items ≡ old.bound.items
+      → new.bound ≡ old.bound
       → GoesIn p input old new f
       (opened_outcome old f h c)
   text_enters old new f h c r opens text top below texts bound =
-      let env : RunEnv = env_at (cells_of p input old.bound.items) f.env in
-      let inner : RunEnv = env_at (cells_of p input old.bound.items) h.inner in
+      let env : RunEnv = env_at (cells_of p input old.bound) f.env in
+      let inner : RunEnv = env_at (cells_of p input old.bound) h.inner in
       let child : Ahead = called_child f h r.body in
       let o : Outcome = ops_ahead p child inner in
       let fs : List Frame = frame.Gather f purpose.Show ∷ old.below in
-      let lower : List Bound = take h.mark old.bound.items in
+      let lower : List Bound = take h.mark old.bound in
       let fits = call_fits old f h c opens.opens in
       let within = fits.0 in
       let prints : List ℕ → Outcome = λ t. value_gives p.dir c.place (StringValue t) in
@@ -351,25 +351,25 @@ module _ (p : ProgramParts) (input : values.Value) where
       let is : slice_get p.ops f.at ≡ Some (op.Call c) = call_there (slice_get p.ops f.at) c opens.opens.call in
       record {
         gives =
-            machine_is p input new (frame.Ops child) fs ([] ∷ old.texts) old.bound.items top below texts bound
-            ∙ (entered p input lower old.bound.items fs ([] ∷ old.texts) child refl
+            machine_is p input new (frame.Ops child) fs ([] ∷ old.texts) old.bound top below texts bound
+            ∙ (entered p input lower old.bound fs ([] ∷ old.texts) child refl
             ∙ (ap (λ (bs : List Bound). over p input bs old.below old.texts
             (gathered [] o (shown_by p f (env_at (cells_of p input lower) f.env))))
-            (take_twice old.bound.items f.mark h.mark within.2)
-            ∙ (ap (λ (e : RunEnv). over p input (take f.mark old.bound.items) old.below old.texts
-            (gathered [] o (shown_by p f e))) (lowered old.bound.items h.mark f within.1)
-            ∙ (ap (λ (x : Option Op). over p input (take f.mark old.bound.items) old.below old.texts
+            (take_twice old.bound f.mark h.mark within.2)
+            ∙ (ap (λ (e : RunEnv). over p input (take f.mark old.bound) old.below old.texts
+            (gathered [] o (shown_by p f e))) (lowered old.bound h.mark f within.1)
+            ∙ (ap (λ (x : Option Op). over p input (take f.mark old.bound) old.below old.texts
             (gathered [] o (λ t. continued_by (value_gives p.dir (call_place x) (StringValue t))
             (ops_ahead p (past f) env)))) is
-            ∙ (ap (λ (x : Outcome). over p input (take f.mark old.bound.items) old.below old.texts x)
+            ∙ (ap (λ (x : Outcome). over p input (take f.mark old.bound) old.below old.texts x)
             (sym (gathered_then [] o prints (ops_ahead p (past f) env)))
-            ∙ ap (λ (x : Outcome). over p input old.bound.items (frame.Ops (past f) ∷ old.below) old.texts x)
+            ∙ ap (λ (x : Outcome). over p input old.bound (frame.Ops (past f) ∷ old.below) old.texts x)
             (sym (ap (λ (k : Option Kind). opened_gives p.dir c.place k called)
             (kind_there p c.template r opens.routine)
             ∙ (ap (λ (k : Kind). opened_gives p.dir c.place (Some k) called) text
             ∙ ap (λ (x : Outcome). gathered [] x prints) (routine_body old f h c r opens)))))))));
         fits =
-            fits_is p input new (frame.Ops child) fs old.bound.items top below bound
+            fits_is p input new (frame.Ops child) fs old.bound top below bound
             (within.4, within.3, ((within.0, within.1), within.2, fits.2));
         quiet = ap (pending p) top;
       }
@@ -377,7 +377,7 @@ module _ (p : ProgramParts) (input : values.Value) where
   pub text_opens : (old new : Machine) (f : Ahead) (h : Handing) (c : Callee) (r : Routine) (n : ℕ)
       → OpensRoutine p old f h c r → r.kind ≡ kind.Text → new.top ≡ frame.Ops (called_child f h r.body)
       → new.below ≡ frame.Gather f purpose.Show ∷ old.below → new.texts ≡ [] ∷ old.texts
-      → new.bound.items ≡ old.bound.items → Stepped p input old new n n (Ok step.Silent)
+      → new.bound ≡ old.bound → Stepped p input old new n n (Ok step.Silent)
   text_opens old new f h c r n opens text top below texts bound =
       does_after old new f
       (opened_outcome old f h c)

@@ -169,7 +169,7 @@ module _ (p : ProgramParts) (input : values.Value) where
   pub ended_whole : (r : Rendering) → Fits p input r → r.done ≡ true → IsWhole (coming p input r.machine)
   ended_whole r fits e = done_whole r.done r.piece (coming p input r.machine) fits.done e
 
-  fits_by : (r : Rendering) → MachineFits r.machine → BegunFits p input r.machine.bound.items r.piece → r.done ≡ false
+  fits_by : (r : Rendering) → MachineFits r.machine → BegunFits p input r.machine.bound r.piece → r.done ≡ false
       → Fits p input r
   fits_by r machine piece e = record {
     machine = machine;
@@ -177,11 +177,11 @@ module _ (p : ProgramParts) (input : values.Value) where
     done = subst (λ (d : Bool). DoneFits d r.piece (coming p input r.machine)) (sym e) tt;
   }
 
-  none_fits : (r : Rendering) → r.piece ≡ None → BegunFits p input r.machine.bound.items r.piece
-  none_fits r e = subst (λ (b : Option code_begun.Begun). BegunFits p input r.machine.bound.items b) (sym e) tt
+  none_fits : (r : Rendering) → r.piece ≡ None → BegunFits p input r.machine.bound r.piece
+  none_fits r e = subst (λ (b : Option code_begun.Begun). BegunFits p input r.machine.bound b) (sym e) tt
 
   none_left : (r : Rendering) → r.piece ≡ None → (rest_of p input r).begun ≡ []
-  none_left r e = ap (λ (b : Option code_begun.Begun). begun_left p input r.machine.bound.items b) e
+  none_left r e = ap (λ (b : Option code_begun.Begun). begun_left p input r.machine.bound b) e
 
   -- the next piece
   pub next_pulls : (old new : Rendering) (room room_after : List ℕ) (before after n : ℕ) → old.done ≡ false

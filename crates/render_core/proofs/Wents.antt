@@ -167,7 +167,7 @@ module _ (p : ProgramParts) (input : values.Value) where
       → 0 < length out.room → n ≡ 0 → IsSpared out
   empty_spares mid new m a out n s some none = (
     none_room (piece_bytes s.1) _ out.room out.room_after n s.3.0 none,
-    none_begun new.bound.items out.begun
+    none_begun new.bound out.begun
         (none_after (piece_bytes s.1) _ out.room out.room_after n s.3.0 some none) s.3.1,
   )
 

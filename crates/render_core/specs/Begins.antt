@@ -1,5 +1,5 @@
 -- How a rendering begins: its parameters are bound to fields of the data, or to null.
-use Rattle.std.specs.Prelude.{◌≡◌, ℕ, Option, Some, None, pos, unwrap_or}
+use Rattle.std.specs.Prelude.{◌≡◌, ℕ, List, Option, Some, None, pos, slice_get, unwrap_or}
 use Rattle.soy_tree.specs.Has.{entry_value}
 use Rattle.soy_tree.specs.Types.{Name}
 use Rattle.soy_tree.specs.Val.{member_value}
@@ -10,7 +10,6 @@ use Rattle.render_core.specs.declared.frame.Ahead.{Ahead}
 use Rattle.render_core.specs.declared.held.Bound.{Bound}
 use Rattle.render_core.specs.declared.held.Held.{Held}
 use Rattle.render_core.specs.declared.held.Held.TheVariants as held
-use Rattle.render_core.specs.declared.held.Naming.TheVariants as naming
 use Rattle.soy_expr.specs.declared.evaluated.Made.TheVariants as made
 
 -- the number of the first entry of a name
@@ -27,9 +26,9 @@ abbrev pub held_field : Option ℕ → Held
 held_field None = held.Made made.Null
 held_field (Some n) = held.Item 0 n
 
--- the variable that all data are bound to
-abbrev pub root_bound : Bound
-root_bound = record { name = naming.Hidden; to = held.Root; below = 0 }
+-- the first variable is bound to all data
+abbrev pub HasRoot : List Bound → Type 0
+HasRoot bound = (b : Bound) × (slice_get bound 0 ≡ Some b) × (b.to ≡ held.Root)
 
 -- the frame of an entry
 abbrev pub entry_frame : Block → ℕ → Ahead

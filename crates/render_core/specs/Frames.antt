@@ -164,7 +164,7 @@ module _ (p : ProgramParts) (input : values.Value) where
   over bound (f ∷ fs) texts o = over (take (mark_of f) bound) fs (texts_past f texts) (frame_over bound f texts o)
 
   abbrev pub machine_gives : Machine → Outcome
-  machine_gives m = over m.bound.items (m.top ∷ m.below) m.texts gives_nothing
+  machine_gives m = over m.bound (m.top ∷ m.below) m.texts gives_nothing
 
 -- a frame that doesn't gather
 abbrev pub IsPlainFrame : Frame → Type 0
@@ -194,4 +194,4 @@ FramesFit [] n = Unit {0}
 FramesFit (f ∷ fs) n = FrameWithin n f × (mark_of f ≤ n) × FramesFit fs (mark_of f)
 
 abbrev pub MachineFits : Machine → Type 0
-MachineFits m = FramesFit (m.top ∷ m.below) (length m.bound.items)
+MachineFits m = FramesFit (m.top ∷ m.below) (length m.bound)

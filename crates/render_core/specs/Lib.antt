@@ -4,6 +4,8 @@ pub mod Chosen
 pub mod Finds
 pub mod Forms
 pub mod Frames
+pub mod Keys
+pub mod Linked
 pub mod Pulls
 pub mod Rest
 pub mod Rounds

@@ -105,7 +105,7 @@ module _ (p : ProgramParts) (input : values.Value) where
   coming m = solid (machine_gives p input m)
 
   abbrev pub rest_of : Rendering → Rest
-  rest_of r = record { begun = begun_left p input r.machine.bound.items r.piece; coming = coming r.machine }
+  rest_of r = record { begun = begun_left p input r.machine.bound r.piece; coming = coming r.machine }
 
 -- the bytes joined
 abbrev pub rest_bytes : Rest → List ℕ
@@ -130,5 +130,5 @@ has_ended r = r.done
 -- a rendering fits program and data: its frames, and the piece that has begun; one that is done has nothing to come
 pub record Fits (p : ProgramParts) (input : values.Value) (r : Rendering) : Type 0 where
   pub machine : MachineFits r.machine
-  pub piece : BegunFits p input r.machine.bound.items r.piece
+  pub piece : BegunFits p input r.machine.bound r.piece
   pub done : DoneFits r.done r.piece (coming p input r.machine)

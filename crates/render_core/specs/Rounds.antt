@@ -1,12 +1,14 @@
 -- How a loop begins.
-use Rattle.std.specs.Prelude.{◌≡◌, ℕ, ◌+◌, Bool, true, false, List, [], ◌∷◌, Option, Some, None, min, pos}
+use Rattle.std.specs.Prelude.{◌≡◌, ℕ, ◌+◌, Bool, true, false, List, Option, Some, None, length, min, pos}
 use Rattle.soy_expr.specs.declared.evaluated.Made.TheVariants as made
 use Rattle.soy_tree.specs.Types.{Name}
 use Rattle.soy_tree.specs.declared.expr.Expr as code_expr
 use Rattle.template_ir.specs.declared.op.Block.{Block}
 use Rattle.template_ir.specs.declared.op.Op.{Op}
 use Rattle.template_ir.specs.declared.op.Op.TheVariants as op
+use Rattle.template_ir.specs.declared.program.ProgramParts.{ProgramParts}
 use Rattle.render_core.specs.Finds.{held_of}
+use Rattle.render_core.specs.Linked.{Adds, bound_over}
 use Rattle.render_core.specs.declared.frame.Ahead.{Ahead}
 use Rattle.render_core.specs.declared.frame.Round.{Round}
 use Rattle.render_core.specs.declared.held.Bound.{Bound}
@@ -32,18 +34,23 @@ first_round f n = record {
 
 -- the variable that the list is bound to
 abbrev pub list_bound : Found → Bound
-list_bound x = record { name = naming.Hidden; to = held_of x; below = 0 }
+list_bound x = bound_over naming.Hidden (held_of x) 0
 
 -- the variables of the next turn, over so many
 abbrev pub item_bound : Round → Bound
-item_bound r = record { name = naming.Op r.op; to = held.Item r.list r.next; below = r.env }
+item_bound r = bound_over (naming.Op r.op) (held.Item r.list r.next) r.env
 
 abbrev pub index_bound : Round → ℕ → Bound
-index_bound r env = record { name = naming.Index r.op; to = held.Made (made.Int (pos r.next)); below = env }
+index_bound r env = bound_over (naming.Index r.op) (held.Made (made.Int (pos r.next))) env
 
-abbrev pub turn_bound : Round → Bool → ℕ → List Bound
-turn_bound r true n = item_bound r ∷ index_bound r (n + 1) ∷ []
-turn_bound r false n = item_bound r ∷ []
+pub record AddsIndex (p : ProgramParts) (r : Round) (old new : List Bound) : Type 0 where
+  pub between : List Bound
+  pub item : Adds p (item_bound r) old between
+  pub index : Adds p (index_bound r (length old + 1)) between new
+
+abbrev pub AddsTurn : ProgramParts → Round → Bool → List Bound → List Bound → Type 0
+AddsTurn p r true old new = AddsIndex p r old new
+AddsTurn p r false old new = Adds p (item_bound r) old new
 
 -- their number
 abbrev pub turn_env : Bool → ℕ → ℕ

@@ -19,6 +19,7 @@ use Rattle.template_ir.specs.declared.op.Op.{Op}
 use Rattle.template_ir.specs.declared.op.Op.TheVariants as op
 use Rattle.template_ir.specs.declared.program.ProgramParts.{ProgramParts}
 use Rattle.render_core.specs.Frames.{MachineFits, machine_gives, ops_ahead, over, past, past_with}
+use Rattle.render_core.specs.Linked.{bound_over}
 use Rattle.render_core.specs.Pulls.{Gave, stops_at}
 use Rattle.render_core.specs.Rest.{BegunFits, IsWhole, begun_left, coming, first_spent, piece_bytes}
 use Rattle.render_core.specs.Texts.{added, is_none}
@@ -65,10 +66,13 @@ text_next f (purpose.Hand h) n = frame.Call f (handed_past h n)
 
 -- the variable that it is bound to
 abbrev pub text_var : Ahead → Purpose → List ℕ → Bound
-text_var f purpose.Bind text = record { name = naming.Op f.at; to = held.Made (made.Str text); below = f.env }
-text_var f purpose.Show text = record { name = naming.Hidden; to = held.Made (made.Str text); below = 0 }
-text_var f (purpose.Hand h) text =
-    record { name = naming.Handed f.at h.next; to = held.Made (made.Str text); below = h.inner }
+text_var f purpose.Bind text = bound_over (naming.Op f.at) (held.Made (made.Str text)) f.env
+text_var f purpose.Show text = bound_over naming.Hidden (held.Made (made.Str text)) 0
+text_var f (purpose.Hand h) text = bound_over (naming.Handed f.at h.next) (held.Made (made.Str text)) h.inner
+
+-- the variable that a parameter is bound to
+abbrev pub handed_bound : Ahead → Handing → Held → Bound
+handed_bound f h to = bound_over (naming.Handed f.at h.next) to h.inner
 
 -- the next op of a block, or that there is none
 abbrev pub OpBefore : ProgramParts → Ahead → Option Op → Type 0
@@ -108,7 +112,7 @@ pub record IsSame (old new : Machine) : Type 0 where
   pub top : new.top ≡ old.top
   pub below : new.below ≡ old.below
   pub texts : new.texts ≡ old.texts
-  pub bound : new.bound.items ≡ old.bound.items
+  pub bound : new.bound ≡ old.bound
 
 -- what a step does outside of the machine: the room before and after it, and the piece that has begun then
 pub record Output : Type 0 where
@@ -129,7 +133,7 @@ Spares out _ = IsSpared out
 
 -- what stands above the frames below the top, past its next op, gives this
 pub record GoesIn (p : ProgramParts) (input : values.Value) (old new : Machine) (f : Ahead) (x : Outcome) : Type 0 where
-  pub gives : machine_gives p input new ≡ over p input old.bound.items (frame.Ops (past f) ∷ old.below) old.texts x
+  pub gives : machine_gives p input new ≡ over p input old.bound (frame.Ops (past f) ∷ old.below) old.texts x
   pub fits : MachineFits new
   pub quiet : pending p new.top ≡ 0
 
@@ -159,7 +163,7 @@ module _ (p : ProgramParts) (input : values.Value) where
   abbrev pub Gives : Machine → Machine → ℕ → ℕ → Output → ℕ → Type 0
   Gives old new before after out n =
       (spent : Spent) × (piece : Piece) × Goes old new before after (GivesPiece spent piece) spent
-      × Given new.bound.items (piece_bytes piece) out n
+      × Given new.bound (piece_bytes piece) out n
 
   -- a step that gives nothing
   abbrev pub Stepped : Machine → Machine → ℕ → ℕ → Result Step OutOfMemory → Type 0
@@ -198,7 +202,7 @@ module _ (p : ProgramParts) (input : values.Value) where
     pub cost : after ≡ before + spent.cost
     pub fits : MachineFits new
     pub some : 0 < length (piece_bytes piece)
-    pub given : Given new.bound.items (piece_bytes piece) out n
+    pub given : Given new.bound (piece_bytes piece) out n
 
   abbrev pub Advanced : Machine → Machine → ℕ → ℕ → Output → Result (Option ℕ) (Refusal TooDeep) → Type 0
   Advanced old new before after out (Ok (Some n)) = NextPiece old new before after out n
@@ -212,12 +216,12 @@ module _ (p : ProgramParts) (input : values.Value) where
   -- a form of a value is given, or added to the innermost text, and another frame comes next
   abbrev pub GaveForm : Machine → Machine → Frame → List ℕ → Output → Result Step OutOfMemory → Type 0
   GaveForm old new next form out (Ok step.Silent) =
-      (new.top ≡ next) × (new.below ≡ old.below) × (new.bound.items ≡ old.bound.items)
+      (new.top ≡ next) × (new.below ≡ old.below) × (new.bound ≡ old.bound)
       × (new.texts ≡ added old.texts form) × (is_none old.texts ≡ false)
   GaveForm old new next form out (Ok (step.Gives n)) =
-      (new.top ≡ next) × (new.below ≡ old.below) × (new.bound.items ≡ old.bound.items)
+      (new.top ≡ next) × (new.below ≡ old.below) × (new.bound ≡ old.bound)
       × (new.texts ≡ old.texts) × (is_none old.texts ≡ true)
-      × Given old.bound.items (encode_utf8_all form) out n
+      × Given old.bound (encode_utf8_all form) out n
   GaveForm old new next form out (Ok step.Done) = ⊥
   GaveForm old new next form out (Ok (step.TooDeep call)) = ⊥
   GaveForm old new next form out (Err e) = IsSame old new
@@ -226,9 +230,9 @@ module _ (p : ProgramParts) (input : values.Value) where
   abbrev pub Does : Machine → Machine → Ahead → Outcome → Output → Result Step OutOfMemory → Type 0
   Does old new f x out (Ok step.Silent) = GoesIn p input old new f x
   Does old new f x out (Ok (step.Gives n)) =
-      (piece : Piece) × (over p input old.bound.items (frame.Ops (past f) ∷ old.below) old.texts x
+      (piece : Piece) × (over p input old.bound (frame.Ops (past f) ∷ old.below) old.texts x
       ≡ GivesPiece none_spent piece (machine_gives p input new)) × MachineFits new × (pending p new.top ≡ 0)
-      × Given new.bound.items (piece_bytes piece) out n
+      × Given new.bound (piece_bytes piece) out n
   Does old new f x out (Ok step.Done) = ⊥
   Does old new f x out (Ok (step.TooDeep call)) = ⊥
   Does old new f x out (Err e) = IsSame old new
@@ -236,8 +240,8 @@ module _ (p : ProgramParts) (input : values.Value) where
   -- the variable of an op is bound, and what is past the op comes next
   pub record Binds (old new : Machine) (f : Ahead) (name : Naming) (to : Held) : Type 0 where
     pub gives : machine_gives p input new
-        ≡ over p input (take f.mark old.bound.items) old.below old.texts (ops_ahead p (past f)
-        ((name_or_none (name_there p name), held_means p input (cells_of p input old.bound.items) to)
-        ∷ env_at (cells_of p input old.bound.items) f.env))
+        ≡ over p input (take f.mark old.bound) old.below old.texts (ops_ahead p (past f)
+        ((name_or_none (name_there p name), held_means p input (cells_of p input old.bound) to)
+        ∷ env_at (cells_of p input old.bound) f.env))
     pub fits : MachineFits new
     pub quiet : pending p new.top ≡ 0

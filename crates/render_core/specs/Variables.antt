@@ -4,7 +4,8 @@
 -- Each variable is made from those before it: a part by the way down from another, a block by the variables where it is
 -- written. The variables of a number are none where it is 0, and else the one that stands one below it, with those that
 -- it stands over. Example: after `{let $a: 1 /}` and `{let $b: 2 /}` two variables stand for `b` over `a`.
-use Rattle.std.specs.Prelude.{ℕ, zero, suc, pos, List, [], ◌∷◌, Option, Some, None, slice_get, slice_index_or}
+use Rattle.std.specs.Prelude.{ℕ, zero, suc, pos, List, [], ◌∷◌, Option, Some, None, if◌then◌else◌}
+use Rattle.std.specs.Prelude.{slice_get, slice_index_or}
 use Rattle.soy_tree.specs.Types.{Name}
 use Rattle.soy_tree.specs.Val.{Binding, BlockOf, Known}
 use Rattle.soy_tree.specs.Values.{Value, NullValue}
@@ -20,6 +21,7 @@ use Rattle.template_ir.specs.declared.op.Op.{Op}
 use Rattle.template_ir.specs.declared.op.Op.TheVariants as op
 use Rattle.template_ir.specs.declared.program.ProgramParts.{ProgramParts}
 use Rattle.template_ir.specs.declared.program.Routine.{Routine}
+use Rattle.render_core.specs.Keys.{fits_key}
 use Rattle.render_core.specs.declared.held.Bound.{Bound}
 use Rattle.render_core.specs.declared.held.Held.{Held}
 use Rattle.render_core.specs.declared.held.Held.TheVariants as held
@@ -128,13 +130,14 @@ held_means p input cells held.Root = Known input
 held_means p input cells (held.Item of number) = Known (child number (cell_at cells of).part)
 held_means p input cells (held.Part path) = Known (path_value cells path)
 
--- from those before it
+-- from those before it; it isn't visible where it has the key of another name
 abbrev pub bound_means : ProgramParts → Value → List Cell → Bound → Cell
 bound_means p input cells b =
     record {
       part = part_held input cells b.to;
-      env = (name_or_none (name_there p b.name), held_means p input cells b.to)
-          ∷ env_at cells b.below;
+      env = if fits_key b.links (name_or_none (name_there p b.name))
+          then (name_or_none (name_there p b.name), held_means p input cells b.to) ∷ env_at cells b.below
+          else env_at cells b.below;
     }
 
 unfoldable pub cells_of : ProgramParts → Value → List Bound → List Cell

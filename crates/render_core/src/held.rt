@@ -1,5 +1,6 @@
 //! Variables, and what they are bound to.
 
+use crate::links::Links;
 use soy_base::Kind;
 use soy_expr::Made;
 use template_ir::Block;
@@ -60,4 +61,5 @@ pub(crate) struct Bound {
     pub(crate) name: Naming,
     pub(crate) to: Held,
     pub(crate) below: usize,
+    pub(crate) links: Links,
 }

@@ -11,6 +11,7 @@ mod binding;
 mod choosing;
 mod frame;
 mod held;
+mod links;
 mod machine;
 mod names;
 mod parts;
@@ -25,5 +26,6 @@ mod step_loop;
 mod step_print;
 mod texts;
 mod valuing;
+mod variable_stack;
 
 pub use rendering::Rendering;

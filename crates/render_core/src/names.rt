@@ -1,9 +1,11 @@
 //! The names of variables, which stand in the program.
 
 ghost use Rattle.std.specs.Prelude.{◌≡◌, option_map, bytes_eq};
+ghost use Rattle.render_core.specs.Keys.{key_of};
 ghost use Rattle.render_core.specs.Variables.{handed_name, index_name, name_or_none, name_there, op_name};
 
 use crate::held::Naming;
+use crate::links::key_of;
 use soy_base::Text;
 use template_ir::{Op, ProgramParts};
 
@@ -14,6 +16,16 @@ pub(crate) fn is_named(program: &ProgramParts, naming: Naming, name: &Text) -> b
     match name_at(program, naming) {
         Some(own) => own.is(name.text()),
         None => name.is_empty(),
+    }
+}
+
+/// The key of a variable's name.
+pub(crate) fn name_key(program: &ProgramParts, naming: Naming) -> u64
+    ensures { result ≡ key_of (name_or_none (name_there program.now naming)) }
+{
+    match name_at(program, naming) {
+        Some(own) => key_of(own),
+        None => 0,
     }
 }
 

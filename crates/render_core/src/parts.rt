@@ -7,12 +7,16 @@ ghost use Rattle.soy_expr.specs.ForgottenBlocks.{forgotten};
 ghost use Rattle.soy_expr.specs.Parts.{child, nth_entry_value};
 ghost use Rattle.soy_expr.specs.ViewEvaluated.{IsBinding};
 ghost use Rattle.render_core.specs.Finds.{binding_at, part_value, place_binding};
+ghost use Rattle.render_core.specs.Keys.{key_of};
+ghost use Rattle.render_core.specs.Linked.{is_sought};
 ghost use Rattle.render_core.specs.Seen.{cells_seen, env_seen, input_seen, program_seen};
 ghost use Rattle.render_core.specs.Variables.{cell_at, cells_of, env_at, led, path_of, path_steps, path_value};
 
 use crate::held::{Bound, Held, Path};
+use crate::links::{Links, key_of, lowered};
 use crate::names::is_named;
 use crate::scene::Scene;
+use crate::variable_stack::VariableStack;
 use soy_base::{OutOfMemory, Text};
 use soy_expr::{Evaluated, Made, Variables};
 use soy_tree::{Entry, Value};
@@ -21,7 +25,7 @@ use soy_tree::{Entry, Value};
 #[derive(Clone, Copy)]
 pub(crate) struct Point<'p, 'i, 'b> {
     pub(crate) scene: Scene<'p, 'i>,
-    pub(crate) bound: &'b [Bound],
+    pub(crate) bound: &'b VariableStack,
     pub(crate) env: usize,
 }
 
@@ -96,10 +100,10 @@ fn named<'i>(point: Point<'_, 'i, '_>, at: usize) -> Evaluated<'i, Path>
     }
 }
 
-pub(crate) fn variable_at(bound: &[Bound], at: usize) -> Option<&Bound>
+pub(crate) fn variable_at(bound: &VariableStack, at: usize) -> Option<&Bound>
     ensures { option_map (λ b. b.now) result ≡ slice_get bound.now at }
 {
-    bound.get(at)
+    bound.at(at)
 }
 
 /// An equal value.
@@ -138,7 +142,7 @@ pub(crate) fn copied_path(point: Point, path: &Path) -> Result<Path, OutOfMemory
 }
 
 /// The place of the first variable of a name, of those that are visible.
-#[tactic(auto, using(crate::proofs::Finds::found_here, crate::proofs::Finds::found_below, crate::proofs::Finds::found_lost, crate::proofs::Finds::found_none))]
+#[tactic(auto, using(crate::proofs::Finds::found_first, crate::proofs::Finds::found_next, crate::proofs::Finds::found_none))]
 pub(crate) fn place_of(point: Point, name: &Text) -> Option<usize>
     ensures { place_binding (program_seen point.entry) (input_seen point.entry) point.entry.bound.now result
         ≡ binding name.now
@@ -149,15 +153,47 @@ pub(crate) fn place_of(point: Point, name: &Text) -> Option<usize>
         let Some(variable) = variable_at(point.bound, number - 1) else {
             return None;
         };
+        let Links::Few(_) = &variable.links else {
+            return place_by_links(point, name, number, key_of(name));
+        };
         if is_named(point.scene.program, variable.name, name) {
             return Some(number - 1);
         }
-        if variable.below >= number {
-            return None;
-        }
-        number = variable.below;
+        number = lowered(number, variable.below);
     }
     None
+}
+
+/// The same of the variables of a number, by the key of the name.
+#[tactic(auto, using(crate::proofs::Finds::found_here, crate::proofs::Finds::found_below, crate::proofs::Finds::found_none))]
+fn place_by_links(point: Point, name: &Text, from: usize, key: u64) -> Option<usize>
+    requires { key ≡ key_of name.now }
+    ensures { place_binding (program_seen point.entry) (input_seen point.entry) point.entry.bound.now result
+        ≡ binding name.now (env_at (cells_seen point.entry) from) }
+{
+    let mut number = from;
+    while number > 0 {
+        let Some(variable) = point.bound.linked_at(number - 1) else {
+            return None;
+        };
+        if is_sought(point, variable, name, key) {
+            return Some(number - 1);
+        }
+        number = lowered(number, variable.links.next(variable.below, key));
+    }
+    None
+}
+
+/// Whether a variable is that of a name with this key.
+#[tactic(auto, using(crate::proofs::Sought::sought_few, crate::proofs::Sought::sought_key, crate::proofs::Sought::sought_other))]
+fn is_sought(point: Point, variable: &Bound, name: &Text, key: u64) -> bool
+    requires { key ≡ key_of name.now }
+    ensures { result ≡ is_sought (program_seen point.entry) variable.now name.now }
+{
+    match variable.links.levels() {
+        Some(levels) => levels.key == key && is_named(point.scene.program, variable.name, name),
+        None => is_named(point.scene.program, variable.name, name),
+    }
 }
 
 /// The part of the data that the variable at a place is bound to, if it is bound to one.

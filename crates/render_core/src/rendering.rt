@@ -8,7 +8,7 @@ ghost use Rattle.soy_meaning.specs.Outcome.{end_of_outcome, pieces_of_outcome};
 ghost use Rattle.template_ir.specs.Run.{input_env, names_of, run};
 ghost use Rattle.template_ir.specs.ViewOps.{view_program};
 ghost use Rattle.template_ir.specs.declared.program.ProgramParts.{ProgramParts};
-ghost use Rattle.render_core.specs.Begins.{EntryFound, FieldFound, entry_frame, held_field, root_bound};
+ghost use Rattle.render_core.specs.Begins.{EntryFound, FieldFound, HasRoot, entry_frame, held_field};
 ghost use Rattle.render_core.specs.Pulls.{Fresh, Gave, Pulls, stops_at};
 ghost use Rattle.render_core.specs.Rest.{BegunFits, Fits, IsWhole, begun_left, has_ended};
 ghost use Rattle.render_core.specs.Rest.{rest_bytes, rest_end, rest_of, solid};
@@ -17,13 +17,13 @@ ghost use Rattle.render_core.specs.declared.frame.Frame.TheVariants as frame;
 ghost use Rattle.render_core.specs.declared.held.Naming.TheVariants as naming;
 
 use crate::begun::Begun;
-use crate::binding::bind;
 use crate::frame::{Ahead, Frame};
-use crate::held::{Bound, Held, Naming};
+use crate::held::{Held, Naming};
 use crate::machine::left_of;
 use crate::scene::Scene;
 use crate::stack::Machine;
 use crate::texts::Texts;
+use crate::variable_stack::VariableStack;
 use soy_base::{OutOfMemory, Refusal, Stack, Steps, Text, TooDeep};
 use soy_expr::Made;
 use soy_tree::{Entry, Param, Value};
@@ -73,8 +73,8 @@ impl Rendering {
             }) }
         ensures not_done { IfOk result (λ r. has_ended r ≡ false) }
     {
-        let mut bound = Vec::new(scene.alloc);
-        match bind(&mut bound, Naming::Hidden, Held::Root, 0) {
+        let mut bound = VariableStack::none(scene.alloc);
+        match bound.bind(scene, Naming::Hidden, Held::Root, 0) {
             Ok(_) => Rendering::begin_over(scene, template, bound),
             Err(_) => Err(OutOfMemory),
         }
@@ -84,9 +84,9 @@ impl Rendering {
     fn begin_over(
         scene: &Scene,
         template: usize,
-        bound: Vec<Bound>,
+        bound: VariableStack,
     ) -> Result<Rendering, OutOfMemory>
-        requires { slice_get bound.items 0 ≡ Some root_bound }
+        requires { HasRoot bound }
         ensures fits { IfOk result (λ r. Fits scene.now.program.now (view_value scene.now.input.now) r) }
         ensures rest { IfOk result (λ r. rest_of scene.now.program.now (view_value scene.now.input.now) r
             ≡ record {
@@ -110,9 +110,9 @@ impl Rendering {
         scene: &Scene,
         template: usize,
         routine: &Routine,
-        bound: Vec<Bound>,
+        bound: VariableStack,
     ) -> Result<Rendering, OutOfMemory>
-        requires root { slice_get bound.items 0 ≡ Some root_bound }
+        requires root { HasRoot bound }
         requires routine { slice_get scene.now.program.now.templates template ≡ Some routine.now }
         ensures fits { IfOk result (λ r. Fits scene.now.program.now (view_value scene.now.input.now) r) }
         ensures rest { IfOk result (λ r. rest_of scene.now.program.now (view_value scene.now.input.now) r
@@ -131,11 +131,11 @@ impl Rendering {
     }
 
     /// The rendering of a block with the variables of a number.
-    fn fresh(alloc: Global, body: Block, env: usize, bound: Vec<Bound>) -> Rendering
+    fn fresh(alloc: Global, body: Block, env: usize, bound: VariableStack) -> Rendering
         ensures top { result.machine.top ≡ frame.Ops (entry_frame body env) }
         ensures below { result.machine.below ≡ [] }
         ensures texts { result.machine.texts ≡ [] }
-        ensures bound { result.machine.bound.items ≡ bound.items }
+        ensures bound { result.machine.bound ≡ bound }
         ensures piece { result.piece ≡ None }
         ensures done { result.done ≡ false }
     {
@@ -264,15 +264,15 @@ impl Rendering {
 
     /// Gives bytes of the piece that has begun.
     fn give(&mut self, scene: &Scene, room: &mut [u8]) -> usize
-        requires { BegunFits scene.now.program.now (view_value scene.now.input.now) self.old.machine.bound.items
+        requires { BegunFits scene.now.program.now (view_value scene.now.input.now) self.old.machine.bound
             self.old.piece }
         ensures gives { Gave
-            (begun_left scene.now.program.now (view_value scene.now.input.now) self.old.machine.bound.items
+            (begun_left scene.now.program.now (view_value scene.now.input.now) self.old.machine.bound
             self.old.piece)
-            (begun_left scene.now.program.now (view_value scene.now.input.now) self.new.machine.bound.items
+            (begun_left scene.now.program.now (view_value scene.now.input.now) self.new.machine.bound
             self.new.piece)
             room.old room.new result }
-        ensures fits { BegunFits scene.now.program.now (view_value scene.now.input.now) self.new.machine.bound.items
+        ensures fits { BegunFits scene.now.program.now (view_value scene.now.input.now) self.new.machine.bound
             self.new.piece }
         ensures machine { self.new.machine ≡ self.old.machine }
         ensures done { self.new.done ≡ self.old.done }
@@ -289,25 +289,25 @@ impl Rendering {
 /// Binds the parameters of a template, the first above the others; the number of the variables is given.
 fn bind_params(
     scene: &Scene,
-    bound: &mut Vec<Bound>,
+    bound: &mut VariableStack,
     template: usize,
     params: &[Param],
 ) -> Result<usize, OutOfMemory>
-    requires root { slice_get bound.old.items 0 ≡ Some root_bound }
+    requires root { HasRoot bound.old }
     requires params { (number : ℕ) → param_of (slice_get params.now number)
         ≡ name_there scene.now.program.now (naming.Param template number) }
     ensures env { IfOk result (λ n.
-        env_at (cells_of scene.now.program.now (view_value scene.now.input.now) bound.new.items) n
+        env_at (cells_of scene.now.program.now (view_value scene.now.input.now) bound.new) n
         ≡ input_env (names_of (view_params params.now)) (view_value scene.now.input.now)) }
-    ensures low { IfOk result (λ n. n ≤ length bound.new.items) }
-    ensures root { slice_get bound.new.items 0 ≡ Some root_bound }
+    ensures low { IfOk result (λ n. n ≤ length bound.new) }
+    ensures root { HasRoot bound.new }
 {
     let mut number = params.len();
     let mut env = 0;
     while number > 0 {
         number -= 1;
         let to = held_field(field_number(scene.input, &params[number].name));
-        match bind(bound, Naming::Param(template, number), to, env) {
+        match bound.bind(scene, Naming::Param(template, number), to, env) {
             Ok(next) => env = next,
             Err(_) => return Err(OutOfMemory),
         }

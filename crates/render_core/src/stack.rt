@@ -19,11 +19,11 @@ ghost use Rattle.render_core.specs.declared.stack.Step.TheVariants as step;
 
 use crate::begun::{Begun, escaped_whole, give_fixed, give_form};
 use crate::frame::{Ahead, Frame};
-use crate::held::Bound;
 use crate::parts::Point;
 use crate::scene::Scene;
 use crate::showing::Print;
 use crate::texts::Texts;
+use crate::variable_stack::VariableStack;
 use soy_base::{OutOfMemory, Place, Stack, Text, TooDeep, ValueClass};
 use template_ir::Block;
 
@@ -33,7 +33,7 @@ pub(crate) struct Machine {
     pub(crate) top: Frame,
     pub(crate) below: Stack<Frame>,
     pub(crate) texts: Texts,
-    pub(crate) bound: Vec<Bound>,
+    pub(crate) bound: VariableStack,
 }
 
 /// What one step gives.
@@ -55,21 +55,21 @@ impl Machine {
     ) -> Point<'p, 'i, 'b>
         ensures program { result.scene.program.now ≡ scene.now.program.now }
         ensures input { result.scene.input.now ≡ scene.now.input.now }
-        ensures bound { result.bound.now ≡ self.now.bound.items }
+        ensures bound { result.bound.now ≡ self.now.bound }
         ensures env { result.env ≡ env }
     {
         Point {
             scene: *scene,
-            bound: self.bound.as_slice(),
+            bound: &self.bound,
             env,
         }
     }
 
     /// How many variables there are.
     pub(crate) fn mark(&self) -> usize
-        ensures { result ≡ length self.now.bound.items }
+        ensures { result ≡ length self.now.bound }
     {
-        self.bound.as_slice().len()
+        self.bound.len()
     }
 
     /// Goes into a frame, with another to come after it.
@@ -77,7 +77,7 @@ impl Machine {
         ensures top { OnOk result (self.new.top ≡ child) }
         ensures below { OnOk result (self.new.below ≡ next ∷ self.old.below) }
         ensures texts { self.new.texts ≡ self.old.texts }
-        ensures bound { self.new.bound.items ≡ self.old.bound.items }
+        ensures bound { self.new.bound ≡ self.old.bound }
         ensures top_stays { OnErr result (self.new.top ≡ self.old.top) }
         ensures below_stays { OnErr result (self.new.below ≡ self.old.below) }
     {
@@ -99,7 +99,7 @@ impl Machine {
         requires low { ahead.at < ahead.end }
         ensures goes { OnOk result ((p : code_parts.ProgramParts) (input : values.Value) →
             GoesIn p input self.old self.new ahead (arm_gives (means_before p ahead.left ahead.at) block number
-            (env_at (cells_of p input self.old.bound.items) ahead.env))) }
+            (env_at (cells_of p input self.old.bound) ahead.env))) }
         ensures stays { OnErr result (IsSame self.old self.new) }
     {
         let next = Frame::Ops(past(ahead));
@@ -124,7 +124,7 @@ impl Machine {
         ensures top { OnOk result (self.new.top ≡ child) }
         ensures below { OnOk result (self.new.below ≡ next ∷ self.old.below) }
         ensures texts { OnOk result (self.new.texts ≡ [] ∷ self.old.texts) }
-        ensures bound { OnOk result (self.new.bound.items ≡ self.old.bound.items) }
+        ensures bound { OnOk result (self.new.bound ≡ self.old.bound) }
         ensures stays { OnErr result (IsSame self.old self.new) }
     {
         if self.texts.begin(scene.alloc).is_err() {
@@ -152,11 +152,11 @@ impl Machine {
         piece: &mut Option<Begun>,
     ) -> Result<Step, OutOfMemory>
         requires at_hand { IsAtHand
-            (cells_of scene.now.program.now (view_value scene.now.input.now) self.old.bound.items) print }
+            (cells_of scene.now.program.now (view_value scene.now.input.now) self.old.bound) print }
         requires none { piece.old ≡ None }
         ensures gave { GaveForm scene.now.program.now (view_value scene.now.input.now) self.old self.new next
             (form_at place class (print_text
-            (cells_of scene.now.program.now (view_value scene.now.input.now) self.old.bound.items) print.entry)
+            (cells_of scene.now.program.now (view_value scene.now.input.now) self.old.bound) print.entry)
             scene.now.program.now.dir) (output room.old room.new piece.new) result }
         ensures spares { Spares (output room.old room.new piece.new) result }
     {
@@ -249,7 +249,7 @@ impl Machine {
         requires mark { mark_of self.old.top ≡ mark }
         requires fits { MachineFits self.old }
         requires plain { IsPlainFrame self.old.top }
-        requires none { frame_gives scene.now.program.now (view_value scene.now.input.now) self.old.bound.items
+        requires none { frame_gives scene.now.program.now (view_value scene.now.input.now) self.old.bound
             self.old.top ≡ RunEnds (one_step 0) WholeRun }
         ensures { (n : ℕ) → Stepped scene.now.program.now (view_value scene.now.input.now) self.old self.new n n
             (Ok result) }

@@ -1,6 +1,6 @@
 //! Calls.
 
-ghost use Rattle.std.specs.Prelude.{◌≡◌, ◌<◌, ◌∷◌, ◌++◌, ℕ, [], None, Ok, OnErr, OnOk, Some, length, option_map};
+ghost use Rattle.std.specs.Prelude.{◌≡◌, ◌<◌, ◌∷◌, ℕ, [], None, Ok, OnErr, OnOk, Some, length, option_map};
 ghost use Rattle.std.specs.Prelude.{slice_get};
 ghost use Rattle.soy_base.specs.declared.kind.Kind.TheVariants as kind;
 ghost use Rattle.soy_tree.specs.ViewValues.{view_value};
@@ -10,13 +10,13 @@ ghost use Rattle.template_ir.specs.declared.op.HandedBy.TheVariants as by;
 ghost use Rattle.template_ir.specs.declared.op.Op.TheVariants as op;
 ghost use Rattle.render_core.specs.Calling.{called_child, callee_of, Hands, Opens, OpensRoutine};
 ghost use Rattle.render_core.specs.Frames.{MachineFits, past};
-ghost use Rattle.render_core.specs.Stepping.{GaveForm, IsBlockKind, IsSame, Spares, Stepped, SteppedInto, handed_past};
-ghost use Rattle.render_core.specs.Stepping.{output};
+ghost use Rattle.render_core.specs.Linked.{Adds};
+ghost use Rattle.render_core.specs.Stepping.{GaveForm, IsBlockKind, IsSame, Spares, Stepped, SteppedInto};
+ghost use Rattle.render_core.specs.Stepping.{handed_bound, handed_past, output};
 ghost use Rattle.render_core.specs.declared.frame.Frame.TheVariants as frame;
-ghost use Rattle.render_core.specs.declared.held.Naming.TheVariants as naming;
 
 use crate::begun::Begun;
-use crate::binding::{bind, held};
+use crate::binding::held;
 use crate::frame::{Ahead, Frame, Handing, Purpose};
 use crate::held::{Held, Naming};
 use crate::scene::Scene;
@@ -116,7 +116,7 @@ impl Machine {
             Ok(found) => found,
             Err(_) => return Err(OutOfMemory),
         };
-        match self.hand_held(ahead, handing, held(found)) {
+        match self.hand_held(scene, ahead, handing, held(found)) {
             Ok(()) => Ok(Step::Silent),
             Err(_) => Err(OutOfMemory),
         }
@@ -139,7 +139,7 @@ impl Machine {
             Ok(found) => found,
             Err(_) => return Err(OutOfMemory),
         };
-        match self.hand_held(ahead, handing, held(found)) {
+        match self.hand_held(scene, ahead, handing, held(found)) {
             Ok(()) => Ok(Step::Silent),
             Err(_) => Err(OutOfMemory),
         }
@@ -203,26 +203,32 @@ impl Machine {
         ensures { (n : ℕ) → Stepped scene.now.program.now (view_value scene.now.input.now) self.old self.new n n
             result }
     {
-        match self.hand_held(ahead, handing, Held::Block(kept(ahead, kind, block))) {
+        match self.hand_held(scene, ahead, handing, Held::Block(kept(ahead, kind, block))) {
             Ok(()) => Ok(Step::Silent),
             Err(_) => Err(OutOfMemory),
         }
     }
 
     /// Binds a parameter of the callee, and goes on to the next.
-    fn hand_held(&mut self, ahead: Ahead, handing: Handing, to: Held) -> Result<(), OutOfMemory>
+    fn hand_held(
+        &mut self,
+        scene: &Scene,
+        ahead: Ahead,
+        handing: Handing,
+        to: Held,
+    ) -> Result<(), OutOfMemory>
         ensures top { OnOk result (self.new.top
-            ≡ frame.Call ahead (handed_past handing (length self.old.bound.items))) }
+            ≡ frame.Call ahead (handed_past handing (length self.old.bound))) }
         ensures below { OnOk result (self.new.below ≡ self.old.below) }
         ensures texts { OnOk result (self.new.texts ≡ self.old.texts) }
-        ensures bound { OnOk result (self.new.bound.items ≡ self.old.bound.items
-            ++ (record { name = naming.Handed ahead.at handing.next; to = to; below = handing.inner }) ∷ []) }
+        ensures bound { OnOk result (Adds scene.now.program.now (handed_bound ahead handing to) self.old.bound
+            self.new.bound) }
         ensures stays { OnErr result (IsSame self.old self.new) }
     {
         let mark = self.mark();
         let name = Naming::Handed(ahead.at, handing.next);
         match handed_on(handing, mark) {
-            Some(next) => match bind(&mut self.bound, name, to, handing.inner) {
+            Some(next) => match self.bound.bind(scene, name, to, handing.inner) {
                 Ok(_) => {
                     self.top = Frame::Call(ahead, next);
                     Ok(())

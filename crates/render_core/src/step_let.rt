@@ -1,19 +1,18 @@
 //! Lets, and texts that are gathered.
 
-ghost use Rattle.std.specs.Prelude.{◌≡◌, ◌<◌, ◌∷◌, ◌++◌, ℕ, [], IfSome, OnOk, OnErr, Some, length, pos, slice_get};
+ghost use Rattle.std.specs.Prelude.{◌≡◌, ◌<◌, ◌∷◌, ℕ, [], IfSome, OnOk, OnErr, Some, length, pos, slice_get};
 ghost use Rattle.soy_base.specs.declared.kind.Kind.TheVariants as kind;
-ghost use Rattle.soy_tree.specs.Values as values;
 ghost use Rattle.soy_tree.specs.ViewValues.{view_value};
 ghost use Rattle.template_ir.specs.declared.op.Op.TheVariants as op;
-ghost use Rattle.template_ir.specs.declared.program.ProgramParts.{ProgramParts};
 ghost use Rattle.render_core.specs.Frames.{MachineFits, child_at};
+ghost use Rattle.render_core.specs.Linked.{Adds};
 ghost use Rattle.render_core.specs.Stepping.{Binds, IsBlockKind, IsSame, Stepped, handed_past, kept_of, text_next};
 ghost use Rattle.render_core.specs.Stepping.{text_var};
 ghost use Rattle.render_core.specs.Texts.{past_innermost};
 ghost use Rattle.render_core.specs.declared.frame.Frame.TheVariants as frame;
 ghost use Rattle.render_core.specs.declared.held.Naming.TheVariants as naming;
 
-use crate::binding::{bind, held};
+use crate::binding::held;
 use crate::frame::{Ahead, Frame, Handing, Purpose};
 use crate::held::{Held, Kept, Naming};
 use crate::scene::Scene;
@@ -46,7 +45,7 @@ impl Machine {
             Ok(found) => found,
             Err(_) => return Err(OutOfMemory),
         };
-        match self.bind_here(ahead, held(found)) {
+        match self.bind_here(scene, ahead, held(found)) {
             Ok(()) => Ok(Step::Silent),
             Err(_) => Err(OutOfMemory),
         }
@@ -69,7 +68,7 @@ impl Machine {
         ensures { (n : ℕ) → Stepped scene.now.program.now (view_value scene.now.input.now) self.old self.new n n
             result }
     {
-        match self.bind_here(ahead, Held::Block(kept(ahead, kind, block))) {
+        match self.bind_here(scene, ahead, Held::Block(kept(ahead, kind, block))) {
             Ok(()) => Ok(Step::Silent),
             Err(_) => Err(OutOfMemory),
         }
@@ -77,15 +76,15 @@ impl Machine {
 
     /// Binds the variable of the op, and goes past it.
     #[tactic(auto, using(crate::proofs::Gives::bind_does))]
-    fn bind_here(&mut self, ahead: Ahead, to: Held) -> Result<(), OutOfMemory>
+    fn bind_here(&mut self, scene: &Scene, ahead: Ahead, to: Held) -> Result<(), OutOfMemory>
         requires top { self.old.top ≡ frame.Ops ahead }
         requires fits { MachineFits self.old }
         requires low { ahead.at < ahead.end }
-        ensures binds { OnOk result ((p : ProgramParts) (input : values.Value) →
-            Binds p input self.old self.new ahead (naming.Op ahead.at) to) }
+        ensures binds { OnOk result (Binds scene.now.program.now (view_value scene.now.input.now) self.old self.new ahead
+            (naming.Op ahead.at) to) }
         ensures stays { OnErr result (IsSame self.old self.new) }
     {
-        match bind(&mut self.bound, Naming::Op(ahead.at), to, ahead.env) {
+        match self.bound.bind(scene, Naming::Op(ahead.at), to, ahead.env) {
             Ok(env) => {
                 self.top = Frame::Ops(past_with(ahead, env));
                 Ok(())
@@ -124,10 +123,10 @@ impl Machine {
         block: Block,
     ) -> Result<(), OutOfMemory>
         ensures top { OnOk result (self.new.top
-            ≡ frame.Ops (child_at ahead block (pos 0) (length self.old.bound.items))) }
+            ≡ frame.Ops (child_at ahead block (pos 0) (length self.old.bound))) }
         ensures below { OnOk result (self.new.below ≡ frame.Gather ahead purpose ∷ self.old.below) }
         ensures texts { OnOk result (self.new.texts ≡ [] ∷ self.old.texts) }
-        ensures bound { OnOk result (self.new.bound.items ≡ self.old.bound.items) }
+        ensures bound { OnOk result (self.new.bound ≡ self.old.bound) }
         ensures stays { OnErr result (IsSame self.old self.new) }
     {
         let child = child_ahead(ahead, block, 0, self.mark());
@@ -150,25 +149,34 @@ impl Machine {
             Ok(text) => text,
             Err(_) => return Err(OutOfMemory),
         };
-        match self.end_text(ahead, purpose, text) {
+        match self.end_text(scene, ahead, purpose, text) {
             Ok(()) => Ok(Step::Silent),
             Err(_) => Err(OutOfMemory),
         }
     }
 
     /// Binds a text that was gathered, and goes on with what it is for.
-    fn end_text(&mut self, ahead: Ahead, purpose: Purpose, text: Text) -> Result<(), OutOfMemory>
+    fn end_text(
+        &mut self,
+        scene: &Scene,
+        ahead: Ahead,
+        purpose: Purpose,
+        text: Text,
+    ) -> Result<(), OutOfMemory>
         requires { ahead.at < ahead.end }
-        ensures top { OnOk result (self.new.top ≡ text_next ahead purpose (length self.old.bound.items)) }
+        ensures top { OnOk result (self.new.top ≡ text_next ahead purpose (length self.old.bound)) }
         ensures below { OnOk result (self.new.below ≡ self.old.below) }
         ensures texts { OnOk result (self.new.texts ≡ past_innermost self.old.texts) }
-        ensures bound { OnOk result (self.new.bound.items ≡ self.old.bound.items ++ text_var ahead purpose text ∷ []) }
+        ensures bound { OnOk result (Adds scene.now.program.now (text_var ahead purpose text) self.old.bound self.new.bound) }
         ensures stays { OnErr result (IsSame self.old self.new) }
     {
         let mark = self.mark();
         let text = Held::Made(Made::Str(text));
         match purpose {
-            Purpose::Bind => match bind(&mut self.bound, Naming::Op(ahead.at), text, ahead.env) {
+            Purpose::Bind => match self
+                .bound
+                .bind(scene, Naming::Op(ahead.at), text, ahead.env)
+            {
                 Ok(env) => {
                     self.top = Frame::Ops(past_with(ahead, env));
                     self.texts.end();
@@ -176,7 +184,7 @@ impl Machine {
                 }
                 Err(_) => Err(OutOfMemory),
             },
-            Purpose::Show => match bind(&mut self.bound, Naming::Hidden, text, 0) {
+            Purpose::Show => match self.bound.bind(scene, Naming::Hidden, text, 0) {
                 Ok(_) => {
                     self.top = Frame::Show(ahead, mark);
                     self.texts.end();
@@ -187,7 +195,7 @@ impl Machine {
             Purpose::Hand(handing) => {
                 let name = Naming::Handed(ahead.at, handing.next);
                 match handed_on(handing, mark) {
-                    Some(next) => match bind(&mut self.bound, name, text, handing.inner) {
+                    Some(next) => match self.bound.bind(scene, name, text, handing.inner) {
                         Ok(_) => {
                             self.top = Frame::Call(ahead, next);
                             self.texts.end();

@@ -1,20 +1,22 @@
 //! Loops.
 
-ghost use Rattle.std.specs.Prelude.{◌≡◌, ◌<◌, ◌+◌, ℕ, [], ◌∷◌, ◌++◌, IfOk, OnOk, OnErr, Some, length, option_map};
+ghost use Rattle.std.specs.Prelude.{◌≡◌, ◌<◌, ◌+◌, ℕ, [], ◌∷◌, IfOk, OnOk, OnErr, Some, length, option_map};
 ghost use Rattle.std.specs.Prelude.{slice_get, take};
 ghost use Rattle.soy_tree.specs.ViewValues.{view_value};
 ghost use Rattle.render_core.specs.Frames.{MachineFits, past};
-ghost use Rattle.render_core.specs.Rounds.{IsLoopOver, LoopAt, first_round, index_bound, list_bound, turn_bound};
+ghost use Rattle.render_core.specs.Linked.{Adds};
+ghost use Rattle.render_core.specs.Rounds.{AddsTurn, IsLoopOver, LoopAt, first_round, index_bound, list_bound};
 ghost use Rattle.render_core.specs.Rounds.{turn_child, turn_env, turned};
 ghost use Rattle.render_core.specs.Stepping.{IsSame, Stepped};
 ghost use Rattle.render_core.specs.declared.frame.Frame.TheVariants as frame;
 
-use crate::binding::{bind, held};
+use crate::binding::held;
 use crate::frame::{Ahead, Frame, Round};
-use crate::held::{Bound, Held, Naming};
+use crate::held::{Held, Naming};
 use crate::scene::Scene;
 use crate::stack::{Machine, Step, past};
 use crate::valuing::{Found, has_item, value_of};
+use crate::variable_stack::VariableStack;
 use soy_base::{OutOfMemory, Steps, Text};
 use soy_expr::Made;
 use soy_tree::Expr;
@@ -43,23 +45,24 @@ impl Machine {
             Ok(found) => found,
             Err(_) => return Err(OutOfMemory),
         };
-        match self.begin_loop(ahead, found) {
+        match self.begin_loop(scene, ahead, found) {
             Ok(()) => Ok(Step::Silent),
             Err(_) => Err(OutOfMemory),
         }
     }
 
     /// Binds the list of a loop, and goes to its turns.
-    fn begin_loop(&mut self, ahead: Ahead, found: Found) -> Result<(), OutOfMemory>
+    #[tactic(auto, using(crate::proofs::Adds::adds_whole))]
+    fn begin_loop(&mut self, scene: &Scene, ahead: Ahead, found: Found) -> Result<(), OutOfMemory>
         requires { ahead.at < ahead.end }
-        ensures top { OnOk result (self.new.top ≡ frame.Turns (first_round ahead (length self.old.bound.items))) }
+        ensures top { OnOk result (self.new.top ≡ frame.Turns (first_round ahead (length self.old.bound))) }
         ensures below { OnOk result (self.new.below ≡ frame.Ops (past ahead) ∷ self.old.below) }
         ensures texts { OnOk result (self.new.texts ≡ self.old.texts) }
-        ensures bound { OnOk result (self.new.bound.items ≡ self.old.bound.items ++ list_bound found ∷ []) }
+        ensures bound { OnOk result (Adds scene.now.program.now (list_bound found) self.old.bound self.new.bound) }
         ensures stays { OnErr result (IsSame self.old self.new) }
     {
         let mark = self.mark();
-        match bind(&mut self.bound, Naming::Hidden, held(found), 0) {
+        match self.bound.bind(scene, Naming::Hidden, held(found), 0) {
             Ok(_) => {
                 let round = Round {
                     op: ahead.at,
@@ -90,7 +93,7 @@ impl Machine {
     {
         if has_item(self.point(scene, round.env), round.list, round.next) {
             match loop_at(scene.program, round.op) {
-                Some((index, body)) => match self.turn(round, index.is_some(), *body) {
+                Some((index, body)) => match self.turn(scene, round, index.is_some(), *body) {
                     Ok(()) => Ok(Step::Silent),
                     Err(_) => Err(OutOfMemory),
                 },
@@ -103,20 +106,25 @@ impl Machine {
 
     /// Goes into the body of a loop with its next item. A turn that no usize counts, as of no list, is taken for
     /// running out of memory.
-    fn turn(&mut self, round: Round, has_index: bool, body: Block) -> Result<(), OutOfMemory>
+    fn turn(
+        &mut self,
+        scene: &Scene,
+        round: Round,
+        has_index: bool,
+        body: Block,
+    ) -> Result<(), OutOfMemory>
         ensures top { OnOk result (self.new.top ≡ frame.Ops (turn_child round body
-            (turn_env has_index (length self.old.bound.items)) (length self.old.bound.items))) }
+            (turn_env has_index (length self.old.bound)) (length self.old.bound))) }
         ensures below { OnOk result (self.new.below ≡ frame.Turns (turned round) ∷ self.old.below) }
         ensures texts { OnOk result (self.new.texts ≡ self.old.texts) }
-        ensures bound { OnOk result (self.new.bound.items
-            ≡ self.old.bound.items ++ turn_bound round has_index (length self.old.bound.items)) }
+        ensures bound { OnOk result (AddsTurn scene.now.program.now round has_index self.old.bound self.new.bound) }
         ensures stays { OnErr result (IsSame self.old self.new) }
     {
         let Some(next) = round.next.checked_add(1) else {
             return Err(OutOfMemory);
         };
         let mark = self.mark();
-        match bind_turn(&mut self.bound, round, has_index) {
+        match bind_turn(scene, &mut self.bound, round, has_index) {
             Ok(env) => {
                 let child = turn_ahead(round, body, env, mark);
                 let rest = Round { next, ..round };
@@ -180,17 +188,22 @@ fn loop_of(op: &Op) -> Option<(&Option<Text>, &Block)>
 }
 
 /// Binds the variables of a turn; the number of the variables is given.
-fn bind_turn(bound: &mut Vec<Bound>, round: Round, has_index: bool) -> Result<usize, OutOfMemory>
-    ensures bound { OnOk result (bound.new.items
-        ≡ bound.old.items ++ turn_bound round has_index (length bound.old.items)) }
-    ensures env { IfOk result (λ n. n ≡ turn_env has_index (length bound.old.items)) }
-    ensures old { OnErr result (take (length bound.old.items) bound.new.items ≡ bound.old.items) }
+#[tactic(auto, using(crate::proofs::Adds::adds_whole, crate::proofs::Turns::turn_indexed, crate::proofs::Turns::turn_unindexed, crate::proofs::Turns::env_indexed, crate::proofs::Turns::env_unindexed))]
+fn bind_turn(
+    scene: &Scene,
+    bound: &mut VariableStack,
+    round: Round,
+    has_index: bool,
+) -> Result<usize, OutOfMemory>
+    ensures bound { OnOk result (AddsTurn scene.now.program.now round has_index bound.old bound.new) }
+    ensures env { IfOk result (λ n. n ≡ turn_env has_index (length bound.old)) }
+    ensures old { OnErr result (take (length bound.old) bound.new ≡ bound.old) }
 {
     let item = Held::Item(round.list, round.next);
-    match bind(bound, Naming::Op(round.op), item, round.env) {
+    match bound.bind(scene, Naming::Op(round.op), item, round.env) {
         Ok(env) => {
             if has_index {
-                bind_index(bound, round, env)
+                bind_index(scene, bound, round, env)
             } else {
                 Ok(env)
             }
@@ -200,14 +213,19 @@ fn bind_turn(bound: &mut Vec<Bound>, round: Round, has_index: bool) -> Result<us
 }
 
 /// Binds the index of a turn. One that no i64 holds, as of no list, is taken for running out of memory.
-fn bind_index(bound: &mut Vec<Bound>, round: Round, env: usize) -> Result<usize, OutOfMemory>
-    ensures bound { OnOk result (bound.new.items ≡ bound.old.items ++ index_bound round env ∷ []) }
-    ensures env { IfOk result (λ n. n ≡ length bound.old.items + 1) }
-    ensures unchanged { OnErr result (bound.new.items ≡ bound.old.items) }
+fn bind_index(
+    scene: &Scene,
+    bound: &mut VariableStack,
+    round: Round,
+    env: usize,
+) -> Result<usize, OutOfMemory>
+    ensures bound { OnOk result (Adds scene.now.program.now (index_bound round env) bound.old bound.new) }
+    ensures env { IfOk result (λ n. n ≡ length bound.old + 1) }
+    ensures unchanged { OnErr result (bound.new ≡ bound.old) }
 {
     let Ok(index) = i64::try_from(round.next) else {
         return Err(OutOfMemory);
     };
     let index = Held::Made(Made::Int(index));
-    bind(bound, Naming::Index(round.op), index, env)
+    bound.bind(scene, Naming::Index(round.op), index, env)
 }

@@ -14,12 +14,13 @@ ghost use Rattle.render_core.specs.declared.frame.Frame.TheVariants as frame;
 
 use crate::begun::Begun;
 use crate::frame::{Ahead, Frame};
-use crate::held::{Bound, Held, Kept};
+use crate::held::{Held, Kept};
 use crate::parts::variable_at;
 use crate::scene::Scene;
 use crate::showing::{Print, Shown, how_shown, text_of};
 use crate::stack::{Machine, Step, past};
 use crate::valuing::value_of;
+use crate::variable_stack::VariableStack;
 use soy_base::{OutOfMemory, Place, Steps, Text, ValueClass};
 use soy_expr::{Made, Shallow};
 use soy_tree::Expr;
@@ -72,11 +73,11 @@ impl Machine {
         requires fits { MachineFits self.old }
         requires low { ahead.at < ahead.end }
         requires at_hand { IsShownAtHand
-            (cells_of scene.now.program.now (view_value scene.now.input.now) self.old.bound.items) shown }
+            (cells_of scene.now.program.now (view_value scene.now.input.now) self.old.bound) shown }
         requires none { piece.old ≡ None }
         ensures does { (b : Binding BoundBlock) → Shows scene.now.program.now
-            (cells_of scene.now.program.now (view_value scene.now.input.now) self.old.bound.items)
-            (length self.old.bound.items) b shown.entry →
+            (cells_of scene.now.program.now (view_value scene.now.input.now) self.old.bound)
+            (length self.old.bound) b shown.entry →
             Does scene.now.program.now (view_value scene.now.input.now) self.old self.new ahead
             (print_gives scene.now.program.now.dir place b) (output room.old room.new piece.new) result }
         ensures spares { Spares (output room.old room.new piece.new) result }
@@ -96,10 +97,10 @@ impl Machine {
     /// Goes into a block that is printed, and past its print.
     fn enter_kept(&mut self, ahead: Ahead, kept: Kept) -> Result<(), OutOfMemory>
         requires { ahead.at < ahead.end }
-        ensures top { OnOk result (self.new.top ≡ frame.Ops (kept_child kept (length self.old.bound.items))) }
+        ensures top { OnOk result (self.new.top ≡ frame.Ops (kept_child kept (length self.old.bound))) }
         ensures below { OnOk result (self.new.below ≡ frame.Ops (past ahead) ∷ self.old.below) }
         ensures texts { OnOk result (self.new.texts ≡ self.old.texts) }
-        ensures bound { OnOk result (self.new.bound.items ≡ self.old.bound.items) }
+        ensures bound { OnOk result (self.new.bound ≡ self.old.bound) }
         ensures stays { OnErr result (IsSame self.old self.new) }
     {
         let child = Ahead {
@@ -161,7 +162,7 @@ impl Machine {
             n n (output room.old room.new piece.new) result }
         ensures spares { Spares (output room.old room.new piece.new) result }
     {
-        let text = match text_at(scene, self.bound.as_slice(), at) {
+        let text = match text_at(scene, &self.bound, at) {
             Ok(text) => text,
             Err(_) => return Err(OutOfMemory),
         };
@@ -178,7 +179,7 @@ impl Machine {
 }
 
 /// The text that the variable at a place is bound to.
-fn text_at(scene: &Scene, bound: &[Bound], at: usize) -> Result<Text, OutOfMemory>
+fn text_at(scene: &Scene, bound: &VariableStack, at: usize) -> Result<Text, OutOfMemory>
     ensures { IfOk result (λ t. t ≡ text_bound (slice_get bound.now at)) }
 {
     match variable_at(bound, at) {

@@ -1,9 +1,8 @@
-use Rattle.std.proofs.Common.{◌≡◌, ◌≤◌, Some, drop, length}
-use Rattle.std.specs.List.{slice_get}
+use Rattle.std.proofs.Common.{◌≡◌, ◌≤◌, drop, length}
 use Rattle.soy_tree.specs.ViewTrees.{view_params}
 use Rattle.soy_tree.specs.ViewValues.{view_value}
 use Rattle.template_ir.specs.Run.{input_env, names_of}
-use Rattle.render_core.specs.Begins.{root_bound}
+use Rattle.render_core.specs.Begins.{HasRoot}
 use Rattle.render_core.specs.Variables.{cells_of, env_at}
 use Rattle.render_core.proofs.rendering.bind_params.Given as goal
 
@@ -13,9 +12,9 @@ invariant-loop-number l =
     let input = view_value l.scene.input.now in
     record {
       within : l.number ≤ length l.params;
-      root : slice_get l.bound.items 0 ≡ Some root_bound;
-      low : l.env ≤ length l.bound.items;
-      env : env_at (cells_of p input l.bound.items) l.env
+      root : HasRoot l.bound;
+      low : l.env ≤ length l.bound;
+      env : env_at (cells_of p input l.bound) l.env
           ≡ input_env (names_of (view_params (drop l.number l.params))) input;
     }
 

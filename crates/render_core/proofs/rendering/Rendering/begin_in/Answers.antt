@@ -1,10 +1,11 @@
-use Rattle.std.proofs.Common.{◌∷◌, ◌++◌, ◌∙◌, [], List, ap}
-use Rattle.std.specs.List.{slice_get}
-use Rattle.render_core.specs.Begins.{root_bound}
-use Rattle.render_core.specs.declared.held.Bound.{Bound}
+use Rattle.std.proofs.Common.{refl}
+use Rattle.render_core.specs.Linked.{bound_over}
+use Rattle.render_core.specs.declared.held.Held.TheVariants as held
+use Rattle.render_core.specs.declared.held.Naming.TheVariants as naming
+use Rattle.render_core.proofs.Begins.{root_first}
 use Rattle.render_core.proofs.rendering.Rendering.begin_in.Goals as goal
 
 pub begin_over-requires : goal.begin_over-requires
 begin_over-requires c =
-    ap (λ (bs : List Bound). slice_get bs 0)
-    (c.in-Ok.ensures.ok ∙ ap (λ (bs : List Bound). bs ++ root_bound ∷ []) c.new-bound.ensures.items)
+    root_first c.args.scene.now.program.now (bound_over naming.Hidden held.Root 0) c.none-bound.result c.bind.new.self
+    c.none-bound.ensures refl c.in-Ok.ensures.ok

@@ -11,7 +11,7 @@ returns-in-None-clause-fits c =
     let ends = c.fresh.ensures in
     entry_fits c.args.scene.now.program.now (view_value c.args.scene.now.input.now) c.fresh.result
     (record { first = 0; end = 0 }) 0 ends.top ends.below ends.piece ends.done
-    (let h : 0 ≤ length c.fresh.result.machine.bound.items = omega arith in h)
+    (let h : 0 ≤ length c.fresh.result.machine.bound = omega arith in h)
 
 pub returns-in-None-clause-rest : goal.returns-in-None-clause-rest
 returns-in-None-clause-rest c =

@@ -20,7 +20,7 @@ returns-in-Ok-clause-fits c =
     let input = view_value c.args.scene.now.input.now in
     let ends = c.fresh.ensures in
     entry_fits p input c.fresh.result c.args.routine.now.body c.in-Ok.env ends.top ends.below ends.piece ends.done
-    (let h : c.in-Ok.env ≤ length c.fresh.result.machine.bound.items =
+    (let h : c.in-Ok.env ≤ length c.fresh.result.machine.bound =
     omega (arith, c.in-Ok.ensures.low, ap length ends.bound)
     in h)
 

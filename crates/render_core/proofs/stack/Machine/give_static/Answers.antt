@@ -17,5 +17,5 @@ returns-then-is_empty-clause-gave c p input op = (
   refl,
   refl,
   sym c.is_empty.ensures ∙ c.if-is_empty.true,
-  c.give_fixed-n.ensures p input c.args.self.now.bound.items op,
+  c.give_fixed-n.ensures p input c.args.self.now.bound op,
 )

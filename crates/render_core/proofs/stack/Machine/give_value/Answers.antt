@@ -18,7 +18,7 @@ returns-in-Ok-clause-gave c =
       refl,
       refl,
       sym c.is_empty.ensures ∙ c.if-is_empty.true,
-      given_at pt p v old.bound.items at.program at.input at.bound c.args.place c.args.print c.args.class
+      given_at pt p v old.bound at.program at.input at.bound c.args.place c.args.print c.args.class
           (output c.args.room.now c.give_form.new.room c.give_form.new.piece) c.in-Ok.n known.given,
     )
 
@@ -33,17 +33,17 @@ returns-in-Ok-escaped_whole-clause-gave c =
     subst (λ (form : List ℕ). GaveForm p (view_value v) old c.gather_more.new.self c.args.next form out
     c.gather_more.result)
     (c.in-Ok-escaped_whole.ensures
-    ∙ form_same pt p v old.bound.items at.program at.input at.bound c.args.place c.args.print c.args.class)
+    ∙ form_same pt p v old.bound at.program at.input at.bound c.args.place c.args.print c.args.class)
     (c.gather_more.ensures.gave p (view_value v) out)
 
 pub give_form-requires-clause-at_hand : goal.give_form-requires-clause-at_hand
 give_form-requires-clause-at_hand c =
     let at = c.point.ensures in
-    hand_seen c.point.result c.args.scene.now.program.now c.args.scene.now.input.now c.args.self.now.bound.items
+    hand_seen c.point.result c.args.scene.now.program.now c.args.scene.now.input.now c.args.self.now.bound
     at.program at.input at.bound c.args.print c.requires.at_hand
 
 pub escaped_whole-requires : goal.escaped_whole-requires
 escaped_whole-requires c =
     let at = c.point-else-is_empty.ensures in
     hand_seen c.point-else-is_empty.result c.args.scene.now.program.now c.args.scene.now.input.now
-    c.args.self.now.bound.items at.program at.input at.bound c.args.print c.requires.at_hand
+    c.args.self.now.bound at.program at.input at.bound c.args.print c.requires.at_hand

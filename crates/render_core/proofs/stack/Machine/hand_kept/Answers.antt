@@ -16,11 +16,11 @@ returns-in-Ok c n =
     let f = c.args.ahead in
     let d = c.args.handed.now in
     let kept = c.kept.result in
-    let env : RunEnv = env_at (cells_of p input old.bound.items) f.env in
+    let env : RunEnv = env_at (cells_of p input old.bound) f.env in
     let ends = c.in-Ok.ensures in
     hand_goes p input old c.hand_held.new.self f c.args.handing d (held.Block kept) none_spent n n c.requires.hands
     (kept_gives_none p input f d c.args.kind c.args.block env c.requires.by c.requires.kind)
-    (kept_bound p input f d c.args.kind c.args.block (cells_of p input old.bound.items) kept c.requires.by
+    (kept_bound p input f d c.args.kind c.args.block (cells_of p input old.bound) kept c.requires.by
     c.requires.kind
     c.kept.ensures) (omega arith) ends.top ends.below ends.texts ends.bound
 

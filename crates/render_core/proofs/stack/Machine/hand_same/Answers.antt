@@ -16,7 +16,7 @@ returns-in-Err c n =
     let old = c.args.self.now in
     let f = c.args.ahead in
     let d = c.args.handed.now in
-    let env : RunEnv = env_at (cells_of p input old.bound.items) f.env in
+    let env : RunEnv = env_at (cells_of p input old.bound) f.env in
     hand_stays p input old old f c.args.handing d none_spent n n c.requires.hands
     (same_gives_none p input f d env c.requires.by) (omega arith, omega arith) (same_self p input old)
 
@@ -30,15 +30,15 @@ returns-in-Ok-hand_held c n =
     let d = c.args.handed.now in
     let pt = c.point.result in
     let seen = c.point.ensures in
-    let env : RunEnv = env_at (cells_of p input old.bound.items) f.env in
+    let env : RunEnv = env_at (cells_of p input old.bound) f.env in
     let ends = c.in-Ok-hand_held.ensures in
     hand_goes p input old c.hand_held.new.self f c.args.handing d c.held.result none_spent n n c.requires.hands
     (same_gives_none p input f d env c.requires.by)
-    (same_bound p input f d (cells_of p input old.bound.items) env c.in-Ok.found c.held.result c.requires.by
-    (sym (found_at pt p v old.bound.items seen.program seen.input seen.bound c.in-Ok.found)
+    (same_bound p input f d (cells_of p input old.bound) env c.in-Ok.found c.held.result c.requires.by
+    (sym (found_at pt p v old.bound seen.program seen.input seen.bound c.in-Ok.found)
     ∙ (c.in-Ok.ensures.means
     ∙ ap (λ (around : RunEnv). binding d.name around)
-    (same_env pt p v old.bound.items f.env seen.program seen.input seen.bound seen.env)))
+    (same_env pt p v old.bound f.env seen.program seen.input seen.bound seen.env)))
     c.held.ensures) (omega arith) ends.top ends.below ends.texts ends.bound
 
 pub returns-in-Err-hand_held : goal.returns-in-Err-hand_held
@@ -48,6 +48,6 @@ returns-in-Err-hand_held c n =
     let old = c.args.self.now in
     let f = c.args.ahead in
     let d = c.args.handed.now in
-    let env : RunEnv = env_at (cells_of p input old.bound.items) f.env in
+    let env : RunEnv = env_at (cells_of p input old.bound) f.env in
     hand_stays p input old c.hand_held.new.self f c.args.handing d none_spent n n c.requires.hands
     (same_gives_none p input f d env c.requires.by) (omega arith, omega arith) c.in-Err-hand_held.ensures.stays

@@ -17,8 +17,8 @@ returns-in-Err g c =
     let f = c.args.ahead in
     let d = c.args.handed.now in
     let e = c.args.expr.now in
-    let env : RunEnv = env_at (cells_of p input old.bound.items) f.env in
-    let known = finds_err c.point.result p v old.bound.items f.env c.point.ensures.program c.point.ensures.input
+    let env : RunEnv = env_at (cells_of p input old.bound) f.env in
+    let known = finds_err c.point.result p v old.bound f.env c.point.ensures.program c.point.ensures.input
     c.point.ensures.bound
     c.point.ensures.env (view_expr e) c.args.steps.now c.value_of.new.steps c.in-Err.ensures in
     hand_stays p input old old f c.args.handing d (value_spent p input e env) _ _ c.requires.hands
@@ -33,14 +33,14 @@ returns-in-Ok-hand_held g c =
     let f = c.args.ahead in
     let d = c.args.handed.now in
     let e = c.args.expr.now in
-    let env : RunEnv = env_at (cells_of p input old.bound.items) f.env in
-    let known = finds_at c.point.result p v old.bound.items f.env c.point.ensures.program c.point.ensures.input
+    let env : RunEnv = env_at (cells_of p input old.bound) f.env in
+    let known = finds_at c.point.result p v old.bound f.env c.point.ensures.program c.point.ensures.input
     c.point.ensures.bound
     c.point.ensures.env (view_expr e) c.args.steps.now c.value_of.new.steps (Ok c.in-Ok.found) c.in-Ok.ensures in
     let ends = c.in-Ok-hand_held.ensures in
     hand_goes p input old c.hand_held.new.self f c.args.handing d c.held.result (value_spent p input e env) _ _
     c.requires.hands (value_gives_cost p input f d e env c.requires.by)
-    (value_bound p input f d e (cells_of p input old.bound.items) env c.in-Ok.found c.held.result c.requires.by known.0
+    (value_bound p input f d e (cells_of p input old.bound) env c.in-Ok.found c.held.result c.requires.by known.0
     c.held.ensures) (omega (arith, known.2)) ends.top ends.below ends.texts ends.bound
 
 pub returns-in-Err-hand_held : goal.returns-in-Err-hand_held
@@ -52,8 +52,8 @@ returns-in-Err-hand_held g c =
     let f = c.args.ahead in
     let d = c.args.handed.now in
     let e = c.args.expr.now in
-    let env : RunEnv = env_at (cells_of p input old.bound.items) f.env in
-    let known = finds_at c.point.result p v old.bound.items f.env c.point.ensures.program c.point.ensures.input
+    let env : RunEnv = env_at (cells_of p input old.bound) f.env in
+    let known = finds_at c.point.result p v old.bound f.env c.point.ensures.program c.point.ensures.input
     c.point.ensures.bound
     c.point.ensures.env (view_expr e) c.args.steps.now c.value_of.new.steps (Ok c.in-Ok.found) c.in-Ok.ensures in
     hand_stays p input old c.hand_held.new.self f c.args.handing d (value_spent p input e env) _ _ c.requires.hands

@@ -12,4 +12,4 @@ returns-in-Some c = λ n.
     let old = c.args.self.now in
     let new : Machine = record old { top = c.in-Some.frame; below = c.pop.new.self; bound = c.truncate.new.self } in
     left_frame p input old new c.in-Some.frame c.pop.new.self n c.requires.plain c.in-Some.ensures c.requires.fits
-    c.requires.none refl refl refl (c.truncate.ensures.items ∙ ap (λ k. take k old.bound.items) (sym c.requires.mark))
+    c.requires.none refl refl refl (c.truncate.ensures ∙ ap (λ k. take k old.bound) (sym c.requires.mark))

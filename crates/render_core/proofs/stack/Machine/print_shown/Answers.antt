@@ -18,24 +18,24 @@ returns-in-Value-clause-does c b shows =
     let f = c.args.ahead in
     let class = c.in-Value.class in
     let text = c.in-Value.print in
-    let n = length old.bound.items in
+    let n = length old.bound in
     let out = output c.args.room.now c.give_value.new.room c.give_value.new.piece in
     value_prints p input old c.give_value.new.self f c.args.place text class n out c.give_value.result b c.requires.top
     c.requires.fits
     (subst (λ (g : Ahead). GaveForm p input old c.give_value.new.self (frame.Ops g)
-    (form_at c.args.place class (print_text (cells_of p input old.bound.items) text) p.dir) out c.give_value.result)
+    (form_at c.args.place class (print_text (cells_of p input old.bound) text) p.dir) out c.give_value.result)
     c.past.ensures c.give_value.ensures.gave)
-    (subst (λ (s : Shown). Shows p (cells_of p input old.bound.items) n b s) c.in-Value.is shows)
+    (subst (λ (s : Shown). Shows p (cells_of p input old.bound) n b s) c.in-Value.is shows)
 
 pub returns-in-Ok-clause-does : goal.returns-in-Ok-clause-does
 returns-in-Ok-clause-does c b shows =
     let p = c.args.scene.now.program.now in
     let input = view_value c.args.scene.now.input.now in
     let old = c.args.self.now in
-    let n = length old.bound.items in
+    let n = length old.bound in
     block_prints p input old c.enter_kept.new.self c.args.ahead c.args.place c.in-Block.kept b c.requires.top
     c.requires.fits c.in-Ok.ensures.top c.in-Ok.ensures.below c.in-Ok.ensures.texts c.in-Ok.ensures.bound
-    (subst (λ (s : Shown). Shows p (cells_of p input old.bound.items) n b s) c.in-Block.is shows)
+    (subst (λ (s : Shown). Shows p (cells_of p input old.bound) n b s) c.in-Block.is shows)
 
 pub returns-in-Err-clause-does : goal.returns-in-Err-clause-does
 returns-in-Err-clause-does c b shows = c.in-Err.ensures.stays

@@ -22,7 +22,7 @@ pub leave-requires-clause-none : goal.leave-requires-clause-none
 leave-requires-clause-none g c =
     let p = c.args.scene.now.program.now in
     let input = view_value c.args.scene.now.input.now in
-    let bound = c.args.self.now.bound.items in
+    let bound = c.args.self.now.bound in
     let f = c.in-Ops.ahead in
     ap (λ (t : Frame). frame_gives p input bound t) c.in-Ops.is
     ∙ ahead_end p f (env_at (cells_of p input bound) f.env) c.in-None.ensures
@@ -46,7 +46,7 @@ pub leave-requires-in-None-callee_at-clause-none : goal.leave-requires-in-None-c
 leave-requires-in-None-callee_at-clause-none g c =
     let p = c.args.scene.now.program.now in
     let input = view_value c.args.scene.now.input.now in
-    let bound = c.args.self.now.bound.items in
+    let bound = c.args.self.now.bound in
     let f = c.in-Call.ahead in
     let h = c.in-Call.handing in
     ap (λ (t : Frame). frame_gives p input bound t) c.in-Call.is

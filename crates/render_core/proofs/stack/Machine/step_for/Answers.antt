@@ -14,7 +14,7 @@ returns-in-Err g c =
     let old = c.args.self.now in
     let f = c.args.ahead in
     let at = c.point.ensures in
-    let known = finds_err c.point.result p v old.bound.items f.env at.program at.input at.bound at.env
+    let known = finds_err c.point.result p v old.bound f.env at.program at.input at.bound at.env
     (view_expr c.args.list.now) c.args.steps.now c.value_of.new.steps c.in-Err.ensures in
     loop_stays p input old old f c.args.list.now c.args.op.now _ _ c.requires.top c.requires.fits c.requires.op
     c.requires.list c.requires.low known (same_self p input old)
@@ -27,7 +27,7 @@ returns-in-Ok-begin_loop g c =
     let old = c.args.self.now in
     let f = c.args.ahead in
     let at = c.point.ensures in
-    let known = finds_at c.point.result p v old.bound.items f.env at.program at.input at.bound at.env
+    let known = finds_at c.point.result p v old.bound f.env at.program at.input at.bound at.env
     (view_expr c.args.list.now) c.args.steps.now c.value_of.new.steps (Ok c.in-Ok.found) c.in-Ok.ensures in
     let ends = c.in-Ok-begin_loop.ensures in
     loop_step p input old c.begin_loop.new.self f c.in-Ok.found c.args.list.now c.args.op.now _ _ c.requires.top
@@ -42,7 +42,7 @@ returns-in-Err-begin_loop g c =
     let old = c.args.self.now in
     let f = c.args.ahead in
     let at = c.point.ensures in
-    let known = finds_at c.point.result p v old.bound.items f.env at.program at.input at.bound at.env
+    let known = finds_at c.point.result p v old.bound f.env at.program at.input at.bound at.env
     (view_expr c.args.list.now) c.args.steps.now c.value_of.new.steps (Ok c.in-Ok.found) c.in-Ok.ensures in
     loop_stays p input old c.begin_loop.new.self f c.args.list.now c.args.op.now _ _ c.requires.top c.requires.fits
     c.requires.op c.requires.list c.requires.low (omega (arith, known.2), omega (arith, known.2))

@@ -1,5 +1,6 @@
-use Rattle.std.proofs.Common.{ℕ, List, [], ◌∷◌, ◌++◌, ap, ◌∙◌}
+use Rattle.std.proofs.Common.{ℕ, List, subst}
 use Rattle.soy_tree.specs.ViewValues.{view_value}
+use Rattle.render_core.specs.Linked.{Adds}
 use Rattle.render_core.specs.Stepping.{text_var}
 use Rattle.render_core.proofs.Moves.{same_self}
 use Rattle.render_core.proofs.TextEnds.{gather_low, same_stays, text_ends}
@@ -25,8 +26,9 @@ returns-in-Ok-end_text c n =
     let f = c.args.ahead in
     let ends = c.in-Ok-end_text.ensures in
     text_ends p input old c.end_text.new.self f c.args.purpose n c.requires.top c.requires.fits ends.top ends.below
-    ends.texts (ends.bound
-    ∙ ap (λ (text : List ℕ). old.bound.items ++ text_var f c.args.purpose text ∷ []) c.in-Ok.ensures)
+    ends.texts
+    (subst (λ (text : List ℕ). Adds p (text_var f c.args.purpose text) old.bound c.end_text.new.self.bound)
+    c.in-Ok.ensures ends.bound)
 
 pub returns-in-Err-end_text : goal.returns-in-Err-end_text
 returns-in-Err-end_text c n =

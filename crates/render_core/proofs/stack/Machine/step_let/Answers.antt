@@ -19,9 +19,9 @@ returns-in-Err g c =
     let input = view_value v in
     let old = c.args.self.now in
     let f = c.args.ahead in
-    let env : RunEnv = env_at (cells_of p input old.bound.items) f.env in
+    let env : RunEnv = env_at (cells_of p input old.bound) f.env in
     let at = c.point.ensures in
-    let known = finds_err c.point.result p v old.bound.items f.env at.program at.input at.bound at.env
+    let known = finds_err c.point.result p v old.bound f.env at.program at.input at.bound at.env
     (view_expr c.args.expr.now) c.args.steps.now c.value_of.new.steps c.in-Err.ensures in
     binds_stay p input old old f (op.Let c.args.name.now c.args.expr.now)
     (cost (view_expr c.args.expr.now) env) _ _ _ c.requires.top c.requires.op c.requires.low refl known
@@ -34,15 +34,15 @@ returns-in-Ok-bind_here g c =
     let input = view_value v in
     let old = c.args.self.now in
     let f = c.args.ahead in
-    let env : RunEnv = env_at (cells_of p input old.bound.items) f.env in
+    let env : RunEnv = env_at (cells_of p input old.bound) f.env in
     let at = c.point.ensures in
-    let known = finds_at c.point.result p v old.bound.items f.env at.program at.input at.bound at.env
+    let known = finds_at c.point.result p v old.bound f.env at.program at.input at.bound at.env
     (view_expr c.args.expr.now) c.args.steps.now c.value_of.new.steps (Ok c.in-Ok.found) c.in-Ok.ensures in
     binds_step p input old c.bind_here.new.self f (op.Let c.args.name.now c.args.expr.now)
     (cost (view_expr c.args.expr.now) env) (naming.Op f.at) c.held.result _ _ c.requires.top c.requires.op
     c.requires.low
-    (means_let p (cells_of p input old.bound.items) f c.args.name.now c.args.expr.now env c.in-Ok.found c.held.result
-    input c.requires.op known.0 c.held.ensures) known.2 (c.in-Ok-bind_here.ensures.binds p input)
+    (means_let p (cells_of p input old.bound) f c.args.name.now c.args.expr.now env c.in-Ok.found c.held.result
+    input c.requires.op known.0 c.held.ensures) known.2 c.in-Ok-bind_here.ensures.binds
 
 pub returns-in-Err-bind_here : goal.returns-in-Err-bind_here
 returns-in-Err-bind_here g c =
@@ -51,9 +51,9 @@ returns-in-Err-bind_here g c =
     let input = view_value v in
     let old = c.args.self.now in
     let f = c.args.ahead in
-    let env : RunEnv = env_at (cells_of p input old.bound.items) f.env in
+    let env : RunEnv = env_at (cells_of p input old.bound) f.env in
     let at = c.point.ensures in
-    let known = finds_at c.point.result p v old.bound.items f.env at.program at.input at.bound at.env
+    let known = finds_at c.point.result p v old.bound f.env at.program at.input at.bound at.env
     (view_expr c.args.expr.now) c.args.steps.now c.value_of.new.steps (Ok c.in-Ok.found) c.in-Ok.ensures in
     binds_stay p input old c.bind_here.new.self f (op.Let c.args.name.now c.args.expr.now)
     (cost (view_expr c.args.expr.now) env) _ _ _ c.requires.top c.requires.op c.requires.low refl

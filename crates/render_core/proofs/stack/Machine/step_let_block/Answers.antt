@@ -16,11 +16,11 @@ returns-in-Ok c n =
     let input = view_value v in
     let old = c.args.self.now in
     let f = c.args.ahead in
-    let env : RunEnv = env_at (cells_of p input old.bound.items) f.env in
+    let env : RunEnv = env_at (cells_of p input old.bound) f.env in
     binds_step p input old c.bind_here.new.self f (op.LetBlock c.args.name.now c.args.kind c.args.block) 0
     (naming.Op f.at) (held.Block c.kept.result) _ _ c.requires.top c.requires.op c.requires.low
-    (means_block p (cells_of p input old.bound.items) f c.args.name.now c.args.kind c.args.block c.kept.result input
-    c.requires.op c.requires.kind c.kept.ensures) (omega arith) (c.in-Ok.ensures.binds p input)
+    (means_block p (cells_of p input old.bound) f c.args.name.now c.args.kind c.args.block c.kept.result input
+    c.requires.op c.requires.kind c.kept.ensures) (omega arith) c.in-Ok.ensures.binds
 
 pub returns-in-Err : goal.returns-in-Err
 returns-in-Err c n =
@@ -29,8 +29,8 @@ returns-in-Err c n =
     let input = view_value v in
     let old = c.args.self.now in
     let f = c.args.ahead in
-    let env : RunEnv = env_at (cells_of p input old.bound.items) f.env in
+    let env : RunEnv = env_at (cells_of p input old.bound) f.env in
     binds_stay p input old c.bind_here.new.self f (op.LetBlock c.args.name.now c.args.kind c.args.block) 0 _ _ _
     c.requires.top c.requires.op c.requires.low
-    (means_block p (cells_of p input old.bound.items) f c.args.name.now c.args.kind c.args.block c.kept.result input
+    (means_block p (cells_of p input old.bound) f c.args.name.now c.args.kind c.args.block c.kept.result input
     c.requires.op c.requires.kind c.kept.ensures) (omega arith, omega arith) c.requires.fits c.in-Err.ensures.stays

@@ -26,9 +26,9 @@ returns-in-Err g c =
     let input = view_value v in
     let old = c.args.self.now in
     let f = c.args.ahead in
-    let env : RunEnv = env_at (cells_of p input old.bound.items) f.env in
+    let env : RunEnv = env_at (cells_of p input old.bound) f.env in
     let at = c.point-point.ensures in
-    let seen = same_env c.point-point.result p v old.bound.items f.env at.program at.input at.bound at.env in
+    let seen = same_env c.point-point.result p v old.bound f.env at.program at.input at.bound at.env in
     let e = view_expr c.args.plural.now.number in
     let known = subst (λ (around : RunEnv). IsWithin (cost e around) c.args.steps.now
     c.int_value.new.steps) seen c.in-Err.ensures in
@@ -42,9 +42,9 @@ returns-in-Err-without_offset g c =
     let input = view_value v in
     let old = c.args.self.now in
     let f = c.args.ahead in
-    let env : RunEnv = env_at (cells_of p input old.bound.items) f.env in
+    let env : RunEnv = env_at (cells_of p input old.bound) f.env in
     let at = c.point-point.ensures in
-    let seen = same_env c.point-point.result p v old.bound.items f.env at.program at.input at.bound at.env in
+    let seen = same_env c.point-point.result p v old.bound f.env at.program at.input at.bound at.env in
     let e = view_expr c.args.plural.now.number in
     let known = subst (λ (around : RunEnv). (c.in-Ok.number ≡ int_of (valued e around))
     × (c.int_value.new.steps ≡ c.args.steps.now + cost e around)) seen c.in-Ok.ensures in
@@ -58,9 +58,9 @@ returns-in-Ok-enter_block g c =
     let input = view_value v in
     let old = c.args.self.now in
     let f = c.args.ahead in
-    let env : RunEnv = env_at (cells_of p input old.bound.items) f.env in
+    let env : RunEnv = env_at (cells_of p input old.bound) f.env in
     let at = c.point-point.ensures in
-    let seen = same_env c.point-point.result p v old.bound.items f.env at.program at.input at.bound at.env in
+    let seen = same_env c.point-point.result p v old.bound f.env at.program at.input at.bound at.env in
     let e = view_expr c.args.plural.now.number in
     let known = subst (λ (around : RunEnv). (c.in-Ok.number ≡ int_of (valued e around))
     × (c.int_value.new.steps ≡ c.args.steps.now + cost e around)) seen c.in-Ok.ensures in
@@ -82,9 +82,9 @@ returns-in-Err-enter_block g c =
     let input = view_value v in
     let old = c.args.self.now in
     let f = c.args.ahead in
-    let env : RunEnv = env_at (cells_of p input old.bound.items) f.env in
+    let env : RunEnv = env_at (cells_of p input old.bound) f.env in
     let at = c.point-point.ensures in
-    let seen = same_env c.point-point.result p v old.bound.items f.env at.program at.input at.bound at.env in
+    let seen = same_env c.point-point.result p v old.bound f.env at.program at.input at.bound at.env in
     let e = view_expr c.args.plural.now.number in
     let known = subst (λ (around : RunEnv). (c.in-Ok.number ≡ int_of (valued e around))
     × (c.int_value.new.steps ≡ c.args.steps.now + cost e around)) seen c.in-Ok.ensures in

@@ -28,9 +28,9 @@ returns-in-Err g c =
     let input = view_value v in
     let old = c.args.self.now in
     let f = c.args.ahead in
-    let env : RunEnv = env_at (cells_of p input old.bound.items) f.env in
+    let env : RunEnv = env_at (cells_of p input old.bound) f.env in
     let at = c.point-point.ensures in
-    let seen = same_env c.point-point.result p v old.bound.items f.env at.program at.input at.bound at.env in
+    let seen = same_env c.point-point.result p v old.bound f.env at.program at.input at.bound at.env in
     let select = c.args.select.now in
     let known = subst (λ (around : RunEnv). IsWithin (taken select around).1 c.args.steps.now
     c.select_taken.new.steps) seen c.in-Err.ensures in
@@ -44,9 +44,9 @@ returns-in-Ok-enter_block g c =
     let input = view_value v in
     let old = c.args.self.now in
     let f = c.args.ahead in
-    let env : RunEnv = env_at (cells_of p input old.bound.items) f.env in
+    let env : RunEnv = env_at (cells_of p input old.bound) f.env in
     let at = c.point-point.ensures in
-    let seen = same_env c.point-point.result p v old.bound.items f.env at.program at.input at.bound at.env in
+    let seen = same_env c.point-point.result p v old.bound f.env at.program at.input at.bound at.env in
     let select = c.args.select.now in
     let known = subst (λ (around : RunEnv). (c.in-Ok.block ≡ (taken select around).0)
     × (c.select_taken.new.steps ≡ c.args.steps.now + (taken select around).1)) seen c.in-Ok.ensures in
@@ -62,9 +62,9 @@ returns-in-Err-enter_block g c =
     let input = view_value v in
     let old = c.args.self.now in
     let f = c.args.ahead in
-    let env : RunEnv = env_at (cells_of p input old.bound.items) f.env in
+    let env : RunEnv = env_at (cells_of p input old.bound) f.env in
     let at = c.point-point.ensures in
-    let seen = same_env c.point-point.result p v old.bound.items f.env at.program at.input at.bound at.env in
+    let seen = same_env c.point-point.result p v old.bound f.env at.program at.input at.bound at.env in
     let select = c.args.select.now in
     let known = subst (λ (around : RunEnv). (c.in-Ok.block ≡ (taken select around).0)
     × (c.select_taken.new.steps ≡ c.args.steps.now + (taken select around).1)) seen c.in-Ok.ensures in

@@ -1,13 +1,10 @@
-use Rattle.std.proofs.Common.{◌∙◌, List, ap, subst}
-use Rattle.std.specs.List.{slice_get}
+use Rattle.std.proofs.Common.{subst}
 use Rattle.soy_base.specs.declared.place.ValueClass.TheVariants as value_class
 use Rattle.soy_tree.specs.ViewValues.{view_value}
 use Rattle.render_core.specs.Forms.{form_at}
-use Rattle.render_core.specs.Frames.{text_bound}
 use Rattle.render_core.specs.Stepping.{GaveForm, output}
 use Rattle.render_core.specs.declared.frame.Ahead.{Ahead}
 use Rattle.render_core.specs.declared.frame.Frame.TheVariants as frame
-use Rattle.render_core.specs.declared.held.Bound.{Bound}
 use Rattle.render_core.proofs.Moves.{same_self}
 use Rattle.render_core.proofs.Openings.{show_gives}
 use Rattle.render_core.proofs.TextEnds.{same_stays}
@@ -28,8 +25,7 @@ returns-clause-stepped c n =
     let text = c.in-Ok.text in
     let out = output c.args.room.now c.give_value.new.room c.give_value.new.piece in
     show_gives p input old c.give_value.new.self c.args.ahead c.args.at n text c.args.place out c.give_value.result
-    c.requires.top c.requires.fits c.requires.place
-    (c.in-Ok.ensures ∙ ap (λ (bs : List Bound). text_bound (slice_get bs c.args.at)) c.as_slice.ensures.value)
+    c.requires.top c.requires.fits c.requires.place c.in-Ok.ensures
     (subst (λ (a : Ahead). GaveForm p input old c.give_value.new.self (frame.Ops a)
     (form_at c.args.place value_class.Text text p.dir) out c.give_value.result) c.past.ensures
     c.give_value.ensures.gave)

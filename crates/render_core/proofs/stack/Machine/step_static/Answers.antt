@@ -21,7 +21,7 @@ returns-then-is_empty-clause-stepped c n =
     let input = view_value v in
     let old = c.args.self.now in
     let f = c.args.ahead in
-    let env : RunEnv = env_at (cells_of p input old.bound.items) f.env in
+    let env : RunEnv = env_at (cells_of p input old.bound) f.env in
     let text = c.args.text.now in
     let new : Machine = record old { top = frame.Ops c.past.result } in
     quiet_step p input old new n n (output c.args.room.now c.args.room.now c.args.piece.now) (Ok step.Silent)
@@ -38,7 +38,7 @@ returns-clause-stepped c n =
     let input = view_value v in
     let old = c.args.self.now in
     let f = c.args.ahead in
-    let env : RunEnv = env_at (cells_of p input old.bound.items) f.env in
+    let env : RunEnv = env_at (cells_of p input old.bound) f.env in
     let text = c.args.text.now in
     let out = output c.args.room.now c.give_static.new.room c.give_static.new.piece in
     does_step p input old c.give_static.new.self f (op.Static text) 0

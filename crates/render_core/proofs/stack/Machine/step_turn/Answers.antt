@@ -29,7 +29,7 @@ leave-requires-else-has_item c =
     let old = c.args.self.now in
     let r = c.args.round in
     let at = c.point.ensures in
-    let none = items_at c.point.result p v old.bound.items at.program at.input at.bound r.list r.next false
+    let none = items_at c.point.result p v old.bound at.program at.input at.bound r.list r.next false
     (subst (λ (has : Bool). HasItem r.next (cell_at (cells_seen c.point.result) r.list).part has) c.if-has_item.false
     c.has_item.ensures) in
     record {
@@ -47,7 +47,7 @@ returns-in-Ok c n =
     let old = c.args.self.now in
     let r = c.args.round in
     let at = c.point.ensures in
-    let some = items_at c.point.result p v old.bound.items at.program at.input at.bound r.list r.next true
+    let some = items_at c.point.result p v old.bound at.program at.input at.bound r.list r.next true
     (subst (λ (has : Bool). HasItem r.next (cell_at (cells_seen c.point.result) r.list).part has) c.if-has_item.true
     c.has_item.ensures) in
     let ends = c.in-Ok.ensures in
