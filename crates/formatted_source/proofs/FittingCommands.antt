@@ -1,11 +1,13 @@
--- The commands of a text fit the limit on depth as they are written: so does each of their expressions, inside the
--- blocks around the command.
+-- The commands of a text fit the limit on depth as they are written: so does each of their expressions and types, inside
+-- the blocks around the command.
 use Rattle.std.proofs.Common.{ℕ, ◌≤◌, Bool, List, [], ◌∷◌, ◌++◌, Option, Some, None, subst, arith}
 use Rattle.std.specs.Prelude.{option_map, unwrap_or}
 use Rattle.soy_lexer.specs.declared.token.Token.{Token}
 use Rattle.soy_tree.specs.ViewExpressions.{view_expr, view_exprs}
+use Rattle.soy_tree.specs.ViewTypes.{view_type}
 use Rattle.soy_tree.specs.declared.expr.Expr.{Expr}
 use Rattle.expr_parser.specs.Depths.{AreWithin}
+use Rattle.expr_parser.specs.ParsesType.{NameTypes}
 use Rattle.soy_parser.specs.declared.attributes.Attributes.{Attributes}
 use Rattle.soy_parser.specs.declared.command.Command.{Command}
 use Rattle.soy_parser.specs.declared.command.CommandForm.{CommandForm}
@@ -27,8 +29,11 @@ use Rattle.soy_parser.specs.Depth.{inside_blocks, none_deep}
 use Rattle.soy_parser.specs.Heads.{form_at, plain_form, slash_form}
 use Rattle.soy_parser.specs.SpellsCommand.{SpellsCommand, SpellsCommands}
 use Rattle.soy_parser.specs.SpellsHead.{SpellsHead, SpellsValues, bare_head, expr_head}
+use Rattle.formatted_source.proofs.CommandWords.{command_words, head_names, type_names}
 use Rattle.formatted_source.proofs.FittingTrees.{ExprFits, ValuesFit}
+use Rattle.formatted_source.proofs.FittingTypes.{TypeFits, type_fits}
 use Rattle.formatted_source.proofs.ReadParts.{written_within}
+use Rattle.formatted_source.proofs.TypesSpelled.{names_before}
 
 abbrev pub SingleFits : ℕ → Single → Type 0
 SingleFits blocks (single.Print e) = ExprFits blocks (view_expr e)
@@ -55,6 +60,7 @@ abbrev pub FormFits : ℕ → CommandForm → Type 0
 FormFits blocks (says.Single of) = SingleFits blocks of
 FormFits blocks (says.Opens of) = OpeningFits blocks of
 FormFits blocks (says.GoesOn m) = MiddleFits blocks m
+FormFits blocks (says.TemplateParam name required of) = TypeFits blocks (view_type of)
 FormFits blocks _ = Unit {0}
 
 abbrev HeadFits : ℕ → Head → Type 0
@@ -120,28 +126,30 @@ values_fit blocks _ _ _ w (SpellsValues.more_ ts us ds es values comma x s c r) 
     (written_within blocks us es x r (within_right blocks ds (0 ∷ es) w).1)
 
 head_fits : (blocks : ℕ) (ts : List Token) (ds : List ℕ) (ws : List Bool) (h : Head) → AreWithin blocks ds
-    → SpellsHead ts ds ws h → HeadFits blocks h
-head_fits blocks _ _ _ _ w (SpellsHead.bare_ t h e) =
+    → NameTypes ts ws [] → SpellsHead ts ds ws h → HeadFits blocks h
+head_fits blocks _ _ _ _ w n (SpellsHead.bare_ t h e) =
     subst (HeadFitsIf blocks) e (bare_fits blocks (command_terminal_of t))
-head_fits blocks _ _ _ _ w (SpellsHead.printed_ ts ds x s) = written_within blocks ts ds x s w
-head_fits blocks _ _ _ _ w (SpellsHead.message_printed_ ts ds x s) = written_within blocks ts ds x s w
-head_fits blocks _ _ _ _ w (SpellsHead.message_print_ t ts ds x e s) = written_within blocks ts ds x s w.1
-head_fits blocks _ _ _ _ w (SpellsHead.expression_ t ts ds x h s e) =
+head_fits blocks _ _ _ _ w n (SpellsHead.printed_ ts ds x s) = written_within blocks ts ds x s w
+head_fits blocks _ _ _ _ w n (SpellsHead.message_printed_ ts ds x s) = written_within blocks ts ds x s w
+head_fits blocks _ _ _ _ w n (SpellsHead.message_print_ t ts ds x e s) = written_within blocks ts ds x s w.1
+head_fits blocks _ _ _ _ w n (SpellsHead.expression_ t ts ds x h s e) =
     subst (HeadFitsIf blocks) e (expr_fits blocks (command_terminal_of t) x.expr (written_within blocks ts ds x s w.1))
-head_fits blocks _ _ _ _ w (SpellsHead.case_ t ts ds values e s) = values_fit blocks ts ds values w.1 s
-head_fits blocks _ _ _ _ w (SpellsHead.plural_case_ t ts values e s) = tt
-head_fits blocks _ _ _ _ w (SpellsHead.select_case_ t ts values e s) = tt
-head_fits blocks _ _ _ _ w (SpellsHead.for_ t i ts us ds name index x e v k s) =
+head_fits blocks _ _ _ _ w n (SpellsHead.case_ t ts ds values e s) = values_fit blocks ts ds values w.1 s
+head_fits blocks _ _ _ _ w n (SpellsHead.plural_case_ t ts values e s) = tt
+head_fits blocks _ _ _ _ w n (SpellsHead.select_case_ t ts values e s) = tt
+head_fits blocks _ _ _ _ w n (SpellsHead.for_ t i ts us ds name index x e v k s) =
     written_within blocks us ds x s (within_right blocks (none_deep (t ∷ ts)) (0 ∷ ds) w).1
-head_fits blocks _ _ _ _ w (SpellsHead.let_ t v colon ts ds x e k c s) = written_within blocks ts ds x s w.1.1.1
-head_fits blocks _ _ _ _ w (SpellsHead.let_block_ t v e k) = tt
-head_fits blocks _ _ _ _ w (SpellsHead.call_ t ts us name e d s) = tt
-head_fits blocks _ _ _ _ w (SpellsHead.param_ t name colon o ts ds x e k c s) =
+head_fits blocks _ _ _ _ w n (SpellsHead.let_ t v colon ts ds x e k c s) = written_within blocks ts ds x s w.1.1.1
+head_fits blocks _ _ _ _ w n (SpellsHead.let_block_ t v e k) = tt
+head_fits blocks _ _ _ _ w n (SpellsHead.call_ t ts us name e d s) = tt
+head_fits blocks _ _ _ _ w n (SpellsHead.param_ t name colon o ts ds x e k c s) =
     written_within blocks ts ds x s w.1.1.1
-head_fits blocks _ _ _ _ w (SpellsHead.param_block_ t name o e k) = tt
-head_fits blocks _ _ _ _ w (SpellsHead.namespace_ t ts name e s) = tt
-head_fits blocks _ _ _ _ w (SpellsHead.template_ t name o ts e d k) = tt
-head_fits blocks _ _ _ _ w (SpellsHead.template_param_ sign t name colon o ts us ds ws required x a e q k c s) = tt
+head_fits blocks _ _ _ _ w n (SpellsHead.param_block_ t name o e k) = tt
+head_fits blocks _ _ _ _ w n (SpellsHead.namespace_ t ts name e s) = tt
+head_fits blocks _ _ _ _ w n (SpellsHead.template_ t name o ts e d k) = tt
+head_fits blocks _ _ _ _ w n (SpellsHead.template_param_ sign t name colon o ts us ds ws required x a e q k c s) =
+    type_fits blocks us ds ws x (within_right blocks (none_deep (sign ∷ (t ∷ ts))) (0 ∷ (0 ∷ ds)) w).1.1
+    (type_names sign t name colon ts us ws n) s
 
 abbrev FormFitsIf : ℕ → Option CommandForm → Type 0
 FormFitsIf blocks None = Unit {0}
@@ -189,13 +197,14 @@ pub record CommandFits (blocks : ℕ) (of : CommandForm) : Type 0 where
   pub level : blocks ≤ 64
   pub form : FormFits blocks of
 
-command_fits : (blocks : ℕ) (ts : List Token) (ds : List ℕ) (ws : List Bool) (c : Command) → AreWithin blocks ds
-    → SpellsCommand ts ds ws c → CommandFits blocks c.form
-command_fits blocks _ _ _ _ w (SpellsCommand.text_ t e) = record { level = omega (arith, w.0); form = tt }
-command_fits blocks _ _ _ _ w (SpellsCommand.command_ opening_ close ts us ds ws h a of e s b i) = record {
+command_fits : (blocks : ℕ) (ts rest : List Token) (ds : List ℕ) (ws : List Bool) (c : Command) → AreWithin blocks ds
+    → NameTypes ts ws rest → SpellsCommand ts ds ws c → CommandFits blocks c.form
+command_fits blocks _ rest _ _ _ w n (SpellsCommand.text_ t e) = record { level = omega (arith, w.0); form = tt }
+command_fits blocks _ rest _ _ _ w n (SpellsCommand.command_ opening_ close ts us ds ws h a of e s b i) = record {
   level = omega (arith, w.0);
   form = subst (FormFitsIf blocks) i (said_fits blocks h a (command_terminal_of close)
-      (head_fits blocks ts ds ws h (within_left blocks ds (none_deep (us ++ (close ∷ []))) w.1) s));
+      (head_fits blocks ts ds ws h (within_left blocks ds (none_deep (us ++ (close ∷ []))) w.1)
+      (head_names opening_ close ts us rest ds ws h a of s b i n) s));
 }
 
 -- **The commands of a text fit, each inside the blocks around it.**
@@ -205,10 +214,12 @@ AllFit [] (l ∷ ls) = ⊥
 AllFit (c ∷ cs) [] = ⊥
 AllFit (c ∷ cs) (l ∷ ls) = CommandFits l c.form × AllFit cs ls
 
-pub commands_fit : (ts : List Token) (ds : List ℕ) (ws : List Bool) (cs : List Command) (ls : List ℕ)
-    → AreWithin 0 ds → SpellsCommands ts ds ws cs ls → AllFit cs ls
-commands_fit _ _ _ _ _ w SpellsCommands.none_ = tt
-commands_fit _ _ _ _ _ w (SpellsCommands.more_ ts us ds es ws vs c cs level levels s r) = (
-  command_fits level ts ds ws c (out_of_blocks level ds (within_left 0 (inside_blocks level ds) es w)) s,
-  commands_fit us es vs cs levels (within_right 0 (inside_blocks level ds) es w) r,
-)
+pub commands_fit : (ts rest : List Token) (ds : List ℕ) (ws : List Bool) (cs : List Command) (ls : List ℕ)
+    → AreWithin 0 ds → NameTypes ts ws rest → SpellsCommands ts ds ws cs ls → AllFit cs ls
+commands_fit _ rest _ _ _ _ w n SpellsCommands.none_ = tt
+commands_fit _ rest _ _ _ _ w n (SpellsCommands.more_ ts us ds es ws vs c cs level levels s r) =
+    let parts = names_before ts us ws vs rest (command_words ts ds ws c s) n in (
+      command_fits level ts (us ++ rest) ds ws c
+          (out_of_blocks level ds (within_left 0 (inside_blocks level ds) es w)) parts.0 s,
+      commands_fit us rest es vs cs levels (within_right 0 (inside_blocks level ds) es w) parts.1 r,
+    )

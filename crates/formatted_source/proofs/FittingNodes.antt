@@ -5,13 +5,15 @@ use Rattle.soy_lexer.specs.declared.token.Token.{Token}
 use Rattle.soy_tree.specs.ViewNodes.{view_node, view_nodes, view_arms, view_cases}
 use Rattle.soy_tree.specs.ViewNodes.{view_arguments}
 use Rattle.soy_tree.specs.ViewNodes.{arms_of}
-use Rattle.soy_tree.specs.ViewTrees.{view_template, view_tree}
+use Rattle.soy_tree.specs.ViewTrees.{view_params, view_template, view_tree}
+use Rattle.soy_tree.specs.ViewTypes.{view_type}
 use Rattle.soy_tree.specs.Trees as trees
 use Rattle.soy_tree.specs.declared.node.Argument.{Argument}
 use Rattle.soy_tree.specs.declared.node.Arm.{Arm}
 use Rattle.soy_tree.specs.declared.node.Case.{Case}
 use Rattle.soy_tree.specs.declared.node.Given.TheVariants as given
 use Rattle.soy_tree.specs.declared.node.Node.{Node}
+use Rattle.soy_tree.specs.declared.tree.Param.{Param}
 use Rattle.soy_tree.specs.declared.tree.Template.{Template}
 use Rattle.soy_tree.specs.declared.tree.Tree.{Tree}
 use Rattle.expr_parser.specs.Operands.{joined}
@@ -26,7 +28,7 @@ use Rattle.soy_parser.specs.Nodes.{up_to}
 use Rattle.soy_parser.specs.ParsesFile.{IsFile}
 use Rattle.soy_parser.specs.SpellsTree.{SpellsNodes, SpellsBody, SpellsNode}
 use Rattle.soy_parser.specs.SpellsTree.{SpellsArms, SpellsCases, SpellsArguments, SpellsTemplates, SpellsTree}
-use Rattle.soy_parser.specs.SpellsTree.{template_of}
+use Rattle.soy_parser.specs.SpellsTree.{SpellsParams, param_of, template_of}
 use Rattle.soy_parser.proofs.NodeViews.{view_print}
 use Rattle.soy_parser.proofs.ViewForms.{view-If, view-IfElse, view-Switch, view-SwitchDefault, view-For, view-Let}
 use Rattle.soy_parser.proofs.ViewForms.{view-LetBlock, view-Call, view-Message, view-MessageFallback, view-arm}
@@ -39,6 +41,7 @@ use Rattle.formatted_source.proofs.FittingCommands.{AllFit, commands_fit}
 use Rattle.formatted_source.proofs.FittingTrees.{ArgumentsFit, CasesFit, FirstFits}
 use Rattle.formatted_source.proofs.FittingTrees.{GivenFits}
 use Rattle.formatted_source.proofs.FittingTrees.{NodeFits, NodesFit}
+use Rattle.formatted_source.proofs.FittingTypes.{TypeFits}
 use Rattle.formatted_source.proofs.FittingParts.{ArmsAre, Fit, arguments_append, arms_append, cases_append, fit_deeper}
 use Rattle.formatted_source.proofs.FittingParts.{fit_left, fit_right, fits_as, inside_none, last_level, level_is}
 use Rattle.formatted_source.proofs.FittingParts.{nodes_more}
@@ -216,13 +219,34 @@ mutual
 
 -- files
 
--- the body of each template stands inside of one block
+abbrev pub ParamsFit : ℕ → List trees.Param → Type 0
+ParamsFit blocks [] = Unit {0}
+ParamsFit blocks (p ∷ ps) = TypeFits blocks p.of × ParamsFit blocks ps
+
+params_append : (b : ℕ) (ps : List Param) (p : Param) → ParamsFit b (view_params ps) → TypeFits b (view_type p.of)
+    → ParamsFit b (view_params (ps ++ (p ∷ [])))
+params_append b [] p h k = (k, tt)
+params_append b (q ∷ ps) p h k = (h.0, params_append b ps p h.1 k)
+
+params_fit : (b : ℕ) (cs : List Command) (ls : List ℕ) (params : List Param) → Fit b cs ls
+    → SpellsParams cs ls params → ParamsFit b (view_params params)
+params_fit b _ _ _ f SpellsParams.none_ = tt
+params_fit b _ _ _ f (SpellsParams.param_ cs ls params c name required of s h) =
+    let even = params_even cs ls params s in
+    params_append b params (param_of name of required c.span)
+    (params_fit b cs ls params (fit_left b cs (c ∷ []) ls (0 ∷ []) even f) s)
+    (fits_as b c (says.TemplateParam name required of) h (fit_right b cs (c ∷ []) ls (0 ∷ []) even f).0)
+
+-- the params and the body of each template stand inside of one block
+abbrev pub TemplateFits : trees.Template → Type 0
+TemplateFits t = ParamsFit 1 t.params × NodesFit 1 t.body
+
 abbrev pub TemplatesFit : List trees.Template → Type 0
 TemplatesFit [] = Unit {0}
-TemplatesFit (t ∷ ts) = NodesFit 1 t.body × TemplatesFit ts
+TemplatesFit (t ∷ ts) = TemplateFits t × TemplatesFit ts
 
 templates_append : (ts : List Template) (t : Template) → TemplatesFit (map view_template ts)
-    → NodesFit 1 (view_nodes t.body) → TemplatesFit (map view_template (ts ++ (t ∷ [])))
+    → TemplateFits (view_template t) → TemplatesFit (map view_template (ts ++ (t ∷ [])))
 templates_append [] t h k = (k, tt)
 templates_append (u ∷ ts) t h k = (h.0, templates_append ts t h.1 k)
 
@@ -235,11 +259,14 @@ templates_fit _ _ _ f (SpellsTemplates.template_ cs ps bs ls ms ks templates c z
     let even = templates_even cs ls templates s in
     let i = fit_right 0 cs (c ∷ (ps ++ (bs ++ (z ∷ [])))) ls (0 ∷ inside_blocks 1 (ms ++ (ks ++ (0 ∷ [])))) even f in
     let j = fit_deeper 0 (ps ++ (bs ++ (z ∷ []))) (ms ++ (ks ++ (0 ∷ []))) i.1 in
-    let k = fit_right 1 ps (bs ++ (z ∷ [])) ms (ks ++ (0 ∷ [])) (params_even ps ms params p) j in
+    let own = params_even ps ms params p in
+    let k = fit_right 1 ps (bs ++ (z ∷ [])) ms (ks ++ (0 ∷ [])) own j in
     templates_append templates (template_of h params body (up_to c.span z.span))
     (templates_fit cs ls templates
-    (fit_left 0 cs (c ∷ (ps ++ (bs ++ (z ∷ [])))) ls (0 ∷ inside_blocks 1 (ms ++ (ks ++ (0 ∷ [])))) even f) s)
-    (body_fits 1 bs ks body (fit_left 1 bs (z ∷ []) ks (0 ∷ []) (body_even bs ks body r) k) r)
+    (fit_left 0 cs (c ∷ (ps ++ (bs ++ (z ∷ [])))) ls (0 ∷ inside_blocks 1 (ms ++ (ks ++ (0 ∷ [])))) even f) s) (
+      params_fit 1 ps ms params (fit_left 1 ps (bs ++ (z ∷ [])) ms (ks ++ (0 ∷ [])) own j) p,
+      body_fits 1 bs ks body (fit_left 1 bs (z ∷ []) ks (0 ∷ []) (body_even bs ks body r) k) r,
+    )
 
 tree_fits : (cs : List Command) (ls : List ℕ) (t : Tree) → Fit 0 cs ls → SpellsTree cs ls t
     → TemplatesFit (view_tree t).templates
@@ -251,4 +278,5 @@ pub tree_fit : (tokens : List Token) (t : Tree) → IsFile tokens t → Template
 tree_fit tokens t i =
     tree_fits i.spells.commands i.spells.levels t
     (subst (λ l. AllFit i.spells.commands l) (sym (inside_none i.spells.levels))
-    (commands_fit tokens i.depths i.words i.spells.commands i.spells.levels i.within i.spells.spell)) i.spells.are
+    (commands_fit tokens [] i.depths i.words i.spells.commands i.spells.levels i.within i.known i.spells.spell))
+    i.spells.are

@@ -15,7 +15,7 @@ use Rattle.formatted_source.specs.Lexemes.{Lexeme, lexemes}
 use Rattle.formatted_source.specs.ReadsAs.{HasTokens, LexesAs}
 
 -- a text has one list of tokens, and no fault beside it
-same_tokens : (text : List ℕ) (first second : List Token) → Tokens text first → Tokens text second → first ≡ second
+pub same_tokens : (text : List ℕ) (first second : List Token) → Tokens text first → Tokens text second → first ≡ second
 same_tokens text first second one two =
     one.tokens_are
     ∙ (ap (λ ps. tokens_of 0 [] ps)

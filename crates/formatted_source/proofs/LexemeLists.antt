@@ -55,7 +55,7 @@ pub record Alone (ts : List Token) (l : Lexeme) : Type 0 where
   pub kind_is : token.kind ≡ l.0
   pub text_is : token.text ≡ l.1
 
-none_left : (ts : List Token) → lexemes ts ≡ [] → ts ≡ []
+pub none_left : (ts : List Token) → lexemes ts ≡ [] → ts ≡ []
 none_left [] e = refl
 none_left (t ∷ ts) e = absurd (cc)
 

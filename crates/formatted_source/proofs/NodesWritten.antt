@@ -40,6 +40,7 @@ use Rattle.formatted_source.proofs.CommandsWritten.{fallbackmsg_word, for_writte
 use Rattle.formatted_source.proofs.CommandsWritten.{let_written}
 use Rattle.formatted_source.proofs.CommandsWritten.{msg_word, param_block_written, param_written, plural_case_written}
 use Rattle.formatted_source.proofs.CommandsWritten.{select_case_written, select_word, switch_word}
+use Rattle.formatted_source.proofs.Conditions.{four, three}
 use Rattle.formatted_source.proofs.Names.{both}
 use Rattle.formatted_source.proofs.PieceReads.{ArePieces, IsCommand}
 use Rattle.formatted_source.proofs.PrintsWritten.{call_written, message_written, plural_written, print_written}
@@ -134,19 +135,6 @@ arm_is false e more f a b = (expr_command_written (codes "elseif") e elseif_word
 close_any : (given : Arguments) → Any (call_close_pieces given)
 close_any no_argument b = tt
 close_any (argument name g span rest) b = (call_close_is, tt)
-
-three : (a b c : Bool) → (a && b && c) ≡ true → (a ≡ true) × (b ≡ true) × (c ≡ true)
-three true true true h = (refl, refl, refl)
-three true true false h = cc
-three true false c h = cc
-three false b c h = cc
-
-four : (a b c d : Bool) → (a && b && c && d) ≡ true → (a ≡ true) × (b ≡ true) × (c ≡ true) × (d ≡ true)
-four true true true true h = (refl, refl, refl, refl)
-four true true true false h = cc
-four true true false d h = cc
-four true false c d h = cc
-four false b c d h = cc
 
 mutual
   node_are : (m : Bool) (n : Node) → is_formed_node n ≡ true → is_sourced_node m n ≡ true → (b : Bool)

@@ -6,25 +6,14 @@ use Rattle.soy_base.specs.declared.memory.Refusal.TheVariants.{Because, OutOfMem
 use Rattle.soy_lexer.specs.declared.token.Token.{Token}
 use Rattle.soy_tree.specs.ViewTrees.{view_tree}
 use Rattle.soy_tree.specs.declared.tree.Tree.{Tree}
-use Rattle.soy_parser.specs.ParsesFile.{IsFile, ParsesFile}
+use Rattle.soy_parser.specs.ParsesFile.{ParsesFile}
 use Rattle.soy_parser.proofs.FileAnswers.{one_file_answer}
 use Rattle.soy_format.specs.WithoutSpans.{AreAlike}
-
--- the tokens are a file that is alike
-pub record FileAlike (tokens : List Token) (t : Tree) : Type 0 where
-  pub tree : Tree
-  pub file : IsFile tokens tree
-  pub alike : AreAlike (view_tree t) (view_tree tree)
-
--- an answer is a tree that is alike, where memory doesn't run out
-abbrev pub ParsesAlike : Tree → Result Tree (Refusal Fault) → Type 0
-ParsesAlike t (Ok x) = AreAlike (view_tree t) (view_tree x)
-ParsesAlike t (Err (Because fault)) = ⊥
-ParsesAlike t (Err OutOfMemory) = Unit {0}
+use Rattle.formatted_source.specs.ReadsAlike.{IsFileAlike, ParsesAlike}
 
 -- **What is answered for such tokens is a tree that is alike.**
 pub parses_alike : (file : ℕ) (tokens : List Token) (t : Tree) (answer : Result Tree (Refusal Fault))
-    → FileAlike tokens t → ParsesFile file tokens answer → ParsesAlike t answer
+    → IsFileAlike tokens t → ParsesFile file tokens answer → ParsesAlike t answer
 parses_alike file tokens t (Ok x) has h =
     let own : has.tree ≡ x =
     cc (one_file_answer file tokens (Ok has.tree) (Ok x) has.file h (λ e. cc e) (λ e. cc e)) in

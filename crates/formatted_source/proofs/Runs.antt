@@ -12,6 +12,7 @@ use Rattle.soy_lexer.specs.Tokens.{run_token, token_of_lines}
 use Rattle.formatted_source.specs.Lexemes.{Lexeme, lexemes}
 use Rattle.formatted_source.specs.Pieces.{text_lexemes}
 use Rattle.formatted_source.proofs.Names.{both}
+use Rattle.formatted_source.proofs.Conditions.{not_true}
 
 -- a run of these characters has these lexemes
 abbrev pub RunLexemes : List ℕ → List Lexeme → Type 0
@@ -46,10 +47,6 @@ may_precede false line = true
 
 abbrev breaks : RunCharacter → Bool
 breaks c = is_line_break c.character
-
-not_true : (t : Bool) → not t ≡ true → t ≡ false
-not_true true h = cc
-not_true false h = refl
 
 -- a line up to a line break, or to the end, is one part
 unbroken_split : (line : Line) → is_unbroken (characters line) ≡ true → slice_split breaks line ≡ line ∷ []

@@ -5,6 +5,7 @@ pub mod ExprLexemes
 pub mod Lexemes
 pub mod NodePieces
 pub mod Pieces
+pub mod ReadsAlike
 pub mod ReadsAs
 pub mod SourcedTrees
 pub mod TreeLexemes

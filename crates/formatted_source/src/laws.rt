@@ -26,6 +26,7 @@ ghost use Rattle.soy_parser.specs.ParsesFile.{IsFile};
 ghost use Rattle.soy_format.specs.Formatted.{formatted_tree};
 ghost use Rattle.soy_format.specs.FormattedExpression.{formatted_expr};
 ghost use Rattle.formatted_source.specs.CommandLexemes.{ends_name, ends_type};
+ghost use Rattle.formatted_source.specs.ReadsAlike.{IsFileAlike, ReadsAlike};
 ghost use Rattle.formatted_source.specs.ReadsAs.{HasTokens, IsReadAsExpr, IsReadAsType, LexesAs};
 ghost use Rattle.formatted_source.specs.SourcedTrees.{is_sourced_tree};
 ghost use Rattle.formatted_source.specs.TreeLexemes.{tree_lexemes};
@@ -41,6 +42,17 @@ pub fn law_formatted_tokens()
         (file : ℕ) (page : List ℕ) (answer : Result (Vec Token Global) (Refusal Fault)) →
         chars page ≡ formatted_tree (view_tree t) → length page ≤ largest_file → Lexes file page answer →
         LexesAs (tree_lexemes (view_tree t)) answer }
+{}
+
+/// The canonical source of a tree of a text is a file whose tree differs from it in spans alone: its tokens are one, and
+/// where it is at most 1,048,576 bytes, `lex` and `parse` answer that, where memory doesn't run out.
+pub fn law_formatted_file()
+    ensures is_file { (text : List ℕ) (tokens : List Token) (t : code.Tree) → Tokens text tokens → IsFile tokens t →
+        (own : List Token) → Tokens (formatted_tree (view_tree t)) own → IsFileAlike own t }
+    ensures reads { (text : List ℕ) (tokens : List Token) (t : code.Tree) → Tokens text tokens → IsFile tokens t →
+        (file : ℕ) (page : List ℕ) (lexed : Result (Vec Token Global) (Refusal Fault)) →
+        chars page ≡ formatted_tree (view_tree t) → length page ≤ largest_file → Lexes file page lexed →
+        ReadsAlike file t lexed }
 {}
 
 /// An expression that the tokens of a text spell is read, as it is written, as one that is alike, and lies no deeper.

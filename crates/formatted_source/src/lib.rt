@@ -9,4 +9,4 @@
 
 mod laws;
 
-pub use laws::{law_formatted_expr, law_formatted_tokens, law_formatted_type};
+pub use laws::{law_formatted_expr, law_formatted_file, law_formatted_tokens, law_formatted_type};
