@@ -27,6 +27,7 @@ pub mod PlayedLines
 pub mod PreviewAnswers
 pub mod PreviewTexts
 pub mod Pulling
+pub mod ReadBacks
 pub mod ReadyFiles
 pub mod Rendering
 pub mod ScriptTexts

@@ -37,6 +37,7 @@ pub mod PageTook
 pub mod Played
 pub mod Pointer
 pub mod RenderAsked
+pub mod ReadBack
 pub mod Rendered
 pub mod Script
 pub mod ScriptSteps

@@ -1,17 +1,24 @@
 //! The laws of the answer: contracts with an empty body, so they hold of the definitions that the code follows.
 
-ghost use Rattle.std.specs.Prelude.{◌≡◌, ℕ, List, Option, Some, IfSome, slice_get};
+ghost use Rattle.std.specs.Prelude.{◌≡◌, ℕ, ◌≤◌, List, Option, Some, IfSome, length, slice_get};
+ghost use Rattle.std.specs.Str.{IsUtf8};
+ghost use Rattle.alike_files.specs.AlikeFiles.{AlikeFiles};
+ghost use Rattle.alike_files.specs.AnswersWithoutPositions.{answer_without_positions};
+ghost use Rattle.alike_files.specs.IdsIn.{ids_in};
+ghost use Rattle.alike_files.specs.MeaningUnder.{meaning_under};
 ghost use Rattle.soy_desk.specs.Alone.{left_of};
 ghost use Rattle.soy_desk.specs.DeskRun.{DeskRun, Step};
 ghost use Rattle.soy_desk.specs.DeskState.{DeskState, desk_with, first_rest};
 ghost use Rattle.soy_front.specs.Compiled.{AreCompiled};
+ghost use Rattle.soy_front.specs.FrontAnswer.{front_answer};
 ghost use Rattle.soy_front.specs.declared.compiling.Compiled.{Compiled};
-ghost use Rattle.soy_io.specs.FileOf.{Files};
+ghost use Rattle.soy_io.specs.FileOf.{Files, file_of};
 ghost use Rattle.soy_meaning.specs.TypedData.{FitsData};
 ghost use Rattle.soy_top.specs.AcceptedRender.{AcceptedPreview, AcceptedRender};
 ghost use Rattle.soy_top.specs.Answer.{Done, Refused, TooDeep, answer, known_answer, template_outcome};
 ghost use Rattle.soy_top.specs.Asked.{asked_by_words};
 ghost use Rattle.soy_top.specs.DeskLines.{ShowsAll};
+ghost use Rattle.soy_top.specs.IsFormatted.{IsFormatted};
 ghost use Rattle.soy_top.specs.IsPage.{IsRefusedPage};
 ghost use Rattle.soy_top.specs.IsPreview.{IsRefusedPreview};
 ghost use Rattle.soy_top.specs.IsRefusedFormat.{AreFormat, IsRefusedFormat};
@@ -19,12 +26,15 @@ ghost use Rattle.soy_top.specs.IsStopped.{IsStopped};
 ghost use Rattle.soy_top.specs.IsText.{IsText};
 ghost use Rattle.soy_top.specs.OneText.{IsOneText};
 ghost use Rattle.soy_top.specs.Played.{PlayStep, first_left, played_text};
+ghost use Rattle.soy_top.specs.ReadBack.{AreCanonical, IsCanonicalOf, IsReadBack};
 ghost use Rattle.soy_top.specs.RenderAsked.{AsksRender};
 ghost use Rattle.soy_top.specs.Rendered.{Rendered, known_rendered, rendered_answer};
 ghost use Rattle.soy_top.specs.Words.{Word};
 ghost use Rattle.soy_tree.specs.Templates.{Declared, declared};
+ghost use Rattle.soy_tree.specs.Values as values;
 ghost use Rattle.soy_tree.specs.ViewTrees.{view_trees};
 ghost use Rattle.soy_tree.specs.ViewValues.{view_value};
+ghost use Rattle.soy_tree.specs.declared.bundle.Bundle.{Bundle};
 ghost use Rattle.soy_tree.specs.declared.value.Value.{Value};
 ghost use Rattle.template_ir.specs.Run.{input_env, names_of};
 ghost use Rattle.template_ir.specs.declared.program.ProgramParts.{ProgramParts};
@@ -66,6 +76,34 @@ pub fn law_refused_format()
         answer files words ≡ Refused line → IsRefusedFormat files words line }
     ensures only_refused { (files : Files) (words : List Word) (line : List ℕ) → IsRefusedFormat files words line →
         answer files words ≡ Refused line }
+{}
+
+/// What a `format` answers is the canonical source of its file. Where that is UTF-8 and no larger than a file may be, it
+/// has a tree by itself, which differs in spans alone from the file's; it is its own canonical source, so another
+/// `format` answers it again; and files and their canonical sources are alike.
+pub fn law_canonical_source()
+    ensures formatted { (files : Files) (words : List Word) (text : List ℕ) (is : IsFormatted files words text) →
+        IsUtf8 text → length text ≤ 1048576 → IsCanonicalOf is.bytes text }
+    ensures read_back { (bytes text : List ℕ) (is : IsCanonicalOf bytes text) → IsReadBack text is.tree }
+    ensures again { (files : Files) (words : List Word) (name : Word) (bytes text : List ℕ) →
+        IsCanonicalOf bytes text → AreFormat words name → file_of files name ≡ Some text →
+        answer files words ≡ Done text }
+    ensures alike { (contents texts : List (List ℕ)) → AreCanonical contents texts → AlikeFiles contents texts }
+{}
+
+/// Files whose trees are alike are answered alike under every bundle, but for positions; they have the same ids; and
+/// their templates of one number mean the same, for all data and bundles.
+pub fn law_alike_files()
+    ensures answers { (contents others : List (List ℕ)) (bundle : Option (List ℕ)) → AlikeFiles contents others →
+        answer_without_positions (front_answer contents bundle)
+        ≡ answer_without_positions (front_answer others bundle) }
+    ensures ids { (contents others : List (List ℕ)) (are : AlikeFiles contents others) →
+        ids_in (view_trees are.trees) ≡ ids_in (view_trees are.other_trees) }
+    ensures meaning { (contents others : List (List ℕ)) (are : AlikeFiles contents others) (bundle : Bundle)
+        (number : ℕ) (d other : Declared) (v : values.Value) →
+        slice_get (declared (view_trees are.trees)) number ≡ Some d →
+        slice_get (declared (view_trees are.other_trees)) number ≡ Some other →
+        meaning_under bundle (view_trees are.trees) d v ≡ meaning_under bundle (view_trees are.other_trees) other v }
 {}
 
 /// What is written for the steps of a script is what a desk shows: for every list of steps of a new desk, on which the

@@ -40,8 +40,8 @@ mod summary;
 mod wanted;
 
 pub use laws::{
-    law_answer_is_text, law_desk_shows, law_first_left, law_page_is_one_text, law_refused_format,
-    law_refused_preview, law_rendered_answer,
+    law_alike_files, law_answer_is_text, law_canonical_source, law_desk_shows, law_first_left,
+    law_page_is_one_text, law_refused_format, law_refused_preview, law_rendered_answer,
 };
 pub use program::run;
 pub use status::Status;
