@@ -2,12 +2,13 @@
 """Runs the program on kinds of hostile input, deep, wide, long and repeated, each at three sizes of which the last is
 at a limit, and prints for each kind the statuses, the seconds, the peak of memory at the largest size in MB, and the
 exponent of growth: by how much the time of the largest size is above that of half of it, as a power of two. It asserts
-nothing. A time is that of a whole run, less that of a run of an empty page.
+nothing. A time is the processor's, of a whole run, less that of a run of an empty page; of runs that take less than a
+second, the least of three.
 
 bench/hostile.py [--soyc CMD] [--stack KB] [--memory MB] [--seconds S] [--scale N] [--only WORD]
 
---stack and --memory limit the stack and the address space of each run (ulimit -s and -v), --seconds ends a run (60 by
-default), --scale N takes an Nth of each size, --only the kinds with a word in their names. CMD is ./soyc by default,
+--stack and --memory limit the stack and the address space of each run (ulimit -s and -v), --seconds is how much of the
+processor a run may use (60 by default), --scale N takes an Nth of each size, --only the kinds with a word in their names. CMD is ./soyc by default,
 which is built where it has to be."""
 import argparse
 import math
@@ -18,7 +19,6 @@ import signal
 import subprocess
 import sys
 import tempfile
-import time
 
 TOP = os.path.join(os.path.dirname(os.path.abspath(__file__)), "..")
 KINDS = []
@@ -564,30 +564,22 @@ def _(n):
 def run(command, words, folder, limits):
     """The status of a run, its seconds and its peak of memory in MB."""
     def limit():
+        resource.setrlimit(resource.RLIMIT_CPU, (limits.seconds, limits.seconds + 1))
         if limits.stack:
             resource.setrlimit(resource.RLIMIT_STACK, (limits.stack * 1024, limits.stack * 1024))
         if limits.memory:
             resource.setrlimit(resource.RLIMIT_AS, (limits.memory << 20, limits.memory << 20))
-    began = time.monotonic()
     with open(os.devnull, "wb") as nowhere:
         process = subprocess.Popen(command + words, cwd=folder, stdin=nowhere, stdout=nowhere, stderr=nowhere,
                                    preexec_fn=limit)
-        ended = {}
-
-        def stop(*_):
-            ended["late"] = True
-            process.kill()
-        signal.signal(signal.SIGALRM, stop)
-        signal.setitimer(signal.ITIMER_REAL, limits.seconds)
         _, status, used = os.wait4(process.pid, 0)
-        signal.setitimer(signal.ITIMER_REAL, 0)
-    took = time.monotonic() - began
-    if "late" in ended:
-        name = "late"
-    elif os.WIFSIGNALED(status):
-        name = signal.Signals(os.WTERMSIG(status)).name
-    else:
+    took = used.ru_utime + used.ru_stime
+    if not os.WIFSIGNALED(status):
         name = str(os.WEXITSTATUS(status))
+    elif os.WTERMSIG(status) == signal.SIGXCPU:
+        name = "late"
+    else:
+        name = signal.Signals(os.WTERMSIG(status)).name
     return name, took, used.ru_maxrss / 1024
 
 
@@ -598,7 +590,9 @@ def measured(command, made, limits):
         for name, text in files.items():
             with open(os.path.join(folder, name), "wb") as file:
                 file.write(text.encode())
-        return run(command, words, folder, limits)
+        first = run(command, words, folder, limits)
+        again = [run(command, words, folder, limits) for _ in range(2 if first[1] < 1 else 0)]
+        return min([first, *again], key=lambda found: found[1])
 
 
 def program(command):
@@ -619,7 +613,7 @@ def main():
     reader.add_argument("--soyc")
     reader.add_argument("--stack", type=int)
     reader.add_argument("--memory", type=int)
-    reader.add_argument("--seconds", type=float, default=60)
+    reader.add_argument("--seconds", type=int, default=60)
     reader.add_argument("--scale", type=int, default=1)
     reader.add_argument("--only", default="")
     limits = reader.parse_args()
