@@ -60,11 +60,25 @@ fn opened(alloc: Global, desk: &mut Desk, inputs: Vec<Value>, number: usize) -> 
     Some(names)
 }
 
-/// One pull of each; the number of bytes that they give.
+/// The number of bytes that pulls of a rendering put into a room until it is full or nothing is to come.
+fn filled<L: Ledger>(desk: &mut Desk, name: u64, room: &mut [u8], steps: &mut Steps<L>) -> Option<usize> {
+    let mut count = 0usize;
+    for _ in 0..room.len() {
+        let rest = room.get_mut(count..)?;
+        match desk.pull(name, rest, steps) {
+            Ok(0) => return Some(count),
+            Ok(n) => count = count.saturating_add(n),
+            Err(_) => return None,
+        }
+    }
+    Some(count)
+}
+
+/// A room of each; the number of bytes that they give.
 fn one_round<L: Ledger>(desk: &mut Desk, names: &[u64], room: &mut [u8], steps: &mut Steps<L>) -> Option<usize> {
     let mut count = 0usize;
     for name in names {
-        count = count.saturating_add(desk.pull(*name, room, steps).ok()?);
+        count = count.saturating_add(filled(desk, *name, room, steps)?);
     }
     Some(count)
 }
