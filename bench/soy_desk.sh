@@ -2,7 +2,8 @@
 # Renders the page of the workload of a number (a list of 4,000 items) 64 times by a program that is made here: once
 # with 64 renderings open on a desk, pulled in turn until a room of 4,096 bytes is full, once one page after the other with
 # a rendering of its own each. Prints the microseconds a page of both, the least of five runs, and how much more memory of
-# the system the open renderings take at most beside their inputs (nothing where what was freed before suffices). Run it from anywhere: `bench/soy_desk.sh`.
+# the system the open renderings take at most beside their inputs (nothing where what was freed before suffices). Run it
+# from anywhere: `bench/soy_desk.sh`.
 set -eu
 . "$(dirname "$0")/setup.sh"
 
