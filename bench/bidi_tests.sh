@@ -276,9 +276,9 @@ for name, lines in tests.items():
         if not is_same:
             first.setdefault((sort, what), f"{question}: {given}, and not {answer}")
     for sort in sorted({key[0] for key in counts}):
-        told = [f"{counts[sort, what, True]} {what} as in the test and {counts[sort, what, False]} otherwise"
+        known = [f"{counts[sort, what, True]} {what} as in the test and {counts[sort, what, False]} otherwise"
                 for what in ("lines", "pages")]
-        print(f"{name}, {sort}: {', '.join(told)}")
+        print(f"{name}, {sort}: {', '.join(known)}")
         for what in ("lines", "pages"):
             if (sort, what) in first:
                 print(f"  the first of these {what}: {first[sort, what]}")
