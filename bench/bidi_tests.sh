@@ -277,7 +277,7 @@ for name, lines in tests.items():
             first.setdefault((sort, what), f"{question}: {given}, and not {answer}")
     for sort in sorted({key[0] for key in counts}):
         known = [f"{counts[sort, what, True]} {what} as in the test and {counts[sort, what, False]} otherwise"
-                for what in ("lines", "pages")]
+                 for what in ("lines", "pages")]
         print(f"{name}, {sort}: {', '.join(known)}")
         for what in ("lines", "pages"):
             if (sort, what) in first:
