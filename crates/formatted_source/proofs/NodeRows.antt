@@ -41,7 +41,7 @@ all_so_far : (One : List Command → List ℕ → code.Node → Type 0)
 all_so_far One S B g true cs ks done s = g.plain cs ks done s
 all_so_far One S B g false cs ks done s = s
 
--- in the place of the parts of two appended lists
+-- instead of the parts of two appended lists
 again : (T : List Command → List ℕ → List code.Node → Type 0) (cs bs ds : List Command) (ks ms ns : List ℕ)
     (done : List code.Node) (n : code.Node) (others : List code.Node)
     → T ((cs ++ bs) ++ ds) ((ks ++ ms) ++ ns) ((done ++ (n ∷ [])) ++ others)

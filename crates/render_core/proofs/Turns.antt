@@ -203,7 +203,7 @@ module _ (p : ProgramParts) (input : values.Value) where
   turn_adds r true env = (name_or_none (name_there p (naming.Index r.op)), Known (IntValue (pos r.next))) ∷ env
   turn_adds r false env = env
 
-  -- the variables of a turn stand on those before it
+  -- the variables of a turn depend on those before it
   turn_whole : (r : Round) (has : Bool) (old new : List Bound) → AddsTurn p r has old new
       → take (length old) new ≡ old
   turn_whole r false old new adds = adds_whole p (item_bound r) old new adds
