@@ -5,7 +5,8 @@
 set -eu
 . "$(dirname "$0")/setup.sh"
 
-begin bench_icu_text soy_base plural_rules soy_tree icu_text <<'PROGRAM'
+begin bench_icu_text soy_base plural_rules soy_tree icu_text \
+    soy_rules <<'PROGRAM'
 #![tactic(auto)]
 
 use icu_text::parse_message;

@@ -7,7 +7,9 @@ set -eu
 . "$(dirname "$0")/setup.sh"
 
 begin bench_ir_build soy_base plural_rules soy_tree script_state html_state bidi_class esc_table bidi_text escapers \
-    soy_meaning msg_extract template_ir bundle_fit ir_build <<'PROGRAM'
+    soy_meaning msg_extract template_ir bundle_fit ir_build \
+    soy_rules \
+    soy_pieces <<'PROGRAM'
 #![tactic(auto)]
 
 use ir_build::program_parts;
@@ -16,8 +18,8 @@ use soy_base::{Kind, OutOfMemory, Place, Seq, Span, Text};
 use soy_tree::{
     Bundle, Expr, ExprNode, Form, Message, MessageBody, MsgPart, Node, Template, Translation, Tree,
 };
-use std::alloc::Global;
 use std::io;
+use std::alloc::Global;
 use std::rt::Clock;
 use std::time::Instant;
 

@@ -5,7 +5,8 @@
 set -eu
 . "$(dirname "$0")/setup.sh"
 
-begin bench_msg_bundle soy_base plural_rules soy_tree icu_text msg_extract msg_bundle <<'PROGRAM'
+begin bench_msg_bundle soy_base plural_rules soy_tree icu_text msg_extract msg_bundle \
+    soy_rules <<'PROGRAM'
 #![tactic(auto)]
 
 use msg_bundle::read_bundle;

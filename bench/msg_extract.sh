@@ -5,7 +5,8 @@
 set -eu
 . "$(dirname "$0")/setup.sh"
 
-begin bench_msg_extract soy_base plural_rules soy_tree msg_extract <<'PROGRAM'
+begin bench_msg_extract soy_base plural_rules soy_tree msg_extract \
+    soy_rules <<'PROGRAM'
 #![tactic(auto)]
 
 use msg_extract::{extract, message_id, placeholders};

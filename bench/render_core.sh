@@ -7,7 +7,9 @@ set -eu
 . "$(dirname "$0")/setup.sh"
 
 begin bench_render_core soy_base plural_rules esc_table bidi_class script_state escapers bidi_text value_cursor \
-    html_state soy_tree soy_expr soy_meaning template_ir render_core <<'PROGRAM'
+    html_state soy_tree soy_expr soy_meaning template_ir render_core \
+    soy_rules \
+    soy_pieces msg_extract <<'PROGRAM'
 #![tactic(auto)]
 
 ghost use Rattle.std.specs.Prelude.{◌≡◌, ◌<◌, IfOk, true};

@@ -6,7 +6,8 @@
 set -eu
 . "$(dirname "$0")/setup.sh"
 
-begin bench_soy_check soy_base plural_rules soy_lexer soy_tree expr_parser soy_parser soy_expr soy_check <<'PROGRAM'
+begin bench_soy_check soy_base plural_rules soy_lexer soy_tree expr_parser soy_parser soy_expr soy_check \
+    soy_rules <<'PROGRAM'
 #![tactic(auto)]
 
 ghost use Rattle.std.specs.Prelude.{◌≡◌, true, IfOk};

@@ -5,7 +5,8 @@
 set -eu
 . "$(dirname "$0")/setup.sh"
 
-begin bench_soy_expr soy_base plural_rules soy_tree soy_expr <<'PROGRAM'
+begin bench_soy_expr soy_base plural_rules soy_tree soy_expr \
+    soy_rules <<'PROGRAM'
 #![tactic(auto)]
 
 ghost use Rattle.std.specs.Prelude.{◌≡◌, ◌<◌};

@@ -6,7 +6,8 @@
 set -eu
 . "$(dirname "$0")/setup.sh"
 
-begin bench_soy_format soy_base plural_rules soy_lexer soy_tree expr_parser soy_parser soy_expr soy_format <<'PROGRAM'
+begin bench_soy_format soy_base plural_rules soy_lexer soy_tree expr_parser soy_parser soy_expr soy_format \
+    soy_rules <<'PROGRAM'
 #![tactic(auto)]
 
 use soy_format::format;

@@ -3,8 +3,8 @@ use Rattle.std.proofs.Common.{◌≡◌, ℕ, List, [], ◌∷◌, map, Option, 
 use Rattle.std.specs.Prelude.{Result, Ok, Err, option_map}
 use Rattle.html_state.specs.declared.row.State.{State}
 use Rattle.soy_base.specs.declared.fault.Fault.{Fault}
-use Rattle.soy_tree.specs.Demands.{CheckFault, check_fault}
-use Rattle.soy_tree.specs.Faults.{followed_by}
+use Rattle.soy_rules.specs.Demands.{CheckFault, check_fault}
+use Rattle.soy_rules.specs.Faults.{followed_by}
 use Rattle.soy_tree.specs.MessageParts.{MsgParts}
 use Rattle.soy_tree.specs.Nodes.{Message}
 use Rattle.soy_tree.specs.Trees.{Tree}
@@ -17,10 +17,10 @@ use Rattle.msg_extract.specs.MessageId.{id_of}
 use Rattle.msg_extract.specs.MessagesIn.{tree_messages}
 use Rattle.msg_extract.specs.Translations.{translation_of}
 use Rattle.msg_extract.specs.declared.catalogue.Listed.{Listed}
-use Rattle.soy_meaning.specs.AcceptedTrees.{walk_trees}
-use Rattle.soy_meaning.specs.PageMachine.{page_machine}
-use Rattle.soy_meaning.specs.PlanOfNodes.{trees_plan}
-use Rattle.soy_meaning.specs.Walk.{Walked, WalkFault, walk, walked}
+use Rattle.soy_meaning.specs.Walks.AcceptedTrees.{walk_trees}
+use Rattle.soy_meaning.specs.Walks.PageMachine.{page_machine}
+use Rattle.soy_meaning.specs.Paths.PlanOfNodes.{trees_plan}
+use Rattle.soy_meaning.specs.Walks.Walk.{Walked, WalkFault, walk, walked}
 use Rattle.html_context.specs.ChosenTranslation.{chosen_translation}
 use Rattle.soy_format.specs.WithoutSpans.{message_without_spans, tree_without_spans}
 use Rattle.soy_front.specs.Accepted.{Accepted, walk_fault}

@@ -5,21 +5,21 @@ use Rattle.std.specs.Prelude.{encode_utf8_all, not, if◌then◌else◌, slice_g
 use Rattle.std.specs.List.{position, prefix_len}
 use Rattle.std.proofs.lemmas.List.{length-map}
 use Rattle.std.proofs.lemmas.Option.{slice_get-map}
-use Rattle.soy_tree.specs.Fits.{Fits}
-use Rattle.soy_tree.specs.Templates.{Declared, declared, param_scope}
+use Rattle.soy_rules.specs.Fits.{Fits}
+use Rattle.soy_rules.specs.Templates.{Declared, declared, param_scope}
 use Rattle.soy_tree.specs.Trees.{Param, Tree}
-use Rattle.soy_tree.specs.TypeOf.{Scope}
+use Rattle.soy_rules.specs.TypeOf.{Scope}
 use Rattle.soy_tree.specs.Types.{Name}
 use Rattle.soy_tree.specs.Values.{Value}
 use Rattle.soy_tree.specs.declared.bundle.Bundle.{Bundle}
-use Rattle.soy_meaning.specs.Giving.{RunEnv}
-use Rattle.soy_meaning.specs.Meaning.{joined_pieces}
-use Rattle.soy_meaning.specs.Outcome.{pieces_of_outcome}
-use Rattle.soy_meaning.specs.Pieces.{template_run}
-use Rattle.soy_meaning.specs.TypedData.{FitsData}
-use Rattle.template_ir.specs.Placed.{language_context}
-use Rattle.template_ir.specs.Run.{input_env, names_of}
-use Rattle.ir_build.specs.ViewScene.{language_of}
+use Rattle.soy_pieces.specs.Giving.{RunEnv}
+use Rattle.soy_pieces.specs.Meaning.{joined_pieces}
+use Rattle.soy_pieces.specs.Outcome.{pieces_of_outcome}
+use Rattle.soy_pieces.specs.Pieces.{template_run}
+use Rattle.soy_meaning.specs.Runs.TypedData.{FitsData}
+use Rattle.soy_pieces.specs.Language.{language_context}
+use Rattle.soy_pieces.specs.InputEnv.{input_env, names_of}
+use Rattle.soy_pieces.specs.Language.{language_of}
 use Rattle.soy_format.specs.WithoutSpans.{param_without_spans}
 use Rattle.soy_front.specs.Entries.{entry_number, is_entry_template}
 use Rattle.alike_files.specs.AlikeFiles.{AllAlike}

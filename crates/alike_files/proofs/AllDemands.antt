@@ -1,12 +1,12 @@
 -- What is demanded of the trees of all files reads no more of spans than where a fault is.
 use Rattle.std.proofs.Common.{◌≡◌, ℕ, List, [], ◌∷◌, map, Option, Some, None, refl}
 use Rattle.std.specs.Prelude.{Ok, Err, option_map}
-use Rattle.soy_tree.specs.Bodies.{Around, Checked, after_nodes}
-use Rattle.soy_tree.specs.Declarations.{declaration_fault}
-use Rattle.soy_tree.specs.Demands.{CheckFault, bodies_fault, body_fault, check_fault, declarations_fault, fault_of}
-use Rattle.soy_tree.specs.Demands.{in_file}
-use Rattle.soy_tree.specs.Faults.{TypeFault}
-use Rattle.soy_tree.specs.Templates.{Declared, declared, full_name, param_scope}
+use Rattle.soy_rules.specs.Bodies.{Around, Checked, after_nodes}
+use Rattle.soy_rules.specs.Declarations.{declaration_fault}
+use Rattle.soy_rules.specs.Demands.{CheckFault, bodies_fault, body_fault, check_fault, declarations_fault, fault_of}
+use Rattle.soy_rules.specs.Demands.{in_file}
+use Rattle.soy_rules.specs.Faults.{TypeFault}
+use Rattle.soy_rules.specs.Templates.{Declared, declared, full_name, param_scope}
 use Rattle.soy_tree.specs.Trees.{Tree}
 use Rattle.soy_tree.specs.Types.{Name}
 use Rattle.soy_format.specs.WithoutSpans.{tree_without_spans}

@@ -2,8 +2,8 @@
 use Rattle.std.proofs.Common.{◌≡◌, Bool, List, [], ◌∷◌, ◌++◌, Option, Some, None, refl, sym, ap, ◌∙◌}
 use Rattle.std.specs.Prelude.{reverse, if◌then◌else◌}
 use Rattle.std.proofs.lemmas.List.{map-append, reverse-append}
-use Rattle.soy_tree.specs.BaseNames.{base_of_expr, base_of_print, base_of_tag, begins_as_closed, is_closed_tag}
-use Rattle.soy_tree.specs.BaseNames.{is_end_tag, leading_name, tag_name}
+use Rattle.soy_rules.specs.BaseNames.{base_of_expr, base_of_print, base_of_tag, begins_as_closed, is_closed_tag}
+use Rattle.soy_rules.specs.BaseNames.{is_end_tag, leading_name, tag_name}
 use Rattle.soy_tree.specs.Expressions.{Expr, NullLiteral, BoolLiteral, IntLiteral, StringLiteral, Variable, Member}
 use Rattle.soy_tree.specs.Expressions.{Index, Minus, Not, Binary, Coalesce, Conditional}
 use Rattle.soy_tree.specs.MessageText.{Character, MessageItem, Printed}

@@ -7,23 +7,23 @@ use Rattle.soy_base.specs.declared.direction.Dir.{Dir}
 use Rattle.plural_rules.specs.Category.{is_same}
 use Rattle.plural_rules.specs.declared.category.Category.{Category}
 use Rattle.plural_rules.specs.declared.category.Category.TheVariants as category
-use Rattle.soy_tree.specs.Cost.{cost}
+use Rattle.soy_rules.specs.Cost.{cost}
 use Rattle.soy_tree.specs.Expressions.{Expr}
 use Rattle.soy_tree.specs.MessageParts.{MsgPart, MsgParts, ExactArms, NamedArms, SelectArms, TextPart, Placeholder}
 use Rattle.soy_tree.specs.MessageParts.{NumberPart, PluralPart, SelectPart, no_part, part, no_exact_arm, exact_arm}
 use Rattle.soy_tree.specs.MessageParts.{no_named_arm, named_arm, no_select_arm, select_arm}
 use Rattle.soy_tree.specs.MessageText.{Character, Cut, MessageItem, PrintCut, Printed, TagCut, TextCut}
-use Rattle.soy_tree.specs.Placeholders.{AsPlaceholder, AsPlural, AsSelect, Role, Use, name_of}
+use Rattle.soy_rules.specs.Placeholders.{AsPlaceholder, AsPlural, AsSelect, Role, Use, name_of}
 use Rattle.soy_tree.specs.Types.{Name}
-use Rattle.soy_tree.specs.Val.{is_same_int, operand, val}
+use Rattle.soy_rules.specs.Val.{is_same_int, operand, val}
 use Rattle.soy_tree.specs.Values.{IntValue}
-use Rattle.soy_meaning.specs.Branch.{PartMeans, arm_means, cut_means, exact_of, exact_rows, int_of, named_of}
-use Rattle.soy_meaning.specs.Branch.{named_rows}
-use Rattle.soy_meaning.specs.Branch.{part_means, parts_means, plural_means, print_means, row_count, select_means}
-use Rattle.soy_meaning.specs.Branch.{select_of, select_rows, selector, selector_of_role, tag_means, word_of}
-use Rattle.soy_meaning.specs.Giving.{RunEnv, printed_means, with_choice}
-use Rattle.soy_meaning.specs.Outcome.{ArmTaken}
-use Rattle.soy_meaning.specs.PlanOfParts.{placeholder_cut}
+use Rattle.soy_pieces.specs.Branch.{PartMeans, arm_means, cut_means, exact_of, exact_rows, int_of, named_of}
+use Rattle.soy_pieces.specs.Branch.{named_rows}
+use Rattle.soy_pieces.specs.Branch.{part_means, parts_means, plural_means, print_means, row_count, select_means}
+use Rattle.soy_pieces.specs.Branch.{select_of, select_rows, selector, selector_of_role, tag_means, word_of}
+use Rattle.soy_pieces.specs.Giving.{RunEnv, printed_means, with_choice}
+use Rattle.soy_pieces.specs.Outcome.{ArmTaken}
+use Rattle.soy_rules.specs.Placeholders.{placeholder_cut}
 use Rattle.soy_format.specs.WithoutSpans.{expr_without_spans}
 use Rattle.alike_files.proofs.ExpressionValues.{cost_same, operand_same, through_if, value_same}
 use Rattle.alike_files.proofs.Faults.{first_same}

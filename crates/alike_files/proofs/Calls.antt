@@ -2,23 +2,23 @@
 use Rattle.std.proofs.Common.{◌≡◌, ℕ, ◌+◌, pos, Bool, List, [], ◌∷◌, ◌++◌, map, Option, Some, None}
 use Rattle.std.proofs.Common.{bytes_eq, refl, ap, ◌∙◌}
 use Rattle.std.specs.Prelude.{◌&&◌, is_some, option_map}
-use Rattle.soy_tree.specs.Bodies.{param_of}
+use Rattle.soy_rules.specs.Bodies.{param_of}
 use Rattle.soy_tree.specs.Expressions.{Expr}
 use Rattle.soy_tree.specs.MessageParts.{MsgParts}
 use Rattle.soy_tree.specs.Nodes.{Fallback, Message, no_fallback, fallback}
-use Rattle.soy_tree.specs.Templates.{Declared}
+use Rattle.soy_rules.specs.Templates.{Declared}
 use Rattle.soy_tree.specs.Trees.{Param}
 use Rattle.soy_tree.specs.Types.{Name}
-use Rattle.soy_tree.specs.Val.{Binding, Known, binding}
+use Rattle.soy_rules.specs.Val.{Binding, Known, binding}
 use Rattle.soy_tree.specs.Values.{Items, NullValue, Value, item, no_item}
-use Rattle.soy_meaning.specs.Giving.{BoundBlock, Means, RunEnv, called_means}
-use Rattle.soy_meaning.specs.Outcome.{Outcome}
-use Rattle.soy_meaning.specs.Pieces.{ChosenText, GivenArguments, RunContext, TheFallback, TheOwn, TheSource, callee_env}
-use Rattle.soy_meaning.specs.Pieces.{chosen_after, chosen_of, chosen_text, fallback_text, given_binding, handed_on}
-use Rattle.soy_meaning.specs.Pieces.{is_one}
-use Rattle.soy_meaning.specs.Pieces.{opened_means, param_binding, translated_means, turns_mean, with_index}
-use Rattle.soy_meaning.specs.Plan.{Site}
-use Rattle.soy_meaning.specs.PlanOfNodes.{uses_of}
+use Rattle.soy_pieces.specs.Giving.{BoundBlock, Means, RunEnv, called_means}
+use Rattle.soy_pieces.specs.Outcome.{Outcome}
+use Rattle.soy_pieces.specs.Pieces.{ChosenText, GivenArguments, RunContext, TheFallback, TheOwn, TheSource, callee_env}
+use Rattle.soy_pieces.specs.Pieces.{chosen_after, chosen_of, chosen_text, fallback_text, given_binding, handed_on}
+use Rattle.soy_pieces.specs.Pieces.{is_one}
+use Rattle.soy_pieces.specs.Pieces.{opened_means, param_binding, translated_means, turns_mean, with_index}
+use Rattle.soy_pieces.specs.Site.{Site}
+use Rattle.soy_rules.specs.Placeholders.{uses_of}
 use Rattle.alike_files.specs.RunWithoutPositions.{outcome_without_positions, site_without_position}
 use Rattle.soy_format.specs.WithoutSpans.{expr_without_spans, fallback_without_spans, message_without_spans}
 use Rattle.soy_format.specs.WithoutSpans.{param_without_spans}

@@ -2,17 +2,18 @@
 use Rattle.std.proofs.Common.{◌≡◌, Bool, true, false, List, [], ◌∷◌, ◌++◌, map, Option, Some, None, refl, ap, ◌∙◌}
 use Rattle.std.specs.Prelude.{codes, option_map}
 use Rattle.soy_base.specs.Characters.{left_brace, right_brace}
-use Rattle.soy_tree.specs.BaseNames.{base_of_expr, base_of_print, base_of_tag}
+use Rattle.soy_rules.specs.BaseNames.{base_of_expr, base_of_print, base_of_tag}
 use Rattle.soy_tree.specs.Expressions.{Expr}
 use Rattle.soy_tree.specs.MessageText.{Character, Cut, MessageItem, PrintCut, Printed, TagCut, TextCut, cuts_of}
 use Rattle.soy_tree.specs.MessageText.{message_items}
 use Rattle.soy_tree.specs.Nodes.{Message, MessageBody, PluralCases, SelectCases, message, Parts, Plural, Select}
 use Rattle.soy_tree.specs.Nodes.{no_plural_case, plural_case, no_select_case, select_case}
-use Rattle.soy_tree.specs.Placeholders.{ExprContent, TagContent, Use, body_uses, name_of}
+use Rattle.soy_rules.specs.Placeholders.{ExprContent, TagContent, Use, body_uses, name_of}
 use Rattle.soy_tree.specs.Types.{Name}
-use Rattle.msg_extract.specs.CanonicalText.{canonical_text, text_of_items, written_body, written_case, written_cuts}
-use Rattle.msg_extract.specs.CanonicalText.{written_found, written_name, written_offset, written_plural_cases}
-use Rattle.msg_extract.specs.CanonicalText.{written_select_cases}
+use Rattle.msg_extract.specs.Canonical.CanonicalText.{canonical_text, text_of_items, written_body, written_case}
+use Rattle.msg_extract.specs.Canonical.CanonicalText.{written_cuts}
+use Rattle.msg_extract.specs.Canonical.CanonicalText.{written_found, written_name, written_offset, written_plural_cases}
+use Rattle.msg_extract.specs.Canonical.CanonicalText.{written_select_cases}
 use Rattle.msg_extract.specs.MessageId.{id_of}
 use Rattle.soy_format.specs.WithoutSpans.{body_without_spans, expr_without_spans, message_without_spans}
 use Rattle.soy_format.specs.WithoutSpans.{plural_cases_without_spans}

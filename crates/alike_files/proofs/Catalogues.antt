@@ -10,7 +10,7 @@ use Rattle.soy_tree.specs.Nodes.{Node, Nodes, Otherwise, Arms, Cases, Arguments,
 use Rattle.soy_tree.specs.Nodes.{Print, If, Switch, For, Let, LetBlock, Call, MessageNode, no_node, node, no_otherwise}
 use Rattle.soy_tree.specs.Nodes.{otherwise, no_arm, arm, no_case, case, no_argument, argument, Plain, Block, message}
 use Rattle.soy_tree.specs.Nodes.{no_fallback, fallback}
-use Rattle.soy_tree.specs.Placeholders.{AsPlaceholder, AsPlural, AsSelect, Role, Use, body_uses, name_of}
+use Rattle.soy_rules.specs.Placeholders.{AsPlaceholder, AsPlural, AsSelect, Role, Use, body_uses, name_of}
 use Rattle.soy_tree.specs.Trees.{Template, Tree}
 use Rattle.soy_tree.specs.Types.{Name}
 use Rattle.msg_extract.specs.Catalogue.{all_listed, catalogue_of, find_listed, is_of_kind, is_same_listed, listed}

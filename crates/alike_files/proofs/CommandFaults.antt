@@ -2,20 +2,20 @@
 use Rattle.std.proofs.Common.{◌≡◌, Bool, true, false, List, [], ◌∷◌, map, Option, Some, None, refl}
 use Rattle.std.specs.Prelude.{is_some, option_map}
 use Rattle.soy_base.specs.declared.fault.Span.{Span}
-use Rattle.soy_tree.specs.Accepts.{accepts}
-use Rattle.soy_tree.specs.Bodies.{Around, accepted, callee_params, each_passing, handed, hands_on, known_param}
-use Rattle.soy_tree.specs.Bodies.{left_out, loop_scope, named_param, names_given, new_variable, new_variables}
-use Rattle.soy_tree.specs.Bodies.{param_demand}
-use Rattle.soy_tree.specs.Bodies.{param_demands, param_of, params_of, passing, plain_argument, unnamed_demand}
-use Rattle.soy_tree.specs.Declarations.{is_among}
+use Rattle.soy_rules.specs.Accepts.{accepts}
+use Rattle.soy_rules.specs.Bodies.{Around, accepted, callee_params, each_passing, handed, hands_on, known_param}
+use Rattle.soy_rules.specs.Bodies.{left_out, loop_scope, named_param, names_given, new_variable, new_variables}
+use Rattle.soy_rules.specs.Bodies.{param_demand, param_demands, param_of, params_of, passing, plain_argument}
+use Rattle.soy_rules.specs.Bodies.{unnamed_demand}
+use Rattle.soy_base.specs.Among.{is_among}
 use Rattle.soy_tree.specs.Expressions.{Expr, NullLiteral, BoolLiteral, IntLiteral, StringLiteral, Variable, Member}
 use Rattle.soy_tree.specs.Expressions.{Index, Minus, Not, Binary, Coalesce, Conditional, span_of}
-use Rattle.soy_tree.specs.Faults.{mistyped}
-use Rattle.soy_tree.specs.Members.{is_simple}
+use Rattle.soy_rules.specs.Faults.{mistyped}
+use Rattle.soy_rules.specs.Members.{is_simple}
 use Rattle.soy_tree.specs.Nodes.{Arguments, no_argument, argument}
-use Rattle.soy_tree.specs.Templates.{Declared, callee, called_name, param_type}
+use Rattle.soy_rules.specs.Templates.{Declared, callee, called_name, param_type}
 use Rattle.soy_tree.specs.Trees.{Param}
-use Rattle.soy_tree.specs.TypeOf.{Scope, type_of, variable_type}
+use Rattle.soy_rules.specs.TypeOf.{Scope, type_of, variable_type}
 use Rattle.soy_tree.specs.Types.{Name, SoyType, IntType, ListType}
 use Rattle.soy_format.specs.WithoutSpans.{arguments_without_spans, expr_without_spans, no_span, param_without_spans}
 use Rattle.alike_files.proofs.DeclaredTemplates.{callee_same, declared_without_spans, has_param_same, param_of_same}
@@ -125,7 +125,7 @@ param_demand_same : (c : Around) (all : Bool) (given : List Name) (span : Span) 
     → param_demand (around_without_spans c) all given no_span (param_without_spans p) scope
     ≡ placeless (param_demand c all given span p scope)
 param_demand_same c all given span p scope =
-    tested (is_among p.name given) _ _ _ _ refl (unnamed_same c all span p scope)
+    tested (is_among given p.name) _ _ _ _ refl (unnamed_same c all span p scope)
 
 pub param_demands_same : (c : Around) (all : Bool) (given : List Name) (span : Span) (ps : List Param) (scope : Scope)
     → param_demands (around_without_spans c) all given no_span (map param_without_spans ps) scope
@@ -142,7 +142,7 @@ known_param_same name span None = refl
 known_param_same name span (Some p) = refl
 
 named_test : (b : Bool) (name : Name) (span : Span) (ps : List Param) (before : List Name)
-    → is_among name before ≡ b → named_param name no_span before (map param_without_spans ps)
+    → is_among before name ≡ b → named_param name no_span before (map param_without_spans ps)
     ≡ placeless_by param_without_spans (named_param name span before ps)
 named_test true name span ps before e = rw e refl
 named_test false name span ps before e =
@@ -151,7 +151,7 @@ named_test false name span ps before e =
 pub named_param_same : (name : Name) (span : Span) (before : List Name) (ps : List Param)
     → named_param name no_span before (map param_without_spans ps)
     ≡ placeless_by param_without_spans (named_param name span before ps)
-named_param_same name span before ps = named_test (is_among name before) name span ps before refl
+named_param_same name span before ps = named_test (is_among before name) name span ps before refl
 
 params_of_same : (full : Name) (span : Span) (o : Option Declared)
     → params_of full no_span (option_map declared_without_spans o)

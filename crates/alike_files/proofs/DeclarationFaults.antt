@@ -5,10 +5,11 @@ use Rattle.std.specs.Option.{option_or}
 use Rattle.soy_base.specs.declared.code.Code.TheVariants as code
 use Rattle.soy_tree.specs.Types.{Name, SoyType, Members, FieldTypes, HtmlType, AttributesType, ListType, MapType}
 use Rattle.soy_tree.specs.Types.{RecordType, UnionType, no_member, member, no_field, field}
-use Rattle.soy_tree.specs.TypeText.{type_text}
-use Rattle.soy_tree.specs.Declarations.{declaration_fault, fields_fault, is_among, members_fault, misplaced}
-use Rattle.soy_tree.specs.Declarations.{mixes_blocks, params_fault, twice, type_fault}
-use Rattle.soy_tree.specs.Templates.{Declared, full_name}
+use Rattle.soy_rules.specs.TypeText.{type_text}
+use Rattle.soy_rules.specs.Declarations.{declaration_fault, fields_fault, members_fault, misplaced, mixes_blocks}
+use Rattle.soy_rules.specs.Declarations.{params_fault, twice, type_fault}
+use Rattle.soy_base.specs.Among.{is_among}
+use Rattle.soy_rules.specs.Templates.{Declared, full_name}
 use Rattle.soy_tree.specs.Trees.{Param}
 use Rattle.soy_format.specs.WithoutSpans.{param_without_spans}
 use Rattle.alike_files.proofs.DeclaredTemplates.{declared_without_spans}
@@ -18,7 +19,7 @@ use Rattle.alike_files.proofs.Faults.{fault_placeless, first_same}
 twice_same : (at : ℕ) (name : Name) (before : List Name)
     → twice 0 name before ≡ option_map fault_placeless (twice at name before)
 twice_same at name before =
-    through_if (option_map fault_placeless) (is_among name before)
+    through_if (option_map fault_placeless) (is_among before name)
     (Some (record { code = code.Twice; at = at; left = name; right = [] })) None
 
 misplaced_same : (at : ℕ) (t : SoyType) (fails : Bool)

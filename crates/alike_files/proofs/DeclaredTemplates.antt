@@ -4,9 +4,9 @@ use Rattle.std.proofs.Common.{◌≡◌, ℕ, ◌+◌, List, [], ◌∷◌, map,
 use Rattle.std.specs.Prelude.{option_map, is_some}
 use Rattle.std.proofs.lemmas.List.{map-append}
 use Rattle.soy_tree.specs.Types.{Name}
-use Rattle.soy_tree.specs.Bodies.{param_of}
-use Rattle.soy_tree.specs.Templates.{Declared, callee, called_name, declared, declared_from, declared_in, full_name}
-use Rattle.soy_tree.specs.Templates.{is_visible_from, param_scope, param_type, template_of, visible}
+use Rattle.soy_rules.specs.Bodies.{param_of}
+use Rattle.soy_rules.specs.Templates.{Declared, callee, called_name, declared, declared_from, declared_in, full_name}
+use Rattle.soy_rules.specs.Templates.{is_visible_from, param_scope, param_type, template_of, visible}
 use Rattle.soy_tree.specs.Trees.{Param, Template, Tree}
 use Rattle.soy_format.specs.WithoutSpans.{param_without_spans, template_without_spans, tree_without_spans}
 use Rattle.alike_files.proofs.ExpressionValues.{through_if}

@@ -6,13 +6,13 @@ use Rattle.soy_tree.specs.declared.expr.BinaryOp.{BinaryOp}
 use Rattle.soy_tree.specs.declared.expr.BinaryOp.TheVariants as op
 use Rattle.soy_tree.specs.Types.{Name, SoyType, NullType, BoolType, IntType, StringType}
 use Rattle.soy_tree.specs.Types.{ListType, MapType, RecordType}
-use Rattle.soy_tree.specs.Members.{has_block, is_simple, joined, type_without_null}
-use Rattle.soy_tree.specs.Faults.{found}
+use Rattle.soy_rules.specs.Members.{has_block, is_simple, joined, type_without_null}
+use Rattle.soy_rules.specs.Faults.{found}
 use Rattle.soy_tree.specs.Expressions.{Expr, NullLiteral, BoolLiteral, IntLiteral, StringLiteral, Variable, Member}
 use Rattle.soy_tree.specs.Expressions.{Index, Minus, Not, Binary, Coalesce, Conditional}
-use Rattle.soy_tree.specs.TypeOf.{Scope, accessed_type, are_texts, binary_type, choice_type, field_type, fitting}
-use Rattle.soy_tree.specs.TypeOf.{index_type, is_divisor, is_int, is_null_literal, is_string, member_type, sum_type}
-use Rattle.soy_tree.specs.TypeOf.{type_of, variable_type}
+use Rattle.soy_rules.specs.TypeOf.{Scope, accessed_type, are_texts, binary_type, choice_type, field_type, fitting}
+use Rattle.soy_rules.specs.TypeOf.{index_type, is_divisor, is_int, is_null_literal, is_string, member_type, sum_type}
+use Rattle.soy_rules.specs.TypeOf.{type_of, variable_type}
 use Rattle.soy_format.specs.WithoutSpans.{expr_without_spans, no_span}
 use Rattle.alike_files.proofs.Faults.{followed, placeless, tested}
 

@@ -4,12 +4,12 @@ use Rattle.std.proofs.Common.{◌≡◌, Bool, true, false, [], ◌∷◌, bytes
 use Rattle.std.specs.Prelude.{if◌then◌else◌}
 use Rattle.soy_tree.specs.declared.expr.BinaryOp.TheVariants as op
 use Rattle.soy_tree.specs.Types.{Name}
-use Rattle.soy_tree.specs.Cost.{cost}
+use Rattle.soy_rules.specs.Cost.{cost}
 use Rattle.soy_tree.specs.Expressions.{Expr, NullLiteral, BoolLiteral, IntLiteral, StringLiteral, Variable, Member}
 use Rattle.soy_tree.specs.Expressions.{Index, Minus, Not, Binary, Coalesce, Conditional}
-use Rattle.soy_tree.specs.Narrowing.{narrowed, variable_narrowed}
-use Rattle.soy_tree.specs.TypeOf.{Scope}
-use Rattle.soy_tree.specs.Val.{Binding, BlockOf, Env, Known, binding, is_null, is_truthy, operand, val}
+use Rattle.soy_rules.specs.Narrowing.{narrowed, variable_narrowed}
+use Rattle.soy_rules.specs.TypeOf.{Scope}
+use Rattle.soy_rules.specs.Val.{Binding, BlockOf, Env, Known, binding, is_null, is_truthy, operand, val}
 use Rattle.soy_format.specs.WithoutSpans.{expr_without_spans}
 use Rattle.alike_files.proofs.ExpressionTypes.{null_literal_same}
 

@@ -2,7 +2,7 @@
 use Rattle.std.proofs.Common.{◌≡◌, Bool, true, false, Option, Some, None, refl}
 use Rattle.std.specs.Prelude.{Result, Ok, Err, option_map, if◌then◌else◌}
 use Rattle.std.specs.Option.{option_or}
-use Rattle.soy_tree.specs.Faults.{TypeFault, followed_by}
+use Rattle.soy_rules.specs.Faults.{TypeFault, followed_by}
 
 abbrev pub fault_placeless : TypeFault → TypeFault
 fault_placeless f = record f { at = 0 }

@@ -2,21 +2,21 @@
 -- fault but for its position.
 use Rattle.std.proofs.Common.{◌≡◌, List, [], ◌∷◌, map, refl}
 use Rattle.soy_base.specs.declared.fault.Span.{Span}
-use Rattle.soy_tree.specs.Bodies.{Around, accepted, after_arguments, after_arms, after_body, after_cases}
-use Rattle.soy_tree.specs.Bodies.{after_fallback, after_given, after_message, after_node, after_nodes, after_otherwise}
-use Rattle.soy_tree.specs.Bodies.{after_plural_cases, after_select_cases, callee_params, each_passing, is_printed}
-use Rattle.soy_tree.specs.Bodies.{loop_scope, named_param, names_given, new_variable, new_variables, param_demands}
-use Rattle.soy_tree.specs.Bodies.{passing}
-use Rattle.soy_tree.specs.Members.{is_simple}
-use Rattle.soy_tree.specs.Narrowing.{narrowed}
+use Rattle.soy_rules.specs.Bodies.{Around, accepted, after_arguments, after_arms, after_body, after_cases}
+use Rattle.soy_rules.specs.Bodies.{after_fallback, after_given, after_message, after_node, after_nodes, after_otherwise}
+use Rattle.soy_rules.specs.Bodies.{after_plural_cases, after_select_cases, callee_params, each_passing, is_printed}
+use Rattle.soy_rules.specs.Bodies.{loop_scope, named_param, names_given, new_variable, new_variables, param_demands}
+use Rattle.soy_rules.specs.Bodies.{passing}
+use Rattle.soy_rules.specs.Members.{is_simple}
+use Rattle.soy_rules.specs.Narrowing.{narrowed}
 use Rattle.soy_tree.specs.Nodes.{Node, Nodes, Otherwise, Arms, Cases, Arguments, Given, Message, Fallback, MessageBody}
 use Rattle.soy_tree.specs.Nodes.{PluralCases, SelectCases, TextNode, Print, If, Switch, For, Let, LetBlock, Call}
 use Rattle.soy_tree.specs.Nodes.{MessageNode, no_node, node, no_otherwise, otherwise, no_arm, arm, no_case, case}
 use Rattle.soy_tree.specs.Nodes.{no_argument, argument, Plain, Block, message, no_fallback, fallback, Parts, Plural}
 use Rattle.soy_tree.specs.Nodes.{Select, no_plural_case, plural_case, no_select_case, select_case}
-use Rattle.soy_tree.specs.Templates.{kind_type, param_type}
+use Rattle.soy_rules.specs.Templates.{kind_type, param_type}
 use Rattle.soy_tree.specs.Trees.{Param}
-use Rattle.soy_tree.specs.TypeOf.{Scope, is_int, is_string, type_of}
+use Rattle.soy_rules.specs.TypeOf.{Scope, is_int, is_string, type_of}
 use Rattle.soy_tree.specs.Types.{Name}
 use Rattle.soy_format.specs.WithoutSpans.{arguments_without_spans, arms_without_spans, body_without_spans}
 use Rattle.soy_format.specs.WithoutSpans.{cases_without_spans, expr_without_spans, fallback_without_spans}

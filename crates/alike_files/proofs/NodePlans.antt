@@ -3,26 +3,31 @@ use Rattle.std.proofs.Common.{◌≡◌, List, [], ◌∷◌, map, Option, Some,
 use Rattle.std.specs.Prelude.{Result, Ok, Err, option_map}
 use Rattle.soy_base.specs.declared.fault.Span.{Span}
 use Rattle.soy_tree.specs.Expressions.{Expr}
-use Rattle.soy_tree.specs.Faults.{TypeFault}
+use Rattle.soy_rules.specs.Faults.{TypeFault}
 use Rattle.soy_tree.specs.MessageParts.{MsgParts}
-use Rattle.soy_tree.specs.Narrowing.{narrowed}
+use Rattle.soy_rules.specs.Narrowing.{narrowed}
 use Rattle.soy_tree.specs.Nodes.{Node, Nodes, Otherwise, Arms, Cases, Arguments, Given, Message, Fallback, MessageBody}
 use Rattle.soy_tree.specs.Nodes.{PluralCases, SelectCases, TextNode, Print, If, Switch, For, Let, LetBlock, Call}
 use Rattle.soy_tree.specs.Nodes.{MessageNode, no_node, node, no_otherwise, otherwise, no_arm, arm, no_case, case}
 use Rattle.soy_tree.specs.Nodes.{no_argument, argument, Plain, Block, message, no_fallback, fallback, Parts, Plural}
 use Rattle.soy_tree.specs.Nodes.{Select, no_plural_case, plural_case, no_select_case, select_case}
-use Rattle.soy_tree.specs.Placeholders.{Use}
-use Rattle.soy_tree.specs.Templates.{Declared, callee, declared, param_scope}
+use Rattle.soy_rules.specs.Placeholders.{Use}
+use Rattle.soy_rules.specs.Templates.{Declared, callee, declared, param_scope}
 use Rattle.soy_tree.specs.Trees.{Template, Tree}
-use Rattle.soy_tree.specs.TypeOf.{Scope, type_of}
+use Rattle.soy_rules.specs.TypeOf.{Scope, type_of}
 use Rattle.soy_tree.specs.Types.{Name, SoyType}
-use Rattle.soy_meaning.specs.Plan.{Frame, Loop, Plan, Site, in_turn}
-use Rattle.soy_meaning.specs.PlanOfNodes.{PlanContext, argument_frames, arm_plans, body_plan, body_scope}
-use Rattle.soy_meaning.specs.PlanOfNodes.{called_classes}
-use Rattle.soy_meaning.specs.PlanOfNodes.{case_plans, closes_at, declared_plan, fallback_plans, given_frame, node_plan}
-use Rattle.soy_meaning.specs.PlanOfNodes.{nodes_plan, other_plan, plural_plans, scope_past, select_plans, source_plan}
-use Rattle.soy_meaning.specs.PlanOfNodes.{starts_at, template_plan, translated_plan, translation_plans, trees_plan}
-use Rattle.soy_meaning.specs.PlanOfNodes.{uses_of, with_variable}
+use Rattle.soy_meaning.specs.Paths.Plan.{Frame, Loop, Plan, in_turn}
+use Rattle.soy_pieces.specs.Site.{Site}
+use Rattle.soy_meaning.specs.Paths.PlanOfNodes.{PlanContext, argument_frames, arm_plans, body_plan, body_scope}
+use Rattle.soy_meaning.specs.Paths.PlanOfNodes.{called_classes}
+use Rattle.soy_meaning.specs.Paths.PlanOfNodes.{case_plans, closes_at, declared_plan, fallback_plans, given_frame}
+use Rattle.soy_meaning.specs.Paths.PlanOfNodes.{node_plan}
+use Rattle.soy_meaning.specs.Paths.PlanOfNodes.{nodes_plan, other_plan, plural_plans, scope_past, select_plans}
+use Rattle.soy_meaning.specs.Paths.PlanOfNodes.{source_plan}
+use Rattle.soy_meaning.specs.Paths.PlanOfNodes.{template_plan, translated_plan, translation_plans, trees_plan}
+use Rattle.soy_pieces.specs.Site.{starts_at}
+use Rattle.soy_meaning.specs.Paths.PlanOfNodes.{with_variable}
+use Rattle.soy_rules.specs.Placeholders.{uses_of}
 use Rattle.alike_files.specs.RunWithoutPositions.{site_without_position}
 use Rattle.soy_format.specs.WithoutSpans.{arguments_without_spans, arms_without_spans, body_without_spans}
 use Rattle.soy_format.specs.WithoutSpans.{cases_without_spans, expr_without_spans, fallback_without_spans}

@@ -4,29 +4,29 @@ use Rattle.std.proofs.Common.{Some, None, bytes_eq, refl, sym, ap, ◌∙◌}
 use Rattle.std.specs.Prelude.{Ok, if◌then◌else◌}
 use Rattle.soy_base.specs.declared.kind.Kind.{Kind}
 use Rattle.html_state.specs.Start.{start}
-use Rattle.soy_tree.specs.Cost.{cost}
+use Rattle.soy_rules.specs.Cost.{cost}
 use Rattle.soy_tree.specs.Nodes.{Node, Nodes, Otherwise, Arms, Cases, Arguments, Given, Message, MessageBody}
 use Rattle.soy_tree.specs.Nodes.{PluralCases, SelectCases, TextNode, Print, If, Switch, For, Let, LetBlock, Call}
 use Rattle.soy_tree.specs.Nodes.{MessageNode, no_node, node, no_otherwise, otherwise, no_arm, arm, no_case, case}
 use Rattle.soy_tree.specs.Nodes.{no_argument, argument, Plain, Block, message, Parts, Plural}
 use Rattle.soy_tree.specs.Nodes.{Select, no_plural_case, plural_case, no_select_case, select_case}
-use Rattle.soy_tree.specs.ShortLists.{item_count}
-use Rattle.soy_tree.specs.Templates.{Declared, callee}
+use Rattle.soy_rules.specs.ShortLists.{item_count}
+use Rattle.soy_rules.specs.Templates.{Declared, callee}
 use Rattle.soy_tree.specs.Types.{Name}
-use Rattle.soy_tree.specs.Val.{Binding, is_same_int, is_truthy, val}
+use Rattle.soy_rules.specs.Val.{Binding, is_same_int, is_truthy, val}
 use Rattle.soy_tree.specs.Values.{Value}
-use Rattle.soy_meaning.specs.Branch.{int_of, word_of}
-use Rattle.soy_meaning.specs.Giving.{BoundBlock, Means, RunEnv, StateSoFar, block_bound, with_choice}
-use Rattle.soy_meaning.specs.Outcome.{ArmTaken, FallbackTranslation, Outcome, OwnTranslation, SourceText, TextTaken}
-use Rattle.soy_meaning.specs.Outcome.{Turns}
-use Rattle.soy_meaning.specs.Pieces.{ChosenText, GivenArguments, RunContext, TheFallback, TheOwn, TheSource}
-use Rattle.soy_meaning.specs.Pieces.{arguments_mean, arms_mean, at_end, called_within, cases_mean, chosen_text}
-use Rattle.soy_meaning.specs.Pieces.{context_in}
-use Rattle.soy_meaning.specs.Pieces.{frame_outcome, given_means, is_one, listed_items, message_means, node_means}
-use Rattle.soy_meaning.specs.Pieces.{nodes_mean, otherwise_means, plural_cases_mean, select_cases_mean, source_means}
-use Rattle.soy_meaning.specs.Pieces.{template_run, unbound, valued}
-use Rattle.soy_meaning.specs.Plan.{Site}
-use Rattle.soy_meaning.specs.PlanOfNodes.{starts_at}
+use Rattle.soy_pieces.specs.Branch.{int_of, word_of}
+use Rattle.soy_pieces.specs.Giving.{BoundBlock, Means, RunEnv, StateSoFar, block_bound, with_choice}
+use Rattle.soy_pieces.specs.Outcome.{ArmTaken, FallbackTranslation, Outcome, OwnTranslation, SourceText, TextTaken}
+use Rattle.soy_pieces.specs.Outcome.{Turns}
+use Rattle.soy_pieces.specs.Pieces.{ChosenText, GivenArguments, RunContext, TheFallback, TheOwn, TheSource}
+use Rattle.soy_pieces.specs.Pieces.{arguments_mean, arms_mean, at_end, called_within, cases_mean, chosen_text}
+use Rattle.soy_pieces.specs.Pieces.{context_in}
+use Rattle.soy_pieces.specs.Pieces.{frame_outcome, given_means, is_one, listed_items, message_means, node_means}
+use Rattle.soy_pieces.specs.Pieces.{nodes_mean, otherwise_means, plural_cases_mean, select_cases_mean, source_means}
+use Rattle.soy_pieces.specs.Pieces.{template_run, unbound, valued}
+use Rattle.soy_pieces.specs.Site.{Site}
+use Rattle.soy_pieces.specs.Site.{starts_at}
 use Rattle.alike_files.specs.RunWithoutPositions.{outcome_without_positions}
 use Rattle.soy_format.specs.WithoutSpans.{arguments_without_spans, arms_without_spans, body_without_spans}
 use Rattle.soy_format.specs.WithoutSpans.{cases_without_spans, given_without_spans}

@@ -3,16 +3,16 @@ use Rattle.std.proofs.Common.{◌≡◌, ℕ, List, [], ◌∷◌, ◌++◌, ref
 use Rattle.soy_base.specs.declared.direction.Dir.{Dir}
 use Rattle.soy_base.specs.declared.kind.Kind.{Kind}
 use Rattle.soy_base.specs.declared.kind.Kind.TheVariants as kind
-use Rattle.html_state.specs.AfterPieces.{Piece, Static, Value}
+use Rattle.soy_base.specs.Piece.{Piece, Static, Value}
 use Rattle.soy_tree.specs.Values.{StringValue}
 use Rattle.soy_tree.specs.Values as values
-use Rattle.soy_tree.specs.Val.{Binding, BlockOf, Known, value_text}
-use Rattle.soy_meaning.specs.Filled.{value_form}
-use Rattle.soy_meaning.specs.Giving.{BoundBlock, Means, RunEnv, StateSoFar, block_bound, called_means, frame_means}
-use Rattle.soy_meaning.specs.Giving.{piece_means, placing_so_far, printed_means, read_outcome, read_piece, text_means}
-use Rattle.soy_meaning.specs.Giving.{value_class, value_means, with_choice, with_cost}
-use Rattle.soy_meaning.specs.Outcome.{ChoiceMade, GivesPiece, Outcome, RunEnds, Spent, StopsAt, WholeRun, continued_by}
-use Rattle.soy_meaning.specs.Outcome.{gathered, pieces_of_outcome, spent_first}
+use Rattle.soy_rules.specs.Val.{Binding, BlockOf, Known, value_text}
+use Rattle.soy_pieces.specs.EscapedAt.{value_form}
+use Rattle.soy_pieces.specs.Giving.{BoundBlock, Means, RunEnv, StateSoFar, block_bound, called_means, frame_means}
+use Rattle.soy_pieces.specs.Giving.{piece_means, placing_so_far, printed_means, read_outcome, read_piece, text_means}
+use Rattle.soy_pieces.specs.Giving.{value_class, value_means, with_choice, with_cost}
+use Rattle.soy_pieces.specs.Outcome.{ChoiceMade, GivesPiece, Outcome, RunEnds, Spent, StopsAt, WholeRun, continued_by}
+use Rattle.soy_pieces.specs.Outcome.{gathered, pieces_of_outcome, spent_first}
 use Rattle.alike_files.specs.RunWithoutPositions.{outcome_without_positions}
 use Rattle.alike_files.proofs.ExpressionValues.{binding_by, env_by}
 

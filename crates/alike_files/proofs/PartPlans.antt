@@ -4,19 +4,22 @@ use Rattle.std.proofs.Common.{◌≡◌, List, [], ◌∷◌, ◌++◌, map, Opt
 use Rattle.std.specs.Prelude.{Result, Ok, Err, option_map}
 use Rattle.std.proofs.lemmas.List.{map-append}
 use Rattle.soy_tree.specs.Expressions.{Expr}
-use Rattle.soy_tree.specs.Faults.{TypeFault}
+use Rattle.soy_rules.specs.Faults.{TypeFault}
 use Rattle.soy_tree.specs.MessageParts.{MsgPart, MsgParts, ExactArms, NamedArms, SelectArms, TextPart, Placeholder}
 use Rattle.soy_tree.specs.MessageParts.{NumberPart, PluralPart, SelectPart, no_part, part, no_exact_arm, exact_arm}
 use Rattle.soy_tree.specs.MessageParts.{no_named_arm, named_arm, no_select_arm, select_arm}
 use Rattle.soy_tree.specs.MessageText.{Character, Cut, MessageItem, PrintCut, Printed, TagCut, TextCut}
-use Rattle.soy_tree.specs.Placeholders.{AsPlaceholder, AsPlural, AsSelect, Role, Use, name_of}
-use Rattle.soy_tree.specs.TypeOf.{Scope, type_of}
+use Rattle.soy_rules.specs.Placeholders.{AsPlaceholder, AsPlural, AsSelect, Role, Use, name_of}
+use Rattle.soy_rules.specs.TypeOf.{Scope, type_of}
 use Rattle.soy_tree.specs.Types.{Name, SoyType}
-use Rattle.soy_meaning.specs.Plan.{Either, Frame, Hole, Loop, Meet, Nothing, Nowhere, Plan, Site, StaticText, Then}
-use Rattle.soy_meaning.specs.Plan.{any_of, arms_meet, in_turn}
-use Rattle.soy_meaning.specs.PlanOfParts.{cut_of_role, cut_plan, exact_plans, known_classes, named_plans, part_plan}
-use Rattle.soy_meaning.specs.PlanOfParts.{parts_plan, placeholder_cut, printed_classes, select_arm_plans, tag_plan}
-use Rattle.soy_meaning.specs.PlanOfParts.{text_plan}
+use Rattle.soy_meaning.specs.Paths.Plan.{Either, Frame, Hole, Loop, Meet, Nothing, Nowhere, Plan, StaticText, Then}
+use Rattle.soy_pieces.specs.Site.{Site}
+use Rattle.soy_meaning.specs.Paths.Plan.{any_of, arms_meet, in_turn}
+use Rattle.soy_meaning.specs.Paths.PlanOfParts.{cut_plan, exact_plans, known_classes, named_plans, part_plan}
+use Rattle.soy_rules.specs.Placeholders.{cut_of_role}
+use Rattle.soy_meaning.specs.Paths.PlanOfParts.{parts_plan, printed_classes, select_arm_plans, tag_plan}
+use Rattle.soy_rules.specs.Placeholders.{placeholder_cut}
+use Rattle.soy_meaning.specs.Paths.PlanOfParts.{text_plan}
 use Rattle.alike_files.specs.RunWithoutPositions.{site_without_position}
 use Rattle.soy_format.specs.WithoutSpans.{expr_without_spans}
 use Rattle.alike_files.proofs.ExpressionTypes.{type_same}

@@ -10,12 +10,13 @@ use Rattle.soy_tree.specs.MessageText.{Character, Cut, MessageItem, PrintCut, Pr
 use Rattle.soy_tree.specs.MessageText.{message_items}
 use Rattle.soy_tree.specs.Nodes.{MessageBody, PluralCases, SelectCases, Parts, Plural, Select, no_plural_case}
 use Rattle.soy_tree.specs.Nodes.{plural_case, no_select_case, select_case}
-use Rattle.soy_tree.specs.Placeholders.{AsPlaceholder, AsPlural, AsSelect, Content, ExprContent, Role, TagContent, Use}
-use Rattle.soy_tree.specs.Placeholders.{are_same_message_items, body_uses, content_name, contents_after, cut_uses}
-use Rattle.soy_tree.specs.Placeholders.{found_uses, free_number, has_base, is_same_content, is_same_message_item}
-use Rattle.soy_tree.specs.Placeholders.{name_of}
-use Rattle.soy_tree.specs.Placeholders.{named_contents, numbered, numbered_name, plural_uses, select_uses, with_content}
-use Rattle.soy_tree.specs.SameExpression.{is_same_expr}
+use Rattle.soy_rules.specs.Placeholders.{AsPlaceholder, AsPlural, AsSelect, Content, ExprContent, Role, TagContent, Use}
+use Rattle.soy_rules.specs.Placeholders.{are_same_message_items, body_uses, content_name, contents_after, cut_uses}
+use Rattle.soy_rules.specs.Placeholders.{found_uses, free_number, has_base, is_same_content, is_same_message_item}
+use Rattle.soy_rules.specs.Placeholders.{name_of}
+use Rattle.soy_rules.specs.Placeholders.{named_contents, numbered, numbered_name, plural_uses, select_uses}
+use Rattle.soy_rules.specs.Placeholders.{with_content}
+use Rattle.soy_rules.specs.SameExpression.{is_same_expr}
 use Rattle.soy_tree.specs.Types.{Name}
 use Rattle.soy_format.specs.WithoutSpans.{body_without_spans, expr_without_spans, plural_cases_without_spans}
 use Rattle.soy_format.specs.WithoutSpans.{select_cases_without_spans}

@@ -10,14 +10,15 @@ use Rattle.soy_base.specs.declared.place.Placing.{Placing}
 use Rattle.soy_base.specs.declared.place.Placing.TheVariants.{Takes, Refuses}
 use Rattle.soy_base.specs.declared.place.ValueClass.{ValueClass}
 use Rattle.html_state.specs.TakesClass.{takes_class}
-use Rattle.soy_tree.specs.Faults.{followed_by}
-use Rattle.soy_meaning.specs.Machine.{Machine}
-use Rattle.soy_meaning.specs.Plan.{Either, Frame, Hole, Loop, Meet, Nothing, Nowhere, Plan, Site, StaticText, Then}
-use Rattle.soy_meaning.specs.States.{joined_states}
-use Rattle.soy_meaning.specs.Walk.{WalkFault, Walked, after_turn, agreed_place, all_may_end, frame_end, met_at}
-use Rattle.soy_meaning.specs.Walk.{other_placing, place_of_hole, states_after_text, taken_place, turns, walk}
-use Rattle.soy_meaning.specs.Walk.{walk_fault}
-use Rattle.soy_meaning.specs.Walk.{walked, within_limit}
+use Rattle.soy_rules.specs.Faults.{followed_by}
+use Rattle.soy_meaning.specs.Walks.Machine.{Machine}
+use Rattle.soy_meaning.specs.Paths.Plan.{Either, Frame, Hole, Loop, Meet, Nothing, Nowhere, Plan, StaticText, Then}
+use Rattle.soy_pieces.specs.Site.{Site}
+use Rattle.soy_meaning.specs.Walks.States.{joined_states}
+use Rattle.soy_meaning.specs.Walks.Walk.{WalkFault, Walked, after_turn, agreed_place, all_may_end, frame_end, met_at}
+use Rattle.soy_meaning.specs.Walks.Walk.{other_placing, place_of_hole, states_after_text, taken_place, turns, walk}
+use Rattle.soy_meaning.specs.Walks.Walk.{walk_fault}
+use Rattle.soy_meaning.specs.Walks.Walk.{walked, within_limit}
 use Rattle.alike_files.specs.RunWithoutPositions.{site_without_position}
 use Rattle.alike_files.proofs.ExpressionValues.{through_if}
 use Rattle.alike_files.proofs.MessageCuts.{either_same}

@@ -8,7 +8,7 @@ use Rattle.soy_tree.specs.Trees.{Tree}
 use Rattle.soy_tree.specs.ViewTrees.{view_trees}
 use Rattle.soy_tree.specs.declared.bundle.Bundle.{Bundle}
 use Rattle.msg_extract.specs.declared.catalogue.Listed.{Listed}
-use Rattle.soy_meaning.specs.Walk.{Walked}
+use Rattle.soy_meaning.specs.Walks.Walk.{Walked}
 use Rattle.soy_front.specs.FilesAnswer.{ReadFiles}
 use Rattle.soy_front.specs.FrontAnswer.{Front}
 use Rattle.soy_front.specs.declared.fault.FrontFault.{FrontFault}

@@ -1,17 +1,17 @@
 -- What a template of trees gives, and means, under a bundle and the values of its parameters.
 -- Example: of `{@param x: string}{$x}` under no bundle and `x` with `a` it is one value, `a` in a span.
 use Rattle.std.specs.Prelude.{ℕ, List}
-use Rattle.soy_tree.specs.Templates.{Declared, declared}
+use Rattle.soy_rules.specs.Templates.{Declared, declared}
 use Rattle.soy_tree.specs.Trees.{Tree}
 use Rattle.soy_tree.specs.Values.{Value}
 use Rattle.soy_tree.specs.declared.bundle.Bundle.{Bundle}
-use Rattle.soy_meaning.specs.Giving.{RunEnv}
-use Rattle.soy_meaning.specs.Meaning.{meaning}
-use Rattle.soy_meaning.specs.Outcome.{Outcome}
-use Rattle.soy_meaning.specs.Pieces.{RunContext, template_run}
-use Rattle.template_ir.specs.Placed.{language_context}
-use Rattle.template_ir.specs.Run.{input_env, names_of}
-use Rattle.ir_build.specs.ViewScene.{language_of}
+use Rattle.soy_pieces.specs.Giving.{RunEnv}
+use Rattle.soy_pieces.specs.Meaning.{meaning}
+use Rattle.soy_pieces.specs.Outcome.{Outcome}
+use Rattle.soy_pieces.specs.Pieces.{RunContext, template_run}
+use Rattle.soy_pieces.specs.Language.{language_context}
+use Rattle.soy_pieces.specs.InputEnv.{input_env, names_of}
+use Rattle.soy_pieces.specs.Language.{language_of}
 
 abbrev pub context_under : Bundle → List Tree → RunContext
 context_under bundle trees = language_context (language_of bundle) (declared trees)

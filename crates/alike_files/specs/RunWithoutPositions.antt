@@ -1,8 +1,8 @@
 -- What a run gives, without positions: the same pieces, costs, work and choices, and where it stops at a call, at the
 -- start of that call's file.
 -- Example: the run of a template that calls itself for ever stops at its `{call`; without positions it stops at 0.
-use Rattle.soy_meaning.specs.Outcome.{GivesPiece, Outcome, RunEnd, RunEnds, StopsAt, WholeRun}
-use Rattle.soy_meaning.specs.Plan.{Site}
+use Rattle.soy_pieces.specs.Outcome.{GivesPiece, Outcome, RunEnd, RunEnds, StopsAt, WholeRun}
+use Rattle.soy_pieces.specs.Site.{Site}
 
 abbrev pub site_without_position : Site → Site
 site_without_position at = record at { at = 0 }

@@ -1,14 +1,14 @@
 //! What holds of files whose trees are alike: functions with an empty body, whose contracts are the laws.
 
 ghost use Rattle.std.specs.Prelude.{◌≡◌, ℕ, List, Option, Some, slice_get};
-ghost use Rattle.soy_tree.specs.Templates.{Declared, declared};
+ghost use Rattle.soy_rules.specs.Templates.{Declared, declared};
 ghost use Rattle.soy_tree.specs.Trees.{Tree};
 ghost use Rattle.soy_tree.specs.Types.{Name};
 ghost use Rattle.soy_tree.specs.Values.{Value};
 ghost use Rattle.soy_tree.specs.declared.bundle.Bundle.{Bundle};
 ghost use Rattle.msg_extract.specs.Catalogue.{catalogue_of};
-ghost use Rattle.soy_meaning.specs.Giving.{RunEnv};
-ghost use Rattle.soy_meaning.specs.TypedData.{FitsData};
+ghost use Rattle.soy_pieces.specs.Giving.{RunEnv};
+ghost use Rattle.soy_meaning.specs.Runs.TypedData.{FitsData};
 ghost use Rattle.soy_front.specs.Accepted.{Accepted};
 ghost use Rattle.soy_front.specs.Entries.{entry_number};
 ghost use Rattle.soy_front.specs.FilesAnswer.{files_answer};

@@ -5,8 +5,8 @@
 //! definition says of a tree without spans is what it says of the tree, without positions. So the proofs have one lemma
 //! for each definition between a tree and a page.
 //!
-//! Depends on `soy_format` for trees without spans, on `soy_front` for what is answered of files, on `soy_meaning` and
-//! `template_ir` for what a template gives, on `msg_extract` for ids, and on the crates below these.
+//! Depends on `soy_format` for trees without spans, on `soy_front` for what is answered of files, on `soy_pieces,
+//! soy_meaning` and `template_ir` for what a template gives, on `msg_extract` for ids, and on the crates below these.
 #![tactic(auto)]
 
 mod laws;

@@ -2,7 +2,7 @@
 
 ghost use Rattle.std.specs.Prelude.{◌≡◌, [], ◌∷◌, Some, codes, option_map};
 ghost use Rattle.soy_base.specs.declared.code.Code.TheVariants as code;
-ghost use Rattle.soy_tree.specs.Demands.{check_fault};
+ghost use Rattle.soy_rules.specs.Demands.{check_fault};
 ghost use Rattle.soy_front.specs.FilesAnswer.{fault_of};
 ghost use Rattle.alike_files.specs.AlikeFiles.{AllAlike};
 ghost use Rattle.alike_files.specs.WithoutPositions.{fault_without_position};

@@ -21,7 +21,7 @@ use Rattle.soy_base.specs.Characters.{carriage_return, line_feed, space}
 use Rattle.bidi_class.specs.declared.class.Class.{Class}
 use Rattle.bidi_class.specs.declared.class.Class.TheVariants.{B}
 use Rattle.bidi_class.specs.Class.{bidi_class}
-use Rattle.html_state.specs.AfterPieces.{Piece}
+use Rattle.soy_base.specs.Piece.{Piece}
 use Rattle.bidi_order.specs.Elements.{OpenElement, elements_closed, elements_left, is_inline, is_void}
 use Rattle.bidi_order.specs.Elements.{opened_element}
 use Rattle.bidi_order.specs.MarkupTokens.{MarkupToken, tokens_of}

@@ -31,3 +31,7 @@ pub mod Numbers
 pub mod PageReadings
 pub mod PageLines
 pub mod PageEnds
+pub mod PlainWeak
+pub mod PlainNeutral
+pub mod PlainKept
+pub mod PlainLines

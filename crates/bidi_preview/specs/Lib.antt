@@ -4,6 +4,7 @@ pub mod Roles
 pub mod WeakSteps
 pub mod NeutralSteps
 pub mod ExplicitSteps
+pub mod PlainSteps
 pub mod NextCharacter
 pub mod SequenceSteps
 pub mod ResetSteps

@@ -12,14 +12,21 @@ use bidi_class::{Class, class_of};
 use soy_base::{OutOfMemory, Stack};
 use std::alloc::Global;
 
-/// The classes of a line, with RLI or LRI for each FSI (X5c).
+/// The classes of a line.
 pub(crate) fn read_classes(alloc: Global, line: &[char]) -> Result<Vec<Class>, OutOfMemory>
-    ensures { IfOk result (λ classes. classes.items ≡ directed_classes (map bidi_class line.now)) }
+    ensures { IfOk result (λ classes. classes.items ≡ map bidi_class line.now) }
 {
     let mut classes = Vec::new(alloc);
     for c in line {
         classes.push(class_of(*c))?;
     }
+    Ok(classes)
+}
+
+/// The classes of a line, with RLI or LRI for each FSI (X5c).
+pub(crate) fn directed(alloc: Global, mut classes: Vec<Class>) -> Result<Vec<Class>, OutOfMemory>
+    ensures { IfOk result (λ directed. directed.items ≡ directed_classes classes.items) }
+{
     direct_isolates(alloc, &mut classes)?;
     Ok(classes)
 }

@@ -6,12 +6,12 @@ use Rattle.std.specs.Option.{option_or}
 use Rattle.std.proofs.lemmas.Slice.Eq.{bytes_eq-Decides}
 use Rattle.soy_base.specs.Among.{is_among}
 use Rattle.soy_tree.specs.Expressions.{Expr}
-use Rattle.soy_tree.specs.Placeholders.{Role, Use, AsPlaceholder, AsPlural, AsSelect, name_of}
+use Rattle.soy_rules.specs.Placeholders.{Role, Use, AsPlaceholder, AsPlural, AsSelect, name_of}
 use Rattle.soy_tree.specs.Types.{Name}
 use Rattle.msg_extract.specs.Catalogue.{is_of_kind, names_after, with_name}
 use Rattle.msg_extract.specs.declared.role_names.NameKind.{NameKind}
 use Rattle.msg_extract.specs.declared.role_names.NameKind.TheVariants as kind
-use Rattle.soy_meaning.specs.Branch.{selector, selector_of_role}
+use Rattle.soy_pieces.specs.Branch.{selector, selector_of_role}
 
 -- the kind of the names of selectors
 abbrev pub selector_kind : Bool → NameKind

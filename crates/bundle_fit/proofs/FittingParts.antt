@@ -11,16 +11,17 @@ use Rattle.soy_tree.specs.MessageParts.{MsgPart, MsgParts, ExactArms, NamedArms,
 use Rattle.soy_tree.specs.MessageParts.{NumberPart, PluralPart, SelectPart, no_part, part, no_exact_arm, exact_arm}
 use Rattle.soy_tree.specs.MessageParts.{no_named_arm, named_arm, no_select_arm, select_arm}
 use Rattle.soy_tree.specs.Nodes.{Message, MessageBody, message}
-use Rattle.soy_tree.specs.Placeholders.{Use, body_uses}
+use Rattle.soy_rules.specs.Placeholders.{Use, body_uses}
 use Rattle.soy_tree.specs.Types.{Name}
 use Rattle.msg_extract.specs.Catalogue.{listed}
 use Rattle.msg_extract.specs.Fits as extract
 use Rattle.msg_extract.specs.Fits.{exact_fault, named_fault, part_fault, parts_fault, select_fault, unless_among}
 use Rattle.msg_extract.specs.declared.catalogue.Listed.{Listed}
-use Rattle.soy_meaning.specs.Branch.{selector}
-use Rattle.soy_meaning.specs.PlanOfNodes.{uses_of}
-use Rattle.soy_meaning.specs.TranslationFits.{FitsMessage, exact_fit, has_other, has_other_word, named_fit, part_fits}
-use Rattle.soy_meaning.specs.TranslationFits.{parts_fit, select_fit}
+use Rattle.soy_pieces.specs.Branch.{selector}
+use Rattle.soy_rules.specs.Placeholders.{uses_of}
+use Rattle.soy_meaning.specs.Runs.TranslationFits.{FitsMessage, exact_fit, has_other, has_other_word, named_fit}
+use Rattle.soy_meaning.specs.Runs.TranslationFits.{part_fits}
+use Rattle.soy_meaning.specs.Runs.TranslationFits.{parts_fit, select_fit}
 use Rattle.template_ir.specs.CompiledTrees.{IsPatternThere}
 use Rattle.template_ir.proofs.Patterns.{AreWhole, ExactWhole, IsWhole, NamedWhole, WordsWhole, pattern_whole}
 use Rattle.bundle_fit.proofs.FittingNames.{selector_there}

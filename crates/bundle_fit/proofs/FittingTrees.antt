@@ -10,7 +10,7 @@ use Rattle.soy_tree.specs.Formed.{is_case_word, is_formed_body, is_formed_expr, 
 use Rattle.soy_tree.specs.Formed.{is_formed_int, is_formed_message, is_formed_node, is_formed_otherwise}
 use Rattle.soy_tree.specs.Formed.{is_formed_param}
 use Rattle.soy_tree.specs.Formed.{is_formed_template, is_formed_tree, is_message_text, is_text, nesting}
-use Rattle.soy_tree.specs.Ints.{largest}
+use Rattle.soy_base.specs.Limits.{largest}
 use Rattle.soy_tree.specs.MessageParts.{MsgParts}
 use Rattle.soy_tree.specs.MessageText.{message_items}
 use Rattle.soy_tree.specs.Nodes.{Node, Nodes, Otherwise, Arms, Cases, Arguments, Given, Message, Fallback, MessageBody}
@@ -18,15 +18,16 @@ use Rattle.soy_tree.specs.Nodes.{PluralCases, SelectCases, TextNode, Print, If, 
 use Rattle.soy_tree.specs.Nodes.{MessageNode, no_node, node, no_otherwise, otherwise, no_arm, arm, no_case, case}
 use Rattle.soy_tree.specs.Nodes.{no_argument, argument, Plain, Block, message, no_fallback, fallback, Parts, Plural}
 use Rattle.soy_tree.specs.Nodes.{Select, no_plural_case, plural_case, no_select_case, select_case}
-use Rattle.soy_tree.specs.Templates.{Declared, declared_from, declared_in}
+use Rattle.soy_rules.specs.Templates.{Declared, declared_from, declared_in}
 use Rattle.soy_tree.specs.Trees.{Template, Tree}
 use Rattle.soy_tree.specs.Types.{Name}
 use Rattle.msg_extract.specs.Fits.{FitsMessages, FitsTrees}
 use Rattle.msg_extract.specs.MessagesIn.{argument_messages, arm_messages, case_messages, fallback_messages}
 use Rattle.msg_extract.specs.MessagesIn.{given_messages, messages_in, node_messages, otherwise_messages}
 use Rattle.msg_extract.specs.MessagesIn.{template_messages}
-use Rattle.soy_meaning.specs.TranslationFits.{ArgumentsFit, ArmsFit, BodyFits, CasesFit, FallbackFits, GivenFits}
-use Rattle.soy_meaning.specs.TranslationFits.{NodeFits, NodesFit, OtherFits, PluralFits, SelectFits, TranslationsFit}
+use Rattle.soy_meaning.specs.Runs.TranslationFits.{ArgumentsFit, ArmsFit, BodyFits, CasesFit, FallbackFits, GivenFits}
+use Rattle.soy_meaning.specs.Runs.TranslationFits.{NodeFits, NodesFit, OtherFits, PluralFits, SelectFits}
+use Rattle.soy_meaning.specs.Runs.TranslationFits.{TranslationsFit}
 use Rattle.template_ir.specs.CompiledTrees.{ArePatterns, ArgumentPatterns, ArmPatterns, CasePatterns, FallbackPattern}
 use Rattle.template_ir.specs.CompiledTrees.{GivenPatterns, NodePatterns, NodesPatterns, OtherPatterns}
 use Rattle.template_ir.specs.Placed.{AreTexts}

@@ -1,4 +1,3 @@
 pub mod FittingNames
 pub mod FittingParts
 pub mod FittingTrees
-pub mod NamedNodes

@@ -9,7 +9,7 @@ use Rattle.soy_lexer.specs.declared.token.Token.{Token}
 use Rattle.soy_lexer.specs.declared.token.TokenKind.{TokenKind}
 use Rattle.soy_lexer.specs.declared.token.TokenKind.TheVariants as kind
 use Rattle.soy_tree.specs.Formed.{is_formed_int, is_formed_expr}
-use Rattle.soy_tree.specs.Ints.{largest}
+use Rattle.soy_base.specs.Limits.{largest}
 use Rattle.soy_tree.specs.ViewExpressions.{view_expr}
 use Rattle.soy_tree.specs.declared.expr.BinaryOp.TheVariants as binary
 use Rattle.soy_tree.specs.declared.expr.ExprNode.{ExprNode}

@@ -1,7 +1,6 @@
 -- The words and variables among the tokens of a text are names.
-use Rattle.std.proofs.Common.{◌≡◌, ℕ, zero, suc, ◌+◌, ◌==◌, nat_le, if◌then◌else◌, Bool, true, false, List, []}
-use Rattle.std.proofs.Common.{◌∷◌, ◌++◌, Option, Some, None, IfSome, option_map, unwrap_or, refl, sym, subst}
-use Rattle.std.proofs.Common.{codes}
+use Rattle.std.proofs.Common.{◌≡◌, ℕ, zero, suc, ◌+◌, ◌==◌, nat_le, if◌then◌else◌, Bool, true, false, List, [], ◌∷◌}
+use Rattle.std.proofs.Common.{◌++◌, Option, Some, None, IfSome, option_map, unwrap_or, refl, sym, subst, codes}
 use Rattle.std.specs.Char.{is_ascii_digit}
 use Rattle.std.specs.List.{list_all}
 use Rattle.std.specs.Option.{option_or}
@@ -10,11 +9,10 @@ use Rattle.soy_base.specs.WhiteSpace.{is_template_space}
 use Rattle.soy_base.specs.Names.{begins_name, continues_name, is_name}
 use Rattle.soy_base.specs.Cuts.{after_prefix, cut, prefix_while, after_while}
 use Rattle.soy_lexer.specs.CommandSegment.{white_segment, fixed_segment, name_prefix, name_segment, variable_segment}
-use Rattle.soy_lexer.specs.CommandSegment.{number_after, largest_int}
-use Rattle.soy_lexer.specs.CommandSegment.{digits_segment, int_segment, quoted_segment, string_segment, value_segment}
-use Rattle.soy_lexer.specs.CommandSegment.{attribute_segment}
-use Rattle.soy_lexer.specs.CommandSegment.{symbols_of_one, symbols_of_two, one_of, command_segment}
-use Rattle.soy_lexer.specs.CommandSegment.{close_segment, opened_segment}
+use Rattle.soy_lexer.specs.CommandSegment.{number_after, digits_segment, int_segment, quoted_segment, string_segment}
+use Rattle.soy_lexer.specs.CommandSegment.{value_segment, attribute_segment, symbols_of_one, symbols_of_two, one_of}
+use Rattle.soy_lexer.specs.CommandSegment.{command_segment, close_segment, opened_segment}
+use Rattle.soy_base.specs.Limits.{largest}
 use Rattle.soy_lexer.specs.Found.{Found, begins, unless_null}
 use Rattle.soy_lexer.specs.Found.Found.{Begins, Fails}
 use Rattle.soy_lexer.specs.ModeAfter.{mode_after, mode_after_token, mode_after_skipped}
@@ -112,7 +110,7 @@ variable_named (c ∷ cs) = over (c == 36)
     over false = tt
 
 digits_named : (digits rest : List ℕ) → Named (digits_segment digits rest)
-digits_named digits rest = over (nat_le (number_after 0 digits) largest_int)
+digits_named digits rest = over (nat_le (number_after 0 digits) largest)
   where
     over : (t : Bool) → Named (if t then begins (CommandToken kind.Int digits digits) rest else Fails 0)
     over true = begins_named (CommandToken kind.Int digits digits) rest tt

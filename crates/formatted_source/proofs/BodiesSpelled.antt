@@ -8,7 +8,8 @@ use Rattle.soy_base.specs.Names.{is_dotted_name, is_name}
 use Rattle.soy_tree.specs.Formed.{are_formed_arguments, are_formed_arms, are_formed_cases, are_formed_nodes}
 use Rattle.soy_tree.specs.Formed.{begins_with_text, if_there, is_formed_expr, is_formed_fallback, is_formed_given}
 use Rattle.soy_tree.specs.Formed.{is_formed_message, is_formed_node, is_formed_otherwise, is_text}
-use Rattle.soy_tree.specs.Nodes.{Node, Nodes, Otherwise, Arms, Cases, Arguments, Given, TextNode, Print, If, Switch, For}
+use Rattle.soy_tree.specs.Nodes.{Node, Nodes, Otherwise, Arms, Cases, Arguments, Given, TextNode, Print, If, Switch}
+use Rattle.soy_tree.specs.Nodes.{For}
 use Rattle.soy_tree.specs.Nodes.{Let, LetBlock, Call, MessageNode, no_node, node, no_otherwise, otherwise, no_arm, arm}
 use Rattle.soy_tree.specs.Nodes.{no_case, case, no_argument, argument, Plain, Block}
 use Rattle.soy_tree.specs.Types.{Name}
@@ -27,17 +28,18 @@ use Rattle.formatted_source.proofs.CallNodes.{ArgumentIs, ArgumentsAre, argument
 use Rattle.formatted_source.proofs.CallNodes.{no_arguments_speak, param_block_speaks, param_speaks}
 use Rattle.formatted_source.proofs.Conditions.{four, three}
 use Rattle.formatted_source.proofs.EdgedNodes.{edged_nodes, own_pieces}
-use Rattle.formatted_source.proofs.FittingTrees.{ArgumentsFit, ArmsFit, CasesFit, FirstFits, GivenFits}
-use Rattle.formatted_source.proofs.FittingTrees.{NodeFits, NodesFit, OtherwiseFits}
+use Rattle.formatted_source.proofs.Fitting.FittingTrees.{ArgumentsFit, ArmsFit, CasesFit, FirstFits, GivenFits}
+use Rattle.formatted_source.proofs.Fitting.FittingTrees.{NodeFits, NodesFit, OtherwiseFits}
 use Rattle.formatted_source.proofs.IfNodes.{ArmsAre, MoreArms, arms_speak, first_arm_speaks, if_speaks}
 use Rattle.formatted_source.proofs.IfNodes.{no_arms_speak}
 use Rattle.formatted_source.proofs.MessagesSpelled.{message_node_spelled}
-use Rattle.formatted_source.proofs.Names.{both}
+use Rattle.formatted_source.proofs.Written.Names.{both}
 use Rattle.formatted_source.proofs.NodeAlike.{BodyIs, NodeIs}
 use Rattle.formatted_source.proofs.NodeLexemes.{all_lexemes}
 use Rattle.formatted_source.proofs.NodesPieces.{NodesPieces}
 use Rattle.formatted_source.proofs.NodesWalked.{EachSpeaks, body_walked}
-use Rattle.formatted_source.proofs.PlainNodes.{call_alone_speaks, for_speaks, let_block_speaks, let_speaks, print_speaks}
+use Rattle.formatted_source.proofs.PlainNodes.{call_alone_speaks, for_speaks, let_block_speaks, let_speaks}
+use Rattle.formatted_source.proofs.PlainNodes.{print_speaks}
 use Rattle.formatted_source.proofs.Speaking.{Speaks}
 use Rattle.formatted_source.proofs.SwitchNodes.{CasesAre, any_case_speaks, no_cases_speak, switch_speaks}
 

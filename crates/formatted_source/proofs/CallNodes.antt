@@ -28,19 +28,19 @@ use Rattle.soy_parser.proofs.ViewForms.{view-Block, view-Call, view-Plain, view-
 use Rattle.soy_format.specs.WithoutSpans.{arguments_without_spans, given_without_spans, no_span}
 use Rattle.soy_format.specs.WithoutSpans.{node_without_spans}
 use Rattle.formatted_source.specs.NodePieces.{argument_pieces, arguments_pieces, node_pieces, nodes_pieces}
-use Rattle.formatted_source.proofs.AttributeCommands.{param_block_command}
-use Rattle.formatted_source.proofs.BareCommands.{call_closes, param_closes}
-use Rattle.formatted_source.proofs.CommandRows.{Rows, gathered}
+use Rattle.formatted_source.proofs.Commands.AttributeCommands.{param_block_command}
+use Rattle.formatted_source.proofs.Commands.BareCommands.{call_closes, param_closes}
+use Rattle.formatted_source.proofs.Commands.CommandRows.{Rows, gathered}
 use Rattle.formatted_source.proofs.EdgedNodes.{Opened}
-use Rattle.formatted_source.proofs.ExprCommands.{SaysExpr}
+use Rattle.formatted_source.proofs.Commands.ExprCommands.{SaysExpr}
 use Rattle.formatted_source.proofs.LineLexemes.{MayOpen, before_open, opened_on}
-use Rattle.formatted_source.proofs.NameCommands.{call_opens}
+use Rattle.formatted_source.proofs.Commands.NameCommands.{call_opens}
 use Rattle.formatted_source.proofs.NodeAlike.{BodyIs, NodeIs}
 use Rattle.formatted_source.proofs.NodeLexemes.{all_lexemes}
 use Rattle.formatted_source.proofs.PieceParts.{bare, piece_block, piece_command}
 use Rattle.formatted_source.proofs.Speaking.{Speaks, no_part, same_part, two_parts}
-use Rattle.formatted_source.proofs.ValueCommands.{param_command}
-use Rattle.formatted_source.proofs.WrittenHeight.{expr_height}
+use Rattle.formatted_source.proofs.Commands.ValueCommands.{param_command}
+use Rattle.formatted_source.proofs.Fitting.WrittenHeight.{expr_height}
 
 -- a param
 pub data OneArgument : List Command → List ℕ → Argument → Type 0 where

@@ -12,7 +12,7 @@ use Rattle.std.proofs.lemmas.Str.{encodes-IsAscii}
 use Rattle.soy_lexer.specs.CommandSegment.{number_after}
 use Rattle.soy_lexer.specs.declared.token.Token.{Token}
 use Rattle.soy_lexer.specs.declared.token.TokenKind.TheVariants as kind
-use Rattle.soy_tree.specs.Ints.{largest}
+use Rattle.soy_base.specs.Limits.{largest}
 use Rattle.soy_tree.specs.declared.expr.BinaryOp.{BinaryOp}
 use Rattle.soy_tree.specs.declared.expr.BinaryOp.TheVariants as op
 use Rattle.expr_parser.specs.declared.terminal.Terminal.{Terminal}
@@ -24,8 +24,8 @@ use Rattle.soy_format.specs.FormattedExpression.{bool_text, bracket_text, dot_te
 use Rattle.soy_format.specs.Levels.{level_of_op}
 use Rattle.formatted_source.specs.ExprLexemes.{op_lexeme}
 use Rattle.formatted_source.specs.Lexemes.{Lexeme}
-use Rattle.formatted_source.proofs.Ints.{digits-decimal, number-decimal}
-use Rattle.formatted_source.proofs.Names.{both}
+use Rattle.formatted_source.proofs.Written.Ints.{digits-decimal, number-decimal}
+use Rattle.formatted_source.proofs.Written.Names.{both}
 
 -- what a lexeme is
 abbrev pub lexeme_terminal : Lexeme → Terminal

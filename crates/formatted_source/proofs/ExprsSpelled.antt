@@ -14,7 +14,7 @@ use Rattle.soy_tree.specs.declared.expr.ExprNode.TheVariants as node
 use Rattle.soy_tree.specs.Expressions.{Expr, NullLiteral, BoolLiteral, IntLiteral, StringLiteral, Variable, Member}
 use Rattle.soy_tree.specs.Expressions.{Index, Minus, Not, Binary, Coalesce, Conditional}
 use Rattle.soy_tree.specs.Formed.{is_formed_expr}
-use Rattle.soy_tree.specs.Ints.{largest}
+use Rattle.soy_base.specs.Limits.{largest}
 use Rattle.soy_tree.specs.ViewExpressions.{view_expr}
 use Rattle.expr_parser.specs.declared.operand.Operand.{Operand}
 use Rattle.expr_parser.specs.declared.terminal.Terminal.{Terminal}
@@ -29,14 +29,14 @@ use Rattle.expr_parser.proofs.ViewExprs.{view-Neg, view-Not, view-Binary, view-C
 use Rattle.soy_format.specs.FormattedExpression.{bool_text, bracket_text, dot_text}
 use Rattle.soy_format.specs.Levels.{level_of, level_of_op}
 use Rattle.soy_format.specs.WithoutSpans.{expr_without_spans, no_span}
-use Rattle.formatted_source.proofs.WrittenHeight.{bracketed_height, expr_height}
+use Rattle.formatted_source.proofs.Fitting.WrittenHeight.{bracketed_height, expr_height}
 use Rattle.formatted_source.specs.ExprLexemes.{bracketed, expr_lexemes, op_lexeme}
 use Rattle.formatted_source.specs.Lexemes.{Lexeme, lexemes}
 use Rattle.formatted_source.proofs.ExprTerminals.{lexeme_terminal, terminal-lexeme, null_is, bool_is, int_is, not_is}
 use Rattle.formatted_source.proofs.ExprTerminals.{minus_is, open_is, close_is, bracket_close_is, bracket_is, dot_is}
 use Rattle.formatted_source.proofs.ExprTerminals.{coalesce_is, question_is, colon_is, op_is, level_is}
 use Rattle.formatted_source.proofs.LexemeLists.{alone, begun, split}
-use Rattle.formatted_source.proofs.Names.{both}
+use Rattle.formatted_source.proofs.Written.Names.{both}
 
 -- the tokens spell an expression at this level that is alike, with a longest branch of this height
 pub record IsSpelled (n : ℕ) (ts : List Token) (e : Expr) (height : ℕ) : Type 0 where

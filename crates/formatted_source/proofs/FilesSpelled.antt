@@ -18,13 +18,13 @@ use Rattle.formatted_source.specs.Lexemes.{lexemes}
 use Rattle.formatted_source.specs.ReadsAlike.{IsFileAlike}
 use Rattle.formatted_source.specs.SourcedTrees.{is_sourced_tree}
 use Rattle.formatted_source.specs.TreeLexemes.{namespace_lexemes, templates_lexemes, tree_lexemes}
-use Rattle.formatted_source.proofs.FittingNodes.{TemplatesFit, tree_fit}
-use Rattle.formatted_source.proofs.FittingParts.{inside_none}
-use Rattle.formatted_source.proofs.NameCommands.{namespace_command}
-use Rattle.formatted_source.proofs.Names.{both}
-use Rattle.formatted_source.proofs.SourcedNodes.{text_tree}
+use Rattle.formatted_source.proofs.Fitting.FittingNodes.{TemplatesFit, tree_fit}
+use Rattle.formatted_source.proofs.Fitting.FittingParts.{inside_none}
+use Rattle.formatted_source.proofs.Commands.NameCommands.{namespace_command}
+use Rattle.formatted_source.proofs.Written.Names.{both}
+use Rattle.formatted_source.proofs.Sourced.SourcedNodes.{text_tree}
 use Rattle.formatted_source.proofs.Speaking.{Speaks, command_then}
-use Rattle.formatted_source.proofs.SpokenCommands.{Spoken}
+use Rattle.formatted_source.proofs.Sourced.SpokenCommands.{Spoken}
 use Rattle.formatted_source.proofs.TemplatesSpelled.{TemplatesAre, templates_gathered, templates_speak}
 
 -- commands that are the file of a tree that is alike

@@ -30,18 +30,18 @@ use Rattle.formatted_source.specs.CommandPieces.{braced, close_piece}
 use Rattle.formatted_source.specs.ExprLexemes.{expr_lexemes}
 use Rattle.formatted_source.specs.NodePieces.{arms_pieces, else_piece, node_pieces, nodes_pieces, otherwise_pieces}
 use Rattle.formatted_source.specs.Pieces.{Piece}
-use Rattle.formatted_source.proofs.BareCommands.{else_says, if_closes}
+use Rattle.formatted_source.proofs.Commands.BareCommands.{else_says, if_closes}
 use Rattle.formatted_source.proofs.BlockEnds.{EndIs, OtherwiseSpeaks, end_opened, end_speaks}
-use Rattle.formatted_source.proofs.CommandRows.{Rows, gathered}
+use Rattle.formatted_source.proofs.Commands.CommandRows.{Rows, gathered}
 use Rattle.formatted_source.proofs.EdgedNodes.{Opened}
-use Rattle.formatted_source.proofs.ExprCommands.{SaysExpr, elseif_head, expr_command, if_head}
+use Rattle.formatted_source.proofs.Commands.ExprCommands.{SaysExpr, elseif_head, expr_command, if_head}
 use Rattle.formatted_source.proofs.LineLexemes.{MayOpen, before_open, row_pieces}
 use Rattle.formatted_source.proofs.NodeAlike.{BodyIs, NodeIs}
 use Rattle.formatted_source.proofs.NodeLexemes.{all_lexemes}
 use Rattle.formatted_source.proofs.PieceParts.{bare}
 use Rattle.formatted_source.proofs.Speaking.{Headed, Speaks, Within, headed_part, inner_part, no_part, same_part}
 use Rattle.formatted_source.proofs.Speaking.{two_parts}
-use Rattle.formatted_source.proofs.WrittenHeight.{expr_height}
+use Rattle.formatted_source.proofs.Fitting.WrittenHeight.{expr_height}
 
 -- an arm after the first
 pub data OneArm : List Command → List ℕ → Arm → Type 0 where

@@ -1,23 +1,21 @@
 -- The bodies of messages, as they are written, are read as bodies that are alike: texts and prints, or a plural or
 -- select, of which each case has one value.
-use Rattle.std.proofs.Common.{◌≡◌, ℕ, ℤ, pos, negsuc, ◌+◌, ◌≤◌, ◌&&◌, true, List, [], ◌∷◌, ◌++◌}
-use Rattle.std.proofs.Common.{Option, Some, None, refl, ap, subst, ◌∙◌, arith, append-nil}
+use Rattle.std.proofs.Common.{◌≡◌, ℕ, ℤ, pos, negsuc, ◌+◌, ◌≤◌, ◌&&◌, true, List, [], ◌∷◌, ◌++◌, Option, Some, None}
+use Rattle.std.proofs.Common.{refl, ap, subst, ◌∙◌, arith, append-nil}
 use Rattle.std.specs.Prelude.{codes, is_some, nat_le, not}
 use Rattle.std.specs.Fmt.{signed_decimal}
 use Rattle.std.proofs.lemmas.Bool.Decides.{nat_tests}
 use Rattle.soy_base.specs.declared.fault.Span.{Span}
-use Rattle.soy_lexer.specs.CommandSegment.{largest_int}
+use Rattle.soy_base.specs.Limits.{largest}
 use Rattle.soy_lexer.specs.declared.token.TokenKind.TheVariants as kind
 use Rattle.soy_tree.specs.Expressions.{Expr}
 use Rattle.soy_tree.specs.Formed.{are_formed_nodes, are_formed_plural_cases, are_formed_select_cases, if_there}
-use Rattle.soy_tree.specs.Formed.{begins_with_text}
-use Rattle.soy_tree.specs.Formed.{is_case_word, is_formed_body, is_formed_expr, is_formed_int, is_message_text}
-use Rattle.soy_tree.specs.Ints.{largest}
-use Rattle.soy_tree.specs.MessageText.{MessageItem, characters, cuts_of, joined_items, message_items}
-use Rattle.soy_tree.specs.MessageText.{Printed}
-use Rattle.soy_tree.specs.Nodes.{Nodes, MessageBody, PluralCases, SelectCases, TextNode, Print, If, Switch, For}
-use Rattle.soy_tree.specs.Nodes.{Let, LetBlock, Call, MessageNode, no_node, node, Parts, Plural, Select}
-use Rattle.soy_tree.specs.Nodes.{no_plural_case, plural_case, no_select_case, select_case}
+use Rattle.soy_tree.specs.Formed.{begins_with_text, is_case_word, is_formed_body, is_formed_expr, is_formed_int}
+use Rattle.soy_tree.specs.Formed.{is_message_text}
+use Rattle.soy_tree.specs.MessageText.{MessageItem, characters, cuts_of, joined_items, message_items, Printed}
+use Rattle.soy_tree.specs.Nodes.{Nodes, MessageBody, PluralCases, SelectCases, TextNode, Print, If, Switch, For, Let}
+use Rattle.soy_tree.specs.Nodes.{LetBlock, Call, MessageNode, no_node, node, Parts, Plural, Select, no_plural_case}
+use Rattle.soy_tree.specs.Nodes.{plural_case, no_select_case, select_case}
 use Rattle.soy_tree.specs.Types.{Name}
 use Rattle.soy_tree.specs.ViewNodes.{view_body, view_nodes, view_plural_cases, view_select_cases}
 use Rattle.soy_tree.specs.declared.expr.Expr as code_expr
@@ -39,31 +37,28 @@ use Rattle.soy_parser.specs.SpellsTree.{SpellsChoice, SpellsMessageBody, SpellsP
 use Rattle.soy_parser.specs.SpellsTree.{SpellsSelectCases, SpellsWhite}
 use Rattle.soy_parser.proofs.NodeViews.{view_print}
 use Rattle.soy_parser.proofs.ViewForms.{view-Parts, view-Plural, view-Select, view-plural-case, view-select-case}
-use Rattle.soy_format.specs.FormattedBody.{case_text, plural_text, print_text}
-use Rattle.soy_format.specs.FormattedBody.{expr_command as expr_command_text}
+use Rattle.soy_format.specs.FormattedBody.{case_text, plural_text, print_text, expr_command as expr_command_text}
 use Rattle.soy_format.specs.FormattedExpression.{begins_with_variable}
 use Rattle.soy_format.specs.FormattedString.{formatted_string}
 use Rattle.soy_format.specs.WithoutSpans.{body_without_spans, expr_without_spans, no_span, node_without_spans}
-use Rattle.soy_format.specs.WithoutSpans.{plural_cases_without_spans}
-use Rattle.soy_format.specs.WithoutSpans.{select_cases_without_spans}
-use Rattle.formatted_source.specs.CommandPieces.{braced, offset_lexemes, phname_lexemes}
-use Rattle.formatted_source.specs.CommandPieces.{print_word}
+use Rattle.soy_format.specs.WithoutSpans.{plural_cases_without_spans, select_cases_without_spans}
+use Rattle.formatted_source.specs.CommandPieces.{braced, offset_lexemes, phname_lexemes, print_word}
 use Rattle.formatted_source.specs.ExprLexemes.{expr_lexemes}
 use Rattle.formatted_source.specs.Lexemes.{Lexeme}
-use Rattle.formatted_source.specs.NodePieces.{body_pieces, node_pieces, nodes_pieces}
-use Rattle.formatted_source.specs.NodePieces.{plural_cases_pieces, select_cases_pieces}
-use Rattle.formatted_source.proofs.BareCommands.{bare_command, default_says, plural_closes, select_closes}
+use Rattle.formatted_source.specs.NodePieces.{body_pieces, node_pieces, nodes_pieces, plural_cases_pieces}
+use Rattle.formatted_source.specs.NodePieces.{select_cases_pieces}
+use Rattle.formatted_source.proofs.Commands.BareCommands.{bare_command, default_says, plural_closes, select_closes}
 use Rattle.formatted_source.proofs.Branching.{branch_pieces, branched}
-use Rattle.formatted_source.proofs.CaseCommands.{plural_case_command, select_case_command}
-use Rattle.formatted_source.proofs.CommandRows.{Rows, gathered}
+use Rattle.formatted_source.proofs.Commands.CaseCommands.{plural_case_command, select_case_command}
+use Rattle.formatted_source.proofs.Commands.CommandRows.{Rows, gathered}
 use Rattle.formatted_source.proofs.Conditions.{three}
 use Rattle.formatted_source.proofs.EdgedNodes.{Opened, own_pieces}
-use Rattle.formatted_source.proofs.ExprCommands.{SaysExpr, expr_command, select_head}
-use Rattle.formatted_source.proofs.FittingTrees.{BodyFits, NodesFit, PluralCasesFit, SelectCasesFit}
+use Rattle.formatted_source.proofs.Commands.ExprCommands.{SaysExpr, expr_command, select_head}
+use Rattle.formatted_source.proofs.Fitting.FittingTrees.{BodyFits, NodesFit, PluralCasesFit, SelectCasesFit}
 use Rattle.formatted_source.proofs.LineLexemes.{MayOpen, one_piece, row_pieces}
-use Rattle.formatted_source.proofs.MessageCommands.{message_print, plural_command}
+use Rattle.formatted_source.proofs.Commands.MessageCommands.{message_print, plural_command}
 use Rattle.formatted_source.proofs.MessageTexts.{text_alike}
-use Rattle.formatted_source.proofs.Names.{both}
+use Rattle.formatted_source.proofs.Written.Names.{both}
 use Rattle.formatted_source.proofs.NodeAlike.{NodeAs}
 use Rattle.formatted_source.proofs.NodeLexemes.{all_lexemes}
 use Rattle.formatted_source.proofs.NodeRows.{GathersNodes, rows_gathered}
@@ -236,7 +231,7 @@ plural_case_speaks : (b : ℕ) (n : ℤ) → b ≤ 64 → is_formed_int n ≡ tr
     → ls ≡ braced ((kind.Word, codes "case") ∷ ((kind.Int, signed_decimal n) ∷ []))
     → IsCommandOf b ls (λ f. f ≡ says.GoesOn (middle.PluralCase (n ∷ [])))
 plural_case_speaks b (pos n) le f ls is ts same =
-    let within : n ≤ largest_int = grind (arith, nat_tests, f) in
+    let within : n ≤ largest = grind (arith, nat_tests, f) in
     plural_case_command b ts n le within (same ∙ is)
 plural_case_speaks b (negsuc n) le f ls is ts same = absurd (cc)
 
@@ -247,7 +242,7 @@ mutual
   body_speaks b (Plural e offset cases other) le f fits =
       let fs = both (is_formed_expr e && nat_le offset largest && are_formed_plural_cases cases) (is_formed_body other) f in
       let gs = three (is_formed_expr e) (nat_le offset largest) (are_formed_plural_cases cases) fs.0 in
-      let small : offset ≤ largest_int = grind (arith, nat_tests, gs.1) in
+      let small : offset ≤ largest = grind (arith, nat_tests, gs.1) in
       same_part b _ _ (MessageBodyIs (Plural e offset cases other))
       (branch_pieces (plural_text e offset) (braced ((kind.Word, codes "plural") ∷ (expr_lexemes e ++ offset_lexemes offset)))
       (plural_cases_pieces cases) (codes "{default}") (braced ((kind.Word, codes "default") ∷ [])) (body_pieces other)

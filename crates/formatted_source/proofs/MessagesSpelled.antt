@@ -20,13 +20,13 @@ use Rattle.soy_format.specs.WithoutSpans.{body_without_spans, message_without_sp
 use Rattle.formatted_source.specs.CommandPieces.{attribute_lexemes, braced, meaning_lexemes}
 use Rattle.formatted_source.specs.Lexemes.{Lexeme}
 use Rattle.formatted_source.specs.NodePieces.{body_pieces, node_pieces}
-use Rattle.formatted_source.proofs.AttributeCommands.{fallback_command, message_command}
-use Rattle.formatted_source.proofs.BareCommands.{bare_command, msg_closes}
+use Rattle.formatted_source.proofs.Commands.AttributeCommands.{fallback_command, message_command}
+use Rattle.formatted_source.proofs.Commands.BareCommands.{bare_command, msg_closes}
 use Rattle.formatted_source.proofs.Branching.{branch_pieces, branched}
-use Rattle.formatted_source.proofs.FittingTrees.{FallbackFits, MessageFits}
+use Rattle.formatted_source.proofs.Fitting.FittingTrees.{FallbackFits, MessageFits}
 use Rattle.formatted_source.proofs.LineLexemes.{block_pieces}
 use Rattle.formatted_source.proofs.MessageBodies.{MessageBodyIs, body_speaks}
-use Rattle.formatted_source.proofs.Names.{both}
+use Rattle.formatted_source.proofs.Written.Names.{both}
 use Rattle.formatted_source.proofs.NodeAlike.{NodeIs}
 use Rattle.formatted_source.proofs.NodeLexemes.{all_lexemes}
 use Rattle.formatted_source.proofs.Speaking.{Speaks, block, same_part}

@@ -12,7 +12,7 @@ use Rattle.soy_tree.specs.Nodes.{Node, Nodes, TextNode, no_node, node}
 use Rattle.formatted_source.specs.EdgedPieces.{after_first_piece, edge_piece, space_piece}
 use Rattle.formatted_source.specs.NodePieces.{node_pieces}
 use Rattle.formatted_source.specs.Pieces.{Piece, Plain}
-use Rattle.formatted_source.proofs.BareCommands.{sp_says}
+use Rattle.formatted_source.proofs.Commands.BareCommands.{sp_says}
 use Rattle.formatted_source.proofs.TextsSpelled.{TextPieces}
 
 -- a text has a piece at least

@@ -26,7 +26,7 @@ use Rattle.formatted_source.proofs.NodeRows.{NodeRows, body_of_rows}
 use Rattle.formatted_source.proofs.NodesPieces.{HasPiece, NodesPieces}
 use Rattle.formatted_source.proofs.PartLexemes.{after_command}
 use Rattle.formatted_source.proofs.Speaking.{Speaks, Spelled, as_part, no_part, same_part, two_parts}
-use Rattle.formatted_source.proofs.SpokenCommands.{Spoken}
+use Rattle.formatted_source.proofs.Sourced.SpokenCommands.{Spoken}
 use Rattle.formatted_source.proofs.TextsSpelled.{TextPieces, TextSoFar, pieces_spelled}
 
 -- texts

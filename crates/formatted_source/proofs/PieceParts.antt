@@ -6,7 +6,7 @@ use Rattle.soy_parser.specs.Depth.{inside_blocks}
 use Rattle.formatted_source.specs.CommandPieces.{braced}
 use Rattle.formatted_source.specs.Lexemes.{Lexeme}
 use Rattle.formatted_source.specs.Pieces.{Piece, Written}
-use Rattle.formatted_source.proofs.BareCommands.{Says, bare_command}
+use Rattle.formatted_source.proofs.Commands.BareCommands.{Says, bare_command}
 use Rattle.formatted_source.proofs.LineLexemes.{block_pieces, one_piece}
 use Rattle.formatted_source.proofs.NodeLexemes.{all_lexemes}
 use Rattle.formatted_source.proofs.Speaking.{IsCommandOf, Speaks, block, one_command, same_part}

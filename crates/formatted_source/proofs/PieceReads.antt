@@ -11,7 +11,7 @@ use Rattle.soy_lexer.specs.TextSegment.{text_segment}
 use Rattle.formatted_source.specs.Lexemes.{Lexeme}
 use Rattle.formatted_source.specs.Pieces.{Piece, Plain, Written, closed_lexemes, open_line, pieces_text}
 use Rattle.formatted_source.specs.Pieces.{text_lexemes}
-use Rattle.formatted_source.proofs.CommandReads.{IsRead}
+use Rattle.formatted_source.proofs.Commands.CommandReads.{IsRead}
 use Rattle.formatted_source.proofs.ReadTexts.{Outside, Reads, reads_append}
 use Rattle.formatted_source.proofs.Runs.{RunLexemes, feed, is_unbroken, may_follow, run_lexemes}
 

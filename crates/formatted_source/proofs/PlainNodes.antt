@@ -25,16 +25,16 @@ use Rattle.soy_format.specs.WithoutSpans.{expr_without_spans, no_span, node_with
 use Rattle.formatted_source.specs.CommandPieces.{braced, print_word}
 use Rattle.formatted_source.specs.ExprLexemes.{expr_lexemes}
 use Rattle.formatted_source.specs.NodePieces.{node_pieces, nodes_pieces}
-use Rattle.formatted_source.proofs.AttributeCommands.{let_block_command}
-use Rattle.formatted_source.proofs.BareCommands.{for_closes, let_closes}
-use Rattle.formatted_source.proofs.ExprCommands.{SaysExpr, dollar_command, expr_command, print_head}
-use Rattle.formatted_source.proofs.NameCommands.{call_alone}
+use Rattle.formatted_source.proofs.Commands.AttributeCommands.{let_block_command}
+use Rattle.formatted_source.proofs.Commands.BareCommands.{for_closes, let_closes}
+use Rattle.formatted_source.proofs.Commands.ExprCommands.{SaysExpr, dollar_command, expr_command, print_head}
+use Rattle.formatted_source.proofs.Commands.NameCommands.{call_alone}
 use Rattle.formatted_source.proofs.NodeAlike.{BodyIs, NodeIs}
 use Rattle.formatted_source.proofs.NodeLexemes.{all_lexemes}
 use Rattle.formatted_source.proofs.PieceParts.{bare, piece_block, piece_command}
 use Rattle.formatted_source.proofs.Speaking.{IsCommandOf, Speaks}
-use Rattle.formatted_source.proofs.ValueCommands.{for_command, let_command}
-use Rattle.formatted_source.proofs.WrittenHeight.{expr_height}
+use Rattle.formatted_source.proofs.Commands.ValueCommands.{for_command, let_command}
+use Rattle.formatted_source.proofs.Fitting.WrittenHeight.{expr_height}
 
 print_command : (b : ℕ) (dollar : Bool) (e : Expr) → is_formed_expr e ≡ true → b + expr_height e ≤ 64
     → IsCommandOf b (braced (print_word dollar ++ (expr_lexemes e ++ [])))

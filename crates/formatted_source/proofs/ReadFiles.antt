@@ -6,7 +6,8 @@ use Rattle.std.specs.declared.vec.Vec.{Vec}
 use Rattle.soy_base.specs.declared.fault.Fault.{Fault}
 use Rattle.soy_base.specs.declared.memory.Refusal.{Refusal}
 use Rattle.soy_base.specs.declared.memory.Refusal.TheVariants.{Because, OutOfMemory}
-use Rattle.soy_lexer.specs.Lexes.{Lexes, largest_file}
+use Rattle.soy_lexer.specs.Lexes.{Lexes}
+use Rattle.soy_base.specs.Limits.{largest_file}
 use Rattle.soy_lexer.specs.Tokens.{Tokens}
 use Rattle.soy_lexer.specs.declared.token.Token.{Token}
 use Rattle.soy_tree.specs.ViewTrees.{view_tree}
@@ -21,8 +22,8 @@ use Rattle.formatted_source.specs.TreeLexemes.{tree_lexemes}
 use Rattle.formatted_source.proofs.FilesSpelled.{text_spelled}
 use Rattle.formatted_source.proofs.LexedTexts.{lexes_as, same_tokens}
 use Rattle.formatted_source.proofs.ParsedTexts.{parses_alike}
-use Rattle.formatted_source.proofs.SourcedNodes.{text_tree}
-use Rattle.formatted_source.proofs.TreesWritten.{tree_written}
+use Rattle.formatted_source.proofs.Sourced.SourcedNodes.{text_tree}
+use Rattle.formatted_source.proofs.Written.TreesWritten.{tree_written}
 
 -- the tokens that it is written for
 pub own_tokens : (text : List ℕ) (tokens : List Token) (t : Tree) → Tokens text tokens → IsFile tokens t

@@ -4,7 +4,7 @@ use Rattle.std.proofs.Common.{◌∙◌, arith}
 use Rattle.soy_lexer.specs.declared.token.Token.{Token}
 use Rattle.soy_tree.specs.Expressions.{Expr}
 use Rattle.soy_tree.specs.Formed.{is_formed_expr}
-use Rattle.soy_tree.specs.TypeText.{type_text}
+use Rattle.soy_rules.specs.TypeText.{type_text}
 use Rattle.soy_tree.specs.ViewExpressions.{view_expr}
 use Rattle.soy_tree.specs.ViewTypes.{view_type}
 use Rattle.expr_parser.specs.declared.operand.Operand.{Operand}
@@ -18,18 +18,18 @@ use Rattle.expr_parser.proofs.ExprForms.{formed}
 use Rattle.expr_parser.proofs.TypeForms.{formed_type}
 use Rattle.soy_format.specs.FormattedExpression.{formatted_expr}
 use Rattle.formatted_source.specs.CommandLexemes.{ends_name, ends_type}
-use Rattle.formatted_source.proofs.WrittenHeight.{expr_height}
+use Rattle.formatted_source.proofs.Fitting.WrittenHeight.{expr_height}
 use Rattle.formatted_source.specs.ExprLexemes.{expr_lexemes}
 use Rattle.formatted_source.specs.Lexemes.{lexemes}
 use Rattle.formatted_source.specs.ReadsAs.{IsReadAsExpr, IsReadAsType, SpellAlike}
 use Rattle.formatted_source.specs.TypeLexemes.{type_lexemes}
-use Rattle.formatted_source.proofs.ExprHeights.{height_within, within_height}
-use Rattle.formatted_source.proofs.ExprsLower.{whole_lower, written_lower}
+use Rattle.formatted_source.proofs.Fitting.ExprHeights.{height_within, within_height}
+use Rattle.formatted_source.proofs.Fitting.ExprsLower.{whole_lower, written_lower}
 use Rattle.formatted_source.proofs.ExprsSpelled.{expr_spelled, levels_end}
-use Rattle.formatted_source.proofs.ExprsWritten.{expr_written}
+use Rattle.formatted_source.proofs.Written.ExprsWritten.{expr_written}
 use Rattle.formatted_source.proofs.TypesRespelled.{type_again}
 use Rattle.formatted_source.proofs.TypesSpelled.{spelled_lexemes}
-use Rattle.formatted_source.proofs.TypesWritten.{type_written}
+use Rattle.formatted_source.proofs.Written.TypesWritten.{type_written}
 
 -- tokens of an expression's lexemes spell it where its height is within the limit
 pub spelled_within : (blocks : ℕ) (e : Expr) → is_formed_expr e ≡ true → blocks + expr_height e ≤ 64

@@ -11,7 +11,7 @@ use Rattle.soy_lexer.specs.Lines.{without_end, without_start}
 use Rattle.soy_lexer.specs.Tokens.{run_token, token_of_lines}
 use Rattle.formatted_source.specs.Lexemes.{Lexeme, lexemes}
 use Rattle.formatted_source.specs.Pieces.{text_lexemes}
-use Rattle.formatted_source.proofs.Names.{both}
+use Rattle.formatted_source.proofs.Written.Names.{both}
 use Rattle.formatted_source.proofs.Conditions.{not_true}
 
 -- a run of these characters has these lexemes

@@ -7,9 +7,9 @@ use Rattle.soy_parser.specs.declared.command.Command.{Command}
 use Rattle.soy_parser.specs.declared.command.CommandForm.{CommandForm}
 use Rattle.soy_parser.specs.Depth.{inside_blocks}
 use Rattle.formatted_source.specs.Lexemes.{Lexeme, lexemes}
-use Rattle.formatted_source.proofs.CommandTerms.{CommandSpelled}
+use Rattle.formatted_source.proofs.Commands.CommandTerms.{CommandSpelled}
 use Rattle.formatted_source.proofs.LexemeLists.{none_left, split}
-use Rattle.formatted_source.proofs.SpokenCommands.{Spoken, none_spoken, one_spoken, spoken_append}
+use Rattle.formatted_source.proofs.Sourced.SpokenCommands.{Spoken, none_spoken, one_spoken, spoken_append}
 
 pub record Spelled (blocks : ℕ) (ts : List Token) (P : List Command → List ℕ → Type 0) : Type 0 where
   pub commands : List Command

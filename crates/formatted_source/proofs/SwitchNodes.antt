@@ -32,20 +32,20 @@ use Rattle.formatted_source.specs.Lexemes.{Lexeme}
 use Rattle.formatted_source.specs.NodePieces.{cases_pieces, default_piece, node_pieces, nodes_pieces, otherwise_pieces}
 use Rattle.formatted_source.specs.Pieces.{Piece}
 use Rattle.formatted_source.specs.SourcedTrees.{has_value}
-use Rattle.formatted_source.proofs.BareCommands.{default_says, switch_closes}
+use Rattle.formatted_source.proofs.Commands.BareCommands.{default_says, switch_closes}
 use Rattle.formatted_source.proofs.BlockEnds.{EndIs, OtherwiseSpeaks, end_opened, end_speaks}
-use Rattle.formatted_source.proofs.CaseCommands.{AllLow, SaysValues, alike_values, case_command}
-use Rattle.formatted_source.proofs.CommandRows.{Rows, gathered}
+use Rattle.formatted_source.proofs.Commands.CaseCommands.{AllLow, SaysValues, alike_values, case_command}
+use Rattle.formatted_source.proofs.Commands.CommandRows.{Rows, gathered}
 use Rattle.formatted_source.proofs.EdgedNodes.{Opened}
-use Rattle.formatted_source.proofs.ExprCommands.{SaysExpr, expr_command, switch_head}
-use Rattle.formatted_source.proofs.FittingTrees.{ValuesFit}
+use Rattle.formatted_source.proofs.Commands.ExprCommands.{SaysExpr, expr_command, switch_head}
+use Rattle.formatted_source.proofs.Fitting.FittingTrees.{ValuesFit}
 use Rattle.formatted_source.proofs.LineLexemes.{MayOpen, before_open, row_pieces}
 use Rattle.formatted_source.proofs.NodeAlike.{BodyIs, NodeIs}
 use Rattle.formatted_source.proofs.NodeLexemes.{all_lexemes, from_command}
 use Rattle.formatted_source.proofs.PieceParts.{bare}
 use Rattle.formatted_source.proofs.Speaking.{Both, Headed, Speaks, Within, both_parts, command_then, headed_part}
 use Rattle.formatted_source.proofs.Speaking.{inner_part, no_part, same_part, two_parts}
-use Rattle.formatted_source.proofs.WrittenHeight.{expr_height}
+use Rattle.formatted_source.proofs.Fitting.WrittenHeight.{expr_height}
 
 -- a case
 pub data OneCase : List Command → List ℕ → Case → Type 0 where

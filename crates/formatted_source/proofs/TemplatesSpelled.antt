@@ -22,7 +22,7 @@ use Rattle.soy_parser.specs.declared.command.TemplateOpening.{TemplateOpening}
 use Rattle.soy_parser.specs.declared.terminal.BlockName.TheVariants as block
 use Rattle.soy_parser.specs.Depth.{inside_blocks}
 use Rattle.soy_parser.specs.Nodes.{up_to}
-use Rattle.soy_parser.specs.SpellsTree.{SpellsBody, SpellsParams, SpellsTemplates, param_of, template_of}
+use Rattle.soy_parser.specs.SpellsTree.{SpellsBody, SpellsParams, SpellsTemplates, as_param, template_of}
 use Rattle.soy_format.specs.WithoutSpans.{no_span, nodes_without_spans, param_without_spans, template_without_spans}
 use Rattle.formatted_source.specs.CommandPieces.{braced}
 use Rattle.formatted_source.specs.NodePieces.{nodes_pieces}
@@ -30,22 +30,22 @@ use Rattle.formatted_source.specs.SourcedTrees.{are_sourced_nodes}
 use Rattle.formatted_source.specs.TreeLexemes.{line_lexemes, opening_lexemes, param_lexemes, params_lexemes}
 use Rattle.formatted_source.specs.TreeLexemes.{required_lexemes, template_close_lexemes, template_lexemes}
 use Rattle.formatted_source.specs.TreeLexemes.{templates_lexemes}
-use Rattle.formatted_source.proofs.BareCommands.{bare_command, template_closes}
+use Rattle.formatted_source.proofs.Commands.BareCommands.{bare_command, template_closes}
 use Rattle.formatted_source.proofs.BodiesSpelled.{line_spelled}
-use Rattle.formatted_source.proofs.CommandRows.{Rows, gathered}
-use Rattle.formatted_source.proofs.FittingNodes.{ParamsFit, TemplateFits, TemplatesFit}
-use Rattle.formatted_source.proofs.Names.{both}
+use Rattle.formatted_source.proofs.Commands.CommandRows.{Rows, gathered}
+use Rattle.formatted_source.proofs.Fitting.FittingNodes.{ParamsFit, TemplateFits, TemplatesFit}
+use Rattle.formatted_source.proofs.Written.Names.{both}
 use Rattle.formatted_source.proofs.NodeAlike.{BodyIs}
 use Rattle.formatted_source.proofs.Speaking.{Ended, Speaks, Within, command_then, deeper, no_part, then_command}
 use Rattle.formatted_source.proofs.Speaking.{two_parts}
-use Rattle.formatted_source.proofs.TemplateCommands.{template_command, template_opens, template_param_command}
+use Rattle.formatted_source.proofs.Commands.TemplateCommands.{template_command, template_opens, template_param_command}
 
 -- params
 
 data OneParam : List Command → List ℕ → Param → Type 0 where
   param_ : (c : Command) (name : List ℕ) (required : Bool) (of : code_type.SoyType)
       → c.form ≡ says.TemplateParam name required of
-      → OneParam (c ∷ []) (0 ∷ []) (param_of name of required c.span)
+      → OneParam (c ∷ []) (0 ∷ []) (as_param name of required c.span)
 
 record ParamsAre (ps : List trees.Param) (cs : List Command) (ks : List ℕ) : Type 0 where
   pub own : List Param
@@ -73,8 +73,8 @@ params_speak b (p ∷ ps) le fits =
     ∷ (required_lexemes p.required ++ ((kind.Word, p.name) ∷ ((kind.Symbol, codes ":") ∷ l)))))) (sym t.are)))
     (params_speak b ps le fits.1)
     (λ c ds ns h r. record {
-      own = param_of p.name t.operand.of p.required c.span ∷ r.own;
-      rows = Rows.row_ (c ∷ []) ds (0 ∷ []) ns (param_of p.name t.operand.of p.required c.span) r.own
+      own = as_param p.name t.operand.of p.required c.span ∷ r.own;
+      rows = Rows.row_ (c ∷ []) ds (0 ∷ []) ns (as_param p.name t.operand.of p.required c.span) r.own
           (OneParam.param_ c p.name p.required t.operand.of h) r.rows;
       alike = ap (λ (o : SoyType). record { name = p.name; of = o; required = p.required; span = no_span }
           ∷ map param_without_spans (view_params r.own)) t.is ∙ ap (λ l. param_without_spans p ∷ l) r.alike;

@@ -14,11 +14,12 @@ use Rattle.formatted_source.specs.CommandPieces.{braced}
 use Rattle.formatted_source.specs.Lexemes.{Lexeme, lexemes}
 use Rattle.formatted_source.specs.NodePieces.{character_piece, characters_pieces, nil_piece, text_pieces}
 use Rattle.formatted_source.specs.Pieces.{Piece, Plain, Written, closed_lexemes, open_line, text_lexemes}
-use Rattle.formatted_source.proofs.BareCommands.{Says, bare_command, feed_says, lb_says, nil_says, rb_says, return_says}
-use Rattle.formatted_source.proofs.BareCommands.{tab_says, text_command}
-use Rattle.formatted_source.proofs.CommandTerms.{CommandSpelled}
+use Rattle.formatted_source.proofs.Commands.BareCommands.{Says, bare_command, feed_says, lb_says, nil_says, rb_says}
+use Rattle.formatted_source.proofs.Commands.BareCommands.{return_says}
+use Rattle.formatted_source.proofs.Commands.BareCommands.{tab_says, text_command}
+use Rattle.formatted_source.proofs.Commands.CommandTerms.{CommandSpelled}
 use Rattle.formatted_source.proofs.LexemeLists.{split}
-use Rattle.formatted_source.proofs.SpokenCommands.{Spoken, none_spoken, one_spoken, spoken_append}
+use Rattle.formatted_source.proofs.Sourced.SpokenCommands.{Spoken, none_spoken, one_spoken, spoken_append}
 
 -- these pieces are the characters of this text
 pub data TextPieces : List ℕ → List Piece → Type 0 where

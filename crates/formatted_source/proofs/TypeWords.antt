@@ -17,7 +17,7 @@ use Rattle.expr_parser.specs.declared.type_terminal.TypeTerminal.{TypeTerminal}
 use Rattle.expr_parser.specs.declared.type_terminal.TypeTerminal.TheVariants as terminal
 use Rattle.expr_parser.specs.TypeTerminals.{type_name, type_symbol, type_terminal, type_terminal_of}
 use Rattle.formatted_source.specs.Lexemes.{Lexeme, lexeme}
-use Rattle.formatted_source.proofs.Names.{both}
+use Rattle.formatted_source.proofs.Written.Names.{both}
 
 -- a text whose bytes are ASCII is these bytes
 pub ascii_text : (text bs : List ℕ) → encode_utf8_all text ≡ bs → list_all (λ b. nat_lt b 128) bs ≡ true → text ≡ bs

@@ -8,11 +8,12 @@ use Rattle.soy_base.specs.declared.memory.Refusal.{Refusal}
 use Rattle.soy_base.specs.declared.memory.Refusal.TheVariants.{Because, OutOfMemory}
 use Rattle.soy_base.specs.declared.place.Place.{Place}
 use Rattle.html_state.specs.declared.row.State.{State}
-use Rattle.soy_tree.specs.Faults.{followed_by}
-use Rattle.soy_meaning.specs.PageMachine.{page_machine}
-use Rattle.soy_meaning.specs.Plan.{Site, Plan, Nowhere, Either, any_of, arms_meet}
-use Rattle.soy_meaning.specs.States.{joined_states}
-use Rattle.soy_meaning.specs.Walk.{WalkFault, Walked, walk, walked, within_limit}
+use Rattle.soy_rules.specs.Faults.{followed_by}
+use Rattle.soy_meaning.specs.Walks.PageMachine.{page_machine}
+use Rattle.soy_meaning.specs.Paths.Plan.{Plan, Nowhere, Either, any_of, arms_meet}
+use Rattle.soy_pieces.specs.Site.{Site}
+use Rattle.soy_meaning.specs.Walks.States.{joined_states}
+use Rattle.soy_meaning.specs.Walks.Walk.{WalkFault, Walked, walk, walked, within_limit}
 use Rattle.html_context.specs.JoinedArms.{joined_arm, joined_arms}
 use Rattle.html_context.specs.Walks.{Walks}
 use Rattle.html_context.specs.declared.fault.FirstFault.{FirstFault}

@@ -4,9 +4,9 @@ use Rattle.std.proofs.Common.{slice_index_or, ap, sym, ◌∙◌, subst}
 use Rattle.soy_base.specs.declared.fault.Span.{Span}
 use Rattle.soy_base.specs.declared.memory.OutOfMemory.{OutOfMemory}
 use Rattle.soy_tree.specs.Expressions.{Expr}
-use Rattle.soy_tree.specs.Narrowing.{narrowed}
+use Rattle.soy_rules.specs.Narrowing.{narrowed}
 use Rattle.soy_tree.specs.Nodes.{Given, MessageBody, Nodes, argument, arm, case, plural_case, select_case}
-use Rattle.soy_tree.specs.TypeOf.{Scope}
+use Rattle.soy_rules.specs.TypeOf.{Scope}
 use Rattle.soy_tree.specs.Types.{Name}
 use Rattle.soy_tree.specs.ViewExpressions.{view_expr}
 use Rattle.soy_tree.specs.ViewNodes.{view_arguments, view_arms, view_body, view_cases, view_given, view_node}
@@ -20,9 +20,11 @@ use Rattle.soy_tree.specs.declared.node.PluralCase as code_plural_case
 use Rattle.soy_tree.specs.declared.node.SelectCase as code_select_case
 use Rattle.soy_tree.specs.declared.soy_type.Field.{Field}
 use Rattle.soy_expr.specs.ViewScope.{view_vars}
-use Rattle.soy_meaning.specs.Plan.{Plan, Site, arms_meet}
-use Rattle.soy_meaning.specs.PlanOfNodes.{PlanContext, argument_frames, arm_plans, body_plan, case_plans, given_frame}
-use Rattle.soy_meaning.specs.PlanOfNodes.{node_plan, nodes_plan, plural_plans, scope_past, select_plans}
+use Rattle.soy_meaning.specs.Paths.Plan.{Plan, arms_meet}
+use Rattle.soy_pieces.specs.Site.{Site}
+use Rattle.soy_meaning.specs.Paths.PlanOfNodes.{PlanContext, argument_frames, arm_plans, body_plan, case_plans}
+use Rattle.soy_meaning.specs.Paths.PlanOfNodes.{given_frame}
+use Rattle.soy_meaning.specs.Paths.PlanOfNodes.{node_plan, nodes_plan, plural_plans, scope_past, select_plans}
 use Rattle.html_context.specs.StandsFor.{Writes, walk_of}
 use Rattle.html_context.specs.Walks.{view_site}
 use Rattle.html_context.specs.declared.fault.Site as code_site

@@ -8,8 +8,8 @@ use Rattle.soy_base.specs.declared.memory.OutOfMemory.{OutOfMemory}
 use Rattle.soy_tree.specs.Expressions.{Expr}
 use Rattle.soy_tree.specs.Nodes.{Node, Nodes, Given, Message, MessageBody, Block, Call, For, LetBlock, MessageNode}
 use Rattle.soy_tree.specs.Nodes.{message}
-use Rattle.soy_tree.specs.Templates.{callee}
-use Rattle.soy_tree.specs.TypeOf.{Scope, type_of}
+use Rattle.soy_rules.specs.Templates.{callee}
+use Rattle.soy_rules.specs.TypeOf.{Scope, type_of}
 use Rattle.soy_tree.specs.Types.{Name}
 use Rattle.soy_tree.specs.ViewExpressions.{view_expr}
 use Rattle.soy_tree.specs.ViewNodes.{argument_layer, arm_layer, body_layer, case_layer, form_layer, given_layer}
@@ -35,10 +35,10 @@ use Rattle.soy_tree.specs.declared.node.PluralCase as code_plural_case
 use Rattle.soy_tree.specs.declared.node.SelectCase as code_select_case
 use Rattle.soy_tree.specs.declared.soy_type.Field.{Field}
 use Rattle.soy_expr.specs.ViewScope.{view_vars}
-use Rattle.soy_meaning.specs.Plan.{Frame, Hole, Loop, Then, arms_meet}
-use Rattle.soy_meaning.specs.PlanOfNodes.{PlanContext, argument_frames, body_plan, body_scope, called_classes}
-use Rattle.soy_meaning.specs.PlanOfNodes.{fallback_plans}
-use Rattle.soy_meaning.specs.PlanOfNodes.{given_frame, node_plan, nodes_plan, source_plan, translation_plans}
+use Rattle.soy_meaning.specs.Paths.Plan.{Frame, Hole, Loop, Then, arms_meet}
+use Rattle.soy_meaning.specs.Paths.PlanOfNodes.{PlanContext, argument_frames, body_plan, body_scope, called_classes}
+use Rattle.soy_meaning.specs.Paths.PlanOfNodes.{fallback_plans}
+use Rattle.soy_meaning.specs.Paths.PlanOfNodes.{given_frame, node_plan, nodes_plan, source_plan, translation_plans}
 use Rattle.html_context.specs.RowPlans.{plan_at}
 use Rattle.html_context.specs.StandsFor.{Writes}
 use Rattle.html_context.specs.Walks.{view_site}

@@ -6,15 +6,16 @@ use Rattle.std.specs.declared.alloc.Global.{Global}
 use Rattle.std.specs.declared.vec.Vec.{Vec}
 use Rattle.soy_base.specs.declared.kind.Kind.{Kind}
 use Rattle.soy_base.specs.declared.memory.OutOfMemory.{OutOfMemory}
-use Rattle.soy_meaning.specs.Plan.{Plan, Frame, Hole, Loop, Then, arms_meet}
-use Rattle.soy_meaning.specs.Plan.{Site}
-use Rattle.soy_meaning.specs.PlanOfNodes.{PlanContext, called_classes, translated_plan, translation_plans, uses_of}
-use Rattle.soy_meaning.specs.PlanOfParts.{parts_plan}
+use Rattle.soy_meaning.specs.Paths.Plan.{Plan, Frame, Hole, Loop, Then, arms_meet}
+use Rattle.soy_pieces.specs.Site.{Site}
+use Rattle.soy_meaning.specs.Paths.PlanOfNodes.{PlanContext, called_classes, translated_plan, translation_plans}
+use Rattle.soy_rules.specs.Placeholders.{uses_of}
+use Rattle.soy_meaning.specs.Paths.PlanOfParts.{parts_plan}
 use Rattle.soy_tree.specs.MessageParts.{MsgParts}
 use Rattle.soy_tree.specs.Nodes.{Message}
-use Rattle.soy_tree.specs.TypeOf.{Scope}
+use Rattle.soy_rules.specs.TypeOf.{Scope}
 use Rattle.std.specs.List.{All}
-use Rattle.soy_tree.specs.Templates.{Declared}
+use Rattle.soy_rules.specs.Templates.{Declared}
 use Rattle.soy_base.specs.declared.place.ValueClass.{ValueClass}
 use Rattle.html_context.specs.RowPlans.{plan_at}
 use Rattle.html_context.specs.StandsFor.{Writes, WritesMore, walk_of, walks_of}

@@ -5,9 +5,9 @@ use Rattle.std.proofs.Common.{slice_index_or, ap, sym, subst, ◌∙◌}
 use Rattle.soy_base.specs.declared.memory.OutOfMemory.{OutOfMemory}
 use Rattle.soy_tree.specs.MessageParts.{MsgParts}
 use Rattle.soy_tree.specs.Nodes.{Message}
-use Rattle.soy_tree.specs.Templates.{Declared, declared, param_scope}
+use Rattle.soy_rules.specs.Templates.{Declared, declared, param_scope}
 use Rattle.soy_tree.specs.Trees.{Tree}
-use Rattle.soy_tree.specs.TypeOf.{Scope}
+use Rattle.soy_rules.specs.TypeOf.{Scope}
 use Rattle.soy_tree.specs.ViewNodes.{view_nodes}
 use Rattle.soy_tree.specs.ViewTrees.{view_params, view_template}
 use Rattle.soy_tree.specs.declared.bundle.Bundle.{Bundle}
@@ -16,16 +16,16 @@ use Rattle.soy_tree.specs.declared.soy_type.Field.{Field}
 use Rattle.soy_tree.specs.declared.tree.Param as code_param
 use Rattle.soy_tree.specs.declared.tree.Template as code_template
 use Rattle.soy_expr.specs.ViewScope.{view_vars}
-use Rattle.soy_meaning.specs.PlanOfNodes.{PlanContext, declared_plan, nodes_plan, template_plan, trees_plan}
+use Rattle.soy_meaning.specs.Paths.PlanOfNodes.{PlanContext, declared_plan, nodes_plan, template_plan, trees_plan}
 use Rattle.std.specs.declared.alloc.Global.{Global}
 use Rattle.std.specs.declared.vec.Vec.{Vec}
-use Rattle.soy_meaning.specs.Plan.{Plan, in_turn}
+use Rattle.soy_meaning.specs.Paths.Plan.{Plan, in_turn}
 use Rattle.html_context.specs.ChosenTranslation.{chosen_translation}
 use Rattle.html_context.specs.StandsFor.{StandsFor, Writes, walk_of}
-use Rattle.soy_tree.specs.ViewTemplates.{view_all, view_declared}
+use Rattle.soy_rules.specs.ViewTemplates.{view_all, view_declared}
 use Rattle.html_context.specs.declared.table.Row.{Row}
 use Rattle.html_context.specs.declared.table.Row.TheVariants as row
-use Rattle.soy_tree.specs.declared.template.Declared as code
+use Rattle.soy_rules.specs.declared.template.Declared as code
 use Rattle.html_context.proofs.BuiltRows.{written_frame}
 use Rattle.html_context.proofs.WrittenLists.{InTurnSoFar, next_in_turn, written_in_turn}
 use Rattle.html_context.proofs.WrittenRows.{first_of, none_of}

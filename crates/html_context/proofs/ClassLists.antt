@@ -3,10 +3,10 @@ use Rattle.std.proofs.Common.{◌≡◌, ℕ, zero, suc, ◌+◌, ◌<◌, List,
 use Rattle.std.proofs.Common.{refl, ap, sym, ◌∙◌, arith}
 use Rattle.soy_base.specs.declared.place.ValueClass.{ValueClass}
 use Rattle.soy_tree.specs.Types.{SoyType}
-use Rattle.soy_tree.specs.Members.{members, union_members}
+use Rattle.soy_rules.specs.Members.{members, union_members}
 use Rattle.soy_tree.specs.ViewTypes.{view_members, view_type}
 use Rattle.soy_tree.specs.declared.soy_type.SoyType as code
-use Rattle.soy_meaning.specs.PlanOfParts.{classes_of_all, member_classes}
+use Rattle.soy_meaning.specs.Paths.PlanOfParts.{classes_of_all, member_classes}
 
 pub append_assoc : (xs ys zs : List ValueClass) → (xs ++ ys) ++ zs ≡ xs ++ (ys ++ zs)
 append_assoc [] ys zs = refl

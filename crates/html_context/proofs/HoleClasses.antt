@@ -12,11 +12,12 @@ use Rattle.soy_base.specs.declared.place.ValueClass.{ValueClass}
 use Rattle.html_state.specs.StatePlacing.{placing}
 use Rattle.html_state.specs.TakesClass.{takes_class}
 use Rattle.html_state.specs.declared.row.State.{State}
-use Rattle.soy_meaning.specs.PageMachine.{page_machine}
-use Rattle.soy_meaning.specs.Plan.{Site}
-use Rattle.soy_meaning.specs.Walk.{WalkFault, agreed_place, is_same_placing, other_placing, place_of_hole, taken_place}
-use Rattle.soy_meaning.specs.Walk.{walk_fault}
-use Rattle.soy_meaning.proofs.SamePlacings.{same_placing}
+use Rattle.soy_meaning.specs.Walks.PageMachine.{page_machine}
+use Rattle.soy_pieces.specs.Site.{Site}
+use Rattle.soy_meaning.specs.Walks.Walk.{WalkFault, agreed_place, is_same_placing, other_placing, place_of_hole}
+use Rattle.soy_meaning.specs.Walks.Walk.{taken_place}
+use Rattle.soy_meaning.specs.Walks.Walk.{walk_fault}
+use Rattle.soy_meaning.proofs.Walks.SamePlacings.{same_placing}
 use Rattle.html_context.specs.TakenClass.{taken_class}
 
 taken : (p : Place) → IsTrue (takes_class (Takes p) (taken_class p))

@@ -4,10 +4,10 @@ use Rattle.soy_tree.specs.MessageParts.{MsgParts}
 use Rattle.soy_tree.specs.Nodes.{Message}
 use Rattle.soy_tree.specs.Trees.{Tree}
 use Rattle.std.specs.Prelude.{List, Option}
-use Rattle.soy_meaning.specs.AcceptedTrees.{walk_trees}
-use Rattle.soy_meaning.specs.PageMachine.{page_machine}
-use Rattle.soy_meaning.specs.PlanOfNodes.{trees_plan}
-use Rattle.soy_meaning.specs.Walk.{walk, walked}
+use Rattle.soy_meaning.specs.Walks.AcceptedTrees.{walk_trees}
+use Rattle.soy_meaning.specs.Walks.PageMachine.{page_machine}
+use Rattle.soy_meaning.specs.Paths.PlanOfNodes.{trees_plan}
+use Rattle.soy_meaning.specs.Walks.Walk.{walk, walked}
 use Rattle.html_context.specs.RowPlans.{plan_at}
 use Rattle.html_context.specs.StandsFor.{StandsFor}
 use Rattle.html_context.specs.declared.table.Table.{Table}

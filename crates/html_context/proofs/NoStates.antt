@@ -2,12 +2,12 @@
 use Rattle.std.proofs.Common.{◌≡◌, List, [], ◌∷◌, Ok, inl, refl}
 use Rattle.soy_base.specs.declared.place.Place.{Place}
 use Rattle.html_state.specs.declared.row.State.{State}
-use Rattle.soy_meaning.specs.PageMachine.{page_machine}
-use Rattle.soy_meaning.specs.Plan.{Plan}
-use Rattle.soy_meaning.specs.States.{IsMember}
-use Rattle.soy_meaning.specs.Walk.{Walked, walk, walked}
-use Rattle.soy_meaning.proofs.PageStates.{page_compares}
-use Rattle.soy_meaning.proofs.Sound.{Sound, sound}
+use Rattle.soy_meaning.specs.Walks.PageMachine.{page_machine}
+use Rattle.soy_meaning.specs.Paths.Plan.{Plan}
+use Rattle.soy_meaning.specs.Walks.States.{IsMember}
+use Rattle.soy_meaning.specs.Walks.Walk.{Walked, walk, walked}
+use Rattle.soy_meaning.proofs.Walks.PageStates.{page_compares}
+use Rattle.soy_meaning.proofs.Walks.Sound.{Sound, sound}
 
 no_members : (xs : List State) → ((t : State) → IsMember t xs → ⊥) → xs ≡ []
 no_members [] h = refl

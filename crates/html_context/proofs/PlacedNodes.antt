@@ -3,20 +3,22 @@ use Rattle.std.proofs.Common.{◌≡◌, ℕ, List, [], ◌∷◌, ◌++◌, Opt
 use Rattle.std.proofs.Common.{refl, ap, ◌∙◌}
 use Rattle.html_state.specs.declared.row.State.{State}
 use Rattle.soy_tree.specs.Types.{Name}
-use Rattle.soy_tree.specs.TypeOf.{Scope}
-use Rattle.soy_tree.specs.Faults.{followed_by}
+use Rattle.soy_rules.specs.TypeOf.{Scope}
+use Rattle.soy_rules.specs.Faults.{followed_by}
 use Rattle.soy_tree.specs.Nodes.{Message}
 use Rattle.soy_tree.specs.MessageText.{Character, Cut, MessageItem, PrintCut, Printed, TagCut, TextCut}
 use Rattle.soy_tree.specs.ViewNodes.{nodes_of}
 use Rattle.msg_extract.specs.NamedNodes.{named_nodes}
 use Rattle.msg_extract.specs.PlaceholderNodes.{BegunText, nodes_behind}
 use Rattle.msg_extract.specs.PlaceholderNodes.{placeholders_of}
-use Rattle.soy_meaning.specs.PageMachine.{page_machine}
-use Rattle.soy_meaning.specs.Plan.{Hole, Site}
-use Rattle.soy_meaning.specs.PlanOfNodes.{uses_of}
-use Rattle.soy_meaning.specs.PlanOfParts.{cut_plan, placeholder_cut, printed_classes, tag_plan, text_plan}
-use Rattle.soy_meaning.specs.Walk.{WalkFault, Walked, walk}
-use Rattle.bundle_fit.proofs.NamedNodes.{named_cut, nodes_there}
+use Rattle.soy_meaning.specs.Walks.PageMachine.{page_machine}
+use Rattle.soy_meaning.specs.Paths.Plan.{Hole}
+use Rattle.soy_pieces.specs.Site.{Site}
+use Rattle.soy_rules.specs.Placeholders.{uses_of}
+use Rattle.soy_meaning.specs.Paths.PlanOfParts.{cut_plan, printed_classes, tag_plan, text_plan}
+use Rattle.soy_rules.specs.Placeholders.{placeholder_cut}
+use Rattle.soy_meaning.specs.Walks.Walk.{WalkFault, Walked, walk}
+use Rattle.msg_extract.proofs.Names.NamedCuts.{named_cut, nodes_there}
 use Rattle.html_context.specs.PlacedNodes.{placed_nodes}
 
 itself : (r : Result (Walked State) WalkFault) → followed_by r (λ v. Ok v) ≡ r

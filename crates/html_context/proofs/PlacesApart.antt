@@ -6,12 +6,14 @@ use Rattle.std.proofs.lemmas.List.{append-nil}
 use Rattle.std.specs.Prelude.{nat_lt, ◌==◌, if◌then◌else◌}
 use Rattle.soy_base.specs.declared.code.Code.TheVariants as code
 use Rattle.soy_base.specs.declared.place.Place.{Place}
-use Rattle.soy_tree.specs.Faults.{followed_by}
-use Rattle.soy_meaning.specs.Machine.{Machine}
-use Rattle.soy_meaning.specs.Plan.{Site, Plan, Nothing, Nowhere, StaticText, Hole, Then, Either, Meet, Loop, Frame}
-use Rattle.soy_meaning.specs.States.{joined_states}
-use Rattle.soy_meaning.specs.Walk.{WalkFault, Walked, after_turn, all_may_end, frame_end, met_at, place_of_hole}
-use Rattle.soy_meaning.specs.Walk.{states_after_text, states_after_value, turns, walk, walk_fault, walked, within_limit}
+use Rattle.soy_rules.specs.Faults.{followed_by}
+use Rattle.soy_meaning.specs.Walks.Machine.{Machine}
+use Rattle.soy_meaning.specs.Paths.Plan.{Plan, Nothing, Nowhere, StaticText, Hole, Then, Either, Meet, Loop, Frame}
+use Rattle.soy_pieces.specs.Site.{Site}
+use Rattle.soy_meaning.specs.Walks.States.{joined_states}
+use Rattle.soy_meaning.specs.Walks.Walk.{WalkFault, Walked, after_turn, all_may_end, frame_end, met_at, place_of_hole}
+use Rattle.soy_meaning.specs.Walks.Walk.{states_after_text, states_after_value, turns, walk, walk_fault, walked}
+use Rattle.soy_meaning.specs.Walks.Walk.{within_limit}
 
 abbrev pub behind : {S : Type 0} → List Place → Walked S → Walked S
 behind old w = walked w.states (old ++ w.places)

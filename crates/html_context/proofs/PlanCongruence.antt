@@ -2,11 +2,12 @@
 use Rattle.std.proofs.Common.{◌≡◌, List, [], ◌∷◌, Result, Ok, map, refl, sym, ap, ◌∙◌}
 use Rattle.soy_base.specs.declared.kind.Kind.{Kind}
 use Rattle.html_state.specs.declared.row.State.{State}
-use Rattle.soy_tree.specs.Faults.{followed_by}
-use Rattle.soy_meaning.specs.PageMachine.{page_machine}
-use Rattle.soy_meaning.specs.Plan.{Site, Plan, Nowhere, Then, Either, Loop, Frame, in_turn, any_of, arms_meet}
-use Rattle.soy_meaning.specs.States.{joined_states}
-use Rattle.soy_meaning.specs.Walk.{WalkFault, Walked, frame_end, turns, walk, walked, within_limit}
+use Rattle.soy_rules.specs.Faults.{followed_by}
+use Rattle.soy_meaning.specs.Walks.PageMachine.{page_machine}
+use Rattle.soy_meaning.specs.Paths.Plan.{Plan, Nowhere, Then, Either, Loop, Frame, in_turn, any_of, arms_meet}
+use Rattle.soy_pieces.specs.Site.{Site}
+use Rattle.soy_meaning.specs.Walks.States.{joined_states}
+use Rattle.soy_meaning.specs.Walks.Walk.{WalkFault, Walked, frame_end, turns, walk, walked, within_limit}
 use Rattle.html_context.specs.StandsFor.{walk_of}
 
 abbrev pub Way : Type 0

@@ -4,8 +4,8 @@ use Rattle.std.proofs.Common.{arith}
 use Rattle.std.specs.List.{slice_get}
 use Rattle.std.proofs.lemmas.List.{get_or-take, get_or_past, length-take}
 use Rattle.std.proofs.lemmas.Option.{get_or_from_slice_get, slice_get-get_or}
-use Rattle.soy_meaning.specs.Plan.{Nothing}
-use Rattle.template_ir.proofs.Tables.{get_table, length_table}
+use Rattle.soy_meaning.specs.Paths.Plan.{Nothing}
+use Rattle.soy_base.proofs.Tables.{get_table, length_table}
 use Rattle.html_context.specs.RowPlans.{plan_at, plan_below, plans_before, row_plan, row_plans}
 use Rattle.html_context.specs.declared.table.Row.{Row}
 

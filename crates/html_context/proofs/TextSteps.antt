@@ -2,7 +2,7 @@
 use Rattle.std.proofs.Common.{◌≡◌, ℕ, List, [], ◌∷◌, Result, Ok, Err, refl, sym, ap, ◌∙◌, subst, true, false}
 use Rattle.soy_base.specs.Cuts.{is_nil}
 use Rattle.soy_base.specs.declared.place.Place.{Place}
-use Rattle.soy_meaning.specs.PlanOfParts.{text_plan}
+use Rattle.soy_meaning.specs.Paths.PlanOfParts.{text_plan}
 use Rattle.std.specs.declared.alloc.Global.{Global}
 use Rattle.std.specs.declared.vec.Vec.{Vec}
 use Rattle.soy_base.specs.declared.code.Code.{Code}
@@ -10,10 +10,10 @@ use Rattle.soy_base.specs.declared.memory.Refusal.{Refusal}
 use Rattle.soy_base.specs.declared.memory.Refusal.TheVariants.{Because, OutOfMemory}
 use Rattle.html_state.specs.Next.{next, text_end}
 use Rattle.html_state.specs.declared.row.State.{State}
-use Rattle.soy_tree.specs.Faults.{followed_by}
-use Rattle.soy_meaning.specs.PageMachine.{page_machine}
-use Rattle.soy_meaning.specs.Plan.{Site}
-use Rattle.soy_meaning.specs.Walk.{WalkFault, met_at, moved_states, states_after_text, walk, walk_fault, walked}
+use Rattle.soy_rules.specs.Faults.{followed_by}
+use Rattle.soy_meaning.specs.Walks.PageMachine.{page_machine}
+use Rattle.soy_pieces.specs.Site.{Site}
+use Rattle.soy_meaning.specs.Walks.Walk.{WalkFault, met_at, moved_states, states_after_text, walk, walk_fault, walked}
 use Rattle.html_context.specs.declared.fault.FirstFault.{FirstFault}
 use Rattle.html_context.specs.Walks.{Gives, items_of, view_fault}
 

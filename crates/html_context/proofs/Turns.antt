@@ -10,14 +10,15 @@ use Rattle.soy_base.specs.declared.memory.Refusal.{Refusal}
 use Rattle.soy_base.specs.declared.memory.Refusal.TheVariants.{Because, OutOfMemory}
 use Rattle.soy_base.specs.declared.place.Place.{Place}
 use Rattle.html_state.specs.declared.row.State.{State}
-use Rattle.soy_tree.specs.Faults.{followed_by}
-use Rattle.soy_meaning.specs.Machine.{Machine}
-use Rattle.soy_meaning.specs.PageMachine.{page_machine}
-use Rattle.soy_meaning.specs.Plan.{Site, Plan}
-use Rattle.soy_meaning.specs.States.{has_state, joined_states, with_state}
-use Rattle.soy_meaning.specs.Walk.{WalkFault, Walked, after_turn, turns, walk, walk_fault, walked}
-use Rattle.soy_meaning.proofs.AddsPlaces.{AddsPlaces, adds_places}
-use Rattle.soy_meaning.proofs.PageStates.{page_compares}
+use Rattle.soy_rules.specs.Faults.{followed_by}
+use Rattle.soy_meaning.specs.Walks.Machine.{Machine}
+use Rattle.soy_meaning.specs.Walks.PageMachine.{page_machine}
+use Rattle.soy_meaning.specs.Paths.Plan.{Plan}
+use Rattle.soy_pieces.specs.Site.{Site}
+use Rattle.soy_meaning.specs.Walks.States.{has_state, joined_states, with_state}
+use Rattle.soy_meaning.specs.Walks.Walk.{WalkFault, Walked, after_turn, turns, walk, walk_fault, walked}
+use Rattle.soy_meaning.proofs.Walks.AddsPlaces.{AddsPlaces, adds_places}
+use Rattle.soy_meaning.proofs.Walks.PageStates.{page_compares}
 use Rattle.html_context.specs.declared.fault.FirstFault.{FirstFault}
 use Rattle.html_context.specs.Walks.{Walks}
 

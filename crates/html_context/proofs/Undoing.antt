@@ -5,11 +5,11 @@ use Rattle.std.specs.Prelude.{if◌then◌else◌, bytes_eq}
 use Rattle.soy_tree.specs.declared.soy_type.SoyType as code
 use Rattle.soy_tree.specs.declared.soy_type.Field as code_field
 use Rattle.soy_tree.specs.Types.{Name, SoyType}
-use Rattle.soy_tree.specs.Members.{type_without_null}
-use Rattle.soy_tree.specs.Narrowing.{name_narrowed}
-use Rattle.soy_tree.specs.TypeOf.{Scope, variable_type}
+use Rattle.soy_rules.specs.Members.{type_without_null}
+use Rattle.soy_rules.specs.Narrowing.{name_narrowed}
+use Rattle.soy_rules.specs.TypeOf.{Scope, variable_type}
 use Rattle.soy_tree.specs.ViewTypes.{view_type}
-use Rattle.soy_tree.proofs.Views.{view_field-is}
+use Rattle.soy_rules.proofs.Views.{view_field-is}
 use Rattle.soy_expr.specs.ViewScope.{view_vars}
 use Rattle.html_context.specs.declared.narrowing.Outside as code_outside
 use Rattle.html_context.specs.PutBack.{put_back}

@@ -8,14 +8,14 @@ use Rattle.html_state.specs.declared.row.State.{State}
 use Rattle.soy_tree.specs.MessageParts.{MsgParts}
 use Rattle.soy_tree.specs.Nodes.{Message}
 use Rattle.soy_tree.specs.Trees.{Tree}
-use Rattle.soy_meaning.specs.AcceptedTrees.{AcceptedTrees, walk_trees}
-use Rattle.soy_meaning.specs.PageMachine.{page_machine}
-use Rattle.soy_meaning.specs.PlanOfNodes.{trees_plan}
-use Rattle.soy_meaning.specs.Plan.{Plan}
-use Rattle.soy_meaning.specs.Walk.{WalkFault, Walked, walk, walked}
-use Rattle.soy_meaning.proofs.PageStates.{page_compares}
-use Rattle.soy_meaning.proofs.Walks.{accepted_when_walked, trees_walked, walked_places}
-use Rattle.template_ir.specs.declared.places.Places.{Places}
+use Rattle.soy_meaning.specs.Walks.AcceptedTrees.{AcceptedTrees, walk_trees}
+use Rattle.soy_meaning.specs.Walks.PageMachine.{page_machine}
+use Rattle.soy_meaning.specs.Paths.PlanOfNodes.{trees_plan}
+use Rattle.soy_meaning.specs.Paths.Plan.{Plan}
+use Rattle.soy_meaning.specs.Walks.Walk.{WalkFault, Walked, walk, walked}
+use Rattle.soy_meaning.proofs.Walks.PageStates.{page_compares}
+use Rattle.soy_meaning.proofs.Walks.Exact.{accepted_when_walked, trees_walked, walked_places}
+use Rattle.soy_base.specs.declared.places.Places.{Places}
 use Rattle.html_context.specs.declared.fault.PlaceFault.{PlaceFault}
 use Rattle.html_context.specs.Infers.{Decides, Infers, IsFaultOf}
 use Rattle.html_context.specs.PlacesOfHoles.{PlacesOfHoles}

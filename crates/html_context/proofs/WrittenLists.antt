@@ -4,8 +4,8 @@ use Rattle.std.proofs.Common.{refl, sym, ap, ◌∙◌, append_assoc, arith}
 use Rattle.std.specs.List.{All}
 use Rattle.std.proofs.lemmas.List.{append-nil}
 use Rattle.soy_base.specs.declared.memory.OutOfMemory.{OutOfMemory}
-use Rattle.soy_tree.specs.Faults.{followed_by}
-use Rattle.soy_meaning.specs.Plan.{Plan, Nothing, Then, arms_meet, in_turn}
+use Rattle.soy_rules.specs.Faults.{followed_by}
+use Rattle.soy_meaning.specs.Paths.Plan.{Plan, Nothing, Then, arms_meet, in_turn}
 use Rattle.html_context.specs.RowPlans.{plan_among, plan_at, row_plans}
 use Rattle.html_context.specs.StandsFor.{Keeps, Writes, walk_of, walks_of}
 use Rattle.html_context.specs.Walks.{view_site}

@@ -7,9 +7,9 @@ use Rattle.std.specs.List.{slice_get}
 use Rattle.std.proofs.lemmas.List.{get_or-take, length-append, take-append-drop}
 use Rattle.std.proofs.Math.Seq.{drop-cons, take-append_seam}
 use Rattle.soy_base.specs.declared.memory.OutOfMemory.{OutOfMemory}
-use Rattle.soy_meaning.specs.Plan.{Plan, Nothing}
-use Rattle.template_ir.specs.Table.{table}
-use Rattle.template_ir.proofs.Tables.{take_table_from}
+use Rattle.soy_meaning.specs.Paths.Plan.{Plan, Nothing}
+use Rattle.soy_base.specs.Table.{table}
+use Rattle.soy_base.proofs.Tables.{take_table_from}
 use Rattle.html_context.specs.RowPlans.{plan_at, row_plan, row_plans}
 use Rattle.html_context.specs.StandsFor.{Keeps, Writes, walk_of}
 use Rattle.html_context.specs.declared.table.Row.{Row}

@@ -6,8 +6,8 @@ use Rattle.std.specs.Prelude.{◌≡◌, [], Result, Ok, Err, option_map}
 use Rattle.soy_base.specs.declared.memory.Refusal.{Refusal}
 use Rattle.soy_base.specs.declared.memory.Refusal.TheVariants.{Because, OutOfMemory}
 use Rattle.html_state.specs.declared.row.State.{State}
-use Rattle.soy_meaning.specs.Walk.{WalkFault, Walked, walked}
-use Rattle.template_ir.specs.declared.places.Places.{Places}
+use Rattle.soy_meaning.specs.Walks.Walk.{WalkFault, Walked, walked}
+use Rattle.soy_base.specs.declared.places.Places.{Places}
 use Rattle.html_context.specs.declared.fault.PlaceFault.{PlaceFault}
 
 abbrev pub place_fault : WalkFault → PlaceFault

@@ -4,11 +4,11 @@
 -- Example: of `{if $a}x{else}y{/if}` the states after `x` are joined to none, and those after `y` to these.
 use Rattle.std.specs.Prelude.{List, [], ◌∷◌, Result, Ok}
 use Rattle.html_state.specs.declared.row.State.{State}
-use Rattle.soy_tree.specs.Faults.{followed_by}
-use Rattle.soy_meaning.specs.PageMachine.{page_machine}
-use Rattle.soy_meaning.specs.Plan.{Plan}
-use Rattle.soy_meaning.specs.States.{joined_states}
-use Rattle.soy_meaning.specs.Walk.{WalkFault, Walked, walk, walked}
+use Rattle.soy_rules.specs.Faults.{followed_by}
+use Rattle.soy_meaning.specs.Walks.PageMachine.{page_machine}
+use Rattle.soy_meaning.specs.Paths.Plan.{Plan}
+use Rattle.soy_meaning.specs.Walks.States.{joined_states}
+use Rattle.soy_meaning.specs.Walks.Walk.{WalkFault, Walked, walk, walked}
 
 abbrev pub joined_arm : List State → Walked State → Plan → Result (Walked State) WalkFault
 joined_arm before v p =

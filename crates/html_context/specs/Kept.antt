@@ -3,8 +3,8 @@
 -- Example: of a body that is a text `b` there may be kept that data leads to data, with no place.
 use Rattle.std.specs.Prelude.{◌≡◌, List, [], Ok}
 use Rattle.std.specs.List.{All}
-use Rattle.soy_meaning.specs.PageMachine.{page_machine}
-use Rattle.soy_meaning.specs.Walk.{walk, walked}
+use Rattle.soy_meaning.specs.Walks.PageMachine.{page_machine}
+use Rattle.soy_meaning.specs.Walks.Walk.{walk, walked}
 use Rattle.html_context.specs.RowPlans.{plan_at}
 use Rattle.html_context.specs.declared.memo.Kept.{Kept}
 use Rattle.html_context.specs.declared.memo.Memo.{Memo}

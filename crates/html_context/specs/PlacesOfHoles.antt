@@ -9,11 +9,11 @@ use Rattle.soy_base.specs.declared.place.Placing.TheVariants.{Takes}
 use Rattle.soy_base.specs.declared.place.ValueClass.{ValueClass}
 use Rattle.html_state.specs.StatePlacing.{placing}
 use Rattle.html_state.specs.declared.row.State.{State}
-use Rattle.soy_meaning.specs.FourPoints.{StartsAs}
-use Rattle.soy_meaning.specs.Holes.{hole_count, holes_before}
-use Rattle.soy_meaning.specs.PageMachine.{page_machine}
-use Rattle.soy_meaning.specs.Plan.{Plan}
-use Rattle.soy_meaning.specs.Points.{Address, AtHole, StandsAt, frame_at, point_at}
+use Rattle.soy_meaning.specs.Walks.FourPoints.{StartsAs}
+use Rattle.soy_meaning.specs.Walks.Holes.{hole_count, holes_before}
+use Rattle.soy_meaning.specs.Walks.PageMachine.{page_machine}
+use Rattle.soy_meaning.specs.Paths.Plan.{Plan}
+use Rattle.soy_meaning.specs.Walks.Points.{Address, AtHole, StandsAt, frame_at, point_at}
 
 pub record PlacesOfHoles (p : Plan) (places : List Place) : Type 0 where
   pub count : length places ≡ hole_count p

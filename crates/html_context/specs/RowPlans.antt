@@ -4,9 +4,9 @@
 -- So each row's plan is made from those of the rows before it.
 -- Example: of the rows `Text "a"`, `Hole` and `InTurn [0, 1]` the last has the plan of the text and then the hole.
 use Rattle.std.specs.Prelude.{ℕ, List, get_or, map, take}
-use Rattle.soy_meaning.specs.Plan.{Plan, Nothing, Hole, Loop, Frame, in_turn, arms_meet}
-use Rattle.soy_meaning.specs.PlanOfParts.{text_plan}
-use Rattle.template_ir.specs.Table.{table}
+use Rattle.soy_meaning.specs.Paths.Plan.{Plan, Nothing, Hole, Loop, Frame, in_turn, arms_meet}
+use Rattle.soy_meaning.specs.Paths.PlanOfParts.{text_plan}
+use Rattle.soy_base.specs.Table.{table}
 use Rattle.html_context.specs.Walks.{view_site}
 use Rattle.html_context.specs.declared.table.Row.{Row}
 use Rattle.html_context.specs.declared.table.Row.TheVariants as row

@@ -7,9 +7,9 @@ use Rattle.std.specs.declared.vec.Vec.{Vec}
 use Rattle.std.specs.List.{All}
 use Rattle.soy_base.specs.declared.memory.OutOfMemory.{OutOfMemory}
 use Rattle.html_state.specs.declared.row.State.{State}
-use Rattle.soy_meaning.specs.PageMachine.{page_machine}
-use Rattle.soy_meaning.specs.Plan.{Plan}
-use Rattle.soy_meaning.specs.Walk.{WalkFault, Walked, walk}
+use Rattle.soy_meaning.specs.Walks.PageMachine.{page_machine}
+use Rattle.soy_meaning.specs.Paths.Plan.{Plan}
+use Rattle.soy_meaning.specs.Walks.Walk.{WalkFault, Walked, walk}
 use Rattle.html_context.specs.RowPlans.{plan_at}
 use Rattle.html_context.specs.declared.table.Row.{Row}
 use Rattle.html_context.specs.declared.table.Table.{Table}

@@ -1,7 +1,7 @@
 -- What the plan of a template goes by, of a `Builder` of the code.
-use Rattle.soy_meaning.specs.PlanOfNodes.{PlanContext}
+use Rattle.soy_meaning.specs.Paths.PlanOfNodes.{PlanContext}
 use Rattle.html_context.specs.ChosenTranslation.{chosen_translation}
-use Rattle.soy_tree.specs.ViewTemplates.{view_all}
+use Rattle.soy_rules.specs.ViewTemplates.{view_all}
 use Rattle.html_context.specs.declared.builder.Builder.{Builder}
 
 abbrev pub plan_context : Builder → PlanContext

@@ -2,14 +2,14 @@
 -- and the site.
 use Rattle.std.specs.Prelude.{◌≡◌, List, map}
 use Rattle.soy_tree.specs.MessageParts.{MsgPart, MsgParts, ExactArms, NamedArms, SelectArms}
-use Rattle.soy_tree.specs.Placeholders.{Use}
+use Rattle.soy_rules.specs.Placeholders.{Use}
 use Rattle.soy_tree.specs.ViewNodes.{view_message}
 use Rattle.soy_expr.specs.ViewScope.{view_vars}
 use Rattle.msg_extract.specs.PlaceholderNodes.{placeholders_of}
-use Rattle.msg_extract.specs.ViewPlaceholders.{view_placeholder}
-use Rattle.soy_meaning.specs.Plan.{Plan}
-use Rattle.soy_meaning.specs.PlanOfNodes.{uses_of}
-use Rattle.soy_meaning.specs.PlanOfParts.{exact_plans, named_plans, part_plan, parts_plan, select_arm_plans}
+use Rattle.msg_extract.specs.Views.ViewPlaceholders.{view_placeholder}
+use Rattle.soy_meaning.specs.Paths.Plan.{Plan}
+use Rattle.soy_rules.specs.Placeholders.{uses_of}
+use Rattle.soy_meaning.specs.Paths.PlanOfParts.{exact_plans, named_plans, part_plan, parts_plan, select_arm_plans}
 use Rattle.html_context.specs.declared.source.Source.{Source}
 use Rattle.html_context.specs.Walks.{view_site}
 

@@ -9,8 +9,8 @@ use Rattle.soy_base.specs.declared.memory.Refusal.{Refusal}
 use Rattle.soy_base.specs.declared.memory.Refusal.TheVariants.{Because, OutOfMemory}
 use Rattle.soy_base.specs.declared.place.Place.{Place}
 use Rattle.html_state.specs.declared.row.State.{State}
-use Rattle.soy_meaning.specs.Plan.{Site}
-use Rattle.soy_meaning.specs.Walk.{WalkFault, Walked, walked}
+use Rattle.soy_pieces.specs.Site.{Site}
+use Rattle.soy_meaning.specs.Walks.Walk.{WalkFault, Walked, walked}
 use Rattle.html_context.specs.declared.fault.FirstFault.{FirstFault}
 use Rattle.html_context.specs.declared.fault.Site as code_site
 

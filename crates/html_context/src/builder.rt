@@ -2,11 +2,13 @@
 
 ghost use Rattle.std.specs.Prelude.{◌≡◌, ◌<◌, ◌++◌, ◌∷◌, [], OnOk, length, map, option_map};
 ghost use Rattle.std.specs.List.{All};
-ghost use Rattle.soy_meaning.specs.Plan.{Hole, Then, arms_meet};
-ghost use Rattle.soy_meaning.specs.PlanOfNodes.{argument_frames, arm_plans, body_plan, called_classes, case_plans};
-ghost use Rattle.soy_meaning.specs.PlanOfNodes.{fallback_plans, node_plan, nodes_plan, plural_plans, select_plans};
-ghost use Rattle.soy_meaning.specs.PlanOfNodes.{given_frame, translation_plans};
-ghost use Rattle.soy_tree.specs.Templates.{callee};
+ghost use Rattle.soy_meaning.specs.Paths.Plan.{Hole, Then, arms_meet};
+ghost use Rattle.soy_meaning.specs.Paths.PlanOfNodes.{argument_frames, arm_plans, body_plan, called_classes};
+ghost use Rattle.soy_meaning.specs.Paths.PlanOfNodes.{case_plans};
+ghost use Rattle.soy_meaning.specs.Paths.PlanOfNodes.{fallback_plans, node_plan, nodes_plan, plural_plans};
+ghost use Rattle.soy_meaning.specs.Paths.PlanOfNodes.{select_plans};
+ghost use Rattle.soy_meaning.specs.Paths.PlanOfNodes.{given_frame, translation_plans};
+ghost use Rattle.soy_rules.specs.Templates.{callee};
 ghost use Rattle.soy_tree.specs.ViewNodes.{view_arguments, view_arms, view_body, view_cases, view_given, view_message};
 ghost use Rattle.soy_tree.specs.ViewNodes.{fallback_of, view_node, view_nodes, view_plural_cases, view_select_cases};
 ghost use Rattle.soy_expr.specs.ViewScope.{view_vars};
@@ -27,8 +29,9 @@ use crate::visible::Visible;
 use crate::writing::{write, write_hole, write_nothing, write_print, write_text};
 use msg_extract::{Translations, placeholders};
 use soy_base::{OutOfMemory, Seq, Text};
+use soy_rules::Templates;
 use soy_tree::{
-    Argument, Arm, Case, Form, Given, Message, MessageBody, Node, PluralCase, SelectCase, Templates,
+    Argument, Arm, Case, Form, Given, Message, MessageBody, Node, PluralCase, SelectCase,
 };
 use std::alloc::Global;
 

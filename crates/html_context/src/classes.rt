@@ -1,9 +1,9 @@
 //! The classes of printed values.
 
 ghost use Rattle.std.specs.Prelude.{◌≡◌, ◌++◌, IfOk, OnOk};
-ghost use Rattle.soy_meaning.specs.PlanOfNodes.{kind_class};
-ghost use Rattle.soy_meaning.specs.PlanOfParts.{classes_of_all, member_classes, printed_classes};
-ghost use Rattle.soy_tree.specs.Members.{members, union_members};
+ghost use Rattle.soy_meaning.specs.Paths.PlanOfNodes.{kind_class};
+ghost use Rattle.soy_meaning.specs.Paths.PlanOfParts.{classes_of_all, member_classes, printed_classes};
+ghost use Rattle.soy_rules.specs.Members.{members, union_members};
 ghost use Rattle.soy_tree.specs.ViewExpressions.{view_expr};
 ghost use Rattle.soy_tree.specs.ViewTypes.{view_members, view_type};
 ghost use Rattle.soy_expr.specs.ViewScope.{view_vars};

@@ -1,12 +1,12 @@
 //! The table of the templates of all files.
 
 ghost use Rattle.std.specs.Prelude.{◌≡◌, ◌<◌, ◌^◌, IfOk, length, map};
-ghost use Rattle.soy_meaning.specs.Plan.{in_turn};
-ghost use Rattle.soy_meaning.specs.PlanOfNodes.{declared_plan, trees_plan};
+ghost use Rattle.soy_meaning.specs.Paths.Plan.{in_turn};
+ghost use Rattle.soy_meaning.specs.Paths.PlanOfNodes.{declared_plan, trees_plan};
 ghost use Rattle.soy_tree.specs.ViewTrees.{view_trees};
 ghost use Rattle.html_context.specs.ChosenTranslation.{chosen_translation};
 ghost use Rattle.html_context.specs.StandsFor.{StandsFor, Writes};
-ghost use Rattle.soy_tree.specs.ViewTemplates.{view_all, view_declared};
+ghost use Rattle.soy_rules.specs.ViewTemplates.{view_all, view_declared};
 
 use crate::builder::Builder;
 use crate::fault::Site;
@@ -15,7 +15,8 @@ use crate::table::{Row, Table};
 use crate::writing::write;
 use msg_extract::Translations;
 use soy_base::{OutOfMemory, Seq};
-use soy_tree::{Bundle, Declared, Templates, Tree, all_templates};
+use soy_rules::{Declared, Templates, all_templates};
+use soy_tree::{Bundle, Tree};
 use std::alloc::Global;
 
 /// Writes a template.

@@ -5,10 +5,11 @@ ghost use Rattle.std.specs.List.{All, list_all};
 ghost use Rattle.html_state.specs.StatePlacing.{placing};
 ghost use Rattle.html_state.specs.TakesClass.{takes_class};
 ghost use Rattle.soy_base.specs.declared.place.Placing.TheVariants.{Takes};
-ghost use Rattle.soy_meaning.specs.PageMachine.{page_machine};
-ghost use Rattle.soy_meaning.specs.Plan.{Hole};
-ghost use Rattle.soy_meaning.specs.Walk.{other_placing, place_of_hole, states_after_value, taken_place, walk, walked};
-ghost use Rattle.soy_meaning.specs.Walk.{within_limit};
+ghost use Rattle.soy_meaning.specs.Walks.PageMachine.{page_machine};
+ghost use Rattle.soy_meaning.specs.Paths.Plan.{Hole};
+ghost use Rattle.soy_meaning.specs.Walks.Walk.{other_placing, place_of_hole, states_after_value, taken_place, walk};
+ghost use Rattle.soy_meaning.specs.Walks.Walk.{walked};
+ghost use Rattle.soy_meaning.specs.Walks.Walk.{within_limit};
 ghost use Rattle.html_context.specs.TakenClass.{taken_class};
 ghost use Rattle.html_context.specs.Walks.{Gives, Walks, view_site};
 

@@ -1,8 +1,8 @@
 //! The places of typed trees.
 
 ghost use Rattle.std.specs.Prelude.{◌≡◌, ◌<◌, ◌^◌, IfOk, length};
-ghost use Rattle.soy_meaning.specs.AcceptedTrees.{AcceptedTrees, walk_trees};
-ghost use Rattle.soy_meaning.specs.PlanOfNodes.{trees_plan};
+ghost use Rattle.soy_meaning.specs.Walks.AcceptedTrees.{AcceptedTrees, walk_trees};
+ghost use Rattle.soy_meaning.specs.Paths.PlanOfNodes.{trees_plan};
 ghost use Rattle.soy_tree.specs.ViewTrees.{view_trees};
 ghost use Rattle.html_context.specs.ChosenTranslation.{chosen_translation};
 ghost use Rattle.html_context.specs.Infers.{Decides, Infers, place_fault};
@@ -12,10 +12,10 @@ ghost use Rattle.html_context.specs.Walks.{view_fault};
 use crate::compiling::compiled;
 use crate::fault::{FirstFault, PlaceFault};
 use crate::walker::walk_table;
-use soy_base::{Fault, Refusal, Seq};
-use soy_tree::{Bundle, Tree, Typed};
+use soy_base::{Fault, Places, Refusal, Seq};
+use soy_rules::Typed;
+use soy_tree::{Bundle, Tree};
 use std::alloc::Global;
-use template_ir::Places;
 
 /// A fault with its placings.
 fn place_fault(fault: FirstFault) -> PlaceFault

@@ -3,7 +3,7 @@
 //! `infer` walks the templates of all files as soy_meaning's walk says: states that are carried together, at most 16,
 //! through each static text, hole, arm, turn of a loop, message and translation. It gives the places of the holes in
 //! the order in which the walk first meets them, or the first fault. A bundle brings the translations of messages.
-//! Depends on soy_base, soy_tree, soy_expr, html_state, msg_extract, soy_meaning, template_ir and bundle_fit.
+//! Depends on soy_base, soy_tree, soy_rules, soy_expr, html_state, msg_extract, soy_pieces and soy_meaning.
 #![tactic(auto)]
 
 mod builder;

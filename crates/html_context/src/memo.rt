@@ -1,8 +1,8 @@
 //! What the bodies of loops did from lists of states.
 
 ghost use Rattle.std.specs.Prelude.{◌≡◌, ◌++◌, [], Ok, IfOk, IfSome, IsTrue, OnOk};
-ghost use Rattle.soy_meaning.specs.PageMachine.{page_machine};
-ghost use Rattle.soy_meaning.specs.Walk.{walk, walked};
+ghost use Rattle.soy_meaning.specs.Walks.PageMachine.{page_machine};
+ghost use Rattle.soy_meaning.specs.Walks.Walk.{walk, walked};
 ghost use Rattle.html_context.specs.Kept.{AllKept, IsKept};
 ghost use Rattle.html_context.specs.RowPlans.{plan_at};
 

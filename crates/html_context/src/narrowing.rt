@@ -1,15 +1,16 @@
 //! The variables of a branch, in which a condition takes null away.
 
 ghost use Rattle.std.specs.Prelude.{◌≡◌, OnOk, if◌then◌else◌};
-ghost use Rattle.soy_tree.specs.Narrowing.{name_narrowed, narrowed, variable_narrowed};
-ghost use Rattle.soy_tree.specs.TypeOf.{is_null_literal};
+ghost use Rattle.soy_rules.specs.Narrowing.{name_narrowed, narrowed, variable_narrowed};
+ghost use Rattle.soy_rules.specs.TypeOf.{is_null_literal};
 ghost use Rattle.soy_tree.specs.ViewExpressions.{view_expr};
 ghost use Rattle.soy_expr.specs.ViewScope.{view_vars};
 ghost use Rattle.html_context.specs.PutBack.{put_back};
 
 use crate::visible::Visible;
 use soy_base::{OutOfMemory, Text};
-use soy_tree::{BinaryOp, Expr, ExprNode, SoyType, narrow};
+use soy_rules::narrow;
+use soy_tree::{BinaryOp, Expr, ExprNode, SoyType};
 use std::alloc::Global;
 
 /// The type that a variable has outside a branch.

@@ -2,7 +2,8 @@
 
 ghost use Rattle.std.specs.Prelude.{◌<◌, length, map};
 ghost use Rattle.std.specs.List.{All};
-ghost use Rattle.soy_meaning.specs.PlanOfParts.{cut_plan, placeholder_cut};
+ghost use Rattle.soy_meaning.specs.Paths.PlanOfParts.{cut_plan};
+ghost use Rattle.soy_rules.specs.Placeholders.{placeholder_cut};
 ghost use Rattle.soy_tree.specs.ViewMessageParts.{exact_arms_of, named_arms_of, select_arms_of};
 ghost use Rattle.soy_tree.specs.ViewMessageParts.{view_exact, view_named, view_part, view_parts, view_select_arm};
 ghost use Rattle.soy_tree.specs.ViewNodes.{view_node, view_nodes};

@@ -1,9 +1,9 @@
 //! What commands and parameters make visible.
 
 ghost use Rattle.std.specs.Prelude.{◌≡◌, ◌∷◌, IfOk, OnOk, Ok, option_map};
-ghost use Rattle.soy_meaning.specs.PlanOfNodes.{body_scope, scope_past};
-ghost use Rattle.soy_tree.specs.Templates.{param_scope};
-ghost use Rattle.soy_tree.specs.TypeOf.{type_of};
+ghost use Rattle.soy_meaning.specs.Paths.PlanOfNodes.{body_scope, scope_past};
+ghost use Rattle.soy_rules.specs.Templates.{param_scope};
+ghost use Rattle.soy_rules.specs.TypeOf.{type_of};
 ghost use Rattle.soy_tree.specs.Types.{ListType};
 ghost use Rattle.soy_tree.specs.ViewExpressions.{view_expr};
 ghost use Rattle.soy_tree.specs.ViewNodes.{view_node};

@@ -1,8 +1,8 @@
 //! Lists of states without repeats, in the order in which the states came.
 
 ghost use Rattle.std.specs.Prelude.{◌≡◌, IfOk, OnOk};
-ghost use Rattle.soy_meaning.specs.PageMachine.{page_machine};
-ghost use Rattle.soy_meaning.specs.States.{has_state, joined_states, with_state};
+ghost use Rattle.soy_meaning.specs.Walks.PageMachine.{page_machine};
+ghost use Rattle.soy_meaning.specs.Walks.States.{has_state, joined_states, with_state};
 
 use html_state::State;
 use soy_base::OutOfMemory;

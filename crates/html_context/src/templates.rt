@@ -1,11 +1,11 @@
 //! The template that a call means.
 
 ghost use Rattle.std.specs.Prelude.{◌≡◌, IfOk, option_map};
-ghost use Rattle.soy_tree.specs.Templates.{callee, template_of, visible};
-ghost use Rattle.soy_tree.specs.ViewTemplates.{view_all, view_declared};
+ghost use Rattle.soy_rules.specs.Templates.{callee, template_of, visible};
+ghost use Rattle.soy_rules.specs.ViewTemplates.{view_all, view_declared};
 
 use soy_base::{OutOfMemory, Text};
-use soy_tree::{Declared, Templates, called_name};
+use soy_rules::{Declared, Templates, called_name};
 use std::alloc::Global;
 
 /// The template of a full name, where the namespace sees it.

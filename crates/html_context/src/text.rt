@@ -3,9 +3,9 @@
 ghost use Rattle.std.specs.Prelude.{◌≡◌, ◌∷◌, []};
 ghost use Rattle.std.specs.Str.{chars};
 ghost use Rattle.html_state.specs.Next.{next, text_end};
-ghost use Rattle.soy_meaning.specs.PageMachine.{page_machine};
-ghost use Rattle.soy_meaning.specs.PlanOfParts.{text_plan};
-ghost use Rattle.soy_meaning.specs.Walk.{met_at, moved_states, states_after_text, walk, walked};
+ghost use Rattle.soy_meaning.specs.Walks.PageMachine.{page_machine};
+ghost use Rattle.soy_meaning.specs.Paths.PlanOfParts.{text_plan};
+ghost use Rattle.soy_meaning.specs.Walks.Walk.{met_at, moved_states, states_after_text, walk, walked};
 ghost use Rattle.html_context.specs.Walks.{Gives, Walks, items_of, view_site};
 
 use crate::fault::{Site, Stop, stop};

@@ -2,7 +2,7 @@
 
 ghost use Rattle.std.specs.Prelude.{◌≡◌, ◌-◌, ◌∷◌, [], IfOk, IfSome, None, OnOk, drop, length};
 ghost use Rattle.std.specs.Prelude.{option_map, reverse};
-ghost use Rattle.soy_tree.specs.TypeOf.{variable_type};
+ghost use Rattle.soy_rules.specs.TypeOf.{variable_type};
 ghost use Rattle.soy_tree.specs.ViewTypes.{view_type};
 ghost use Rattle.soy_expr.specs.ViewScope.{view_vars};
 ghost use Rattle.html_context.specs.LastNamed.{IsLastNamed};

@@ -1,9 +1,9 @@
 //! The walk over a table: each function gives what the walk gives of the plan of what it is given.
 
 ghost use Rattle.std.specs.Prelude.{◌≡◌, ◌<◌, [], OnOk, map};
-ghost use Rattle.soy_meaning.specs.PageMachine.{page_machine};
-ghost use Rattle.soy_meaning.specs.Plan.{Frame, Loop, arms_meet, in_turn};
-ghost use Rattle.soy_meaning.specs.Walk.{all_may_end, walk, walked};
+ghost use Rattle.soy_meaning.specs.Walks.PageMachine.{page_machine};
+ghost use Rattle.soy_meaning.specs.Paths.Plan.{Frame, Loop, arms_meet, in_turn};
+ghost use Rattle.soy_meaning.specs.Walks.Walk.{all_may_end, walk, walked};
 ghost use Rattle.html_context.specs.JoinedArms.{joined_arm};
 ghost use Rattle.html_context.specs.Kept.{AllKept};
 ghost use Rattle.html_context.specs.RowPlans.{plan_at, plan_below, row_plan, plans_before};

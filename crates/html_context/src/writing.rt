@@ -1,8 +1,8 @@
 //! Rows that are written behind those that are there.
 
 ghost use Rattle.std.specs.Prelude.{◌≡◌, ◌++◌, ◌∷◌, [], length, OnOk, IfOk};
-ghost use Rattle.soy_meaning.specs.Plan.{Hole, Nothing};
-ghost use Rattle.soy_meaning.specs.PlanOfParts.{printed_classes, text_plan};
+ghost use Rattle.soy_meaning.specs.Paths.Plan.{Hole, Nothing};
+ghost use Rattle.soy_meaning.specs.Paths.PlanOfParts.{printed_classes, text_plan};
 ghost use Rattle.soy_tree.specs.ViewExpressions.{view_expr};
 ghost use Rattle.soy_expr.specs.ViewScope.{view_vars};
 ghost use Rattle.html_context.specs.StandsFor.{Writes};

@@ -8,3 +8,4 @@ pub mod KeptPlaces
 pub mod PageSteps
 pub mod PagePlaces
 pub mod PageFrames
+pub mod PageLeads

@@ -4,7 +4,7 @@
 -- and its end must decide each `&`. A value's characters are read as such, and then its mark is set, by the state that
 -- was before them.
 -- Example: after the static text `<a href="` and the value `x` the part is AfterStart, and a second value is refused.
-use Rattle.std.specs.Prelude.{ℕ, List, Result, Ok}
+use Rattle.std.specs.Prelude.{List, Result, Ok}
 use Rattle.soy_base.specs.declared.code.Code.{Code}
 use Rattle.soy_base.specs.declared.kind.Kind.{Kind}
 use Rattle.soy_base.specs.declared.place.Placing.{Placing}
@@ -15,10 +15,7 @@ use Rattle.html_state.specs.Next.{next, text_end, value_character_next}
 use Rattle.html_state.specs.Start.{start}
 use Rattle.html_state.specs.StatePlacing.{placing}
 use Rattle.html_state.specs.Texts.{and_then}
-
-pub data Piece : Type 0 where
-  Static : List ℕ → Piece
-  Value : List ℕ → Piece
+use Rattle.soy_base.specs.Piece.{Piece, Static, Value}
 
 abbrev pub after_piece : State → Piece → Result State Code
 after_piece before (Static text) = and_then text_end (after_all next before text)

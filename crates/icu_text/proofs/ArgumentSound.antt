@@ -7,9 +7,9 @@ use Rattle.soy_base.specs.Characters.{right_brace, comma}
 use Rattle.soy_base.specs.Names.{begins_name, continues_name}
 use Rattle.soy_base.specs.WhiteSpace.{is_template_space}
 use Rattle.soy_tree.specs.MessageParts.{MsgPart, Placeholder, PluralPart, SelectPart}
-use Rattle.soy_tree.specs.IcuText as icu
-use Rattle.soy_tree.specs.IcuText.{IsArgument, IsSpacedName, IsSpacedKeyword, exact_arms, named_arms, select_arms}
-use Rattle.soy_tree.specs.IcuText.{plural_keyword}
+use Rattle.soy_rules.specs.IcuText as icu
+use Rattle.soy_rules.specs.IcuText.{IsArgument, IsSpacedName, IsSpacedKeyword, exact_arms, named_arms, select_arms}
+use Rattle.soy_rules.specs.IcuText.{plural_keyword}
 use Rattle.icu_text.specs.declared.state.Argument.{Argument}
 use Rattle.icu_text.specs.declared.state.ChoiceKind.{ChoiceKind}
 use Rattle.icu_text.specs.declared.state.ChoiceKind.TheVariants as choice

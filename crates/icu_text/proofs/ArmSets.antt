@@ -12,7 +12,7 @@ use Rattle.std.proofs.lemmas.Bool.Decides.{nat_tests}
 use Rattle.std.proofs.lemmas.Map.Text.{is_eq-slice_cmp}
 use Rattle.std.proofs.lemmas.Str.{IsUtf8-string_bytes}
 use Rattle.soy_base.proofs.Texts.{bytes_eq-chars}
-use Rattle.soy_tree.specs.Val.{is_same_int}
+use Rattle.soy_rules.specs.Val.{is_same_int}
 use Rattle.soy_tree.specs.MessageParts.{MsgParts}
 use Rattle.icu_text.specs.FirstArms.{HasNumbers, HasWords, has_word}
 use Rattle.icu_text.proofs.KeptArms.{any_exact, any_select}

@@ -1,6 +1,6 @@
 -- A text is a pattern, or none.
 use Rattle.std.proofs.Common.{ℕ, List, refl, ◌⊎◌, inl, inr}
-use Rattle.soy_tree.specs.IcuText.{IsPattern}
+use Rattle.soy_rules.specs.IcuText.{IsPattern}
 use Rattle.soy_tree.specs.MessageParts.{MsgParts}
 use Rattle.icu_text.specs.declared.parse.Outcome.{Outcome}
 use Rattle.icu_text.specs.declared.parse.Outcome.TheVariants.{Done, Refused}

@@ -7,7 +7,7 @@ use Rattle.soy_base.specs.Characters.{comma}
 use Rattle.soy_base.specs.Names.{is_name, begins_name, continues_name}
 use Rattle.soy_base.specs.WhiteSpace.{is_template_space}
 use Rattle.soy_tree.specs.MessageParts.{MsgPart}
-use Rattle.soy_tree.specs.IcuText.{IsSpacedName, IsSpacedKeyword}
+use Rattle.soy_rules.specs.IcuText.{IsSpacedName, IsSpacedKeyword}
 use Rattle.icu_text.specs.declared.state.Argument.{Argument}
 use Rattle.icu_text.specs.declared.state.ChoiceKind.{ChoiceKind}
 use Rattle.icu_text.specs.declared.state.ChoiceKind.TheVariants as choice

@@ -7,11 +7,11 @@ use Rattle.std.proofs.lemmas.Slice.Eq.{bytes_eq-Decides}
 use Rattle.plural_rules.specs.declared.category.Category.{Category}
 use Rattle.plural_rules.specs.declared.category.Category.TheVariants as category
 use Rattle.plural_rules.specs.Category.{is_same}
-use Rattle.soy_tree.specs.Val.{is_same_int}
+use Rattle.soy_rules.specs.Val.{is_same_int}
 use Rattle.soy_tree.specs.MessageParts.{MsgParts, ExactArms, NamedArms, SelectArms, PluralPart, SelectPart}
 use Rattle.soy_tree.specs.MessageParts.{no_exact_arm, exact_arm, no_named_arm, named_arm, no_select_arm, select_arm}
 use Rattle.soy_tree.specs.ViewMessageParts.{exact_arms_of, named_arms_of, select_arms_of}
-use Rattle.soy_tree.specs.IcuText.{Key, Exact, Named, is_int_among, exact_arms, named_arms, select_arms, is_other}
+use Rattle.soy_rules.specs.IcuText.{Key, Exact, Named, is_int_among, exact_arms, named_arms, select_arms, is_other}
 use Rattle.icu_text.specs.declared.state.ArmKey.{ArmKey}
 use Rattle.icu_text.specs.declared.state.ArmKey.TheVariants as arm_key
 use Rattle.icu_text.specs.declared.state.Argument.{Argument}

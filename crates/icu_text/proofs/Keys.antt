@@ -10,9 +10,9 @@ use Rattle.std.proofs.lemmas.Bool.Decides.{nat_tests}
 use Rattle.plural_rules.specs.declared.category.Category.TheVariants as category
 use Rattle.soy_base.specs.Characters.{left_brace, minus_sign}
 use Rattle.soy_base.specs.WhiteSpace.{is_template_space}
-use Rattle.soy_tree.specs.Ints.{largest}
+use Rattle.soy_base.specs.Limits.{largest}
 use Rattle.soy_tree.specs.Formed.{is_word_character}
-use Rattle.soy_tree.specs.IcuText.{IsNumber, IsKey, IsWord, Key, exact, negative, named}
+use Rattle.soy_rules.specs.IcuText.{IsNumber, IsKey, IsWord, Key, exact, negative, named}
 use Rattle.icu_text.specs.declared.state.ArmKey.{ArmKey}
 use Rattle.icu_text.specs.declared.state.ArmKey.TheVariants as arm_key
 use Rattle.icu_text.specs.declared.state.OpenPlural.{OpenPlural}

@@ -11,11 +11,11 @@ use Rattle.soy_base.specs.WhiteSpace.{is_template_space}
 use Rattle.soy_tree.specs.MessageParts.{MsgPart, MsgParts, NumberPart}
 use Rattle.soy_tree.specs.MessageParts.{no_part}
 use Rattle.soy_tree.specs.ViewMessageParts.{parts_of}
-use Rattle.soy_tree.specs.IcuText.{PatternMode, AtTop, InPlural, InSelect, is_quotable, begins_quotable, is_plain}
-use Rattle.soy_tree.specs.IcuText.{Reads, stop, plain, two, single, quoted, number, argument, IsArgument, placeholder}
-use Rattle.soy_tree.specs.IcuText.{plural, select, PluralArms, no_more, plural_arm, WordArms, no_more_words, word_arm}
-use Rattle.soy_tree.specs.IcuText.{IsSpacedKeyword, plural_keyword, IsOffset, none, given, IsKey, exact, negative}
-use Rattle.soy_tree.specs.IcuText.{named, Key, is_other, exact_arms, named_arms, select_arms, IsPattern}
+use Rattle.soy_rules.specs.IcuText.{PatternMode, AtTop, InPlural, InSelect, is_quotable, begins_quotable, is_plain}
+use Rattle.soy_rules.specs.IcuText.{Reads, stop, plain, two, single, quoted, number, argument, IsArgument, placeholder}
+use Rattle.soy_rules.specs.IcuText.{plural, select, PluralArms, no_more, plural_arm, WordArms, no_more_words, word_arm}
+use Rattle.soy_rules.specs.IcuText.{IsSpacedKeyword, plural_keyword, IsOffset, none, given, IsKey, exact, negative}
+use Rattle.soy_rules.specs.IcuText.{named, Key, is_other, exact_arms, named_arms, select_arms, IsPattern}
 use Rattle.icu_text.specs.declared.state.Argument.{Argument}
 use Rattle.icu_text.specs.declared.state.ChoiceKind.TheVariants as choice
 use Rattle.icu_text.specs.declared.state.OpenPlural.{OpenPlural}
@@ -70,7 +70,7 @@ plural_choice_on false text s tail fs a = choice_on choice.Plural text s tail fs
 plural_choice_on true text s tail fs a = choice_on choice.Ordinal text s tail fs a
 
 -- a name, and what begins with a comma
-name_then : (text name word tail : List ℕ) → Rattle.soy_tree.specs.IcuText.IsSpacedName text name → (more : List ℕ)
+name_then : (text name word tail : List ℕ) → Rattle.soy_rules.specs.IcuText.IsSpacedName text name → (more : List ℕ)
     → word ≡ comma ∷ more → (fs : List Frame) (before : List MsgPart)
     → parsed (text ++ (word ++ tail)) (at fs (expected.Name before)) ≡ parsed (word ++ tail)
     (at fs (expected.NameEnd (record { before = before; name = name })))

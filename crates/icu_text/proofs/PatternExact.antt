@@ -5,8 +5,8 @@ use Rattle.soy_base.specs.ByteLength.{byte_len}
 use Rattle.soy_base.specs.Characters.{single_quote}
 use Rattle.soy_tree.specs.MessageParts.{MsgPart, MsgParts, no_part}
 use Rattle.soy_tree.specs.ViewMessageParts.{parts_of}
-use Rattle.soy_tree.specs.IcuText as icu
-use Rattle.soy_tree.specs.IcuText.{AtTop, Reads, with_text, IsPattern}
+use Rattle.soy_rules.specs.IcuText as icu
+use Rattle.soy_rules.specs.IcuText.{AtTop, Reads, with_text, IsPattern}
 use Rattle.icu_text.specs.declared.parse.Outcome.{Outcome}
 use Rattle.icu_text.specs.declared.parse.Outcome.TheVariants.{Done, Refused}
 use Rattle.icu_text.specs.declared.state.Frame.{Frame}

@@ -8,12 +8,12 @@ use Rattle.plural_rules.specs.declared.category.Category.TheVariants as category
 use Rattle.soy_base.specs.Characters.{single_quote, left_brace, right_brace, comma, minus_sign}
 use Rattle.soy_base.specs.Names.{continues_name}
 use Rattle.soy_base.specs.WhiteSpace.{is_template_space}
-use Rattle.soy_tree.specs.Ints.{largest}
+use Rattle.soy_base.specs.Limits.{largest}
 use Rattle.soy_tree.specs.Formed.{is_word_character}
 use Rattle.soy_tree.specs.MessageParts.{MsgPart, MsgParts, Placeholder}
 use Rattle.soy_tree.specs.ViewMessageParts.{parts_of}
-use Rattle.soy_tree.specs.IcuText.{PatternMode, Reads, with_text, Quoted, IsNumber, Key, IsArgument, PluralArms}
-use Rattle.soy_tree.specs.IcuText.{WordArms}
+use Rattle.soy_rules.specs.IcuText.{PatternMode, Reads, with_text, Quoted, IsNumber, Key, IsArgument, PluralArms}
+use Rattle.soy_rules.specs.IcuText.{WordArms}
 use Rattle.icu_text.specs.declared.state.ArmKey.{ArmKey}
 use Rattle.icu_text.specs.declared.state.ArmKey.TheVariants as arm_key
 use Rattle.icu_text.specs.declared.state.Argument.{Argument}

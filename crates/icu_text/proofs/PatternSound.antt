@@ -6,10 +6,10 @@ use Rattle.soy_base.specs.Characters.{left_brace, right_brace, number_sign}
 use Rattle.soy_base.specs.WhiteSpace.{is_template_space}
 use Rattle.soy_tree.specs.MessageParts.{MsgPart, MsgParts, NumberPart}
 use Rattle.soy_tree.specs.MessageParts.{part}
-use Rattle.soy_tree.specs.IcuText as icu
-use Rattle.soy_tree.specs.IcuText.{PatternMode, AtTop, InPlural, InSelect, is_quotable, is_plain, Reads, with_text}
-use Rattle.soy_tree.specs.IcuText.{IsArgument, IsSpacedName, IsSpacedKeyword, IsNumber, Key, Exact, Named, IsKey}
-use Rattle.soy_tree.specs.IcuText.{IsWord, IsPattern, plural_keyword, IsOffset}
+use Rattle.soy_rules.specs.IcuText as icu
+use Rattle.soy_rules.specs.IcuText.{PatternMode, AtTop, InPlural, InSelect, is_quotable, is_plain, Reads, with_text}
+use Rattle.soy_rules.specs.IcuText.{IsArgument, IsSpacedName, IsSpacedKeyword, IsNumber, Key, Exact, Named, IsKey}
+use Rattle.soy_rules.specs.IcuText.{IsWord, IsPattern, plural_keyword, IsOffset}
 use Rattle.icu_text.specs.declared.state.OpenPlural.{OpenPlural}
 use Rattle.icu_text.specs.declared.state.OpenSelect.{OpenSelect}
 use Rattle.icu_text.specs.declared.state.Frame.{Frame}

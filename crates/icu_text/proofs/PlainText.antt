@@ -4,8 +4,8 @@ use Rattle.std.proofs.Common.{sym, ◌∙◌, ap, append_assoc, append-nil, arit
 use Rattle.std.proofs.lemmas.Bool.Decides.{nat_tests}
 use Rattle.soy_base.specs.Characters.{single_quote}
 use Rattle.soy_tree.specs.MessageParts.{MsgPart}
-use Rattle.soy_tree.specs.IcuText.{PatternMode, AtTop, InPlural, InSelect, is_quotable, begins_quotable}
-use Rattle.soy_tree.specs.IcuText.{begins_with_quote, is_plain, Quoted, unclosed, closed, doubled, character}
+use Rattle.soy_rules.specs.IcuText.{PatternMode, AtTop, InPlural, InSelect, is_quotable, begins_quotable}
+use Rattle.soy_rules.specs.IcuText.{begins_with_quote, is_plain, Quoted, unclosed, closed, doubled, character}
 use Rattle.icu_text.specs.declared.state.Frame.{Frame}
 use Rattle.icu_text.specs.declared.state.Frame.TheVariants as frame
 use Rattle.icu_text.specs.declared.state.Quoting.{Quoting}

@@ -4,7 +4,7 @@ use Rattle.std.proofs.Common.{append-nil}
 use Rattle.soy_tree.specs.MessageParts.{MsgPart, MsgParts, TextPart, Placeholder, NumberPart, PluralPart, SelectPart}
 use Rattle.soy_tree.specs.MessageParts.{no_part, part}
 use Rattle.soy_tree.specs.ViewMessageParts.{parts_of}
-use Rattle.soy_tree.specs.IcuText.{with_text}
+use Rattle.soy_rules.specs.IcuText.{with_text}
 use Rattle.icu_text.specs.PatternSteps.{finished}
 
 -- parts and the text after them, once these parts were read too

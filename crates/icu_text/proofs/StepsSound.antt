@@ -14,12 +14,12 @@ use Rattle.soy_base.specs.Characters.{single_quote, left_brace, right_brace, num
 use Rattle.soy_base.specs.Characters.{minus_sign}
 use Rattle.soy_base.specs.Names.{begins_name, continues_name}
 use Rattle.soy_base.specs.WhiteSpace.{is_template_space}
-use Rattle.soy_tree.specs.Ints.{largest}
+use Rattle.soy_base.specs.Limits.{largest}
 use Rattle.soy_tree.specs.Formed.{is_word_character}
 use Rattle.soy_tree.specs.MessageParts.{MsgPart, Placeholder, NumberPart, no_part}
 use Rattle.soy_tree.specs.ViewMessageParts.{parts_of}
-use Rattle.soy_tree.specs.IcuText as icu
-use Rattle.soy_tree.specs.IcuText.{is_quotable, is_plain, with_text, Exact, Named, keyword, IsNumber, IsWord}
+use Rattle.soy_rules.specs.IcuText as icu
+use Rattle.soy_rules.specs.IcuText.{is_quotable, is_plain, with_text, Exact, Named, keyword, IsNumber, IsWord}
 use Rattle.icu_text.specs.declared.state.ArmKey.{ArmKey}
 use Rattle.icu_text.specs.declared.state.ArmKey.TheVariants as arm_key
 use Rattle.icu_text.specs.declared.state.Argument.{Argument}

@@ -10,7 +10,7 @@ use Rattle.std.specs.BTreeSet.{BTreeSet}
 use Rattle.plural_rules.specs.declared.category.Category.{Category}
 use Rattle.plural_rules.specs.Category.{is_same}
 use Rattle.soy_tree.specs.MessageParts.{MsgParts}
-use Rattle.soy_tree.specs.IcuText.{is_int_among}
+use Rattle.soy_rules.specs.IcuText.{is_int_among}
 
 abbrev pub has_category : Category → List (Category × MsgParts) → Bool
 has_category category arms = list_any (λ arm. is_same category arm.0) arms

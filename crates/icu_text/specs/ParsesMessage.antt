@@ -8,7 +8,7 @@ use Rattle.soy_base.specs.declared.memory.Refusal.TheVariants as refusal
 use Rattle.soy_tree.specs.declared.bundle.MsgPart as code
 use Rattle.soy_tree.specs.MessageParts.{MsgParts}
 use Rattle.soy_tree.specs.ViewMessageParts.{view_parts}
-use Rattle.soy_tree.specs.IcuText.{IsPattern}
+use Rattle.soy_rules.specs.IcuText.{IsPattern}
 use Rattle.icu_text.specs.BeginsPattern.{BeginsPattern}
 
 -- no pattern goes on with the rest

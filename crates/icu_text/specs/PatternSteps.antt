@@ -10,9 +10,9 @@ use Rattle.soy_base.specs.Characters.{single_quote, left_brace, right_brace, num
 use Rattle.soy_base.specs.Characters.{minus_sign}
 use Rattle.soy_base.specs.WhiteSpace.{is_template_space}
 use Rattle.soy_base.specs.Names.{begins_name, continues_name}
-use Rattle.soy_tree.specs.Ints.{largest}
+use Rattle.soy_base.specs.Limits.{largest}
 use Rattle.soy_tree.specs.Formed.{is_word_character}
-use Rattle.soy_tree.specs.IcuText.{PatternMode, AtTop, InPlural, InSelect, is_quotable}
+use Rattle.soy_rules.specs.IcuText.{PatternMode, AtTop, InPlural, InSelect, is_quotable}
 use Rattle.soy_tree.specs.MessageParts.{MsgPart, MsgParts, TextPart, Placeholder, NumberPart, PluralPart, SelectPart}
 use Rattle.soy_tree.specs.ViewMessageParts.{parts_of, exact_arms_of, named_arms_of, select_arms_of}
 use Rattle.icu_text.specs.declared.state.ArmKey.{ArmKey}

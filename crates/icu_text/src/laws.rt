@@ -2,7 +2,7 @@
 
 ghost use Rattle.std.specs.Prelude.{◌≡◌, ℕ, List};
 ghost use Rattle.soy_tree.specs.MessageParts.{MsgParts};
-ghost use Rattle.soy_tree.specs.IcuText.{IsPattern};
+ghost use Rattle.soy_rules.specs.IcuText.{IsPattern};
 
 /// A text is one pattern at most.
 pub fn law_one_pattern()

@@ -2,7 +2,7 @@
 
 ghost use Rattle.std.specs.Prelude.{◌≡◌, ◌-◌, nat_le, true, false, MatchOption};
 ghost use Rattle.std.specs.Char.{is_ascii_digit};
-ghost use Rattle.soy_tree.specs.Ints.{largest};
+ghost use Rattle.soy_base.specs.Limits.{largest};
 ghost use Rattle.icu_text.specs.PatternSteps.{more_digits, signed};
 
 use std::marker::Model;
@@ -18,7 +18,7 @@ pub struct Number {
 
 impl Model for Number {
     ghost use Rattle.std.specs.Prelude.{ℕ, ◌≤◌};
-    ghost use Rattle.soy_tree.specs.Ints.{largest};
+    ghost use Rattle.soy_base.specs.Limits.{largest};
 
     ghost Value = { ℕ };
 

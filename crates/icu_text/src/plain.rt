@@ -1,7 +1,7 @@
 //! A character of a text, outside all braces or in an arm.
 
 ghost use Rattle.std.specs.Prelude.{◌≡◌, [], ◌∷◌, ◌++◌, IfOk, ◌==◌};
-ghost use Rattle.soy_tree.specs.IcuText.{is_quotable};
+ghost use Rattle.soy_rules.specs.IcuText.{is_quotable};
 ghost use Rattle.icu_text.specs.PatternSteps.{add_next, brace_next, close_next, finished, number_sign_next, plain_next};
 ghost use Rattle.icu_text.specs.PatternSteps.{apostrophe_next, quoted_apostrophe_next, quoted_next, pattern_mode};
 ghost use Rattle.icu_text.specs.PatternSteps.{step_of};

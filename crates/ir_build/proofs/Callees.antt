@@ -6,18 +6,18 @@ use Rattle.std.proofs.lemmas.Option.{slice_get_past}
 use Rattle.soy_base.specs.declared.fault.Span.{Span}
 use Rattle.soy_base.specs.declared.place.Place.{Place}
 use Rattle.soy_tree.specs.declared.tree.Param as code_param
-use Rattle.soy_tree.specs.Bodies.{names_given}
+use Rattle.soy_rules.specs.Bodies.{names_given}
 use Rattle.soy_tree.specs.Nodes.{Arguments}
 use Rattle.soy_tree.specs.Trees.{Param}
 use Rattle.soy_tree.specs.ViewTrees.{view_params}
-use Rattle.soy_tree.specs.Templates.{Declared, callee, called_name, full_name, is_visible_from, template_of, visible}
+use Rattle.soy_rules.specs.Templates.{Declared, callee, called_name, full_name, is_visible_from, template_of, visible}
 use Rattle.soy_tree.specs.Types.{Name}
 use Rattle.template_ir.specs.Compiles.{callee_number, handed_on_names, number_of, params_there, same_handed}
 use Rattle.template_ir.specs.Ops.{CallOp, Handed}
-use Rattle.soy_tree.specs.ViewTemplates.{view_all, view_declared}
+use Rattle.soy_rules.specs.ViewTemplates.{view_all, view_declared}
 use Rattle.ir_build.specs.ViewScene.{call_op}
 use Rattle.ir_build.specs.declared.scene.Scene.{Scene}
-use Rattle.soy_tree.specs.declared.template.Declared as code
+use Rattle.soy_rules.specs.declared.template.Declared as code
 
 found_at : (b v : Bool) (d : Declared) (ds : List Declared) (n : ℕ) (namespace : Name) (rest : Option Declared)
     → v ≡ is_visible_from namespace d → slice_get ds n ≡ visible namespace rest

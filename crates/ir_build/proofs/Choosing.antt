@@ -3,12 +3,12 @@ use Rattle.std.proofs.Common.{◌≡◌, ℕ, zero, suc, ◌+◌, ◌≤◌, Lis
 use Rattle.std.proofs.Common.{refl, sym, ap, subst, ◌∙◌, arith}
 use Rattle.soy_base.specs.declared.fault.Span.{Span}
 use Rattle.soy_base.specs.declared.place.Place.{Place}
-use Rattle.soy_meaning.specs.Pieces.{ChosenText, TheFallback, TheOwn, TheSource, chosen_after, chosen_of, chosen_text}
-use Rattle.soy_meaning.specs.Pieces.{fallback_text}
-use Rattle.soy_meaning.specs.PlanOfNodes.{uses_of}
+use Rattle.soy_pieces.specs.Pieces.{ChosenText, TheFallback, TheOwn, TheSource, chosen_after, chosen_of, chosen_text}
+use Rattle.soy_pieces.specs.Pieces.{fallback_text}
+use Rattle.soy_rules.specs.Placeholders.{uses_of}
 use Rattle.soy_tree.specs.MessageParts.{MsgParts}
 use Rattle.soy_tree.specs.Nodes.{Fallback, Message, MessageBody, MessageNode, fallback, message, no_fallback}
-use Rattle.soy_tree.specs.Placeholders.{Use}
+use Rattle.soy_rules.specs.Placeholders.{Use}
 use Rattle.template_ir.specs.Compiles.{StandsMessage}
 use Rattle.template_ir.specs.HoleCounts.{body_holes, fallback_holes, node_holes, parts_holes, source_holes}
 use Rattle.template_ir.specs.HoleCounts.{translated_holes, translation_holes}

@@ -3,7 +3,7 @@ use Rattle.std.proofs.Common.{◌≡◌, ℕ, Bool, false, List, [], ◌∷◌, 
 use Rattle.std.proofs.Common.{refl, sym, ap, subst, ◌∙◌}
 use Rattle.soy_base.specs.declared.kind.Kind.{Kind}
 use Rattle.soy_base.specs.declared.place.Place.{Place}
-use Rattle.soy_meaning.specs.Pieces.{chosen_text}
+use Rattle.soy_pieces.specs.Pieces.{chosen_text}
 use Rattle.soy_tree.specs.declared.expr.Expr as code_expr
 use Rattle.soy_tree.specs.declared.node.Argument as code_argument
 use Rattle.soy_tree.specs.declared.node.Arm as code_arm

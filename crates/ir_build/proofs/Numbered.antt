@@ -3,15 +3,15 @@ use Rattle.std.proofs.Common.{◌≡◌, ℕ, suc, ◌+◌, Bool, true, false, L
 use Rattle.std.proofs.Common.{Option, Some, None, option_map, slice_get, arith}
 use Rattle.std.specs.Prelude.{if◌then◌else◌, bytes_eq}
 use Rattle.std.proofs.lemmas.List.{length-map}
-use Rattle.soy_tree.specs.Templates.{is_visible_from}
+use Rattle.soy_rules.specs.Templates.{is_visible_from}
 use Rattle.soy_tree.specs.Types.{Name}
 use Rattle.template_ir.specs.Compiles.{number_of}
-use Rattle.soy_tree.specs.declared.template.Declared.{Declared}
-use Rattle.soy_tree.specs.FirstNames.{first_from, first_number}
-use Rattle.soy_tree.specs.FullNames.{full_names}
+use Rattle.soy_rules.specs.declared.template.Declared.{Declared}
+use Rattle.soy_rules.specs.FirstNames.{first_from, first_number}
+use Rattle.soy_rules.specs.FullNames.{full_names}
 use Rattle.ir_build.specs.Numbers.{number_if_visible, visible_number}
-use Rattle.soy_tree.specs.ViewTemplates.{view_all, view_declared}
-use Rattle.soy_tree.proofs.Firsts.{first_later}
+use Rattle.soy_rules.specs.ViewTemplates.{view_all, view_declared}
+use Rattle.soy_rules.proofs.Firsts.{first_later}
 
 -- the number of what was found
 abbrev pub found_number : Name → List Declared → Option ℕ → ℕ

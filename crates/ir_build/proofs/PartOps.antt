@@ -1,6 +1,6 @@
 -- The ops of a part of the code, by its variant.
 use Rattle.std.proofs.Common.{◌≡◌, ℕ, true, false, List, [], ◌∷◌, ◌++◌, map, sym, subst}
-use Rattle.soy_meaning.specs.Branch.{selector}
+use Rattle.soy_pieces.specs.Branch.{selector}
 use Rattle.soy_tree.specs.declared.bundle.ExactArm as code_exact
 use Rattle.soy_tree.specs.declared.bundle.MsgPart as code
 use Rattle.soy_tree.specs.declared.bundle.MsgPart.TheVariants as part

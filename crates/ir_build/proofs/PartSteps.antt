@@ -1,7 +1,7 @@
 -- Lists of parts and arms of a translation, compiled item by item, and the ops of single parts.
 use Rattle.std.proofs.Common.{◌≡◌, ℕ, ◌+◌, ◌<◌, ◌≤◌, Bool, true, false, List, [], ◌∷◌, ◌++◌, Option, Some, None, drop}
 use Rattle.std.proofs.Common.{length, map, slice_index_or, refl, sym, subst}
-use Rattle.soy_meaning.specs.Branch.{selector}
+use Rattle.soy_pieces.specs.Branch.{selector}
 use Rattle.soy_tree.specs.declared.bundle.ExactArm as code_exact
 use Rattle.soy_tree.specs.declared.bundle.MsgPart as code
 use Rattle.soy_tree.specs.declared.bundle.NamedArm as code_named

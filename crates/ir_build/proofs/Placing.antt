@@ -5,15 +5,15 @@ use Rattle.std.specs.Prelude.{if◌then◌else◌, bytes_eq}
 use Rattle.std.specs.Option.{option_or}
 use Rattle.soy_base.specs.declared.fault.Span.{Span}
 use Rattle.soy_base.specs.declared.place.Place.{Place}
-use Rattle.soy_meaning.specs.Branch.{selector, selector_of_role}
-use Rattle.soy_meaning.specs.PlanOfNodes.{uses_of}
-use Rattle.soy_meaning.specs.PlanOfParts.{placeholder_cut}
+use Rattle.soy_pieces.specs.Branch.{selector, selector_of_role}
+use Rattle.soy_rules.specs.Placeholders.{uses_of}
+use Rattle.soy_rules.specs.Placeholders.{placeholder_cut}
 use Rattle.soy_tree.specs.declared.node.Node as code
 use Rattle.soy_tree.specs.Expressions.{Expr}
 use Rattle.soy_tree.specs.MessageParts.{Placeholder}
 use Rattle.soy_tree.specs.MessageText.{Character, Cut, MessageItem, PrintCut, Printed, TagCut, TextCut}
 use Rattle.soy_tree.specs.Nodes.{Message, Node, Nodes, Print, TextNode, message}
-use Rattle.soy_tree.specs.Placeholders.{AsPlaceholder, AsPlural, AsSelect, Role, Use, body_uses, name_of}
+use Rattle.soy_rules.specs.Placeholders.{AsPlaceholder, AsPlural, AsSelect, Role, Use, body_uses, name_of}
 use Rattle.soy_tree.specs.Types.{Name}
 use Rattle.soy_tree.specs.ViewNodes.{nodes_of, view_message, view_node, view_nodes}
 use Rattle.msg_extract.specs.NamedNodes.{named_nodes}
@@ -22,7 +22,7 @@ use Rattle.msg_extract.specs.SelectorRows.{SelectorRow, role_rows, selector_rows
 use Rattle.template_ir.specs.HoleCounts.{cut_holes, part_holes, tag_holes}
 use Rattle.template_ir.specs.Ops.{Op, PrintOp}
 use Rattle.template_ir.specs.StandFor.{StandsCut, StandsTag, StandsText, place_of}
-use Rattle.bundle_fit.proofs.NamedNodes.{named_cut, nodes_there}
+use Rattle.msg_extract.proofs.Names.NamedCuts.{named_cut, nodes_there}
 use Rattle.ir_build.specs.Claims.{all_placed_holes, all_placed_stand, part_stands, placed_holes, placed_stands}
 use Rattle.ir_build.specs.Claims.{source_uses}
 use Rattle.ir_build.specs.Laid.{Made, Pushes, with_hole}

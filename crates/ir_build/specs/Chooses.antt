@@ -2,7 +2,7 @@
 -- Example: where the bundle has no translation, the ops of the source are added as they are.
 use Rattle.std.specs.Prelude.{◌≡◌, ℕ, ◌+◌, List, ◌++◌, Option}
 use Rattle.soy_base.specs.declared.place.Place.{Place}
-use Rattle.soy_meaning.specs.Pieces.{ChosenText, TheFallback, TheOwn, TheSource}
+use Rattle.soy_pieces.specs.Pieces.{ChosenText, TheFallback, TheOwn, TheSource}
 use Rattle.soy_tree.specs.MessageParts.{MsgParts}
 use Rattle.soy_tree.specs.Nodes.{Fallback, Message}
 use Rattle.template_ir.specs.HoleCounts.{fallback_holes, translation_holes}

@@ -1,12 +1,12 @@
 -- What ops stand for, by the number of the first hole: the relations of `Compiles` over what the compiler goes by.
 use Rattle.std.specs.Prelude.{ℕ, ◌+◌, ◌≤◌, List, [], ◌∷◌, Option, Some, None}
 use Rattle.soy_base.specs.declared.place.Place.{Place}
-use Rattle.soy_meaning.specs.PlanOfNodes.{uses_of}
+use Rattle.soy_rules.specs.Placeholders.{uses_of}
 use Rattle.soy_tree.specs.Expressions.{Expr}
 use Rattle.soy_tree.specs.MessageParts.{ExactArms, MsgPart, MsgParts, NamedArms, Placeholder, SelectArms}
 use Rattle.soy_tree.specs.Nodes.{Arguments, Arms, Cases, Message, MessageBody, Node, Nodes, PluralCases, SelectCases}
 use Rattle.soy_tree.specs.Nodes.{Print, TextNode, no_node, node}
-use Rattle.soy_tree.specs.Placeholders.{Use}
+use Rattle.soy_rules.specs.Placeholders.{Use}
 use Rattle.soy_tree.specs.Types.{Name}
 use Rattle.soy_tree.specs.ViewNodes.{view_message}
 use Rattle.template_ir.specs.Compiles.{StandsArms, StandsCases, StandsGiven, StandsNode, StandsNodes, StandsPluralCases}

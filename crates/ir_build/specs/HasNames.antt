@@ -3,7 +3,7 @@ use Rattle.std.specs.Prelude.{◌≡◌, map}
 use Rattle.soy_tree.specs.ViewNodes.{view_message}
 use Rattle.msg_extract.specs.PlaceholderNodes.{placeholders_of}
 use Rattle.msg_extract.specs.SelectorRows.{selectors_of, view_selector}
-use Rattle.msg_extract.specs.ViewPlaceholders.{view_placeholder}
+use Rattle.msg_extract.specs.Views.ViewPlaceholders.{view_placeholder}
 use Rattle.ir_build.specs.declared.source.Source.{Source}
 
 pub record HasNames (s : Source) : Type 0 where

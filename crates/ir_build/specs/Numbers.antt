@@ -1,9 +1,9 @@
 -- The number of a template, where a namespace sees it.
 use Rattle.std.specs.Prelude.{ℕ, List, Option, Some, None, if◌then◌else◌, length, slice_get}
-use Rattle.soy_tree.specs.Templates.{is_visible_from}
+use Rattle.soy_rules.specs.Templates.{is_visible_from}
 use Rattle.soy_tree.specs.Types.{Name}
-use Rattle.soy_tree.specs.ViewTemplates.{view_declared}
-use Rattle.soy_tree.specs.declared.template.Declared.{Declared}
+use Rattle.soy_rules.specs.ViewTemplates.{view_declared}
+use Rattle.soy_rules.specs.declared.template.Declared.{Declared}
 
 -- a number among templates, or how many there are where this template isn't seen or isn't there
 abbrev pub visible_number : Name → List Declared → ℕ → Option Declared → ℕ

@@ -3,8 +3,9 @@ use Rattle.std.specs.Prelude.{ℕ, ◌+◌, ◌≤◌, List, [], ◌∷◌, Opti
 use Rattle.soy_base.specs.declared.place.Place.{Place}
 use Rattle.soy_tree.specs.MessageParts.{MsgParts}
 use Rattle.soy_tree.specs.Nodes.{Message}
-use Rattle.soy_tree.specs.Templates.{Declared}
-use Rattle.template_ir.specs.Compiles.{Language, StandsTemplate, StandsTemplates}
+use Rattle.soy_rules.specs.Templates.{Declared}
+use Rattle.template_ir.specs.Compiles.{StandsTemplate, StandsTemplates}
+use Rattle.soy_pieces.specs.Language.{Language}
 use Rattle.template_ir.specs.HoleCounts.{nodes_holes}
 use Rattle.template_ir.specs.Ops.{Op, Routine}
 

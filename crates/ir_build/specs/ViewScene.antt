@@ -3,30 +3,19 @@
 use Rattle.std.specs.Prelude.{Bool, List, Option, map, ◌++◌}
 use Rattle.soy_base.specs.declared.fault.Span.{Span}
 use Rattle.soy_base.specs.declared.place.Place.{Place}
-use Rattle.soy_meaning.specs.PlanOfNodes.{starts_at}
-use Rattle.soy_tree.specs.Bodies.{names_given}
-use Rattle.soy_tree.specs.declared.bundle.Bundle.{Bundle}
+use Rattle.soy_pieces.specs.Site.{starts_at}
+use Rattle.soy_rules.specs.Bodies.{names_given}
 use Rattle.soy_tree.specs.MessageParts.{MsgParts}
 use Rattle.soy_tree.specs.Nodes.{Arguments, Message}
-use Rattle.soy_tree.specs.Templates.{callee}
+use Rattle.soy_rules.specs.Templates.{callee}
 use Rattle.soy_tree.specs.Types.{Name}
-use Rattle.soy_tree.specs.ViewTemplates.{view_all}
+use Rattle.soy_rules.specs.ViewTemplates.{view_all}
 use Rattle.soy_tree.specs.ViewTrees.{view_params}
-use Rattle.msg_extract.specs.Translations.{translation_of}
-use Rattle.msg_extract.specs.MessageId.{id_of}
-use Rattle.template_ir.specs.Compiles.{CompileContext, Language, callee_number, handed_on_names, params_there}
+use Rattle.template_ir.specs.Compiles.{CompileContext, callee_number, handed_on_names, params_there}
 use Rattle.template_ir.specs.Compiles.{same_handed}
 use Rattle.template_ir.specs.Ops.{CallOp, Handed, Op}
 use Rattle.ir_build.specs.declared.scene.Scene.{Scene}
-
--- **what a bundle brings**: the translation of a message is that of its id
-abbrev pub language_of : Bundle → Language
-language_of b = record {
-  translation = λ m. translation_of b.messages (id_of m);
-  direction = b.dir;
-  plural = b.plural;
-  ordinal = b.ordinal;
-}
+use Rattle.soy_pieces.specs.Language.{language_of}
 
 abbrev pub translation_in : Scene → Message → Option MsgParts
 translation_in s = (language_of s.bundle.now).translation

@@ -1,27 +1,28 @@
 //! The programs of trees.
 
 ghost use Rattle.std.specs.Prelude.{◌≡◌, ◌<◌, ◌^◌, [], length, map, IfOk};
-ghost use Rattle.soy_tree.specs.ViewTemplates.{view_all, view_declared};
+ghost use Rattle.soy_rules.specs.ViewTemplates.{view_all, view_declared};
 ghost use Rattle.soy_tree.specs.ViewTrees.{view_params, view_trees};
 ghost use Rattle.msg_extract.specs.Fits.{FitsTrees};
-ghost use Rattle.soy_meaning.specs.AcceptedTrees.{walk_trees};
-ghost use Rattle.soy_meaning.specs.Walk.{walked};
+ghost use Rattle.soy_meaning.specs.Walks.AcceptedTrees.{walk_trees};
+ghost use Rattle.soy_meaning.specs.Walks.Walk.{walked};
 ghost use Rattle.template_ir.specs.Compiles.{Compiles};
 ghost use Rattle.template_ir.specs.ViewOps.{view_program, view_routine};
 ghost use Rattle.ir_build.specs.Laid.{Lays, view_output};
 ghost use Rattle.ir_build.specs.Routines.{template_holes, template_stands, templates_holes, templates_stand};
 ghost use Rattle.msg_extract.specs.Translations.{translation_of};
-ghost use Rattle.ir_build.specs.ViewScene.{language_of};
+ghost use Rattle.soy_pieces.specs.Language.{language_of};
 
 use crate::bodies::push_nodes;
 use crate::output::Output;
 use crate::scene::Scene;
 use msg_extract::Translations;
 use plural_rules::Rules;
-use soy_base::{OutOfMemory, Place, Seq};
-use soy_tree::{Bundle, Declared, Param, Templates, Tree, Typed, all_templates};
+use soy_base::{OutOfMemory, Place, Places, Seq};
+use soy_rules::{Declared, Templates, Typed, all_templates};
+use soy_tree::{Bundle, Param, Tree};
 use std::alloc::Global;
-use template_ir::{Places, Program, ProgramParts, Routine};
+use template_ir::{Program, ProgramParts, Routine};
 
 /// A template of a program.
 fn routine(

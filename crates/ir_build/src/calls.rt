@@ -1,11 +1,11 @@
 //! The op of a call, over the blocks of its params.
 
 ghost use Rattle.std.specs.Prelude.{◌≡◌, ◌∷◌, [], ◌++◌, is_some, map, slice_get, OnOk};
-ghost use Rattle.soy_tree.specs.Bodies.{names_given, param_of};
-ghost use Rattle.soy_tree.specs.Declarations.{is_among};
+ghost use Rattle.soy_rules.specs.Bodies.{names_given, param_of};
+ghost use Rattle.soy_base.specs.Among.{is_among};
 ghost use Rattle.soy_tree.specs.ViewExpressions.{view_expr};
 ghost use Rattle.soy_tree.specs.ViewNodes.{view_arguments};
-ghost use Rattle.soy_tree.specs.ViewTemplates.{view_all};
+ghost use Rattle.soy_rules.specs.ViewTemplates.{view_all};
 ghost use Rattle.soy_tree.specs.ViewTrees.{view_params};
 ghost use Rattle.template_ir.specs.Compiles.{handed_on_names, params_there, same_handed};
 ghost use Rattle.template_ir.specs.Ops.{HandedBlock, HandedValue};
@@ -19,7 +19,8 @@ use crate::output::Output;
 use crate::scene::Scene;
 use crate::templates::callee_number;
 use soy_base::{Kind, OutOfMemory, Place, Seq, Span, Text};
-use soy_tree::{Argument, Expr, Param, Templates};
+use soy_rules::Templates;
+use soy_tree::{Argument, Expr, Param};
 use std::alloc::Global;
 use template_ir::{Callee, Handed, HandedBy, Op};
 
@@ -37,7 +38,7 @@ fn has_param(name: &Text, params: &[Param]) -> bool
 
 /// Whether a param names a parameter.
 fn is_given(name: &Text, given: &[Argument]) -> bool
-    ensures { result ≡ is_among name.now (names_given (view_arguments given.now)) }
+    ensures { result ≡ is_among (names_given (view_arguments given.now)) name.now }
 {
     for argument in given {
         if name.is(argument.name.text()) {

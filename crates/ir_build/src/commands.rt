@@ -12,7 +12,7 @@ ghost use Rattle.ir_build.specs.TextOps.{text_ops};
 
 use crate::output::Output;
 use plural_rules::Category;
-use soy_base::{Kind, OutOfMemory, Place, Seq, Text};
+use soy_base::{Kind, OutOfMemory, Place, Seq, Text, copied_name};
 use soy_tree::Expr;
 use std::alloc::Global;
 use template_ir::{
@@ -353,16 +353,6 @@ pub(crate) fn push_word(
     let is = is.copy(alloc)?;
     blocks.push(WordBlock { is, body })?;
     Ok(())
-}
-
-/// An equal name, if there is one.
-fn copied_name(alloc: Global, name: &Option<Text>) -> Result<Option<Text>, OutOfMemory>
-    ensures { IfOk result (λ n. n ≡ name.now) }
-{
-    match name {
-        None => Ok(None),
-        Some(name) => Ok(Some(name.copy(alloc)?)),
-    }
 }
 
 /// Equal expressions.

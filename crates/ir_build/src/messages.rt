@@ -1,8 +1,8 @@
 //! The ops of a message: those of the text that the bundle chooses.
 
 ghost use Rattle.std.specs.Prelude.{◌≡◌, ◌+◌, ◌++◌, OnOk};
-ghost use Rattle.soy_meaning.specs.Pieces.{chosen_text};
-ghost use Rattle.soy_meaning.specs.PlanOfNodes.{uses_of};
+ghost use Rattle.soy_pieces.specs.Pieces.{chosen_text};
+ghost use Rattle.soy_rules.specs.Placeholders.{uses_of};
 ghost use Rattle.soy_tree.specs.Nodes.{fallback, no_fallback};
 ghost use Rattle.soy_tree.specs.ViewMessageParts.{view_parts};
 ghost use Rattle.soy_tree.specs.ViewNodes.{view_message};

@@ -1,7 +1,7 @@
 //! The ops of a translation's parts.
 
 ghost use Rattle.std.specs.Prelude.{◌≡◌, ◌++◌, true, false, map, IfOk, OnOk};
-ghost use Rattle.soy_meaning.specs.Branch.{selector};
+ghost use Rattle.soy_pieces.specs.Branch.{selector};
 ghost use Rattle.soy_tree.specs.ViewMessageParts.{exact_arms_of, named_arms_of, select_arms_of};
 ghost use Rattle.soy_tree.specs.ViewMessageParts.{view_exact, view_named, view_part, view_parts, view_select_arm};
 ghost use Rattle.template_ir.specs.HoleCounts.{exact_holes, named_holes, part_holes, parts_holes, word_holes};

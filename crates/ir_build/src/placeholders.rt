@@ -1,7 +1,7 @@
 //! The ops of placeholders, and the expressions of selectors, in a translation.
 
 ghost use Rattle.std.specs.Prelude.{◌≡◌, OnOk, map, option_map};
-ghost use Rattle.soy_meaning.specs.Branch.{selector};
+ghost use Rattle.soy_pieces.specs.Branch.{selector};
 ghost use Rattle.soy_tree.specs.ViewExpressions.{view_expr};
 ghost use Rattle.soy_tree.specs.ViewNodes.{view_node, view_nodes};
 ghost use Rattle.msg_extract.specs.SelectorRows.{view_selector};

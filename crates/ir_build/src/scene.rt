@@ -2,7 +2,8 @@
 
 use msg_extract::Translations;
 use soy_base::{Place, Text};
-use soy_tree::{Param, Templates};
+use soy_rules::Templates;
+use soy_tree::Param;
 use std::alloc::Global;
 
 /// The file, the namespace and the parameters of a template, the templates of all files, the bundle that brings the

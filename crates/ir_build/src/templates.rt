@@ -1,13 +1,13 @@
 //! The number of the template that a call means.
 
 ghost use Rattle.std.specs.Prelude.{◌≡◌, IfOk};
-ghost use Rattle.soy_tree.specs.Templates.{is_visible_from};
-ghost use Rattle.soy_tree.specs.ViewTemplates.{view_all, view_declared};
+ghost use Rattle.soy_rules.specs.Templates.{is_visible_from};
+ghost use Rattle.soy_rules.specs.ViewTemplates.{view_all, view_declared};
 ghost use Rattle.template_ir.specs.Compiles.{callee_number, number_of};
 ghost use Rattle.ir_build.specs.Numbers.{number_if_visible};
 
 use soy_base::{OutOfMemory, Text};
-use soy_tree::{Declared, Templates, called_name};
+use soy_rules::{Declared, Templates, called_name};
 use std::alloc::Global;
 
 /// Whether the namespace sees a template.

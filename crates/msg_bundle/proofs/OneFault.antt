@@ -10,7 +10,7 @@ use Rattle.soy_base.specs.declared.code.Code.{Code}
 use Rattle.soy_base.specs.declared.code.Code.TheVariants as code
 use Rattle.soy_tree.specs.declared.bundle.Bundle.{Bundle}
 use Rattle.soy_tree.specs.declared.bundle.Translation.{Translation}
-use Rattle.soy_tree.specs.IcuText.{keyword}
+use Rattle.soy_rules.specs.IcuText.{keyword}
 use Rattle.soy_tree.specs.MessageParts.{MsgParts}
 use Rattle.soy_tree.specs.ViewMessageParts.{view_parts}
 use Rattle.icu_text.proofs.PatternComplete.{one_pattern}
@@ -18,7 +18,8 @@ use Rattle.msg_extract.specs.Catalogue.{find_listed}
 use Rattle.msg_extract.specs.Fits.{parts_fault}
 use Rattle.msg_extract.specs.declared.catalogue.Listed.{Listed}
 use Rattle.msg_bundle.specs.declared.fault.BundleFault.{BundleFault}
-use Rattle.msg_bundle.specs.BundleFault.{Path, entry_path, fault_at}
+use Rattle.msg_bundle.specs.BundleFault.{entry_path, fault_at}
+use Rattle.soy_base.specs.Path.{Path}
 use Rattle.msg_bundle.specs.BundleForm.{IsFormFault, direction_of, form_fault}
 use Rattle.msg_bundle.specs.BundleRules.{HasRuleFault, rule_texts}
 use Rattle.msg_bundle.specs.ReadsBundle as reads

@@ -13,26 +13,28 @@ use Rattle.std.proofs.lemmas.Bool.Decides.{nat_tests}
 use Rattle.soy_base.specs.Characters.{single_quote, left_brace, right_brace, comma, space, equals_sign}
 use Rattle.soy_base.specs.Names.{begins_name, continues_name, is_name}
 use Rattle.soy_tree.specs.Types.{Name}
-use Rattle.soy_tree.specs.Ints.{largest}
+use Rattle.soy_base.specs.Limits.{largest}
 use Rattle.soy_tree.specs.Nodes.{MessageBody, PluralCases, SelectCases, Parts, Plural, Select, no_plural_case}
 use Rattle.soy_tree.specs.Nodes.{plural_case, no_select_case, select_case}
 use Rattle.soy_tree.specs.MessageText.{Cut, TextCut, PrintCut, TagCut, cuts_of, message_items}
-use Rattle.soy_tree.specs.BaseNames.{base_of_expr, base_of_print, base_of_tag}
-use Rattle.soy_tree.specs.Placeholders.{Role, Use, AsPlaceholder, AsPlural, AsSelect, ExprContent, TagContent}
-use Rattle.soy_tree.specs.Placeholders.{name_of, body_uses, cut_uses, found_uses, plural_uses, select_uses}
+use Rattle.soy_rules.specs.BaseNames.{base_of_expr, base_of_print, base_of_tag}
+use Rattle.soy_rules.specs.Placeholders.{Role, Use, AsPlaceholder, AsPlural, AsSelect, ExprContent, TagContent}
+use Rattle.soy_rules.specs.Placeholders.{name_of, body_uses, cut_uses, found_uses, plural_uses, select_uses}
 use Rattle.soy_tree.specs.Formed.{is_formed_expr, is_formed_int, is_word_character, is_case_word, are_formed_nodes}
 use Rattle.soy_tree.specs.Formed.{is_message_text, is_formed_body, are_formed_plural_cases, are_formed_select_cases}
-use Rattle.soy_tree.specs.IcuText.{begins_with_quote}
-use Rattle.msg_extract.specs.CanonicalText.{is_special, text_of_items, written_text, written_run, written_name}
-use Rattle.msg_extract.specs.CanonicalText.{written_cuts, written_found, written_offset, written_case, written_body}
-use Rattle.msg_extract.specs.CanonicalText.{written_plural_cases, written_select_cases, canonical_text}
+use Rattle.soy_rules.specs.IcuText.{begins_with_quote}
+use Rattle.msg_extract.specs.Canonical.CanonicalText.{is_special, text_of_items, written_text, written_run}
+use Rattle.msg_extract.specs.Canonical.CanonicalText.{written_name}
+use Rattle.msg_extract.specs.Canonical.CanonicalText.{written_cuts, written_found, written_offset, written_case}
+use Rattle.msg_extract.specs.Canonical.CanonicalText.{written_body}
+use Rattle.msg_extract.specs.Canonical.CanonicalText.{written_plural_cases, written_select_cases, canonical_text}
 use Rattle.msg_extract.specs.Catalogue.{is_of_kind, names_after, role_names, with_name}
 use Rattle.msg_extract.specs.declared.role_names.NameKind.{NameKind}
 use Rattle.msg_extract.specs.declared.role_names.NameKind.TheVariants as kind
 use Rattle.msg_extract.proofs.Decimals.{decimal_passes}
 use Rattle.msg_extract.proofs.JoinedTests.{and_left, and_right, holds_or}
 use Rattle.msg_extract.proofs.MessageCuts.{AreCuts, Holds, expr_base, text_cuts}
-use Rattle.msg_extract.proofs.MessageNames.{base_tag, name_is}
+use Rattle.msg_extract.proofs.Names.MessageNames.{base_tag, name_is}
 
 -- where the reader is: in text; after an apostrophe of it; in a run; after an apostrophe of it; in a name; behind a
 -- name and a comma; between arms

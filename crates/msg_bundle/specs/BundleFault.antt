@@ -3,14 +3,11 @@
 use Rattle.std.specs.Prelude.{◌≡◌, ℕ, List, [], ◌∷◌}
 use Rattle.std.specs.Str.{chars}
 use Rattle.soy_base.specs.declared.code.Code.{Code}
-use Rattle.soy_base.specs.declared.path.PathStep.{PathStep}
 use Rattle.soy_base.specs.declared.path.PathStep.TheVariants as path_step
 use Rattle.soy_base.specs.declared.memory.Refusal.{Refusal}
 use Rattle.soy_base.specs.declared.memory.Refusal.TheVariants as refusal
 use Rattle.msg_bundle.specs.declared.fault.BundleFault.{BundleFault}
-
-abbrev pub Path : Type 0
-Path = List PathStep
+use Rattle.soy_base.specs.Path.{Path}
 
 -- the path to a member of the bundle; names and keys are given by their bytes
 abbrev pub member_path : List ℕ → Path

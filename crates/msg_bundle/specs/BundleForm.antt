@@ -5,8 +5,7 @@
 -- Null is neither a string nor an object, and other members are passed over.
 -- Example: `{"dir":"ltr","plural":{"one":"n = 1","some":"n = 2"}}` is at fault at `plural`, `some`.
 use Rattle.std.specs.Prelude.{◌≡◌, ℕ, Bool, true, false, ◌&&◌, List, [], ◌∷◌, Option, Some, None, if◌then◌else◌}
-use Rattle.std.specs.Prelude.{is_some}
-use Rattle.std.specs.Prelude.{option_and_then, bytes_eq, codes, Result, Ok, Err}
+use Rattle.std.specs.Prelude.{is_some, option_and_then, bytes_eq, codes, Result, Ok, Err}
 use Rattle.std.specs.List.{list_any}
 use Rattle.std.specs.Option.{option_or}
 use Rattle.serde_json.specs.Data.{Data, Members, no_members, member}
@@ -18,9 +17,10 @@ use Rattle.soy_base.specs.declared.direction.Dir.{Dir}
 use Rattle.soy_base.specs.declared.direction.Dir.TheVariants as dir
 use Rattle.soy_base.specs.declared.memory.Refusal.{Refusal}
 use Rattle.soy_base.specs.declared.memory.Refusal.TheVariants as refusal
-use Rattle.soy_tree.specs.IcuText.{keyword}
+use Rattle.soy_rules.specs.IcuText.{keyword}
 use Rattle.msg_bundle.specs.declared.fault.BundleFault.{BundleFault}
-use Rattle.msg_bundle.specs.BundleFault.{Path, member_path, entry_path, fault_at}
+use Rattle.msg_bundle.specs.BundleFault.{member_path, entry_path, fault_at}
+use Rattle.soy_base.specs.Path.{Path}
 
 -- the six categories, in the order in which their rules are asked
 abbrev pub categories : List Category

@@ -14,7 +14,7 @@ use Rattle.plural_rules.specs.RefusesEntries.{HasFirstFault}
 use Rattle.soy_base.specs.declared.code.Code.TheVariants as code
 use Rattle.soy_base.specs.declared.memory.Refusal.{Refusal}
 use Rattle.soy_base.specs.declared.memory.Refusal.TheVariants as refusal
-use Rattle.soy_tree.specs.IcuText.{keyword}
+use Rattle.soy_rules.specs.IcuText.{keyword}
 use Rattle.msg_bundle.specs.declared.fault.BundleFault.{BundleFault}
 use Rattle.msg_bundle.specs.BundleFault.{entry_path, fault_at}
 use Rattle.msg_bundle.specs.BundleForm.{categories}

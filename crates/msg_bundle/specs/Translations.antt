@@ -12,7 +12,7 @@ use Rattle.soy_base.specs.declared.code.Code.TheVariants as code
 use Rattle.soy_base.specs.declared.memory.Refusal.{Refusal}
 use Rattle.soy_base.specs.declared.memory.Refusal.TheVariants as refusal
 use Rattle.soy_tree.specs.declared.bundle.Translation.{Translation}
-use Rattle.soy_tree.specs.IcuText.{IsPattern}
+use Rattle.soy_rules.specs.IcuText.{IsPattern}
 use Rattle.soy_tree.specs.MessageParts.{MsgParts}
 use Rattle.soy_tree.specs.ViewMessageParts.{view_parts}
 use Rattle.icu_text.specs.ParsesMessage.{IsNoPattern}
@@ -20,7 +20,8 @@ use Rattle.msg_extract.specs.Catalogue.{find_listed}
 use Rattle.msg_extract.specs.Fits.{parts_fault}
 use Rattle.msg_extract.specs.declared.catalogue.Listed.{Listed}
 use Rattle.msg_bundle.specs.declared.fault.BundleFault.{BundleFault}
-use Rattle.msg_bundle.specs.BundleFault.{Path, entry_path, fault_at}
+use Rattle.msg_bundle.specs.BundleFault.{entry_path, fault_at}
+use Rattle.soy_base.specs.Path.{Path}
 
 -- the members of an object, if it is one
 abbrev pub members_in : Option Members → Members

@@ -1,10 +1,9 @@
 //! What a bundle is refused with.
 
 ghost use Rattle.std.specs.Prelude.{◌≡◌, IfOk};
-ghost use Rattle.std.specs.Str.{chars};
 ghost use Rattle.msg_bundle.specs.BundleFault.{IsBecauseOf, entry_path, fault_at, member_path};
 
-use soy_base::{Code, OutOfMemory, PathStep, Refusal, Row, Seq, Text};
+use soy_base::{Code, OutOfMemory, PathStep, Refusal, Row, Seq, text_of};
 use std::alloc::Global;
 
 /// Why a bundle is refused, and the path to the part of its JSON that it speaks of, which is empty for the whole.
@@ -16,13 +15,6 @@ pub struct BundleFault {
 
 /// The path to a part of a bundle.
 pub(crate) type Path = Seq<PathStep>;
-
-/// The text of a string slice.
-pub(crate) fn text_of(alloc: Global, text: &str) -> Result<Text, OutOfMemory>
-    ensures { IfOk result (λ t. t ≡ chars text.now) }
-{
-    Ok(Text::new(String::from_str(alloc, text)?))
-}
 
 /// The path to a member of the bundle.
 pub(crate) fn member_path(alloc: Global, name: &str) -> Result<Path, OutOfMemory>

@@ -2,7 +2,7 @@
 
 ghost use Rattle.std.specs.Prelude.{◌≡◌, ◌&&◌, IfOk, option_map, false, true};
 ghost use Rattle.serde_json.specs.View.{members_view, view};
-ghost use Rattle.soy_tree.specs.IcuText.{keyword};
+ghost use Rattle.soy_rules.specs.IcuText.{keyword};
 ghost use Rattle.msg_bundle.specs.BundleForm as form;
 ghost use Rattle.msg_bundle.specs.BundleForm.{ReadsForm, direction_of_text, is_key, is_string};
 

@@ -1,20 +1,20 @@
 //! What holds of bundles: functions that take nothing and do nothing, whose contracts are the laws.
 
-ghost use Rattle.std.specs.Prelude.{◌≡◌, ◌↔◌, ◌⊎◌, ℕ, ◌≤◌, List, [], true, Ok};
-ghost use Rattle.soy_base.specs.declared.direction.Dir.TheVariants as dir;
+ghost use Rattle.std.specs.Prelude.{◌≡◌, ◌↔◌, ◌⊎◌, ℕ, ◌≤◌, List, true, Ok};
 ghost use Rattle.soy_tree.specs.declared.bundle.Bundle.{Bundle};
 ghost use Rattle.soy_tree.specs.Formed.{AreFormed, is_formed_body, nesting};
 ghost use Rattle.soy_tree.specs.Nodes.{MessageBody};
 ghost use Rattle.soy_tree.specs.Trees.{Tree};
-ghost use Rattle.msg_extract.specs.CanonicalText.{canonical_text};
+ghost use Rattle.msg_extract.specs.Canonical.CanonicalText.{canonical_text};
 ghost use Rattle.msg_extract.specs.Catalogue.{catalogue_of};
-ghost use Rattle.msg_extract.specs.RepeatedCases.{has_distinct_cases};
-ghost use Rattle.msg_extract.specs.SourceParts.{source_parts};
+ghost use Rattle.msg_extract.specs.Canonical.RepeatedCases.{has_distinct_cases};
+ghost use Rattle.msg_extract.specs.Canonical.SourceParts.{source_parts};
 ghost use Rattle.msg_extract.specs.declared.catalogue.Listed.{Listed};
 ghost use Rattle.msg_bundle.specs.declared.fault.BundleFault.{BundleFault};
 ghost use Rattle.msg_bundle.specs.BundleFits.{BundleFits};
 ghost use Rattle.msg_bundle.specs.BundlesAlike.{BundlesAlike};
 ghost use Rattle.msg_bundle.specs.ReadsBundle.{BringsBundle, RefusesBundle};
+ghost use Rattle.soy_tree.specs.SourceBundle.{source_bundle};
 
 /// Bytes bring a bundle or have a fault, and never both: so each answer comes exactly where it is said. They have one
 /// first fault, and of two bundles that they bring each says what the other says.
@@ -37,7 +37,7 @@ pub fn law_fits()
     ensures read { (bytes : List ℕ) (rows : List Listed) (bundle : Bundle) (trees : List Tree)
         → BringsBundle bytes rows bundle → catalogue_of trees ≡ Ok rows → AreFormed trees → BundleFits bundle trees }
     ensures source { (trees : List Tree)
-        → BundleFits (record { dir = dir.Ltr; plural = []; ordinal = []; messages = [] }) trees }
+        → BundleFits source_bundle trees }
 {}
 
 /// Two formed messages without repeated cases have one canonical text exactly where the parts of their sources are the

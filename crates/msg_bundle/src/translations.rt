@@ -7,13 +7,13 @@ ghost use Rattle.msg_bundle.specs.BundleFits.{AreOfOneEach};
 ghost use Rattle.msg_bundle.specs.Translations as translations;
 ghost use Rattle.msg_bundle.specs.Translations.{ReadsNext, ReadsTranslation, ReadsTranslations, messages_of};
 
-use crate::fault::{BundleFault, entry_fault, text_of};
+use crate::fault::{BundleFault, entry_fault};
 use crate::names::parts_fault;
 use crate::sources::{source_of, sources_of};
 use icu_text::parse_message;
 use msg_extract::Listed;
 use serde_json::{Map, Value as Json};
-use soy_base::{Code, Refusal, Row, Seq};
+use soy_base::{Code, Refusal, Row, Seq, text_of};
 use soy_tree::Translation;
 use std::alloc::Global;
 

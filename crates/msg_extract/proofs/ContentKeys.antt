@@ -4,9 +4,9 @@ use Rattle.std.proofs.Common.{length, map, slice_index_or, slice_set, refl, ap, 
 use Rattle.std.specs.HashSet.{HashSet}
 use Rattle.std.specs.Prelude.{if◌then◌else◌, nat_lt, Some, None}
 use Rattle.std.specs.List.{list_any, position, position_or_len}
-use Rattle.soy_tree.specs.Placeholders.{Content, is_same_content, with_content}
+use Rattle.soy_rules.specs.Placeholders.{Content, is_same_content, with_content}
 use Rattle.msg_extract.specs.NameGroups.{with_content_at}
-use Rattle.msg_extract.specs.ViewKeys.{view_groups, view_key}
+use Rattle.msg_extract.specs.Views.ViewKeys.{view_groups, view_key}
 use Rattle.msg_extract.specs.declared.content_key.ContentKey.{ContentKey}
 
 any_view : (p : Content → Bool) (ks : List ContentKey)

@@ -3,7 +3,7 @@ use Rattle.std.proofs.Common.{◌≡◌, List, [], ◌∷◌, ◌++◌, map, Opt
 use Rattle.std.proofs.Common.{append_assoc}
 use Rattle.std.proofs.lemmas.List.{map-append}
 use Rattle.soy_tree.specs.MessageText.{Cut}
-use Rattle.msg_extract.specs.ViewCutter.{cuts_before}
+use Rattle.msg_extract.specs.Views.ViewCutter.{cuts_before}
 
 pub map_append : {A B : Type 0} (f : A → B) (xs ys : List A) → map f (xs ++ ys) ≡ map f xs ++ map f ys
 map_append f xs ys = map-append f xs ys

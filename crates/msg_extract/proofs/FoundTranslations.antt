@@ -4,8 +4,8 @@ use Rattle.std.proofs.Common.{Option, Some, None, option_map, slice_get}
 use Rattle.std.specs.Prelude.{if◌then◌else◌, bytes_eq}
 use Rattle.soy_tree.specs.declared.bundle.Translation.{Translation}
 use Rattle.soy_tree.specs.MessageParts.{MsgParts}
-use Rattle.soy_tree.specs.FirstNames.{first_from, first_number}
-use Rattle.soy_tree.proofs.Firsts.{first_later}
+use Rattle.soy_rules.specs.FirstNames.{first_from, first_number}
+use Rattle.soy_rules.proofs.Firsts.{first_later}
 use Rattle.msg_extract.specs.Translations.{ids_of, parts_of, translation_of}
 
 -- the parts of what was found

@@ -2,8 +2,8 @@
 use Rattle.std.proofs.Common.{◌≡◌, ℕ, zero, suc, ◌+◌, ◌<◌, Bool, true, false, ◌&&◌, List, [], ◌∷◌, Some, None}
 use Rattle.std.proofs.Common.{drop, length, map, option_map, slice_get, slice_index_or, refl, ap, ◌∙◌, arith}
 use Rattle.soy_tree.specs.MessageText.{MessageItem}
-use Rattle.soy_tree.specs.Placeholders.{are_same_message_items, is_same_message_item}
-use Rattle.msg_extract.specs.ViewKeys.{view_key_item}
+use Rattle.soy_rules.specs.Placeholders.{are_same_message_items, is_same_message_item}
+use Rattle.msg_extract.specs.Views.ViewKeys.{view_key_item}
 use Rattle.msg_extract.specs.declared.content_key.KeyItem.{KeyItem}
 
 pub map_get : {A B : Type 0} (f : A → B) (xs : List A) (n : ℕ) → slice_get (map f xs) n ≡ option_map f (slice_get xs n)

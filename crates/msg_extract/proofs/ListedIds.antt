@@ -6,7 +6,7 @@ use Rattle.std.specs.List.{position_or_len}
 use Rattle.soy_base.specs.Among.{is_among}
 use Rattle.msg_extract.specs.Catalogue.{find_listed, with_name}
 use Rattle.msg_extract.specs.declared.catalogue.Listed.{Listed}
-use Rattle.msg_extract.proofs.AsciiTexts.{same_swapped}
+use Rattle.msg_extract.proofs.Texts.AsciiTexts.{same_swapped}
 use Rattle.msg_extract.proofs.CutSteps.{map_append}
 
 abbrev pub ids_of : List Listed → List (List ℕ)

@@ -3,15 +3,15 @@ use Rattle.std.proofs.Common.{◌≡◌, ℕ, false, List, [], refl, ap, ◌∙�
 use Rattle.soy_base.specs.declared.fault.Span.{Span}
 use Rattle.soy_tree.specs.Types.{Name}
 use Rattle.soy_tree.specs.Nodes.{MessageBody, message}
-use Rattle.soy_tree.specs.Placeholders.{body_uses}
-use Rattle.msg_extract.specs.CanonicalText.{canonical_text}
+use Rattle.soy_rules.specs.Placeholders.{body_uses}
+use Rattle.msg_extract.specs.Canonical.CanonicalText.{canonical_text}
 use Rattle.msg_extract.specs.Catalogue.{listed, role_names}
 use Rattle.msg_extract.specs.MessageId.{id_of_text}
-use Rattle.msg_extract.specs.Pieces.{Piece, body_pieces, pieces_text, uses_in}
+use Rattle.msg_extract.specs.Canonical.Pieces.{Piece, body_pieces, pieces_text, uses_in}
 use Rattle.msg_extract.specs.PlaceholderNodes.{rows_after}
 use Rattle.msg_extract.specs.declared.role_names.NameKind.{NameKind}
 use Rattle.msg_extract.specs.declared.role_names.NameKind.TheVariants as kind
-use Rattle.msg_extract.proofs.PieceLists.{body_pieces_uses, pieces_canonical}
+use Rattle.msg_extract.proofs.Texts.PieceLists.{body_pieces_uses, pieces_canonical}
 
 -- the placeholders of pieces that are a message's
 pub placeholders_rows : (body : MessageBody) (ps : List Piece) → ps ≡ body_pieces false body

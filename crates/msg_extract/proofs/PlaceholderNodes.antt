@@ -2,9 +2,9 @@
 use Rattle.std.proofs.Common.{◌≡◌, List, ◌∷◌, ◌++◌, refl}
 use Rattle.soy_tree.specs.Types.{Name}
 use Rattle.soy_tree.specs.Nodes.{Nodes}
-use Rattle.soy_tree.specs.Placeholders.{Use}
+use Rattle.soy_rules.specs.Placeholders.{Use}
 use Rattle.soy_tree.specs.MessageText.{MessageItem}
-use Rattle.msg_extract.specs.Pieces.{Piece, TextPiece, UsePiece, uses_in}
+use Rattle.msg_extract.specs.Canonical.Pieces.{Piece, TextPiece, UsePiece, uses_in}
 use Rattle.msg_extract.specs.PlaceholderNodes.{BegunText, begun_after, flushed, nodes_behind, row_step, rows_after}
 
 pub item_step : (begun : BegunText) (item : MessageItem) (items : List MessageItem)

@@ -4,7 +4,7 @@ use Rattle.soy_base.specs.Among.{is_among}
 use Rattle.soy_tree.specs.Types.{Name}
 use Rattle.soy_tree.specs.Nodes.{Nodes}
 use Rattle.msg_extract.specs.PlaceholderNodes.{has_row}
-use Rattle.msg_extract.proofs.AsciiTexts.{same_swapped}
+use Rattle.msg_extract.proofs.Texts.AsciiTexts.{same_swapped}
 
 pub row_among : (name : Name) (rows : List (Name × Nodes)) → is_among (map (λ row. row.0) rows) name ≡ has_row name rows
 row_among name [] = refl

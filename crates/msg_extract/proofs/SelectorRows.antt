@@ -1,10 +1,10 @@
 -- The selectors of a message, piece by piece.
 use Rattle.std.proofs.Common.{◌≡◌, false, List, ◌∷◌, ◌++◌, refl, ap, ◌∙◌}
 use Rattle.soy_tree.specs.Nodes.{MessageBody}
-use Rattle.soy_tree.specs.Placeholders.{Use, body_uses}
-use Rattle.msg_extract.specs.Pieces.{Piece, TextPiece, UsePiece, body_pieces, uses_in}
+use Rattle.soy_rules.specs.Placeholders.{Use, body_uses}
+use Rattle.msg_extract.specs.Canonical.Pieces.{Piece, TextPiece, UsePiece, body_pieces, uses_in}
 use Rattle.msg_extract.specs.SelectorRows.{piece_rows, selector_rows}
-use Rattle.msg_extract.proofs.PieceLists.{body_pieces_uses}
+use Rattle.msg_extract.proofs.Texts.PieceLists.{body_pieces_uses}
 
 pub selectors_step : (all : List Use) (p : Piece) (ps : List Piece)
     → selector_rows all (uses_in (p ∷ ps)) ≡ piece_rows all p ++ selector_rows all (uses_in ps)

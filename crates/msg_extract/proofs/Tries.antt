@@ -2,7 +2,7 @@
 use Rattle.std.proofs.Common.{◌≡◌, ◌≤◌, ◌<◌, ℕ, zero, suc, ◌+◌, ◌-◌, true, false, List, refl, ap, arith}
 use Rattle.soy_base.specs.Among.{is_among}
 use Rattle.soy_tree.specs.Types.{Name}
-use Rattle.soy_tree.specs.Placeholders.{numbered_name}
+use Rattle.soy_rules.specs.Placeholders.{numbered_name}
 use Rattle.msg_extract.specs.NameGroups.{free_among}
 
 -- a try that goes on

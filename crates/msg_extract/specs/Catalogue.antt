@@ -9,8 +9,8 @@ use Rattle.soy_base.specs.declared.fault.Fault.{Fault}
 use Rattle.soy_tree.specs.Types.{Name}
 use Rattle.soy_tree.specs.Nodes.{Message, message}
 use Rattle.soy_tree.specs.Trees.{Tree}
-use Rattle.soy_tree.specs.Placeholders.{Role, Use, AsPlaceholder, AsPlural, AsSelect, body_uses, name_of}
-use Rattle.msg_extract.specs.CanonicalText.{canonical_text}
+use Rattle.soy_rules.specs.Placeholders.{Role, Use, AsPlaceholder, AsPlural, AsSelect, body_uses, name_of}
+use Rattle.msg_extract.specs.Canonical.CanonicalText.{canonical_text}
 use Rattle.msg_extract.specs.MessageId.{id_of_text}
 use Rattle.msg_extract.specs.MessagesIn.{tree_messages}
 use Rattle.msg_extract.specs.declared.catalogue.Listed.{Listed}

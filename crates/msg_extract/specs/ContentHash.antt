@@ -5,9 +5,9 @@ use Rattle.std.specs.Prelude.{ℕ, Bool, true, false, List, [], ◌∷◌, ◌++
 use Rattle.std.specs.Hash as fed
 use Rattle.soy_tree.specs.Expressions.{Expr, NullLiteral, BoolLiteral, IntLiteral, StringLiteral, Variable, Member}
 use Rattle.soy_tree.specs.Expressions.{Index, Minus, Not, Binary, Coalesce, Conditional}
-use Rattle.soy_tree.specs.SameExpression.{op_number}
+use Rattle.soy_rules.specs.SameExpression.{op_number}
 use Rattle.soy_tree.specs.MessageText.{MessageItem, Character, Printed}
-use Rattle.soy_tree.specs.Placeholders.{Content, ExprContent, TagContent}
+use Rattle.soy_rules.specs.Placeholders.{Content, ExprContent, TagContent}
 
 abbrev pub name_input : List ℕ → List (List ℕ)
 name_input name = fed.str (encode_utf8_all name)

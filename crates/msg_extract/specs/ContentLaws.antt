@@ -8,13 +8,13 @@ use borrow.Author.Tests.{eqb-true}
 use Rattle.std.specs.Cmp.{IsEquivalence, IsPartialEquivalence, equiv}
 use Rattle.soy_tree.specs.Expressions.{Expr, NullLiteral, BoolLiteral, IntLiteral, StringLiteral, Variable, Member}
 use Rattle.soy_tree.specs.Expressions.{Index, Minus, Not, Binary, Coalesce, Conditional}
-use Rattle.soy_tree.specs.SameExpression.{is_same_expr, is_same_op, op_number}
-use Rattle.soy_tree.specs.Val.{is_same_bool, is_same_int}
+use Rattle.soy_rules.specs.SameExpression.{is_same_expr, is_same_op, op_number}
+use Rattle.soy_rules.specs.Val.{is_same_bool, is_same_int}
 use Rattle.soy_tree.specs.MessageText.{MessageItem, Character, Printed}
-use Rattle.soy_tree.specs.Placeholders.{Content, ExprContent, TagContent, are_same_message_items, is_same_content}
-use Rattle.soy_tree.specs.Placeholders.{is_same_message_item}
-use Rattle.soy_tree.proofs.SameTypes.{both, same_name}
-use Rattle.soy_tree.proofs.SameContents.{content_itself, content_shared, content_turned}
+use Rattle.soy_rules.specs.Placeholders.{Content, ExprContent, TagContent, are_same_message_items, is_same_content}
+use Rattle.soy_rules.specs.Placeholders.{is_same_message_item}
+use Rattle.soy_tree.proofs.SameNames.{both, same_name}
+use Rattle.soy_rules.proofs.SameContents.{content_itself, content_shared, content_turned}
 use Rattle.msg_extract.specs.ContentHash.{bool_input, content_input, expr_input, item_input, items_input, name_input}
 
 int_alike : (m n : ℤ) → is_same_int m n ≡ true → fed.i64 m ≡ fed.i64 n

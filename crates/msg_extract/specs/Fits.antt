@@ -11,7 +11,7 @@ use Rattle.soy_base.specs.declared.code.Code.TheVariants as code
 use Rattle.soy_tree.specs.Types.{Name}
 use Rattle.soy_tree.specs.Nodes.{Message}
 use Rattle.soy_tree.specs.Trees.{Tree}
-use Rattle.soy_tree.specs.IcuText.{IsPattern}
+use Rattle.soy_rules.specs.IcuText.{IsPattern}
 use Rattle.soy_tree.specs.MessageParts.{MsgPart, MsgParts, ExactArms, NamedArms, SelectArms, TextPart, Placeholder}
 use Rattle.soy_tree.specs.MessageParts.{NumberPart, PluralPart, SelectPart, no_part, part, no_exact_arm, exact_arm}
 use Rattle.soy_tree.specs.MessageParts.{no_named_arm, named_arm, no_select_arm, select_arm}

@@ -7,7 +7,7 @@ use Rattle.sha2.specs.Sha256.{sha256}
 use Rattle.hex.specs.Hex.{encode_lower}
 use Rattle.soy_base.specs.Characters.{null}
 use Rattle.soy_tree.specs.Nodes.{Message, message}
-use Rattle.msg_extract.specs.CanonicalText.{canonical_text}
+use Rattle.msg_extract.specs.Canonical.CanonicalText.{canonical_text}
 
 -- the id of a message of this meaning and canonical text
 abbrev pub id_of_text : List ℕ → List ℕ → List ℕ

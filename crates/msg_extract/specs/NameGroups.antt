@@ -7,9 +7,9 @@ use Rattle.std.specs.List.{position, position_or_len}
 use Rattle.std.specs.Option.{option_and_then}
 use Rattle.soy_base.specs.Among.{is_among}
 use Rattle.soy_tree.specs.Types.{Name}
-use Rattle.soy_tree.specs.Placeholders.{Content, Use, is_same_content, numbered_name, with_content}
+use Rattle.soy_rules.specs.Placeholders.{Content, Use, is_same_content, numbered_name, with_content}
 use Rattle.msg_extract.specs.Catalogue.{with_name}
-use Rattle.msg_extract.specs.Pieces.{Piece, TextPiece, UsePiece}
+use Rattle.msg_extract.specs.Canonical.Pieces.{Piece, TextPiece, UsePiece}
 
 -- the base names of uses, each once, in order of first appearance, after some
 abbrev pub bases_after : List Name → List Use → List Name

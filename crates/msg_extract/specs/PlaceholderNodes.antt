@@ -8,8 +8,8 @@ use Rattle.soy_tree.specs.Types.{Name}
 use Rattle.soy_tree.specs.Nodes.{Message, Node, Nodes, Print, TextNode, message, no_node}
 use Rattle.soy_tree.specs.ViewNodes.{nodes_of}
 use Rattle.soy_tree.specs.MessageText.{MessageItem, Character, Printed, Cut, TextCut, PrintCut, TagCut}
-use Rattle.soy_tree.specs.Placeholders.{Role, Use, AsPlaceholder, AsPlural, AsSelect, body_uses, name_of}
-use Rattle.msg_extract.specs.Pieces.{Piece, TextPiece, UsePiece}
+use Rattle.soy_rules.specs.Placeholders.{Role, Use, AsPlaceholder, AsPlural, AsSelect, body_uses, name_of}
+use Rattle.msg_extract.specs.Canonical.Pieces.{Piece, TextPiece, UsePiece}
 
 -- a text that has begun, with its span
 abbrev pub BegunText : Type 0

@@ -2,9 +2,9 @@
 -- Example: of placeholders a piece that uses the name of a plural's selector adds none.
 use Rattle.std.specs.Prelude.{List, if◌then◌else◌}
 use Rattle.soy_tree.specs.Types.{Name}
-use Rattle.soy_tree.specs.Placeholders.{Use, name_of}
+use Rattle.soy_rules.specs.Placeholders.{Use, name_of}
 use Rattle.msg_extract.specs.Catalogue.{is_of_kind, with_name}
-use Rattle.msg_extract.specs.Pieces.{Piece, TextPiece, UsePiece}
+use Rattle.msg_extract.specs.Canonical.Pieces.{Piece, TextPiece, UsePiece}
 use Rattle.msg_extract.specs.declared.role_names.NameKind.{NameKind}
 
 abbrev pub kind_step : NameKind → List Use → List Name → Piece → List Name

@@ -5,9 +5,9 @@ use Rattle.std.specs.Prelude.{Bool, true, false, List, [], ◌∷◌, ◌++◌}
 use Rattle.soy_tree.specs.Types.{Name}
 use Rattle.soy_tree.specs.Expressions.{Expr}
 use Rattle.soy_tree.specs.Nodes.{Message, message}
-use Rattle.soy_tree.specs.Placeholders.{Role, Use, AsPlaceholder, AsPlural, AsSelect, body_uses, name_of}
+use Rattle.soy_rules.specs.Placeholders.{Role, Use, AsPlaceholder, AsPlural, AsSelect, body_uses, name_of}
 use Rattle.soy_tree.specs.ViewExpressions.{view_expr}
-use Rattle.msg_extract.specs.Pieces.{Piece, TextPiece, UsePiece}
+use Rattle.msg_extract.specs.Canonical.Pieces.{Piece, TextPiece, UsePiece}
 use Rattle.msg_extract.specs.declared.selector.Selector.{Selector}
 
 abbrev pub SelectorRow : Type 0

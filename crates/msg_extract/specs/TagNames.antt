@@ -7,7 +7,7 @@ use Rattle.std.specs.List.{list_any}
 use Rattle.std.specs.Char.{is_ascii_uppercase, is_ascii_whitespace, to_ascii_uppercase}
 use Rattle.soy_base.specs.Characters.{slash, greater_than, underscore}
 use Rattle.soy_tree.specs.MessageText.{MessageItem, Character, Printed}
-use Rattle.soy_tree.specs.BaseNames.{is_closed_tag, is_end_tag, lone_tags}
+use Rattle.soy_rules.specs.BaseNames.{is_closed_tag, is_end_tag, lone_tags}
 
 -- a character of a name in upper case, with what stands before it
 abbrev pub upper_step : Bool → ℕ → List ℕ

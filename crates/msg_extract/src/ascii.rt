@@ -4,13 +4,13 @@ ghost use Rattle.std.specs.Prelude.{◌≡◌, [], true, bytes_eq, string_bytes,
 ghost use Rattle.std.specs.Fmt.{decimal, signed_decimal};
 ghost use Rattle.std.specs.Str.{chars};
 ghost use Rattle.soy_base.specs.Appends.{Appends};
-ghost use Rattle.msg_extract.specs.Ascii.{is_ascii};
+ghost use Rattle.msg_extract.specs.Canonical.Ascii.{is_ascii};
 
 use soy_base::{OutOfMemory, Text, push_text};
 use std::alloc::Global;
 
 /// A string without characters. Takes no memory.
-#[tactic(auto, using(crate::proofs::AsciiTexts::no_characters))]
+#[tactic(auto, using(crate::proofs::Texts::AsciiTexts::no_characters))]
 pub fn empty(alloc: Global) -> String
     ensures { chars (string_bytes result) ≡ [] }
 {
@@ -32,7 +32,7 @@ pub fn signed_decimal(alloc: Global, number: i64) -> Result<Text, OutOfMemory>
 }
 
 /// Adds a word of ASCII characters.
-#[tactic(auto, using(crate::proofs::AsciiTexts::chars_ascii))]
+#[tactic(auto, using(crate::proofs::Texts::AsciiTexts::chars_ascii))]
 pub fn push_ascii(out: &mut String, word: &str) -> Result<(), OutOfMemory>
     requires { is_ascii word.now ≡ true }
     ensures { OnOk result (Appends out.old out.new word.now) }
@@ -41,7 +41,7 @@ pub fn push_ascii(out: &mut String, word: &str) -> Result<(), OutOfMemory>
 }
 
 /// Whether a text is a word of ASCII characters.
-#[tactic(auto, using(crate::proofs::AsciiTexts::chars_ascii, crate::proofs::AsciiTexts::same_swapped))]
+#[tactic(auto, using(crate::proofs::Texts::AsciiTexts::chars_ascii, crate::proofs::Texts::AsciiTexts::same_swapped))]
 pub fn is_word(text: &Text, word: &str) -> bool
     requires { is_ascii word.now ≡ true }
     ensures text_first { result ≡ bytes_eq text.now word.now }

@@ -5,13 +5,13 @@ ghost use Rattle.std.specs.Char.{to_ascii_lowercase};
 ghost use Rattle.std.specs.List.{list_any};
 ghost use Rattle.std.specs.Str.{chars};
 ghost use Rattle.soy_base.specs.Appends.{Appends};
-ghost use Rattle.soy_tree.specs.BaseNames.{base_of_expr, base_of_name, base_of_print, base_of_tag, is_closed_tag};
-ghost use Rattle.soy_tree.specs.BaseNames.{is_end_tag, leading_name, lone_tags, own_name, own_names, shown_name};
-ghost use Rattle.soy_tree.specs.BaseNames.{tag_name, upper_character};
+ghost use Rattle.soy_rules.specs.BaseNames.{base_of_expr, base_of_name, base_of_print, base_of_tag, is_closed_tag};
+ghost use Rattle.soy_rules.specs.BaseNames.{is_end_tag, leading_name, lone_tags, own_name, own_names, shown_name};
+ghost use Rattle.soy_rules.specs.BaseNames.{tag_name, upper_character};
 ghost use Rattle.soy_tree.specs.ViewExpressions.{view_expr};
-ghost use Rattle.msg_extract.specs.Ascii.{is_ascii};
+ghost use Rattle.msg_extract.specs.Canonical.Ascii.{is_ascii};
 ghost use Rattle.msg_extract.specs.TagNames.{begins_with_slash, ends_name, name_character, tag_prefix, upper_step};
-ghost use Rattle.msg_extract.specs.ViewItems.{view_item};
+ghost use Rattle.msg_extract.specs.Views.ViewItems.{view_item};
 
 use crate::ascii::{empty, is_word, push_ascii};
 use crate::item::Item;
@@ -50,7 +50,7 @@ pub fn base_of_print(alloc: Global, expr: &Expr, phname: &Option<Text>) -> Resul
 }
 
 /// The base name that a name makes.
-#[tactic(auto, using(crate::proofs::TagNames::upper_steps))]
+#[tactic(auto, using(crate::proofs::Names::TagNames::upper_steps))]
 fn base_of_name(alloc: Global, name: &str) -> Result<Text, OutOfMemory>
     ensures { IfOk result (λ t. t ≡ base_of_name (chars name.now)) }
 {
@@ -77,7 +77,7 @@ fn push_upper(out: &mut String, follows_lower: bool, c: char) -> Result<(), OutO
 }
 
 /// The base name of a tag.
-#[tactic(auto, using(crate::proofs::TagNames::tag_base_is))]
+#[tactic(auto, using(crate::proofs::Names::TagNames::tag_base_is))]
 pub fn base_of_tag(alloc: Global, tag: &[Item<'_>]) -> Result<Text, OutOfMemory>
     ensures { IfOk result (λ t. t ≡ base_of_tag (map view_item tag.now)) }
 {
@@ -204,7 +204,7 @@ fn begins_with_slash(items: &[Item<'_>]) -> bool
 }
 
 /// Whether these end with `/`.
-#[tactic(auto, using(crate::proofs::TagNames::ends_as))]
+#[tactic(auto, using(crate::proofs::Names::TagNames::ends_as))]
 fn ends_with_slash(items: &[Item<'_>]) -> bool
     ensures { result ≡ begins_with_slash (reverse (map view_item items.now)) }
 {
@@ -216,7 +216,7 @@ fn ends_with_slash(items: &[Item<'_>]) -> bool
 }
 
 /// Whether a tag is an end tag.
-#[tactic(auto, using(crate::proofs::TagNames::end_tag_is))]
+#[tactic(auto, using(crate::proofs::Names::TagNames::end_tag_is))]
 fn is_end_tag(tag: &[Item<'_>]) -> bool
     ensures { result ≡ is_end_tag (map view_item tag.now) }
 {
@@ -227,7 +227,7 @@ fn is_end_tag(tag: &[Item<'_>]) -> bool
 }
 
 /// Whether a tag ends in `/>`.
-#[tactic(auto, using(crate::proofs::TagNames::closed_tag_is))]
+#[tactic(auto, using(crate::proofs::Names::TagNames::closed_tag_is))]
 fn is_closed_tag(tag: &[Item<'_>]) -> bool
     ensures { result ≡ is_closed_tag (map view_item tag.now) }
 {

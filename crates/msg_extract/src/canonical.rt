@@ -3,12 +3,12 @@
 ghost use Rattle.std.specs.Prelude.{◌≡◌, map, IfOk, OnOk};
 ghost use Rattle.soy_base.specs.Appends.{Appends};
 ghost use Rattle.soy_tree.specs.ViewNodes.{view_body, view_message};
-ghost use Rattle.msg_extract.specs.CanonicalText.{canonical_text};
+ghost use Rattle.msg_extract.specs.Canonical.CanonicalText.{canonical_text};
 ghost use Rattle.msg_extract.specs.MessageId.{id_of, id_of_text};
-ghost use Rattle.msg_extract.specs.Pieces.{pieces_text};
-ghost use Rattle.msg_extract.specs.TextOfPiece.{piece_text};
-ghost use Rattle.msg_extract.specs.ViewNames.{HasNames, named_uses};
-ghost use Rattle.msg_extract.specs.ViewPieces.{view_piece};
+ghost use Rattle.msg_extract.specs.Canonical.Pieces.{pieces_text};
+ghost use Rattle.msg_extract.specs.Canonical.TextOfPiece.{piece_text};
+ghost use Rattle.msg_extract.specs.Views.ViewNames.{HasNames, named_uses};
+ghost use Rattle.msg_extract.specs.Views.ViewPieces.{view_piece};
 
 use crate::ascii::empty;
 use crate::names::{Names, name_of, names_of};
@@ -38,7 +38,7 @@ fn push_piece(
 }
 
 /// The text that pieces make.
-#[tactic(auto, using(crate::proofs::PieceLists::text_step, crate::proofs::PieceLists::append_assoc))]
+#[tactic(auto, using(crate::proofs::Texts::PieceLists::text_step, crate::proofs::Texts::PieceLists::append_assoc))]
 pub fn text_of_pieces(alloc: Global, names: &Names<'_>) -> Result<Text, OutOfMemory>
     requires { HasNames names.now }
     ensures { IfOk result (λ t. t ≡ pieces_text (named_uses names.now) (map view_piece names.now.pieces)) }
@@ -51,7 +51,7 @@ pub fn text_of_pieces(alloc: Global, names: &Names<'_>) -> Result<Text, OutOfMem
 }
 
 /// The canonical text of a message.
-#[tactic(auto, using(crate::proofs::PieceLists::pieces_canonical))]
+#[tactic(auto, using(crate::proofs::Texts::PieceLists::pieces_canonical))]
 pub fn canonical_text(alloc: Global, body: &MessageBody) -> Result<Text, OutOfMemory>
     ensures { IfOk result (λ t. t ≡ canonical_text (view_body body.now)) }
 {

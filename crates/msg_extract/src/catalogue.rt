@@ -12,7 +12,7 @@ ghost use Rattle.msg_extract.specs.Catalogue.{with_listed, with_name};
 ghost use Rattle.msg_extract.specs.CatalogueText.{catalogue_data, listed_data, listed_items};
 ghost use Rattle.msg_extract.specs.Extracts.{Adds, Extracts};
 ghost use Rattle.msg_extract.specs.ListedIds.{HasIds};
-ghost use Rattle.msg_extract.specs.ViewMessages.{view_found};
+ghost use Rattle.msg_extract.specs.Views.ViewMessages.{view_found};
 
 use crate::canonical::{id_of_text, text_of_pieces};
 use crate::messages::messages_of;

@@ -2,20 +2,20 @@
 
 ghost use Rattle.std.specs.Prelude.{◌≡◌, fold, map, IfOk};
 ghost use Rattle.std.specs.Cmp.{on_equiv, on_per};
-ghost use Rattle.soy_tree.specs.Placeholders.{is_same_content};
-ghost use Rattle.soy_tree.specs.SameExpression.{op_number};
+ghost use Rattle.soy_rules.specs.Placeholders.{is_same_content};
+ghost use Rattle.soy_rules.specs.SameExpression.{op_number};
 ghost use Rattle.soy_tree.specs.ViewExpressions.{view_expr};
 ghost use Rattle.msg_extract.specs.ContentHash.{bool_input, content_input, expr_input, item_input};
 ghost use Rattle.msg_extract.specs.ContentHash.{items_input, name_input};
 ghost use Rattle.msg_extract.specs.ContentLaws.{content_alike, contents_equivalence, contents_partial};
-ghost use Rattle.msg_extract.specs.ViewItems.{view_item};
-ghost use Rattle.msg_extract.specs.ViewKeys.{view_key, view_key_item};
-ghost use Rattle.msg_extract.specs.ViewPieces.{content_of};
+ghost use Rattle.msg_extract.specs.Views.ViewItems.{view_item};
+ghost use Rattle.msg_extract.specs.Views.ViewKeys.{view_key, view_key_item};
+ghost use Rattle.msg_extract.specs.Views.ViewPieces.{content_of};
 
 use crate::item::Item;
 use crate::piece::Named;
 use crate::same::is_same;
-use soy_base::{OutOfMemory, Row, Span, Text};
+use soy_base::{OutOfMemory, Row, Span, Text, copied_name};
 use soy_tree::{BinaryOp, Expr, ExprNode};
 use std::alloc::Global;
 use std::hash::{Hash, Hasher};
@@ -49,7 +49,7 @@ impl ContentKey {
 }
 
 /// Copies of the characters and prints of a tag.
-#[tactic(auto, using(crate::proofs::CutSteps::map_append, crate::proofs::PieceLists::append_assoc))]
+#[tactic(auto, using(crate::proofs::CutSteps::map_append, crate::proofs::Texts::PieceLists::append_assoc))]
 fn key_items(alloc: Global, items: &[Item<'_>]) -> Result<Row<KeyItem>, OutOfMemory>
     ensures { IfOk result (λ copied. map view_key_item copied ≡ map view_item items.now) }
 {
@@ -70,16 +70,6 @@ fn key_item(alloc: Global, item: Item<'_>) -> Result<KeyItem, OutOfMemory>
             let phname = copied_name(alloc, phname)?;
             Ok(KeyItem::Printed(expr.copy(alloc)?, phname, span))
         }
-    }
-}
-
-/// An equal name, if there is one.
-pub fn copied_name(alloc: Global, name: &Option<Text>) -> Result<Option<Text>, OutOfMemory>
-    ensures { IfOk result (λ n. n ≡ name.now) }
-{
-    match name {
-        None => Ok(None),
-        Some(name) => Ok(Some(name.copy(alloc)?)),
     }
 }
 

@@ -3,8 +3,8 @@
 ghost use Rattle.std.specs.Prelude.{◌≡◌, [], ◌∷◌, ◌++◌, map, option_map, IfOk};
 ghost use Rattle.soy_tree.specs.MessageText.{begins_with_letter, cuts, cuts_after_text, cuts_in_tag, ends_tag};
 ghost use Rattle.soy_tree.specs.MessageText.{goes_on_as_tag, quote_after, text_cut};
-ghost use Rattle.msg_extract.specs.ViewItems.{view_cut, view_item};
-ghost use Rattle.msg_extract.specs.ViewCutter.{cutter_cuts, cuts_before};
+ghost use Rattle.msg_extract.specs.Views.ViewItems.{view_cut, view_item};
+ghost use Rattle.msg_extract.specs.Views.ViewCutter.{cutter_cuts, cuts_before};
 
 use crate::item::Item;
 use soy_base::{OutOfMemory, Row, Span, Text};

@@ -4,7 +4,7 @@ ghost use Rattle.std.specs.Prelude.{◌≡◌, ◌++◌, None, Some, map, option
 ghost use Rattle.std.specs.Str.{chars};
 ghost use Rattle.soy_tree.specs.MessageText.{characters, joined_items, message_items, node_message_items};
 ghost use Rattle.soy_tree.specs.ViewNodes.{view_node, view_nodes};
-ghost use Rattle.msg_extract.specs.ViewItems.{view_item};
+ghost use Rattle.msg_extract.specs.Views.ViewItems.{view_item};
 
 use soy_base::{OutOfMemory, Row, Span, Text, first};
 use soy_tree::{Expr, Form, Node};

@@ -2,16 +2,16 @@
 
 ghost use Rattle.std.specs.Prelude.{◌≡◌, ℕ, ◌≤◌, List, ◌++◌, None, true, false};
 ghost use Rattle.soy_tree.specs.MessageParts.{MsgParts, no_part};
-ghost use Rattle.soy_tree.specs.IcuText.{IsPattern, PatternMode, Reads, begins_with_quote, with_text};
+ghost use Rattle.soy_rules.specs.IcuText.{IsPattern, PatternMode, Reads, begins_with_quote, with_text};
 ghost use Rattle.soy_tree.specs.Formed.{is_formed_body, nesting};
 ghost use Rattle.soy_base.specs.declared.fault.Span.{Span};
 ghost use Rattle.soy_tree.specs.Nodes.{MessageBody, message};
 ghost use Rattle.soy_tree.specs.Trees.{Tree};
-ghost use Rattle.msg_extract.specs.CanonicalText.{canonical_text, is_in_plural, written_text};
+ghost use Rattle.msg_extract.specs.Canonical.CanonicalText.{canonical_text, is_in_plural, written_text};
 ghost use Rattle.msg_extract.specs.Catalogue.{listed};
 ghost use Rattle.msg_extract.specs.Fits.{FitsTrees, IsTranslation};
-ghost use Rattle.msg_extract.specs.RepeatedCases.{has_distinct_cases};
-ghost use Rattle.msg_extract.specs.SourceParts.{source_parts};
+ghost use Rattle.msg_extract.specs.Canonical.RepeatedCases.{has_distinct_cases};
+ghost use Rattle.msg_extract.specs.Canonical.SourceParts.{source_parts};
 
 /// A text that is written as in a canonical text is read as that text, before all that is read and begins with no
 /// apostrophe: outside of plurals, and directly in a case of one. Alone it is a pattern.

@@ -5,14 +5,14 @@ ghost use Rattle.soy_tree.specs.ViewNodes.{view_arguments, view_arms, view_cases
 ghost use Rattle.soy_tree.specs.ViewTrees.{view_tree};
 ghost use Rattle.msg_extract.specs.MessagesIn.{argument_messages, arm_messages, case_messages, given_messages};
 ghost use Rattle.msg_extract.specs.MessagesIn.{messages_in, node_messages, tree_messages};
-ghost use Rattle.msg_extract.specs.ViewMessages.{view_found};
+ghost use Rattle.msg_extract.specs.Views.ViewMessages.{view_found};
 
 use soy_base::{OutOfMemory, Row};
 use soy_tree::{Argument, Arm, Case, Form, Given, Message, Node, Tree};
 use std::alloc::Global;
 
 /// The messages of a file, in the order of its text, a fallback after its message.
-#[tactic(auto, using(crate::proofs::PieceLists::append_assoc))]
+#[tactic(auto, using(crate::proofs::Texts::PieceLists::append_assoc))]
 pub fn messages_of(alloc: Global, tree: &Tree) -> Result<Row<&Message>, OutOfMemory>
     ensures { IfOk result (λ found. map view_found found ≡ tree_messages (view_tree tree.now)) }
 {
@@ -25,7 +25,7 @@ pub fn messages_of(alloc: Global, tree: &Tree) -> Result<Row<&Message>, OutOfMem
 
 /// Adds the messages of a node.
 #[cycle(messages)]
-#[tactic(auto, using(crate::proofs::PieceLists::append_assoc, crate::proofs::CutSteps::map_append))]
+#[tactic(auto, using(crate::proofs::Texts::PieceLists::append_assoc, crate::proofs::CutSteps::map_append))]
 fn push_node<'a>(found: &mut Row<&'a Message>, node: &'a Node) -> Result<(), OutOfMemory>
     ensures { OnOk result (map view_found found.new
         ≡ map view_found found.old ++ node_messages (view_node node.now)) }
@@ -57,7 +57,7 @@ fn push_node<'a>(found: &mut Row<&'a Message>, node: &'a Node) -> Result<(), Out
 
 /// Adds the messages of nodes.
 #[cycle(messages)]
-#[tactic(auto, using(crate::proofs::PieceLists::append_assoc))]
+#[tactic(auto, using(crate::proofs::Texts::PieceLists::append_assoc))]
 fn push_nodes<'a>(found: &mut Row<&'a Message>, nodes: &'a [Node]) -> Result<(), OutOfMemory>
     ensures { OnOk result (map view_found found.new
         ≡ map view_found found.old ++ messages_in (view_nodes nodes.now)) }
@@ -70,7 +70,7 @@ fn push_nodes<'a>(found: &mut Row<&'a Message>, nodes: &'a [Node]) -> Result<(),
 
 /// Adds the messages of an if's arms.
 #[cycle(messages)]
-#[tactic(auto, using(crate::proofs::PieceLists::append_assoc))]
+#[tactic(auto, using(crate::proofs::Texts::PieceLists::append_assoc))]
 fn push_arms<'a>(found: &mut Row<&'a Message>, arms: &'a [Arm]) -> Result<(), OutOfMemory>
     ensures { OnOk result (map view_found found.new
         ≡ map view_found found.old ++ arm_messages (view_arms arms.now)) }
@@ -83,7 +83,7 @@ fn push_arms<'a>(found: &mut Row<&'a Message>, arms: &'a [Arm]) -> Result<(), Ou
 
 /// Adds the messages of a switch's cases.
 #[cycle(messages)]
-#[tactic(auto, using(crate::proofs::PieceLists::append_assoc))]
+#[tactic(auto, using(crate::proofs::Texts::PieceLists::append_assoc))]
 fn push_cases<'a>(found: &mut Row<&'a Message>, cases: &'a [Case]) -> Result<(), OutOfMemory>
     ensures { OnOk result (map view_found found.new
         ≡ map view_found found.old ++ case_messages (view_cases cases.now)) }
@@ -96,7 +96,7 @@ fn push_cases<'a>(found: &mut Row<&'a Message>, cases: &'a [Case]) -> Result<(),
 
 /// Adds the messages of what a call is given.
 #[cycle(messages)]
-#[tactic(auto, using(crate::proofs::PieceLists::append_assoc))]
+#[tactic(auto, using(crate::proofs::Texts::PieceLists::append_assoc))]
 fn push_arguments<'a>(
     found: &mut Row<&'a Message>,
     arguments: &'a [Argument],

@@ -4,16 +4,16 @@ ghost use Rattle.std.specs.Prelude.{◌≡◌, ◌+◌, ◌∷◌, ◌++◌, [],
 ghost use Rattle.std.specs.Prelude.{bytes_eq, IfOk, OnOk};
 ghost use Rattle.std.specs.List.{position, position_or_len};
 ghost use Rattle.soy_base.specs.Among.{is_among};
-ghost use Rattle.soy_tree.specs.Placeholders.{is_same_content, name_of, numbered_name, with_content};
+ghost use Rattle.soy_rules.specs.Placeholders.{is_same_content, name_of, numbered_name, with_content};
 ghost use Rattle.soy_tree.specs.ViewNodes.{view_body};
 ghost use Rattle.msg_extract.specs.Catalogue.{with_name};
 ghost use Rattle.msg_extract.specs.NameGroups.{bases_after, bases_step, content_names, found_name, free_among};
 ghost use Rattle.msg_extract.specs.NameGroups.{group_names, groups_after, groups_step, is_use, name_at, name_in};
 ghost use Rattle.msg_extract.specs.NameGroups.{names_from, with_content_at, with_group, with_use};
-ghost use Rattle.msg_extract.specs.Pieces.{body_pieces, uses_in};
-ghost use Rattle.msg_extract.specs.ViewKeys.{view_groups, view_key};
-ghost use Rattle.msg_extract.specs.ViewNames.{HasNames, named_uses};
-ghost use Rattle.msg_extract.specs.ViewPieces.{content_of, view_piece};
+ghost use Rattle.msg_extract.specs.Canonical.Pieces.{body_pieces, uses_in};
+ghost use Rattle.msg_extract.specs.Views.ViewKeys.{view_groups, view_key};
+ghost use Rattle.msg_extract.specs.Views.ViewNames.{HasNames, named_uses};
+ghost use Rattle.msg_extract.specs.Views.ViewPieces.{content_of, view_piece};
 
 use crate::ascii::{decimal, empty};
 use crate::content_key::ContentKey;
@@ -120,7 +120,7 @@ fn push_piece(alloc: Global, groups: &mut Groups, piece: &CodePiece<'_>) -> Resu
 }
 
 /// The base names and contents of pieces.
-#[tactic(auto, using(crate::proofs::NameSteps::bases_steps, crate::proofs::NameSteps::groups_steps))]
+#[tactic(auto, using(crate::proofs::Names::NameSteps::bases_steps, crate::proofs::Names::NameSteps::groups_steps))]
 fn groups_of(alloc: Global, pieces: &[CodePiece<'_>]) -> Result<Groups, OutOfMemory>
     ensures bases { IfOk result (λ groups. groups.bases.keys ≡ bases_after [] (uses_in (map view_piece pieces.now))) }
     ensures contents { IfOk result (λ groups. view_groups groups.contents.items
@@ -147,7 +147,7 @@ fn is_use(piece: &CodePiece<'_>) -> bool
 }
 
 /// The number of the uses of names among pieces.
-#[tactic(auto, using(crate::proofs::NameSteps::use_counted, crate::proofs::NameSteps::text_passed))]
+#[tactic(auto, using(crate::proofs::Names::NameSteps::use_counted, crate::proofs::Names::NameSteps::text_passed))]
 fn use_count(pieces: &[CodePiece<'_>]) -> usize
     ensures { result ≡ length (uses_in (map view_piece pieces.now)) }
 {
@@ -217,7 +217,7 @@ fn free_number(
 }
 
 /// The names of the contents of a base name, numbered from 1 on.
-#[tactic(auto, using(crate::proofs::PieceLists::append_assoc))]
+#[tactic(auto, using(crate::proofs::Texts::PieceLists::append_assoc))]
 fn number_names(
     alloc: Global,
     tries: usize,
@@ -239,7 +239,7 @@ fn number_names(
 }
 
 /// The names of the contents of a base name: of one the base name.
-#[tactic(auto, using(crate::proofs::NameSteps::one_name, crate::proofs::NameSteps::many_names))]
+#[tactic(auto, using(crate::proofs::Names::NameSteps::one_name, crate::proofs::Names::NameSteps::many_names))]
 fn content_names(
     alloc: Global,
     tries: usize,
@@ -282,7 +282,7 @@ fn push_names(
 }
 
 /// The names of the groups of some of the base names.
-#[tactic(auto, using(crate::proofs::NameSteps::names_grown))]
+#[tactic(auto, using(crate::proofs::Names::NameSteps::names_grown))]
 fn group_names(
     alloc: Global,
     tries: usize,
@@ -405,7 +405,7 @@ fn find<'n>(
 }
 
 /// The name of a content of a base name among those of a message.
-#[tactic(auto, using(crate::proofs::NameGroups::name_is_found, crate::proofs::NameGroups::name_is_base))]
+#[tactic(auto, using(crate::proofs::Names::NameGroups::name_is_found, crate::proofs::Names::NameGroups::name_is_base))]
 fn name_by_keys(
     alloc: Global,
     names: &Names<'_>,

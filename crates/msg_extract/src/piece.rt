@@ -3,16 +3,17 @@
 ghost use Rattle.std.specs.Prelude.{◌≡◌, ◌∷◌, [], ◌++◌, false, true, codes, map, IfOk, OnOk};
 ghost use Rattle.std.specs.Fmt.{signed_decimal};
 ghost use Rattle.soy_base.specs.Appends.{Appends};
-ghost use Rattle.soy_tree.specs.BaseNames.{base_of_expr};
+ghost use Rattle.soy_rules.specs.BaseNames.{base_of_expr};
 ghost use Rattle.soy_tree.specs.MessageText.{message_items, cuts_of};
 ghost use Rattle.soy_tree.specs.ViewExpressions.{view_expr};
 ghost use Rattle.soy_tree.specs.ViewNodes.{view_body, view_nodes, view_plural_cases, view_select_cases};
-ghost use Rattle.msg_extract.specs.Ascii.{is_ascii};
-ghost use Rattle.msg_extract.specs.CanonicalText.{written_offset};
-ghost use Rattle.msg_extract.specs.Pieces.{TextPiece, UsePiece, body_pieces, cut_pieces, found_pieces, one_cut_pieces};
-ghost use Rattle.msg_extract.specs.Pieces.{plural_case_pieces, select_case_pieces};
-ghost use Rattle.msg_extract.specs.ViewItems.{view_cut};
-ghost use Rattle.msg_extract.specs.ViewPieces.{view_piece, view_use};
+ghost use Rattle.msg_extract.specs.Canonical.Ascii.{is_ascii};
+ghost use Rattle.msg_extract.specs.Canonical.CanonicalText.{written_offset};
+ghost use Rattle.msg_extract.specs.Canonical.Pieces.{TextPiece, UsePiece, body_pieces, cut_pieces, found_pieces};
+ghost use Rattle.msg_extract.specs.Canonical.Pieces.{one_cut_pieces};
+ghost use Rattle.msg_extract.specs.Canonical.Pieces.{plural_case_pieces, select_case_pieces};
+ghost use Rattle.msg_extract.specs.Views.ViewItems.{view_cut};
+ghost use Rattle.msg_extract.specs.Views.ViewPieces.{view_piece, view_use};
 
 use crate::ascii::{decimal, empty, push_ascii, signed_decimal};
 use crate::base_name::{base_of_expr, base_of_print, base_of_tag};
@@ -60,7 +61,7 @@ pub fn pieces_of<'a>(
 
 /// Adds the pieces of a body.
 #[cycle(pieces)]
-#[tactic(auto, using(crate::proofs::PieceLists::append_assoc))]
+#[tactic(auto, using(crate::proofs::Texts::PieceLists::append_assoc))]
 fn push_body<'a>(
     alloc: Global,
     pieces: &mut Row<CodePiece<'a>>,
@@ -93,7 +94,7 @@ fn push_body<'a>(
 
 /// Adds the pieces of a plural's cases.
 #[cycle(pieces)]
-#[tactic(auto, using(crate::proofs::PieceLists::append_assoc))]
+#[tactic(auto, using(crate::proofs::Texts::PieceLists::append_assoc))]
 fn push_plural_cases<'a>(
     alloc: Global,
     pieces: &mut Row<CodePiece<'a>>,
@@ -112,7 +113,7 @@ fn push_plural_cases<'a>(
 
 /// Adds the pieces of a select's cases.
 #[cycle(pieces)]
-#[tactic(auto, using(crate::proofs::PieceLists::append_assoc))]
+#[tactic(auto, using(crate::proofs::Texts::PieceLists::append_assoc))]
 fn push_select_cases<'a>(
     alloc: Global,
     pieces: &mut Row<CodePiece<'a>>,
@@ -204,7 +205,7 @@ fn push_case_word(
 }
 
 /// Adds a `{`, and the use of a selector's name.
-#[tactic(auto, using(crate::proofs::CutSteps::map_append, crate::proofs::PieceLists::append_assoc))]
+#[tactic(auto, using(crate::proofs::CutSteps::map_append, crate::proofs::Texts::PieceLists::append_assoc))]
 fn push_selector<'a>(
     alloc: Global,
     pieces: &mut Row<CodePiece<'a>>,
@@ -221,7 +222,7 @@ fn push_selector<'a>(
 }
 
 /// Adds a placeholder.
-#[tactic(auto, using(crate::proofs::CutSteps::map_append, crate::proofs::PieceLists::append_assoc))]
+#[tactic(auto, using(crate::proofs::CutSteps::map_append, crate::proofs::Texts::PieceLists::append_assoc))]
 fn push_placeholder<'a>(
     alloc: Global,
     pieces: &mut Row<CodePiece<'a>>,
@@ -257,7 +258,7 @@ fn push_nodes<'a>(
 }
 
 /// Adds the pieces of cuts.
-#[tactic(auto, using(crate::proofs::PieceLists::append_assoc))]
+#[tactic(auto, using(crate::proofs::Texts::PieceLists::append_assoc))]
 fn push_cuts<'a>(
     alloc: Global,
     pieces: &mut Row<CodePiece<'a>>,

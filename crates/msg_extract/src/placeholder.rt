@@ -11,19 +11,18 @@ ghost use Rattle.msg_extract.specs.NamedNodes.{named_nodes};
 ghost use Rattle.msg_extract.specs.PlaceholderNodes.{begun_after, flushed, nodes_behind, placeholders_of};
 ghost use Rattle.msg_extract.specs.PlaceholderNodes.{role_nodes, row_step, rows_after, text_nodes};
 ghost use Rattle.msg_extract.specs.PlaceholderRows.{HasRowNames};
-ghost use Rattle.msg_extract.specs.ViewItems.{view_item};
-ghost use Rattle.msg_extract.specs.ViewNames.{HasNames, named_uses};
-ghost use Rattle.msg_extract.specs.ViewPieces.{role_of, view_piece};
-ghost use Rattle.msg_extract.specs.ViewPlaceholders.{view_begun, view_placeholder};
+ghost use Rattle.msg_extract.specs.Views.ViewItems.{view_item};
+ghost use Rattle.msg_extract.specs.Views.ViewNames.{HasNames, named_uses};
+ghost use Rattle.msg_extract.specs.Views.ViewPieces.{role_of, view_piece};
+ghost use Rattle.msg_extract.specs.Views.ViewPlaceholders.{view_begun, view_placeholder};
 
 use crate::ascii::empty;
-use crate::content_key::copied_name;
 use crate::item::Item;
 use crate::name_key::NameKey;
 use crate::names::{Names, name_of, names_of};
 use crate::piece::{CodePiece, Named};
 use indexmap::IndexSet;
-use soy_base::{OutOfMemory, Row, Seq, Span, Text, push_char};
+use soy_base::{OutOfMemory, Row, Seq, Span, Text, copied_name, push_char};
 use soy_tree::{Expr, Form, Message, Node};
 use std::alloc::Global;
 
@@ -103,7 +102,7 @@ fn with_character(
 }
 
 /// Adds what an item of a tag ends, and gives the text that has begun after it.
-#[tactic(auto, using(crate::proofs::PieceLists::append_assoc))]
+#[tactic(auto, using(crate::proofs::Texts::PieceLists::append_assoc))]
 fn push_item(
     alloc: Global,
     nodes: &mut Row<Node>,
@@ -124,7 +123,7 @@ fn push_item(
 }
 
 /// The texts and prints of a tag.
-#[tactic(auto, using(crate::proofs::PlaceholderNodes::item_step, crate::proofs::PieceLists::append_assoc))]
+#[tactic(auto, using(crate::proofs::PlaceholderNodes::item_step, crate::proofs::Texts::PieceLists::append_assoc))]
 fn tag_nodes(alloc: Global, tag: &[Item<'_>]) -> Result<Seq<Node>, OutOfMemory>
     ensures { IfOk result (λ nodes. map view_node nodes ≡ nodes_behind None (map view_item tag.now)) }
 {

@@ -2,10 +2,11 @@
 
 ghost use Rattle.std.specs.Prelude.{◌≡◌, map, IfOk, OnOk};
 ghost use Rattle.soy_base.specs.Appends.{Appends};
-ghost use Rattle.msg_extract.specs.CanonicalText.{is_special, text_of_items, written_text};
-ghost use Rattle.msg_extract.specs.QuotedRuns.{behind_apostrophe, is_run_after, item_written, run_after_item, run_end};
-ghost use Rattle.msg_extract.specs.QuotedRuns.{written_step};
-ghost use Rattle.msg_extract.specs.ViewItems.{view_item};
+ghost use Rattle.msg_extract.specs.Canonical.CanonicalText.{is_special, text_of_items, written_text};
+ghost use Rattle.msg_extract.specs.Canonical.QuotedRuns.{behind_apostrophe, is_run_after, item_written, run_after_item};
+ghost use Rattle.msg_extract.specs.Canonical.QuotedRuns.{run_end};
+ghost use Rattle.msg_extract.specs.Canonical.QuotedRuns.{written_step};
+ghost use Rattle.msg_extract.specs.Views.ViewItems.{view_item};
 
 use crate::ascii::empty;
 use crate::item::Item;
@@ -13,7 +14,7 @@ use soy_base::{OutOfMemory, Text, push_char};
 use std::alloc::Global;
 
 /// The characters of a text as they stand in a canonical text; whether they stand directly in a plural's case.
-#[tactic(auto, using(crate::proofs::QuotedRuns::item_step, crate::proofs::QuotedRuns::run_ends))]
+#[tactic(auto, using(crate::proofs::Texts::QuotedRuns::item_step, crate::proofs::Texts::QuotedRuns::run_ends))]
 pub fn quoted(alloc: Global, in_plural: bool, text: &[Item<'_>]) -> Result<Text, OutOfMemory>
     ensures { IfOk result (λ t. t ≡ written_text in_plural (text_of_items (map view_item text.now))) }
 {

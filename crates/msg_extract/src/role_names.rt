@@ -2,11 +2,11 @@
 
 ghost use Rattle.std.specs.Prelude.{◌≡◌, map, IfOk, OnOk};
 ghost use Rattle.soy_tree.specs.MessageText.{Cut};
-ghost use Rattle.soy_tree.specs.Placeholders.{AsPlaceholder};
+ghost use Rattle.soy_rules.specs.Placeholders.{AsPlaceholder};
 ghost use Rattle.msg_extract.specs.Catalogue.{is_of_kind, role_names, with_name};
 ghost use Rattle.msg_extract.specs.RoleNames.{kind_step};
-ghost use Rattle.msg_extract.specs.ViewNames.{HasNames, named_uses};
-ghost use Rattle.msg_extract.specs.ViewPieces.{role_of, view_piece};
+ghost use Rattle.msg_extract.specs.Views.ViewNames.{HasNames, named_uses};
+ghost use Rattle.msg_extract.specs.Views.ViewPieces.{role_of, view_piece};
 
 use crate::name_key::NameKey;
 use crate::names::{Names, name_of};
@@ -97,7 +97,7 @@ fn add_name(
 }
 
 /// The names of the uses of a kind, each once, in order of first appearance.
-#[tactic(auto, using(crate::proofs::RoleNames::names_step))]
+#[tactic(auto, using(crate::proofs::Names::RoleNames::names_step))]
 pub fn role_names(
     alloc: Global,
     names: &Names<'_>,

@@ -1,10 +1,10 @@
 //! Contents of placeholders that are the same.
 
 ghost use Rattle.std.specs.Prelude.{◌≡◌, map, option_map, slice_get};
-ghost use Rattle.soy_tree.specs.Placeholders.{are_same_message_items, is_same_content, is_same_message_item};
-ghost use Rattle.soy_tree.specs.SameExpression.{is_same_expr};
+ghost use Rattle.soy_rules.specs.Placeholders.{are_same_message_items, is_same_content, is_same_message_item};
+ghost use Rattle.soy_rules.specs.SameExpression.{is_same_expr};
 ghost use Rattle.soy_tree.specs.ViewExpressions.{view_expr};
-ghost use Rattle.msg_extract.specs.ViewKeys.{view_key, view_key_item};
+ghost use Rattle.msg_extract.specs.Views.ViewKeys.{view_key, view_key_item};
 
 use crate::content_key::{ContentKey, KeyItem};
 use soy_tree::{Expr, ExprNode};

@@ -3,8 +3,8 @@
 ghost use Rattle.std.specs.Prelude.{◌≡◌, ◌++◌, map, IfOk, OnOk};
 ghost use Rattle.soy_tree.specs.ViewNodes.{view_message};
 ghost use Rattle.msg_extract.specs.SelectorRows.{piece_rows, selector_rows, selectors_of, view_selector};
-ghost use Rattle.msg_extract.specs.ViewNames.{HasNames, named_uses};
-ghost use Rattle.msg_extract.specs.ViewPieces.{view_piece};
+ghost use Rattle.msg_extract.specs.Views.ViewNames.{HasNames, named_uses};
+ghost use Rattle.msg_extract.specs.Views.ViewPieces.{view_piece};
 
 use crate::names::{Names, name_of, names_of};
 use crate::piece::{CodePiece, Named};
@@ -60,7 +60,7 @@ fn add_selector(
 }
 
 /// The selectors among pieces.
-#[tactic(auto, using(crate::proofs::SelectorRows::selectors_step, crate::proofs::PieceLists::append_assoc))]
+#[tactic(auto, using(crate::proofs::SelectorRows::selectors_step, crate::proofs::Texts::PieceLists::append_assoc))]
 fn selectors_among(alloc: Global, names: &Names<'_>) -> Result<Seq<Selector>, OutOfMemory>
     requires { HasNames names.now }
     ensures { IfOk result (λ rows. map view_selector rows

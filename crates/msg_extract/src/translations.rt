@@ -8,7 +8,8 @@ ghost use Rattle.msg_extract.specs.MessageId.{id_of};
 
 use crate::message_id;
 use soy_base::{OutOfMemory, Text};
-use soy_tree::{Bundle, Message, MsgPart, Names, Translation};
+use soy_rules::Names;
+use soy_tree::{Bundle, Message, MsgPart, Translation};
 use std::alloc::Global;
 use std::marker::Model;
 

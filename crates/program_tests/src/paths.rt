@@ -3,9 +3,8 @@
 use crate::programs::bundle;
 use crate::reading::checked;
 use html_context::{PlaceFault, infer};
-use soy_base::{Code, OutOfMemory, Place, Placing, Refusal, push_text};
+use soy_base::{Code, OutOfMemory, Place, Places, Placing, Refusal, push_text};
 use std::alloc::Global;
-use template_ir::Places;
 
 const HEAD: &str = "{namespace n}{template t}\
     {@param a: string}{@param b: string}{@param x: string}{@param y: string}{@param n: int}{@param l: list<int>}";

@@ -8,7 +8,8 @@ use soy_base::{Fault, Refusal};
 use soy_check::{CheckFault, check};
 use soy_lexer::lex;
 use soy_parser::parse;
-use soy_tree::{Tree, Typed};
+use soy_rules::Typed;
+use soy_tree::Tree;
 use std::alloc::Global;
 
 /// The tree of a file, or its first fault.

@@ -2,7 +2,7 @@
 
 use crate::reading::checked;
 use soy_base::Text;
-use soy_tree::{Templates, all_templates, called_name};
+use soy_rules::{Templates, all_templates, called_name};
 use std::alloc::Global;
 
 const FIRST: &str = "{namespace t}{template m}{/template}{template n}{/template}";

@@ -4,16 +4,17 @@ use Rattle.std.proofs.Common.{Some, None}
 use Rattle.std.proofs.Common.{drop, length, take, refl, sym, ap, ◌∙◌, arith, slice_index_or, subst}
 use Rattle.std.specs.List.{slice_get}
 use Rattle.soy_tree.specs.Types.{Name}
-use Rattle.soy_tree.specs.Val.{Binding, Known, member_value}
+use Rattle.soy_rules.specs.Val.{Binding, Known, member_value}
 use Rattle.soy_tree.specs.Values as values
 use Rattle.soy_tree.specs.ViewTrees.{view_params}
 use Rattle.soy_tree.specs.declared.tree.Param.{Param}
 use Rattle.soy_expr.specs.Parts.{child}
-use Rattle.soy_meaning.specs.Giving.{BoundBlock, RunEnv}
-use Rattle.soy_meaning.specs.Outcome.{Outcome}
-use Rattle.soy_meaning.proofs.Outcomes.{first_none}
+use Rattle.soy_pieces.specs.Giving.{BoundBlock, RunEnv}
+use Rattle.soy_pieces.specs.Outcome.{Outcome}
+use Rattle.soy_pieces.proofs.Outcomes.{first_none}
 use Rattle.template_ir.specs.Ops as ops
-use Rattle.template_ir.specs.Run.{all_give, block_gives, body_there, input_env, names_of, names_there, run}
+use Rattle.template_ir.specs.Run.{all_give, block_gives, body_there, names_there, run}
+use Rattle.soy_pieces.specs.InputEnv.{input_env, names_of}
 use Rattle.template_ir.specs.ViewOps.{view_program, view_routine}
 use Rattle.template_ir.specs.declared.op.Block.{Block}
 use Rattle.template_ir.specs.declared.program.ProgramParts.{ProgramParts}
@@ -22,7 +23,7 @@ use Rattle.render_core.specs.Begins.{FieldFound, HasRoot, entry_frame, held_fiel
 use Rattle.render_core.specs.Frames.{machine_gives, ops_ahead}
 use Rattle.render_core.specs.Linked.{Adds, bound_over}
 use Rattle.render_core.specs.Rest.{BegunFits, DoneFits, Fits, begun_left, coming, rest_of, solid}
-use Rattle.render_core.specs.Variables.{cell_at, cells_of, env_at, held_means, name_or_none, name_there, param_of}
+use Rattle.render_core.specs.Variables.{cell_at, cells_of, env_at, held_means, name_or_none, name_there, name_of_param}
 use Rattle.render_core.specs.Variables.{part_held}
 use Rattle.render_core.specs.declared.frame.Frame.TheVariants as frame
 use Rattle.render_core.specs.declared.held.Bound.{Bound}
@@ -127,7 +128,7 @@ module _ (p : ProgramParts) (input : values.Value) where
   -- the parameter of a number, among all
   pub param_next : (old new : List Bound) (template number : ℕ) (params : List Param) (x : Param) (found : Option ℕ)
       (to : Held) (below : ℕ) → HasRoot old
-      → param_of (slice_get params number) ≡ name_there p (naming.Param template number)
+      → name_of_param (slice_get params number) ≡ name_there p (naming.Param template number)
       → FieldFound x.name input found → to ≡ held_field found
       → env_at (cells_of p input old) below ≡ input_env (names_of (view_params (drop (number + 1) params))) input
       → number < length params → x ≡ slice_index_or params number x
@@ -136,7 +137,7 @@ module _ (p : ProgramParts) (input : values.Value) where
       ≡ input_env (names_of (view_params (drop number params))) input
   param_next old new template number params x found to below root named field held env low is adds =
       let own : name_there p (naming.Param template number) ≡ Some x.name =
-      sym named ∙ ap param_of (item_there params number x low is) in
+      sym named ∙ ap name_of_param (item_there params number x low is) in
       adds_env p (bound_over (naming.Param template number) to below) old new adds input (length old + 1) refl
       ∙ (ap (λ (n : Option Name). (name_or_none n, held_means p input (cells_of p input old) to)
       ∷ env_at (cells_of p input old) below) own

@@ -5,16 +5,16 @@ use Rattle.std.specs.List.{slice_get}
 use Rattle.std.specs.Prelude.{option_map}
 use Rattle.soy_base.specs.declared.kind.Kind.{Kind}
 use Rattle.soy_tree.specs.Values as values
-use Rattle.soy_meaning.specs.Giving.{RunEnv}
-use Rattle.soy_meaning.specs.Outcome.{Outcome, RunEnds, StopsAt, continued_by, none_spent}
-use Rattle.soy_meaning.specs.Outcome.{spent_first}
-use Rattle.soy_meaning.specs.Plan.{Site}
-use Rattle.soy_meaning.proofs.Outcomes.{first_none, followed_joined}
+use Rattle.soy_pieces.specs.Giving.{RunEnv}
+use Rattle.soy_pieces.specs.Outcome.{Outcome, RunEnds, StopsAt, continued_by, none_spent}
+use Rattle.soy_pieces.specs.Outcome.{spent_first}
+use Rattle.soy_pieces.specs.Site.{Site}
+use Rattle.soy_pieces.proofs.Outcomes.{first_none, followed_joined}
 use Rattle.template_ir.specs.Ops as ops
 use Rattle.template_ir.specs.Run.{OpMeans, all_give, all_handed_give, block_gives, body_there, called_at}
 use Rattle.template_ir.specs.Run.{handed_binding}
 use Rattle.template_ir.specs.Run.{handed_env, handed_gives, kind_of_template, one_step, op_gives, opened_gives}
-use Rattle.template_ir.specs.Table.{table}
+use Rattle.soy_base.specs.Table.{table}
 use Rattle.template_ir.specs.ViewOps.{view_by, view_callee, view_handed, view_program, view_routine}
 use Rattle.template_ir.specs.declared.op.Callee as code_callee
 use Rattle.template_ir.specs.declared.op.Handed as code_handed

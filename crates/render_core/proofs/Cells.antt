@@ -4,9 +4,9 @@ use Rattle.std.proofs.Common.{length, true}
 use Rattle.std.proofs.Common.{take, refl, sym, ap, ◌∙◌, arith, slice_index_or}
 use Rattle.std.specs.List.{slice_get}
 use Rattle.soy_tree.specs.Values as values
-use Rattle.template_ir.specs.Table.{table, table_from}
+use Rattle.soy_base.specs.Table.{table, table_from}
 use Rattle.template_ir.specs.declared.program.ProgramParts.{ProgramParts}
-use Rattle.template_ir.proofs.Tables.{get_table, take_table_from}
+use Rattle.soy_base.proofs.Tables.{get_table, take_table_from}
 use Rattle.render_core.specs.Keys.{fits_key}
 use Rattle.render_core.specs.Variables.{Cell, bound_means, cell_at, cells_of, env_at, held_means, name_or_none}
 use Rattle.render_core.specs.Variables.{name_there, part_held}

@@ -5,9 +5,9 @@ use Rattle.std.proofs.Common.{rules, tests}
 use Rattle.std.specs.Prelude.{ℤ, pos, negsuc, if◌then◌else◌, bytes_eq}
 use Rattle.plural_rules.specs.Category.{is_same}
 use Rattle.plural_rules.specs.declared.category.Category.{Category}
-use Rattle.soy_tree.specs.Cost.{cost}
+use Rattle.soy_rules.specs.Cost.{cost}
 use Rattle.soy_tree.specs.Expressions.{Expr}
-use Rattle.soy_tree.specs.Val.{Binding, BlockOf, Known, is_same_int, is_same_value, is_truthy, operand, val}
+use Rattle.soy_rules.specs.Val.{Binding, BlockOf, Known, is_same_int, is_same_value, is_truthy, operand, val}
 use Rattle.soy_tree.specs.Values as values
 use Rattle.soy_tree.specs.ViewExpressions.{view_expr, view_exprs}
 use Rattle.soy_tree.specs.declared.expr.Expr as code_expr
@@ -15,9 +15,9 @@ use Rattle.soy_expr.specs.ForgottenBlocks.{forgotten, forgotten_env}
 use Rattle.soy_expr.specs.ViewShallow.{shallow_value}
 use Rattle.soy_expr.proofs.Forgetting.{forgotten_val}
 use Rattle.soy_expr.proofs.Shallows.{same_seen}
-use Rattle.soy_meaning.specs.Branch.{int_of, word_of}
-use Rattle.soy_meaning.specs.Giving.{RunEnv}
-use Rattle.soy_meaning.specs.Pieces.{is_one, valued}
+use Rattle.soy_pieces.specs.Branch.{int_of, word_of}
+use Rattle.soy_pieces.specs.Giving.{RunEnv}
+use Rattle.soy_pieces.specs.Pieces.{is_one, valued}
 use Rattle.template_ir.specs.Ops.{Choice}
 use Rattle.template_ir.specs.Run.{exact_block, named_block, word_block}
 use Rattle.template_ir.specs.ViewOps.{view_branch, view_choice}

@@ -6,15 +6,15 @@ use Rattle.std.proofs.lemmas.Bool.{cases_lt}
 use Rattle.std.specs.Prelude.{if◌then◌else◌, bytes_eq}
 use Rattle.std.specs.List.{slice_get}
 use Rattle.soy_tree.specs.Types.{Name}
-use Rattle.soy_tree.specs.Cost.{cost}
+use Rattle.soy_rules.specs.Cost.{cost}
 use Rattle.soy_tree.specs.Expressions.{Expr, Binary, BoolLiteral, Coalesce, Conditional, Index, IntLiteral, Member}
 use Rattle.soy_tree.specs.Expressions.{Minus}
 use Rattle.soy_tree.specs.Expressions.{Not, NullLiteral, StringLiteral, Variable}
-use Rattle.soy_tree.specs.Val.{Binding, BlockOf, Env, Known, binding, is_truthy, val}
+use Rattle.soy_rules.specs.Val.{Binding, BlockOf, Env, Known, binding, is_truthy, val}
 use Rattle.soy_tree.specs.Values.{Value, NullValue}
 use Rattle.soy_expr.specs.ForgottenBlocks.{forgotten, forgotten_env}
 use Rattle.soy_expr.proofs.Forgetting.{forgotten_cost, forgotten_val}
-use Rattle.soy_meaning.specs.Giving.{RunEnv}
+use Rattle.soy_pieces.specs.Giving.{RunEnv}
 use Rattle.template_ir.specs.declared.program.ProgramParts.{ProgramParts}
 use Rattle.render_core.specs.Finds.{IsPlain, binding_at, bound_binding}
 use Rattle.soy_expr.specs.Parts.{child}

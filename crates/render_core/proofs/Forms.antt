@@ -8,7 +8,7 @@ use Rattle.soy_base.specs.declared.place.ValueClass.{ValueClass}
 use Rattle.escapers.specs.EscaperFor.{escaper_of}
 use Rattle.escapers.specs.declared.escaper.Escaper.{Escaper}
 use Rattle.escapers.specs.declared.escaper.Escaper.TheVariants as escaper
-use Rattle.soy_meaning.specs.EscapedAt.{escaped_at, escaped_by}
+use Rattle.soy_pieces.specs.EscapedAt.{escaped_at, escaped_by}
 use Rattle.value_cursor.specs.EscapedForm.{escaped_form}
 use Rattle.render_core.specs.Forms.{form_at}
 

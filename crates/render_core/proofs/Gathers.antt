@@ -5,10 +5,10 @@ use Rattle.std.specs.List.{slice_get}
 use Rattle.std.proofs.Math.Seq.{take-length}
 use Rattle.soy_base.specs.declared.kind.Kind.TheVariants as kind
 use Rattle.soy_tree.specs.Types.{Name}
-use Rattle.soy_tree.specs.Val.{Known}
+use Rattle.soy_rules.specs.Val.{Known}
 use Rattle.soy_tree.specs.Values.{StringValue}
 use Rattle.soy_tree.specs.Values as values
-use Rattle.soy_meaning.specs.Giving.{RunEnv}
+use Rattle.soy_pieces.specs.Giving.{RunEnv}
 use Rattle.template_ir.specs.Run.{block_gives, one_step}
 use Rattle.template_ir.specs.declared.op.Block.{Block}
 use Rattle.template_ir.specs.declared.op.Op.TheVariants as op
@@ -31,11 +31,11 @@ use Rattle.render_core.proofs.Moves.{fits_is, fits_top, machine_is}
 use Rattle.render_core.proofs.Ops.{block_within}
 use Rattle.render_core.proofs.Overs.{over_first}
 use Rattle.std.proofs.lemmas.List.{append-nil}
-use Rattle.html_state.specs.AfterPieces.{Static, Value}
-use Rattle.soy_meaning.specs.Meaning.{joined_pieces}
-use Rattle.soy_meaning.specs.Outcome.{GivesPiece, Outcome, RunEnds, StopsAt, WholeRun, continued_by, gathered}
-use Rattle.soy_meaning.specs.Outcome.{gives_nothing, pieces_of_outcome, spent_first}
-use Rattle.soy_meaning.proofs.Outcomes.{first_followed, first_none, none_after}
+use Rattle.soy_base.specs.Piece.{Static, Value}
+use Rattle.soy_pieces.specs.Meaning.{joined_pieces}
+use Rattle.soy_pieces.specs.Outcome.{GivesPiece, Outcome, RunEnds, StopsAt, WholeRun, continued_by, gathered}
+use Rattle.soy_pieces.specs.Outcome.{gives_nothing, pieces_of_outcome, spent_first}
+use Rattle.soy_pieces.proofs.Outcomes.{first_followed, first_none, none_after}
 
 -- what is gathered and then goes on with the joined pieces is gathered before what goes on
 pub gathered_whole : (text : List ℕ) (o : Outcome) (next : List ℕ → Outcome)

@@ -7,15 +7,15 @@ use Rattle.soy_base.specs.Cuts.{is_nil}
 use Rattle.soy_base.specs.declared.memory.OutOfMemory.{OutOfMemory}
 use Rattle.soy_base.specs.declared.place.Place.{Place}
 use Rattle.soy_base.specs.declared.place.ValueClass.{ValueClass}
-use Rattle.soy_tree.specs.Val.{Binding, BlockOf, Known}
+use Rattle.soy_rules.specs.Val.{Binding, BlockOf, Known}
 use Rattle.soy_tree.specs.Values as values
 use Rattle.soy_expr.specs.Evaluates.{IsWithin}
-use Rattle.html_state.specs.AfterPieces.{Piece, Static, Value}
-use Rattle.soy_meaning.specs.Giving.{BoundBlock, RunEnv, value_class}
-use Rattle.soy_meaning.specs.Outcome.{GivesPiece, Outcome, RunEnds, Spent, WholeRun, continued_by}
-use Rattle.soy_meaning.specs.Outcome.{gives_nothing}
-use Rattle.soy_meaning.specs.Outcome.{none_spent, spent_first}
-use Rattle.soy_meaning.proofs.Outcomes.{first_none, none_after}
+use Rattle.soy_base.specs.Piece.{Piece, Static, Value}
+use Rattle.soy_pieces.specs.Giving.{BoundBlock, RunEnv, value_class}
+use Rattle.soy_pieces.specs.Outcome.{GivesPiece, Outcome, RunEnds, Spent, WholeRun, continued_by}
+use Rattle.soy_pieces.specs.Outcome.{gives_nothing}
+use Rattle.soy_pieces.specs.Outcome.{none_spent, spent_first}
+use Rattle.soy_pieces.proofs.Outcomes.{first_none, none_after}
 use Rattle.template_ir.specs.Run.{one_step, print_gives, text_gives}
 use Rattle.template_ir.specs.declared.op.Op.{Op}
 use Rattle.template_ir.specs.declared.program.ProgramParts.{ProgramParts}

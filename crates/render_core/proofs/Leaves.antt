@@ -4,8 +4,8 @@ use Rattle.std.proofs.Common.{length, take, refl, sym, ap, ◌∙◌, arith, sub
 use Rattle.std.specs.List.{slice_get}
 use Rattle.std.proofs.lemmas.List.{length-take-le}
 use Rattle.soy_tree.specs.Values as values
-use Rattle.soy_meaning.specs.Outcome.{Outcome, RunEnds, WholeRun, continued_by, gives_nothing, spent_first}
-use Rattle.soy_meaning.proofs.Outcomes.{first_none}
+use Rattle.soy_pieces.specs.Outcome.{Outcome, RunEnds, WholeRun, continued_by, gives_nothing, spent_first}
+use Rattle.soy_pieces.proofs.Outcomes.{first_none}
 use Rattle.template_ir.specs.Run.{one_step}
 use Rattle.template_ir.specs.declared.op.Op.{Op}
 use Rattle.template_ir.specs.declared.program.ProgramParts.{ProgramParts}

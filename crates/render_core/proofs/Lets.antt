@@ -3,15 +3,15 @@ use Rattle.std.proofs.Common.{◌≡◌, ℕ, pos, List, ◌∷◌, Option, Some
 use Rattle.std.specs.List.{slice_get}
 use Rattle.soy_base.specs.declared.kind.Kind.{Kind}
 use Rattle.soy_base.specs.declared.kind.Kind.TheVariants as kind
-use Rattle.soy_tree.specs.Cost.{cost}
+use Rattle.soy_rules.specs.Cost.{cost}
 use Rattle.soy_tree.specs.Types.{Name}
-use Rattle.soy_tree.specs.Val.{Binding, BlockOf, val}
+use Rattle.soy_rules.specs.Val.{Binding, BlockOf, val}
 use Rattle.soy_tree.specs.Values as values
 use Rattle.soy_tree.specs.ViewExpressions.{view_expr}
 use Rattle.soy_tree.specs.declared.expr.Expr as code_expr
-use Rattle.soy_meaning.specs.FrameRun.{bound_as}
-use Rattle.soy_meaning.specs.Giving.{BoundBlock, RunEnv}
-use Rattle.soy_meaning.specs.Outcome.{Outcome, RunEnds, WholeRun, spent_first}
+use Rattle.soy_pieces.specs.Meaning.{bound_as}
+use Rattle.soy_pieces.specs.Giving.{BoundBlock, RunEnv}
+use Rattle.soy_pieces.specs.Outcome.{Outcome, RunEnds, WholeRun, spent_first}
 use Rattle.template_ir.specs.Run.{block_gives, bound_gives, one_step}
 use Rattle.template_ir.specs.declared.op.Block.{Block}
 use Rattle.template_ir.specs.declared.op.Op.{Op}

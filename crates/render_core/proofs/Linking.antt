@@ -6,7 +6,7 @@ use Rattle.std.specs.List.{slice_get}
 use Rattle.std.specs.Prelude.{bytes_eq}
 use Rattle.std.proofs.lemmas.Bool.{cases_lt, cases_order}
 use Rattle.soy_tree.specs.Types.{Name}
-use Rattle.soy_tree.specs.Val.{binding}
+use Rattle.soy_rules.specs.Val.{binding}
 use Rattle.template_ir.specs.declared.program.ProgramParts.{ProgramParts}
 use Rattle.render_core.specs.Keys.{agreed, fits_key, key_of, level_of, levels_of, lowered, next_of}
 use Rattle.render_core.specs.Linked.{IsLinked, Leads, LeadsTo, Passes, is_sought}

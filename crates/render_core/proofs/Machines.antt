@@ -3,9 +3,9 @@ use Rattle.std.proofs.Common.{◌≡◌, ℕ, zero, suc, ◌<◌, List, [], ◌�
 use Rattle.std.proofs.Common.{take, refl, ap, ◌∙◌, arith}
 use Rattle.std.specs.List.{slice_get}
 use Rattle.soy_tree.specs.Values as values
-use Rattle.soy_meaning.specs.Giving.{RunEnv}
-use Rattle.soy_meaning.specs.Outcome.{Outcome, continued_by, gives_nothing}
-use Rattle.soy_meaning.proofs.Outcomes.{first_none}
+use Rattle.soy_pieces.specs.Giving.{RunEnv}
+use Rattle.soy_pieces.specs.Outcome.{Outcome, continued_by, gives_nothing}
+use Rattle.soy_pieces.proofs.Outcomes.{first_none}
 use Rattle.template_ir.specs.declared.op.Op.{Op}
 use Rattle.template_ir.specs.declared.program.ProgramParts.{ProgramParts}
 use Rattle.render_core.specs.Frames.{FrameWithin, after_text, call_of, frame_gives}

@@ -3,15 +3,15 @@ use Rattle.std.proofs.Common.{◌≡◌, ℕ, ℤ, ◌+◌, pos, Bool, true, fal
 use Rattle.std.proofs.Common.{sym}
 use Rattle.std.proofs.Common.{ap, ◌∙◌, arith}
 use Rattle.std.specs.Prelude.{if◌then◌else◌}
-use Rattle.soy_tree.specs.Cost.{cost}
-use Rattle.soy_tree.specs.Val.{is_truthy, val}
+use Rattle.soy_rules.specs.Cost.{cost}
+use Rattle.soy_rules.specs.Val.{is_truthy, val}
 use Rattle.soy_tree.specs.ViewExpressions.{view_expr}
 use Rattle.soy_tree.specs.declared.expr.Expr as code_expr
 use Rattle.soy_tree.specs.Values as values
-use Rattle.soy_meaning.specs.Giving.{RunEnv, with_cost}
-use Rattle.soy_meaning.specs.Outcome.{Outcome, Spent, spent_first}
-use Rattle.soy_meaning.specs.Pieces.{is_one, valued}
-use Rattle.soy_meaning.proofs.Outcomes.{first_none, first_twice}
+use Rattle.soy_pieces.specs.Giving.{RunEnv, with_cost}
+use Rattle.soy_pieces.specs.Outcome.{Outcome, Spent, spent_first}
+use Rattle.soy_pieces.specs.Pieces.{is_one, valued}
+use Rattle.soy_pieces.proofs.Outcomes.{first_none, first_twice}
 use Rattle.template_ir.specs.Ops.{Branch, Choice}
 use Rattle.template_ir.specs.Run.{OpMeans, arm_gives, block_gives, branches_give, choices_give, one_step}
 use Rattle.template_ir.specs.Run.{rest_gives}

@@ -5,7 +5,7 @@ use Rattle.std.specs.List.{slice_get}
 use Rattle.std.proofs.Math.Seq.{take-length}
 use Rattle.soy_expr.specs.Evaluates.{IsWithin}
 use Rattle.soy_tree.specs.Values as values
-use Rattle.soy_meaning.specs.Outcome.{GivesPiece, Outcome, RunEnds, gives_nothing, spent_first}
+use Rattle.soy_pieces.specs.Outcome.{GivesPiece, Outcome, RunEnds, gives_nothing, spent_first}
 use Rattle.template_ir.specs.Run.{block_gives, one_step}
 use Rattle.template_ir.specs.declared.op.Block.{Block}
 use Rattle.template_ir.specs.declared.op.Op.{Op}

@@ -9,16 +9,16 @@ use Rattle.soy_base.specs.declared.kind.Kind.TheVariants as kind
 use Rattle.soy_base.specs.declared.memory.OutOfMemory.{OutOfMemory}
 use Rattle.soy_base.specs.declared.place.Place.{Place}
 use Rattle.soy_base.specs.declared.place.ValueClass.{ValueClass}
-use Rattle.html_state.specs.AfterPieces.{Static, Value}
-use Rattle.soy_tree.specs.Val.{value_text}
+use Rattle.soy_base.specs.Piece.{Static, Value}
+use Rattle.soy_rules.specs.Val.{value_text}
 use Rattle.soy_tree.specs.Values.{NullValue, StringValue}
 use Rattle.soy_tree.specs.Values as values
-use Rattle.soy_meaning.specs.Giving.{RunEnv}
-use Rattle.soy_meaning.specs.Outcome.{GivesPiece, Outcome, RunEnds, StopsAt, WholeRun, continued_by}
-use Rattle.soy_meaning.specs.Outcome.{end_of_outcome}
-use Rattle.soy_meaning.specs.Outcome.{gathered, none_spent, pieces_of_outcome, spent_first}
-use Rattle.soy_meaning.specs.Plan.{Site}
-use Rattle.soy_meaning.proofs.Outcomes.{first_followed, first_none}
+use Rattle.soy_pieces.specs.Giving.{RunEnv}
+use Rattle.soy_pieces.specs.Outcome.{GivesPiece, Outcome, RunEnds, StopsAt, WholeRun, continued_by}
+use Rattle.soy_pieces.specs.Outcome.{end_of_outcome}
+use Rattle.soy_pieces.specs.Outcome.{gathered, none_spent, pieces_of_outcome, spent_first}
+use Rattle.soy_pieces.specs.Site.{Site}
+use Rattle.soy_pieces.proofs.Outcomes.{first_followed, first_none}
 use Rattle.template_ir.specs.Run.{called_at, kind_of_template, one_step, opened_gives, value_at}
 use Rattle.template_ir.specs.Run.{value_gives}
 use Rattle.template_ir.specs.ViewOps.{view_callee, view_program, view_routine}

@@ -2,15 +2,15 @@
 use Rattle.std.proofs.Common.{◌≡◌, ℕ, ℤ, zero, suc, ◌-◌, ◌≤◌, ◌<◌, ◌⊎◌, inl, inr, min, List, [], ◌∷◌, ◌++◌}
 use Rattle.std.proofs.Common.{Some, None, map, take, drop, refl, ap, ◌∙◌, arith}
 use Rattle.std.specs.List.{slice_get}
-use Rattle.soy_meaning.specs.Giving.{RunEnv}
-use Rattle.soy_meaning.specs.Outcome.{RunEnds, WholeRun, continued_by}
+use Rattle.soy_pieces.specs.Giving.{RunEnv}
+use Rattle.soy_pieces.specs.Outcome.{RunEnds, WholeRun, continued_by}
 use Rattle.template_ir.specs.Run.{OpMeans, all_give, block_gives, called_at, one_step, op_gives, ops_give}
-use Rattle.template_ir.specs.Table.{table_from}
+use Rattle.soy_base.specs.Table.{table_from}
 use Rattle.template_ir.specs.ViewOps.{view_op, view_program}
 use Rattle.template_ir.specs.declared.op.Block.{Block}
 use Rattle.template_ir.specs.declared.op.Op.{Op}
 use Rattle.template_ir.specs.declared.program.ProgramParts.{ProgramParts}
-use Rattle.template_ir.proofs.Tables.{drop_less, get_table, part, part_cons, take_less}
+use Rattle.soy_base.proofs.Tables.{drop_less, get_table, part, part_cons, take_less}
 use Rattle.render_core.specs.Frames.{means_before, ops_ahead, past}
 use Rattle.render_core.specs.declared.frame.Ahead.{Ahead}
 

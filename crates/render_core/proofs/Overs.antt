@@ -1,11 +1,11 @@
 -- What comes before a stack of frames, and what it gives to them.
 use Rattle.std.proofs.Common.{◌≡◌, ℕ, List, [], ◌∷◌, ◌++◌, refl, sym, ap, ◌∙◌, take}
-use Rattle.html_state.specs.AfterPieces.{Piece, Static, Value}
+use Rattle.soy_base.specs.Piece.{Piece, Static, Value}
 use Rattle.soy_tree.specs.Values as values
-use Rattle.soy_meaning.specs.Outcome.{GivesPiece, Outcome, RunEnds, Spent, StopsAt, and_spent, gathered}
-use Rattle.soy_meaning.specs.Outcome.{spent_first}
-use Rattle.soy_meaning.specs.Plan.{Site}
-use Rattle.soy_meaning.proofs.Outcomes.{first_followed, first_gathered, first_twice}
+use Rattle.soy_pieces.specs.Outcome.{GivesPiece, Outcome, RunEnds, Spent, StopsAt, and_spent, gathered}
+use Rattle.soy_pieces.specs.Outcome.{spent_first}
+use Rattle.soy_pieces.specs.Site.{Site}
+use Rattle.soy_pieces.proofs.Outcomes.{first_followed, first_gathered, first_twice}
 use Rattle.template_ir.specs.declared.program.ProgramParts.{ProgramParts}
 use Rattle.render_core.specs.Frames.{ended, frame_over, mark_of, over, texts_past}
 use Rattle.render_core.specs.Rest.{piece_text, solid, solid_piece}

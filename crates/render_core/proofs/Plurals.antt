@@ -1,7 +1,7 @@
 -- The arm of a plural that is gone into.
 use Rattle.std.proofs.Common.{◌≡◌, List, Option, pos, ap, ◌∙◌}
 use Rattle.std.specs.Prelude.{ℤ, ◌-ℤ◌}
-use Rattle.soy_meaning.specs.Giving.{RunEnv}
+use Rattle.soy_pieces.specs.Giving.{RunEnv}
 use Rattle.template_ir.specs.Run.{OpMeans, arm_gives, plural_block}
 use Rattle.template_ir.specs.ViewOps.{view_program}
 use Rattle.template_ir.specs.declared.op.Block.{Block}

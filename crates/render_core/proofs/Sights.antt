@@ -1,11 +1,11 @@
 -- What is seen at a point that is made of a machine.
 use Rattle.std.proofs.Common.{◌≡◌, ℕ, Bool, List, Result, length, ap, sym, ◌∙◌, subst}
 use Rattle.soy_base.specs.declared.memory.OutOfMemory.{OutOfMemory}
-use Rattle.soy_tree.specs.Cost.{cost}
+use Rattle.soy_rules.specs.Cost.{cost}
 use Rattle.soy_tree.specs.Expressions.{Expr}
-use Rattle.soy_tree.specs.Val.{Binding, val}
+use Rattle.soy_rules.specs.Val.{Binding, val}
 use Rattle.soy_expr.specs.Evaluates.{IsWithin}
-use Rattle.soy_meaning.specs.Giving.{BoundBlock, RunEnv}
+use Rattle.soy_pieces.specs.Giving.{BoundBlock, RunEnv}
 use Rattle.soy_tree.specs.ViewValues.{view_value}
 use Rattle.soy_tree.specs.declared.value.Value as code
 use Rattle.template_ir.specs.declared.program.ProgramParts.{ProgramParts}

@@ -3,9 +3,9 @@ use Rattle.std.proofs.Common.{◌≡◌, ℕ, ◌+◌, ◌-◌, ◌≤◌, ◌<�
 use Rattle.std.proofs.Common.{arith, subst}
 use Rattle.std.specs.List.{slice_get}
 use Rattle.soy_tree.specs.Values as values
-use Rattle.soy_meaning.specs.Giving.{RunEnv}
-use Rattle.soy_meaning.specs.Outcome.{Outcome, none_spent}
-use Rattle.soy_meaning.proofs.Outcomes.{first_none}
+use Rattle.soy_pieces.specs.Giving.{RunEnv}
+use Rattle.soy_pieces.specs.Outcome.{Outcome, none_spent}
+use Rattle.soy_pieces.proofs.Outcomes.{first_none}
 use Rattle.template_ir.specs.declared.program.ProgramParts.{ProgramParts}
 use Rattle.render_core.specs.Frames.{FrameWithin, FramesFit, IsPlainFrame, MachineFits, PurposeWithin, after_text}
 use Rattle.render_core.specs.Frames.{call_of, frame_gives, machine_gives, mark_of, ops_ahead, over, past, past_with}

@@ -4,17 +4,17 @@ use Rattle.std.proofs.Common.{Option, Some, None, length, take, refl, sym, ap, â
 use Rattle.std.specs.Prelude.{is_some}
 use Rattle.std.specs.List.{slice_get}
 use Rattle.soy_tree.specs.Types.{Name}
-use Rattle.soy_tree.specs.Cost.{cost}
-use Rattle.soy_tree.specs.Val.{Binding, Known, operand, val}
+use Rattle.soy_rules.specs.Cost.{cost}
+use Rattle.soy_rules.specs.Val.{Binding, Known, operand, val}
 use Rattle.soy_tree.specs.ViewExpressions.{view_expr}
 use Rattle.soy_expr.specs.Evaluates.{IsWithin}
 use Rattle.soy_tree.specs.Values.{Items, IntValue, item, no_item}
 use Rattle.soy_tree.specs.Values as values
 use Rattle.soy_expr.specs.Parts.{child}
 use Rattle.soy_expr.specs.declared.evaluated.Made.TheVariants as made
-use Rattle.soy_meaning.specs.Giving.{BoundBlock, RunEnv}
-use Rattle.soy_meaning.specs.Outcome.{Outcome, RunEnds, WholeRun, continued_by, spent_first}
-use Rattle.soy_meaning.specs.Pieces.{listed_items, with_index}
+use Rattle.soy_pieces.specs.Giving.{BoundBlock, RunEnv}
+use Rattle.soy_pieces.specs.Outcome.{Outcome, RunEnds, WholeRun, continued_by, spent_first}
+use Rattle.soy_pieces.specs.Pieces.{listed_items, with_index}
 use Rattle.template_ir.specs.Run.{block_gives, one_step, turns_give}
 use Rattle.template_ir.specs.declared.op.Block.{Block}
 use Rattle.template_ir.specs.declared.op.Op.{Op}

@@ -3,10 +3,10 @@ use Rattle.std.proofs.Common.{◌≡◌, ℕ, zero, suc, ◌+◌, ◌<◌, List,
 use Rattle.std.proofs.Common.{true, false, arith, drop, length, slice_index_or}
 use Rattle.std.specs.List.{slice_get}
 use Rattle.std.specs.Prelude.{bytes_eq, unwrap_or}
-use Rattle.soy_tree.specs.Has.{entry_value}
+use Rattle.soy_rules.specs.Has.{entry_value}
 use Rattle.soy_tree.specs.Types.{Name}
 use Rattle.soy_tree.specs.Values.{Value, ListValue, NullValue, item, no_item}
-use Rattle.soy_tree.specs.Val.{item_value}
+use Rattle.soy_rules.specs.Val.{item_value}
 use Rattle.soy_tree.specs.ViewValues.{view_entries, view_items, view_value}
 use Rattle.soy_tree.specs.declared.value.Entry as code_entry
 use Rattle.soy_tree.specs.declared.value.Value as code

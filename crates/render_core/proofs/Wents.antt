@@ -5,14 +5,14 @@ use Rattle.std.specs.Prelude.{◌++◌, drop, encode_utf8_all, take}
 use Rattle.std.proofs.Math.Nat.{add-mul}
 use Rattle.std.proofs.lemmas.List.{nil_from_length}
 use Rattle.std.proofs.lemmas.Str.{length-le-encodes}
-use Rattle.html_state.specs.AfterPieces.{Piece}
+use Rattle.soy_base.specs.Piece.{Piece}
 use Rattle.soy_base.specs.declared.fault.TooDeep.{TooDeep}
 use Rattle.soy_base.specs.declared.memory.OutOfMemory.{OutOfMemory}
 use Rattle.soy_base.specs.declared.memory.Refusal.TheVariants as refusal
 use Rattle.soy_tree.specs.Values as values
-use Rattle.soy_meaning.specs.Outcome.{GivesPiece, Outcome, RunEnds, Spent, and_spent, end_of_outcome, none_spent}
-use Rattle.soy_meaning.specs.Outcome.{pieces_of_outcome, spent_first}
-use Rattle.soy_meaning.proofs.Outcomes.{first_none, first_twice}
+use Rattle.soy_pieces.specs.Outcome.{GivesPiece, Outcome, RunEnds, Spent, and_spent, end_of_outcome, none_spent}
+use Rattle.soy_pieces.specs.Outcome.{pieces_of_outcome, spent_first}
+use Rattle.soy_pieces.proofs.Outcomes.{first_none, first_twice}
 use Rattle.template_ir.specs.declared.program.ProgramParts.{ProgramParts}
 use Rattle.render_core.specs.Frames.{MachineFits, machine_gives}
 use Rattle.render_core.specs.Pulls.{Gave}

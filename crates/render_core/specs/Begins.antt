@@ -1,8 +1,8 @@
 -- How a rendering begins: its parameters are bound to fields of the data, or to null.
 use Rattle.std.specs.Prelude.{◌≡◌, ℕ, List, Option, Some, None, pos, slice_get, unwrap_or}
-use Rattle.soy_tree.specs.Has.{entry_value}
+use Rattle.soy_rules.specs.Has.{entry_value}
 use Rattle.soy_tree.specs.Types.{Name}
-use Rattle.soy_tree.specs.Val.{member_value}
+use Rattle.soy_rules.specs.Val.{member_value}
 use Rattle.soy_tree.specs.Values.{Entries, Value, NullValue}
 use Rattle.soy_expr.specs.Parts.{child, nth_entry_value}
 use Rattle.template_ir.specs.declared.op.Block.{Block}
@@ -11,6 +11,7 @@ use Rattle.render_core.specs.declared.held.Bound.{Bound}
 use Rattle.render_core.specs.declared.held.Held.{Held}
 use Rattle.render_core.specs.declared.held.Held.TheVariants as held
 use Rattle.soy_expr.specs.declared.evaluated.Made.TheVariants as made
+use Rattle.soy_pieces.specs.Pieces.{call_limit}
 
 -- the number of the first entry of a name
 abbrev pub EntryFound : Name → Entries → Option ℕ → Type 0
@@ -36,7 +37,7 @@ entry_frame body env = record {
   at = body.first;
   end = body.end;
   env = env;
-  left = 100;
+  left = call_limit;
   number = pos 0;
   mark = 0;
 }

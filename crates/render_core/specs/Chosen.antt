@@ -2,11 +2,11 @@
 --
 -- Example: of `{if $a}..{elseif $b}..{/if}` with `$a` false and `$b` true it is the second, and two nodes are valued.
 use Rattle.std.specs.Prelude.{ℕ, ◌+◌, List, [], ◌∷◌, Option, Some, if◌then◌else◌}
-use Rattle.soy_tree.specs.Cost.{cost}
-use Rattle.soy_tree.specs.Val.{is_truthy, val}
+use Rattle.soy_rules.specs.Cost.{cost}
+use Rattle.soy_rules.specs.Val.{is_truthy, val}
 use Rattle.soy_tree.specs.Values as values
-use Rattle.soy_meaning.specs.Giving.{RunEnv}
-use Rattle.soy_meaning.specs.Pieces.{is_one}
+use Rattle.soy_pieces.specs.Giving.{RunEnv}
+use Rattle.soy_pieces.specs.Pieces.{is_one}
 use Rattle.template_ir.specs.Ops.{Branch, Choice}
 use Rattle.template_ir.specs.declared.op.Block.{Block}
 

@@ -4,15 +4,15 @@ use Rattle.std.specs.Prelude.{Bool, true, false, if◌then◌else◌, nat_lt}
 use Rattle.std.specs.Borrow.{Bor}
 use Rattle.soy_base.specs.declared.memory.OutOfMemory.{OutOfMemory}
 use Rattle.soy_tree.specs.Expressions.{Expr, Coalesce, Conditional, Variable}
-use Rattle.soy_tree.specs.Val.{Binding, BlockOf, Known}
+use Rattle.soy_rules.specs.Val.{Binding, BlockOf, Known}
 use Rattle.soy_tree.specs.Values.{Items, Value, NullValue, item, no_item}
 use Rattle.soy_tree.specs.ViewValues.{view_value}
 use Rattle.soy_tree.specs.declared.value.Value as code
 use Rattle.soy_expr.specs.Evaluates.{IsWithin}
 use Rattle.soy_expr.specs.Parts.{child}
 use Rattle.soy_expr.specs.ViewEvaluated.{view_made}
-use Rattle.soy_meaning.specs.Giving.{BoundBlock}
-use Rattle.soy_meaning.specs.Pieces.{listed_items}
+use Rattle.soy_pieces.specs.Giving.{BoundBlock}
+use Rattle.soy_pieces.specs.Pieces.{listed_items}
 use Rattle.template_ir.specs.declared.program.ProgramParts.{ProgramParts}
 use Rattle.render_core.specs.Frames.{items_after}
 use Rattle.render_core.specs.Variables.{Cell, cells_of, held_means, kept_means, path_value}

@@ -6,7 +6,7 @@ use Rattle.soy_base.specs.declared.place.ValueClass.{ValueClass}
 use Rattle.escapers.specs.EscaperFor.{escaper_of}
 use Rattle.escapers.specs.declared.escaper.Escaper.{Escaper}
 use Rattle.escapers.specs.declared.escaper.Escaper.TheVariants as escaper
-use Rattle.soy_meaning.specs.EscapedAt.{escaped_at}
+use Rattle.soy_pieces.specs.EscapedAt.{escaped_at}
 
 abbrev pub form_at : Place → ValueClass → List ℕ → Dir → List ℕ
 form_at point class text context = unwrap_or (escaped_at point class text context) []

@@ -8,13 +8,13 @@ use Rattle.std.specs.Prelude.{ℕ, ℤ, zero, suc, ◌+◌, ◌≤◌, ◌<◌, 
 use Rattle.std.specs.Prelude.{drop, length, min, slice_get, take}
 use Rattle.soy_base.specs.declared.place.Place.{Place}
 use Rattle.soy_base.specs.declared.place.Place.TheVariants as place
-use Rattle.soy_tree.specs.Val.{Known}
+use Rattle.soy_rules.specs.Val.{Known}
 use Rattle.soy_tree.specs.Values.{Items, StringValue, no_item, item}
 use Rattle.soy_tree.specs.Values as values
 use Rattle.soy_expr.specs.declared.evaluated.Made.TheVariants as made
-use Rattle.soy_meaning.specs.Giving.{RunEnv}
-use Rattle.soy_meaning.specs.Outcome.{Outcome, RunEnds, WholeRun, continued_by, gathered, gives_nothing}
-use Rattle.soy_meaning.specs.Pieces.{listed_items}
+use Rattle.soy_pieces.specs.Giving.{RunEnv}
+use Rattle.soy_pieces.specs.Outcome.{Outcome, RunEnds, WholeRun, continued_by, gathered, gives_nothing}
+use Rattle.soy_pieces.specs.Pieces.{listed_items}
 use Rattle.template_ir.specs.Ops.{Handed}
 use Rattle.template_ir.specs.Run.{OpMeans, all_give, all_handed_give, block_gives, called_at, handed_env}
 use Rattle.template_ir.specs.Run.{kind_of_template, one_step, opened_gives, turns_give, value_gives}

@@ -3,7 +3,7 @@
 use Rattle.std.specs.Prelude.{◌≡◌, ℕ, ◌&&◌, Bool, true, List, [], ◌∷◌, ◌++◌, Some, bytes_eq, slice_get, slice_index_or}
 use Rattle.std.specs.Prelude.{take}
 use Rattle.soy_tree.specs.Types.{Name}
-use Rattle.soy_tree.specs.Val.{binding}
+use Rattle.soy_rules.specs.Val.{binding}
 use Rattle.soy_tree.specs.Values.{Value}
 use Rattle.template_ir.specs.declared.program.ProgramParts.{ProgramParts}
 use Rattle.render_core.specs.Keys.{agreed, fits_key, key_of, level_of, lowered, next_of}

@@ -8,12 +8,12 @@
 -- Example: of `ab` a pull into a room of one byte gives `a`.
 use Rattle.std.specs.Prelude.{◌≡◌, ℕ, ◌+◌, ◌≤◌, ◌<◌, ◌⊎◌, Bool, true, false, List, [], ◌++◌}
 use Rattle.std.specs.Prelude.{Result, Ok, Err, drop, length, min, take}
-use Rattle.html_state.specs.AfterPieces.{Piece}
+use Rattle.soy_base.specs.Piece.{Piece}
 use Rattle.soy_base.specs.declared.fault.TooDeep.{TooDeep}
 use Rattle.soy_base.specs.declared.memory.Refusal.{Refusal}
 use Rattle.soy_base.specs.declared.memory.Refusal.TheVariants as refusal
-use Rattle.soy_meaning.specs.Outcome.{GivesPiece, RunEnd, Spent, StopsAt, end_of_outcome, pieces_of_outcome}
-use Rattle.soy_meaning.specs.Outcome.{spent_first}
+use Rattle.soy_pieces.specs.Outcome.{GivesPiece, RunEnd, Spent, StopsAt, end_of_outcome, pieces_of_outcome}
+use Rattle.soy_pieces.specs.Outcome.{spent_first}
 use Rattle.render_core.specs.Rest.{IsWhole, Rest, first_spent, piece_bytes}
 
 -- the end of a run that stops at this call

@@ -6,12 +6,12 @@
 -- and the end.
 use Rattle.std.specs.Prelude.{◌≡◌, ℕ, ◌≤◌, ◌<◌, Bool, true, false, List, [], ◌∷◌, ◌++◌, Option, Some, None}
 use Rattle.std.specs.Prelude.{drop, encode_utf8_all, length, slice_get}
-use Rattle.html_state.specs.AfterPieces.{Piece, Static, Value}
+use Rattle.soy_base.specs.Piece.{Piece, Static, Value}
 use Rattle.soy_tree.specs.Values.{StringValue}
 use Rattle.soy_tree.specs.Values as values
-use Rattle.soy_meaning.specs.Meaning.{joined_pieces}
-use Rattle.soy_meaning.specs.Outcome.{GivesPiece, Outcome, RunEnd, RunEnds, Spent, WholeRun, end_of_outcome}
-use Rattle.soy_meaning.specs.Outcome.{pieces_of_outcome, spent_first}
+use Rattle.soy_pieces.specs.Meaning.{joined_pieces}
+use Rattle.soy_pieces.specs.Outcome.{GivesPiece, Outcome, RunEnd, RunEnds, Spent, WholeRun, end_of_outcome}
+use Rattle.soy_pieces.specs.Outcome.{pieces_of_outcome, spent_first}
 use Rattle.template_ir.specs.declared.op.Op.{Op}
 use Rattle.template_ir.specs.declared.op.Op.TheVariants as op
 use Rattle.template_ir.specs.declared.program.ProgramParts.{ProgramParts}

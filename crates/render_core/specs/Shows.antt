@@ -2,9 +2,9 @@
 use Rattle.std.specs.Prelude.{◌≡◌, ℕ, ◌≤◌, List, encode_utf8_all, pos}
 use Rattle.std.specs.Str.{chars}
 use Rattle.soy_base.specs.declared.place.ValueClass.{ValueClass}
-use Rattle.soy_tree.specs.Val.{Binding, BlockOf, Known, value_text}
+use Rattle.soy_rules.specs.Val.{Binding, BlockOf, Known, value_text}
 use Rattle.soy_tree.specs.Values.{Value}
-use Rattle.soy_meaning.specs.Giving.{BoundBlock, value_class}
+use Rattle.soy_pieces.specs.Giving.{BoundBlock, value_class}
 use Rattle.template_ir.specs.declared.program.ProgramParts.{ProgramParts}
 use Rattle.render_core.specs.Rest.{string_text}
 use Rattle.render_core.specs.Variables.{Cell, kept_means, path_value}

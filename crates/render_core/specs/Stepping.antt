@@ -4,7 +4,7 @@
 -- is pending falls: how many parameters a call has still to hand.
 use Rattle.std.specs.Prelude.{◌≡◌, ℕ, ◌+◌, ◌-◌, ◌*◌, ◌≤◌, ◌<◌, ◌⊎◌, List, [], ◌∷◌, Option, Some, None, Result, Ok}
 use Rattle.std.specs.Prelude.{Err, encode_utf8_all, length, max, min, slice_get, take, true, false}
-use Rattle.html_state.specs.AfterPieces.{Piece}
+use Rattle.soy_base.specs.Piece.{Piece}
 use Rattle.soy_base.specs.declared.fault.TooDeep.{TooDeep}
 use Rattle.soy_base.specs.declared.kind.Kind.{Kind}
 use Rattle.soy_base.specs.declared.kind.Kind.TheVariants as kind
@@ -12,8 +12,8 @@ use Rattle.soy_base.specs.declared.memory.OutOfMemory.{OutOfMemory}
 use Rattle.soy_base.specs.declared.memory.Refusal.{Refusal}
 use Rattle.soy_base.specs.declared.memory.Refusal.TheVariants as refusal
 use Rattle.soy_tree.specs.Values as values
-use Rattle.soy_meaning.specs.Outcome.{GivesPiece, Outcome, Spent, end_of_outcome, none_spent, pieces_of_outcome}
-use Rattle.soy_meaning.specs.Outcome.{spent_first}
+use Rattle.soy_pieces.specs.Outcome.{GivesPiece, Outcome, Spent, end_of_outcome, none_spent, pieces_of_outcome}
+use Rattle.soy_pieces.specs.Outcome.{spent_first}
 use Rattle.template_ir.specs.declared.op.Block.{Block}
 use Rattle.template_ir.specs.declared.op.Op.{Op}
 use Rattle.template_ir.specs.declared.op.Op.TheVariants as op

@@ -7,14 +7,14 @@
 use Rattle.std.specs.Prelude.{ℕ, zero, suc, pos, List, [], ◌∷◌, Option, Some, None, if◌then◌else◌}
 use Rattle.std.specs.Prelude.{slice_get, slice_index_or}
 use Rattle.soy_tree.specs.Types.{Name}
-use Rattle.soy_tree.specs.Val.{Binding, BlockOf, Known}
+use Rattle.soy_rules.specs.Val.{Binding, BlockOf, Known}
 use Rattle.soy_tree.specs.Values.{Value, NullValue}
 use Rattle.soy_tree.specs.declared.tree.Param.{Param}
 use Rattle.soy_expr.specs.Parts.{child}
 use Rattle.soy_expr.specs.ViewEvaluated.{view_made}
-use Rattle.soy_meaning.specs.Giving.{BoundBlock, RunEnv}
+use Rattle.soy_pieces.specs.Giving.{BoundBlock, RunEnv}
 use Rattle.template_ir.specs.Run.{all_give, block_gives}
-use Rattle.template_ir.specs.Table.{table}
+use Rattle.soy_base.specs.Table.{table}
 use Rattle.template_ir.specs.ViewOps.{view_program}
 use Rattle.template_ir.specs.declared.op.Handed.{Handed}
 use Rattle.template_ir.specs.declared.op.Op.{Op}
@@ -51,13 +51,13 @@ abbrev pub handed_name : ℕ → Op → Option Name
 handed_name number (op.Call c) = handed_of (slice_get c.given number)
 handed_name number _ = None
 
-abbrev pub param_of : Option Param → Option Name
-param_of None = None
-param_of (Some param) = Some param.name
+abbrev pub name_of_param : Option Param → Option Name
+name_of_param None = None
+name_of_param (Some param) = Some param.name
 
 abbrev pub param_name : ℕ → Option Routine → Option Name
 param_name number None = None
-param_name number (Some r) = param_of (slice_get r.params number)
+param_name number (Some r) = name_of_param (slice_get r.params number)
 
 abbrev pub of_op : (Op → Option Name) → Option Op → Option Name
 of_op name None = None

@@ -3,12 +3,12 @@
 ghost use Rattle.std.specs.Option.{option_or};
 ghost use Rattle.std.specs.Prelude.{◌≡◌, map, codes};
 ghost use Rattle.std.specs.Str.{chars};
-ghost use Rattle.soy_tree.specs.Val.{is_same_value, operand, val};
-ghost use Rattle.soy_tree.specs.Cost.{cost};
+ghost use Rattle.soy_rules.specs.Val.{is_same_value, operand, val};
+ghost use Rattle.soy_rules.specs.Cost.{cost};
 ghost use Rattle.soy_tree.specs.ViewExpressions.{view_expr, view_exprs};
 ghost use Rattle.soy_expr.specs.ViewShallow.{view_shallow};
-ghost use Rattle.soy_meaning.specs.Branch.{int_of, word_of};
-ghost use Rattle.soy_meaning.specs.Pieces.{is_one, valued};
+ghost use Rattle.soy_pieces.specs.Branch.{int_of, word_of};
+ghost use Rattle.soy_pieces.specs.Pieces.{is_one, valued};
 ghost use Rattle.template_ir.specs.Run.{exact_block, named_block, plural_block, select_block, word_block};
 ghost use Rattle.template_ir.specs.ViewOps.{view_branch, view_choice, view_program};
 ghost use Rattle.render_core.specs.Chosen.{added_cost, branch_chosen, choice_chosen};

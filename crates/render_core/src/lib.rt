@@ -3,7 +3,7 @@
 //! `Rendering::begin` makes a rendering of a template of a program under data, and each `pull` gives the next bytes. A
 //! rendering keeps frames of numbers and variables, which name parts of the data by place, and is handed program and
 //! data again at each call. Its contracts are over `Rest`: at first what `run` gives, and after each pull what follows.
-//! Depends on soy_base, soy_tree, soy_expr, soy_meaning, template_ir and value_cursor.
+//! Depends on soy_base, soy_tree, soy_rules, soy_expr, soy_pieces, template_ir and value_cursor.
 #![tactic(auto)]
 
 mod begun;

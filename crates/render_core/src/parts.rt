@@ -1,7 +1,7 @@
 //! The parts of the data that variables are bound to.
 
 ghost use Rattle.std.specs.Prelude.{◌≡◌, [], IfOk, option_map, slice_get};
-ghost use Rattle.soy_tree.specs.Val.{Known, binding, item_value};
+ghost use Rattle.soy_rules.specs.Val.{Known, binding, item_value};
 ghost use Rattle.soy_tree.specs.ViewValues.{view_entries, view_items, view_value};
 ghost use Rattle.soy_expr.specs.ForgottenBlocks.{forgotten};
 ghost use Rattle.soy_expr.specs.Parts.{child, nth_entry_value};

@@ -4,15 +4,16 @@ ghost use Rattle.std.specs.Prelude.{◌≡◌, ◌<◌, ◌≤◌, ◌++◌, ℕ
 ghost use Rattle.soy_tree.specs.ViewTrees.{view_params};
 ghost use Rattle.soy_tree.specs.ViewValues.{view_entries, view_value};
 ghost use Rattle.soy_tree.specs.Values as values;
-ghost use Rattle.soy_meaning.specs.Outcome.{end_of_outcome, pieces_of_outcome};
-ghost use Rattle.template_ir.specs.Run.{input_env, names_of, run};
+ghost use Rattle.soy_pieces.specs.Outcome.{end_of_outcome, pieces_of_outcome};
+ghost use Rattle.template_ir.specs.Run.{run};
+ghost use Rattle.soy_pieces.specs.InputEnv.{input_env, names_of};
 ghost use Rattle.template_ir.specs.ViewOps.{view_program};
 ghost use Rattle.template_ir.specs.declared.program.ProgramParts.{ProgramParts};
 ghost use Rattle.render_core.specs.Begins.{EntryFound, FieldFound, HasRoot, entry_frame, held_field};
 ghost use Rattle.render_core.specs.Pulls.{Fresh, Gave, Pulls, stops_at};
 ghost use Rattle.render_core.specs.Rest.{BegunFits, Fits, IsWhole, begun_left, has_ended};
 ghost use Rattle.render_core.specs.Rest.{rest_bytes, rest_end, rest_of, solid};
-ghost use Rattle.render_core.specs.Variables.{cells_of, env_at, name_there, param_of};
+ghost use Rattle.render_core.specs.Variables.{cells_of, env_at, name_there, name_of_param};
 ghost use Rattle.render_core.specs.declared.frame.Frame.TheVariants as frame;
 ghost use Rattle.render_core.specs.declared.held.Naming.TheVariants as naming;
 
@@ -294,7 +295,7 @@ fn bind_params(
     params: &[Param],
 ) -> Result<usize, OutOfMemory>
     requires root { HasRoot bound.old }
-    requires params { (number : ℕ) → param_of (slice_get params.now number)
+    requires params { (number : ℕ) → name_of_param (slice_get params.now number)
         ≡ name_there scene.now.program.now (naming.Param template number) }
     ensures env { IfOk result (λ n.
         env_at (cells_of scene.now.program.now (view_value scene.now.input.now) bound.new) n

@@ -8,7 +8,7 @@ ghost use Rattle.soy_expr.specs.ViewShallow.{view_shallow};
 ghost use Rattle.render_core.specs.Finds.{FoundWithin, found_means, part_value};
 ghost use Rattle.render_core.specs.Seen.{cells_seen, program_seen};
 ghost use Rattle.render_core.specs.Shows.{IsShownAtHand, Shows, ShowsValue};
-ghost use Rattle.soy_tree.specs.Val.{Known};
+ghost use Rattle.soy_rules.specs.Val.{Known};
 ghost use Rattle.soy_tree.specs.Values.{IntValue};
 ghost use Rattle.render_core.specs.Variables.{path_value};
 

@@ -3,7 +3,7 @@
 ghost use Rattle.std.specs.Prelude.{◌≡◌, ◌<◌, ◌∷◌, ℕ, [], false, OnOk, OnErr, None, Ok, Some, length, slice_get};
 ghost use Rattle.soy_tree.specs.Values as values;
 ghost use Rattle.soy_tree.specs.ViewValues.{view_value};
-ghost use Rattle.soy_meaning.specs.Outcome.{RunEnds, WholeRun};
+ghost use Rattle.soy_pieces.specs.Outcome.{RunEnds, WholeRun};
 ghost use Rattle.template_ir.specs.Run.{arm_gives, one_step};
 ghost use Rattle.template_ir.specs.declared.op.Op.TheVariants as op;
 ghost use Rattle.template_ir.specs.declared.program.ProgramParts as code_parts;

@@ -1,9 +1,9 @@
 //! Prints.
 
 ghost use Rattle.std.specs.Prelude.{◌≡◌, ◌<◌, ◌∷◌, ℕ, IfOk, None, OnOk, OnErr, Some, length, slice_get};
-ghost use Rattle.soy_tree.specs.Val.{Binding};
+ghost use Rattle.soy_rules.specs.Val.{Binding};
 ghost use Rattle.soy_tree.specs.ViewValues.{view_value};
-ghost use Rattle.soy_meaning.specs.Giving.{BoundBlock};
+ghost use Rattle.soy_pieces.specs.Giving.{BoundBlock};
 ghost use Rattle.template_ir.specs.Run.{print_gives};
 ghost use Rattle.template_ir.specs.declared.op.Op.TheVariants as op;
 ghost use Rattle.render_core.specs.Frames.{MachineFits, call_place, past, text_bound};

@@ -1,8 +1,8 @@
 //! The values of expressions, blocks included.
 
 ghost use Rattle.std.specs.Prelude.{◌≡◌, IfOk, length};
-ghost use Rattle.soy_tree.specs.Cost.{cost};
-ghost use Rattle.soy_tree.specs.Val.{binding, is_null, is_truthy, val};
+ghost use Rattle.soy_rules.specs.Cost.{cost};
+ghost use Rattle.soy_rules.specs.Val.{binding, is_null, is_truthy, val};
 ghost use Rattle.soy_tree.specs.ViewExpressions.{view_expr};
 ghost use Rattle.soy_tree.specs.Values.{ListValue};
 ghost use Rattle.soy_tree.specs.ViewValues.{view_items, view_value};

@@ -52,9 +52,6 @@ right_parenthesis = 0x29
 abbrev pub asterisk : ℕ
 asterisk = 0x2a
 
-abbrev pub plus_sign : ℕ
-plus_sign = 0x2b
-
 abbrev pub comma : ℕ
 comma = 0x2c
 
@@ -85,17 +82,8 @@ greater_than = 0x3e
 abbrev pub question_mark : ℕ
 question_mark = 0x3f
 
-abbrev pub commercial_at : ℕ
-commercial_at = 0x40
-
-abbrev pub left_bracket : ℕ
-left_bracket = 0x5b
-
 abbrev pub backslash : ℕ
 backslash = 0x5c
-
-abbrev pub right_bracket : ℕ
-right_bracket = 0x5d
 
 abbrev pub underscore : ℕ
 underscore = 0x5f
@@ -106,14 +94,8 @@ backtick = 0x60
 abbrev pub left_brace : ℕ
 left_brace = 0x7b
 
-abbrev pub vertical_bar : ℕ
-vertical_bar = 0x7c
-
 abbrev pub right_brace : ℕ
 right_brace = 0x7d
-
-abbrev pub next_line : ℕ
-next_line = 0x85
 
 abbrev pub no_break_space : ℕ
 no_break_space = 0xa0
@@ -123,6 +105,3 @@ line_separator = 0x2028
 
 abbrev pub paragraph_separator : ℕ
 paragraph_separator = 0x2029
-
-abbrev pub replacement_character : ℕ
-replacement_character = 0xfffd

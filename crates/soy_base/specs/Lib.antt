@@ -11,3 +11,7 @@ pub mod Stacks
 pub mod StateAfter
 pub mod WhiteSpace
 pub mod formers
+pub mod Piece
+pub mod Table
+pub mod Limits
+pub mod Path

@@ -8,11 +8,13 @@
 -- Example: in the bytes of "a", CR, LF, "é", "b" the offset 5, before the "b", is in line 2, column 2.
 use Rattle.std.specs.Prelude.{ℕ, suc, zero, ◌+◌, ◌-◌, ◌==◌, ◌&&◌, ◌||◌, not, nat_lt, Bool, List, if◌then◌else◌}
 use Rattle.std.specs.Prelude.{slice_index, take, drop, count_by}
+use Rattle.soy_base.specs.Characters.{line_feed, carriage_return}
 
 -- whether a line break ends right after the byte at `at`; past the end of a text the byte is 0
 abbrev pub is_break_end : List ℕ → ℕ → Bool
 is_break_end text at =
-    (slice_index text at == 10) || ((slice_index text at == 13) && not (slice_index text (at + 1) == 10))
+    (slice_index text at == line_feed)
+    || ((slice_index text at == carriage_return) && not (slice_index text (at + 1) == line_feed))
 
 -- the number of line breaks that end within the first bytes of a text
 unfoldable pub breaks_within : List ℕ → ℕ → ℕ

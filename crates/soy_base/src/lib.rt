@@ -16,6 +16,7 @@ mod memory;
 mod name;
 mod path;
 mod place;
+mod places;
 mod position;
 mod push;
 mod row;
@@ -38,13 +39,14 @@ pub use memory::{OutOfMemory, Refusal};
 pub use name::{begins_name, continues_name, is_dotted_name, is_name};
 pub use path::PathStep;
 pub use place::{Place, Placing, ValueClass};
+pub use places::Places;
 pub use position::{Position, line_of};
 pub use push::{push_char, push_text};
 pub use row::Row;
 pub use seq::Seq;
 pub use stack::Stack;
 pub use steps::Steps;
-pub use text::Text;
+pub use text::{Text, copied_name, text_of};
 pub use white::{is_line_break, is_template_space};
 
 #[cfg(test)]

@@ -96,3 +96,20 @@ impl PartialEq for Text {
 impl Eq for Text {
     ghost laws = { Prim.search (comparing, rules) };
 }
+
+/// The text of a string slice.
+pub fn text_of(alloc: Global, text: &str) -> Result<Text, OutOfMemory>
+    ensures { IfOk result (λ t. t ≡ chars text.now) }
+{
+    Ok(Text::new(String::from_str(alloc, text)?))
+}
+
+/// An equal text, if there is one.
+pub fn copied_name(alloc: Global, name: &Option<Text>) -> Result<Option<Text>, OutOfMemory>
+    ensures { IfOk result (λ n. n ≡ name.now) }
+{
+    match name {
+        None => Ok(None),
+        Some(name) => Ok(Some(name.copy(alloc)?)),
+    }
+}

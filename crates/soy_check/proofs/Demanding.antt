@@ -5,10 +5,10 @@ use Rattle.soy_base.specs.declared.code.Code.TheVariants as code
 use Rattle.soy_base.specs.declared.fault.Span.{Span}
 use Rattle.soy_tree.specs.Types.{Name}
 use Rattle.soy_tree.specs.Trees.{Param}
-use Rattle.soy_tree.specs.TypeOf.{Scope}
-use Rattle.soy_tree.specs.Faults.{fails, followed_by}
-use Rattle.soy_tree.specs.Declarations.{is_among}
-use Rattle.soy_tree.specs.Bodies.{Around, Checked, param_demand, param_demands}
+use Rattle.soy_rules.specs.TypeOf.{Scope}
+use Rattle.soy_rules.specs.Faults.{fails, followed_by}
+use Rattle.soy_base.specs.Among.{is_among}
+use Rattle.soy_rules.specs.Bodies.{Around, Checked, param_demand, param_demands}
 use Rattle.soy_tree.specs.ViewTrees.{view_param, view_params}
 use Rattle.soy_tree.specs.declared.tree.Param as code_param
 use Rattle.soy_check.specs.Named.{required_in}
@@ -37,7 +37,7 @@ one_more c given span p ps scope true e rest =
     (demands c given span (required_in ps)) rest
 one_more c given span p ps scope false e rest =
     ap (λ (r : Checked). followed_by r (demands c given span ps))
-    (none_asked (is_among p.name given) p.required span (view_param p) scope e)
+    (none_asked (is_among given p.name) p.required span (view_param p) scope e)
     ∙ rest scope
 
 pub required_alone : (c : Around) (given : List Name) (span : Span) (ps : List code_param.Param) (scope : Scope)

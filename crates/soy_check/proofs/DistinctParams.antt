@@ -6,14 +6,15 @@ use Rattle.std.specs.Option.{option_or}
 use Rattle.std.proofs.lemmas.Slice.Eq.{bytes_eq-Decides}
 use Rattle.soy_tree.specs.declared.tree.Param as code
 use Rattle.soy_tree.specs.Types.{Name}
-use Rattle.soy_tree.specs.Declarations.{declaration_fault, is_among, params_fault, twice, type_fault}
-use Rattle.soy_tree.specs.Demands.{declarations_fault, in_file}
-use Rattle.soy_tree.specs.Templates.{full_name, param_scope, param_type}
+use Rattle.soy_rules.specs.Declarations.{declaration_fault, params_fault, twice, type_fault}
+use Rattle.soy_base.specs.Among.{is_among}
+use Rattle.soy_rules.specs.Demands.{declarations_fault, in_file}
+use Rattle.soy_rules.specs.Templates.{full_name, param_scope, param_type}
 use Rattle.soy_tree.specs.Trees.{Param}
-use Rattle.soy_tree.specs.TypeOf.{variable_type}
+use Rattle.soy_rules.specs.TypeOf.{variable_type}
 use Rattle.soy_tree.specs.ViewTrees.{view_param, view_params}
 use Rattle.soy_check.specs.declared.template.Indexed.{Indexed}
-use Rattle.soy_tree.specs.ViewTemplates.{view_declared}
+use Rattle.soy_rules.specs.ViewTemplates.{view_declared}
 use Rattle.soy_check.specs.ViewAround.{view_all}
 
 -- where neither of two is there, the first isn't and the second isn't
@@ -35,8 +36,8 @@ none_not : {A : Type 0} (b : Bool) (x : A) → (if b then Some x else None) ≡ 
 none_not true x h = cc
 none_not false x h = refl
 
-not_twice : (at : ℕ) (name : Name) (before : List Name) → twice at name before ≡ None → is_among name before ≡ false
-not_twice at name before h = none_not (is_among name before) _ h
+not_twice : (at : ℕ) (name : Name) (before : List Name) → twice at name before ≡ None → is_among before name ≡ false
+not_twice at name before h = none_not (is_among before name) _ h
 
 or_true : (a b : Bool) → b ≡ true → (a || b) ≡ true
 or_true true b h = refl
@@ -44,7 +45,7 @@ or_true false b h = h
 
 -- no parameter has the name of one before
 later : (ps : List Param) (before : List Name) (name : Name) → params_fault ps before ≡ None
-    → is_among name before ≡ true → variable_type name (param_scope ps) ≡ None
+    → is_among before name ≡ true → variable_type name (param_scope ps) ≡ None
 later [] before name h there = refl
 later (p ∷ ps) before name h there =
     by (bytes_eq p.name name) refl (λ gone. later ps (p.name ∷ before) name rest gone)
@@ -52,16 +53,16 @@ later (p ∷ ps) before name h there =
     rest : params_fault ps (p.name ∷ before) ≡ None
     rest = second_none (type_fault p.of p.span.start true) _ (second_none (twice p.span.start p.name before) _ h)
 
-    new : is_among p.name before ≡ false
+    new : is_among before p.name ≡ false
     new = not_twice p.span.start p.name before (first_none (twice p.span.start p.name before) _ h)
 
     by : (b : Bool) → bytes_eq p.name name ≡ b
-        → (is_among name (p.name ∷ before) ≡ true → variable_type name (param_scope ps) ≡ None)
+        → (is_among (p.name ∷ before) name ≡ true → variable_type name (param_scope ps) ≡ None)
         → (if b then Some (param_type p) else variable_type name (param_scope ps)) ≡ None
     by true e next =
         let same : p.name ≡ name = (bytes_eq-Decides p.name name).0 e in
-        let no : is_among name before ≡ false = subst (λ (n : Name). is_among n before ≡ false) same new in cc
-    by false e next = next (or_true (bytes_eq name p.name) (is_among name before) there)
+        let no : is_among before name ≡ false = subst (λ (n : Name). is_among before n ≡ false) same new in cc
+    by false e next = next (or_true (bytes_eq name p.name) (is_among before name) there)
 
 -- the name of a parameter isn't that of one after it
 pub new_name : (params : List code.Param) (before : List Name) (i : ℕ) (p : code.Param)
@@ -75,8 +76,8 @@ new_name (x ∷ params) before zero p h below is =
     (second_none (twice x.span.start x.name before) _ h)))
     (own p.name before)
   where
-    own : (name : Name) (before : List Name) → is_among name (name ∷ before) ≡ true
-    own name before = ap (λ b. b || is_among name before) ((bytes_eq-Decides name name).1 refl)
+    own : (name : Name) (before : List Name) → is_among (name ∷ before) name ≡ true
+    own name before = ap (λ b. b || is_among before name) ((bytes_eq-Decides name name).1 refl)
 new_name (x ∷ params) before (suc i) p h below is =
     let e : suc i + 1 ≡ suc (i + 1) = omega arith in
     rw e (new_name params (x.name ∷ before) i p

@@ -5,7 +5,7 @@ use Rattle.std.proofs.lemmas.Map.Text.{hash_map_updates_str}
 use Rattle.std.specs.HashMap.{HashMap, UpdatesBy, get_by}
 use Rattle.std.specs.Str.{IsUtf8, chars}
 use Rattle.soy_base.proofs.Texts.{bytes_eq-chars}
-use Rattle.soy_tree.specs.Bodies.{param_of}
+use Rattle.soy_rules.specs.Bodies.{param_of}
 use Rattle.soy_tree.specs.ViewTrees.{view_param, view_params}
 use Rattle.soy_tree.specs.declared.tree.Param as code
 use Rattle.soy_check.specs.Named.{FindsParams, first_named}

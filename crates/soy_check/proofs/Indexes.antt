@@ -9,7 +9,7 @@ use Rattle.std.proofs.lemmas.List.{length-map, reverse-reverse}
 use Rattle.std.proofs.lemmas.Option.{slice_get_past}
 use Rattle.std.proofs.lemmas.Slice.Eq.{bytes_eq-Decides}
 use Rattle.soy_tree.specs.Types.{Name}
-use Rattle.soy_tree.specs.Templates.{Declared, full_name, template_of}
+use Rattle.soy_rules.specs.Templates.{Declared, full_name, template_of}
 use Rattle.soy_check.specs.declared.template.Indexed.{Indexed}
 use Rattle.soy_check.specs.FullNames.{full, full_names}
 use Rattle.soy_check.specs.ViewAround.{view_all, view_indexed}

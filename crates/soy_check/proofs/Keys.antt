@@ -9,7 +9,7 @@ use Rattle.std.proofs.lemmas.List.{map-append, length-map, reverse-append, rever
 use Rattle.std.proofs.lemmas.List.Folds.{list_any-append, list_all-append}
 use Rattle.std.proofs.lemmas.Grind.{reverse_onto}
 use Rattle.soy_base.proofs.Texts.{bytes_eq-chars}
-use Rattle.soy_tree.specs.Declarations.{is_among}
+use Rattle.soy_base.specs.Among.{is_among}
 
 abbrev pub key_names : List (Bor (List ℕ)) → List (List ℕ)
 key_names keys = map (λ key. chars key.now) keys
@@ -33,11 +33,11 @@ same_key bytes key text is = bytes_eq-chars bytes key.now text (IsUtf8-from_is_u
 
 -- the set has the names of its keys
 has_key-names : (keys : List (Bor (List ℕ))) (bytes : List ℕ) → IsUtf8 bytes → are_texts keys ≡ true
-    → is_among (chars bytes) (key_names keys) ≡ has_key keys bytes
+    → is_among (key_names keys) (chars bytes) ≡ has_key keys bytes
 has_key-names [] bytes text all = refl
 has_key-names (key ∷ keys) bytes text all =
     let both : (is_utf8 key.now ≡ true) × (are_texts keys ≡ true) = both_true (is_utf8 key.now) (are_texts keys) all in
-    ap (λ b. b || is_among (chars bytes) (key_names keys)) (sym (same_key bytes key text both.0))
+    ap (λ b. b || is_among (key_names keys) (chars bytes)) (sym (same_key bytes key text both.0))
     ∙ ap (λ b. bytes_eq bytes key.now || b) (has_key-names keys bytes text both.1)
 
 or_turned : (a b : Bool) → (a || (b || false)) ≡ (b || a)
@@ -53,15 +53,15 @@ any_reverse test (x ∷ xs) =
     ∙ ap (λ b. b || (test x || false)) (any_reverse test xs) ∙ or_turned (list_any test xs) (test x)
 
 pub is_seen : (keys : List (Bor (List ℕ))) (bytes : List ℕ) → IsUtf8 bytes → are_texts keys ≡ true
-    → is_among (chars bytes) (seen keys) ≡ has_key keys bytes
+    → is_among (seen keys) (chars bytes) ≡ has_key keys bytes
 is_seen keys bytes text all = any_reverse (bytes_eq (chars bytes)) (key_names keys) ∙ has_key-names keys bytes text all
 
 inserted : (keys new : List (Bor (List ℕ))) (name : Bor (List ℕ)) (is_new has : Bool) → IsUtf8 name.now
     → are_texts keys ≡ true → has_key keys name.now ≡ has → is_new ≡ not has
     → new ≡ cond has keys (keys ++ (name ∷ []))
     → MatchBool is_new
-    ((is_among (chars name.now) (seen keys) ≡ false) × (seen new ≡ chars name.now ∷ seen keys))
-    ((is_among (chars name.now) (seen keys) ≡ true) × (seen new ≡ seen keys))
+    ((is_among (seen keys) (chars name.now) ≡ false) × (seen new ≡ chars name.now ∷ seen keys))
+    ((is_among (seen keys) (chars name.now) ≡ true) × (seen new ≡ seen keys))
 inserted keys new name true true text all e n k = let h : true ≡ false = n in cc
 inserted keys new name true false text all e n k = (
   is_seen keys name.now text all ∙ e,
@@ -76,8 +76,8 @@ pub seen-insert : (keys new : List (Bor (List ℕ))) (name : Bor (List ℕ)) (is
     → are_texts keys ≡ true → is_new ≡ not (has_key keys name.now)
     → new ≡ cond (has_key keys name.now) keys (keys ++ (name ∷ []))
     → MatchBool is_new
-    ((is_among (chars name.now) (seen keys) ≡ false) × (seen new ≡ chars name.now ∷ seen keys))
-    ((is_among (chars name.now) (seen keys) ≡ true) × (seen new ≡ seen keys))
+    ((is_among (seen keys) (chars name.now) ≡ false) × (seen new ≡ chars name.now ∷ seen keys))
+    ((is_among (seen keys) (chars name.now) ≡ true) × (seen new ≡ seen keys))
 seen-insert keys new name is_new text all n k =
     inserted keys new name is_new (has_key keys name.now) text all refl n k
 

@@ -20,12 +20,12 @@ use Rattle.soy_base.specs.declared.code.Code.TheVariants as code
 use Rattle.soy_base.specs.declared.fault.Span.{Span}
 use Rattle.soy_tree.specs.Types.{Name, SoyType, NullType, BoolType, IntType, StringType, HtmlType, AttributesType}
 use Rattle.soy_tree.specs.Types.{ListType, MapType, RecordType, UnionType}
-use Rattle.soy_tree.specs.TypeText.{type_text}
+use Rattle.soy_rules.specs.TypeText.{type_text}
 use Rattle.soy_tree.specs.Expressions.{Expr, span_of}
-use Rattle.soy_tree.specs.Faults.{TypeFault, followed_by, mistyped}
-use Rattle.soy_tree.specs.TypeOf.{Scope, type_of, variable_type}
+use Rattle.soy_rules.specs.Faults.{TypeFault, followed_by, mistyped}
+use Rattle.soy_rules.specs.TypeOf.{Scope, type_of, variable_type}
 use Rattle.soy_tree.specs.Nodes.{Nodes, For}
-use Rattle.soy_tree.specs.Bodies.{Around, Checked, after_node, after_nodes, loop_scope, new_variable, new_variables}
+use Rattle.soy_rules.specs.Bodies.{Around, Checked, after_node, after_nodes, loop_scope, new_variable, new_variables}
 use Rattle.soy_check.specs.Rules.{item_type, loop_start, with_pair}
 
 unchanged_if : (b : Bool) (f : TypeFault) (s : Scope) (new : Scope) → (if b then Err f else Ok s) ≡ Ok new → new ≡ s

@@ -8,13 +8,13 @@ use Rattle.soy_tree.specs.Types.{SoyType}
 use Rattle.soy_tree.specs.declared.node.Node as code_node
 use Rattle.soy_tree.specs.declared.tree.Param as code_param
 use Rattle.soy_tree.specs.ViewTrees.{view_params}
-use Rattle.soy_tree.specs.Demands.{fault_of}
+use Rattle.soy_rules.specs.Demands.{fault_of}
 use Rattle.soy_tree.specs.Trees.{Param}
 use Rattle.soy_tree.specs.Expressions.{Expr, span_of}
-use Rattle.soy_tree.specs.Faults.{TypeFault, followed_by}
-use Rattle.soy_tree.specs.TypeOf.{Scope, type_of}
-use Rattle.soy_tree.specs.Templates.{param_scope, param_type}
-use Rattle.soy_tree.specs.Bodies.{Checked, accepted, handed, plain_argument}
+use Rattle.soy_rules.specs.Faults.{TypeFault, followed_by}
+use Rattle.soy_rules.specs.TypeOf.{Scope, type_of}
+use Rattle.soy_rules.specs.Templates.{param_scope, param_type}
+use Rattle.soy_rules.specs.Bodies.{Checked, accepted, handed, plain_argument}
 use Rattle.soy_expr.specs.declared.type_fault.TypeFault as code
 use Rattle.soy_check.specs.Answers.{Ends, Finds, Passes}
 

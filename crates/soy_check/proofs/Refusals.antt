@@ -5,8 +5,8 @@ use mathlib.Core.Path.{refl, ap}
 use Rattle.soy_base.specs.declared.memory.Refusal.{Refusal}
 use Rattle.soy_base.specs.declared.memory.Refusal.TheVariants as refusal
 use Rattle.soy_tree.specs.Types.{SoyType}
-use Rattle.soy_tree.specs.Faults.{TypeFault, followed_by}
-use Rattle.soy_tree.specs.Demands.{CheckFault}
+use Rattle.soy_rules.specs.Faults.{TypeFault, followed_by}
+use Rattle.soy_rules.specs.Demands.{CheckFault}
 use Rattle.soy_expr.specs.declared.type_fault.TypeFault as code
 use Rattle.soy_expr.specs.ViewTypeFault.{FirstRefusal, Keeps}
 use Rattle.soy_check.specs.declared.checker.CheckFault as code_check

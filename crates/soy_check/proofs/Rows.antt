@@ -28,11 +28,11 @@ use Rattle.soy_tree.specs.declared.node.Given.TheVariants as given
 use Rattle.soy_tree.specs.Types.{Name, SoyType}
 use Rattle.soy_tree.specs.Trees.{Param}
 use Rattle.soy_tree.specs.Expressions.{Expr}
-use Rattle.soy_tree.specs.Faults.{followed_by}
-use Rattle.soy_tree.specs.TypeOf.{Scope}
-use Rattle.soy_tree.specs.Templates.{kind_type, param_type}
+use Rattle.soy_rules.specs.Faults.{followed_by}
+use Rattle.soy_rules.specs.TypeOf.{Scope}
+use Rattle.soy_rules.specs.Templates.{kind_type, param_type}
 use Rattle.soy_tree.specs.Nodes.{Node, Nodes, Given, Message, MessageBody, node, Block}
-use Rattle.soy_tree.specs.Bodies.{Around, Checked, accepted, after_given, after_node, after_nodes}
+use Rattle.soy_rules.specs.Bodies.{Around, Checked, accepted, after_given, after_node, after_nodes}
 use Rattle.soy_tree.specs.ViewNodes.{view_node, view_nodes, view_given, form_layer, given_layer, body_layer}
 use Rattle.soy_tree.specs.ViewNodes.{argument_layer, arm_layer, case_layer, message_layer, node_layer}
 use Rattle.soy_tree.specs.ViewNodes.{plural_case_layer, select_case_layer}

@@ -8,11 +8,11 @@ use Rattle.soy_tree.specs.declared.node.Argument as code
 use Rattle.soy_tree.specs.Types.{Name}
 use Rattle.soy_tree.specs.Expressions.{Expr}
 use Rattle.soy_tree.specs.Nodes.{Node, Nodes, Given, Message, MessageBody}
-use Rattle.soy_tree.specs.Bodies.{names_given}
-use Rattle.soy_tree.specs.Declarations.{is_among}
-use Rattle.soy_tree.specs.ViewNodes.{view_argument, view_arguments, form_layer, given_layer, body_layer}
-use Rattle.soy_tree.specs.ViewNodes.{argument_layer, arm_layer, case_layer, message_layer, node_layer}
-use Rattle.soy_tree.specs.ViewNodes.{plural_case_layer, select_case_layer}
+use Rattle.soy_rules.specs.Bodies.{names_given}
+use Rattle.soy_base.specs.Among.{is_among}
+use Rattle.soy_tree.specs.ViewNodes.{view_argument, view_arguments, form_layer, given_layer, body_layer, argument_layer}
+use Rattle.soy_tree.specs.ViewNodes.{arm_layer, case_layer, message_layer, node_layer, plural_case_layer}
+use Rattle.soy_tree.specs.ViewNodes.{select_case_layer}
 
 added_first : (e a r : Bool) → ((e || a) || r) ≡ (a || (e || r))
 added_first true true r = refl
@@ -26,16 +26,16 @@ known_before false false r h = refl
 
 -- where a name moves from those that are left to those that were seen, the same names are among both
 pub name_added : (names new : List Name) (n : Name) (is_new : Bool)
-    → MatchBool is_new ((is_among n names ≡ false) × (new ≡ n ∷ names)) ((is_among n names ≡ true) × (new ≡ names))
+    → MatchBool is_new ((is_among names n ≡ false) × (new ≡ n ∷ names)) ((is_among names n ≡ true) × (new ≡ names))
     → (rest : List Name) (name : Name)
-    → (is_among name new || is_among name rest) ≡ (is_among name names || is_among name (n ∷ rest))
+    → (is_among new name || is_among rest name) ≡ (is_among names name || is_among (n ∷ rest) name)
 name_added names new n true h rest name =
-    ap (λ (ns : List Name). is_among name ns || is_among name rest) h.1
-    ∙ added_first (bytes_eq name n) (is_among name names) (is_among name rest)
+    ap (λ (ns : List Name). is_among ns name || is_among rest name) h.1
+    ∙ added_first (bytes_eq name n) (is_among names name) (is_among rest name)
 name_added names new n false h rest name =
-    ap (λ (ns : List Name). is_among name ns || is_among name rest) h.1
-    ∙ known_before (bytes_eq name n) (is_among name names) (is_among name rest)
-    (λ e. subst (λ (x : Name). is_among x names ≡ true) (sym ((bytes_eq-Decides name n).0 e)) h.0)
+    ap (λ (ns : List Name). is_among ns name || is_among rest name) h.1
+    ∙ known_before (bytes_eq name n) (is_among names name) (is_among rest name)
+    (λ e. subst (λ (x : Name). is_among names x ≡ true) (sym ((bytes_eq-Decides name n).0 e)) h.0)
 
 name_of_view : (a : code.Argument) → (view_argument a).0 ≡ a.name
 name_of_view a =
@@ -65,5 +65,5 @@ drop_all (x ∷ given) zero over = absurd (omega arith)
 drop_all (x ∷ given) (suc i) over = drop_all given i (omega arith)
 
 pub none_left : (name : Name) (names : List Name) (given : List code.Argument) (i : ℕ) → length given ≤ i
-    → is_among name names ≡ (is_among name names || is_among name (names_given (view_arguments (drop i given))))
-none_left name names given i over = rw (drop_all given i over) (or_none (is_among name names))
+    → is_among names name ≡ (is_among names name || is_among (names_given (view_arguments (drop i given))) name)
+none_left name names given i over = rw (drop_all given i over) (or_none (is_among names name))

@@ -7,7 +7,7 @@ use Rattle.std.specs.List.{list_any}
 use Rattle.std.proofs.lemmas.Bool.Decides.{nat_tests}
 use Rattle.soy_tree.specs.Types.{SoyType, NullType, BoolType, IntType, StringType, HtmlType, AttributesType, ListType}
 use Rattle.soy_tree.specs.Types.{MapType, RecordType, UnionType}
-use Rattle.soy_tree.specs.Members.{
+use Rattle.soy_rules.specs.Members.{
   has_block,
   is_block_member,
   is_some_type,
@@ -18,8 +18,8 @@ use Rattle.soy_tree.specs.Members.{
 }
 use Rattle.soy_tree.specs.declared.soy_type.SoyType as code
 use Rattle.soy_tree.specs.ViewTypes.{view_members, view_type}
-use Rattle.soy_tree.specs.Bodies.{has_member}
-use Rattle.soy_tree.specs.Declarations.{mixes_blocks}
+use Rattle.soy_rules.specs.Bodies.{has_member}
+use Rattle.soy_rules.specs.Declarations.{mixes_blocks}
 
 pub member_append : (ts us : List SoyType) → has_member (ts ++ us) ≡ (has_member ts || has_member us)
 member_append [] us = refl

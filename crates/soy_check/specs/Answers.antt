@@ -4,10 +4,10 @@ use Rattle.std.specs.Prelude.{◌≡◌, List, Option, Some, None, Result, Ok, E
 use Rattle.soy_base.specs.declared.memory.Refusal.{Refusal}
 use Rattle.soy_base.specs.declared.memory.Refusal.TheVariants as refusal
 use Rattle.soy_tree.specs.declared.tree.Tree as code_tree
-use Rattle.soy_tree.specs.Faults.{TypeFault}
-use Rattle.soy_tree.specs.TypeOf.{Scope}
-use Rattle.soy_tree.specs.Bodies.{Checked}
-use Rattle.soy_tree.specs.Demands.{CheckFault, check_fault, in_file}
+use Rattle.soy_rules.specs.Faults.{TypeFault}
+use Rattle.soy_rules.specs.TypeOf.{Scope}
+use Rattle.soy_rules.specs.Bodies.{Checked}
+use Rattle.soy_rules.specs.Demands.{CheckFault, check_fault, in_file}
 use Rattle.soy_tree.specs.ViewTrees.{view_trees}
 use Rattle.soy_expr.specs.declared.type_fault.TypeFault as code_fault
 use Rattle.soy_expr.specs.ViewTypeFault.{view_type_fault}

@@ -6,7 +6,7 @@ use Rattle.std.specs.Borrow.{Bor}
 use Rattle.std.specs.Map.{lookup}
 use Rattle.std.specs.Str.{IsUtf8, bytes_eq, chars}
 use Rattle.soy_tree.specs.Types.{Name}
-use Rattle.soy_tree.specs.Declarations.{is_among}
+use Rattle.soy_base.specs.Among.{is_among}
 use Rattle.soy_tree.specs.declared.tree.Param as code
 
 -- the first parameter of a name
@@ -29,4 +29,4 @@ in_row = map (λ p. p.now)
 
 -- whether the same names are among both lists
 abbrev pub HasNames : List Name → List Name → Type 0
-HasNames names given = (name : Name) → is_among name names ≡ is_among name given
+HasNames names given = (name : Name) → is_among names name ≡ is_among given name

@@ -4,12 +4,12 @@ use Rattle.std.specs.Prelude.{Bool, [], ◌∷◌, Option, Some, None, Ok, if◌
 use Rattle.soy_base.specs.declared.code.Code.TheVariants as code
 use Rattle.soy_base.specs.declared.fault.Span.{Span}
 use Rattle.soy_tree.specs.Types.{Name, SoyType, IntType, ListType}
-use Rattle.soy_tree.specs.Members.{is_simple}
-use Rattle.soy_tree.specs.TypeText.{type_text}
+use Rattle.soy_rules.specs.Members.{is_simple}
+use Rattle.soy_rules.specs.TypeText.{type_text}
 use Rattle.soy_tree.specs.Expressions.{Expr}
-use Rattle.soy_tree.specs.Faults.{followed_by, fails}
-use Rattle.soy_tree.specs.TypeOf.{Scope, type_of, is_int, is_string}
-use Rattle.soy_tree.specs.Bodies.{Checked, is_printed, loop_scope, new_variable, new_variables}
+use Rattle.soy_rules.specs.Faults.{followed_by, fails}
+use Rattle.soy_rules.specs.TypeOf.{Scope, type_of, is_int, is_string}
+use Rattle.soy_rules.specs.Bodies.{Checked, is_printed, loop_scope, new_variable, new_variables}
 use Rattle.soy_check.specs.declared.commands.Takes.{Takes}
 use Rattle.soy_check.specs.declared.commands.Takes.TheVariants as takes
 

@@ -1,8 +1,8 @@
 -- What the code's lists of templates, and what it checks a body against, stand for.
 use Rattle.std.specs.Prelude.{List, map}
-use Rattle.soy_tree.specs.Templates.{Declared}
-use Rattle.soy_tree.specs.Bodies.{Around}
-use Rattle.soy_tree.specs.ViewTemplates.{view_declared}
+use Rattle.soy_rules.specs.Templates.{Declared}
+use Rattle.soy_rules.specs.Bodies.{Around}
+use Rattle.soy_rules.specs.ViewTemplates.{view_declared}
 use Rattle.soy_tree.specs.ViewTrees.{view_params}
 use Rattle.soy_check.specs.declared.template.Indexed.{Indexed}
 use Rattle.soy_check.specs.declared.around.Around as code

@@ -1,8 +1,8 @@
 //! The bodies of templates.
 
 ghost use Rattle.std.specs.Prelude.{◌≡◌, [], OnOk};
-ghost use Rattle.soy_tree.specs.Bodies.{after_arguments, after_arms, after_body, after_cases, after_given, after_node};
-ghost use Rattle.soy_tree.specs.Bodies.{after_nodes, after_plural_cases, after_select_cases};
+ghost use Rattle.soy_rules.specs.Bodies.{after_arguments, after_arms, after_body, after_cases, after_given, after_node};
+ghost use Rattle.soy_rules.specs.Bodies.{after_nodes, after_plural_cases, after_select_cases};
 ghost use Rattle.soy_tree.specs.ViewNodes.{view_arguments, view_arms, view_body, view_cases, view_given, view_node};
 ghost use Rattle.soy_tree.specs.ViewNodes.{view_nodes, view_plural_cases, view_select_cases};
 ghost use Rattle.soy_tree.specs.ViewTrees.{view_param, view_params};

@@ -1,10 +1,10 @@
 //! The demands on calls.
 
 ghost use Rattle.std.specs.Prelude.{◌≡◌, ◌∷◌, false, true, OnOk, IfOk, option_map, slice_get};
-ghost use Rattle.soy_tree.specs.Bodies.{callee_params, handed, hands_on, named_param, names_given, param_demand};
-ghost use Rattle.soy_tree.specs.Bodies.{param_demands, unnamed_demand};
-ghost use Rattle.soy_tree.specs.Templates.{param_type, template_of, visible};
-ghost use Rattle.soy_tree.specs.TypeOf.{variable_type};
+ghost use Rattle.soy_rules.specs.Bodies.{callee_params, handed, hands_on, named_param, names_given, param_demand};
+ghost use Rattle.soy_rules.specs.Bodies.{param_demands, unnamed_demand};
+ghost use Rattle.soy_rules.specs.Templates.{param_type, template_of, visible};
+ghost use Rattle.soy_rules.specs.TypeOf.{variable_type};
 ghost use Rattle.soy_tree.specs.ViewNodes.{view_arguments};
 ghost use Rattle.soy_tree.specs.ViewTrees.{view_param, view_params};
 ghost use Rattle.soy_expr.specs.ViewScope.{view_vars};
@@ -21,7 +21,8 @@ use crate::template::Indexed;
 use crate::visible::Visible;
 use soy_base::{Code, OutOfMemory, Refusal, Span, Text};
 use soy_expr::{TypeFault, param_type};
-use soy_tree::{Argument, Param, called_name};
+use soy_rules::called_name;
+use soy_tree::{Argument, Param};
 use std::alloc::Global;
 
 /// The template that a call means by a name.

@@ -1,10 +1,10 @@
 //! The check of the trees of all files.
 
 ghost use Rattle.std.specs.Prelude.{◌≡◌, ◌∷◌, ◌<◌, ◌^◌, [], length, option_map, None, IfOk, OnOk, reverse};
-ghost use Rattle.soy_tree.specs.Declarations.{declaration_fault, params_fault};
-ghost use Rattle.soy_tree.specs.Demands.{bodies_fault, body_fault, check_fault, declarations_fault, in_file};
+ghost use Rattle.soy_rules.specs.Declarations.{declaration_fault, params_fault};
+ghost use Rattle.soy_rules.specs.Demands.{bodies_fault, body_fault, check_fault, declarations_fault, in_file};
 ghost use Rattle.soy_tree.specs.Formed.{AreFormed};
-ghost use Rattle.soy_tree.specs.ViewTemplates.{view_declared};
+ghost use Rattle.soy_rules.specs.ViewTemplates.{view_declared};
 ghost use Rattle.soy_tree.specs.ViewTrees.{view_params, view_trees};
 ghost use Rattle.soy_check.specs.Answers.{Checks, Finds, FindsInFile};
 ghost use Rattle.soy_check.specs.FullNames.{full_names};
@@ -20,7 +20,8 @@ use crate::templates::all_indexed;
 use crate::variables::param_variables;
 use soy_base::{Fault, Refusal, Seq, Text};
 use soy_expr::TypeFault;
-use soy_tree::{Declared, Tree, Typed};
+use soy_rules::{Declared, Typed};
+use soy_tree::Tree;
 use std::alloc::Global;
 
 /// The first failure, and the two names or types that differ; where there is only one, the second is empty.

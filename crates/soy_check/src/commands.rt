@@ -1,9 +1,9 @@
 //! The demands of commands on their expressions.
 
 ghost use Rattle.std.specs.Prelude.{◌≡◌};
-ghost use Rattle.soy_tree.specs.Bodies.{accepted, each_passing, has_member, is_printed, passing, plain_argument};
-ghost use Rattle.soy_tree.specs.Members.{members, union_members};
-ghost use Rattle.soy_tree.specs.TypeOf.{Scope};
+ghost use Rattle.soy_rules.specs.Bodies.{accepted, each_passing, has_member, is_printed, passing, plain_argument};
+ghost use Rattle.soy_rules.specs.Members.{members, union_members};
+ghost use Rattle.soy_rules.specs.TypeOf.{Scope};
 ghost use Rattle.soy_tree.specs.ViewExpressions.{view_expr, view_exprs};
 ghost use Rattle.soy_tree.specs.ViewTrees.{view_param};
 ghost use Rattle.soy_tree.specs.ViewTypes.{view_members, view_type};
@@ -15,7 +15,8 @@ use crate::faults::untyped;
 use crate::visible::Visible;
 use soy_base::{Code, Refusal, Span};
 use soy_expr::{TypeFault, both_mistyped, is_int, is_simple, is_string, param_type, type_by};
-use soy_tree::{Expr, Param, SoyType, accepts};
+use soy_rules::accepts;
+use soy_tree::{Expr, Param, SoyType};
 use std::alloc::Global;
 
 /// Which types a command takes: those made of null, bool, int and string alone, exactly int, or exactly string.

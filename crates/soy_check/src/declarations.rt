@@ -1,8 +1,8 @@
 //! The demands on the declarations of a template.
 
 ghost use Rattle.std.specs.Prelude.{◌≡◌, ◌∷◌, [], OnOk};
-ghost use Rattle.soy_tree.specs.Declarations.{declaration_fault, params_fault};
-ghost use Rattle.soy_tree.specs.ViewTemplates.{view_declared};
+ghost use Rattle.soy_rules.specs.Declarations.{declaration_fault, params_fault};
+ghost use Rattle.soy_rules.specs.ViewTemplates.{view_declared};
 ghost use Rattle.soy_tree.specs.ViewTrees.{view_params};
 ghost use Rattle.soy_check.specs.Answers.{Finds};
 
@@ -11,7 +11,8 @@ use crate::names::Names;
 use crate::type_faults::check_type;
 use soy_base::{Code, Refusal};
 use soy_expr::TypeFault;
-use soy_tree::{Declared, Param};
+use soy_rules::Declared;
+use soy_tree::Param;
 use std::alloc::Global;
 
 /// The declaration of a template, after templates of these full names, to which its own is added.

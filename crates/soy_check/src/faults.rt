@@ -1,8 +1,8 @@
 //! Refusals of what fails a demand.
 
 ghost use Rattle.std.specs.Prelude.{[], option_map};
-ghost use Rattle.soy_tree.specs.Demands.{in_file};
-ghost use Rattle.soy_tree.specs.TypeText.{type_text};
+ghost use Rattle.soy_rules.specs.Demands.{in_file};
+ghost use Rattle.soy_rules.specs.TypeText.{type_text};
 ghost use Rattle.soy_tree.specs.ViewTypes.{view_type};
 ghost use Rattle.soy_expr.specs.ViewTypeFault.{Keeps};
 ghost use Rattle.soy_check.specs.Answers.{KeepsFault, KeepsInFile, MaybeFault};

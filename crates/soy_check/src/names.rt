@@ -2,7 +2,7 @@
 
 ghost use Rattle.std.specs.Prelude.{◌≡◌, [], ◌∷◌, true, false, IfOk, MatchBool, bytes_eq, reverse};
 ghost use Rattle.std.specs.List.{position};
-ghost use Rattle.soy_tree.specs.Declarations.{is_among};
+ghost use Rattle.soy_base.specs.Among.{is_among};
 
 use indexmap::IndexSet;
 use soy_base::{OutOfMemory, Text};
@@ -40,15 +40,15 @@ impl<'a> Names<'a> {
     /// Adds a name, and says whether it is a new one; else nothing changes.
     pub(crate) fn insert(&mut self, name: &'a Text) -> Result<bool, OutOfMemory>
         ensures { IfOk result (λ is_new. MatchBool is_new
-            ((is_among name.now self.old ≡ false) × (self.new ≡ name.now ∷ self.old))
-            ((is_among name.now self.old ≡ true) × (self.new ≡ self.old))) }
+            ((is_among self.old name.now ≡ false) × (self.new ≡ name.now ∷ self.old))
+            ((is_among self.old name.now ≡ true) × (self.new ≡ self.old))) }
     {
         Ok(self.names.insert(name.text())?)
     }
 
     /// Whether the name is among the names.
     pub(crate) fn has(&self, name: &Text) -> bool
-        ensures { result ≡ is_among name.now self.now }
+        ensures { result ≡ is_among self.now name.now }
     {
         self.names.contains(name.text())
     }

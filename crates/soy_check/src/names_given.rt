@@ -1,8 +1,8 @@
 //! The names that the params of a call give.
 
 ghost use Rattle.std.specs.Prelude.{◌≡◌, IfOk};
-ghost use Rattle.soy_tree.specs.Bodies.{names_given};
-ghost use Rattle.soy_tree.specs.Declarations.{is_among};
+ghost use Rattle.soy_rules.specs.Bodies.{names_given};
+ghost use Rattle.soy_base.specs.Among.{is_among};
 ghost use Rattle.soy_tree.specs.ViewNodes.{view_arguments};
 ghost use Rattle.soy_check.specs.Named.{HasNames};
 
@@ -30,7 +30,7 @@ impl<'b> NamesGiven<'b> {
 
     /// Whether a param has this name.
     pub(crate) fn has(&self, name: &Text) -> bool
-        ensures { result ≡ is_among name.now (names_given (view_arguments self.now.given.now)) }
+        ensures { result ≡ is_among (names_given (view_arguments self.now.given.now)) name.now }
     {
         self.names.has(name)
     }

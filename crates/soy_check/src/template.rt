@@ -1,13 +1,14 @@
 //! A template among those of all files, with its parameters by name.
 
 ghost use Rattle.std.specs.Prelude.{◌≡◌, IfOk, option_map};
-ghost use Rattle.soy_tree.specs.Bodies.{param_of};
+ghost use Rattle.soy_rules.specs.Bodies.{param_of};
 ghost use Rattle.soy_tree.specs.ViewTrees.{view_param, view_params};
 ghost use Rattle.soy_check.specs.Named.{FindsParams, in_row, required_in};
 
 use indexmap::IndexMap;
 use soy_base::{OutOfMemory, Text};
-use soy_tree::{Declared, Param};
+use soy_rules::Declared;
+use soy_tree::Param;
 use std::alloc::Global;
 
 /// A template; its parameters that are required, and its parameters by their names.

@@ -1,13 +1,14 @@
 //! The templates of all files, in order.
 
 ghost use Rattle.std.specs.Prelude.{◌≡◌, ◌<◌, ◌^◌, IfOk, length};
-ghost use Rattle.soy_tree.specs.Templates.{declared};
+ghost use Rattle.soy_rules.specs.Templates.{declared};
 ghost use Rattle.soy_tree.specs.ViewTrees.{view_trees};
 ghost use Rattle.soy_check.specs.ViewAround.{view_all};
 
 use crate::template::{Indexed, first_of_names, required_in};
 use soy_base::OutOfMemory;
-use soy_tree::{Tree, all_templates};
+use soy_rules::all_templates;
+use soy_tree::Tree;
 use std::alloc::Global;
 
 /// The templates of all files, with their parameters by name.

@@ -1,7 +1,7 @@
 //! The demands on the type of a parameter.
 
 ghost use Rattle.std.specs.Prelude.{◌≡◌, [], IfOk};
-ghost use Rattle.soy_tree.specs.Declarations.{fields_fault, members_fault, misplaced, mixes_blocks, type_fault};
+ghost use Rattle.soy_rules.specs.Declarations.{fields_fault, members_fault, misplaced, mixes_blocks, type_fault};
 ghost use Rattle.soy_tree.specs.ViewTypes.{view_fields, view_members, view_type};
 ghost use Rattle.soy_check.specs.Answers.{Finds};
 
@@ -9,7 +9,8 @@ use crate::faults::{misnamed, untyped};
 use crate::names::Names;
 use soy_base::{Code, OutOfMemory, Refusal, Span};
 use soy_expr::{TypeFault, has_block, is_block};
-use soy_tree::{Field, SoyType, narrow};
+use soy_rules::narrow;
+use soy_tree::{Field, SoyType};
 use std::alloc::Global;
 
 /// The type of a parameter whose command begins at this offset; `alone` says that the type stands in no list, map or

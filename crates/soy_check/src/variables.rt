@@ -1,10 +1,10 @@
 //! What commands and parameters make visible.
 
 ghost use Rattle.std.specs.Prelude.{◌≡◌, ◌∷◌, [], None, IfOk, OnOk, Ok, bytes_eq, false, option_map};
-ghost use Rattle.soy_tree.specs.Bodies.{new_variable, new_variables};
-ghost use Rattle.soy_tree.specs.Declarations.{params_fault};
-ghost use Rattle.soy_tree.specs.Faults.{followed_by};
-ghost use Rattle.soy_tree.specs.Templates.{param_scope, param_type};
+ghost use Rattle.soy_rules.specs.Bodies.{new_variable, new_variables};
+ghost use Rattle.soy_rules.specs.Declarations.{params_fault};
+ghost use Rattle.soy_rules.specs.Faults.{followed_by};
+ghost use Rattle.soy_rules.specs.Templates.{param_scope, param_type};
 ghost use Rattle.soy_tree.specs.Types.{IntType};
 ghost use Rattle.soy_tree.specs.ViewExpressions.{view_expr};
 ghost use Rattle.soy_tree.specs.ViewTrees.{view_params};

@@ -1,7 +1,7 @@
 //! The variables that are visible, found by their names.
 
 ghost use Rattle.std.specs.Prelude.{◌≡◌, ◌-◌, ◌∷◌, [], None, OnOk, drop, length, option_map};
-ghost use Rattle.soy_tree.specs.TypeOf.{variable_type};
+ghost use Rattle.soy_rules.specs.TypeOf.{variable_type};
 ghost use Rattle.soy_tree.specs.ViewTypes.{view_type};
 ghost use Rattle.soy_expr.specs.ViewScope.{view_vars};
 ghost use Rattle.soy_check.specs.TypeNamed.{type_named, with_type};

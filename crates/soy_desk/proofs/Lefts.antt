@@ -4,12 +4,12 @@ use Rattle.std.proofs.Common.{Err, length, take, drop, refl, sym, ap, ◌∙◌,
 use Rattle.std.specs.Prelude.{encode_utf8_all, min}
 use Rattle.std.proofs.lemmas.List.{length-take-le, take-append-drop, take-append-le, take_all}
 use Rattle.std.proofs.lemmas.Str.{encodes-append}
-use Rattle.html_state.specs.AfterPieces.{Piece, Static, Value}
+use Rattle.soy_base.specs.Piece.{Piece, Static, Value}
 use Rattle.soy_base.specs.declared.fault.TooDeep.{TooDeep}
 use Rattle.soy_base.specs.declared.memory.Refusal.TheVariants as refusal
-use Rattle.soy_meaning.specs.Meaning.{joined_pieces}
-use Rattle.soy_meaning.specs.Outcome.{GivesPiece, Outcome, RunEnd, RunEnds, Spent, StopsAt, WholeRun}
-use Rattle.soy_meaning.specs.Outcome.{end_of_outcome, pieces_of_outcome, spent_first}
+use Rattle.soy_pieces.specs.Meaning.{joined_pieces}
+use Rattle.soy_pieces.specs.Outcome.{GivesPiece, Outcome, RunEnd, RunEnds, Spent, StopsAt, WholeRun}
+use Rattle.soy_pieces.specs.Outcome.{end_of_outcome, pieces_of_outcome, spent_first}
 use Rattle.render_core.specs.Pulls.{AtEnd, Begun, Fresh, Gave, Idle, Next, Pulls, Refused, stops_at}
 use Rattle.render_core.specs.Rest.{Rest, piece_bytes, rest_bytes}
 use Rattle.soy_desk.specs.Alone.{Alone, IsNotMemory, Left, NoneRefused, all_given, answers_of, bytes_given, left_of}

@@ -1,20 +1,21 @@
 -- What a compiled program gives for an opening is the meaning of the template of its trees.
 use Rattle.std.proofs.Common.{◌≡◌, ℕ, List, Some, Ok, ap}
 use Rattle.std.specs.Prelude.{encode_utf8_all, slice_get}
-use Rattle.html_state.specs.AfterPieces.{Piece}
+use Rattle.soy_base.specs.Piece.{Piece}
 use Rattle.html_state.specs.declared.row.State.{State}
-use Rattle.soy_tree.specs.Templates.{Declared, declared}
+use Rattle.soy_rules.specs.Templates.{Declared, declared}
 use Rattle.soy_tree.specs.Trees.{Tree}
 use Rattle.soy_tree.specs.ViewValues.{view_value}
-use Rattle.soy_meaning.specs.AcceptedTrees.{walk_trees}
-use Rattle.soy_meaning.specs.Meaning.{joined_pieces, meaning}
-use Rattle.soy_meaning.specs.Outcome.{RunEnd}
-use Rattle.soy_meaning.specs.TranslationFits.{TranslationsFit}
-use Rattle.soy_meaning.specs.TypedData.{AreTypedTrees, FitsData}
-use Rattle.soy_meaning.specs.Walk.{Walked}
-use Rattle.template_ir.specs.Compiles.{Compiles, Language}
-use Rattle.template_ir.specs.Placed.{language_context}
-use Rattle.template_ir.specs.Run.{input_env, names_of}
+use Rattle.soy_meaning.specs.Walks.AcceptedTrees.{walk_trees}
+use Rattle.soy_pieces.specs.Meaning.{joined_pieces, meaning}
+use Rattle.soy_pieces.specs.Outcome.{RunEnd}
+use Rattle.soy_meaning.specs.Runs.TranslationFits.{TranslationsFit}
+use Rattle.soy_meaning.specs.Runs.TypedData.{AreTypedTrees, FitsData}
+use Rattle.soy_meaning.specs.Walks.Walk.{Walked}
+use Rattle.template_ir.specs.Compiles.{Compiles}
+use Rattle.soy_pieces.specs.Language.{Language}
+use Rattle.soy_pieces.specs.Language.{language_context}
+use Rattle.soy_pieces.specs.InputEnv.{input_env, names_of}
 use Rattle.template_ir.specs.ViewOps.{view_program}
 use Rattle.template_ir.proofs.CompiledRuns.{compiled_input}
 use Rattle.soy_desk.specs.Openings.{Opening, run_bytes}

@@ -4,9 +4,9 @@
 -- what is spent isn't compared.
 -- Example: a pull that memory refused leaves the same Rest.
 use Rattle.std.specs.Prelude.{◌≡◌, ℕ, Bool, List, [], ◌∷◌, ◌++◌, Ok, Err, take}
-use Rattle.html_state.specs.AfterPieces.{Piece}
+use Rattle.soy_base.specs.Piece.{Piece}
 use Rattle.soy_base.specs.declared.memory.Refusal.TheVariants.{Because, OutOfMemory}
-use Rattle.soy_meaning.specs.Outcome.{RunEnd, end_of_outcome, pieces_of_outcome}
+use Rattle.soy_pieces.specs.Outcome.{RunEnd, end_of_outcome, pieces_of_outcome}
 use Rattle.render_core.specs.Rest.{Rest}
 use Rattle.soy_desk.specs.DeskRun.{PullCall, PullsRest, RenderingAnswer}
 

@@ -3,10 +3,10 @@
 use Rattle.std.specs.Prelude.{◌≡◌, ℕ, zero, suc, ◌⊎◌, List, [], ◌∷◌, Option, Some, None, refl}
 use Rattle.std.proofs.Common.{inl, inr}
 use Rattle.std.specs.Coded.{Coded, coded_list, coded_option, coded_ℕ, coded×, coded⊎, code_by}
-use Rattle.html_state.specs.AfterPieces.{Piece, Static, Value}
-use Rattle.soy_meaning.specs.Outcome.{ArmTaken, ChoiceMade, FallbackTranslation, GivesPiece, MessageText, Outcome}
-use Rattle.soy_meaning.specs.Outcome.{OwnTranslation, RunEnd, RunEnds, SourceText, Spent, StopsAt, TextTaken, Turns}
-use Rattle.soy_meaning.specs.Outcome.{WholeRun}
+use Rattle.soy_base.specs.Piece.{Piece, Static, Value}
+use Rattle.soy_pieces.specs.Outcome.{ArmTaken, ChoiceMade, FallbackTranslation, GivesPiece, MessageText, Outcome}
+use Rattle.soy_pieces.specs.Outcome.{OwnTranslation, RunEnd, RunEnds, SourceText, Spent, StopsAt, TextTaken, Turns}
+use Rattle.soy_pieces.specs.Outcome.{WholeRun}
 
 -- ---- what is spent
 

@@ -5,8 +5,8 @@
 use Rattle.std.specs.Prelude.{ℕ, ◌+◌, List, [], ◌∷◌, Option, Some, None, Ok, Err, ◌==◌, if◌then◌else◌, encode_utf8_all}
 use Rattle.soy_tree.specs.ViewValues.{view_value}
 use Rattle.soy_tree.specs.declared.value.Value.{Value}
-use Rattle.soy_meaning.specs.Meaning.{joined_pieces}
-use Rattle.soy_meaning.specs.Outcome.{pieces_of_outcome}
+use Rattle.soy_pieces.specs.Meaning.{joined_pieces}
+use Rattle.soy_pieces.specs.Outcome.{pieces_of_outcome}
 use Rattle.template_ir.specs.Run.{run}
 use Rattle.template_ir.specs.ViewOps.{view_program}
 use Rattle.template_ir.specs.declared.program.ProgramParts.{ProgramParts}

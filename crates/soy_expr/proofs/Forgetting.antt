@@ -6,9 +6,9 @@ use Rattle.soy_tree.specs.Types.{Name}
 use Rattle.soy_tree.specs.Values.{Value, BoolValue}
 use Rattle.soy_tree.specs.Expressions.{Expr, NullLiteral, BoolLiteral, IntLiteral, StringLiteral, Variable, Member}
 use Rattle.soy_tree.specs.Expressions.{Index, Minus, Not, Binary, Coalesce, Conditional}
-use Rattle.soy_tree.specs.Val.{Binding, Known, BlockOf, Env, binding, val, operand, is_truthy, is_null, member_value}
-use Rattle.soy_tree.specs.Val.{index_value, negated, binary_value}
-use Rattle.soy_tree.specs.Cost.{cost, right_cost}
+use Rattle.soy_rules.specs.Val.{Binding, Known, BlockOf, Env, binding, val, operand, is_truthy, is_null, member_value}
+use Rattle.soy_rules.specs.Val.{index_value, negated, binary_value}
+use Rattle.soy_rules.specs.Cost.{cost, right_cost}
 use Rattle.soy_expr.specs.ForgottenBlocks.{forgotten, forgotten_env}
 
 forgotten_operand : {A : Type 0} (b : Binding A) → operand (forgotten b) ≡ operand b

@@ -7,8 +7,8 @@ use Rattle.soy_tree.specs.declared.value.Value as code
 use Rattle.soy_tree.specs.declared.value.Entry as code_entry
 use Rattle.soy_tree.specs.Types.{Name}
 use Rattle.soy_tree.specs.Values.{Value, NullValue}
-use Rattle.soy_tree.specs.Has.{entry_value}
-use Rattle.soy_tree.specs.Val.{item_value}
+use Rattle.soy_rules.specs.Has.{entry_value}
+use Rattle.soy_rules.specs.Val.{item_value}
 use Rattle.soy_tree.specs.ViewValues.{view_value, view_entry, view_items, view_entries, value_layer, entry_layer}
 use Rattle.soy_expr.specs.Parts.{nth_entry_value}
 

@@ -6,9 +6,9 @@ use mathlib.Core.Path.{refl, sym, ap, ◌∙◌}
 use Rattle.soy_tree.specs.declared.soy_type.SoyType as code
 use Rattle.soy_tree.specs.declared.soy_type.Field as code_field
 use Rattle.soy_tree.specs.Types.{Members, FieldTypes, member, field, no_member, no_field}
-use Rattle.soy_tree.specs.Members.{is_same_type, are_same_members, are_same_fields}
+use Rattle.soy_rules.specs.Members.{is_same_type, are_same_members, are_same_fields}
 use Rattle.soy_tree.specs.ViewTypes.{view_type, view_members, view_fields}
-use Rattle.soy_tree.proofs.Views.{fields-drop}
+use Rattle.soy_rules.proofs.Views.{fields-drop}
 use Rattle.soy_expr.proofs.TypeTexts.{members_drop}
 
 at_get : {A : Type 0} (xs : List A) (n : ℕ) (x : A) → slice_get xs n ≡ Some x

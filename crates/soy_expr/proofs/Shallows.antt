@@ -5,8 +5,8 @@ use mathlib.Core.Path.{refl, ap}
 use Rattle.soy_tree.specs.declared.expr.BinaryOp.{BinaryOp}
 use Rattle.soy_tree.specs.declared.expr.BinaryOp.TheVariants as op
 use Rattle.soy_tree.specs.Values.{Value, NullValue, BoolValue, IntValue, StringValue, ListValue, MapValue, RecordValue}
-use Rattle.soy_tree.specs.Val.{binary_value, int_result, sum_or_text, value_text, is_less, is_same_value, truth}
-use Rattle.soy_tree.specs.Cost.{right_cost}
+use Rattle.soy_rules.specs.Val.{binary_value, int_result, sum_or_text, value_text, is_less, is_same_value, truth}
+use Rattle.soy_rules.specs.Cost.{right_cost}
 use Rattle.soy_expr.specs.ViewShallow.{shallow_value}
 use Rattle.soy_expr.specs.Evaluates.{is_settled}
 

@@ -1,7 +1,7 @@
 -- The order of texts by code points.
 use Rattle.std.proofs.Common.{◌≡◌, ℕ, false, List, [], ◌∷◌}
 use mathlib.Core.Path.{refl}
-use Rattle.soy_tree.specs.Val.{is_text_before}
+use Rattle.soy_rules.specs.Val.{is_text_before}
 
 -- no text stands before the empty one
 pub before_nothing : (cs ds : List ℕ) → ds ≡ [] → is_text_before cs ds ≡ false

@@ -7,7 +7,7 @@ use Rattle.soy_tree.specs.Types.{SoyType, Members}
 use Rattle.soy_tree.specs.declared.soy_type.SoyType as code
 use Rattle.soy_tree.specs.ViewTypes.{view_type, view_members}
 use Rattle.soy_expr.proofs.TypeTexts.{members_drop}
-use Rattle.soy_tree.specs.Members.{members, union_members, is_simple, is_simple_member, with_member, with_members}
+use Rattle.soy_rules.specs.Members.{members, union_members, is_simple, is_simple_member, with_member, with_members}
 use Rattle.soy_expr.specs.declared.member_kind.MemberKind.TheVariants as kind
 use Rattle.soy_expr.specs.MemberKinds.{is_of_kind}
 

@@ -6,9 +6,9 @@ use mathlib.Core.Path.{refl, sym, ap, ◌∙◌}
 use Rattle.soy_tree.specs.declared.soy_type.SoyType as code
 use Rattle.soy_tree.specs.declared.soy_type.Field as code_field
 use Rattle.soy_tree.specs.Types.{SoyType, Members, FieldTypes, member, field, no_member, no_field}
-use Rattle.soy_tree.specs.TypeText.{type_text}
+use Rattle.soy_rules.specs.TypeText.{type_text}
 use Rattle.soy_tree.specs.ViewTypes.{view_type, view_members, view_fields}
-use Rattle.soy_tree.proofs.Views.{fields-drop}
+use Rattle.soy_rules.proofs.Views.{fields-drop}
 use Rattle.soy_expr.specs.Separators.{separator_before}
 use Rattle.soy_expr.proofs.TextsLeft.{members_left, fields_left}
 

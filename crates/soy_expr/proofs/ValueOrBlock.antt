@@ -3,15 +3,15 @@ use Rattle.std.proofs.Common.{◌≡◌, true}
 use Rattle.std.specs.Prelude.{Ok}
 use mathlib.Core.Path.{sym, subst}
 use Rattle.soy_tree.specs.Types.{SoyType}
-use Rattle.soy_tree.specs.Members.{has_block}
+use Rattle.soy_rules.specs.Members.{has_block}
 use Rattle.soy_tree.specs.Values.{Value}
-use Rattle.soy_tree.specs.Has.{Has}
+use Rattle.soy_rules.specs.Has.{Has}
 use Rattle.soy_tree.specs.Expressions.{Expr}
 use Rattle.soy_tree.specs.Formed.{is_formed_expr}
-use Rattle.soy_tree.specs.Fits.{Fits, IsOf}
-use Rattle.soy_tree.specs.TypeOf.{Scope, type_of}
-use Rattle.soy_tree.specs.Val.{Env, Binding, Known, BlockOf, val}
-use Rattle.soy_tree.proofs.ValueTypes.{value_type}
+use Rattle.soy_rules.specs.Fits.{Fits, IsOf}
+use Rattle.soy_rules.specs.TypeOf.{Scope, type_of}
+use Rattle.soy_rules.specs.Val.{Env, Binding, Known, BlockOf, val}
+use Rattle.soy_rules.proofs.ValueTypes.{value_type}
 use Rattle.soy_expr.specs.HasValueType.{HasValueType}
 
 pub not_a_block : (e : Expr) (env : Env (Unit {0})) → is_formed_expr e ≡ true → HasValueType e env

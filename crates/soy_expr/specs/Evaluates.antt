@@ -7,8 +7,8 @@ use Rattle.soy_tree.specs.declared.expr.BinaryOp.{BinaryOp}
 use Rattle.soy_tree.specs.declared.expr.BinaryOp.TheVariants as op
 use Rattle.soy_tree.specs.Values.{Value}
 use Rattle.soy_tree.specs.Expressions.{Expr}
-use Rattle.soy_tree.specs.Val.{Binding, Known, Env, val, operand, binary_value, is_truthy}
-use Rattle.soy_tree.specs.Cost.{cost, right_cost}
+use Rattle.soy_rules.specs.Val.{Binding, Known, Env, val, operand, binary_value, is_truthy}
+use Rattle.soy_rules.specs.Cost.{cost, right_cost}
 use Rattle.soy_expr.specs.declared.evaluated.Evaluated.{Evaluated}
 use Rattle.soy_expr.specs.ViewEvaluated.{IsBinding}
 

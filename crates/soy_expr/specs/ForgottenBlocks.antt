@@ -2,7 +2,7 @@
 -- What an expression means doesn't depend on what the blocks are that its variables are bound to.
 use Rattle.std.specs.Prelude.{map}
 use Rattle.soy_tree.specs.Types.{Name}
-use Rattle.soy_tree.specs.Val.{Binding, Known, BlockOf, Env}
+use Rattle.soy_rules.specs.Val.{Binding, Known, BlockOf, Env}
 
 abbrev pub forgotten : {A : Type 0} → Binding A → Binding (Unit {0})
 forgotten (Known v) = Known v

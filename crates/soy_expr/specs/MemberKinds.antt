@@ -1,7 +1,7 @@
 -- The kinds of members that a type is searched for.
 use Rattle.std.specs.Prelude.{Bool, not}
 use Rattle.soy_tree.specs.Types.{SoyType}
-use Rattle.soy_tree.specs.Members.{is_null_type, is_block_member, is_simple_member}
+use Rattle.soy_rules.specs.Members.{is_null_type, is_block_member, is_simple_member}
 use Rattle.soy_expr.specs.declared.member_kind.MemberKind.{MemberKind}
 use Rattle.soy_expr.specs.declared.member_kind.MemberKind.TheVariants as kind
 

@@ -4,7 +4,7 @@
 use Rattle.std.specs.Prelude.{◌≡◌, ℕ, zero, suc, Option, Some, None}
 use Rattle.std.specs.Borrow.{Bor}
 use Rattle.soy_tree.specs.Values.{Value, Entries, NullValue, ListValue, MapValue, RecordValue, no_entry, entry}
-use Rattle.soy_tree.specs.Val.{item_value}
+use Rattle.soy_rules.specs.Val.{item_value}
 use Rattle.soy_tree.specs.ViewValues.{view_value}
 use Rattle.soy_tree.specs.declared.value.Value as code
 

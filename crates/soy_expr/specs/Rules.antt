@@ -3,10 +3,10 @@
 use Rattle.std.specs.Prelude.{Bool, not, ◌||◌, Result, Ok, [], if◌then◌else◌}
 use Rattle.soy_base.specs.declared.fault.Span.{Span}
 use Rattle.soy_tree.specs.Types.{Name, SoyType, IntType}
-use Rattle.soy_tree.specs.Faults.{TypeFault, followed_by, mistyped}
-use Rattle.soy_tree.specs.Members.{has_block, joined, type_without_null}
-use Rattle.soy_tree.specs.TypeOf.{accessed_type, fitting, index_type, is_int, member_type, with_null_of}
-use Rattle.soy_tree.specs.TypeText.{type_text}
+use Rattle.soy_rules.specs.Faults.{TypeFault, followed_by, mistyped}
+use Rattle.soy_rules.specs.Members.{has_block, joined, type_without_null}
+use Rattle.soy_rules.specs.TypeOf.{accessed_type, fitting, index_type, is_int, member_type, with_null_of}
+use Rattle.soy_rules.specs.TypeText.{type_text}
 
 abbrev pub member_access : Bool → Name → Span → SoyType → Result SoyType TypeFault
 member_access takes_null name span t =

@@ -1,7 +1,7 @@
 -- The environment that an `Env` of the code stands for.
 use Rattle.std.specs.Prelude.{List, map}
 use Rattle.soy_tree.specs.Types.{Name}
-use Rattle.soy_tree.specs.Val.{Binding, Known, BlockOf, Env}
+use Rattle.soy_rules.specs.Val.{Binding, Known, BlockOf, Env}
 use Rattle.soy_tree.specs.ViewValues.{view_value}
 use Rattle.soy_expr.specs.declared.env.Env as code_env
 use Rattle.soy_expr.specs.declared.env.Bound as code_bound

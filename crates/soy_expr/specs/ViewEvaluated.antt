@@ -1,7 +1,7 @@
 -- What an `Evaluated` of the code stands for: a value, or a block of which nothing is known.
 use Rattle.std.specs.Prelude.{◌≡◌}
 use Rattle.soy_tree.specs.Values.{Value, NullValue, BoolValue, IntValue, StringValue}
-use Rattle.soy_tree.specs.Val.{Binding, Known, BlockOf}
+use Rattle.soy_rules.specs.Val.{Binding, Known, BlockOf}
 use Rattle.soy_tree.specs.ViewValues.{view_value}
 use Rattle.soy_expr.specs.declared.evaluated.Made.{Made}
 use Rattle.soy_expr.specs.declared.evaluated.Made.TheVariants as made

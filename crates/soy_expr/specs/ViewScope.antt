@@ -1,6 +1,6 @@
 -- The scope that a `Scope` of the code stands for.
 use Rattle.std.specs.Prelude.{List, map}
-use Rattle.soy_tree.specs.TypeOf.{Scope}
+use Rattle.soy_rules.specs.TypeOf.{Scope}
 use Rattle.soy_tree.specs.ViewTypes.{view_field}
 use Rattle.soy_tree.specs.declared.soy_type.Field as code_field
 use Rattle.soy_expr.specs.declared.scope.Scope as code

@@ -2,7 +2,7 @@
 use Rattle.std.specs.Prelude.{◌≡◌, Result, Ok, Err}
 use Rattle.soy_base.specs.declared.memory.Refusal.{Refusal}
 use Rattle.soy_base.specs.declared.memory.Refusal.TheVariants as refusal
-use Rattle.soy_tree.specs.Faults.{TypeFault}
+use Rattle.soy_rules.specs.Faults.{TypeFault}
 use Rattle.soy_tree.specs.Types.{SoyType}
 use Rattle.soy_expr.specs.declared.type_fault.TypeFault as code
 

@@ -1,8 +1,8 @@
 //! Accesses to the parts of values.
 
 ghost use Rattle.std.specs.Prelude.{◌≡◌, IfOk, option_map, slice_get, unwrap_or};
-ghost use Rattle.soy_tree.specs.Has.{entry_value};
-ghost use Rattle.soy_tree.specs.Val.{Known, index_value, member_value, operand};
+ghost use Rattle.soy_rules.specs.Has.{entry_value};
+ghost use Rattle.soy_rules.specs.Val.{Known, index_value, member_value, operand};
 ghost use Rattle.soy_tree.specs.Values.{IntValue, ListValue, MapValue, NullValue, RecordValue};
 ghost use Rattle.soy_tree.specs.ViewValues.{view_entries, view_items, view_value};
 ghost use Rattle.soy_expr.specs.Parts.{IsChild, found_value};

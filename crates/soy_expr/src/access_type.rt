@@ -1,8 +1,8 @@
 //! The types of accesses.
 
 ghost use Rattle.std.specs.Prelude.{◌≡◌, true, IfOk, if◌then◌else◌, option_map};
-ghost use Rattle.soy_tree.specs.Members.{joined};
-ghost use Rattle.soy_tree.specs.TypeOf.{field_type, fitting, index_type, member_type};
+ghost use Rattle.soy_rules.specs.Members.{joined};
+ghost use Rattle.soy_rules.specs.TypeOf.{field_type, fitting, index_type, member_type};
 ghost use Rattle.soy_tree.specs.Types.{NullType};
 ghost use Rattle.soy_tree.specs.ViewTypes.{view_fields, view_type};
 ghost use Rattle.soy_expr.specs.Rules.{index_access, member_access};
@@ -15,7 +15,8 @@ use crate::member_kind::{has_null, is_int, is_string};
 use crate::type_fault::{both_mistyped, mistyped, unknown};
 use crate::typing::Typing;
 use soy_base::{OutOfMemory, Refusal, Span, Text};
-use soy_tree::{Field, SoyType, narrow};
+use soy_rules::narrow;
+use soy_tree::{Field, SoyType};
 use std::alloc::Global;
 
 /// The type of `.x` or `?.x`.

@@ -1,13 +1,13 @@
 //! The value and the truth of an expression under an environment.
 
 ghost use Rattle.std.specs.Prelude.{◌≡◌, ◌+◌, ◌≤◌, true, Ok, IfOk, OnOk, OnErr};
-ghost use Rattle.soy_tree.specs.Cost.{cost};
-ghost use Rattle.soy_tree.specs.Fits.{Fits};
+ghost use Rattle.soy_rules.specs.Cost.{cost};
+ghost use Rattle.soy_rules.specs.Fits.{Fits};
 ghost use Rattle.soy_tree.specs.Formed.{is_formed_expr};
-ghost use Rattle.soy_tree.specs.Has.{Has};
-ghost use Rattle.soy_tree.specs.TypeOf.{Scope, type_of};
+ghost use Rattle.soy_rules.specs.Has.{Has};
+ghost use Rattle.soy_rules.specs.TypeOf.{Scope, type_of};
 ghost use Rattle.soy_tree.specs.Types.{SoyType};
-ghost use Rattle.soy_tree.specs.Val.{Known, is_truthy, val};
+ghost use Rattle.soy_rules.specs.Val.{Known, is_truthy, val};
 ghost use Rattle.soy_tree.specs.ViewExpressions.{view_expr};
 ghost use Rattle.soy_tree.specs.ViewValues.{view_value};
 ghost use Rattle.soy_expr.specs.Evaluates.{IsWithin};

@@ -2,7 +2,7 @@
 
 ghost use Rattle.std.specs.Prelude.{◌≡◌};
 ghost use Rattle.std.specs.Str.{chars};
-ghost use Rattle.soy_tree.specs.Val.{is_less, is_same_value, is_text_before};
+ghost use Rattle.soy_rules.specs.Val.{is_less, is_same_value, is_text_before};
 ghost use Rattle.soy_expr.specs.ViewShallow.{view_shallow};
 
 use crate::Shallow;

@@ -1,7 +1,7 @@
 //! The types of the variables that parameters and blocks declare.
 
 ghost use Rattle.std.specs.Prelude.{◌≡◌, IfOk};
-ghost use Rattle.soy_tree.specs.Templates.{kind_type, param_type};
+ghost use Rattle.soy_rules.specs.Templates.{kind_type, param_type};
 ghost use Rattle.soy_tree.specs.ViewTrees.{view_param};
 ghost use Rattle.soy_tree.specs.ViewTypes.{view_type};
 

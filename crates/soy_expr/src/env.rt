@@ -1,7 +1,7 @@
 //! Environments whose variables are bound to values that they hold.
 
 ghost use Rattle.std.specs.Prelude.{◌≡◌};
-ghost use Rattle.soy_tree.specs.Val.{binding};
+ghost use Rattle.soy_rules.specs.Val.{binding};
 ghost use Rattle.soy_expr.specs.ViewEnv.{view_binding, view_bounds};
 ghost use Rattle.soy_expr.specs.ViewEvaluated.{view_evaluated};
 

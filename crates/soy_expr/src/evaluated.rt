@@ -1,7 +1,7 @@
 //! What an expression is evaluated to.
 
 ghost use Rattle.std.specs.Prelude.{◌≡◌};
-ghost use Rattle.soy_tree.specs.Val.{is_null, is_truthy, operand};
+ghost use Rattle.soy_rules.specs.Val.{is_null, is_truthy, operand};
 ghost use Rattle.soy_tree.specs.ViewValues.{view_value};
 ghost use Rattle.soy_expr.specs.ViewEvaluated.{view_evaluated, view_made};
 ghost use Rattle.soy_expr.specs.ViewShallow.{shallow_value, view_shallow};

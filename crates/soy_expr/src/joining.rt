@@ -2,11 +2,12 @@
 
 ghost use Rattle.std.specs.Prelude.{◌≡◌, ◌++◌, IfOk, OnOk, map, option_map, slice_get};
 ghost use Rattle.std.specs.List.{list_any};
-ghost use Rattle.soy_tree.specs.Members.{are_same_fields, are_same_members, is_same_type, joined, members};
-ghost use Rattle.soy_tree.specs.Members.{union_members, union_of, with_member, with_members};
+ghost use Rattle.soy_rules.specs.Members.{are_same_fields, are_same_members, is_same_type, joined, members};
+ghost use Rattle.soy_rules.specs.Members.{union_members, with_member, with_members};
 ghost use Rattle.soy_tree.specs.ViewTypes.{view_fields, view_members, view_type};
 
-use soy_base::{OutOfMemory, Seq};
+use soy_base::OutOfMemory;
+use soy_rules::union_of;
 use soy_tree::{Field, SoyType};
 use std::alloc::Global;
 
@@ -100,20 +101,6 @@ fn is_among(of: &SoyType, types: &[SoyType]) -> bool
         }
     }
     false
-}
-
-/// The union of these members; of one member it is that one.
-fn union_of(members: Vec<SoyType>) -> SoyType
-    ensures { view_type result ≡ union_of (map view_type members.items) }
-{
-    let mut members = members;
-    if members.len() != 1 {
-        return SoyType::Union(Seq::new(members));
-    }
-    match members.pop() {
-        Some(member) => member,
-        None => SoyType::Union(Seq::new(members)),
-    }
 }
 
 /// Whether two types are the same.

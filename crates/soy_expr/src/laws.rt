@@ -1,9 +1,9 @@
 //! A law of the definitions: a function that does nothing, and whose contract is the law.
 
 ghost use Rattle.std.specs.Prelude.{◌≡◌};
-ghost use Rattle.soy_tree.specs.Cost.{cost};
+ghost use Rattle.soy_rules.specs.Cost.{cost};
 ghost use Rattle.soy_tree.specs.Expressions.{Expr};
-ghost use Rattle.soy_tree.specs.Val.{Env, val};
+ghost use Rattle.soy_rules.specs.Val.{Env, val};
 ghost use Rattle.soy_expr.specs.ForgottenBlocks.{forgotten, forgotten_env};
 
 /// What an expression means doesn't depend on what the blocks are that its variables are bound to.

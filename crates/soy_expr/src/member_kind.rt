@@ -2,10 +2,10 @@
 
 ghost use Rattle.std.specs.Prelude.{◌≡◌};
 ghost use Rattle.std.specs.List.{list_any};
-ghost use Rattle.soy_tree.specs.Members.{has_block, has_null, is_block_member, is_null_type, is_simple};
-ghost use Rattle.soy_tree.specs.Members.{is_simple_member};
-ghost use Rattle.soy_tree.specs.Members.{members, union_members};
-ghost use Rattle.soy_tree.specs.TypeOf.{is_int, is_string};
+ghost use Rattle.soy_rules.specs.Members.{has_block, has_null, is_block_member, is_null_type, is_simple};
+ghost use Rattle.soy_rules.specs.Members.{is_simple_member};
+ghost use Rattle.soy_rules.specs.Members.{members, union_members};
+ghost use Rattle.soy_rules.specs.TypeOf.{is_int, is_string};
 ghost use Rattle.soy_tree.specs.ViewTypes.{view_members, view_type};
 ghost use Rattle.soy_expr.specs.MemberKinds.{is_of_kind};
 

@@ -1,9 +1,9 @@
 //! The types of operators.
 
 ghost use Rattle.std.specs.Prelude.{◌≡◌, ◌&&◌, ◌||◌};
-ghost use Rattle.soy_tree.specs.Members.{is_simple};
-ghost use Rattle.soy_tree.specs.TypeOf.{are_texts, binary_type, choice_type, fitting, is_divisor, is_int};
-ghost use Rattle.soy_tree.specs.TypeOf.{is_null_literal, is_string, sum_type};
+ghost use Rattle.soy_rules.specs.Members.{is_simple};
+ghost use Rattle.soy_rules.specs.TypeOf.{are_texts, binary_type, choice_type, fitting, is_divisor, is_int};
+ghost use Rattle.soy_rules.specs.TypeOf.{is_null_literal, is_string, sum_type};
 ghost use Rattle.soy_tree.specs.ViewExpressions.{view_expr};
 ghost use Rattle.soy_tree.specs.ViewTypes.{view_type};
 ghost use Rattle.soy_expr.specs.Rules.{coalesce_type, minus_type};
@@ -14,7 +14,8 @@ use crate::joining::joined;
 use crate::member_kind::{has_block, is_int, is_simple, is_string};
 use crate::type_fault::{both_mistyped, mistyped};
 use soy_base::{Refusal, Span};
-use soy_tree::{BinaryOp, Expr, ExprNode, SoyType, narrow};
+use soy_rules::narrow;
+use soy_tree::{BinaryOp, Expr, ExprNode, SoyType};
 use std::alloc::Global;
 
 /// The type of `-`.

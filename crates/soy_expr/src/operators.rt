@@ -3,7 +3,7 @@
 ghost use Rattle.std.specs.Prelude.{◌≡◌, ◌++◌, IfOk, OnOk};
 ghost use Rattle.std.specs.Fmt.{signed_decimal};
 ghost use Rattle.soy_base.specs.Appends.{Appends};
-ghost use Rattle.soy_tree.specs.Val.{binary_value, negated, operand, sum_or_text, value_text};
+ghost use Rattle.soy_rules.specs.Val.{binary_value, negated, operand, sum_or_text, value_text};
 ghost use Rattle.soy_expr.specs.ViewEvaluated.{view_evaluated, view_made};
 ghost use Rattle.soy_expr.specs.ViewShallow.{view_shallow};
 

@@ -1,7 +1,7 @@
 //! What an operator sees of its operand.
 
 ghost use Rattle.std.specs.Prelude.{◌≡◌};
-ghost use Rattle.soy_tree.specs.Val.{is_null_value, truth};
+ghost use Rattle.soy_rules.specs.Val.{is_null_value, truth};
 ghost use Rattle.soy_tree.specs.ViewValues.{view_value};
 ghost use Rattle.soy_expr.specs.ViewEvaluated.{view_made};
 ghost use Rattle.soy_expr.specs.ViewShallow.{shallow_value, view_shallow};

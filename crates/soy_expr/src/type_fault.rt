@@ -2,7 +2,7 @@
 
 ghost use Rattle.std.specs.Prelude.{[]};
 ghost use Rattle.soy_base.specs.declared.code.Code.TheVariants as code;
-ghost use Rattle.soy_tree.specs.TypeText.{type_text};
+ghost use Rattle.soy_rules.specs.TypeText.{type_text};
 ghost use Rattle.soy_tree.specs.ViewTypes.{view_type};
 ghost use Rattle.soy_expr.specs.ViewTypeFault.{Keeps};
 

@@ -2,7 +2,7 @@
 
 ghost use Rattle.std.specs.Prelude.{◌≡◌, ◌++◌, true, codes, IfOk, OnOk};
 ghost use Rattle.soy_base.specs.Appends.{Appends};
-ghost use Rattle.soy_tree.specs.TypeText.{fields_text, members_text, type_text};
+ghost use Rattle.soy_rules.specs.TypeText.{fields_text, members_text, type_text};
 ghost use Rattle.soy_tree.specs.ViewTypes.{view_fields, view_members, view_type};
 ghost use Rattle.soy_expr.specs.Ascii.{is_ascii};
 ghost use Rattle.soy_expr.specs.Separators.{separator_before};

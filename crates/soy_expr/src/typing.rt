@@ -2,8 +2,8 @@
 
 ghost use Rattle.std.specs.Prelude.{◌≡◌, IfOk, Ok};
 ghost use Rattle.soy_tree.specs.Expressions.{Binary, Coalesce, Conditional, Index, Member, Minus};
-ghost use Rattle.soy_tree.specs.Faults.{followed_by, found};
-ghost use Rattle.soy_tree.specs.TypeOf.{type_of, variable_type};
+ghost use Rattle.soy_rules.specs.Faults.{followed_by, found};
+ghost use Rattle.soy_rules.specs.TypeOf.{type_of, variable_type};
 ghost use Rattle.soy_tree.specs.Types.{BoolType};
 ghost use Rattle.soy_tree.specs.ViewExpressions.{view_expr};
 ghost use Rattle.soy_tree.specs.ViewTypes.{view_type};

@@ -1,7 +1,7 @@
 //! What finds the types of variables.
 
 ghost use Rattle.std.specs.Prelude.{◌≡◌, option_map};
-ghost use Rattle.soy_tree.specs.TypeOf.{Scope, variable_type};
+ghost use Rattle.soy_rules.specs.TypeOf.{Scope, variable_type};
 ghost use Rattle.soy_tree.specs.ViewTypes.{view_type};
 ghost use Rattle.soy_expr.specs.ViewScope.{view_vars};
 

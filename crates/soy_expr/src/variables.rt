@@ -1,7 +1,7 @@
 //! What finds variables.
 
 ghost use Rattle.std.specs.Prelude.{IfOk};
-ghost use Rattle.soy_tree.specs.Val.{Env, binding};
+ghost use Rattle.soy_rules.specs.Val.{Env, binding};
 ghost use Rattle.soy_tree.specs.Values.{Value};
 ghost use Rattle.soy_expr.specs.Parts.{child};
 ghost use Rattle.soy_expr.specs.ViewEvaluated.{IsBinding};

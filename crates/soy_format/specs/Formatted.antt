@@ -10,7 +10,7 @@ use Rattle.soy_base.specs.Characters.{line_feed}
 use Rattle.soy_base.specs.declared.kind.Kind.{Kind}
 use Rattle.soy_base.specs.declared.kind.Kind.TheVariants as kind
 use Rattle.soy_tree.specs.Types.{Name}
-use Rattle.soy_tree.specs.TypeText.{type_text}
+use Rattle.soy_rules.specs.TypeText.{type_text}
 use Rattle.soy_tree.specs.Trees.{Param, Template, Tree}
 use Rattle.soy_format.specs.FormattedBody.{attribute_text, kind_text, formatted_nodes}
 use Rattle.soy_format.specs.FormattedText.{body_line}

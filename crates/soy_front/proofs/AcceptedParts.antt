@@ -9,8 +9,8 @@ use Rattle.soy_tree.specs.declared.bundle.Bundle.{Bundle}
 use Rattle.soy_tree.specs.declared.tree.Tree.{Tree}
 use Rattle.soy_tree.specs.ViewTrees.{view_trees}
 use Rattle.msg_extract.specs.declared.catalogue.Listed.{Listed}
-use Rattle.soy_meaning.specs.AcceptedTrees.{walk_trees}
-use Rattle.soy_meaning.specs.Walk.{WalkFault, Walked}
+use Rattle.soy_meaning.specs.Walks.AcceptedTrees.{walk_trees}
+use Rattle.soy_meaning.specs.Walks.Walk.{WalkFault, Walked}
 use Rattle.html_context.specs.ChosenTranslation.{chosen_translation}
 use Rattle.html_context.specs.Infers.{Infers, IsFaultOf}
 use Rattle.html_context.specs.declared.fault.PlaceFault.{PlaceFault}

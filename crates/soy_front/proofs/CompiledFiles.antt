@@ -4,19 +4,20 @@ use Rattle.std.specs.Prelude.{Ok, Err}
 use Rattle.soy_base.specs.declared.memory.Refusal.{Refusal}
 use Rattle.soy_base.specs.declared.memory.Refusal.TheVariants.{Because, OutOfMemory}
 use Rattle.soy_tree.specs.Formed.{AreFormed}
-use Rattle.soy_tree.specs.Templates.{declared}
+use Rattle.soy_rules.specs.Templates.{declared}
 use Rattle.soy_tree.specs.ViewTrees.{view_trees}
 use Rattle.msg_extract.specs.Fits.{FitsTrees}
-use Rattle.soy_meaning.specs.AcceptedTrees.{walk_trees}
-use Rattle.soy_meaning.specs.TypedData.{AreTypedTrees}
-use Rattle.soy_meaning.specs.Walk.{walked}
-use Rattle.template_ir.specs.Compiles.{Compiles, Language}
+use Rattle.soy_meaning.specs.Walks.AcceptedTrees.{walk_trees}
+use Rattle.soy_meaning.specs.Runs.TypedData.{AreTypedTrees}
+use Rattle.soy_meaning.specs.Walks.Walk.{walked}
+use Rattle.template_ir.specs.Compiles.{Compiles}
+use Rattle.soy_pieces.specs.Language.{Language}
 use Rattle.template_ir.specs.ViewOps.{view_program}
 use Rattle.template_ir.specs.declared.program.ProgramParts.{ProgramParts}
 use Rattle.template_ir.proofs.CompiledRuns.{compiled_input}
 use Rattle.bundle_fit.proofs.FittingTrees.{trees_fit}
 use Rattle.msg_extract.specs.Translations.{translation_of}
-use Rattle.ir_build.specs.ViewScene.{language_of}
+use Rattle.soy_pieces.specs.Language.{language_of}
 use Rattle.soy_front.specs.Accepts.{Accepts, AreAcceptedAs, Decides}
 use Rattle.soy_front.specs.Compiled.{AreCompiled, CompilesFiles, GivesTheSame}
 use Rattle.soy_front.specs.declared.accepting.AcceptedFiles.{AcceptedFiles}

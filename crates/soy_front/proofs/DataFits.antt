@@ -7,26 +7,26 @@ use Rattle.std.proofs.lemmas.List.{map-append}
 use Rattle.std.proofs.lemmas.Option.{slice_get-map}
 use Rattle.soy_tree.specs.declared.tree.Tree as code
 use Rattle.soy_tree.specs.declared.tree.Template as code_template
-use Rattle.soy_tree.specs.Declarations.{declaration_fault, params_fault, twice}
-use Rattle.soy_tree.specs.Demands.{bodies_fault, check_fault, declarations_fault, in_file}
-use Rattle.soy_tree.specs.Faults.{TypeFault}
-use Rattle.soy_tree.specs.Fits.{Fits}
-use Rattle.soy_tree.specs.Has.{entry_value}
-use Rattle.soy_tree.specs.ShortLists.{HasShortLists, EntriesShort}
-use Rattle.soy_tree.specs.Templates.{Declared, declared, declared_from, declared_in, full_name, param_scope}
+use Rattle.soy_rules.specs.Declarations.{declaration_fault, params_fault, twice}
+use Rattle.soy_rules.specs.Demands.{bodies_fault, check_fault, declarations_fault, in_file}
+use Rattle.soy_rules.specs.Faults.{TypeFault}
+use Rattle.soy_rules.specs.Fits.{Fits}
+use Rattle.soy_rules.specs.Has.{entry_value}
+use Rattle.soy_rules.specs.ShortLists.{HasShortLists, EntriesShort}
+use Rattle.soy_rules.specs.Templates.{Declared, declared, declared_from, declared_in, full_name, param_scope}
 use Rattle.soy_tree.specs.Trees.{Param, Template, Tree}
-use Rattle.soy_tree.specs.Typed.{AreTyped, params_at, params_there, templates_of}
+use Rattle.soy_rules.specs.Typed.{AreTyped, params_at, params_there, templates_of}
 use Rattle.soy_tree.specs.Types.{Name}
-use Rattle.soy_tree.specs.Val.{member_value}
+use Rattle.soy_rules.specs.Val.{member_value}
 use Rattle.soy_tree.specs.Values.{Value, Entries, NullValue, BoolValue, IntValue, StringValue, ListValue, MapValue}
 use Rattle.soy_tree.specs.Values.{RecordValue, no_entry, entry}
 use Rattle.soy_tree.specs.ViewTrees.{view_params, view_template, view_trees}
 use Rattle.soy_types.specs.ParamsHave.{ParamsHave}
 use Rattle.soy_types.specs.ReadData.{data_at}
 use Rattle.soy_types.proofs.ParamsRead.{data_have}
-use Rattle.soy_meaning.specs.RunsAlong.{BindsValues}
-use Rattle.soy_meaning.specs.TypedData.{EnvShort, FitsData}
-use Rattle.template_ir.specs.Run.{input_env, names_of}
+use Rattle.soy_meaning.specs.Runs.RunsAlong.{BindsValues}
+use Rattle.soy_meaning.specs.Runs.TypedData.{EnvShort, FitsData}
+use Rattle.soy_pieces.specs.InputEnv.{input_env, names_of}
 
 -- ---- no fault
 

@@ -5,9 +5,10 @@ use Rattle.std.specs.Prelude.{slice_get}
 use Rattle.std.specs.List.{position, position_from}
 use Rattle.std.proofs.lemmas.Iterator.Adapters.{position_from-zero}
 use Rattle.soy_base.specs.declared.place.Place.{Place}
-use Rattle.soy_tree.specs.Templates.{Declared, full_name}
+use Rattle.soy_rules.specs.Templates.{Declared, full_name}
 use Rattle.soy_tree.specs.Types.{Name}
-use Rattle.template_ir.specs.Compiles.{Language, StandsTemplates}
+use Rattle.template_ir.specs.Compiles.{StandsTemplates}
+use Rattle.soy_pieces.specs.Language.{Language}
 use Rattle.template_ir.specs.Ops as ops
 use Rattle.template_ir.specs.ViewOps.{view_routine}
 use Rattle.template_ir.specs.declared.program.Routine.{Routine}

@@ -12,12 +12,12 @@ use Rattle.soy_tree.specs.Nodes.{Message}
 use Rattle.soy_tree.specs.ViewTrees.{view_trees}
 use Rattle.msg_extract.specs.declared.catalogue.Listed.{Listed}
 use Rattle.msg_bundle.proofs.OneAnswer.{bundle_apart}
-use Rattle.soy_meaning.specs.AcceptedTrees.{AcceptedTrees, walk_trees}
-use Rattle.soy_meaning.specs.PageMachine.{page_machine}
-use Rattle.soy_meaning.specs.PlanOfNodes.{trees_plan}
-use Rattle.soy_meaning.specs.Walk.{WalkFault, Walked, walked}
-use Rattle.soy_meaning.proofs.PageStates.{page_compares}
-use Rattle.soy_meaning.proofs.Walks.{accepted_when_walked, trees_walked}
+use Rattle.soy_meaning.specs.Walks.AcceptedTrees.{AcceptedTrees, walk_trees}
+use Rattle.soy_meaning.specs.Walks.PageMachine.{page_machine}
+use Rattle.soy_meaning.specs.Paths.PlanOfNodes.{trees_plan}
+use Rattle.soy_meaning.specs.Walks.Walk.{WalkFault, Walked, walked}
+use Rattle.soy_meaning.proofs.Walks.PageStates.{page_compares}
+use Rattle.soy_meaning.proofs.Walks.Exact.{accepted_when_walked, trees_walked}
 use Rattle.html_context.specs.ChosenTranslation.{chosen_translation}
 use Rattle.soy_front.specs.Accepted.{Accepted, Brings, FirstFault, LanguageFault}
 use Rattle.soy_front.specs.Accepted.FirstFault.{OfFiles, OfLanguage}

@@ -12,12 +12,12 @@ use Rattle.msg_bundle.specs.ReadsBundle.{RefusesBundle}
 use Rattle.msg_bundle.proofs.OneAnswer.{bundle_apart}
 use Rattle.msg_bundle.proofs.OneFault.{one_bundle, one_fault}
 use Rattle.msg_extract.specs.declared.catalogue.Listed.{Listed}
-use Rattle.soy_meaning.specs.AcceptedTrees.{walk_trees}
-use Rattle.soy_meaning.specs.PageMachine.{page_machine}
-use Rattle.soy_meaning.specs.PlanOfNodes.{trees_plan}
-use Rattle.soy_meaning.specs.Walk.{Walked, WalkFault, walked}
-use Rattle.soy_meaning.proofs.PageStates.{page_compares}
-use Rattle.soy_meaning.proofs.Walks.{accepted_when_walked}
+use Rattle.soy_meaning.specs.Walks.AcceptedTrees.{walk_trees}
+use Rattle.soy_meaning.specs.Walks.PageMachine.{page_machine}
+use Rattle.soy_meaning.specs.Paths.PlanOfNodes.{trees_plan}
+use Rattle.soy_meaning.specs.Walks.Walk.{Walked, WalkFault, walked}
+use Rattle.soy_meaning.proofs.Walks.PageStates.{page_compares}
+use Rattle.soy_meaning.proofs.Walks.Exact.{accepted_when_walked}
 use Rattle.html_context.specs.ChosenTranslation.{chosen_translation}
 use Rattle.soy_front.specs.Accepted.{Accepted, AreFiles, Brings, FirstFault, LanguageFault, walk_fault}
 use Rattle.soy_front.specs.Accepted.FirstFault.{OfFiles, OfLanguage}

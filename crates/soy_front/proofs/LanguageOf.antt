@@ -19,12 +19,12 @@ use Rattle.msg_extract.specs.declared.catalogue.Listed.{Listed}
 use Rattle.msg_bundle.specs.BundlesAlike.{BundlesAlike}
 use Rattle.msg_bundle.specs.Translations.{messages_of}
 use Rattle.msg_bundle.proofs.FittingNames.{bundle_fits}
-use Rattle.soy_meaning.specs.AcceptedTrees.{walk_trees}
-use Rattle.soy_meaning.specs.Walk.{walked}
-use Rattle.template_ir.specs.Compiles.{Language}
+use Rattle.soy_meaning.specs.Walks.AcceptedTrees.{walk_trees}
+use Rattle.soy_meaning.specs.Walks.Walk.{walked}
+use Rattle.soy_pieces.specs.Language.{Language}
 use Rattle.html_context.specs.ChosenTranslation.{chosen_translation}
 use Rattle.msg_extract.specs.Translations.{translation_of}
-use Rattle.ir_build.specs.ViewScene.{language_of}
+use Rattle.soy_pieces.specs.Language.{language_of}
 use Rattle.soy_front.specs.Accepted.{Brings}
 use Rattle.soy_front.proofs.BundleTranslations.{chosen_alike}
 

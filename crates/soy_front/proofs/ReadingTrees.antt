@@ -6,7 +6,7 @@ use Rattle.soy_base.specs.declared.fault.Fault.{Fault}
 use Rattle.soy_base.specs.declared.memory.Refusal.{Refusal}
 use Rattle.soy_base.specs.declared.memory.Refusal.TheVariants.{Because, OutOfMemory}
 use Rattle.soy_tree.specs.declared.tree.Tree.{Tree}
-use Rattle.soy_tree.specs.Faults.{followed_by}
+use Rattle.soy_rules.specs.Faults.{followed_by}
 use Rattle.soy_front.specs.FilesAnswer.{trees_from, with_tree}
 use Rattle.soy_front.specs.ReadsFiles.{InFile, ReadsTrees}
 use Rattle.soy_front.specs.ReadsSource.{ReadsSource}

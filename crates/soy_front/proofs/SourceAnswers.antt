@@ -13,7 +13,8 @@ use Rattle.soy_base.specs.declared.fault.Fault.{Fault}
 use Rattle.soy_base.specs.declared.memory.Refusal.{Refusal}
 use Rattle.soy_base.specs.declared.memory.Refusal.TheVariants.{Because, OutOfMemory}
 use Rattle.soy_lexer.specs.InOrder.{InOrder}
-use Rattle.soy_lexer.specs.Lexes.{largest_file, TooLarge, NoToken}
+use Rattle.soy_lexer.specs.Lexes.{TooLarge, NoToken}
+use Rattle.soy_base.specs.Limits.{largest_file}
 use Rattle.soy_lexer.specs.Lexes as lexes
 use Rattle.soy_lexer.specs.Tokens.{Tokens, FirstFault}
 use Rattle.soy_lexer.specs.declared.token.Token.{Token}
@@ -21,8 +22,8 @@ use Rattle.soy_lexer.proofs.SomeSegments.{fault_within, tokens_or_fault}
 use Rattle.soy_parser.specs.FileReading.{fault_at, reading_file}
 use Rattle.soy_parser.specs.FileSteps.{file_start}
 use Rattle.soy_parser.specs.ParsesFile.{ParsesFile, RefusesTokens}
-use Rattle.soy_parser.proofs.FileAnswers.{one_file_answer}
-use Rattle.soy_parser.proofs.FileReads.{read-ParsesFile, refused-ParsesFile}
+use Rattle.soy_parser.proofs.Files.FileAnswers.{one_file_answer}
+use Rattle.soy_parser.proofs.Files.FileReads.{read-ParsesFile, refused-ParsesFile}
 use Rattle.soy_tree.specs.declared.tree.Tree.{Tree}
 use Rattle.soy_front.specs.ReadsSource.{ReadsSource, FaultWithin}
 use Rattle.soy_front.specs.Sources.{TokensOrFault, answer_by_tokens, text_answer, source_answer}

@@ -12,13 +12,13 @@ use Rattle.std.proofs.lemmas.Str.{utf8_valid_len-IsValidUpTo}
 use Rattle.soy_base.specs.declared.code.Code.TheVariants as code
 use Rattle.soy_base.specs.declared.fault.Fault.{Fault}
 use Rattle.soy_base.specs.declared.memory.Refusal.TheVariants.{Because}
-use Rattle.soy_lexer.specs.Lexes.{largest_file}
+use Rattle.soy_base.specs.Limits.{largest_file}
 use Rattle.soy_lexer.specs.Tokens.{Tokens}
 use Rattle.soy_lexer.specs.declared.token.Token.{Token}
 use Rattle.soy_lexer.proofs.SomeSegments.{tokens_or_fault}
 use Rattle.soy_parser.specs.FileReading.{fault_at, reading_file}
 use Rattle.soy_parser.specs.FileSteps.{file_start}
-use Rattle.soy_parser.proofs.FileReads.{read-ParsesFile, refused-ParsesFile}
+use Rattle.soy_parser.proofs.Files.FileReads.{read-ParsesFile, refused-ParsesFile}
 use Rattle.soy_tree.specs.declared.tree.Tree.{Tree}
 use Rattle.soy_front.specs.Deserves.{IsSourceText, Deserves}
 use Rattle.soy_front.specs.Deserves.Deserves.{NotUtf8, TooLarge, NoToken, NoFile, File}

@@ -8,24 +8,24 @@
 -- 8 of an unknown type name), in the order of the files; of the demands (6 to 9 and 20); of the messages (26); of the
 -- bundle (21 to 25); of the walk (11 to 19).
 -- Example: a file whose two messages have one id and differ is refused with 26, whatever its bundle and its places are.
-use Rattle.std.specs.Prelude.{◌≡◌, ℕ, List, [], Option, Some, None, Ok, Err}
-use Rattle.soy_base.specs.declared.direction.Dir.TheVariants as dir
+use Rattle.std.specs.Prelude.{◌≡◌, ℕ, List, Option, Some, None, Ok, Err}
 use Rattle.soy_base.specs.declared.fault.Fault.{Fault}
 use Rattle.soy_tree.specs.declared.bundle.Bundle.{Bundle}
 use Rattle.soy_tree.specs.declared.tree.Tree.{Tree}
-use Rattle.soy_tree.specs.Demands.{CheckFault, check_fault}
+use Rattle.soy_rules.specs.Demands.{CheckFault, check_fault}
 use Rattle.soy_tree.specs.ViewTrees.{view_trees}
 use Rattle.msg_extract.specs.Catalogue.{catalogue_of}
 use Rattle.msg_extract.specs.declared.catalogue.Listed.{Listed}
 use Rattle.msg_bundle.specs.ReadsBundle.{BringsBundle, RefusesBundle}
 use Rattle.msg_bundle.specs.declared.fault.BundleFault.{BundleFault}
-use Rattle.soy_meaning.specs.AcceptedTrees.{AcceptedTrees, walk_trees}
-use Rattle.soy_meaning.specs.Walk.{WalkFault}
+use Rattle.soy_meaning.specs.Walks.AcceptedTrees.{AcceptedTrees, walk_trees}
+use Rattle.soy_meaning.specs.Walks.Walk.{WalkFault}
 use Rattle.html_context.specs.ChosenTranslation.{chosen_translation}
 use Rattle.soy_front.specs.FilesAnswer.{fault_of}
 use Rattle.soy_front.specs.FilesDeserve.{AreWithin, HaveTrees, HasLargeFile, HasOwnFault}
 use Rattle.soy_front.specs.declared.fault.FrontFault.{FrontFault}
 use Rattle.soy_front.specs.declared.fault.FrontFault.TheVariants as front
+use Rattle.soy_tree.specs.SourceBundle.{source_bundle}
 
 -- each file has its tree, the trees meet all demands, and these are the rows of their catalogue
 pub record AreFiles (contents : List (List ℕ)) (trees : List Tree) (rows : List Listed) : Type 0 where
@@ -35,7 +35,7 @@ pub record AreFiles (contents : List (List ℕ)) (trees : List Tree) (rows : Lis
 
 -- the language that a bundle brings for the rows of a catalogue; without a bundle it is that of the source
 abbrev pub Brings : Option (List ℕ) → List Listed → Bundle → Type 0
-Brings None rows language = language ≡ record { dir = dir.Ltr; plural = []; ordinal = []; messages = [] }
+Brings None rows language = language ≡ source_bundle
 Brings (Some bytes) rows language = BringsBundle bytes rows language
 
 -- **the files and the bundle are accepted**

@@ -8,8 +8,8 @@ use Rattle.soy_tree.specs.declared.tree.Tree.{Tree}
 use Rattle.soy_tree.specs.ViewTrees.{view_trees}
 use Rattle.msg_bundle.specs.ReadsBundle.{RefusesBundle}
 use Rattle.msg_extract.specs.declared.catalogue.Listed.{Listed}
-use Rattle.soy_meaning.specs.AcceptedTrees.{walk_trees}
-use Rattle.soy_meaning.specs.Walk.{walked}
+use Rattle.soy_meaning.specs.Walks.AcceptedTrees.{walk_trees}
+use Rattle.soy_meaning.specs.Walks.Walk.{walked}
 use Rattle.html_context.specs.ChosenTranslation.{chosen_translation}
 use Rattle.soy_front.specs.Accepted.{AreFiles, Brings, FirstFault, LanguageFault}
 use Rattle.soy_front.specs.declared.accepting.AcceptedFiles.{AcceptedFiles}

@@ -9,22 +9,24 @@ use Rattle.std.specs.List.{position}
 use Rattle.soy_base.specs.declared.memory.Refusal.{Refusal}
 use Rattle.soy_base.specs.declared.memory.Refusal.TheVariants.{Because, OutOfMemory}
 use Rattle.soy_base.specs.declared.place.Place.{Place}
-use Rattle.soy_tree.specs.Templates.{Declared, declared}
+use Rattle.soy_rules.specs.Templates.{Declared, declared}
 use Rattle.soy_tree.specs.Trees.{Tree}
 use Rattle.soy_tree.specs.Types.{Name}
 use Rattle.soy_tree.specs.Values.{Value}
 use Rattle.soy_tree.specs.ViewTrees.{view_trees}
-use Rattle.soy_meaning.specs.AcceptedTrees.{walk_trees}
-use Rattle.soy_meaning.specs.Pieces.{template_run}
-use Rattle.soy_meaning.specs.TypedData.{FitsData}
-use Rattle.soy_meaning.specs.Walk.{walked}
-use Rattle.template_ir.specs.Compiles.{Compiles, Language}
+use Rattle.soy_meaning.specs.Walks.AcceptedTrees.{walk_trees}
+use Rattle.soy_pieces.specs.Pieces.{template_run}
+use Rattle.soy_meaning.specs.Runs.TypedData.{FitsData}
+use Rattle.soy_meaning.specs.Walks.Walk.{walked}
+use Rattle.template_ir.specs.Compiles.{Compiles}
+use Rattle.soy_pieces.specs.Language.{Language}
 use Rattle.template_ir.specs.Ops.{Program}
-use Rattle.template_ir.specs.Placed.{language_context}
-use Rattle.template_ir.specs.ProgramRows.{pieces_end_costs}
-use Rattle.template_ir.specs.Run.{input_env, names_of, run}
+use Rattle.soy_pieces.specs.Language.{language_context}
+use Rattle.soy_pieces.specs.Outcome.{pieces_end_costs}
+use Rattle.template_ir.specs.Run.{run}
+use Rattle.soy_pieces.specs.InputEnv.{input_env, names_of}
 use Rattle.template_ir.specs.ViewOps.{view_program}
-use Rattle.ir_build.specs.ViewScene.{language_of}
+use Rattle.soy_pieces.specs.Language.{language_of}
 use Rattle.soy_front.specs.Accepted.{FirstFault}
 use Rattle.soy_front.specs.Entries.{entry_number, is_entry_routine}
 use Rattle.soy_front.specs.FrontAnswer.{Front, front_answer}

@@ -7,7 +7,7 @@ use Rattle.std.specs.Str.{chars, IsUtf8, IsValidUpTo}
 use Rattle.soy_base.specs.declared.code.Code.TheVariants as code
 use Rattle.soy_base.specs.declared.fault.Fault.{Fault}
 use Rattle.soy_base.specs.declared.memory.Refusal.TheVariants.{Because}
-use Rattle.soy_lexer.specs.Lexes.{largest_file}
+use Rattle.soy_base.specs.Limits.{largest_file}
 use Rattle.soy_lexer.specs.Tokens.{Tokens, FirstFault}
 use Rattle.soy_lexer.specs.declared.token.Token.{Token}
 use Rattle.soy_parser.specs.FileReading.{fault_at}

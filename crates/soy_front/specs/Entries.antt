@@ -5,7 +5,7 @@ use Rattle.std.specs.Prelude.{ℕ, Bool, true, false, not, ◌&&◌, List, Optio
 use Rattle.std.specs.List.{position}
 use Rattle.soy_base.specs.declared.kind.Kind.{Kind}
 use Rattle.soy_base.specs.declared.kind.Kind.TheVariants as kind
-use Rattle.soy_tree.specs.Templates.{Declared, full_name}
+use Rattle.soy_rules.specs.Templates.{Declared, full_name}
 use Rattle.soy_tree.specs.Types.{Name}
 use Rattle.template_ir.specs.declared.program.Routine.{Routine}
 

@@ -9,10 +9,10 @@ use Rattle.std.specs.Prelude.{ℕ, ◌+◌, nat_lt, List, [], ◌∷◌, length,
 use Rattle.std.specs.Prelude.{if◌then◌else◌}
 use Rattle.soy_base.specs.declared.code.Code.TheVariants as code
 use Rattle.soy_base.specs.declared.fault.Fault.{Fault}
-use Rattle.soy_lexer.specs.Lexes.{largest_file}
+use Rattle.soy_base.specs.Limits.{largest_file}
 use Rattle.soy_tree.specs.declared.tree.Tree.{Tree}
-use Rattle.soy_tree.specs.Demands.{CheckFault, check_fault}
-use Rattle.soy_tree.specs.Faults.{followed_by}
+use Rattle.soy_rules.specs.Demands.{CheckFault, check_fault}
+use Rattle.soy_rules.specs.Faults.{followed_by}
 use Rattle.soy_tree.specs.ViewTrees.{view_trees}
 use Rattle.msg_extract.specs.Catalogue.{catalogue_of}
 use Rattle.msg_extract.specs.declared.catalogue.Listed.{Listed}

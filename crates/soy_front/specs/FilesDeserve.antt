@@ -4,7 +4,7 @@
 -- Example: of the two files `{namespace a}` and `{namespace b` the second deserves the 4 at its end.
 use Rattle.std.specs.Prelude.{◌≡◌, ℕ, ◌≤◌, ◌<◌, List, [], ◌∷◌, ◌++◌, length, Ok, Err}
 use Rattle.soy_base.specs.declared.fault.Fault.{Fault}
-use Rattle.soy_lexer.specs.Lexes.{largest_file}
+use Rattle.soy_base.specs.Limits.{largest_file}
 use Rattle.soy_tree.specs.declared.tree.Tree.{Tree}
 use Rattle.soy_front.specs.Deserves.{Deserves}
 use Rattle.soy_front.specs.FilesAnswer.{fault_in, too_large}

@@ -7,7 +7,6 @@
 use Rattle.std.specs.Prelude.{◌≡◌, ◌⊎◌, ℕ, List, [], Option, Some, None, Result, Ok, Err}
 use Rattle.std.proofs.Common.{inl, inr, refl}
 use Rattle.html_state.specs.declared.row.State.{State}
-use Rattle.soy_base.specs.declared.direction.Dir.TheVariants as dir
 use Rattle.soy_base.specs.declared.fault.Fault.{Fault}
 use Rattle.soy_tree.specs.declared.bundle.Bundle.{Bundle}
 use Rattle.soy_tree.specs.ViewTrees.{view_trees}
@@ -16,8 +15,8 @@ use Rattle.msg_bundle.specs.ReadsBundle.{RefusesBundle}
 use Rattle.msg_bundle.specs.declared.fault.BundleFault.{BundleFault}
 use Rattle.msg_bundle.proofs.EitherAnswer.{bundle_or_fault}
 use Rattle.msg_extract.specs.declared.catalogue.Listed.{Listed}
-use Rattle.soy_meaning.specs.AcceptedTrees.{walk_trees}
-use Rattle.soy_meaning.specs.Walk.{Walked, WalkFault, walked}
+use Rattle.soy_meaning.specs.Walks.AcceptedTrees.{walk_trees}
+use Rattle.soy_meaning.specs.Walks.Walk.{Walked, WalkFault, walked}
 use Rattle.html_context.specs.ChosenTranslation.{chosen_translation}
 use Rattle.soy_front.specs.Accepted.{AreFiles, Brings, walk_fault}
 use Rattle.soy_front.specs.FilesAnswer.{ReadFiles, files_answer}
@@ -25,6 +24,7 @@ use Rattle.soy_front.specs.ReadsFiles.{view_files}
 use Rattle.soy_front.specs.declared.accepting.AcceptedFiles.{AcceptedFiles}
 use Rattle.soy_front.specs.declared.fault.FrontFault.{FrontFault}
 use Rattle.soy_front.specs.declared.fault.FrontFault.TheVariants as front
+use Rattle.soy_tree.specs.SourceBundle.{source_bundle}
 
 -- what files and a bundle are accepted as: their trees and catalogue, the language, and what the walk gives
 pub record Front : Type 0 where
@@ -43,7 +43,7 @@ LanguageOrFault bundle rows =
     ((language : Bundle) × Brings bundle rows language) ⊎ ((fault : BundleFault) × RefusesLanguage bundle rows fault)
 
 abbrev pub language_or_fault : (bundle : Option (List ℕ)) (rows : List Listed) → LanguageOrFault bundle rows
-language_or_fault None rows = inl (record { dir = dir.Ltr; plural = []; ordinal = []; messages = [] }, refl)
+language_or_fault None rows = inl (source_bundle, refl)
 language_or_fault (Some bytes) rows = bundle_or_fault bytes rows
 
 abbrev pub walk_answer : ReadFiles → Bundle → Result (Walked State) WalkFault → Result Front FrontFault

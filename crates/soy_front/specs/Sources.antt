@@ -10,7 +10,7 @@ use Rattle.std.specs.Str.Lossy.{utf8_valid_len}
 use Rattle.std.proofs.Common.{inl, inr}
 use Rattle.soy_base.specs.declared.code.Code.TheVariants as code
 use Rattle.soy_base.specs.declared.fault.Fault.{Fault}
-use Rattle.soy_lexer.specs.Lexes.{largest_file}
+use Rattle.soy_base.specs.Limits.{largest_file}
 use Rattle.soy_lexer.specs.Tokens.{Tokens, FirstFault}
 use Rattle.soy_lexer.specs.declared.token.Token.{Token}
 use Rattle.soy_lexer.proofs.SomeSegments.{tokens_or_fault}

@@ -15,10 +15,9 @@ use crate::source::Source;
 use html_context::infer;
 use msg_bundle::{BundleFault, read_bundle};
 use msg_extract::Catalogue;
-use soy_base::{Fault, Refusal};
+use soy_base::{Fault, Places, Refusal};
 use soy_tree::Bundle;
 use std::alloc::Global;
-use template_ir::Places;
 
 /// A bundle, and the places of the holes of trees under it.
 #[derive(Drop)]

@@ -18,7 +18,7 @@ use crate::source::Source;
 use ir_build::build;
 use msg_extract::Catalogue;
 use soy_base::{Dir, Kind, Refusal};
-use soy_tree::Typed;
+use soy_rules::Typed;
 use std::alloc::Global;
 use template_ir::{Program, Routine};
 

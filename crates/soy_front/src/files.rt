@@ -14,7 +14,8 @@ use crate::sources::read_source;
 use msg_extract::{Catalogue, extract};
 use soy_base::{Code, Fault, OutOfMemory, Refusal};
 use soy_check::check;
-use soy_tree::{Tree, Typed};
+use soy_rules::Typed;
+use soy_tree::Tree;
 use std::alloc::Global;
 
 /// The most bytes that a file may have.

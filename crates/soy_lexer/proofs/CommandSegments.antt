@@ -9,10 +9,10 @@ use Rattle.soy_base.specs.declared.memory.Refusal.{Refusal}
 use Rattle.soy_base.specs.WhiteSpace.{is_template_space}
 use Rattle.soy_base.specs.Names.{begins_name, continues_name}
 use Rattle.soy_base.specs.ByteLength.{byte_len}
-use Rattle.soy_lexer.specs.CommandSegment.{command_segment, int_segment, largest_int, name_prefix, name_segment}
-use Rattle.soy_lexer.specs.CommandSegment.{number_after}
+use Rattle.soy_lexer.specs.CommandSegment.{command_segment, int_segment, name_prefix, name_segment, number_after}
 use Rattle.soy_lexer.specs.CommandSegment.{one_of, opened_segment, symbol_segment, symbols_of_one, symbols_of_two}
 use Rattle.soy_lexer.specs.CommandSegment.{quoted_segment, value_segment}
+use Rattle.soy_base.specs.Limits.{largest}
 use Rattle.soy_lexer.specs.ClosingName.{closing_name}
 use Rattle.soy_lexer.specs.Strings.{Quoted, quoted}
 use Rattle.soy_lexer.specs.StringSteps.{value_and_rest}
@@ -209,7 +209,7 @@ zero_int c cs e = rw e refl
 pub digits_int : (c : ℕ) (cs digits rest : List ℕ) → is_ascii_digit c ≡ true → c ≢ 48
     → digits ≡ prefix_while is_ascii_digit (c ∷ cs) → rest ≡ after_while is_ascii_digit (c ∷ cs) →
     unwrap_or (int_segment (c ∷ cs)) (Fails 0)
-    ≡ (if nat_le (number_after 0 digits) largest_int then Begins (CommandToken kind.Int digits digits) rest
+    ≡ (if nat_le (number_after 0 digits) largest then Begins (CommandToken kind.Int digits digits) rest
     else Fails 0)
 digits_int c cs digits rest digit apart is_digits is_rest =
     let other : (c == 48) ≡ false = grind (arith, nat_tests, apart) in
@@ -388,16 +388,16 @@ number_after-le n [] = omega arith
 number_after-le n (d ∷ ds) = omega (arith, number_after-le (10 * n + (d - 48)) ds)
 
 pub over_limit : (n d : ℕ) (left rest all : List ℕ) → number_after n left ≡ number_after 0 all → left ≡ d ∷ rest
-    → largest_int < 10 * n + (d - 48) → false ≡ nat_le (number_after 0 all) largest_int
+    → largest < 10 * n + (d - 48) → false ≡ nat_le (number_after 0 all) largest
 over_limit n d left rest all e is over =
     let more : number_after (10 * n + (d - 48)) rest ≡ number_after 0 all = ap (number_after n) (sym is) ∙ e in
-    let above : largest_int < number_after 0 all = omega (arith, more, over, number_after-le (10 * n + (d - 48)) rest)
+    let above : largest < number_after 0 all = omega (arith, more, over, number_after-le (10 * n + (d - 48)) rest)
     in
     grind (arith, nat_tests, above)
 
-pub within_limit : (n : ℕ) (left all : List ℕ) → number_after n left ≡ number_after 0 all → left ≡ [] → n ≤ largest_int
-    → true ≡ nat_le (number_after 0 all) largest_int
+pub within_limit : (n : ℕ) (left all : List ℕ) → number_after n left ≡ number_after 0 all → left ≡ [] → n ≤ largest
+    → true ≡ nat_le (number_after 0 all) largest
 within_limit n left all e is within =
     let same : n ≡ number_after 0 all = ap (number_after n) (sym is) ∙ e in
-    let below : number_after 0 all ≤ largest_int = omega (arith, same, within) in
+    let below : number_after 0 all ≤ largest = omega (arith, same, within) in
     grind (arith, nat_tests, below)

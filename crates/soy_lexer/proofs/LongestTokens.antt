@@ -12,9 +12,9 @@ use Rattle.soy_base.specs.Names.{begins_name, continues_name, is_name}
 use Rattle.soy_base.specs.Cuts.{is_nil, after_prefix, cut, prefix_while, after_while}
 use Rattle.soy_lexer.specs.CommandSegment.{command_segment, white_segment, fixed_segment, name_prefix, name_segment}
 use Rattle.soy_lexer.specs.CommandSegment.{variable_segment, digits_segment, int_segment, quoted_segment}
-use Rattle.soy_lexer.specs.CommandSegment.{string_segment}
-use Rattle.soy_lexer.specs.CommandSegment.{value_segment, attribute_segment, one_of, symbols_of_one, symbols_of_two}
-use Rattle.soy_lexer.specs.CommandSegment.{largest_int, number_after}
+use Rattle.soy_lexer.specs.CommandSegment.{string_segment, value_segment, attribute_segment, one_of, symbols_of_one}
+use Rattle.soy_lexer.specs.CommandSegment.{symbols_of_two, number_after}
+use Rattle.soy_base.specs.Limits.{largest}
 use Rattle.soy_lexer.specs.LongestToken.{is_int, is_symbol, StringRest, ValueRest, TokenForm, IsToken, GivesToken}
 use Rattle.soy_lexer.specs.LongestToken.{Reaches}
 use Rattle.soy_lexer.specs.LongestToken.StringRest.{Ends, Plain, Escape, Number}
@@ -146,7 +146,7 @@ int_token [] = tt
 int_token (c ∷ cs) = int_by (c == 48) refl
   where
     within_by : (t : Bool) → (c == 48) ≡ false → is_ascii_digit c ≡ true
-        → nat_le (number_after 0 (c ∷ prefix_while is_ascii_digit cs)) largest_int ≡ t →
+        → nat_le (number_after 0 (c ∷ prefix_while is_ascii_digit cs)) largest ≡ t →
         Formed (if t then begins (CommandToken kind.Int (c ∷ prefix_while is_ascii_digit cs)
         (c ∷ prefix_while is_ascii_digit cs)) (after_while is_ascii_digit cs) else Fails 0)
     within_by true e digit h =
@@ -158,7 +158,7 @@ int_token (c ∷ cs) = int_by (c == 48) refl
         → FormedIf (if t then Some (digits_segment (c ∷ prefix_while is_ascii_digit cs) (after_while is_ascii_digit cs))
         else None)
     digit_by true e digit =
-        within_by (nat_le (number_after 0 (c ∷ prefix_while is_ascii_digit cs)) largest_int) e digit refl
+        within_by (nat_le (number_after 0 (c ∷ prefix_while is_ascii_digit cs)) largest) e digit refl
     digit_by false e digit = tt
 
     int_by : (t : Bool) → (c == 48) ≡ t
@@ -346,7 +346,7 @@ int_reaches [] more h = cc
 int_reaches (c ∷ cs) more h = int_by (c == 48) refl h
   where
     over_by : (t : Bool) → (c == 48) ≡ false → is_ascii_digit c ≡ true → list_all is_ascii_digit cs ≡ true
-        → nat_le (number_after 0 (prefix_while is_ascii_digit (c ∷ (cs ++ more)))) largest_int ≡ t →
+        → nat_le (number_after 0 (prefix_while is_ascii_digit (c ∷ (cs ++ more)))) largest ≡ t →
         Reaches (c ∷ cs) (c ∷ (cs ++ more))
         (if t then Begins (CommandToken kind.Int (prefix_while is_ascii_digit (c ∷ (cs ++ more)))
         (prefix_while is_ascii_digit (c ∷ (cs ++ more)))) (after_while is_ascii_digit (c ∷ (cs ++ more)))
@@ -355,7 +355,7 @@ int_reaches (c ∷ cs) more h = int_by (c == 48) refl h
     over_by false e digit all over = grind (arith, nat_tests, over)
 
     int_by : (t : Bool) → (c == 48) ≡ t
-        → (if t then is_nil cs else (list_all is_ascii_digit (c ∷ cs) && nat_le (number_after 0 (c ∷ cs)) largest_int))
+        → (if t then is_nil cs else (list_all is_ascii_digit (c ∷ cs) && nat_le (number_after 0 (c ∷ cs)) largest))
         ≡ true → Reaches (c ∷ cs) (c ∷ (cs ++ more)) (command_segment (c ∷ (cs ++ more)))
     int_by true e h =
         let is : c ≡ 48 = grind (arith, nat_tests, e) in
@@ -366,7 +366,7 @@ int_reaches (c ∷ cs) more h = int_by (c == 48) refl h
         nothing_by [] h = refl
         nothing_by (c ∷ cs) h = cc
     int_by false e h =
-        let both = both_hold (list_all is_ascii_digit (c ∷ cs)) (nat_le (number_after 0 (c ∷ cs)) largest_int) h in
+        let both = both_hold (list_all is_ascii_digit (c ∷ cs)) (nat_le (number_after 0 (c ∷ cs)) largest) h in
         let all = both_hold (is_ascii_digit c) (list_all is_ascii_digit cs) both.0 in
         let white : is_template_space c ≡ false = grind (arith, nat_tests, all.0) in
         let named : begins_name c ≡ false = grind (arith, nat_tests, all.0) in
@@ -375,7 +375,7 @@ int_reaches (c ∷ cs) more h = int_by (c == 48) refl h
         ∙ digits_int c (cs ++ more) (prefix_while is_ascii_digit (c ∷ (cs ++ more)))
         (after_while is_ascii_digit (c ∷ (cs ++ more))) all.0 apart refl refl in
         subst (Reaches (c ∷ cs) (c ∷ (cs ++ more))) (sym found)
-        (over_by (nat_le (number_after 0 (prefix_while is_ascii_digit (c ∷ (cs ++ more)))) largest_int) e all.0
+        (over_by (nat_le (number_after 0 (prefix_while is_ascii_digit (c ∷ (cs ++ more)))) largest) e all.0
         all.1 refl)
 
 same_codes : (a b : ℕ) → (a == b) ≡ true → a ≡ b

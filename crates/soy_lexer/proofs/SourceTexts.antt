@@ -19,11 +19,10 @@ use Rattle.soy_lexer.specs.Found.Found.{Begins, Fails}
 use Rattle.soy_lexer.specs.declared.mode.Mode.TheVariants.{Outside, Opened, Inside}
 use Rattle.soy_lexer.specs.Strings.{Quoted, quoted, quoted_escape, quoted_number, with_character, escaped, numbered}
 use Rattle.soy_lexer.specs.CommandSegment.{command_segment, opened_segment, white_segment, fixed_segment, name_prefix}
-use Rattle.soy_lexer.specs.CommandSegment.{name_segment}
-use Rattle.soy_lexer.specs.CommandSegment.{variable_segment, digits_segment, largest_int, number_after, int_segment}
+use Rattle.soy_lexer.specs.CommandSegment.{name_segment, variable_segment, digits_segment, number_after, int_segment}
 use Rattle.soy_lexer.specs.CommandSegment.{quoted_segment, string_segment, value_segment, attribute_segment}
-use Rattle.soy_lexer.specs.CommandSegment.{symbols_of_two}
-use Rattle.soy_lexer.specs.CommandSegment.{symbols_of_one, one_of, symbol_segment, close_segment}
+use Rattle.soy_lexer.specs.CommandSegment.{symbols_of_two, symbols_of_one, one_of, symbol_segment, close_segment}
+use Rattle.soy_base.specs.Limits.{largest}
 use Rattle.soy_lexer.specs.TextSegment.{text_segment, block_comment, closed_comment, line_comment, continues_line}
 use Rattle.soy_lexer.specs.TextSegment.{literal_segment, closed_literal, plain_segment, may_begin, segment_of}
 use Rattle.soy_lexer.specs.declared.token.TokenKind.{TokenKind}
@@ -208,7 +207,7 @@ variable_parts (c ∷ cs) =
 digits_parts : (text digits rest : List ℕ) → text ≡ digits ++ rest → 0 < length digits
     → Stands text (digits_segment digits rest)
 digits_parts text digits rest e pos =
-    if_ways (Stands text) (nat_le (number_after 0 digits) largest_int) _ _
+    if_ways (Stands text) (nat_le (number_after 0 digits) largest) _ _
     (λ _. begins_parts text (CommandToken kind.Int digits digits) rest e pos) (omega arith)
 
 -- an int

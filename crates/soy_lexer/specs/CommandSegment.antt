@@ -16,6 +16,7 @@ use Rattle.soy_lexer.specs.Found.Found.{Fails}
 use Rattle.soy_lexer.specs.Strings.{Quoted, quoted}
 use Rattle.soy_lexer.specs.declared.token.TokenKind.{TokenKind}
 use Rattle.soy_lexer.specs.declared.token.TokenKind.TheVariants as kind
+use Rattle.soy_base.specs.Limits.{largest}
 
 -- white space, a character at a time
 abbrev pub white_segment : List ℕ → Option Found
@@ -47,13 +48,10 @@ abbrev pub number_after : ℕ → List ℕ → ℕ
 number_after n [] = n
 number_after n (c ∷ cs) = number_after (10 * n + (c - 48)) cs
 
-abbrev pub largest_int : ℕ
-largest_int = 9007199254740991
-
 -- an int is 0, or digits that begin with another one; where it is over the limit, no token begins
 abbrev pub digits_segment : List ℕ → List ℕ → Found
 digits_segment digits rest =
-    if nat_le (number_after 0 digits) largest_int then begins (CommandToken kind.Int digits digits) rest else Fails 0
+    if nat_le (number_after 0 digits) largest then begins (CommandToken kind.Int digits digits) rest else Fails 0
 
 abbrev pub int_segment : List ℕ → Option Found
 int_segment [] = None

@@ -10,10 +10,7 @@ use Rattle.soy_base.specs.declared.memory.Refusal.{Refusal}
 use Rattle.soy_base.specs.declared.memory.Refusal.TheVariants.{Because, OutOfMemory}
 use Rattle.soy_lexer.specs.Tokens.{Tokens, FirstFault}
 use Rattle.soy_lexer.specs.declared.token.Token.{Token}
-
--- the most bytes that a file may have
-abbrev pub largest_file : ℕ
-largest_file = 1048576
+use Rattle.soy_base.specs.Limits.{largest_file}
 
 pub record TooLarge (file : ℕ) (text : List ℕ) (fault : Fault) : Type 0 where
   pub over : largest_file < length text

@@ -10,7 +10,8 @@ use Rattle.std.specs.Str.{bytes_eq}
 use Rattle.soy_base.specs.Names.{is_name}
 use Rattle.soy_base.specs.Cuts.{is_nil, prefix_while}
 use Rattle.soy_base.specs.Characters.{dollar_sign, single_quote, double_quote, backslash, null}
-use Rattle.soy_lexer.specs.CommandSegment.{largest_int, number_after, symbols_of_one, symbols_of_two}
+use Rattle.soy_lexer.specs.CommandSegment.{number_after, symbols_of_one, symbols_of_two}
+use Rattle.soy_base.specs.Limits.{largest}
 use Rattle.soy_lexer.specs.Found.{Found}
 use Rattle.soy_lexer.specs.Segment.Segment.{CommandToken}
 use Rattle.soy_lexer.specs.Found.Found.{Begins, Fails}
@@ -22,7 +23,7 @@ use Rattle.soy_lexer.specs.declared.token.TokenKind.TheVariants as kind
 abbrev pub is_int : List ℕ → Bool
 is_int [] = false
 is_int (c ∷ cs) =
-    if c == 48 then is_nil cs else (list_all is_ascii_digit (c ∷ cs) && nat_le (number_after 0 (c ∷ cs)) largest_int)
+    if c == 48 then is_nil cs else (list_all is_ascii_digit (c ∷ cs) && nat_le (number_after 0 (c ∷ cs)) largest)
 
 -- what stands in a string after its first quote: characters for themselves, escapes, and then the last quote
 pub data StringRest : List ℕ → Type 0 where
@@ -70,7 +71,7 @@ GivesToken text _ = Unit {0}
 
 -- the number that the digits at the start of a text write is over the limit
 abbrev pub IsOverLimit : List ℕ → Type 0
-IsOverLimit text = largest_int < number_after 0 (prefix_while is_ascii_digit text)
+IsOverLimit text = largest < number_after 0 (prefix_while is_ascii_digit text)
 
 -- a text with this token at its start begins with one as long at least, or with an int over the limit
 abbrev pub Reaches : List ℕ → List ℕ → Found → Type 0

@@ -8,9 +8,10 @@ ghost use Rattle.soy_base.specs.Names.{begins_name};
 ghost use Rattle.soy_base.specs.Characters.{slash, dollar_sign, double_quote};
 ghost use Rattle.soy_base.specs.WhiteSpace.{is_template_space};
 ghost use Rattle.soy_lexer.specs.ClosingName.{closing_name};
-ghost use Rattle.soy_lexer.specs.CommandSegment.{command_segment, fixed_segment, int_segment, largest_int, name_prefix};
+ghost use Rattle.soy_lexer.specs.CommandSegment.{command_segment, fixed_segment, int_segment, name_prefix};
 ghost use Rattle.soy_lexer.specs.CommandSegment.{name_segment, number_after, one_of, opened_segment, symbol_segment};
 ghost use Rattle.soy_lexer.specs.CommandSegment.{symbols_of_one, symbols_of_two, value_segment};
+ghost use Rattle.soy_base.specs.Limits.{largest};
 ghost use Rattle.soy_base.specs.Cuts.{cut};
 ghost use Rattle.soy_lexer.specs.Found.Found.{Begins, Fails};
 ghost use Rattle.soy_lexer.specs.Segment.Segment.{CommandToken};
@@ -20,10 +21,9 @@ ghost use Rattle.soy_lexer.specs.declared.token.TokenKind.TheVariants as kind;
 use crate::begins::begins;
 use crate::source_segment::{FirstSegment, SourceSegment};
 use crate::string::string_segment;
-use crate::text::text_of;
 use crate::token::TokenKind;
 use soy_base::{
-    Refusal, before, begins_name, cut, first, is_template_space, split_digits, split_name,
+    Refusal, before, begins_name, cut, first, is_template_space, split_digits, split_name, text_of,
 };
 use std::alloc::Global;
 
@@ -194,7 +194,7 @@ fn int_segment<'a>(
 
 /// Whether the number that digits write is at most the greatest int, however many they are.
 fn is_within_limit(digits: &str) -> bool
-    ensures { result ≡ nat_le (number_after 0 (chars digits.now)) largest_int }
+    ensures { result ≡ nat_le (number_after 0 (chars digits.now)) largest }
 {
     let mut number = 0u64;
     for digit in digits.chars() {

@@ -1,12 +1,11 @@
 //! Texts as the lexer cuts and copies them, beside the cuts of `soy_base`.
 
-ghost use Rattle.std.specs.Prelude.{◌≡◌, IfOk};
+ghost use Rattle.std.specs.Prelude.{◌≡◌};
 ghost use Rattle.std.specs.Str.{chars, IsUtf8};
 ghost use Rattle.soy_base.specs.Cuts.{after_while, prefix_while};
 ghost use Rattle.soy_lexer.specs.Chunks.{begins_chunk, is_chunk_character};
 
-use soy_base::{OutOfMemory, Text, first, split_while};
-use std::alloc::Global;
+use soy_base::{first, split_while};
 
 /// Whether a character is one of a chunk.
 fn is_chunk_character(c: char) -> bool
@@ -39,11 +38,4 @@ pub(crate) fn split_chunk(text: &str) -> (&str, &str)
     } else {
         ("", text)
     }
-}
-
-/// The text with these characters.
-pub(crate) fn text_of(alloc: Global, characters: &str) -> Result<Text, OutOfMemory>
-    ensures { IfOk result (λ text. text ≡ chars characters.now) }
-{
-    Ok(Text::new(String::from_str(alloc, characters)?))
 }

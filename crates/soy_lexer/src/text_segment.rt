@@ -12,9 +12,8 @@ ghost use Rattle.soy_lexer.specs.TextSegment.{may_begin, plain_segment, text_seg
 
 use crate::begins::begins;
 use crate::source_segment::{FirstSegment, SourceSegment};
-use crate::text::text_of;
 use crate::token::TokenKind;
-use soy_base::{Refusal, after_prefix, before, cut, first, split_line};
+use soy_base::{Refusal, after_prefix, before, cut, first, split_line, text_of};
 use std::alloc::Global;
 
 /// The segment with which text begins that white space or the file's start comes before, or not.

@@ -1,8 +1,8 @@
 -- Members of lists without repeats.
 use Rattle.std.proofs.Common.{◌≡◌, ℕ, ◌+◌, ◌≤◌, Bool, true, false, List, [], ◌∷◌, ◌++◌, ◌⊎◌, inl, inr}
 use Rattle.std.proofs.Common.{if◌then◌else◌, length, refl, sym, ◌∙◌, subst, arith, length-append}
-use Rattle.soy_meaning.specs.Machine.{ComparesEqual, Machine}
-use Rattle.soy_meaning.specs.States.{AtMost, HasNoRepeats, IsMember, has_state, joined_states, with_state}
+use Rattle.soy_meaning.specs.Walks.Machine.{ComparesEqual, Machine}
+use Rattle.soy_meaning.specs.Walks.States.{AtMost, HasNoRepeats, IsMember, has_state, joined_states, with_state}
 
 pub mem_left : {S : Type 0} (s : S) (xs ys : List S) → IsMember s xs → IsMember s (xs ++ ys)
 mem_left s [] ys h = absurd h

@@ -2,48 +2,25 @@
 --
 -- A row is the body of a template of kind html, with the offsets in the body, whose closing command is at offset 100.
 -- Example: `<b` ends in the name of a tag, and is refused with 13 at the closing command.
-use Rattle.std.specs.Prelude.{ℕ, pos, ◌+◌, true, false, List, [], ◌∷◌, Option, Some, None, Result, map}
+use Rattle.std.specs.Prelude.{ℕ, pos, ◌+◌, false, List, [], ◌∷◌, Option, Some, None, Result, map}
 use Rattle.std.specs.Prelude.{if◌then◌else◌, bytes_eq, codes}
-use Rattle.soy_base.specs.declared.fault.Span.{Span}
 use Rattle.soy_base.specs.declared.kind.Kind.TheVariants as kind
 use Rattle.soy_base.specs.Characters.{less_than}
 use Rattle.plural_rules.specs.declared.category.Category.TheVariants as category
 use Rattle.html_state.specs.declared.row.State.{State}
 use Rattle.soy_tree.specs.Types.{Name, SoyType, AttributesType, BoolType, IntType, ListType, NullType, StringType}
 use Rattle.soy_tree.specs.Types.{UnionType, member, no_member}
-use Rattle.soy_tree.specs.Expressions.{Expr, Variable, IntLiteral}
-use Rattle.soy_tree.specs.Nodes.{Node, Nodes, Cases, Message, MessageBody, TextNode, Print, If, Switch, For, LetBlock}
+use Rattle.soy_tree.specs.Expressions.{IntLiteral}
+use Rattle.soy_tree.specs.Nodes.{Node, Cases, Message, MessageBody, If, Switch, For, LetBlock}
 use Rattle.soy_tree.specs.Nodes.{Call, MessageNode, no_node, node, no_otherwise, no_arm, arm, no_case, case, message}
 use Rattle.soy_tree.specs.Nodes.{no_fallback, fallback, no_argument, argument, Block, Parts, Plural, no_plural_case}
 use Rattle.soy_tree.specs.Nodes.{plural_case}
 use Rattle.soy_tree.specs.MessageParts.{MsgParts, NumberPart, Placeholder, PluralPart, TextPart, named_arm}
 use Rattle.soy_tree.specs.MessageParts.{no_exact_arm, no_named_arm, no_part, part}
-use Rattle.soy_tree.specs.Trees.{Param, Template, Tree}
-use Rattle.soy_meaning.specs.AcceptedTrees.{walk_trees}
-use Rattle.soy_meaning.specs.Plan.{Site}
-use Rattle.soy_meaning.specs.Walk.{Walked, WalkFault}
-
-abbrev pub span_between : ℕ → ℕ → Span
-span_between start end = record { start = start; end = end }
-
-abbrev pub span_at : ℕ → Span
-span_at at = span_between at 100
-
-abbrev pub site_at : ℕ → Site
-site_at at = record { file = 0; at = at }
-
-abbrev pub text_node : ℕ → List ℕ → Node
-text_node at text = TextNode text (span_at at)
-
-abbrev pub print_node : ℕ → List ℕ → Node
-print_node at name = Print (Variable name (span_at at)) None (span_at at)
-
-abbrev pub all_nodes : List Node → Nodes
-all_nodes [] = no_node
-all_nodes (n ∷ ns) = node n (all_nodes ns)
-
-abbrev pub row_param : Name × SoyType → Param
-row_param p = record { name = p.0; of = p.1; required = true; span = span_at 0 }
+use Rattle.soy_tree.specs.Trees.{Template, Tree}
+use Rattle.soy_meaning.specs.Walks.AcceptedTrees.{walk_trees}
+use Rattle.soy_meaning.specs.Walks.Walk.{Walked, WalkFault}
+use Rattle.soy_pieces.specs.RowTrees.{all_nodes, print_node, row_param, span_at, span_between, text_node, variable}
 
 -- the walk over one template with these parameters and this body, where messages have these translations
 abbrev pub walked_row : (Message → Option MsgParts) → List (Name × SoyType) → List Node →
@@ -64,9 +41,6 @@ abbrev pub row_params : List (Name × SoyType)
 row_params =
     (codes "a", StringType) ∷ (codes "b", StringType) ∷ (codes "x", BoolType) ∷ (codes "n", IntType)
     ∷ (codes "l", ListType StringType) ∷ []
-
-abbrev pub variable : ℕ → List ℕ → Expr
-variable at name = Variable name (span_at at)
 
 -- the same where each message has this translation
 abbrev pub translated_row : MsgParts → List Node → Result (Walked State) WalkFault

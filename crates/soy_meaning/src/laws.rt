@@ -1,13 +1,12 @@
 //! What the definitions come to, for the tokenizer of a page. Each law is a contract with an empty body.
 
 ghost use Rattle.std.specs.Prelude.{◌≡◌, ◌+◌, ◌++◌, ◌∷◌, [], ℕ, IsTrue, List, Option};
-ghost use Rattle.std.specs.Prelude.{Some, None, Ok, Err, length, get_or};
-ghost use Rattle.std.specs.Prelude.{map, replicate};
-ghost use Rattle.std.specs.Prelude.{ℤ, pos, codes, true};
+ghost use Rattle.std.specs.Prelude.{Some, Ok, Err, length, get_or};
+ghost use Rattle.std.specs.Prelude.{map};
+ghost use Rattle.std.specs.Prelude.{ℤ, codes, true};
 ghost use Rattle.soy_base.specs.declared.code.Code.TheVariants as code;
 ghost use Rattle.soy_base.specs.declared.direction.Dir.TheVariants as dir;
 ghost use Rattle.soy_base.specs.declared.direction.Dir.{Dir};
-ghost use Rattle.bidi_text.specs.Wrap.{wrapped_text};
 ghost use Rattle.soy_base.specs.declared.kind.Kind.{Kind};
 ghost use Rattle.soy_base.specs.declared.kind.Kind.TheVariants as kind;
 ghost use Rattle.soy_base.specs.declared.place.Place.TheVariants as place;
@@ -17,7 +16,7 @@ ghost use Rattle.soy_base.specs.declared.place.ValueClass.{ValueClass};
 ghost use Rattle.html_state.specs.AfterValue.{after_value};
 ghost use Rattle.html_state.specs.Follows.{Follows};
 ghost use Rattle.html_state.specs.Leads.{Leads};
-ghost use Rattle.html_state.specs.AfterPieces as page;
+ghost use Rattle.soy_base.specs.Piece as page;
 ghost use Rattle.html_state.specs.AfterPieces.{after_pieces, placing_after};
 ghost use Rattle.html_state.specs.Start.{start};
 ghost use Rattle.html_state.specs.StatePlacing.{placing};
@@ -27,60 +26,64 @@ ghost use Rattle.html_state.specs.declared.row.State.{State};
 ghost use Rattle.html_state.specs.declared.row.Tag.{Tag};
 ghost use Rattle.soy_tree.specs.MessageParts.{MsgParts};
 ghost use Rattle.soy_tree.specs.Nodes.{Message, Node, Nodes};
-ghost use Rattle.soy_tree.specs.TypeOf.{Scope, type_of};
-ghost use Rattle.soy_tree.specs.Bodies.{is_printed};
+ghost use Rattle.soy_rules.specs.TypeOf.{Scope, type_of};
+ghost use Rattle.soy_rules.specs.Bodies.{is_printed};
 ghost use Rattle.soy_tree.specs.Expressions.{Expr};
-ghost use Rattle.soy_tree.specs.Fits.{Fits};
-ghost use Rattle.soy_tree.specs.Has.{IsWithinRange};
+ghost use Rattle.soy_rules.specs.Fits.{Fits};
+ghost use Rattle.soy_rules.specs.Has.{IsWithinRange};
 ghost use Rattle.soy_tree.specs.Formed.{is_formed_expr};
 ghost use Rattle.soy_tree.specs.Types.{SoyType};
 ghost use Rattle.soy_tree.specs.Trees.{Tree};
-ghost use Rattle.soy_tree.specs.Val.{Known, val, value_text};
-ghost use Rattle.soy_meaning.specs.PlanOfParts.{printed_classes};
+ghost use Rattle.soy_rules.specs.Val.{Known, val};
+ghost use Rattle.soy_meaning.specs.Paths.PlanOfParts.{printed_classes};
 ghost use Rattle.soy_tree.specs.Values.{Value};
-ghost use Rattle.soy_tree.specs.Templates.{Declared, declared};
-ghost use Rattle.soy_meaning.specs.Giving.{RunEnv, value_class};
-ghost use Rattle.soy_meaning.specs.Pieces.{RunContext, template_run};
-ghost use Rattle.soy_meaning.specs.FrameRun.{FrameRun, entry_frame, run_outcome, run_plan};
-ghost use Rattle.soy_meaning.specs.RunsAlong.{BindsValues, EnvRuns, FilledByRuns, FitsClasses, IsFrameWithin};
-ghost use Rattle.soy_meaning.specs.RunsAlong.{RunsAlong};
-ghost use Rattle.soy_meaning.specs.StopsWithin.{StopsWithin};
-ghost use Rattle.soy_meaning.specs.TypedData.{AreTypedTrees, FitsData};
-ghost use Rattle.soy_meaning.specs.RunPlaces.{ArePlaced, ArePlacedInBoth, FrameWithin};
-ghost use Rattle.soy_meaning.specs.TranslationFits.{TranslationsFit};
-ghost use Rattle.soy_meaning.specs.EqualChoices.{AlikeByChoices, AlikeRuns, EnvsAlike, FilledAlike, NestAlike};
-ghost use Rattle.soy_meaning.specs.PicksValues.{TemplatesPick, param_marks};
-ghost use Rattle.soy_meaning.specs.AcceptedTrees.{AcceptedTrees, walk_trees};
-ghost use Rattle.soy_meaning.specs.EscapedAt.{escaped_where, is_text_of};
-ghost use Rattle.soy_meaning.specs.Filled.{Filled, FillsHoles, IsBlockKind, IsFrameOf, filled_pieces, parts_of_filled};
-ghost use Rattle.soy_meaning.specs.FourPoints.{AcceptedPaths, StartsAs};
-ghost use Rattle.soy_meaning.specs.Holes.{hole_count, holes_before};
-ghost use Rattle.soy_meaning.specs.Outcome as outcome;
-ghost use Rattle.soy_meaning.specs.Outcome.{Outcome, choices_of_outcome, continued_by, costs_of_outcome};
-ghost use Rattle.soy_meaning.specs.Outcome.{end_of_outcome, gathered};
-ghost use Rattle.soy_meaning.specs.Outcome.{gives_nothing, pieces_of_outcome};
-ghost use Rattle.soy_meaning.specs.PageMachine.{page_machine};
-ghost use Rattle.soy_meaning.specs.Plan.{Plan, Site};
-ghost use Rattle.soy_meaning.specs.Blocks.{block_frame, nodes_blocks, plan_frames};
-ghost use Rattle.soy_meaning.specs.PlanOfNodes.{PlanContext, kind_class, nodes_plan, trees_plan};
-ghost use Rattle.soy_meaning.specs.PathParts.{IsPath, PathPart, StandsAfter};
-ghost use Rattle.soy_meaning.specs.Ways.{IsWayOfNodes};
-ghost use Rattle.soy_meaning.specs.States.{AtMost, IsMember};
-ghost use Rattle.soy_meaning.specs.Points.{Address, AtHole, LeadsTo, Point, StandsAt, frame_at, point_at};
+ghost use Rattle.soy_rules.specs.Templates.{Declared, declared};
+ghost use Rattle.soy_pieces.specs.Giving.{RunEnv, value_class};
+ghost use Rattle.soy_pieces.specs.Pieces.{RunContext, template_run};
+ghost use Rattle.soy_meaning.specs.Runs.FrameRun.{FrameRun, entry_frame, run_outcome, run_plan};
+ghost use Rattle.soy_meaning.specs.Runs.RunsAlong.{BindsValues, EnvRuns, FilledByRuns, FitsClasses, IsFrameWithin};
+ghost use Rattle.soy_meaning.specs.Runs.RunsAlong.{RunsAlong};
+ghost use Rattle.soy_meaning.specs.Runs.StopsWithin.{StopsWithin};
+ghost use Rattle.soy_meaning.specs.Runs.TypedData.{AreTypedTrees, FitsData};
+ghost use Rattle.soy_meaning.specs.Runs.RunPlaces.{ArePlaced, ArePlacedInBoth, FrameWithin};
+ghost use Rattle.soy_meaning.specs.Runs.TranslationFits.{TranslationsFit};
+ghost use Rattle.soy_meaning.specs.Runs.EqualChoices.{AlikeByChoices, AlikeRuns, EnvsAlike, FilledAlike, NestAlike};
+ghost use Rattle.soy_meaning.specs.Runs.PicksValues.{TemplatesPick, param_marks};
+ghost use Rattle.soy_meaning.specs.Walks.AcceptedTrees.{AcceptedTrees, walk_trees};
+ghost use Rattle.soy_pieces.specs.EscapedAt.{escaped_where, is_text_of};
+ghost use Rattle.soy_meaning.specs.Paths.Filled.{Filled, FillsHoles, IsBlockKind, IsFrameOf, filled_pieces};
+ghost use Rattle.soy_meaning.specs.Paths.Filled.{parts_of_filled};
+ghost use Rattle.soy_meaning.specs.Walks.FourPoints.{AcceptedPaths, StartsAs};
+ghost use Rattle.soy_meaning.specs.Walks.Holes.{hole_count, holes_before};
+ghost use Rattle.soy_pieces.specs.Outcome as outcome;
+ghost use Rattle.soy_pieces.specs.Outcome.{choices_of_outcome};
+ghost use Rattle.soy_pieces.specs.Outcome.{end_of_outcome};
+ghost use Rattle.soy_pieces.specs.Outcome.{pieces_of_outcome};
+ghost use Rattle.soy_meaning.specs.Walks.PageMachine.{page_machine};
+ghost use Rattle.soy_meaning.specs.Paths.Plan.{Plan};
+ghost use Rattle.soy_pieces.specs.Site.{Site};
+ghost use Rattle.soy_meaning.specs.Paths.Blocks.{block_frame, nodes_blocks, plan_frames};
+ghost use Rattle.soy_meaning.specs.Paths.PlanOfNodes.{PlanContext, kind_class, nodes_plan, trees_plan};
+ghost use Rattle.soy_meaning.specs.Paths.PathParts.{IsPath, PathPart, StandsAfter};
+ghost use Rattle.soy_meaning.specs.Paths.Ways.{IsWayOfNodes};
+ghost use Rattle.soy_meaning.specs.Walks.States.{AtMost, IsMember};
+ghost use Rattle.soy_meaning.specs.Walks.Points.{Address, AtHole, LeadsTo, Point, StandsAt, frame_at, point_at};
 ghost use Rattle.soy_meaning.specs.Rows.{ampersand_in_arm, ampersand_in_fallback, ampersand_in_plural};
 ghost use Rattle.soy_meaning.specs.Rows.{ampersand_in_translation, block_in_attribute, block_in_title, mixed_places};
 ghost use Rattle.soy_meaning.specs.Rows.{narrowed_attributes, number_in_tag, number_in_title, open_tag_in_let};
 ghost use Rattle.soy_meaning.specs.Rows.{open_tag_in_param, optional_attribute, refused_source, second_turn};
-ghost use Rattle.soy_meaning.specs.Rows.{second_uri_value, seventeen_states, site_at, sixteen_states};
+ghost use Rattle.soy_meaning.specs.Rows.{second_uri_value, seventeen_states, sixteen_states};
+ghost use Rattle.soy_pieces.specs.RowTrees.{site_at};
 ghost use Rattle.soy_meaning.specs.Rows.{tag_in_translation};
-ghost use Rattle.soy_meaning.specs.RunRows.{MeetsPremises, attributes_block, attributes_body, block_body};
+ghost use Rattle.soy_meaning.specs.RunRows.{MeetsPremises};
+ghost use Rattle.soy_pieces.specs.RunRows.{attributes_body, block_body};
 ghost use Rattle.soy_meaning.specs.RunRows.{blocks_filled, flat_filled};
-ghost use Rattle.soy_meaning.specs.RunRows.{block_pieces, block_twice, calls, calls_body, input_pieces, number_env};
-ghost use Rattle.soy_meaning.specs.RunRows.{number_param, offset_part, offset_translation, pieces_and_end};
-ghost use Rattle.soy_meaning.specs.RunRows.{plural_part, plural_source, plural_translation, row_context};
-ghost use Rattle.soy_meaning.specs.RunRows.{row_template, row_trees, source_body, source_plural, text_env, text_param};
-ghost use Rattle.soy_meaning.specs.RunRows.{translated_context, translated_meaning};
-ghost use Rattle.soy_meaning.specs.Walk.{Walked, mixed_at, walk, walk_fault, walked};
+ghost use Rattle.soy_pieces.specs.RunRows.{block_twice, calls, calls_body, number_env};
+ghost use Rattle.soy_pieces.specs.RunRows.{number_param, offset_part};
+ghost use Rattle.soy_pieces.specs.RunRows.{plural_part, plural_source, row_context};
+ghost use Rattle.soy_pieces.specs.RunRows.{row_template, row_trees, source_body, text_env, text_param};
+ghost use Rattle.soy_pieces.specs.RunRows.{translated_context};
+ghost use Rattle.soy_meaning.specs.Walks.Walk.{Walked, mixed_at, walk, walk_fault, walked};
 
 /// The escaped form of a value at the place that a state gives, and then the mark that the value sets, lead to the
 /// state that the walk has after the hole, for each class of what isn't markup and each text of a value of the class.
@@ -88,11 +91,6 @@ pub fn law_hole()
     ensures { (state : State) (class : ValueClass) (text : List ℕ) (context : Dir) →
         IsTrue (takes_class (placing state) class) → IsTrue (is_text_of class text) →
         (out : List ℕ) × (escaped_where (placing state) class text context ≡ Some out) × Leads state out }
-{}
-
-/// The text of a value is one that its class has, so that what `law_hole` says holds of each printed value.
-pub fn law_value_texts()
-    ensures { (v : Value) → IsTrue (is_text_of (value_class v) (value_text v)) }
 {}
 
 /// The value of a typed print, where it is no block, has one of the classes of its hole.
@@ -276,16 +274,6 @@ pub fn law_alike_nests()
         n.two.filled }
 {}
 
-/// Outcomes follow one another as lists do, and what is gathered from two that follow one another is gathered from the
-/// one and then from the other.
-pub fn law_outcomes()
-    ensures joined { (a b c : Outcome) → continued_by (continued_by a b) c ≡ continued_by a (continued_by b c) }
-    ensures nothing_first { (o : Outcome) → continued_by gives_nothing o ≡ o }
-    ensures nothing_last { (o : Outcome) → continued_by o gives_nothing ≡ o }
-    ensures gathered { (text : List ℕ) (o rest : Outcome) (following : List ℕ → Outcome) →
-        gathered text (continued_by o rest) following ≡ gathered text o (λ more. gathered more rest following) }
-{}
-
 /// Rows that the checker computes: which fault the walk meets first, and where, or that it meets none.
 pub fn law_rows()
     ensures second_uri_value { second_uri_value ≡ Err (walk_fault (site_at 13) code.UriStart) }
@@ -307,60 +295,6 @@ pub fn law_rows()
     ensures number_in_tag { number_in_tag ≡ Err (walk_fault (site_at 7) code.Place) }
     ensures sixteen_states { sixteen_states ≡ Err (walk_fault (site_at 100) code.EndState) }
     ensures seventeen_states { seventeen_states ≡ Err (walk_fault (site_at 0) code.States) }
-{}
-
-/// Rows that the checker computes: the pieces and the end that small templates give under data, the costs before each
-/// piece and the end, and the choices.
-pub fn law_run_rows()
-    ensures block_twice { pieces_and_end (block_twice (codes "q"))
-        ≡ (
-          block_pieces (wrapped_text (codes "q") dir.Ltr) ++ block_pieces (wrapped_text (codes "q") dir.Ltr),
-          outcome.WholeRun,
-        ) }
-    ensures block_bytes { pieces_and_end (block_twice (codes "7"))
-        ≡ (
-          block_pieces (codes "<span dir=\"ltr\">7</span>") ++ block_pieces (codes "<span dir=\"ltr\">7</span>"),
-          outcome.WholeRun,
-        ) }
-    ensures block_costs { costs_of_outcome (block_twice (codes "q")) ≡ 1 ∷ 1 ∷ 0 ∷ 1 ∷ 1 ∷ 0 ∷ 0 ∷ [] }
-    ensures attributes_block { pieces_and_end attributes_block ≡ (input_pieces, outcome.WholeRun) }
-    ensures calls_to_limit { pieces_and_end (calls (pos 100))
-        ≡ (replicate 100 (page.Static (codes "a")), outcome.WholeRun) }
-    ensures calls_past_limit { pieces_and_end (calls (pos 101))
-        ≡ (replicate 101 (page.Static (codes "a")), outcome.StopsAt (site_at 12)) }
-    ensures call_costs { costs_of_outcome (calls (pos 1)) ≡ 3 ∷ 6 ∷ [] }
-    ensures call_choices { choices_of_outcome (calls (pos 1))
-        ≡ outcome.ArmTaken (Some 0) ∷ outcome.ArmTaken None ∷ [] }
-    ensures source_plural { pieces_and_end (source_plural (pos 1))
-        ≡ (page.Static (codes "only") ∷ [], outcome.WholeRun) }
-    ensures source_default { pieces_and_end (source_plural (pos 3))
-        ≡ (page.Value (codes "<span dir=\"ltr\">3</span>") ∷ page.Static (codes " in all") ∷ [], outcome.WholeRun) }
-    ensures source_choices { choices_of_outcome (source_plural (pos 3))
-        ≡ outcome.TextTaken outcome.SourceText ∷ outcome.ArmTaken (Some 1) ∷ [] }
-    ensures plural_zero { pieces_and_end (plural_translation (pos 0))
-        ≡ (page.Static (codes "Z") ∷ [], outcome.WholeRun) }
-    ensures plural_one { pieces_and_end (plural_translation (pos 1))
-        ≡ (page.Static (codes "O") ∷ [], outcome.WholeRun) }
-    ensures plural_two { pieces_and_end (plural_translation (pos 2))
-        ≡ (page.Static (codes "T") ∷ [], outcome.WholeRun) }
-    ensures plural_few { pieces_and_end (plural_translation (pos 3))
-        ≡ (page.Static (codes "F") ∷ [], outcome.WholeRun) }
-    ensures plural_many { pieces_and_end (plural_translation (pos 11))
-        ≡ (page.Static (codes "M") ∷ [], outcome.WholeRun) }
-    ensures plural_other { pieces_and_end (plural_translation (pos 100))
-        ≡ (page.Static (codes "X ") ∷ page.Value (codes "<span dir=\"ltr\">100</span>") ∷ [], outcome.WholeRun) }
-    ensures plural_meaning { translated_meaning plural_part (pos 11) ≡ codes "M" }
-    ensures offset_exact { pieces_and_end (offset_translation (pos 1))
-        ≡ (page.Static (codes "only") ∷ [], outcome.WholeRun) }
-    ensures offset_number { pieces_and_end (offset_translation (pos 2))
-        ≡ (
-          page.Static (codes "and ") ∷ page.Value (codes "<span dir=\"ltr\">1</span>")
-              ∷ page.Static (codes " more") ∷ [],
-          outcome.WholeRun,
-        ) }
-    ensures offset_costs { costs_of_outcome (offset_translation (pos 2)) ≡ 1 ∷ 0 ∷ 0 ∷ 0 ∷ [] }
-    ensures offset_choices { choices_of_outcome (offset_translation (pos 2))
-        ≡ outcome.TextTaken outcome.OwnTranslation ∷ outcome.ArmTaken (Some 1) ∷ [] }
 {}
 
 /// Rows that the checker computes: what fills the path of a template that prints a block twice. Two runs of it nest

@@ -50,8 +50,9 @@ use Rattle.soy_parser.specs.SpellsFile.{SpellsFile}
 use Rattle.soy_parser.specs.SpellsTree.{SpellsText, SpellsPrints, SpellsParts, SpellsMessageBody, SpellsChoice}
 use Rattle.soy_parser.specs.SpellsTree.{SpellsPluralCases, SpellsSelectCases, SpellsNodes, SpellsBody, SpellsNode}
 use Rattle.soy_parser.specs.SpellsTree.{SpellsArms, SpellsCases, SpellsArguments, SpellsParams, SpellsTemplates}
-use Rattle.soy_parser.specs.SpellsTree.{SpellsTree, param_of, template_of}
-use Rattle.soy_parser.proofs.AscendingCommands.{form_offsets, command_offsets, commands_offsets, commands_ascend}
+use Rattle.soy_parser.specs.SpellsTree.{SpellsTree, as_param, template_of}
+use Rattle.soy_parser.proofs.Commands.AscendingCommands.{form_offsets, command_offsets, commands_offsets}
+use Rattle.soy_parser.proofs.Commands.AscendingCommands.{commands_ascend}
 use Rattle.soy_parser.proofs.NodeViews.{view_text, view_print}
 use Rattle.soy_parser.proofs.ViewForms.{view-If, view-IfElse, view-Switch, view-SwitchDefault, view-For, view-Let}
 use Rattle.soy_parser.proofs.ViewForms.{view-LetBlock, view-Call, view-Message, view-MessageFallback, view-arm}
@@ -613,7 +614,7 @@ params_in : (cs : List Command) (ls : List ℕ) (params : List Param) → Spells
     → Among (params_offsets (view_params params)) cs
 params_in _ _ _ SpellsParams.none_ = Nothing
 params_in _ _ _ (SpellsParams.param_ cs ls params c name required of s h) =
-    subst (λ l. Among l (cs ++ (c ∷ []))) (sym (params_append params (param_of name of required c.span)))
+    subst (λ l. Among l (cs ++ (c ∷ []))) (sym (params_append params (as_param name of required c.span)))
     (in_both (params_offsets (view_params params)) (held c.span []) cs (c ∷ []) (params_in cs ls params s)
     (alone_in c (says.TemplateParam name required of) h))
 

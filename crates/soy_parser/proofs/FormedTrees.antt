@@ -14,7 +14,7 @@ use Rattle.soy_tree.specs.Formed.{is_formed_node, are_formed_nodes, are_formed_a
 use Rattle.soy_tree.specs.Formed.{are_formed_arguments, is_formed_given, is_formed_message, is_formed_body}
 use Rattle.soy_tree.specs.Formed.{are_formed_plural_cases, are_formed_select_cases, is_formed_param}
 use Rattle.soy_tree.specs.Formed.{is_formed_template, is_formed_tree}
-use Rattle.soy_tree.specs.Ints.{largest}
+use Rattle.soy_base.specs.Limits.{largest}
 use Rattle.soy_tree.specs.Nodes as tree
 use Rattle.soy_tree.specs.ViewExpressions.{view_expr, view_exprs}
 use Rattle.soy_tree.specs.ViewNodes.{view_node, view_nodes, view_arm, view_arms, view_case, view_cases, view_argument}
@@ -56,10 +56,10 @@ use Rattle.soy_parser.specs.SpellsCommand.{SpellsCommand, SpellsCommands}
 use Rattle.soy_parser.specs.SpellsFile.{SpellsFile}
 use Rattle.soy_parser.specs.SpellsTree.{SpellsPrints, SpellsParts, SpellsMessageBody, SpellsChoice, SpellsPluralCases}
 use Rattle.soy_parser.specs.SpellsTree.{SpellsSelectCases, SpellsNodes, SpellsBody, SpellsNode, SpellsArms, SpellsCases}
-use Rattle.soy_parser.specs.SpellsTree.{SpellsArguments, SpellsParams, SpellsTemplates, SpellsTree, param_of}
+use Rattle.soy_parser.specs.SpellsTree.{SpellsArguments, SpellsParams, SpellsTemplates, SpellsTree, as_param}
 use Rattle.soy_parser.specs.SpellsTree.{template_of}
 use Rattle.soy_parser.proofs.DottedNames.{both, all_three, first_of, second_of}
-use Rattle.soy_parser.proofs.FormedCommands.{FormedForm, AllFormed, commands_formed, formed_left, formed_right}
+use Rattle.soy_parser.proofs.Commands.FormedCommands.{FormedForm, AllFormed, commands_formed, formed_left, formed_right}
 use Rattle.soy_parser.proofs.NodeViews.{view_text, view_print}
 use Rattle.soy_parser.proofs.ViewForms.{view-If, view-IfElse, view-Switch, view-SwitchDefault, view-For, view-Let}
 use Rattle.soy_parser.proofs.ViewForms.{view-LetBlock, view-Call, view-Message, view-MessageFallback, view-arm}
@@ -599,7 +599,7 @@ params_formed : (cs : List Command) (ls : List ℕ) (params : List Param) → Al
 params_formed _ _ _ f SpellsParams.none_ = refl
 params_formed _ _ _ f (SpellsParams.param_ cs ls params c name required of s h) =
     let i = said (says.TemplateParam name required of) c h (formed_right cs (c ∷ []) f).0 in
-    one_more params (param_of name of required c.span) (params_formed cs ls params (formed_left cs (c ∷ []) f) s)
+    one_more params (as_param name of required c.span) (params_formed cs ls params (formed_left cs (c ∷ []) f) s)
     (both (is_name name) (is_formed_type (view_type of)) i.0 i.1)
   where
     one_more : (ps : List Param) (p : Param) → list_all is_formed_param (view_params ps) ≡ true

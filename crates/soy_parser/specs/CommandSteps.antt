@@ -42,7 +42,7 @@ use Rattle.soy_parser.specs.declared.terminal.BlockName.{BlockName}
 use Rattle.soy_parser.specs.declared.terminal.BlockName.TheVariants as name
 use Rattle.soy_parser.specs.Nodes.{node_of, arm_of, case_of, argument_of, whole_message, plural_cases, select_cases}
 use Rattle.soy_parser.specs.Nodes.{text_span, up_to}
-use Rattle.soy_parser.specs.SpellsTree.{param_of, template_of}
+use Rattle.soy_parser.specs.SpellsTree.{as_param, template_of}
 
 abbrev pub state : List Block → Content → Option CommandState
 state blocks content = Some (record { blocks = blocks; content = content })
@@ -201,7 +201,7 @@ body_step blocks nodes (says.Text text) span = state blocks (content.Body (with_
 body_step blocks nodes (says.Character text) span = state blocks (content.Body (with_text nodes text span))
 body_step blocks nodes (says.Namespace n) span = None
 body_step blocks nodes (says.TemplateParam n required of) span =
-    if is_empty nodes then template_param_step blocks (param_of n of required span) else None
+    if is_empty nodes then template_param_step blocks (as_param n of required span) else None
 body_step blocks nodes (says.Single of) span = single_step blocks (ended nodes) of span
 body_step blocks nodes (says.Opens of) span = opening_step blocks (ended nodes) of span
 body_step blocks nodes (says.GoesOn m) span = body_goes_on blocks (ended nodes) m

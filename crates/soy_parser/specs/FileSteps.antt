@@ -58,6 +58,7 @@ use Rattle.soy_parser.specs.CommandSteps.{is_empty}
 use Rattle.soy_parser.specs.CommandTerminals.{command_terminal_of}
 use Rattle.soy_parser.specs.Heads.{no_attributes, attribute_name, allows, with_attribute, form_at}
 use Rattle.soy_parser.specs.SpellsHead.{bare_head}
+use Rattle.soy_base.specs.Characters.{full_stop}
 
 abbrev pub file_at : CommandState → CommandSpot → Option FileState
 file_at s at = Some (record { commands = s; spot = at })
@@ -267,7 +268,7 @@ dotted_head dotted.Namespace text = head.Whole (says.Namespace text)
 dotted_head dotted.Call text = head.Call text
 
 abbrev pub dotted_step : CommandState → Span → DottedUse → List ℕ → Token → CommandTerminal → Option FileState
-dotted_step s from for_ text t terminal.Dot = stands s from (spot.DottedName for_ (text ++ (46 ∷ [])))
+dotted_step s from for_ text t terminal.Dot = stands s from (spot.DottedName for_ (text ++ (full_stop ∷ [])))
 dotted_step s from for_ text t _ = head_done s from (dotted_head for_ text) t
 
 -- a token in a command, by where its reading stands

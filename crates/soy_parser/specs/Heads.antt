@@ -10,7 +10,8 @@ use Rattle.soy_base.specs.declared.kind.Kind.TheVariants as block_kind
 use Rattle.soy_lexer.specs.LongestToken.{is_int}
 use Rattle.std.specs.Char.{is_ascii_digit}
 use Rattle.std.specs.List.{list_all}
-use Rattle.soy_lexer.specs.CommandSegment.{number_after, largest_int}
+use Rattle.soy_lexer.specs.CommandSegment.{number_after}
+use Rattle.soy_base.specs.Limits.{largest}
 use Rattle.soy_lexer.specs.declared.token.Token.{Token}
 use Rattle.soy_parser.specs.declared.attributes.AttributeName.{AttributeName}
 use Rattle.soy_parser.specs.declared.attributes.AttributeName.TheVariants as attribute
@@ -77,7 +78,7 @@ with_kind a k = record a { kind = Some k }
 -- the number that decimal digits write after those of n, if it isn't over the largest int
 abbrev pub digits_value : ℕ → List ℕ → Option ℕ
 digits_value n digits =
-    if list_all is_ascii_digit digits && nat_le (number_after n digits) largest_int then
+    if list_all is_ascii_digit digits && nat_le (number_after n digits) largest then
     Some (number_after n digits) else None
 
 -- the int that a text writes, if it writes one

@@ -27,6 +27,7 @@ use Rattle.soy_parser.specs.declared.terminal.CommandWord.TheVariants as word
 use Rattle.soy_parser.specs.CommandTerminals.{command_terminal_of}
 use Rattle.soy_parser.specs.Depth.{none_deep}
 use Rattle.soy_parser.specs.TypeWords.{no_words}
+use Rattle.soy_base.specs.Characters.{no_break_space, carriage_return, full_stop}
 
 -- a head of one token
 abbrev pub bare_head : CommandTerminal → Option Head
@@ -34,9 +35,9 @@ bare_head (terminal.Word word.Space) = Some (head.Whole (says.Character (codes "
 bare_head (terminal.Word word.Nil) = Some (head.Whole (says.Character []))
 bare_head (terminal.Word word.LeftBrace) = Some (head.Whole (says.Character (codes "{")))
 bare_head (terminal.Word word.RightBrace) = Some (head.Whole (says.Character (codes "}")))
-bare_head (terminal.Word word.NoBreakSpace) = Some (head.Whole (says.Character (160 ∷ [])))
+bare_head (terminal.Word word.NoBreakSpace) = Some (head.Whole (says.Character (no_break_space ∷ [])))
 bare_head terminal.LineFeed = Some (head.Whole (says.Character (10 ∷ [])))
-bare_head terminal.CarriageReturn = Some (head.Whole (says.Character (13 ∷ [])))
+bare_head terminal.CarriageReturn = Some (head.Whole (says.Character (carriage_return ∷ [])))
 bare_head terminal.Tab = Some (head.Whole (says.Character (9 ∷ [])))
 bare_head (terminal.Word word.Else) = Some (head.Whole (says.GoesOn middle.Else))
 bare_head (terminal.Word word.Default) = Some (head.Whole (says.GoesOn middle.Default))
@@ -62,7 +63,7 @@ pub data SpellsDotted : List Token → List ℕ → Type 0 where
       → SpellsDotted (name ∷ []) name.text
   more_ : (ts : List Token) (text : List ℕ) (dot name : Token) (w : CommandWord) → SpellsDotted ts text
       → command_terminal_of dot ≡ terminal.Dot → command_terminal_of name ≡ terminal.Word w
-      → SpellsDotted (ts ++ (dot ∷ (name ∷ []))) (text ++ (46 ∷ name.text))
+      → SpellsDotted (ts ++ (dot ∷ (name ∷ []))) (text ++ (full_stop ∷ name.text))
 
 -- the values of a case, joined by `,`
 

@@ -228,15 +228,15 @@ mutual
 
 -- the parameters at the head of a template
 
-abbrev pub param_of : List ℕ → SoyType → Bool → Span → Param
-param_of name of required span = record { name = name; of = of; required = required; span = span }
+abbrev pub as_param : List ℕ → SoyType → Bool → Span → Param
+as_param name of required span = record { name = name; of = of; required = required; span = span }
 
 pub data SpellsParams : List Command → List ℕ → List Param → Type 0 where
   none_ : SpellsParams [] [] []
   param_ : (cs : List Command) (ls : List ℕ) (params : List Param) (c : Command) (name : List ℕ) (required : Bool)
       (of : SoyType)
       → SpellsParams cs ls params → c.form ≡ says.TemplateParam name required of
-      → SpellsParams (cs ++ (c ∷ [])) (ls ++ (0 ∷ [])) (params ++ (param_of name of required c.span ∷ []))
+      → SpellsParams (cs ++ (c ∷ [])) (ls ++ (0 ∷ [])) (params ++ (as_param name of required c.span ∷ []))
 
 abbrev pub template_of : TemplateOpening → List Param → List Node → Span → Template
 template_of h params body span =

@@ -3,7 +3,7 @@
 ghost use Rattle.std.specs.Prelude.{◌≡◌, ◌≤◌, ◌++◌, ◌∷◌, [], IfOk, IfSome, Some, None, if◌then◌else◌};
 ghost use Rattle.std.specs.List.{list_all};
 ghost use Rattle.std.specs.Str.{chars};
-ghost use Rattle.soy_lexer.specs.CommandSegment.{largest_int};
+ghost use Rattle.soy_base.specs.Limits.{largest};
 ghost use Rattle.soy_parser.specs.Heads.{digits_value, written_int};
 ghost use Rattle.soy_tree.specs.Formed.{is_case_word, is_word_character};
 
@@ -16,7 +16,7 @@ const LARGEST_INT: u64 = 9007199254740991;
 #[tactic(auto, using(crate::proofs::Ints::digits_bounded))]
 pub(crate) fn written_int(text: &str) -> Option<u64>
     ensures value { result ≡ written_int (chars text.now) }
-    ensures bound { IfSome result (λ n. n ≤ largest_int) }
+    ensures bound { IfSome result (λ n. n ≤ largest) }
 {
     match first(text) {
         Some(('0', rest)) => { if is_empty(rest) { Some(0) } else { None } }

@@ -3,7 +3,7 @@
 use Rattle.std.proofs.Common.{◌≡◌, ℕ, List, Option}
 use Rattle.std.proofs.Common.{Some, None, refl, ap, ◌∙◌, inl, inr}
 use Rattle.std.specs.Prelude.{Result, Ok, Err}
-use Rattle.ir_build.specs.ViewScene.{language_of}
+use Rattle.soy_pieces.specs.Language.{language_of}
 use Rattle.msg_bundle.specs.BundlesAlike.{BundlesAlike}
 use Rattle.soy_base.specs.declared.code.Code.{Code}
 use Rattle.soy_base.specs.declared.path.PathStep.{PathStep}
@@ -15,20 +15,20 @@ use Rattle.soy_front.proofs.BundleTranslations.{same_chosen}
 use Rattle.soy_front.proofs.FilesLaws.{files_had}
 use Rattle.soy_front.proofs.FrontAnswers.{brought_apart, same_language}
 use Rattle.soy_front.proofs.LanguageOf.{languages_alike}
-use Rattle.soy_meaning.specs.AcceptedTrees.{walk_trees}
-use Rattle.soy_meaning.specs.Pieces.{template_run}
+use Rattle.soy_meaning.specs.Walks.AcceptedTrees.{walk_trees}
+use Rattle.soy_pieces.specs.Pieces.{template_run}
 use Rattle.soy_top.specs.Answer.{PageAnswer, accepted_then}
 use Rattle.soy_top.specs.Answer.{data_answer, entry_answer, entry_of}
 use Rattle.soy_top.specs.Answer.{page_answer, render_answer, template_outcome}
 use Rattle.soy_top.specs.Answer.{unless_refused}
 use Rattle.soy_top.specs.Words.{Word}
-use Rattle.soy_tree.specs.Templates.{Declared, declared}
+use Rattle.soy_rules.specs.Templates.{Declared, declared}
 use Rattle.soy_tree.specs.Values.{Value}
 use Rattle.soy_tree.specs.ViewTrees.{view_trees}
 use Rattle.soy_types.specs.ReadData.{data_at}
-use Rattle.template_ir.specs.Compiles.{Language}
-use Rattle.template_ir.specs.Placed.{language_context}
-use Rattle.template_ir.specs.Run.{input_env, names_of}
+use Rattle.soy_pieces.specs.Language.{Language}
+use Rattle.soy_pieces.specs.Language.{language_context}
+use Rattle.soy_pieces.specs.InputEnv.{input_env, names_of}
 use Rattle.soy_base.specs.declared.direction.Dir.{Dir}
 use Rattle.soy_top.specs.Answer.{preview_answer, shown_of}
 

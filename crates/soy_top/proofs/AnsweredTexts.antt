@@ -14,8 +14,8 @@ use Rattle.soy_front.proofs.FilesLaws.{files_had, trees_within}
 use Rattle.soy_front.proofs.FirstFaults.{first_apart}
 use Rattle.soy_front.proofs.FrontAnswers.{answered_fault}
 use Rattle.soy_io.specs.FileOf.{Files}
-use Rattle.soy_meaning.specs.Outcome.{Outcome, RunEnd, StopsAt, WholeRun, end_of_outcome}
-use Rattle.soy_top.specs.AcceptedRender.{AcceptedRender}
+use Rattle.soy_pieces.specs.Outcome.{Outcome, RunEnd, StopsAt, WholeRun, end_of_outcome}
+use Rattle.soy_top.specs.Commands.AcceptedRender.{AcceptedRender}
 use Rattle.soy_top.specs.Answer.{Answer, Done, PageAnswer, Refused, TooDeep, accepted_text, accepted_then}
 use Rattle.soy_top.specs.Answer.{answer, bundled_answer, call_fault, catalogue_answer, contents_answer}
 use Rattle.soy_top.specs.Answer.{data_answer, ended_page, entry_answer, entry_of, inputs_answer}
@@ -26,36 +26,37 @@ use Rattle.soy_top.specs.FilesWanted.{FileWanted, bundle_files, content, content
 use Rattle.soy_top.specs.FilesWanted.{source_file}
 use Rattle.soy_top.specs.Generated.{workload_entry, workload_files, workload_json, workload_names}
 use Rattle.soy_top.specs.Inputs.{but_last, last}
-use Rattle.soy_top.specs.IsCatalogue.{IsCatalogue}
-use Rattle.soy_top.specs.IsChecked.{IsChecked}
-use Rattle.soy_top.specs.IsFormatted.{IsFormatted}
-use Rattle.soy_top.specs.IsGenerated.{IsGenerated, IsSummary}
-use Rattle.soy_top.specs.IsPage.{IsPage, IsRefusedPage, IsStoppedPage}
-use Rattle.soy_top.specs.IsPage.IsRefusedPage.{NoJson, NoTemplate, NoValues}
-use Rattle.soy_top.specs.IsText.{IsText}
-use Rattle.soy_top.specs.IsText.IsText.{Played, Catalogue, Checked, Formatted, Generated, Page}
+use Rattle.soy_top.specs.Commands.IsCatalogue.{IsCatalogue}
+use Rattle.soy_top.specs.Commands.IsChecked.{IsChecked}
+use Rattle.soy_top.specs.Commands.IsFormatted.{IsFormatted}
+use Rattle.soy_top.specs.Commands.IsGenerated.{IsGenerated, IsSummary}
+use Rattle.soy_top.specs.Commands.IsPage.{IsPage, IsRefusedPage, IsStoppedPage}
+use Rattle.soy_top.specs.Commands.IsPage.IsRefusedPage.{NoJson, NoTemplate, NoValues}
+use Rattle.soy_top.specs.Commands.IsText.{IsText}
+use Rattle.soy_top.specs.Commands.IsText.IsText.{Played, Catalogue, Checked, Formatted, Generated, Page}
 use Rattle.soy_top.specs.Line.{entry_line}
 use Rattle.soy_top.specs.MadeBundle.{bundle_text}
 use Rattle.soy_top.specs.Numbered.{numbered_line}
 use Rattle.soy_top.specs.Pointer.{pointer_line}
 use Rattle.soy_top.specs.Words.{Word}
-use Rattle.soy_top.proofs.AnsweredPlays.{played_answered}
+use Rattle.soy_top.proofs.Plays.AnsweredPlays.{played_answered}
 use Rattle.soy_top.proofs.CanonicalTexts.{tree_answered, tree_within}
 use Rattle.soy_top.proofs.SpelledWords.{check_asks, extract_asks, format_asks, gen_asks, render_asks}
-use Rattle.soy_top.proofs.HeldContents.{before_named, last_named}
-use Rattle.soy_tree.specs.Templates.{Declared}
+use Rattle.soy_top.proofs.Contents.HeldContents.{before_named, last_named}
+use Rattle.soy_rules.specs.Templates.{Declared}
 use Rattle.soy_tree.specs.Values.{Value}
-use Rattle.soy_types.specs.Paths.{Path}
+use Rattle.soy_base.specs.Path.{Path}
 use Rattle.soy_types.specs.ReadData.{data_at, json_of, refused, values_at, values_of_json}
 use Rattle.work_gen.specs.Workload.{workload}
 use Rattle.work_gen.specs.declared.workload.Workload.{Workload}
-use Rattle.soy_top.specs.IsStopped.{IsStopped}
-use Rattle.soy_top.specs.IsStopped.IsStopped.{StoppedPage, StoppedPreview}
-use Rattle.soy_top.specs.IsText.IsText.{Played, Previewed}
+use Rattle.soy_top.specs.Commands.IsStopped.{IsStopped}
+use Rattle.soy_top.specs.Commands.IsStopped.IsStopped.{StoppedPage, StoppedPreview}
+use Rattle.soy_top.specs.Commands.IsText.IsText.{Played, Previewed}
 use Rattle.soy_top.proofs.AcceptedAlike.{accepted_alike}
-use Rattle.soy_top.proofs.PreviewAnswers.{preview_answered, preview_stopped}
-use Rattle.soy_top.proofs.ReadyFiles.{accepted_is, bundle_ready, not_large, not_missing, ready_answer, source_ready}
-use Rattle.soy_top.proofs.ReadyFiles.{sources_ready}
+use Rattle.soy_top.proofs.Previews.PreviewAnswers.{preview_answered, preview_stopped}
+use Rattle.soy_top.proofs.Contents.ReadyFiles.{accepted_is, bundle_ready, not_large, not_missing, ready_answer}
+use Rattle.soy_top.proofs.Contents.ReadyFiles.{source_ready}
+use Rattle.soy_top.proofs.Contents.ReadyFiles.{sources_ready}
 
 -- files and a bundle that are accepted have an answer
 record HasAnswer (answer : Result Front FrontFault) : Type 0 where

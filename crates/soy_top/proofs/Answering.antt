@@ -21,7 +21,7 @@ use Rattle.soy_front.specs.declared.compiling.Compiled.{Compiled}
 use Rattle.soy_front.specs.declared.fault.FrontFault.{FrontFault}
 use Rattle.soy_io.specs.FileOf.{Files}
 use Rattle.soy_io.specs.Rose.{Rose}
-use Rattle.soy_meaning.specs.Outcome.{RunEnd, StopsAt, WholeRun, end_of_outcome}
+use Rattle.soy_pieces.specs.Outcome.{RunEnd, StopsAt, WholeRun, end_of_outcome}
 use Rattle.soy_top.specs.declared.ending.Ending.{Ending}
 use Rattle.soy_top.specs.declared.ending.Ending.TheVariants as ending
 use Rattle.soy_top.specs.declared.output.Output.{Output}
@@ -37,7 +37,7 @@ use Rattle.soy_top.specs.Answer.{front_line, tree_answer, unless_faulty, unless_
 use Rattle.soy_top.specs.Answer.{play_answer, steps_answer, steps_of, utf8_fault}
 use Rattle.soy_top.specs.Asked.{Asked, Render, Check, Extract, Gen, Play, Preview, Format, asked_by_words}
 use Rattle.soy_top.specs.Asked.{source_files}
-use Rattle.soy_top.specs.Concludes.{MayEnd}
+use Rattle.soy_top.specs.Runs.Concludes.{MayEnd}
 use Rattle.soy_top.specs.Fetched.{AreContents, FetchesAll, IsNotHeld}
 use Rattle.soy_top.specs.FilesWanted.{FileWanted, asked_files, wanted_files, file_names, known_files, first_not_held}
 use Rattle.soy_top.specs.FilesWanted.{first_over_limit, contents}
@@ -46,10 +46,10 @@ use Rattle.soy_top.specs.Inputs.{bundle_content, but_last, last, second_number}
 use Rattle.soy_top.specs.Line.{ended, fault_line, too_large_line}
 use Rattle.soy_top.specs.MadeBundle.{bundle_text}
 use Rattle.soy_top.specs.Numbered.{numbered}
-use Rattle.soy_top.specs.Played.{PlayStep}
+use Rattle.soy_top.specs.Scripts.Played.{PlayStep}
 use Rattle.soy_top.specs.Words.{Word}
-use Rattle.soy_top.proofs.SeenAnswers.{seen_not_usage}
-use Rattle.soy_tree.specs.Templates.{Declared}
+use Rattle.soy_top.proofs.Previews.SeenAnswers.{seen_not_usage}
+use Rattle.soy_rules.specs.Templates.{Declared}
 use Rattle.soy_tree.specs.Values.{Value}
 use Rattle.soy_tree.specs.declared.tree.Tree.{Tree}
 use Rattle.soy_types.specs.ReadData.{data_at}

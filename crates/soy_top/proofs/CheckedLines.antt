@@ -18,15 +18,16 @@ use Rattle.soy_desk.specs.declared.fault.Full.{Full}
 use Rattle.soy_desk.specs.declared.fault.Unknown.{Unknown}
 use Rattle.soy_top.specs.declared.play.Play.{Play}
 use Rattle.soy_top.specs.declared.play.StepFault.{StepFault}
-use Rattle.soy_top.specs.DeskLines.{CloseShows, LineShows, OpenShows, PullShows, program_of}
+use Rattle.soy_top.specs.Scripts.DeskLines.{CloseShows, LineShows, OpenShows, PullShows, program_of}
 use Rattle.soy_top.specs.Line.{ended}
-use Rattle.soy_top.specs.Played.{Closes, Pulls, bundle_number, named_line}
-use Rattle.soy_top.specs.Script.{ScriptBundle, Open, Publish, script_line, script_lines}
-use Rattle.soy_top.specs.ScriptSteps.{open_entry, open_step, read_values}
-use Rattle.soy_top.specs.ViewPlay.{AtLine, Checks, ChecksLine, ChecksScript, IsShort, PlaysLine, ReadsOpen, play_entry}
-use Rattle.soy_top.specs.ViewPlay.{play_opening, play_opens, play_params}
-use Rattle.soy_top.specs.ViewPlay.Checks.{Passes, Stops}
-use Rattle.soy_tree.specs.ShortLists.{HasShortLists}
+use Rattle.soy_top.specs.Scripts.Played.{Closes, Pulls, bundle_number, named_line}
+use Rattle.soy_top.specs.Scripts.Script.{ScriptBundle, Open, Publish, script_line, script_lines}
+use Rattle.soy_top.specs.Scripts.ScriptSteps.{open_entry, open_step, read_values}
+use Rattle.soy_top.specs.Scripts.ViewPlay.{AtLine, Checks, ChecksLine, ChecksScript, IsShort, PlaysLine, ReadsOpen}
+use Rattle.soy_top.specs.Scripts.ViewPlay.{play_entry}
+use Rattle.soy_top.specs.Scripts.ViewPlay.{play_opening, play_opens, play_params}
+use Rattle.soy_top.specs.Scripts.ViewPlay.Checks.{Passes, Stops}
+use Rattle.soy_rules.specs.ShortLists.{HasShortLists}
 use Rattle.soy_tree.specs.Values.{Value}
 use Rattle.soy_tree.specs.ViewValues.{view_value}
 use Rattle.soy_tree.specs.declared.value.Value as code_value

@@ -9,17 +9,17 @@ use Rattle.soy_io.specs.Rose.{Rose}
 use Rattle.std.specs.String.{string_bytes}
 use Rattle.soy_top.specs.declared.ending.Ending.{Ending}
 use Rattle.soy_top.specs.declared.ending.Ending.TheVariants as ending
-use Rattle.soy_top.specs.Concludes.{Concludes, MayEnd}
+use Rattle.soy_top.specs.Runs.Concludes.{Concludes, MayEnd}
 use Rattle.soy_top.specs.declared.status.Status.{Status}
 use Rattle.soy_top.specs.declared.status.Status.TheVariants as status
 use Rattle.soy_top.specs.Answer.{Answer, Usage, Read, Refused, Done, TooDeep, out_text, err_text}
-use Rattle.soy_top.specs.Change.{Change, Took, TookPrefix, Failed}
-use Rattle.soy_top.specs.Course.{Run, Course, Said, Says, Stops, WritesTo, TextIsDue}
-use Rattle.soy_top.specs.Due.{IsDue, UsageDue, ReadDue, RefusedDue, DoneDue, TooDeepDue}
-use Rattle.soy_top.specs.Ending.{UsageSaid, ReadSaid, RefusalSaid, TextWritten, TooDeepSaid, SinkFailed, OutPart}
-use Rattle.soy_top.specs.Ending.{ErrPart, OnNoOutput, OnNothingWritten}
+use Rattle.soy_top.specs.Runs.Change.{Change, Took, TookPrefix, Failed}
+use Rattle.soy_top.specs.Runs.Course.{Run, Course, Said, Says, Stops, WritesTo, TextIsDue}
+use Rattle.soy_top.specs.Runs.Due.{IsDue, UsageDue, ReadDue, RefusedDue, DoneDue, TooDeepDue}
+use Rattle.soy_top.specs.Runs.Ending.{UsageSaid, ReadSaid, RefusalSaid, TextWritten, TooDeepSaid, SinkFailed, OutPart}
+use Rattle.soy_top.specs.Runs.Ending.{ErrPart, OnNoOutput, OnNothingWritten}
 use Rattle.soy_top.specs.Line.{ended, read_line, usage_text}
-use Rattle.soy_top.specs.Output.{End, Whole, AtCall, OnEmpty, OnNoText, ended_answer, output_answer}
+use Rattle.soy_top.specs.Runs.Output.{End, Whole, AtCall, OnEmpty, OnNoText, ended_answer, output_answer}
 use Rattle.soy_top.specs.Words.{Word}
 
 -- an answer that is known is the one that is said of it

@@ -11,8 +11,8 @@ use Rattle.soy_front.proofs.SourceLaws.{deserved, only}
 use Rattle.soy_io.specs.FileOf.{Files, file_of}
 use Rattle.soy_top.specs.Answer.{Answer, Read, Refused, Usage, answer, asked_answer, tree_answer}
 use Rattle.soy_top.specs.Asked.{Format}
-use Rattle.soy_top.specs.IsRefusedFormat.{AreFormat, IsRefusedFormat}
-use Rattle.soy_top.specs.IsRefusedFormat.IsRefusedFormat.{Faulty, Large}
+use Rattle.soy_top.specs.Commands.IsRefusedFormat.{AreFormat, IsRefusedFormat}
+use Rattle.soy_top.specs.Commands.IsRefusedFormat.IsRefusedFormat.{Faulty, Large}
 use Rattle.soy_top.specs.Line.{fault_line, too_large_line}
 use Rattle.soy_top.specs.Words.{Word}
 use Rattle.soy_top.proofs.SpelledWords.{format_asks}

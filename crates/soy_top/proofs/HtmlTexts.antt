@@ -11,9 +11,9 @@ use Rattle.soy_top.specs.Words.{Word}
 use Rattle.soy_top.proofs.KeptPages.{page_bytes}
 use Rattle.soy_top.proofs.PageParts.{PageParts}
 use Rattle.soy_top.proofs.Pages.{page_answered, read_at, same_templates}
-use Rattle.soy_tree.specs.ShortLists.{HasShortLists}
-use Rattle.soy_tree.specs.Templates.{Declared, declared}
-use Rattle.soy_tree.specs.Typed.{AreTyped, params_at, templates_of}
+use Rattle.soy_rules.specs.ShortLists.{HasShortLists}
+use Rattle.soy_rules.specs.Templates.{Declared, declared}
+use Rattle.soy_rules.specs.Typed.{AreTyped, params_at, templates_of}
 use Rattle.soy_tree.specs.Values.{Value}
 use Rattle.soy_tree.specs.ViewTrees.{view_params, view_trees}
 use Rattle.soy_types.specs.ReadData.{data_at}

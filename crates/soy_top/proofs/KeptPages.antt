@@ -4,10 +4,11 @@ use Rattle.std.proofs.Common.{subst}
 use Rattle.std.specs.Prelude.{IfSome, Ok, slice_get}
 use Rattle.std.specs.Str.{IsUtf8, chars}
 use Rattle.bundle_fit.proofs.FittingTrees.{trees_fit}
-use Rattle.html_state.specs.AfterPieces.{Static, after_piece}
+use Rattle.html_state.specs.AfterPieces.{after_piece}
+use Rattle.soy_base.specs.Piece.{Static}
 use Rattle.html_state.specs.Start.{start}
 use Rattle.html_state.specs.declared.row.State.{State}
-use Rattle.ir_build.specs.ViewScene.{language_of}
+use Rattle.soy_pieces.specs.Language.{language_of}
 use Rattle.msg_extract.specs.Translations.{translation_of}
 use Rattle.soy_base.specs.declared.kind.Kind.{Kind}
 use Rattle.soy_base.specs.declared.kind.Kind.TheVariants as kind
@@ -17,30 +18,30 @@ use Rattle.soy_front.proofs.FormedSources.{trees_formed}
 use Rattle.soy_front.proofs.FrontAnswers.{answered_deserved}
 use Rattle.soy_front.proofs.LanguageOf.{language_fits}
 use Rattle.soy_io.specs.FileOf.{Files}
-use Rattle.soy_meaning.specs.AcceptedTrees.{AcceptedTrees}
-use Rattle.soy_meaning.specs.Giving.{RunEnv}
-use Rattle.soy_meaning.specs.Meaning.{joined_pieces}
-use Rattle.soy_meaning.specs.Outcome.{end_of_outcome}
-use Rattle.soy_meaning.specs.PageMachine.{page_machine}
-use Rattle.soy_meaning.specs.Pieces.{RunContext}
-use Rattle.soy_meaning.specs.PlanOfNodes.{trees_plan}
-use Rattle.soy_meaning.specs.States.{IsMember}
-use Rattle.soy_meaning.specs.TranslationFits.{TranslationsFit}
-use Rattle.soy_meaning.specs.TypedData.{AreTypedTrees, FitsData}
-use Rattle.soy_meaning.specs.Walk.{walked}
-use Rattle.soy_meaning.proofs.PageStates.{page_compares}
-use Rattle.soy_meaning.proofs.TypedRuns.{typed_runs_alike}
-use Rattle.soy_meaning.proofs.Walks.{accepted_when_walked}
+use Rattle.soy_meaning.specs.Walks.AcceptedTrees.{AcceptedTrees}
+use Rattle.soy_pieces.specs.Giving.{RunEnv}
+use Rattle.soy_pieces.specs.Meaning.{joined_pieces}
+use Rattle.soy_pieces.specs.Outcome.{end_of_outcome}
+use Rattle.soy_meaning.specs.Walks.PageMachine.{page_machine}
+use Rattle.soy_pieces.specs.Pieces.{RunContext}
+use Rattle.soy_meaning.specs.Paths.PlanOfNodes.{trees_plan}
+use Rattle.soy_meaning.specs.Walks.States.{IsMember}
+use Rattle.soy_meaning.specs.Runs.TranslationFits.{TranslationsFit}
+use Rattle.soy_meaning.specs.Runs.TypedData.{AreTypedTrees, FitsData}
+use Rattle.soy_meaning.specs.Walks.Walk.{walked}
+use Rattle.soy_meaning.proofs.Walks.PageStates.{page_compares}
+use Rattle.soy_meaning.proofs.Typing.TypedRuns.{typed_runs_alike}
+use Rattle.soy_meaning.proofs.Walks.Exact.{accepted_when_walked}
 use Rattle.soy_top.specs.MarkupKept.{MarkupIsKept}
 use Rattle.soy_top.specs.OrderKept.{OrderIsKept, page_lines}
 use Rattle.soy_top.specs.OtherData.{IsOtherData}
-use Rattle.soy_top.specs.OneText.{IsOneText}
+use Rattle.soy_top.specs.Commands.OneText.{IsOneText}
 use Rattle.soy_top.specs.Rendered.{Rendered, known_rendered, page_outcome, page_pieces, page_text}
 use Rattle.soy_top.specs.Words.{Word}
 use Rattle.soy_top.proofs.Options.{if_so, none_some, some_same}
 use Rattle.soy_top.proofs.PageParts.{PageParts, rendered_parts}
 use Rattle.soy_tree.specs.Formed.{AreFormed}
-use Rattle.soy_tree.specs.Templates.{declared}
+use Rattle.soy_rules.specs.Templates.{declared}
 use Rattle.soy_tree.specs.Trees.{Tree}
 use Rattle.soy_tree.specs.Values.{Value}
 use Rattle.soy_tree.specs.ViewTrees.{view_trees}
@@ -49,9 +50,9 @@ use Rattle.stable_bidi.proofs.PageLines as bidi
 use Rattle.stable_bidi.proofs.TypedPages.{typed_pages}
 use Rattle.stable_bidi.proofs.VisualOrders.{same_visual_order}
 use Rattle.stable_html.proofs.SameMarkups.{template_bytes, template_roles, template_text, templates_same}
-use Rattle.template_ir.specs.Compiles.{Language}
-use Rattle.template_ir.specs.Placed.{language_context}
-use Rattle.template_ir.specs.Run.{input_env, names_of}
+use Rattle.soy_pieces.specs.Language.{Language}
+use Rattle.soy_pieces.specs.Language.{language_context}
+use Rattle.soy_pieces.specs.InputEnv.{input_env, names_of}
 
 -- ---- the template of a number is one of all
 

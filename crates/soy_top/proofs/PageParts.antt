@@ -20,9 +20,9 @@ use Rattle.soy_top.specs.Rendered.{rendered_entry, rendered_front, rendered_word
 use Rattle.soy_top.specs.Rendered.{unless_file}
 use Rattle.soy_top.specs.Words.{Word}
 use Rattle.soy_top.proofs.Options.{none_some}
-use Rattle.soy_top.proofs.HeldContents.{before_named, first_within}
-use Rattle.soy_tree.specs.ShortLists.{HasShortLists}
-use Rattle.soy_tree.specs.Templates.{Declared, declared}
+use Rattle.soy_top.proofs.Contents.HeldContents.{before_named, first_within}
+use Rattle.soy_rules.specs.ShortLists.{HasShortLists}
+use Rattle.soy_rules.specs.Templates.{Declared, declared}
 use Rattle.soy_tree.specs.Values.{Value}
 use Rattle.soy_tree.specs.ViewTrees.{view_trees}
 use Rattle.soy_types.specs.ReadData.{data_at}

@@ -3,7 +3,7 @@ use Rattle.std.proofs.Common.{◌≡◌, ℕ, List, Option, Some, None, refl, sy
 use Rattle.std.specs.Prelude.{Result, Ok, Err, encode_utf8_all, option_and_then, slice_get}
 use Rattle.std.specs.List.{position}
 use Rattle.std.specs.Str.{chars}
-use Rattle.ir_build.specs.ViewScene.{language_of}
+use Rattle.soy_pieces.specs.Language.{language_of}
 use Rattle.soy_base.specs.declared.code.Code.{Code}
 use Rattle.soy_base.specs.declared.path.PathStep.{PathStep}
 use Rattle.soy_front.specs.Compiled.{AreCompiled}
@@ -14,28 +14,29 @@ use Rattle.soy_front.specs.ViewSources.{view_contents}
 use Rattle.soy_front.specs.declared.compiling.Compiled.{Compiled}
 use Rattle.soy_front.proofs.DataFits.{data_fits, params_are}
 use Rattle.soy_front.proofs.EntryNumbers.{entry_declared}
-use Rattle.soy_meaning.specs.Meaning.{joined_pieces}
-use Rattle.soy_meaning.specs.Outcome.{Outcome, RunEnd, StopsAt, WholeRun, end_of_outcome}
-use Rattle.soy_meaning.specs.Pieces.{template_run}
+use Rattle.soy_pieces.specs.Meaning.{joined_pieces}
+use Rattle.soy_pieces.specs.Outcome.{Outcome, RunEnd, StopsAt, WholeRun, end_of_outcome}
+use Rattle.soy_pieces.specs.Pieces.{template_run}
 use Rattle.soy_top.specs.Accepts.{AcceptsPage, IsNumbered}
 use Rattle.soy_top.specs.Answer.{Answer, PageAnswer, Refused, data_answer, ended_page, entry_answer, entry_of}
 use Rattle.soy_top.specs.Answer.{page_answer, run_text, shown_of, template_outcome}
 use Rattle.soy_top.specs.declared.page.Page.{Page}
 use Rattle.soy_top.specs.Line.{entry_line}
-use Rattle.soy_top.specs.Output.{ended_answer, output_answer}
+use Rattle.soy_top.specs.Runs.Output.{ended_answer, output_answer}
 use Rattle.soy_top.specs.Shown.{is_shown_routine, shown_number}
-use Rattle.soy_top.specs.ViewOutput.{page_run, view_end, view_page}
+use Rattle.soy_top.specs.Runs.ViewOutput.{page_run, view_end, view_page}
 use Rattle.soy_top.specs.Words.{Word, command_words}
-use Rattle.soy_top.proofs.ShownNumbers.{shown_declared, shown_same}
-use Rattle.soy_tree.specs.ShortLists.{HasShortLists}
-use Rattle.soy_tree.specs.Templates.{Declared, declared}
-use Rattle.soy_tree.specs.Typed.{AreTyped, params_at, templates_of}
+use Rattle.soy_top.proofs.Previews.ShownNumbers.{shown_declared, shown_same}
+use Rattle.soy_rules.specs.ShortLists.{HasShortLists}
+use Rattle.soy_rules.specs.Templates.{Declared, declared}
+use Rattle.soy_rules.specs.Typed.{AreTyped, params_at, templates_of}
 use Rattle.soy_tree.specs.Values.{Value}
 use Rattle.soy_tree.specs.ViewTrees.{view_params, view_trees}
 use Rattle.soy_types.specs.ReadData.{data_at}
-use Rattle.template_ir.specs.Placed.{language_context}
-use Rattle.template_ir.specs.ProgramRows.{pieces_end_costs}
-use Rattle.template_ir.specs.Run.{input_env, names_of, run}
+use Rattle.soy_pieces.specs.Language.{language_context}
+use Rattle.soy_pieces.specs.Outcome.{pieces_end_costs}
+use Rattle.template_ir.specs.Run.{run}
+use Rattle.soy_pieces.specs.InputEnv.{input_env, names_of}
 use Rattle.template_ir.specs.ViewOps.{view_program}
 
 ended_same : (names : List Word) (contents : List (List ℕ)) (text : List ℕ) (end : RunEnd)

@@ -3,19 +3,19 @@ use Rattle.std.proofs.Common.{◌≡◌, ℕ, ◌≤◌, ◌<◌, ◌⊎◌, inl
 use Rattle.std.proofs.Common.{length, refl, sym, subst, ap, ◌∙◌, arith, ◌+◌, take, length-append}
 use Rattle.std.proofs.lemmas.List.{length-take-le}
 use Rattle.std.specs.Prelude.{encode_utf8_all}
-use Rattle.html_state.specs.AfterPieces.{Piece, Static, Value}
+use Rattle.soy_base.specs.Piece.{Piece, Static, Value}
 use Rattle.render_core.specs.Pulls.{Pulls, stops_at}
 use Rattle.render_core.specs.Rest.{DoneFits, IsWhole, Rest, piece_text, rest_bytes, rest_end, solid, solid_piece}
 use Rattle.render_core.specs.declared.begun.Begun.{Begun}
 use Rattle.soy_base.specs.declared.fault.TooDeep.{TooDeep}
 use Rattle.soy_base.specs.declared.memory.Refusal.{Refusal}
 use Rattle.soy_base.specs.declared.memory.Refusal.TheVariants as refusal
-use Rattle.soy_meaning.specs.Meaning.{joined_pieces}
-use Rattle.soy_meaning.specs.Outcome.{GivesPiece, Outcome, RunEnds, Spent, WholeRun, end_of_outcome, pieces_of_outcome}
-use Rattle.soy_meaning.specs.Outcome.{RunEnd, StopsAt, spent_first}
+use Rattle.soy_pieces.specs.Meaning.{joined_pieces}
+use Rattle.soy_pieces.specs.Outcome.{GivesPiece, Outcome, RunEnds, Spent, WholeRun, end_of_outcome, pieces_of_outcome}
+use Rattle.soy_pieces.specs.Outcome.{RunEnd, StopsAt, spent_first}
 use Rattle.soy_top.specs.Answer.{run_text}
-use Rattle.soy_top.specs.Output.{OnNoText}
-use Rattle.soy_top.specs.ViewOutput.{view_end}
+use Rattle.soy_top.specs.Runs.Output.{OnNoText}
+use Rattle.soy_top.specs.Runs.ViewOutput.{view_end}
 use Rattle.soy_top.specs.Words.{Word}
 
 -- ---- without the empty pieces

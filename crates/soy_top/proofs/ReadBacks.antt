@@ -18,9 +18,9 @@ use Rattle.soy_tree.specs.declared.tree.Tree.{Tree}
 use Rattle.alike_files.specs.AlikeFiles.{AlikeFiles}
 use Rattle.formatted_source.proofs.ReadFiles.{own_tokens, source_spelled}
 use Rattle.soy_top.specs.Answer.{Done, answer, canonical_source}
-use Rattle.soy_top.specs.IsFormatted.{IsFormatted}
-use Rattle.soy_top.specs.IsRefusedFormat.{AreFormat}
-use Rattle.soy_top.specs.IsText.IsText.{Formatted}
+use Rattle.soy_top.specs.Commands.IsFormatted.{IsFormatted}
+use Rattle.soy_top.specs.Commands.IsRefusedFormat.{AreFormat}
+use Rattle.soy_top.specs.Commands.IsText.IsText.{Formatted}
 use Rattle.soy_top.specs.ReadBack.{AreCanonical, IsCanonicalOf, IsReadBack}
 use Rattle.soy_top.specs.Words.{Word}
 use Rattle.soy_top.proofs.AnsweredTexts.{text_answered}

@@ -8,7 +8,7 @@ use Rattle.soy_base.specs.declared.path.PathStep.{PathStep}
 use Rattle.soy_front.specs.FrontAnswer.{Front, front_answer}
 use Rattle.soy_front.specs.declared.fault.FrontFault.{FrontFault}
 use Rattle.soy_io.specs.FileOf.{Files}
-use Rattle.soy_meaning.specs.Outcome.{RunEnd, StopsAt, WholeRun, end_of_outcome}
+use Rattle.soy_pieces.specs.Outcome.{RunEnd, StopsAt, WholeRun, end_of_outcome}
 use Rattle.soy_top.specs.declared.status.Status.{Status}
 use Rattle.soy_top.specs.declared.status.Status.TheVariants as status
 use Rattle.soy_top.specs.Answer.{Answer, Done, Read, Refused, TooDeep, Usage, answer, asked_answer, call_fault}
@@ -16,9 +16,9 @@ use Rattle.soy_top.specs.Answer.{contents_answer, data_answer, ended_page, entry
 use Rattle.soy_top.specs.Answer.{known_answer, limits_answer, out_text, render_answer, unless_refused}
 use Rattle.soy_top.specs.Asked.{Asked, Render, Check, Extract, Gen, Play, Preview, Format, asked_by_words}
 use Rattle.soy_top.specs.Asked.{source_files}
-use Rattle.soy_top.specs.Change.{Change, Took, TookPrefix}
-use Rattle.soy_top.specs.Course.{Course, Run}
-use Rattle.soy_top.specs.Ending.{OutPart, TextWritten, TooDeepSaid}
+use Rattle.soy_top.specs.Runs.Change.{Change, Took, TookPrefix}
+use Rattle.soy_top.specs.Runs.Course.{Course, Run}
+use Rattle.soy_top.specs.Runs.Ending.{OutPart, TextWritten, TooDeepSaid}
 use Rattle.soy_top.specs.FilesWanted.{FileWanted, asked_files, contents, first_not_held, first_over_limit, known_files}
 use Rattle.soy_top.specs.FilesWanted.{wanted_files}
 use Rattle.soy_top.specs.Inputs.{bundle_content, but_last, last}
@@ -32,7 +32,7 @@ use Rattle.soy_top.specs.RenderAsked.{AsksRender, IsRender}
 use Rattle.soy_top.specs.Words.{Word}
 use Rattle.soy_top.proofs.Courses.{done_only, out_part, too_deep_only}
 use Rattle.soy_top.proofs.Options.{if_some, none_some, some_same}
-use Rattle.soy_tree.specs.Templates.{Declared}
+use Rattle.soy_rules.specs.Templates.{Declared}
 use Rattle.soy_tree.specs.Values.{Value}
 use Rattle.soy_types.specs.ReadData.{data_at}
 

@@ -7,7 +7,7 @@ use Rattle.std.proofs.lemmas.Slice.Eq.{bytes_eq-Decides}
 use Rattle.soy_top.specs.Asked.{Asked, Render, Check, Extract, Gen, Play, Preview, Format, has_file_count, render_asked}
 use Rattle.soy_top.specs.Asked.{check_asked, extract_asked, gen_asked, play_asked, preview_asked, format_asked}
 use Rattle.soy_top.specs.Asked.{number_of, asked_by_words}
-use Rattle.soy_top.specs.IsGenerated.{AreGen}
+use Rattle.soy_top.specs.Commands.IsGenerated.{AreGen}
 use Rattle.soy_top.specs.Words.{Word}
 
 -- the words of what is asked

@@ -15,13 +15,13 @@ use Rattle.soy_front.proofs.FilesLaws.{read_as}
 use Rattle.soy_front.proofs.FrontAnswers.{answered_accepted, answered_deserved}
 use Rattle.soy_front.specs.Sources.{source_answer}
 use Rattle.soy_io.specs.FileOf.{Files, file_of}
-use Rattle.soy_meaning.specs.Outcome.{RunEnd, StopsAt, WholeRun, end_of_outcome}
-use Rattle.soy_meaning.specs.Plan.{Site}
-use Rattle.soy_tree.specs.Templates.{Declared}
+use Rattle.soy_pieces.specs.Outcome.{RunEnd, StopsAt, WholeRun, end_of_outcome}
+use Rattle.soy_pieces.specs.Site.{Site}
+use Rattle.soy_rules.specs.Templates.{Declared}
 use Rattle.soy_tree.specs.Values.{Value}
 use Rattle.soy_tree.specs.declared.tree.Tree.{Tree}
 use Rattle.soy_types.specs.ReadData.{data_at}
-use Rattle.soy_top.specs.AcceptedRender.{AcceptedRender}
+use Rattle.soy_top.specs.Commands.AcceptedRender.{AcceptedRender}
 use Rattle.soy_top.specs.Answer.{Answer, Usage, Done, TooDeep, ended_page}
 use Rattle.soy_top.specs.Answer.{call_fault, canonical_source, entry_of}
 use Rattle.soy_top.specs.Answer.{PageAnswer, page_answer, render_answer, run_text, template_outcome}
@@ -34,28 +34,31 @@ use Rattle.soy_top.specs.FilesWanted.{source_file, bundle_files, asked_files}
 use Rattle.soy_top.specs.FilesWanted.{content, contents, is_source_language}
 use Rattle.soy_top.specs.Generated.{workload_entry, workload_files, workload_json, workload_names}
 use Rattle.soy_top.specs.Inputs.{bundle_content, but_last, last, second_number}
-use Rattle.soy_top.specs.IsCatalogue.{IsCatalogue}
-use Rattle.soy_top.specs.HoldsInputs.{HoldsBundle}
-use Rattle.soy_top.specs.IsChecked.{IsChecked}
-use Rattle.soy_top.specs.IsFormatted.{IsFormatted}
-use Rattle.soy_top.specs.IsGenerated.{IsSummary}
-use Rattle.soy_top.specs.IsPage.{IsPage, IsStoppedPage}
-use Rattle.soy_top.specs.IsText.{IsText}
-use Rattle.soy_top.specs.IsStopped.{IsStopped}
-use Rattle.soy_top.specs.IsStopped.IsStopped.{StoppedPage}
-use Rattle.soy_top.specs.IsText.IsText.{Page, Checked, Catalogue, Generated, Formatted, Played, Previewed}
+use Rattle.soy_top.specs.Commands.IsCatalogue.{IsCatalogue}
+use Rattle.soy_top.specs.Commands.HoldsInputs.{HoldsBundle}
+use Rattle.soy_top.specs.Commands.IsChecked.{IsChecked}
+use Rattle.soy_top.specs.Commands.IsFormatted.{IsFormatted}
+use Rattle.soy_top.specs.Commands.IsGenerated.{IsSummary}
+use Rattle.soy_top.specs.Commands.IsPage.{IsPage, IsStoppedPage}
+use Rattle.soy_top.specs.Commands.IsText.{IsText}
+use Rattle.soy_top.specs.Commands.IsStopped.{IsStopped}
+use Rattle.soy_top.specs.Commands.IsStopped.IsStopped.{StoppedPage}
+use Rattle.soy_top.specs.Commands.IsText.IsText.{Page, Checked, Catalogue, Generated, Formatted, Played, Previewed}
 use Rattle.soy_top.specs.Line.{fault_line}
 use Rattle.soy_top.specs.MadeBundle.{bundle_text}
 use Rattle.soy_top.specs.Numbered.{numbered_line}
 use Rattle.soy_top.specs.Summary.{summary}
 use Rattle.soy_top.specs.Words.{Word}
 use Rattle.soy_top.proofs.CanonicalTexts.{tree_deserved}
-use Rattle.soy_top.proofs.HeldContents.{IsByContents, IsNoRefusal, accepted_page, all_held, before_named, bundle_held}
-use Rattle.soy_top.proofs.HeldContents.{by_contents, by_inputs, content_held, data_given, entry_given, first_content}
-use Rattle.soy_top.proofs.HeldContents.{held_before, inputs_given, json, last_named, not_refused, sources, then_given}
-use Rattle.soy_top.proofs.HeldContents.{done_same, within_before}
-use Rattle.soy_top.proofs.PlayTexts.{play_given, play_text, script_not_deep}
-use Rattle.soy_top.proofs.PreviewTexts.{preview_stopped, preview_text}
+use Rattle.soy_top.proofs.Contents.HeldContents.{IsByContents, IsNoRefusal, accepted_page, all_held, before_named}
+use Rattle.soy_top.proofs.Contents.HeldContents.{bundle_held}
+use Rattle.soy_top.proofs.Contents.HeldContents.{by_contents, by_inputs, content_held, data_given, entry_given}
+use Rattle.soy_top.proofs.Contents.HeldContents.{first_content}
+use Rattle.soy_top.proofs.Contents.HeldContents.{held_before, inputs_given, json, last_named, not_refused, sources}
+use Rattle.soy_top.proofs.Contents.HeldContents.{then_given}
+use Rattle.soy_top.proofs.Contents.HeldContents.{done_same, within_before}
+use Rattle.soy_top.proofs.Plays.PlayTexts.{play_given, play_text, script_not_deep}
+use Rattle.soy_top.proofs.Previews.PreviewTexts.{preview_stopped, preview_text}
 use Rattle.soy_top.proofs.SpelledWords.{IsSpelled, spelled-asked}
 use Rattle.work_gen.specs.Workload.{workload}
 use Rattle.work_gen.specs.declared.workload.Workload.{Workload}

@@ -16,10 +16,10 @@ use Rattle.soy_top.specs.declared.output.Output.{Output}
 use Rattle.soy_top.specs.declared.page.Page.{Page}
 use Rattle.soy_top.specs.Answer.{Answer, PageAnswer, Refused, accepted_then, page_answer, read_then}
 use Rattle.soy_top.specs.Line.{ended}
-use Rattle.soy_top.specs.Output.{output_answer}
-use Rattle.soy_top.specs.ViewOutput.{page_run, view_output}
+use Rattle.soy_top.specs.Runs.Output.{output_answer}
+use Rattle.soy_top.specs.Runs.ViewOutput.{page_run, view_output}
 use Rattle.soy_top.specs.Words.{Word}
-use Rattle.soy_tree.specs.Templates.{Declared}
+use Rattle.soy_rules.specs.Templates.{Declared}
 
 -- the ending is the refusal that the answer is, or out of memory
 abbrev pub Refuses : Answer → Ending → Type 0

@@ -22,7 +22,7 @@ use Rattle.std.specs.Option.{option_map_or}
 use Rattle.std.specs.Str.{chars, is_utf8}
 use Rattle.std.specs.Str.Lossy.{utf8_valid_len}
 use Rattle.serde_json.specs.Written.{compact_text}
-use Rattle.ir_build.specs.ViewScene.{language_of}
+use Rattle.soy_pieces.specs.Language.{language_of}
 use Rattle.msg_extract.specs.CatalogueText.{catalogue_data}
 use Rattle.msg_extract.specs.declared.catalogue.Listed.{Listed}
 use Rattle.soy_base.specs.declared.code.Code.{Code}
@@ -39,10 +39,10 @@ use Rattle.soy_front.specs.Sources.{source_answer}
 use Rattle.soy_front.specs.declared.fault.FrontFault.{FrontFault}
 use Rattle.soy_front.specs.declared.fault.FrontFault.TheVariants as front
 use Rattle.soy_io.specs.FileOf.{Files}
-use Rattle.soy_meaning.specs.Meaning.{joined_pieces}
-use Rattle.soy_meaning.specs.Outcome.{Outcome, RunEnd, StopsAt, WholeRun, end_of_outcome, pieces_of_outcome}
-use Rattle.soy_meaning.specs.Pieces.{template_run}
-use Rattle.soy_meaning.specs.Plan.{Site}
+use Rattle.soy_pieces.specs.Meaning.{joined_pieces}
+use Rattle.soy_pieces.specs.Outcome.{Outcome, RunEnd, StopsAt, WholeRun, end_of_outcome, pieces_of_outcome}
+use Rattle.soy_pieces.specs.Pieces.{template_run}
+use Rattle.soy_pieces.specs.Site.{Site}
 use Rattle.soy_top.specs.Asked.{Asked, Render, Check, Extract, Gen, Play, Preview, Format, asked_by_words}
 use Rattle.soy_top.specs.Asked.{source_files}
 use Rattle.soy_top.specs.FilesWanted.{FileWanted, asked_files, wanted_files, known_files, first_not_held}
@@ -53,23 +53,23 @@ use Rattle.soy_top.specs.Line.{too_large_line, entry_line, fault_line, read_line
 use Rattle.soy_top.specs.Line.{too_long_line}
 use Rattle.soy_top.specs.MadeBundle.{bundle_text}
 use Rattle.soy_top.specs.Numbered.{numbered, numbered_line}
-use Rattle.soy_top.specs.Played.{PlayStep, Opens, first_left, played_text}
+use Rattle.soy_top.specs.Scripts.Played.{PlayStep, Opens, first_left, played_text}
 use Rattle.soy_top.specs.Pointer.{pointer_line}
-use Rattle.soy_top.specs.ScriptSteps.{script_steps, step_line}
+use Rattle.soy_top.specs.Scripts.ScriptSteps.{script_steps, step_line}
 use Rattle.soy_top.specs.SeenText.{is_too_long, seen_text}
 use Rattle.soy_top.specs.Shown.{shown_number}
 use Rattle.soy_top.specs.Summary.{summary}
 use Rattle.soy_top.specs.declared.play.StepFault.{StepFault}
 use Rattle.soy_top.specs.Words.{Word, command_words}
-use Rattle.soy_tree.specs.Templates.{Declared, declared}
+use Rattle.soy_rules.specs.Templates.{Declared, declared}
 use Rattle.soy_tree.specs.Trees.{Param}
 use Rattle.soy_tree.specs.Types.{Name}
 use Rattle.soy_tree.specs.Values.{Value}
 use Rattle.soy_tree.specs.ViewTrees.{view_tree, view_trees}
 use Rattle.soy_tree.specs.declared.tree.Tree.{Tree}
 use Rattle.soy_types.specs.ReadData.{data_at}
-use Rattle.template_ir.specs.Placed.{language_context}
-use Rattle.template_ir.specs.Run.{input_env, names_of}
+use Rattle.soy_pieces.specs.Language.{language_context}
+use Rattle.soy_pieces.specs.InputEnv.{input_env, names_of}
 use Rattle.work_gen.specs.Workload.{workload}
 use Rattle.work_gen.specs.declared.workload.Workload.{Workload}
 

@@ -2,13 +2,14 @@
 --
 -- DATA, BUNDLE and SCRIPT may have 4 MiB, and a FILE 1 MiB. The bundle `-` is no file.
 -- Example: `render t.m d.json - t.soy` wants d.json and then t.soy; where neither is held, d.json is the first.
-use Rattle.std.specs.Prelude.{ℕ, List, [], ◌∷◌, ◌++◌, map, length, Bool, nat_lt, Option, None, Some, is_some}
-use Rattle.std.specs.Prelude.{unwrap_or, if◌then◌else◌, codes, String}
+use Rattle.std.specs.Prelude.{ℕ, List, [], ◌∷◌, ◌++◌, map, length, Bool, nat_lt, Option, None, Some, is_some, unwrap_or}
+use Rattle.std.specs.Prelude.{if◌then◌else◌, codes, String}
 use Rattle.std.specs.Option.{option_map_or}
 use Rattle.std.specs.Str.{bytes_eq}
 use Rattle.soy_io.specs.FileOf.{Files, file_of}
 use Rattle.soy_top.specs.Asked.{Asked, Render, Check, Extract, Gen, Play, Preview, Format, asked_by_words}
 use Rattle.soy_top.specs.Words.{Word, command_words}
+use Rattle.soy_base.specs.Limits.{largest_file}
 
 pub record FileWanted : Type 0 where
   pub name : Word
@@ -17,7 +18,7 @@ pub record FileWanted : Type 0 where
 
 -- a FILE
 abbrev pub source_file : Word → FileWanted
-source_file name = record { name = name; limit = 1048576 }
+source_file name = record { name = name; limit = largest_file }
 
 -- a DATA, a BUNDLE or a SCRIPT
 abbrev pub data_file : Word → FileWanted

@@ -6,7 +6,7 @@
 -- Example: of `<b>{$x}</b>` with "a" the shape is that of `<b>{$x}</b>` with "<script>".
 use Rattle.std.specs.Prelude.{◌≡◌}
 use Rattle.html_state.specs.Start.{start}
-use Rattle.soy_meaning.specs.Outcome.{end_of_outcome}
+use Rattle.soy_pieces.specs.Outcome.{end_of_outcome}
 use Rattle.soy_top.specs.OtherData.{IsOtherData}
 use Rattle.soy_top.specs.Rendered.{Rendered, page_outcome, page_pieces}
 use Rattle.soy_tree.specs.Values.{Value}

@@ -7,7 +7,7 @@ use Rattle.std.specs.Prelude.{◌≡◌, List}
 use Rattle.bidi_order.specs.Lines.{Line, lines}
 use Rattle.soy_base.specs.declared.direction.Dir.{Dir}
 use Rattle.soy_base.specs.declared.kind.Kind.TheVariants as kind
-use Rattle.soy_meaning.specs.Outcome.{end_of_outcome}
+use Rattle.soy_pieces.specs.Outcome.{end_of_outcome}
 use Rattle.soy_top.specs.OtherData.{IsOtherData}
 use Rattle.soy_top.specs.Rendered.{Rendered, page_outcome, page_pieces}
 use Rattle.soy_tree.specs.Values.{Value}

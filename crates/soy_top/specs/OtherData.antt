@@ -4,9 +4,9 @@
 -- Example: where `<b>{$x}</b>` was rendered with `{"x":"a"}`, the string `<script>` is other data; where the body is
 -- `{if $x == 'a'}b{/if}`, it isn't, since it takes another arm.
 use Rattle.std.specs.Prelude.{◌≡◌}
-use Rattle.soy_meaning.specs.Outcome.{choices_of_outcome}
+use Rattle.soy_pieces.specs.Outcome.{choices_of_outcome}
 use Rattle.soy_top.specs.Rendered.{Rendered, page_outcome}
-use Rattle.soy_tree.specs.ShortLists.{HasShortLists}
+use Rattle.soy_rules.specs.ShortLists.{HasShortLists}
 use Rattle.soy_tree.specs.Values.{Value}
 use Rattle.soy_types.specs.ParamsHave.{ParamsHave}
 

@@ -3,7 +3,7 @@
 use Rattle.std.specs.Prelude.{◌≡◌}
 use Rattle.soy_top.specs.declared.status.Status.{Status}
 use Rattle.soy_top.specs.declared.status.Status.TheVariants as status
-use Rattle.soy_top.specs.Change.{Change, Took, TookPrefix}
+use Rattle.soy_top.specs.Runs.Change.{Change, Took, TookPrefix}
 use Rattle.soy_top.specs.Rendered.{Rendered, page_text}
 
 pub record PageTook (page : Rendered) (out : Change) (result : Status) : Type 0 where

@@ -7,13 +7,13 @@
 -- Example: of `render t.m d.json - t.soy` where t.soy has the template `t.m` of `{@param x: string}`, and d.json is
 -- `{"x":"a"}`, it is `t.m` with the record of `x` "a".
 use Rattle.std.specs.Prelude.{ℕ, List, length, Option, None, Some, Result, Ok, Err, String, option_and_then}
-use Rattle.html_state.specs.AfterPieces.{Piece}
+use Rattle.soy_base.specs.Piece.{Piece}
 use Rattle.soy_base.specs.declared.code.Code.{Code}
 use Rattle.soy_base.specs.declared.path.PathStep.{PathStep}
 use Rattle.soy_front.specs.FrontAnswer.{Front, front_answer}
 use Rattle.soy_front.specs.declared.fault.FrontFault.{FrontFault}
 use Rattle.soy_io.specs.FileOf.{Files}
-use Rattle.soy_meaning.specs.Outcome.{Outcome, pieces_of_outcome}
+use Rattle.soy_pieces.specs.Outcome.{Outcome, pieces_of_outcome}
 use Rattle.soy_top.specs.Answer.{Answer, ended_page, entry_of, page_answer, run_text, template_outcome}
 use Rattle.soy_top.specs.Asked.{Asked, Render, Check, Extract, Gen, Play, Preview, Format, asked_by_words}
 use Rattle.soy_top.specs.Asked.{source_files}
@@ -22,7 +22,7 @@ use Rattle.soy_top.specs.FilesWanted.{wanted_files}
 use Rattle.soy_top.specs.Inputs.{bundle_content, but_last, last}
 use Rattle.soy_top.specs.Numbered.{numbered}
 use Rattle.soy_top.specs.Words.{Word, command_words}
-use Rattle.soy_tree.specs.Templates.{Declared}
+use Rattle.soy_rules.specs.Templates.{Declared}
 use Rattle.soy_tree.specs.Values.{Value}
 use Rattle.soy_types.specs.ReadData.{data_at}
 

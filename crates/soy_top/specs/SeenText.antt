@@ -21,6 +21,10 @@ lines_text lines = flat_map line_text lines
 abbrev pub seen_text : Dir → List ℕ → List ℕ
 seen_text context page = lines_text (seen (chars page) context)
 
+-- the most bytes of a page that is shown
+abbrev pub largest_shown : ℕ
+largest_shown = 1048576
+
 -- the page is too long to be shown
 abbrev pub is_too_long : List ℕ → Bool
-is_too_long page = nat_lt 1048576 (length page)
+is_too_long page = nat_lt largest_shown (length page)

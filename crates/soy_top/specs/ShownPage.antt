@@ -7,14 +7,15 @@ use Rattle.std.specs.Str.{IsUtf8, chars}
 use Rattle.bidi_preview.specs.OneText.{IsOneText}
 use Rattle.render_core.specs.Pulls.{stops_at}
 use Rattle.soy_base.specs.declared.direction.Dir.{Dir}
-use Rattle.soy_meaning.specs.Outcome.{Outcome, WholeRun, end_of_outcome}
+use Rattle.soy_pieces.specs.Outcome.{Outcome, WholeRun, end_of_outcome}
 use Rattle.soy_top.specs.declared.ending.Ending.{Ending}
 use Rattle.soy_top.specs.declared.preview.ShownPage as code
 use Rattle.soy_top.specs.declared.seen.Gathered.{Gathered}
 use Rattle.soy_top.specs.declared.seen.Gathered.TheVariants as gathered
 use Rattle.soy_top.specs.Accepts.{Refuses}
 use Rattle.soy_top.specs.Answer.{Answer, PageAnswer, page_answer, run_text}
-use Rattle.soy_top.specs.ViewOutput.{page_run}
+use Rattle.soy_top.specs.Runs.ViewOutput.{page_run}
+use Rattle.soy_top.specs.SeenText.{largest_shown}
 
 -- bytes that are read as one static text of a page without a fault, where they are UTF-8
 abbrev pub IsPageText : List ℕ → Type 0
@@ -29,7 +30,7 @@ AcceptsShown answer (Err ending) = (page : Dir → PageAnswer) → Refuses (answ
 
 -- this was gathered of what a page gives
 abbrev pub IsGathered : Outcome → Gathered → Type 0
-IsGathered o gathered.TooLong = 1048576 < length (run_text o)
+IsGathered o gathered.TooLong = largest_shown < length (run_text o)
 IsGathered o (gathered.Whole bytes) =
-    (length (run_text o) ≤ 1048576) × (bytes.items ≡ run_text o) × (end_of_outcome o ≡ WholeRun)
-IsGathered o (gathered.AtCall call) = (length (run_text o) ≤ 1048576) × (end_of_outcome o ≡ stops_at call)
+    (length (run_text o) ≤ largest_shown) × (bytes.items ≡ run_text o) × (end_of_outcome o ≡ WholeRun)
+IsGathered o (gathered.AtCall call) = (length (run_text o) ≤ largest_shown) × (end_of_outcome o ≡ stops_at call)

@@ -1,9 +1,9 @@
 //! How a run ends without an output.
 
 ghost use Rattle.std.specs.Prelude.{◌≡◌, ◌≤◌};
-ghost use Rattle.soy_top.specs.Change.{change};
-ghost use Rattle.soy_top.specs.Concludes.{Concludes, put_status};
-ghost use Rattle.soy_top.specs.Course.{Says};
+ghost use Rattle.soy_top.specs.Runs.Change.{change};
+ghost use Rattle.soy_top.specs.Runs.Concludes.{Concludes, put_status};
+ghost use Rattle.soy_top.specs.Runs.Course.{Says};
 
 use crate::line::USAGE;
 use crate::status::Status;

@@ -7,7 +7,7 @@ ghost use Rattle.std.specs.String.{string_bytes};
 ghost use Rattle.soy_top.specs.Line.{refusal_line, too_large_line, fault_line, entry_line, read_line};
 ghost use Rattle.soy_top.specs.Line.{ended, too_long_line};
 ghost use Rattle.soy_top.specs.Pointer.{key_character, pointer, pointer_line, pointer_step};
-ghost use Rattle.soy_top.specs.ScriptSteps.{step_line};
+ghost use Rattle.soy_top.specs.Scripts.ScriptSteps.{step_line};
 
 use crate::play::StepFault;
 use soy_base::{Code, Fault, OutOfMemory, PathStep, Position, line_of};

@@ -2,10 +2,10 @@
 
 ghost use Rattle.std.specs.Prelude.{◌≡◌, ◌≤◌, IfErr, IfOk};
 ghost use Rattle.soy_io.specs.PutRose.{PutRose};
-ghost use Rattle.soy_top.specs.Change.{change, Took, TookPrefix};
-ghost use Rattle.soy_top.specs.Course.{Writes};
-ghost use Rattle.soy_top.specs.Output.{OnNoText};
-ghost use Rattle.soy_top.specs.ViewOutput.{IsEnd, view_output};
+ghost use Rattle.soy_top.specs.Runs.Change.{change, Took, TookPrefix};
+ghost use Rattle.soy_top.specs.Runs.Course.{Writes};
+ghost use Rattle.soy_top.specs.Runs.Output.{OnNoText};
+ghost use Rattle.soy_top.specs.Runs.ViewOutput.{IsEnd, view_output};
 
 use crate::ending::{put_status, say};
 use crate::page::{DeepCall, Page, put_bytes};

@@ -2,9 +2,9 @@
 
 ghost use Rattle.std.specs.Prelude.{◌≡◌, ◌≤◌, ◌<◌, length, IfErr, IfOk, OnOk};
 ghost use Rattle.soy_io.specs.PutRose.{PutRose};
-ghost use Rattle.soy_top.specs.Change.{change, Took, TookPrefix};
-ghost use Rattle.soy_top.specs.Output.{OnNoText};
-ghost use Rattle.soy_top.specs.ViewOutput.{IsEnd, view_call, view_page};
+ghost use Rattle.soy_top.specs.Runs.Change.{change, Took, TookPrefix};
+ghost use Rattle.soy_top.specs.Runs.Output.{OnNoText};
+ghost use Rattle.soy_top.specs.Runs.ViewOutput.{IsEnd, view_call, view_page};
 
 use crate::faults::call_line;
 use crate::output::End;

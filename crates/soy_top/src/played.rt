@@ -4,7 +4,7 @@ ghost use Rattle.std.specs.Prelude.{◌≡◌, ◌≤◌, ℕ, List, Option, IfO
 ghost use Rattle.soy_front.specs.Compiled.{AreCompiled};
 ghost use Rattle.soy_front.specs.ViewSources.{view_contents};
 ghost use Rattle.soy_top.specs.Accepts.{Accepts};
-ghost use Rattle.soy_top.specs.AcceptsScript.{AcceptsScript};
+ghost use Rattle.soy_top.specs.Scripts.AcceptsScript.{AcceptsScript};
 ghost use Rattle.soy_top.specs.Answer.{accepted_then, inputs_answer, play_answer};
 ghost use Rattle.soy_top.specs.Asked as asked;
 ghost use Rattle.soy_top.specs.Words.{command_words};

@@ -9,7 +9,7 @@ ghost use Rattle.soy_top.specs.Answer.{accepted_then, inputs_answer, preview_ans
 ghost use Rattle.soy_top.specs.Asked.{Preview};
 ghost use Rattle.soy_top.specs.Shown.{is_shown_kind, is_shown_routine};
 ghost use Rattle.soy_top.specs.ShownPage.{AcceptsShown, IsPageText};
-ghost use Rattle.soy_top.specs.ViewOutput.{page_run};
+ghost use Rattle.soy_top.specs.Runs.ViewOutput.{page_run};
 ghost use Rattle.soy_top.specs.Words.{command_words};
 
 use crate::ending::Ending;

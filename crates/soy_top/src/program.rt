@@ -3,12 +3,12 @@
 ghost use Rattle.std.specs.Prelude.{◌≡◌, ◌≤◌, ◌⊎◌, [], ℕ, List, Some, IfErr, IfOk, IfSome};
 ghost use Rattle.soy_io.specs.Rose.{Rose};
 ghost use Rattle.soy_top.specs.Answer.{Usage, Read, Refused, Done, TooDeep, answered};
-ghost use Rattle.soy_top.specs.Change.{change};
-ghost use Rattle.soy_top.specs.Concludes.{MayEnd};
-ghost use Rattle.soy_top.specs.Course.{Course, Wrote, run_of};
-ghost use Rattle.soy_top.specs.Due.{UsageDue, ReadDue, RefusedDue, DoneDue, TooDeepDue};
-ghost use Rattle.soy_top.specs.Ending.{UsageSaid, ReadSaid, RefusalSaid, TextWritten, TooDeepSaid, SinkFailed};
-ghost use Rattle.soy_top.specs.Ending.{OutPart, ErrPart, OnNoOutput, OnNothingWritten};
+ghost use Rattle.soy_top.specs.Runs.Change.{change};
+ghost use Rattle.soy_top.specs.Runs.Concludes.{MayEnd};
+ghost use Rattle.soy_top.specs.Runs.Course.{Course, Wrote, run_of};
+ghost use Rattle.soy_top.specs.Runs.Due.{UsageDue, ReadDue, RefusedDue, DoneDue, TooDeepDue};
+ghost use Rattle.soy_top.specs.Runs.Ending.{UsageSaid, ReadSaid, RefusalSaid, TextWritten, TooDeepSaid, SinkFailed};
+ghost use Rattle.soy_top.specs.Runs.Ending.{OutPart, ErrPart, OnNoOutput, OnNothingWritten};
 ghost use Rattle.soy_top.specs.FilesWanted.{wanted_files, wanted_names};
 ghost use Rattle.soy_top.specs.MarkupKept.{MarkupIsKept};
 ghost use Rattle.soy_top.specs.OrderKept.{OrderIsKept};

@@ -11,9 +11,9 @@ ghost use Rattle.soy_top.specs.Answer.{run_text};
 ghost use Rattle.soy_top.specs.Asked.{Render};
 ghost use Rattle.soy_top.specs.Shown.{IsHtml};
 ghost use Rattle.soy_top.specs.ShownPage.{IsPageText};
-ghost use Rattle.soy_top.specs.ViewOutput.{page_run};
+ghost use Rattle.soy_top.specs.Runs.ViewOutput.{page_run};
 ghost use Rattle.soy_top.specs.Words.{command_words};
-ghost use Rattle.soy_tree.specs.Templates.{Declared, declared};
+ghost use Rattle.soy_rules.specs.Templates.{Declared, declared};
 ghost use Rattle.soy_tree.specs.ViewTrees.{view_trees};
 ghost use Rattle.soy_types.specs.ReadData.{data_at};
 

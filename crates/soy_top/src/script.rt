@@ -4,9 +4,10 @@ ghost use Rattle.std.specs.Prelude.{◌≡◌, ◌<◌, ◌∷◌, length, optio
 ghost use Rattle.std.specs.Char.{is_ascii_digit};
 ghost use Rattle.std.specs.List.{list_all};
 ghost use Rattle.std.specs.Str.{chars};
-ghost use Rattle.soy_top.specs.Script.{begins_numeral, close_line, is_numeral, numbered_bundle, open_line, pull_count};
-ghost use Rattle.soy_top.specs.Script.{pull_line, publish_line, script_line, script_lines, script_number};
-ghost use Rattle.soy_top.specs.ViewScript.{lines_left, view_bundle, view_line};
+ghost use Rattle.soy_top.specs.Scripts.Script.{begins_numeral, close_line, is_numeral, numbered_bundle, open_line};
+ghost use Rattle.soy_top.specs.Scripts.Script.{pull_count};
+ghost use Rattle.soy_top.specs.Scripts.Script.{pull_line, publish_line, script_line, script_lines, script_number};
+ghost use Rattle.soy_top.specs.Scripts.ViewScript.{lines_left, view_bundle, view_line};
 
 use soy_base::{after_prefix, cut_at, first, first_part, is_empty};
 

@@ -7,7 +7,7 @@ ghost use Rattle.soy_top.specs.Accepts.{Accepts};
 ghost use Rattle.soy_top.specs.Answer.{page_answer, run_text, seen_page};
 ghost use Rattle.soy_top.specs.SeenText.{line_text, lines_text, seen_text};
 ghost use Rattle.soy_top.specs.ShownPage.{IsGathered, IsPageText};
-ghost use Rattle.soy_top.specs.ViewOutput.{page_run};
+ghost use Rattle.soy_top.specs.Runs.ViewOutput.{page_run};
 ghost use Rattle.soy_top.specs.Words.{command_words};
 
 use crate::ending::Ending;

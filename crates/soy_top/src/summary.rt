@@ -5,7 +5,7 @@ ghost use Rattle.std.specs.String.{string_bytes};
 ghost use Rattle.soy_top.specs.Answer.{run_text};
 ghost use Rattle.soy_top.specs.IsSumOf.{IsSumOf};
 ghost use Rattle.soy_top.specs.Summary.{summary};
-ghost use Rattle.soy_top.specs.ViewOutput.{page_run};
+ghost use Rattle.soy_top.specs.Runs.ViewOutput.{page_run};
 
 use crate::page::{Page, pull_room};
 use render_core::Rendering;

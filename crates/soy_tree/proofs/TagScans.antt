@@ -13,7 +13,7 @@ use Rattle.soy_tree.specs.MessageText.{MessageItem, Character, Printed, characte
 use Rattle.soy_tree.specs.MessageText.{joined_items, begins_with_letter, goes_on_as_tag, quote_after, ends_tag}
 use Rattle.soy_tree.specs.MessageText.{cuts_after_text, cuts_in_tag, cuts_of}
 use Rattle.soy_tree.specs.Formed.{is_message_text}
-use Rattle.soy_tree.proofs.SameTypes.{both}
+use Rattle.soy_tree.proofs.SameNames.{both}
 use Rattle.soy_tree.proofs.ViewTexts.{view_text}
 use Rattle.soy_tree.specs.TagScan.{after_plain, after_character, after_characters, after_print, is_outside}
 use Rattle.soy_tree.specs.TagScan.{after_nodes}

@@ -12,7 +12,7 @@ use Rattle.soy_base.specs.Characters.{underscore, minus_sign}
 use Rattle.soy_base.specs.Names.{is_name, is_dotted_name}
 use Rattle.soy_tree.specs.Types.{SoyType, Members, FieldTypes, ListType, MapType, RecordType, UnionType, no_member}
 use Rattle.soy_tree.specs.Types.{member, no_field, field}
-use Rattle.soy_tree.specs.Ints.{largest}
+use Rattle.soy_base.specs.Limits.{largest}
 use Rattle.soy_tree.specs.Expressions.{Expr, IntLiteral, Variable, Member, Index, Minus, Not, Binary, Coalesce}
 use Rattle.soy_tree.specs.Expressions.{Conditional}
 use Rattle.soy_tree.specs.Nodes.{Node, Nodes, Otherwise, Arms, Cases, Arguments, Given, Message, Fallback, MessageBody}

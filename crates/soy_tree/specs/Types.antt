@@ -2,7 +2,7 @@
 -- A type is null, bool, int, string, html, attributes, a list or map of a type, a record, or a union of its members in
 -- the order in which they are written. The union of no members is the type that no value has.
 -- Example: `list<[a: int]>|null` is a union of two members, a list of records with one field, and null.
-use Rattle.std.specs.Prelude.{ℕ, List}
+use Rattle.std.specs.Prelude.{ℕ, List, [], ◌∷◌}
 
 abbrev pub Name : Type 0
 Name = List ℕ
@@ -27,3 +27,7 @@ mutual
   pub data FieldTypes : Type 0 where
     no_field : FieldTypes
     field : Name → SoyType → FieldTypes → FieldTypes
+
+abbrev pub members_of : List SoyType → Members
+members_of [] = no_member
+members_of (t ∷ ts) = member t (members_of ts)

@@ -5,7 +5,7 @@ use Rattle.soy_tree.specs.declared.soy_type.Field as code_field
 use Rattle.soy_tree.specs.declared.soy_type.SoyType.TheOpen.{SoyType-F, Field-F}
 use Rattle.soy_tree.specs.Types.{Name, SoyType, Members, FieldTypes, NullType, BoolType, IntType, StringType, HtmlType}
 use Rattle.soy_tree.specs.Types.{AttributesType, ListType, MapType, RecordType, UnionType, no_field, field}
-use Rattle.soy_tree.specs.Members.{members_of}
+use Rattle.soy_tree.specs.Types.{members_of}
 
 abbrev pub fields_of : List (Name × SoyType) → FieldTypes
 fields_of [] = no_field

@@ -1,7 +1,7 @@
 //! Translations, and the bundle that brings them.
 
-ghost use Rattle.std.specs.Prelude.{◌≡◌, []};
-ghost use Rattle.soy_base.specs.declared.direction.Dir.TheVariants as dir;
+ghost use Rattle.std.specs.Prelude.{◌≡◌};
+ghost use Rattle.soy_tree.specs.SourceBundle.{source_bundle};
 
 use plural_rules::{Category, Rules};
 use soy_base::{Dir, Seq, Text};
@@ -81,7 +81,7 @@ pub struct Bundle {
 impl Bundle {
     /// The bundle of the source language: from left to right, without rules and without translations. Takes no memory.
     pub fn source(alloc: Global) -> Bundle
-        ensures { result ≡ record { dir = dir.Ltr; plural = []; ordinal = []; messages = [] } }
+        ensures { result ≡ source_bundle }
     {
         Bundle {
             dir: Dir::Ltr,

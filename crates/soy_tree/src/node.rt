@@ -4,7 +4,7 @@ ghost use Rattle.std.specs.Prelude.{◌≡◌, IfOk};
 
 use crate::Expr;
 use crate::expr::copied_exprs;
-use soy_base::{Boxed, Kind, OutOfMemory, Seq, Span, Text};
+use soy_base::{Boxed, Kind, OutOfMemory, Seq, Span, Text, copied_name};
 use std::alloc::Global;
 
 /// A node, and where it stands: from the `{` of its command on.
@@ -235,16 +235,6 @@ fn copied_call(
     ensures { IfOk result (λ f. f ≡ Form.Call name.now all given) }
 {
     Ok(Form::Call(name.copy(alloc)?, all, given))
-}
-
-/// An equal name, if there is one.
-fn copied_name(alloc: Global, name: &Option<Text>) -> Result<Option<Text>, OutOfMemory>
-    ensures { IfOk result (λ n. n ≡ name.now) }
-{
-    match name {
-        None => Ok(None),
-        Some(name) => Ok(Some(name.copy(alloc)?)),
-    }
 }
 
 /// Equal nodes.

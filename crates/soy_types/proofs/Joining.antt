@@ -6,10 +6,12 @@ use Rattle.serde_json.specs.Data.{Data, null, boolean, number, string, array, ob
 use Rattle.serde_json.specs.Find.{as_null}
 use Rattle.soy_tree.specs.Types.{SoyType, Members, NullType, BoolType, IntType, StringType, HtmlType, AttributesType}
 use Rattle.soy_tree.specs.Types.{ListType, MapType, RecordType, UnionType, no_member, member}
-use Rattle.soy_tree.specs.Members.{members, union_members, members_of, union_of, joined, with_member, is_same_type}
+use Rattle.soy_rules.specs.Members.{members, union_members, union_of, joined, with_member, is_same_type}
+use Rattle.soy_tree.specs.Types.{members_of}
 use Rattle.soy_tree.specs.Values.{Value, NullValue}
-use Rattle.soy_tree.proofs.SameTypes.{same_type}
-use Rattle.soy_types.specs.Paths.{Path, either_read}
+use Rattle.soy_rules.proofs.SameTypes.{same_type}
+use Rattle.soy_types.specs.Paths.{either_read}
+use Rattle.soy_base.specs.Path.{Path}
 use Rattle.soy_types.specs.Read.{value_at, first_read}
 
 -- the first that fits, of three

@@ -4,17 +4,19 @@ use Rattle.std.specs.Prelude.{Option, Some, None, Result, Ok, Err, if◌then◌e
 use Rattle.std.specs.Option.{option_or}
 use Rattle.serde_json.specs.Data.{Data}
 use Rattle.soy_tree.specs.Types.{Name, SoyType, NullType}
-use Rattle.soy_tree.specs.Members.{joined}
+use Rattle.soy_rules.specs.Members.{joined}
 use Rattle.soy_tree.specs.Values.{Value, NullValue, RecordValue}
-use Rattle.soy_tree.specs.Val.{member_value}
+use Rattle.soy_rules.specs.Val.{member_value}
 use Rattle.soy_tree.specs.ViewValues.{entries_of}
-use Rattle.soy_tree.specs.Faults.{TypeFault}
+use Rattle.soy_rules.specs.Faults.{TypeFault}
 use Rattle.soy_tree.specs.Trees.{Param}
-use Rattle.soy_tree.specs.Templates.{param_type}
-use Rattle.soy_tree.specs.Declarations.{type_fault, params_fault, twice, is_among}
-use Rattle.soy_tree.specs.Has.{Has, entry_value}
-use Rattle.soy_tree.proofs.MembersHave.{joined_left, joined_right}
-use Rattle.soy_types.specs.Paths.{Path, all_read, either_read}
+use Rattle.soy_rules.specs.Templates.{param_type}
+use Rattle.soy_rules.specs.Declarations.{type_fault, params_fault, twice}
+use Rattle.soy_base.specs.Among.{is_among}
+use Rattle.soy_rules.specs.Has.{Has, entry_value}
+use Rattle.soy_rules.proofs.MembersHave.{joined_left, joined_right}
+use Rattle.soy_types.specs.Paths.{all_read, either_read}
+use Rattle.soy_base.specs.Path.{Path}
 use Rattle.soy_types.specs.ParamsHave.{ParamsHave}
 use Rattle.soy_types.specs.Read.{member_or_null, under_key, value_at}
 use Rattle.soy_types.specs.ReadData.{data_at, json_of, param_results, refused, values_at, values_of_json}
@@ -53,7 +55,7 @@ params_have (p ∷ ps) d done es before ok none e =
     let h = headed_ok (under_key name read) (all_read (param_results ps d)) es e in
     let k = under_key_ok name read h.0 h.2 in
     let more : Option TypeFault = option_or (type_fault p.of at true) (params_fault ps (name ∷ before)) in
-    let new = not_among (is_among name before) at name before refl (no_fault_left (twice at name before) more ok) in
+    let new = not_among (is_among before name) at name before refl (no_fault_left (twice at name before) more ok) in
     let later = no_fault_right (twice at name before) more ok in
     let typed : Has k.0 (param_type p) =
     param_has p.required p.of (member_or_null name d) k.0 at

@@ -15,12 +15,13 @@ use Rattle.soy_tree.specs.Values.{Value, Items, Entries, NullValue, BoolValue, I
 use Rattle.soy_tree.specs.Values.{MapValue}
 use Rattle.soy_tree.specs.Values.{RecordValue, no_item, item, no_entry, entry}
 use Rattle.soy_tree.specs.ViewValues.{items_of, entries_of}
-use Rattle.soy_tree.specs.Ints.{largest}
-use Rattle.soy_tree.specs.Has.{Has, HasSome, HasFields, IsNull, IsBool, IsInt, IsString, IsListOf, IsMapOf}
-use Rattle.soy_tree.specs.Has.{IsWithinRange, EachItem, EachEntry, IsThere, entry_value}
-use Rattle.soy_tree.proofs.SameTypes.{same_name}
-use Rattle.soy_tree.proofs.AcceptsHas.{fields_record}
-use Rattle.soy_types.specs.Paths.{Path, below, all_read}
+use Rattle.soy_base.specs.Limits.{largest}
+use Rattle.soy_rules.specs.Has.{Has, HasSome, HasFields, IsNull, IsBool, IsInt, IsString, IsListOf, IsMapOf}
+use Rattle.soy_rules.specs.Has.{IsWithinRange, EachItem, EachEntry, IsThere, entry_value}
+use Rattle.soy_tree.proofs.SameNames.{same_name}
+use Rattle.soy_rules.proofs.AcceptsHas.{fields_record}
+use Rattle.soy_types.specs.Paths.{below, all_read}
+use Rattle.soy_base.specs.Path.{Path}
 use Rattle.soy_types.specs.Read.{value_at, first_read, field_results, item_results, entry_results, under_key}
 use Rattle.soy_types.specs.Read.{member_or_null, is_within_range, int_read}
 use Rattle.soy_types.specs.Stands.{StandsFor, ItemsStand, MembersStand, FieldsStand}

@@ -5,7 +5,8 @@ use Rattle.soy_base.specs.declared.path.PathStep.{PathStep}
 use Rattle.soy_base.specs.declared.path.PathStep.TheVariants as path_step
 use Rattle.soy_tree.specs.Types.{Name}
 use Rattle.soy_tree.specs.Values.{Value}
-use Rattle.soy_types.specs.Paths.{Path, onward, below, headed, either_read}
+use Rattle.soy_types.specs.Paths.{onward, below, headed, either_read}
+use Rattle.soy_base.specs.Path.{Path}
 use Rattle.soy_types.specs.Read.{under_key}
 
 pub ok_same : {A : Type 0} {a b : A} → ◌≡◌ {A = Result A Path} (Ok a) (Ok b) → a ≡ b

@@ -16,12 +16,13 @@ use Rattle.soy_tree.specs.Types.{Name, SoyType, FieldTypes, NullType, BoolType, 
 use Rattle.soy_tree.specs.Types.{AttributesType, ListType, MapType, RecordType, UnionType, no_field, field}
 use Rattle.soy_tree.specs.Values.{Value, ListValue, MapValue, RecordValue}
 use Rattle.soy_tree.specs.ViewValues.{items_of, entries_of}
-use Rattle.soy_tree.specs.Ints.{largest}
-use Rattle.soy_tree.specs.Faults.{TypeFault}
-use Rattle.soy_tree.specs.Declarations.{type_fault, members_fault, fields_fault, twice, is_among, misplaced}
-use Rattle.soy_tree.specs.Declarations.{mixes_blocks}
-use Rattle.soy_tree.specs.Has.{Has, HasSome, HasFields, IsWithinRange, EachItem, EachEntry, IsThere, entry_value}
-use Rattle.soy_types.specs.Paths.{Path, below, all_read, either_read}
+use Rattle.soy_base.specs.Limits.{largest}
+use Rattle.soy_rules.specs.Faults.{TypeFault}
+use Rattle.soy_rules.specs.Declarations.{type_fault, members_fault, fields_fault, twice, misplaced, mixes_blocks}
+use Rattle.soy_base.specs.Among.{is_among}
+use Rattle.soy_rules.specs.Has.{Has, HasSome, HasFields, IsWithinRange, EachItem, EachEntry, IsThere, entry_value}
+use Rattle.soy_types.specs.Paths.{below, all_read, either_read}
+use Rattle.soy_base.specs.Path.{Path}
 use Rattle.soy_types.specs.Read.{value_at, first_read, field_results, item_results, entry_results, under_key}
 use Rattle.soy_types.specs.Read.{member_or_null, is_within_range}
 use Rattle.soy_types.proofs.ReadFacts.{ok_same, onward_ok, below_ok, headed_ok, under_key_ok}
@@ -83,7 +84,7 @@ entry_here name v es = rw (same_itself name) refl
 
 -- names that aren't among those before have no entry so far
 abbrev pub HasNone : List Name → List (Name × Value) → Type 0
-HasNone before done = (name : Name) → is_among name before ≡ false → entry_value name (entries_of done) ≡ None
+HasNone before done = (name : Name) → is_among before name ≡ false → entry_value name (entries_of done) ≡ None
 
 pub or_false_left : (a b : Bool) → (a || b) ≡ false → a ≡ false
 or_false_left true b e = let no : ⊥ = cc in absurd no
@@ -104,14 +105,14 @@ differs a b false e is = is
 pub none_after : (before : List Name) (done : List (Name × Value)) (name : Name) (v : Value) → HasNone before done
     → HasNone (name ∷ before) (done ++ (name, v) ∷ [])
 none_after before done name v none other e =
-    let a : bytes_eq other name ≡ false = or_false_left (bytes_eq other name) (is_among other before) e in
-    let b : is_among other before ≡ false = or_false_right (bytes_eq other name) (is_among other before) e in
+    let a : bytes_eq other name ≡ false = or_false_left (bytes_eq other name) (is_among before other) e in
+    let b : is_among before other ≡ false = or_false_right (bytes_eq other name) (is_among before other) e in
     entry_later other done ((name, v) ∷ []) (none other b)
     ∙ rw (differs other name (bytes_eq name other) a refl) refl
 
-pub not_among : (b : Bool) (at : ℕ) (name : Name) (before : List Name) → is_among name before ≡ b
+pub not_among : (b : Bool) (at : ℕ) (name : Name) (before : List Name) → is_among before name ≡ b
     → twice at name before ≡ None
-    → is_among name before ≡ false
+    → is_among before name ≡ false
 not_among true at name before is e = let k = rw is at e in let no : ⊥ = cc in absurd no
 not_among false at name before is e = is
 
@@ -163,7 +164,7 @@ mutual
       let h = headed_ok (under_key name read) (all_read (field_results fields d)) es e in
       let k = under_key_ok name read h.0 h.2 in
       let more : Option TypeFault = option_or (type_fault t at false) (fields_fault fields at (name ∷ before)) in
-      let new = not_among (is_among name before) at name before refl (no_fault_left (twice at name before) more ok) in
+      let new = not_among (is_among before name) at name before refl (no_fault_left (twice at name before) more ok) in
       let later = no_fault_right (twice at name before) more ok in
       let typed : Has k.0 t =
       value_has t (member_or_null name d) k.0 at false

@@ -11,7 +11,8 @@ use Rattle.soy_tree.specs.Types.{Name, SoyType, FieldTypes, NullType, BoolType, 
 use Rattle.soy_tree.specs.Types.{AttributesType, ListType, MapType, RecordType, UnionType, no_field, field}
 use Rattle.soy_tree.specs.Values.{Value, IntValue, ListValue, MapValue, RecordValue}
 use Rattle.soy_tree.specs.ViewValues.{items_of, entries_of}
-use Rattle.soy_types.specs.Paths.{Path, below, all_read, either_read}
+use Rattle.soy_types.specs.Paths.{below, all_read, either_read}
+use Rattle.soy_base.specs.Path.{Path}
 use Rattle.soy_types.specs.Read.{value_at, first_read, field_results, item_results, entry_results, under_key}
 use Rattle.soy_types.specs.Read.{member_or_null, int_read, is_within_range}
 use Rattle.soy_types.specs.Stands.{StandsFor, ItemsStand, MembersStand, FieldsStand}

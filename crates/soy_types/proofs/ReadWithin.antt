@@ -6,19 +6,21 @@ use Rattle.serde_json.specs.Data as json
 use Rattle.serde_json.specs.Data.{Data, null, boolean, number, string, array, object}
 use Rattle.serde_json.specs.Find.{get}
 use Rattle.serde_json.specs.Read.{read}
-use Rattle.soy_tree.specs.ShortLists.{HasShortLists, ItemsShort, EntriesShort, item_count}
-use Rattle.soy_tree.specs.Templates.{param_type}
+use Rattle.soy_rules.specs.ShortLists.{HasShortLists, ItemsShort, EntriesShort, item_count}
+use Rattle.soy_rules.specs.Templates.{param_type}
 use Rattle.soy_tree.specs.Trees.{Param}
 use Rattle.soy_tree.specs.Types.{Name}
 use Rattle.soy_tree.specs.Values.{Value, Items, Entries, NullValue, BoolValue, IntValue, StringValue, ListValue}
 use Rattle.soy_tree.specs.Values.{MapValue, RecordValue, no_item, item, no_entry, entry}
 use Rattle.soy_tree.specs.ViewValues.{entries_of}
 use Rattle.soy_types.specs.ListsWithin.{HasListsWithin, ItemsWithin, EntriesWithin}
-use Rattle.soy_types.specs.Paths.{Path, all_read}
+use Rattle.soy_types.specs.Paths.{all_read}
+use Rattle.soy_base.specs.Path.{Path}
 use Rattle.soy_types.specs.Read.{member_or_null, under_key, value_at}
 use Rattle.soy_types.specs.ReadData.{data_at, json_of, param_results, values_at, values_of_json}
 use Rattle.soy_types.specs.Stands.{StandsFor, ItemsStand, MembersStand, FieldsStand}
-use Rattle.soy_types.proofs.JsonWithin.{IsDataWithin, AreDataWithin, AreNamedWithin, data_count, get_within, read_within}
+use Rattle.soy_types.proofs.JsonWithin.{IsDataWithin, AreDataWithin, AreNamedWithin, data_count, get_within}
+use Rattle.soy_types.proofs.JsonWithin.{read_within}
 use Rattle.soy_types.proofs.ParamsRead.{refused_ok}
 use Rattle.soy_types.proofs.ReadFacts.{ok_same, onward_ok, headed_ok, under_key_ok}
 use Rattle.soy_types.proofs.ReadStands.{value_stands}

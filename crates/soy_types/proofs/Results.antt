@@ -22,11 +22,12 @@ use Rattle.soy_tree.specs.declared.soy_type.SoyType as code_type
 use Rattle.soy_tree.specs.declared.tree.Param as code_param
 use Rattle.soy_tree.specs.Types.{Name, SoyType, ListType, MapType}
 use Rattle.soy_tree.specs.Values.{Value, ListValue, MapValue}
-use Rattle.soy_tree.specs.Templates.{param_type}
+use Rattle.soy_rules.specs.Templates.{param_type}
 use Rattle.soy_tree.specs.ViewTypes.{view_fields, view_type}
 use Rattle.soy_tree.specs.ViewTrees.{view_param, view_params}
-use Rattle.soy_tree.proofs.Views.{fields-drop}
-use Rattle.soy_types.specs.Paths.{Path, onward, below, headed, all_read}
+use Rattle.soy_rules.proofs.Views.{fields-drop}
+use Rattle.soy_types.specs.Paths.{onward, below, headed, all_read}
+use Rattle.soy_base.specs.Path.{Path}
 use Rattle.soy_types.specs.Read.{value_at, item_results, entry_results, field_results, under_key, member_or_null}
 use Rattle.soy_types.specs.ReadData.{param_results}
 

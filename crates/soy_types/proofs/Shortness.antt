@@ -2,7 +2,7 @@
 use Rattle.std.proofs.Common.{◌≡◌, ◌≤◌, List, [], ◌∷◌, ◌++◌, map, length, arith, sym, subst}
 use Rattle.soy_tree.specs.declared.value.Value as code_value
 use Rattle.soy_tree.specs.declared.value.Entry as code_entry
-use Rattle.soy_tree.specs.ShortLists.{HasShortLists, ItemsShort, EntriesShort, item_count}
+use Rattle.soy_rules.specs.ShortLists.{HasShortLists, ItemsShort, EntriesShort, item_count}
 use Rattle.soy_tree.specs.Types.{Name}
 use Rattle.soy_tree.specs.Values.{Value}
 use Rattle.soy_tree.specs.ViewValues.{items_of, entries_of, view_entry, view_value}

@@ -1,7 +1,7 @@
 -- Values whose lists have at most a number of items, at any depth.
 -- Example: the record with `a` the list of 1 and 2 has lists of at most 2 items, and not of at most 1.
 use Rattle.std.specs.Prelude.{ℕ, ◌≤◌}
-use Rattle.soy_tree.specs.ShortLists.{item_count}
+use Rattle.soy_rules.specs.ShortLists.{item_count}
 use Rattle.soy_tree.specs.Values.{Value, Items, Entries, ListValue, MapValue, RecordValue, no_item, item, no_entry}
 use Rattle.soy_tree.specs.Values.{entry}
 

@@ -4,9 +4,7 @@
 -- Example: where the item 2 under the key `a` fits nothing, the path is `a`, 2.
 use Rattle.std.specs.Prelude.{List, [], ◌∷◌, Result, Ok, Err}
 use Rattle.soy_base.specs.declared.path.PathStep.{PathStep}
-
-abbrev pub Path : Type 0
-Path = List PathStep
+use Rattle.soy_base.specs.Path.{Path}
 
 -- what is read, taken further
 abbrev pub onward : {A B : Type 0} → (A → B) → Result A Path → Result B Path

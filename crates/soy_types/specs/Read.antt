@@ -15,10 +15,11 @@ use Rattle.soy_base.specs.declared.path.PathStep.TheVariants as path_step
 use Rattle.soy_tree.specs.Types as types
 use Rattle.soy_tree.specs.Types.{Name, SoyType, FieldTypes, NullType, BoolType, IntType, StringType, HtmlType}
 use Rattle.soy_tree.specs.Types.{AttributesType, ListType, MapType, RecordType, UnionType, no_field, field}
-use Rattle.soy_tree.specs.Ints.{largest}
+use Rattle.soy_base.specs.Limits.{largest}
 use Rattle.soy_tree.specs.Values.{Value, NullValue, BoolValue, IntValue, StringValue, ListValue, MapValue, RecordValue}
 use Rattle.soy_tree.specs.ViewValues.{items_of, entries_of}
-use Rattle.soy_types.specs.Paths.{Path, onward, below, all_read, either_read}
+use Rattle.soy_types.specs.Paths.{onward, below, all_read, either_read}
+use Rattle.soy_base.specs.Path.{Path}
 
 abbrev pub is_within_range : ℤ → Bool
 is_within_range (pos n) = nat_le n largest

@@ -14,8 +14,9 @@ use Rattle.soy_tree.specs.Types.{Name}
 use Rattle.soy_tree.specs.Values.{Value, RecordValue}
 use Rattle.soy_tree.specs.ViewValues.{entries_of}
 use Rattle.soy_tree.specs.Trees.{Param}
-use Rattle.soy_tree.specs.Templates.{param_type}
-use Rattle.soy_types.specs.Paths.{Path, onward, all_read}
+use Rattle.soy_rules.specs.Templates.{param_type}
+use Rattle.soy_types.specs.Paths.{onward, all_read}
+use Rattle.soy_base.specs.Path.{Path}
 use Rattle.soy_types.specs.Read.{member_or_null, under_key, value_at}
 
 abbrev pub param_results : List Param → Data → List (Result (Name × Value) Path)

@@ -7,11 +7,11 @@ use Rattle.soy_base.specs.declared.memory.Refusal.TheVariants.{Because, OutOfMem
 use Rattle.soy_base.specs.declared.code.Code.{Code}
 use Rattle.soy_base.specs.declared.path.PathStep.{PathStep}
 use Rattle.soy_tree.specs.declared.value.Value as code_value
-use Rattle.soy_tree.specs.ShortLists.{HasShortLists}
+use Rattle.soy_rules.specs.ShortLists.{HasShortLists}
 use Rattle.soy_tree.specs.Values.{Value}
 use Rattle.soy_tree.specs.ViewValues.{view_value}
 use Rattle.soy_types.specs.declared.fault.DataFault.{DataFault}
-use Rattle.soy_types.specs.Paths.{Path}
+use Rattle.soy_base.specs.Path.{Path}
 
 abbrev pub Reads : {A B : Type 0} → (B → A) → Result A Path → Result B (Refusal Path) → Type 0
 Reads view read (Ok answer) = read ≡ Ok (view answer)

@@ -4,14 +4,14 @@ ghost use Rattle.std.specs.Prelude.{◌≡◌, IfOk, Result, option_map, unwrap_
 ghost use Rattle.serde_json.specs.Data.{null};
 ghost use Rattle.serde_json.specs.Find.{get};
 ghost use Rattle.serde_json.specs.View.{view};
-ghost use Rattle.soy_tree.specs.Templates.{param_type};
-ghost use Rattle.soy_tree.specs.Members.{joined};
+ghost use Rattle.soy_rules.specs.Templates.{param_type};
+ghost use Rattle.soy_rules.specs.Members.{joined};
 ghost use Rattle.soy_tree.specs.Values as values;
 ghost use Rattle.soy_tree.specs.Types.{NullType};
 ghost use Rattle.soy_tree.specs.ViewTrees.{view_param, view_params};
 ghost use Rattle.soy_tree.specs.ViewTypes.{view_type};
 ghost use Rattle.soy_tree.specs.ViewValues.{view_value};
-ghost use Rattle.soy_types.specs.Paths.{Path};
+ghost use Rattle.soy_base.specs.Path.{Path};
 ghost use Rattle.soy_types.specs.Read.{value_at};
 ghost use Rattle.soy_types.specs.ReadData.{data_at, json_of, refused, values_at};
 ghost use Rattle.soy_types.specs.Reads.{Reads, ReadsData, ReadsShort};

@@ -4,13 +4,13 @@ ghost use Rattle.std.specs.Prelude.{◌≡◌, ◌≤◌, ℕ, Bool, List, [], O
 ghost use Rattle.serde_json.specs.Data.{Data};
 ghost use Rattle.soy_tree.specs.Types.{SoyType};
 ghost use Rattle.soy_tree.specs.Values.{Value};
-ghost use Rattle.soy_tree.specs.Has.{Has};
-ghost use Rattle.soy_tree.specs.Declarations.{params_fault, type_fault};
-ghost use Rattle.soy_tree.specs.ShortLists.{HasShortLists};
+ghost use Rattle.soy_rules.specs.Has.{Has};
+ghost use Rattle.soy_rules.specs.Declarations.{params_fault, type_fault};
+ghost use Rattle.soy_rules.specs.ShortLists.{HasShortLists};
 ghost use Rattle.soy_tree.specs.Trees.{Param};
 ghost use Rattle.soy_types.specs.ListsWithin.{HasListsWithin};
 ghost use Rattle.soy_types.specs.ParamsHave.{ParamsHave};
-ghost use Rattle.soy_types.specs.Paths.{Path};
+ghost use Rattle.soy_base.specs.Path.{Path};
 ghost use Rattle.soy_types.specs.Read.{value_at};
 ghost use Rattle.soy_types.specs.ReadData.{data_at};
 ghost use Rattle.soy_types.specs.Stands.{StandsFor};

@@ -2,7 +2,7 @@
 //!
 //! `read_data` gives the values of parameters that are read of JSON, exactly as `Read` says, or the
 //! code and the path of the first part that doesn't fit.
-//! Depends on soy_base, soy_tree, serde_json and json, whose grammar it reads by.
+//! Depends on soy_base, soy_tree, soy_rules, serde_json and json, whose grammar it reads by.
 #![tactic(auto)]
 
 mod data;

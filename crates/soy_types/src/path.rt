@@ -4,14 +4,15 @@ ghost use Rattle.std.specs.Prelude.{◌≡◌, [], Result, IfOk};
 ghost use Rattle.std.specs.Str.{chars};
 ghost use Rattle.soy_base.specs.declared.path.PathStep.TheVariants as path_step;
 ghost use Rattle.soy_base.specs.declared.memory.Refusal.TheVariants as refusal;
-ghost use Rattle.soy_tree.specs.ShortLists.{HasShortLists};
+ghost use Rattle.soy_rules.specs.ShortLists.{HasShortLists};
 ghost use Rattle.soy_tree.specs.Values as values;
 ghost use Rattle.soy_tree.specs.ViewValues.{view_entry, view_value};
-ghost use Rattle.soy_types.specs.Paths.{Path, below};
+ghost use Rattle.soy_types.specs.Paths.{below};
+ghost use Rattle.soy_base.specs.Path.{Path};
 ghost use Rattle.soy_types.specs.Read.{under_key};
 ghost use Rattle.soy_types.specs.Reads.{Reads, ReadsShort, StepsInto};
 
-use soy_base::{OutOfMemory, PathStep, Refusal, Row, Seq, Stack, Text};
+use soy_base::{OutOfMemory, PathStep, Refusal, Row, Seq, Stack, text_of};
 use soy_tree::{Entry, Value};
 use std::alloc::Global;
 
@@ -71,13 +72,6 @@ pub(crate) fn at_key(
         Ok(value) => Ok(Entry { name, value }),
         Err(refusal) => Err(stepped(PathStep::Key(name), refusal)),
     }
-}
-
-/// The text of a string slice.
-pub(crate) fn text_of(alloc: Global, text: &str) -> Result<Text, OutOfMemory>
-    ensures { IfOk result (λ t. t ≡ chars text.now) }
-{
-    Ok(Text::new(String::from_str(alloc, text)?))
 }
 
 /// The steps of a path, in order.

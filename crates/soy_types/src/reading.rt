@@ -11,9 +11,9 @@ ghost use Rattle.soy_types.specs.Paths.{all_read, onward};
 ghost use Rattle.soy_types.specs.Read.{entry_results, field_results, first_read, int_read, item_results, value_at};
 ghost use Rattle.soy_types.specs.Reads.{Reads, ReadsShort};
 
-use crate::path::{Path, at_index, at_key, text_of, unfit};
+use crate::path::{Path, at_index, at_key, unfit};
 use serde_json::{Map, Value as Json};
-use soy_base::{Refusal, Row};
+use soy_base::{Refusal, Row, text_of};
 use soy_tree::{Field, SoyType, Value};
 use std::alloc::Global;
 

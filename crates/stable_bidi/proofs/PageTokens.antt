@@ -7,7 +7,8 @@ use Rattle.soy_base.specs.declared.code.Code.TheVariants as code
 use Rattle.bidi_text.specs.Clean.{cleaned_text}
 use Rattle.bidi_text.specs.Estimate.{estimated_direction}
 use Rattle.bidi_text.specs.Wrap.{wrapped_text}
-use Rattle.html_state.specs.AfterPieces.{Piece, Static, Value, after_piece}
+use Rattle.html_state.specs.AfterPieces.{after_piece}
+use Rattle.soy_base.specs.Piece.{Piece, Static, Value}
 use Rattle.html_state.specs.AfterValue.{after_value, row_after_value}
 use Rattle.script_state.specs.CssAfterValue.{css_after_value}
 use Rattle.html_state.specs.declared.row.Element.TheVariants as element

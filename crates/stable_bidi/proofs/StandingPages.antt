@@ -3,10 +3,11 @@
 use Rattle.std.proofs.Common.{◌≡◌, ℕ, List, [], ◌∷◌, ◌++◌, Ok, refl, ap, ◌∙◌, subst}
 use Rattle.html_state.specs.AfterValue.{after_value}
 use Rattle.html_state.specs.Leads.{marked}
-use Rattle.html_state.specs.AfterPieces.{Piece, Static, Value, after_piece, after_pieces}
+use Rattle.html_state.specs.AfterPieces.{after_piece, after_pieces}
+use Rattle.soy_base.specs.Piece.{Piece, Static, Value}
 use Rattle.html_state.specs.Texts.{and_then as after}
 use Rattle.html_state.specs.declared.row.State.{State}
-use Rattle.soy_meaning.specs.EqualChoices.{AlikePieces}
+use Rattle.soy_meaning.specs.Runs.EqualChoices.{AlikePieces}
 use Rattle.stable_bidi.specs.PagesAlike.{IsValueAt, PagesAlike}
 
 -- in one page, from a state on, each value stands as its place has it

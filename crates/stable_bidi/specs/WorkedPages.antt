@@ -13,7 +13,7 @@ use Rattle.soy_base.specs.declared.direction.Dir.TheVariants.{Ltr, Rtl}
 use Rattle.bidi_text.specs.Clean.{cleaned_text}
 use Rattle.bidi_text.specs.Estimate.{estimated_direction}
 use Rattle.bidi_text.specs.Wrap.{wrapped_text}
-use Rattle.html_state.specs.AfterPieces.{Piece, Static, Value}
+use Rattle.soy_base.specs.Piece.{Piece, Static, Value}
 use Rattle.bidi_order.specs.Lines.{Line}
 use Rattle.bidi_order.specs.WithinLimit.{LabelledCharacter, static_character, value_characters}
 use Rattle.bidi_order.specs.WorkedLines.{auto_line, nested_line, other_line_of, override_line, repeated, word}

@@ -31,10 +31,10 @@ use Rattle.html_state.specs.declared.row.UriName.TheVariants as uri
 use Rattle.html_state.specs.declared.row.UriPart.{UriPart}
 use Rattle.html_state.specs.declared.row.UriPart.TheVariants as part
 use Rattle.html_state.proofs.PageFrames.{page_attributes, page_html}
-use Rattle.soy_meaning.specs.Filled.{IsBlockKind}
-use Rattle.soy_meaning.specs.FourPoints.{takes_classes}
-use Rattle.soy_meaning.specs.PlanOfNodes.{kind_class}
-use Rattle.soy_meaning.proofs.Pages.{IsSettled}
+use Rattle.soy_meaning.specs.Paths.Filled.{IsBlockKind}
+use Rattle.soy_meaning.specs.Walks.FourPoints.{takes_classes}
+use Rattle.soy_meaning.specs.Paths.PlanOfNodes.{kind_class}
+use Rattle.soy_meaning.proofs.Paths.Pages.{IsSettled}
 use Rattle.stable_html.specs.FrameStates.{StandsIn}
 use Rattle.stable_html.specs.PlacedValue.{IsPlaceOf}
 use Rattle.stable_html.specs.RealTag.{in_real_tag, row_in_other}

@@ -6,7 +6,8 @@
 -- of kind html, and without the span's `</span>` they aren't.
 use Rattle.std.specs.Prelude.{◌≡◌, List, [], ◌∷◌, Ok}
 use Rattle.soy_base.specs.declared.direction.Dir.{Dir}
-use Rattle.html_state.specs.AfterPieces.{Piece, Static, Value, after_piece}
+use Rattle.html_state.specs.AfterPieces.{after_piece}
+use Rattle.soy_base.specs.Piece.{Piece, Static, Value}
 use Rattle.html_state.specs.AfterValue.{after_value}
 use Rattle.html_state.specs.Leads.{Leads}
 use Rattle.html_state.specs.declared.row.State.{State}

@@ -5,16 +5,16 @@ use Rattle.std.proofs.lemmas.Slice.Eq.{bytes_eq-Decides}
 use Rattle.soy_base.specs.declared.kind.Kind.{Kind}
 use Rattle.soy_base.specs.declared.kind.Kind.TheVariants as kind
 use Rattle.soy_base.specs.declared.place.Place.{Place}
-use Rattle.soy_tree.specs.Templates.{Declared}
+use Rattle.soy_rules.specs.Templates.{Declared}
 use Rattle.soy_tree.specs.Types.{Name}
-use Rattle.soy_tree.specs.Val.{Binding, Known, binding}
+use Rattle.soy_rules.specs.Val.{Binding, Known, binding}
 use Rattle.soy_tree.specs.Values.{NullValue, StringValue}
-use Rattle.soy_meaning.specs.Giving.{BoundBlock, RunEnv, StateSoFar, called_means, read_outcome, value_means}
-use Rattle.soy_meaning.specs.Meaning.{joined_pieces}
-use Rattle.soy_meaning.specs.Outcome.{Outcome, continued_by, gives_nothing, pieces_of_outcome}
-use Rattle.soy_meaning.specs.Pieces.{GivenArguments, RunContext, given_binding, param_binding}
-use Rattle.soy_meaning.specs.Plan.{Site}
-use Rattle.soy_meaning.proofs.Outcomes.{first_none}
+use Rattle.soy_pieces.specs.Giving.{BoundBlock, RunEnv, StateSoFar, called_means, read_outcome, value_means}
+use Rattle.soy_pieces.specs.Meaning.{joined_pieces}
+use Rattle.soy_pieces.specs.Outcome.{Outcome, continued_by, gives_nothing, pieces_of_outcome}
+use Rattle.soy_pieces.specs.Pieces.{GivenArguments, RunContext, given_binding, param_binding}
+use Rattle.soy_pieces.specs.Site.{Site}
+use Rattle.soy_pieces.proofs.Outcomes.{first_none}
 use Rattle.template_ir.specs.Compiles.{same_handed}
 use Rattle.template_ir.specs.Ops.{Program}
 use Rattle.template_ir.specs.Run.{OpMeans, all_handed_give, handed_env, opened_gives, value_gives}

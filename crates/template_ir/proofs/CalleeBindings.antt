@@ -1,22 +1,22 @@
 -- A callee's variables are what a typed call gives and what it hands on.
-use Rattle.std.proofs.Common.{◌≡◌, Bool, true, false, List, [], ◌∷◌, ◌++◌, Option, Some, None}
-use Rattle.std.proofs.Common.{if◌then◌else◌, refl, sym, ap, ◌∙◌}
+use Rattle.std.proofs.Common.{◌≡◌, Bool, true, false, List, [], ◌∷◌, ◌++◌, Option, Some, None, if◌then◌else◌, refl, sym}
+use Rattle.std.proofs.Common.{ap, ◌∙◌}
 use Rattle.std.specs.Prelude.{bytes_eq, is_some, not, ◌&&◌, ◌||◌}
 use Rattle.std.proofs.lemmas.Bool.{or_parts}
 use Rattle.std.proofs.lemmas.Slice.Eq.{bytes_eq-Decides}
-use Rattle.soy_tree.specs.Bodies.{names_given, param_of}
-use Rattle.soy_tree.specs.Declarations.{is_among}
+use Rattle.soy_rules.specs.Bodies.{names_given, param_of}
+use Rattle.soy_base.specs.Among.{is_among}
 use Rattle.soy_tree.specs.Nodes.{Arguments, no_argument, argument}
 use Rattle.soy_tree.specs.Trees.{Param}
 use Rattle.soy_tree.specs.Types.{Name}
-use Rattle.soy_tree.specs.Val.{Binding, Known, binding}
+use Rattle.soy_rules.specs.Val.{Binding, Known, binding}
 use Rattle.soy_tree.specs.Values.{NullValue}
-use Rattle.soy_tree.proofs.SameTypes.{same_name}
-use Rattle.soy_meaning.specs.FrameRun.{FrameRun}
-use Rattle.soy_meaning.specs.GivenAt.{given_binding_of, given_bindings}
-use Rattle.soy_meaning.specs.Giving.{BoundBlock, RunEnv}
-use Rattle.soy_meaning.specs.Pieces.{GivenArguments, RunContext, callee_env, given_binding, handed_on, param_binding}
-use Rattle.soy_meaning.proofs.CheckedNodes.{same_bytes}
+use Rattle.soy_tree.proofs.SameNames.{same_name}
+use Rattle.soy_meaning.specs.Runs.FrameRun.{FrameRun}
+use Rattle.soy_meaning.specs.Runs.GivenAt.{given_binding_of, given_bindings}
+use Rattle.soy_pieces.specs.Giving.{BoundBlock, RunEnv}
+use Rattle.soy_pieces.specs.Pieces.{GivenArguments, RunContext, callee_env, given_binding, handed_on, param_binding}
+use Rattle.soy_meaning.proofs.Typing.CheckedNodes.{same_bytes}
 use Rattle.template_ir.specs.Compiles.{handed_on_names}
 use Rattle.template_ir.specs.Placed.{BindsGiven, has_name}
 
@@ -51,23 +51,23 @@ given_more x name bound (g ∷ before) h other =
     behind true more k = let no : ⊥ = cc in absurd no
 
 module _ (c : RunContext) (q : FrameRun) (env : RunEnv) where
-  pub nothing_given : (x : Name) (given : Arguments) → is_among x (names_given given) ≡ false
+  pub nothing_given : (x : Name) (given : Arguments) → is_among (names_given given) x ≡ false
       → given_binding x (given_bindings c q given env) ≡ None
   nothing_given x no_argument h = refl
   nothing_given x (argument name given span rest) h =
-      let parts = or_parts (bytes_eq x name) (is_among x (names_given rest)) h in
+      let parts = or_parts (bytes_eq x name) (is_among (names_given rest) x) h in
       given_if (bytes_eq name x) (given_binding_of c q given env) (given_binding x (given_bindings c q rest env))
       (same_bytes name x ∙ parts.0) (nothing_given x rest parts.1)
 
-  something_given : (x : Name) (given : Arguments) → is_among x (names_given given) ≡ true
+  something_given : (x : Name) (given : Arguments) → is_among (names_given given) x ≡ true
       → given_binding x (given_bindings c q given env) ≡ None → ⊥
   something_given x no_argument h k = let no : ⊥ = cc in no
   something_given x (argument name given span rest) h k =
       apart (bytes_eq name x) (bytes_eq x name) (λ t n. something_given x rest t n) (same_bytes name x) h k
     where
-      apart : (test other : Bool) → (is_among x (names_given rest) ≡ true
+      apart : (test other : Bool) → (is_among (names_given rest) x ≡ true
           → given_binding x (given_bindings c q rest env) ≡ None → ⊥)
-          → test ≡ other → (other || is_among x (names_given rest)) ≡ true
+          → test ≡ other → (other || is_among (names_given rest) x) ≡ true
           → (if test then Some (given_binding_of c q given env)
           else given_binding x (given_bindings c q rest env)) ≡ None → ⊥
       apart true other more e t n = let no : ⊥ = cc in no
@@ -81,7 +81,7 @@ module _ (hands : Bool) (own : List Param) (given : List Name) where
   names_on = handed_on_names hands own given
 
   abbrev pub is_handed : Name → Bool
-  is_handed x = hands && is_some (param_of x own) && not (is_among x given)
+  is_handed x = hands && is_some (param_of x own) && not (is_among given x)
 
   -- a name that isn't handed on is none of these
   pub not_handed : (x : Name) → is_handed x ≡ false → (ps : List Param) → has_name x (names_on ps) ≡ false
@@ -182,7 +182,7 @@ module _ (hands : Bool) (own : List Param) (given : GivenArguments) (env : RunEn
 -- ---- together
 
 module _ (c : RunContext) (q : FrameRun) (env : RunEnv) (hands : Bool) (own params : List Param) (args : Arguments)
-    (named : (x : Name) → is_among x (names_given args) ≡ true → is_some (param_of x params) ≡ true) where
+    (named : (x : Name) → is_among (names_given args) x ≡ true → is_some (param_of x params) ≡ true) where
   abbrev given : GivenArguments
   given = given_bindings c q args env
 
@@ -190,12 +190,12 @@ module _ (c : RunContext) (q : FrameRun) (env : RunEnv) (hands : Bool) (own para
   names = handed_on_names hands own (names_given args) params
 
   free : (x : Name) → has_name x names ≡ true → given_binding x given ≡ None
-  free x h = by_test (is_among x (names_given args)) refl
+  free x h = by_test (is_among (names_given args) x) refl
     where
-      by_test : (t : Bool) → is_among x (names_given args) ≡ t → given_binding x given ≡ None
+      by_test : (t : Bool) → is_among (names_given args) x ≡ t → given_binding x given ≡ None
       by_test false e = nothing_given c q env x args e
       by_test true e =
-          let off : (hands && is_some (param_of x own) && not (is_among x (names_given args))) ≡ false =
+          let off : (hands && is_some (param_of x own) && not (is_among (names_given args) x)) ≡ false =
           ap (λ t. hands && is_some (param_of x own) && not t) e ∙ off_here (hands && is_some (param_of x own)) in
           let no : true ≡ false = sym h ∙ not_handed hands own (names_given args) x off params in
           let none : ⊥ = cc in absurd none
@@ -208,15 +208,15 @@ module _ (c : RunContext) (q : FrameRun) (env : RunEnv) (hands : Bool) (own para
   wanted x = param_binding (given_binding x given) (if has_name x names then binding x env else Known NullValue)
 
   -- of a parameter that nothing is given, what is handed on
-  left_to : (x : Name) → is_some (param_of x params) ≡ true → is_among x (names_given args) ≡ false
+  left_to : (x : Name) → is_some (param_of x params) ≡ true → is_among (names_given args) x ≡ false
       → handed_on (hands && is_some (param_of x own)) (binding x env)
       ≡ (if has_name x names then binding x env else Known NullValue)
   left_to x there none = by_test (hands && is_some (param_of x own)) refl
     where
       on : (t : Bool) → hands && is_some (param_of x own) ≡ t
-          → (hands && is_some (param_of x own) && not (is_among x (names_given args))) ≡ t
-      on true e = ap (λ s. s && not (is_among x (names_given args))) e ∙ ap (λ s. true && not s) none
-      on false e = ap (λ s. s && not (is_among x (names_given args))) e
+          → (hands && is_some (param_of x own) && not (is_among (names_given args) x)) ≡ t
+      on true e = ap (λ s. s && not (is_among (names_given args) x)) e ∙ ap (λ s. true && not s) none
+      on false e = ap (λ s. s && not (is_among (names_given args) x)) e
 
       by_test : (t : Bool) → hands && is_some (param_of x own) ≡ t
           → handed_on t (binding x env) ≡ (if has_name x names then binding x env else Known NullValue)
@@ -232,9 +232,9 @@ module _ (c : RunContext) (q : FrameRun) (env : RunEnv) (hands : Bool) (own para
       → param_binding found (handed_on (hands && is_some (param_of x own)) (binding x env))
       ≡ param_binding found (if has_name x names then binding x env else Known NullValue)
   by_given x (Some b) e there = refl
-  by_given x None e there = by_test (is_among x (names_given args)) refl
+  by_given x None e there = by_test (is_among (names_given args) x) refl
     where
-      by_test : (t : Bool) → is_among x (names_given args) ≡ t
+      by_test : (t : Bool) → is_among (names_given args) x ≡ t
           → handed_on (hands && is_some (param_of x own)) (binding x env)
           ≡ (if has_name x names then binding x env else Known NullValue)
       by_test false k = left_to x there k
@@ -245,13 +245,13 @@ module _ (c : RunContext) (q : FrameRun) (env : RunEnv) (hands : Bool) (own para
   bound_as_wanted x true there =
       param_bound hands own given env x params there ∙ by_given x (given_binding x given) refl there
   bound_as_wanted x false there =
-      let none : given_binding x given ≡ None = by_test (is_among x (names_given args)) refl in
+      let none : given_binding x given ≡ None = by_test (is_among (names_given args) x) refl in
       other_bound hands own given env x params there
       ∙ (ap (λ s. if s then binding x env else Known NullValue)
       (sym (none_handed hands own (names_given args) x params there))
       ∙ ap (λ f. param_binding f (if has_name x names then binding x env else Known NullValue)) (sym none))
     where
-      by_test : (t : Bool) → is_among x (names_given args) ≡ t → given_binding x given ≡ None
+      by_test : (t : Bool) → is_among (names_given args) x ≡ t → given_binding x given ≡ None
       by_test false k = nothing_given c q env x args k
       by_test true k =
           let no : true ≡ false = sym (named x k) ∙ there in let none : ⊥ = cc in absurd none

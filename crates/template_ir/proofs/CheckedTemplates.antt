@@ -1,23 +1,24 @@
 -- What the checker demands of each template of typed trees.
-use Rattle.std.proofs.Common.{◌≡◌, ℕ, ◌+◌, Bool, true, false, List, [], ◌∷◌, inl, inr, Option, Some, None}
-use Rattle.std.proofs.Common.{Ok, Err, if◌then◌else◌, refl, sym, subst}
+use Rattle.std.proofs.Common.{◌≡◌, ℕ, ◌+◌, Bool, true, false, List, [], ◌∷◌, inl, inr, Option, Some, None, Ok, Err}
+use Rattle.std.proofs.Common.{if◌then◌else◌, refl, sym, subst}
 use Rattle.std.specs.Prelude.{option_map, ◌&&◌}
 use Rattle.std.specs.List.{list_all}
 use Rattle.std.specs.Option.{option_or}
 use Rattle.std.proofs.lemmas.Bool.{and_parts}
 use Rattle.soy_base.specs.Names.{is_dotted_name, is_name}
-use Rattle.soy_tree.specs.Bodies.{Checked, after_nodes}
-use Rattle.soy_tree.specs.Declarations.{declaration_fault, is_among, params_fault, twice, type_fault}
-use Rattle.soy_tree.specs.Demands.{bodies_fault, body_fault, declarations_fault, fault_of, in_file}
-use Rattle.soy_tree.specs.Faults.{TypeFault}
+use Rattle.soy_rules.specs.Bodies.{Checked, after_nodes}
+use Rattle.soy_rules.specs.Declarations.{declaration_fault, params_fault, twice, type_fault}
+use Rattle.soy_base.specs.Among.{is_among}
+use Rattle.soy_rules.specs.Demands.{bodies_fault, body_fault, declarations_fault, fault_of, in_file}
+use Rattle.soy_rules.specs.Faults.{TypeFault}
 use Rattle.soy_tree.specs.Formed.{are_formed_nodes, is_formed_param, is_formed_template, is_formed_tree}
-use Rattle.soy_tree.specs.Templates.{Declared, declared, declared_from, declared_in, full_name, param_scope}
+use Rattle.soy_rules.specs.Templates.{Declared, declared, declared_from, declared_in, full_name, param_scope}
 use Rattle.soy_tree.specs.Trees.{Param, Template, Tree}
-use Rattle.soy_tree.specs.TypeOf.{Scope}
+use Rattle.soy_rules.specs.TypeOf.{Scope}
 use Rattle.soy_tree.specs.Types.{Name}
-use Rattle.soy_meaning.specs.States.{IsMember}
-use Rattle.soy_meaning.specs.TypedData.{AreTypedTrees}
-use Rattle.soy_meaning.proofs.CheckedTrees.{around_template}
+use Rattle.soy_meaning.specs.Walks.States.{IsMember}
+use Rattle.soy_meaning.specs.Runs.TypedData.{AreTypedTrees}
+use Rattle.soy_meaning.proofs.Typing.CheckedTrees.{around_template}
 use Rattle.soy_meaning.proofs.Members.{mem_split}
 use Rattle.template_ir.proofs.Demands.{NodesDemand, nodes_demand}
 
@@ -35,7 +36,7 @@ unmapped f (Some x) h = some_fault (f x) h
 -- no name is among those before it
 abbrev pub AreApart : List Param → List Name → Type 0
 AreApart [] before = Unit {0}
-AreApart (p ∷ ps) before = (is_among p.name before ≡ false) × AreApart ps (p.name ∷ before)
+AreApart (p ∷ ps) before = (is_among before p.name ≡ false) × AreApart ps (p.name ∷ before)
 
 once : (test : Bool) (fault : TypeFault) → ◌≡◌ {A = Option TypeFault} (if test then Some fault else None) None
     → test ≡ false
@@ -48,7 +49,7 @@ apart (p ∷ ps) before h =
     let one = both_none (twice p.span.start p.name before)
     (option_or (type_fault p.of p.span.start true) (params_fault ps (p.name ∷ before))) h in
     let two = both_none (type_fault p.of p.span.start true) (params_fault ps (p.name ∷ before)) one.1 in
-    (once (is_among p.name before) _ one.0, apart ps (p.name ∷ before) two.1)
+    (once (is_among before p.name) _ one.0, apart ps (p.name ∷ before) two.1)
 
 template_apart : (ds : List Declared) (before : List Name) → declarations_fault ds before ≡ None → (d : Declared)
     → IsMember d ds → AreApart d.template.params []

@@ -2,20 +2,22 @@
 use Rattle.std.proofs.Common.{◌≡◌, ℕ, List, Some, Ok, sym, ap, ◌∙◌, subst}
 use Rattle.std.specs.Prelude.{slice_get}
 use Rattle.html_state.specs.declared.row.State.{State}
-use Rattle.soy_tree.specs.Templates.{Declared, declared}
+use Rattle.soy_rules.specs.Templates.{Declared, declared}
 use Rattle.soy_tree.specs.Trees.{Tree}
 use Rattle.soy_tree.specs.Values.{Value}
-use Rattle.soy_meaning.specs.AcceptedTrees.{walk_trees}
-use Rattle.soy_meaning.specs.Giving.{RunEnv}
-use Rattle.soy_meaning.specs.Pieces.{template_run}
-use Rattle.soy_meaning.specs.TranslationFits.{TranslationsFit}
-use Rattle.soy_meaning.specs.TypedData.{AreTypedTrees, FitsData}
-use Rattle.soy_meaning.specs.Walk.{Walked}
-use Rattle.template_ir.specs.Compiles.{Compiles, Language}
+use Rattle.soy_meaning.specs.Walks.AcceptedTrees.{walk_trees}
+use Rattle.soy_pieces.specs.Giving.{RunEnv}
+use Rattle.soy_pieces.specs.Pieces.{template_run}
+use Rattle.soy_meaning.specs.Runs.TranslationFits.{TranslationsFit}
+use Rattle.soy_meaning.specs.Runs.TypedData.{AreTypedTrees, FitsData}
+use Rattle.soy_meaning.specs.Walks.Walk.{Walked}
+use Rattle.template_ir.specs.Compiles.{Compiles}
+use Rattle.soy_pieces.specs.Language.{Language}
 use Rattle.template_ir.specs.Ops.{Program}
-use Rattle.template_ir.specs.Placed.{language_context}
-use Rattle.template_ir.specs.ProgramRows.{pieces_end_costs}
-use Rattle.template_ir.specs.Run.{input_env, names_of, names_there, run, template_gives}
+use Rattle.soy_pieces.specs.Language.{language_context}
+use Rattle.soy_pieces.specs.Outcome.{pieces_end_costs}
+use Rattle.template_ir.specs.Run.{names_there, run, template_gives}
+use Rattle.soy_pieces.specs.InputEnv.{input_env, names_of}
 use Rattle.template_ir.proofs.PlacedRuns.{runs_placed}
 use Rattle.template_ir.proofs.RunLaws.{entry_law, same_given, template_there}
 

@@ -3,33 +3,33 @@
 use Rattle.std.proofs.Common.{◌≡◌, ◌+◌, ◌≤◌, ℕ, ℤ, List, [], ◌∷◌}
 use Rattle.std.proofs.Common.{refl, sym, ap, ◌∙◌, arith, take}
 use Rattle.soy_base.specs.declared.place.Place.{Place}
-use Rattle.html_state.specs.AfterPieces.{Piece, Static, Value}
+use Rattle.soy_base.specs.Piece.{Piece, Static, Value}
 use Rattle.soy_tree.specs.Types.{Name}
-use Rattle.soy_tree.specs.Cost.{cost}
+use Rattle.soy_rules.specs.Cost.{cost}
 use Rattle.soy_tree.specs.Expressions.{Expr}
-use Rattle.soy_tree.specs.Templates.{Declared}
-use Rattle.soy_tree.specs.Val.{Binding, BlockOf, Known, val, value_text}
+use Rattle.soy_rules.specs.Templates.{Declared}
+use Rattle.soy_rules.specs.Val.{Binding, BlockOf, Known, val, value_text}
 use Rattle.soy_tree.specs.Values.{Items, no_item, item}
 use Rattle.soy_tree.specs.Values as values
-use Rattle.soy_meaning.specs.Filled.{value_form}
-use Rattle.soy_meaning.specs.Giving.{BoundBlock, RunEnv, StateSoFar, placing_so_far, printed_means}
-use Rattle.soy_meaning.specs.Giving.{read_outcome, read_piece, text_means, value_class, value_means, with_cost}
-use Rattle.soy_meaning.specs.Outcome.{GivesPiece, Outcome, RunEnds, Spent, WholeRun}
-use Rattle.soy_meaning.specs.Outcome.{StopsAt, continued_by, end_of_outcome, gives_nothing, none_spent, spent_first}
-use Rattle.soy_meaning.specs.Pieces.{RunContext}
-use Rattle.soy_meaning.specs.Plan.{Site}
-use Rattle.soy_meaning.proofs.Outcomes.{first_followed, first_none, followed_joined}
+use Rattle.soy_pieces.specs.EscapedAt.{value_form}
+use Rattle.soy_pieces.specs.Giving.{BoundBlock, RunEnv, StateSoFar, placing_so_far, printed_means}
+use Rattle.soy_pieces.specs.Giving.{read_outcome, read_piece, text_means, value_class, value_means, with_cost}
+use Rattle.soy_pieces.specs.Outcome.{GivesPiece, Outcome, RunEnds, Spent, WholeRun}
+use Rattle.soy_pieces.specs.Outcome.{StopsAt, continued_by, end_of_outcome, gives_nothing, none_spent, spent_first}
+use Rattle.soy_pieces.specs.Pieces.{RunContext}
+use Rattle.soy_pieces.specs.Site.{Site}
+use Rattle.soy_pieces.proofs.Outcomes.{first_followed, first_none, followed_joined}
 use Rattle.template_ir.specs.Compiles.{CompileContext}
 use Rattle.template_ir.specs.Ops.{LetOp, Op, PrintOp, Program, StaticOp}
 use Rattle.template_ir.specs.Run.{OpMeans, one_step, op_gives, ops_give, print_gives}
 use Rattle.template_ir.specs.Run.{value_at, value_gives}
 use Rattle.template_ir.specs.StandFor.{StandsOp, StandsText, place_of}
-use Rattle.template_ir.specs.Table.{table}
+use Rattle.soy_base.specs.Table.{table}
 use Rattle.template_ir.proofs.Matching.{EnvsMatch, Matches, cost_match, match_more, val_match}
 use Rattle.template_ir.specs.Placed.{PrintPlaced, TextPlaced}
 use Rattle.template_ir.specs.Placed.{ValuePlaced}
 use Rattle.template_ir.proofs.Plain.{Same, plain, plain_spent, same_first, same_free}
-use Rattle.template_ir.proofs.Tables.{get_table, part, part_cons}
+use Rattle.soy_base.proofs.Tables.{get_table, part, part_cons}
 
 -- ---- outcomes
 

@@ -4,23 +4,29 @@ use Rattle.soy_tree.specs.MessageParts.{MsgPart, MsgParts, ExactArms, NamedArms,
 use Rattle.soy_tree.specs.MessageParts.{NumberPart, PluralPart, SelectPart, no_part, part, no_exact_arm, exact_arm}
 use Rattle.soy_tree.specs.MessageParts.{no_named_arm, named_arm, no_select_arm, select_arm}
 use Rattle.soy_tree.specs.MessageText.{MessageItem, Character, Printed, Cut, PrintCut, TagCut, TextCut}
-use Rattle.soy_tree.specs.Narrowing.{narrowed}
+use Rattle.soy_rules.specs.Narrowing.{narrowed}
 use Rattle.soy_tree.specs.Nodes.{Node, Nodes, Otherwise, Arms, Cases, Arguments, Given, Message, Fallback, MessageBody}
 use Rattle.soy_tree.specs.Nodes.{PluralCases, SelectCases, TextNode, Print, If, Switch, For, Let, LetBlock, Call}
 use Rattle.soy_tree.specs.Nodes.{MessageNode, no_node, node, no_otherwise, otherwise, no_arm, arm, no_case, case}
 use Rattle.soy_tree.specs.Nodes.{no_argument, argument, Plain, Block, message, no_fallback, fallback, Parts, Plural}
 use Rattle.soy_tree.specs.Nodes.{Select, no_plural_case, plural_case, no_select_case, select_case}
-use Rattle.soy_tree.specs.Placeholders.{Use}
-use Rattle.soy_tree.specs.TypeOf.{Scope, type_of}
+use Rattle.soy_rules.specs.Placeholders.{Use}
+use Rattle.soy_rules.specs.TypeOf.{Scope, type_of}
 use Rattle.soy_base.specs.declared.fault.Span.{Span}
-use Rattle.soy_meaning.specs.Holes.{hole_count}
-use Rattle.soy_meaning.specs.Plan.{Site, Plan, Either, Nowhere, arms_meet, any_of}
-use Rattle.soy_meaning.specs.PlanOfNodes.{PlanContext, arm_plans, argument_frames, body_plan, body_scope, case_plans}
-use Rattle.soy_meaning.specs.PlanOfNodes.{fallback_plans, given_frame, node_plan, nodes_plan, other_plan, plural_plans}
-use Rattle.soy_meaning.specs.PlanOfNodes.{scope_past, select_plans, source_plan, starts_at, translated_plan}
-use Rattle.soy_meaning.specs.PlanOfNodes.{translation_plans, uses_of}
-use Rattle.soy_meaning.specs.PlanOfParts.{cut_plan, exact_plans, named_plans, part_plan, parts_plan, placeholder_cut}
-use Rattle.soy_meaning.specs.PlanOfParts.{select_arm_plans, tag_plan, text_plan}
+use Rattle.soy_meaning.specs.Walks.Holes.{hole_count}
+use Rattle.soy_meaning.specs.Paths.Plan.{Plan, Either, Nowhere, arms_meet, any_of}
+use Rattle.soy_pieces.specs.Site.{Site}
+use Rattle.soy_meaning.specs.Paths.PlanOfNodes.{PlanContext, arm_plans, argument_frames, body_plan, body_scope}
+use Rattle.soy_meaning.specs.Paths.PlanOfNodes.{case_plans}
+use Rattle.soy_meaning.specs.Paths.PlanOfNodes.{fallback_plans, given_frame, node_plan, nodes_plan, other_plan}
+use Rattle.soy_meaning.specs.Paths.PlanOfNodes.{plural_plans}
+use Rattle.soy_meaning.specs.Paths.PlanOfNodes.{scope_past, select_plans, source_plan, translated_plan}
+use Rattle.soy_pieces.specs.Site.{starts_at}
+use Rattle.soy_meaning.specs.Paths.PlanOfNodes.{translation_plans}
+use Rattle.soy_rules.specs.Placeholders.{uses_of}
+use Rattle.soy_meaning.specs.Paths.PlanOfParts.{cut_plan, exact_plans, named_plans, part_plan, parts_plan}
+use Rattle.soy_rules.specs.Placeholders.{placeholder_cut}
+use Rattle.soy_meaning.specs.Paths.PlanOfParts.{select_arm_plans, tag_plan, text_plan}
 use Rattle.template_ir.specs.HoleCounts.{arm_holes, argument_holes, body_holes, case_holes, cut_holes, exact_holes}
 use Rattle.template_ir.specs.HoleCounts.{fallback_holes, given_holes, named_holes, node_holes, nodes_holes, other_holes}
 use Rattle.template_ir.specs.HoleCounts.{part_holes, parts_holes, plural_holes, select_holes, source_holes, tag_holes}

@@ -6,40 +6,40 @@ use Rattle.std.specs.List.{list_all}
 use Rattle.std.proofs.lemmas.Bool.{and_parts}
 use Rattle.soy_base.specs.declared.fault.Span.{Span}
 use Rattle.soy_base.specs.Names.{is_dotted_name, is_name}
-use Rattle.soy_tree.specs.Accepts.{accepts}
-use Rattle.soy_tree.specs.Bodies.{Around, accepted, after_arguments, after_arms, after_body, after_cases}
-use Rattle.soy_tree.specs.Bodies.{after_fallback, after_given, after_message, after_node, after_nodes, after_otherwise}
-use Rattle.soy_tree.specs.Bodies.{after_plural_cases, after_select_cases, each_passing, known_param, loop_scope}
-use Rattle.soy_tree.specs.Bodies.{named_param, names_given, new_variable, new_variables, param_demands, param_of}
-use Rattle.soy_tree.specs.Bodies.{params_of, passing}
-use Rattle.soy_tree.specs.Declarations.{is_among}
+use Rattle.soy_rules.specs.Accepts.{accepts}
+use Rattle.soy_rules.specs.Bodies.{Around, accepted, after_arguments, after_arms, after_body, after_cases}
+use Rattle.soy_rules.specs.Bodies.{after_fallback, after_given, after_message, after_node, after_nodes, after_otherwise}
+use Rattle.soy_rules.specs.Bodies.{after_plural_cases, after_select_cases, each_passing, known_param, loop_scope}
+use Rattle.soy_rules.specs.Bodies.{named_param, names_given, new_variable, new_variables, param_demands, param_of}
+use Rattle.soy_rules.specs.Bodies.{params_of, passing}
+use Rattle.soy_base.specs.Among.{is_among}
 use Rattle.soy_tree.specs.Expressions.{Expr, span_of}
-use Rattle.soy_tree.specs.Faults.{TypeFault, followed_by}
+use Rattle.soy_rules.specs.Faults.{TypeFault, followed_by}
 use Rattle.soy_tree.specs.Formed.{are_formed_arguments, are_formed_arms, are_formed_cases, are_formed_nodes}
 use Rattle.soy_tree.specs.Formed.{are_formed_plural_cases, are_formed_select_cases, begins_with_text, if_there}
 use Rattle.soy_tree.specs.Formed.{is_case_word, is_formed_body, is_formed_expr, is_formed_fallback, is_formed_given}
 use Rattle.soy_tree.specs.Formed.{is_formed_int, is_formed_message, is_formed_node, is_formed_otherwise}
 use Rattle.soy_tree.specs.Formed.{is_message_text, is_text, is_word_character, nesting}
-use Rattle.soy_tree.specs.Ints.{largest}
-use Rattle.soy_tree.specs.Members.{is_simple}
+use Rattle.soy_base.specs.Limits.{largest}
+use Rattle.soy_rules.specs.Members.{is_simple}
 use Rattle.soy_tree.specs.MessageText.{MessageItem, cuts_of, joined_items, message_items, node_message_items}
-use Rattle.soy_tree.specs.Narrowing.{narrowed}
+use Rattle.soy_rules.specs.Narrowing.{narrowed}
 use Rattle.soy_tree.specs.Nodes.{Node, Nodes, Otherwise, Arms, Cases, Arguments, Given, Message, Fallback, MessageBody}
 use Rattle.soy_tree.specs.Nodes.{PluralCases, SelectCases, TextNode, Print, If, Switch, For, Let, LetBlock, Call}
 use Rattle.soy_tree.specs.Nodes.{MessageNode, no_node, node, no_otherwise, otherwise, no_arm, arm, no_case, case}
 use Rattle.soy_tree.specs.Nodes.{no_argument, argument, Plain, Block, message, no_fallback, fallback, Parts, Plural}
 use Rattle.soy_tree.specs.Nodes.{Select, no_plural_case, plural_case, no_select_case, select_case}
-use Rattle.soy_tree.specs.Templates.{Declared, callee, called_name, kind_type, param_type}
+use Rattle.soy_rules.specs.Templates.{Declared, callee, called_name, kind_type, param_type}
 use Rattle.soy_tree.specs.Trees.{Param}
-use Rattle.soy_tree.specs.TypeOf.{Scope, is_int, is_string, type_of}
+use Rattle.soy_rules.specs.TypeOf.{Scope, is_int, is_string, type_of}
 use Rattle.soy_tree.specs.Types.{Name, SoyType, ListType}
-use Rattle.soy_tree.proofs.ValueTypes.{Stepped, stepped}
-use Rattle.soy_meaning.specs.PlanOfNodes.{body_scope, scope_past}
-use Rattle.soy_meaning.proofs.CheckedScopes.{fault_none, keeps_accepted, keeps_arms, keeps_body, keeps_cases}
-use Rattle.soy_meaning.proofs.CheckedScopes.{keeps_demands, keeps_each, keeps_given, keeps_message, keeps_new}
-use Rattle.soy_meaning.proofs.CheckedScopes.{keeps_news, keeps_passing, keeps_plural, keeps_select, kept, node_past}
-use Rattle.soy_meaning.proofs.CheckedScopes.{ok_is, passed}
-use Rattle.soy_meaning.proofs.TypedNodes.{GivenTaken, HasType}
+use Rattle.soy_rules.proofs.ValueTypes.{Stepped, stepped}
+use Rattle.soy_meaning.specs.Paths.PlanOfNodes.{body_scope, scope_past}
+use Rattle.soy_meaning.proofs.Typing.CheckedScopes.{fault_none, keeps_accepted, keeps_arms, keeps_body, keeps_cases}
+use Rattle.soy_meaning.proofs.Typing.CheckedScopes.{keeps_demands, keeps_each, keeps_given, keeps_message, keeps_new}
+use Rattle.soy_meaning.proofs.Typing.CheckedScopes.{keeps_news, keeps_passing, keeps_plural, keeps_select, kept}
+use Rattle.soy_meaning.proofs.Typing.CheckedScopes.{node_past, ok_is, passed}
+use Rattle.soy_meaning.proofs.Typing.TypedNodes.{GivenTaken, HasType}
 use Rattle.template_ir.specs.Compiles.{params_there}
 use Rattle.template_ir.specs.Placed.{AreTexts, HasNoOther}
 
@@ -58,7 +58,7 @@ AreSimple (e ∷ es) scope = HasTypeOf is_simple e scope × AreSimple es scope
 pub record IsGivenOnce (name : Name) (given : Given) (before : List Name) (params : List Param) (scope : Scope) :
     Type 0 where
   pub param : Param
-  pub fresh : is_among name before ≡ false
+  pub fresh : is_among before name ≡ false
   pub named : param_of name params ≡ Some param
   pub takes : GivenTaken given (param_type param) scope
 
@@ -154,7 +154,7 @@ all_simple (e ∷ es) scope s formed h =
 
 -- a parameter that a name names, for the first time
 record NamesParam (name : Name) (before : List Name) (params : List Param) (p : Param) : Type 0 where
-  pub fresh : is_among name before ≡ false
+  pub fresh : is_among before name ≡ false
   pub named : param_of name params ≡ Some p
 
 param_known : (name : Name) (span : Span) (found : Option Param) (p : Param) → known_param name span found ≡ Ok p
@@ -171,7 +171,7 @@ param_named false name span fault found p h = (refl, param_known name span found
 names_param : (name : Name) (span : Span) (before : List Name) (params : List Param) (p : Param)
     → named_param name span before params ≡ Ok p → NamesParam name before params p
 names_param name span before params p h =
-    let is = param_named (is_among name before) name span _ (param_of name params) p h in
+    let is = param_named (is_among before name) name span _ (param_of name params) p h in
     record { fresh = is.0; named = is.1 }
 
 -- ---- messages

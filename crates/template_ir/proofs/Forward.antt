@@ -8,11 +8,11 @@ use Rattle.soy_tree.specs.MessageText.{MessageItem, Character, Printed, Cut, Pri
 use Rattle.soy_tree.specs.Nodes.{Node, Nodes, Message, MessageBody, TextNode, Print, If, Switch, For, Let, LetBlock}
 use Rattle.soy_tree.specs.Nodes.{Call}
 use Rattle.soy_tree.specs.Nodes.{MessageNode, no_node, node, message, Parts, Plural, Select}
-use Rattle.soy_tree.specs.Placeholders.{Use}
-use Rattle.soy_meaning.specs.Branch.{selector}
-use Rattle.soy_meaning.specs.Pieces.{ChosenText, TheFallback, TheOwn, TheSource, chosen_text}
-use Rattle.soy_meaning.specs.PlanOfNodes.{uses_of}
-use Rattle.soy_meaning.specs.PlanOfParts.{placeholder_cut}
+use Rattle.soy_rules.specs.Placeholders.{Use}
+use Rattle.soy_pieces.specs.Branch.{selector}
+use Rattle.soy_pieces.specs.Pieces.{ChosenText, TheFallback, TheOwn, TheSource, chosen_text}
+use Rattle.soy_rules.specs.Placeholders.{uses_of}
+use Rattle.soy_rules.specs.Placeholders.{placeholder_cut}
 use Rattle.template_ir.specs.Compiles.{CompileContext, StandsMessage, StandsNode, StandsNodes, StandsSource}
 use Rattle.template_ir.specs.HoleCounts.{node_holes, part_holes, source_holes, translation_holes}
 use Rattle.template_ir.specs.Ops.{Op, PluralOp, SelectOp}

@@ -3,16 +3,16 @@ use Rattle.std.proofs.Common.{◌≡◌, ℕ, List, [], ◌∷◌, ◌++◌, ref
 use Rattle.std.proofs.lemmas.List.{append-nil}
 use Rattle.soy_base.specs.declared.kind.Kind.{Kind}
 use Rattle.soy_base.specs.declared.kind.Kind.TheVariants as kind
-use Rattle.html_state.specs.AfterPieces.{Piece, Static, Value}
-use Rattle.soy_tree.specs.Val.{Binding, Known}
+use Rattle.soy_base.specs.Piece.{Piece, Static, Value}
+use Rattle.soy_rules.specs.Val.{Binding, Known}
 use Rattle.soy_tree.specs.Values.{StringValue}
-use Rattle.soy_meaning.specs.FrameRun.{bound_as}
-use Rattle.soy_meaning.specs.Giving.{BoundBlock, block_bound}
-use Rattle.soy_meaning.specs.Meaning.{joined_pieces}
-use Rattle.soy_meaning.specs.Outcome.{GivesPiece, Outcome, RunEnds, Spent, StopsAt, WholeRun, continued_by}
-use Rattle.soy_meaning.specs.Outcome.{end_of_outcome}
-use Rattle.soy_meaning.specs.Outcome.{gathered, gives_nothing, pieces_of_outcome, spent_first}
-use Rattle.soy_meaning.proofs.Outcomes.{first_followed, first_none}
+use Rattle.soy_pieces.specs.Meaning.{bound_as}
+use Rattle.soy_pieces.specs.Giving.{BoundBlock, block_bound}
+use Rattle.soy_pieces.specs.Meaning.{joined_pieces}
+use Rattle.soy_pieces.specs.Outcome.{GivesPiece, Outcome, RunEnds, Spent, StopsAt, WholeRun, continued_by}
+use Rattle.soy_pieces.specs.Outcome.{end_of_outcome}
+use Rattle.soy_pieces.specs.Outcome.{gathered, gives_nothing, pieces_of_outcome, spent_first}
+use Rattle.soy_pieces.proofs.Outcomes.{first_followed, first_none}
 use Rattle.template_ir.specs.Run.{bound_gives}
 use Rattle.template_ir.proofs.Core.{first_spent, past_piece}
 use Rattle.template_ir.proofs.Matching.{Matches}

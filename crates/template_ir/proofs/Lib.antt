@@ -1,6 +1,5 @@
 pub mod Counts
 pub mod Stay
-pub mod Tables
 pub mod Plain
 pub mod Matching
 pub mod Forward

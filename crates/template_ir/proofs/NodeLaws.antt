@@ -3,16 +3,17 @@ use Rattle.std.proofs.Common.{◌≡◌, ◌+◌, ◌≤◌, ℕ, ℤ, pos, Bool
 use Rattle.std.proofs.Common.{◌++◌, if◌then◌else◌, map, subst, refl, sym, ap, ◌∙◌, arith, take}
 use Rattle.html_state.specs.Start.{start}
 use Rattle.std.specs.Prelude.{option_map}
-use Rattle.soy_tree.specs.Bodies.{names_given}
+use Rattle.soy_rules.specs.Bodies.{names_given}
 use Rattle.soy_tree.specs.Expressions.{Expr}
 use Rattle.soy_tree.specs.Nodes.{Arguments, Given, Message, Plain, Block, no_argument, argument, message}
-use Rattle.soy_meaning.specs.Giving.{BoundBlock}
-use Rattle.soy_meaning.specs.Outcome.{FallbackTranslation, OwnTranslation, SourceText, TextTaken}
-use Rattle.soy_meaning.specs.Pieces.{ChosenText, GivenArguments, TheFallback, TheOwn, TheSource, arguments_mean}
-use Rattle.soy_meaning.specs.Pieces.{callee_env}
-use Rattle.soy_meaning.specs.Pieces.{chosen_text, given_means, message_means, opened_means, source_means}
-use Rattle.soy_meaning.specs.Pieces.{translated_means}
-use Rattle.soy_meaning.specs.PlanOfNodes.{starts_at, uses_of}
+use Rattle.soy_pieces.specs.Giving.{BoundBlock}
+use Rattle.soy_pieces.specs.Outcome.{FallbackTranslation, OwnTranslation, SourceText, TextTaken}
+use Rattle.soy_pieces.specs.Pieces.{ChosenText, GivenArguments, TheFallback, TheOwn, TheSource, arguments_mean}
+use Rattle.soy_pieces.specs.Pieces.{callee_env}
+use Rattle.soy_pieces.specs.Pieces.{chosen_text, given_means, message_means, opened_means, source_means}
+use Rattle.soy_pieces.specs.Pieces.{translated_means}
+use Rattle.soy_rules.specs.Placeholders.{uses_of}
+use Rattle.soy_pieces.specs.Site.{starts_at}
 use Rattle.template_ir.specs.Compiles.{StandsGiven, StandsHanded, StandsMessage, callee_number, handed_on_names}
 use Rattle.template_ir.specs.Compiles.{params_there, same_handed}
 use Rattle.template_ir.specs.HoleCounts.{given_holes}
@@ -30,20 +31,20 @@ use Rattle.template_ir.proofs.SourceLaws.{source_law}
 use Rattle.soy_tree.specs.Types.{Name}
 use Rattle.soy_tree.specs.Values.{IntValue, Items, NullValue, Value, item, no_item}
 use Rattle.soy_base.specs.declared.place.Place.{Place}
-use Rattle.soy_tree.specs.Cost.{cost}
+use Rattle.soy_rules.specs.Cost.{cost}
 use Rattle.soy_tree.specs.Nodes.{Node, Nodes, Otherwise, Arms, Cases, TextNode, Print, If, Switch, For, Let, LetBlock}
 use Rattle.soy_tree.specs.Nodes.{Call, MessageNode, no_node, node, no_otherwise, otherwise, no_arm, arm, no_case, case}
-use Rattle.soy_tree.specs.Templates.{Declared, callee}
-use Rattle.soy_tree.specs.Val.{Binding, Known, is_same_value, is_truthy, val}
-use Rattle.soy_meaning.specs.FrameRun.{bound_as}
-use Rattle.soy_meaning.specs.Giving.{Means, RunEnv, StateSoFar, block_bound, with_choice, with_cost}
-use Rattle.soy_meaning.specs.Outcome.{ArmTaken, Outcome, Turns, continued_by, gives_nothing}
-use Rattle.soy_tree.specs.ShortLists.{item_count}
-use Rattle.soy_meaning.specs.Pieces.{RunContext, arms_mean, at_end, cases_mean, frame_outcome, is_one}
-use Rattle.soy_meaning.specs.Pieces.{listed_items, node_means, nodes_mean, otherwise_means, turns_mean, unbound, valued}
-use Rattle.soy_meaning.specs.Pieces.{with_index}
-use Rattle.soy_meaning.specs.Plan.{Site}
-use Rattle.soy_meaning.proofs.Outcomes.{first_followed, first_none, followed_joined, followed_nothing}
+use Rattle.soy_rules.specs.Templates.{Declared, callee}
+use Rattle.soy_rules.specs.Val.{Binding, Known, is_same_value, is_truthy, val}
+use Rattle.soy_pieces.specs.Meaning.{bound_as}
+use Rattle.soy_pieces.specs.Giving.{Means, RunEnv, StateSoFar, block_bound, with_choice, with_cost}
+use Rattle.soy_pieces.specs.Outcome.{ArmTaken, Outcome, Turns, continued_by, gives_nothing}
+use Rattle.soy_rules.specs.ShortLists.{item_count}
+use Rattle.soy_pieces.specs.Pieces.{RunContext, arms_mean, at_end, cases_mean, frame_outcome, is_one}
+use Rattle.soy_pieces.specs.Pieces.{listed_items, node_means, nodes_mean, otherwise_means, turns_mean, unbound, valued}
+use Rattle.soy_pieces.specs.Pieces.{with_index}
+use Rattle.soy_pieces.specs.Site.{Site}
+use Rattle.soy_pieces.proofs.Outcomes.{first_followed, first_none, followed_joined, followed_nothing}
 use Rattle.template_ir.specs.Compiles.{StandsArms, StandsCases, StandsNode, StandsNodes, StandsOther}
 use Rattle.template_ir.specs.HoleCounts.{arm_holes, case_holes, node_holes, nodes_holes}
 use Rattle.template_ir.specs.Ops.{Branch, Choice, ForOp, IfOp, LetBlockOp, Program, SwitchOp}
@@ -58,7 +59,7 @@ use Rattle.template_ir.proofs.Forward.{nodes_forward}
 use Rattle.template_ir.proofs.Matching.{EnvsMatch, cost_match, match_more, operand_match, truth_match}
 use Rattle.template_ir.specs.Placed.{ArmsPlaced, CasesPlaced, NodePlaced, NodesPlaced, OtherPlaced, Picks, TurnsPlaced}
 use Rattle.template_ir.proofs.Plain.{Same, plain, same_first, same_free}
-use Rattle.template_ir.proofs.Tables.{part_none, part_take}
+use Rattle.soy_base.proofs.Tables.{part_none, part_take}
 
 behind : {a b c : ℕ} → a ≤ b → b ≤ c → a ≤ c
 behind h k = omega (arith, h, k)

@@ -7,27 +7,27 @@ use Rattle.soy_base.specs.declared.place.Place.{Place}
 use Rattle.plural_rules.specs.Category.{is_same}
 use Rattle.plural_rules.specs.declared.category.Category.{Category}
 use Rattle.plural_rules.specs.declared.category.Category.TheVariants as category
-use Rattle.soy_tree.specs.Cost.{cost}
+use Rattle.soy_rules.specs.Cost.{cost}
 use Rattle.soy_tree.specs.Expressions.{Expr}
 use Rattle.soy_tree.specs.MessageParts.{MsgPart, MsgParts, ExactArms, NamedArms, SelectArms, TextPart, Placeholder}
 use Rattle.soy_tree.specs.MessageParts.{NumberPart, PluralPart, SelectPart, no_part, part, no_exact_arm, exact_arm}
 use Rattle.soy_tree.specs.MessageParts.{no_named_arm, named_arm, no_select_arm, select_arm}
 use Rattle.soy_tree.specs.MessageText.{MessageItem, Character, Printed, Cut, PrintCut, TagCut, TextCut}
-use Rattle.soy_tree.specs.Placeholders.{Use}
-use Rattle.soy_tree.specs.Templates.{Declared}
-use Rattle.soy_tree.specs.Val.{is_same_int}
+use Rattle.soy_rules.specs.Placeholders.{Use}
+use Rattle.soy_rules.specs.Templates.{Declared}
+use Rattle.soy_rules.specs.Val.{is_same_int}
 use Rattle.soy_tree.specs.Values.{IntValue}
-use Rattle.soy_meaning.specs.Branch.{PartMeans, arm_means, cut_means, exact_of, exact_rows, int_of, named_of}
-use Rattle.soy_meaning.specs.Branch.{named_rows}
-use Rattle.soy_meaning.specs.Branch.{part_means, parts_means, plural_means, row_count, select_means, select_of}
-use Rattle.soy_meaning.specs.Branch.{select_rows}
-use Rattle.soy_meaning.specs.Branch.{selector, tag_means, word_of}
-use Rattle.soy_meaning.specs.Giving.{RunEnv, StateSoFar}
-use Rattle.soy_meaning.specs.Outcome.{ArmTaken, Outcome, continued_by}
-use Rattle.soy_meaning.specs.Pieces.{RunContext, valued}
-use Rattle.soy_meaning.specs.Plan.{Site}
-use Rattle.soy_meaning.specs.PlanOfParts.{placeholder_cut}
-use Rattle.soy_meaning.proofs.Outcomes.{first_none}
+use Rattle.soy_pieces.specs.Branch.{PartMeans, arm_means, cut_means, exact_of, exact_rows, int_of, named_of}
+use Rattle.soy_pieces.specs.Branch.{named_rows}
+use Rattle.soy_pieces.specs.Branch.{part_means, parts_means, plural_means, row_count, select_means, select_of}
+use Rattle.soy_pieces.specs.Branch.{select_rows}
+use Rattle.soy_pieces.specs.Branch.{selector, tag_means, word_of}
+use Rattle.soy_pieces.specs.Giving.{RunEnv, StateSoFar}
+use Rattle.soy_pieces.specs.Outcome.{ArmTaken, Outcome, continued_by}
+use Rattle.soy_pieces.specs.Pieces.{RunContext, valued}
+use Rattle.soy_pieces.specs.Site.{Site}
+use Rattle.soy_rules.specs.Placeholders.{placeholder_cut}
+use Rattle.soy_pieces.proofs.Outcomes.{first_none}
 use Rattle.template_ir.specs.HoleCounts.{exact_holes, part_holes, parts_holes}
 use Rattle.template_ir.specs.Ops.{NumberOp, PluralOp, PrintOp, Program, SelectOp}
 use Rattle.template_ir.specs.Run.{OpMeans, arm_gives, block_gives, category_in, exact_block, named_block, ops_give}
@@ -45,7 +45,7 @@ use Rattle.template_ir.proofs.Matching.{EnvsMatch, cost_match, operand_match}
 use Rattle.template_ir.specs.Placed.{CutPlaced, ExactPlaced, NamedPlaced, PartPlaced, PartsPlaced, Picks}
 use Rattle.template_ir.specs.Placed.{SelectedPlaced, TagPlaced, WordsPlaced}
 use Rattle.template_ir.proofs.Plain.{Same, plain, same_free}
-use Rattle.template_ir.proofs.Tables.{part_none, part_take}
+use Rattle.soy_base.proofs.Tables.{part_none, part_take}
 
 pub no_later : {a b c : ℕ} → a ≤ b → b ≤ c → a ≤ c
 no_later h k = omega (arith, h, k)

@@ -9,19 +9,20 @@ use Rattle.soy_base.specs.Characters.{single_quote}
 use Rattle.plural_rules.specs.Category.{is_same}
 use Rattle.plural_rules.specs.declared.category.Category.{Category}
 use Rattle.plural_rules.specs.declared.category.Category.TheVariants as category
-use Rattle.soy_tree.specs.IcuText.{Exact, InPlural, IsArgument, IsOffset, IsPattern, Key, Named, PatternMode}
-use Rattle.soy_tree.specs.IcuText.{PluralArms}
-use Rattle.soy_tree.specs.IcuText.{AtTop, InSelect, Reads, WordArms, argument, exact_arms, given, is_int_among}
-use Rattle.soy_tree.specs.IcuText.{named_arms}
-use Rattle.soy_tree.specs.IcuText.{no_more, no_more_words, none, number, placeholder, plain, plural, plural_arm, quoted}
-use Rattle.soy_tree.specs.IcuText.{is_other, select, select_arms, single, stop, two, with_text, word_arm}
-use Rattle.soy_tree.specs.Ints.{largest}
+use Rattle.soy_rules.specs.IcuText.{Exact, InPlural, IsArgument, IsOffset, IsPattern, Key, Named, PatternMode}
+use Rattle.soy_rules.specs.IcuText.{PluralArms}
+use Rattle.soy_rules.specs.IcuText.{AtTop, InSelect, Reads, WordArms, argument, exact_arms, given, is_int_among}
+use Rattle.soy_rules.specs.IcuText.{named_arms}
+use Rattle.soy_rules.specs.IcuText.{no_more, no_more_words, none, number, placeholder, plain, plural, plural_arm}
+use Rattle.soy_rules.specs.IcuText.{quoted}
+use Rattle.soy_rules.specs.IcuText.{is_other, select, select_arms, single, stop, two, with_text, word_arm}
+use Rattle.soy_base.specs.Limits.{largest}
 use Rattle.soy_tree.specs.MessageParts.{MsgPart, MsgParts, ExactArms, NamedArms, SelectArms, TextPart, Placeholder}
 use Rattle.soy_tree.specs.MessageParts.{NumberPart, PluralPart, SelectPart, no_part, part, no_exact_arm, exact_arm}
 use Rattle.soy_tree.specs.MessageParts.{no_named_arm, named_arm, no_select_arm, select_arm}
-use Rattle.soy_tree.proofs.SameTypes.{same_name}
-use Rattle.soy_meaning.specs.TranslationFits.{has_other, has_other_word}
-use Rattle.soy_meaning.proofs.CheckedNodes.{same_bytes}
+use Rattle.soy_tree.proofs.SameNames.{same_name}
+use Rattle.soy_meaning.specs.Runs.TranslationFits.{has_other, has_other_word}
+use Rattle.soy_meaning.proofs.Typing.CheckedNodes.{same_bytes}
 
 -- by whether a number may stand here
 abbrev mutual

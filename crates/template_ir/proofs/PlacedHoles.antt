@@ -5,43 +5,47 @@ use Rattle.soy_base.specs.declared.kind.Kind.{Kind}
 use Rattle.soy_base.specs.declared.kind.Kind.TheVariants as kinds
 use Rattle.soy_base.specs.declared.place.Place.{Place}
 use Rattle.soy_base.specs.declared.place.ValueClass.{ValueClass}
-use Rattle.html_state.specs.AfterPieces.{Piece, Static, Value, after_pieces, placing_after}
+use Rattle.html_state.specs.AfterPieces.{after_pieces, placing_after}
+use Rattle.soy_base.specs.Piece.{Piece, Static, Value}
 use Rattle.html_state.specs.Start.{start}
-use Rattle.soy_tree.specs.Templates.{Declared, param_scope}
-use Rattle.soy_tree.specs.Val.{Binding, BlockOf, Known, value_text}
+use Rattle.soy_rules.specs.Templates.{Declared, param_scope}
+use Rattle.soy_rules.specs.Val.{Binding, BlockOf, Known, value_text}
 use Rattle.soy_tree.specs.Values as values
 use Rattle.soy_tree.specs.Values.{StringValue}
-use Rattle.soy_meaning.specs.Filled.{Filled, FillsHoles, IsBlockKind, IsFrameOf, filled_end, filled_pieces}
-use Rattle.soy_meaning.specs.Filled.{frame_before, parts_of_filled, text_before, value_before, value_form}
-use Rattle.soy_meaning.specs.FourPoints.{AcceptedPaths}
-use Rattle.soy_meaning.specs.FrameRun.{FrameRun, bound_as, run_outcome, run_plan, template_frame}
-use Rattle.soy_meaning.specs.Giving.{BoundBlock, RunEnv, StateSoFar, placing_so_far, read_outcome, read_piece}
-use Rattle.soy_meaning.specs.Giving.{value_class}
-use Rattle.soy_meaning.specs.Meaning.{joined_pieces}
-use Rattle.soy_meaning.specs.Outcome.{Outcome, RunEnds, StopsAt, WholeRun, end_of_outcome, none_spent}
-use Rattle.soy_meaning.specs.Outcome.{pieces_of_outcome}
-use Rattle.soy_meaning.specs.PageMachine.{page_machine}
-use Rattle.soy_meaning.specs.PathParts.{IsPath, both, empty_path, hole, met, static_text, turn}
-use Rattle.soy_meaning.specs.Pieces.{RunContext, called_within, context_in}
-use Rattle.soy_meaning.specs.Plan.{Site, Plan, Hole, Loop, Nowhere, Then, arms_meet}
-use Rattle.soy_meaning.specs.PlanOfNodes.{kind_class}
-use Rattle.soy_meaning.specs.PlanOfParts.{text_plan}
-use Rattle.soy_meaning.specs.RunsAlong.{FilledByRuns, IsFrameWithin, IsPathUpTo}
-use Rattle.soy_meaning.specs.States.{IsMember}
-use Rattle.soy_meaning.specs.StopsWithin.{itself}
-use Rattle.soy_meaning.specs.TranslationFits.{NodesFit}
-use Rattle.soy_meaning.proofs.CheckedTrees.{around_template}
-use Rattle.soy_meaning.proofs.Goings.{HasClass, IsGood, Ran}
-use Rattle.soy_meaning.proofs.NodeRuns.{frame_runs}
-use Rattle.soy_meaning.proofs.OpenedCalls.{called_more, called_none}
-use Rattle.soy_meaning.proofs.ReadRuns.{frame_of, runs_fill_holes}
-use Rattle.soy_meaning.proofs.RunBindings.{AllRun, FramesIn}
-use Rattle.soy_meaning.proofs.RunPieces.{filled_then, parts_then, pieces_then, placing_is, read_all, read_more}
-use Rattle.soy_meaning.proofs.RunPieces.{stop_not_whole}
-use Rattle.soy_meaning.proofs.SomePaths.{any_member}
-use Rattle.soy_meaning.proofs.TypedEnvs.{EnvTyped}
-use Rattle.soy_meaning.proofs.TypedNodes.{NodesTyped}
-use Rattle.soy_meaning.proofs.ValueTexts.{text_of_value}
+use Rattle.soy_meaning.specs.Paths.Filled.{Filled, FillsHoles, IsBlockKind, IsFrameOf, filled_end, filled_pieces}
+use Rattle.soy_meaning.specs.Paths.Filled.{frame_before, parts_of_filled, text_before, value_before}
+use Rattle.soy_pieces.specs.EscapedAt.{value_form}
+use Rattle.soy_meaning.specs.Walks.FourPoints.{AcceptedPaths}
+use Rattle.soy_meaning.specs.Runs.FrameRun.{FrameRun, run_outcome, run_plan, template_frame}
+use Rattle.soy_pieces.specs.Meaning.{bound_as}
+use Rattle.soy_pieces.specs.Giving.{BoundBlock, RunEnv, StateSoFar, placing_so_far, read_outcome, read_piece}
+use Rattle.soy_pieces.specs.Giving.{value_class}
+use Rattle.soy_pieces.specs.Meaning.{joined_pieces}
+use Rattle.soy_pieces.specs.Outcome.{Outcome, RunEnds, StopsAt, WholeRun, end_of_outcome, none_spent}
+use Rattle.soy_pieces.specs.Outcome.{pieces_of_outcome}
+use Rattle.soy_meaning.specs.Walks.PageMachine.{page_machine}
+use Rattle.soy_meaning.specs.Paths.PathParts.{IsPath, both, empty_path, hole, met, static_text, turn}
+use Rattle.soy_pieces.specs.Pieces.{RunContext, called_within, context_in}
+use Rattle.soy_meaning.specs.Paths.Plan.{Plan, Hole, Loop, Nowhere, Then, arms_meet}
+use Rattle.soy_pieces.specs.Site.{Site}
+use Rattle.soy_meaning.specs.Paths.PlanOfNodes.{kind_class}
+use Rattle.soy_meaning.specs.Paths.PlanOfParts.{text_plan}
+use Rattle.soy_meaning.specs.Runs.RunsAlong.{FilledByRuns, IsFrameWithin, IsPathUpTo}
+use Rattle.soy_meaning.specs.Walks.States.{IsMember}
+use Rattle.soy_meaning.specs.Runs.StopsWithin.{itself}
+use Rattle.soy_meaning.specs.Runs.TranslationFits.{NodesFit}
+use Rattle.soy_meaning.proofs.Typing.CheckedTrees.{around_template}
+use Rattle.soy_meaning.proofs.Runs.Goings.{HasClass, IsGood, Ran}
+use Rattle.soy_meaning.proofs.Runs.NodeRuns.{frame_runs}
+use Rattle.soy_meaning.proofs.Runs.OpenedCalls.{called_more, called_none}
+use Rattle.soy_meaning.proofs.Runs.ReadRuns.{frame_of, runs_fill_holes}
+use Rattle.soy_meaning.proofs.Runs.RunBindings.{AllRun, FramesIn}
+use Rattle.soy_meaning.proofs.Runs.RunPieces.{filled_then, parts_then, pieces_then, placing_is, read_all, read_more}
+use Rattle.soy_meaning.proofs.Runs.RunPieces.{stop_not_whole}
+use Rattle.soy_meaning.proofs.Paths.SomePaths.{any_member}
+use Rattle.soy_meaning.proofs.Typing.TypedEnvs.{EnvTyped}
+use Rattle.soy_meaning.proofs.Typing.TypedNodes.{NodesTyped}
+use Rattle.soy_pieces.proofs.ValueTexts.{text_of_value}
 use Rattle.template_ir.specs.Placed.{BoundPlaced, CalledPlaced, PrintPlaced, TextPlaced, ValuePlaced}
 use Rattle.template_ir.proofs.SeenHoles.{Seen, fills_both, hole_seen}
 

@@ -1,64 +1,66 @@
 -- What nodes give stands where the walk says, where they are typed and the variables are bound to what their types
 -- have.
-use Rattle.std.proofs.Common.{◌≡◌, ℕ, suc, ◌+◌, ℤ, Bool, true, false, List, [], ◌∷◌, ◌++◌, inl, inr, Option, Some}
-use Rattle.std.proofs.Common.{None, refl, sym, ap, ◌∙◌, subst, append_assoc, arith}
+use Rattle.std.proofs.Common.{◌≡◌, ℕ, suc, ◌+◌, ℤ, Bool, true, false, List, [], ◌∷◌, ◌++◌, inl, inr, Option, Some, None}
+use Rattle.std.proofs.Common.{refl, sym, ap, ◌∙◌, subst, append_assoc, arith}
 use Rattle.std.specs.Prelude.{bytes_eq, is_some, pos, ◌||◌}
 use Rattle.std.proofs.lemmas.Bool.{or_parts}
 use Rattle.std.proofs.lemmas.List.{append-nil}
 use Rattle.soy_base.specs.declared.fault.Span.{Span}
 use Rattle.soy_base.specs.declared.kind.Kind.{Kind}
 use Rattle.soy_base.specs.declared.place.Place.{Place}
-use Rattle.html_state.specs.AfterPieces.{Piece}
-use Rattle.soy_tree.specs.Bodies.{Around, names_given, param_of}
-use Rattle.soy_tree.specs.Declarations.{is_among}
+use Rattle.soy_base.specs.Piece.{Piece}
+use Rattle.soy_rules.specs.Bodies.{Around, names_given, param_of}
+use Rattle.soy_base.specs.Among.{is_among}
 use Rattle.soy_tree.specs.MessageParts.{MsgParts}
-use Rattle.soy_tree.specs.Narrowing.{narrowed}
+use Rattle.soy_rules.specs.Narrowing.{narrowed}
 use Rattle.soy_tree.specs.Nodes.{Node, Nodes, Otherwise, Arms, Cases, Arguments, Given, Message, Fallback, MessageBody}
 use Rattle.soy_tree.specs.Nodes.{PluralCases, SelectCases, TextNode, Print, If, Switch, For, Let, LetBlock, Call}
 use Rattle.soy_tree.specs.Nodes.{MessageNode, no_node, node, no_otherwise, otherwise, no_arm, arm, no_case, case}
 use Rattle.soy_tree.specs.Nodes.{no_argument, argument, Plain, Block, message, no_fallback, fallback, Parts, Plural}
 use Rattle.soy_tree.specs.Nodes.{Select, no_plural_case, plural_case, no_select_case, select_case}
-use Rattle.soy_tree.specs.Templates.{Declared, callee, param_scope}
+use Rattle.soy_rules.specs.Templates.{Declared, callee, param_scope}
 use Rattle.soy_tree.specs.Trees.{Param}
 use Rattle.soy_tree.specs.Types.{Name}
-use Rattle.soy_tree.specs.TypeOf.{Scope, type_of}
-use Rattle.soy_tree.proofs.SameTypes.{same_name}
-use Rattle.soy_tree.specs.Val.{Binding, Known, is_same_int, is_truthy, val}
+use Rattle.soy_rules.specs.TypeOf.{Scope, type_of}
+use Rattle.soy_tree.proofs.SameNames.{same_name}
+use Rattle.soy_rules.specs.Val.{Binding, Known, is_same_int, is_truthy, val}
 use Rattle.soy_tree.specs.Values.{Items, Value, item, no_item}
-use Rattle.soy_meaning.specs.Branch.{int_of, word_of}
-use Rattle.soy_meaning.specs.ComesNext.{IsItem}
-use Rattle.soy_meaning.specs.Filled.{Filled, FillsHoles, filled_end, filled_pieces, parts_of_filled}
-use Rattle.soy_meaning.specs.FourPoints.{AcceptedPaths}
-use Rattle.soy_meaning.specs.FrameRun.{FrameRun, bound_as, inner_outcome, plan_context, template_frame}
-use Rattle.soy_meaning.specs.GivenAt.{given_binding_of, given_bindings}
-use Rattle.soy_meaning.specs.Giving.{BoundBlock, RunEnv, StateSoFar}
-use Rattle.soy_meaning.specs.Holes.{hole_count}
-use Rattle.soy_meaning.specs.Outcome.{Outcome}
-use Rattle.soy_meaning.specs.PageMachine.{page_machine}
-use Rattle.soy_meaning.specs.PathParts.{IsPath, both, empty_path, no_turn, passed_by}
-use Rattle.soy_meaning.specs.Pieces.{GivenArguments, RunContext, callee_env, called_within, chosen_after, chosen_of}
-use Rattle.soy_meaning.specs.Pieces.{context_in, fallback_text, given_binding, is_one, listed_items, valued, with_index}
-use Rattle.soy_meaning.specs.Plan.{Site, Plan, Frame, Hole, Loop, Then}
-use Rattle.soy_meaning.specs.PlanOfNodes.{PlanContext, arm_plans, argument_frames, body_plan, body_scope}
-use Rattle.soy_meaning.specs.PlanOfNodes.{called_classes}
-use Rattle.soy_meaning.specs.PlanOfNodes.{case_plans, closes_at, fallback_plans, given_frame, node_plan}
-use Rattle.soy_meaning.specs.PlanOfNodes.{nodes_plan, other_plan, plural_plans, scope_past, select_plans, starts_at}
-use Rattle.soy_meaning.specs.PlanOfNodes.{translated_plan, translation_plans, uses_of}
-use Rattle.soy_meaning.specs.PlanOfParts.{parts_plan, printed_classes}
-use Rattle.soy_meaning.specs.TranslationFits.{ArgumentsFit, ArmsFit, BodyFits, CasesFit, FallbackFits, FitsMessage}
-use Rattle.soy_meaning.specs.TranslationFits.{GivenFits, NodeFits, NodesFit, OtherFits, PluralFits, SelectFits}
-use Rattle.soy_meaning.specs.Points.{Inside}
-use Rattle.soy_meaning.proofs.CheckedNodes.{same_bytes}
-use Rattle.soy_meaning.proofs.CheckedTrees.{around_template}
+use Rattle.soy_pieces.specs.Branch.{int_of, word_of}
+use Rattle.soy_meaning.specs.Runs.ComesNext.{IsItem}
+use Rattle.soy_meaning.specs.Paths.Filled.{Filled, FillsHoles, filled_end, filled_pieces, parts_of_filled}
+use Rattle.soy_meaning.specs.Walks.FourPoints.{AcceptedPaths}
+use Rattle.soy_meaning.specs.Runs.FrameRun.{FrameRun, inner_outcome, plan_context, template_frame}
+use Rattle.soy_pieces.specs.Meaning.{bound_as}
+use Rattle.soy_meaning.specs.Runs.GivenAt.{given_binding_of, given_bindings}
+use Rattle.soy_pieces.specs.Giving.{BoundBlock, RunEnv, StateSoFar}
+use Rattle.soy_meaning.specs.Walks.Holes.{hole_count}
+use Rattle.soy_pieces.specs.Outcome.{Outcome}
+use Rattle.soy_meaning.specs.Walks.PageMachine.{page_machine}
+use Rattle.soy_meaning.specs.Paths.PathParts.{IsPath, both, empty_path, no_turn, passed_by}
+use Rattle.soy_pieces.specs.Pieces.{GivenArguments, RunContext, callee_env, called_within, chosen_after, chosen_of}
+use Rattle.soy_pieces.specs.Pieces.{context_in, fallback_text, given_binding, is_one, listed_items, valued, with_index}
+use Rattle.soy_meaning.specs.Paths.Plan.{Plan, Frame, Hole, Loop, Then}
+use Rattle.soy_pieces.specs.Site.{Site, starts_at}
+use Rattle.soy_meaning.specs.Paths.PlanOfNodes.{PlanContext, arm_plans, argument_frames, body_plan, body_scope}
+use Rattle.soy_meaning.specs.Paths.PlanOfNodes.{called_classes, case_plans, closes_at, fallback_plans, given_frame}
+use Rattle.soy_meaning.specs.Paths.PlanOfNodes.{node_plan, nodes_plan, other_plan, plural_plans, scope_past}
+use Rattle.soy_meaning.specs.Paths.PlanOfNodes.{select_plans, translated_plan, translation_plans}
+use Rattle.soy_rules.specs.Placeholders.{uses_of}
+use Rattle.soy_meaning.specs.Paths.PlanOfParts.{parts_plan, printed_classes}
+use Rattle.soy_meaning.specs.Runs.TranslationFits.{ArgumentsFit, ArmsFit, BodyFits, CasesFit, FallbackFits, FitsMessage}
+use Rattle.soy_meaning.specs.Runs.TranslationFits.{GivenFits, NodeFits, NodesFit, OtherFits, PluralFits, SelectFits}
+use Rattle.soy_meaning.specs.Walks.Points.{Inside}
+use Rattle.soy_meaning.proofs.Typing.CheckedNodes.{same_bytes}
+use Rattle.soy_meaning.proofs.Typing.CheckedTrees.{around_template}
 use Rattle.soy_meaning.proofs.Members.{mem_left, mem_right}
-use Rattle.soy_meaning.proofs.PrintableUses.{message_printable}
-use Rattle.soy_meaning.proofs.RunBindings.{IsAmong, callee_among, callee_runs, index_runs, val_runs}
-use Rattle.soy_meaning.proofs.SomePaths.{frames_path}
-use Rattle.soy_meaning.proofs.TypedEnvs.{EnvTyped, arm_typed, callee_typed, let_block_typed, let_typed, loop_typed}
-use Rattle.soy_meaning.proofs.TypedEnvs.{placeholders_have_classes, printed_has_class}
-use Rattle.soy_meaning.proofs.TypedNodes.{ArgumentsTyped, ArmsTyped, BodyTyped, CalleeTakes, CasesTyped, FallbackTyped}
-use Rattle.soy_meaning.proofs.TypedNodes.{GivenTyped, MessageTyped, NodeTyped, NodesTyped, OtherTyped, PluralTyped}
-use Rattle.soy_meaning.proofs.TypedNodes.{SelectTyped}
+use Rattle.soy_meaning.proofs.Typing.PrintableUses.{message_printable}
+use Rattle.soy_meaning.proofs.Runs.RunBindings.{IsAmong, callee_among, callee_runs, index_runs, val_runs}
+use Rattle.soy_meaning.proofs.Paths.SomePaths.{frames_path}
+use Rattle.soy_meaning.proofs.Typing.TypedEnvs.{EnvTyped, arm_typed, callee_typed, let_block_typed, let_typed}
+use Rattle.soy_meaning.proofs.Typing.TypedEnvs.{loop_typed, placeholders_have_classes, printed_has_class}
+use Rattle.soy_meaning.proofs.Typing.TypedNodes.{ArgumentsTyped, ArmsTyped, BodyTyped, CalleeTakes, CasesTyped}
+use Rattle.soy_meaning.proofs.Typing.TypedNodes.{FallbackTyped, GivenTyped, MessageTyped, NodeTyped, NodesTyped}
+use Rattle.soy_meaning.proofs.Typing.TypedNodes.{OtherTyped, PluralTyped, SelectTyped}
 use Rattle.template_ir.specs.Compiles.{callee_number, handed_on_names, params_there}
 use Rattle.template_ir.specs.HoleCounts.{arm_holes, body_holes, case_holes, given_holes, node_holes, nodes_holes}
 use Rattle.template_ir.specs.HoleCounts.{plural_holes, select_holes, translated_holes, translation_holes}
@@ -66,18 +68,17 @@ use Rattle.template_ir.specs.Placed.{ArgumentsPlaced, ArmsPlaced, CasesPlaced, G
 use Rattle.template_ir.specs.Placed.{NodePlaced, NodesPlaced, OpenedPlaced, OtherPlaced, PluralPlaced, SelectPlaced}
 use Rattle.template_ir.specs.Placed.{PartsPlaced, SourcePlaced, TurnsPlaced}
 use Rattle.template_ir.proofs.CalleeBindings.{callee_binds, given_more}
-use Rattle.template_ir.proofs.Counts.{arm_count, body_count, case_count, given_count, node_count}
-use Rattle.template_ir.proofs.Counts.{nodes_count, plural_count, select_count}
-use Rattle.template_ir.proofs.Demands.{ArgumentsDemand, ArmsDemand, BodyDemands, CasesDemand}
-use Rattle.template_ir.proofs.Demands.{GivenDemands, NodeDemands, NodesDemand, OtherDemands}
-use Rattle.template_ir.proofs.Demands.{PluralDemands, SelectDemands}
+use Rattle.template_ir.proofs.Counts.{arm_count, body_count, case_count, given_count, node_count, nodes_count}
+use Rattle.template_ir.proofs.Counts.{plural_count, select_count}
+use Rattle.template_ir.proofs.Demands.{ArgumentsDemand, ArmsDemand, BodyDemands, CasesDemand, GivenDemands, NodeDemands}
+use Rattle.template_ir.proofs.Demands.{NodesDemand, OtherDemands, PluralDemands, SelectDemands}
 use Rattle.template_ir.proofs.PlacedHoles.{AfterEach, Afterwards, AllGood, At, HasRun, IsGoodBinding, TemplatesRun}
 use Rattle.template_ir.proofs.PlacedHoles.{after_arms, after_then, after_turn, bound_good, bound_placed, call_placed}
 use Rattle.template_ir.proofs.PlacedHoles.{frame_has_run, print_placed, text_placed}
 use Rattle.template_ir.proofs.PlacedParts.{parts_placed, picks}
-use Rattle.template_ir.proofs.SeenHoles.{AllSeen, Seen, SeesFrames, all_at, arms_seen, body_seen}
-use Rattle.template_ir.proofs.SeenHoles.{first_seen, frame_seen, frame_stands, frames_first, frames_second, last_seen}
-use Rattle.template_ir.proofs.SeenHoles.{second_seen, seen_same, turn_seen}
+use Rattle.template_ir.proofs.SeenHoles.{AllSeen, Seen, SeesFrames, all_at, arms_seen, body_seen, first_seen}
+use Rattle.template_ir.proofs.SeenHoles.{frame_seen, frame_stands, frames_first, frames_second, last_seen, second_seen}
+use Rattle.template_ir.proofs.SeenHoles.{seen_same, turn_seen}
 
 module _ (c : RunContext) (whole : Plan) (accepted : AcceptedPaths page_machine whole) (places : List Place)
     (d : Declared) (left : ℕ) (deeper : (fewer : ℕ) → left ≡ suc fewer → TemplatesRun c whole accepted places fewer)
@@ -142,30 +143,30 @@ module _ (c : RunContext) (whole : Plan) (accepted : AcceptedPaths page_machine 
   -- ---- calls
 
   abbrev IsGiven : List Name → GivenArguments → Type 0
-  IsGiven names before = (x : Name) → is_among x names ≡ false → given_binding x before ≡ None
+  IsGiven names before = (x : Name) → is_among names x ≡ false → given_binding x before ≡ None
 
   given_once : (name : Name) (bound : Binding BoundBlock) (names : List Name) (before : GivenArguments)
       → IsGiven names before → IsGiven (name ∷ names) (before ++ ((name, bound) ∷ []))
   given_once name bound names before is x h =
-      let parts = or_parts (bytes_eq x name) (is_among x names) h in
+      let parts = or_parts (bytes_eq x name) (is_among names x) h in
       given_more x name bound before (is x parts.1) (same_bytes name x ∙ parts.0)
 
-  fresh_here : (name : Name) (names : List Name) (before : GivenArguments) → is_among name names ≡ false
+  fresh_here : (name : Name) (names : List Name) (before : GivenArguments) → is_among names name ≡ false
       → IsGiven names before → IsFresh name before
   fresh_here name names before fresh is x same =
-      is x (subst (λ z. is_among z names ≡ false) (same_name name x same) fresh)
+      is x (subst (λ z. is_among names z ≡ false) (same_name name x same) fresh)
 
   -- each name that is given is a parameter's
   all_named : (given : Arguments) (names : List Name) (params : List Param) (scope : Scope)
-      → ArgumentsDemand around given names params scope → (x : Name) → is_among x (names_given given) ≡ true
+      → ArgumentsDemand around given names params scope → (x : Name) → is_among (names_given given) x ≡ true
       → is_some (param_of x params) ≡ true
   all_named no_argument names params scope demands x h = let no : ⊥ = cc in absurd no
   all_named (argument name given span rest) names params scope demands x h =
       by_test (bytes_eq x name) refl (λ k. all_named rest (name ∷ names) params scope demands.2 x k) h
     where
       by_test : (t : Bool) → bytes_eq x name ≡ t
-          → (is_among x (names_given rest) ≡ true → is_some (param_of x params) ≡ true)
-          → (t || is_among x (names_given rest)) ≡ true → is_some (param_of x params) ≡ true
+          → (is_among (names_given rest) x ≡ true → is_some (param_of x params) ≡ true)
+          → (t || is_among (names_given rest) x) ≡ true → is_some (param_of x params) ≡ true
       by_test true e more k =
           ap (λ z. is_some (param_of z params)) (same_name x name e) ∙ ap is_some demands.0.named
       by_test false e more k = more k

@@ -9,37 +9,40 @@ use Rattle.plural_rules.specs.declared.category.Category.TheVariants as category
 use Rattle.soy_base.specs.declared.kind.Kind.{Kind}
 use Rattle.soy_base.specs.declared.place.Place.{Place}
 use Rattle.soy_base.specs.declared.place.ValueClass.TheVariants as class
-use Rattle.html_state.specs.AfterPieces.{Piece}
+use Rattle.soy_base.specs.Piece.{Piece}
 use Rattle.soy_tree.specs.Expressions.{Expr}
 use Rattle.soy_tree.specs.MessageParts.{MsgPart, MsgParts, ExactArms, NamedArms, SelectArms, TextPart, Placeholder}
 use Rattle.soy_tree.specs.MessageParts.{NumberPart, PluralPart, SelectPart, no_part, part, no_exact_arm, exact_arm}
 use Rattle.soy_tree.specs.MessageParts.{no_named_arm, named_arm, no_select_arm, select_arm}
 use Rattle.soy_tree.specs.MessageText.{MessageItem, Character, Printed, Cut, TextCut, PrintCut, TagCut}
-use Rattle.soy_tree.specs.Placeholders.{Use}
-use Rattle.soy_tree.specs.Templates.{Declared}
-use Rattle.soy_tree.specs.TypeOf.{Scope}
-use Rattle.soy_tree.specs.Val.{is_same_int, val}
+use Rattle.soy_rules.specs.Placeholders.{Use}
+use Rattle.soy_rules.specs.Templates.{Declared}
+use Rattle.soy_rules.specs.TypeOf.{Scope}
+use Rattle.soy_rules.specs.Val.{is_same_int, val}
 use Rattle.soy_tree.specs.Values as values
 use Rattle.soy_tree.specs.Values.{IntValue}
-use Rattle.soy_meaning.specs.Branch.{int_of, selector, word_of}
-use Rattle.soy_meaning.specs.Filled.{filled_end, filled_pieces}
-use Rattle.soy_meaning.specs.FourPoints.{AcceptedPaths}
-use Rattle.soy_meaning.specs.GivenAt.{HasPlaceholderOf, cut_prints, tag_prints}
-use Rattle.soy_meaning.specs.Holes.{hole_count}
-use Rattle.soy_meaning.specs.Giving.{RunEnv, StateSoFar}
-use Rattle.soy_meaning.specs.Outcome.{Outcome}
-use Rattle.soy_meaning.specs.PageMachine.{page_machine}
-use Rattle.soy_meaning.specs.PathParts.{empty_path}
-use Rattle.soy_meaning.specs.Pieces.{RunContext, context_in}
-use Rattle.soy_meaning.specs.Plan.{Site, Plan, Hole, Then}
-use Rattle.soy_meaning.specs.PlanOfParts.{cut_plan, exact_plans, named_plans, part_plan, parts_plan, placeholder_cut}
-use Rattle.soy_meaning.specs.PlanOfParts.{printed_classes, select_arm_plans, tag_plan, text_plan}
-use Rattle.soy_meaning.specs.States.{IsMember}
-use Rattle.soy_meaning.specs.TranslationFits.{exact_fit, has_other, has_other_word, named_fit, part_fits, parts_fit}
-use Rattle.soy_meaning.specs.TranslationFits.{select_fit}
-use Rattle.soy_meaning.proofs.Goings.{HasClass}
+use Rattle.soy_pieces.specs.Branch.{int_of, selector, word_of}
+use Rattle.soy_meaning.specs.Paths.Filled.{filled_end, filled_pieces}
+use Rattle.soy_meaning.specs.Walks.FourPoints.{AcceptedPaths}
+use Rattle.soy_meaning.specs.Runs.GivenAt.{HasPlaceholderOf, cut_prints, tag_prints}
+use Rattle.soy_meaning.specs.Walks.Holes.{hole_count}
+use Rattle.soy_pieces.specs.Giving.{RunEnv, StateSoFar}
+use Rattle.soy_pieces.specs.Outcome.{Outcome}
+use Rattle.soy_meaning.specs.Walks.PageMachine.{page_machine}
+use Rattle.soy_meaning.specs.Paths.PathParts.{empty_path}
+use Rattle.soy_pieces.specs.Pieces.{RunContext, context_in}
+use Rattle.soy_meaning.specs.Paths.Plan.{Plan, Hole, Then}
+use Rattle.soy_pieces.specs.Site.{Site}
+use Rattle.soy_meaning.specs.Paths.PlanOfParts.{cut_plan, exact_plans, named_plans, part_plan, parts_plan}
+use Rattle.soy_rules.specs.Placeholders.{placeholder_cut}
+use Rattle.soy_meaning.specs.Paths.PlanOfParts.{printed_classes, select_arm_plans, tag_plan, text_plan}
+use Rattle.soy_meaning.specs.Walks.States.{IsMember}
+use Rattle.soy_meaning.specs.Runs.TranslationFits.{exact_fit, has_other, has_other_word, named_fit, part_fits}
+use Rattle.soy_meaning.specs.Runs.TranslationFits.{parts_fit}
+use Rattle.soy_meaning.specs.Runs.TranslationFits.{select_fit}
+use Rattle.soy_meaning.proofs.Runs.Goings.{HasClass}
 use Rattle.soy_meaning.proofs.Members.{mem_left, mem_right}
-use Rattle.soy_meaning.proofs.RunBindings.{val_runs}
+use Rattle.soy_meaning.proofs.Runs.RunBindings.{val_runs}
 use Rattle.template_ir.specs.HoleCounts.{exact_holes, part_holes, parts_holes}
 use Rattle.template_ir.specs.Placed.{CutPlaced, ExactPlaced, NamedPlaced, PartPlaced, PartsPlaced, Picks}
 use Rattle.template_ir.specs.Placed.{PrintPlaced, SelectedPlaced, TagPlaced, WordsPlaced}

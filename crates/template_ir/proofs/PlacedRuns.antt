@@ -7,34 +7,36 @@ use Rattle.soy_base.specs.declared.place.Place.TheVariants as place
 use Rattle.soy_base.specs.declared.place.Placing.TheVariants.{Takes}
 use Rattle.html_state.specs.AfterPieces.{placing_after}
 use Rattle.html_state.specs.declared.row.State.{State}
-use Rattle.soy_tree.specs.Templates.{Declared, called_name, declared, param_scope}
+use Rattle.soy_rules.specs.Templates.{Declared, called_name, declared, param_scope}
 use Rattle.soy_tree.specs.Trees.{Tree}
-use Rattle.soy_meaning.specs.AcceptedTrees.{walk_trees}
-use Rattle.soy_meaning.specs.Filled.{filled_pieces}
-use Rattle.soy_meaning.specs.FourPoints.{AcceptedPaths}
-use Rattle.soy_meaning.specs.FrameRun.{plan_context, template_frame}
-use Rattle.soy_meaning.specs.Giving.{RunEnv}
-use Rattle.soy_meaning.specs.Holes.{hole_count}
-use Rattle.soy_meaning.specs.Holes as plan
-use Rattle.soy_meaning.specs.PageMachine.{page_machine}
-use Rattle.soy_meaning.specs.Pieces.{RunContext, called_within, context_in}
-use Rattle.soy_meaning.specs.Plan.{Plan, in_turn}
-use Rattle.soy_meaning.specs.PlanOfNodes.{PlanContext, closes_at, declared_plan, nodes_plan, trees_plan}
-use Rattle.soy_meaning.specs.Points.{Inside}
-use Rattle.soy_meaning.specs.States.{IsMember}
-use Rattle.soy_meaning.specs.TranslationFits.{TranslationsFit}
-use Rattle.soy_meaning.specs.TypedData.{AreTypedTrees, FitsData}
-use Rattle.soy_meaning.specs.Walk.{Walked, walked}
-use Rattle.soy_meaning.proofs.CheckedTrees.{templates_typed}
-use Rattle.soy_meaning.proofs.PagePlaces.{static_places}
-use Rattle.soy_meaning.proofs.PageStates.{page_compares}
-use Rattle.soy_meaning.proofs.RunBindings.{values_run}
-use Rattle.soy_meaning.proofs.RunPaths.{member_fits}
-use Rattle.soy_meaning.proofs.TypedEnvs.{EnvTyped, data_typed}
-use Rattle.soy_meaning.proofs.Walks.{accepted_when_walked}
-use Rattle.template_ir.specs.Compiles.{Language, callee_number}
+use Rattle.soy_meaning.specs.Walks.AcceptedTrees.{walk_trees}
+use Rattle.soy_meaning.specs.Paths.Filled.{filled_pieces}
+use Rattle.soy_meaning.specs.Walks.FourPoints.{AcceptedPaths}
+use Rattle.soy_meaning.specs.Runs.FrameRun.{plan_context, template_frame}
+use Rattle.soy_pieces.specs.Giving.{RunEnv}
+use Rattle.soy_meaning.specs.Walks.Holes.{hole_count}
+use Rattle.soy_meaning.specs.Walks.Holes as plan
+use Rattle.soy_meaning.specs.Walks.PageMachine.{page_machine}
+use Rattle.soy_pieces.specs.Pieces.{RunContext, called_within, context_in}
+use Rattle.soy_meaning.specs.Paths.Plan.{Plan, in_turn}
+use Rattle.soy_meaning.specs.Paths.PlanOfNodes.{PlanContext, closes_at, declared_plan, nodes_plan, trees_plan}
+use Rattle.soy_meaning.specs.Walks.Points.{Inside}
+use Rattle.soy_meaning.specs.Walks.States.{IsMember}
+use Rattle.soy_meaning.specs.Runs.TranslationFits.{TranslationsFit}
+use Rattle.soy_meaning.specs.Runs.TypedData.{AreTypedTrees, FitsData}
+use Rattle.soy_meaning.specs.Walks.Walk.{Walked, walked}
+use Rattle.soy_meaning.proofs.Typing.CheckedTrees.{templates_typed}
+use Rattle.soy_meaning.proofs.Walks.PagePlaces.{static_places}
+use Rattle.soy_meaning.proofs.Walks.PageStates.{page_compares}
+use Rattle.soy_meaning.proofs.Runs.RunBindings.{values_run}
+use Rattle.soy_meaning.proofs.Runs.RunPaths.{member_fits}
+use Rattle.soy_meaning.proofs.Typing.TypedEnvs.{EnvTyped, data_typed}
+use Rattle.soy_meaning.proofs.Walks.Exact.{accepted_when_walked}
+use Rattle.template_ir.specs.Compiles.{callee_number}
+use Rattle.soy_pieces.specs.Language.{Language}
 use Rattle.template_ir.specs.HoleCounts.{nodes_holes}
-use Rattle.template_ir.specs.Placed.{EntryPlaced, PlacedAt, TemplatePlaced, holes_before, language_context}
+use Rattle.template_ir.specs.Placed.{EntryPlaced, PlacedAt, TemplatePlaced, holes_before}
+use Rattle.soy_pieces.specs.Language.{language_context}
 use Rattle.template_ir.proofs.CheckedTemplates.{template_demands}
 use Rattle.template_ir.proofs.Counts.{nodes_count}
 use Rattle.template_ir.proofs.PlacedHoles.{AllGood, TemplatesRun, frame_has_run}

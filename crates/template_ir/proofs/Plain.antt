@@ -1,10 +1,10 @@
 -- Outcomes without their choices and their work.
 use Rattle.std.proofs.Common.{◌≡◌, ℕ, List, [], ◌∷◌, ◌++◌, refl, sym, ap, ◌∙◌}
-use Rattle.html_state.specs.AfterPieces.{Static, Value}
-use Rattle.soy_meaning.specs.Outcome.{Outcome, RunEnds, GivesPiece, Spent, StopsAt, WholeRun, continued_by}
-use Rattle.soy_meaning.specs.Outcome.{costs_of_outcome, end_of_outcome, gathered}
-use Rattle.soy_meaning.specs.Outcome.{pieces_of_outcome, spent_first}
-use Rattle.soy_meaning.proofs.Outcomes.{first_none}
+use Rattle.soy_base.specs.Piece.{Static, Value}
+use Rattle.soy_pieces.specs.Outcome.{Outcome, RunEnds, GivesPiece, Spent, StopsAt, WholeRun, continued_by}
+use Rattle.soy_pieces.specs.Outcome.{costs_of_outcome, end_of_outcome, gathered}
+use Rattle.soy_pieces.specs.Outcome.{pieces_of_outcome, spent_first}
+use Rattle.soy_pieces.proofs.Outcomes.{first_none}
 
 abbrev pub plain_spent : Spent → Spent
 plain_spent a = record { cost = a.cost; work = 0; choices = [] }

@@ -5,29 +5,31 @@ use Rattle.std.specs.Prelude.{option_map, slice_get}
 use Rattle.soy_base.specs.declared.place.Place.{Place}
 use Rattle.plural_rules.specs.Category.{category_of}
 use Rattle.html_state.specs.Start.{start}
-use Rattle.soy_tree.specs.Templates.{Declared, called_name, full_name, is_visible_from, template_of, visible}
+use Rattle.soy_rules.specs.Templates.{Declared, called_name, full_name, is_visible_from, template_of, visible}
 use Rattle.soy_tree.specs.Types.{Name}
-use Rattle.soy_tree.specs.Val.{Binding, BlockOf, Known, binding}
-use Rattle.soy_meaning.specs.Giving.{BoundBlock, RunEnv}
-use Rattle.soy_meaning.specs.Outcome.{Outcome, RunEnd, costs_of_outcome, end_of_outcome, gives_nothing}
-use Rattle.soy_meaning.specs.Outcome.{pieces_of_outcome}
-use Rattle.soy_meaning.specs.Pieces.{RunContext, at_end, called_within, context_in, frame_outcome, template_run}
-use Rattle.soy_meaning.specs.Plan.{Site}
-use Rattle.soy_meaning.proofs.Outcomes.{followed_nothing}
-use Rattle.template_ir.specs.Compiles.{Language, StandsNodes, StandsTemplate, StandsTemplates, callee_number, number_of}
+use Rattle.soy_rules.specs.Val.{Binding, BlockOf, Known, binding}
+use Rattle.soy_pieces.specs.Giving.{BoundBlock, RunEnv}
+use Rattle.soy_pieces.specs.Outcome.{Outcome, RunEnd, costs_of_outcome, end_of_outcome, gives_nothing}
+use Rattle.soy_pieces.specs.Outcome.{pieces_of_outcome}
+use Rattle.soy_pieces.specs.Pieces.{RunContext, at_end, called_within, context_in, frame_outcome, template_run}
+use Rattle.soy_pieces.specs.Site.{Site}
+use Rattle.soy_pieces.proofs.Outcomes.{followed_nothing}
+use Rattle.template_ir.specs.Compiles.{StandsNodes, StandsTemplate, StandsTemplates, callee_number, number_of}
+use Rattle.soy_pieces.specs.Language.{Language}
 use Rattle.template_ir.specs.Compiles.{context_of_template}
 use Rattle.template_ir.specs.HoleCounts.{nodes_holes}
 use Rattle.template_ir.specs.Ops.{Op, Program, Routine}
 use Rattle.template_ir.specs.Run.{all_give, block_gives, body_there, called_at, category_in, op_gives}
 use Rattle.template_ir.specs.Run.{template_gives}
-use Rattle.template_ir.specs.Table.{table}
+use Rattle.soy_base.specs.Table.{table}
 use Rattle.template_ir.proofs.Matching.{EnvsMatch, Matches}
 use Rattle.template_ir.proofs.NodeLaws.{nodes_law}
 use Rattle.template_ir.proofs.PartLaws.{end_of_block}
-use Rattle.template_ir.specs.Placed.{EntryPlaced, PlacedAt, TemplatePlaced, holes_before, language_context}
+use Rattle.template_ir.specs.Placed.{EntryPlaced, PlacedAt, TemplatePlaced, holes_before}
+use Rattle.soy_pieces.specs.Language.{language_context}
 use Rattle.template_ir.proofs.Plain.{Same, plain, plain_costs, plain_end, plain_pieces}
-use Rattle.template_ir.specs.ProgramRows.{pieces_end_costs}
-use Rattle.html_state.specs.AfterPieces.{Piece}
+use Rattle.soy_pieces.specs.Outcome.{pieces_end_costs}
+use Rattle.soy_base.specs.Piece.{Piece}
 
 get_next : {A : Type 0} (x : A) (xs : List A) (n : ℕ) → slice_get (x ∷ xs) (1 + n) ≡ slice_get xs n
 get_next x xs n = let e : 1 + n ≡ suc n = omega arith in ap (λ k. slice_get (x ∷ xs) k) e

@@ -6,17 +6,19 @@ use Rattle.soy_base.specs.declared.kind.Kind.{Kind}
 use Rattle.soy_base.specs.declared.place.Place.{Place}
 use Rattle.soy_base.specs.declared.place.Placing.TheVariants.{Takes}
 use Rattle.soy_base.specs.declared.place.ValueClass.{ValueClass}
-use Rattle.html_state.specs.AfterPieces.{Piece, placing_after}
-use Rattle.soy_meaning.specs.Filled.{Filled, FillsHoles, filled_end, filled_pieces, frame_before, parts_of_filled}
-use Rattle.soy_meaning.specs.Filled.{text_before, value_before}
-use Rattle.soy_meaning.specs.Holes.{hole_count, holes_before}
-use Rattle.soy_meaning.specs.PathParts.{IsPath, PathPart, turn}
-use Rattle.soy_meaning.specs.Plan.{Site, Plan, Either, Frame, Hole, Loop, Meet, Nowhere, Then, any_of, arms_meet}
-use Rattle.soy_meaning.specs.Points.{Address, AtHole, AtMeet, Here, Inside, LeadsTo, Left, Point, Right, frame_at}
-use Rattle.soy_meaning.specs.Points.{in_arms, in_body, one_way, other_way, point_at, to_first, to_head, to_hole}
-use Rattle.soy_meaning.specs.Points.{to_second}
-use Rattle.soy_meaning.specs.RunsAlong.{IsFrameWithin}
-use Rattle.soy_meaning.proofs.RunPieces.{filled_then, parts_then, pieces_then}
+use Rattle.html_state.specs.AfterPieces.{placing_after}
+use Rattle.soy_base.specs.Piece.{Piece}
+use Rattle.soy_meaning.specs.Paths.Filled.{Filled, FillsHoles, filled_end, filled_pieces, frame_before, parts_of_filled}
+use Rattle.soy_meaning.specs.Paths.Filled.{text_before, value_before}
+use Rattle.soy_meaning.specs.Walks.Holes.{hole_count, holes_before}
+use Rattle.soy_meaning.specs.Paths.PathParts.{IsPath, PathPart, turn}
+use Rattle.soy_meaning.specs.Paths.Plan.{Plan, Either, Frame, Hole, Loop, Meet, Nowhere, Then, any_of, arms_meet}
+use Rattle.soy_pieces.specs.Site.{Site}
+use Rattle.soy_meaning.specs.Walks.Points.{Address, AtHole, AtMeet, Here, Inside, LeadsTo, Left, Point, Right, frame_at}
+use Rattle.soy_meaning.specs.Walks.Points.{in_arms, in_body, one_way, other_way, point_at, to_first, to_head, to_hole}
+use Rattle.soy_meaning.specs.Walks.Points.{to_second}
+use Rattle.soy_meaning.specs.Runs.RunsAlong.{IsFrameWithin}
+use Rattle.soy_meaning.proofs.Runs.RunPieces.{filled_then, parts_then, pieces_then}
 use Rattle.template_ir.specs.StandFor.{place_of}
 use Rattle.template_ir.proofs.Counts.{all_holes}
 

@@ -2,17 +2,17 @@
 use Rattle.std.proofs.Common.{Bool, true, false, List, [], ◌∷◌, ◌++◌, Option, Some, None, if◌then◌else◌}
 use Rattle.std.specs.Prelude.{bytes_eq}
 use Rattle.std.specs.Option.{option_or}
-use Rattle.soy_tree.specs.Bodies.{Around}
+use Rattle.soy_rules.specs.Bodies.{Around}
 use Rattle.soy_tree.specs.Expressions.{Expr}
 use Rattle.soy_tree.specs.MessageText.{Cut, TextCut, PrintCut, TagCut, cuts_of, message_items}
 use Rattle.soy_tree.specs.Nodes.{Message, MessageBody, PluralCases, SelectCases, message, Parts, Plural, Select}
 use Rattle.soy_tree.specs.Nodes.{no_plural_case, plural_case, no_select_case, select_case}
-use Rattle.soy_tree.specs.Placeholders.{Role, AsPlaceholder, AsPlural, AsSelect, Use, body_uses, cut_uses, found_uses}
-use Rattle.soy_tree.specs.Placeholders.{name_of, plural_uses, select_uses}
+use Rattle.soy_rules.specs.Placeholders.{Role, AsPlaceholder, AsPlural, AsSelect, Use, body_uses, cut_uses, found_uses}
+use Rattle.soy_rules.specs.Placeholders.{name_of, plural_uses, select_uses}
 use Rattle.soy_tree.specs.Types.{Name, SoyType}
-use Rattle.soy_tree.specs.TypeOf.{Scope, is_int, is_string}
-use Rattle.soy_meaning.specs.Branch.{selector, selector_of_role}
-use Rattle.soy_meaning.specs.PlanOfNodes.{uses_of}
+use Rattle.soy_rules.specs.TypeOf.{Scope, is_int, is_string}
+use Rattle.soy_pieces.specs.Branch.{selector, selector_of_role}
+use Rattle.soy_rules.specs.Placeholders.{uses_of}
 use Rattle.template_ir.proofs.Demands.{BodyDemands, HasTypeOf, MessageDemands, PluralDemands, SelectDemands}
 
 abbrev RoleSelects : Role → Scope → Type 0

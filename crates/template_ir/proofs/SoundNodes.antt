@@ -8,49 +8,51 @@ use Rattle.soy_base.specs.declared.fault.Span.{Span}
 use Rattle.soy_base.specs.declared.place.Place.{Place}
 use Rattle.soy_base.specs.declared.place.Placing.TheVariants.{Takes}
 use Rattle.html_state.specs.TakesClass.{takes_class}
-use Rattle.soy_tree.specs.Accepts.{accepts}
-use Rattle.soy_tree.specs.Bodies.{Around, loop_scope, names_given, param_of}
-use Rattle.soy_tree.specs.Declarations.{is_among}
+use Rattle.soy_rules.specs.Accepts.{accepts}
+use Rattle.soy_rules.specs.Bodies.{Around, loop_scope, names_given, param_of}
+use Rattle.soy_base.specs.Among.{is_among}
 use Rattle.soy_tree.specs.Expressions.{Expr}
 use Rattle.soy_tree.specs.Formed.{is_formed_expr}
-use Rattle.soy_tree.specs.Ints.{largest}
-use Rattle.soy_tree.specs.Members.{is_simple}
+use Rattle.soy_base.specs.Limits.{largest}
+use Rattle.soy_rules.specs.Members.{is_simple}
 use Rattle.soy_tree.specs.MessageParts.{MsgParts}
-use Rattle.soy_tree.specs.Narrowing.{narrowed}
+use Rattle.soy_rules.specs.Narrowing.{narrowed}
 use Rattle.soy_tree.specs.Nodes.{Node, Nodes, Otherwise, Arms, Cases, Arguments, Given, Message, Fallback, MessageBody}
 use Rattle.soy_tree.specs.Nodes.{PluralCases, SelectCases, TextNode, Print, If, Switch, For, Let, LetBlock, Call}
 use Rattle.soy_tree.specs.Nodes.{MessageNode, no_node, node, no_otherwise, otherwise, no_arm, arm, no_case, case}
 use Rattle.soy_tree.specs.Nodes.{no_argument, argument, Plain, Block, message, no_fallback, fallback, Parts, Plural}
 use Rattle.soy_tree.specs.Nodes.{Select, no_plural_case, plural_case, no_select_case, select_case}
-use Rattle.soy_tree.specs.Templates.{Declared, callee, kind_type, param_type}
+use Rattle.soy_rules.specs.Templates.{Declared, callee, kind_type, param_type}
 use Rattle.soy_tree.specs.Trees.{Param}
 use Rattle.soy_tree.specs.Types.{Name, SoyType, ListType}
-use Rattle.soy_tree.specs.TypeOf.{Scope, is_int, is_string, type_of}
-use Rattle.soy_meaning.specs.FourPoints.{takes_classes}
-use Rattle.soy_meaning.specs.Holes.{hole_count}
-use Rattle.soy_meaning.specs.PathParts.{IsPath, empty_path, hole, passed_by}
-use Rattle.soy_meaning.specs.Pieces.{chosen_after, chosen_of, fallback_text}
-use Rattle.soy_meaning.specs.Plan.{Site, Plan, Hole}
-use Rattle.soy_meaning.specs.PlanOfNodes.{PlanContext, arm_plans, argument_frames, body_plan, body_scope}
-use Rattle.soy_meaning.specs.PlanOfNodes.{called_classes}
-use Rattle.soy_meaning.specs.PlanOfNodes.{case_plans, closes_at, fallback_plans, given_frame, kind_class, node_plan}
-use Rattle.soy_meaning.specs.PlanOfNodes.{nodes_plan, other_plan, plural_plans, scope_past, select_plans, starts_at}
-use Rattle.soy_meaning.specs.PlanOfNodes.{translated_plan, translation_plans, uses_of, with_variable}
-use Rattle.soy_meaning.specs.PlanOfParts.{parts_plan, printed_classes}
-use Rattle.soy_meaning.specs.TranslationFits.{ArgumentsFit, ArmsFit, BodyFits, CasesFit, FallbackFits, FitsMessage}
-use Rattle.soy_meaning.specs.TranslationFits.{GivenFits, NodeFits, NodesFit, OtherFits, PluralFits, SelectFits}
-use Rattle.soy_meaning.proofs.CheckedTrees.{around_template}
-use Rattle.soy_meaning.proofs.PrintableUses.{message_printable}
-use Rattle.soy_meaning.proofs.SomePaths.{node_path}
-use Rattle.soy_meaning.proofs.TypedNodes.{ArgumentsTyped, ArmsTyped, BodyTyped, CalleeTakes, CasesTyped, FallbackTyped}
-use Rattle.soy_meaning.proofs.TypedNodes.{GivenTaken, GivenTyped, MessageTyped, NodeTyped, NodesTyped}
-use Rattle.soy_meaning.proofs.TypedNodes.{OtherTyped, PluralTyped, SelectTyped}
+use Rattle.soy_rules.specs.TypeOf.{Scope, is_int, is_string, type_of}
+use Rattle.soy_meaning.specs.Walks.FourPoints.{takes_classes}
+use Rattle.soy_meaning.specs.Walks.Holes.{hole_count}
+use Rattle.soy_meaning.specs.Paths.PathParts.{IsPath, empty_path, hole, passed_by}
+use Rattle.soy_pieces.specs.Pieces.{chosen_after, chosen_of, fallback_text}
+use Rattle.soy_meaning.specs.Paths.Plan.{Plan, Hole}
+use Rattle.soy_pieces.specs.Site.{Site, starts_at}
+use Rattle.soy_meaning.specs.Paths.PlanOfNodes.{PlanContext, arm_plans, argument_frames, body_plan, body_scope}
+use Rattle.soy_meaning.specs.Paths.PlanOfNodes.{called_classes, case_plans, closes_at, fallback_plans, given_frame}
+use Rattle.soy_meaning.specs.Paths.PlanOfNodes.{kind_class, node_plan, nodes_plan, other_plan, plural_plans, scope_past}
+use Rattle.soy_meaning.specs.Paths.PlanOfNodes.{select_plans, translated_plan, translation_plans, with_variable}
+use Rattle.soy_rules.specs.Placeholders.{uses_of}
+use Rattle.soy_meaning.specs.Paths.PlanOfParts.{parts_plan, printed_classes}
+use Rattle.soy_meaning.specs.Runs.TranslationFits.{ArgumentsFit, ArmsFit, BodyFits, CasesFit, FallbackFits, FitsMessage}
+use Rattle.soy_meaning.specs.Runs.TranslationFits.{GivenFits, NodeFits, NodesFit, OtherFits, PluralFits, SelectFits}
+use Rattle.soy_meaning.proofs.Typing.CheckedTrees.{around_template}
+use Rattle.soy_meaning.proofs.Typing.PrintableUses.{message_printable}
+use Rattle.soy_meaning.proofs.Paths.SomePaths.{node_path}
+use Rattle.soy_meaning.proofs.Typing.TypedNodes.{ArgumentsTyped, ArmsTyped, BodyTyped, CalleeTakes, CasesTyped}
+use Rattle.soy_meaning.proofs.Typing.TypedNodes.{FallbackTyped, GivenTaken, GivenTyped, MessageTyped, NodeTyped}
+use Rattle.soy_meaning.proofs.Typing.TypedNodes.{NodesTyped, OtherTyped, PluralTyped, SelectTyped}
 use Rattle.template_ir.specs.CompiledTrees.{ArgumentPatterns, ArmPatterns, CasePatterns, FallbackPattern, GivenPatterns}
 use Rattle.template_ir.specs.CompiledTrees.{IsPatternThere, NodePatterns, NodesPatterns, OtherPatterns}
-use Rattle.template_ir.specs.Compiles.{CompileContext, Language, StandsArms, StandsCases, StandsGiven, StandsHanded}
+use Rattle.template_ir.specs.Compiles.{CompileContext, StandsArms, StandsCases, StandsGiven, StandsHanded}
 use Rattle.template_ir.specs.Compiles.{StandsMessage, StandsNode, StandsNodes, StandsOther, StandsPluralCases}
 use Rattle.template_ir.specs.Compiles.{StandsSelectCases, StandsSource, callee_number, context_of_template}
 use Rattle.template_ir.specs.Compiles.{handed_on_names, other_arm, other_word, params_there, same_handed}
+use Rattle.soy_pieces.specs.Language.{Language}
 use Rattle.template_ir.specs.HoleCounts.{arm_holes, body_holes, case_holes, given_holes, node_holes, nodes_holes}
 use Rattle.template_ir.specs.HoleCounts.{plural_holes, select_holes, translated_holes, translation_holes}
 use Rattle.template_ir.specs.Ops.{Branch, CallOp, Callee, Choice, ForOp, Handed, HandedBlock, HandedBy, HandedSame}
@@ -69,9 +71,8 @@ use Rattle.template_ir.proofs.CheckedTemplates.{AreApart}
 use Rattle.template_ir.proofs.Counts.{arm_count, body_count, case_count, given_count, node_count, nodes_count}
 use Rattle.template_ir.proofs.Counts.{plural_count, select_count}
 use Rattle.template_ir.proofs.Demands.{AreSimple, ArgumentsDemand, ArmsDemand, BodyDemands, CasesDemand}
-use Rattle.template_ir.proofs.Demands.{FallbackDemands}
-use Rattle.template_ir.proofs.Demands.{GivenDemands, MessageDemands, NodeDemands, NodesDemand, OtherDemands}
-use Rattle.template_ir.proofs.Demands.{PluralDemands, SelectDemands}
+use Rattle.template_ir.proofs.Demands.{FallbackDemands, GivenDemands, MessageDemands, NodeDemands, NodesDemand}
+use Rattle.template_ir.proofs.Demands.{OtherDemands, PluralDemands, SelectDemands}
 use Rattle.template_ir.proofs.Forward.{nodes_forward, source_forward}
 use Rattle.template_ir.proofs.Patterns.{whole_anywhere, pattern_whole}
 use Rattle.template_ir.proofs.SelectedUses.{message_selects}
@@ -80,8 +81,8 @@ use Rattle.template_ir.proofs.SoundCalls.{required_given, same_sound, stands_nam
 use Rattle.template_ir.proofs.SoundOps.{Passes, block_sound, both_true, checks, end_passes, expr_sound, nothing_passes}
 use Rattle.template_ir.proofs.SoundOps.{op_passes, op_within, passes_if, print_sound, text_sound}
 use Rattle.template_ir.proofs.SoundParts.{parts_sound, up_to}
-use Rattle.template_ir.proofs.TakenClasses.{AllTaken, Taken, all_from, arms_taken, body_taken, first_taken}
-use Rattle.template_ir.proofs.TakenClasses.{frame_taken, hole_taken, last_taken, second_taken, taken_from}
+use Rattle.template_ir.proofs.TakenClasses.{AllTaken, Taken, all_from, arms_taken, body_taken, first_taken, frame_taken}
+use Rattle.template_ir.proofs.TakenClasses.{hole_taken, last_taken, second_taken, taken_from}
 
 to_itself : (a : ℕ) → a ≤ a
 to_itself a = omega arith
@@ -481,7 +482,7 @@ module _ (l : Language) (all : List Declared) (places : List Place) (templates :
         → ArgumentPatterns l.translation args
         → ArgumentsFit l.translation args → ArgumentsTyped around args scope
         → ArgumentsDemand around args names params scope → before ≤ length ops
-        → ((x : Name) → is_among x (names_given args) ≡ true → is_among x (names_given every) ≡ true)
+        → ((x : Name) → is_among (names_given args) x ≡ true → is_among (names_given every) x ≡ true)
         → (handed : List Handed)
         → StandsGiven cc args (handed_on_names hands d.template.params (names_given every) ps) handed first before
         → are_sound_handed (before_ before) params
@@ -502,9 +503,9 @@ module _ (l : Language) (all : List Declared) (places : List Place) (templates :
         ∙ (ap (fits_param (λ to. is_sound_given (before_ before) name one.by to scope)) demands.0.named
         ∙ given_sound given one.by name (param_type demands.0.param) span first before scope
         (first_taken places frame frames first taken) patterns.0 fit.0 typed.0 demands.1 demands.0.takes inside h.1) in
-        let alone : not (is_among one.name (handed_names handed)) ≡ true =
-        ap (λ n. not (is_among n (handed_names handed))) h.0
-        ∙ (ap (λ ns. not (is_among name ns))
+        let alone : not (is_among (handed_names handed) one.name) ≡ true =
+        ap (λ n. not (is_among (handed_names handed) n)) h.0
+        ∙ (ap (λ ns. not (is_among ns name))
         (stands_names cc rest same handed (first + given_holes l.translation given) before h.2)
         ∙ ap not
         (among_neither name (names_given rest) same
@@ -517,7 +518,7 @@ module _ (l : Language) (all : List Declared) (places : List Place) (templates :
         (ap (λ k. first + k) (given_count pc given span scope))
         (second_taken places frame frames first (record { parts = []; path = given_passed given span scope }) taken))
         patterns.1 fit.1 typed.1 demands.2 inside
-        (λ x k. there x (or_later (bytes_eq x name) (is_among x (names_given rest)) k)) handed h.2 last)
+        (λ x k. there x (or_later (bytes_eq x name) (is_among (names_given rest) x) k)) handed h.2 last)
 
     given_sound : (given : Given) (by : HandedBy) (name : Name) (to : SoyType) (span : Span) (first before : ℕ)
         (scope : Scope) → Taken places (given_frame pc given span scope) first → GivenPatterns l.translation given

@@ -6,22 +6,22 @@ use Rattle.std.proofs.lemmas.Bool.{le-leb}
 use Rattle.std.proofs.lemmas.List.{length-take-le}
 use Rattle.soy_base.specs.declared.place.Place.{Place}
 use Rattle.soy_base.specs.declared.place.Placing.TheVariants.{Takes}
-use Rattle.soy_tree.specs.Bodies.{is_printed}
+use Rattle.soy_rules.specs.Bodies.{is_printed}
 use Rattle.soy_tree.specs.Expressions.{Expr}
 use Rattle.soy_tree.specs.Formed.{is_formed_expr}
 use Rattle.soy_tree.specs.Types.{SoyType}
-use Rattle.soy_tree.specs.TypeOf.{Scope, type_of}
-use Rattle.soy_meaning.specs.FourPoints.{takes_classes}
-use Rattle.soy_meaning.specs.PlanOfParts.{printed_classes}
-use Rattle.soy_meaning.proofs.TypedNodes.{IsPrintable}
+use Rattle.soy_rules.specs.TypeOf.{Scope, type_of}
+use Rattle.soy_meaning.specs.Walks.FourPoints.{takes_classes}
+use Rattle.soy_meaning.specs.Paths.PlanOfParts.{printed_classes}
+use Rattle.soy_meaning.proofs.Typing.TypedNodes.{IsPrintable}
 use Rattle.template_ir.specs.Ops.{Op, PrintOp, Routine, StaticOp}
 use Rattle.template_ir.specs.Sound.{OpCheck, are_sound_ops, goes_on, is_sound_block, is_sound_expr, op_check, scope_if}
 use Rattle.template_ir.specs.Sound.{type_passes}
 use Rattle.template_ir.specs.StandFor.{StandsOp, StandsPrint, StandsText, place_of}
-use Rattle.template_ir.specs.Table.{table}
+use Rattle.soy_base.specs.Table.{table}
 use Rattle.template_ir.specs.declared.op.Block as code_block
 use Rattle.template_ir.proofs.Demands.{HasTypeOf}
-use Rattle.template_ir.proofs.Tables.{get_table, length_table, part, part_cons, part_none, part_take}
+use Rattle.soy_base.proofs.Tables.{get_table, length_table, part, part_cons, part_none, part_take}
 
 pub both_true : (t u : Bool) → t ≡ true → u ≡ true → (t && u) ≡ true
 both_true t u h k = ap (λ b. b && u) h ∙ k

@@ -11,24 +11,28 @@ use Rattle.soy_base.specs.declared.place.Placing.TheVariants.{Takes}
 use Rattle.soy_base.specs.declared.place.ValueClass.TheVariants as class
 use Rattle.html_state.specs.TakesClass.{takes_class}
 use Rattle.soy_tree.specs.Expressions.{Expr}
-use Rattle.soy_tree.specs.Ints.{largest}
+use Rattle.soy_base.specs.Limits.{largest}
 use Rattle.soy_tree.specs.MessageParts.{MsgPart, MsgParts, ExactArms, NamedArms, SelectArms, TextPart, Placeholder}
 use Rattle.soy_tree.specs.MessageParts.{NumberPart, PluralPart, SelectPart, no_part, part, no_exact_arm, exact_arm}
 use Rattle.soy_tree.specs.MessageParts.{no_named_arm, named_arm, no_select_arm, select_arm}
 use Rattle.soy_tree.specs.MessageText.{MessageItem, Character, Printed, Cut, TextCut, PrintCut, TagCut}
-use Rattle.soy_tree.specs.Placeholders.{Use, name_of}
+use Rattle.soy_rules.specs.Placeholders.{Use, name_of}
 use Rattle.soy_tree.specs.Types.{Name}
-use Rattle.soy_tree.specs.TypeOf.{Scope, is_int, is_string}
-use Rattle.soy_meaning.specs.Branch.{selector}
-use Rattle.soy_meaning.specs.Holes.{hole_count}
-use Rattle.soy_meaning.specs.PathParts.{hole}
-use Rattle.soy_meaning.specs.Plan.{Site, Plan, Hole, Then}
-use Rattle.soy_meaning.specs.PlanOfParts.{cut_of_role, cut_plan, exact_plans, named_plans, part_plan, parts_plan}
-use Rattle.soy_meaning.specs.PlanOfParts.{placeholder_cut, printed_classes, select_arm_plans, tag_plan, text_plan}
-use Rattle.soy_meaning.specs.TranslationFits.{exact_fit, has_other, has_other_word, named_fit, part_fits, parts_fit}
-use Rattle.soy_meaning.specs.TranslationFits.{select_fit}
-use Rattle.soy_meaning.proofs.SomePaths.{part_path, text_path}
-use Rattle.soy_meaning.proofs.TypedNodes.{CutPrintable, ItemsPrintable, UsesPrintable}
+use Rattle.soy_rules.specs.TypeOf.{Scope, is_int, is_string}
+use Rattle.soy_pieces.specs.Branch.{selector}
+use Rattle.soy_meaning.specs.Walks.Holes.{hole_count}
+use Rattle.soy_meaning.specs.Paths.PathParts.{hole}
+use Rattle.soy_meaning.specs.Paths.Plan.{Plan, Hole, Then}
+use Rattle.soy_pieces.specs.Site.{Site}
+use Rattle.soy_meaning.specs.Paths.PlanOfParts.{cut_plan, exact_plans, named_plans, part_plan, parts_plan}
+use Rattle.soy_rules.specs.Placeholders.{cut_of_role}
+use Rattle.soy_meaning.specs.Paths.PlanOfParts.{printed_classes, select_arm_plans, tag_plan, text_plan}
+use Rattle.soy_rules.specs.Placeholders.{placeholder_cut}
+use Rattle.soy_meaning.specs.Runs.TranslationFits.{exact_fit, has_other, has_other_word, named_fit, part_fits}
+use Rattle.soy_meaning.specs.Runs.TranslationFits.{parts_fit}
+use Rattle.soy_meaning.specs.Runs.TranslationFits.{select_fit}
+use Rattle.soy_meaning.proofs.Paths.SomePaths.{part_path, text_path}
+use Rattle.soy_meaning.proofs.Typing.TypedNodes.{CutPrintable, ItemsPrintable, UsesPrintable}
 use Rattle.template_ir.specs.HoleCounts.{exact_holes, part_holes, parts_holes}
 use Rattle.template_ir.specs.Ops.{NumberOp, Op, PluralOp, PrintOp, Routine, SelectOp}
 use Rattle.template_ir.specs.Sound.{are_sound_arms, has_named_other, has_word_other, is_sound_expr}

@@ -8,23 +8,25 @@ use Rattle.soy_base.specs.declared.place.ValueClass.{ValueClass}
 use Rattle.html_state.specs.declared.row.State.{State}
 use Rattle.soy_tree.specs.MessageParts.{MsgParts}
 use Rattle.soy_tree.specs.Nodes.{Message}
-use Rattle.soy_tree.specs.Templates.{Declared, callee, called_name, declared, param_scope}
+use Rattle.soy_rules.specs.Templates.{Declared, callee, called_name, declared, param_scope}
 use Rattle.soy_tree.specs.Trees.{Tree}
 use Rattle.soy_tree.specs.Types.{Name}
-use Rattle.soy_meaning.specs.AcceptedTrees.{walk_trees}
-use Rattle.soy_meaning.specs.Holes.{hole_count, holes_before}
-use Rattle.soy_meaning.specs.PathParts.{passed_by}
-use Rattle.soy_meaning.specs.Plan.{Site, Plan, Frame, in_turn}
-use Rattle.soy_meaning.specs.PlanOfNodes.{PlanContext, closes_at, declared_plan, nodes_plan, trees_plan}
-use Rattle.soy_meaning.specs.Points.{Address, AtHole, Here, Inside, Left, Right, point_at}
-use Rattle.soy_meaning.specs.States.{IsMember}
-use Rattle.soy_meaning.specs.TranslationFits.{TranslationsFit}
-use Rattle.soy_meaning.specs.TypedData.{AreTypedTrees}
-use Rattle.soy_meaning.specs.Walk.{Walked}
-use Rattle.soy_meaning.proofs.CheckedTrees.{templates_typed}
-use Rattle.soy_meaning.proofs.RunPaths.{member_fits}
+use Rattle.soy_meaning.specs.Walks.AcceptedTrees.{walk_trees}
+use Rattle.soy_meaning.specs.Walks.Holes.{hole_count, holes_before}
+use Rattle.soy_meaning.specs.Paths.PathParts.{passed_by}
+use Rattle.soy_meaning.specs.Paths.Plan.{Plan, Frame, in_turn}
+use Rattle.soy_pieces.specs.Site.{Site}
+use Rattle.soy_meaning.specs.Paths.PlanOfNodes.{PlanContext, closes_at, declared_plan, nodes_plan, trees_plan}
+use Rattle.soy_meaning.specs.Walks.Points.{Address, AtHole, Here, Inside, Left, Right, point_at}
+use Rattle.soy_meaning.specs.Walks.States.{IsMember}
+use Rattle.soy_meaning.specs.Runs.TranslationFits.{TranslationsFit}
+use Rattle.soy_meaning.specs.Runs.TypedData.{AreTypedTrees}
+use Rattle.soy_meaning.specs.Walks.Walk.{Walked}
+use Rattle.soy_meaning.proofs.Typing.CheckedTrees.{templates_typed}
+use Rattle.soy_meaning.proofs.Runs.RunPaths.{member_fits}
 use Rattle.template_ir.specs.CompiledTrees.{ArePatterns, NodesPatterns}
-use Rattle.template_ir.specs.Compiles.{Compiles, Language, StandsTemplate, StandsTemplates, callee_number}
+use Rattle.template_ir.specs.Compiles.{Compiles, StandsTemplate, StandsTemplates, callee_number}
+use Rattle.soy_pieces.specs.Language.{Language}
 use Rattle.template_ir.specs.Compiles.{context_of_template}
 use Rattle.template_ir.specs.HoleCounts.{nodes_holes}
 use Rattle.template_ir.specs.Ops.{Program, Routine}

@@ -7,19 +7,19 @@ use Rattle.soy_base.specs.declared.place.Place.{Place}
 use Rattle.plural_rules.specs.Category.{is_same}
 use Rattle.plural_rules.specs.declared.category.Category.{Category}
 use Rattle.plural_rules.specs.declared.category.Category.TheVariants as category
-use Rattle.soy_tree.specs.Cost.{cost}
+use Rattle.soy_rules.specs.Cost.{cost}
 use Rattle.soy_tree.specs.Nodes.{Nodes, MessageBody, PluralCases, SelectCases, TextNode, Print, If, Switch, For, Let}
 use Rattle.soy_tree.specs.Nodes.{LetBlock, Call, MessageNode, no_node, node, Parts, Plural, Select, no_plural_case}
 use Rattle.soy_tree.specs.Nodes.{plural_case, no_select_case, select_case}
-use Rattle.soy_tree.specs.Templates.{Declared}
-use Rattle.soy_tree.specs.Val.{is_same_int}
-use Rattle.soy_meaning.specs.Branch.{int_of, word_of}
-use Rattle.soy_meaning.specs.Giving.{Means, RunEnv, StateSoFar, with_choice}
-use Rattle.soy_meaning.specs.Outcome.{ArmTaken, Outcome, continued_by}
-use Rattle.soy_meaning.specs.Pieces.{RunContext, nodes_mean, plural_cases_mean, select_cases_mean, source_means}
-use Rattle.soy_meaning.specs.Pieces.{unbound}
-use Rattle.soy_meaning.specs.Pieces.{valued}
-use Rattle.soy_meaning.specs.Plan.{Site}
+use Rattle.soy_rules.specs.Templates.{Declared}
+use Rattle.soy_rules.specs.Val.{is_same_int}
+use Rattle.soy_pieces.specs.Branch.{int_of, word_of}
+use Rattle.soy_pieces.specs.Giving.{Means, RunEnv, StateSoFar, with_choice}
+use Rattle.soy_pieces.specs.Outcome.{ArmTaken, Outcome, continued_by}
+use Rattle.soy_pieces.specs.Pieces.{RunContext, nodes_mean, plural_cases_mean, select_cases_mean, source_means}
+use Rattle.soy_pieces.specs.Pieces.{unbound}
+use Rattle.soy_pieces.specs.Pieces.{valued}
+use Rattle.soy_pieces.specs.Site.{Site}
 use Rattle.template_ir.specs.Compiles.{StandsNodes, StandsPluralCases, StandsSelectCases, StandsSource, other_arm}
 use Rattle.template_ir.specs.Compiles.{other_word}
 use Rattle.template_ir.specs.HoleCounts.{body_holes, plural_holes, select_holes}

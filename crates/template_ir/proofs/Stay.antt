@@ -12,11 +12,11 @@ use Rattle.soy_tree.specs.Nodes.{PluralCases, SelectCases, TextNode, Print, If, 
 use Rattle.soy_tree.specs.Nodes.{MessageNode, no_node, node, no_otherwise, otherwise, no_arm, arm, no_case, case}
 use Rattle.soy_tree.specs.Nodes.{no_argument, argument, Plain, Block, message, Parts, Plural, Select, no_plural_case}
 use Rattle.soy_tree.specs.Nodes.{plural_case, no_select_case, select_case}
-use Rattle.soy_tree.specs.Placeholders.{Use}
-use Rattle.soy_meaning.specs.Branch.{selector}
-use Rattle.soy_meaning.specs.Pieces.{ChosenText, TheFallback, TheOwn, TheSource, chosen_text}
-use Rattle.soy_meaning.specs.PlanOfNodes.{uses_of}
-use Rattle.soy_meaning.specs.PlanOfParts.{placeholder_cut}
+use Rattle.soy_rules.specs.Placeholders.{Use}
+use Rattle.soy_pieces.specs.Branch.{selector}
+use Rattle.soy_pieces.specs.Pieces.{ChosenText, TheFallback, TheOwn, TheSource, chosen_text}
+use Rattle.soy_rules.specs.Placeholders.{uses_of}
+use Rattle.soy_rules.specs.Placeholders.{placeholder_cut}
 use Rattle.template_ir.specs.Compiles.{CompileContext, with_more, StandsArms, StandsCases, StandsGiven}
 use Rattle.template_ir.specs.Compiles.{StandsHanded, StandsMessage, StandsNode, StandsNodes, StandsOther}
 use Rattle.template_ir.specs.Compiles.{StandsPluralCases, StandsSelectCases, StandsSource}

@@ -8,23 +8,25 @@ use Rattle.soy_base.specs.declared.place.Placing.TheVariants.{Takes}
 use Rattle.soy_base.specs.declared.place.ValueClass.{ValueClass}
 use Rattle.html_state.specs.Start.{start}
 use Rattle.html_state.specs.declared.row.State.{State}
-use Rattle.soy_meaning.specs.FourPoints.{OnePlacing, PointHolds, StartsAs, takes_classes}
-use Rattle.soy_meaning.specs.Holes.{hole_count, holes_before}
-use Rattle.soy_meaning.specs.PageMachine.{page_machine}
-use Rattle.soy_meaning.specs.PathParts.{PathPart, no_turn, state_after_parts}
-use Rattle.soy_meaning.specs.Plan.{Site, Plan, Either, Frame, Hole, Loop, Nowhere, Then, any_of, arms_meet}
-use Rattle.soy_meaning.specs.Points.{Address, AtHole, Here, Inside, LeadsTo, Left, Point, Right, StandsAt, frame_at}
-use Rattle.soy_meaning.specs.Points.{in_arms, in_body, one_way, other_way, point_at, to_first, to_hole, to_second}
-use Rattle.soy_meaning.specs.States.{IsMember}
-use Rattle.soy_meaning.specs.Walk.{Walked, walk, walked}
-use Rattle.soy_meaning.proofs.FinePaths.{Fine, fine_runs, leads_fine}
-use Rattle.soy_meaning.proofs.Holds.{Holds}
-use Rattle.soy_meaning.proofs.InnerFrames.{inner_holds}
-use Rattle.soy_meaning.proofs.PageStates.{page_compares}
-use Rattle.soy_meaning.proofs.PointsAndHolds.{points_of_good}
-use Rattle.soy_meaning.proofs.SomePaths.{HasPath}
-use Rattle.soy_meaning.proofs.Sound.{sound}
-use Rattle.soy_meaning.proofs.Walks.{walked_places}
+use Rattle.soy_meaning.specs.Walks.FourPoints.{OnePlacing, PointHolds, StartsAs, takes_classes}
+use Rattle.soy_meaning.specs.Walks.Holes.{hole_count, holes_before}
+use Rattle.soy_meaning.specs.Walks.PageMachine.{page_machine}
+use Rattle.soy_meaning.specs.Paths.PathParts.{PathPart, no_turn, state_after_parts}
+use Rattle.soy_meaning.specs.Paths.Plan.{Plan, Either, Frame, Hole, Loop, Nowhere, Then, any_of, arms_meet}
+use Rattle.soy_pieces.specs.Site.{Site}
+use Rattle.soy_meaning.specs.Walks.Points.{Address, AtHole, Here, Inside, LeadsTo, Left, Point, Right, StandsAt}
+use Rattle.soy_meaning.specs.Walks.Points.{frame_at}
+use Rattle.soy_meaning.specs.Walks.Points.{in_arms, in_body, one_way, other_way, point_at, to_first, to_hole, to_second}
+use Rattle.soy_meaning.specs.Walks.States.{IsMember}
+use Rattle.soy_meaning.specs.Walks.Walk.{Walked, walk, walked}
+use Rattle.soy_meaning.proofs.Paths.FinePaths.{Fine, fine_runs, leads_fine}
+use Rattle.soy_meaning.proofs.Walks.Holds.{Holds}
+use Rattle.soy_meaning.proofs.Paths.InnerFrames.{inner_holds}
+use Rattle.soy_meaning.proofs.Walks.PageStates.{page_compares}
+use Rattle.soy_meaning.proofs.Walks.PointsAndHolds.{points_of_good}
+use Rattle.soy_meaning.proofs.Paths.SomePaths.{HasPath}
+use Rattle.soy_meaning.proofs.Walks.Sound.{sound}
+use Rattle.soy_meaning.proofs.Walks.Exact.{walked_places}
 use Rattle.template_ir.specs.StandFor.{place_of}
 use Rattle.template_ir.proofs.Counts.{all_holes}
 

@@ -3,13 +3,13 @@
 -- Each is the parts of a pattern of ICU text. So `#` stands directly in an arm of a plural alone.
 -- Example: `{N, plural, other {#}}` has such parts, and `#` by itself doesn't.
 use Rattle.std.specs.Prelude.{ℕ, List, [], ◌∷◌, Option, Some, None}
-use Rattle.soy_tree.specs.IcuText.{IsPattern}
+use Rattle.soy_rules.specs.IcuText.{IsPattern}
 use Rattle.soy_tree.specs.MessageParts.{MsgParts}
 use Rattle.soy_tree.specs.Nodes.{Node, Nodes, Otherwise, Arms, Cases, Arguments, Given, Message, Fallback, If, Switch}
 use Rattle.soy_tree.specs.Nodes.{For}
 use Rattle.soy_tree.specs.Nodes.{LetBlock, Call, MessageNode, no_node, node, no_otherwise, otherwise, no_arm, arm}
 use Rattle.soy_tree.specs.Nodes.{no_case, case, no_argument, argument, Plain, Block, no_fallback, fallback}
-use Rattle.soy_tree.specs.Templates.{Declared}
+use Rattle.soy_rules.specs.Templates.{Declared}
 
 abbrev pub IsPatternThere : Option MsgParts → Type 0
 IsPatternThere None = Unit {0}

@@ -10,25 +10,23 @@
 -- block of the op `Static "a"` before it.
 use Rattle.std.specs.Prelude.{◌≡◌, ℕ, ◌+◌, ◌≤◌, Bool, false, not, ◌&&◌, List, [], ◌∷◌, ◌++◌, Option, Some, None}
 use Rattle.std.specs.Prelude.{if◌then◌else◌, bytes_eq, codes, is_some, length, map}
-use Rattle.soy_base.specs.declared.direction.Dir.{Dir}
 use Rattle.soy_base.specs.declared.place.Place.{Place}
-use Rattle.plural_rules.specs.Condition.{Alternatives}
-use Rattle.plural_rules.specs.declared.category.Category.{Category}
 use Rattle.plural_rules.specs.declared.category.Category.TheVariants as category
 use Rattle.soy_tree.specs.Types.{Name}
-use Rattle.soy_tree.specs.Bodies.{names_given, param_of}
-use Rattle.soy_tree.specs.Declarations.{is_among}
+use Rattle.soy_rules.specs.Bodies.{names_given, param_of}
+use Rattle.soy_base.specs.Among.{is_among}
 use Rattle.soy_tree.specs.MessageParts.{MsgParts}
-use Rattle.soy_tree.specs.Nodes.{Node, Nodes, Otherwise, Arms, Cases, Arguments, Given, Message, Fallback, MessageBody}
+use Rattle.soy_tree.specs.Nodes.{Node, Nodes, Otherwise, Arms, Cases, Arguments, Given, Message, MessageBody}
 use Rattle.soy_tree.specs.Nodes.{PluralCases, SelectCases, TextNode, Print, If, Switch, For, Let, LetBlock, Call}
 use Rattle.soy_tree.specs.Nodes.{MessageNode, no_node, node, no_otherwise, otherwise, no_arm, arm, no_case, case}
 use Rattle.soy_tree.specs.Nodes.{no_argument, argument, message, Parts, Plural, Select, no_plural_case, plural_case}
 use Rattle.soy_tree.specs.Nodes.{no_select_case, select_case}
 use Rattle.soy_tree.specs.Nodes as nodes
-use Rattle.soy_tree.specs.Templates.{Declared, callee, called_name, declared, full_name, is_visible_from}
+use Rattle.soy_rules.specs.Templates.{Declared, callee, called_name, declared, full_name, is_visible_from}
 use Rattle.soy_tree.specs.Trees.{Param, Tree}
-use Rattle.soy_meaning.specs.Pieces.{ChosenText, TheFallback, TheOwn, TheSource, chosen_text}
-use Rattle.soy_meaning.specs.PlanOfNodes.{starts_at, uses_of}
+use Rattle.soy_pieces.specs.Pieces.{ChosenText, TheFallback, TheOwn, TheSource, chosen_text}
+use Rattle.soy_rules.specs.Placeholders.{uses_of}
+use Rattle.soy_pieces.specs.Site.{starts_at}
 use Rattle.template_ir.specs.HoleCounts.{arm_holes, body_holes, case_holes, given_holes, node_holes, nodes_holes}
 use Rattle.template_ir.specs.HoleCounts.{plural_holes, select_holes, source_holes, translation_holes}
 use Rattle.template_ir.specs.Ops.{Branch, Choice, Handed, HandedBy, Op, Program, Routine, CallOp, ForOp, HandedBlock}
@@ -38,13 +36,7 @@ use Rattle.template_ir.specs.declared.op.Block.{Block}
 use Rattle.template_ir.specs.declared.op.ExactBlock.{ExactBlock}
 use Rattle.template_ir.specs.declared.op.NamedBlock.{NamedBlock}
 use Rattle.template_ir.specs.declared.op.WordBlock.{WordBlock}
-
--- what a bundle brings: the translation of a message, if there is one, the direction, and the rules of categories
-pub record Language : Type 0 where
-  pub translation : Message → Option MsgParts
-  pub direction : Dir
-  pub plural : List (Category × Alternatives)
-  pub ordinal : List (Category × Alternatives)
+use Rattle.soy_pieces.specs.Language.{Language}
 
 -- what the ops of a template go by: its file, namespace and parameters, the templates of all files, the translation of
 -- a message, the places of all holes, and all ops
@@ -79,7 +71,7 @@ callee_number all namespace name = number_of namespace (called_name namespace na
 abbrev pub handed_on_names : Bool → List Param → List Name → List Param → List Name
 handed_on_names hands own given [] = []
 handed_on_names hands own given (p ∷ ps) =
-    if hands && is_some (param_of p.name own) && not (is_among p.name given)
+    if hands && is_some (param_of p.name own) && not (is_among given p.name)
     then p.name ∷ handed_on_names hands own given ps
     else handed_on_names hands own given ps
 

@@ -16,9 +16,9 @@ use Rattle.soy_tree.specs.Nodes.{PluralCases, SelectCases, Print, If, Switch, Fo
 use Rattle.soy_tree.specs.Nodes.{node, no_otherwise, otherwise, no_arm, arm, no_case, case, no_argument, argument}
 use Rattle.soy_tree.specs.Nodes.{Plain, Block, message, no_fallback, fallback, Parts, Plural, Select, no_plural_case}
 use Rattle.soy_tree.specs.Nodes.{plural_case, no_select_case, select_case}
-use Rattle.soy_tree.specs.Placeholders.{Use}
-use Rattle.soy_meaning.specs.PlanOfNodes.{uses_of}
-use Rattle.soy_meaning.specs.PlanOfParts.{placeholder_cut}
+use Rattle.soy_rules.specs.Placeholders.{Use}
+use Rattle.soy_rules.specs.Placeholders.{uses_of}
+use Rattle.soy_rules.specs.Placeholders.{placeholder_cut}
 
 -- ---- translations
 

@@ -1,6 +1,5 @@
 pub mod Ops
 pub mod ViewOps
-pub mod Table
 pub mod Run
 pub mod HoleCounts
 pub mod StandFor

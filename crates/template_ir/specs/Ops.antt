@@ -11,7 +11,7 @@ use Rattle.plural_rules.specs.declared.category.Category.{Category}
 use Rattle.soy_tree.specs.Types.{Name}
 use Rattle.soy_tree.specs.Expressions.{Expr}
 use Rattle.soy_tree.specs.Trees.{Param}
-use Rattle.soy_meaning.specs.Plan.{Site}
+use Rattle.soy_pieces.specs.Site.{Site}
 use Rattle.template_ir.specs.declared.op.Block.{Block}
 use Rattle.template_ir.specs.declared.op.ExactBlock.{ExactBlock}
 use Rattle.template_ir.specs.declared.op.NamedBlock.{NamedBlock}

@@ -5,18 +5,18 @@
 -- twice, and that the callee's variables are what is given and what is handed on. Of a message in the source, that it
 -- is texts and prints, and that no case is of the word that stands for the default.
 -- Example: of `<a href="{$u}">` with the places UriStart, that `$u` is valued at UriStart.
-use Rattle.std.specs.Prelude.{◌≡◌, ℕ, ◌+◌, ℤ, pos, Bool, true, false, List, [], ◌∷◌, ◌++◌, Option, Some, None, Ok}
-use Rattle.std.specs.Prelude.{zero, suc, ◌-ℤ◌, bytes_eq, codes, if◌then◌else◌, slice_get}
-use Rattle.soy_tree.specs.Bodies.{names_given}
-use Rattle.template_ir.specs.Compiles.{Language, callee_number, handed_on_names, params_there}
-use Rattle.plural_rules.specs.Category.{category_of, is_same}
+use Rattle.std.specs.Prelude.{◌≡◌, ℕ, ◌+◌, ℤ, pos, Bool, true, false, List, [], ◌∷◌, ◌++◌, Option, Some, None, Ok, zero}
+use Rattle.std.specs.Prelude.{suc, ◌-ℤ◌, bytes_eq, codes, if◌then◌else◌, slice_get}
+use Rattle.soy_rules.specs.Bodies.{names_given}
+use Rattle.template_ir.specs.Compiles.{callee_number, handed_on_names, params_there}
+use Rattle.plural_rules.specs.Category.{is_same}
 use Rattle.plural_rules.specs.declared.category.Category.{Category}
 use Rattle.plural_rules.specs.declared.category.Category.TheVariants as category
 use Rattle.soy_base.specs.declared.kind.Kind.{Kind}
 use Rattle.soy_base.specs.declared.kind.Kind.TheVariants as kind
 use Rattle.soy_base.specs.declared.place.Place.{Place}
 use Rattle.soy_base.specs.declared.place.Placing.TheVariants.{Takes}
-use Rattle.html_state.specs.AfterPieces.{Static, Value}
+use Rattle.soy_base.specs.Piece.{Static, Value}
 use Rattle.html_state.specs.Start.{start}
 use Rattle.soy_tree.specs.Types.{Name}
 use Rattle.soy_tree.specs.Expressions.{Expr}
@@ -24,32 +24,26 @@ use Rattle.soy_tree.specs.MessageParts.{MsgPart, MsgParts, ExactArms, NamedArms,
 use Rattle.soy_tree.specs.MessageParts.{NumberPart, PluralPart, SelectPart, no_part, part, no_exact_arm, exact_arm}
 use Rattle.soy_tree.specs.MessageParts.{no_named_arm, named_arm, no_select_arm, select_arm}
 use Rattle.soy_tree.specs.MessageText.{MessageItem, Character, Printed, Cut, PrintCut, TagCut}
-use Rattle.soy_tree.specs.Placeholders.{Use}
-use Rattle.soy_meaning.specs.Branch.{int_of, selector, word_of}
-use Rattle.soy_meaning.specs.PlanOfParts.{placeholder_cut}
+use Rattle.soy_rules.specs.Placeholders.{Use, placeholder_cut, uses_of}
+use Rattle.soy_pieces.specs.Branch.{int_of, selector, word_of}
 use Rattle.soy_tree.specs.Nodes.{Node, Nodes, Otherwise, Arms, Cases, Arguments, Given, TextNode, Print, If, Switch}
-use Rattle.soy_tree.specs.Nodes.{For}
-use Rattle.soy_tree.specs.Nodes.{Let, LetBlock, Call, MessageNode, no_node, node, no_otherwise, otherwise, no_arm, arm}
-use Rattle.soy_tree.specs.Nodes.{no_case, case, no_argument, argument, Plain, Block, Message, MessageBody, PluralCases}
-use Rattle.soy_tree.specs.Nodes.{SelectCases, message, Parts, Plural, Select, no_plural_case, plural_case}
-use Rattle.soy_tree.specs.Nodes.{no_select_case}
-use Rattle.soy_tree.specs.Nodes.{select_case}
-use Rattle.soy_tree.specs.Templates.{Declared, callee}
-use Rattle.soy_tree.specs.Val.{Binding, BlockOf, Known, binding, is_same_int, is_truthy, val, value_text}
+use Rattle.soy_tree.specs.Nodes.{For, Let, LetBlock, Call, MessageNode, no_node, node, no_otherwise, otherwise, no_arm}
+use Rattle.soy_tree.specs.Nodes.{arm, no_case, case, no_argument, argument, Plain, Block, Message, MessageBody}
+use Rattle.soy_tree.specs.Nodes.{PluralCases, SelectCases, message, Parts, Plural, Select, no_plural_case, plural_case}
+use Rattle.soy_tree.specs.Nodes.{no_select_case, select_case}
+use Rattle.soy_rules.specs.Templates.{Declared, callee}
+use Rattle.soy_rules.specs.Val.{Binding, BlockOf, Known, binding, is_same_int, is_truthy, val, value_text}
 use Rattle.soy_tree.specs.Values.{IntValue, Items, NullValue, StringValue, no_item, item}
 use Rattle.soy_tree.specs.Values as values
-use Rattle.soy_meaning.specs.Filled.{value_form}
-use Rattle.soy_meaning.specs.FrameRun.{bound_as}
-use Rattle.soy_meaning.specs.Giving.{BoundBlock, RunEnv, StateSoFar, placing_so_far, read_outcome, read_piece}
-use Rattle.soy_meaning.specs.Giving.{value_class}
-use Rattle.soy_meaning.specs.Meaning.{joined_pieces}
-use Rattle.soy_meaning.specs.Outcome.{Outcome, WholeRun, end_of_outcome, pieces_of_outcome}
-use Rattle.soy_meaning.specs.Pieces.{ChosenText, GivenArguments, RunContext, TheFallback, TheOwn, TheSource, callee_env}
-use Rattle.soy_meaning.specs.Pieces.{chosen_text, frame_outcome, given_binding, is_one, listed_items, param_binding}
-use Rattle.soy_meaning.specs.Pieces.{called_within, context_in, valued}
-use Rattle.soy_meaning.specs.Pieces.{with_index}
-use Rattle.soy_meaning.specs.Plan.{Site}
-use Rattle.soy_meaning.specs.PlanOfNodes.{starts_at, uses_of}
+use Rattle.soy_pieces.specs.EscapedAt.{value_form}
+use Rattle.soy_pieces.specs.Meaning.{bound_as, joined_pieces}
+use Rattle.soy_pieces.specs.Giving.{BoundBlock, RunEnv, StateSoFar, placing_so_far, read_outcome, read_piece}
+use Rattle.soy_pieces.specs.Giving.{value_class}
+use Rattle.soy_pieces.specs.Outcome.{Outcome, WholeRun, end_of_outcome, pieces_of_outcome}
+use Rattle.soy_pieces.specs.Pieces.{ChosenText, GivenArguments, RunContext, TheFallback, TheOwn, TheSource, callee_env}
+use Rattle.soy_pieces.specs.Pieces.{chosen_text, frame_outcome, given_binding, is_one, listed_items, param_binding}
+use Rattle.soy_pieces.specs.Pieces.{called_within, context_in, valued, with_index, call_limit}
+use Rattle.soy_pieces.specs.Site.{Site, starts_at}
 use Rattle.template_ir.specs.HoleCounts.{arm_holes, body_holes, case_holes, exact_holes, given_holes, node_holes}
 use Rattle.template_ir.specs.HoleCounts.{nodes_holes, part_holes, parts_holes, plural_holes, select_holes, source_holes}
 use Rattle.template_ir.specs.HoleCounts.{translation_holes}
@@ -312,17 +306,5 @@ TemplatePlaced c places (suc left) number env =
 -- an entry
 abbrev pub EntryPlaced : RunContext → List Place → ℕ → RunEnv → Type 0
 EntryPlaced c places number env =
-    PlacedAt c places (called_within c 100) (TemplatePlaced c places 100) (slice_get c.declared number)
+    PlacedAt c places (called_within c call_limit) (TemplatePlaced c places call_limit) (slice_get c.declared number)
     (holes_before c.translation c.declared number) env
-
--- what runs of trees go by under a bundle
-abbrev pub language_context : Language → List Declared → RunContext
-language_context l all = record {
-  file = 0;
-  namespace = [];
-  params = [];
-  declared = all;
-  translation = l.translation;
-  category = λ ordinal n. category_of (if ordinal then l.ordinal else l.plural) n;
-  direction = l.direction;
-}

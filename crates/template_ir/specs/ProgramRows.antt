@@ -14,23 +14,23 @@ use Rattle.plural_rules.specs.Category.{category_of}
 use Rattle.plural_rules.specs.Condition.{Alternatives}
 use Rattle.plural_rules.specs.declared.category.Category.{Category}
 use Rattle.plural_rules.specs.declared.category.Category.TheVariants as category
-use Rattle.html_state.specs.AfterPieces.{Piece}
 use Rattle.soy_tree.specs.declared.expr.BinaryOp.TheVariants as binary
 use Rattle.soy_tree.specs.Types.{Name, SoyType, HtmlType, IntType, ListType, StringType}
 use Rattle.soy_tree.specs.Expressions.{Expr, Binary, IntLiteral, StringLiteral}
 use Rattle.soy_tree.specs.MessageParts.{MsgParts, no_part, part}
 use Rattle.soy_tree.specs.Nodes.{Node, Block, Call, For, If, Let, LetBlock, Parts, Plain, Select, Switch, argument, arm}
 use Rattle.soy_tree.specs.Nodes.{case, no_argument, no_arm, no_case, no_select_case, otherwise, select_case}
-use Rattle.soy_tree.specs.Templates.{declared}
+use Rattle.soy_rules.specs.Templates.{declared}
 use Rattle.soy_tree.specs.Trees.{Template, Tree}
 use Rattle.soy_tree.specs.Values.{IntValue, ListValue, StringValue, item, no_item}
-use Rattle.soy_tree.specs.Val.{Known}
-use Rattle.soy_meaning.specs.Giving.{RunEnv}
-use Rattle.soy_meaning.specs.Outcome.{Outcome, RunEnd, costs_of_outcome, end_of_outcome, pieces_of_outcome}
-use Rattle.soy_meaning.specs.Pieces.{RunContext, template_run}
-use Rattle.soy_meaning.specs.Rows.{all_nodes, print_node, row_param, site_at, span_at, text_node, variable}
-use Rattle.soy_meaning.specs.RunRows.{message_of, number_param, offset_part, row_rules, text_param}
-use Rattle.template_ir.specs.Compiles.{Language, other_arm, other_word}
+use Rattle.soy_rules.specs.Val.{Known}
+use Rattle.soy_pieces.specs.Giving.{RunEnv}
+use Rattle.soy_pieces.specs.Outcome.{Outcome}
+use Rattle.soy_pieces.specs.Pieces.{RunContext, template_run}
+use Rattle.soy_pieces.specs.RowTrees.{all_nodes, print_node, row_param, site_at, span_at, text_node, variable}
+use Rattle.soy_pieces.specs.RunRows.{message_of, number_param, offset_part, row_rules, text_param}
+use Rattle.template_ir.specs.Compiles.{other_arm, other_word}
+use Rattle.soy_pieces.specs.Language.{Language}
 use Rattle.template_ir.specs.Ops.{Branch, Choice, Handed, Op, Program, Routine, CallOp, ForOp, HandedBlock, HandedSame}
 use Rattle.template_ir.specs.Ops.{HandedValue, IfOp, LetBlockOp, LetOp, NumberOp, PluralOp, PrintOp, SelectOp, StaticOp}
 use Rattle.template_ir.specs.Ops.{SwitchOp}
@@ -61,10 +61,6 @@ language direction rules translation =
 
 abbrev pub source_language : Language
 source_language = language dir.Ltr [] None
-
--- what counts of a run
-abbrev pub pieces_end_costs : Outcome → List Piece × RunEnd × List ℕ
-pieces_end_costs o = (pieces_of_outcome o, end_of_outcome o, costs_of_outcome o)
 
 abbrev pub print_op : List ℕ → Place → Op
 print_op name point = PrintOp (variable 0 name) point

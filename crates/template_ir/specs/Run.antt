@@ -10,7 +10,7 @@
 -- Example: the ops `Static "a"` and `Print $x`, the block of both, with x the string `<`, give the static piece `a` at
 -- no cost, and then the value of `<` at the cost 1.
 use Rattle.std.specs.Prelude.{ℕ, zero, suc, ◌+◌, ◌-◌, ℤ, pos, ◌-ℤ◌, Bool, List, [], ◌∷◌, Option, Some, None}
-use Rattle.std.specs.Prelude.{if◌then◌else◌, bytes_eq, codes, drop, map, option_map, slice_get, take, unwrap_or}
+use Rattle.std.specs.Prelude.{if◌then◌else◌, bytes_eq, codes, drop, option_map, slice_get, take, unwrap_or}
 use Rattle.std.specs.Option.{option_or}
 use Rattle.soy_base.specs.declared.direction.Dir.{Dir}
 use Rattle.soy_base.specs.declared.kind.Kind.{Kind}
@@ -19,29 +19,29 @@ use Rattle.soy_base.specs.declared.place.Place.{Place}
 use Rattle.plural_rules.specs.Category.{category_of, is_same}
 use Rattle.plural_rules.specs.declared.category.Category.{Category}
 use Rattle.plural_rules.specs.declared.category.Category.TheVariants as category
-use Rattle.html_state.specs.AfterPieces.{Static, Value}
+use Rattle.soy_base.specs.Piece.{Static, Value}
 use Rattle.soy_tree.specs.Types.{Name}
 use Rattle.soy_tree.specs.Values.{Items, IntValue, NullValue, StringValue, no_item, item}
 use Rattle.soy_tree.specs.Values as values
-use Rattle.soy_tree.specs.Val.{Binding, BlockOf, Known, binding, is_same_int, is_truthy, member_value, val, value_text}
-use Rattle.soy_tree.specs.Cost.{cost}
-use Rattle.soy_tree.specs.Trees.{Param}
-use Rattle.soy_meaning.specs.Branch.{int_of, word_of}
-use Rattle.soy_meaning.specs.EscapedAt.{escaped_at}
-use Rattle.soy_meaning.specs.FrameRun.{bound_as}
-use Rattle.soy_meaning.specs.Giving.{BoundBlock, RunEnv, value_class, with_cost}
-use Rattle.soy_meaning.specs.Outcome.{GivesPiece, Outcome, RunEnds, Spent, StopsAt, WholeRun, continued_by, gathered}
-use Rattle.soy_meaning.specs.Outcome.{gives_nothing, none_spent, spent_first}
-use Rattle.soy_meaning.specs.Pieces.{is_one, listed_items, valued, with_index}
-use Rattle.soy_meaning.specs.Plan.{Site}
+use Rattle.soy_rules.specs.Val.{Binding, BlockOf, Known, binding, is_same_int, is_truthy, val, value_text}
+use Rattle.soy_rules.specs.Cost.{cost}
+use Rattle.soy_pieces.specs.Branch.{int_of, word_of}
+use Rattle.soy_pieces.specs.EscapedAt.{escaped_at}
+use Rattle.soy_pieces.specs.Meaning.{bound_as}
+use Rattle.soy_pieces.specs.Giving.{BoundBlock, RunEnv, value_class, with_cost}
+use Rattle.soy_pieces.specs.Outcome.{GivesPiece, Outcome, RunEnds, Spent, StopsAt, WholeRun, continued_by, gathered}
+use Rattle.soy_pieces.specs.Outcome.{gives_nothing, none_spent, spent_first}
+use Rattle.soy_pieces.specs.Pieces.{is_one, listed_items, valued, with_index, call_limit}
+use Rattle.soy_pieces.specs.Site.{Site}
 use Rattle.template_ir.specs.Ops.{Branch, Callee, Choice, Handed, HandedBy, Op, Program, Routine, CallOp, ForOp}
 use Rattle.template_ir.specs.Ops.{HandedBlock, HandedSame, HandedValue, IfOp, LetBlockOp, LetOp, NumberOp, PluralOp}
 use Rattle.template_ir.specs.Ops.{PrintOp, SelectOp, StaticOp, SwitchOp}
-use Rattle.template_ir.specs.Table.{table}
+use Rattle.soy_base.specs.Table.{table}
 use Rattle.template_ir.specs.declared.op.Block.{Block}
 use Rattle.template_ir.specs.declared.op.ExactBlock.{ExactBlock}
 use Rattle.template_ir.specs.declared.op.NamedBlock.{NamedBlock}
 use Rattle.template_ir.specs.declared.op.WordBlock.{WordBlock}
+use Rattle.soy_pieces.specs.InputEnv.{input_env, names_of}
 
 -- what an op means: from the number and the variables, what it gives, and the variables after it
 abbrev pub OpMeans : Type 0
@@ -242,17 +242,9 @@ all_give p left = table (op_gives p (called_at p left)) p.ops
 -- what a template gives under variables
 abbrev pub template_gives : Program → ℕ → RunEnv → Outcome
 template_gives p number env =
-    block_gives (all_give p 100) (body_there (slice_get p.templates number)) (pos 0) env
+    block_gives (all_give p call_limit) (body_there (slice_get p.templates number)) (pos 0) env
 
 -- ---- data
-
--- the parameters of a template as variables, each with the input's member of its name, or null
-abbrev pub input_env : List Name → values.Value → RunEnv
-input_env [] input = []
-input_env (name ∷ names) input = (name, Known (member_value name input)) ∷ input_env names input
-
-abbrev pub names_of : List Param → List Name
-names_of params = map (λ (p : Param). p.name) params
 
 abbrev pub names_there : Option Routine → List Name
 names_there None = []

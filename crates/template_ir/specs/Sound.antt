@@ -17,26 +17,26 @@ use Rattle.plural_rules.specs.Category.{is_same}
 use Rattle.plural_rules.specs.declared.category.Category.TheVariants as category
 use Rattle.html_state.specs.TakesClass.{takes_class}
 use Rattle.soy_tree.specs.Types.{Name, SoyType}
-use Rattle.soy_tree.specs.Accepts.{accepts}
-use Rattle.soy_tree.specs.Bodies.{is_printed, loop_scope, param_of}
-use Rattle.soy_tree.specs.Declarations.{is_among}
+use Rattle.soy_rules.specs.Accepts.{accepts}
+use Rattle.soy_rules.specs.Bodies.{is_printed, loop_scope, param_of}
+use Rattle.soy_base.specs.Among.{is_among}
 use Rattle.soy_tree.specs.Expressions.{Expr}
-use Rattle.soy_tree.specs.Faults.{TypeFault}
+use Rattle.soy_rules.specs.Faults.{TypeFault}
 use Rattle.soy_tree.specs.Formed.{is_formed_expr}
-use Rattle.soy_tree.specs.Ints.{largest}
-use Rattle.soy_tree.specs.Members.{is_simple}
-use Rattle.soy_tree.specs.Narrowing.{narrowed}
-use Rattle.soy_tree.specs.Templates.{kind_type, param_scope, param_type}
+use Rattle.soy_base.specs.Limits.{largest}
+use Rattle.soy_rules.specs.Members.{is_simple}
+use Rattle.soy_rules.specs.Narrowing.{narrowed}
+use Rattle.soy_rules.specs.Templates.{kind_type, param_scope, param_type}
 use Rattle.soy_tree.specs.Trees.{Param}
-use Rattle.soy_tree.specs.TypeOf.{Scope, is_int, is_string, type_of, variable_type}
-use Rattle.soy_meaning.specs.FourPoints.{takes_classes}
-use Rattle.soy_meaning.specs.PlanOfNodes.{kind_class}
-use Rattle.soy_meaning.specs.PlanOfParts.{printed_classes}
+use Rattle.soy_rules.specs.TypeOf.{Scope, is_int, is_string, type_of, variable_type}
+use Rattle.soy_meaning.specs.Walks.FourPoints.{takes_classes}
+use Rattle.soy_meaning.specs.Paths.PlanOfNodes.{kind_class}
+use Rattle.soy_meaning.specs.Paths.PlanOfParts.{printed_classes}
 use Rattle.template_ir.specs.Ops.{Branch, Callee, Choice, Handed, HandedBy, Op, Program, Routine, CallOp, ForOp}
 use Rattle.template_ir.specs.Ops.{HandedBlock, HandedSame, HandedValue, IfOp, LetBlockOp, LetOp, NumberOp, PluralOp}
 use Rattle.template_ir.specs.Ops.{PrintOp, SelectOp, StaticOp, SwitchOp}
 use Rattle.template_ir.specs.Run.{part_of}
-use Rattle.template_ir.specs.Table.{table}
+use Rattle.soy_base.specs.Table.{table}
 use Rattle.template_ir.specs.declared.op.Block.{Block}
 use Rattle.template_ir.specs.declared.op.ExactBlock.{ExactBlock}
 use Rattle.template_ir.specs.declared.op.NamedBlock.{NamedBlock}
@@ -128,11 +128,11 @@ abbrev pub are_sound_handed : List OpCheck → List Param → List Handed → Sc
 are_sound_handed checks params [] scope = true
 are_sound_handed checks params (h ∷ handed) scope =
     fits_param (λ to. is_sound_given checks h.name h.by to scope) (param_of h.name params)
-    && not (is_among h.name (handed_names handed))
+    && not (is_among (handed_names handed) h.name)
     && are_sound_handed checks params handed scope
 
 abbrev pub has_required : List Param → List Name → Bool
-has_required params names = list_all (λ (p : Param). not p.required || is_among p.name names) params
+has_required params names = list_all (λ (p : Param). not p.required || is_among names p.name) params
 
 abbrev pub is_sound_call : List OpCheck → Option Routine → Callee → Scope → Bool
 is_sound_call checks None c scope = false

@@ -13,9 +13,9 @@ use Rattle.soy_tree.specs.MessageParts.{MsgPart, MsgParts, ExactArms, NamedArms,
 use Rattle.soy_tree.specs.MessageParts.{NumberPart, PluralPart, SelectPart, no_part, part, no_exact_arm, exact_arm}
 use Rattle.soy_tree.specs.MessageParts.{no_named_arm, named_arm, no_select_arm, select_arm}
 use Rattle.soy_tree.specs.MessageText.{MessageItem, Character, Printed, Cut, PrintCut, TagCut}
-use Rattle.soy_tree.specs.Placeholders.{Use}
-use Rattle.soy_meaning.specs.Branch.{selector}
-use Rattle.soy_meaning.specs.PlanOfParts.{placeholder_cut}
+use Rattle.soy_rules.specs.Placeholders.{Use}
+use Rattle.soy_pieces.specs.Branch.{selector}
+use Rattle.soy_rules.specs.Placeholders.{placeholder_cut}
 use Rattle.template_ir.specs.HoleCounts.{exact_holes, part_holes, parts_holes}
 use Rattle.template_ir.specs.Ops.{Op, NumberOp, PluralOp, PrintOp, SelectOp, StaticOp}
 use Rattle.template_ir.specs.declared.op.ExactBlock.{ExactBlock}

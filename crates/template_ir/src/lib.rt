@@ -1,13 +1,13 @@
 //! The compiled form of templates, which the builder makes and the renderer reads.
 //!
 //! A `Program` is a flat list of ops; each template, arm, loop and block is a range of it. `Compiles` says when a
-//! program stands for trees, and `run` what it gives. `Places` has the place of each hole of trees.
-//! Depends on soy_base, soy_tree, plural_rules, html_state and soy_meaning, and in proofs on bidi_class and bidi_text.
+//! program stands for trees, and `run` what it gives.
+//! Depends on soy_base, soy_tree, soy_rules, plural_rules, html_state and soy_pieces, soy_meaning, and in proofs on
+//! bidi_class and bidi_text.
 #![tactic(auto)]
 
 mod laws;
 mod op;
-mod places;
 mod program;
 
 pub use laws::{
@@ -18,5 +18,4 @@ pub use op::{
     Block, Branch, Callee, Choice, ExactBlock, Handed, HandedBy, NamedBlock, Op, PluralOp,
     SelectOp, WordBlock,
 };
-pub use places::Places;
 pub use program::{Program, ProgramParts, Routine};

@@ -6,9 +6,9 @@ use Rattle.soy_base.specs.declared.fault.Span.{Span}
 use Rattle.soy_tree.specs.Types.{IntType}
 use Rattle.soy_tree.specs.Expressions.{Expr, IntLiteral}
 use Rattle.soy_tree.specs.Formed.{is_formed_expr}
-use Rattle.soy_tree.specs.TypeOf.{type_of}
-use Rattle.soy_tree.specs.Val.{Env}
-use Rattle.soy_tree.specs.Fits.{Fits}
+use Rattle.soy_rules.specs.TypeOf.{type_of}
+use Rattle.soy_rules.specs.Val.{Env}
+use Rattle.soy_rules.specs.Fits.{Fits}
 use Rattle.soy_expr.specs.HasValueType.{HasValueType}
 
 pub seven_formed : (e : Expr) (span : Span) → e ≡ IntLiteral (pos 7) span → is_formed_expr e ≡ true

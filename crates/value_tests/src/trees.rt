@@ -1,8 +1,9 @@
 //! Tests of what no clause says: with ample memory each call succeeds.
 use soy_base::{Boxed, Dir, OutOfMemory, Seq, Span, Text};
+use soy_rules::{Typed, accepts, narrow};
 use soy_tree::{
-    BinaryOp, Bundle, Entry, Expr, ExprNode, Field, Form, Node, Param, SoyType, Typed, Value,
-    accepts, is_message_text, narrow,
+    BinaryOp, Bundle, Entry, Expr, ExprNode, Field, Form, Node, Param, SoyType, Value,
+    is_message_text,
 };
 use std::alloc::Global;
 

@@ -1,5 +1,5 @@
 use Rattle.std.proofs.Common.{◌≡◌, ◌≤◌, drop}
-use Rattle.soy_tree.specs.Ints.{largest}
+use Rattle.soy_base.specs.Limits.{largest}
 use Rattle.expr_parser.specs.Terminals.{int_after}
 use Rattle.expr_parser.proofs.terminal.int_value.Given as goal
 

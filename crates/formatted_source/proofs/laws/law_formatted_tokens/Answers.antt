@@ -3,8 +3,8 @@ use Rattle.soy_parser.proofs.FormedTrees.{text_formed}
 use Rattle.soy_format.specs.Formatted.{formatted_tree}
 use Rattle.formatted_source.specs.TreeLexemes.{tree_lexemes}
 use Rattle.formatted_source.proofs.LexedTexts.{lexes_as}
-use Rattle.formatted_source.proofs.SourcedNodes.{text_tree}
-use Rattle.formatted_source.proofs.TreesWritten.{tree_written}
+use Rattle.formatted_source.proofs.Sourced.SourcedNodes.{text_tree}
+use Rattle.formatted_source.proofs.Written.TreesWritten.{tree_written}
 use Rattle.formatted_source.proofs.laws.law_formatted_tokens.Goals as goal
 
 pub returns-clause-by_its_form : goal.returns-clause-by_its_form

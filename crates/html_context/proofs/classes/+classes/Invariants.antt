@@ -1,6 +1,6 @@
 use Rattle.std.proofs.Common.{◌≡◌, ◌++◌, drop}
-use Rattle.soy_meaning.specs.PlanOfParts.{classes_of_all}
-use Rattle.soy_tree.specs.Members.{union_members}
+use Rattle.soy_meaning.specs.Paths.PlanOfParts.{classes_of_all}
+use Rattle.soy_rules.specs.Members.{union_members}
 use Rattle.soy_tree.specs.ViewTypes.{view_members}
 use Rattle.html_context.proofs.classes.+classes.Given as goal
 

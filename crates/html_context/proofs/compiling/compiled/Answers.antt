@@ -1,6 +1,6 @@
 use Rattle.std.proofs.Common.{ap, ◌∙◌}
 use Rattle.soy_tree.specs.ViewTrees.{view_trees}
-use Rattle.soy_tree.specs.ViewTemplates.{view_all}
+use Rattle.soy_rules.specs.ViewTemplates.{view_all}
 use Rattle.html_context.proofs.BuiltTemplates.{stands_indexed}
 use Rattle.html_context.proofs.compiling.compiled.Goals as goal
 

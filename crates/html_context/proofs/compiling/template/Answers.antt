@@ -1,5 +1,5 @@
 use Rattle.html_context.specs.ChosenTranslation.{chosen_translation}
-use Rattle.soy_tree.specs.ViewTemplates.{view_all}
+use Rattle.soy_rules.specs.ViewTemplates.{view_all}
 use Rattle.html_context.proofs.BuiltTemplates.{written_template}
 use Rattle.html_context.proofs.compiling.template.Goals as goal
 

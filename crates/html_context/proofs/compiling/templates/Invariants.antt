@@ -1,8 +1,8 @@
 use Rattle.std.proofs.Common.{drop, map}
-use Rattle.soy_meaning.specs.Plan.{in_turn}
-use Rattle.soy_meaning.specs.PlanOfNodes.{declared_plan}
+use Rattle.soy_meaning.specs.Paths.Plan.{in_turn}
+use Rattle.soy_meaning.specs.Paths.PlanOfNodes.{declared_plan}
 use Rattle.html_context.specs.ChosenTranslation.{chosen_translation}
-use Rattle.soy_tree.specs.ViewTemplates.{view_all}
+use Rattle.soy_rules.specs.ViewTemplates.{view_all}
 use Rattle.html_context.proofs.WrittenLists.{InTurnSoFar}
 use Rattle.html_context.proofs.compiling.templates.Given as goal
 

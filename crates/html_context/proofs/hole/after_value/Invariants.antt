@@ -1,8 +1,8 @@
 use Rattle.std.proofs.Common.{◌≡◌, drop, map}
 use Rattle.html_state.specs.AfterValue.{after_value}
-use Rattle.soy_meaning.specs.PageMachine.{page_machine}
-use Rattle.soy_meaning.specs.States.{joined_states}
-use Rattle.soy_meaning.specs.Walk.{states_after_value}
+use Rattle.soy_meaning.specs.Walks.PageMachine.{page_machine}
+use Rattle.soy_meaning.specs.Walks.States.{joined_states}
+use Rattle.soy_meaning.specs.Walks.Walk.{states_after_value}
 use Rattle.html_context.proofs.hole.after_value.Given as goal
 
 abbrev pub invariant-loop-state : goal.invariant-loop-state

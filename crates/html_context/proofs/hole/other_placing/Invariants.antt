@@ -1,6 +1,6 @@
 use Rattle.std.proofs.Common.{◌≡◌, drop}
-use Rattle.soy_meaning.specs.PageMachine.{page_machine}
-use Rattle.soy_meaning.specs.Walk.{other_placing}
+use Rattle.soy_meaning.specs.Walks.PageMachine.{page_machine}
+use Rattle.soy_meaning.specs.Walks.Walk.{other_placing}
 use Rattle.html_context.proofs.hole.other_placing.Given as goal
 
 abbrev pub invariant-loop-state : goal.invariant-loop-state

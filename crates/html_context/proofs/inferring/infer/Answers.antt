@@ -1,7 +1,7 @@
 use Rattle.std.proofs.Common.{List, subst}
 use Rattle.soy_tree.specs.ViewTrees.{view_trees}
 use Rattle.soy_tree.specs.declared.tree.Tree.{Tree}
-use Rattle.soy_meaning.specs.AcceptedTrees.{walk_trees}
+use Rattle.soy_meaning.specs.Walks.AcceptedTrees.{walk_trees}
 use Rattle.html_context.specs.ChosenTranslation.{chosen_translation}
 use Rattle.html_context.specs.Infers.{Infers}
 use Rattle.html_context.proofs.Verdicts.{decided, placed}

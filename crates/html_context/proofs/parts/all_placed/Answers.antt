@@ -2,7 +2,7 @@ use Rattle.std.proofs.Common.{ℕ, ◌+◌, List, [], drop, subst, sym}
 use Rattle.soy_tree.specs.ViewNodes.{view_node, view_nodes}
 use Rattle.soy_tree.specs.declared.node.Node as code
 use Rattle.soy_expr.specs.ViewScope.{view_vars}
-use Rattle.soy_meaning.specs.Plan.{Plan}
+use Rattle.soy_meaning.specs.Paths.Plan.{Plan}
 use Rattle.html_context.specs.PlacedNodes.{placed_node, placed_nodes}
 use Rattle.html_context.specs.Walks.{view_site}
 use Rattle.html_context.proofs.WrittenLists.{InTurnSoFar, next_in_turn, written_in_turn}

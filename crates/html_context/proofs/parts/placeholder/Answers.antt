@@ -2,9 +2,10 @@ use Rattle.std.proofs.Common.{ap, ◌∙◌}
 use Rattle.std.proofs.Math.Path.{fun_ext}
 use Rattle.soy_tree.specs.ViewNodes.{view_message, view_nodes}
 use Rattle.soy_expr.specs.ViewScope.{view_vars}
-use Rattle.soy_meaning.specs.PageMachine.{page_machine}
-use Rattle.soy_meaning.specs.PlanOfParts.{cut_plan, placeholder_cut}
-use Rattle.soy_meaning.specs.Walk.{walk}
+use Rattle.soy_meaning.specs.Walks.PageMachine.{page_machine}
+use Rattle.soy_meaning.specs.Paths.PlanOfParts.{cut_plan}
+use Rattle.soy_rules.specs.Placeholders.{placeholder_cut}
+use Rattle.soy_meaning.specs.Walks.Walk.{walk}
 use Rattle.msg_extract.specs.NamedNodes.{named_nodes}
 use Rattle.html_context.specs.PlacedNodes.{placed_nodes}
 use Rattle.html_context.specs.ViewParts.{source_uses}

@@ -1,12 +1,12 @@
 use Rattle.std.proofs.Common.{◌≡◌, ◌∷◌, ◌∙◌, ◌+◌, ◌-◌, ◌<◌, ◌≤◌, ℕ, List, ap}
 use Rattle.std.proofs.Common.{arith, drop, length, sym}
 use Rattle.soy_tree.specs.declared.tree.Param as code
-use Rattle.soy_tree.specs.Templates.{param_scope, param_type}
-use Rattle.soy_tree.specs.TypeOf.{Scope}
+use Rattle.soy_rules.specs.Templates.{param_scope, param_type}
+use Rattle.soy_rules.specs.TypeOf.{Scope}
 use Rattle.soy_tree.specs.Types.{Name, SoyType}
 use Rattle.soy_tree.specs.ViewTrees.{view_param, view_params}
 use Rattle.soy_tree.proofs.Drops.{drop_next}
-use Rattle.soy_tree.proofs.Views.{view_field-is}
+use Rattle.soy_rules.proofs.Views.{view_field-is}
 use Rattle.soy_expr.specs.ViewScope.{view_vars}
 use Rattle.html_context.specs.Visible.{variable}
 use Rattle.html_context.proofs.scope.param_vars.Goals as goal

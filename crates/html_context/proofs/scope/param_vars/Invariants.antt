@@ -1,5 +1,5 @@
 use Rattle.std.proofs.Common.{◌≡◌, ◌≤◌, drop, length}
-use Rattle.soy_tree.specs.Templates.{param_scope}
+use Rattle.soy_rules.specs.Templates.{param_scope}
 use Rattle.soy_tree.specs.ViewTrees.{view_params}
 use Rattle.soy_expr.specs.ViewScope.{view_vars}
 use Rattle.html_context.proofs.scope.param_vars.Given as goal

@@ -1,6 +1,6 @@
 use Rattle.std.proofs.Common.{◌≡◌, drop}
-use Rattle.soy_meaning.specs.PageMachine.{page_machine}
-use Rattle.soy_meaning.specs.States.{joined_states}
+use Rattle.soy_meaning.specs.Walks.PageMachine.{page_machine}
+use Rattle.soy_meaning.specs.Walks.States.{joined_states}
 use Rattle.html_context.proofs.states.join.Given as goal
 
 abbrev pub invariant-loop-state : goal.invariant-loop-state

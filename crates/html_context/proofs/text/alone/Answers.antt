@@ -3,8 +3,8 @@ use Rattle.std.specs.Str.{chars}
 use Rattle.std.specs.Str.Iter.{chars_rest}
 use Rattle.std.proofs.lemmas.List.{nil_from_length}
 use Rattle.std.proofs.lemmas.Str.{chars_past_char, chars-nil, IsUtf8-past_char}
-use Rattle.soy_meaning.specs.PageMachine.{page_machine}
-use Rattle.soy_meaning.specs.Walk.{met_at, states_after_text}
+use Rattle.soy_meaning.specs.Walks.PageMachine.{page_machine}
+use Rattle.soy_meaning.specs.Walks.Walk.{met_at, states_after_text}
 use Rattle.html_context.specs.Walks.{view_site}
 use Rattle.html_context.proofs.TextSteps.{one_end_fails, one_ends, one_fails, one_more}
 use Rattle.html_context.proofs.text.alone.Goals as goal

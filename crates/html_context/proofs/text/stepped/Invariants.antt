@@ -1,7 +1,7 @@
 use Rattle.std.proofs.Common.{◌≡◌, [], drop}
 use Rattle.html_state.specs.Next.{next}
-use Rattle.soy_meaning.specs.PageMachine.{page_machine}
-use Rattle.soy_meaning.specs.Walk.{moved_states}
+use Rattle.soy_meaning.specs.Walks.PageMachine.{page_machine}
+use Rattle.soy_meaning.specs.Walks.Walk.{moved_states}
 use Rattle.html_context.proofs.text.stepped.Given as goal
 
 abbrev pub invariant-loop-state : goal.invariant-loop-state

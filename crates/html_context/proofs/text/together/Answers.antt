@@ -6,8 +6,8 @@ use Rattle.std.proofs.lemmas.Str.{chars_past_char, chars-nil, IsUtf8-past_char}
 use Rattle.std.proofs.lemmas.Result.{err_from_is_err_and}
 use Rattle.html_state.specs.Next.{next, text_end}
 use Rattle.html_state.specs.declared.row.State.{State}
-use Rattle.soy_meaning.specs.PageMachine.{page_machine}
-use Rattle.soy_meaning.specs.Walk.{met_at, moved_states}
+use Rattle.soy_meaning.specs.Walks.PageMachine.{page_machine}
+use Rattle.soy_meaning.specs.Walks.Walk.{met_at, moved_states}
 use Rattle.html_context.specs.Walks.{Gives, items_of, view_site}
 use Rattle.html_context.proofs.TextSteps.{left_more, left_fails, left_ends}
 use Rattle.html_context.proofs.text.together.Goals as goal

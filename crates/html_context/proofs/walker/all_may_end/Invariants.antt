@@ -1,6 +1,6 @@
 use Rattle.std.proofs.Common.{◌≡◌, drop}
-use Rattle.soy_meaning.specs.PageMachine.{page_machine}
-use Rattle.soy_meaning.specs.Walk.{all_may_end}
+use Rattle.soy_meaning.specs.Walks.PageMachine.{page_machine}
+use Rattle.soy_meaning.specs.Walks.Walk.{all_may_end}
 use Rattle.html_context.proofs.walker.all_may_end.Given as goal
 
 abbrev pub invariant-loop-state : goal.invariant-loop-state

@@ -1,6 +1,6 @@
 use Rattle.std.proofs.Common.{sym, ◌∙◌, subst, arith}
 use Rattle.std.specs.Str.{chars}
-use Rattle.soy_tree.specs.IcuText.{IsPattern}
+use Rattle.soy_rules.specs.IcuText.{IsPattern}
 use Rattle.icu_text.proofs.PatternExact.{read-Answers}
 use Rattle.icu_text.proofs.parse.parse_message.Goals as goal
 

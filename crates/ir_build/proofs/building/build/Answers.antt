@@ -3,12 +3,12 @@ use Rattle.std.specs.Prelude.{IsTrue, Ok}
 use Rattle.soy_base.specs.declared.place.Place.{Place}
 use Rattle.soy_tree.specs.declared.bundle.Bundle.{Bundle}
 use Rattle.soy_tree.specs.declared.tree.Tree.{Tree}
-use Rattle.soy_tree.specs.Typed.{AreTyped}
+use Rattle.soy_rules.specs.Typed.{AreTyped}
 use Rattle.soy_tree.specs.ViewTrees.{view_trees}
 use Rattle.msg_extract.specs.Fits.{FitsTrees}
-use Rattle.soy_meaning.specs.AcceptedTrees.{walk_trees}
-use Rattle.soy_meaning.specs.TypedData.{AreTypedTrees}
-use Rattle.soy_meaning.specs.Walk.{walked}
+use Rattle.soy_meaning.specs.Walks.AcceptedTrees.{walk_trees}
+use Rattle.soy_meaning.specs.Runs.TypedData.{AreTypedTrees}
+use Rattle.soy_meaning.specs.Walks.Walk.{walked}
 use Rattle.template_ir.specs.Compiles.{Compiles}
 use Rattle.template_ir.specs.Ops.{Program}
 use Rattle.template_ir.specs.Sound.{is_sound}
@@ -16,7 +16,7 @@ use Rattle.template_ir.specs.ViewOps.{view_program}
 use Rattle.template_ir.proofs.SoundPrograms.{compiled_is_sound}
 use Rattle.bundle_fit.proofs.FittingTrees.{trees_fit}
 use Rattle.msg_extract.specs.Translations.{translation_of}
-use Rattle.ir_build.specs.ViewScene.{language_of}
+use Rattle.soy_pieces.specs.Language.{language_of}
 use Rattle.ir_build.proofs.building.build.Goals as goal
 
 built_is_sound : (given trees : List Tree) (b : Bundle) (prints places : List Place) (p : Program) → trees ≡ given

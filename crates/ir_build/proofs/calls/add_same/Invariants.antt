@@ -1,5 +1,5 @@
 use Rattle.std.proofs.Common.{◌≡◌, ◌++◌, drop, map}
-use Rattle.soy_tree.specs.Bodies.{names_given}
+use Rattle.soy_rules.specs.Bodies.{names_given}
 use Rattle.soy_tree.specs.ViewNodes.{view_arguments}
 use Rattle.soy_tree.specs.ViewTrees.{view_params}
 use Rattle.template_ir.specs.Compiles.{handed_on_names, same_handed}

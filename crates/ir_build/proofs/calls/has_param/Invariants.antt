@@ -1,6 +1,6 @@
 use Rattle.std.proofs.Common.{◌≡◌, drop}
 use Rattle.std.specs.Prelude.{is_some}
-use Rattle.soy_tree.specs.Bodies.{param_of}
+use Rattle.soy_rules.specs.Bodies.{param_of}
 use Rattle.soy_tree.specs.ViewTrees.{view_params}
 use Rattle.ir_build.proofs.calls.has_param.Given as goal
 

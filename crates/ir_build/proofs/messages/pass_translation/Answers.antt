@@ -1,6 +1,6 @@
 use mathlib.Core.Path.{refl}
 use Rattle.std.proofs.Common.{arith, take}
-use Rattle.soy_meaning.specs.PlanOfNodes.{uses_of}
+use Rattle.soy_rules.specs.Placeholders.{uses_of}
 use Rattle.soy_tree.specs.ViewMessageParts.{view_parts}
 use Rattle.soy_tree.specs.ViewNodes.{view_message}
 use Rattle.template_ir.specs.HoleCounts.{parts_holes}

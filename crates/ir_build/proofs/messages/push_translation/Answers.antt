@@ -1,6 +1,6 @@
 use Rattle.std.proofs.Common.{◌∙◌, ap, map}
 use Rattle.msg_extract.specs.SelectorRows.{view_selector}
-use Rattle.msg_extract.specs.ViewPlaceholders.{view_placeholder}
+use Rattle.msg_extract.specs.Views.ViewPlaceholders.{view_placeholder}
 use Rattle.ir_build.proofs.messages.push_translation.Goals as goal
 
 pub push_parts-requires : goal.push_parts-requires

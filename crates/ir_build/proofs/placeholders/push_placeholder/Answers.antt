@@ -1,7 +1,7 @@
 use Rattle.std.proofs.Common.{map}
 use Rattle.std.proofs.lemmas.Result.{on_ok_weaker}
 use Rattle.soy_tree.specs.ViewNodes.{view_nodes}
-use Rattle.msg_extract.specs.ViewPlaceholders.{view_placeholder}
+use Rattle.msg_extract.specs.Views.ViewPlaceholders.{view_placeholder}
 use Rattle.template_ir.specs.ViewOps.{view_ops}
 use Rattle.ir_build.specs.Laid.{view_output}
 use Rattle.ir_build.proofs.Placing.{placeholder_pushed}

@@ -1,12 +1,12 @@
 use Rattle.std.proofs.Common.{◌≡◌, ℕ, ◌≤◌, List, true, subst}
 use Rattle.soy_tree.specs.Nodes.{MessageBody}
 use Rattle.soy_tree.specs.Formed.{is_formed_body, nesting}
-use Rattle.soy_tree.specs.IcuText.{IsPattern}
+use Rattle.soy_rules.specs.IcuText.{IsPattern}
 use Rattle.icu_text.proofs.PatternComplete.{one_pattern}
-use Rattle.msg_extract.specs.CanonicalText.{canonical_text}
-use Rattle.msg_extract.specs.SourceParts.{source_parts}
-use Rattle.msg_extract.proofs.CanonicalReads.{canonical_reads}
-use Rattle.msg_extract.proofs.TextOfParts.{equal_texts}
+use Rattle.msg_extract.specs.Canonical.CanonicalText.{canonical_text}
+use Rattle.msg_extract.specs.Canonical.SourceParts.{source_parts}
+use Rattle.msg_extract.proofs.Texts.CanonicalReads.{canonical_reads}
+use Rattle.msg_extract.proofs.Texts.TextOfParts.{equal_texts}
 use Rattle.msg_bundle.proofs.laws.law_equal_texts.Goals as goal
 
 -- a text is one pattern at most

@@ -1,7 +1,7 @@
 use Rattle.std.proofs.Common.{◌≡◌, ◌++◌, length}
 use Rattle.std.specs.Str.{chars, IsUtf8}
 use Rattle.std.specs.String.{string_bytes}
-use Rattle.soy_tree.specs.BaseNames.{base_of_name, upper_name}
+use Rattle.soy_rules.specs.BaseNames.{base_of_name, upper_name}
 use Rattle.msg_extract.proofs.base_name.base_of_name.Given as goal
 
 abbrev pub invariant-loop-c : goal.invariant-loop-c

@@ -2,8 +2,8 @@ use Rattle.std.proofs.Common.{◌≡◌, ◌++◌, drop, map}
 use Rattle.std.specs.Char.{to_ascii_lowercase}
 use Rattle.std.specs.Str.{chars}
 use Rattle.std.specs.String.{string_bytes}
-use Rattle.soy_tree.specs.BaseNames.{leading_name}
-use Rattle.msg_extract.specs.ViewItems.{view_item}
+use Rattle.soy_rules.specs.BaseNames.{leading_name}
+use Rattle.msg_extract.specs.Views.ViewItems.{view_item}
 use Rattle.msg_extract.proofs.base_name.leading_name.Given as goal
 
 abbrev pub invariant-loop-item : goal.invariant-loop-item

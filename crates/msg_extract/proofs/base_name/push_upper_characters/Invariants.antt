@@ -1,7 +1,7 @@
 use Rattle.std.proofs.Common.{◌≡◌, ◌++◌, length, map}
 use Rattle.std.specs.Str.{chars, IsUtf8}
 use Rattle.std.specs.String.{string_bytes}
-use Rattle.soy_tree.specs.BaseNames.{upper_character}
+use Rattle.soy_rules.specs.BaseNames.{upper_character}
 use Rattle.msg_extract.proofs.base_name.push_upper_characters.Given as goal
 
 abbrev pub invariant-loop-c : goal.invariant-loop-c

@@ -1,7 +1,7 @@
 use Rattle.std.proofs.Common.{◌≡◌, drop, map}
 use Rattle.msg_extract.specs.Catalogue.{all_listed}
 use Rattle.msg_extract.specs.ListedIds.{HasIds}
-use Rattle.msg_extract.specs.ViewMessages.{view_found}
+use Rattle.msg_extract.specs.Views.ViewMessages.{view_found}
 use Rattle.msg_extract.proofs.catalogue.add_all.Given as goal
 
 abbrev pub invariant-loop-message : goal.invariant-loop-message

@@ -1,7 +1,7 @@
 use Rattle.std.proofs.Common.{map, ap, sym, ◌∙◌}
 use Rattle.soy_tree.specs.ViewNodes.{view_body}
 use Rattle.msg_extract.specs.Catalogue.{listed}
-use Rattle.msg_extract.specs.ViewPieces.{view_piece}
+use Rattle.msg_extract.specs.Views.ViewPieces.{view_piece}
 use Rattle.msg_extract.proofs.MessageRows.{row_is}
 use Rattle.msg_extract.proofs.ViewBodies.{view_message_is}
 use Rattle.msg_extract.proofs.catalogue.row_of.Goals as goal

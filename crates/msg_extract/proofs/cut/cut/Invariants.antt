@@ -1,7 +1,7 @@
 use Rattle.std.proofs.Common.{◌≡◌, drop, map}
 use Rattle.soy_tree.specs.MessageText.{cuts}
-use Rattle.msg_extract.specs.ViewItems.{view_item}
-use Rattle.msg_extract.specs.ViewCutter.{cutter_cuts}
+use Rattle.msg_extract.specs.Views.ViewItems.{view_item}
+use Rattle.msg_extract.specs.Views.ViewCutter.{cutter_cuts}
 use Rattle.msg_extract.proofs.cut.cut.Given as goal
 
 abbrev pub invariant-loop-item : goal.invariant-loop-item

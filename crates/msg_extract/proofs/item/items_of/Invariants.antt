@@ -1,7 +1,7 @@
 use Rattle.std.proofs.Common.{◌≡◌, Some, drop, map}
 use Rattle.soy_tree.specs.MessageText.{joined_items, message_items}
 use Rattle.soy_tree.specs.ViewNodes.{view_nodes}
-use Rattle.msg_extract.specs.ViewItems.{view_item}
+use Rattle.msg_extract.specs.Views.ViewItems.{view_item}
 use Rattle.msg_extract.proofs.item.items_of.Given as goal
 
 abbrev pub invariant-loop-node : goal.invariant-loop-node

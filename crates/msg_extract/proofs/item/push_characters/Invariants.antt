@@ -1,7 +1,7 @@
 use Rattle.std.proofs.Common.{◌≡◌, ◌++◌, length, map}
 use Rattle.std.specs.Str.{chars, IsUtf8}
 use Rattle.soy_tree.specs.MessageText.{characters}
-use Rattle.msg_extract.specs.ViewItems.{view_item}
+use Rattle.msg_extract.specs.Views.ViewItems.{view_item}
 use Rattle.msg_extract.proofs.item.push_characters.Given as goal
 
 abbrev pub invariant-loop-c : goal.invariant-loop-c

@@ -1,4 +1,4 @@
-use Rattle.msg_extract.proofs.TextOfParts.{equal_texts}
+use Rattle.msg_extract.proofs.Texts.TextOfParts.{equal_texts}
 use Rattle.msg_extract.proofs.laws.law_equal_parts.Goals as goal
 
 pub returns : goal.returns

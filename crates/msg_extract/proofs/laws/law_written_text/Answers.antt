@@ -1,8 +1,8 @@
 use Rattle.std.proofs.Common.{ℕ, false, List, [], refl, subst, append-nil}
 use Rattle.soy_tree.specs.MessageParts.{no_part}
-use Rattle.soy_tree.specs.IcuText.{AtTop, Reads, stop, with_text}
-use Rattle.msg_extract.specs.CanonicalText.{written_text}
-use Rattle.msg_extract.proofs.WrittenText.{text_reads}
+use Rattle.soy_rules.specs.IcuText.{AtTop, Reads, stop, with_text}
+use Rattle.msg_extract.specs.Canonical.CanonicalText.{written_text}
+use Rattle.msg_extract.proofs.Texts.WrittenText.{text_reads}
 use Rattle.msg_extract.proofs.laws.law_written_text.Goals as goal
 
 pub returns-clause-before_more : goal.returns-clause-before_more

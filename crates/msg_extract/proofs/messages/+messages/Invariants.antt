@@ -1,7 +1,7 @@
 use Rattle.std.proofs.Common.{◌≡◌, ◌++◌, drop, map}
 use Rattle.soy_tree.specs.ViewNodes.{view_arguments, view_arms, view_cases, view_nodes}
 use Rattle.msg_extract.specs.MessagesIn.{argument_messages, arm_messages, case_messages, messages_in}
-use Rattle.msg_extract.specs.ViewMessages.{view_found}
+use Rattle.msg_extract.specs.Views.ViewMessages.{view_found}
 use Rattle.msg_extract.proofs.messages.+messages.Given as goal
 
 abbrev pub invariant-push_nodes-loop-node : goal.invariant-push_nodes-loop-node

@@ -1,7 +1,7 @@
 use Rattle.std.proofs.Common.{◌≡◌, ◌++◌, drop, map}
 use Rattle.soy_tree.specs.ViewTrees.{view_template, view_tree}
 use Rattle.msg_extract.specs.MessagesIn.{template_messages, tree_messages}
-use Rattle.msg_extract.specs.ViewMessages.{view_found}
+use Rattle.msg_extract.specs.Views.ViewMessages.{view_found}
 use Rattle.msg_extract.proofs.messages.messages_of.Given as goal
 
 abbrev pub invariant-loop-template : goal.invariant-loop-template

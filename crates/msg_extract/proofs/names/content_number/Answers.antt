@@ -1,5 +1,5 @@
 use Rattle.std.proofs.Common.{◌∙◌}
-use Rattle.msg_extract.specs.ViewKeys.{view_key}
+use Rattle.msg_extract.specs.Views.ViewKeys.{view_key}
 use Rattle.msg_extract.proofs.ContentKeys.{content_position}
 use Rattle.msg_extract.proofs.names.content_number.Goals as goal
 

@@ -1,6 +1,6 @@
 use Rattle.std.proofs.Common.{◌≡◌, ◌++◌, drop}
 use Rattle.msg_extract.specs.NameGroups.{group_names}
-use Rattle.msg_extract.specs.ViewKeys.{view_groups}
+use Rattle.msg_extract.specs.Views.ViewKeys.{view_groups}
 use Rattle.msg_extract.proofs.names.group_names.Given as goal
 
 abbrev pub invariant-loop-base : goal.invariant-loop-base

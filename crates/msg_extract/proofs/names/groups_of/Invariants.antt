@@ -1,8 +1,8 @@
 use Rattle.std.proofs.Common.{◌≡◌, [], drop, map}
 use Rattle.msg_extract.specs.NameGroups.{bases_after, groups_after}
-use Rattle.msg_extract.specs.Pieces.{uses_in}
-use Rattle.msg_extract.specs.ViewKeys.{view_groups}
-use Rattle.msg_extract.specs.ViewPieces.{view_piece}
+use Rattle.msg_extract.specs.Canonical.Pieces.{uses_in}
+use Rattle.msg_extract.specs.Views.ViewKeys.{view_groups}
+use Rattle.msg_extract.specs.Views.ViewPieces.{view_piece}
 use Rattle.msg_extract.proofs.names.groups_of.Given as goal
 
 abbrev pub invariant-loop-piece : goal.invariant-loop-piece

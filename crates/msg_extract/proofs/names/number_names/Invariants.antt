@@ -1,6 +1,6 @@
 use Rattle.std.proofs.Common.{◌≡◌, ◌++◌, drop, map}
 use Rattle.msg_extract.specs.NameGroups.{names_from}
-use Rattle.msg_extract.specs.ViewKeys.{view_key}
+use Rattle.msg_extract.specs.Views.ViewKeys.{view_key}
 use Rattle.msg_extract.proofs.names.number_names.Given as goal
 
 abbrev pub invariant-loop : goal.invariant-loop

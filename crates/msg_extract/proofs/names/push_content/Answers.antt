@@ -1,4 +1,4 @@
-use Rattle.msg_extract.specs.ViewKeys.{view_key}
+use Rattle.msg_extract.specs.Views.ViewKeys.{view_key}
 use Rattle.msg_extract.proofs.ContentKeys.{put_at, put_nowhere}
 use Rattle.msg_extract.proofs.names.push_content.Goals as goal
 

@@ -1,6 +1,6 @@
 use Rattle.std.proofs.Common.{◌≡◌, ◌≤◌, ◌+◌, drop, length, map}
-use Rattle.msg_extract.specs.Pieces.{uses_in}
-use Rattle.msg_extract.specs.ViewPieces.{view_piece}
+use Rattle.msg_extract.specs.Canonical.Pieces.{uses_in}
+use Rattle.msg_extract.specs.Views.ViewPieces.{view_piece}
 use Rattle.msg_extract.proofs.names.use_count.Given as goal
 
 abbrev pub invariant-loop-piece : goal.invariant-loop-piece

@@ -1,5 +1,5 @@
 use Rattle.std.proofs.lemmas.Result.{on_ok_weaker}
-use Rattle.msg_extract.proofs.PluralPieces.{plural_steps, select_steps}
+use Rattle.msg_extract.proofs.Texts.PluralPieces.{plural_steps, select_steps}
 use Rattle.msg_extract.proofs.piece.+pieces.Goals as goal
 
 pub push_body-returns-in_ok-push_body-in-Plural : goal.push_body-returns-in_ok-push_body-in-Plural

@@ -1,7 +1,7 @@
 use Rattle.std.proofs.Common.{◌≡◌, ◌++◌, drop, map}
 use Rattle.soy_tree.specs.ViewNodes.{view_plural_cases, view_select_cases}
-use Rattle.msg_extract.specs.Pieces.{plural_case_pieces, select_case_pieces}
-use Rattle.msg_extract.specs.ViewPieces.{view_piece}
+use Rattle.msg_extract.specs.Canonical.Pieces.{plural_case_pieces, select_case_pieces}
+use Rattle.msg_extract.specs.Views.ViewPieces.{view_piece}
 use Rattle.msg_extract.proofs.piece.+pieces.Given as goal
 
 abbrev pub invariant-push_plural_cases-loop-case : goal.invariant-push_plural_cases-loop-case

@@ -1,7 +1,7 @@
 use Rattle.std.proofs.Common.{◌≡◌, ◌++◌, drop, map}
-use Rattle.msg_extract.specs.Pieces.{cut_pieces}
-use Rattle.msg_extract.specs.ViewItems.{view_cut}
-use Rattle.msg_extract.specs.ViewPieces.{view_piece}
+use Rattle.msg_extract.specs.Canonical.Pieces.{cut_pieces}
+use Rattle.msg_extract.specs.Views.ViewItems.{view_cut}
+use Rattle.msg_extract.specs.Views.ViewPieces.{view_piece}
 use Rattle.msg_extract.proofs.piece.push_cuts.Given as goal
 
 abbrev pub invariant-loop-cut : goal.invariant-loop-cut

@@ -1,5 +1,5 @@
 use Rattle.std.proofs.Common.{◌≡◌, drop, map}
-use Rattle.msg_extract.specs.ViewPlaceholders.{view_placeholder}
+use Rattle.msg_extract.specs.Views.ViewPlaceholders.{view_placeholder}
 use Rattle.msg_extract.specs.NamedNodes.{named_nodes}
 use Rattle.msg_extract.proofs.placeholder.named_nodes.Given as goal
 

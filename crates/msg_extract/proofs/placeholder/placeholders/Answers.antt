@@ -2,7 +2,7 @@ use Rattle.std.proofs.Common.{◌∙◌, ap, map, sym}
 use Rattle.std.proofs.lemmas.Result.{IfOk-weaker}
 use Rattle.soy_tree.specs.ViewNodes.{view_body}
 use Rattle.msg_extract.specs.PlaceholderNodes.{placeholders_of}
-use Rattle.msg_extract.specs.ViewPieces.{view_piece}
+use Rattle.msg_extract.specs.Views.ViewPieces.{view_piece}
 use Rattle.msg_extract.proofs.MessageRows.{placeholders_rows}
 use Rattle.msg_extract.proofs.ViewBodies.{view_message_is}
 use Rattle.msg_extract.proofs.placeholder.placeholders.Goals as goal

@@ -1,10 +1,10 @@
 use Rattle.std.proofs.Common.{◌≡◌, [], drop, map}
-use Rattle.msg_extract.specs.Pieces.{uses_in}
+use Rattle.msg_extract.specs.Canonical.Pieces.{uses_in}
 use Rattle.msg_extract.specs.PlaceholderNodes.{rows_after}
 use Rattle.msg_extract.specs.PlaceholderRows.{HasRowNames}
-use Rattle.msg_extract.specs.ViewNames.{named_uses}
-use Rattle.msg_extract.specs.ViewPieces.{view_piece}
-use Rattle.msg_extract.specs.ViewPlaceholders.{view_placeholder}
+use Rattle.msg_extract.specs.Views.ViewNames.{named_uses}
+use Rattle.msg_extract.specs.Views.ViewPieces.{view_piece}
+use Rattle.msg_extract.specs.Views.ViewPlaceholders.{view_placeholder}
 use Rattle.msg_extract.proofs.placeholder.placeholders_of.Given as goal
 
 abbrev pub invariant-loop-piece : goal.invariant-loop-piece

@@ -1,9 +1,9 @@
 use Rattle.std.proofs.Common.{◌≡◌, ◌++◌, drop, map}
 use Rattle.std.specs.Str.{chars}
 use Rattle.std.specs.String.{string_bytes}
-use Rattle.msg_extract.specs.CanonicalText.{text_of_items, written_text}
-use Rattle.msg_extract.specs.QuotedRuns.{written_from}
-use Rattle.msg_extract.specs.ViewItems.{view_item}
+use Rattle.msg_extract.specs.Canonical.CanonicalText.{text_of_items, written_text}
+use Rattle.msg_extract.specs.Canonical.QuotedRuns.{written_from}
+use Rattle.msg_extract.specs.Views.ViewItems.{view_item}
 use Rattle.msg_extract.proofs.quoting.quoted.Given as goal
 
 abbrev pub invariant-loop-item : goal.invariant-loop-item

@@ -1,8 +1,8 @@
 use Rattle.std.proofs.Common.{◌≡◌, drop, map}
 use Rattle.msg_extract.specs.Catalogue.{names_after, role_names}
-use Rattle.msg_extract.specs.Pieces.{uses_in}
-use Rattle.msg_extract.specs.ViewNames.{named_uses}
-use Rattle.msg_extract.specs.ViewPieces.{view_piece}
+use Rattle.msg_extract.specs.Canonical.Pieces.{uses_in}
+use Rattle.msg_extract.specs.Views.ViewNames.{named_uses}
+use Rattle.msg_extract.specs.Views.ViewPieces.{view_piece}
 use Rattle.msg_extract.proofs.role_names.role_names.Given as goal
 
 abbrev pub invariant-loop-piece : goal.invariant-loop-piece

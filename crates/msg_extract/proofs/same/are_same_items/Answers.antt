@@ -1,7 +1,7 @@
 use Rattle.std.proofs.Common.{◌≡◌, ◌+◌, true, false, map, ap, sym, ◌∙◌, arith}
 use Rattle.std.proofs.lemmas.List.{drop_all}
-use Rattle.soy_tree.specs.Placeholders.{is_same_message_item}
-use Rattle.msg_extract.specs.ViewKeys.{view_key_item}
+use Rattle.soy_rules.specs.Placeholders.{is_same_message_item}
+use Rattle.msg_extract.specs.Views.ViewKeys.{view_key_item}
 use Rattle.msg_extract.proofs.ItemLists.{both_ended, left_ended, right_ended, same_off, same_on}
 use Rattle.msg_extract.proofs.same.are_same_items.Goals as goal
 

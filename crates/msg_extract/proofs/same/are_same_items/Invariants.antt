@@ -1,6 +1,6 @@
 use Rattle.std.proofs.Common.{◌≡◌, drop, map}
-use Rattle.soy_tree.specs.Placeholders.{are_same_message_items}
-use Rattle.msg_extract.specs.ViewKeys.{view_key_item}
+use Rattle.soy_rules.specs.Placeholders.{are_same_message_items}
+use Rattle.msg_extract.specs.Views.ViewKeys.{view_key_item}
 use Rattle.msg_extract.proofs.same.are_same_items.Given as goal
 
 abbrev pub invariant-loop-item : goal.invariant-loop-item

@@ -1,7 +1,7 @@
 use Rattle.std.proofs.Common.{◌≡◌, ◌+◌, ◌≤◌, drop}
 use Rattle.soy_tree.specs.ViewExpressions.{view_exprs}
 use Rattle.soy_expr.specs.ViewShallow.{view_shallow}
-use Rattle.soy_meaning.specs.Pieces.{is_one}
+use Rattle.soy_pieces.specs.Pieces.{is_one}
 use Rattle.render_core.specs.Seen.{env_seen}
 use Rattle.render_core.proofs.choosing.is_one.Given as goal
 

@@ -1,5 +1,5 @@
 use Rattle.std.proofs.Common.{◌≡◌}
-use Rattle.soy_tree.specs.Val.{binding}
+use Rattle.soy_rules.specs.Val.{binding}
 use Rattle.render_core.specs.Seen.{cells_seen, env_seen}
 use Rattle.render_core.specs.Variables.{env_at}
 use Rattle.render_core.proofs.parts.place_of.Given as goal

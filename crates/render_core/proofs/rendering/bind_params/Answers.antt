@@ -2,7 +2,7 @@ use Rattle.std.proofs.Common.{◌≡◌, ℕ, ◌+◌, ◌-◌, ◌<◌, ◌∙�
 use Rattle.soy_tree.specs.ViewTrees.{view_params}
 use Rattle.soy_tree.specs.ViewValues.{view_value}
 use Rattle.soy_tree.specs.declared.tree.Param.{Param}
-use Rattle.template_ir.specs.Run.{input_env, names_of}
+use Rattle.soy_pieces.specs.InputEnv.{input_env, names_of}
 use Rattle.render_core.specs.Begins.{FieldFound}
 use Rattle.render_core.specs.Linked.{bound_over}
 use Rattle.render_core.specs.Variables.{cells_of, env_at}

@@ -1,7 +1,7 @@
 use Rattle.std.proofs.Common.{◌≡◌, ◌≤◌, drop, length}
 use Rattle.soy_tree.specs.ViewTrees.{view_params}
 use Rattle.soy_tree.specs.ViewValues.{view_value}
-use Rattle.template_ir.specs.Run.{input_env, names_of}
+use Rattle.soy_pieces.specs.InputEnv.{input_env, names_of}
 use Rattle.render_core.specs.Begins.{HasRoot}
 use Rattle.render_core.specs.Variables.{cells_of, env_at}
 use Rattle.render_core.proofs.rendering.bind_params.Given as goal

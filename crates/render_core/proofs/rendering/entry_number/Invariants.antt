@@ -1,5 +1,5 @@
 use Rattle.std.proofs.Common.{◌≡◌, drop}
-use Rattle.soy_tree.specs.Has.{entry_value}
+use Rattle.soy_rules.specs.Has.{entry_value}
 use Rattle.soy_tree.specs.ViewValues.{view_entries}
 use Rattle.render_core.proofs.rendering.entry_number.Given as goal
 

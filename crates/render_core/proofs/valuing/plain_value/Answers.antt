@@ -1,5 +1,5 @@
 use Rattle.std.proofs.Common.{◌+◌, ap, ◌∙◌}
-use Rattle.soy_tree.specs.Val.{Known}
+use Rattle.soy_rules.specs.Val.{Known}
 use Rattle.soy_tree.specs.ViewExpressions.{view_expr}
 use Rattle.soy_expr.specs.ViewEvaluated.{view_made}
 use Rattle.render_core.specs.Seen.{env_seen}

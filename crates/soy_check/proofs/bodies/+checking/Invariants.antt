@@ -1,6 +1,6 @@
 use Rattle.std.proofs.Common.{◌≡◌, [], drop, length}
-use Rattle.soy_tree.specs.Bodies.{after_arguments, after_arms, after_cases, after_nodes, after_plural_cases}
-use Rattle.soy_tree.specs.Bodies.{after_select_cases}
+use Rattle.soy_rules.specs.Bodies.{after_arguments, after_arms, after_cases, after_nodes, after_plural_cases}
+use Rattle.soy_rules.specs.Bodies.{after_select_cases}
 use Rattle.soy_tree.specs.ViewNodes.{view_arguments, view_arms, view_cases, view_nodes, view_plural_cases}
 use Rattle.soy_tree.specs.ViewNodes.{view_select_cases}
 use Rattle.soy_tree.specs.ViewTrees.{view_params}

@@ -1,5 +1,5 @@
 use Rattle.std.proofs.Common.{◌≡◌, drop, true}
-use Rattle.soy_tree.specs.Bodies.{names_given, param_demands}
+use Rattle.soy_rules.specs.Bodies.{names_given, param_demands}
 use Rattle.soy_tree.specs.ViewNodes.{view_arguments}
 use Rattle.soy_tree.specs.ViewTrees.{view_params}
 use Rattle.soy_expr.specs.ViewScope.{view_vars}

@@ -1,7 +1,7 @@
 use Rattle.std.proofs.Common.{◌∙◌, ap, option_map, sym}
-use Rattle.soy_tree.specs.Bodies.{accepted, handed}
-use Rattle.soy_tree.specs.Templates.{param_type}
-use Rattle.soy_tree.specs.TypeOf.{variable_type}
+use Rattle.soy_rules.specs.Bodies.{accepted, handed}
+use Rattle.soy_rules.specs.Templates.{param_type}
+use Rattle.soy_rules.specs.TypeOf.{variable_type}
 use Rattle.soy_tree.specs.ViewTrees.{view_param}
 use Rattle.soy_tree.specs.ViewTypes.{view_type}
 use Rattle.soy_expr.specs.ViewScope.{view_vars}

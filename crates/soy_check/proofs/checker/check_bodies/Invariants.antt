@@ -1,5 +1,5 @@
 use Rattle.std.proofs.Common.{◌≡◌, drop}
-use Rattle.soy_tree.specs.Demands.{bodies_fault}
+use Rattle.soy_rules.specs.Demands.{bodies_fault}
 use Rattle.soy_check.specs.ViewAround.{view_all}
 use Rattle.soy_check.proofs.checker.check_bodies.Given as goal
 

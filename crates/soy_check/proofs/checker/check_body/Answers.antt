@@ -1,10 +1,10 @@
 use Rattle.std.proofs.Common.{◌∙◌, List, ap, refl}
 use Rattle.soy_tree.specs.declared.node.Node as code_node
-use Rattle.soy_tree.specs.declared.template.Declared.{Declared}
+use Rattle.soy_rules.specs.declared.template.Declared.{Declared}
 use Rattle.soy_tree.specs.declared.tree.Param as code_param
-use Rattle.soy_tree.specs.Bodies.{Around, Checked, after_nodes}
-use Rattle.soy_tree.specs.Templates.{param_scope}
-use Rattle.soy_tree.specs.TypeOf.{Scope}
+use Rattle.soy_rules.specs.Bodies.{Around, Checked, after_nodes}
+use Rattle.soy_rules.specs.Templates.{param_scope}
+use Rattle.soy_rules.specs.TypeOf.{Scope}
 use Rattle.soy_tree.specs.ViewNodes.{view_nodes}
 use Rattle.soy_tree.specs.ViewTrees.{view_params}
 use Rattle.soy_expr.specs.ViewScope.{view_vars}

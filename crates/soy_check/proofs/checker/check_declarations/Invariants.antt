@@ -1,5 +1,5 @@
 use Rattle.std.proofs.Common.{◌≡◌, ◌++◌, [], drop, reverse}
-use Rattle.soy_tree.specs.Demands.{declarations_fault}
+use Rattle.soy_rules.specs.Demands.{declarations_fault}
 use Rattle.soy_check.specs.FullNames.{full_names}
 use Rattle.soy_check.specs.ViewAround.{view_all}
 use Rattle.soy_check.proofs.checker.check_declarations.Given as goal

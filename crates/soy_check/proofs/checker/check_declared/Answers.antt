@@ -1,5 +1,5 @@
-use Rattle.soy_tree.specs.Declarations.{declaration_fault}
-use Rattle.soy_tree.specs.ViewTemplates.{view_declared}
+use Rattle.soy_rules.specs.Declarations.{declaration_fault}
+use Rattle.soy_rules.specs.ViewTemplates.{view_declared}
 use Rattle.soy_check.proofs.checker.check_declared.Goals as goal
 
 pub returns-in-Err-clause-found : goal.returns-in-Err-clause-found

@@ -1,5 +1,5 @@
-use Rattle.soy_tree.specs.Demands.{body_fault}
-use Rattle.soy_tree.specs.ViewTemplates.{view_declared}
+use Rattle.soy_rules.specs.Demands.{body_fault}
+use Rattle.soy_rules.specs.ViewTemplates.{view_declared}
 use Rattle.soy_check.specs.ViewAround.{view_all}
 use Rattle.soy_check.proofs.checker.check_template.Goals as goal
 

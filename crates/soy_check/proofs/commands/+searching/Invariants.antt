@@ -1,6 +1,6 @@
 use Rattle.std.proofs.Common.{◌≡◌, drop}
-use Rattle.soy_tree.specs.Bodies.{has_member}
-use Rattle.soy_tree.specs.Members.{union_members}
+use Rattle.soy_rules.specs.Bodies.{has_member}
+use Rattle.soy_rules.specs.Members.{union_members}
 use Rattle.soy_tree.specs.ViewTypes.{view_members}
 use Rattle.soy_check.proofs.commands.+searching.Given as goal
 

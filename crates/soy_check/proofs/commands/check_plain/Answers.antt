@@ -1,4 +1,4 @@
-use Rattle.soy_tree.specs.Bodies.{accepted, plain_argument}
+use Rattle.soy_rules.specs.Bodies.{accepted, plain_argument}
 use Rattle.soy_tree.specs.ViewExpressions.{view_expr}
 use Rattle.soy_tree.specs.ViewTrees.{view_param}
 use Rattle.soy_tree.specs.ViewTypes.{view_type}

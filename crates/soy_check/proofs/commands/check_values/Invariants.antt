@@ -1,5 +1,5 @@
 use Rattle.std.proofs.Common.{◌≡◌, drop}
-use Rattle.soy_tree.specs.Bodies.{each_passing}
+use Rattle.soy_rules.specs.Bodies.{each_passing}
 use Rattle.soy_tree.specs.ViewExpressions.{view_exprs}
 use Rattle.soy_expr.specs.ViewScope.{view_vars}
 use Rattle.soy_check.proofs.commands.check_values.Given as goal

@@ -1,5 +1,5 @@
 use Rattle.std.proofs.Common.{◌≡◌, [], drop}
-use Rattle.soy_tree.specs.Declarations.{params_fault}
+use Rattle.soy_rules.specs.Declarations.{params_fault}
 use Rattle.soy_tree.specs.ViewTrees.{view_params}
 use Rattle.soy_check.proofs.declarations.check_params.Given as goal
 

@@ -1,6 +1,6 @@
 use Rattle.std.proofs.Common.{◌∙◌, ◌||◌, ◌+◌, List, ap, drop, sym}
-use Rattle.soy_tree.specs.Bodies.{names_given}
-use Rattle.soy_tree.specs.Declarations.{is_among}
+use Rattle.soy_rules.specs.Bodies.{names_given}
+use Rattle.soy_base.specs.Among.{is_among}
 use Rattle.soy_tree.specs.Types.{Name}
 use Rattle.soy_tree.specs.ViewNodes.{view_arguments}
 use Rattle.soy_check.proofs.SetsOfNames.{name_added, names_drop, none_left}
@@ -13,7 +13,7 @@ loop-argument-preserved c = λ name.
     let a = c.argument-item.result in
     let rest = names_given (view_arguments (drop (i + 1) given)) in
     name_added c.loop-argument.names c.insert.new.self a.name c.in_ok-insert.field-0 c.in_ok-insert.ensures rest name
-    ∙ ap (λ (ns : List Name). is_among name c.loop-argument.names || is_among name ns)
+    ∙ ap (λ (ns : List Name). is_among c.loop-argument.names name || is_among ns name)
     (sym (names_drop given i a c.loop-argument-test.true c.argument-item.is))
     ∙ c.loop-argument.invariant name
 

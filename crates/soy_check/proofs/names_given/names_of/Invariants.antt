@@ -1,6 +1,6 @@
 use Rattle.std.proofs.Common.{◌≡◌, ◌||◌, drop}
-use Rattle.soy_tree.specs.Bodies.{names_given}
-use Rattle.soy_tree.specs.Declarations.{is_among}
+use Rattle.soy_rules.specs.Bodies.{names_given}
+use Rattle.soy_base.specs.Among.{is_among}
 use Rattle.soy_tree.specs.Types.{Name}
 use Rattle.soy_tree.specs.ViewNodes.{view_arguments}
 use Rattle.soy_check.proofs.names_given.names_of.Given as goal
@@ -8,5 +8,5 @@ use Rattle.soy_check.proofs.names_given.names_of.Given as goal
 abbrev pub invariant-loop-argument : goal.invariant-loop-argument
 invariant-loop-argument l =
     (name : Name)
-    → (is_among name l.names || is_among name (names_given (view_arguments (drop l.argument-index l.given))))
-    ≡ is_among name (names_given (view_arguments l.given))
+    → (is_among l.names name || is_among (names_given (view_arguments (drop l.argument-index l.given))) name)
+    ≡ is_among (names_given (view_arguments l.given)) name

@@ -1,7 +1,7 @@
 use Rattle.std.proofs.Common.{◌≡◌, ◌++◌}
 use Rattle.std.specs.Vec.Iter.{into_iter_items}
-use Rattle.soy_tree.specs.Templates.{declared}
-use Rattle.soy_tree.specs.ViewTemplates as trees
+use Rattle.soy_rules.specs.Templates.{declared}
+use Rattle.soy_rules.specs.ViewTemplates as trees
 use Rattle.soy_tree.specs.ViewTrees.{view_trees}
 use Rattle.soy_check.specs.ViewAround.{view_all}
 use Rattle.soy_check.proofs.templates.all_indexed.Given as goal

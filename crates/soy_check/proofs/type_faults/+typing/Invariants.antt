@@ -1,5 +1,5 @@
 use Rattle.std.proofs.Common.{◌≡◌, [], drop}
-use Rattle.soy_tree.specs.Declarations.{fields_fault, members_fault}
+use Rattle.soy_rules.specs.Declarations.{fields_fault, members_fault}
 use Rattle.soy_tree.specs.ViewTypes.{view_fields, view_members}
 use Rattle.soy_check.proofs.type_faults.+typing.Given as goal
 

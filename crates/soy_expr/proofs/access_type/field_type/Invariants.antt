@@ -1,5 +1,5 @@
 use Rattle.std.proofs.Common.{◌≡◌, drop}
-use Rattle.soy_tree.specs.TypeOf.{field_type}
+use Rattle.soy_rules.specs.TypeOf.{field_type}
 use Rattle.soy_tree.specs.ViewTypes.{view_fields}
 use Rattle.soy_expr.proofs.access_type.field_type.Given as goal
 

@@ -2,7 +2,7 @@ use Rattle.std.proofs.Common.{◌≡◌, length}
 use Rattle.std.specs.Str.{chars}
 use denote.Shadow.{shadow}
 use denote.Text.{Utf8}
-use Rattle.soy_tree.specs.Val.{is_text_before}
+use Rattle.soy_rules.specs.Val.{is_text_before}
 use Rattle.soy_expr.proofs.comparison.is_text_before.Given as goal
 
 abbrev pub invariant-loop-d : goal.invariant-loop-d

@@ -1,5 +1,5 @@
 use Rattle.std.proofs.Common.{◌≡◌, drop}
-use Rattle.soy_tree.specs.Val.{binding}
+use Rattle.soy_rules.specs.Val.{binding}
 use Rattle.soy_expr.specs.ViewEnv.{view_bounds}
 use Rattle.soy_expr.proofs.env.found.Given as goal
 

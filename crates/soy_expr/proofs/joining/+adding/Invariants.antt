@@ -1,5 +1,5 @@
 use Rattle.std.proofs.Common.{◌≡◌, ◌++◌, drop, map}
-use Rattle.soy_tree.specs.Members.{union_members}
+use Rattle.soy_rules.specs.Members.{union_members}
 use Rattle.soy_tree.specs.ViewTypes.{view_type, view_members}
 use Rattle.soy_expr.proofs.joining.+adding.Given as goal
 

@@ -1,5 +1,5 @@
 use Rattle.std.proofs.Common.{◌≡◌, drop}
-use Rattle.soy_tree.specs.Members.{are_same_members, are_same_fields}
+use Rattle.soy_rules.specs.Members.{are_same_members, are_same_fields}
 use Rattle.soy_tree.specs.ViewTypes.{view_members, view_fields}
 use Rattle.soy_expr.proofs.joining.+comparing.Given as goal
 

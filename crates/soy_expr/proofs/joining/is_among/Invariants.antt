@@ -1,6 +1,6 @@
 use Rattle.std.proofs.Common.{◌≡◌, drop, map}
 use Rattle.std.specs.List.{list_any}
-use Rattle.soy_tree.specs.Members.{is_same_type}
+use Rattle.soy_rules.specs.Members.{is_same_type}
 use Rattle.soy_tree.specs.ViewTypes.{view_type}
 use Rattle.soy_expr.proofs.joining.is_among.Given as goal
 

@@ -1,6 +1,6 @@
 use Rattle.std.proofs.Common.{◌≡◌, drop}
 use Rattle.std.specs.List.{list_any}
-use Rattle.soy_tree.specs.Members.{union_members}
+use Rattle.soy_rules.specs.Members.{union_members}
 use Rattle.soy_tree.specs.ViewTypes.{view_members}
 use Rattle.soy_expr.specs.MemberKinds.{is_of_kind}
 use Rattle.soy_expr.proofs.member_kind.+searching.Given as goal

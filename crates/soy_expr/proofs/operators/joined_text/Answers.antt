@@ -1,7 +1,7 @@
 use Rattle.std.proofs.Common.{◌++◌, ℕ, List, ap, ◌∙◌}
 use Rattle.std.specs.Str.{chars}
 use Rattle.std.proofs.lemmas.Str.{chars-nil}
-use Rattle.soy_tree.specs.Val.{value_text}
+use Rattle.soy_rules.specs.Val.{value_text}
 use Rattle.soy_expr.specs.ViewShallow.{view_shallow}
 use Rattle.soy_expr.proofs.operators.joined_text.Goals as goal
 

@@ -1,7 +1,7 @@
 use Rattle.std.proofs.Common.{◌≡◌, ◌++◌, drop}
 use Rattle.std.specs.Str.{chars}
 use Rattle.std.specs.String.{string_bytes}
-use Rattle.soy_tree.specs.TypeText.{members_text, fields_text}
+use Rattle.soy_rules.specs.TypeText.{members_text, fields_text}
 use Rattle.soy_tree.specs.ViewTypes.{view_members, view_fields}
 use Rattle.soy_expr.proofs.TextsLeft.{members_left, fields_left}
 use Rattle.soy_expr.proofs.type_text.+pushing_types.Given as goal

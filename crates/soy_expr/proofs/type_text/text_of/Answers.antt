@@ -1,7 +1,7 @@
 use Rattle.std.proofs.Common.{◌++◌, ℕ, List, ap, ◌∙◌}
 use Rattle.std.specs.Str.{chars}
 use Rattle.std.proofs.lemmas.Str.{chars-nil}
-use Rattle.soy_tree.specs.TypeText.{type_text}
+use Rattle.soy_rules.specs.TypeText.{type_text}
 use Rattle.soy_tree.specs.ViewTypes.{view_type}
 use Rattle.soy_expr.proofs.type_text.text_of.Goals as goal
 

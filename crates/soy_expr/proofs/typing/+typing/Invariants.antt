@@ -1,5 +1,5 @@
 use Rattle.std.proofs.Common.{◌+◌, ◌*◌}
-use Rattle.soy_tree.specs.Cost.{node_count}
+use Rattle.soy_rules.specs.Cost.{node_count}
 use Rattle.soy_tree.specs.ViewExpressions.{view_expr}
 use Rattle.soy_expr.proofs.typing.+typing.Given as goal
 

@@ -1,5 +1,5 @@
 use Rattle.std.proofs.Common.{◌≡◌, drop}
-use Rattle.soy_tree.specs.TypeOf.{variable_type}
+use Rattle.soy_rules.specs.TypeOf.{variable_type}
 use Rattle.soy_expr.specs.ViewScope.{view_vars}
 use Rattle.soy_expr.proofs.variable_types.variable.Given as goal
 

@@ -1,5 +1,5 @@
-use Rattle.soy_meaning.proofs.NestRuns.{runs_nest, same_parts, typed_runs_nest}
-use Rattle.soy_meaning.proofs.TypedRuns.{templates_placed}
+use Rattle.soy_meaning.proofs.Pairs.NestRuns.{runs_nest, same_parts, typed_runs_nest}
+use Rattle.soy_meaning.proofs.Typing.TypedRuns.{templates_placed}
 use Rattle.soy_meaning.proofs.laws.law_alike_nests.Goals as goal
 
 pub returns-clause-alike : goal.returns-clause-alike

@@ -1,4 +1,4 @@
-use Rattle.soy_meaning.proofs.AlikeRuns.{runs_alike, templates_alike}
+use Rattle.soy_meaning.proofs.Pairs.AlikeRuns.{runs_alike, templates_alike}
 use Rattle.soy_meaning.proofs.laws.law_equal_choices.Goals as goal
 
 pub returns-clause-alike : goal.returns-clause-alike

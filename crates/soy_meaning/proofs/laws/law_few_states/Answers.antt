@@ -1,4 +1,4 @@
-use Rattle.soy_meaning.proofs.Walks.{few_ends, few_states}
+use Rattle.soy_meaning.proofs.Walks.Exact.{few_ends, few_states}
 use Rattle.soy_meaning.proofs.laws.law_few_states.Goals as goal
 
 pub returns-clause-points : goal.returns-clause-points

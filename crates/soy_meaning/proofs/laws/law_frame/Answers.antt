@@ -1,4 +1,4 @@
-use Rattle.soy_meaning.proofs.Pages.{frame_law}
+use Rattle.soy_meaning.proofs.Paths.Pages.{frame_law}
 use Rattle.soy_meaning.proofs.laws.law_frame.Goals as goal
 
 pub returns : goal.returns

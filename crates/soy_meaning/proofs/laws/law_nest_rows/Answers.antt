@@ -1,8 +1,8 @@
 use Rattle.std.proofs.Common.{refl}
 use Rattle.bidi_class.specs.Class.{bidi_class}
 use Rattle.bidi_text.specs.Estimate.{first_strong, is_address, word_kind}
-use Rattle.soy_meaning.specs.PathParts.{both, empty_path, hole, passed_by}
-use Rattle.soy_meaning.specs.Pieces.{called_within}
+use Rattle.soy_meaning.specs.Paths.PathParts.{both, empty_path, hole, passed_by}
+use Rattle.soy_pieces.specs.Pieces.{called_within}
 use Rattle.soy_meaning.proofs.laws.law_nest_rows.Goals as goal
 
 pub returns-clause-pieces : goal.returns-clause-pieces

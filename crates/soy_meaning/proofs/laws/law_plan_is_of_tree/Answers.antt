@@ -1,5 +1,5 @@
-use Rattle.soy_meaning.proofs.BlockFrames.{nodes_frames}
-use Rattle.soy_meaning.proofs.WayPlans.{nodes_ways}
+use Rattle.soy_meaning.proofs.Paths.BlockFrames.{nodes_frames}
+use Rattle.soy_meaning.proofs.Paths.WayPlans.{nodes_ways}
 use Rattle.soy_meaning.proofs.laws.law_plan_is_of_tree.Goals as goal
 
 pub returns-clause-paths : goal.returns-clause-paths

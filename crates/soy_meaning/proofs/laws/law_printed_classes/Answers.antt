@@ -1,4 +1,4 @@
-use Rattle.soy_meaning.proofs.PrintedClasses.{printed_value_class}
+use Rattle.soy_meaning.proofs.Typing.PrintedClasses.{printed_value_class}
 use Rattle.soy_meaning.proofs.laws.law_printed_classes.Goals as goal
 
 pub returns : goal.returns

@@ -1,5 +1,5 @@
 use Rattle.std.proofs.Common.{refl}
-use Rattle.soy_meaning.specs.Walk.{turns}
+use Rattle.soy_meaning.specs.Walks.Walk.{turns}
 use Rattle.soy_meaning.proofs.laws.law_rows.Goals as goal
 
 pub returns-clause-second_uri_value : goal.returns-clause-second_uri_value

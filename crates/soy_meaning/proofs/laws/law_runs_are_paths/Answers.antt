@@ -1,5 +1,5 @@
 use Rattle.std.proofs.Common.{refl}
-use Rattle.soy_meaning.proofs.RunPaths.{entry_stops, frame_stands, runs_are_paths}
+use Rattle.soy_meaning.proofs.Runs.RunPaths.{entry_stops, frame_stands, runs_are_paths}
 use Rattle.soy_meaning.proofs.laws.law_runs_are_paths.Goals as goal
 
 pub returns-clause-runs : goal.returns-clause-runs

@@ -1,4 +1,4 @@
-use Rattle.soy_meaning.proofs.ReadRuns.{runs_are_read, runs_fill_holes}
+use Rattle.soy_meaning.proofs.Runs.ReadRuns.{runs_are_read, runs_fill_holes}
 use Rattle.soy_meaning.proofs.laws.law_runs_are_read.Goals as goal
 
 pub returns-clause-holes : goal.returns-clause-holes

@@ -1,5 +1,5 @@
-use Rattle.soy_meaning.proofs.TypedPicks.{typed_templates_pick}
-use Rattle.soy_meaning.proofs.TypedRuns.{typed_runs_alike, typed_templates_alike}
+use Rattle.soy_meaning.proofs.Typing.TypedPicks.{typed_templates_pick}
+use Rattle.soy_meaning.proofs.Typing.TypedRuns.{typed_runs_alike, typed_templates_alike}
 use Rattle.soy_meaning.proofs.laws.law_typed_choices.Goals as goal
 
 pub returns-clause-picks : goal.returns-clause-picks

@@ -1,4 +1,4 @@
-use Rattle.soy_meaning.proofs.TypedRuns.{template_placed, typed_run_fits, typed_run_is_read}
+use Rattle.soy_meaning.proofs.Typing.TypedRuns.{template_placed, typed_run_fits, typed_run_is_read}
 use Rattle.soy_meaning.proofs.laws.law_typed_runs.Goals as goal
 
 pub returns-clause-classes : goal.returns-clause-classes

@@ -1,9 +1,9 @@
 use Rattle.std.specs.Prelude.{[]}
-use Rattle.soy_meaning.specs.PageMachine.{page_machine}
-use Rattle.soy_meaning.specs.PlanOfNodes.{trees_plan}
-use Rattle.soy_meaning.specs.Walk.{walked}
-use Rattle.soy_meaning.proofs.PageStates.{page_compares}
-use Rattle.soy_meaning.proofs.Walks.{accepted_when_walked, trees_walked, walked_places}
+use Rattle.soy_meaning.specs.Walks.PageMachine.{page_machine}
+use Rattle.soy_meaning.specs.Paths.PlanOfNodes.{trees_plan}
+use Rattle.soy_meaning.specs.Walks.Walk.{walked}
+use Rattle.soy_meaning.proofs.Walks.PageStates.{page_compares}
+use Rattle.soy_meaning.proofs.Walks.Exact.{accepted_when_walked, trees_walked, walked_places}
 use Rattle.soy_meaning.proofs.laws.law_walk.Goals as goal
 
 pub returns-clause-accepted : goal.returns-clause-accepted

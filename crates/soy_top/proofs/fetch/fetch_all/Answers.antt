@@ -1,6 +1,6 @@
 use Rattle.std.proofs.Common.{rules}
 use Rattle.std.proofs.lemmas.Result.{err_from_is_err_and}
-use Rattle.soy_top.proofs.Fetching.{fetched-step, fetched-all, fetch-stops, none_wanted}
+use Rattle.soy_top.proofs.Contents.Fetching.{fetched-step, fetched-all, fetch-stops, none_wanted}
 use Rattle.soy_top.proofs.fetch.fetch_all.Goals as goal
 
 pub returns-in_err-bytes-clause-fetched : goal.returns-in_err-bytes-clause-fetched

@@ -2,7 +2,7 @@ use Rattle.std.proofs.Common.{◌≡◌, ◌≤◌, [], drop}
 use Rattle.soy_top.specs.Fetched.{view_fetched}
 use Rattle.soy_top.specs.FilesWanted.{known_files}
 use Rattle.soy_top.specs.View.{view_files}
-use Rattle.soy_top.proofs.Fetching.{FetchedSoFar}
+use Rattle.soy_top.proofs.Contents.Fetching.{FetchedSoFar}
 use Rattle.soy_top.proofs.fetch.fetch_all.Given as goal
 
 abbrev pub invariant-loop-file : goal.invariant-loop-file

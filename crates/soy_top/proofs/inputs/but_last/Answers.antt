@@ -1,4 +1,4 @@
-use Rattle.soy_top.proofs.LastContents.{view_but_last}
+use Rattle.soy_top.proofs.Contents.LastContents.{view_but_last}
 use Rattle.soy_top.proofs.inputs.but_last.Goals as goal
 
 pub returns : goal.returns

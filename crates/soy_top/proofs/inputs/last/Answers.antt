@@ -1,7 +1,7 @@
 use Rattle.std.proofs.Common.{ap, ◌∙◌}
 use Rattle.std.proofs.lemmas.List.{take_rest}
 use Rattle.soy_front.specs.ViewSources.{view_contents}
-use Rattle.soy_top.proofs.LastContents.{view_last}
+use Rattle.soy_top.proofs.Contents.LastContents.{view_last}
 use Rattle.soy_top.proofs.inputs.last.Goals as goal
 
 pub returns : goal.returns

@@ -1,4 +1,4 @@
-use Rattle.soy_top.proofs.PlayedDesk.{desk_shows}
+use Rattle.soy_top.proofs.Plays.PlayedDesk.{desk_shows}
 use Rattle.soy_top.proofs.laws.law_desk_shows.Goals as goal
 
 pub returns : goal.returns

@@ -1,4 +1,4 @@
-use Rattle.soy_top.proofs.PlayChecks.{compiled_left}
+use Rattle.soy_top.proofs.Plays.PlayChecks.{compiled_left}
 use Rattle.soy_tree.specs.ViewValues.{view_value}
 use Rattle.soy_top.proofs.laws.law_first_left.Goals as goal
 

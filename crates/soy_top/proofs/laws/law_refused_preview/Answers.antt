@@ -1,4 +1,4 @@
-use Rattle.soy_top.proofs.PreviewAnswers.{preview_refused, refused_preview}
+use Rattle.soy_top.proofs.Previews.PreviewAnswers.{preview_refused, refused_preview}
 use Rattle.soy_top.proofs.laws.law_refused_preview.Goals as goal
 
 pub returns-clause-refused : goal.returns-clause-refused

@@ -1,6 +1,6 @@
 use Rattle.std.proofs.Common.{refl, codes}
 use Rattle.std.proofs.lemmas.Result.{IfOk-weaker}
-use Rattle.soy_top.specs.Played.{named_line}
+use Rattle.soy_top.specs.Scripts.Played.{named_line}
 use Rattle.soy_top.proofs.CheckedLines.{close_shows}
 use Rattle.soy_top.proofs.play.close.Goals as goal
 

@@ -4,7 +4,7 @@ use Rattle.soy_base.specs.declared.memory.Refusal.TheVariants.{Because}
 use Rattle.std.proofs.lemmas.Result.{IfOk-weaker}
 use Rattle.soy_desk.specs.DeskRun.{DeskAnswer, PullCall}
 use Rattle.soy_top.specs.Line.{ended}
-use Rattle.soy_top.specs.Played.{given_line, named_line}
+use Rattle.soy_top.specs.Scripts.Played.{given_line, named_line}
 use Rattle.soy_top.proofs.CheckedLines.{pull_shows}
 use Rattle.soy_top.proofs.play.pull.Goals as goal
 

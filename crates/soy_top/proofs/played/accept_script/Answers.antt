@@ -1,8 +1,8 @@
 use Rattle.std.proofs.Common.{subst, ◌∙◌}
 use Rattle.soy_base.specs.declared.code.Code.TheVariants as code
-use Rattle.soy_top.specs.AcceptsScript.{AcceptsScript}
+use Rattle.soy_top.specs.Scripts.AcceptsScript.{AcceptsScript}
 use Rattle.soy_top.specs.Line.{fault_line}
-use Rattle.soy_top.proofs.PlayChecks.{bytes_refused}
+use Rattle.soy_top.proofs.Plays.PlayChecks.{bytes_refused}
 use Rattle.soy_top.proofs.played.accept_script.Goals as goal
 
 pub returns-in-Ok : goal.returns-in-Ok

@@ -3,7 +3,7 @@ use Rattle.soy_front.specs.ViewSources.{view_contents}
 use Rattle.soy_top.specs.Answer.{play_answer}
 use Rattle.soy_top.specs.Words.{command_words}
 use Rattle.soy_top.proofs.Answering.{compiled_then}
-use Rattle.soy_top.proofs.PlayChecks.{compiled_files}
+use Rattle.soy_top.proofs.Plays.PlayChecks.{compiled_files}
 use Rattle.soy_top.proofs.played.accept_second.Goals as goal
 
 pub compile_read_front-requires : goal.compile_read_front-requires

@@ -1,8 +1,8 @@
 use Rattle.std.proofs.Common.{ap, subst, sym, ◌∙◌}
 use Rattle.std.specs.Str.{IsUtf8}
 use Rattle.soy_top.specs.Answer.{play_answer}
-use Rattle.soy_top.specs.ScriptSteps.{step_line}
-use Rattle.soy_top.proofs.PlayChecks.{script_played, script_refused}
+use Rattle.soy_top.specs.Scripts.ScriptSteps.{step_line}
+use Rattle.soy_top.proofs.Plays.PlayChecks.{script_played, script_refused}
 use Rattle.soy_top.proofs.played.accept_steps.Goals as goal
 
 pub returns-in-Ok : goal.returns-in-Ok

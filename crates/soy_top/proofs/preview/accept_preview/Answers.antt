@@ -3,7 +3,7 @@ use Rattle.soy_front.specs.ViewSources.{view_contents}
 use Rattle.soy_top.specs.Answer.{accepted_then, preview_answer, seen_page}
 use Rattle.soy_top.specs.Words.{command_words}
 use Rattle.soy_top.proofs.Answering.{contents_same}
-use Rattle.soy_top.proofs.ShownPages.{shown_accepted}
+use Rattle.soy_top.proofs.Previews.ShownPages.{shown_accepted}
 use Rattle.soy_top.proofs.preview.accept_preview.Goals as goal
 
 pub returns-in-Ok : goal.returns-in-Ok

@@ -3,9 +3,9 @@ use Rattle.soy_front.specs.ViewSources.{view_contents}
 use Rattle.soy_top.specs.Answer.{preview_answer, shown_of}
 use Rattle.soy_top.specs.Words.{command_words}
 use Rattle.soy_top.proofs.Pages.{shown_numbered}
-use Rattle.soy_top.proofs.ShownNumbers.{shown_html}
-use Rattle.soy_top.proofs.ShownPages.{shown_refused, shown_then}
-use Rattle.soy_tree.specs.Templates.{declared}
+use Rattle.soy_top.proofs.Previews.ShownNumbers.{shown_html}
+use Rattle.soy_top.proofs.Previews.ShownPages.{shown_refused, shown_then}
+use Rattle.soy_rules.specs.Templates.{declared}
 use Rattle.soy_tree.specs.ViewTrees.{view_trees}
 use Rattle.soy_top.proofs.preview.accept_shown.Goals as goal
 

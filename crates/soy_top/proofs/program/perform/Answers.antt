@@ -2,10 +2,10 @@ use Rattle.std.proofs.Common.{◌∙◌, ap, sym}
 use Rattle.std.proofs.lemmas.Result.{err_from_is_err_and}
 use Rattle.soy_top.specs.View.{view_command, view_files}
 use Rattle.soy_front.specs.ViewSources.{view_contents}
-use Rattle.soy_top.specs.ViewOutput.{view_output}
+use Rattle.soy_top.specs.Runs.ViewOutput.{view_output}
 use Rattle.soy_top.specs.Words.{command_words}
 use Rattle.soy_top.proofs.Answering.{answer-fetched, answer-same, may_end-fetched, may_end-refusal}
-use Rattle.soy_top.proofs.FewFiles.{few-files}
+use Rattle.soy_top.proofs.Contents.FewFiles.{few-files}
 use Rattle.soy_top.proofs.program.perform.Goals as goal
 
 pub accept-requires : goal.accept-requires

@@ -4,7 +4,7 @@ use Rattle.soy_top.specs.Line.{ended}
 use Rattle.soy_top.specs.Pointer.{pointer_line}
 use Rattle.soy_top.proofs.HtmlTexts.{html_text}
 use Rattle.soy_top.proofs.Pages.{fault_answered, page_answered}
-use Rattle.soy_tree.specs.Typed.{AreTyped}
+use Rattle.soy_rules.specs.Typed.{AreTyped}
 use Rattle.soy_tree.specs.ViewTrees.{view_params}
 use Rattle.soy_tree.specs.ViewValues.{view_value}
 use Rattle.soy_types.specs.ReadData.{data_at}

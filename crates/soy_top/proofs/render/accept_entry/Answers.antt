@@ -4,10 +4,10 @@ use Rattle.soy_top.specs.Line.{entry_line}
 use Rattle.soy_top.specs.Answer.{run_text}
 use Rattle.soy_top.specs.Shown.{IsHtml}
 use Rattle.soy_top.specs.ShownPage.{IsPageText}
-use Rattle.soy_top.specs.ViewOutput.{page_run}
+use Rattle.soy_top.specs.Runs.ViewOutput.{page_run}
 use Rattle.soy_top.proofs.Pages.{numbered_found, numbered_missing}
-use Rattle.soy_top.proofs.ShownPages.{numbered_there}
-use Rattle.soy_tree.specs.Templates.{declared}
+use Rattle.soy_top.proofs.Previews.ShownPages.{numbered_there}
+use Rattle.soy_rules.specs.Templates.{declared}
 use Rattle.soy_tree.specs.ViewTrees.{view_trees}
 use Rattle.soy_top.proofs.render.accept_entry.Goals as goal
 

@@ -1,7 +1,7 @@
 use Rattle.std.proofs.Common.{ap, sym, ◌∙◌, ◌∷◌}
 use Rattle.std.specs.Str.{chars}
 use Rattle.soy_base.specs.Parts.{parts_left}
-use Rattle.soy_top.proofs.ScriptTexts.{first_of_lines}
+use Rattle.soy_top.proofs.Plays.ScriptTexts.{first_of_lines}
 use Rattle.soy_top.proofs.script.first_line.Goals as goal
 
 pub returns-else-is_empty-clause-lines : goal.returns-else-is_empty-clause-lines

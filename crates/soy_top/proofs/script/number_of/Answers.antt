@@ -1,8 +1,8 @@
 use Rattle.std.proofs.Common.{◌≡◌, true, ◌∙◌, arith}
 use Rattle.std.proofs.lemmas.Bool.Decides.{nat_tests}
 use Rattle.std.specs.Str.{chars}
-use Rattle.soy_top.specs.Script.{is_numeral}
-use Rattle.soy_top.proofs.ScriptTexts.{parsed_numeral}
+use Rattle.soy_top.specs.Scripts.Script.{is_numeral}
+use Rattle.soy_top.proofs.Plays.ScriptTexts.{parsed_numeral}
 use Rattle.soy_top.proofs.script.number_of.Goals as goal
 
 pub returns : goal.returns

@@ -1,7 +1,7 @@
 use Rattle.std.proofs.Common.{◌∙◌, ap, sym, option_map}
 use Rattle.std.specs.Str.{chars}
-use Rattle.soy_top.specs.Script.{close_line, open_line, publish_line, pull_line}
-use Rattle.soy_top.proofs.ScriptTexts.{chosen, passed}
+use Rattle.soy_top.specs.Scripts.Script.{close_line, open_line, publish_line, pull_line}
+use Rattle.soy_top.proofs.Plays.ScriptTexts.{chosen, passed}
 use Rattle.soy_top.proofs.script.read_line.Goals as goal
 
 pub returns-in-Some : goal.returns-in-Some

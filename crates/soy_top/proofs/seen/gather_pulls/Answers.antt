@@ -2,8 +2,8 @@ use Rattle.std.proofs.Common.{◌≡◌, ℕ, List, length, refl, sym, ap, ◌�
 use Rattle.render_core.specs.Rest.{rest_bytes, rest_end, rest_of}
 use Rattle.soy_tree.specs.ViewValues.{view_value}
 use Rattle.soy_top.specs.Answer.{run_text}
-use Rattle.soy_top.specs.ViewOutput.{page_run}
-use Rattle.soy_top.proofs.Gathering.{gathered_none, gathered_whole, gathered_with}
+use Rattle.soy_top.specs.Runs.ViewOutput.{page_run}
+use Rattle.soy_top.proofs.Previews.Gathering.{gathered_none, gathered_whole, gathered_with}
 use Rattle.soy_top.proofs.Pulling.{done_whole, end_solid, pulled_none, pulled_stop, text_solid}
 use Rattle.soy_top.proofs.seen.gather_pulls.Goals as goal
 

@@ -1,9 +1,9 @@
 use Rattle.std.proofs.Common.{◌≡◌, ◌≤◌, ◌<◌, ◌++◌, length}
 use Rattle.render_core.specs.Rest.{Fits, rest_bytes, rest_end, rest_of}
-use Rattle.soy_meaning.specs.Outcome.{end_of_outcome}
+use Rattle.soy_pieces.specs.Outcome.{end_of_outcome}
 use Rattle.soy_tree.specs.ViewValues.{view_value}
 use Rattle.soy_top.specs.Answer.{run_text}
-use Rattle.soy_top.specs.ViewOutput.{page_run}
+use Rattle.soy_top.specs.Runs.ViewOutput.{page_run}
 use Rattle.soy_top.proofs.seen.gather_pulls.Given as goal
 
 abbrev pub invariant-loop-bytes : goal.invariant-loop-bytes

@@ -1,9 +1,9 @@
 use Rattle.std.proofs.Common.{subst}
 use Rattle.soy_front.specs.ViewSources.{view_contents}
 use Rattle.soy_top.specs.ShownPage.{IsGathered}
-use Rattle.soy_top.specs.ViewOutput.{page_run}
+use Rattle.soy_top.specs.Runs.ViewOutput.{page_run}
 use Rattle.soy_top.specs.Words.{command_words}
-use Rattle.soy_top.proofs.ShownPages.{shown_long}
+use Rattle.soy_top.proofs.Previews.ShownPages.{shown_long}
 use Rattle.soy_top.proofs.seen.show.Goals as goal
 
 pub returns-in-TooLong : goal.returns-in-TooLong

@@ -1,6 +1,6 @@
 use Rattle.std.proofs.Common.{◌≡◌, refl, ap, ◌∙◌, arith}
 use Rattle.render_core.specs.Rest.{rest_bytes}
-use Rattle.soy_top.specs.ViewOutput.{page_run}
+use Rattle.soy_top.specs.Runs.ViewOutput.{page_run}
 use Rattle.soy_top.proofs.Pulling.{done_whole, pulled_none, pulled_stop, text_solid}
 use Rattle.soy_top.proofs.Sums.{summed_more, summed_none, summed_whole}
 use Rattle.soy_top.proofs.summary.sum_pulls.Goals as goal

@@ -2,7 +2,7 @@ use Rattle.std.proofs.Common.{◌<◌, length}
 use Rattle.render_core.specs.Rest.{Fits, rest_bytes, rest_of}
 use Rattle.soy_tree.specs.ViewValues.{view_value}
 use Rattle.soy_top.specs.Answer.{run_text}
-use Rattle.soy_top.specs.ViewOutput.{page_run}
+use Rattle.soy_top.specs.Runs.ViewOutput.{page_run}
 use Rattle.soy_top.proofs.Sums.{SummedSoFar}
 use Rattle.soy_top.proofs.summary.sum_pulls.Given as goal
 

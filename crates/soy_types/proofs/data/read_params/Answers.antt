@@ -8,7 +8,7 @@ use Rattle.soy_types.specs.Paths.{all_read}
 use Rattle.soy_types.specs.ReadData.{param_results}
 use Rattle.std.proofs.Common.{◌++◌, map, ap, ◌∙◌}
 use Rattle.serde_json.specs.View.{view}
-use Rattle.soy_tree.specs.Templates.{param_type}
+use Rattle.soy_rules.specs.Templates.{param_type}
 use Rattle.soy_tree.specs.Values.{RecordValue}
 use Rattle.soy_tree.specs.ViewTrees.{view_param}
 use Rattle.soy_tree.specs.ViewValues.{entries_of, view_entry, view_value}

@@ -2,7 +2,7 @@ use Rattle.std.proofs.Common.{◌≡◌, ◌++◌, drop, map}
 use Rattle.serde_json.specs.View.{view}
 use Rattle.soy_tree.specs.ViewTrees.{view_params}
 use Rattle.soy_tree.specs.ViewValues.{entries_of, view_entry}
-use Rattle.soy_tree.specs.ShortLists.{EntriesShort}
+use Rattle.soy_rules.specs.ShortLists.{EntriesShort}
 use Rattle.soy_types.specs.Paths.{all_read, onward}
 use Rattle.soy_types.specs.ReadData.{param_results}
 use Rattle.soy_types.proofs.data.read_params.Given as goal

@@ -1,5 +1,5 @@
 use Rattle.std.proofs.Common.{rules, ◌≡◌, ◌≤◌, [], ◌∷◌, ◌++◌, map, length, ap, ◌∙◌, subst, arith, length-append}
-use Rattle.soy_tree.specs.ShortLists.{HasShortLists}
+use Rattle.soy_rules.specs.ShortLists.{HasShortLists}
 use Rattle.soy_types.proofs.Shortness.{entries_short-more, items_short-more, short_list}
 use Rattle.serde_json.specs.declared.value.Value as json
 use Rattle.serde_json.specs.View.{items_view, view}

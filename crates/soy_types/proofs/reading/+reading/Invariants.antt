@@ -2,7 +2,7 @@ use Rattle.std.proofs.Common.{◌≡◌, ◌≤◌, ◌++◌, drop, length, map}
 use Rattle.serde_json.specs.View.{items_view, members_view, view}
 use Rattle.soy_tree.specs.ViewTypes.{view_fields, view_members, view_type}
 use Rattle.soy_tree.specs.ViewValues.{entries_of, items_of, view_entry, view_value}
-use Rattle.soy_tree.specs.ShortLists.{EntriesShort, ItemsShort}
+use Rattle.soy_rules.specs.ShortLists.{EntriesShort, ItemsShort}
 use Rattle.soy_types.specs.Paths.{all_read, onward}
 use Rattle.soy_types.specs.Read.{entry_results, field_results, first_read, item_results, value_at}
 use Rattle.soy_types.proofs.reading.+reading.Given as goal

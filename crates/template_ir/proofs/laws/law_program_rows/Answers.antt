@@ -3,7 +3,7 @@ use Rattle.std.specs.Prelude.{None, Some, codes}
 use Rattle.std.specs.Fmt.{digits}
 use Rattle.bidi_class.specs.Class.{bidi_class}
 use Rattle.bidi_text.specs.Estimate.{first_strong, is_address, word_kind}
-use Rattle.soy_meaning.specs.Pieces.{called_within}
+use Rattle.soy_pieces.specs.Pieces.{called_within}
 use Rattle.template_ir.specs.Run.{all_give, called_at}
 use Rattle.template_ir.specs.ProgramRows.{block, every_branches, every_choices, every_handed, every_words, handed_value}
 use Rattle.template_ir.specs.ProgramRows.{if_some, named_arms, one, one_less, only_one}

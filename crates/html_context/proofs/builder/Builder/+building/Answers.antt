@@ -1,14 +1,16 @@
 use Rattle.std.proofs.Common.{◌≡◌, List, [], ◌∷◌, ◌++◌, Ok, map, option_map, refl, ap, subst, ◌∙◌}
 use Rattle.soy_tree.specs.ViewNodes.{view_arguments, view_arms, view_body, view_cases, view_nodes, view_plural_cases}
-use Rattle.soy_tree.specs.Narrowing.{narrowed}
+use Rattle.soy_rules.specs.Narrowing.{narrowed}
 use Rattle.soy_tree.specs.ViewExpressions.{view_expr}
 use Rattle.soy_tree.specs.ViewNodes.{fallback_of, view_given, view_message, view_node, view_select_cases}
 use Rattle.soy_tree.specs.declared.node.Arm as code_arm
 use Rattle.soy_tree.specs.declared.soy_type.Field.{Field}
 use Rattle.soy_expr.specs.ViewScope.{view_vars}
-use Rattle.soy_meaning.specs.Plan.{Then, arms_meet}
-use Rattle.soy_meaning.specs.PlanOfNodes.{argument_frames, arm_plans, body_plan, case_plans, nodes_plan, plural_plans}
-use Rattle.soy_meaning.specs.PlanOfNodes.{fallback_plans, given_frame, scope_past, select_plans, translation_plans}
+use Rattle.soy_meaning.specs.Paths.Plan.{Then, arms_meet}
+use Rattle.soy_meaning.specs.Paths.PlanOfNodes.{argument_frames, arm_plans, body_plan, case_plans, nodes_plan}
+use Rattle.soy_meaning.specs.Paths.PlanOfNodes.{plural_plans}
+use Rattle.soy_meaning.specs.Paths.PlanOfNodes.{fallback_plans, given_frame, scope_past, select_plans}
+use Rattle.soy_meaning.specs.Paths.PlanOfNodes.{translation_plans}
 use Rattle.html_context.specs.Grows.{Grows}
 use Rattle.html_context.specs.PutBack.{put_back}
 use Rattle.html_context.specs.RowPlans.{plan_at}

@@ -10,9 +10,10 @@ use Rattle.soy_tree.specs.declared.node.MessageBody.{size-MessageBody}
 use Rattle.soy_tree.specs.declared.node.PluralCase.{size-PluralCase}
 use Rattle.soy_tree.specs.declared.node.SelectCase.{size-SelectCase}
 use Rattle.soy_expr.specs.ViewScope.{view_vars}
-use Rattle.soy_meaning.specs.Plan.{Then}
-use Rattle.soy_meaning.specs.PlanOfNodes.{argument_frames, arm_plans, body_plan, case_plans, nodes_plan, plural_plans}
-use Rattle.soy_meaning.specs.PlanOfNodes.{select_plans}
+use Rattle.soy_meaning.specs.Paths.Plan.{Then}
+use Rattle.soy_meaning.specs.Paths.PlanOfNodes.{argument_frames, arm_plans, body_plan, case_plans, nodes_plan}
+use Rattle.soy_meaning.specs.Paths.PlanOfNodes.{plural_plans}
+use Rattle.soy_meaning.specs.Paths.PlanOfNodes.{select_plans}
 use Rattle.html_context.specs.Grows.{Grows}
 use Rattle.html_context.specs.RowPlans.{plan_at}
 use Rattle.html_context.specs.StandsFor.{walk_of}

@@ -1,6 +1,6 @@
 use Rattle.std.proofs.Common.{◌∙◌}
-use Rattle.soy_tree.specs.Templates.{callee}
-use Rattle.soy_tree.specs.ViewTemplates.{view_all}
+use Rattle.soy_rules.specs.Templates.{callee}
+use Rattle.soy_rules.specs.ViewTemplates.{view_all}
 use Rattle.html_context.proofs.BuiltRows.{written_no_classes}
 use Rattle.html_context.proofs.builder.Builder.call.Goals as goal
 

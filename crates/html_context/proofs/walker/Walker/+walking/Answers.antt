@@ -2,10 +2,10 @@ use Rattle.std.proofs.Common.{◌≡◌, ℕ, ◌-◌, ◌<◌, ◌≤◌, List,
 use Rattle.std.proofs.lemmas.Result.{err_from_is_err_and}
 use Rattle.soy_base.specs.declared.place.Place.{Place}
 use Rattle.html_state.specs.declared.row.State.{State}
-use Rattle.soy_meaning.specs.PageMachine.{page_machine}
-use Rattle.soy_meaning.specs.Plan.{arms_meet}
-use Rattle.soy_meaning.specs.States.{joined_states}
-use Rattle.soy_meaning.specs.Walk.{turns, walk, walked, within_limit}
+use Rattle.soy_meaning.specs.Walks.PageMachine.{page_machine}
+use Rattle.soy_meaning.specs.Paths.Plan.{arms_meet}
+use Rattle.soy_meaning.specs.Walks.States.{joined_states}
+use Rattle.soy_meaning.specs.Walks.Walk.{turns, walk, walked, within_limit}
 use Rattle.html_context.specs.RowPlans.{plan_below}
 use Rattle.html_context.specs.Walks.{Walks, view_site}
 use Rattle.html_context.proofs.Arms.{meet_ends, meet_fails}

@@ -1,7 +1,7 @@
 use Rattle.std.proofs.Common.{◌≡◌, ◌+◌, ◌*◌, ◌-◌, ◌≤◌, [], drop, take, length, map}
-use Rattle.soy_meaning.specs.PageMachine.{page_machine}
-use Rattle.soy_meaning.specs.Plan.{in_turn}
-use Rattle.soy_meaning.specs.Walk.{walk, walked, turns}
+use Rattle.soy_meaning.specs.Walks.PageMachine.{page_machine}
+use Rattle.soy_meaning.specs.Paths.Plan.{in_turn}
+use Rattle.soy_meaning.specs.Walks.Walk.{walk, walked, turns}
 use Rattle.html_context.specs.JoinedArms.{joined_arms}
 use Rattle.html_context.specs.Kept.{AllKept}
 use Rattle.html_context.specs.RowPlans.{plan_below}

@@ -1,5 +1,5 @@
 use Rattle.std.proofs.Common.{◌∙◌, Some, ap, sym}
-use Rattle.soy_tree.specs.FirstNames.{first_number}
+use Rattle.soy_rules.specs.FirstNames.{first_number}
 use Rattle.msg_extract.specs.Translations.{translation_of}
 use Rattle.msg_extract.proofs.FoundTranslations.{found_parts, parts_found}
 use Rattle.msg_extract.proofs.translations.Translations.parts.Goals as goal

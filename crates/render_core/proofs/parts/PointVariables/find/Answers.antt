@@ -1,6 +1,6 @@
 use Rattle.std.proofs.Common.{◌≡◌, sym, ap, ◌∙◌, subst}
 use Rattle.std.specs.Prelude.{IfOk}
-use Rattle.soy_tree.specs.Val.{Binding}
+use Rattle.soy_rules.specs.Val.{Binding}
 use Rattle.soy_expr.specs.ForgottenBlocks.{forgotten}
 use Rattle.soy_expr.specs.ViewEvaluated.{IsBinding}
 use Rattle.render_core.specs.Seen.{cells_seen, env_seen}

@@ -2,16 +2,16 @@ use Rattle.std.proofs.Common.{ap, ◌∙◌, sym, length, ◌≤◌, arith, ℕ,
 use Rattle.std.specs.List.{slice_get}
 use Rattle.soy_tree.specs.ViewTrees.{view_params}
 use Rattle.soy_tree.specs.ViewValues.{view_value}
-use Rattle.template_ir.specs.Run.{input_env, names_of}
+use Rattle.soy_pieces.specs.InputEnv.{input_env, names_of}
 use Rattle.soy_tree.specs.declared.tree.Param.{Param}
 use Rattle.template_ir.specs.declared.program.Routine.{Routine}
-use Rattle.render_core.specs.Variables.{cells_of, env_at, param_name, param_of}
+use Rattle.render_core.specs.Variables.{cells_of, env_at, param_name, name_of_param}
 use Rattle.render_core.proofs.Begins.{entry_fits, rest_some}
 use Rattle.render_core.proofs.rendering.Rendering.begin_routine.Goals as goal
 
 pub bind_params-requires-clause-params : goal.bind_params-requires-clause-params
 bind_params-requires-clause-params c =
-    λ (number : ℕ). ap (λ (ps : List Param). param_of (slice_get ps number)) c.items.ensures
+    λ (number : ℕ). ap (λ (ps : List Param). name_of_param (slice_get ps number)) c.items.ensures
     ∙ sym (ap (λ (r : Option Routine). param_name number r) c.requires.routine)
 
 pub returns-in-Ok-clause-fits : goal.returns-in-Ok-clause-fits

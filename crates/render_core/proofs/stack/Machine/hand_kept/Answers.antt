@@ -1,7 +1,7 @@
 use Rattle.std.proofs.Common.{arith}
 use Rattle.soy_tree.specs.ViewValues.{view_value}
-use Rattle.soy_meaning.specs.Giving.{RunEnv}
-use Rattle.soy_meaning.specs.Outcome.{none_spent}
+use Rattle.soy_pieces.specs.Giving.{RunEnv}
+use Rattle.soy_pieces.specs.Outcome.{none_spent}
 use Rattle.render_core.specs.Variables.{cells_of, env_at}
 use Rattle.render_core.specs.declared.held.Held.TheVariants as held
 use Rattle.render_core.proofs.Handings.{hand_goes, kept_bound, kept_gives_none}

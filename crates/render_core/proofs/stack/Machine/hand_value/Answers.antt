@@ -1,7 +1,7 @@
 use Rattle.std.proofs.Common.{Ok, arith}
 use Rattle.soy_tree.specs.ViewExpressions.{view_expr}
 use Rattle.soy_tree.specs.ViewValues.{view_value}
-use Rattle.soy_meaning.specs.Giving.{RunEnv}
+use Rattle.soy_pieces.specs.Giving.{RunEnv}
 use Rattle.render_core.specs.Variables.{cells_of, env_at}
 use Rattle.render_core.proofs.Handings.{hand_goes, hand_stays, value_bound, value_gives_cost, value_spent}
 use Rattle.render_core.proofs.Moves.{same_self}

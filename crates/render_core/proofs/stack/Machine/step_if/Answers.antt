@@ -1,7 +1,7 @@
 use Rattle.std.proofs.Common.{◌≡◌, ℕ, ◌+◌, pos, List, Option, map, arith, subst}
 use Rattle.soy_tree.specs.ViewValues.{view_value}
 use Rattle.soy_expr.specs.Evaluates.{IsWithin}
-use Rattle.soy_meaning.specs.Giving.{RunEnv}
+use Rattle.soy_pieces.specs.Giving.{RunEnv}
 use Rattle.template_ir.specs.Run.{arm_gives}
 use Rattle.template_ir.specs.ViewOps.{view_branch}
 use Rattle.template_ir.specs.declared.op.Block.{Block}

@@ -1,6 +1,6 @@
 use Rattle.std.proofs.Common.{arith}
 use Rattle.soy_tree.specs.ViewValues.{view_value}
-use Rattle.soy_meaning.specs.Giving.{RunEnv}
+use Rattle.soy_pieces.specs.Giving.{RunEnv}
 use Rattle.template_ir.specs.declared.op.Op.TheVariants as op
 use Rattle.render_core.specs.Variables.{cells_of, env_at}
 use Rattle.render_core.specs.declared.held.Held.TheVariants as held

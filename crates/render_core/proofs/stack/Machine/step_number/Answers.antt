@@ -2,7 +2,7 @@ use Rattle.std.proofs.Common.{◌≡◌, ◌+◌, ◌≤◌, refl, arith, rules}
 use mir.Facts.{to_z-of_z}
 use mir.Syntax.{w64}
 use mir.Val.{SFits}
-use Rattle.soy_tree.specs.Val.{Known}
+use Rattle.soy_rules.specs.Val.{Known}
 use Rattle.soy_tree.specs.Values.{IntValue}
 use Rattle.soy_tree.specs.ViewValues.{view_value}
 use Rattle.template_ir.specs.Run.{value_gives}

@@ -2,14 +2,14 @@ use Rattle.std.proofs.Common.{◌≡◌, ◌+◌, refl, arith, rules, subst}
 use mir.Facts.{to_z-of_z}
 use mir.Syntax.{w64}
 use mir.Val.{SFits}
-use Rattle.soy_tree.specs.Cost.{cost}
+use Rattle.soy_rules.specs.Cost.{cost}
 use Rattle.soy_tree.specs.ViewExpressions.{view_expr}
 use Rattle.soy_tree.specs.ViewValues.{view_value}
 use Rattle.soy_expr.specs.Evaluates.{IsWithin}
-use Rattle.soy_meaning.specs.Branch.{int_of}
-use Rattle.soy_meaning.specs.Giving.{RunEnv}
-use Rattle.soy_meaning.specs.Outcome.{Outcome}
-use Rattle.soy_meaning.specs.Pieces.{valued}
+use Rattle.soy_pieces.specs.Branch.{int_of}
+use Rattle.soy_pieces.specs.Giving.{RunEnv}
+use Rattle.soy_pieces.specs.Outcome.{Outcome}
+use Rattle.soy_pieces.specs.Pieces.{valued}
 use Rattle.template_ir.specs.declared.op.Op.TheVariants as op
 use Rattle.render_core.specs.Frames.{means_before}
 use Rattle.render_core.specs.Stepping.{GoesIn}

@@ -1,9 +1,9 @@
 use Rattle.std.proofs.Common.{Ok, length, refl, arith, ◌∙◌, subst}
-use Rattle.soy_tree.specs.Cost.{cost}
-use Rattle.soy_tree.specs.Val.{Binding, val}
+use Rattle.soy_rules.specs.Cost.{cost}
+use Rattle.soy_rules.specs.Val.{Binding, val}
 use Rattle.soy_tree.specs.ViewExpressions.{view_expr}
 use Rattle.soy_tree.specs.ViewValues.{view_value}
-use Rattle.soy_meaning.specs.Giving.{BoundBlock, RunEnv}
+use Rattle.soy_pieces.specs.Giving.{BoundBlock, RunEnv}
 use Rattle.template_ir.specs.Run.{print_gives}
 use Rattle.template_ir.specs.declared.op.Op.TheVariants as op
 use Rattle.render_core.specs.Finds.{found_means}

@@ -1,10 +1,10 @@
 use Rattle.std.proofs.Common.{Ok, refl, sym, ap, ◌∙◌, arith}
 use Rattle.soy_tree.specs.ViewValues.{view_value}
-use Rattle.soy_meaning.specs.Giving.{RunEnv}
+use Rattle.soy_pieces.specs.Giving.{RunEnv}
 use Rattle.template_ir.specs.declared.op.Op.TheVariants as op
 use Rattle.render_core.specs.Variables.{cells_of, env_at}
-use Rattle.html_state.specs.AfterPieces.{Static}
-use Rattle.soy_meaning.specs.Outcome.{GivesPiece, Outcome, gives_nothing, none_spent, spent_first}
+use Rattle.soy_base.specs.Piece.{Static}
+use Rattle.soy_pieces.specs.Outcome.{GivesPiece, Outcome, gives_nothing, none_spent, spent_first}
 use Rattle.template_ir.specs.Run.{one_step}
 use Rattle.render_core.specs.declared.frame.Frame.TheVariants as frame
 use Rattle.render_core.specs.declared.stack.Machine.{Machine}

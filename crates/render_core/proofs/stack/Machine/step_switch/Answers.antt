@@ -1,11 +1,11 @@
 use Rattle.std.proofs.Common.{◌≡◌, ℕ, ◌+◌, pos, List, Option, map, refl, arith, subst}
-use Rattle.soy_tree.specs.Cost.{cost}
+use Rattle.soy_rules.specs.Cost.{cost}
 use Rattle.soy_tree.specs.ViewExpressions.{view_expr}
 use Rattle.soy_tree.specs.ViewValues.{view_value}
 use Rattle.soy_tree.specs.declared.expr.Expr.{Expr}
 use Rattle.soy_expr.specs.Evaluates.{IsWithin}
-use Rattle.soy_meaning.specs.Giving.{RunEnv}
-use Rattle.soy_meaning.specs.Pieces.{valued}
+use Rattle.soy_pieces.specs.Giving.{RunEnv}
+use Rattle.soy_pieces.specs.Pieces.{valued}
 use Rattle.template_ir.specs.Run.{arm_gives}
 use Rattle.template_ir.specs.ViewOps.{view_choice}
 use Rattle.template_ir.specs.declared.op.Block.{Block}

@@ -1,6 +1,6 @@
 use Rattle.std.proofs.Common.{◌∙◌, List, ap, option_map, ℕ}
 use Rattle.std.specs.Str.{chars}
-use Rattle.soy_tree.specs.Bodies.{param_of}
+use Rattle.soy_rules.specs.Bodies.{param_of}
 use Rattle.soy_tree.specs.ViewTrees.{view_param, view_params}
 use Rattle.soy_check.proofs.FirstOfNames.{first_named_view, view_through_borrows}
 use Rattle.soy_check.proofs.template.Indexed.find.Goals as goal

@@ -4,7 +4,7 @@ use Rattle.soy_io.proofs.AddedParts.{added-nil}
 use Rattle.soy_front.specs.ViewSources.{view_contents}
 use Rattle.soy_top.specs.declared.output.End.TheVariants as end
 use Rattle.soy_top.specs.Answer.{run_text}
-use Rattle.soy_top.specs.ViewOutput.{IsEnd, page_run, view_end}
+use Rattle.soy_top.specs.Runs.ViewOutput.{IsEnd, page_run, view_end}
 use Rattle.soy_top.specs.Words.{command_words}
 use Rattle.soy_top.proofs.Took.{PutSoFar, left_within, prefix_of_prefix, put_more, put_none, put_part, put_whole}
 use Rattle.soy_top.proofs.Pulling.{done_whole, end_solid, left_fewer, no_text_by, pulled_none, pulled_stop}

@@ -1,9 +1,9 @@
 use Rattle.std.proofs.Common.{◌+◌, Option, None, Ok, Err, length, ap, ◌∙◌, subst, arith}
 use Rattle.std.specs.Str.{chars}
-use Rattle.soy_top.specs.Script.{ScriptLine, script_lines}
-use Rattle.soy_top.specs.ViewPlay.{ChecksLine}
-use Rattle.soy_top.specs.ViewPlay.Checks.{Ended}
-use Rattle.soy_top.specs.ViewScript.{lines_left}
+use Rattle.soy_top.specs.Scripts.Script.{ScriptLine, script_lines}
+use Rattle.soy_top.specs.Scripts.ViewPlay.{ChecksLine}
+use Rattle.soy_top.specs.Scripts.ViewPlay.Checks.{Ended}
+use Rattle.soy_top.specs.Scripts.ViewScript.{lines_left}
 use Rattle.soy_top.proofs.CheckedLines.{Ends, fewer_left, line_passed, line_stopped, some_left}
 use Rattle.soy_top.proofs.play.Play.check.Goals as goal
 

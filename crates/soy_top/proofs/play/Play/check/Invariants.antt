@@ -1,7 +1,7 @@
 use Rattle.std.proofs.Common.{◌≤◌, ◌+◌, length}
 use Rattle.std.specs.Str.{chars}
-use Rattle.soy_top.specs.Script.{script_lines}
-use Rattle.soy_top.specs.ViewScript.{lines_left}
+use Rattle.soy_top.specs.Scripts.Script.{script_lines}
+use Rattle.soy_top.specs.Scripts.ViewScript.{lines_left}
 use Rattle.soy_top.proofs.CheckedLines.{Ends, left_count}
 use Rattle.soy_top.proofs.play.Play.check.Given as goal
 

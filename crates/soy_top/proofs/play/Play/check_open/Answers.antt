@@ -3,8 +3,8 @@ use Rattle.std.specs.Prelude.{Result}
 use Rattle.std.specs.Str.{chars}
 use Rattle.soy_base.specs.declared.code.Code.{Code}
 use Rattle.soy_base.specs.declared.memory.Refusal.{Refusal}
-use Rattle.soy_top.specs.Script.{Open}
-use Rattle.soy_top.specs.ViewPlay.{ChecksLine}
+use Rattle.soy_top.specs.Scripts.Script.{Open}
+use Rattle.soy_top.specs.Scripts.ViewPlay.{ChecksLine}
 use Rattle.soy_top.proofs.CheckedLines.{open_passes, open_stops}
 use Rattle.soy_top.proofs.play.Play.check_open.Goals as goal
 use Rattle.soy_top.proofs.play.Play.check_open.Goals.{in-Ok, in-Err}

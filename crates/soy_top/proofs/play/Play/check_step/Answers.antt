@@ -1,7 +1,7 @@
 use Rattle.std.proofs.Common.{Ok, Some, refl, subst, sym}
-use Rattle.soy_top.specs.Played.{Closes, Publishes, Pulls}
-use Rattle.soy_top.specs.ViewPlay.{ChecksLine}
-use Rattle.soy_top.specs.ViewScript.{view_line}
+use Rattle.soy_top.specs.Scripts.Played.{Closes, Publishes, Pulls}
+use Rattle.soy_top.specs.Scripts.ViewPlay.{ChecksLine}
+use Rattle.soy_top.specs.Scripts.ViewScript.{view_line}
 use Rattle.soy_top.specs.declared.script.ScriptLine as code_line
 use Rattle.soy_top.proofs.play.Play.check_step.Goals as goal
 

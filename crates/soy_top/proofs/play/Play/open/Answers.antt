@@ -1,10 +1,10 @@
 use Rattle.std.proofs.Common.{Ok, Err, refl, subst, sym, codes}
 use Rattle.std.proofs.lemmas.Result.{IfOk-weaker}
 use Rattle.std.specs.Str.{chars}
-use Rattle.soy_top.specs.Played.{full_line, named_line}
+use Rattle.soy_top.specs.Scripts.Played.{full_line, named_line}
 use Rattle.soy_base.specs.declared.memory.Refusal.{Refusal}
 use Rattle.soy_desk.specs.declared.fault.Full.{Full}
-use Rattle.soy_top.specs.DeskLines.{OpenShows}
+use Rattle.soy_top.specs.Scripts.DeskLines.{OpenShows}
 use Rattle.soy_top.proofs.CheckedLines.{open_shows}
 use Rattle.soy_top.proofs.play.Play.open.Goals as goal
 

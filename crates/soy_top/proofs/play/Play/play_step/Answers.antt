@@ -1,8 +1,8 @@
 use Rattle.std.proofs.Common.{Some, subst, sym}
 use Rattle.std.proofs.lemmas.Result.{IfOk-weaker}
 use Rattle.std.specs.String.{string_bytes}
-use Rattle.soy_top.specs.ViewPlay.{PlaysLine}
-use Rattle.soy_top.specs.ViewScript.{view_line}
+use Rattle.soy_top.specs.Scripts.ViewPlay.{PlaysLine}
+use Rattle.soy_top.specs.Scripts.ViewScript.{view_line}
 use Rattle.soy_top.specs.declared.script.ScriptLine as code_line
 use Rattle.soy_top.proofs.play.Play.play_step.Goals as goal
 

@@ -1,8 +1,8 @@
 use Rattle.std.proofs.lemmas.Result.{IfOk-weaker}
 use Rattle.std.proofs.Common.{ap, codes, ◌∙◌}
 use Rattle.soy_top.specs.Line.{ended}
-use Rattle.soy_top.specs.Played.{named_line}
-use Rattle.soy_top.specs.ViewScript.{view_bundle}
+use Rattle.soy_top.specs.Scripts.Played.{named_line}
+use Rattle.soy_top.specs.Scripts.ViewScript.{view_bundle}
 use Rattle.soy_top.proofs.CheckedLines.{publish_shows}
 use Rattle.soy_top.proofs.play.Play.publish.Goals as goal
 

@@ -3,11 +3,11 @@ use Rattle.std.specs.Str.{chars}
 use Rattle.std.specs.String.{string_bytes}
 use Rattle.soy_desk.specs.DeskState.{DeskState}
 use Rattle.soy_io.specs.Added.{added}
-use Rattle.soy_top.specs.Script.{ScriptLine, script_line}
-use Rattle.soy_top.specs.ViewPlay.{PlaysLine, read_step}
-use Rattle.soy_top.specs.ViewScript.{lines_left}
+use Rattle.soy_top.specs.Scripts.Script.{ScriptLine, script_line}
+use Rattle.soy_top.specs.Scripts.ViewPlay.{PlaysLine, read_step}
+use Rattle.soy_top.specs.Scripts.ViewScript.{lines_left}
 use Rattle.soy_top.proofs.CheckedLines.{fewer_left, some_left}
-use Rattle.soy_top.proofs.PlayedLines.{PlaysOn, line_opens, plays_more, plays_none, plays_part, plays_prefix}
+use Rattle.soy_top.proofs.Plays.PlayedLines.{PlaysOn, line_opens, plays_more, plays_none, plays_part, plays_prefix}
 use Rattle.soy_top.proofs.play.Play.put_lines.Goals as goal
 
 pub loop-rest-init : goal.loop-rest-init

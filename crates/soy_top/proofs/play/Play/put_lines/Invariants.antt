@@ -1,8 +1,8 @@
 use Rattle.std.proofs.Common.{◌≤◌, ◌+◌, length}
 use Rattle.std.specs.Str.{chars}
-use Rattle.soy_top.specs.ViewScript.{lines_left}
+use Rattle.soy_top.specs.Scripts.ViewScript.{lines_left}
 use Rattle.soy_top.proofs.CheckedLines.{left_count}
-use Rattle.soy_top.proofs.PlayedLines.{PlaysOn}
+use Rattle.soy_top.proofs.Plays.PlayedLines.{PlaysOn}
 use Rattle.soy_top.proofs.play.Play.put_lines.Given as goal
 
 abbrev pub invariant-loop-rest : goal.invariant-loop-rest

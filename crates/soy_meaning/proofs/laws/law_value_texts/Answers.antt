@@ -1,5 +1,0 @@
-use Rattle.soy_meaning.proofs.ValueTexts.{text_of_value}
-use Rattle.soy_meaning.proofs.laws.law_value_texts.Goals as goal
-
-pub returns : goal.returns
-returns c = text_of_value

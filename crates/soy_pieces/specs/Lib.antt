@@ -1,0 +1,11 @@
+pub mod Site
+pub mod Language
+pub mod InputEnv
+pub mod RowTrees
+pub mod RunRows
+pub mod Outcome
+pub mod Giving
+pub mod Branch
+pub mod Pieces
+pub mod Meaning
+pub mod EscapedAt

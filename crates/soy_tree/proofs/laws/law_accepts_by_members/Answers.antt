@@ -1,5 +1,0 @@
-use Rattle.soy_tree.proofs.Accepting.{accepts-members}
-use Rattle.soy_tree.proofs.laws.law_accepts_by_members.Goals as goal
-
-pub returns : goal.returns
-returns c = accepts-members

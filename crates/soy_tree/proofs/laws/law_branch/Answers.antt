@@ -1,5 +1,0 @@
-use Rattle.soy_tree.proofs.Branches.{branch_fits}
-use Rattle.soy_tree.proofs.laws.law_branch.Goals as goal
-
-pub returns : goal.returns
-returns row c when scope env e f = branch_fits when scope env e f

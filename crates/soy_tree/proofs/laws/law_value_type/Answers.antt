@@ -1,5 +1,0 @@
-use Rattle.soy_tree.proofs.ValueTypes.{value_type}
-use Rattle.soy_tree.proofs.laws.law_value_type.Goals as goal
-
-pub returns : goal.returns
-returns row c e scope env t formed fits is = value_type e scope env t formed fits is
