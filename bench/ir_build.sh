@@ -7,7 +7,7 @@ set -eu
 . "$(dirname "$0")/setup.sh"
 
 begin bench_ir_build soy_base plural_rules soy_tree script_state html_state bidi_class esc_table bidi_text escapers \
-    soy_meaning msg_extract template_ir bundle_fit ir_build \
+    soy_meaning msg_extract template_ir ir_build \
     soy_rules \
     soy_pieces <<'PROGRAM'
 #![tactic(auto)]

@@ -9,7 +9,7 @@ set -eu
 
 begin bench_soy_desk soy_base esc_table bidi_class plural_rules script_state soy_lexer bidi_text soy_tree work_gen \
     escapers html_state soy_types icu_text expr_parser msg_extract soy_expr value_cursor soy_meaning soy_parser \
-    soy_check msg_bundle template_ir bundle_fit render_core soy_desk html_context ir_build soy_front \
+    soy_check msg_bundle template_ir render_core soy_desk html_context ir_build soy_front \
     soy_rules \
     soy_pieces <<'PROGRAM'
 #![tactic(auto)]

@@ -17,9 +17,9 @@ use Rattle.soy_pieces.specs.Meaning.{joined_pieces}
 use Rattle.soy_pieces.specs.Outcome.{pieces_of_outcome}
 use Rattle.soy_pieces.specs.Pieces.{template_run}
 use Rattle.soy_meaning.specs.Runs.TypedData.{FitsData}
-use Rattle.soy_pieces.specs.Language.{language_context}
+use Rattle.soy_pieces.specs.LanguageContext.{language_context}
 use Rattle.soy_pieces.specs.InputEnv.{input_env, names_of}
-use Rattle.soy_pieces.specs.Language.{language_of}
+use Rattle.msg_extract.specs.LanguageOf.{language_of}
 use Rattle.soy_format.specs.WithoutSpans.{param_without_spans}
 use Rattle.soy_front.specs.Entries.{entry_number, is_entry_template}
 use Rattle.alike_files.specs.AlikeFiles.{AllAlike}

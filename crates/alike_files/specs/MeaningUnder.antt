@@ -9,9 +9,9 @@ use Rattle.soy_pieces.specs.Giving.{RunEnv}
 use Rattle.soy_pieces.specs.Meaning.{meaning}
 use Rattle.soy_pieces.specs.Outcome.{Outcome}
 use Rattle.soy_pieces.specs.Pieces.{RunContext, template_run}
-use Rattle.soy_pieces.specs.Language.{language_context}
+use Rattle.soy_pieces.specs.LanguageContext.{language_context}
 use Rattle.soy_pieces.specs.InputEnv.{input_env, names_of}
-use Rattle.soy_pieces.specs.Language.{language_of}
+use Rattle.msg_extract.specs.LanguageOf.{language_of}
 
 abbrev pub context_under : Bundle → List Tree → RunContext
 context_under bundle trees = language_context (language_of bundle) (declared trees)

@@ -15,3 +15,6 @@ pub mod Callees
 pub mod RoutineSteps
 pub mod NodeOps
 pub mod PartOps
+pub mod FittingNames
+pub mod FittingParts
+pub mod FittingTrees

@@ -6,7 +6,7 @@ use Rattle.soy_rules.specs.Templates.{Declared, declared, full_name}
 use Rattle.soy_tree.specs.Trees.{Param, Tree}
 use Rattle.soy_tree.specs.Types.{Name}
 use Rattle.template_ir.specs.Compiles.{CompileContext, Compiles, StandsNodes, StandsTemplates}
-use Rattle.soy_pieces.specs.Language.{Language}
+use Rattle.soy_rules.specs.Language.{Language}
 use Rattle.template_ir.specs.Compiles.{context_of_template}
 use Rattle.template_ir.specs.HoleCounts.{nodes_holes}
 use Rattle.template_ir.specs.Ops.{Op, Program, Routine}
@@ -18,7 +18,7 @@ use Rattle.ir_build.specs.OnGoing.{RowsOn}
 use Rattle.ir_build.specs.Routines.{template_holes, template_stands, templates_holes, templates_stand}
 use Rattle.soy_rules.specs.ViewTemplates.{view_all, view_declared}
 use Rattle.ir_build.specs.ViewScene.{context_of, translation_in}
-use Rattle.soy_pieces.specs.Language.{language_of}
+use Rattle.msg_extract.specs.LanguageOf.{language_of}
 use Rattle.ir_build.specs.declared.scene.Scene.{Scene}
 use Rattle.soy_tree.specs.declared.node.Node as code_node
 use Rattle.soy_tree.specs.ViewNodes.{view_nodes}

@@ -10,3 +10,4 @@ pub mod Claims
 pub mod Chooses
 pub mod Gives
 pub mod Routines
+pub mod Translated

@@ -5,7 +5,7 @@ use Rattle.soy_tree.specs.MessageParts.{MsgParts}
 use Rattle.soy_tree.specs.Nodes.{Message}
 use Rattle.soy_rules.specs.Templates.{Declared}
 use Rattle.template_ir.specs.Compiles.{StandsTemplate, StandsTemplates}
-use Rattle.soy_pieces.specs.Language.{Language}
+use Rattle.soy_rules.specs.Language.{Language}
 use Rattle.template_ir.specs.HoleCounts.{nodes_holes}
 use Rattle.template_ir.specs.Ops.{Op, Routine}
 

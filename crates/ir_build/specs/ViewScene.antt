@@ -15,7 +15,7 @@ use Rattle.template_ir.specs.Compiles.{CompileContext, callee_number, handed_on_
 use Rattle.template_ir.specs.Compiles.{same_handed}
 use Rattle.template_ir.specs.Ops.{CallOp, Handed, Op}
 use Rattle.ir_build.specs.declared.scene.Scene.{Scene}
-use Rattle.soy_pieces.specs.Language.{language_of}
+use Rattle.msg_extract.specs.LanguageOf.{language_of}
 
 abbrev pub translation_in : Scene → Message → Option MsgParts
 translation_in s = (language_of s.bundle.now).translation

@@ -11,7 +11,7 @@ ghost use Rattle.template_ir.specs.ViewOps.{view_program, view_routine};
 ghost use Rattle.ir_build.specs.Laid.{Lays, view_output};
 ghost use Rattle.ir_build.specs.Routines.{template_holes, template_stands, templates_holes, templates_stand};
 ghost use Rattle.msg_extract.specs.Translations.{translation_of};
-ghost use Rattle.soy_pieces.specs.Language.{language_of};
+ghost use Rattle.msg_extract.specs.LanguageOf.{language_of};
 
 use crate::bodies::push_nodes;
 use crate::output::Output;

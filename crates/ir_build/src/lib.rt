@@ -2,14 +2,15 @@
 //!
 //! `build` makes the ops of each template in one pass over its nodes. Its clause is `Compiles` of template_ir: each
 //! command is one op, a message is the ops of the text that the bundle chooses, and the blocks inside of a list of
-//! nodes stand before the list's own ops. Depends on soy_base, plural_rules, soy_tree, soy_meaning, msg_extract,
-//! template_ir and bundle_fit.
+//! nodes stand before the list's own ops. Depends on soy_base, plural_rules, soy_tree, soy_meaning, msg_extract and
+//! template_ir.
 #![tactic(auto)]
 
 mod bodies;
 mod building;
 mod calls;
 mod commands;
+mod laws;
 mod messages;
 mod output;
 mod parts;
@@ -19,3 +20,4 @@ mod source;
 mod templates;
 
 pub use building::{build, program_parts};
+pub use laws::{law_fitting_program, law_fitting_translations};

@@ -17,3 +17,4 @@ pub mod TagNames
 pub mod Translations
 pub mod Views
 pub mod Canonical
+pub mod LanguageOf

@@ -13,8 +13,8 @@ use Rattle.soy_meaning.specs.Runs.TranslationFits.{TranslationsFit}
 use Rattle.soy_meaning.specs.Runs.TypedData.{AreTypedTrees, FitsData}
 use Rattle.soy_meaning.specs.Walks.Walk.{Walked}
 use Rattle.template_ir.specs.Compiles.{Compiles}
-use Rattle.soy_pieces.specs.Language.{Language}
-use Rattle.soy_pieces.specs.Language.{language_context}
+use Rattle.soy_rules.specs.Language.{Language}
+use Rattle.soy_pieces.specs.LanguageContext.{language_context}
 use Rattle.soy_pieces.specs.InputEnv.{input_env, names_of}
 use Rattle.template_ir.specs.ViewOps.{view_program}
 use Rattle.template_ir.proofs.CompiledRuns.{compiled_input}

@@ -11,13 +11,13 @@ use Rattle.soy_meaning.specs.Walks.AcceptedTrees.{walk_trees}
 use Rattle.soy_meaning.specs.Runs.TypedData.{AreTypedTrees}
 use Rattle.soy_meaning.specs.Walks.Walk.{walked}
 use Rattle.template_ir.specs.Compiles.{Compiles}
-use Rattle.soy_pieces.specs.Language.{Language}
+use Rattle.soy_rules.specs.Language.{Language}
 use Rattle.template_ir.specs.ViewOps.{view_program}
 use Rattle.template_ir.specs.declared.program.ProgramParts.{ProgramParts}
 use Rattle.template_ir.proofs.CompiledRuns.{compiled_input}
-use Rattle.bundle_fit.proofs.FittingTrees.{trees_fit}
+use Rattle.ir_build.proofs.FittingTrees.{trees_fit}
 use Rattle.msg_extract.specs.Translations.{translation_of}
-use Rattle.soy_pieces.specs.Language.{language_of}
+use Rattle.msg_extract.specs.LanguageOf.{language_of}
 use Rattle.soy_front.specs.Accepts.{Accepts, AreAcceptedAs, Decides}
 use Rattle.soy_front.specs.Compiled.{AreCompiled, CompilesFiles, GivesTheSame}
 use Rattle.soy_front.specs.declared.accepting.AcceptedFiles.{AcceptedFiles}

@@ -21,10 +21,10 @@ use Rattle.msg_bundle.specs.Translations.{messages_of}
 use Rattle.msg_bundle.proofs.FittingNames.{bundle_fits}
 use Rattle.soy_meaning.specs.Walks.AcceptedTrees.{walk_trees}
 use Rattle.soy_meaning.specs.Walks.Walk.{walked}
-use Rattle.soy_pieces.specs.Language.{Language}
+use Rattle.soy_rules.specs.Language.{Language}
 use Rattle.html_context.specs.ChosenTranslation.{chosen_translation}
 use Rattle.msg_extract.specs.Translations.{translation_of}
-use Rattle.soy_pieces.specs.Language.{language_of}
+use Rattle.msg_extract.specs.LanguageOf.{language_of}
 use Rattle.soy_front.specs.Accepted.{Brings}
 use Rattle.soy_front.proofs.BundleTranslations.{chosen_alike}
 

@@ -19,14 +19,14 @@ use Rattle.soy_pieces.specs.Pieces.{template_run}
 use Rattle.soy_meaning.specs.Runs.TypedData.{FitsData}
 use Rattle.soy_meaning.specs.Walks.Walk.{walked}
 use Rattle.template_ir.specs.Compiles.{Compiles}
-use Rattle.soy_pieces.specs.Language.{Language}
+use Rattle.soy_rules.specs.Language.{Language}
 use Rattle.template_ir.specs.Ops.{Program}
-use Rattle.soy_pieces.specs.Language.{language_context}
+use Rattle.soy_pieces.specs.LanguageContext.{language_context}
 use Rattle.soy_pieces.specs.Outcome.{pieces_end_costs}
 use Rattle.template_ir.specs.Run.{run}
 use Rattle.soy_pieces.specs.InputEnv.{input_env, names_of}
 use Rattle.template_ir.specs.ViewOps.{view_program}
-use Rattle.soy_pieces.specs.Language.{language_of}
+use Rattle.msg_extract.specs.LanguageOf.{language_of}
 use Rattle.soy_front.specs.Accepted.{FirstFault}
 use Rattle.soy_front.specs.Entries.{entry_number, is_entry_routine}
 use Rattle.soy_front.specs.FrontAnswer.{Front, front_answer}

@@ -1,5 +1,4 @@
 pub mod Site
-pub mod Language
 pub mod InputEnv
 pub mod RowTrees
 pub mod RunRows
@@ -9,3 +8,4 @@ pub mod Branch
 pub mod Pieces
 pub mod Meaning
 pub mod EscapedAt
+pub mod LanguageContext

@@ -21,3 +21,4 @@ pub mod TypeText
 pub mod Typed
 pub mod Val
 pub mod ViewTemplates
+pub mod Language

@@ -3,7 +3,7 @@
 use Rattle.std.proofs.Common.{◌≡◌, ℕ, List, Option}
 use Rattle.std.proofs.Common.{Some, None, refl, ap, ◌∙◌, inl, inr}
 use Rattle.std.specs.Prelude.{Result, Ok, Err}
-use Rattle.soy_pieces.specs.Language.{language_of}
+use Rattle.msg_extract.specs.LanguageOf.{language_of}
 use Rattle.msg_bundle.specs.BundlesAlike.{BundlesAlike}
 use Rattle.soy_base.specs.declared.code.Code.{Code}
 use Rattle.soy_base.specs.declared.path.PathStep.{PathStep}
@@ -26,8 +26,8 @@ use Rattle.soy_rules.specs.Templates.{Declared, declared}
 use Rattle.soy_tree.specs.Values.{Value}
 use Rattle.soy_tree.specs.ViewTrees.{view_trees}
 use Rattle.soy_types.specs.ReadData.{data_at}
-use Rattle.soy_pieces.specs.Language.{Language}
-use Rattle.soy_pieces.specs.Language.{language_context}
+use Rattle.soy_rules.specs.Language.{Language}
+use Rattle.soy_pieces.specs.LanguageContext.{language_context}
 use Rattle.soy_pieces.specs.InputEnv.{input_env, names_of}
 use Rattle.soy_base.specs.declared.direction.Dir.{Dir}
 use Rattle.soy_top.specs.Answer.{preview_answer, shown_of}

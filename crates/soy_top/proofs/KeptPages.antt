@@ -3,12 +3,12 @@ use Rattle.std.proofs.Common.{◌≡◌, inl, inr, ℕ, zero, suc, List, [], ◌
 use Rattle.std.proofs.Common.{subst}
 use Rattle.std.specs.Prelude.{IfSome, Ok, slice_get}
 use Rattle.std.specs.Str.{IsUtf8, chars}
-use Rattle.bundle_fit.proofs.FittingTrees.{trees_fit}
+use Rattle.ir_build.proofs.FittingTrees.{trees_fit}
 use Rattle.html_state.specs.AfterPieces.{after_piece}
 use Rattle.soy_base.specs.Piece.{Static}
 use Rattle.html_state.specs.Start.{start}
 use Rattle.html_state.specs.declared.row.State.{State}
-use Rattle.soy_pieces.specs.Language.{language_of}
+use Rattle.msg_extract.specs.LanguageOf.{language_of}
 use Rattle.msg_extract.specs.Translations.{translation_of}
 use Rattle.soy_base.specs.declared.kind.Kind.{Kind}
 use Rattle.soy_base.specs.declared.kind.Kind.TheVariants as kind
@@ -50,8 +50,8 @@ use Rattle.stable_bidi.proofs.PageLines as bidi
 use Rattle.stable_bidi.proofs.TypedPages.{typed_pages}
 use Rattle.stable_bidi.proofs.VisualOrders.{same_visual_order}
 use Rattle.stable_html.proofs.SameMarkups.{template_bytes, template_roles, template_text, templates_same}
-use Rattle.soy_pieces.specs.Language.{Language}
-use Rattle.soy_pieces.specs.Language.{language_context}
+use Rattle.soy_rules.specs.Language.{Language}
+use Rattle.soy_pieces.specs.LanguageContext.{language_context}
 use Rattle.soy_pieces.specs.InputEnv.{input_env, names_of}
 
 -- ---- the template of a number is one of all

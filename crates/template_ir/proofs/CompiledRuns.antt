@@ -12,9 +12,9 @@ use Rattle.soy_meaning.specs.Runs.TranslationFits.{TranslationsFit}
 use Rattle.soy_meaning.specs.Runs.TypedData.{AreTypedTrees, FitsData}
 use Rattle.soy_meaning.specs.Walks.Walk.{Walked}
 use Rattle.template_ir.specs.Compiles.{Compiles}
-use Rattle.soy_pieces.specs.Language.{Language}
+use Rattle.soy_rules.specs.Language.{Language}
 use Rattle.template_ir.specs.Ops.{Program}
-use Rattle.soy_pieces.specs.Language.{language_context}
+use Rattle.soy_pieces.specs.LanguageContext.{language_context}
 use Rattle.soy_pieces.specs.Outcome.{pieces_end_costs}
 use Rattle.template_ir.specs.Run.{names_there, run, template_gives}
 use Rattle.soy_pieces.specs.InputEnv.{input_env, names_of}

@@ -33,10 +33,10 @@ use Rattle.soy_meaning.proofs.Runs.RunPaths.{member_fits}
 use Rattle.soy_meaning.proofs.Typing.TypedEnvs.{EnvTyped, data_typed}
 use Rattle.soy_meaning.proofs.Walks.Exact.{accepted_when_walked}
 use Rattle.template_ir.specs.Compiles.{callee_number}
-use Rattle.soy_pieces.specs.Language.{Language}
+use Rattle.soy_rules.specs.Language.{Language}
 use Rattle.template_ir.specs.HoleCounts.{nodes_holes}
 use Rattle.template_ir.specs.Placed.{EntryPlaced, PlacedAt, TemplatePlaced, holes_before}
-use Rattle.soy_pieces.specs.Language.{language_context}
+use Rattle.soy_pieces.specs.LanguageContext.{language_context}
 use Rattle.template_ir.proofs.CheckedTemplates.{template_demands}
 use Rattle.template_ir.proofs.Counts.{nodes_count}
 use Rattle.template_ir.proofs.PlacedHoles.{AllGood, TemplatesRun, frame_has_run}

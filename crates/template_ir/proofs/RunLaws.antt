@@ -15,7 +15,7 @@ use Rattle.soy_pieces.specs.Pieces.{RunContext, at_end, called_within, context_i
 use Rattle.soy_pieces.specs.Site.{Site}
 use Rattle.soy_pieces.proofs.Outcomes.{followed_nothing}
 use Rattle.template_ir.specs.Compiles.{StandsNodes, StandsTemplate, StandsTemplates, callee_number, number_of}
-use Rattle.soy_pieces.specs.Language.{Language}
+use Rattle.soy_rules.specs.Language.{Language}
 use Rattle.template_ir.specs.Compiles.{context_of_template}
 use Rattle.template_ir.specs.HoleCounts.{nodes_holes}
 use Rattle.template_ir.specs.Ops.{Op, Program, Routine}
@@ -26,7 +26,7 @@ use Rattle.template_ir.proofs.Matching.{EnvsMatch, Matches}
 use Rattle.template_ir.proofs.NodeLaws.{nodes_law}
 use Rattle.template_ir.proofs.PartLaws.{end_of_block}
 use Rattle.template_ir.specs.Placed.{EntryPlaced, PlacedAt, TemplatePlaced, holes_before}
-use Rattle.soy_pieces.specs.Language.{language_context}
+use Rattle.soy_pieces.specs.LanguageContext.{language_context}
 use Rattle.template_ir.proofs.Plain.{Same, plain, plain_costs, plain_end, plain_pieces}
 use Rattle.soy_pieces.specs.Outcome.{pieces_end_costs}
 use Rattle.soy_base.specs.Piece.{Piece}

@@ -52,7 +52,7 @@ use Rattle.template_ir.specs.Compiles.{CompileContext, StandsArms, StandsCases, 
 use Rattle.template_ir.specs.Compiles.{StandsMessage, StandsNode, StandsNodes, StandsOther, StandsPluralCases}
 use Rattle.template_ir.specs.Compiles.{StandsSelectCases, StandsSource, callee_number, context_of_template}
 use Rattle.template_ir.specs.Compiles.{handed_on_names, other_arm, other_word, params_there, same_handed}
-use Rattle.soy_pieces.specs.Language.{Language}
+use Rattle.soy_rules.specs.Language.{Language}
 use Rattle.template_ir.specs.HoleCounts.{arm_holes, body_holes, case_holes, given_holes, node_holes, nodes_holes}
 use Rattle.template_ir.specs.HoleCounts.{plural_holes, select_holes, translated_holes, translation_holes}
 use Rattle.template_ir.specs.Ops.{Branch, CallOp, Callee, Choice, ForOp, Handed, HandedBlock, HandedBy, HandedSame}

@@ -26,7 +26,7 @@ use Rattle.soy_meaning.proofs.Typing.CheckedTrees.{templates_typed}
 use Rattle.soy_meaning.proofs.Runs.RunPaths.{member_fits}
 use Rattle.template_ir.specs.CompiledTrees.{ArePatterns, NodesPatterns}
 use Rattle.template_ir.specs.Compiles.{Compiles, StandsTemplate, StandsTemplates, callee_number}
-use Rattle.soy_pieces.specs.Language.{Language}
+use Rattle.soy_rules.specs.Language.{Language}
 use Rattle.template_ir.specs.Compiles.{context_of_template}
 use Rattle.template_ir.specs.HoleCounts.{nodes_holes}
 use Rattle.template_ir.specs.Ops.{Program, Routine}

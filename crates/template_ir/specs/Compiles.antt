@@ -36,7 +36,7 @@ use Rattle.template_ir.specs.declared.op.Block.{Block}
 use Rattle.template_ir.specs.declared.op.ExactBlock.{ExactBlock}
 use Rattle.template_ir.specs.declared.op.NamedBlock.{NamedBlock}
 use Rattle.template_ir.specs.declared.op.WordBlock.{WordBlock}
-use Rattle.soy_pieces.specs.Language.{Language}
+use Rattle.soy_rules.specs.Language.{Language}
 
 -- what the ops of a template go by: its file, namespace and parameters, the templates of all files, the translation of
 -- a message, the places of all holes, and all ops

@@ -30,7 +30,7 @@ use Rattle.soy_pieces.specs.Pieces.{RunContext, template_run}
 use Rattle.soy_pieces.specs.RowTrees.{all_nodes, print_node, row_param, site_at, span_at, text_node, variable}
 use Rattle.soy_pieces.specs.RunRows.{message_of, number_param, offset_part, row_rules, text_param}
 use Rattle.template_ir.specs.Compiles.{other_arm, other_word}
-use Rattle.soy_pieces.specs.Language.{Language}
+use Rattle.soy_rules.specs.Language.{Language}
 use Rattle.template_ir.specs.Ops.{Branch, Choice, Handed, Op, Program, Routine, CallOp, ForOp, HandedBlock, HandedSame}
 use Rattle.template_ir.specs.Ops.{HandedValue, IfOp, LetBlockOp, LetOp, NumberOp, PluralOp, PrintOp, SelectOp, StaticOp}
 use Rattle.template_ir.specs.Ops.{SwitchOp}

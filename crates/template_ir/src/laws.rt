@@ -21,11 +21,11 @@ ghost use Rattle.soy_pieces.specs.RunRows.{attributes_block, attributes_body, bl
 ghost use Rattle.soy_pieces.specs.RunRows.{calls_body, number_env, number_param, offset_translation, plural_source};
 ghost use Rattle.soy_pieces.specs.RunRows.{row_trees, source_body, source_plural, text_env, text_param};
 ghost use Rattle.template_ir.specs.Compiles.{CompileContext, Compiles, StandsNodes, with_more};
-ghost use Rattle.soy_pieces.specs.Language.{Language};
+ghost use Rattle.soy_rules.specs.Language.{Language};
 ghost use Rattle.template_ir.specs.CompiledTrees.{ArePatterns};
 ghost use Rattle.template_ir.specs.Ops.{Op, Program};
 ghost use Rattle.template_ir.specs.Placed.{EntryPlaced};
-ghost use Rattle.soy_pieces.specs.Language.{language_context};
+ghost use Rattle.soy_pieces.specs.LanguageContext.{language_context};
 ghost use Rattle.template_ir.specs.HoleCounts.{nodes_holes};
 ghost use Rattle.template_ir.specs.ProgramRows.{attributes_program, block_program, calls_program, every_env};
 ghost use Rattle.template_ir.specs.ProgramRows.{every_outcome, every_places, every_program, every_trees};

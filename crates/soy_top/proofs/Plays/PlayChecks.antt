@@ -8,7 +8,7 @@ use Rattle.std.specs.Str.Lossy.{utf8_valid_len}
 use Rattle.std.proofs.lemmas.Str.{IsUtf8-from_is_utf8, is_utf8-from_IsUtf8}
 use Rattle.soy_base.specs.Piece.{Piece}
 use Rattle.html_state.specs.declared.row.State.{State}
-use Rattle.soy_pieces.specs.Language.{language_of}
+use Rattle.msg_extract.specs.LanguageOf.{language_of}
 use Rattle.render_core.specs.Rest.{piece_text, solid, solid_piece}
 use Rattle.soy_base.specs.declared.code.Code.{Code}
 use Rattle.soy_base.specs.declared.code.Code.TheVariants as code
@@ -56,7 +56,7 @@ use Rattle.soy_tree.specs.ViewTrees.{view_params, view_trees}
 use Rattle.soy_tree.specs.declared.bundle.Bundle.{Bundle}
 use Rattle.soy_tree.specs.declared.tree.Tree as code_tree
 use Rattle.soy_types.specs.ReadData.{data_at}
-use Rattle.soy_pieces.specs.Language.{language_context}
+use Rattle.soy_pieces.specs.LanguageContext.{language_context}
 use Rattle.soy_pieces.specs.Outcome.{pieces_end_costs}
 use Rattle.template_ir.specs.Run.{run}
 use Rattle.soy_pieces.specs.InputEnv.{input_env, names_of}

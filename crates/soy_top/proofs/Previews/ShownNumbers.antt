@@ -11,7 +11,7 @@ use Rattle.soy_base.specs.declared.place.Place.{Place}
 use Rattle.soy_rules.specs.Templates.{Declared, full_name}
 use Rattle.soy_tree.specs.Types.{Name}
 use Rattle.template_ir.specs.Compiles.{StandsTemplates}
-use Rattle.soy_pieces.specs.Language.{Language}
+use Rattle.soy_rules.specs.Language.{Language}
 use Rattle.template_ir.specs.Ops as ops
 use Rattle.template_ir.specs.ViewOps.{view_routine}
 use Rattle.template_ir.specs.declared.program.Routine.{Routine}

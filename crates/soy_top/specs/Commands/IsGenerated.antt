@@ -5,7 +5,7 @@
 -- and the text is the summary of the meaning of the template under them.
 -- Example: for 7 the text has the line `bytes 638685`.
 use Rattle.std.specs.Prelude.{◌≡◌, ℕ, List, [], ◌∷◌, Some, Ok, codes}
-use Rattle.soy_pieces.specs.Language.{language_of}
+use Rattle.msg_extract.specs.LanguageOf.{language_of}
 use Rattle.msg_extract.specs.declared.catalogue.Listed.{Listed}
 use Rattle.soy_front.specs.Accepted.{Accepted, AreFiles}
 use Rattle.soy_front.specs.FrontAnswer.{DeserveFront, Front}
@@ -21,7 +21,7 @@ use Rattle.soy_tree.specs.Values.{Value}
 use Rattle.soy_tree.specs.ViewTrees.{view_trees}
 use Rattle.soy_tree.specs.declared.tree.Tree.{Tree}
 use Rattle.soy_types.specs.ReadData.{data_at}
-use Rattle.soy_pieces.specs.Language.{language_context}
+use Rattle.soy_pieces.specs.LanguageContext.{language_context}
 use Rattle.soy_pieces.specs.InputEnv.{input_env, names_of}
 use Rattle.work_gen.specs.Workload.{workload}
 use Rattle.work_gen.specs.declared.workload.Workload.{Workload}

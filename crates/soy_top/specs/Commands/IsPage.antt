@@ -9,7 +9,7 @@
 -- Example: `<b><span dir="ltr">&lt;i&gt;</span></b>` is the page of `render t.m d.json - t.soy` where t.soy has the
 -- body line `<b>{$x}</b>` and d.json is `{"x":"<i>"}`.
 use Rattle.std.specs.Prelude.{◌≡◌, ℕ, List, [], Some, None, Ok, Err}
-use Rattle.soy_pieces.specs.Language.{language_of}
+use Rattle.msg_extract.specs.LanguageOf.{language_of}
 use Rattle.serde_json.specs.Data.{Data}
 use Rattle.soy_base.specs.declared.code.Code.TheVariants as code
 use Rattle.soy_io.specs.FileOf.{Files}
@@ -27,7 +27,7 @@ use Rattle.soy_tree.specs.Values.{Value}
 use Rattle.soy_tree.specs.ViewTrees.{view_trees}
 use Rattle.soy_base.specs.Path.{Path}
 use Rattle.soy_types.specs.ReadData.{data_at, json_of, values_at}
-use Rattle.soy_pieces.specs.Language.{language_context}
+use Rattle.soy_pieces.specs.LanguageContext.{language_context}
 use Rattle.soy_pieces.specs.InputEnv.{input_env, names_of}
 
 pub record IsPage (files : Files) (words : List Word) (text : List ℕ) : Type 0 where

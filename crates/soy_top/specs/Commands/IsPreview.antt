@@ -11,7 +11,8 @@
 -- Example: `b a` and a line feed are shown of `preview t.m d.json b.json t.soy` where t.soy has the body line `a {$x}`,
 -- d.json is `{"x":"b"}` and b.json is a bundle from right to left.
 use Rattle.std.specs.Prelude.{◌≡◌, ◌≤◌, ◌<◌, ℕ, List, [], Some, None, Ok, Err, length}
-use Rattle.soy_pieces.specs.Language.{language_of, language_context}
+use Rattle.soy_pieces.specs.LanguageContext.{language_context}
+use Rattle.msg_extract.specs.LanguageOf.{language_of}
 use Rattle.serde_json.specs.Data.{Data}
 use Rattle.soy_base.specs.declared.code.Code.TheVariants as code
 use Rattle.soy_front.specs.FrontAnswer.{Front}

@@ -14,9 +14,9 @@ use Rattle.template_ir.specs.Ops.{Program}
 use Rattle.template_ir.specs.Sound.{is_sound}
 use Rattle.template_ir.specs.ViewOps.{view_program}
 use Rattle.template_ir.proofs.SoundPrograms.{compiled_is_sound}
-use Rattle.bundle_fit.proofs.FittingTrees.{trees_fit}
+use Rattle.ir_build.proofs.FittingTrees.{trees_fit}
 use Rattle.msg_extract.specs.Translations.{translation_of}
-use Rattle.soy_pieces.specs.Language.{language_of}
+use Rattle.msg_extract.specs.LanguageOf.{language_of}
 use Rattle.ir_build.proofs.building.build.Goals as goal
 
 built_is_sound : (given trees : List Tree) (b : Bundle) (prints places : List Place) (p : Program) → trees ≡ given

@@ -6,7 +6,7 @@ use Rattle.template_ir.specs.ViewOps.{view_ops, view_routine}
 use Rattle.ir_build.specs.Laid.{Lays, Made, view_output}
 use Rattle.ir_build.specs.Routines.{templates_holes, templates_stand}
 use Rattle.soy_rules.specs.ViewTemplates.{view_all}
-use Rattle.soy_pieces.specs.Language.{language_of}
+use Rattle.msg_extract.specs.LanguageOf.{language_of}
 use Rattle.ir_build.proofs.RoutineSteps.{compiles_all}
 use Rattle.ir_build.proofs.building.program_parts.Goals as goal
 

@@ -4,7 +4,7 @@ use Rattle.soy_tree.specs.ViewTrees.{view_params}
 use Rattle.template_ir.specs.ViewOps.{view_ops}
 use Rattle.ir_build.specs.Laid.{view_output}
 use Rattle.soy_rules.specs.ViewTemplates.{view_all, view_declared}
-use Rattle.soy_pieces.specs.Language.{language_of}
+use Rattle.msg_extract.specs.LanguageOf.{language_of}
 use Rattle.ir_build.specs.declared.scene.Scene.{Scene}
 use Rattle.ir_build.proofs.RoutineSteps.{routine_laid, scene_pushed}
 use Rattle.ir_build.proofs.building.routine.Goals as goal

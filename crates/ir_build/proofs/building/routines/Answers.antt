@@ -3,7 +3,7 @@ use Rattle.template_ir.specs.ViewOps.{view_routine}
 use Rattle.ir_build.specs.Laid.{Lays, view_output}
 use Rattle.ir_build.specs.Routines.{templates_holes, templates_stand}
 use Rattle.soy_rules.specs.ViewTemplates.{view_all}
-use Rattle.soy_pieces.specs.Language.{language_of}
+use Rattle.msg_extract.specs.LanguageOf.{language_of}
 use Rattle.soy_rules.specs.declared.template.Declared.{Declared}
 use Rattle.ir_build.proofs.OpLists.{map_pushed}
 use Rattle.ir_build.proofs.RoutineSteps.{routines_begin, routines_end, routines_step}

@@ -2,7 +2,7 @@ use Rattle.std.proofs.Common.{map}
 use Rattle.template_ir.specs.ViewOps.{view_routine}
 use Rattle.ir_build.specs.Laid.{view_output}
 use Rattle.soy_rules.specs.ViewTemplates.{view_all}
-use Rattle.soy_pieces.specs.Language.{language_of}
+use Rattle.msg_extract.specs.LanguageOf.{language_of}
 use Rattle.ir_build.proofs.RoutineSteps.{RoutinesOn}
 use Rattle.ir_build.proofs.building.routines.Given as goal
 

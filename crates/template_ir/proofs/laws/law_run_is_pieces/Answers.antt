@@ -1,6 +1,6 @@
 use Rattle.soy_rules.specs.Templates.{declared}
 use Rattle.soy_pieces.specs.Pieces.{template_run}
-use Rattle.soy_pieces.specs.Language.{language_context}
+use Rattle.soy_pieces.specs.LanguageContext.{language_context}
 use Rattle.template_ir.specs.Run.{template_gives}
 use Rattle.template_ir.proofs.RunLaws.{entry_law, same_given}
 use Rattle.template_ir.proofs.laws.law_run_is_pieces.Goals as goal

@@ -1,8 +1,8 @@
 use Rattle.template_ir.proofs.CompiledRuns.{compiled_input, compiled_run}
 use Rattle.template_ir.proofs.SoundPrograms.{compiled_is_sound}
-use Rattle.bundle_fit.specs.Translated.{language_by}
-use Rattle.bundle_fit.proofs.FittingTrees.{trees_fit}
-use Rattle.bundle_fit.proofs.laws.law_fitting_program.Goals as goal
+use Rattle.ir_build.specs.Translated.{language_by}
+use Rattle.ir_build.proofs.FittingTrees.{trees_fit}
+use Rattle.ir_build.proofs.laws.law_fitting_program.Goals as goal
 
 pub returns-clause-sound : goal.returns-clause-sound
 returns-clause-sound c = λ b trees v p typed fits walks compiles.

@@ -9,7 +9,7 @@ use Rattle.plural_rules.specs.declared.category.Category.{Category}
 use Rattle.soy_tree.specs.MessageParts.{MsgParts}
 use Rattle.soy_tree.specs.Nodes.{Message}
 use Rattle.msg_extract.specs.MessageId.{id_of}
-use Rattle.soy_pieces.specs.Language.{Language}
+use Rattle.soy_rules.specs.Language.{Language}
 
 -- what a bundle brings
 pub record Brought : Type 0 where

@@ -32,8 +32,8 @@ use Rattle.template_ir.specs.CompiledTrees.{ArePatterns, ArgumentPatterns, ArmPa
 use Rattle.template_ir.specs.CompiledTrees.{GivenPatterns, NodePatterns, NodesPatterns, OtherPatterns}
 use Rattle.template_ir.specs.Placed.{AreTexts}
 use Rattle.template_ir.proofs.Demands.{are_texts, some_cuts}
-use Rattle.bundle_fit.specs.Translated.{translated_by}
-use Rattle.bundle_fit.proofs.FittingParts.{message_fitting}
+use Rattle.ir_build.specs.Translated.{translated_by}
+use Rattle.ir_build.proofs.FittingParts.{message_fitting}
 
 module _ (translation : List ℕ → Option MsgParts) where
   abbrev by_message : Message → Option MsgParts

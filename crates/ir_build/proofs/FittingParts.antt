@@ -24,7 +24,7 @@ use Rattle.soy_meaning.specs.Runs.TranslationFits.{part_fits}
 use Rattle.soy_meaning.specs.Runs.TranslationFits.{parts_fit, select_fit}
 use Rattle.template_ir.specs.CompiledTrees.{IsPatternThere}
 use Rattle.template_ir.proofs.Patterns.{AreWhole, ExactWhole, IsWhole, NamedWhole, WordsWhole, pattern_whole}
-use Rattle.bundle_fit.proofs.FittingNames.{selector_there}
+use Rattle.ir_build.proofs.FittingNames.{selector_there}
 
 both : (t u : Bool) → t ≡ true → u ≡ true → (t && u) ≡ true
 both t u h k = ap (λ b. b && u) h ∙ k

@@ -17,12 +17,12 @@ ghost use Rattle.soy_meaning.specs.Walks.Walk.{Walked};
 ghost use Rattle.template_ir.specs.CompiledTrees.{ArePatterns};
 ghost use Rattle.template_ir.specs.Compiles.{Compiles};
 ghost use Rattle.template_ir.specs.Ops.{Program};
-ghost use Rattle.soy_pieces.specs.Language.{language_context};
+ghost use Rattle.soy_pieces.specs.LanguageContext.{language_context};
 ghost use Rattle.soy_pieces.specs.Outcome.{pieces_end_costs};
 ghost use Rattle.template_ir.specs.Run.{run, template_gives};
 ghost use Rattle.soy_pieces.specs.InputEnv.{input_env, names_of};
 ghost use Rattle.template_ir.specs.Sound.{is_sound};
-ghost use Rattle.bundle_fit.specs.Translated.{Brought, language_by, translated_by};
+ghost use Rattle.ir_build.specs.Translated.{Brought, language_by, translated_by};
 
 /// Where the translations of ids fit formed files, that of each message fits the message: its plurals and selects have
 /// an arm other and name selectors of the message. And each is a pattern.

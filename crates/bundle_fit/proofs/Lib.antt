@@ -1,3 +1,0 @@
-pub mod FittingNames
-pub mod FittingParts
-pub mod FittingTrees
