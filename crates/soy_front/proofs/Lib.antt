@@ -12,3 +12,4 @@ pub mod ReadingTrees
 pub mod SourceAnswers
 pub mod SourceLaws
 pub mod SourceTokens
+pub mod FilesOrFaults

@@ -18,33 +18,29 @@ use Rattle.soy_base.specs.Limits.{largest_file}
 use Rattle.soy_lexer.specs.Lexes as lexes
 use Rattle.soy_lexer.specs.Tokens.{Tokens, FirstFault}
 use Rattle.soy_lexer.specs.declared.token.Token.{Token}
-use Rattle.soy_lexer.proofs.SomeSegments.{fault_within, tokens_or_fault}
-use Rattle.soy_parser.specs.FileReading.{fault_at, reading_file}
-use Rattle.soy_parser.specs.FileSteps.{file_start}
+use Rattle.soy_lexer.proofs.SomeSegments.{fault_within}
+use Rattle.soy_parser.specs.FileReading.{fault_at}
 use Rattle.soy_parser.specs.ParsesFile.{ParsesFile, RefusesTokens}
 use Rattle.soy_parser.proofs.Files.FileAnswers.{one_file_answer}
-use Rattle.soy_parser.proofs.Files.FileReads.{read-ParsesFile, refused-ParsesFile}
 use Rattle.soy_tree.specs.declared.tree.Tree.{Tree}
 use Rattle.soy_front.specs.ReadsSource.{ReadsSource, FaultWithin}
-use Rattle.soy_front.specs.Sources.{TokensOrFault, answer_by_tokens, text_answer, source_answer}
+use Rattle.soy_front.specs.FileOrFault.{FileOrFault, TokensOrFault}
+use Rattle.soy_front.specs.Sources.{answer_by_file, answer_by_tokens, file_or_fault, source_answer, text_answer}
+use Rattle.soy_front.specs.Sources.{tokens_or_fault}
 use Rattle.soy_front.proofs.SourceTokens.{one_list, one_fault, never_both, token_within, offset_within}
 
--- what is read of tokens is what `parse` answers
-
-pub read_same : (tokens : List Token) (read : Result Tree Fault) (r : Result Tree (Refusal Fault))
-    → reading_file 0 0 tokens file_start ≡ read → ParsesFile 0 tokens r → ReadsSource read r
-read_same tokens (Ok other) (Ok tree) e p =
-    cc (one_file_answer 0 tokens (Ok other) (Ok tree) (read-ParsesFile 0 tokens other e) p (λ h. cc h) (λ h. cc h))
-read_same tokens (Err other) (Ok tree) e p =
-    cc (one_file_answer 0 tokens (Err (Because other)) (Ok tree) (refused-ParsesFile 0 tokens other e) p (λ h. cc h)
-    (λ h. cc h))
-read_same tokens (Ok other) (Err (Because fault)) e p =
-    cc (one_file_answer 0 tokens (Ok other) (Err (Because fault)) (read-ParsesFile 0 tokens other e) p (λ h. cc h)
-    (λ h. cc h))
-read_same tokens (Err other) (Err (Because fault)) e p =
-    cc (one_file_answer 0 tokens (Err (Because other)) (Err (Because fault)) (refused-ParsesFile 0 tokens other e) p
-    (λ h. cc h) (λ h. cc h))
-read_same tokens read (Err OutOfMemory) e p = tt
+-- the tree or the fault of tokens is what `parse` answers
+pub file_same : (tokens : List Token) (o : FileOrFault tokens) (r : Result Tree (Refusal Fault))
+    → ParsesFile 0 tokens r → ReadsSource (answer_by_file o) r
+file_same tokens (inl found) (Ok tree) p =
+    cc (one_file_answer 0 tokens (Ok found.0) (Ok tree) found.1 p (λ h. cc h) (λ h. cc h))
+file_same tokens (inr refused) (Ok tree) p =
+    cc (one_file_answer 0 tokens (Err (Because refused.0)) (Ok tree) refused.1 p (λ h. cc h) (λ h. cc h))
+file_same tokens (inl found) (Err (Because fault)) p =
+    cc (one_file_answer 0 tokens (Ok found.0) (Err (Because fault)) found.1 p (λ h. cc h) (λ h. cc h))
+file_same tokens (inr refused) (Err (Because fault)) p =
+    cc (one_file_answer 0 tokens (Err (Because refused.0)) (Err (Because fault)) refused.1 p (λ h. cc h) (λ h. cc h))
+file_same tokens o (Err OutOfMemory) p = tt
 
 reads_as : (a b : Result Tree Fault) (r : Result Tree (Refusal Fault)) → a ≡ b → ReadsSource b r → ReadsSource a r
 reads_as a b r e h = subst (λ x. ReadsSource x r) (sym e) h
@@ -63,9 +59,9 @@ text_over text h =
     (lt-ltb largest_file (length text) h)
 
 by_tokens : (text : List ℕ) (tokens : List Token) (o : TokensOrFault text) → Tokens text tokens
-    → answer_by_tokens o ≡ reading_file 0 0 tokens file_start
+    → answer_by_tokens o ≡ answer_by_file (file_or_fault tokens)
 by_tokens text tokens (inl found) are =
-    ap (λ ts. reading_file 0 0 ts file_start) (one_list text found.0 tokens found.1 are)
+    ap (λ ts. answer_by_file {tokens = ts} (file_or_fault ts)) (one_list text found.0 tokens found.1 are)
 by_tokens text tokens (inr stopped) are = absurd (never_both text tokens stopped.0 are stopped.1)
 
 by_fault : (text : List ℕ) (offset : ℕ) (o : TokensOrFault text) → FirstFault text offset
@@ -76,7 +72,7 @@ by_fault text offset (inr stopped) first =
 
 -- the answer to a text by its tokens
 pub text_answer-tokens : (text : List ℕ) (tokens : List Token) → length text ≤ largest_file
-    → Tokens (chars text) tokens → text_answer text ≡ reading_file 0 0 tokens file_start
+    → Tokens (chars text) tokens → text_answer text ≡ answer_by_file (file_or_fault tokens)
 text_answer-tokens text tokens within are =
     text_within text within ∙ by_tokens (chars text) tokens (tokens_or_fault (chars text)) are
 
@@ -92,7 +88,7 @@ pub parsed-reads : (text : List ℕ) (tokens : List Token) (r : Result Tree (Ref
     → ReadsSource (text_answer text) r
 parsed-reads text tokens r lexed p =
     reads_as _ _ r (text_answer-tokens text tokens lexed.0 lexed.1)
-    (read_same tokens (reading_file 0 0 tokens file_start) r refl p)
+    (file_same tokens (file_or_fault tokens) r p)
 
 -- and one that is refused before is too
 refused_by : (text : List ℕ) (fault : Fault) → TooLarge 0 text fault ⊎ NoToken 0 text fault

@@ -15,15 +15,14 @@ use Rattle.soy_base.specs.declared.memory.Refusal.TheVariants.{Because}
 use Rattle.soy_base.specs.Limits.{largest_file}
 use Rattle.soy_lexer.specs.Tokens.{Tokens}
 use Rattle.soy_lexer.specs.declared.token.Token.{Token}
-use Rattle.soy_lexer.proofs.SomeSegments.{tokens_or_fault}
-use Rattle.soy_parser.specs.FileReading.{fault_at, reading_file}
-use Rattle.soy_parser.specs.FileSteps.{file_start}
-use Rattle.soy_parser.proofs.Files.FileReads.{read-ParsesFile, refused-ParsesFile}
+use Rattle.soy_parser.specs.FileReading.{fault_at}
 use Rattle.soy_tree.specs.declared.tree.Tree.{Tree}
 use Rattle.soy_front.specs.Deserves.{IsSourceText, Deserves}
 use Rattle.soy_front.specs.Deserves.Deserves.{NotUtf8, TooLarge, NoToken, NoFile, File}
-use Rattle.soy_front.specs.Sources.{TokensOrFault, answer_by_tokens, text_answer, source_answer}
-use Rattle.soy_front.proofs.SourceAnswers.{read_same, text_over, text_answer-tokens, text_answer-fault}
+use Rattle.soy_front.specs.FileOrFault.{FileOrFault, TokensOrFault}
+use Rattle.soy_front.specs.Sources.{answer_by_file, answer_by_tokens, file_or_fault, source_answer, text_answer}
+use Rattle.soy_front.specs.Sources.{tokens_or_fault}
+use Rattle.soy_front.proofs.SourceAnswers.{file_same, text_over, text_answer-tokens, text_answer-fault}
 use Rattle.soy_front.proofs.SourceAnswers.{source_answer-text, source_answer-bytes}
 
 -- the longest prefix that is UTF-8, of those up to a length
@@ -90,14 +89,14 @@ module _ (bytes : List ℕ) where
     longest = λ m below u. no_prefix n m (nat_lt (length bytes) m) e l refl below u;
   }
 
-  -- what is read of its tokens is what it deserves
-  read_deserved : (tokens : List Token) (read : Result Tree Fault) → IsSourceText bytes → Tokens (chars bytes) tokens
-      → reading_file 0 0 tokens file_start ≡ read → Deserves bytes read
-  read_deserved tokens (Ok tree) is are e = File tokens tree is are (read-ParsesFile 0 tokens tree e)
-  read_deserved tokens (Err fault) is are e = NoFile tokens fault is are (refused-ParsesFile 0 tokens fault e)
+  -- the tree or the fault of its tokens is what it deserves
+  file_deserved : (tokens : List Token) (o : FileOrFault tokens) → IsSourceText bytes → Tokens (chars bytes) tokens
+      → Deserves bytes (answer_by_file o)
+  file_deserved tokens (inl found) is are = File tokens found.0 is are found.1
+  file_deserved tokens (inr refused) is are = NoFile tokens refused.0 is are refused.1
 
   found_deserved : (o : TokensOrFault (chars bytes)) → IsSourceText bytes → Deserves bytes (answer_by_tokens o)
-  found_deserved (inl found) is = read_deserved found.0 (reading_file 0 0 found.0 file_start) is found.1 refl
+  found_deserved (inl found) is = file_deserved found.0 (file_or_fault found.0) is found.1
   found_deserved (inr stopped) is = NoToken stopped.0 is stopped.1
 
   sized : (over : Bool) → nat_lt largest_file (length bytes) ≡ over → IsUtf8 bytes
@@ -131,8 +130,8 @@ module _ (bytes : List ℕ) where
   only _ (NoFile tokens fault is are refused) =
       source_answer-text bytes bytes refl is.utf8
       ∙ (text_answer-tokens bytes tokens is.within are
-      ∙ read_same tokens (reading_file 0 0 tokens file_start) (Err (Because fault)) refl refused)
+      ∙ file_same tokens (file_or_fault tokens) (Err (Because fault)) refused)
   only _ (File tokens tree is are parsed) =
       source_answer-text bytes bytes refl is.utf8
       ∙ (text_answer-tokens bytes tokens is.within are
-      ∙ read_same tokens (reading_file 0 0 tokens file_start) (Ok tree) refl parsed)
+      ∙ file_same tokens (file_or_fault tokens) (Ok tree) parsed)

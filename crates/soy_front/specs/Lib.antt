@@ -10,3 +10,4 @@ pub mod ReadsFiles
 pub mod ReadsSource
 pub mod Sources
 pub mod ViewSources
+pub mod FileOrFault
