@@ -7,7 +7,7 @@ use Rattle.soy_lexer.specs.declared.token.Token.{Token}
 use Rattle.soy_tree.specs.ViewTrees.{view_tree}
 use Rattle.soy_tree.specs.declared.tree.Tree.{Tree}
 use Rattle.soy_parser.specs.ParsesFile.{ParsesFile}
-use Rattle.soy_parser.proofs.Files.FileAnswers.{one_file_answer}
+use Rattle.soy_parser.proofs.OfFiles.FileAnswers.{one_file_answer}
 use Rattle.soy_format.specs.WithoutSpans.{AreAlike}
 use Rattle.formatted_source.specs.ReadsAlike.{IsFileAlike, ParsesAlike}
 

@@ -18,7 +18,7 @@ use Rattle.soy_rules.specs.Placeholders.{uses_of}
 use Rattle.soy_meaning.specs.Paths.PlanOfParts.{cut_plan, printed_classes, tag_plan, text_plan}
 use Rattle.soy_rules.specs.Placeholders.{placeholder_cut}
 use Rattle.soy_meaning.specs.Walks.Walk.{WalkFault, Walked, walk}
-use Rattle.msg_extract.proofs.Names.NamedCuts.{named_cut, nodes_there}
+use Rattle.msg_extract.proofs.Naming.NamedCuts.{named_cut, nodes_there}
 use Rattle.html_context.specs.PlacedNodes.{placed_nodes}
 
 itself : (r : Result (Walked State) WalkFault) → followed_by r (λ v. Ok v) ≡ r

@@ -22,7 +22,7 @@ use Rattle.msg_extract.specs.SelectorRows.{SelectorRow, role_rows, selector_rows
 use Rattle.template_ir.specs.HoleCounts.{cut_holes, part_holes, tag_holes}
 use Rattle.template_ir.specs.Ops.{Op, PrintOp}
 use Rattle.template_ir.specs.StandFor.{StandsCut, StandsTag, StandsText, place_of}
-use Rattle.msg_extract.proofs.Names.NamedCuts.{named_cut, nodes_there}
+use Rattle.msg_extract.proofs.Naming.NamedCuts.{named_cut, nodes_there}
 use Rattle.ir_build.specs.Claims.{all_placed_holes, all_placed_stand, part_stands, placed_holes, placed_stands}
 use Rattle.ir_build.specs.Claims.{source_uses}
 use Rattle.ir_build.specs.Laid.{Made, Pushes, with_hole}

@@ -34,7 +34,7 @@ use Rattle.msg_extract.specs.declared.role_names.NameKind.TheVariants as kind
 use Rattle.msg_extract.proofs.Decimals.{decimal_passes}
 use Rattle.msg_extract.proofs.JoinedTests.{and_left, and_right, holds_or}
 use Rattle.msg_extract.proofs.MessageCuts.{AreCuts, Holds, expr_base, text_cuts}
-use Rattle.msg_extract.proofs.Names.MessageNames.{base_tag, name_is}
+use Rattle.msg_extract.proofs.Naming.MessageNames.{base_tag, name_is}
 
 -- where the reader is: in text; after an apostrophe of it; in a run; after an apostrophe of it; in a name; behind a
 -- name and a comma; between arms

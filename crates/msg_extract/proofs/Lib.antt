@@ -17,4 +17,4 @@ pub mod SelectorRows
 pub mod Tries
 pub mod ViewBodies
 pub mod Texts
-pub mod Names
+pub mod Naming

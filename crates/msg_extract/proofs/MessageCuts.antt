@@ -18,7 +18,7 @@ use Rattle.soy_tree.specs.MessageText.{cuts_of}
 use Rattle.soy_rules.specs.BaseNames.{base_of_expr, base_of_print}
 use Rattle.soy_tree.specs.Formed.{is_formed_expr, if_there, is_formed_node, are_formed_nodes, is_text, begins_with_text}
 use Rattle.msg_extract.proofs.JoinedTests.{holds_or, and_left, and_right}
-use Rattle.msg_extract.proofs.Names.MessageNames.{IsTag, base_name}
+use Rattle.msg_extract.proofs.Naming.MessageNames.{IsTag, base_name}
 
 abbrev pub Holds : {A : Type 0} → (A → Type 0) → Option A → Type 0
 Holds P None = Unit {0}

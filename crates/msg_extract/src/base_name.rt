@@ -50,7 +50,7 @@ pub fn base_of_print(alloc: Global, expr: &Expr, phname: &Option<Text>) -> Resul
 }
 
 /// The base name that a name makes.
-#[tactic(auto, using(crate::proofs::Names::TagNames::upper_steps))]
+#[tactic(auto, using(crate::proofs::Naming::TagNames::upper_steps))]
 fn base_of_name(alloc: Global, name: &str) -> Result<Text, OutOfMemory>
     ensures { IfOk result (λ t. t ≡ base_of_name (chars name.now)) }
 {
@@ -77,7 +77,7 @@ fn push_upper(out: &mut String, follows_lower: bool, c: char) -> Result<(), OutO
 }
 
 /// The base name of a tag.
-#[tactic(auto, using(crate::proofs::Names::TagNames::tag_base_is))]
+#[tactic(auto, using(crate::proofs::Naming::TagNames::tag_base_is))]
 pub fn base_of_tag(alloc: Global, tag: &[Item<'_>]) -> Result<Text, OutOfMemory>
     ensures { IfOk result (λ t. t ≡ base_of_tag (map view_item tag.now)) }
 {
@@ -204,7 +204,7 @@ fn begins_with_slash(items: &[Item<'_>]) -> bool
 }
 
 /// Whether these end with `/`.
-#[tactic(auto, using(crate::proofs::Names::TagNames::ends_as))]
+#[tactic(auto, using(crate::proofs::Naming::TagNames::ends_as))]
 fn ends_with_slash(items: &[Item<'_>]) -> bool
     ensures { result ≡ begins_with_slash (reverse (map view_item items.now)) }
 {
@@ -216,7 +216,7 @@ fn ends_with_slash(items: &[Item<'_>]) -> bool
 }
 
 /// Whether a tag is an end tag.
-#[tactic(auto, using(crate::proofs::Names::TagNames::end_tag_is))]
+#[tactic(auto, using(crate::proofs::Naming::TagNames::end_tag_is))]
 fn is_end_tag(tag: &[Item<'_>]) -> bool
     ensures { result ≡ is_end_tag (map view_item tag.now) }
 {
@@ -227,7 +227,7 @@ fn is_end_tag(tag: &[Item<'_>]) -> bool
 }
 
 /// Whether a tag ends in `/>`.
-#[tactic(auto, using(crate::proofs::Names::TagNames::closed_tag_is))]
+#[tactic(auto, using(crate::proofs::Naming::TagNames::closed_tag_is))]
 fn is_closed_tag(tag: &[Item<'_>]) -> bool
     ensures { result ≡ is_closed_tag (map view_item tag.now) }
 {

@@ -120,7 +120,7 @@ fn push_piece(alloc: Global, groups: &mut Groups, piece: &CodePiece<'_>) -> Resu
 }
 
 /// The base names and contents of pieces.
-#[tactic(auto, using(crate::proofs::Names::NameSteps::bases_steps, crate::proofs::Names::NameSteps::groups_steps))]
+#[tactic(auto, using(crate::proofs::Naming::NameSteps::bases_steps, crate::proofs::Naming::NameSteps::groups_steps))]
 fn groups_of(alloc: Global, pieces: &[CodePiece<'_>]) -> Result<Groups, OutOfMemory>
     ensures bases { IfOk result (λ groups. groups.bases.keys ≡ bases_after [] (uses_in (map view_piece pieces.now))) }
     ensures contents { IfOk result (λ groups. view_groups groups.contents.items
@@ -147,7 +147,7 @@ fn is_use(piece: &CodePiece<'_>) -> bool
 }
 
 /// The number of the uses of names among pieces.
-#[tactic(auto, using(crate::proofs::Names::NameSteps::use_counted, crate::proofs::Names::NameSteps::text_passed))]
+#[tactic(auto, using(crate::proofs::Naming::NameSteps::use_counted, crate::proofs::Naming::NameSteps::text_passed))]
 fn use_count(pieces: &[CodePiece<'_>]) -> usize
     ensures { result ≡ length (uses_in (map view_piece pieces.now)) }
 {
@@ -239,7 +239,7 @@ fn number_names(
 }
 
 /// The names of the contents of a base name: of one the base name.
-#[tactic(auto, using(crate::proofs::Names::NameSteps::one_name, crate::proofs::Names::NameSteps::many_names))]
+#[tactic(auto, using(crate::proofs::Naming::NameSteps::one_name, crate::proofs::Naming::NameSteps::many_names))]
 fn content_names(
     alloc: Global,
     tries: usize,
@@ -282,7 +282,7 @@ fn push_names(
 }
 
 /// The names of the groups of some of the base names.
-#[tactic(auto, using(crate::proofs::Names::NameSteps::names_grown))]
+#[tactic(auto, using(crate::proofs::Naming::NameSteps::names_grown))]
 fn group_names(
     alloc: Global,
     tries: usize,
@@ -405,7 +405,7 @@ fn find<'n>(
 }
 
 /// The name of a content of a base name among those of a message.
-#[tactic(auto, using(crate::proofs::Names::NameGroups::name_is_found, crate::proofs::Names::NameGroups::name_is_base))]
+#[tactic(auto, using(crate::proofs::Naming::NameGroups::name_is_found, crate::proofs::Naming::NameGroups::name_is_base))]
 fn name_by_keys(
     alloc: Global,
     names: &Names<'_>,

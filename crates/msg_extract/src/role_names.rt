@@ -97,7 +97,7 @@ fn add_name(
 }
 
 /// The names of the uses of a kind, each once, in order of first appearance.
-#[tactic(auto, using(crate::proofs::Names::RoleNames::names_step))]
+#[tactic(auto, using(crate::proofs::Naming::RoleNames::names_step))]
 pub fn role_names(
     alloc: Global,
     names: &Names<'_>,

@@ -5,7 +5,7 @@ use Rattle.soy_base.specs.declared.fault.Fault.{Fault}
 use Rattle.soy_lexer.specs.declared.token.Token.{Token}
 use Rattle.soy_parser.specs.FileReading.{reading_file}
 use Rattle.soy_parser.specs.FileSteps.{file_start}
-use Rattle.soy_parser.proofs.Files.FileReads.{read-ParsesFile, refused-ParsesFile}
+use Rattle.soy_parser.proofs.OfFiles.FileReads.{read-ParsesFile, refused-ParsesFile}
 use Rattle.soy_tree.specs.declared.tree.Tree.{Tree}
 use Rattle.soy_front.specs.FileOrFault.{FileOrFault}
 

@@ -21,7 +21,7 @@ use Rattle.soy_lexer.specs.declared.token.Token.{Token}
 use Rattle.soy_lexer.proofs.SomeSegments.{fault_within}
 use Rattle.soy_parser.specs.FileReading.{fault_at}
 use Rattle.soy_parser.specs.ParsesFile.{ParsesFile, RefusesTokens}
-use Rattle.soy_parser.proofs.Files.FileAnswers.{one_file_answer}
+use Rattle.soy_parser.proofs.OfFiles.FileAnswers.{one_file_answer}
 use Rattle.soy_tree.specs.declared.tree.Tree.{Tree}
 use Rattle.soy_front.specs.ReadsSource.{ReadsSource, FaultWithin}
 use Rattle.soy_front.specs.FileOrFault.{FileOrFault, TokensOrFault}

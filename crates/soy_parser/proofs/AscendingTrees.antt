@@ -51,8 +51,8 @@ use Rattle.soy_parser.specs.SpellsTree.{SpellsText, SpellsPrints, SpellsParts, S
 use Rattle.soy_parser.specs.SpellsTree.{SpellsPluralCases, SpellsSelectCases, SpellsNodes, SpellsBody, SpellsNode}
 use Rattle.soy_parser.specs.SpellsTree.{SpellsArms, SpellsCases, SpellsArguments, SpellsParams, SpellsTemplates}
 use Rattle.soy_parser.specs.SpellsTree.{SpellsTree, as_param, template_of}
-use Rattle.soy_parser.proofs.Commands.AscendingCommands.{form_offsets, command_offsets, commands_offsets}
-use Rattle.soy_parser.proofs.Commands.AscendingCommands.{commands_ascend}
+use Rattle.soy_parser.proofs.OfCommands.AscendingCommands.{form_offsets, command_offsets, commands_offsets}
+use Rattle.soy_parser.proofs.OfCommands.AscendingCommands.{commands_ascend}
 use Rattle.soy_parser.proofs.NodeViews.{view_text, view_print}
 use Rattle.soy_parser.proofs.ViewForms.{view-If, view-IfElse, view-Switch, view-SwitchDefault, view-For, view-Let}
 use Rattle.soy_parser.proofs.ViewForms.{view-LetBlock, view-Call, view-Message, view-MessageFallback, view-arm}

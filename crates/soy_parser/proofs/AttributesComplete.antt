@@ -24,8 +24,8 @@ use Rattle.soy_parser.specs.FileSteps.{stands, attributes_step, attribute_step, 
 use Rattle.soy_parser.specs.FileSteps.{value_step, with_value}
 use Rattle.soy_parser.specs.FileSteps.{file_step, token_depth, word_in}
 use Rattle.soy_parser.specs.Heads.{no_attributes, attribute_name, allows, SpellsAttributes, form_at}
-use Rattle.soy_parser.proofs.Commands.CommandRunning.{map_append}
-use Rattle.soy_parser.proofs.Files.FileRunning.{Leads, none_leads, step_leads, then_leads}
+use Rattle.soy_parser.proofs.OfCommands.CommandRunning.{map_append}
+use Rattle.soy_parser.proofs.OfFiles.FileRunning.{Leads, none_leads, step_leads, then_leads}
 
 abbrev pub in_at : CommandState → Span → Spot → FileState
 in_at s from at = record { commands = s; spot = where_.Inside from at }

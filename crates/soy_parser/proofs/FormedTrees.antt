@@ -59,7 +59,7 @@ use Rattle.soy_parser.specs.SpellsTree.{SpellsSelectCases, SpellsNodes, SpellsBo
 use Rattle.soy_parser.specs.SpellsTree.{SpellsArguments, SpellsParams, SpellsTemplates, SpellsTree, as_param}
 use Rattle.soy_parser.specs.SpellsTree.{template_of}
 use Rattle.soy_parser.proofs.DottedNames.{both, all_three, first_of, second_of}
-use Rattle.soy_parser.proofs.Commands.FormedCommands.{FormedForm, AllFormed, commands_formed, formed_left, formed_right}
+use Rattle.soy_parser.proofs.OfCommands.FormedCommands.{FormedForm, AllFormed, commands_formed, formed_left, formed_right}
 use Rattle.soy_parser.proofs.NodeViews.{view_text, view_print}
 use Rattle.soy_parser.proofs.ViewForms.{view-If, view-IfElse, view-Switch, view-SwitchDefault, view-For, view-Let}
 use Rattle.soy_parser.proofs.ViewForms.{view-LetBlock, view-Call, view-Message, view-MessageFallback, view-arm}

@@ -9,6 +9,6 @@ pub mod DottedNames
 pub mod ViewForms
 pub mod FormedTrees
 pub mod AscendingTrees
-pub mod Commands
-pub mod Files
-pub mod Heads
+pub mod OfCommands
+pub mod OfFiles
+pub mod OfHeads

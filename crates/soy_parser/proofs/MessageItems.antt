@@ -17,7 +17,7 @@ use Rattle.soy_parser.specs.CommandSteps.{with_text, has_whole_tags}
 use Rattle.soy_parser.specs.Nodes.{node_of, text_span}
 use Rattle.soy_parser.specs.SpellsTree.{SpellsPrints, SpellsParts}
 use Rattle.soy_parser.proofs.ClosingText.{closer, closed_by}
-use Rattle.soy_parser.proofs.Commands.CommandsSound.{PartsAt_run}
+use Rattle.soy_parser.proofs.OfCommands.CommandsSound.{PartsAt_run}
 use Rattle.soy_parser.proofs.NodeViews.{view_text, view_print}
 
 -- items of a list of nodes

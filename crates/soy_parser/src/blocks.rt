@@ -37,7 +37,7 @@ impl CommandState {
     }
 
     /// This is the content of the innermost block, if this holds.
-    #[tactic(auto, using(crate::proofs::Files::Reaching::reached_if))]
+    #[tactic(auto, using(crate::proofs::OfFiles::Reaching::reached_if))]
     pub(crate) fn holds_if(&mut self, content: Content, holds: bool) -> bool
         ensures { reached result self.new ≡ (if holds then state self.old.blocks content else None) }
     {

@@ -65,7 +65,7 @@ impl FileState {
     }
 
     /// The reading stands there, if this holds.
-    #[tactic(auto, using(crate::proofs::Files::Reaching::reached_if))]
+    #[tactic(auto, using(crate::proofs::OfFiles::Reaching::reached_if))]
     fn stands_if(&mut self, spot: CommandSpot, holds: bool) -> bool
         ensures { reached result self.new ≡ (if holds then file_at self.old.commands spot else None) }
     {

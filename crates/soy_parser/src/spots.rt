@@ -755,7 +755,7 @@ fn value(
 }
 
 /// The value of an attribute has come.
-#[tactic(auto, using(crate::proofs::Files::Reaching::value_reached))]
+#[tactic(auto, using(crate::proofs::OfFiles::Reaching::value_reached))]
 fn attribute_value(
     alloc: Global,
     file: &mut FileState,

@@ -35,7 +35,7 @@ use Rattle.msg_extract.specs.Canonical.CanonicalText.{written_plural_cases, writ
 use Rattle.msg_extract.specs.Canonical.SourceParts.{cut_parts, found_parts, body_parts, plural_case_parts}
 use Rattle.msg_extract.specs.Canonical.SourceParts.{select_case_parts}
 use Rattle.msg_extract.specs.Canonical.SourceParts.{source_parts}
-use Rattle.msg_extract.proofs.Names.MessageNames.{base_tag, name_is}
+use Rattle.msg_extract.proofs.Naming.MessageNames.{base_tag, name_is}
 use Rattle.msg_extract.proofs.MessageCuts.{Holds, AreCuts, text_cuts, expr_base}
 use Rattle.msg_extract.proofs.JoinedTests.{and_left, and_right}
 use Rattle.msg_extract.proofs.Decimals.{decimal_passes}

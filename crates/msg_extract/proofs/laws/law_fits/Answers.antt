@@ -1,7 +1,7 @@
 use Rattle.msg_extract.specs.Canonical.CanonicalText.{canonical_text}
 use Rattle.msg_extract.proofs.Texts.CanonicalReads.{canonical_reads}
 use Rattle.msg_extract.proofs.NoTranslation.{no_translation}
-use Rattle.msg_extract.proofs.Names.OwnNames.{own_names}
+use Rattle.msg_extract.proofs.Naming.OwnNames.{own_names}
 use Rattle.msg_extract.proofs.laws.law_fits.Goals as goal
 
 pub returns-clause-own_text : goal.returns-clause-own_text

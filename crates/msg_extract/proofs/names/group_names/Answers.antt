@@ -1,7 +1,7 @@
 use Rattle.std.proofs.Common.{◌+◌, ap, drop, map}
 use Rattle.msg_extract.specs.NameGroups.{group_names}
 use Rattle.msg_extract.specs.Views.ViewKeys.{view_groups, view_key}
-use Rattle.msg_extract.proofs.Names.NameSteps.{names_ended, names_grown}
+use Rattle.msg_extract.proofs.Naming.NameSteps.{names_ended, names_grown}
 use Rattle.msg_extract.proofs.names.group_names.Goals as goal
 
 pub returns-in_default : goal.returns-in_default

@@ -3,7 +3,7 @@ use Rattle.std.proofs.lemmas.Result.{IfOk-weaker}
 use Rattle.msg_extract.specs.NameGroups.{found_name}
 use Rattle.msg_extract.specs.Views.ViewKeys.{view_groups, view_key}
 use Rattle.msg_extract.specs.Views.ViewNames.{named_uses}
-use Rattle.msg_extract.proofs.Names.NameGroups.{name_is_base}
+use Rattle.msg_extract.proofs.Naming.NameGroups.{name_is_base}
 use Rattle.msg_extract.proofs.names.name_by_keys.Goals as goal
 
 pub returns-in-None : goal.returns-in-None

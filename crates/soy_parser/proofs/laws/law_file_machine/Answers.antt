@@ -1,5 +1,5 @@
-use Rattle.soy_parser.proofs.Files.FileMachine.{BeginsFile-run, run-BeginsFile, whole-spelled}
-use Rattle.soy_parser.proofs.Files.FilesComplete.{file_leads}
+use Rattle.soy_parser.proofs.OfFiles.FileMachine.{BeginsFile-run, run-BeginsFile, whole-spelled}
+use Rattle.soy_parser.proofs.OfFiles.FilesComplete.{file_leads}
 use Rattle.soy_parser.proofs.laws.law_file_machine.Goals as goal
 
 pub returns-clause-runs : goal.returns-clause-runs

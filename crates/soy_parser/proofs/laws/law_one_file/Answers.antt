@@ -1,4 +1,4 @@
-use Rattle.soy_parser.proofs.Files.FileMachine.{spelled_same, begun_depths, begun_words}
+use Rattle.soy_parser.proofs.OfFiles.FileMachine.{spelled_same, begun_depths, begun_words}
 use Rattle.soy_parser.proofs.laws.law_one_file.Goals as goal
 
 pub returns-clause-one_file : goal.returns-clause-one_file

@@ -1,5 +1,5 @@
 use Rattle.std.proofs.Common.{sym, ◌∙◌}
-use Rattle.soy_parser.proofs.Files.FileReads.{read-ParsesFile, refused-ParsesFile}
+use Rattle.soy_parser.proofs.OfFiles.FileReads.{read-ParsesFile, refused-ParsesFile}
 use Rattle.soy_parser.proofs.reading.parse.Goals as goal
 
 pub returns-in-Ok : goal.returns-in-Ok

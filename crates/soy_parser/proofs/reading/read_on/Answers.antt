@@ -1,8 +1,8 @@
 use Rattle.std.proofs.Common.{◌+◌, ◌∙◌, ap, sym}
 use Rattle.expr_parser.specs.Depths.{is_within}
 use Rattle.soy_parser.specs.FileSteps.{depth_in, file_step, unknown_in}
-use Rattle.soy_parser.proofs.Files.Reaching.{is_reached, not_reached}
-use Rattle.soy_parser.proofs.Files.ReadingSteps.{none_goes_on, goes_too_deep, reads_on}
+use Rattle.soy_parser.proofs.OfFiles.Reaching.{is_reached, not_reached}
+use Rattle.soy_parser.proofs.OfFiles.ReadingSteps.{none_goes_on, goes_too_deep, reads_on}
 use Rattle.soy_parser.proofs.reading.read_on.Goals as goal
 
 pub returns-then-not-branch : goal.returns-then-not-branch

@@ -3,7 +3,7 @@ use Rattle.std.proofs.Common.{◌≡◌, ℕ, suc, ◌+◌, List, [], ◌∷◌,
 use Rattle.std.proofs.Common.{ap, arith}
 use Rattle.soy_parser.specs.declared.block.CommandState.{CommandState}
 use Rattle.soy_parser.specs.declared.command.Command.{Command}
-use Rattle.soy_parser.proofs.Commands.CommandLevels.{levels_from, command_levels}
+use Rattle.soy_parser.proofs.OfCommands.CommandLevels.{levels_from, command_levels}
 use Rattle.soy_parser.specs.CommandSteps.{command_step, commands_from, command_run}
 use Rattle.soy_parser.specs.Depth.{inside_blocks}
 

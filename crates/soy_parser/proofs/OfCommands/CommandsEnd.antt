@@ -25,13 +25,13 @@ use Rattle.soy_parser.specs.CommandSteps.{message_goes_on}
 use Rattle.soy_parser.specs.CommandSteps.{message_closes, step_at, commands_from, command_run}
 use Rattle.soy_parser.specs.CommandSteps.{command_start}
 use Rattle.soy_parser.specs.SpellsTree.{SpellsTree}
-use Rattle.soy_parser.proofs.Commands.CommandRunning.{run_append}
-use Rattle.soy_parser.proofs.Commands.CommandsComplete.{at, tree_goes}
-use Rattle.soy_parser.proofs.Commands.CommandsSound.{Inside, ABody, ACall, ASwitch, APlural, ASelect, AMessage, Opened}
-use Rattle.soy_parser.proofs.Commands.CommandsSound.{HasCases}
-use Rattle.soy_parser.proofs.Commands.CommandsSound.{Held_at}
+use Rattle.soy_parser.proofs.OfCommands.CommandRunning.{run_append}
+use Rattle.soy_parser.proofs.OfCommands.CommandsComplete.{at, tree_goes}
+use Rattle.soy_parser.proofs.OfCommands.CommandsSound.{Inside, ABody, ACall, ASwitch, APlural, ASelect, AMessage, Opened}
+use Rattle.soy_parser.proofs.OfCommands.CommandsSound.{HasCases}
+use Rattle.soy_parser.proofs.OfCommands.CommandsSound.{Held_at}
 use Rattle.soy_parser.proofs.MessageItems.{parts_end}
-use Rattle.soy_parser.proofs.Commands.CommandsSound.{HeldParts, start_run_held, run_tree}
+use Rattle.soy_parser.proofs.OfCommands.CommandsSound.{HeldParts, start_run_held, run_tree}
 
 abbrev pub no_span : Span
 no_span = record { start = 0; end = 0 }

@@ -7,7 +7,7 @@ use Rattle.soy_parser.specs.Depth.{inside_blocks}
 use Rattle.soy_parser.specs.FileRuns.{file_run, file_run_from, file_depths, file_depths_from, file_words}
 use Rattle.soy_parser.specs.FileRuns.{file_words_from}
 use Rattle.soy_parser.specs.FileSteps.{file_step, token_depth, word_in}
-use Rattle.soy_parser.proofs.Commands.CommandRunning.{map_append}
+use Rattle.soy_parser.proofs.OfCommands.CommandRunning.{map_append}
 
 pub run_append : (ts us : List Token) (s : FileState) → file_run (ts ++ us) s ≡ file_run_from (file_run us)
     (file_run ts s)

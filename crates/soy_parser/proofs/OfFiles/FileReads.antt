@@ -36,16 +36,16 @@ use Rattle.soy_parser.specs.FileRuns.{file_run, file_run_from, file_depths, file
 use Rattle.soy_parser.specs.FileRuns.{file_words_from}
 use Rattle.soy_parser.specs.FileSteps.{file_step, file_start, token_depth, word_in, unknown_in}
 use Rattle.soy_parser.specs.FileSteps.{whole_file}
-use Rattle.soy_parser.proofs.Files.ReadsFile.{ReadsFile}
+use Rattle.soy_parser.proofs.OfFiles.ReadsFile.{ReadsFile}
 use Rattle.soy_parser.specs.ParsesFile.{IsFile, NoFileGoesOn, BeginsFileFault, IsUnknown, RefusesTokens}
 use Rattle.soy_parser.specs.ParsesFile.{ParsesFile}
 use Rattle.soy_parser.specs.SpellsFile.{SpellsFile, BeginsFile}
-use Rattle.soy_parser.proofs.Files.FileMachine.{BeginsFile-run, run-BeginsFile, same_state, whole-spelled, words_length}
-use Rattle.soy_parser.proofs.Files.FileRunning.{run_append, depths_append, words_append}
-use Rattle.soy_parser.proofs.Files.FilesComplete.{file_leads}
-use Rattle.soy_parser.proofs.Files.FilesSound.{start_run_held}
-use Rattle.soy_parser.proofs.Files.FilesSound as files
-use Rattle.soy_parser.proofs.Heads.HeadsBegun.{Begun}
+use Rattle.soy_parser.proofs.OfFiles.FileMachine.{BeginsFile-run, run-BeginsFile, same_state, whole-spelled, words_length}
+use Rattle.soy_parser.proofs.OfFiles.FileRunning.{run_append, depths_append, words_append}
+use Rattle.soy_parser.proofs.OfFiles.FilesComplete.{file_leads}
+use Rattle.soy_parser.proofs.OfFiles.FilesSound.{start_run_held}
+use Rattle.soy_parser.proofs.OfFiles.FilesSound as files
+use Rattle.soy_parser.proofs.OfHeads.HeadsBegun.{Begun}
 
 -- what is read, of the tokens
 abbrev pub Answers : ℕ → List Token → Result Tree Fault → Type 0

@@ -34,22 +34,22 @@ use Rattle.soy_parser.specs.FileSteps.{admits, admits_at, head_kind, file_start,
 use Rattle.soy_parser.specs.FileSteps.{whole_file}
 use Rattle.soy_parser.specs.SpellsCommand.{SpellsCommand}
 use Rattle.soy_parser.specs.SpellsHead.{SpellsHead, bare_head}
-use Rattle.soy_parser.proofs.Commands.AdmittedSteps.{MessageTop, top_is, admitted_steps}
-use Rattle.soy_parser.proofs.Commands.CommandRunning.{run_append}
-use Rattle.soy_parser.proofs.Commands.CommandsComplete.{at}
-use Rattle.soy_parser.proofs.Commands.CommandsEnd.{run_ends}
-use Rattle.soy_parser.proofs.Commands.CommandsSound.{Inside, ACall, ASwitch, APlural, ASelect, AMessage, Opened}
-use Rattle.soy_parser.proofs.Commands.CommandsSound.{HasCases}
-use Rattle.soy_parser.proofs.Commands.CommandsSound.{Held_at, run_tree}
-use Rattle.soy_parser.proofs.Commands.CommandsSound as commands
-use Rattle.soy_parser.proofs.Files.FilesComplete.{said_fits, spelled_is_head}
-use Rattle.soy_parser.proofs.Files.FilesSound.{Heard, HeldOpened, HeldInside, start_run_held}
-use Rattle.soy_parser.proofs.Files.FilesSound as files
-use Rattle.soy_parser.proofs.Heads.HeadsBegun.{DottedBegins, Begun}
-use Rattle.soy_parser.proofs.Heads.HeadsEnd.{Completes, begun_ends, head_ends}
-use Rattle.soy_parser.proofs.Commands.WrittenTokens.{word_token, closing_token, closing_is, default_is, namespace_is}
-use Rattle.soy_parser.proofs.Commands.WrittenTokens.{Speaks, speaks_append, speaks_one, all_spoken, SpelledFile}
-use Rattle.soy_parser.proofs.Commands.WrittenTokens.{file_spelled}
+use Rattle.soy_parser.proofs.OfCommands.AdmittedSteps.{MessageTop, top_is, admitted_steps}
+use Rattle.soy_parser.proofs.OfCommands.CommandRunning.{run_append}
+use Rattle.soy_parser.proofs.OfCommands.CommandsComplete.{at}
+use Rattle.soy_parser.proofs.OfCommands.CommandsEnd.{run_ends}
+use Rattle.soy_parser.proofs.OfCommands.CommandsSound.{Inside, ACall, ASwitch, APlural, ASelect, AMessage, Opened}
+use Rattle.soy_parser.proofs.OfCommands.CommandsSound.{HasCases}
+use Rattle.soy_parser.proofs.OfCommands.CommandsSound.{Held_at, run_tree}
+use Rattle.soy_parser.proofs.OfCommands.CommandsSound as commands
+use Rattle.soy_parser.proofs.OfFiles.FilesComplete.{said_fits, spelled_is_head}
+use Rattle.soy_parser.proofs.OfFiles.FilesSound.{Heard, HeldOpened, HeldInside, start_run_held}
+use Rattle.soy_parser.proofs.OfFiles.FilesSound as files
+use Rattle.soy_parser.proofs.OfHeads.HeadsBegun.{DottedBegins, Begun}
+use Rattle.soy_parser.proofs.OfHeads.HeadsEnd.{Completes, begun_ends, head_ends}
+use Rattle.soy_parser.proofs.OfCommands.WrittenTokens.{word_token, closing_token, closing_is, default_is, namespace_is}
+use Rattle.soy_parser.proofs.OfCommands.WrittenTokens.{Speaks, speaks_append, speaks_one, all_spoken, SpelledFile}
+use Rattle.soy_parser.proofs.OfCommands.WrittenTokens.{file_spelled}
 
 -- further tokens complete these to a file
 pub record CompletesFile (ts : List Token) : Type 0 where

@@ -29,8 +29,8 @@ use Rattle.soy_parser.specs.FileSteps.{file_step}
 use Rattle.soy_parser.specs.FileSteps.{opened_step, if_variable, if_word, let_colon_step, param_colon_step}
 use Rattle.soy_parser.specs.Heads.{no_attributes}
 use Rattle.soy_parser.proofs.AttributesComplete.{in_at, FollowsHead, HasHead, if_then, plain_step}
-use Rattle.soy_parser.proofs.Files.FileRunning.{Leads, then_leads, step_leads}
-use Rattle.soy_parser.proofs.Heads.Seam.{comma_, whole_ends, expr_leads}
+use Rattle.soy_parser.proofs.OfFiles.FileRunning.{Leads, then_leads, step_leads}
+use Rattle.soy_parser.proofs.OfHeads.Seam.{comma_, whole_ends, expr_leads}
 
 abbrev pub opened : CommandState → Span → FileState
 opened s from = record { commands = s; spot = where_.Opened from }

@@ -21,7 +21,7 @@ use Rattle.soy_parser.specs.declared.terminal.BlockName.TheVariants as name
 use Rattle.soy_parser.specs.declared.terminal.CommandTerminal.{CommandTerminal}
 use Rattle.soy_parser.specs.declared.terminal.CommandTerminal.TheVariants as terminal
 use Rattle.soy_parser.specs.declared.terminal.CommandWord.TheVariants as word
-use Rattle.soy_parser.proofs.Commands.CommandLevels.{levels_from, command_levels}
+use Rattle.soy_parser.proofs.OfCommands.CommandLevels.{levels_from, command_levels}
 use Rattle.soy_parser.specs.CommandSteps.{command_step, commands_from, command_run, command_start}
 use Rattle.soy_parser.specs.CommandTerminals.{command_terminal_of}
 use Rattle.soy_parser.specs.Depth.{inside_blocks}
@@ -31,13 +31,13 @@ use Rattle.soy_parser.specs.Heads.{form_at, plain_form, slash_form}
 use Rattle.soy_parser.specs.SpellsCommand.{SpellsCommand, SpellsCommands}
 use Rattle.soy_parser.specs.SpellsFile.{SpellsFile}
 use Rattle.soy_parser.specs.SpellsHead.{SpellsHead, bare_head, expr_head}
-use Rattle.soy_parser.proofs.Commands.Admits.{step_admits}
-use Rattle.soy_parser.proofs.Commands.Admits as admit
+use Rattle.soy_parser.proofs.OfCommands.Admits.{step_admits}
+use Rattle.soy_parser.proofs.OfCommands.Admits as admit
 use Rattle.soy_parser.proofs.AttributesComplete.{between, attributes_lead, end_step}
-use Rattle.soy_parser.proofs.Commands.CommandsComplete.{at, tree_goes}
-use Rattle.soy_parser.proofs.Files.FileRunning.{Leads, none_leads, then_leads, step_leads}
-use Rattle.soy_parser.proofs.Heads.HeadsComplete.{opened}
-use Rattle.soy_parser.proofs.Heads.HeadsRead.{head_leads, none_then}
+use Rattle.soy_parser.proofs.OfCommands.CommandsComplete.{at, tree_goes}
+use Rattle.soy_parser.proofs.OfFiles.FileRunning.{Leads, none_leads, then_leads, step_leads}
+use Rattle.soy_parser.proofs.OfHeads.HeadsComplete.{opened}
+use Rattle.soy_parser.proofs.OfHeads.HeadsRead.{head_leads, none_then}
 
 -- it says no text
 abbrev pub IsHead : Head → Type 0

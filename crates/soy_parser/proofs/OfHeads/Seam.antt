@@ -31,7 +31,7 @@ use Rattle.soy_parser.specs.TypeWords.{no_words}
 use Rattle.soy_parser.specs.FileSteps.{in_expr}
 use Rattle.soy_parser.specs.Heads.{attribute_name}
 use Rattle.soy_parser.proofs.AttributesComplete.{in_at, FollowsHead}
-use Rattle.soy_parser.proofs.Files.FileRunning.{Leads, none_leads, step_leads, then_leads}
+use Rattle.soy_parser.proofs.OfFiles.FileRunning.{Leads, none_leads, step_leads, then_leads}
 
 -- a symbol follows no head
 pub record NoFollow (m : CommandTerminal) : Type 0 where

@@ -37,10 +37,10 @@ use Rattle.soy_parser.specs.Heads.{no_attributes, attribute_name, allows, with_a
 use Rattle.soy_parser.specs.SpellsHead.{SpellsHead, SpellsDotted, SpellsInts, SpellsCaseWords, SpellsDot}
 use Rattle.soy_parser.specs.SpellsHead.{SpellsRequired}
 use Rattle.soy_parser.specs.SpellsHead.{SpellsVariables}
-use Rattle.soy_parser.proofs.Heads.HeadsBegun.{UseBegins, CaseBegins, DottedBegins, HeadOf, Begun, use_head}
-use Rattle.soy_parser.proofs.Heads.HeadsBegun.{case_values}
-use Rattle.soy_parser.proofs.Heads.HeadsBegun.{dotted_head_of}
-use Rattle.soy_parser.proofs.Commands.WrittenTokens.{token, end_token, word_token, symbol_token}
+use Rattle.soy_parser.proofs.OfHeads.HeadsBegun.{UseBegins, CaseBegins, DottedBegins, HeadOf, Begun, use_head}
+use Rattle.soy_parser.proofs.OfHeads.HeadsBegun.{case_values}
+use Rattle.soy_parser.proofs.OfHeads.HeadsBegun.{dotted_head_of}
+use Rattle.soy_parser.proofs.OfCommands.WrittenTokens.{token, end_token, word_token, symbol_token}
 
 -- further tokens make a head, attributes and an end of these
 pub record Completes (own : List Token) (k : HeadKind) : Type 0 where

@@ -16,7 +16,7 @@ use Rattle.expr_parser.proofs.ExprMachine.{next_is}
 use Rattle.soy_parser.specs.declared.terminal.CommandTerminal.{CommandTerminal}
 use Rattle.soy_parser.specs.declared.terminal.CommandTerminal.TheVariants as terminal
 use Rattle.soy_parser.specs.CommandTerminals.{command_terminal, command_terminal_of, command_symbol}
-use Rattle.soy_parser.proofs.Heads.Seam.{whole_ends_at}
+use Rattle.soy_parser.proofs.OfHeads.Seam.{whole_ends_at}
 
 -- it is no comma
 record NoComma (m : CommandTerminal) : Type 0 where

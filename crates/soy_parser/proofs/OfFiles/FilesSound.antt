@@ -65,11 +65,11 @@ use Rattle.soy_parser.specs.Heads.{no_attributes, attribute_name, allows, with_a
 use Rattle.soy_parser.specs.SpellsCommand.{SpellsCommand}
 use Rattle.soy_parser.specs.SpellsHead.{SpellsHead, SpellsDotted, SpellsInts, SpellsCaseWords, SpellsDot}
 use Rattle.soy_parser.specs.SpellsHead.{SpellsRequired, SpellsVariables, bare_head}
-use Rattle.soy_parser.proofs.Commands.CommandRunning as command_running
-use Rattle.soy_parser.proofs.Heads.HeadsBegun.{UseBegins, CaseBegins, DottedBegins, HeadOf, Begun, use_head, one_value}
-use Rattle.soy_parser.proofs.Heads.HeadsBegun.{case_values}
-use Rattle.soy_parser.proofs.Heads.HeadsBegun.{dotted_head_of}
-use Rattle.soy_parser.proofs.Commands.WrittenTokens.{Speaks, speaks_append, speaks_one}
+use Rattle.soy_parser.proofs.OfCommands.CommandRunning as command_running
+use Rattle.soy_parser.proofs.OfHeads.HeadsBegun.{UseBegins, CaseBegins, DottedBegins, HeadOf, Begun, use_head, one_value}
+use Rattle.soy_parser.proofs.OfHeads.HeadsBegun.{case_values}
+use Rattle.soy_parser.proofs.OfHeads.HeadsBegun.{dotted_head_of}
+use Rattle.soy_parser.proofs.OfCommands.WrittenTokens.{Speaks, speaks_append, speaks_one}
 
 -- between two commands
 pub record Heard (s : CommandState) (ts : List Token) : Type 0 where

@@ -30,9 +30,9 @@ use Rattle.soy_parser.specs.declared.spot.Spot.TheVariants as spot
 use Rattle.soy_parser.specs.CommandTerminals.{command_terminal, command_terminal_of}
 use Rattle.soy_parser.specs.FileSteps.{in_type}
 use Rattle.soy_parser.proofs.AttributesComplete.{in_at, FollowsHead}
-use Rattle.soy_parser.proofs.Files.FileRunning.{Leads, none_leads, step_leads, then_leads}
-use Rattle.soy_parser.proofs.Heads.HeadsComplete.{HeadLeads}
-use Rattle.soy_parser.proofs.Heads.Seam.{symbol_follows}
+use Rattle.soy_parser.proofs.OfFiles.FileRunning.{Leads, none_leads, step_leads, then_leads}
+use Rattle.soy_parser.proofs.OfHeads.HeadsComplete.{HeadLeads}
+use Rattle.soy_parser.proofs.OfHeads.Seam.{symbol_follows}
 
 -- a token with which no whole type goes on
 pub data EndsType : TypeTerminal → Type 0 where

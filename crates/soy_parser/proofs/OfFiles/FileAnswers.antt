@@ -21,11 +21,11 @@ use Rattle.soy_parser.specs.ParsesFile.{IsFile, NoFileGoesOn, IsNoFile, BeginsFi
 use Rattle.soy_parser.specs.ParsesFile.{RefusesTokens}
 use Rattle.soy_parser.specs.ParsesFile.{ParsesFile}
 use Rattle.soy_parser.specs.SpellsFile.{SpellsFile, BeginsFile}
-use Rattle.soy_parser.proofs.Files.FileMachine.{BeginsFile-run, run-BeginsFile, before, depths_length, words_length}
-use Rattle.soy_parser.proofs.Files.FileMachine.{spelled_same}
-use Rattle.soy_parser.proofs.Files.FileMachine.{begun_depths, begun_words}
-use Rattle.soy_parser.proofs.Files.FileRunning.{depths_append, words_append}
-use Rattle.soy_parser.proofs.Files.FilesComplete.{file_leads}
+use Rattle.soy_parser.proofs.OfFiles.FileMachine.{BeginsFile-run, run-BeginsFile, before, depths_length, words_length}
+use Rattle.soy_parser.proofs.OfFiles.FileMachine.{spelled_same}
+use Rattle.soy_parser.proofs.OfFiles.FileMachine.{begun_depths, begun_words}
+use Rattle.soy_parser.proofs.OfFiles.FileRunning.{depths_append, words_append}
+use Rattle.soy_parser.proofs.OfFiles.FilesComplete.{file_leads}
 
 -- some file begins with the tokens
 record Begun (ts : List Token) : Type 0 where

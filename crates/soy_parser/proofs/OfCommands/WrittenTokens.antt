@@ -16,7 +16,7 @@ use Rattle.soy_parser.specs.declared.terminal.BlockName.{BlockName}
 use Rattle.soy_parser.specs.declared.terminal.BlockName.TheVariants as name
 use Rattle.soy_parser.specs.declared.terminal.CommandTerminal.TheVariants as terminal
 use Rattle.soy_parser.specs.declared.terminal.CommandWord.TheVariants as word
-use Rattle.soy_parser.proofs.Commands.CommandLevels.{command_levels, levels_from}
+use Rattle.soy_parser.proofs.OfCommands.CommandLevels.{command_levels, levels_from}
 use Rattle.soy_parser.specs.CommandSteps.{command_step, commands_from, command_run, command_start}
 use Rattle.soy_parser.specs.CommandTerminals.{command_terminal_of}
 use Rattle.soy_parser.specs.Depth.{inside_blocks}
@@ -25,8 +25,8 @@ use Rattle.soy_parser.specs.SpellsCommand.{SpellsCommand, SpellsCommands}
 use Rattle.soy_parser.specs.SpellsFile.{SpellsFile}
 use Rattle.soy_parser.specs.SpellsHead.{SpellsHead, SpellsDotted, bare_head}
 use Rattle.soy_parser.specs.SpellsTree.{SpellsTree}
-use Rattle.soy_parser.proofs.Commands.CommandsComplete.{tree_goes}
-use Rattle.soy_parser.proofs.Commands.CommandsEnd.{no_span, written, IsBlock, IsWritten, AllWritten}
+use Rattle.soy_parser.proofs.OfCommands.CommandsComplete.{tree_goes}
+use Rattle.soy_parser.proofs.OfCommands.CommandsEnd.{no_span, written, IsBlock, IsWritten, AllWritten}
 
 abbrev pub token : TokenKind → List ℕ → Token
 token k text = record { kind = k; span = no_span; text = text }

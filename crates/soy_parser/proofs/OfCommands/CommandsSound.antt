@@ -56,8 +56,8 @@ use Rattle.soy_parser.specs.SpellsTree.{SpellsChoice, SpellsPluralCases, SpellsS
 use Rattle.soy_parser.specs.SpellsTree.{SpellsNode}
 use Rattle.soy_parser.specs.SpellsTree.{SpellsArms, SpellsCases, SpellsArguments, SpellsParams, SpellsTemplates}
 use Rattle.soy_parser.specs.SpellsTree.{SpellsTree}
-use Rattle.soy_parser.proofs.Commands.CommandsComplete.{open_if, open_switch, open_message, open_fallback, open_plural}
-use Rattle.soy_parser.proofs.Commands.CommandsComplete.{open_select, open_template}
+use Rattle.soy_parser.proofs.OfCommands.CommandsComplete.{open_if, open_switch, open_message, open_fallback, open_plural}
+use Rattle.soy_parser.proofs.OfCommands.CommandsComplete.{open_select, open_template}
 
 -- what commands spell, at some levels: which those are, completeness says
 

@@ -60,14 +60,14 @@ use Rattle.soy_parser.specs.SpellsHead.{SpellsHead, SpellsDotted, SpellsValues, 
 use Rattle.soy_parser.specs.SpellsHead.{SpellsRequired, SpellsVariables, bare_head, expr_head}
 use Rattle.soy_parser.proofs.AttributesComplete.{in_at, FollowsHead, HasHead, has_attributes, if_then, none_append}
 use Rattle.soy_parser.proofs.AttributesComplete.{plain_append}
-use Rattle.soy_parser.proofs.Files.FileRunning.{Leads, then_leads, step_leads}
-use Rattle.soy_parser.proofs.Heads.HeadsComplete.{opened, HeadLeads, next_is_head, expr_head_leads, before_head, opens}
-use Rattle.soy_parser.proofs.Heads.HeadsComplete.{WordBefore, word_leads}
-use Rattle.soy_parser.proofs.Heads.HeadsComplete.{let_leads, param_leads, use_depth}
-use Rattle.soy_parser.proofs.Heads.Seam.{comma_, colon_, dot_, expr_leads, whole_ends}
-use Rattle.soy_parser.proofs.Heads.SeamComma.{ends_at_comma}
-use Rattle.soy_parser.proofs.Heads.Starts.{plain_start}
-use Rattle.soy_parser.proofs.Heads.TypeSeam.{type_head_leads}
+use Rattle.soy_parser.proofs.OfFiles.FileRunning.{Leads, then_leads, step_leads}
+use Rattle.soy_parser.proofs.OfHeads.HeadsComplete.{opened, HeadLeads, next_is_head, expr_head_leads, before_head, opens}
+use Rattle.soy_parser.proofs.OfHeads.HeadsComplete.{WordBefore, word_leads}
+use Rattle.soy_parser.proofs.OfHeads.HeadsComplete.{let_leads, param_leads, use_depth}
+use Rattle.soy_parser.proofs.OfHeads.Seam.{comma_, colon_, dot_, expr_leads, whole_ends}
+use Rattle.soy_parser.proofs.OfHeads.SeamComma.{ends_at_comma}
+use Rattle.soy_parser.proofs.OfHeads.Starts.{plain_start}
+use Rattle.soy_parser.proofs.OfHeads.TypeSeam.{type_head_leads}
 
 -- a head of one token
 

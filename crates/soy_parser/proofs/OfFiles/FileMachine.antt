@@ -11,9 +11,9 @@ use Rattle.soy_parser.specs.FileRuns.{file_run, file_run_from, file_depths, file
 use Rattle.soy_parser.specs.FileRuns.{file_words_from}
 use Rattle.soy_parser.specs.FileSteps.{file_step, file_start, whole_file}
 use Rattle.soy_parser.specs.SpellsFile.{SpellsFile, BeginsFile}
-use Rattle.soy_parser.proofs.Files.FileRunning.{run_append, depths_append, words_append}
-use Rattle.soy_parser.proofs.Files.FilesComplete.{file_leads}
-use Rattle.soy_parser.proofs.Files.FilesExact.{run-CompletesFile, whole_file-SpelledFile}
+use Rattle.soy_parser.proofs.OfFiles.FileRunning.{run_append, depths_append, words_append}
+use Rattle.soy_parser.proofs.OfFiles.FilesComplete.{file_leads}
+use Rattle.soy_parser.proofs.OfFiles.FilesExact.{run-CompletesFile, whole_file-SpelledFile}
 
 -- there is a depth for each token
 pub depths_length : (ts : List Token) (s s' : FileState) → file_run ts s ≡ Some s'

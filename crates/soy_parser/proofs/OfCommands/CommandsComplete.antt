@@ -54,7 +54,7 @@ use Rattle.soy_parser.specs.SpellsTree.{SpellsChoice, SpellsPluralCases, SpellsS
 use Rattle.soy_parser.specs.SpellsTree.{SpellsNode}
 use Rattle.soy_parser.specs.SpellsTree.{SpellsArms, SpellsCases, SpellsArguments, SpellsParams, SpellsTemplates}
 use Rattle.soy_parser.specs.SpellsTree.{SpellsTree}
-use Rattle.soy_parser.proofs.Commands.CommandRunning.{Goes, none_goes, step_goes, then_goes, inside_goes}
+use Rattle.soy_parser.proofs.OfCommands.CommandRunning.{Goes, none_goes, step_goes, then_goes, inside_goes}
 
 abbrev pub at : List Block → Content → CommandState
 at blocks content = record { blocks = blocks; content = content }

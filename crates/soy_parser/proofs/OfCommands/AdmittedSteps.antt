@@ -38,10 +38,10 @@ use Rattle.soy_parser.specs.FileSteps.{middle_kind, opening_kind, single_kind, f
 use Rattle.soy_parser.specs.FileSteps.{cases_admit}
 use Rattle.soy_parser.specs.FileSteps.{top_admits, is_template, in_body_admits, in_parts_admits, admits_at, admits}
 use Rattle.soy_parser.specs.SpellsTree.{as_param}
-use Rattle.soy_parser.proofs.Commands.Admits.{HasHead}
-use Rattle.soy_parser.proofs.Commands.CommandsSound.{Inside, ABody, ACall, ASwitch, APlural, ASelect, AMessage, Opened}
-use Rattle.soy_parser.proofs.Commands.CommandsSound.{Held_at}
-use Rattle.soy_parser.proofs.Commands.CommandsSound.{start_run_held}
+use Rattle.soy_parser.proofs.OfCommands.Admits.{HasHead}
+use Rattle.soy_parser.proofs.OfCommands.CommandsSound.{Inside, ABody, ACall, ASwitch, APlural, ASelect, AMessage, Opened}
+use Rattle.soy_parser.proofs.OfCommands.CommandsSound.{Held_at}
+use Rattle.soy_parser.proofs.OfCommands.CommandsSound.{start_run_held}
 
 pub record HasStep (o : Option CommandState) : Type 0 where
   pub to : CommandState
