@@ -86,7 +86,7 @@ use Rattle.soy_base.specs.declared.code.Code.{Code}
 use Rattle.html_state.specs.declared.row.State.{State}
 use Rattle.html_state.specs.AfterAll.{after_all}
 use Rattle.html_state.specs.AfterPieces.{after_piece}
-use Rattle.html_state.specs.AfterPieces.Piece.{Static}
+use Rattle.soy_base.specs.Piece.Piece.{Static}
 use Rattle.html_state.specs.Next.{next, text_end}
 use Rattle.html_state.specs.Texts.{and_then}
 

@@ -29,7 +29,7 @@ use Rattle.html_state.specs.ElementNamed.{element_name}
 use Rattle.html_state.specs.Leads.{marked}
 use Rattle.html_state.specs.Next.{next, text_end, value_character_next}
 use Rattle.soy_base.specs.Piece.{Piece}
-use Rattle.html_state.specs.AfterPieces.Piece.{Static, Value}
+use Rattle.soy_base.specs.Piece.Piece.{Static, Value}
 use Rattle.html_state.specs.Start.{start}
 use Rattle.bidi_order.specs.DecodedReferences.{character_given, character_pending, decoded, pending_text}
 

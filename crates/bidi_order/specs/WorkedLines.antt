@@ -8,7 +8,7 @@ use Rattle.std.specs.List.{concat}
 use Rattle.soy_base.specs.declared.direction.Dir.{Dir}
 use Rattle.bidi_text.specs.Wrap.{direction_word}
 use Rattle.soy_base.specs.Piece.{Piece}
-use Rattle.html_state.specs.AfterPieces.Piece.{Static, Value}
+use Rattle.soy_base.specs.Piece.Piece.{Static, Value}
 use Rattle.bidi_order.specs.TwoLines.{Both, one_labelled, other_labelled}
 use Rattle.bidi_order.specs.TwoLines.Both.{Shared, Values}
 use Rattle.bidi_order.specs.WithinLimit.{static_character, value_character}

@@ -13,7 +13,7 @@ ghost use Rattle.bidi_order.specs.WorkedLines.{auto_line, auto_pieces, cut_line,
 ghost use Rattle.bidi_order.specs.WorkedLines.{line_of, nested_line, nested_pieces, other_line_of, override_line};
 ghost use Rattle.bidi_order.specs.WorkedLines.{override_pieces, value_piece};
 ghost use Rattle.bidi_order.specs.TwoLines.Both.{Shared};
-ghost use Rattle.html_state.specs.AfterPieces.Piece.{Static};
+ghost use Rattle.soy_base.specs.Piece.Piece.{Static};
 
 /// Levels of lines of seven kinds: an isolate, a digit, white space, brackets, a separator of segments behind an
 /// isolate, a direction that is found in an isolate, and a terminator behind a digit.

@@ -3,7 +3,7 @@ use Rattle.std.proofs.Common.{◌≡◌, ℕ, Bool, true, List, [], ◌∷◌, m
 use Rattle.std.proofs.Common.{Err}
 use Rattle.std.specs.Result.{IfOk}
 use Rattle.soy_base.specs.declared.direction.Dir.{Dir}
-use Rattle.html_state.specs.AfterPieces.Piece.{Static}
+use Rattle.soy_base.specs.Piece.Piece.{Static}
 use Rattle.bidi_order.specs.Lines.{direction_level, lines, lines_of_tokens}
 use Rattle.bidi_order.specs.MarkupTokens.{MarkupToken, PageReading, first_reading, read_all, tokens_of}
 use Rattle.bidi_preview.specs.AutoDirections.{OpenName, answers_from, auto_directions, or_left}

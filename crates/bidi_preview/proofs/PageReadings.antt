@@ -3,7 +3,7 @@ use Rattle.std.proofs.Common.{◌≡◌, ℕ, List, [], ◌∷◌, ◌++◌, ref
 use Rattle.std.proofs.lemmas.List.{append-nil}
 use Rattle.soy_base.specs.declared.code.Code.{Code}
 use Rattle.html_state.specs.declared.row.State.{State}
-use Rattle.html_state.specs.AfterPieces.Piece.{Static}
+use Rattle.soy_base.specs.Piece.Piece.{Static}
 use Rattle.html_state.specs.Next.{next, text_end}
 use Rattle.bidi_order.specs.MarkupTokens.{MarkupToken, PageReading, character_read, first_reading, read_all}
 use Rattle.bidi_order.specs.MarkupTokens.{tokens_from}

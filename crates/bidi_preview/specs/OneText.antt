@@ -5,7 +5,7 @@ use Rattle.std.specs.Prelude.{◌≡◌, ℕ, List, Ok}
 use Rattle.soy_base.specs.declared.kind.Kind.TheVariants as kind
 use Rattle.html_state.specs.declared.row.State.{State}
 use Rattle.html_state.specs.AfterPieces.{after_piece}
-use Rattle.html_state.specs.AfterPieces.Piece.{Static}
+use Rattle.soy_base.specs.Piece.Piece.{Static}
 use Rattle.html_state.specs.Start.{start}
 
 abbrev pub IsOneText : List ℕ → Type 0

@@ -12,7 +12,7 @@ use Rattle.bidi_class.specs.declared.class.Class.{Class}
 use Rattle.bidi_class.specs.declared.class.Class.TheVariants.{WS}
 use Rattle.bidi_class.specs.Class.{bidi_class}
 use Rattle.bidi_text.specs.Clean.{is_isolate_control}
-use Rattle.html_state.specs.AfterPieces.Piece.{Static}
+use Rattle.soy_base.specs.Piece.Piece.{Static}
 use Rattle.bidi_order.specs.Levels.{line_levels}
 use Rattle.bidi_order.specs.Lines.{Line, lines}
 use Rattle.bidi_order.specs.VisualOrder.{LeveledCharacter, visual_order}

@@ -5,7 +5,7 @@ ghost use Rattle.bidi_order.specs.MarkupTokens.{tokens_of};
 ghost use Rattle.bidi_preview.specs.AutoDirections.{auto_directions};
 ghost use Rattle.bidi_preview.specs.OneText.{IsOneText};
 ghost use Rattle.bidi_preview.specs.Seen.{seen};
-ghost use Rattle.html_state.specs.AfterPieces.Piece.{Static};
+ghost use Rattle.soy_base.specs.Piece.Piece.{Static};
 
 use crate::direction::Directions;
 use crate::lines::Lines;

@@ -4,7 +4,7 @@ use Rattle.std.specs.Str.Iter.{chars_rest}
 use Rattle.std.proofs.lemmas.List.{nil_from_length}
 use Rattle.std.proofs.lemmas.Str.{chars_past_char, chars-nil, IsUtf8-past_char}
 use Rattle.bidi_order.specs.MarkupTokens.{read_all, tokens_of}
-use Rattle.html_state.specs.AfterPieces.Piece.{Static}
+use Rattle.soy_base.specs.Piece.Piece.{Static}
 use Rattle.bidi_preview.specs.ReadingSteps.{view_reader}
 use Rattle.bidi_preview.proofs.PageReadings.{finds_more, ends_page}
 use Rattle.bidi_preview.proofs.PageEnds.{directions_end, if_ok_then}

@@ -2,7 +2,7 @@ use Rattle.std.proofs.Common.{◌≡◌, [], ◌∷◌, None, reverse}
 use Rattle.std.specs.Str.{chars, IsUtf8}
 use Rattle.std.specs.Str.Iter.{chars_rest}
 use Rattle.bidi_order.specs.MarkupTokens.{read_all, tokens_of}
-use Rattle.html_state.specs.AfterPieces.Piece.{Static}
+use Rattle.soy_base.specs.Piece.Piece.{Static}
 use Rattle.bidi_preview.specs.AutoDirections.{answers_from}
 use Rattle.bidi_preview.specs.ReadingSteps.{view_reader}
 use Rattle.bidi_preview.proofs.page.find_directions.Given as goal
