@@ -9,7 +9,6 @@ use Rattle.soy_rules.specs.Fits.{Fits}
 use Rattle.soy_rules.specs.Templates.{Declared, declared, param_scope}
 use Rattle.soy_tree.specs.Trees.{Param, Tree}
 use Rattle.soy_rules.specs.TypeOf.{Scope}
-use Rattle.soy_tree.specs.Types.{Name}
 use Rattle.soy_tree.specs.Values.{Value}
 use Rattle.soy_tree.specs.declared.bundle.Bundle.{Bundle}
 use Rattle.soy_pieces.specs.Giving.{RunEnv}
@@ -21,18 +20,17 @@ use Rattle.soy_pieces.specs.LanguageContext.{language_context}
 use Rattle.soy_pieces.specs.InputEnv.{input_env, names_of}
 use Rattle.msg_extract.specs.LanguageOf.{language_of}
 use Rattle.soy_format.specs.WithoutSpans.{param_without_spans}
-use Rattle.soy_front.specs.Entries.{entry_number, is_entry_template}
-use Rattle.alike_files.specs.AlikeFiles.{AllAlike}
+use Rattle.alike_files.specs.AllAlike.{AllAlike}
 use Rattle.alike_files.specs.MeaningUnder.{context_under, data_env, meaning_under, run_under}
 use Rattle.alike_files.specs.RunWithoutPositions.{outcome_without_positions}
-use Rattle.alike_files.proofs.AlikeAnswers.{alike_trees, chosen_same}
+use Rattle.alike_files.proofs.AlikeTrees.{alike_trees, chosen_same}
 use Rattle.alike_files.proofs.DeclaredTemplates.{declared_same, declared_without_spans, param_scope_same}
 use Rattle.alike_files.proofs.NodeRuns.{run_same}
 use Rattle.alike_files.proofs.Outcomes.{env_placeless, pieces_same}
 
 -- ---- the templates of trees that are alike
 
-alike_declared : (trees others : List Tree) → AllAlike trees others
+pub alike_declared : (trees others : List Tree) → AllAlike trees others
     → map declared_without_spans (declared trees) ≡ map declared_without_spans (declared others)
 alike_declared trees others alike =
     sym (declared_same trees) ∙ (ap declared (alike_trees trees others alike) ∙ declared_same others)
@@ -123,19 +121,12 @@ data_alike trees others number d other env alike e h f =
       short = f.short;
     }
 
--- **which template has a name**
+-- ---- the first that a test holds of, in a list and in what a function makes of it
 prefix_same : {A B : Type 0} (f : A → B) (p : B → Bool) (xs : List A)
     → prefix_len p (map f xs) ≡ prefix_len (λ x. p (f x)) xs
 prefix_same f p [] = refl
 prefix_same f p (x ∷ xs) = ap (λ n. if p (f x) then 1 + n else 0) (prefix_same f p xs)
 
-position_same : {A B : Type 0} (f : A → B) (p : B → Bool) (xs : List A)
+pub position_same : {A B : Type 0} (f : A → B) (p : B → Bool) (xs : List A)
     → position p (map f xs) ≡ position (λ x. p (f x)) xs
 position_same f p xs = rw (prefix_same f (λ x. not (p x)) xs, length-map xs f) refl
-
-pub entries_alike : (trees others : List Tree) (name : Name) → AllAlike trees others
-    → entry_number name (declared trees) ≡ entry_number name (declared others)
-entries_alike trees others name alike =
-    sym (position_same declared_without_spans (is_entry_template name) (declared trees))
-    ∙ (ap (entry_number name) (alike_declared trees others alike)
-    ∙ position_same declared_without_spans (is_entry_template name) (declared others))

@@ -18,5 +18,5 @@ pub mod Outcomes
 pub mod Branches
 pub mod Calls
 pub mod NodeRuns
-pub mod AlikeAnswers
+pub mod AlikeTrees
 pub mod AlikeMeanings

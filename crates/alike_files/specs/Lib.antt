@@ -1,7 +1,6 @@
 pub mod WithoutPositions
 pub mod RunWithoutPositions
-pub mod AlikeFiles
-pub mod AnswersWithoutPositions
+pub mod AllAlike
 pub mod IdsIn
 pub mod MeaningUnder
 pub mod WorkedTrees

@@ -1,36 +1,18 @@
-//! What holds of files whose trees are alike: functions with an empty body, whose contracts are the laws.
+//! What holds of trees that are alike: functions with an empty body, whose contracts are the laws.
 
 ghost use Rattle.std.specs.Prelude.{◌≡◌, ℕ, List, Option, Some, slice_get};
 ghost use Rattle.soy_rules.specs.Templates.{Declared, declared};
 ghost use Rattle.soy_tree.specs.Trees.{Tree};
-ghost use Rattle.soy_tree.specs.Types.{Name};
 ghost use Rattle.soy_tree.specs.Values.{Value};
 ghost use Rattle.soy_tree.specs.declared.bundle.Bundle.{Bundle};
 ghost use Rattle.msg_extract.specs.Catalogue.{catalogue_of};
 ghost use Rattle.soy_pieces.specs.Giving.{RunEnv};
 ghost use Rattle.soy_meaning.specs.Runs.TypedData.{FitsData};
-ghost use Rattle.soy_front.specs.Accepted.{Accepted};
-ghost use Rattle.soy_front.specs.Entries.{entry_number};
-ghost use Rattle.soy_front.specs.FilesAnswer.{files_answer};
-ghost use Rattle.soy_front.specs.FrontAnswer.{front_answer};
-ghost use Rattle.alike_files.specs.AlikeFiles.{AlikeFiles, AllAlike};
-ghost use Rattle.alike_files.specs.AnswersWithoutPositions.{answer_without_positions, files_without_positions};
+ghost use Rattle.alike_files.specs.AllAlike.{AllAlike};
 ghost use Rattle.alike_files.specs.IdsIn.{ids_in};
 ghost use Rattle.alike_files.specs.MeaningUnder.{meaning_under, run_under};
 ghost use Rattle.alike_files.specs.RunWithoutPositions.{outcome_without_positions};
 ghost use Rattle.alike_files.specs.WithoutPositions.{result_without_position};
-
-/// Files whose trees are alike are accepted alike under every bundle: both or neither, and what is answered of them is
-/// the same but for positions. So is what is answered of the files alone.
-pub fn law_alike_accepted()
-    ensures accepted { (contents others : List (List ℕ)) (bundle : Option (List ℕ)) → AlikeFiles contents others →
-        Accepted contents bundle → Accepted others bundle }
-    ensures answers { (contents others : List (List ℕ)) (bundle : Option (List ℕ)) → AlikeFiles contents others →
-        answer_without_positions (front_answer contents bundle)
-        ≡ answer_without_positions (front_answer others bundle) }
-    ensures files { (contents others : List (List ℕ)) → AlikeFiles contents others →
-        files_without_positions (files_answer contents) ≡ files_without_positions (files_answer others) }
-{}
 
 /// Trees that are alike have the same ids, and the same catalogue, or the same clash but for its position.
 pub fn law_alike_ids()
@@ -40,8 +22,7 @@ pub fn law_alike_ids()
 {}
 
 /// Of trees that are alike, templates of one number mean the same, for all data and bundles. What they give is the same
-/// in its pieces, costs and choices, and in its end but for the position of a stop. The same data fit them, and a name
-/// is that of the same entry.
+/// in its pieces, costs and choices, and in its end but for the position of a stop. The same data fit them.
 pub fn law_alike_meaning()
     ensures meaning { (bundle : Bundle) (trees others : List Tree) (number : ℕ) (d other : Declared) (v : Value) →
         AllAlike trees others → slice_get (declared trees) number ≡ Some d →
@@ -54,6 +35,4 @@ pub fn law_alike_meaning()
     ensures data_fit { (trees others : List Tree) (number : ℕ) (d other : Declared) (env : RunEnv) →
         AllAlike trees others → slice_get (declared trees) number ≡ Some d →
         slice_get (declared others) number ≡ Some other → FitsData d env → FitsData other env }
-    ensures entries { (trees others : List Tree) (name : Name) → AllAlike trees others →
-        entry_number name (declared trees) ≡ entry_number name (declared others) }
 {}

@@ -25,3 +25,4 @@ pub mod Workloads
 pub mod Plays
 pub mod Previews
 pub mod Contents
+pub mod Alike

@@ -15,8 +15,8 @@ use Rattle.soy_front.specs.FilesDeserve.HaveTrees.{none, one_more}
 use Rattle.soy_io.specs.FileOf.{Files, file_of}
 use Rattle.soy_tree.specs.ViewTrees.{view_tree}
 use Rattle.soy_tree.specs.declared.tree.Tree.{Tree}
-use Rattle.alike_files.specs.AlikeFiles.{AlikeFiles}
 use Rattle.formatted_source.proofs.ReadFiles.{own_tokens, source_spelled}
+use Rattle.soy_top.specs.AlikeFiles.{AlikeFiles}
 use Rattle.soy_top.specs.Answer.{Done, answer, canonical_source}
 use Rattle.soy_top.specs.Commands.IsFormatted.{IsFormatted}
 use Rattle.soy_top.specs.Commands.IsRefusedFormat.{AreFormat}

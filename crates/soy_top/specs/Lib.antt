@@ -1,5 +1,7 @@
 pub mod Accepts
+pub mod AlikeFiles
 pub mod Answer
+pub mod AnswersWithoutPositions
 pub mod Asked
 pub mod Fetched
 pub mod FilesWanted

@@ -2,19 +2,23 @@
 
 ghost use Rattle.std.specs.Prelude.{◌≡◌, ℕ, ◌≤◌, List, Option, Some, IfSome, length, slice_get};
 ghost use Rattle.std.specs.Str.{IsUtf8};
-ghost use Rattle.alike_files.specs.AlikeFiles.{AlikeFiles};
-ghost use Rattle.alike_files.specs.AnswersWithoutPositions.{answer_without_positions};
+ghost use Rattle.alike_files.specs.AllAlike.{AllAlike};
 ghost use Rattle.alike_files.specs.IdsIn.{ids_in};
 ghost use Rattle.alike_files.specs.MeaningUnder.{meaning_under};
 ghost use Rattle.soy_desk.specs.Alone.{left_of};
 ghost use Rattle.soy_desk.specs.DeskRun.{DeskRun, Step};
 ghost use Rattle.soy_desk.specs.DeskState.{DeskState, desk_with, first_rest};
+ghost use Rattle.soy_front.specs.Accepted.{Accepted};
 ghost use Rattle.soy_front.specs.Compiled.{AreCompiled};
+ghost use Rattle.soy_front.specs.Entries.{entry_number};
+ghost use Rattle.soy_front.specs.FilesAnswer.{files_answer};
 ghost use Rattle.soy_front.specs.FrontAnswer.{front_answer};
 ghost use Rattle.soy_front.specs.declared.compiling.Compiled.{Compiled};
 ghost use Rattle.soy_io.specs.FileOf.{Files, file_of};
 ghost use Rattle.soy_meaning.specs.Runs.TypedData.{FitsData};
 ghost use Rattle.soy_top.specs.Commands.AcceptedRender.{AcceptedPreview, AcceptedRender};
+ghost use Rattle.soy_top.specs.AlikeFiles.{AlikeFiles};
+ghost use Rattle.soy_top.specs.AnswersWithoutPositions.{answer_without_positions, files_without_positions};
 ghost use Rattle.soy_top.specs.Answer.{Done, Refused, TooDeep, answer, known_answer, template_outcome};
 ghost use Rattle.soy_top.specs.Asked.{asked_by_words};
 ghost use Rattle.soy_top.specs.Scripts.DeskLines.{ShowsAll};
@@ -31,6 +35,8 @@ ghost use Rattle.soy_top.specs.RenderAsked.{AsksRender};
 ghost use Rattle.soy_top.specs.Rendered.{Rendered, known_rendered, rendered_answer};
 ghost use Rattle.soy_top.specs.Words.{Word};
 ghost use Rattle.soy_rules.specs.Templates.{Declared, declared};
+ghost use Rattle.soy_tree.specs.Trees.{Tree};
+ghost use Rattle.soy_tree.specs.Types.{Name};
 ghost use Rattle.soy_tree.specs.Values as values;
 ghost use Rattle.soy_tree.specs.ViewTrees.{view_trees};
 ghost use Rattle.soy_tree.specs.ViewValues.{view_value};
@@ -91,12 +97,17 @@ pub fn law_canonical_source()
     ensures alike { (contents texts : List (List ℕ)) → AreCanonical contents texts → AlikeFiles contents texts }
 {}
 
-/// Files whose trees are alike are answered alike under every bundle, but for positions; they have the same ids; and
-/// their templates of one number mean the same, for all data and bundles.
+/// Files whose trees are alike are accepted alike under every bundle: both or neither, and what is answered of them is
+/// the same but for positions. So is what is answered of the files alone. They have the same ids; their templates of one
+/// number mean the same, for all data and bundles; and a name is that of the same entry.
 pub fn law_alike_files()
+    ensures accepted { (contents others : List (List ℕ)) (bundle : Option (List ℕ)) → AlikeFiles contents others →
+        Accepted contents bundle → Accepted others bundle }
     ensures answers { (contents others : List (List ℕ)) (bundle : Option (List ℕ)) → AlikeFiles contents others →
         answer_without_positions (front_answer contents bundle)
         ≡ answer_without_positions (front_answer others bundle) }
+    ensures files { (contents others : List (List ℕ)) → AlikeFiles contents others →
+        files_without_positions (files_answer contents) ≡ files_without_positions (files_answer others) }
     ensures ids { (contents others : List (List ℕ)) (are : AlikeFiles contents others) →
         ids_in (view_trees are.trees) ≡ ids_in (view_trees are.other_trees) }
     ensures meaning { (contents others : List (List ℕ)) (are : AlikeFiles contents others) (bundle : Bundle)
@@ -104,6 +115,8 @@ pub fn law_alike_files()
         slice_get (declared (view_trees are.trees)) number ≡ Some d →
         slice_get (declared (view_trees are.other_trees)) number ≡ Some other →
         meaning_under bundle (view_trees are.trees) d v ≡ meaning_under bundle (view_trees are.other_trees) other v }
+    ensures entries { (trees others : List Tree) (name : Name) → AllAlike trees others →
+        entry_number name (declared trees) ≡ entry_number name (declared others) }
 {}
 
 /// What is written for the steps of a script is what a desk shows: for every list of steps of a new desk, on which the

@@ -1,4 +1,4 @@
-use Rattle.alike_files.proofs.AlikeAnswers.{catalogues_alike, ids_alike}
+use Rattle.alike_files.proofs.AlikeTrees.{catalogues_alike, ids_alike}
 use Rattle.alike_files.proofs.laws.law_alike_ids.Goals as goal
 
 pub returns-clause-ids : goal.returns-clause-ids

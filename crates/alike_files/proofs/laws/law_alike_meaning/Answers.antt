@@ -1,4 +1,4 @@
-use Rattle.alike_files.proofs.AlikeMeanings.{data_alike, entries_alike, meanings_alike, runs_alike}
+use Rattle.alike_files.proofs.AlikeMeanings.{data_alike, meanings_alike, runs_alike}
 use Rattle.alike_files.proofs.laws.law_alike_meaning.Goals as goal
 
 pub returns-clause-meaning : goal.returns-clause-meaning
@@ -9,6 +9,3 @@ returns-clause-runs c = runs_alike
 
 pub returns-clause-data_fit : goal.returns-clause-data_fit
 returns-clause-data_fit c = data_alike
-
-pub returns-clause-entries : goal.returns-clause-entries
-returns-clause-entries c = entries_alike

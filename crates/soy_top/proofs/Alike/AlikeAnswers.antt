@@ -1,28 +1,18 @@
 -- Files whose trees are alike are answered alike, but for positions.
-use Rattle.std.proofs.Common.{◌≡◌, ℕ, List, [], ◌∷◌, map, Option, Some, None, refl, sym, ap, ◌∙◌, inl, inr}
+use Rattle.std.proofs.Common.{◌≡◌, ℕ, List, map, Option, Some, None, refl, sym, ap, ◌∙◌, inl, inr}
 use Rattle.std.specs.Prelude.{Result, Ok, Err, option_map}
 use Rattle.html_state.specs.declared.row.State.{State}
 use Rattle.soy_base.specs.declared.fault.Fault.{Fault}
 use Rattle.soy_rules.specs.Demands.{CheckFault, check_fault}
 use Rattle.soy_rules.specs.Faults.{followed_by}
-use Rattle.soy_tree.specs.MessageParts.{MsgParts}
-use Rattle.soy_tree.specs.Nodes.{Message}
 use Rattle.soy_tree.specs.Trees.{Tree}
 use Rattle.soy_tree.specs.ViewTrees.{view_trees}
 use Rattle.soy_tree.specs.declared.bundle.Bundle.{Bundle}
-use Rattle.soy_tree.specs.declared.bundle.Translation.{Translation}
 use Rattle.soy_tree.specs.declared.tree.Tree as code
 use Rattle.msg_extract.specs.Catalogue.{catalogue_of}
-use Rattle.msg_extract.specs.MessageId.{id_of}
-use Rattle.msg_extract.specs.MessagesIn.{tree_messages}
-use Rattle.msg_extract.specs.Translations.{translation_of}
 use Rattle.msg_extract.specs.declared.catalogue.Listed.{Listed}
-use Rattle.soy_meaning.specs.Walks.AcceptedTrees.{walk_trees}
-use Rattle.soy_meaning.specs.Walks.PageMachine.{page_machine}
-use Rattle.soy_meaning.specs.Paths.PlanOfNodes.{trees_plan}
-use Rattle.soy_meaning.specs.Walks.Walk.{Walked, WalkFault, walk, walked}
-use Rattle.html_context.specs.ChosenTranslation.{chosen_translation}
-use Rattle.soy_format.specs.WithoutSpans.{message_without_spans, tree_without_spans}
+use Rattle.soy_meaning.specs.Walks.Walk.{Walked, WalkFault}
+use Rattle.soy_format.specs.WithoutSpans.{tree_without_spans}
 use Rattle.soy_front.specs.Accepted.{Accepted, walk_fault}
 use Rattle.soy_front.specs.Accepted.FilesFault.{Clash, Demand}
 use Rattle.soy_front.specs.FilesAnswer.{ReadFiles, catalogued, demanded, fault_of, files_answer, unless_found}
@@ -34,24 +24,14 @@ use Rattle.soy_front.specs.declared.fault.FrontFault.TheVariants as front
 use Rattle.soy_front.proofs.FilesLaws.{fault_had, files_had}
 use Rattle.soy_front.proofs.FirstFaults.{first_apart}
 use Rattle.soy_front.proofs.FrontAnswers.{answered_accepted, answered_fault}
-use Rattle.alike_files.specs.AlikeFiles.{AlikeFiles, AllAlike}
-use Rattle.alike_files.specs.AnswersWithoutPositions.{PlainFiles, PlainFront, answer_without_positions}
-use Rattle.alike_files.specs.AnswersWithoutPositions.{files_without_positions, plain_files}
-use Rattle.alike_files.specs.IdsIn.{ids_in}
 use Rattle.alike_files.specs.WithoutPositions.{result_without_position}
+use Rattle.alike_files.proofs.AlikeTrees.{alike_trees, walk_under, walk_under_same}
 use Rattle.alike_files.proofs.AllDemands.{check_placeless, demands_same}
-use Rattle.alike_files.proofs.CanonicalTexts.{id_same}
-use Rattle.alike_files.proofs.Catalogues.{catalogue_same, tree_messages_same}
-use Rattle.alike_files.proofs.NodePlans.{ReadsNoSpan, trees_plan_same}
-use Rattle.alike_files.proofs.Walks.{walk_placeless, walk_same}
-
--- trees that are alike are equal without spans
-pub alike_trees : (trees others : List Tree) → AllAlike trees others
-    → map tree_without_spans trees ≡ map tree_without_spans others
-alike_trees [] [] alike = refl
-alike_trees (tree ∷ trees) (other ∷ others) alike = rw (alike.0, alike_trees trees others alike.1) refl
-alike_trees [] (other ∷ others) alike = absurd alike
-alike_trees (tree ∷ trees) [] alike = absurd alike
+use Rattle.alike_files.proofs.Catalogues.{catalogue_same}
+use Rattle.alike_files.proofs.Walks.{walk_placeless}
+use Rattle.soy_top.specs.AlikeFiles.{AlikeFiles}
+use Rattle.soy_top.specs.AnswersWithoutPositions.{PlainFiles, PlainFront, answer_without_positions}
+use Rattle.soy_top.specs.AnswersWithoutPositions.{files_without_positions, plain_files}
 
 -- ---- files
 
@@ -119,16 +99,6 @@ files_alike contents others alike =
 
 -- ---- files and a bundle
 
--- the translations of a bundle read no span
-pub chosen_same : (messages : List Translation) → ReadsNoSpan (chosen_translation messages)
-chosen_same messages m = ap (translation_of messages) (id_same m)
-
-walk_trees_same : (translation : Message → Option MsgParts) → ReadsNoSpan translation → (trees : List Tree)
-    → walk_trees translation (map tree_without_spans trees) ≡ walk_placeless (walk_trees translation trees)
-walk_trees_same translation same trees =
-    ap (λ p. walk page_machine p (walked [] [])) (trees_plan_same translation same trees)
-    ∙ walk_same page_machine (trees_plan translation trees) (walked [] [])
-
 abbrev plain_walk : PlainFiles → Bundle → Result (Walked State) WalkFault → Result PlainFront FrontFault
 plain_walk files language (Ok w) =
     Ok (record { trees = files.trees; rows = files.rows; language = language; walk = w })
@@ -137,7 +107,7 @@ plain_walk files language (Err f) = Err (front.Soy (walk_fault f))
 abbrev plain_language : (bundle : Option (List ℕ)) (files : PlainFiles) → LanguageOrFault bundle files.rows
     → Result PlainFront FrontFault
 plain_language bundle files (inl brought) =
-    plain_walk files brought.0 (walk_trees (chosen_translation brought.0.messages) files.trees)
+    plain_walk files brought.0 (walk_under brought.0 files.trees)
 plain_language bundle files (inr refused) = Err (front.Bundle refused.0)
 
 abbrev plain_answer : Option (List ℕ) → Result PlainFiles Fault → Result PlainFront FrontFault
@@ -154,11 +124,9 @@ language_answered : (bundle : Option (List ℕ)) (files : ReadFiles) (either : L
     → answer_without_positions (language_answer bundle files either)
     ≡ plain_language bundle (plain_files files) either
 language_answered bundle files (inl brought) =
-    walk_answered files brought.0
-    (walk_trees (chosen_translation brought.0.messages) (view_trees files.trees))
+    walk_answered files brought.0 (walk_under brought.0 (view_trees files.trees))
     ∙ ap (plain_walk (plain_files files) brought.0)
-    (sym (walk_trees_same (chosen_translation brought.0.messages) (chosen_same brought.0.messages)
-    (view_trees files.trees)))
+    (sym (walk_under_same brought.0 (view_trees files.trees)))
 language_answered bundle files (inr refused) = refl
 
 all_answered : (bundle : Option (List ℕ)) (r : Result ReadFiles Fault)
@@ -188,27 +156,3 @@ pub accepted_alike : (contents others : List (List ℕ)) (bundle : Option (List 
 accepted_alike contents others bundle alike is =
     accepted_by contents others bundle is (front_answer contents bundle) (front_answer others bundle) refl refl
     (answers_alike contents others bundle alike)
-
--- ---- ids
-
-messages_ids : (ms : List Message) → map id_of (map message_without_spans ms) ≡ map id_of ms
-messages_ids [] = refl
-messages_ids (m ∷ ms) = rw (id_same m, messages_ids ms) refl
-
-tree_ids_same : (tree : Tree) → map id_of (tree_messages (tree_without_spans tree)) ≡ map id_of (tree_messages tree)
-tree_ids_same tree = ap (map id_of) (tree_messages_same tree) ∙ messages_ids (tree_messages tree)
-
-ids_same : (trees : List Tree) → ids_in (map tree_without_spans trees) ≡ ids_in trees
-ids_same [] = refl
-ids_same (tree ∷ trees) = rw (tree_ids_same tree, ids_same trees) refl
-
--- **the ids of messages**
-pub ids_alike : (trees others : List Tree) → AllAlike trees others → ids_in trees ≡ ids_in others
-ids_alike trees others alike =
-    sym (ids_same trees) ∙ (ap ids_in (alike_trees trees others alike) ∙ ids_same others)
-
--- **and the catalogue, but for positions**
-pub catalogues_alike : (trees others : List Tree) → AllAlike trees others
-    → result_without_position (catalogue_of trees) ≡ result_without_position (catalogue_of others)
-catalogues_alike trees others alike =
-    sym (catalogue_same trees) ∙ (ap catalogue_of (alike_trees trees others alike) ∙ catalogue_same others)

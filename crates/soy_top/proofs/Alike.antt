@@ -1,0 +1,3 @@
+-- Files whose trees are alike.
+pub mod AlikeAnswers
+pub mod AlikeEntries
