@@ -1,5 +1,5 @@
--- Trees that are alike are equal without spans, so they have the same walk, ids and catalogue, but for positions.
-use Rattle.std.proofs.Common.{◌≡◌, ℕ, List, [], ◌∷◌, map, Option, refl, sym, ap, ◌∙◌}
+-- Trees that are alike are equal without spans. So they have the same walk, ids and catalogue, but for positions.
+use Rattle.std.proofs.Common.{◌≡◌, List, [], ◌∷◌, map, Option, refl, sym, ap, ◌∙◌}
 use Rattle.std.specs.Prelude.{Result}
 use Rattle.html_state.specs.declared.row.State.{State}
 use Rattle.soy_tree.specs.MessageParts.{MsgParts}

@@ -14,8 +14,13 @@ pub fn law_alike_rows()
     ensures other_name { AllAlike (printing (codes "x") 9 ∷ []) (printing (codes "y") 9 ∷ []) → ⊥ }
     ensures fewer { AllAlike (printing (codes "x") 9 ∷ []) [] → ⊥ }
     ensures refused { check_fault (printing (codes "x") 9 ∷ []) ≡ Some (record {
-        file = 0; fault = record { code = code.Unknown; at = 9; left = codes "x"; right = [] } }) }
+      file = 0;
+      fault = record { code = code.Unknown; at = 9; left = codes "x"; right = [] };
+    }) }
     ensures without_position { option_map (λ (found : CheckFault). fault_without_position (record {
-        code = found.fault.code; file = found.file; at = found.fault.at }))
+      code = found.fault.code;
+      file = found.file;
+      at = found.fault.at;
+    }))
         (check_fault (printing (codes "x") 9 ∷ [])) ≡ Some (record { code = code.Unknown; file = 0; at = 0 }) }
 {}

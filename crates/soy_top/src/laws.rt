@@ -98,8 +98,8 @@ pub fn law_canonical_source()
 {}
 
 /// Files whose trees are alike are accepted alike under every bundle: both or neither, and what is answered of them is
-/// the same but for positions. So is what is answered of the files alone. They have the same ids; their templates of one
-/// number mean the same, for all data and bundles; and a name is that of the same entry.
+/// the same but for positions. So is what is answered of the files alone. They have the same ids; their templates of
+/// one number mean the same, for all data and bundles; and a name is that of the same entry.
 pub fn law_alike_files()
     ensures accepted { (contents others : List (List ℕ)) (bundle : Option (List ℕ)) → AlikeFiles contents others →
         Accepted contents bundle → Accepted others bundle }

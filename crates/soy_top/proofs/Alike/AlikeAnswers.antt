@@ -106,8 +106,7 @@ plain_walk files language (Err f) = Err (front.Soy (walk_fault f))
 
 abbrev plain_language : (bundle : Option (List ℕ)) (files : PlainFiles) → LanguageOrFault bundle files.rows
     → Result PlainFront FrontFault
-plain_language bundle files (inl brought) =
-    plain_walk files brought.0 (walk_under brought.0 files.trees)
+plain_language bundle files (inl brought) = plain_walk files brought.0 (walk_under brought.0 files.trees)
 plain_language bundle files (inr refused) = Err (front.Bundle refused.0)
 
 abbrev plain_answer : Option (List ℕ) → Result PlainFiles Fault → Result PlainFront FrontFault
@@ -125,8 +124,7 @@ language_answered : (bundle : Option (List ℕ)) (files : ReadFiles) (either : L
     ≡ plain_language bundle (plain_files files) either
 language_answered bundle files (inl brought) =
     walk_answered files brought.0 (walk_under brought.0 (view_trees files.trees))
-    ∙ ap (plain_walk (plain_files files) brought.0)
-    (sym (walk_under_same brought.0 (view_trees files.trees)))
+    ∙ ap (plain_walk (plain_files files) brought.0) (sym (walk_under_same brought.0 (view_trees files.trees)))
 language_answered bundle files (inr refused) = refl
 
 all_answered : (bundle : Option (List ℕ)) (r : Result ReadFiles Fault)
