@@ -4,7 +4,8 @@
 //! A desk stands for a state of a plain machine (specs/DeskRun.antt), and each call is one step of it.
 //! `law_many_renderings` says what that comes to, for every list of steps: what is given for a name is what its
 //! rendering gives alone, and so the beginning of its own page.
-//! Depends on soy_base, soy_tree, soy_rules, template_ir and render_core, and in the law on soy_pieces, soy_meaning.
+//! Depends on soy_base, soy_tree, soy_rules, template_ir and render_core, and in the law on soy_pieces
+//! and soy_meaning.
 #![tactic(auto)]
 
 mod desk;
