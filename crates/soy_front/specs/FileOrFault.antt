@@ -1,8 +1,6 @@
--- One of two facts of a text, and of tokens: a text has tokens, or a first offset where none begins; tokens are a file
--- with its tree, or they deserve a fault.
+-- What a text has, and what tokens are: the one or the other.
 --
--- Sources has one of the two for each text and for all tokens, and answers by it.
--- Example: the text `{namespace a` has tokens, and these deserve the 4 at the offset 12.
+-- Example: the text `{namespace a` has tokens, and these are no file: with the 4 at the offset 12.
 use Rattle.std.specs.Prelude.{◌≡◌, ℕ, List, ◌⊎◌}
 use Rattle.soy_base.specs.declared.fault.Fault.{Fault}
 use Rattle.soy_lexer.specs.Tokens.{Tokens, FirstFault}

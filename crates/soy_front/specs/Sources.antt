@@ -1,9 +1,8 @@
 -- What a template file deserves, given as its bytes: its tree, or its first fault.
 --
--- A file that isn't UTF-8 is refused with 1, where its longest prefix that is UTF-8 ends, and a text over the limit
--- with 2. Else it is refused with 3 at the first offset where no token begins, and its tokens with 4, 5 or 8 where they
--- are no file. How it is found which of these holds doesn't matter here: FileOrFault says what does. That there is no
--- other tree and no other fault is the law of `Deserves`.
+-- A file that isn't UTF-8 is refused with 1, where its longest prefix that is UTF-8 ends. A text is refused with 3 at
+-- the first offset where no token begins, and its tokens with 4, 5 or 8 where they are no file. That there is no other
+-- tree and no other fault is the law of `Deserves`.
 -- Example: the file `{namespace a` is refused with 4 at its end, which is the offset 12.
 use Rattle.std.specs.Prelude.{ℕ, List, length, Result, Ok, Err, nat_lt, if◌then◌else◌}
 use Rattle.std.specs.Str.{chars, is_utf8}
