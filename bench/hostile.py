@@ -8,8 +8,8 @@ second, the least of three.
 bench/hostile.py [--soyc CMD] [--stack KB] [--memory MB] [--seconds S] [--scale N] [--only WORD]
 
 --stack and --memory limit the stack and the address space of each run (ulimit -s and -v), --seconds is how much of the
-processor a run may use (60 by default), --scale N takes an Nth of each size, --only the kinds with a word in their names. CMD is ./soyc by default,
-which is built where it has to be."""
+processor a run may use (60 by default), --scale N takes an Nth of each size, --only the kinds with a word in their
+names. CMD is ./soyc by default, which is built where it has to be."""
 import argparse
 import math
 import os
@@ -198,6 +198,108 @@ def _(n):
                   "{@param n: int}", '{"n":%d}' % n, attributes=TEXT)
 
 
+# ---- nests of loops, and arms, that lead to many states
+
+LOOPS = "{@param l: list<int>}{@param x: bool}"
+NOTHING = '{"l":[],"x":true}'
+OTHERS = ["textarea", "xmp", "iframe", "noembed", "noframes", "noscript", "!"]
+
+
+def begun(element):
+    return "<!--" if element == "!" else "<%s>" % element
+
+
+def ended(element):
+    return "-->" if element == "!" else "</%s>" % element
+
+
+def all_ended(elements):
+    return "".join(ended(element) for element in elements)
+
+
+def some(texts):
+    """One of these texts."""
+    return "{if $x}" + "{elseif $x}".join(texts[:-1]) + "{else}" + texts[-1] + "{/if}"
+
+
+def moves(elements):
+    """From each element's text to that of the next or not, the last first, so that each turn leads to one more."""
+    pairs = list(zip(elements, elements[1:]))
+    return "".join("{if $x}%s%s{/if}" % (ended(one), begun(other)) for one, other in reversed(pairs))
+
+
+def nested(count, lead, after, inner=""):
+    """Loops in one another, whose bodies begin and end with these texts; `#` is a loop's number."""
+    return each(count, "{for $i# in $l}" + lead) + inner + (after + "{/for}") * count
+
+
+@kind("loops in one another around strings of a script", 60)
+def _(n):
+    loops = nested(n, "{if $x}'{/if}a", "{if $x}\"{/if}", "{if $x}\"{/if}")
+    return render("<script>" + loops + "</script>", LOOPS, NOTHING)
+
+
+@kind("loops in one another around strings of a style", 60)
+def _(n):
+    loops = nested(n, "{if $x}\"{else}'{/if}", "{if $x}'{/if}a\\")
+    return render("<style>" + loops + "</style>", LOOPS, NOTHING)
+
+
+@kind("loops in one another around a tag that stays open", 60)
+def _(n):
+    return render("{nil}" + nested(n, "<b {sp}", "{if $x}>{/if}") + ">", LOOPS, NOTHING)
+
+
+@kind("loops in one another around parts of a comment", 60)
+def _(n):
+    return render("{nil}" + nested(n, "{if $x}<!{/if}-", "{if $x}-{else}!{/if}>") + "-->", LOOPS, NOTHING)
+
+
+@kind("loops in one another around letters of a tag's name", 60)
+def _(n):
+    return render("<b" + nested(n, "", "{if $x}c{/if}") + ">", LOOPS, NOTHING)
+
+
+@kind("loops in one another around other elements", 60)
+def _(n):
+    elements = ["title", *OTHERS, "style"]
+    return render(begun("title") + nested(n, "", moves(elements)) + all_ended(elements), LOOPS, NOTHING)
+
+
+@kind("a loop over nine elements around a long text", 500000)
+def _(n):
+    elements = ["title", *OTHERS, "style"]
+    return render(begun("title") + "{for $i in $l}" + "a" * n + moves(elements) + "{/for}" + all_ended(elements),
+                  LOOPS, NOTHING)
+
+
+@kind("three loops in one another over nine elements around a long text", 100000)
+def _(n):
+    groups = [["title", "textarea", "xmp"], ["iframe", "noembed", "noframes"], ["noscript", "style", "!"]]
+    lead, after = "", ""
+    for number, group in enumerate(groups):
+        back = "".join(ended(element) + begun(group[0]) for element in group[1:])
+        lead += back + "{for $i%d in $l}" % number
+        after = moves(group) + "{/for}" + after
+    return render(some([begun(group[0]) for group in groups]) + lead + "a" * n + after + all_ended(sum(groups, [])),
+                  LOOPS, NOTHING)
+
+
+@kind("loops in one another that each change the order of states", 16)
+def _(n):
+    gathered = "".join(ended(element) + begun("title") for element in OTHERS)
+    lead = "".join("{for $i%d in $l}{if $x}%s</style>%s{else}</style><title>{/if}" % (number, gathered, begun(other))
+                   for number, other in zip(range(n), OTHERS * n))
+    after = "{if $x}</title><style>{/if}{/for}" * n
+    return render(some([begun(element) for element in ["title", *OTHERS, "title"]]) + lead + after
+                  + all_ended(["title", "style", *OTHERS]), LOOPS, NOTHING)
+
+
+@kind("arms that each lead to another tag's name", 12000)
+def _(n):
+    return render("<b{if $x}c" + each(n, "{elseif $x}a#") + "{/if}>", X, VALUE)
+
+
 # ---- expressions, types and names
 
 @kind("sums of 60 terms", 3000)
@@ -231,6 +333,35 @@ def _(n):
 @kind("members of a union", 100000)
 def _(n):
     return render("{$x}", "{@param x: %s}" % "|".join(["int", "string"] * (n // 2)), VALUE)
+
+
+def record(count):
+    return "[" + ", ".join("f%d: int" % i for i in range(count)) + "]|null"
+
+
+def union(count):
+    return each(count, "[f#: int]|") + "null"
+
+
+def passed(kind_of):
+    """A call that passes what has a type to a parameter of this type."""
+    return render("{call k}{param r: $r /}{/call}", "{@param? r: %s}" % kind_of,
+                  more=template("v", "{@param r: %s}" % kind_of, "k"))
+
+
+@kind("a record that is passed", 20000)
+def _(n):
+    return passed(record(n))
+
+
+@kind("a union of records that is passed", 10000)
+def _(n):
+    return passed(union(n))
+
+
+@kind("a choice between unions of records", 8000)
+def _(n):
+    return render("{let $a: $x ?: $y /}", "{@param? x: %s}{@param? y: %s}" % (union(n), union(n)))
 
 
 @kind("types 60 deep", 2000)
@@ -317,7 +448,8 @@ def _(n):
 
 @kind("a fault in the last line", 1000000)
 def _(n):
-    return ["check", "-", "t.soy"], {"t.soy": "{namespace t}\n{template m}\n" + "a\n" * (n // 2) + "{$x}\n{/template}\n"}
+    text = "{namespace t}\n{template m}\n" + "a\n" * (n // 2) + "{$x}\n{/template}\n"
+    return ["check", "-", "t.soy"], {"t.soy": text}
 
 
 @kind("64 files", 16000)
@@ -341,7 +473,8 @@ def _(n):
 
 @kind("tags of a message", 60000)
 def _(n):
-    return ["extract", "t.soy"], {"t.soy": "{namespace t}\n" + template('{msg desc="d"}' + each(n, "<b id=a#>") + "{/msg}")}
+    text = '{msg desc="d"}' + each(n, "<b id=a#>") + "{/msg}"
+    return ["extract", "t.soy"], {"t.soy": "{namespace t}\n" + template(text)}
 
 
 @kind("cases of a plural", 40000)
@@ -354,6 +487,13 @@ def _(n):
 def _(n):
     text = '{msg desc="d"}{select $x}' + each(n, "{case 'a#'}a") + "{default}b{/select}{/msg}"
     return render(text, X, VALUE)
+
+
+@kind("a case of many values around a long text", 3000)
+def _(n):
+    text = '{msg desc="d"}{plural $n}{case %s}%s{default}b{/plural}{/msg}' % (
+        ",".join(str(i) for i in range(n)), "a" * n)
+    return render(text, "{@param n: int}", '{"n":-1}')
 
 
 @kind("cases of two values in one another", 16)
@@ -373,6 +513,17 @@ def bundle(text, more=""):
 @kind("a message translated in a row", 30000)
 def _(n):
     return render(HI * n, X, VALUE, bundle("{X}!"))
+
+
+# Ids of the messages of so many placeholders; at another number none is translated.
+PLACEHOLDERS = {2500: "b97f43e634adf275", 5000: "232fc5e511b5f790", 10000: "f0df2afcf8062545"}
+
+
+@kind("placeholders that are each translated", 10000)
+def _(n):
+    text = '{msg desc="d"}' + each(n, "{$x_#a}") + "{/msg}"
+    files = '{"dir":"ltr","messages":{"%s":"%s"}}' % (PLACEHOLDERS.get(n, "0" * 16), each(n, "{X_#A}"))
+    return render(text, each(n, "{@param? x_#a: string}"), bundle=files)
 
 
 @kind("arguments of a pattern", 1000000)
@@ -444,6 +595,11 @@ def _(n):
 @kind("one field many times", 300000)
 def _(n):
     return render("{$x}", X, '{%s}' % ",".join(['"x":"v"'] * n))
+
+
+@kind("a list of a union of records", 3000)
+def _(n):
+    return render("v", "{@param l: list<%s>}" % union(n), '{"l":[%s]}' % ",".join(['{"f%d":1}' % n] * n))
 
 
 @kind("data nested past the limit", 1000000)
@@ -528,10 +684,27 @@ def _(n):
     return preview("<b>" * n)
 
 
+@kind("preview of paragraphs with a direction", 8000)
+def _(n):
+    return preview("<p dir=auto>" * n)
+
+
+@kind("preview of end tags that end nothing", 16000)
+def _(n):
+    return preview("<b>" * n + "</i>" * n)
+
+
 @kind("a script of openings", 100000)
 def _(n):
     words, files = render("v", X)
     files["s"] = 'open t.m {"x":"v"}\nclose 0\n' + each(n, 'open t.m {"x":"v"}\nclose #\n')
+    return ["play", "s", "-", "-", "t.soy"], files
+
+
+@kind("a script of openings of a template of many parameters", 1500)
+def _(n):
+    words, files = render("v", each(n, "{@param? p#: string}"))
+    files["s"] = "".join("open t.m {}\nclose %d\n" % i for i in range(n))
     return ["play", "s", "-", "-", "t.soy"], files
 
 
