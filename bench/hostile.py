@@ -95,6 +95,11 @@ def _(n):
     return render("{call k}" + each(n, "{param p#: $x /}") + "{/call}", X, VALUE, more=callee)
 
 
+@kind("parameters of the template that is rendered", 24000)
+def _(n):
+    return render("v", each(n, "{@param? p#: string}"))
+
+
 @kind("parameters by data=all, through 99 calls", 8000)
 def _(n):
     params = each(n, "{@param? p#: string}")
@@ -458,6 +463,12 @@ def _(n):
     return ["check", "-", *files], files
 
 
+@kind("files of 60000 ifs", 8)
+def _(n):
+    files = {"t%d.soy" % i: "{namespace t%d}\n" % i + template("{if 1}a{/if}" * 60000) for i in range(n)}
+    return ["check", "-", *files], files
+
+
 # ---- messages, patterns and rules
 
 @kind("messages", 20000)
@@ -689,6 +700,11 @@ def _(n):
     return preview("<p dir=auto>" * n)
 
 
+@kind("preview of cells that stay open", 3000)
+def _(n):
+    return preview("<table><tr><td>a" * n)
+
+
 @kind("preview of end tags that end nothing", 16000)
 def _(n):
     return preview("<b>" * n + "</i>" * n)
@@ -705,6 +721,13 @@ def _(n):
 def _(n):
     words, files = render("v", each(n, "{@param? p#: string}"))
     files["s"] = "".join("open t.m {}\nclose %d\n" % i for i in range(n))
+    return ["play", "s", "-", "-", "t.soy"], files
+
+
+@kind("a script of openings among many templates", 12000)
+def _(n):
+    files = {"t.soy": "{namespace t}\n" + each(n, "{template k#}v{/template}\n"),
+             "s": "".join("open t.k%d {}\nclose %d\n" % (n, i) for i in range(n))}
     return ["play", "s", "-", "-", "t.soy"], files
 
 
