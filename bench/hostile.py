@@ -335,6 +335,13 @@ def _(n):
                   '{"r":{%s}}' % ",".join('"f%d":1' % i for i in range(n)))
 
 
+@kind("accesses to the last field of a record", 8000)
+def _(n):
+    fields = ", ".join("f%d: int" % i for i in range(n))
+    return render("{$r.f%d}" % (n - 1) * n, "{@param r: [%s]}" % fields,
+                  '{"r":{%s}}' % ",".join('"f%d":1' % i for i in range(n)))
+
+
 @kind("members of a union", 100000)
 def _(n):
     return render("{$x}", "{@param x: %s}" % "|".join(["int", "string"] * (n // 2)), VALUE)
