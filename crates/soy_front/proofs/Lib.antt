@@ -12,4 +12,3 @@ pub mod ReadingTrees
 pub mod SourceAnswers
 pub mod SourceLaws
 pub mod SourceTokens
-pub mod FilesOrFaults

@@ -24,9 +24,8 @@ use Rattle.soy_parser.specs.ParsesFile.{ParsesFile, RefusesTokens}
 use Rattle.soy_parser.proofs.OfFiles.FileAnswers.{one_file_answer}
 use Rattle.soy_tree.specs.declared.tree.Tree.{Tree}
 use Rattle.soy_front.specs.ReadsSource.{ReadsSource, FaultWithin}
-use Rattle.soy_front.specs.FileOrFault.{FileOrFault, TokensOrFault}
-use Rattle.soy_front.specs.Sources.{answer_by_file, answer_by_tokens, file_or_fault, source_answer, text_answer}
-use Rattle.soy_front.specs.Sources.{tokens_or_fault}
+use Rattle.soy_front.specs.FileOrFault.{FileOrFault, TokensOrFault, file_or_fault, tokens_or_fault}
+use Rattle.soy_front.specs.Sources.{answer_by_file, answer_by_tokens, source_answer, text_answer}
 use Rattle.soy_front.proofs.SourceTokens.{one_list, one_fault, never_both, token_within, offset_within}
 
 -- the tree or the fault of tokens is what `parse` answers
@@ -35,11 +34,12 @@ pub file_same : (tokens : List Token) (o : FileOrFault tokens) (r : Result Tree 
 file_same tokens (inl found) (Ok tree) p =
     cc (one_file_answer 0 tokens (Ok found.0) (Ok tree) found.1 p (λ h. cc h) (λ h. cc h))
 file_same tokens (inr refused) (Ok tree) p =
-    cc (one_file_answer 0 tokens (Err (Because refused.0)) (Ok tree) refused.1 p (λ h. cc h) (λ h. cc h))
+    cc (one_file_answer 0 tokens (Err (Because refused.0)) (Ok tree) (refused.1, refused.2) p (λ h. cc h) (λ h. cc h))
 file_same tokens (inl found) (Err (Because fault)) p =
     cc (one_file_answer 0 tokens (Ok found.0) (Err (Because fault)) found.1 p (λ h. cc h) (λ h. cc h))
 file_same tokens (inr refused) (Err (Because fault)) p =
-    cc (one_file_answer 0 tokens (Err (Because refused.0)) (Err (Because fault)) refused.1 p (λ h. cc h) (λ h. cc h))
+    cc (one_file_answer 0 tokens (Err (Because refused.0)) (Err (Because fault)) (refused.1, refused.2) p (λ h. cc h)
+    (λ h. cc h))
 file_same tokens o (Err OutOfMemory) p = tt
 
 reads_as : (a b : Result Tree Fault) (r : Result Tree (Refusal Fault)) → a ≡ b → ReadsSource b r → ReadsSource a r

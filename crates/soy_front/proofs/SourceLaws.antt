@@ -19,9 +19,8 @@ use Rattle.soy_parser.specs.FileReading.{fault_at}
 use Rattle.soy_tree.specs.declared.tree.Tree.{Tree}
 use Rattle.soy_front.specs.Deserves.{IsSourceText, Deserves}
 use Rattle.soy_front.specs.Deserves.Deserves.{NotUtf8, TooLarge, NoToken, NoFile, File}
-use Rattle.soy_front.specs.FileOrFault.{FileOrFault, TokensOrFault}
-use Rattle.soy_front.specs.Sources.{answer_by_file, answer_by_tokens, file_or_fault, source_answer, text_answer}
-use Rattle.soy_front.specs.Sources.{tokens_or_fault}
+use Rattle.soy_front.specs.FileOrFault.{FileOrFault, TokensOrFault, file_or_fault, tokens_or_fault}
+use Rattle.soy_front.specs.Sources.{answer_by_file, answer_by_tokens, source_answer, text_answer}
 use Rattle.soy_front.proofs.SourceAnswers.{file_same, text_over, text_answer-tokens, text_answer-fault}
 use Rattle.soy_front.proofs.SourceAnswers.{source_answer-text, source_answer-bytes}
 
@@ -93,7 +92,7 @@ module _ (bytes : List ℕ) where
   file_deserved : (tokens : List Token) (o : FileOrFault tokens) → IsSourceText bytes → Tokens (chars bytes) tokens
       → Deserves bytes (answer_by_file o)
   file_deserved tokens (inl found) is are = File tokens found.0 is are found.1
-  file_deserved tokens (inr refused) is are = NoFile tokens refused.0 is are refused.1
+  file_deserved tokens (inr refused) is are = NoFile tokens refused.0 is are (refused.1, refused.2)
 
   found_deserved : (o : TokensOrFault (chars bytes)) → IsSourceText bytes → Deserves bytes (answer_by_tokens o)
   found_deserved (inl found) is = file_deserved found.0 (file_or_fault found.0) is found.1

@@ -12,19 +12,9 @@ use Rattle.soy_base.specs.declared.code.Code.TheVariants as code
 use Rattle.soy_base.specs.declared.fault.Fault.{Fault}
 use Rattle.soy_base.specs.Limits.{largest_file}
 use Rattle.soy_lexer.specs.declared.token.Token.{Token}
-use Rattle.soy_lexer.proofs.SomeSegments as segments
 use Rattle.soy_parser.specs.FileReading.{fault_at}
 use Rattle.soy_tree.specs.declared.tree.Tree.{Tree}
-use Rattle.soy_front.specs.FileOrFault.{TokensOrFault, FileOrFault}
-use Rattle.soy_front.proofs.FilesOrFaults as files
-
--- every text is so
-abbrev pub tokens_or_fault : (text : List ℕ) → TokensOrFault text
-tokens_or_fault text = segments.tokens_or_fault text
-
--- and so are all tokens
-abbrev pub file_or_fault : (tokens : List Token) → FileOrFault tokens
-file_or_fault tokens = files.file_or_fault tokens
+use Rattle.soy_front.specs.FileOrFault.{TokensOrFault, FileOrFault, file_or_fault, tokens_or_fault}
 
 -- the tree, or the fault
 abbrev pub answer_by_file : {tokens : List Token} → FileOrFault tokens → Result Tree Fault
