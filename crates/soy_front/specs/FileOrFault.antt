@@ -18,7 +18,7 @@ use Rattle.soy_tree.specs.declared.tree.Tree.{Tree}
 abbrev pub TokensOrFault : List ℕ → Type 0
 TokensOrFault text = ((tokens : List Token) × Tokens text tokens) ⊎ ((offset : ℕ) × FirstFault text offset)
 
-abbrev pub tokens_or_fault : (text : List ℕ) → TokensOrFault text
+pub tokens_or_fault : (text : List ℕ) → TokensOrFault text
 tokens_or_fault text = segments.tokens_or_fault text
 
 -- tokens are a file with its tree, or they deserve a fault
@@ -32,5 +32,5 @@ by_reading : (tokens : List Token) (read : Result Tree Fault) → reading_file 0
 by_reading tokens (Ok tree) e = inl (tree, read-ParsesFile 0 tokens tree e)
 by_reading tokens (Err fault) e = let p = refused-ParsesFile 0 tokens fault e in inr (fault, p.0, p.1)
 
-abbrev pub file_or_fault : (tokens : List Token) → FileOrFault tokens
+pub file_or_fault : (tokens : List Token) → FileOrFault tokens
 file_or_fault tokens = by_reading tokens (reading_file 0 0 tokens file_start) refl
