@@ -6,6 +6,7 @@ use Rattle.std.specs.Option.{option_or}
 use Rattle.std.proofs.lemmas.Bool.{cases_lt}
 use Rattle.std.proofs.lemmas.Bool.Decides.{nat_tests}
 use Rattle.std.proofs.lemmas.Option.{same_Some}
+use Rattle.soy_desk.specs.Ascends.{Ascends}
 use Rattle.soy_desk.specs.DeskState.{Entry, entry_named, with_entry, without}
 
 -- ---- tests
@@ -31,10 +32,6 @@ pub differs : (a b : ℕ) → (a ≡ b → ⊥) → (a == b) ≡ false
 differs a b not = differs_from a b not (cases_lt a b) (cases_lt b a)
 
 -- ---- the names ascend from a number, and are below another
-
-abbrev pub Ascends : ℕ → List Entry → ℕ → Type 0
-Ascends low [] high = low ≤ high
-Ascends low (e ∷ es) high = (low ≤ e.name) × Ascends (e.name + 1) es high
 
 pub ascends_within : (low : ℕ) (es : List Entry) (high : ℕ) → Ascends low es high → low ≤ high
 ascends_within low [] high h = h

@@ -9,6 +9,7 @@ use Rattle.soy_base.specs.declared.memory.Refusal.TheVariants as refusal
 use Rattle.soy_tree.specs.declared.value.Value.{Value}
 use Rattle.template_ir.specs.declared.program.ProgramParts.{ProgramParts}
 use Rattle.render_core.specs.Rest.{Rest}
+use Rattle.soy_desk.specs.Ascends.{Ascends}
 use Rattle.soy_desk.specs.DeskRun.{CloseStep, DeskAnswer, DeskRun, OpenStep, PullCall, PullStep, PullsNamed, PullsRest}
 use Rattle.soy_desk.specs.DeskRun.{RenderingAnswer, Step, StepsTo, Close, Open, Publish, Pull, answered}
 use Rattle.soy_desk.specs.DeskState.{DeskState, Entry, entry_named, first_entry, pulled_entry, with_entry, without}
@@ -18,7 +19,7 @@ use Rattle.soy_desk.specs.Openings.{Opening, opening_of}
 use Rattle.soy_desk.specs.declared.fault.DeskFault.TheVariants as fault
 use Rattle.soy_desk.specs.declared.fault.Full.{Full}
 use Rattle.soy_desk.specs.declared.fault.Unknown.{Unknown}
-use Rattle.soy_desk.proofs.Entries.{Ascends, above_none, differs, is_itself, is_same}
+use Rattle.soy_desk.proofs.Entries.{above_none, differs, is_itself, is_same}
 use Rattle.soy_desk.proofs.Entries.{named_below, named_kept, named_name, named_new, named_none, push_ascends}
 use Rattle.soy_desk.proofs.Entries.{with_ascends, with_other, with_same, without_ascends, without_other, without_same}
 

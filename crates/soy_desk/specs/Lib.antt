@@ -6,4 +6,5 @@ pub mod Given
 pub mod Openings
 pub mod ManyRenderings
 pub mod Codes
+pub mod Ascends
 pub mod ViewSlots

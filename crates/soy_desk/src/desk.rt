@@ -24,6 +24,8 @@ const ROOM: usize = 64;
 pub struct Desk {
     alloc: Global,
     slots: Vec<Slot>,
+    /// The index of the slot that was pulled last, where the next search begins: a page is often pulled more than once.
+    last: usize,
     opened: u64,
     published: Rc<Program>,
 }
@@ -48,6 +50,7 @@ impl Model for Desk {
       coded_outcome,
     ) };
 
+    ghost use Rattle.soy_desk.specs.Ascends.{Ascends};
     ghost use Rattle.soy_desk.specs.ViewSlots.{SlotFits, view_slots};
 
     ghost view = { λ d. record {
@@ -56,7 +59,8 @@ impl Model for Desk {
       published = d.published.value;
     } };
 
-    ghost invariant = { λ d. All SlotFits d.slots.items × (length d.slots.items ≤ 64) };
+    ghost invariant = { λ d. All SlotFits d.slots.items × (length d.slots.items ≤ 64)
+        × Ascends 0 (view_slots d.slots.items) d.opened };
 }
 
 impl Desk {
@@ -68,6 +72,7 @@ impl Desk {
         Ok(Desk {
             alloc,
             slots,
+            last: 0,
             opened: 0,
             published: program,
         })
@@ -143,9 +148,10 @@ impl Desk {
           answer = result;
         })) self.new }
     {
-        let Some(at) = index_of(self.slots.as_slice(), name) else {
+        let Some(at) = index_of(self.slots.as_slice(), name, self.last) else {
             return Err(Refusal::Because(DeskFault::Unknown));
         };
+        self.last = at;
         on_desk(pull_at(&mut self.slots, at, room, steps))
     }
 
@@ -153,7 +159,7 @@ impl Desk {
     pub fn is_done(&self, name: u64) -> Option<bool>
         ensures { result ≡ option_map (λ e. e.done) (entry_named name self.now.entries) }
     {
-        let at = index_of(self.slots.as_slice(), name)?;
+        let at = index_of(self.slots.as_slice(), name, self.last)?;
         Some(self.slots[at].rendering.is_done())
     }
 
@@ -161,7 +167,7 @@ impl Desk {
     pub fn close(&mut self, name: u64) -> Result<(), Unknown>
         ensures { StepsTo self.old (Close name result) self.new }
     {
-        match index_of(self.slots.as_slice(), name) {
+        match index_of(self.slots.as_slice(), name, self.last) {
             Some(at) => {
                 give_up(self.slots.remove(at));
                 Ok(())

@@ -1,8 +1,9 @@
 //! Slots, each of a rendering that is open.
 
-ghost use Rattle.std.specs.Prelude.{◌≡◌, ◌<◌, ◌∷◌, ◌++◌, [], IfErr, IfOk, MatchOption, None, OnErr, OnOk};
+ghost use Rattle.std.specs.Prelude.{◌≡◌, ◌<◌, ◌∷◌, ◌++◌, ℕ, [], IfErr, IfOk, MatchOption, None, OnErr, OnOk};
 ghost use Rattle.std.specs.Prelude.{slice_index_or, slice_set, vec_len};
 ghost use Rattle.std.specs.List.{All};
+ghost use Rattle.soy_desk.specs.Ascends.{Ascends};
 ghost use Rattle.soy_desk.specs.DeskState.{entry_named, first_entry};
 ghost use Rattle.soy_desk.specs.ViewSlots.{PullsSlot, SlotFits, StandsAt, view_slot, view_slots};
 ghost use Rattle.soy_desk.specs.declared.slot.Slot as code_slot;
@@ -118,16 +119,15 @@ fn put_last(slots: &mut Vec<Slot>, slot: Slot) -> Result<(), Value>
     }
 }
 
-/// The index of the slot of a name.
-pub(crate) fn index_of(slots: &[Slot], name: u64) -> Option<usize>
+/// The index of the slot of a name, where the names ascend; the guess is tried first.
+pub(crate) fn index_of(slots: &[Slot], name: u64, guess: usize) -> Option<usize>
+    requires { (high : ℕ) × Ascends 0 (view_slots slots.now) high }
     ensures { MatchOption result (entry_named name (view_slots slots.now) ≡ None) (StandsAt slots.now name) }
 {
-    for (at, slot) in slots.iter().enumerate() {
-        if slot.name == name {
-            return Some(at);
-        }
+    if guess < slots.len() && slots[guess].name == name {
+        return Some(guess);
     }
-    None
+    slots.binary_search_by_key(&name, |slot| slot.name).ok()
 }
 
 /// A pull of the rendering in a slot.

@@ -1,12 +1,17 @@
-use Rattle.std.proofs.Common.{arith}
-use Rattle.soy_desk.proofs.Slots.{none_stands, stands}
+use Rattle.std.proofs.Common.{arith, rules}
+use Rattle.std.proofs.lemmas.List.Sorted.{answers_always}
+use Rattle.soy_desk.specs.declared.slot.Slot.{Slot}
+use Rattle.soy_desk.proofs.Slots.{guessed, searched}
 use Rattle.soy_desk.proofs.slot.index_of.Goals as goal
 
-pub returns-then-slot-name : goal.returns-then-slot-name
-returns-then-slot-name c =
-    stands c.args.slots.now c.args.name c.loop-at.at c.index-slots-at.result (omega arith) c.index-slots-at.is
-    c.if-slot-name.true c.loop-at.invariant
+pub returns-then-slots : goal.returns-then-slots
+returns-then-slots c =
+    guessed c.args.slots.now c.requires.0 c.args.name c.requires.1 c.args.guess c.index-slots-guess.result
+    (omega arith) c.index-slots-guess.is (search rules)
 
 pub returns : goal.returns
 returns c =
-    none_stands c.args.slots.now c.args.name (λ k d lt hit. c.loop-at.invariant k d (omega (arith, lt)) hit)
+    let facts = c.binary_search_by_key.ensures in
+    let by_key = facts.position (λ (s : Slot). s.name) (answers_always _ _ _ (λ f a r g called. search rules)) in
+    rw c.ok.ensures.value
+    (searched c.args.slots.now c.requires.0 c.args.name c.requires.1 c.binary_search_by_key.result facts.bound by_key)
