@@ -1,9 +1,10 @@
 -- Slots, and the open renderings that they stand for.
 use Rattle.std.proofs.Common.{◌≡◌, ℕ, zero, suc, ◌+◌, ◌<◌, ◌≤◌, ◌⊎◌, inl, inr, Bool, false, List, [], ◌∷◌, ◌++◌}
-use Rattle.std.proofs.Common.{Some, None, Result, Ok, Err, ap, refl, sym, ◌∙◌, arith, ◌==◌, get_or, length, set}
+use Rattle.std.proofs.Common.{Some, None, Result, Ok, Err, Less, Greater, ap, refl, sym, ◌∙◌, arith, ◌==◌}
+use Rattle.std.proofs.Common.{get_or, length, set}
 use Rattle.std.specs.List.{remove}
 use Rattle.std.specs.List.Sorted.{IsBinarySearchResult, IsNonDecreasingBy, IsPartitionPoint, IsSearchInRange}
-use Rattle.std.specs.Ordering.{Greater, Less, nat_cmp, ordering_index}
+use Rattle.std.specs.Ordering.{nat_cmp, ordering_index}
 use Rattle.std.specs.Prelude.{MatchOption, if◌then◌else◌}
 use Rattle.std.specs.Result.{result_ok}
 use Rattle.std.proofs.lemmas.Bool.{cases_lt}

@@ -124,8 +124,11 @@ pub(crate) fn index_of(slots: &[Slot], name: u64, guess: usize) -> Option<usize>
     requires { (high : ℕ) × Ascends 0 (view_slots slots.now) high }
     ensures { MatchOption result (entry_named name (view_slots slots.now) ≡ None) (StandsAt slots.now name) }
 {
-    if guess < slots.len() && slots[guess].name == name {
-        return Some(guess);
+    if guess < slots.len() {
+        let slot = &slots[guess];
+        if slot.name == name {
+            return Some(guess);
+        }
     }
     slots.binary_search_by_key(&name, |slot| slot.name).ok()
 }

@@ -4,10 +4,10 @@ use Rattle.soy_desk.specs.declared.slot.Slot.{Slot}
 use Rattle.soy_desk.proofs.Slots.{guessed, searched}
 use Rattle.soy_desk.proofs.slot.index_of.Goals as goal
 
-pub returns-then-slots : goal.returns-then-slots
-returns-then-slots c =
+pub returns-then-slot-name : goal.returns-then-slot-name
+returns-then-slot-name c =
     guessed c.args.slots.now c.requires.0 c.args.name c.requires.1 c.args.guess c.index-slots-guess.result
-    (omega arith) c.index-slots-guess.is (search rules)
+    (omega arith) c.index-slots-guess.is c.if-slot-name.true
 
 pub returns : goal.returns
 returns c =

@@ -1,11 +1,34 @@
-use Rattle.std.proofs.Common.{List, subst, sym}
+use Rattle.std.proofs.Common.{List, arith, subst, sym}
+use Rattle.std.proofs.lemmas.Grind.{common_steps}
+use Rattle.soy_desk.specs.Ascends.{Ascends}
 use Rattle.soy_desk.specs.DeskAnswers.{desk_answer}
 use Rattle.soy_desk.specs.DeskRun.{DeskAnswer, PullCall, PullStep, PullsNamed, RenderingAnswer}
 use Rattle.soy_desk.specs.DeskState.{DeskState}
-use Rattle.soy_desk.specs.ViewSlots.{StandsAt}
+use Rattle.soy_desk.specs.ViewSlots.{StandsAt, view_slots}
 use Rattle.soy_desk.specs.declared.slot.Slot.{Slot}
-use Rattle.soy_desk.proofs.Slots.{pull_step, pulled_named, state_of}
+use Rattle.soy_desk.proofs.Slots.{pull_step, pulled_ascends, pulled_named, state_of}
 use Rattle.soy_desk.proofs.desk.Desk.pull.Goals as goal
+
+pub invariant_of-self : goal.invariant_of-self
+invariant_of-self g c =
+    let name = c.args.name in
+    let slots = c.self.inside.slots.items in
+    let opened = c.self.inside.opened in
+    let stands = subst (λ (xs : List Slot). StandsAt xs name c.in-Some.at) c.as_slice.ensures.value
+    c.in-Some.ensures in
+    let pulls = c.pull_at.ensures.pulls in
+    let call : PullCall RenderingAnswer = record {
+      room = c.args.room.now;
+      room_after = c.pull_at.new.room;
+      steps = c.args.steps.now;
+      steps_after = c.pull_at.new.steps;
+      answer = c.pull_at.result;
+    } in
+    let ascend : Ascends 0 (view_slots c.pull_at.new.slots.items) opened =
+    rw pulls.3
+    (pulled_ascends slots opened c.self.inside.published.value name c.in-Some.at call pulls.0 pulls.1 stands pulls.2
+    pulls.4 c.self.invariant.2) in
+    grind (arith, common_steps, ascend)
 
 pub returns : goal.returns
 returns g c =
