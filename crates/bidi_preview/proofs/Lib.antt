@@ -35,3 +35,7 @@ pub mod PlainWeak
 pub mod PlainNeutral
 pub mod PlainKept
 pub mod PlainLines
+pub mod CountedNames
+pub mod OpenedElements
+pub mod SearchedElements
+pub mod WithoutBrackets

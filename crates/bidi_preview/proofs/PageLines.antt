@@ -1,11 +1,11 @@
 -- One more token of a page: the texts that it comes to have stay the same.
 use Rattle.std.proofs.Common.{◌≡◌, ℕ, Bool, true, false, if◌then◌else◌, List, [], ◌∷◌, ◌++◌}
-use Rattle.std.proofs.Common.{map, length, reverse, drop, take, refl, sym, ap, subst, ◌∙◌, append_assoc, arith, Option}
+use Rattle.std.proofs.Common.{map, drop, refl, sym, ap, subst, ◌∙◌, append_assoc, Option}
 use Rattle.std.proofs.Common.{Some, None}
-use Rattle.std.specs.Prelude.{codes, filter, slice_index_or}
+use Rattle.std.specs.Prelude.{codes, filter, slice_index_or, MatchOption}
 use Rattle.std.specs.Str.{bytes_eq}
 use Rattle.std.specs.List.{flat_map}
-use Rattle.std.proofs.lemmas.List.{append-nil, length-append, reverse-append, take-append-drop}
+use Rattle.std.proofs.lemmas.List.{append-nil}
 use Rattle.bidi_order.specs.Elements.{DirAttribute, OpenElement, content_right_to_left, dir_attribute}
 use Rattle.bidi_order.specs.Elements.{element_direction}
 use Rattle.bidi_order.specs.Elements.{elements_closed, elements_left, has_override, is_inline, is_void}
@@ -17,6 +17,7 @@ use Rattle.bidi_order.specs.MarkupTokens.{MarkupToken}
 use Rattle.bidi_order.specs.MarkupTokens.MarkupToken.{Character, StartTag, EndTag}
 use Rattle.bidi_order.specs.WithinLimit.{LabelledCharacter, line_characters}
 use Rattle.bidi_preview.specs.AutoDirections.{auto_directions, goes_by_content}
+use Rattle.bidi_preview.specs.OpenedSteps.{Closes}
 use Rattle.bidi_preview.specs.PageSteps.{AreKnown, EndsLine, EndsUnless, GoOn, GoesPast, PageSoFar, left_directions}
 use Rattle.bidi_preview.specs.PageSteps.{known_element, names_of, page_opened, page_texts, shown_of}
 use Rattle.bidi_preview.specs.PageSteps.{taken_direction, with_rest}
@@ -236,6 +237,28 @@ end_closes context p name left now some is rest known = (
       ])) rest) some,
 )
 
+-- an end tag, by the elements that are left and the line
+pub closes_past : (context : ℕ) (p : PageSoFar) (name : List ℕ) (before after : List OpenElement) (now : List ℕ)
+    → before ≡ p.opened → Closes name before after p.characters now
+    → GoesPast context p (EndTag name) name (record p { opened = after; characters = now })
+closes_past context p name before after now all closes = go (elements_left name p.opened) refl
+    (subst (λ (es : List OpenElement). Closes name es after p.characters now) all closes)
+  where
+    go : (o : Option (List OpenElement)) → elements_left name p.opened ≡ o
+        → MatchOption o ((after ≡ p.opened) × (now ≡ p.characters))
+        (λ left. (after ≡ left)
+        × (now ≡ p.characters ++ line_characters (flat_map element_end (elements_closed name p.opened))))
+        → GoesPast context p (EndTag name) name (record p { opened = after; characters = now })
+    go None none same =
+        subst (λ (es : List OpenElement). GoesPast context p (EndTag name) name
+        (record p { opened = es; characters = now })) (sym same.0)
+        (subst (λ (cs : List ℕ). GoesPast context p (EndTag name) name (record p { characters = cs })) (sym same.1)
+        (end_none context p name none))
+    go (Some left) some same =
+        subst (λ (es : List OpenElement). GoesPast context p (EndTag name) name
+        (record p { opened = es; characters = now })) (sym same.0)
+        (end_closes context p name left now some same.1)
+
 -- what follows a tag
 pub tag_goes_on : (context : ℕ) (p now after : PageSoFar) (token : MarkupToken) (name : List ℕ)
     → GoesPast context p token name now → EndsUnless (is_inline name) context now after
@@ -270,46 +293,6 @@ go_on_more context p now after token tokens first later rest known =
     later rest one.1 in
     (one.0 ∙ all.0, all.1)
 
--- ---- the elements that an end tag closes
-
-closed-and-left : (name : List ℕ) (es ls : List OpenElement) → elements_left name es ≡ Some ls
-    → elements_closed name es ++ ls ≡ es
-closed-and-left name [] ls is = absurd (cc)
-closed-and-left name (e ∷ es) ls is = go (bytes_eq e.name name) (closed-and-left name es ls) is
-  where
-    go : (b : Bool) → (elements_left name es ≡ Some ls → elements_closed name es ++ ls ≡ es)
-        → (if b then Some es else elements_left name es) ≡ Some ls
-        → (if b then e ∷ [] else e ∷ elements_closed name es) ++ ls ≡ e ∷ es
-    go true later same = ap (λ l. e ∷ l) (sym (the_left es ls same))
-      where
-        the_left : (xs ys : List OpenElement) → ◌≡◌ {A = Option (List OpenElement)} (Some xs) (Some ys) → xs ≡ ys
-        the_left xs ys same = cc
-    go false later same = ap (λ l. e ∷ l) (later same)
-
-cancelled : (xs ys zs : List OpenElement) → xs ++ zs ≡ ys ++ zs → xs ≡ ys
-cancelled [] [] zs same = refl
-cancelled [] (y ∷ ys) zs same =
-    absurd (omega (arith, ap length same, length-append ys zs))
-cancelled (x ∷ xs) [] zs same = absurd (omega (arith, ap length same, length-append xs zs))
-cancelled (x ∷ xs) (y ∷ ys) zs same = both x y xs ys (heads same) (cancelled xs ys zs (tails same))
-  where
-    heads : (x ∷ xs) ++ zs ≡ (y ∷ ys) ++ zs → x ≡ y
-    heads same = cc
-
-    tails : (x ∷ xs) ++ zs ≡ (y ∷ ys) ++ zs → xs ++ zs ≡ ys ++ zs
-    tails same = cc
-
-    both : (a b : OpenElement) (vs ws : List OpenElement) → a ≡ b → vs ≡ ws → a ∷ vs ≡ b ∷ ws
-    both a b vs ws p q = cc
-
-pub closed_are : (name : List ℕ) (items : List OpenElement) (left : ℕ)
-    → elements_left name (reverse items) ≡ Some (reverse (take left items))
-    → elements_closed name (reverse items) ≡ reverse (drop left items)
-closed_are name items left is = cancelled (elements_closed name (reverse items)) (reverse (drop left items))
-    (reverse (take left items))
-    (closed-and-left name (reverse items) (reverse (take left items)) is
-    ∙ ap reverse (sym (take-append-drop left items)) ∙ reverse-append (take left items) (drop left items))
-
 -- ---- a whole page
 
 -- what is known after some tokens, where the page gives these texts
@@ -324,16 +307,3 @@ lines_more context texts before after tokens rest all is goes so_far =
     let steps : (page_texts context before (tokens ++ rest) ≡ page_texts context after rest) × AreKnown after rest =
     goes rest there.1 in
     (sym steps.0 ∙ there.0, steps.1)
-
--- an end tag whose name is open, where the elements are given outermost first
-pub end_leaves : (context : ℕ) (p : PageSoFar) (name : List ℕ) (items kept : List OpenElement) (left : ℕ)
-    (now : List ℕ) → p.opened ≡ reverse items → elements_left name (reverse items) ≡ Some (reverse (take left items))
-    → kept ≡ take left items
-    → now ≡ p.characters ++ line_characters (flat_map element_end (reverse (drop left items)))
-    → GoesPast context p (EndTag name) name (record p { opened = reverse kept; characters = now })
-end_leaves context p name items kept left now opened some cut is =
-    let closes : now ≡ p.characters ++ line_characters (flat_map element_end (elements_closed name p.opened)) =
-    is ∙ ap (λ es. p.characters ++ line_characters (flat_map element_end es)) (sym (closed_are name items left some))
-    ∙ ap (λ es. p.characters ++ line_characters (flat_map element_end (elements_closed name es))) (sym opened) in
-    end_closes context p name (reverse kept) now (ap (elements_left name) opened ∙ some
-    ∙ ap (λ (es : List OpenElement). Some (reverse es)) (sym cut)) closes

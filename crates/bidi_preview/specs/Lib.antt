@@ -14,3 +14,6 @@ pub mod DirValues
 pub mod ReadingSteps
 pub mod PageSteps
 pub mod LinesSoFar
+pub mod NameCounts
+pub mod OpenedSteps
+pub mod SearchedNames

@@ -9,7 +9,7 @@ use std::alloc::Global;
 pub(crate) fn unknown<T: Drop>(alloc: Global, count: usize) -> Result<Vec<Option<T>>, OutOfMemory>
     ensures { IfOk result (λ absent. absent.items ≡ replicate count None) }
 {
-    let mut absent = Vec::new(alloc);
+    let mut absent = Vec::with_capacity(alloc, count)?;
     for index in 0..count {
         absent.push(None)?;
     }

@@ -1,8 +1,9 @@
 //! Paired brackets (UAX #9, BD16 and N0).
-ghost use Rattle.std.specs.Prelude.{◌≡◌, ◌∷◌, ◌+◌, ◌<◌, ◌≤◌, ◌^◌, IfOk, MatchOption, None, Some, drop, length, map};
+ghost use Rattle.std.specs.Prelude.{◌≡◌, ◌∷◌, ◌+◌, ◌<◌, ◌≤◌, ◌^◌, IfOk, MatchOption, None, OnOk, Some, drop, length, map};
 ghost use Rattle.std.specs.Prelude.{not, reverse};
 ghost use Rattle.std.specs.Prelude.{suc, take, []};
 ghost use Rattle.std.specs.List.{list_any};
+ghost use Rattle.std.specs.Option.{is_some};
 ghost use Rattle.bidi_order.specs.DirectionalStatus.{strong_class};
 ghost use Rattle.bidi_order.specs.Resolve.{bracket_pairs_from, class_direction, is_direction, is_nonspacing};
 ghost use Rattle.bidi_order.specs.Resolve.{last_direction, matching_opening, n0, neutral_bracket, pair_direction};
@@ -17,9 +18,38 @@ use std::alloc::Global;
 /// BD16: how many brackets may be open.
 const OPEN_BRACKETS: usize = 63;
 
+/// BD16 and N0: the pairs of brackets take a direction. Where no character is a bracket, nothing is looked for.
+#[tactic(auto, using(crate::proofs::WithoutBrackets::no_brackets))]
+pub(crate) fn resolve_brackets(
+    alloc: Global,
+    own: bool,
+    sos: bool,
+    given: &[Class],
+    brackets: &[Option<Bracket>],
+    classes: &mut [Class],
+) -> Result<(), OutOfMemory>
+    requires given { length given.now ≡ length classes.old }
+    requires brackets { length brackets.now ≡ length classes.old }
+    ensures { OnOk result (classes.new ≡ n0 own sos (map is_nonspacing given.now)
+        (pairs_in_order (bracket_pairs_from 0 [] (counting_brackets classes.old brackets.now))) classes.old) }
+{
+    if has_bracket(brackets) {
+        let partners = find_pairs(alloc, classes, brackets)?;
+        resolve_pairs(own, sos, given, &partners, classes);
+    }
+    Ok(())
+}
+
+/// Whether one of the characters is a bracket.
+fn has_bracket(brackets: &[Option<Bracket>]) -> bool
+    ensures { result ≡ list_any is_some brackets.now }
+{
+    brackets.iter().any(|bracket| bracket.is_some())
+}
+
 /// BD16: for each bracket that opens a pair the index of that which closes it.
 #[tactic(auto, using(crate::proofs::PairsFound::found_start, crate::proofs::PairsFound::read_end))]
-pub(crate) fn find_pairs(
+fn find_pairs(
     alloc: Global,
     classes: &[Class],
     brackets: &[Option<Bracket>],
@@ -104,7 +134,7 @@ fn take_opening(opened: &mut Vec<(char, usize)>, closing: char) -> Option<usize>
 }
 
 /// N0: the pairs of brackets take a direction, in the order of their opening brackets.
-pub(crate) fn resolve_pairs(
+fn resolve_pairs(
     own: bool,
     sos: bool,
     given: &[Class],

@@ -1,20 +1,21 @@
 //! The directions of the elements that go by their content (WHATWG HTML, "The dir attribute"), found in one pass.
-ghost use Rattle.std.specs.Prelude.{◌≡◌, [], None, Some, IfOk, OnOk, MatchOption, length, map, option_map, reverse};
-ghost use Rattle.std.specs.Prelude.{take, List, ◌++◌};
+ghost use Rattle.std.specs.Prelude.{◌≡◌, [], None, Some, IfOk, OnOk, length, map, option_map, ◌++◌};
 ghost use Rattle.std.specs.Str.{bytes_eq};
-ghost use Rattle.bidi_order.specs.Elements.{dir_attribute, left_open};
-ghost use Rattle.bidi_preview.specs.AutoDirections.{OpenName, answer_at, character_answers};
+ghost use Rattle.bidi_order.specs.Elements.{dir_attribute};
+ghost use Rattle.bidi_preview.specs.AutoDirections.{answer_at, character_answers};
 ghost use Rattle.bidi_preview.specs.AutoDirections.{end_opened, goes_by_content, is_apart};
 ghost use Rattle.bidi_preview.specs.AutoDirections.{or_left, start_answers, start_opened, top_waits, with_answer};
 ghost use Rattle.bidi_preview.specs.DirValues.{view_dir};
 ghost use Rattle.bidi_preview.specs.ReadingSteps.{tokens_given};
+ghost use Rattle.bidi_preview.specs.SearchedNames.{AreCounted};
 ghost use Rattle.bidi_order.specs.MarkupTokens.{MarkupToken, labelled_characters};
 ghost use Rattle.bidi_preview.specs.AutoDirections.{answers_from};
 
 use crate::names::{is_lower, is_same, is_text, is_void};
+use crate::open_names::OpenNames;
 use crate::reading::{Given, GivenTag};
 use bidi_class::{Class, class_of};
-use soy_base::OutOfMemory;
+use soy_base::{OutOfMemory, Stack};
 use std::alloc::Global;
 use std::marker::Model;
 
@@ -44,7 +45,8 @@ impl Model for Searched {
 /// The directions that are found so far.
 #[derive(Debug, Drop)]
 pub(crate) struct Directions {
-    opened: Vec<Searched>,
+    opened: Stack<Searched>,
+    names: OpenNames,
     answers: Vec<Option<bool>>,
 }
 
@@ -55,10 +57,16 @@ impl Searched {
         Searched { name, waits }
     }
 
-    fn has_name(&self, name: &[char]) -> bool
-        ensures { result ≡ bytes_eq self.now.name name.now }
+    fn has_name(&self, name: &Vec<char>) -> bool
+        ensures { result ≡ bytes_eq self.now.name name.now.items }
     {
         is_same(&self.name, name)
+    }
+
+    fn into_name(self) -> Vec<char>
+        ensures { result.items ≡ self.name }
+    {
+        self.name
     }
 
     fn waits(&self) -> Option<usize>
@@ -71,28 +79,29 @@ impl Searched {
 impl Directions {
     /// No element is open. Takes no memory.
     pub(crate) fn new(alloc: Global) -> Directions
-        ensures opened { result.opened.items ≡ [] }
+        ensures opened { result.opened ≡ [] }
+        ensures names { AreCounted result }
         ensures answers { result.answers.items ≡ [] }
     {
         Directions {
-            opened: Vec::new(alloc),
+            opened: Stack::empty(alloc),
+            names: OpenNames::none(alloc),
             answers: Vec::new(alloc),
         }
     }
 
     /// Reads what a character of the page gives.
-    pub(crate) fn read(&mut self, given: &mut Given) -> Result<(), OutOfMemory>
-        ensures { OnOk result ((rest : List MarkupToken)
-            → answers_from (reverse self.new.opened.items) self.new.answers.items rest
-            ≡ answers_from (reverse self.old.opened.items) self.old.answers.items
+    pub(crate) fn read(&mut self, alloc: Global, given: &mut Given) -> Result<(), OutOfMemory>
+        requires { AreCounted self.old }
+        ensures names { OnOk result (AreCounted self.new) }
+        ensures answers { OnOk result ((rest : List MarkupToken)
+            → answers_from self.new.opened self.new.answers.items rest
+            ≡ answers_from self.old.opened self.old.answers.items
             (tokens_given given.old.characters.items given.old.tag ++ rest)) }
     {
         match given.tag.take() {
-            Some(GivenTag::Start(name, dir)) => self.read_start(name, read_dir(&dir)),
-            Some(GivenTag::End(name)) => {
-                self.read_end(&name);
-                Ok(())
-            }
+            Some(GivenTag::Start(name, dir)) => { self.read_start(alloc, name, read_dir(&dir)) }
+            Some(GivenTag::End(name)) => self.read_end(&name),
             None => {
                 self.read_characters(&given.characters);
                 Ok(())
@@ -102,9 +111,11 @@ impl Directions {
 
     /// Reads characters of text.
     fn read_characters(&mut self, characters: &[char])
-        ensures { (rest : List MarkupToken)
-            → answers_from (reverse self.new.opened.items) self.new.answers.items rest
-            ≡ answers_from (reverse self.old.opened.items) self.old.answers.items
+        requires { AreCounted self.old }
+        ensures names { AreCounted self.new }
+        ensures answers { (rest : List MarkupToken)
+            → answers_from self.new.opened self.new.answers.items rest
+            ≡ answers_from self.old.opened self.old.answers.items
             (labelled_characters None characters.now ++ rest) }
     {
         for c in characters {
@@ -114,9 +125,10 @@ impl Directions {
 
     /// Reads a character of text.
     fn read_character(&mut self, c: char)
-        ensures opened { self.new.opened.items ≡ self.old.opened.items }
+        ensures opened { self.new.opened ≡ self.old.opened }
+        ensures names { self.new.names ≡ self.old.names }
         ensures answers { self.new.answers.items
-            ≡ character_answers (top_waits (reverse self.old.opened.items)) c self.old.answers.items }
+            ≡ character_answers (top_waits self.old.opened) c self.old.answers.items }
     {
         let waits = top_waits(&self.opened);
         match class_of(c) {
@@ -127,10 +139,18 @@ impl Directions {
     }
 
     /// Reads a start tag.
-    fn read_start(&mut self, name: Vec<char>, dir: Option<DirValue>) -> Result<(), OutOfMemory>
-        ensures opened { OnOk result (reverse self.new.opened.items
+    #[tactic(auto, using(crate::proofs::SearchedElements::names_more))]
+    fn read_start(
+        &mut self,
+        alloc: Global,
+        name: Vec<char>,
+        dir: Option<DirValue>,
+    ) -> Result<(), OutOfMemory>
+        requires { AreCounted self.old }
+        ensures names { OnOk result (AreCounted self.new) }
+        ensures opened { OnOk result (self.new.opened
             ≡ start_opened name.items (option_map view_dir dir) (length self.old.answers.items)
-            (reverse self.old.opened.items)) }
+            self.old.opened) }
         ensures answers { OnOk result (self.new.answers.items
             ≡ start_answers name.items (option_map view_dir dir) self.old.answers.items) }
     {
@@ -146,18 +166,30 @@ impl Directions {
         } else {
             top_waits(&self.opened)
         };
+        self.names.add(alloc, &name)?;
         self.opened.push(Searched::new(name, waits))?;
         Ok(())
     }
 
     /// Reads an end tag.
-    fn read_end(&mut self, name: &[char])
-        ensures opened { reverse self.new.opened.items ≡ end_opened name.now (reverse self.old.opened.items) }
+    #[tactic(auto, using(crate::proofs::SearchedElements::ends_last, crate::proofs::SearchedElements::ends_nothing, crate::proofs::SearchedElements::ends_one, crate::proofs::SearchedElements::names_less, crate::proofs::SearchedElements::search_goes_on))]
+    fn read_end(&mut self, name: &Vec<char>) -> Result<(), OutOfMemory>
+        requires { AreCounted self.old }
+        ensures names { OnOk result (AreCounted self.new) }
+        ensures opened { OnOk result (self.new.opened ≡ end_opened name.now.items self.old.opened) }
         ensures answers { self.new.answers.items ≡ self.old.answers.items }
     {
-        if let Some(left) = left_of(&self.opened, name) {
-            self.opened.truncate(left);
+        if self.names.count(name) == 0 {
+            return Ok(());
         }
+        while let Some(element) = self.opened.pop() {
+            let last = element.has_name(name);
+            self.names.remove(element.into_name())?;
+            if last {
+                return Ok(());
+            }
+        }
+        Ok(())
     }
 
     /// The directions, in the order of their start tags.
@@ -173,10 +205,10 @@ impl Directions {
 }
 
 /// For which answer the innermost open element waits.
-fn top_waits(opened: &[Searched]) -> Option<usize>
-    ensures { result ≡ top_waits (reverse opened.now) }
+fn top_waits(opened: &Stack<Searched>) -> Option<usize>
+    ensures { result ≡ top_waits opened.now }
 {
-    match opened.last() {
+    match opened.top() {
         Some(top) => top.waits(),
         None => None,
     }
@@ -202,24 +234,6 @@ fn answer_at(k: usize, right_to_left: bool, answers: &mut [Option<bool>])
         None => answers[k] = Some(right_to_left),
         Some(_) => {}
     }
-}
-
-/// How many elements stay open where the innermost of a name is closed, if one has the name.
-#[tactic(auto, using(crate::proofs::FoundNames::left_found, crate::proofs::FoundNames::left_past))]
-fn left_of(opened: &[Searched], name: &[char]) -> Option<usize>
-    ensures { MatchOption result
-        (left_open (λ (w : OpenName). w.name) name.now (reverse opened.now) ≡ None)
-        (λ left. left_open (λ (w : OpenName). w.name) name.now (reverse opened.now)
-        ≡ Some (reverse (take left opened.now))) }
-{
-    let mut above = opened.len();
-    while above > 0 {
-        above -= 1;
-        if opened[above].has_name(name) {
-            return Some(above);
-        }
-    }
-    None
 }
 
 /// Whether the direction of an element goes by its content.

@@ -16,7 +16,7 @@ use std::alloc::Global;
 pub(crate) fn read_classes(alloc: Global, line: &[char]) -> Result<Vec<Class>, OutOfMemory>
     ensures { IfOk result (λ classes. classes.items ≡ map bidi_class line.now) }
 {
-    let mut classes = Vec::new(alloc);
+    let mut classes = Vec::with_capacity(alloc, line.len())?;
     for c in line {
         classes.push(class_of(*c))?;
     }
@@ -124,7 +124,7 @@ pub(crate) fn read_explicit(
     ensures { IfOk result (λ kept. kept.items ≡ explicit_characters base line.now) }
 {
     let mut status = Status::new(alloc, base);
-    let mut kept = Vec::new(alloc);
+    let mut kept = Vec::with_capacity(alloc, line.len())?;
     for index in 0..line.len() {
         let k = status.read(line[index], classes[index])?;
         kept.push(k)?;

@@ -20,6 +20,8 @@ mod links;
 mod names;
 mod neutral;
 mod number;
+mod open_names;
+mod opened;
 mod order;
 mod page;
 mod plain;

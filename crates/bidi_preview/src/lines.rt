@@ -1,117 +1,31 @@
 //! The lines of a page, by the tags that end a line, with what stands in a line for its elements (UAX #9, 4.3, HL3).
-ghost use Rattle.std.specs.Prelude.{◌≡◌, ◌++◌, [], ◌∷◌, ◌≤◌, false, IfOk, IfSome, MatchOption, None, OnOk, Some, drop};
-ghost use Rattle.std.specs.Prelude.{option_map};
-ghost use Rattle.std.specs.Prelude.{length, reverse, slice_index_or, take};
-ghost use Rattle.bidi_order.specs.Elements.{elements_left, has_override};
-ghost use Rattle.bidi_order.specs.Lines.{base_level, block_direction, direction_level, element_end, element_start};
-ghost use Rattle.bidi_order.specs.Lines.{ends_line};
+ghost use Rattle.std.specs.Prelude.{◌≡◌, ◌++◌, [], ◌∷◌, false, IfOk, None, OnOk, drop, option_map, slice_index_or};
+ghost use Rattle.bidi_order.specs.Elements.{has_override};
+ghost use Rattle.bidi_order.specs.Lines.{direction_level, ends_line};
 ghost use Rattle.bidi_order.specs.MarkupTokens.{labelled_characters};
 ghost use Rattle.bidi_order.specs.MarkupTokens.MarkupToken.{Character, EndTag, StartTag};
-ghost use Rattle.bidi_order.specs.WithinLimit.{line_characters};
 ghost use Rattle.bidi_preview.specs.LinesSoFar.{view_lines};
 ghost use Rattle.bidi_preview.specs.PageSteps.{EndsLine, EndsUnless, GoOn, GoesPast, left_directions, page_opened};
 ghost use Rattle.bidi_preview.specs.PageSteps.{shown_of, taken_direction, with_rest};
 ghost use Rattle.bidi_preview.specs.ReadingSteps.{tokens_given};
 ghost use Rattle.bidi_preview.specs.Seen.{shown_text};
-ghost use Rattle.std.specs.List.{flat_map};
-ghost use Rattle.std.specs.Str.{bytes_eq};
 ghost use Rattle.bidi_preview.specs.DirValues.{view_dir};
 
 use crate::direction::{DirValue, goes_by_content, read_dir};
-use crate::names::{is_inline, is_same, is_text, is_void};
+use crate::names::{is_inline, is_text, is_void};
+use crate::opened::{Element, OpenElements};
 use crate::reading::{Given, GivenTag};
 use crate::shown::{is_shown, show_line};
 use bidi_class::{Class, class_of};
 use soy_base::{Dir, OutOfMemory, Row, Seq, Text};
 use std::alloc::Global;
-use std::marker::Model;
-
-/// An open element.
-#[derive(Debug, Drop)]
-pub(crate) struct Element {
-    name: Vec<char>,
-    /// True is from right to left.
-    direction: Option<bool>,
-    /// It is a `bdo` whose `dir` is `ltr` or `rtl`.
-    overrides: bool,
-}
-
-impl Model for Element {
-    ghost use Rattle.std.specs.Prelude.{None};
-    ghost use Rattle.bidi_order.specs.Elements.{OpenElement};
-
-    ghost Value = { OpenElement };
-
-    ghost view = { λ e. record {
-      name = e.name.items;
-      direction = e.direction;
-      overrides = e.overrides;
-      label = None;
-    } };
-}
-
-impl Element {
-    fn has_name(&self, name: &[char]) -> bool
-        ensures { result ≡ bytes_eq self.now.name name.now }
-    {
-        is_same(&self.name, name)
-    }
-
-    /// Puts what stands for its start at the end of a line.
-    fn push_start(&self, line: &mut Vec<char>) -> Result<(), OutOfMemory>
-        ensures { OnOk result (line.new.items ≡ line.old.items ++ line_characters (element_start self.now)) }
-    {
-        if !is_inline(&self.name) {
-            return Ok(());
-        }
-        if let Some(right_to_left) = self.direction {
-            line.push(if right_to_left {
-                '\u{2067}'
-            } else {
-                '\u{2066}'
-            })?;
-            if self.overrides {
-                line.push(if right_to_left {
-                    '\u{202e}'
-                } else {
-                    '\u{202d}'
-                })?;
-            }
-        }
-        Ok(())
-    }
-
-    /// Puts what stands for its close at the end of a line.
-    fn push_end(&self, line: &mut Vec<char>) -> Result<(), OutOfMemory>
-        ensures { OnOk result (line.new.items ≡ line.old.items ++ line_characters (element_end self.now)) }
-    {
-        if !is_inline(&self.name) || self.direction.is_none() {
-            return Ok(());
-        }
-        if self.overrides {
-            line.push('\u{202c}')?;
-        }
-        line.push('\u{2069}')?;
-        Ok(())
-    }
-
-    /// The direction that it gives to the lines in it, where it is a block with one.
-    fn block_direction(&self) -> Option<bool>
-        ensures { result ≡ block_direction self.now }
-    {
-        if is_inline(&self.name) {
-            None
-        } else {
-            self.direction
-        }
-    }
-}
+use std::mem::replace;
 
 /// The lines that ended, as texts, and the line that has begun.
 #[derive(Debug, Drop)]
 pub(crate) struct Lines {
     context: Dir,
-    opened: Vec<Element>,
+    opened: OpenElements,
     directions: Vec<bool>,
     next: usize,
     base: Dir,
@@ -133,7 +47,7 @@ impl Lines {
     {
         Lines {
             context,
-            opened: Vec::new(alloc),
+            opened: OpenElements::none(alloc),
             directions,
             next: 0,
             base: context,
@@ -205,13 +119,18 @@ impl Lines {
             (StartTag name.items (option_map (λ d. d.items) dir) None ∷ []) (view_lines self.new)) }
     {
         let inline = is_inline(&name);
-        self.open_content(name, &dir)?;
+        self.open_content(alloc, name, &dir)?;
         self.end_unless(alloc, inline)
     }
 
     /// Opens the element of a start tag, unless it is void.
     #[tactic(auto, using(crate::proofs::PageLines::start_opens, crate::proofs::PageLines::start_void))]
-    fn open_content(&mut self, name: Vec<char>, dir: &Option<Vec<char>>) -> Result<(), OutOfMemory>
+    fn open_content(
+        &mut self,
+        alloc: Global,
+        name: Vec<char>,
+        dir: &Option<Vec<char>>,
+    ) -> Result<(), OutOfMemory>
         ensures context { OnOk result (self.new.context ≡ self.old.context) }
         ensures past { OnOk result (GoesPast (direction_level self.old.context) (view_lines self.old)
             (StartTag name.items (option_map (λ d. d.items) dir.now) None) name.items (view_lines self.new)) }
@@ -219,24 +138,26 @@ impl Lines {
         if is_void(&name) {
             return Ok(());
         }
-        self.open(name, read_dir(dir))
+        self.open(alloc, name, read_dir(dir))
     }
 
     /// Opens an element, with what stands for its start.
-    fn open(&mut self, name: Vec<char>, dir: Option<DirValue>) -> Result<(), OutOfMemory>
+    fn open(
+        &mut self,
+        alloc: Global,
+        name: Vec<char>,
+        dir: Option<DirValue>,
+    ) -> Result<(), OutOfMemory>
         ensures context { OnOk result (self.new.context ≡ self.old.context) }
         ensures page { OnOk result (view_lines self.new
             ≡ page_opened name.items (option_map view_dir dir) (view_lines self.old)) }
     {
         let overrides = dir_overrides(&name, dir);
         let direction = self.direction_of(&name, dir);
-        let element = Element {
-            name,
-            direction,
-            overrides,
-        };
+        let element = Element::new(name, direction, overrides);
         element.push_start(&mut self.characters)?;
-        self.opened.push(element)?;
+        let opened = replace(&mut self.opened, OpenElements::none(alloc));
+        self.opened = opened.opened(alloc, element)?;
         Ok(())
     }
 
@@ -275,25 +196,24 @@ impl Lines {
 
     /// Reads an end tag.
     #[tactic(auto, using(crate::proofs::PageLines::tag_goes_on))]
-    fn read_end(&mut self, alloc: Global, name: &[char]) -> Result<(), OutOfMemory>
+    fn read_end(&mut self, alloc: Global, name: &Vec<char>) -> Result<(), OutOfMemory>
         ensures context { OnOk result (self.new.context ≡ self.old.context) }
         ensures texts { OnOk result (GoOn (direction_level self.old.context) (view_lines self.old)
-            (EndTag name.now ∷ []) (view_lines self.new)) }
+            (EndTag name.now.items ∷ []) (view_lines self.new)) }
     {
-        self.close(name)?;
+        self.close(alloc, name)?;
         self.end_unless(alloc, is_inline(name))
     }
 
     /// Closes the innermost element of a name, if one is open, and those in it.
-    fn close(&mut self, name: &[char]) -> Result<(), OutOfMemory>
+    #[tactic(auto, using(crate::proofs::PageLines::closes_past))]
+    fn close(&mut self, alloc: Global, name: &Vec<char>) -> Result<(), OutOfMemory>
         ensures context { OnOk result (self.new.context ≡ self.old.context) }
         ensures past { OnOk result (GoesPast (direction_level self.old.context) (view_lines self.old)
-            (EndTag name.now) name.now (view_lines self.new)) }
+            (EndTag name.now.items) name.now.items (view_lines self.new)) }
     {
-        if let Some(left) = left_of(&self.opened, name) {
-            push_ends(&self.opened[left..], &mut self.characters)?;
-            self.opened.truncate(left);
-        }
+        let opened = replace(&mut self.opened, OpenElements::none(alloc));
+        self.opened = opened.closed(name, &mut self.characters)?;
         Ok(())
     }
 
@@ -305,9 +225,10 @@ impl Lines {
             (view_lines self.new)) }
     {
         push_line(alloc, self.base, &self.characters, &mut self.texts)?;
-        self.base = base_of(self.context, &self.opened);
+        self.base = self.opened.base(self.context);
         self.characters.clear();
-        push_starts(&self.opened, &mut self.characters)
+        self.characters.extend_from_slice(self.opened.start())?;
+        Ok(())
     }
 
     /// The line ends unless the tag was inline.
@@ -337,62 +258,6 @@ fn push_line(
         texts.push(text)?;
     }
     Ok(())
-}
-
-/// Puts what stands for the starts of elements at the end of a line.
-fn push_starts(elements: &[Element], line: &mut Vec<char>) -> Result<(), OutOfMemory>
-    ensures { OnOk result (line.new.items
-        ≡ line.old.items ++ line_characters (flat_map element_start elements.now)) }
-{
-    for element in elements {
-        element.push_start(line)?;
-    }
-    Ok(())
-}
-
-/// Puts what stands for the closes of elements at the end of a line, those of the last element first.
-fn push_ends(elements: &[Element], line: &mut Vec<char>) -> Result<(), OutOfMemory>
-    ensures { OnOk result (line.new.items
-        ≡ line.old.items ++ line_characters (flat_map element_end (reverse elements.now))) }
-{
-    let mut above = elements.len();
-    while above > 0 {
-        above -= 1;
-        elements[above].push_end(line)?;
-    }
-    Ok(())
-}
-
-/// The direction of the base inside open elements.
-fn base_of(context: Dir, opened: &[Element]) -> Dir
-    ensures { direction_level result ≡ base_level (direction_level context) (reverse opened.now) }
-{
-    let mut above = opened.len();
-    while above > 0 {
-        above -= 1;
-        if let Some(right_to_left) = opened[above].block_direction() {
-            return if right_to_left { Dir::Rtl } else { Dir::Ltr };
-        }
-    }
-    context
-}
-
-/// How many elements stay open where the innermost of a name is closed, if one has the name.
-#[tactic(auto, using(crate::proofs::FoundNames::left_found, crate::proofs::FoundNames::left_past))]
-fn left_of(opened: &[Element], name: &[char]) -> Option<usize>
-    ensures within { IfSome result (λ left. left ≤ length opened.now) }
-    ensures left { MatchOption result
-        (elements_left name.now (reverse opened.now) ≡ None)
-        (λ left. elements_left name.now (reverse opened.now) ≡ Some (reverse (take left opened.now))) }
-{
-    let mut above = opened.len();
-    while above > 0 {
-        above -= 1;
-        if opened[above].has_name(name) {
-            return Some(above);
-        }
-    }
-    None
 }
 
 /// Whether a character ends a line.

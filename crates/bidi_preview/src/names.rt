@@ -1,9 +1,12 @@
 //! The names of HTML that decide how a line is seen, and texts compared.
-ghost use Rattle.std.specs.Prelude.{◌≡◌, map};
+ghost use Rattle.std.specs.Prelude.{◌≡◌, IfOk, map};
 ghost use Rattle.std.specs.Char.{to_ascii_lowercase};
 ghost use Rattle.std.specs.Str.{bytes_eq};
 ghost use Rattle.bidi_order.specs.Elements.{inline_names, is_inline, is_void, void_names};
 ghost use Rattle.soy_base.specs.Among.{is_among};
+
+use soy_base::OutOfMemory;
+use std::alloc::Global;
 
 const INLINE_NAMES: [&[u8]; 30] = [
     b"a", b"abbr", b"b", b"bdi", b"bdo", b"big", b"cite", b"code", b"data", b"del", b"dfn", b"em",
@@ -58,6 +61,15 @@ pub(crate) fn is_same(one: &[char], other: &[char]) -> bool
         }
     }
     true
+}
+
+/// The same characters.
+pub(crate) fn copy(alloc: Global, text: &[char]) -> Result<Vec<char>, OutOfMemory>
+    ensures { IfOk result (λ copied. copied.items ≡ text.now) }
+{
+    let mut copied = Vec::with_capacity(alloc, text.len())?;
+    copied.extend_from_slice(text)?;
+    Ok(copied)
 }
 
 /// Whether characters are those of one of these texts.

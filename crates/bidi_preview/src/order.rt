@@ -68,7 +68,7 @@ fn level_characters(
     requires { length levels.now ≡ length line.now }
     ensures { IfOk result (λ characters. characters.items ≡ leveled_from line.now levels.now) }
 {
-    let mut characters = Vec::new(alloc);
+    let mut characters = Vec::with_capacity(alloc, line.len())?;
     for index in 0..line.len() {
         push_leveled(&mut characters, line[index], levels[index])?;
     }

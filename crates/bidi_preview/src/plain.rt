@@ -41,7 +41,7 @@ pub(crate) fn plain_levels(
 ) -> Result<Vec<Option<u8>>, OutOfMemory>
     ensures { IfOk result (λ levels. levels.items ≡ map (plain_level base) classes.now) }
 {
-    let mut levels = Vec::new(alloc);
+    let mut levels = Vec::with_capacity(alloc, classes.len())?;
     for class in classes {
         levels.push(plain_level(base, *class))?;
     }

@@ -7,7 +7,7 @@ ghost use Rattle.bidi_order.specs.MarkupTokens.{first_reading, in_tag_read, tag_
 ghost use Rattle.bidi_order.specs.MarkupTokens.{with_value};
 ghost use Rattle.bidi_preview.specs.ReadingSteps.{GivesRest, pending_of, tokens_given, view_reader};
 
-use crate::names::is_text;
+use crate::names::{copy, is_text};
 use crate::reference::{Pending, decode};
 use html_state::{HtmlRow, State, Tag, TagKind, TagRow};
 use soy_base::{Kind, OutOfMemory};
@@ -185,14 +185,6 @@ impl TagReader {
             TagKind::End => GivenTag::End(name),
         }
     }
-}
-
-fn copy(alloc: Global, text: &[char]) -> Result<Vec<char>, OutOfMemory>
-    ensures { IfOk result (λ copied. copied.items ≡ text.now) }
-{
-    let mut copied = Vec::new(alloc);
-    copied.extend_from_slice(text)?;
-    Ok(copied)
 }
 
 /// Puts a text of ASCII at the end.

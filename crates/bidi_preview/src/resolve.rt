@@ -5,7 +5,7 @@ ghost use Rattle.bidi_order.specs.Sequences.{side_class};
 ghost use Rattle.bidi_text.specs.Estimate.{is_right_to_left};
 ghost use Rattle.bidi_preview.specs.NeutralSteps.{characters_of};
 
-use crate::brackets::{find_pairs, resolve_pairs};
+use crate::brackets::resolve_brackets;
 use crate::neutral::resolve_neutrals;
 use crate::weak::resolve_weak;
 use bidi_class::{Bracket, Class};
@@ -29,8 +29,7 @@ pub(crate) fn resolve_sequence(
     let own = level % 2 == 1;
     let given = Vec::from_slice(alloc, classes)?;
     resolve_weak(sos, classes);
-    let partners = find_pairs(alloc, classes, brackets)?;
-    resolve_pairs(own, is_right_to_left(sos), &given, &partners, classes);
+    resolve_brackets(alloc, own, is_right_to_left(sos), &given, brackets, classes)?;
     resolve_neutrals(own, is_right_to_left(sos), is_right_to_left(eos), classes);
     Ok(())
 }

@@ -110,6 +110,16 @@ const PAGES: &[(Dir, &str, &[&str])] = &[
         "<p dir=x dir=rtl>\u{5d0}\u{5d1}!</p>",
         &["\u{5d1}\u{5d0}!"],
     ),
+    (
+        Dir::Ltr,
+        "<bdo dir=\"rtl\"><b>ab<br>cd</i></bdo>ef<br>gh",
+        &["ba", "dcef", "gh"],
+    ),
+    (
+        Dir::Ltr,
+        "<div dir=rtl><p dir=ltr>a!</p>b!",
+        &["a!", "!b"],
+    ),
     (Dir::Ltr, "", &[]),
 ];
 
