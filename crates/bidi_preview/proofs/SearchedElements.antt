@@ -13,13 +13,14 @@ names_searched opened = map (λ (w : OpenName). w.name) opened
 abbrev pub left_searched : List ℕ → List OpenName → Option (List OpenName)
 left_searched name opened = left_open (λ (w : OpenName). w.name) name opened
 
-pub names_more : (opened now : List OpenName) (w : OpenName) (name : List ℕ)
-    (old new : BTreeMap (Vec ℕ Global) ℕ) → now ≡ w ∷ opened → name ≡ w.name
+pub names_more : (opened now : List OpenName) (w made : OpenName) (name : List ℕ)
+    (old new : BTreeMap (Vec ℕ Global) ℕ) → now ≡ w ∷ opened → w ≡ made → name ≡ made.name
     → ((names : List (List ℕ)) → HasCounts old names → HasCounts new (name ∷ names))
     → HasCounts old (names_searched opened) → HasCounts new (names_searched now)
-names_more opened now w name old new more named adds has =
+names_more opened now w made name old new more is named adds has =
     subst (λ ws. HasCounts new (names_searched ws)) (sym more)
-    (subst (λ n. HasCounts new (n ∷ names_searched opened)) named (adds (names_searched opened) has))
+    (subst (λ n. HasCounts new (n ∷ names_searched opened)) (named ∙ ap (λ (o : OpenName). o.name) (sym is))
+    (adds (names_searched opened) has))
 
 pub names_less : (all opened : List OpenName) (w : OpenName) (name : List ℕ)
     (old new : BTreeMap (Vec ℕ Global) ℕ) → all ≡ w ∷ opened → name ≡ w.name

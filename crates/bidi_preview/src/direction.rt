@@ -1,5 +1,5 @@
 //! The directions of the elements that go by their content (WHATWG HTML, "The dir attribute"), found in one pass.
-ghost use Rattle.std.specs.Prelude.{◌≡◌, [], None, Some, IfOk, OnOk, length, map, option_map, ◌++◌};
+ghost use Rattle.std.specs.Prelude.{◌≡◌, ◌++◌, [], List, None, Some, IfOk, OnOk, length, map, option_map};
 ghost use Rattle.std.specs.Str.{bytes_eq};
 ghost use Rattle.bidi_order.specs.Elements.{dir_attribute};
 ghost use Rattle.bidi_preview.specs.AutoDirections.{answer_at, character_answers};
@@ -126,7 +126,7 @@ impl Directions {
     /// Reads a character of text.
     fn read_character(&mut self, c: char)
         ensures opened { self.new.opened ≡ self.old.opened }
-        ensures names { self.new.names ≡ self.old.names }
+        ensures names { AreCounted self.old → AreCounted self.new }
         ensures answers { self.new.answers.items
             ≡ character_answers (top_waits self.old.opened) c self.old.answers.items }
     {
