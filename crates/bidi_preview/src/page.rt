@@ -45,7 +45,7 @@ fn find_directions(alloc: Global, page: &str) -> Result<Vec<bool>, OutOfMemory>
         if !more {
             return directions.done(alloc);
         }
-        directions.read(&mut given)?;
+        directions.read(alloc, &mut given)?;
     }
     directions.done(alloc)
 }

@@ -1,4 +1,4 @@
-use Rattle.std.proofs.Common.{◌≡◌, [], ◌∷◌, true, false, None, reverse, ap, arith, ◌∙◌}
+use Rattle.std.proofs.Common.{◌≡◌, [], ◌∷◌, true, false, None, ap, arith, ◌∙◌}
 use Rattle.std.specs.Str.{chars}
 use Rattle.std.specs.Str.Iter.{chars_rest}
 use Rattle.std.proofs.lemmas.List.{nil_from_length}
@@ -19,9 +19,10 @@ loop-c-preserved c =
       utf8 =
           IsUtf8-past_char (chars_rest c.loop-c.c-iterator) (chars_rest c.next.new.self) c.in-Some.c
           c.loop-c.invariant.utf8 c.in-Some.ensures.steps.0;
+      names = c.in_ok-read.ensures.names;
       found =
           finds_more c.in_ok-more.more _ _ c.in-Some.c _ _ _ _ _ _ _ goes left c.in_ok-more.ensures
-          c.in_ok-read.ensures
+          c.in_ok-read.ensures.answers
           ∙ c.loop-c.invariant.found;
     }
 
@@ -30,7 +31,7 @@ returns-then-not-more c =
     let left = chars_past_char (chars_rest c.loop-c.c-iterator) (chars_rest c.next.new.self) c.in-Some.c
     c.loop-c.invariant.utf8 c.in-Some.ensures.steps.0 in
     let ends : c.in_ok-more.more ≡ false = grind (arith, c.if-not-more.true) in
-    if_ok_then _ _ c.done.result (λ directions here. directions_end (reverse c.loop-c.directions.opened.items)
+    if_ok_then _ _ c.done.result (λ directions here. directions_end c.loop-c.directions.opened
     c.loop-c.directions.answers.items
     (read_all None (view_reader c.loop-c.reader.state c.loop-c.reader.reader)
     (chars (chars_rest c.loop-c.c-iterator))).0
@@ -39,7 +40,7 @@ returns-then-not-more c =
     c.loop-c.invariant.found here) c.done.ensures
 
 pub returns : goal.returns
-returns c = if_ok_then _ _ c.done-2.result (λ directions here. directions_end (reverse c.loop-c.directions.opened.items)
+returns c = if_ok_then _ _ c.done-2.result (λ directions here. directions_end c.loop-c.directions.opened
     c.loop-c.directions.answers.items
     (read_all None (view_reader c.loop-c.reader.state c.loop-c.reader.reader)
     (chars (chars_rest c.loop-c.c-iterator))).0
