@@ -115,11 +115,7 @@ const PAGES: &[(Dir, &str, &[&str])] = &[
         "<bdo dir=\"rtl\"><b>ab<br>cd</i></bdo>ef<br>gh",
         &["ba", "dcef", "gh"],
     ),
-    (
-        Dir::Ltr,
-        "<div dir=rtl><p dir=ltr>a!</p>b!",
-        &["a!", "!b"],
-    ),
+    (Dir::Ltr, "<div dir=rtl><p dir=ltr>a!</p>b!", &["a!", "!b"]),
     (Dir::Ltr, "", &[]),
 ];
 
