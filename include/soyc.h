@@ -87,7 +87,7 @@ struct soyc_lengths {
  *   says, together less than 2^63 bytes.
  * - During a call nothing else writes `bytes`, `words` or `files`, and nothing else reads or writes `out`, `err` and
  *   `lengths`; these three overlap neither each other nor what is read.
- * - The thread's stack has 8 MiB, as that of a main thread has.
+ * - The thread has 1 MiB of its stack left, which no call needs in full.
  * - malloc, realloc and free are of one allocator, and align as those of the C library do.
  * - No call from a signal handler, or from the forked child of a process that has several threads.
  *
