@@ -111,7 +111,7 @@ class Calls(unittest.TestCase):
         part = soyc._Part
         word_parts = (part * max(1, len(words)))(*[part(*it) for it in words])
         file_parts = (soyc._File * max(1, len(files)))(*[soyc._File(part(*name), part(*it)) for name, it in files])
-        out, err = ctypes.create_string_buffer(b"." * room, room + 4), ctypes.create_string_buffer(b"." * room, room + 4)
+        out, err = (ctypes.create_string_buffer(b"." * room, room + 4) for _ in range(2))
         lengths = soyc._Lengths(77, 77)
         status = soyc._soyc.soyc_run(
             read, len(read), word_parts, len(words), file_parts, len(files), out, room, err, room, ctypes.byref(lengths)
@@ -150,8 +150,9 @@ class Calls(unittest.TestCase):
         broken = b"check\xffa.soy{namespace a}\n"
         self.assertEqual(self.call(self.WORDS, self.FILES, read=broken)[0], soyc.MALFORMED)
         # (the content of a file may be any bytes: then it is the command that refuses it)
-        self.assertEqual(self.call([(0, 5), (5, 6), (6, 11)], [((6, 11), (6, 7))], read=b"check-a.soy\xff")[0], soyc.REFUSED)
-        self.assertEqual(self.call(self.WORDS, [((11, 12), (0, 1))], read=b"check-a.soy\xff")[0], soyc.MALFORMED)
+        read = b"check-a.soy\xff"
+        self.assertEqual(self.call(self.WORDS, [((6, 11), (11, 12))], read=read)[0], soyc.REFUSED)
+        self.assertEqual(self.call(self.WORDS, [((11, 12), (0, 1))], read=read)[0], soyc.MALFORMED)
 
 
 if __name__ == "__main__":

@@ -1,10 +1,10 @@
 -- A call that is read from two lists of parts, and what stops that.
 use Rattle.std.proofs.Common.{◌≡◌, List, Option, Some, None, refl, ap, ◌∙◌}
-use Rattle.std.specs.Prelude.{option_map, option_and_then}
+use Rattle.std.specs.Prelude.{option_map}
 use Rattle.soy_io.specs.FileOf.{Files}
 use Rattle.soy_top.specs.Answer.{answer}
 use Rattle.soy_top.specs.Words.{Word}
-use Rattle.soyc_c.specs.Call.{Call, both, call_of}
+use Rattle.soyc_c.specs.Call.{both, call_of}
 use Rattle.soyc_c.specs.Reply.{answer_reply, call_reply}
 use Rattle.soyc_c.specs.Stops.{StopsAt}
 use Rattle.soyc_c.specs.declared.parts.Stop.{Stop}

@@ -1,5 +1,5 @@
 -- What `run` says of a run over a library and sinks that never fail: unless memory ran out, it is the answer's reply.
-use Rattle.std.proofs.Common.{◌≡◌, ℕ, List, [], Option, Some, None, inl, inr, ◌⊎◌, refl, sym, ap, subst, ◌∙◌, arith}
+use Rattle.std.proofs.Common.{◌≡◌, ℕ, List, [], Some, inl, inr, ◌⊎◌, refl, sym, ap, subst, ◌∙◌, arith}
 use Rattle.std.specs.Prelude.{unwrap_or, option_map}
 use Rattle.soy_io.specs.FileOf.{Files}
 use Rattle.soy_io.specs.Rose.{Rose}

@@ -1,5 +1,5 @@
 -- What is given of the reply to a call, and the page that it is.
-use Rattle.std.proofs.Common.{◌≡◌, ℕ, Bool, true, false, ◌==◌, List, [], Option, Some, None, refl, sym, ap, ◌∙◌}
+use Rattle.std.proofs.Common.{◌≡◌, ℕ, false, ◌==◌, List, [], Option, Some, None, refl, sym, ap, ◌∙◌}
 use Rattle.std.proofs.Common.{length, inl, inr, ◌⊎◌}
 use Rattle.std.specs.Prelude.{IfSome, option_and_then, if◌then◌else◌}
 use Rattle.soy_top.specs.Answer.{Answer, Usage, Read, Refused, Done, TooDeep, answer}
@@ -8,7 +8,7 @@ use Rattle.soy_top.specs.OrderKept.{OrderIsKept}
 use Rattle.soy_top.proofs.KeptPages.{same_markup, same_order}
 use Rattle.soyc_c.specs.Call.{Call}
 use Rattle.soyc_c.proofs.PartBytes.{filled-nothing}
-use Rattle.soyc_c.specs.Reply.{Reply, answer_reply, call_page, call_reply, given, memory_status}
+use Rattle.soyc_c.specs.Reply.{answer_reply, call_page, call_reply, given, memory_status}
 use Rattle.soyc_c.specs.Room.{filled}
 use Rattle.soyc_c.specs.Stops.{StopsAt, stop_status}
 use Rattle.soyc_c.specs.declared.parts.Stop.{Stop}

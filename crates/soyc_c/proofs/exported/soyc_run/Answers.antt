@@ -1,4 +1,4 @@
-use Rattle.std.proofs.Common.{inl, sym, ap, ◌∙◌}
+use Rattle.std.proofs.Common.{inl, ap, ◌∙◌}
 use Rattle.soyc_c.specs.Call.{call_at}
 use Rattle.soyc_c.proofs.Replies.{call_markup, call_order, ended-length, ended-room, stopped-err, stopped-err_length}
 use Rattle.soyc_c.proofs.Replies.{stopped-out, stopped-out_length, stopped-status}
