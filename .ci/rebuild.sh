@@ -1,5 +1,5 @@
-# Sourced by dist/renew and .ci/dist, which set `top`, the checkout, `kit`, the Rattle kit, and `work`, a folder: a crate
-# that is proved and built over the libraries in crates/*/out, where `rt ci` leaves them and `./soyc --prove` too.
+# Sourced by dist/renew and .ci/dist, which set `top`, the checkout, `kit`, the Rattle kit, and `work`, a folder: a
+# crate that is proved and built over the libraries in crates/*/out, where `rt ci` leaves them and `./soyc --prove` too.
 
 # rebuild NAME ROOT MADE TOOLCHAIN WORDS..: proves and builds the crate into the file MADE, by a folder like the kit's
 # toolchain. What is said about it is in $work/NAME.log.

@@ -102,12 +102,14 @@ plain_reply (Read file) names out err result h enough =
     same_reply _ _ out [] err (ended (read_line file)) (ap status_number is) (none_written _ _ _ is h.nothing_written)
     (read_err file said.0 err said.2 said.3)
 plain_reply (Refused line) names out err result h enough =
-    let is : result ≡ status.Refused = fetched_comes _ _ _ (plain_change [] err) never_rose enough (h.refused_due line refl) in
+    let due = h.refused_due line refl in
+    let is : result ≡ status.Refused = fetched_comes _ _ _ (plain_change [] err) never_rose enough due in
     let said = h.refused_only is in
     same_reply _ _ out [] err (ended line) (ap status_number is) (none_written _ _ _ is h.nothing_written)
     (taken_text err _ said.2 ∙ sym (ap err_text said.1))
 plain_reply (Done text) names out err result h enough =
-    let is : result ≡ status.Done = fetched_comes _ _ _ (plain_change [] err) never_rose enough (h.done_due text refl) in
+    let due = h.done_due text refl in
+    let is : result ≡ status.Done = fetched_comes _ _ _ (plain_change [] err) never_rose enough due in
     let said = h.done_only is in
     same_reply _ _ out text err [] (ap status_number is) (taken_text out _ said.0.2 ∙ sym (ap out_text said.0.1)) said.1
 plain_reply (TooDeep text line) names out err result h enough =

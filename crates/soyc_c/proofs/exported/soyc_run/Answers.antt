@@ -52,13 +52,13 @@ returns-in-Err-clause-err c =
 
 pub returns-in-Err-clause-out_length : goal.returns-in-Err-clause-out_length
 returns-in-Err-clause-out_length c =
-    rw c.stop_number.ensures (stopped-out_length c.in-Err.stop (call_at c.args.bytes.now c.args.words.now c.args.files.now)
-    c.in-Err.ensures.err)
+    rw c.stop_number.ensures (stopped-out_length c.in-Err.stop
+    (call_at c.args.bytes.now c.args.words.now c.args.files.now) c.in-Err.ensures.err)
 
 pub returns-in-Err-clause-err_length : goal.returns-in-Err-clause-err_length
 returns-in-Err-clause-err_length c =
-    rw c.stop_number.ensures (stopped-err_length c.in-Err.stop (call_at c.args.bytes.now c.args.words.now c.args.files.now)
-    c.in-Err.ensures.err)
+    rw c.stop_number.ensures (stopped-err_length c.in-Err.stop
+    (call_at c.args.bytes.now c.args.words.now c.args.files.now) c.in-Err.ensures.err)
 
 pub returns-in-Err-clause-same_markup : goal.returns-in-Err-clause-same_markup
 returns-in-Err-clause-same_markup c = call_markup (call_at c.args.bytes.now c.args.words.now c.args.files.now)
