@@ -1,6 +1,7 @@
 #!/usr/bin/env bash
 # Makes shop.c with the library, by libsoyc.a and by libsoyc.so, and compares the two pages with those of the program
-# and of examples/shop. The first word names a program to compare with instead of ./soyc.
+# and of examples/shop; and lets each allocation of a page fail in turn, by memory.c. The first word names a program to
+# compare with instead of ./soyc.
 set -eu
 unset CDPATH
 top=$(cd "$(dirname "$0")/../.." && pwd)
@@ -26,4 +27,7 @@ for it in "$top/dist/out/libsoyc.a" "-L$top/dist/out -lsoyc -Wl,-rpath,$top/dist
     done
     rm -r "$work/made"
 done
+cc -std=c99 -Wall -Wextra -Werror -O2 -I"$top/include" -o "$work/memory" "$top/examples/c/memory.c" \
+    "$top/dist/out/libsoyc.a" -Wl,--wrap=malloc,--wrap=realloc
+"$work/memory"
 echo 'examples/c: the pages of the library are those of the program'
