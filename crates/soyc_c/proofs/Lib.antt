@@ -1,0 +1,5 @@
+pub mod Calls
+pub mod Listed
+pub mod PartBytes
+pub mod PlainRuns
+pub mod Replies
