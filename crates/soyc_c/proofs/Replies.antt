@@ -15,22 +15,22 @@ use Rattle.soyc_c.specs.declared.parts.Stop.{Stop}
 use Rattle.soyc_c.specs.declared.parts.Stop.TheVariants.{Malformed, Memory}
 
 -- no reply has the status of memory that ran out
-answer-told : (a : Answer) → ((answer_reply a).status == memory_status) ≡ false
-answer-told Usage = refl
-answer-told (Read file) = refl
-answer-told (Refused line) = refl
-answer-told (Done text) = refl
-answer-told (TooDeep text line) = refl
+answer-within_memory : (a : Answer) → ((answer_reply a).status == memory_status) ≡ false
+answer-within_memory Usage = refl
+answer-within_memory (Read file) = refl
+answer-within_memory (Refused line) = refl
+answer-within_memory (Done text) = refl
+answer-within_memory (TooDeep text line) = refl
 
-reply-told : (call : Option Call) → ((call_reply call).status == memory_status) ≡ false
-reply-told None = refl
-reply-told (Some call) = answer-told (answer call.files call.words)
+reply-within_memory : (call : Option Call) → ((call_reply call).status == memory_status) ≡ false
+reply-within_memory None = refl
+reply-within_memory (Some call) = answer-within_memory (answer call.files call.words)
 
 -- so at its status its texts are given
 pub given-reply : (result : ℕ) (call : Option Call) (text : List ℕ) → result ≡ (call_reply call).status
     → given result text ≡ text
 given-reply result call text is =
-    ap (λ n. given n text) is ∙ ap (λ b. if b then [] else text) (reply-told call)
+    ap (λ n. given n text) is ∙ ap (λ b. if b then [] else text) (reply-within_memory call)
 
 -- of a run that ended so, the status, the texts in the rooms and their lengths are those of the reply
 pub ended-room : (result : ℕ) (call : Option Call) (text taken room now : List ℕ)
