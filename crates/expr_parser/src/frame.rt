@@ -1,6 +1,6 @@
 //! What is open inside an expression, and closing it by precedence.
 
-ghost use Rattle.std.specs.Prelude.{◌≡◌, IfOk};
+ghost use Rattle.std.specs.Prelude.{◌≡◌, ◌∷◌, IfOk};
 ghost use Rattle.expr_parser.specs.Frames.{level, closed, reduced, branch, pending_branch, bracket_branch, raised};
 
 use crate::operand::{Operand, deeper, level_of};
@@ -59,17 +59,27 @@ pub fn reduced(
                 if pending.level() <= level {
                     operand = pending.closed(alloc, operand)?;
                 } else {
-                    frames.push(Frame::Pending(pending))?;
-                    return Ok(Nested { frames, operand });
+                    return put_back(frames, Frame::Pending(pending), operand);
                 }
             }
-            Frame::Bracket(bracket) => {
-                frames.push(Frame::Bracket(bracket))?;
-                return Ok(Nested { frames, operand });
-            }
+            Frame::Bracket(bracket) => return put_back(frames, Frame::Bracket(bracket), operand),
         }
     }
     Ok(Nested { frames, operand })
+}
+
+/// The operand inside the frames, and this one put back on them.
+fn put_back(frames: Stack<Frame>, frame: Frame, operand: Operand) -> Result<Nested, OutOfMemory>
+    ensures { IfOk result (λ r. r ≡ record { frames = frame ∷ frames; operand = operand }) }
+{
+    let mut frames = frames;
+    match frames.push(frame) {
+        Ok(()) => Ok(Nested { frames, operand }),
+        Err(out) => {
+            drop(operand);
+            Err(out)
+        }
+    }
 }
 
 impl Pending {

@@ -1,4 +1,5 @@
-//! What a row of the grammar makes of its parts.
+//! What a row of the grammar makes of its parts. Both operands are boxed before either answer is looked at, so that no
+//! operand is live where memory runs out.
 
 ghost use Rattle.std.specs.Prelude.{◌≡◌, IfOk};
 ghost use Rattle.expr_parser.specs.Depths.{deeper};
@@ -98,9 +99,9 @@ impl Operand {
     {
         let whole = joined(self.span, right.span);
         let height = deeper(self.height, right.height);
-        let left = Boxed::new(alloc, self.expr)?;
-        let right = Boxed::new(alloc, right.expr)?;
-        Ok(Operand::made(ExprNode::Binary(op, left, right), whole, height))
+        let left = Boxed::new(alloc, self.expr);
+        let right = Boxed::new(alloc, right.expr);
+        Ok(Operand::made(ExprNode::Binary(op, left?, right?), whole, height))
     }
 
     /// `?:` between two operands.
@@ -109,9 +110,9 @@ impl Operand {
     {
         let whole = joined(self.span, right.span);
         let height = deeper(self.height, right.height);
-        let left = Boxed::new(alloc, self.expr)?;
-        let right = Boxed::new(alloc, right.expr)?;
-        Ok(Operand::made(ExprNode::Coalesce(left, right), whole, height))
+        let left = Boxed::new(alloc, self.expr);
+        let right = Boxed::new(alloc, right.expr);
+        Ok(Operand::made(ExprNode::Coalesce(left?, right?), whole, height))
     }
 
     /// `c ? a : b`.
@@ -125,10 +126,10 @@ impl Operand {
     {
         let whole = joined(self.span, no.span);
         let height = deeper(self.height.max(yes.height), no.height);
-        let condition = Boxed::new(alloc, self.expr)?;
-        let yes = Boxed::new(alloc, yes.expr)?;
-        let no = Boxed::new(alloc, no.expr)?;
-        Ok(Operand::made(ExprNode::Cond(condition, yes, no), whole, height))
+        let condition = Boxed::new(alloc, self.expr);
+        let yes = Boxed::new(alloc, yes.expr);
+        let no = Boxed::new(alloc, no.expr);
+        Ok(Operand::made(ExprNode::Cond(condition?, yes?, no?), whole, height))
     }
 
     /// The access `.name`, or `?.name` where it takes null.
@@ -159,9 +160,9 @@ impl Operand {
     {
         let whole = joined(self.span, close);
         let height = deeper(self.height, index.height);
-        let of = Boxed::new(alloc, self.expr)?;
-        let index = Boxed::new(alloc, index.expr)?;
-        Ok(Operand::made(ExprNode::Index(of, index, takes_null), whole, height))
+        let of = Boxed::new(alloc, self.expr);
+        let index = Boxed::new(alloc, index.expr);
+        Ok(Operand::made(ExprNode::Index(of?, index?, takes_null), whole, height))
     }
 
     /// An operand in parentheses, which are no node of the tree.

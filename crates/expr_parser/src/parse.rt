@@ -57,6 +57,7 @@ fn read(alloc: Global, tokens: &[Token], blocks: u32) -> Result<Outcome, OutOfMe
                 if is_within(blocks, to.depth()) {
                     state = to;
                 } else {
+                    drop(to);
                     return Ok(Outcome::Refused(Code::Nesting, token.span.start));
                 }
             }
@@ -116,6 +117,7 @@ fn read_type(alloc: Global, tokens: &[Token], blocks: u32) -> Result<TypeOutcome
                 if is_within(blocks, to.depth()) {
                     state = to;
                 } else {
+                    drop(to);
                     return Ok(TypeOutcome::Refused(Code::Nesting, token.span.start));
                 }
             }

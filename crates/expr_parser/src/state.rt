@@ -1,6 +1,9 @@
 //! The machine that reads an expression, a token a step.
+//!
+//! What is let go is passed to `drop`, which is one call: left to the end of its block, each variant's parts would be
+//! taken apart there, in the model of the function too.
 
-ghost use Rattle.std.specs.Prelude.{◌≡◌, IfOk, None, Some};
+ghost use Rattle.std.specs.Prelude.{◌≡◌, ◌∷◌, IfOk, None, Some};
 ghost use Rattle.expr_parser.specs.ExprRuns.{expr_start};
 ghost use Rattle.expr_parser.specs.ExprSteps.{expr_step, step_of, operand_step, name_step, operator_step, has, opens};
 ghost use Rattle.expr_parser.specs.ExprSteps.{infix_next, colon_next, paren_next, bracket_next};
@@ -8,6 +11,7 @@ ghost use Rattle.expr_parser.specs.ExprSteps.{whole, whole_expr, expr_depth};
 ghost use Rattle.expr_parser.specs.Frames.{reduced};
 ghost use Rattle.expr_parser.specs.Operands.{level_of};
 ghost use Rattle.expr_parser.specs.Terminals.{terminal_of};
+ghost use Rattle.expr_parser.specs.declared.frame.Frame.TheVariants as frame;
 
 use crate::frame::{Bracket, Frame, Nested, Pending, raised, reduced};
 use crate::operand::{Operand, deeper, level_of};
@@ -87,7 +91,10 @@ impl ExprState {
         let ExprState { frames, expected } = self;
         match expected {
             Expected::Operator(operand) => Ok(whole(reduced(alloc, frames, operand, 9)?)),
-            _ => Ok(None),
+            other => {
+                drop(other);
+                Ok(None)
+            }
         }
     }
 }
@@ -118,10 +125,15 @@ fn opens(frames: Stack<Frame>, frame: Frame) -> Result<ExprStep, OutOfMemory>
 fn whole(nested: Nested) -> Option<Operand>
     ensures { result ≡ whole nested }
 {
-    let mut frames = nested.frames;
+    let Nested { frames, operand } = nested;
+    let mut frames = frames;
     match frames.pop() {
-        Some(_) => None,
-        None => Some(nested.operand),
+        Some(frame) => {
+            drop(frame);
+            drop(operand);
+            None
+        }
+        None => Some(operand),
     }
 }
 
@@ -155,7 +167,10 @@ fn at_name(
 {
     match token.kind {
         TokenKind::Word => Ok(has(frames, operand.member(alloc, takes_null, token)?)),
-        _ => Ok(ExprStep::End(None)),
+        _ => {
+            drop(operand);
+            Ok(ExprStep::End(None))
+        }
     }
 }
 
@@ -217,18 +232,36 @@ fn infix(
 fn colon(nested: Nested) -> Result<ExprStep, OutOfMemory>
     ensures { IfOk result (λ to. to ≡ step_of (colon_next nested.frames nested.operand) (whole nested)) }
 {
-    let mut frames = nested.frames;
+    let Nested { frames, operand } = nested;
+    let mut frames = frames;
     match frames.pop() {
-        Some(Frame::Bracket(Bracket::Then(condition))) => {
-            opens(
-                frames,
-                Frame::Pending(Pending::Else(condition, nested.operand)),
-            )
+        Some(Frame::Bracket(bracket)) => middle(frames, bracket, operand),
+        Some(Frame::Pending(pending)) => {
+            drop(pending);
+            drop(operand);
+            Ok(ExprStep::End(None))
         }
-        Some(Frame::Bracket(Bracket::Paren(_))) => Ok(ExprStep::End(None)),
-        Some(Frame::Bracket(Bracket::Index(_, _))) => Ok(ExprStep::End(None)),
-        Some(Frame::Pending(_)) => Ok(ExprStep::End(None)),
-        None => Ok(ExprStep::End(Some(nested.operand))),
+        None => Ok(ExprStep::End(Some(operand))),
+    }
+}
+
+/// The `:` after an operand in a bracket.
+fn middle(frames: Stack<Frame>, bracket: Bracket, operand: Operand) -> Result<ExprStep, OutOfMemory>
+    ensures { IfOk result (λ to. to ≡ step_of (colon_next (frame.Bracket bracket ∷ frames) operand) None) }
+{
+    match bracket {
+        Bracket::Then(condition) => {
+            opens(frames, Frame::Pending(Pending::Else(condition, operand)))
+        }
+        Bracket::Paren(_) => {
+            drop(operand);
+            Ok(ExprStep::End(None))
+        }
+        Bracket::Index(of, _) => {
+            drop(of);
+            drop(operand);
+            Ok(ExprStep::End(None))
+        }
     }
 }
 
@@ -236,16 +269,35 @@ fn colon(nested: Nested) -> Result<ExprStep, OutOfMemory>
 fn close_paren(nested: Nested, token: &Token) -> ExprStep
     ensures { result ≡ step_of (paren_next nested.frames nested.operand token.now) (whole nested) }
 {
-    let mut frames = nested.frames;
+    let Nested { frames, operand } = nested;
+    let mut frames = frames;
     match frames.pop() {
-        Some(Frame::Bracket(Bracket::Paren(opening))) => has(
-            frames,
-            nested.operand.in_parens(opening, token.span),
-        ),
-        Some(Frame::Bracket(Bracket::Then(_))) => ExprStep::End(None),
-        Some(Frame::Bracket(Bracket::Index(_, _))) => ExprStep::End(None),
-        Some(Frame::Pending(_)) => ExprStep::End(None),
-        None => ExprStep::End(Some(nested.operand)),
+        Some(Frame::Bracket(bracket)) => in_parens(frames, bracket, operand, token),
+        Some(Frame::Pending(pending)) => {
+            drop(pending);
+            drop(operand);
+            ExprStep::End(None)
+        }
+        None => ExprStep::End(Some(operand)),
+    }
+}
+
+/// The `)` after an operand in a bracket.
+fn in_parens(frames: Stack<Frame>, bracket: Bracket, operand: Operand, token: &Token) -> ExprStep
+    ensures { result ≡ step_of (paren_next (frame.Bracket bracket ∷ frames) operand token.now) None }
+{
+    match bracket {
+        Bracket::Paren(opening) => has(frames, operand.in_parens(opening, token.span)),
+        Bracket::Then(condition) => {
+            drop(condition);
+            drop(operand);
+            ExprStep::End(None)
+        }
+        Bracket::Index(of, _) => {
+            drop(of);
+            drop(operand);
+            ExprStep::End(None)
+        }
     }
 }
 
@@ -253,17 +305,42 @@ fn close_paren(nested: Nested, token: &Token) -> ExprStep
 fn close_bracket(alloc: Global, nested: Nested, token: &Token) -> Result<ExprStep, OutOfMemory>
     ensures { IfOk result (λ to. to ≡ step_of (bracket_next nested.frames nested.operand token.now) (whole nested)) }
 {
-    let mut frames = nested.frames;
+    let Nested { frames, operand } = nested;
+    let mut frames = frames;
     match frames.pop() {
-        Some(Frame::Bracket(Bracket::Index(of, takes_null))) => {
-            Ok(has(
-                frames,
-                of.indexed(alloc, takes_null, nested.operand, token.span)?,
-            ))
+        Some(Frame::Bracket(bracket)) => index(alloc, frames, bracket, operand, token),
+        Some(Frame::Pending(pending)) => {
+            drop(pending);
+            drop(operand);
+            Ok(ExprStep::End(None))
         }
-        Some(Frame::Bracket(Bracket::Paren(_))) => Ok(ExprStep::End(None)),
-        Some(Frame::Bracket(Bracket::Then(_))) => Ok(ExprStep::End(None)),
-        Some(Frame::Pending(_)) => Ok(ExprStep::End(None)),
-        None => Ok(ExprStep::End(Some(nested.operand))),
+        None => Ok(ExprStep::End(Some(operand))),
+    }
+}
+
+/// The `]` after an operand in a bracket.
+fn index(
+    alloc: Global,
+    frames: Stack<Frame>,
+    bracket: Bracket,
+    operand: Operand,
+    token: &Token,
+) -> Result<ExprStep, OutOfMemory>
+    ensures { IfOk result (λ to. to ≡
+        step_of (bracket_next (frame.Bracket bracket ∷ frames) operand token.now) None) }
+{
+    match bracket {
+        Bracket::Index(of, takes_null) => {
+            Ok(has(frames, of.indexed(alloc, takes_null, operand, token.span)?))
+        }
+        Bracket::Paren(_) => {
+            drop(operand);
+            Ok(ExprStep::End(None))
+        }
+        Bracket::Then(condition) => {
+            drop(condition);
+            drop(operand);
+            Ok(ExprStep::End(None))
+        }
     }
 }

@@ -117,6 +117,7 @@ pub fn at_letter(frames: Stack<Frame>, to: Expected, letter: char, c: char) -> P
     if c == letter {
         on(frames, to)
     } else {
+        drop(to);
         PatternStep::End
     }
 }

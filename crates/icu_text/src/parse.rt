@@ -93,13 +93,15 @@ impl PatternState {
         ensures { IfOk result (λ ps. ps ≡ whole_pattern self) }
     {
         let PatternState { frames, expected } = self;
-        let mut frames = frames;
         match expected {
-            Expected::Text(parts, text, quoting) => match frames.pop() {
+            Expected::Text(parts, text, quoting) => match frames.top() {
                 Some(_) => Ok(None),
                 None => Ok(Some(at_end(parts, text, quoting)?)),
             },
-            _ => Ok(None),
+            _ => {
+                drop(expected);
+                Ok(None)
+            }
         }
     }
 }

@@ -183,14 +183,26 @@ fn at_close(
     let mut frames = frames;
     match frames.pop() {
         None => add(frames, parts, text, Quoting::Unquoted, '}'),
-        Some(Frame::Plural(plural, key)) => {
-            let plural = plural.with_arm(key, finished(parts, text)?)?;
-            Ok(on(frames, Expected::Key(plural, false)))
-        }
-        Some(Frame::Select(select, word)) => {
-            let select = select.with_word(alloc, word, finished(parts, text)?)?;
-            Ok(on(frames, Expected::Word(select)))
-        }
+        Some(Frame::Plural(plural, key)) => match finished(parts, text) {
+            Ok(parts) => {
+                let plural = plural.with_arm(key, parts)?;
+                Ok(on(frames, Expected::Key(plural, false)))
+            }
+            Err(error) => {
+                drop(plural);
+                Err(error)
+            }
+        },
+        Some(Frame::Select(select, word)) => match finished(parts, text) {
+            Ok(parts) => {
+                let select = select.with_word(alloc, word, parts)?;
+                Ok(on(frames, Expected::Word(select)))
+            }
+            Err(error) => {
+                drop(select);
+                Err(error)
+            }
+        },
     }
 }
 

@@ -46,8 +46,13 @@ impl OpenPlural {
             }),
             ArmKey::Named(category) => {
                 let mut plural = self;
-                plural.named.add(category, parts)?;
-                Ok(plural)
+                match plural.named.add(category, parts) {
+                    Ok(()) => Ok(plural),
+                    Err(error) => {
+                        drop(plural);
+                        Err(error)
+                    }
+                }
             }
         }
     }
@@ -90,6 +95,7 @@ fn at_plural_end(
     ensures { IfOk result (λ to. to ≡ step_of (plural_end frames plural)) }
 {
     if !plural.named.has(Category::Other) {
+        drop(plural);
         return Ok(PatternStep::End);
     }
     let OpenPlural {
@@ -120,7 +126,10 @@ fn at_keyword(frames: Stack<Frame>, plural: OpenPlural, c: char) -> PatternStep
         't' => on(frames, named(plural, Category::Two, Letters::new("wo"))),
         'f' => on(frames, named(plural, Category::Few, Letters::new("ew"))),
         'm' => on(frames, named(plural, Category::Many, Letters::new("any"))),
-        _ => PatternStep::End,
+        _ => {
+            drop(plural);
+            PatternStep::End
+        }
     }
 }
 
@@ -152,6 +161,7 @@ pub fn at_key_after_o(
             Expected::OffsetLetter(plural, Letters::new("fset:")),
         );
     }
+    drop(plural);
     PatternStep::End
 }
 
@@ -192,6 +202,7 @@ fn at_key_end(
         return Ok(on(frames, Expected::KeyLetter(plural, key, letters)));
     }
     if c != '{' {
+        drop(plural);
         return Ok(PatternStep::End);
     }
     let mut frames = frames;
@@ -219,6 +230,7 @@ pub fn at_offset_letter(
             if c.is_ascii_digit() {
                 return on(frames, Expected::OffsetDigit(plural, Number::of_digit(c)));
             }
+            drop(plural);
             PatternStep::End
         }
     }
@@ -239,7 +251,10 @@ pub fn at_offset_digit(
     }
     match offset.with_digit(c) {
         Some(offset) => Ok(on(frames, Expected::OffsetDigit(plural, offset))),
-        None => Ok(PatternStep::End),
+        None => {
+            drop(plural);
+            Ok(PatternStep::End)
+        }
     }
 }
 
@@ -271,6 +286,7 @@ pub fn at_first_digit(
             Expected::KeyDigit(plural, negative, Number::of_digit(c)),
         )
     } else {
+        drop(plural);
         PatternStep::End
     }
 }
@@ -292,6 +308,9 @@ pub fn at_key_digit(
     }
     match number.with_digit(c) {
         Some(number) => Ok(on(frames, Expected::KeyDigit(plural, negative, number))),
-        None => Ok(PatternStep::End),
+        None => {
+            drop(plural);
+            Ok(PatternStep::End)
+        }
     }
 }

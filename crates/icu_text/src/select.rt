@@ -1,11 +1,12 @@
 //! The words and the end of a select.
 
-ghost use Rattle.std.specs.Prelude.{◌≡◌, IfOk, codes};
+ghost use Rattle.std.specs.Prelude.{◌≡◌, [], ◌∷◌, ◌++◌, IfOk, codes};
 ghost use Rattle.soy_tree.specs.Formed.{is_word_character};
 ghost use Rattle.soy_tree.specs.ViewMessageParts.{parts_of};
 ghost use Rattle.icu_text.specs.FirstArms.{has_word};
-ghost use Rattle.icu_text.specs.PatternSteps.{new_select, select_end, step_of, with_word, word_character_next};
+ghost use Rattle.icu_text.specs.PatternSteps.{new_select, on, select_end, step_of, with_word, word_character_next};
 ghost use Rattle.icu_text.specs.PatternSteps.{word_end_next, word_next};
+ghost use Rattle.icu_text.specs.declared.state.Expected.TheVariants as expected;
 
 use crate::plain::after;
 use crate::rows::{Characters, Parts, SelectArms};
@@ -72,11 +73,29 @@ pub fn at_word(
         return at_select_end(alloc, frames, select);
     }
     if !is_word_character(c) {
+        drop(select);
         return Ok(PatternStep::End);
     }
-    let mut word = Characters::empty(alloc);
-    word.push(c)?;
-    Ok(on(frames, Expected::WordCharacter(select, word)))
+    at_more_of_word(frames, select, Characters::empty(alloc), c)
+}
+
+/// A character of a word, after these.
+fn at_more_of_word(
+    frames: Stack<Frame>,
+    select: OpenSelect,
+    word: Characters,
+    c: char,
+) -> Result<PatternStep, OutOfMemory>
+    ensures { IfOk result (λ to. to ≡ step_of (on frames (expected.WordCharacter select (word ++ c ∷ [])))) }
+{
+    let mut word = word;
+    match word.push(c) {
+        Ok(()) => Ok(on(frames, Expected::WordCharacter(select, word))),
+        Err(error) => {
+            drop(select);
+            Err(error)
+        }
+    }
 }
 
 /// The end of a select, which has to have an arm for other.
@@ -88,6 +107,7 @@ fn at_select_end(
     ensures { IfOk result (λ to. to ≡ step_of (select_end frames select)) }
 {
     if !select.has_other() {
+        drop(select);
         return Ok(PatternStep::End);
     }
     let OpenSelect { before, name, arms } = select;
@@ -109,10 +129,8 @@ pub fn at_word_character(
 ) -> Result<PatternStep, OutOfMemory>
     ensures { IfOk result (λ to. to ≡ step_of (word_character_next frames select word c)) }
 {
-    let mut word = word;
     if is_word_character(c) {
-        word.push(c)?;
-        return Ok(on(frames, Expected::WordCharacter(select, word)));
+        return at_more_of_word(frames, select, word, c);
     }
     at_word_end(alloc, frames, select, word.done(), c)
 }
@@ -131,6 +149,7 @@ pub fn at_word_end(
         return Ok(on(frames, Expected::WordEnd(select, word)));
     }
     if c != '{' {
+        drop(select);
         return Ok(PatternStep::End);
     }
     let mut frames = frames;

@@ -1,6 +1,6 @@
 -- The translations of messages, by those of ids.
 --
--- A message has the translation of its id, if there is one.
+-- A message has the translation of its id, if there is one. So what a bundle brings by ids is what it brings to a run.
 -- Example: where the id of `love {$who}` has the parts of `liebt {WHO}`, so does the message.
 use Rattle.std.specs.Prelude.{ℕ, List, Option}
 use Rattle.soy_base.specs.declared.direction.Dir.{Dir}

@@ -2,8 +2,8 @@
 //!
 //! `build` makes the ops of each template in one pass over its nodes. Its clause is `Compiles` of template_ir: each
 //! command is one op, a message is the ops of the text that the bundle chooses, and the blocks inside of a list of
-//! nodes stand before the list's own ops. Depends on soy_base, plural_rules, soy_tree, soy_meaning, msg_extract and
-//! template_ir.
+//! nodes stand before the list's own ops. Depends on soy_base, plural_rules, soy_tree, soy_rules, soy_pieces,
+//! soy_meaning, html_state, msg_extract and template_ir.
 #![tactic(auto)]
 
 mod bodies;

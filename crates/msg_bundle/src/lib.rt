@@ -2,8 +2,8 @@
 //!
 //! `read_bundle` reads the JSON of a bundle beside the catalogue of the messages that it translates: a direction,
 //! plural rules, and the parts of each translation; or it says with a code and a path what is at fault first. Ids that
-//! the catalogue lacks are passed over. Depends on soy_base, plural_rules, soy_tree, icu_text, msg_extract and
-//! serde_json.
+//! the catalogue lacks are passed over. Depends on soy_base, plural_rules, soy_tree, soy_rules, icu_text, msg_extract
+//! and serde_json.
 #![tactic(auto)]
 
 mod fault;

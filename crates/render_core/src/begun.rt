@@ -190,6 +190,7 @@ pub(crate) fn give_form(
     ensures refused { OnErr result (IsSpared (output room.old room.new piece.new)) }
 {
     let Some(how) = escaper_at(place, class) else {
+        drop(print);
         return Ok(0);
     };
     let dir = point.scene.program.dir;
@@ -223,12 +224,18 @@ fn give_made(
 {
     let mut cursor = match Cursor::begin(point.scene.alloc, how, class, text.text(), dir) {
         Ok(cursor) => cursor,
-        Err(_) => return Err(OutOfMemory),
+        Err(_) => {
+            drop(text);
+            return Err(OutOfMemory);
+        }
     };
     let n = cursor.fill(text.text(), room);
     if cursor.left() > 0 {
         let source = Source::Made(text);
         *piece = Some(Begun::Escaped(Form { source, cursor }));
+    } else {
+        drop(text);
+        drop(cursor);
     }
     Ok(n)
 }
@@ -258,12 +265,18 @@ fn give_part(
 {
     let mut cursor = match Cursor::begin(point.scene.alloc, how, class, text, dir) {
         Ok(cursor) => cursor,
-        Err(_) => return Err(OutOfMemory),
+        Err(_) => {
+            drop(path);
+            return Err(OutOfMemory);
+        }
     };
     let n = cursor.fill(text, room);
     if cursor.left() > 0 {
         let source = Source::Part(path);
         *piece = Some(Begun::Escaped(Form { source, cursor }));
+    } else {
+        drop(path);
+        drop(cursor);
     }
     Ok(n)
 }

@@ -62,7 +62,11 @@ pub(crate) fn switch_taken<L: Ledger>(
         (env_seen point.entry))) steps.old steps.new result }
 {
     match evaluate(point.scene.alloc, subject, &point, steps) {
-        Ok(value) => choice_taken(point, value.shallow(), choices, other, steps),
+        Ok(value) => {
+            let taken = choice_taken(point, value.shallow(), choices, other, steps);
+            drop(value);
+            taken
+        }
         Err(_) => Err(OutOfMemory),
     }
 }
@@ -80,7 +84,11 @@ pub(crate) fn select_taken<L: Ledger>(
     ) steps.old steps.new result }
 {
     match evaluate(point.scene.alloc, &select.word, &point, steps) {
-        Ok(word) => Ok(select_for(word.shallow(), select.arms.items())),
+        Ok(word) => {
+            let taken = select_for(word.shallow(), select.arms.items());
+            drop(word);
+            Ok(taken)
+        }
         Err(_) => Err(OutOfMemory),
     }
 }
@@ -98,7 +106,11 @@ pub(crate) fn int_value<L: Ledger>(
     ) steps.old steps.new result }
 {
     match evaluate(point.scene.alloc, number, &point, steps) {
-        Ok(number) => Ok(int_of(number.shallow())),
+        Ok(number) => {
+            let int = int_of(number.shallow());
+            drop(number);
+            Ok(int)
+        }
         Err(_) => Err(OutOfMemory),
     }
 }
@@ -161,7 +173,11 @@ fn has_value<L: Ledger>(
     ) steps.old steps.new result }
 {
     match evaluate(point.scene.alloc, expr, &point, steps) {
-        Ok(value) => Ok(is_same(subject, value.shallow())),
+        Ok(value) => {
+            let is = is_same(subject, value.shallow());
+            drop(value);
+            Ok(is)
+        }
         Err(_) => Err(OutOfMemory),
     }
 }

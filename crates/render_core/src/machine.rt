@@ -131,7 +131,12 @@ impl Machine {
 pub(crate) fn left_of(begun: Begun) -> Option<Begun>
     ensures { LeftOf begun result }
 {
-    if begun.left() > 0 { Some(begun) } else { None }
+    if begun.left() > 0 {
+        Some(begun)
+    } else {
+        drop(begun);
+        None
+    }
 }
 
 /// The next op of a block.

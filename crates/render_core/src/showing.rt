@@ -82,10 +82,12 @@ fn shown_part<'i>(
             ValueClass::Text,
         )),
         Some(value) => {
+            drop(path);
             let (text, class) = text_of(point.scene.alloc, Shallow::of_value(value))?;
             Ok(Shown::Value(Print::Made(text), class))
         }
         None => {
+            drop(path);
             let (text, class) = text_of(point.scene.alloc, Shallow::Null)?;
             Ok(Shown::Value(Print::Made(text), class))
         }

@@ -171,8 +171,12 @@ impl Machine {
         } else {
             let form = match escaped_whole(self.point(scene, 0), place, &print, class) {
                 Ok(form) => form,
-                Err(_) => return Err(OutOfMemory),
+                Err(_) => {
+                    drop(print);
+                    return Err(OutOfMemory);
+                }
             };
+            drop(print);
             self.gather_more(next, &form)
         }
     }

@@ -235,7 +235,10 @@ impl Machine {
                 }
                 Err(_) => Err(OutOfMemory),
             },
-            None => Err(OutOfMemory),
+            None => {
+                drop(to);
+                Err(OutOfMemory)
+            }
         }
     }
 

@@ -203,7 +203,10 @@ impl Machine {
                         }
                         Err(_) => Err(OutOfMemory),
                     },
-                    None => Err(OutOfMemory),
+                    None => {
+                        drop(text);
+                        Err(OutOfMemory)
+                    }
                 }
             }
         }

@@ -49,6 +49,7 @@ pub(crate) fn value_of<L: Ledger>(
             steps.count();
             let left = value_of(point, left.get(), steps)?;
             if is_null(point, &left) {
+                drop(left);
                 value_of(point, right.get(), steps)
             } else {
                 Ok(left)
@@ -110,7 +111,11 @@ pub(crate) fn is_truthy<L: Ledger>(
         steps.old steps.new result }
 {
     match evaluate(point.scene.alloc, expr, &point, steps) {
-        Ok(value) => Ok(value.is_truthy()),
+        Ok(value) => {
+            let is = value.is_truthy();
+            drop(value);
+            Ok(is)
+        }
         Err(_) => Err(OutOfMemory),
     }
 }

@@ -89,7 +89,10 @@ impl VariableStack {
     {
         let links = match self.links(scene, name, below) {
             Ok(links) => links,
-            Err(_) => return Err(OutOfMemory),
+            Err(_) => {
+                drop(to);
+                return Err(OutOfMemory);
+            }
         };
         self.push(Bound {
             name,
@@ -109,7 +112,10 @@ impl VariableStack {
     {
         match self.bound.push(variable) {
             Ok(()) => Ok(self.bound.as_slice().len()),
-            Err(_) => Err(OutOfMemory),
+            Err(failed) => {
+                drop(failed);
+                Err(OutOfMemory)
+            }
         }
     }
 

@@ -36,16 +36,28 @@ pub fn evaluate<'a, V: Variables, L: Ledger>(
         }
         ExprNode::Index(of, index, _) => {
             let of = evaluate(alloc, of.get(), variables, steps)?;
-            let index = evaluate(alloc, index.get(), variables, steps)?;
-            item(variables, of, index.shallow())
+            let index = match evaluate(alloc, index.get(), variables, steps) {
+                Ok(index) => index,
+                Err(error) => {
+                    drop(of);
+                    return Err(error);
+                }
+            };
+            let found = item(variables, of, index.shallow());
+            drop(index);
+            found
         }
         ExprNode::Neg(of) => {
             let of = evaluate(alloc, of.get(), variables, steps)?;
-            Ok(Evaluated::Made(negated(of.shallow())))
+            let value = negated(of.shallow());
+            drop(of);
+            Ok(Evaluated::Made(value))
         }
         ExprNode::Not(of) => {
             let of = evaluate(alloc, of.get(), variables, steps)?;
-            Ok(Evaluated::Made(Made::Bool(!of.is_truthy())))
+            let is = of.is_truthy();
+            drop(of);
+            Ok(Evaluated::Made(Made::Bool(!is)))
         }
         ExprNode::Binary(op, left, right) => {
             let left = evaluate(alloc, left.get(), variables, steps)?;
@@ -54,6 +66,7 @@ pub fn evaluate<'a, V: Variables, L: Ledger>(
         ExprNode::Coalesce(left, right) => {
             let left = evaluate(alloc, left.get(), variables, steps)?;
             if left.is_null() {
+                drop(left);
                 evaluate(alloc, right.get(), variables, steps)
             } else {
                 Ok(left)
@@ -61,7 +74,9 @@ pub fn evaluate<'a, V: Variables, L: Ledger>(
         }
         ExprNode::Cond(when, left, right) => {
             let when = evaluate(alloc, when.get(), variables, steps)?;
-            if when.is_truthy() {
+            let is = when.is_truthy();
+            drop(when);
+            if is {
                 evaluate(alloc, left.get(), variables, steps)
             } else {
                 evaluate(alloc, right.get(), variables, steps)
@@ -84,11 +99,22 @@ fn evaluate_right<'a, V: Variables, L: Ledger>(
     ensures { EvaluatesRight (V.Names variables.now) (V.env variables.now) op (view_evaluated left.entry)
         (view_expr right.now) steps.old steps.new result }
 {
-    if is_settled(op, left.is_truthy()) {
-        return Ok(Evaluated::Made(Made::Bool(left.is_truthy())));
+    let is = left.is_truthy();
+    if is_settled(op, is) {
+        drop(left);
+        return Ok(Evaluated::Made(Made::Bool(is)));
     }
-    let right = evaluate(alloc, right, variables, steps)?;
-    Ok(Evaluated::Made(combined(alloc, op, &left, &right)?))
+    let right = match evaluate(alloc, right, variables, steps) {
+        Ok(right) => right,
+        Err(error) => {
+            drop(left);
+            return Err(error);
+        }
+    };
+    let value = combined(alloc, op, &left, &right);
+    drop(left);
+    drop(right);
+    Ok(Evaluated::Made(value?))
 }
 
 /// Whether the truth of the left operand settles that of the operator.

@@ -126,6 +126,7 @@ fn fitting(
     if fits {
         Ok(of)
     } else {
+        drop(of);
         Err(both_mistyped(alloc, span, left, right))
     }
 }
@@ -212,7 +213,9 @@ pub(crate) fn coalesce_type(
         return Err(both_mistyped(alloc, span, left, right));
     }
     let some = narrow(alloc, left)?;
-    Ok(joined(alloc, &some, right)?)
+    let of = joined(alloc, &some, right);
+    drop(some);
+    Ok(of?)
 }
 
 /// The type of `c ? a : b`.

@@ -1,4 +1,4 @@
--- Paths: plans of frames, and what fills them.
+-- Plans of frames, the paths through a plan, and paths with their holes filled.
 pub mod Plan
 pub mod PathParts
 pub mod PlanOfParts

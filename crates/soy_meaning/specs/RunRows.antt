@@ -1,8 +1,8 @@
--- Worked rows: what small templates give under data, which the checker computes.
+-- What the laws on runs say of the worked rows of soy_pieces: how the frames of a row nest, and what they ask of its
+-- file.
 --
--- Each row is one template of kind html, `m` of the namespace `t`, with its parameters and its body, the translation
--- that each message has, if any, and the variables.
--- Example: the body `{let $b kind="html"}<i>{$x}</i>{/let}{$b}{$b}` with x `q` gives the pieces of the block twice.
+-- Example: in the body `{let $b kind="html"}<i>{$x}</i>{/let}{$b}{$b}` the frame of the block fills both holes. The
+-- body `<i>{$x}</i><i>{$x}</i>` gives the same pieces, and no frame is in it.
 use Rattle.std.specs.Prelude.{◌≡◌, ℕ, List, [], ◌∷◌, Ok, codes}
 use Rattle.soy_base.specs.declared.kind.Kind.TheVariants as kind
 use Rattle.soy_base.specs.declared.place.Place.{Place}

@@ -1,4 +1,4 @@
--- Runs along paths, and runs with the same choices.
+-- Runs under data: the paths that they go along, the places of what fills these, and runs with the same choices.
 pub mod TranslationFits
 pub mod FrameRun
 pub mod ComesNext

@@ -1,4 +1,4 @@
--- The walk over all paths, and what is demanded of them.
+-- The walk over all paths of a plan together, and what is demanded of each of them.
 pub mod Machine
 pub mod States
 pub mod Points

@@ -1,5 +1,5 @@
-//! What a template means and which are accepted: the paths of its static texts and holes, what is demanded of all of
-//! them, and the walk over all paths together.
+//! Which templates are accepted, and where their runs go: the paths of static texts and holes, what is demanded of all
+//! of them, the walk over all paths together, and the paths that runs take.
 //!
 //! Nothing here runs: the definitions of specs/ are what the contracts of the crates above cite, and the law functions,
 //! each a contract with an empty body, say what they come to.

@@ -158,11 +158,17 @@ impl OpenSwitch {
         ensures { IfOk result (λ s. s ≡ with_case self values body) }
     {
         let mut part = self;
-        part.cases.push(Case {
+        let case = Case {
             values: values.done(),
             body: body.done(),
-        })?;
-        Ok(part)
+        };
+        match part.cases.push(case) {
+            Ok(()) => Ok(part),
+            Err(out) => {
+                drop(part);
+                Err(out)
+            }
+        }
     }
 }
 
@@ -255,7 +261,10 @@ fn arm_goes_on(
     match of {
         Middle::ElseIf(when) => begins(alloc, commands, Block::Arm(part, when)),
         Middle::Else => begins(alloc, commands, Block::Else(part)),
-        of => Ok(refused_middle(of)),
+        of => {
+            drop(part);
+            Ok(refused_middle(of))
+        }
     }
 }
 
@@ -271,7 +280,10 @@ pub(crate) fn case_goes_on(
     match of {
         Middle::Case(values) => begins(alloc, commands, Block::Case(part, values)),
         Middle::Default => begins(alloc, commands, Block::SwitchDefault(part)),
-        of => Ok(refused_middle(of)),
+        of => {
+            drop(part);
+            Ok(refused_middle(of))
+        }
     }
 }
 

@@ -146,9 +146,18 @@ fn message_print(
     ensures { IfOk result (λ on. reached on commands.new ≡
         part_single commands.old.blocks (ended nodes) (single.MessagePrint expr phname) span) }
 {
-    let items = with_node(nodes.ended()?, Form::Print(expr, phname), span)?;
-    let nodes = Nodes { items, run: None };
-    Ok(commands.holds(Content::Parts(nodes, false)))
+    match nodes.ended() {
+        Ok(before) => {
+            let items = with_node(before, Form::Print(expr, phname), span)?;
+            let nodes = Nodes { items, run: None };
+            Ok(commands.holds(Content::Parts(nodes, false)))
+        }
+        Err(out) => {
+            drop(expr);
+            drop(phname);
+            Err(out)
+        }
+    }
 }
 
 /// A plural or select of a message begins.
@@ -319,7 +328,10 @@ pub(crate) fn plural_goes_on(
             begins_parts(alloc, commands, Block::PluralCase(part, values))
         }
         Middle::Default => begins_parts(alloc, commands, Block::PluralDefault(part)),
-        of => Ok(refused_middle(of)),
+        of => {
+            drop(part);
+            Ok(refused_middle(of))
+        }
     }
 }
 
@@ -337,7 +349,10 @@ pub(crate) fn select_goes_on(
             begins_parts(alloc, commands, Block::SelectCase(part, values))
         }
         Middle::Default => begins_parts(alloc, commands, Block::SelectDefault(part)),
-        of => Ok(refused_middle(of)),
+        of => {
+            drop(part);
+            Ok(refused_middle(of))
+        }
     }
 }
 
@@ -352,21 +367,37 @@ impl OpenPlural {
     ) -> Result<OpenPlural, OutOfMemory>
         ensures { IfOk result (λ p. p ≡ with_plural_cases self values.now body) }
     {
-        let mut part = self;
+        let OpenPlural {
+            selector,
+            offset,
+            cases,
+        } = self;
         match values.split_last() {
-            Some((last, others)) => match with_plural_copies(alloc, part.cases, others, &body) {
-                Ok(cases) => {
-                    part.cases = with_plural_case(cases, *last, body)?;
-                    Ok(part)
-                }
+            Some((last, others)) => match with_plural_copies(alloc, cases, others, &body) {
+                Ok(cases) => match with_plural_case(cases, *last, body) {
+                    Ok(cases) => Ok(OpenPlural {
+                        selector,
+                        offset,
+                        cases,
+                    }),
+                    Err(out) => {
+                        drop(selector);
+                        Err(out)
+                    }
+                },
                 Err(out) => {
                     drop(body);
+                    drop(selector);
                     Err(out)
                 }
             },
             None => {
                 drop(body);
-                Ok(part)
+                Ok(OpenPlural {
+                    selector,
+                    offset,
+                    cases,
+                })
             }
         }
     }
@@ -413,21 +444,25 @@ impl OpenSelect {
     ) -> Result<OpenSelect, OutOfMemory>
         ensures { IfOk result (λ s. s ≡ with_select_cases self words.now body) }
     {
-        let mut part = self;
+        let OpenSelect { selector, cases } = self;
         match words.split_last() {
-            Some((last, others)) => match with_select_copies(alloc, part.cases, others, &body) {
-                Ok(cases) => {
-                    part.cases = with_select_case(alloc, cases, last, body)?;
-                    Ok(part)
-                }
+            Some((last, others)) => match with_select_copies(alloc, cases, others, &body) {
+                Ok(cases) => match with_select_case(alloc, cases, last, body) {
+                    Ok(cases) => Ok(OpenSelect { selector, cases }),
+                    Err(out) => {
+                        drop(selector);
+                        Err(out)
+                    }
+                },
                 Err(out) => {
                     drop(body);
+                    drop(selector);
                     Err(out)
                 }
             },
             None => {
                 drop(body);
-                Ok(part)
+                Ok(OpenSelect { selector, cases })
             }
         }
     }
@@ -591,9 +626,16 @@ fn plural_ends(
     ensures { IfOk result (λ on. reached on commands.new ≡ state commands.old.blocks
         (content.Choice (message_body.Plural part.selector part.offset part.cases body))) }
 {
-    let other = Boxed::new(alloc, body)?;
-    let body = MessageBody::Plural(part.selector, part.offset, part.cases.done(), other);
-    Ok(commands.holds(Content::Choice(body)))
+    match Boxed::new(alloc, body) {
+        Ok(other) => {
+            let body = MessageBody::Plural(part.selector, part.offset, part.cases.done(), other);
+            Ok(commands.holds(Content::Choice(body)))
+        }
+        Err(out) => {
+            drop(part);
+            Err(out)
+        }
+    }
 }
 
 /// The end of a select.
@@ -606,9 +648,16 @@ fn select_ends(
     ensures { IfOk result (λ on. reached on commands.new ≡ state commands.old.blocks
         (content.Choice (message_body.Select part.selector part.cases body))) }
 {
-    let other = Boxed::new(alloc, body)?;
-    let body = MessageBody::Select(part.selector, part.cases.done(), other);
-    Ok(commands.holds(Content::Choice(body)))
+    match Boxed::new(alloc, body) {
+        Ok(other) => {
+            let body = MessageBody::Select(part.selector, part.cases.done(), other);
+            Ok(commands.holds(Content::Choice(body)))
+        }
+        Err(out) => {
+            drop(part);
+            Err(out)
+        }
+    }
 }
 
 impl OpenMessage {

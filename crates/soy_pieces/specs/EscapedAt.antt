@@ -2,7 +2,7 @@
 --
 -- The place and the value's class give the escaper, and the escaper gives the form. At the place Text the form is the
 -- wrapped text, which alone goes by the direction of the context. Where a place doesn't take a class, and where a block
--- is printed, which gives pieces of its own, there is no form.
+-- is printed, which gives pieces of its own, there is no form. Beside it is which texts a value of a class may have.
 -- Example: the string `<` becomes `<span dir="ltr">&lt;</span>` in text, and `\x3c` in a string of a script.
 use Rattle.std.specs.Prelude.{ℕ, Bool, true, false, ◌==◌, List, [], ◌∷◌, Option, Some, None, if◌then◌else◌, codes}
 use Rattle.std.specs.Prelude.{Result, Ok, Err, unwrap_or}

@@ -1,4 +1,5 @@
--- What runs of trees go by under a bundle.
+-- What a run goes by under a bundle: the templates of all files, and of what the bundle brings the translations, the
+-- direction and the categories by its rules. File, namespace and parameters are set by each template that is run.
 -- Example: without a bundle no message has a translation, and the direction is left to right.
 use Rattle.std.specs.Prelude.{List, [], if◌then◌else◌}
 use Rattle.plural_rules.specs.Category.{category_of}

@@ -1,5 +1,6 @@
 -- What a template means: the bytes of its pieces, joined.
 --
+-- A block of kind text is bound as the string of its joined pieces, and one of another kind as the block itself.
 -- Example: `{if $x}a{/if}{$y}` with `$x` true and `$y` `<` means the bytes of `a<span dir="ltr">&lt;</span>`.
 use Rattle.std.specs.Prelude.{ℕ, List, [], ◌∷◌, ◌++◌, encode_utf8_all}
 use Rattle.soy_base.specs.Piece.{Piece, Static, Value}

@@ -1,7 +1,9 @@
 -- The names of a message's placeholders and selectors.
 -- Prints and selectors of the same expression have the same content, and so have tags of the same texts and prints. One
 -- content of a base name has the base name as its name. Several have `_1`, `_2` and so on, in order of first
--- appearance; a number is passed over where the name so made is another base name of the message.
+-- appearance; a number is passed over where the name so made is another base name of the message. The uses of names are
+-- a message's prints, tags and selectors, in the order of its text; what a placeholder is, is the cut of the first use
+-- that has its name and is no selector.
 -- Example: a message with two contents of the base name NAME and one of NAME_1 has the names NAME_2, NAME_3 and NAME_1.
 use Rattle.std.specs.Prelude.{ℕ, zero, suc, ◌+◌, Bool, true, false, ◌&&◌, ◌==◌, List, [], ◌∷◌, ◌++◌, length, Option}
 use Rattle.std.specs.Prelude.{Some, None, if◌then◌else◌, bytes_eq}

@@ -1,4 +1,5 @@
 -- Typed trees: what the checker demands of them holds, they are formed, and there are fewer than 2^32 of them.
+-- Example: of the text `{namespace a}` the tree is typed.
 use Rattle.std.specs.Prelude.{◌≡◌, ℕ, ◌<◌, ◌^◌, List, [], ◌∷◌, ◌++◌, length, Option, Some, None, slice_get}
 use Rattle.soy_tree.specs.declared.tree.Tree as code
 use Rattle.soy_tree.specs.declared.tree.Template as code_template

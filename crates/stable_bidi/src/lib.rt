@@ -6,7 +6,7 @@
 //! for what values hold (`law_page_lines`), and such lines have the same order (`law_lines_order`). `law_page_rows` and
 //! `law_page_line_rows` are worked pages, for every text of their value.
 //!
-//! Depends on `bidi_order` for lines and their order, on `soy_pieces, soy_meaning` for runs, on `html_state`,
+//! Depends on `bidi_order` for lines and their order, on `soy_pieces` and `soy_meaning` for runs, on `html_state`,
 //! `bidi_text` and `bidi_class` for states, spans and classes, and, in proofs, on the crates below these.
 #![tactic(auto)]
 

@@ -2,7 +2,7 @@
 //!
 //! A `Program` is a flat list of ops; each template, arm, loop and block is a range of it. `Compiles` says when a
 //! program stands for trees, and `run` what it gives.
-//! Depends on soy_base, soy_tree, soy_rules, plural_rules, html_state and soy_pieces, soy_meaning, and in proofs on
+//! Depends on soy_base, soy_tree, soy_rules, plural_rules, html_state, soy_pieces and soy_meaning, and in proofs on
 //! bidi_class and bidi_text.
 #![tactic(auto)]
 

@@ -1,9 +1,8 @@
 -- The paths of a plan, and the states of a machine along them.
 --
 -- A path is a list of static texts and holes, each hole with its site. It takes any arm where arms stand side by side
--- and any number of turns of
--- a loop, and passes by the frames within. Along it the machine reads each static text and its end, and goes on from a
--- hole as after a value.
+-- and any number of turns of a loop, and passes by the frames within. Along it the machine reads each static text and
+-- its end, and goes on from a hole as after a value.
 -- Example: `<b>{$x}` has one path, the text `<b>` and a hole; after it the state is data again.
 use Rattle.std.specs.Prelude.{◌≡◌, ℕ, List, [], ◌∷◌, ◌++◌, Result, Ok}
 use Rattle.soy_base.specs.declared.code.Code.{Code}

@@ -2,9 +2,9 @@
 --
 -- A text gives itself, unless it is empty. A print is a hole of the classes of its type, at its site, and a call one of
 -- the callee's kind; those of a translation stand at its message. An if goes one of its arms or its else, where there
--- is none past it; so does a switch. A loop goes its body any
--- number of times. A message goes its source, its translation or its fallback's translation, and in each any arm of a
--- plural or a select. A let gives nothing, and a block's own ways are those of a frame of its own.
+-- is none past it; so does a switch. A loop goes its body any number of times. A message goes its source, its
+-- translation or its fallback's translation, and in each any arm of a plural or a select. A let gives nothing, and a
+-- block's own ways are those of a frame of its own.
 -- Example: the ways of `<p {if $x}id="a"{/if}>` are `<p `, `id="a"`, `>` and `<p `, `>`.
 use Rattle.std.specs.Prelude.{◌≡◌, ◌⊎◌, ℕ, List, [], ◌∷◌, ◌++◌, Option, Some, None}
 use Rattle.soy_base.specs.declared.place.ValueClass.TheVariants as class
