@@ -3,6 +3,7 @@ pub mod ContentHash
 pub mod ContentKeys
 pub mod CutSteps
 pub mod Decimals
+pub mod FoundNodes
 pub mod FoundTranslations
 pub mod ItemLists
 pub mod JoinedItems

@@ -1,4 +1,4 @@
--- The canonical text of a message.
+-- The canonical text of a message, the pieces that it is written of, and the parts of its source.
 pub mod Ascii
 pub mod CanonicalText
 pub mod Pieces

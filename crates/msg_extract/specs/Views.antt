@@ -1,4 +1,4 @@
--- What values of the code stand for.
+-- What values of the code stand for, kind by kind.
 pub mod ViewCutter
 pub mod ViewItems
 pub mod ViewKeys

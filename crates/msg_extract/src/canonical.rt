@@ -56,7 +56,9 @@ pub fn canonical_text(alloc: Global, body: &MessageBody) -> Result<Text, OutOfMe
     ensures { IfOk result (λ t. t ≡ canonical_text (view_body body.now)) }
 {
     let names = names_of(alloc, body)?;
-    text_of_pieces(alloc, &names)
+    let text = text_of_pieces(alloc, &names);
+    drop(names);
+    text
 }
 
 /// The id of a message of this meaning and canonical text.

@@ -1,23 +1,26 @@
 //! The catalogue of the messages of files.
 
-ghost use Rattle.std.specs.Prelude.{◌≡◌, ◌<◌, ◌^◌, length, map, option_map, slice_get, bytes_eq, IfOk, OnOk};
+ghost use Rattle.std.specs.Prelude.{◌≡◌, ◌<◌, ◌^◌, false, length, map, option_map, slice_get, bytes_eq, IfOk, OnOk};
 ghost use Rattle.std.specs.Prelude.{string_bytes};
 ghost use Rattle.std.specs.List.{position_or_len};
 ghost use Rattle.serde_json.specs.View.{items_view, view};
 ghost use Rattle.serde_json.specs.Written.{compact_text};
-ghost use Rattle.soy_tree.specs.ViewNodes.{view_message};
+ghost use Rattle.soy_tree.specs.ViewNodes.{view_body, view_message};
 ghost use Rattle.soy_tree.specs.ViewTrees.{view_trees};
+ghost use Rattle.msg_extract.specs.Canonical.Pieces.{body_pieces};
 ghost use Rattle.msg_extract.specs.Catalogue.{all_listed, catalogue_of, find_listed, is_same_listed, listed};
 ghost use Rattle.msg_extract.specs.Catalogue.{with_listed, with_name};
 ghost use Rattle.msg_extract.specs.CatalogueText.{catalogue_data, listed_data, listed_items};
 ghost use Rattle.msg_extract.specs.Extracts.{Adds, Extracts};
 ghost use Rattle.msg_extract.specs.ListedIds.{HasIds};
 ghost use Rattle.msg_extract.specs.Views.ViewMessages.{view_found};
+ghost use Rattle.msg_extract.specs.Views.ViewNames.{HasNames};
+ghost use Rattle.msg_extract.specs.Views.ViewPieces.{view_piece};
 
 use crate::canonical::{id_of_text, text_of_pieces};
 use crate::messages::messages_of;
 use crate::name_key::NameKey;
-use crate::names::names_of;
+use crate::names::{Names, names_of};
 use crate::role_names::{NameKind, role_names};
 use indexmap::IndexSet;
 use serde_json::{Value, json};
@@ -56,13 +59,24 @@ fn row_of(alloc: Global, message: &Message) -> Result<Listed, OutOfMemory>
     ensures { IfOk result (λ l. l ≡ listed (view_message message.now)) }
 {
     let names = names_of(alloc, &message.body)?;
-    let text = text_of_pieces(alloc, &names)?;
+    let row = named_row(alloc, message, &names);
+    drop(names);
+    row
+}
+
+/// What a catalogue has of a message, by its pieces and their names.
+fn named_row(alloc: Global, message: &Message, names: &Names<'_>) -> Result<Listed, OutOfMemory>
+    requires pieces { map view_piece names.now.pieces ≡ body_pieces false (view_body message.now.body) }
+    requires names { HasNames names.now }
+    ensures { IfOk result (λ l. l ≡ listed (view_message message.now)) }
+{
+    let text = text_of_pieces(alloc, names)?;
     let id = id_of_text(alloc, &message.meaning, &text)?;
     let desc = message.desc.copy(alloc)?;
     let meaning = message.meaning.copy(alloc)?;
-    let placeholders = role_names(alloc, &names, NameKind::Placeholder)?;
-    let plurals = role_names(alloc, &names, NameKind::Plural)?;
-    let selects = role_names(alloc, &names, NameKind::Select)?;
+    let placeholders = role_names(alloc, names, NameKind::Placeholder)?;
+    let plurals = role_names(alloc, names, NameKind::Plural)?;
+    let selects = role_names(alloc, names, NameKind::Select)?;
     Ok(Listed {
         id,
         desc,
@@ -131,14 +145,26 @@ fn add(
     ensures ids { OnOk result (HasIds listing.new) }
 {
     let found = row_of(alloc, message)?;
-    match is_listed(alloc, listing, &found)? {
+    let listed = match is_listed(alloc, listing, &found) {
+        Ok(listed) => listed,
+        Err(_) => {
+            drop(found);
+            return Err(Refusal::OutOfMemory);
+        }
+    };
+    match listed {
         None => Ok(listing.rows.push(found)?),
-        Some(true) => Ok(()),
-        Some(false) => Err(Refusal::Because(Fault {
-            code: Code::IdClash,
-            file,
-            at: message.span.start,
-        })),
+        Some(same) => {
+            drop(found);
+            if same {
+                return Ok(());
+            }
+            Err(Refusal::Because(Fault {
+                code: Code::IdClash,
+                file,
+                at: message.span.start,
+            }))
+        }
     }
 }
 

@@ -2,7 +2,7 @@
 
 ghost use Rattle.std.specs.Prelude.{◌≡◌, fold, map, IfOk};
 ghost use Rattle.std.specs.Cmp.{on_equiv, on_per};
-ghost use Rattle.soy_rules.specs.Placeholders.{is_same_content};
+ghost use Rattle.soy_rules.specs.Placeholders.{ExprContent, is_same_content};
 ghost use Rattle.soy_rules.specs.SameExpression.{op_number};
 ghost use Rattle.soy_tree.specs.ViewExpressions.{view_expr};
 ghost use Rattle.msg_extract.specs.ContentHash.{bool_input, content_input, expr_input, item_input};
@@ -40,11 +40,18 @@ impl ContentKey {
         ensures { IfOk result (λ key. view_key key ≡ content_of of.now) }
     {
         match of {
-            Named::Print(expr, _, _) => Ok(ContentKey::OfExpr(expr.copy(alloc)?)),
-            Named::Plural(expr) => Ok(ContentKey::OfExpr(expr.copy(alloc)?)),
-            Named::Select(expr) => Ok(ContentKey::OfExpr(expr.copy(alloc)?)),
+            Named::Print(expr, _, _) => ContentKey::of_expr(alloc, expr),
+            Named::Plural(expr) => ContentKey::of_expr(alloc, expr),
+            Named::Select(expr) => ContentKey::of_expr(alloc, expr),
             Named::Tag(tag) => Ok(ContentKey::OfTag(key_items(alloc, tag.items())?)),
         }
+    }
+
+    /// The key of an expression.
+    fn of_expr(alloc: Global, expr: &Expr) -> Result<ContentKey, OutOfMemory>
+        ensures { IfOk result (λ key. view_key key ≡ ExprContent (view_expr expr.now)) }
+    {
+        Ok(ContentKey::OfExpr(expr.copy(alloc)?))
     }
 }
 

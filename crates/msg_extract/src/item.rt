@@ -38,13 +38,14 @@ fn push_node<'a>(items: &mut Row<Item<'a>>, node: &'a Node) -> Result<bool, OutO
         ≡ Some (map view_item items.new))
         (node_message_items (view_node node.now) ≡ None)) }
 {
+    let span = node.span;
     match &node.form {
         Form::Text(text) => {
-            push_characters(items, text.text(), node.span)?;
+            push_characters(items, text.text(), span)?;
             Ok(true)
         }
         Form::Print(expr, phname) => {
-            items.push(Item::Printed(expr, phname, node.span))?;
+            items.push(Item::Printed(expr, phname, span))?;
             Ok(true)
         }
         Form::If(_, _) => Ok(false),

@@ -2,8 +2,8 @@
 //!
 //! `extract` lists the messages of files, `write_catalogue` writes them as JSON, and `placeholders` and `message_id`
 //! say the same of one message; `Translations` finds the one that a bundle has for it. The text of a message, read as
-//! a pattern, gives the parts of its source: `law_canonical_text`. Depends on soy_base, soy_tree and plural_rules, and
-//! on indexmap, sha2, hex and serde_json.
+//! a pattern, gives the parts of its source: `law_canonical_text`. Depends on soy_base, soy_tree, soy_rules and
+//! plural_rules, and on indexmap, sha2, hex and serde_json.
 #![tactic(auto)]
 
 mod ascii;
@@ -16,6 +16,7 @@ mod item;
 mod laws;
 mod messages;
 mod name_key;
+mod named_placeholders;
 mod names;
 mod piece;
 mod placeholder;
@@ -28,6 +29,7 @@ mod translations;
 pub use canonical::message_id;
 pub use catalogue::{Catalogue, Listed, extract, write_catalogue};
 pub use laws::{law_canonical_text, law_equal_parts, law_fits, law_written_text};
+pub use named_placeholders::NamedPlaceholders;
 pub use placeholder::{Placeholder, named_nodes, placeholders};
 pub use selector::{Selector, selectors};
 pub use translations::Translations;

@@ -1,10 +1,11 @@
 //! The messages of a file.
 
-ghost use Rattle.std.specs.Prelude.{◌≡◌, ◌++◌, map, IfOk, OnOk};
-ghost use Rattle.soy_tree.specs.ViewNodes.{view_arguments, view_arms, view_cases, view_given, view_node, view_nodes};
+ghost use Rattle.std.specs.Prelude.{◌≡◌, ◌∷◌, ◌++◌, map, option_map, IfOk, OnOk};
+ghost use Rattle.soy_tree.specs.ViewNodes.{fallback_of, view_arguments, view_arms, view_cases};
+ghost use Rattle.soy_tree.specs.ViewNodes.{view_given, view_message, view_node, view_nodes};
 ghost use Rattle.soy_tree.specs.ViewTrees.{view_tree};
 ghost use Rattle.msg_extract.specs.MessagesIn.{argument_messages, arm_messages, case_messages, given_messages};
-ghost use Rattle.msg_extract.specs.MessagesIn.{messages_in, node_messages, tree_messages};
+ghost use Rattle.msg_extract.specs.MessagesIn.{fallback_messages, messages_in, node_messages, tree_messages};
 ghost use Rattle.msg_extract.specs.Views.ViewMessages.{view_found};
 
 use soy_base::{OutOfMemory, Row};
@@ -33,22 +34,41 @@ fn push_node<'a>(found: &mut Row<&'a Message>, node: &'a Node) -> Result<(), Out
     match &node.form {
         Form::Text(_) => Ok(()),
         Form::Print(_, _) => Ok(()),
-        Form::If(arms, None) => push_arms(found, arms.items()),
-        Form::If(arms, Some(other)) => {
+        Form::If(arms, other) => {
             push_arms(found, arms.items())?;
-            push_nodes(found, other.items())
+            match other {
+                None => Ok(()),
+                Some(other) => push_nodes(found, other.items()),
+            }
         }
-        Form::Switch(_, cases, None) => push_cases(found, cases.items()),
-        Form::Switch(_, cases, Some(other)) => {
+        Form::Switch(_, cases, other) => {
             push_cases(found, cases.items())?;
-            push_nodes(found, other.items())
+            match other {
+                None => Ok(()),
+                Some(other) => push_nodes(found, other.items()),
+            }
         }
         Form::For(_, _, _, body) => push_nodes(found, body.items()),
         Form::Let(_, _) => Ok(()),
         Form::LetBlock(_, _, body) => push_nodes(found, body.items()),
         Form::Call(_, _, given) => push_arguments(found, given.items()),
-        Form::Message(message, None) => Ok(found.push(message)?),
-        Form::Message(message, Some(other)) => {
+        Form::Message(message, other) => push_message(found, message, other),
+    }
+}
+
+/// Adds a message, and its fallback.
+#[tactic(auto, using(crate::proofs::Texts::PieceLists::append_assoc, crate::proofs::CutSteps::map_append))]
+fn push_message<'a>(
+    found: &mut Row<&'a Message>,
+    message: &'a Message,
+    other: &'a Option<Message>,
+) -> Result<(), OutOfMemory>
+    ensures { OnOk result (map view_found found.new ≡ map view_found found.old
+        ++ view_message message.now ∷ fallback_messages (fallback_of (option_map view_message other.now))) }
+{
+    match other {
+        None => Ok(found.push(message)?),
+        Some(other) => {
             found.push(message)?;
             found.push(other)
         }

@@ -63,17 +63,30 @@ fn push_key(group: &mut IndexSet<ContentKey>, key: ContentKey) -> Result<(), Out
     Ok(())
 }
 
-/// Adds a content to the group of a number.
+/// Adds what is named to a group, unless it is there.
+fn push_named(
+    alloc: Global,
+    group: &mut IndexSet<ContentKey>,
+    of: &Named<'_>,
+) -> Result<(), OutOfMemory>
+    ensures { OnOk result (map view_key group.new.keys ≡ with_content (map view_key group.old.keys) (content_of of.now)) }
+{
+    let key = ContentKey::new(alloc, of)?;
+    push_key(group, key)
+}
+
+/// Adds what is named to the group of a number.
 fn push_content(
+    alloc: Global,
     contents: &mut Vec<IndexSet<ContentKey>>,
     number: usize,
-    key: ContentKey,
+    of: &Named<'_>,
 ) -> Result<(), OutOfMemory>
     ensures { OnOk result (view_groups contents.new.items
-        ≡ with_content_at number (view_key key) (view_groups contents.old.items)) }
+        ≡ with_content_at number (content_of of.now) (view_groups contents.old.items)) }
 {
     if let Some(group) = contents.get_mut(number) {
-        push_key(group, key)?;
+        push_named(alloc, group, of)?;
     }
     Ok(())
 }
@@ -87,20 +100,27 @@ fn push_base(bases: &mut IndexSet<NameKey>, base: Text) -> Result<(usize, bool),
     Ok(bases.insert_full(NameKey::new(base))?)
 }
 
-/// Adds the base name and the content of a use.
-fn push_use(
-    alloc: Global,
-    groups: &mut Groups,
-    base: Text,
-    key: ContentKey,
-) -> Result<(), OutOfMemory>
+/// The number of the group of a base name, which is there now.
+fn push_base_group(alloc: Global, groups: &mut Groups, base: Text) -> Result<usize, OutOfMemory>
+    ensures number { IfOk result (λ n. n ≡ position_or_len (bytes_eq base) groups.old.bases.keys) }
     ensures bases { OnOk result (groups.new.bases.keys ≡ with_name groups.old.bases.keys base) }
     ensures contents { OnOk result (view_groups groups.new.contents.items
-        ≡ with_use groups.old.bases.keys (view_groups groups.old.contents.items) base (view_key key)) }
+        ≡ with_group (not (is_among groups.old.bases.keys base)) (view_groups groups.old.contents.items)) }
 {
     let (number, is_new) = push_base(&mut groups.bases, base)?;
     push_group(alloc, &mut groups.contents, is_new)?;
-    push_content(&mut groups.contents, number, key)
+    Ok(number)
+}
+
+/// Adds the base name and the content of a use.
+fn push_use(alloc: Global, groups: &mut Groups, of: &NameUse<'_>) -> Result<(), OutOfMemory>
+    ensures bases { OnOk result (groups.new.bases.keys ≡ with_name groups.old.bases.keys of.now.base) }
+    ensures contents { OnOk result (view_groups groups.new.contents.items
+        ≡ with_use groups.old.bases.keys (view_groups groups.old.contents.items) of.now.base (content_of of.now.of)) }
+{
+    let base = of.base.copy(alloc)?;
+    let number = push_base_group(alloc, groups, base)?;
+    push_content(alloc, &mut groups.contents, number, &of.of)
 }
 
 /// Adds the base name and the content of a piece, if it is a use.
@@ -111,11 +131,7 @@ fn push_piece(alloc: Global, groups: &mut Groups, piece: &CodePiece<'_>) -> Resu
 {
     match piece {
         CodePiece::Text(_) => Ok(()),
-        CodePiece::Use(of) => {
-            let base = of.base.copy(alloc)?;
-            let key = ContentKey::new(alloc, &of.of)?;
-            push_use(alloc, groups, base, key)
-        }
+        CodePiece::Use(of) => push_use(alloc, groups, of),
     }
 }
 
@@ -428,5 +444,7 @@ pub fn name_of(alloc: Global, names: &Names<'_>, of: &NameUse<'_>) -> Result<Tex
 {
     let base = NameKey::new(of.base.copy(alloc)?);
     let content = ContentKey::new(alloc, &of.of)?;
-    name_by_keys(alloc, names, &base, &content)
+    let name = name_by_keys(alloc, names, &base, &content);
+    drop(content);
+    name
 }

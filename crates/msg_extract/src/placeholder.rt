@@ -218,7 +218,9 @@ pub fn placeholders(alloc: Global, message: &Message) -> Result<Seq<Placeholder>
     ensures { IfOk result (λ rows. map view_placeholder rows ≡ placeholders_of (view_message message.now)) }
 {
     let names = names_of(alloc, &message.body)?;
-    placeholders_of(alloc, &names)
+    let rows = placeholders_of(alloc, &names);
+    drop(names);
+    rows
 }
 
 /// The texts and prints that the placeholder of a name stands for; none where there is no such placeholder.

@@ -1,13 +1,15 @@
 //! The selectors of a message, with their expressions.
 
-ghost use Rattle.std.specs.Prelude.{◌≡◌, ◌++◌, map, IfOk, OnOk};
+ghost use Rattle.std.specs.Prelude.{◌≡◌, [], ◌∷◌, ◌++◌, map, IfOk, OnOk};
+ghost use Rattle.soy_rules.specs.Placeholders.{name_of};
+ghost use Rattle.soy_tree.specs.ViewExpressions.{view_expr};
 ghost use Rattle.soy_tree.specs.ViewNodes.{view_message};
 ghost use Rattle.msg_extract.specs.SelectorRows.{piece_rows, selector_rows, selectors_of, view_selector};
 ghost use Rattle.msg_extract.specs.Views.ViewNames.{HasNames, named_uses};
-ghost use Rattle.msg_extract.specs.Views.ViewPieces.{view_piece};
+ghost use Rattle.msg_extract.specs.Views.ViewPieces.{content_of, view_piece};
 
 use crate::names::{Names, name_of, names_of};
-use crate::piece::{CodePiece, Named};
+use crate::piece::{CodePiece, NameUse, Named};
 use soy_base::{OutOfMemory, Row, Seq, Text};
 use soy_tree::{Expr, Message};
 use std::alloc::Global;
@@ -20,8 +22,30 @@ pub struct Selector {
     pub expr: Expr,
 }
 
-/// Adds the selector that a piece is, if it is one.
+/// Adds a selector.
 #[tactic(auto, using(crate::proofs::CutSteps::map_append))]
+fn push_selector(
+    alloc: Global,
+    rows: &mut Row<Selector>,
+    names: &Names<'_>,
+    of: &NameUse<'_>,
+    of_plural: bool,
+    expr: &Expr,
+) -> Result<(), OutOfMemory>
+    requires { HasNames names.now }
+    ensures { OnOk result (map view_selector rows.new ≡ map view_selector rows.old
+        ++ (name_of (named_uses names.now) of.now.base (content_of of.now.of), of_plural, view_expr expr.now) ∷ []) }
+{
+    let name = name_of(alloc, names, of)?;
+    let expr = expr.copy(alloc)?;
+    rows.push(Selector {
+        name,
+        of_plural,
+        expr,
+    })
+}
+
+/// Adds the selector that a piece is, if it is one.
 fn add_selector(
     alloc: Global,
     rows: &mut Row<Selector>,
@@ -37,24 +61,8 @@ fn add_selector(
         CodePiece::Use(of) => match &of.of {
             Named::Print(_, _, _) => Ok(()),
             Named::Tag(_) => Ok(()),
-            Named::Plural(expr) => {
-                let name = name_of(alloc, names, of)?;
-                let expr = expr.copy(alloc)?;
-                rows.push(Selector {
-                    name,
-                    of_plural: true,
-                    expr,
-                })
-            }
-            Named::Select(expr) => {
-                let name = name_of(alloc, names, of)?;
-                let expr = expr.copy(alloc)?;
-                rows.push(Selector {
-                    name,
-                    of_plural: false,
-                    expr,
-                })
-            }
+            Named::Plural(expr) => push_selector(alloc, rows, names, of, true, expr),
+            Named::Select(expr) => push_selector(alloc, rows, names, of, false, expr),
         },
     }
 }
@@ -78,5 +86,7 @@ pub fn selectors(alloc: Global, message: &Message) -> Result<Seq<Selector>, OutO
     ensures { IfOk result (λ rows. map view_selector rows ≡ selectors_of (view_message message.now)) }
 {
     let names = names_of(alloc, &message.body)?;
-    selectors_among(alloc, &names)
+    let rows = selectors_among(alloc, &names);
+    drop(names);
+    rows
 }

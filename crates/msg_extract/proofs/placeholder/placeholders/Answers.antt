@@ -9,7 +9,7 @@ use Rattle.msg_extract.proofs.placeholder.placeholders.Goals as goal
 
 pub returns : goal.returns
 returns c =
-    IfOk-weaker c.placeholders_of.result _ _
+    IfOk-weaker c.placeholders_of-rows.result _ _
     (λ rows e. e ∙ (placeholders_rows (view_body c.args.message.now.body) (map view_piece c.in_ok-names.names.pieces)
     c.in_ok-names.ensures.pieces ∙ sym (ap placeholders_of (view_message_is c.args.message.now))))
-    c.placeholders_of.ensures
+    c.placeholders_of-rows.ensures

@@ -9,7 +9,7 @@ use Rattle.msg_extract.proofs.selector.selectors.Goals as goal
 
 pub returns : goal.returns
 returns c =
-    IfOk-weaker c.selectors_among.result _ _
+    IfOk-weaker c.selectors_among-rows.result _ _
     (λ rows e. e ∙ (rows_of_message (view_body c.args.message.now.body) (map view_piece c.in_ok-names.names.pieces)
     c.in_ok-names.ensures.pieces ∙ sym (ap selectors_of (view_message_is c.args.message.now))))
-    c.selectors_among.ensures
+    c.selectors_among-rows.ensures
