@@ -290,17 +290,27 @@ def _(n):
                   LOOPS, NOTHING)
 
 
-@kind("loops in one another that each change the order of states", 16)
-def _(n):
+def reordered(n):
+    """Loops in one another, each of which changes the order of the states that it carries."""
     gathered = "".join(ended(element) + begun("title") for element in OTHERS)
     lead = "".join("{for $i%d in $l}{if $x}%s</style>%s{else}</style><title>{/if}" % (number, gathered, begun(other))
                    for number, other in zip(range(n), OTHERS * n))
     after = "{if $x}</title><style>{/if}{/for}" * n
-    return render(some([begun(element) for element in ["title", *OTHERS, "title"]]) + lead + after
-                  + all_ended(["title", "style", *OTHERS]), LOOPS, NOTHING)
+    return (some([begun(element) for element in ["title", *OTHERS, "title"]]) + lead + after
+            + all_ended(["title", "style", *OTHERS]))
 
 
-@kind("arms that each lead to another tag's name", 12000)
+@kind("loops in one another that each change the order of states", 60)
+def _(n):
+    return render(reordered(n), LOOPS, NOTHING)
+
+
+@kind("loops in one another that each change the order of states, before a fault", 60)
+def _(n):
+    return render(reordered(n) + "<b {$x}", LOOPS, NOTHING)
+
+
+@kind("arms that each lead to another tag's name", 48000)
 def _(n):
     return render("<b{if $x}c" + each(n, "{elseif $x}a#") + "{/if}>", X, VALUE)
 

@@ -1,7 +1,9 @@
 -- The arms of a command, one after the other, and the walk of their plan.
-use Rattle.std.proofs.Common.{◌≡◌, ℕ, suc, ◌<◌, ◌≤◌, List, [], ◌∷◌, ◌++◌, Result, Ok, Err, map, drop, get_or, length}
-use Rattle.std.proofs.Common.{refl, sym, ap, subst, ◌∙◌, drop-cons}
-use Rattle.std.proofs.lemmas.List.{drop_all}
+use Rattle.std.proofs.Common.{◌≡◌, ℕ, suc, ◌+◌, ◌<◌, ◌≤◌, List, [], ◌∷◌, ◌++◌, ◌⊎◌, inl, inr, Result, Ok, Err, true}
+use Rattle.std.proofs.Common.{map, drop, get_or, length, take, refl, sym, ap, subst, ◌∙◌, drop-cons, arith, lt-ltb}
+use Rattle.std.proofs.lemmas.List.{drop_all, length-take, take_all}
+use Rattle.std.specs.Prelude.{nat_lt}
+use Rattle.soy_base.specs.declared.code.Code.TheVariants as code
 use Rattle.std.specs.declared.alloc.Global.{Global}
 use Rattle.std.specs.declared.vec.Vec.{Vec}
 use Rattle.soy_base.specs.declared.memory.Refusal.{Refusal}
@@ -13,7 +15,9 @@ use Rattle.soy_meaning.specs.Walks.PageMachine.{page_machine}
 use Rattle.soy_meaning.specs.Paths.Plan.{Plan, Nowhere, Either, any_of, arms_meet}
 use Rattle.soy_pieces.specs.Site.{Site}
 use Rattle.soy_meaning.specs.Walks.States.{joined_states}
-use Rattle.soy_meaning.specs.Walks.Walk.{WalkFault, Walked, walk, walked, within_limit}
+use Rattle.soy_meaning.specs.Walks.Walk.{WalkFault, Walked, walk, walk_fault, walked, within_limit}
+use Rattle.soy_meaning.proofs.Members.{length_join}
+use Rattle.soy_meaning.proofs.Walks.PageStates.{page_compares}
 use Rattle.html_context.specs.JoinedArms.{joined_arm, joined_arms}
 use Rattle.html_context.specs.Walks.{Walks}
 use Rattle.html_context.specs.declared.fault.FirstFault.{FirstFault}
@@ -97,24 +101,83 @@ pub one_arm : (before : List State) (v : Walked State) (p : Plan) → joined_arm
     ≡ joined_arm before v p
 one_arm before v p = sym (itself (joined_arm before v p))
 
+-- ---- more states than may meet
+
+abbrev limited : Site → Result (Walked State) WalkFault → Result (Walked State) WalkFault
+limited at r = followed_by r (λ v. within_limit page_machine at v)
+
+too_many : (at : Site) (w : Walked State) → 16 < length w.states
+    → within_limit page_machine at w ≡ Err (walk_fault at code.States)
+too_many at w h = let e : nat_lt 16 (length w.states) ≡ true = lt-ltb 16 (length w.states) h in rw e refl
+
+-- which states they are says nothing
+long_arm : (at : Site) (before : List State) (qs : List Plan) (xs ys : List State) (r : Result (Walked State) WalkFault)
+    → ((u : Walked State) → limited at
+    (joined_arms before (walked (joined_states page_machine xs u.states) u.places) qs)
+    ≡ limited at (joined_arms before (walked (joined_states page_machine ys u.states) u.places) qs))
+    → limited at (followed_by (followed_by r (λ u. Ok (walked (joined_states page_machine xs u.states) u.places)))
+    (λ v. joined_arms before v qs))
+    ≡ limited at (followed_by (followed_by r (λ u. Ok (walked (joined_states page_machine ys u.states) u.places)))
+    (λ v. joined_arms before v qs))
+long_arm at before qs xs ys (Err e) ih = refl
+long_arm at before qs xs ys (Ok u) ih = ih u
+
+long_arms : (at : Site) (before : List State) (qs : List Plan) (xs ys : List State) (places : List Place)
+    → 16 < length xs → 16 < length ys
+    → limited at (joined_arms before (walked xs places) qs) ≡ limited at (joined_arms before (walked ys places) qs)
+long_arms at before [] xs ys places h k = too_many at (walked xs places) h ∙ sym (too_many at (walked ys places) k)
+long_arms at before (q ∷ qs) xs ys places h k =
+    long_arm at before qs xs ys (walk page_machine q (walked before places))
+    (λ u. long_arms at before qs (joined_states page_machine xs u.states) (joined_states page_machine ys u.states)
+    u.places (omega (arith, h, length_join page_machine page_compares xs u.states))
+    (omega (arith, k, length_join page_machine page_compares ys u.states)))
+
+few_or_long : (n : ℕ) → (n ≤ 17) ⊎ (17 < n)
+few_or_long n = grind arith
+
+-- the first 17 of them are as good
+cut_arms : (at : Site) (before : List State) (qs : List Plan) (xs : List State) (places : List Place)
+    → limited at (joined_arms before (walked (take 17 xs) places) qs)
+    ≡ limited at (joined_arms before (walked xs places) qs)
+cut_arms at before qs xs places = elim (few_or_long (length xs)) [
+  | inl h ↦ ap (λ l. limited at (joined_arms before (walked l places) qs)) (take_all 17 xs h)
+  | inr h ↦ long_arms at before qs (take 17 xs) xs places (omega (arith, h, length-take 17 xs)) (omega (arith, h))
+]
+
 -- ---- arms of a table
 
 module _ (at : Site) (f : ℕ → Plan) (ns : List ℕ) (i : ℕ) (before : List State) (start : List Place)
     (joined : List State) (places : List Place) where
   -- some of them were walked
   abbrev pub SomeArms : Type 0
-  SomeArms = joined_arms before (walked joined places) (map f (drop i ns))
-      ≡ joined_arms before (walked [] start) (map f ns)
+  SomeArms = followed_by (joined_arms before (walked joined places) (map f (drop i ns)))
+      (λ v. within_limit page_machine at v)
+      ≡ followed_by (joined_arms before (walked [] start) (map f ns)) (λ v. within_limit page_machine at v)
 
   pub meet_fails : i < length ns → SomeArms → (mid new : List Place) (e : Refusal FirstFault)
       → Walks (joined_arm before (walked joined places) (f (get_or ns i 0))) mid (Err e)
       → Walks (walk page_machine (arms_meet at (map f ns)) (walked before start)) new (Err e)
   meet_fails within is mid new (Because x) h =
       list_meets at (map f ns) before start
-      ∙ ap (λ r. followed_by r (λ v. within_limit page_machine at v))
-      (sym is ∙ (ap (λ l. joined_arms before (walked joined places) (map f l)) (drop-cons ns i 0 within)
+      ∙ (sym is ∙ ap (λ r. limited at r) (ap (λ l. joined_arms before (walked joined places) (map f l))
+      (drop-cons ns i 0 within)
       ∙ ap (λ r. followed_by r (λ u. joined_arms before u (map f (drop (suc i) ns)))) h))
   meet_fails within is mid new OutOfMemory h = tt
+
+  -- one more of them, of whose states the first 17 are kept
+  pub meet_more : i < length ns → SomeArms → (after : List State) (new : List Place)
+      → joined_arm before (walked joined places) (f (get_or ns i 0)) ≡ Ok (walked after new)
+      → followed_by (joined_arms before (walked (take 17 after) new) (map f (drop (i + 1) ns)))
+      (λ v. within_limit page_machine at v)
+      ≡ followed_by (joined_arms before (walked [] start) (map f ns)) (λ v. within_limit page_machine at v)
+  meet_more within is after new h =
+      let next : suc i ≡ i + 1 = omega arith in
+      let one : joined_arms before (walked joined places) (map f (drop i ns))
+      ≡ joined_arms before (walked after new) (map f (drop (suc i) ns)) =
+      ap (λ l. joined_arms before (walked joined places) (map f l)) (drop-cons ns i 0 within)
+      ∙ ap (λ r. followed_by r (λ u. joined_arms before u (map f (drop (suc i) ns)))) h in
+      ap (λ k. limited at (joined_arms before (walked (take 17 after) new) (map f (drop k ns)))) (sym next)
+      ∙ (cut_arms at before (map f (drop (suc i) ns)) after new ∙ (sym (ap (λ r. limited at r) one) ∙ is))
 
   pub meet_ends : length ns ≤ i → SomeArms → (r : Result (Vec State Global) (Refusal FirstFault))
       → Walks (within_limit page_machine at (walked joined places)) places r
@@ -122,5 +185,4 @@ module _ (at : Site) (f : ℕ → Plan) (ns : List ℕ) (i : ℕ) (before : List
   meet_ends past is r h =
       subst (λ (z : Result (Walked State) WalkFault). Walks z places r)
       (sym (list_meets at (map f ns) before start
-      ∙ ap (λ r. followed_by r (λ v. within_limit page_machine at v))
-      (sym is ∙ ap (λ l. joined_arms before (walked joined places) (map f l)) (drop_all i ns past)))) h
+      ∙ (sym is ∙ ap (λ l. limited at (joined_arms before (walked joined places) (map f l))) (drop_all i ns past)))) h

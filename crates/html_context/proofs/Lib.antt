@@ -22,3 +22,5 @@ pub mod ViewArms
 pub mod Growth
 pub mod Keyed
 pub mod Undoing
+pub mod Covering
+pub mod LoopHeads

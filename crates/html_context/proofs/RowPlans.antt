@@ -1,5 +1,5 @@
 -- The plan of a number as a row means it.
-use Rattle.std.proofs.Common.{◌≡◌, ℕ, ◌<◌, ◌≤◌, List, Some, get_or, length, take, ◌⊎◌, inl, inr, sym, ap, ◌∙◌}
+use Rattle.std.proofs.Common.{◌≡◌, ℕ, ◌<◌, ◌≤◌, List, Some, get_or, length, take, sym, ap, ◌∙◌}
 use Rattle.std.proofs.Common.{arith}
 use Rattle.std.specs.List.{slice_get}
 use Rattle.std.proofs.lemmas.List.{get_or-take, get_or_past, length-take}
@@ -37,15 +37,10 @@ below_row rows limit n r small within is =
     below_at rows limit n small
     ∙ at_row rows n r (slice_get-get_or rows n r within ∙ ap Some (sym is))
 
-small_or_large : (n k : ℕ) → (n < k) ⊎ (k ≤ n)
-small_or_large n k = grind arith
+-- the same of a number in a table
+pub at_get : (rows : List Row) (n : ℕ) (r : Row) → n < length rows → r ≡ get_or rows n r
+    → plan_at rows n ≡ row_plan (plans_before rows n) r
+at_get rows n r within is = at_row rows n r (slice_get-get_or rows n r within ∙ ap Some (sym is))
 
-root_cases : (rows : List Row) (n : ℕ) → (n < length rows) ⊎ (length rows ≤ n)
-    → plan_below rows (length rows) n ≡ plan_at rows n
-root_cases rows n (inl h) = below_at rows (length rows) n h
-root_cases rows n (inr h) =
-    below_past rows (length rows) n h
-    ∙ sym (get_or_past (row_plans rows) n Nothing (omega (arith, length_table row_plan rows)))
-
-pub root_plan : (rows : List Row) (n : ℕ) → plan_below rows (length rows) n ≡ plan_at rows n
-root_plan rows n = root_cases rows n (small_or_large n (length rows))
+pub at_past : (rows : List Row) (n : ℕ) → length rows ≤ n → plan_at rows n ≡ Nothing
+at_past rows n h = get_or_past (row_plans rows) n Nothing (omega (arith, length_table row_plan rows))

@@ -37,7 +37,7 @@ module _ {S : Type 0} (m : Machine S) where
   long_join xs (y ∷ ys) = omega (arith, long_if (has_state m y xs) y xs, long_join (with_state m xs y) ys)
 
   -- what adds nothing leaves the list
-  join_unchanged : (xs ys : List S) → length (joined_states m xs ys) ≡ length xs → joined_states m xs ys ≡ xs
+  pub join_unchanged : (xs ys : List S) → length (joined_states m xs ys) ≡ length xs → joined_states m xs ys ≡ xs
   join_unchanged xs [] h = refl
   join_unchanged xs (y ∷ ys) h =
       let short : length (with_state m xs y) ≡ length xs = omega (

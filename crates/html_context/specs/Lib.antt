@@ -1,4 +1,5 @@
 pub mod ChosenTranslation
+pub mod Covers
 pub mod Grows
 pub mod Infers
 pub mod JoinedArms

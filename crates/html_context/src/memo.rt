@@ -116,6 +116,10 @@ pub(crate) fn kept_from<'k>(
     None
 }
 
+/// How many lists of states are kept before the walk gives up, as if memory ran out: they take some 150 MB, and what
+/// was done from them some 3 seconds. Only the search for the first fault of nested loops comes to so many.
+const MOST_KEPT: usize = 50_000;
+
 /// Keeps what a body did, under the key of the states before.
 pub(crate) fn keep(
     rows: &[Row],
@@ -129,6 +133,9 @@ pub(crate) fn keep(
 {
     let _ = rows;
     let number = memo.kept.len();
+    if MOST_KEPT <= number {
+        return Err(OutOfMemory);
+    }
     memo.kept.push(kept)?;
     memo.numbers.insert(key, number)?;
     Ok(())

@@ -1,11 +1,13 @@
 //! Lists of states without repeats, in the order in which the states came.
 
-ghost use Rattle.std.specs.Prelude.{◌≡◌, IfOk, OnOk};
+ghost use Rattle.std.specs.Prelude.{◌≡◌, IfOk, IsTrue, OnOk};
 ghost use Rattle.soy_meaning.specs.Walks.PageMachine.{page_machine};
 ghost use Rattle.soy_meaning.specs.Walks.States.{has_state, joined_states, with_state};
+ghost use Rattle.soy_meaning.specs.Walks.Walk.{all_may_end};
+ghost use Rattle.html_context.specs.Covers.{Within};
 
 use html_state::State;
-use soy_base::OutOfMemory;
+use soy_base::{Kind, OutOfMemory};
 use std::alloc::Global;
 
 /// Whether a state is in the list.
@@ -45,4 +47,29 @@ pub(crate) fn copied(alloc: Global, states: &[State]) -> Result<Vec<State>, OutO
     ensures { IfOk result (λ v. v.items ≡ states.now) }
 {
     Ok(Vec::from_slice(alloc, states)?)
+}
+
+/// Whether each of some states is in the list.
+#[tactic(auto, using(crate::proofs::Covering::within_none, crate::proofs::Covering::within_step))]
+pub(crate) fn has_all(states: &[State], some: &[State]) -> bool
+    ensures { IsTrue result → Within some.now states.now }
+{
+    for state in some {
+        if !has_state(states, state) {
+            return false;
+        }
+    }
+    true
+}
+
+/// Whether a text of a kind may end in each of the states.
+pub(crate) fn all_may_end(kind: Kind, states: &[State]) -> bool
+    ensures { result ≡ all_may_end page_machine kind states.now }
+{
+    for state in states {
+        if !state.may_end(kind) {
+            return false;
+        }
+    }
+    true
 }

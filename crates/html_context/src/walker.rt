@@ -3,33 +3,22 @@
 ghost use Rattle.std.specs.Prelude.{◌≡◌, ◌<◌, [], OnOk, map};
 ghost use Rattle.soy_meaning.specs.Walks.PageMachine.{page_machine};
 ghost use Rattle.soy_meaning.specs.Paths.Plan.{Frame, Loop, arms_meet, in_turn};
-ghost use Rattle.soy_meaning.specs.Walks.Walk.{all_may_end, walk, walked};
+ghost use Rattle.soy_meaning.specs.Walks.Walk.{walk, walked};
 ghost use Rattle.html_context.specs.JoinedArms.{joined_arm};
 ghost use Rattle.html_context.specs.Kept.{AllKept};
 ghost use Rattle.html_context.specs.RowPlans.{plan_at, plan_below, row_plan, plans_before};
 ghost use Rattle.html_context.specs.Walks.{Gives, Walks, view_site};
 
+use crate::cover::covered_frame;
 use crate::fault::{Site, Stop, stop};
 use crate::hole::{hole, within_limit};
 use crate::memo::{Kept, Memo, add_places, keep, kept_from, key_of, new_memo};
-use crate::states::{copied, join};
+use crate::states::{all_may_end, copied, join};
 use crate::table::{Row, Table};
 use crate::text::text;
 use html_state::State;
 use soy_base::{Code, Kind, Place};
 use std::alloc::Global;
-
-/// Whether a text of a kind may end in each of the states.
-fn all_may_end(kind: Kind, states: &[State]) -> bool
-    ensures { result ≡ all_may_end page_machine kind states.now }
-{
-    for state in states {
-        if !state.may_end(kind) {
-            return false;
-        }
-    }
-    true
-}
 
 /// What the walk goes by: the rows of the table.
 #[derive(Drop)]
@@ -137,7 +126,8 @@ impl<'t> Walker<'t> {
         Ok(joined)
     }
 
-    /// The states after arms, each of which begins with the states before them.
+    /// The states after arms, each of which begins with the states before them. More than 16 are refused, whichever they
+    /// are, but only where no arm has a fault: so of these no more than 17 are kept.
     #[cycle(walking)]
     #[tactic(auto, using(crate::proofs::Arms::list_meets))]
     fn meet(
@@ -158,6 +148,7 @@ impl<'t> Walker<'t> {
         let mut joined = Vec::new(self.alloc);
         for number in numbers {
             joined = self.arm(limit, *number, before, joined, places, memo)?;
+            joined.truncate(17);
         }
         within_limit(at, joined, places)
     }
@@ -277,10 +268,72 @@ impl<'t> Walker<'t> {
         }
         Ok(around)
     }
+
+    /// The same of a row that may be a frame. Nearly every frame is covered; the fault of one that isn't is found by
+    /// the lists.
+    #[tactic(auto, using(crate::proofs::Covering::passed_behind))]
+    fn frame_or_row(
+        &self,
+        limit: usize,
+        number: usize,
+        states: Vec<State>,
+        places: &mut Vec<Place>,
+        memo: &mut Memo,
+    ) -> Result<Vec<State>, Stop>
+        requires { AllKept self.now.rows.now memo.old }
+        ensures walk { Walks (walk page_machine (plan_below self.now.rows.now limit number)
+            (walked states.items places.old.items)) places.new.items result }
+        ensures kept { OnOk result (AllKept self.now.rows.now memo.new) }
+    {
+        if let Some(added) = covered_frame(self.alloc, self.rows, limit, number)? {
+            add_places(places, &added)?;
+            return Ok(states);
+        }
+        self.row(limit, number, states, places, memo)
+    }
+
+    /// The same of rows, one after the other, which may be frames.
+    fn frames(
+        &self,
+        limit: usize,
+        numbers: &[usize],
+        states: Vec<State>,
+        places: &mut Vec<Place>,
+        memo: &mut Memo,
+    ) -> Result<Vec<State>, Stop>
+        requires { AllKept self.now.rows.now memo.old }
+        ensures { Walks (walk page_machine (in_turn (map (λ n. plan_below self.now.rows.now limit n) numbers.now))
+            (walked states.items places.old.items)) places.new.items result }
+    {
+        let mut now = states;
+        for number in numbers {
+            now = self.frame_or_row(limit, *number, now, places, memo)?;
+        }
+        Ok(now)
+    }
+
+    /// The same of a row that has this number, and may have frames one after the other.
+    fn root(
+        &self,
+        number: usize,
+        row: &Row,
+        states: Vec<State>,
+        places: &mut Vec<Place>,
+        memo: &mut Memo,
+    ) -> Result<Vec<State>, Stop>
+        requires { AllKept self.now.rows.now memo.old }
+        ensures { Walks (walk page_machine (row_plan (plans_before self.now.rows.now number) row.now)
+            (walked states.items places.old.items)) places.new.items result }
+    {
+        match row {
+            Row::InTurn(numbers) => self.frames(number, numbers.items(), states, places, memo),
+            _ => self.one(number, row, states, places, memo),
+        }
+    }
 }
 
 /// The places of the holes of a table, in the order in which the walk first meets them.
-#[tactic(auto, using(crate::proofs::RowPlans::root_plan, crate::proofs::NoStates::none_after))]
+#[tactic(auto, using(crate::proofs::RowPlans::at_get, crate::proofs::RowPlans::at_past, crate::proofs::NoStates::none_after))]
 pub(crate) fn walk_table(alloc: Global, table: &Table) -> Result<Vec<Place>, Stop>
     ensures { Gives (λ places. walked [] places.items)
         (walk page_machine (plan_at table.now.rows.items table.now.root) (walked [] [])) result }
@@ -289,12 +342,8 @@ pub(crate) fn walk_table(alloc: Global, table: &Table) -> Result<Vec<Place>, Sto
     let walker = Walker { alloc, rows };
     let mut memo = new_memo(alloc, rows)?;
     let mut places = Vec::new(alloc);
-    walker.row(
-        rows.len(),
-        table.root,
-        Vec::new(alloc),
-        &mut places,
-        &mut memo,
-    )?;
+    if let Some(row) = rows.get(table.root) {
+        walker.root(table.root, row, Vec::new(alloc), &mut places, &mut memo)?;
+    }
     Ok(places)
 }

@@ -1,4 +1,4 @@
-use Rattle.std.proofs.Common.{◌≡◌, ℕ, ◌-◌, ◌<◌, ◌≤◌, List, sym, ap, map, subst, ◌∙◌, arith, length}
+use Rattle.std.proofs.Common.{◌≡◌, ℕ, ◌+◌, ◌-◌, ◌<◌, ◌≤◌, List, sym, ap, map, subst, ◌∙◌, arith, length}
 use Rattle.std.proofs.lemmas.Result.{err_from_is_err_and}
 use Rattle.soy_base.specs.declared.place.Place.{Place}
 use Rattle.html_state.specs.declared.row.State.{State}
@@ -8,7 +8,7 @@ use Rattle.soy_meaning.specs.Walks.States.{joined_states}
 use Rattle.soy_meaning.specs.Walks.Walk.{turns, walk, walked, within_limit}
 use Rattle.html_context.specs.RowPlans.{plan_below}
 use Rattle.html_context.specs.Walks.{Walks, view_site}
-use Rattle.html_context.proofs.Arms.{meet_ends, meet_fails}
+use Rattle.html_context.proofs.Arms.{SomeArms, meet_ends, meet_fails, meet_more}
 use Rattle.html_context.proofs.Turns.{looped_again, looped_fails, looped_fits, looped_full, looped_stops, turns_none}
 use Rattle.html_context.proofs.walker.Walker.+walking.Goals as goal
 
@@ -114,3 +114,16 @@ one-returns-in-Meet-clause-walk t c =
     (map (λ n. plan_below c.args.self.now.rows.now c.args.number n) l))
     (walked c.deref-in-Meet.result.now c.args.places.now.items)) c.meet.new.places.items c.meet.result)
     c.items-in-Meet.ensures c.meet.ensures.walk))
+
+pub meet-loop-number-preserved : goal.meet-loop-number-preserved
+meet-loop-number-preserved t c = record {
+  arms = subst (λ (l : List State). SomeArms (view_site c.args.at)
+      (λ n. plan_below c.args.self.now.rows.now c.args.limit n) c.args.numbers.now
+      (c.loop-number.number-index + 1) c.args.before.now c.args.places.now.items l c.arm.new.places.items)
+      (sym c.truncate.ensures.items)
+      (meet_more (view_site c.args.at) (λ n. plan_below c.args.self.now.rows.now c.args.limit n) c.args.numbers.now
+      c.loop-number.number-index c.args.before.now c.args.places.now.items c.loop-number.joined.items
+      c.loop-number.places.items c.loop-number-test.true c.loop-number.invariant.arms c.in_ok-joined.joined.items
+      c.arm.new.places.items c.in_ok-joined.ensures.walk);
+  kept = c.in_ok-joined.ensures.kept;
+}

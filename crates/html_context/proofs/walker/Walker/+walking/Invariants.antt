@@ -1,11 +1,11 @@
-use Rattle.std.proofs.Common.{◌≡◌, ◌+◌, ◌*◌, ◌-◌, ◌≤◌, [], drop, take, length, map}
+use Rattle.std.proofs.Common.{◌≡◌, ◌+◌, ◌*◌, ◌-◌, ◌≤◌, drop, take, length, map}
 use Rattle.soy_meaning.specs.Walks.PageMachine.{page_machine}
 use Rattle.soy_meaning.specs.Paths.Plan.{in_turn}
 use Rattle.soy_meaning.specs.Walks.Walk.{walk, walked, turns}
-use Rattle.html_context.specs.JoinedArms.{joined_arms}
 use Rattle.html_context.specs.Kept.{AllKept}
 use Rattle.html_context.specs.RowPlans.{plan_below}
 use Rattle.html_context.specs.Walks.{view_site}
+use Rattle.html_context.proofs.Arms.{SomeArms}
 use Rattle.html_context.proofs.walker.Walker.+walking.Given as goal
 
 abbrev pub invariant-in_turn-loop-number : goal.invariant-in_turn-loop-number
@@ -19,10 +19,8 @@ invariant-in_turn-loop-number l = record {
 
 abbrev pub invariant-meet-loop-number : goal.invariant-meet-loop-number
 invariant-meet-loop-number l = record {
-  arms : joined_arms l.before (walked l.joined.items l.places.items)
-      (map (λ n. plan_below l.self.rows.now l.limit n) (drop l.number-index l.numbers))
-      ≡ joined_arms l.before (walked [] l.initial.places.items) (map (λ n. plan_below l.self.rows.now l.limit n)
-      l.numbers);
+  arms : SomeArms (view_site l.at) (λ n. plan_below l.self.rows.now l.limit n) l.numbers l.number-index l.before
+      l.initial.places.items l.joined.items l.places.items;
   kept : AllKept l.self.rows.now l.memo;
 }
 
