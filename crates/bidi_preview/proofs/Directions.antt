@@ -1,12 +1,14 @@
 -- The directions behind the ends of open isolates, known from the end of a line on (UAX #9, X5c).
 use Rattle.std.proofs.Common.{◌≡◌, ℕ, zero, suc, ◌+◌, ◌<◌, Bool, false, List, [], ◌∷◌, drop, get_or, refl, sym}
 use Rattle.std.proofs.Common.{ap, ◌∙◌}
+use Rattle.std.specs.List.{list_any}
 use Rattle.std.proofs.Common.{arith, take, length, subst}
 use Rattle.std.proofs.Math.ListN.{drop_of_length-le, set}
 use Rattle.std.proofs.lemmas.List.{drop-set, drop_more, get_or-take, length-set, take-set}
 use Rattle.bidi_class.specs.declared.class.Class.{Class}
 use Rattle.bidi_class.specs.declared.class.Class.TheVariants.{L, R, AL, LRI, RLI, FSI, PDI}
-use Rattle.bidi_preview.specs.ExplicitSteps.{DirectedFrom, KnowsSides, directed_by, directed_classes, sides_before}
+use Rattle.bidi_preview.specs.ExplicitSteps.{DirectedFrom, KnowsSides, directed_by, directed_classes, is_first_strong}
+use Rattle.bidi_preview.specs.ExplicitSteps.{sides_before}
 
 second : (sides : List Bool) (n : ℕ) → get_or (drop 1 sides) n false ≡ get_or sides (suc n) false
 second [] n = refl
@@ -80,3 +82,13 @@ pub directed_end : (initial : List Class) (i : ℕ) (sides : List Bool) (xs : Li
     → DirectedFrom initial i sides xs → xs ≡ directed_classes initial
 directed_end initial i sides xs e p = sym (ap (λ n. drop n xs) e) ∙ p.done
     ∙ ap (λ n. directed_classes (drop n initial)) e
+
+-- where there is no FSI, nothing is directed
+none-first : (cs : List Class) → list_any is_first_strong cs ≡ false → cs ≡ directed_classes cs
+none-first [] h = refl
+none-first (FSI ∷ cs) h = absurd (cc)
+none-first (c ∷ cs) h = ap (λ l. c ∷ l) (none-first cs h)
+
+pub nothing_directed : (cs : List Class) (some : Bool) → some ≡ list_any is_first_strong cs → some ≡ false
+    → cs ≡ directed_classes cs
+nothing_directed cs some is none = none-first cs (sym is ∙ none)

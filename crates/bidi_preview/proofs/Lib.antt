@@ -14,7 +14,7 @@ pub mod NextCharacters
 pub mod Waiting
 pub mod Written
 pub mod SequenceLevels
-pub mod StrongSteps
+pub mod WeakPasses
 pub mod BracketsSet
 pub mod NextKept
 pub mod ReadSequences
@@ -35,6 +35,7 @@ pub mod PlainWeak
 pub mod PlainNeutral
 pub mod PlainKept
 pub mod PlainLines
+pub mod FlatLines
 pub mod CountedNames
 pub mod OpenedElements
 pub mod SearchedElements

@@ -15,6 +15,10 @@ abbrev pub directed_by : Class → Bool → Class
 directed_by FSI right_to_left = if right_to_left then RLI else LRI
 directed_by c right_to_left = c
 
+abbrev pub is_first_strong : Class → Bool
+is_first_strong FSI = true
+is_first_strong _ = false
+
 abbrev pub directed_classes : List Class → List Class
 directed_classes [] = []
 directed_classes (c ∷ cs) = directed_by c (begins_right_to_left 0 cs) ∷ directed_classes cs

@@ -5,6 +5,7 @@ pub mod WeakSteps
 pub mod NeutralSteps
 pub mod ExplicitSteps
 pub mod PlainSteps
+pub mod FlatSteps
 pub mod NextCharacter
 pub mod SequenceSteps
 pub mod ResetSteps

@@ -4,7 +4,7 @@
 use Rattle.std.specs.Prelude.{List, [], ◌∷◌}
 use Rattle.bidi_class.specs.declared.class.Class.{Class}
 use Rattle.bidi_class.specs.declared.class.Class.TheVariants.{L, R, AL, EN, ET, AN, NSM, ON}
-use Rattle.bidi_order.specs.Resolve.{nonspacing_class}
+use Rattle.bidi_order.specs.Resolve.{nonspacing_class, w3, w6}
 
 -- W1, by the class before
 abbrev pub w1_class : Class → Class → Class
@@ -57,3 +57,17 @@ abbrev pub side_after : Class → Class → Class
 side_after strong L = L
 side_after strong R = R
 side_after strong c = strong
+
+-- W1 to W3 in one pass, by the class before and the last strong class
+abbrev pub letters_resolved : Class → Class → List Class → List Class
+letters_resolved before strong [] = []
+letters_resolved before strong (c ∷ cs) =
+    w3 (w2_class (w1_class before c) strong)
+    ∷ letters_resolved (w1_class before c) (strong_after strong (w1_class before c)) cs
+
+-- W5 for what follows a number, W6 and W7 in one pass, by the class before and the last of L and R
+abbrev pub rest_resolved : Class → Class → List Class → List Class
+rest_resolved before strong [] = []
+rest_resolved before strong (c ∷ cs) =
+    w7_class (w6 (following_class c before)) strong
+    ∷ rest_resolved (following_class c before) (side_after strong (w6 (following_class c before))) cs

@@ -1,6 +1,6 @@
 //! Paired brackets (UAX #9, BD16 and N0).
-ghost use Rattle.std.specs.Prelude.{◌≡◌, ◌∷◌, ◌+◌, ◌<◌, ◌≤◌, ◌^◌, IfOk, MatchOption, None, OnOk, Some, drop, length, map};
-ghost use Rattle.std.specs.Prelude.{not, reverse};
+ghost use Rattle.std.specs.Prelude.{◌≡◌, ◌∷◌, ◌+◌, ◌<◌, ◌≤◌, ◌^◌, IfOk, MatchOption, None, OnOk, Some, drop, length};
+ghost use Rattle.std.specs.Prelude.{map, not, reverse};
 ghost use Rattle.std.specs.Prelude.{suc, take, []};
 ghost use Rattle.std.specs.List.{list_any};
 ghost use Rattle.std.specs.Option.{is_some};
@@ -18,8 +18,7 @@ use std::alloc::Global;
 /// BD16: how many brackets may be open.
 const OPEN_BRACKETS: usize = 63;
 
-/// BD16 and N0: the pairs of brackets take a direction. Where no character is a bracket, nothing is looked for.
-#[tactic(auto, using(crate::proofs::WithoutBrackets::no_brackets))]
+/// BD16 and N0: the pairs of brackets take a direction.
 pub(crate) fn resolve_brackets(
     alloc: Global,
     own: bool,
@@ -33,15 +32,13 @@ pub(crate) fn resolve_brackets(
     ensures { OnOk result (classes.new ≡ n0 own sos (map is_nonspacing given.now)
         (pairs_in_order (bracket_pairs_from 0 [] (counting_brackets classes.old brackets.now))) classes.old) }
 {
-    if has_bracket(brackets) {
-        let partners = find_pairs(alloc, classes, brackets)?;
-        resolve_pairs(own, sos, given, &partners, classes);
-    }
+    let partners = find_pairs(alloc, classes, brackets)?;
+    resolve_pairs(own, sos, given, &partners, classes);
     Ok(())
 }
 
 /// Whether one of the characters is a bracket.
-fn has_bracket(brackets: &[Option<Bracket>]) -> bool
+pub(crate) fn has_bracket(brackets: &[Option<Bracket>]) -> bool
     ensures { result ≡ list_any is_some brackets.now }
 {
     brackets.iter().any(|bracket| bracket.is_some())

@@ -1,10 +1,12 @@
 //! Explicit levels (UAX #9, 3.3.2, X1 to X9).
 ghost use Rattle.std.specs.Prelude.{◌≡◌, ◌+◌, ◌<◌, ◌∷◌, ◌≤◌, List, IfOk, OnOk, drop, length, map, slice_index_or};
 ghost use Rattle.std.specs.Prelude.{false};
+ghost use Rattle.std.specs.List.{list_any};
 ghost use Rattle.bidi_class.specs.declared.class.Class.{Class};
 ghost use Rattle.bidi_class.specs.Class.{bidi_class};
 ghost use Rattle.bidi_order.specs.Explicit.{explicit_characters};
-ghost use Rattle.bidi_preview.specs.ExplicitSteps.{DirectedFrom, directed_by, directed_classes, sides_before};
+ghost use Rattle.bidi_preview.specs.ExplicitSteps.{DirectedFrom, directed_by, directed_classes, is_first_strong};
+ghost use Rattle.bidi_preview.specs.ExplicitSteps.{sides_before};
 
 use crate::kept::Kept;
 use crate::status::Status;
@@ -23,12 +25,29 @@ pub(crate) fn read_classes(alloc: Global, line: &[char]) -> Result<Vec<Class>, O
     Ok(classes)
 }
 
-/// The classes of a line, with RLI or LRI for each FSI (X5c).
+/// The classes of a line, with RLI or LRI for each FSI (X5c). Where there is no FSI, nothing is looked for.
+#[tactic(auto, using(crate::proofs::Directions::nothing_directed))]
 pub(crate) fn directed(alloc: Global, mut classes: Vec<Class>) -> Result<Vec<Class>, OutOfMemory>
     ensures { IfOk result (λ directed. directed.items ≡ directed_classes classes.items) }
 {
+    if !has_first_strong(&classes) {
+        return Ok(classes);
+    }
     direct_isolates(alloc, &mut classes)?;
     Ok(classes)
+}
+
+/// Whether one of the classes is FSI.
+fn has_first_strong(classes: &[Class]) -> bool
+    ensures { result ≡ list_any is_first_strong classes.now }
+{
+    classes.iter().any(|class| is_first_strong(*class))
+}
+
+fn is_first_strong(class: Class) -> bool
+    ensures { result ≡ is_first_strong class }
+{
+    matches!(class, Class::FSI)
 }
 
 /// X5c: the FSIs of a line, which is read from its end on. For each number of isolates that may be open the direction

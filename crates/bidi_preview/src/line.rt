@@ -1,11 +1,14 @@
 //! The levels of a line (UAX #9, X1 to L1).
-ghost use Rattle.std.specs.Prelude.{◌≡◌, ◌≤◌, IfOk, length, map};
+ghost use Rattle.std.specs.Prelude.{◌≡◌, ◌≤◌, true, IfOk, length, map};
+ghost use Rattle.std.specs.List.{list_all};
 ghost use Rattle.bidi_class.specs.Class.{bidi_class};
 ghost use Rattle.bidi_order.specs.Levels.{line_levels};
 ghost use Rattle.bidi_order.specs.Lines.{direction_level};
 ghost use Rattle.bidi_order.specs.Reset.{reset_kind, reset_levels};
+ghost use Rattle.bidi_preview.specs.FlatSteps.{is_flat};
 
 use crate::explicit::{directed, read_classes, read_explicit};
+use crate::flat::{are_flat, flat_levels};
 use crate::plain::{are_plain, plain_levels};
 use crate::reset::reset_levels;
 use crate::sequence::resolve_line;
@@ -25,7 +28,26 @@ pub fn levels(alloc: Global, base: Dir, line: &[char]) -> Result<Seq<Option<u8>>
     if are_plain(base == 1, &classes) {
         return Ok(Seq::new(plain_levels(alloc, base, &classes)?));
     }
+    if are_flat(&classes) {
+        return one_sequence(alloc, base, line, &classes);
+    }
     turned_levels(alloc, base, line, classes)
+}
+
+/// The levels of a flat line, by its classes.
+fn one_sequence(
+    alloc: Global,
+    base: u8,
+    line: &[char],
+    classes: &[Class],
+) -> Result<Seq<Option<u8>>, OutOfMemory>
+    requires base { base ≤ 1 }
+    requires classes { classes.now ≡ map bidi_class line.now }
+    requires flat { list_all is_flat classes.now ≡ true }
+    ensures { IfOk result (λ levels. levels ≡ line_levels base line.now) }
+{
+    let levels = flat_levels(alloc, base, line, classes)?;
+    Ok(Seq::new(reset_line(base, classes, levels)))
 }
 
 /// The levels of any line of these classes.

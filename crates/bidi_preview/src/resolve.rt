@@ -1,11 +1,12 @@
 //! The classes of one sequence, resolved (UAX #9, W1 to N2).
-ghost use Rattle.std.specs.Prelude.{◌≡◌, ◌≤◌, IfOk, OnOk, length, map};
-ghost use Rattle.bidi_order.specs.Resolve.{implicit, resolve};
+ghost use Rattle.std.specs.Prelude.{◌≡◌, [], OnOk, length, map};
+ghost use Rattle.bidi_order.specs.Resolve.{bracket_pairs_from, implicit, is_nonspacing, n0, pairs_in_order, resolve};
+ghost use Rattle.bidi_order.specs.Resolve.{weak_types};
 ghost use Rattle.bidi_order.specs.Sequences.{side_class};
 ghost use Rattle.bidi_text.specs.Estimate.{is_right_to_left};
-ghost use Rattle.bidi_preview.specs.NeutralSteps.{characters_of};
+ghost use Rattle.bidi_preview.specs.NeutralSteps.{characters_of, counting_brackets};
 
-use crate::brackets::resolve_brackets;
+use crate::brackets::{has_bracket, resolve_brackets};
 use crate::neutral::resolve_neutrals;
 use crate::weak::resolve_weak;
 use bidi_class::{Bracket, Class};
@@ -14,7 +15,7 @@ use std::alloc::Global;
 
 /// Resolves the classes of a sequence in place, by its level, its sos and eos, and its brackets.
 #[tactic(auto, using(crate::proofs::Resolved::resolved_by))]
-pub(crate) fn resolve_sequence(
+fn resolve_sequence(
     alloc: Global,
     level: u8,
     sos: Class,
@@ -23,34 +24,54 @@ pub(crate) fn resolve_sequence(
     classes: &mut [Class],
 ) -> Result<(), OutOfMemory>
     requires { length brackets.now ≡ length classes.old }
-    ensures levels { OnOk result (map (implicit level) classes.new
+    ensures { OnOk result (map (implicit level) classes.new
         ≡ resolve level sos eos (characters_of classes.old brackets.now)) }
 {
     let own = level % 2 == 1;
-    let given = Vec::from_slice(alloc, classes)?;
-    resolve_weak(sos, classes);
-    resolve_brackets(alloc, own, is_right_to_left(sos), &given, brackets, classes)?;
+    resolve_paired(alloc, own, sos, brackets, classes)?;
     resolve_neutrals(own, is_right_to_left(sos), is_right_to_left(eos), classes);
     Ok(())
 }
 
-/// The classes of a sequence, resolved.
-pub(crate) fn resolved_classes(
+/// Resolves the classes of a sequence in their list, which stays as long.
+pub(crate) fn resolve_classes(
     alloc: Global,
     level: u8,
     sos: Class,
     eos: Class,
     brackets: &[Option<Bracket>],
-    given: &[Class],
-) -> Result<Vec<Class>, OutOfMemory>
-    requires { length brackets.now ≡ length given.now }
-    ensures levels { IfOk result (λ classes. map (implicit level) classes.items
-        ≡ resolve level sos eos (characters_of given.now brackets.now)) }
-    ensures long { IfOk result (λ classes. length classes.items ≡ length given.now) }
+    classes: &mut Vec<Class>,
+) -> Result<(), OutOfMemory>
+    requires { length brackets.now ≡ length classes.old.items }
+    ensures levels { OnOk result (map (implicit level) classes.new.items
+        ≡ resolve level sos eos (characters_of classes.old.items brackets.now)) }
+    ensures long { OnOk result (length classes.new.items ≡ length classes.old.items) }
 {
-    let mut classes = Vec::from_slice(alloc, given)?;
-    resolve_sequence(alloc, level, sos, eos, brackets, &mut classes)?;
-    Ok(classes)
+    resolve_sequence(alloc, level, sos, eos, brackets, classes)
+}
+
+/// W1 to N0. Where no character is a bracket, no pair is looked for.
+#[tactic(auto, using(crate::proofs::WithoutBrackets::no_brackets))]
+fn resolve_paired(
+    alloc: Global,
+    own: bool,
+    sos: Class,
+    brackets: &[Option<Bracket>],
+    classes: &mut [Class],
+) -> Result<(), OutOfMemory>
+    requires { length brackets.now ≡ length classes.old }
+    ensures classes { OnOk result (classes.new ≡ n0 own (is_right_to_left sos) (map is_nonspacing classes.old)
+        (pairs_in_order (bracket_pairs_from 0 [] (counting_brackets (weak_types sos classes.old) brackets.now)))
+        (weak_types sos classes.old)) }
+    ensures long { OnOk result (length (weak_types sos classes.old) ≡ length classes.old) }
+{
+    if !has_bracket(brackets) {
+        resolve_weak(sos, classes);
+        return Ok(());
+    }
+    let given = Vec::from_slice(alloc, classes)?;
+    resolve_weak(sos, classes);
+    resolve_brackets(alloc, own, is_right_to_left(sos), &given, brackets, classes)
 }
 
 /// The class of the side of a level.

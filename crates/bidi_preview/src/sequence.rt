@@ -13,7 +13,7 @@ use crate::absent::unknown;
 use crate::kept::Kept;
 use crate::links::match_isolates;
 use crate::neutral::implicit;
-use crate::resolve::{resolved_classes, side_class};
+use crate::resolve::{resolve_classes, side_class};
 use bidi_class::{Bracket, Class};
 use soy_base::OutOfMemory;
 use std::alloc::Global;
@@ -105,36 +105,56 @@ struct Sequence {
 
 /// Reads the sequence from one of its characters on.
 fn read_sequence(
-    alloc: Global,
     base: u8,
     line: &[Option<Kept>],
     ends: &[Option<usize>],
     first: usize,
-) -> Result<Sequence, OutOfMemory>
+    sequence: &mut Sequence,
+) -> Result<(), OutOfMemory>
     requires base { base ≤ 125 }
     requires explicit { IsExplicit base line.now }
     requires ends { HasEnds line.now ends.now }
     requires here { is_some (character_at line.now first) ≡ true }
     requires within { first < length line.now }
-    ensures chain { IfOk result (λ s. Chain base line.now first s.indexes.items s.beside) }
-    ensures classes { IfOk result (λ s. s.classes.items ≡ map (class_at base line.now) s.indexes.items) }
-    ensures brackets { IfOk result (λ s. s.brackets.items ≡ map (bracket_at base line.now) s.indexes.items) }
-    ensures beside { IfOk result (λ s. s.beside ≤ 125) }
+    ensures chain { OnOk result (Chain base line.now first sequence.new.indexes.items sequence.new.beside) }
+    ensures classes { OnOk result (sequence.new.classes.items
+        ≡ map (class_at base line.now) sequence.new.indexes.items) }
+    ensures brackets { OnOk result (sequence.new.brackets.items
+        ≡ map (bracket_at base line.now) sequence.new.indexes.items) }
+    ensures beside { OnOk result (sequence.new.beside ≤ 125) }
 {
-    let mut sequence = Sequence {
-        indexes: Vec::new(alloc),
-        classes: Vec::new(alloc),
-        brackets: Vec::new(alloc),
-        beside: base,
-    };
+    sequence.clear(base);
     let mut next = Some(first);
     while let Some(index) = next {
         next = sequence.read(base, line, ends, index)?;
     }
-    Ok(sequence)
+    Ok(())
 }
 
 impl Sequence {
+    /// A sequence that takes no memory.
+    fn empty(alloc: Global, base: u8) -> Sequence {
+        Sequence {
+            indexes: Vec::new(alloc),
+            classes: Vec::new(alloc),
+            brackets: Vec::new(alloc),
+            beside: base,
+        }
+    }
+
+    /// Forgets what was read. The memory stays, for the next sequence.
+    fn clear(&mut self, base: u8)
+        ensures indexes { self.new.indexes.items ≡ [] }
+        ensures classes { self.new.classes.items ≡ [] }
+        ensures brackets { self.new.brackets.items ≡ [] }
+        ensures beside { self.new.beside ≡ base }
+    {
+        self.indexes.clear();
+        self.classes.clear();
+        self.brackets.clear();
+        self.beside = base;
+    }
+
     /// Reads the character at an index, and says where the sequence goes on, or ends it.
     #[tactic(auto, using(crate::proofs::ReadSequences::goes_within, crate::proofs::ReadSequences::read_more, crate::proofs::ReadSequences::read_end, crate::proofs::ReadSequences::goes_later, crate::proofs::ReadSequences::goes_here))]
     fn read(
@@ -189,9 +209,19 @@ pub(crate) fn resolve_line(
 {
     let ends = match_isolates(alloc, line)?;
     let mut levels = unknown(alloc, line.len())?;
+    let mut sequence = Sequence::empty(alloc, base);
     let mut before = base;
     for index in 0..line.len() {
-        before = resolve_at(alloc, base, line, &ends, index, before, &mut levels)?;
+        before = resolve_at(
+            alloc,
+            base,
+            line,
+            &ends,
+            index,
+            before,
+            &mut sequence,
+            &mut levels,
+        )?;
     }
     Ok(levels)
 }
@@ -206,6 +236,7 @@ fn resolve_at(
     ends: &[Option<usize>],
     index: usize,
     before: u8,
+    sequence: &mut Sequence,
     levels: &mut [Option<u8>],
 ) -> Result<u8, OutOfMemory>
     requires base { base ≤ 125 }
@@ -220,7 +251,7 @@ fn resolve_at(
         if levels[index].is_some() {
             return Ok(level);
         }
-        resolve_from(alloc, base, line, ends, index, before, levels)?;
+        resolve_from(alloc, base, line, ends, index, before, sequence, levels)?;
         return Ok(level);
     }
     Ok(before)
@@ -235,6 +266,7 @@ fn resolve_from(
     ends: &[Option<usize>],
     first: usize,
     before: u8,
+    sequence: &mut Sequence,
     levels: &mut [Option<u8>],
 ) -> Result<(), OutOfMemory>
     requires base { base ≤ 125 }
@@ -249,18 +281,18 @@ fn resolve_from(
 {
     if let Some(k) = &line[first] {
         let level = k.level();
-        let sequence = read_sequence(alloc, base, line, ends, first)?;
+        read_sequence(base, line, ends, first, sequence)?;
         let sos = side_class(level.max(before));
         let eos = side_class(level.max(sequence.beside));
-        let resolved = resolved_classes(
+        resolve_classes(
             alloc,
             level,
             sos,
             eos,
             &sequence.brackets,
-            &sequence.classes,
+            &mut sequence.classes,
         )?;
-        write_levels(level, &sequence.indexes, &resolved, levels);
+        write_levels(level, &sequence.indexes, &sequence.classes, levels);
     }
     Ok(())
 }

@@ -1,36 +1,32 @@
 //! Weak types (UAX #9, 3.3.4 "Resolving Weak Types").
-ghost use Rattle.std.specs.Prelude.{◌≡◌, ◌<◌, ◌∷◌, map, length, drop};
-ghost use Rattle.bidi_order.specs.Resolve.{nonspacing_class, separator_class, weak_types, w1, w2, w3, w4, w5, w6, w7};
-ghost use Rattle.bidi_preview.specs.WeakSteps.{following_class, following_terminators, leading_class};
-ghost use Rattle.bidi_preview.specs.WeakSteps.{leading_terminators, side_after, strong_after, w1_class, w2_class};
-ghost use Rattle.bidi_preview.specs.WeakSteps.{w7_class};
+ghost use Rattle.std.specs.Prelude.{◌≡◌, ◌<◌, ◌∷◌, length, drop};
+ghost use Rattle.bidi_order.specs.Resolve.{nonspacing_class, separator_class, weak_types, w3, w4, w6};
+ghost use Rattle.bidi_preview.specs.WeakSteps.{following_class, leading_class, leading_terminators, letters_resolved};
+ghost use Rattle.bidi_preview.specs.WeakSteps.{rest_resolved, side_after, strong_after, w1_class, w2_class, w7_class};
 
 use bidi_class::Class;
 
-/// W1 to W7, in this order, on the classes of a sequence.
-#[tactic(auto, using(crate::proofs::Terminators::w5_by))]
+/// W1 to W7, in this order, on the classes of a sequence. What goes by the characters before alone is one pass.
+#[tactic(auto, using(crate::proofs::WeakPasses::weak_by))]
 pub(crate) fn resolve_weak(sos: Class, classes: &mut [Class])
     ensures { classes.new ≡ weak_types sos classes.old }
 {
-    resolve_nonspacing(sos, classes);
-    resolve_arabic_numbers(sos, classes);
-    resolve_arabic_letters(classes);
+    resolve_letters(sos, classes);
     resolve_separators(classes);
     resolve_leading(classes);
-    resolve_following(classes);
-    resolve_rest(classes);
-    resolve_european_numbers(sos, classes);
+    resolve_rest(sos, classes);
 }
 
-/// W1: NSM takes the class before it.
-fn resolve_nonspacing(sos: Class, classes: &mut [Class])
-    ensures { classes.new ≡ w1 sos classes.old }
+/// W1 to W3: NSM takes the class before it, EN becomes AN after AL, and AL becomes R.
+fn resolve_letters(sos: Class, classes: &mut [Class])
+    ensures { classes.new ≡ letters_resolved sos sos classes.old }
 {
     let mut before = sos;
+    let mut strong = sos;
     for class in classes.iter_mut() {
-        let resolved = w1_class(before, *class);
-        *class = resolved;
-        before = resolved;
+        before = w1_class(before, *class);
+        *class = w3(w2_class(before, strong));
+        strong = strong_after(strong, before);
     }
 }
 
@@ -52,18 +48,6 @@ fn nonspacing_class(before: Class) -> Class
     }
 }
 
-/// W2: EN becomes AN after AL.
-fn resolve_arabic_numbers(sos: Class, classes: &mut [Class])
-    ensures { classes.new ≡ w2 sos classes.old }
-{
-    let mut strong = sos;
-    for class in classes.iter_mut() {
-        let before = *class;
-        *class = w2_class(before, strong);
-        strong = strong_after(strong, before);
-    }
-}
-
 fn w2_class(class: Class, strong: Class) -> Class
     ensures { result ≡ w2_class class strong }
 {
@@ -82,16 +66,6 @@ fn strong_after(strong: Class, class: Class) -> Class
     match class {
         Class::L | Class::R | Class::AL => class,
         _ => strong,
-    }
-}
-
-/// W3: AL becomes R.
-fn resolve_arabic_letters(classes: &mut [Class])
-    ensures { classes.new ≡ map w3 classes.old }
-{
-    for class in classes.iter_mut() {
-        let resolved = w3(*class);
-        *class = resolved;
     }
 }
 
@@ -164,15 +138,17 @@ fn leading_class(class: Class, next: Class) -> Class
     }
 }
 
-/// W5: terminators after EN become EN.
-fn resolve_following(classes: &mut [Class])
-    ensures { classes.new ≡ following_terminators Class.ON classes.old }
+/// W5 to W7: terminators after EN become EN, other separators and terminators ON, and EN becomes L after L.
+fn resolve_rest(sos: Class, classes: &mut [Class])
+    ensures { classes.new ≡ rest_resolved Class.ON sos classes.old }
 {
     let mut before = Class::ON;
+    let mut strong = sos;
     for class in classes.iter_mut() {
-        let resolved = following_class(*class, before);
-        *class = resolved;
-        before = resolved;
+        before = following_class(*class, before);
+        let resolved = w6(before);
+        *class = w7_class(resolved, strong);
+        strong = side_after(strong, resolved);
     }
 }
 
@@ -188,34 +164,12 @@ fn following_class(class: Class, before: Class) -> Class
     }
 }
 
-/// W6: other separators and terminators become ON.
-fn resolve_rest(classes: &mut [Class])
-    ensures { classes.new ≡ map w6 classes.old }
-{
-    for class in classes.iter_mut() {
-        let resolved = w6(*class);
-        *class = resolved;
-    }
-}
-
 fn w6(class: Class) -> Class
     ensures { result ≡ w6 class }
 {
     match class {
         Class::ES | Class::ET | Class::CS => Class::ON,
         _ => class,
-    }
-}
-
-/// W7: EN becomes L after L.
-fn resolve_european_numbers(sos: Class, classes: &mut [Class])
-    ensures { classes.new ≡ w7 sos classes.old }
-{
-    let mut strong = sos;
-    for class in classes.iter_mut() {
-        let before = *class;
-        *class = w7_class(before, strong);
-        strong = side_after(strong, before);
     }
 }
 

@@ -6,19 +6,20 @@ use Rattle.bidi_preview.proofs.ReadSequences.{here_is}
 use Rattle.bidi_preview.proofs.ResolveLines.{writes}
 use Rattle.bidi_preview.proofs.sequence.resolve_from.Goals as goal
 
-pub returns-in_ok-resolved : goal.returns-in_ok-resolved
-returns-in_ok-resolved c =
+pub returns-in_ok-resolve_classes : goal.returns-in_ok-resolve_classes
+returns-in_ok-resolve_classes c =
     let is : c.index-line-first.result ≡ Some c.in-Some.k = cc in
     let here : character_at c.args.line.now c.args.first ≡ Some c.in-Some.k =
     here_is c.args.line.now c.args.first c.index-line-first.result _ c.in-Some.k c.requires.within
     c.index-line-first.is is in
     writes c.args.base c.args.line.now c.requires.explicit c.args.first c.in-Some.k c.args.before
-    c.in_ok-sequence.sequence.beside c.in_ok-sequence.sequence.indexes.items c.in_ok-sequence.sequence.classes.items
-    c.in_ok-resolved.resolved.items c.in_ok-sequence.sequence.brackets.items c.args.levels.now
+    c.read_sequence.new.sequence.beside c.read_sequence.new.sequence.indexes.items
+    c.read_sequence.new.sequence.classes.items c.resolve_classes.new.classes.items
+    c.read_sequence.new.sequence.brackets.items c.args.levels.now
     c.write_levels.new.levels here
     (subst (λ o. IfSome o (λ k. BeginsSequence c.args.base c.args.line.now c.args.first k c.args.before)) here
     c.requires.first)
-    c.in_ok-sequence.ensures.chain c.in_ok-sequence.ensures.classes c.in_ok-sequence.ensures.brackets
+    c.in_ok-read_sequence.ensures.chain c.in_ok-read_sequence.ensures.classes c.in_ok-read_sequence.ensures.brackets
     (first_of (cc, search rules, grind (arith, common_steps)))
     (first_of (omega arith, search rules, grind (arith, common_steps)))
     (first_of (cc, search rules, grind (arith, common_steps)))
