@@ -118,7 +118,7 @@ module _ (page : Rendered) (parts : PageParts page) where
       (typed_runs_alike context trees refl typed fitting page.entry (env page.input) (env other) member read_fits
       (other_fits other is) is.choices).ends
 
-  markup_kept : MarkupIsKept page
+  pub markup_kept : MarkupIsKept page
   markup_kept other is = record {
     same = templates_same context trees refl typed fitting accepted page.entry member (env page.input) (env other)
         read_fits (other_fits other is) is.choices;
@@ -128,7 +128,7 @@ module _ (page : Rendered) (parts : PageParts page) where
     ends = ends_alike other is;
   }
 
-  order_kept : OrderIsKept page
+  pub order_kept : OrderIsKept page
   order_kept html other is =
       let one = page_pieces page page.input in
       let two = page_pieces page other in

@@ -69,7 +69,7 @@ module _ (names : List Word) (files : List (List ℕ)) (bundle : Option (List �
   entry_parts of front (Some d) entry =
       data_parts of d front entry (data_at d.template.params json) refl
 
-  front_parts : (r : Result Front FrontFault) → front_answer files bundle ≡ r
+  pub front_parts : (r : Result Front FrontFault) → front_answer files bundle ≡ r
       → IfSome (rendered_front names files template json r) PageParts
   front_parts (Ok of) front = entry_parts of front (entry_of of template) refl
   front_parts (Err fault) front = tt

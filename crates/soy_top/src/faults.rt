@@ -15,7 +15,7 @@ use soy_front::{FrontFault, Source};
 use std::alloc::Global;
 
 /// The line of a fault of files of these names, or of the bundle of a name.
-pub(crate) fn front_line(
+pub fn front_line(
     alloc: Global,
     names: &[String],
     sources: &[Source],
@@ -47,7 +47,7 @@ pub(crate) fn numbered_line(
 }
 
 /// The line of a call that nests too deep, in one of the files of these names.
-pub(crate) fn call_line(
+pub fn call_line(
     alloc: Global,
     names: &[String],
     sources: &[Source],

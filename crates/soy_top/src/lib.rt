@@ -39,9 +39,11 @@ mod status;
 mod summary;
 mod wanted;
 
+pub use faults::{call_line, front_line};
 pub use laws::{
     law_alike_files, law_answer_is_text, law_canonical_source, law_desk_shows, law_first_left,
     law_page_is_one_text, law_refused_format, law_refused_preview, law_rendered_answer,
 };
+pub use line::{entry_line, pointer_line, too_large_line};
 pub use program::run;
 pub use status::Status;

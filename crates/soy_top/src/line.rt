@@ -33,7 +33,7 @@ fn refusal_line(alloc: Global, subject: &str, code: Code) -> Result<String, OutO
 }
 
 /// The line of a file over its limit.
-pub(crate) fn too_large_line(alloc: Global, file: &str) -> Result<String, OutOfMemory>
+pub fn too_large_line(alloc: Global, file: &str) -> Result<String, OutOfMemory>
     ensures { IfOk result (λ line. string_bytes line ≡ ended (too_large_line file.now)) }
 {
     let position = format!(in alloc; "{file}:1:1")?;
@@ -69,7 +69,7 @@ pub(crate) fn step_line(
 }
 
 /// The line of a fault of a JSON file, at a JSON pointer.
-pub(crate) fn pointer_line(
+pub fn pointer_line(
     alloc: Global,
     name: &str,
     path: &[PathStep],
@@ -131,7 +131,7 @@ fn push_key_character(text: &mut String, c: char) -> Result<(), OutOfMemory>
 }
 
 /// The line of a template that may not be rendered.
-pub(crate) fn entry_line(alloc: Global, template: &str) -> Result<String, OutOfMemory>
+pub fn entry_line(alloc: Global, template: &str) -> Result<String, OutOfMemory>
     ensures { IfOk result (λ line. string_bytes line ≡ ended (entry_line template.now)) }
 {
     refusal_line(alloc, template, Code::Entry)
