@@ -1,0 +1,3 @@
+module soyc
+
+go 1.19
