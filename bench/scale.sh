@@ -125,6 +125,7 @@ begin_anew() { rm -f jobs.log shards/*.tar; }
 
 # check WHAT: every page is there and right, one was refused, and no shard was done twice.
 check() {
+    local it
     mkdir "$work/got"
     for it in shards/*.tar; do tar -xf "$it" -C "$work/got"; done
     diff -rq "$work/right" "$work/got" >"$work/log" 2>&1 || { head -n 3 "$work/log"; exit 1; }
