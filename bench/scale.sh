@@ -29,7 +29,7 @@ tidy() {
     rm -rf "$work"
 }
 
-# Keys for this run, and what sshd and ssh are told.
+# Keys for this run, and the settings of sshd and ssh.
 make_keys() {
     ssh-keygen -q -t ed25519 -N '' -f "$work/host_key"
     ssh-keygen -q -t ed25519 -N '' -f "$work/key"
