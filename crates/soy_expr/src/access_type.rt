@@ -1,9 +1,8 @@
 //! The types of accesses.
 
-ghost use Rattle.std.specs.Prelude.{◌≡◌, true, Ok, IfOk, if◌then◌else◌, option_map};
-ghost use Rattle.soy_rules.specs.Faults.{followed_by};
+ghost use Rattle.std.specs.Prelude.{◌≡◌, true, IfOk, if◌then◌else◌, option_map};
 ghost use Rattle.soy_rules.specs.Members.{joined};
-ghost use Rattle.soy_rules.specs.TypeOf.{field_type, fitting, index_type, member_type, with_null_of};
+ghost use Rattle.soy_rules.specs.TypeOf.{field_type, fitting, index_type, member_type};
 ghost use Rattle.soy_tree.specs.Types.{NullType};
 ghost use Rattle.soy_tree.specs.ViewTypes.{view_fields, view_type};
 ghost use Rattle.soy_expr.specs.Rules.{index_access, member_access};
@@ -31,31 +30,12 @@ pub(crate) fn member_type<'a>(
     ensures { Types view_typing (member_access takes_null name.now span (view_typing of.entry)) result }
 {
     if takes_null {
-        let field = member_or_null(alloc, span, of.get(), name);
-        drop(of);
-        return Ok(Typing::Made(field?));
+        return Ok(Typing::Made(member_or_null(alloc, span, of.get(), name)?));
     }
     match of {
         Typing::Declared(of) => Ok(Typing::Declared(field_of(alloc, span, of, of, name)?)),
-        Typing::Made(of) => {
-            let field = copied_field(alloc, span, &of, name);
-            drop(of);
-            Ok(Typing::Made(field?))
-        }
+        Typing::Made(of) => Ok(Typing::Made(field_of(alloc, span, &of, &of, name)?.copy(alloc)?)),
     }
-}
-
-/// The type of the field of a name in a record type, copied.
-fn copied_field(
-    alloc: Global,
-    span: Span,
-    of: &SoyType,
-    name: &Text,
-) -> Result<SoyType, Refusal<TypeFault>>
-    ensures { Types view_type (member_type name.now span (view_type of.now) (view_type of.now)) result }
-{
-    let field = field_of(alloc, span, of, of, name)?;
-    Ok(field.copy(alloc)?)
 }
 
 /// The type of `?.x`.
@@ -69,25 +49,8 @@ fn member_or_null(
     ensures { Types view_type (member_access true name.now span (view_type of.now)) result }
 {
     let accessed = narrow(alloc, of)?;
-    let field = field_or_null(alloc, span, of, &accessed, name);
-    drop(accessed);
-    field
-}
-
-/// The type of the field of a name in a record type, with null where the left type has it.
-#[tactic(auto, using(crate::proofs::Refusals::refused_first))]
-fn field_or_null(
-    alloc: Global,
-    span: Span,
-    left: &SoyType,
-    of: &SoyType,
-    name: &Text,
-) -> Result<SoyType, Refusal<TypeFault>>
-    ensures { Types view_type (followed_by (member_type name.now span (view_type left.now) (view_type of.now))
-        (λ t. Ok (with_null_of true (view_type left.now) t))) result }
-{
-    let field = field_of(alloc, span, left, of, name)?;
-    Ok(with_null(alloc, field, has_null(left))?)
+    let field = field_of(alloc, span, of, &accessed, name)?;
+    Ok(with_null(alloc, field, has_null(of))?)
 }
 
 /// The type, with null where the access takes it.
@@ -147,12 +110,8 @@ pub(crate) fn index_type(
         return item_type(alloc, span, of, of, index);
     }
     let accessed = narrow(alloc, of)?;
-    let found = item_type(alloc, span, of, &accessed, index);
-    drop(accessed);
-    let item = found?;
-    let of = with_null(alloc, &item, has_null(of));
-    drop(item);
-    Ok(of?)
+    let item = item_type(alloc, span, of, &accessed, index)?;
+    Ok(with_null(alloc, &item, has_null(of))?)
 }
 
 /// The type of what an index finds in a list or map type; a fault keeps the left type.

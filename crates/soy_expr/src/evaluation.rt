@@ -1,21 +1,71 @@
 //! The value of an expression.
 
 ghost use Rattle.std.specs.Prelude.{◌≡◌};
+ghost use Rattle.soy_rules.specs.Cost.{cost};
+ghost use Rattle.soy_rules.specs.Val.{Known, member_value, operand, val};
 ghost use Rattle.soy_tree.specs.ViewExpressions.{view_expr};
-ghost use Rattle.soy_expr.specs.Evaluates.{Evaluates, EvaluatesRight, is_settled};
+ghost use Rattle.soy_expr.specs.Evaluates.{AnswersAtCost, Evaluates, EvaluatesRight, is_settled};
 ghost use Rattle.soy_expr.specs.ViewEvaluated.{view_evaluated};
 
 use crate::access::{item, member};
 use crate::operators::{combined, negated};
 use crate::{Evaluated, Made, Variables};
-use soy_base::{OutOfMemory, Steps};
+use soy_base::{OutOfMemory, Steps, Text};
 use soy_tree::{BinaryOp, Expr, ExprNode};
 use std::alloc::Global;
 use std::sync::ledger::Ledger;
 
 /// The value of an expression, with the path to the part that a reference names. Each node that is valued is a step.
+///
+/// Variables, their fields and numbers, which most expressions are, don't pay for the frame of all the others.
 #[cycle(evaluating)]
 pub fn evaluate<'a, V: Variables, L: Ledger>(
+    alloc: Global,
+    expr: &Expr,
+    variables: &'a V,
+    steps: &mut Steps<L>,
+) -> Result<Evaluated<'a, V::Path>, OutOfMemory>
+    ensures { Evaluates (V.Names variables.now) (V.env variables.now) (view_expr expr.now) steps.old steps.new result }
+{
+    match &expr.node {
+        ExprNode::Int(number) => {
+            steps.count();
+            Ok(Evaluated::Made(Made::Int(*number)))
+        }
+        ExprNode::Var(name) => {
+            steps.count();
+            variables.find(name)
+        }
+        ExprNode::Member(of, name, _) => {
+            steps.count();
+            evaluate_member(alloc, of.get(), name, variables, steps)
+        }
+        _ => evaluate_any(alloc, expr, variables, steps),
+    }
+}
+
+/// The value of a field, but for the step of its own node.
+#[cycle(evaluating)]
+#[inline(never)]
+fn evaluate_member<'a, V: Variables, L: Ledger>(
+    alloc: Global,
+    of: &Expr,
+    name: &Text,
+    variables: &'a V,
+    steps: &mut Steps<L>,
+) -> Result<Evaluated<'a, V::Path>, OutOfMemory>
+    ensures { AnswersAtCost (V.Names variables.now)
+        (Known (member_value name.now (operand (val (view_expr of.now) (V.env variables.now)))))
+        (cost (view_expr of.now) (V.env variables.now)) steps.old steps.new result }
+{
+    let of = evaluate(alloc, of, variables, steps)?;
+    member(variables, of, name)
+}
+
+/// The value of any expression.
+#[cycle(evaluating)]
+#[inline(never)]
+fn evaluate_any<'a, V: Variables, L: Ledger>(
     alloc: Global,
     expr: &Expr,
     variables: &'a V,
@@ -31,33 +81,20 @@ pub fn evaluate<'a, V: Variables, L: Ledger>(
         ExprNode::Str(text) => Ok(Evaluated::Made(Made::Str(text.copy(alloc)?))),
         ExprNode::Var(name) => variables.find(name),
         ExprNode::Member(of, name, _) => {
-            let of = evaluate(alloc, of.get(), variables, steps)?;
-            member(variables, of, name)
+            evaluate_member(alloc, of.get(), name, variables, steps)
         }
         ExprNode::Index(of, index, _) => {
             let of = evaluate(alloc, of.get(), variables, steps)?;
-            let index = match evaluate(alloc, index.get(), variables, steps) {
-                Ok(index) => index,
-                Err(error) => {
-                    drop(of);
-                    return Err(error);
-                }
-            };
-            let found = item(variables, of, index.shallow());
-            drop(index);
-            found
+            let index = evaluate(alloc, index.get(), variables, steps)?;
+            item(variables, of, index.shallow())
         }
         ExprNode::Neg(of) => {
             let of = evaluate(alloc, of.get(), variables, steps)?;
-            let value = negated(of.shallow());
-            drop(of);
-            Ok(Evaluated::Made(value))
+            Ok(Evaluated::Made(negated(of.shallow())))
         }
         ExprNode::Not(of) => {
             let of = evaluate(alloc, of.get(), variables, steps)?;
-            let is = of.is_truthy();
-            drop(of);
-            Ok(Evaluated::Made(Made::Bool(!is)))
+            Ok(Evaluated::Made(Made::Bool(!of.is_truthy())))
         }
         ExprNode::Binary(op, left, right) => {
             let left = evaluate(alloc, left.get(), variables, steps)?;
@@ -66,7 +103,6 @@ pub fn evaluate<'a, V: Variables, L: Ledger>(
         ExprNode::Coalesce(left, right) => {
             let left = evaluate(alloc, left.get(), variables, steps)?;
             if left.is_null() {
-                drop(left);
                 evaluate(alloc, right.get(), variables, steps)
             } else {
                 Ok(left)
@@ -74,9 +110,7 @@ pub fn evaluate<'a, V: Variables, L: Ledger>(
         }
         ExprNode::Cond(when, left, right) => {
             let when = evaluate(alloc, when.get(), variables, steps)?;
-            let is = when.is_truthy();
-            drop(when);
-            if is {
+            if when.is_truthy() {
                 evaluate(alloc, left.get(), variables, steps)
             } else {
                 evaluate(alloc, right.get(), variables, steps)
@@ -99,22 +133,11 @@ fn evaluate_right<'a, V: Variables, L: Ledger>(
     ensures { EvaluatesRight (V.Names variables.now) (V.env variables.now) op (view_evaluated left.entry)
         (view_expr right.now) steps.old steps.new result }
 {
-    let is = left.is_truthy();
-    if is_settled(op, is) {
-        drop(left);
-        return Ok(Evaluated::Made(Made::Bool(is)));
+    if is_settled(op, left.is_truthy()) {
+        return Ok(Evaluated::Made(Made::Bool(left.is_truthy())));
     }
-    let right = match evaluate(alloc, right, variables, steps) {
-        Ok(right) => right,
-        Err(error) => {
-            drop(left);
-            return Err(error);
-        }
-    };
-    let value = combined(alloc, op, &left, &right);
-    drop(left);
-    drop(right);
-    Ok(Evaluated::Made(value?))
+    let right = evaluate(alloc, right, variables, steps)?;
+    Ok(Evaluated::Made(combined(alloc, op, &left, &right)?))
 }
 
 /// Whether the truth of the left operand settles that of the operator.

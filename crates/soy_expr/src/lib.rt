@@ -3,7 +3,7 @@
 //! `type_of` gives the type that the rules give, or refuses with their first fault. `eval` and `test` give the value
 //! and the truth of an expression under an environment, and count the nodes that are valued. `evaluate`, which they are
 //! made of, takes variables from whatever finds them by name, and answers a reference with the part of the value that
-//! it names, uncopied. Depends on soy_base, soy_tree and soy_rules.
+//! it names, uncopied. Depends on soy_base and soy_tree.
 #![tactic(auto)]
 
 mod access;

@@ -126,7 +126,6 @@ fn fitting(
     if fits {
         Ok(of)
     } else {
-        drop(of);
         Err(both_mistyped(alloc, span, left, right))
     }
 }
@@ -213,9 +212,7 @@ pub(crate) fn coalesce_type(
         return Err(both_mistyped(alloc, span, left, right));
     }
     let some = narrow(alloc, left)?;
-    let of = joined(alloc, &some, right);
-    drop(some);
-    Ok(of?)
+    Ok(joined(alloc, &some, right)?)
 }
 
 /// The type of `c ? a : b`.

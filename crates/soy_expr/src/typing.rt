@@ -146,17 +146,8 @@ fn index_typing<'a, V: VariableTypes>(
         (V.visible vars.now)) result }
 {
     let of = type_in(alloc, of, vars)?;
-    let index = match type_in(alloc, index, vars) {
-        Ok(index) => index,
-        Err(refusal) => {
-            drop(of);
-            return Err(refusal);
-        }
-    };
-    let item = index_type(alloc, span, of.get(), index.get(), takes_null);
-    drop(of);
-    drop(index);
-    Ok(Typing::Made(item?))
+    let index = type_in(alloc, index, vars)?;
+    Ok(Typing::Made(index_type(alloc, span, of.get(), index.get(), takes_null)?))
 }
 
 /// The type of `-` before an operand.
@@ -171,9 +162,7 @@ fn minus_typing<'a, V: VariableTypes>(
     ensures { Types view_typing (type_of (Minus (view_expr of.now) span) (V.visible vars.now)) result }
 {
     let of = type_in(alloc, of, vars)?;
-    let negated = minus_type(alloc, span, of.get());
-    drop(of);
-    Ok(Typing::Made(negated?))
+    Ok(Typing::Made(minus_type(alloc, span, of.get())?))
 }
 
 /// The type of `not`.
@@ -187,7 +176,7 @@ fn not_typing<'a, V: VariableTypes>(
     ensures { Types view_typing
         (followed_by (type_of (view_expr of.now) (V.visible vars.now)) (λ t. Ok BoolType)) result }
 {
-    drop(type_in(alloc, of, vars)?);
+    type_in(alloc, of, vars)?;
     Ok(Typing::Made(SoyType::Bool))
 }
 
@@ -206,13 +195,7 @@ fn binary_typing<'a, V: VariableTypes>(
         (type_of (Binary op (view_expr left.now) (view_expr right.now) span) (V.visible vars.now)) result }
 {
     let of_left = type_in(alloc, left, vars)?;
-    let of_right = match type_in(alloc, right, vars) {
-        Ok(of_right) => of_right,
-        Err(refusal) => {
-            drop(of_left);
-            return Err(refusal);
-        }
-    };
+    let of_right = type_in(alloc, right, vars)?;
     let of = binary_type(
         alloc,
         op,
@@ -220,10 +203,8 @@ fn binary_typing<'a, V: VariableTypes>(
         span,
         of_left.get(),
         of_right.get(),
-    );
-    drop(of_left);
-    drop(of_right);
-    Ok(Typing::Made(of?))
+    )?;
+    Ok(Typing::Made(of))
 }
 
 /// The type of `?:`.
@@ -240,17 +221,8 @@ fn coalesce_typing<'a, V: VariableTypes>(
         (type_of (Coalesce (view_expr left.now) (view_expr right.now) span) (V.visible vars.now)) result }
 {
     let left = type_in(alloc, left, vars)?;
-    let right = match type_in(alloc, right, vars) {
-        Ok(right) => right,
-        Err(refusal) => {
-            drop(left);
-            return Err(refusal);
-        }
-    };
-    let of = coalesce_type(alloc, span, left.get(), right.get());
-    drop(left);
-    drop(right);
-    Ok(Typing::Made(of?))
+    let right = type_in(alloc, right, vars)?;
+    Ok(Typing::Made(coalesce_type(alloc, span, left.get(), right.get())?))
 }
 
 /// The type of `c ? a : b`.
@@ -269,26 +241,9 @@ fn choice_typing<'a, V: VariableTypes>(
         (V.visible vars.now)) result }
 {
     let when = type_in(alloc, when, vars)?;
-    let left = match type_in(alloc, left, vars) {
-        Ok(left) => left,
-        Err(refusal) => {
-            drop(when);
-            return Err(refusal);
-        }
-    };
-    let right = match type_in(alloc, right, vars) {
-        Ok(right) => right,
-        Err(refusal) => {
-            drop(when);
-            drop(left);
-            return Err(refusal);
-        }
-    };
-    let of = choice_type(alloc, span, when.get(), left.get(), right.get());
-    drop(when);
-    drop(left);
-    drop(right);
-    Ok(Typing::Made(of?))
+    let left = type_in(alloc, left, vars)?;
+    let right = type_in(alloc, right, vars)?;
+    Ok(Typing::Made(choice_type(alloc, span, when.get(), left.get(), right.get())?))
 }
 
 /// The type of a variable.

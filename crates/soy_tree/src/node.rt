@@ -32,8 +32,8 @@ pub enum Form {
     LetBlock(Text, Kind, Seq<Node>),
     /// The name of the callee as written, without a leading dot; whether `data="all"` is there; the params.
     Call(Text, bool, Seq<Argument>),
-    /// A message, and its fallback.
-    Message(Message, Option<Message>),
+    /// A message, and its fallback, each in a box: few nodes are messages, and a node is as large as its largest form.
+    Message(Boxed<Message>, Option<Boxed<Message>>),
 }
 
 /// An arm of an if.
@@ -154,10 +154,14 @@ impl Form {
                 let given = copied_arguments(alloc, given.items())?;
                 copied_call(alloc, name, *all, given)
             }
-            Form::Message(message, None) => Ok(Form::Message(message.copy(alloc)?, None)),
+            Form::Message(message, None) => {
+                let message = message.get().copy(alloc)?;
+                copied_message(alloc, message, None)
+            }
             Form::Message(message, Some(other)) => {
-                let other = other.copy(alloc)?;
-                Ok(Form::Message(message.copy(alloc)?, Some(other)))
+                let other = other.get().copy(alloc)?;
+                let message = message.get().copy(alloc)?;
+                copied_message(alloc, message, Some(other))
             }
         }
     }
@@ -223,6 +227,23 @@ fn copied_let_block(
     ensures { IfOk result (λ f. f ≡ Form.LetBlock name.now kind body) }
 {
     Ok(Form::LetBlock(name.copy(alloc)?, kind, body))
+}
+
+/// A message of these, its fallback among them.
+fn copied_message(
+    alloc: Global,
+    message: Message,
+    other: Option<Message>,
+) -> Result<Form, OutOfMemory>
+    ensures { IfOk result (λ f. f ≡ Form.Message message other) }
+{
+    match other {
+        None => Ok(Form::Message(Boxed::new(alloc, message)?, None)),
+        Some(other) => {
+            let other = Boxed::new(alloc, other)?;
+            Ok(Form::Message(Boxed::new(alloc, message)?, Some(other)))
+        }
+    }
 }
 
 /// A call with these params.

@@ -10,3 +10,8 @@ pub mod Shortness
 pub mod ParamsRead
 pub mod JsonWithin
 pub mod ReadWithin
+pub mod LentFacts
+pub mod FitsFacts
+pub mod ShortInts
+pub mod Pushed
+pub mod FirstMissing

@@ -5,3 +5,6 @@ pub mod Reads
 pub mod Stands
 pub mod ParamsHave
 pub mod ListsWithin
+pub mod LentData
+pub mod Fits
+pub mod ShortInt

@@ -1,8 +1,9 @@
 //! The data of a page.
 
-ghost use Rattle.std.specs.Prelude.{◌≡◌, IfOk, Result, option_map, unwrap_or};
+ghost use Rattle.std.specs.Prelude.{◌≡◌, IfOk, Ok, Result, option_map, unwrap_or};
 ghost use Rattle.serde_json.specs.Data.{null};
 ghost use Rattle.serde_json.specs.Find.{get};
+ghost use Rattle.serde_json.specs.Read.{read};
 ghost use Rattle.serde_json.specs.View.{view};
 ghost use Rattle.soy_rules.specs.Templates.{param_type};
 ghost use Rattle.soy_rules.specs.Members.{joined};
@@ -13,20 +14,67 @@ ghost use Rattle.soy_tree.specs.ViewTypes.{view_type};
 ghost use Rattle.soy_tree.specs.ViewValues.{view_value};
 ghost use Rattle.soy_base.specs.Path.{Path};
 ghost use Rattle.soy_types.specs.Read.{value_at};
-ghost use Rattle.soy_types.specs.ReadData.{data_at, json_of, refused, values_at};
+ghost use Rattle.soy_types.specs.ReadData.{data_at, json_of, refused, values_at, values_of_json};
 ghost use Rattle.soy_types.specs.Reads.{Reads, ReadsData, ReadsShort};
 
 use crate::DataFault;
+use crate::lending::lent_params;
+use crate::lent::lent_json;
 use crate::path::{Path, at_key, steps_of, unfit};
 use crate::reading::read_value;
+use crate::room::{put, with_room};
+use crate::unread::Unread;
+use json::Scratch;
 use serde_json::Value as Json;
-use soy_base::{Code, OutOfMemory, Refusal, Row, Seq};
+use soy_base::{Code, OutOfMemory, Refusal, Seq};
 use soy_tree::{Param, SoyType, Value};
 use std::alloc::Global;
 use std::str;
 
 /// The values of parameters, read of bytes of JSON as a record; or why there are none.
 pub fn read_data(alloc: Global, bytes: &[u8], params: &[Param]) -> Result<Value, Refusal<DataFault>>
+    ensures value { ReadsData (data_at (view_params params.now) bytes.now) result }
+    ensures short { ReadsShort result }
+{
+    match read_lent(alloc, bytes, params) {
+        Ok(value) => Ok(value),
+        Err(Unread::OutOfMemory) => Err(Refusal::OutOfMemory),
+        Err(_) => read_exactly(alloc, bytes, params),
+    }
+}
+
+/// The values of parameters, if they are read over lent texts: keys and texts are lent by the bytes or, where they have
+/// escapes, by a scratch.
+fn read_lent(alloc: Global, bytes: &[u8], params: &[Param]) -> Result<Value, Unread>
+    ensures value { IfOk result (λ v. data_at (view_params params.now) bytes.now ≡ Ok (view_value v)) }
+    ensures short { ReadsShort result }
+{
+    let Ok(text) = str::from_utf8(bytes) else {
+        return Err(Unread::Undecided);
+    };
+    let mut scratch = Scratch::new(alloc);
+    read_text(alloc, text, params, &mut scratch)
+}
+
+/// The values of parameters, if they are read over the texts that this one lends.
+fn read_text<'a>(
+    alloc: Global,
+    text: &'a str,
+    params: &[Param],
+    scratch: &'a mut Scratch,
+) -> Result<Value, Unread>
+    ensures value { IfOk result
+        (λ v. values_of_json (view_params params.now) (read text.now) ≡ Ok (view_value v)) }
+    ensures short { ReadsShort result }
+{
+    match lent_json(alloc, text, scratch) {
+        Ok(json) => lent_params(alloc, params, &json),
+        Err(unread) => Err(unread),
+    }
+}
+
+/// The values of parameters, or the path to the first part that doesn't fit.
+fn read_exactly(alloc: Global, bytes: &[u8], params: &[Param]) -> Result<Value, Refusal<DataFault>>
     ensures value { ReadsData (data_at (view_params params.now) bytes.now) result }
     ensures short { ReadsShort result }
 {
@@ -77,15 +125,15 @@ fn read_params(alloc: Global, params: &[Param], json: &Json) -> Result<Value, Re
     ensures value { Reads view_value (values_at (view_params params.now) (view json.now)) result }
     ensures short { ReadsShort result }
 {
-    let mut entries = Row::empty(alloc);
+    let mut entries = with_room(alloc, params.len())?;
     for param in params {
         let name = param.name.text();
         match at_key(alloc, name, read_param(alloc, param, json, name)) {
-            Ok(entry) => entries.push(entry)?,
+            Ok(entry) => put(&mut entries, entry)?,
             Err(refusal) => return Err(refusal),
         }
     }
-    Ok(Value::Fields(entries.done()))
+    Ok(Value::Fields(Seq::new(entries)))
 }
 
 /// The value of a parameter, which is null where it is missing.

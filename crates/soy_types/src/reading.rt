@@ -12,16 +12,17 @@ ghost use Rattle.soy_types.specs.Read.{entry_results, field_results, first_read,
 ghost use Rattle.soy_types.specs.Reads.{Reads, ReadsShort};
 
 use crate::path::{Path, at_index, at_key, unfit};
+use crate::room::{put, with_room};
 use serde_json::{Map, Value as Json};
-use soy_base::{Refusal, Row, text_of};
+use soy_base::{Refusal, Row, Seq, text_of};
 use soy_tree::{Field, SoyType, Value};
 use std::alloc::Global;
 
 /// The greatest int.
-const LARGEST_INT: i64 = 9007199254740991;
+pub(crate) const LARGEST_INT: i64 = 9007199254740991;
 
 /// As many items as ints number from 0; memory has no room for more.
-const MOST_ITEMS: usize = 9007199254740992;
+pub(crate) const MOST_ITEMS: usize = 9007199254740992;
 
 /// The value of a JSON value at a type.
 #[cycle(reading)]
@@ -63,14 +64,14 @@ fn read_items(alloc: Global, of: &SoyType, items: &[Json]) -> Result<Value, Refu
     if items.len() > MOST_ITEMS {
         return Err(Refusal::OutOfMemory);
     }
-    let mut values = Row::empty(alloc);
+    let mut values = with_room(alloc, items.len())?;
     for (index, item) in items.iter().enumerate() {
         match at_index(index as u64, read_value(alloc, of, item)) {
-            Ok(value) => values.push(value)?,
+            Ok(value) => put(&mut values, value)?,
             Err(refusal) => return Err(refusal),
         }
     }
-    Ok(Value::List(values.done()))
+    Ok(Value::List(Seq::new(values)))
 }
 
 /// A map with items of a type.
@@ -101,15 +102,15 @@ fn read_fields(alloc: Global, fields: &[Field], json: &Json) -> Result<Value, Re
         (all_read (field_results (view_fields fields.now) (view json.now)))) result }
     ensures short { ReadsShort result }
 {
-    let mut entries = Row::empty(alloc);
+    let mut entries = with_room(alloc, fields.len())?;
     for field in fields {
         let name = field.name.text();
         match at_key(alloc, name, read_member(alloc, &field.of, json, name)) {
-            Ok(entry) => entries.push(entry)?,
+            Ok(entry) => put(&mut entries, entry)?,
             Err(refusal) => return Err(refusal),
         }
     }
-    Ok(Value::Fields(entries.done()))
+    Ok(Value::Fields(Seq::new(entries)))
 }
 
 /// The value of a member, which is null where it is missing.

@@ -3,7 +3,8 @@ use Rattle.std.proofs.Common.{◌≡◌, ℕ, List, [], ◌∷◌, ◌++◌, Non
 use Rattle.std.proofs.Common.{append_assoc}
 use Rattle.std.specs.List.{flat_map}
 use Rattle.std.specs.Option.{option_map_or}
-use Rattle.std.specs.Str.{chars}
+use Rattle.std.specs.Str.{chars, IsUtf8}
+use Rattle.std.proofs.lemmas.Str.{encodes-chars}
 use lib.Utf8.{encode}
 use Rattle.soy_base.specs.declared.direction.Dir.{Dir}
 use Rattle.soy_base.specs.declared.direction.Dir.TheVariants.{Ltr, Rtl}
@@ -54,6 +55,24 @@ word_bytes plan text is nothing own =
     ∙ sym (encodes_three (codes " ") (chars text) (codes " ") ∙ ap (λ l. (l ++ encode_utf8_all (chars text)) ++ l)
     encoded_space)
 
+-- the same of a text's own bytes
+pub literal_text : (text : List ℕ)
+    → (39 ∷ encode_utf8_all (flat_map (escaped_character escaper.JsString) (chars text))) ++ 39 ∷ []
+    ≡ encode_utf8_all (js_literal (chars text))
+literal_text text =
+    sym (encodes_three (codes "'") (escaped_text js_rows (chars text)) (codes "'")
+    ∙ ap (λ l. (l ++ encode_utf8_all (escaped_text js_rows (chars text))) ++ l) encoded_quote)
+
+pub word_text : (text : List ℕ) → IsUtf8 text → encode_utf8_all (js_word (chars text)) ≡ (32 ∷ text) ++ 32 ∷ []
+word_text text utf8 =
+    encodes_three (codes " ") (chars text) (codes " ")
+    ∙ ap (λ l. (l ++ encode_utf8_all (chars text)) ++ l) encoded_space
+    ∙ ap (λ l. (32 ∷ l) ++ 32 ∷ []) (encodes-chars text utf8)
+
+pub plain_bytes : (text : List ℕ) → IsUtf8 text
+    → encode_utf8_all (flat_map (escaped_character escaper.Plain) (chars text)) ≡ text
+plain_bytes text utf8 = ap encode_utf8_all (plain_text (chars text)) ∙ encodes-chars text utf8
+
 -- every value but a string is a word
 pub other_value : (what : ValueClass) (text : List ℕ) → (what ≡ class.Text → ⊥) → js_value what text ≡ js_word text
 other_value class.Text text other = absurd (other refl)
@@ -88,3 +107,13 @@ span_ltr = refl
 pub span_rtl : opening_bytes Rtl ≡ codes "<span dir=\"rtl\">"
 unfolding encode
 span_rtl = refl
+
+-- ---- what stands instead of a text
+
+pub uri_instead : encode_utf8_all (codes "about:invalid#zSoyz") ≡ codes "about:invalid#zSoyz"
+unfolding encode
+uri_instead = refl
+
+pub css_instead : encode_utf8_all (codes "zSoyz") ≡ codes "zSoyz"
+unfolding encode
+css_instead = refl

@@ -1,5 +1,7 @@
 mod AsciiForms
+mod ByteForms
 mod Closed
+mod Directions
 mod Enclosed
 mod Forms
 mod Givings
@@ -13,4 +15,5 @@ mod RunSoFar
 mod SharedRuns
 mod ShareTables
 mod Totals
+mod Wholes
 mod Wrapped

@@ -26,7 +26,7 @@ abbrev is_plain : Escaper → ℕ → Bool
 is_plain how c = stands_for_itself how c && is_clean c
 
 -- a character that stands for itself is its own form
-own_form : (how : Escaper) (c : ℕ) → stands_for_itself how c ≡ true → escaped_character how c ≡ c ∷ []
+pub own_form : (how : Escaper) (c : ℕ) → stands_for_itself how c ≡ true → escaped_character how c ≡ c ∷ []
 own_form how c is = (bytes_eq-Decides (escaped_character how c) (c ∷ [])).0 is
 
 pub clean_itself : (leaves_out : Bool) (c : ℕ) → is_clean c ≡ true → cleaned_or_none leaves_out c ≡ Some c

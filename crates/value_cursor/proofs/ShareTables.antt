@@ -33,7 +33,7 @@ use Rattle.value_cursor.specs.Shares.{AreShares, is_known, is_other, share, tota
 abbrev pub is_own : List ℕ → ℕ → Bool
 is_own shares byte = not (is_other shares byte)
 
-or_second : (x y : Bool) → x ≡ false → (x || y) ≡ true → y ≡ true
+pub or_second : (x y : Bool) → x ≡ false → (x || y) ≡ true → y ≡ true
 or_second true y none either = absurd (true≢false none)
 or_second false y none either = either
 
@@ -46,20 +46,20 @@ first_and_rest : (bytes : List ℕ) → 0 < length bytes → bytes ≡ slice_ind
 first_and_rest [] some = absurd (omega (arith, some))
 first_and_rest (byte ∷ bytes) some = refl
 
-split : (c : ℕ) → encode_utf8 c ≡ lead_byte c ∷ drop 1 (encode_utf8 c)
+pub split : (c : ℕ) → encode_utf8 c ≡ lead_byte c ∷ drop 1 (encode_utf8 c)
 split c = first_and_rest (encode_utf8 c) (begins c)
 
-scalar_below : (c : ℕ) → IsScalar c → c < 1114112
+pub scalar_below : (c : ℕ) → IsScalar c → c < 1114112
 scalar_below c is = ⊎_elim (λ (h : c < 55296). omega arith) (λ (h : (57344 ≤ c) × (c < 1114112)). h.1)
     (scalar_cases c is)
 
 abbrev IsContinuation : ℕ → Type 0
 IsContinuation byte = (128 ≤ byte) × (byte < 192)
 
-abbrev IsHigh : ℕ → Type 0
+abbrev pub IsHigh : ℕ → Type 0
 IsHigh byte = (128 ≤ byte) × (byte < 256)
 
-lead_high : (c : ℕ) → 128 ≤ c → c < 1114112 → (192 ≤ lead_byte c) × (lead_byte c < 256)
+pub lead_high : (c : ℕ) → 128 ≤ c → c < 1114112 → (192 ≤ lead_byte c) × (lead_byte c < 256)
 unfolding encode
 lead_high c high small = grind (arith, nat_tests)
 
@@ -67,7 +67,7 @@ continuations : (c : ℕ) → 128 ≤ c → c < 1114112 → AllByRecursion IsCon
 unfolding encode
 continuations c high small = grind (arith, nat_tests)
 
-high_bytes : (c : ℕ) → 128 ≤ c → c < 1114112 → AllByRecursion IsHigh (encode_utf8 c)
+pub high_bytes : (c : ℕ) → 128 ≤ c → c < 1114112 → AllByRecursion IsHigh (encode_utf8 c)
 unfolding encode
 high_bytes c high small = grind (arith, nat_tests)
 

@@ -1,10 +1,14 @@
 -- The forms of a wrapped text are those of the cleaned text's characters, escaped by the rows of HTML.
 use Rattle.std.proofs.Common.{◌≡◌, ℕ, ◌+◌, Bool, true, false, ◌&&◌, if◌then◌else◌, List, [], ◌∷◌, ◌++◌, None, Some}
-use Rattle.std.proofs.Common.{length, refl, sym, ap, subst, ◌∙◌, append_assoc, append-nil, length-append, arith}
+use Rattle.std.proofs.Common.{length, refl, sym, ap, subst, ◌∙◌, append_assoc, append-nil, length-append, codes}
+use Rattle.std.proofs.Common.{encode_utf8_all, arith}
 use Rattle.std.specs.Char.{len_utf8}
 use Rattle.std.specs.List.{flat_map, enumerate_from, list_all}
 use Rattle.std.specs.Option.{option_map_or}
 use Rattle.std.proofs.lemmas.Grind.{flat_map-append}
+use Rattle.bidi_text.specs.Estimate.{estimated_direction}
+use Rattle.bidi_text.specs.Wrap.{wrapped_text}
+use Rattle.soy_base.specs.declared.direction.Dir.{Dir}
 use Rattle.bidi_text.specs.Clean.{cleaned_character, cleaned_text, is_dropped, is_isolate_control, spaced}
 use Rattle.esc_table.specs.EscapedText.{escaped_character as row_or_character, escaped_text}
 use Rattle.esc_table.specs.HtmlRows.{html_rows}
@@ -16,6 +20,8 @@ use Rattle.value_cursor.specs.Cleaned.{Cleans, cleaned, is_clean, is_left_out}
 use Rattle.value_cursor.specs.declared.cleaning.Cleaning.{Cleaning}
 use Rattle.value_cursor.specs.declared.cleaning.Cleaning.TheVariants as cleaning
 use Rattle.value_cursor.specs.declared.plan.Plan.{Plan}
+use Rattle.value_cursor.proofs.Enclosed.{opening_bytes, span_end, wrapped_bytes}
+use Rattle.value_cursor.proofs.Forms.{escaped_forms}
 use Rattle.value_cursor.proofs.LeftOut.{clean_at, left_out_is_dropped}
 use Rattle.value_cursor.proofs.PlainRuns.{clean_itself}
 
@@ -65,3 +71,20 @@ module _ (plan : Plan) (text : List ℕ) (html : plan.how ≡ escaper.Html) (cle
 
   pub forms_cleaned : forms plan 0 text ≡ escaped_text html_rows (cleaned_text text)
   forms_cleaned = forms_are [] text refl
+
+-- a text that needs no cleaning, in bytes
+pub wrapped_clean : (text : List ℕ) (context direction : Dir) → list_all is_clean text ≡ true
+    → direction ≡ estimated_direction text context
+    → (opening_bytes direction ++ encode_utf8_all (flat_map (escaped_character escaper.Html) text)) ++ codes "</span>"
+    ≡ encode_utf8_all (wrapped_text text context)
+wrapped_clean text context direction clean is =
+    let plan : Plan = record { how = escaper.Html; cleaning = cleaning.Nothing; instead = None } in
+    let estimated : Dir = estimated_direction text context in
+    let body : List ℕ = escaped_text html_rows (cleaned_text text) in
+    let same : flat_map (escaped_character escaper.Html) text ≡ body =
+    sym (escaped_forms plan escaper.Html refl refl 0 text) ∙ forms_cleaned plan text refl clean in
+    ap (λ d. (opening_bytes d ++ encode_utf8_all (flat_map (escaped_character escaper.Html) text))
+    ++ codes "</span>") is
+    ∙ ap (λ l. (opening_bytes estimated ++ encode_utf8_all l) ++ codes "</span>") same
+    ∙ ap (λ l. (opening_bytes estimated ++ encode_utf8_all body) ++ l) (sym span_end)
+    ∙ sym (wrapped_bytes estimated body)

@@ -1,7 +1,9 @@
 pub mod AsciiForms
+pub mod ByteForms
 pub mod Cleaned
 pub mod BytesLeft
 pub mod EscapedForm
 pub mod Gives
+pub mod GivesWhole
 pub mod Joined
 pub mod Shares

@@ -1,7 +1,9 @@
 //! The escaped forms of the characters of ASCII.
-ghost use Rattle.std.specs.Prelude.{◌≡◌, ◌<◌, IfSome, encode_utf8_all, map};
+ghost use Rattle.std.specs.Prelude.{◌≡◌, ◌<◌, IfSome, encode_utf8_all, map, true};
+ghost use Rattle.std.specs.List.{list_all};
 ghost use Rattle.escapers.specs.Esc.{escaped_character};
 ghost use Rattle.value_cursor.specs.AsciiForms.{ascii_forms};
+ghost use Rattle.value_cursor.specs.ByteForms.{is_short};
 
 use escapers::Escaper;
 
@@ -105,17 +107,17 @@ static CSS_STRING: [&str; 128] = [
     "x", "y", "z", "\\7b ", "|", "\\7d ", "~", "\\7f ", //
 ];
 
-/// The form of a character of ASCII by an escaper, where there is a table of them.
-pub(crate) fn ascii_form(how: Escaper, c: u8) -> Option<&'static str>
-    requires { c < 0x80 }
-    ensures { IfSome result (λ form. form.now ≡ encode_utf8_all (escaped_character how c)) }
+/// The forms of ASCII by an escaper, where there is a table of them. None has more than six bytes.
+pub(crate) fn forms_by(how: Escaper) -> Option<&'static [&'static str; 128]>
+    ensures forms { IfSome result (λ forms. map (λ form. form.now) forms.now ≡ ascii_forms how) }
+    ensures short { IfSome result (λ _. list_all is_short (ascii_forms how) ≡ true) }
 {
     match how {
-        Escaper::Html => Some(text_of(how, &HTML, c)),
-        Escaper::UriNormal => Some(text_of(how, &URI_NORMAL, c)),
-        Escaper::UriComponent => Some(text_of(how, &URI_COMPONENT, c)),
-        Escaper::JsString => Some(text_of(how, &JS_STRING, c)),
-        Escaper::CssString => Some(text_of(how, &CSS_STRING, c)),
+        Escaper::Html => Some(&HTML),
+        Escaper::UriNormal => Some(&URI_NORMAL),
+        Escaper::UriComponent => Some(&URI_COMPONENT),
+        Escaper::JsString => Some(&JS_STRING),
+        Escaper::CssString => Some(&CSS_STRING),
         Escaper::Wrap
         | Escaper::UriStart
         | Escaper::JsValue
@@ -125,8 +127,19 @@ pub(crate) fn ascii_form(how: Escaper, c: u8) -> Option<&'static str>
     }
 }
 
+/// The form of a character of ASCII by an escaper, where there is a table of them.
+pub(crate) fn ascii_form(how: Escaper, c: u8) -> Option<&'static str>
+    requires { c < 0x80 }
+    ensures { IfSome result (λ form. form.now ≡ encode_utf8_all (escaped_character how c)) }
+{
+    match forms_by(how) {
+        Some(forms) => Some(text_of(how, forms, c)),
+        None => None,
+    }
+}
+
 /// The text of a character of ASCII in an escaper's table.
-fn text_of(_how: Escaper, texts: &[&'static str; 128], c: u8) -> &'static str
+pub(crate) fn text_of(_how: Escaper, texts: &[&'static str; 128], c: u8) -> &'static str
     requires low { c < 0x80 }
     requires texts { map (λ text. text.now) texts.now ≡ ascii_forms _how }
     ensures { result.now ≡ encode_utf8_all (escaped_character _how c) }

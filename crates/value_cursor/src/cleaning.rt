@@ -68,7 +68,7 @@ impl Cleaning {
 }
 
 /// Whether no cleaning changes the text.
-fn is_clean_text(text: &str) -> bool
+pub(crate) fn is_clean_text(text: &str) -> bool
     ensures { result ≡ list_all is_clean (chars text.now) }
 {
     is_printable(text) || text.chars().all(is_clean)
@@ -82,7 +82,8 @@ fn is_printable(text: &str) -> bool
     all_printable(text.as_bytes())
 }
 
-fn all_printable(bytes: &[u8]) -> bool
+/// Whether all bytes are printable characters of ASCII.
+pub(crate) fn all_printable(bytes: &[u8]) -> bool
     ensures { result ≡ list_all is_printable bytes.now }
 {
     bytes.iter().all(|byte| is_printable_byte(*byte))

@@ -25,22 +25,22 @@ returns-in-Err-clause-value c =
     let q = params_left c.args.params.now d c.loop-param.param-index p c.loop-param-test.true c.param-item.is in
     let whole =
     c.loop-param.invariant.read
-    ∙ ap (λ x. onward (λ rest. map view_entry c.loop-param.entries ++ rest) x) q in
+    ∙ ap (λ x. onward (λ rest. map view_entry c.loop-param.entries.items ++ rest) x) q in
     let named =
     named_read p.name c.text-name.result.now (value_at (param_type (view_param p))) d view_entry (Err c.in-Err.refusal)
     c.text-name.ensures.characters c.text-name.ensures.bytes (c.in-Err.ensures.value _ c.read_param.ensures.value) in
-    stops view_entry view_value (λ es. RecordValue (entries_of es)) _ c.loop-param.entries _ _ c.in-Err.refusal whole
-    named
+    stops view_entry view_value (λ es. RecordValue (entries_of es)) _ c.loop-param.entries.items _ _ c.in-Err.refusal
+    whole named
 
 pub returns-clause-value : goal.returns-clause-value
 returns-clause-value c =
     let nil = drop_all c.loop-param.param-index c.args.params.now c.loop-param-test.false in
     let whole =
     c.loop-param.invariant.read
-    ∙ ap (λ x. onward (λ rest. map view_entry c.loop-param.entries ++ rest)
+    ∙ ap (λ x. onward (λ rest. map view_entry c.loop-param.entries.items ++ rest)
     (all_read (param_results (view_params x) (view c.args.json.now)))) nil in
-    ends view_entry (λ es. RecordValue (entries_of es)) _ c.loop-param.entries whole
-    ∙ ap Ok (sym (ap (λ es. view_value (code_value.Fields es)) c.done.ensures ∙ view_record c.loop-param.entries))
+    ends view_entry (λ es. RecordValue (entries_of es)) _ c.loop-param.entries.items whole
+    ∙ ap Ok (sym (ap (λ es. view_value (code_value.Fields es)) c.new.ensures ∙ view_record c.loop-param.entries.items))
 
 pub loop-param-preserved : goal.loop-param-preserved
 loop-param-preserved c =
@@ -49,13 +49,14 @@ loop-param-preserved c =
     let q = params_left c.args.params.now d c.loop-param.param-index p c.loop-param-test.true c.param-item.is in
     let whole =
     c.loop-param.invariant.read
-    ∙ ap (λ x. onward (λ rest. map view_entry c.loop-param.entries ++ rest) x) q in
+    ∙ ap (λ x. onward (λ rest. map view_entry c.loop-param.entries.items ++ rest) x) q in
     let named =
     named_read p.name c.text-name.result.now (value_at (param_type (view_param p))) d view_entry (Ok c.in-Ok.entry)
     c.text-name.ensures.characters c.text-name.ensures.bytes (c.in-Ok.ensures.value _ c.read_param.ensures.value) in
     record {
-      read = rw c.in_ok-push-in-Ok.ensures.ok (goes_on view_entry _ c.loop-param.entries _ _ c.in-Ok.entry whole named);
-      short = rw c.in_ok-push-in-Ok.ensures.ok
-          (entries_short-more view_entry c.loop-param.entries c.in-Ok.entry c.loop-param.invariant.short
+      read = rw c.in_ok-put-in-Ok.ensures.ok
+          (goes_on view_entry _ c.loop-param.entries.items _ _ c.in-Ok.entry whole named);
+      short = rw c.in_ok-put-in-Ok.ensures.ok
+          (entries_short-more view_entry c.loop-param.entries.items c.in-Ok.entry c.loop-param.invariant.short
           (c.in-Ok.ensures.short c.read_param.ensures.short));
     }

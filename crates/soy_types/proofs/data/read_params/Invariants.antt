@@ -11,7 +11,7 @@ abbrev pub invariant-loop-param : goal.invariant-loop-param
 invariant-loop-param l =
     record {
       read : all_read (param_results (view_params l.params) (view l.json))
-          ≡ onward (λ rest. map view_entry l.entries ++ rest)
+          ≡ onward (λ rest. map view_entry l.entries.items ++ rest)
           (all_read (param_results (view_params (drop l.param-index l.params)) (view l.json)));
-      short : EntriesShort (entries_of (map view_entry l.entries));
+      short : EntriesShort (entries_of (map view_entry l.entries.items));
     }

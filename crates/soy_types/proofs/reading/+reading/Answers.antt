@@ -29,8 +29,8 @@ read_items-returns-in-Err-clause-value t c =
     c.index-items-index.is in
     let whole =
     c.loop-index.invariant.read
-    ∙ ap (λ x. onward (λ rest. map view_value c.loop-index.values ++ rest) x) q in
-    stops view_value view_value (λ vs. ListValue (items_of vs)) _ c.loop-index.values _ _ c.in-Err.refusal whole
+    ∙ ap (λ x. onward (λ rest. map view_value c.loop-index.values.items ++ rest) x) q in
+    stops view_value view_value (λ vs. ListValue (items_of vs)) _ c.loop-index.values.items _ _ c.in-Err.refusal whole
     (c.in-Err.ensures.value _ c.read_value.ensures.value)
 
 pub read_items-returns-clause-value : goal.read_items-returns-clause-value
@@ -39,10 +39,10 @@ read_items-returns-clause-value t c =
     let nil = drop_all c.loop-index.index c.args.items.now c.loop-index-test.false in
     let whole =
     c.loop-index.invariant.read
-    ∙ ap (λ x. onward (λ rest. map view_value c.loop-index.values ++ rest)
+    ∙ ap (λ x. onward (λ rest. map view_value c.loop-index.values.items ++ rest)
     (all_read (item_results read c.loop-index.index (items_view x)))) nil in
-    ends view_value (λ vs. ListValue (items_of vs)) _ c.loop-index.values whole
-    ∙ ap Ok (sym (ap (λ vs. view_value (code_value.List vs)) c.done.ensures ∙ view_items c.loop-index.values))
+    ends view_value (λ vs. ListValue (items_of vs)) _ c.loop-index.values.items whole
+    ∙ ap Ok (sym (ap (λ vs. view_value (code_value.List vs)) c.new.ensures ∙ view_items c.loop-index.values.items))
 
 pub read_entries-loop-key-preserved : goal.read_entries-loop-key-preserved
 read_entries-loop-key-preserved t c =
@@ -80,12 +80,12 @@ read_fields-returns-in-Err-clause-value t c =
     let q = fields_left c.args.fields.now d c.loop-field.field-index f c.loop-field-test.true c.field-item.is in
     let whole =
     c.loop-field.invariant.read
-    ∙ ap (λ x. onward (λ rest. map view_entry c.loop-field.entries ++ rest) x) q in
+    ∙ ap (λ x. onward (λ rest. map view_entry c.loop-field.entries.items ++ rest) x) q in
     let named =
     named_read f.name c.text-name.result.now (value_at (view_type f.of)) d view_entry (Err c.in-Err.refusal)
     c.text-name.ensures.characters c.text-name.ensures.bytes (c.in-Err.ensures.value _ c.read_member.ensures.value) in
-    stops view_entry view_value (λ es. RecordValue (entries_of es)) _ c.loop-field.entries _ _ c.in-Err.refusal whole
-    named
+    stops view_entry view_value (λ es. RecordValue (entries_of es)) _ c.loop-field.entries.items _ _ c.in-Err.refusal
+    whole named
 
 pub read_fields-loop-field-preserved : goal.read_fields-loop-field-preserved
 read_fields-loop-field-preserved t c =
@@ -94,14 +94,15 @@ read_fields-loop-field-preserved t c =
     let q = fields_left c.args.fields.now d c.loop-field.field-index f c.loop-field-test.true c.field-item.is in
     let whole =
     c.loop-field.invariant.read
-    ∙ ap (λ x. onward (λ rest. map view_entry c.loop-field.entries ++ rest) x) q in
+    ∙ ap (λ x. onward (λ rest. map view_entry c.loop-field.entries.items ++ rest) x) q in
     let named =
     named_read f.name c.text-name.result.now (value_at (view_type f.of)) d view_entry (Ok c.in-Ok.entry)
     c.text-name.ensures.characters c.text-name.ensures.bytes (c.in-Ok.ensures.value _ c.read_member.ensures.value) in
     record {
-      read = rw c.in_ok-push-in-Ok.ensures.ok (goes_on view_entry _ c.loop-field.entries _ _ c.in-Ok.entry whole named);
-      short = rw c.in_ok-push-in-Ok.ensures.ok
-          (entries_short-more view_entry c.loop-field.entries c.in-Ok.entry c.loop-field.invariant.short
+      read = rw c.in_ok-put-in-Ok.ensures.ok
+          (goes_on view_entry _ c.loop-field.entries.items _ _ c.in-Ok.entry whole named);
+      short = rw c.in_ok-put-in-Ok.ensures.ok
+          (entries_short-more view_entry c.loop-field.entries.items c.in-Ok.entry c.loop-field.invariant.short
           (c.in-Ok.ensures.short c.read_member.ensures.short));
     }
 
@@ -110,10 +111,10 @@ read_fields-returns-clause-value t c =
     let nil = drop_all c.loop-field.field-index c.args.fields.now c.loop-field-test.false in
     let whole =
     c.loop-field.invariant.read
-    ∙ ap (λ x. onward (λ rest. map view_entry c.loop-field.entries ++ rest)
+    ∙ ap (λ x. onward (λ rest. map view_entry c.loop-field.entries.items ++ rest)
     (all_read (field_results (view_fields x) (view c.args.json.now)))) nil in
-    ends view_entry (λ es. RecordValue (entries_of es)) _ c.loop-field.entries whole
-    ∙ ap Ok (sym (ap (λ es. view_value (code_value.Fields es)) c.done.ensures ∙ view_record c.loop-field.entries))
+    ends view_entry (λ es. RecordValue (entries_of es)) _ c.loop-field.entries.items whole
+    ∙ ap Ok (sym (ap (λ es. view_value (code_value.Fields es)) c.new.ensures ∙ view_record c.loop-field.entries.items))
 
 pub read_value-returns-in-List-Array-clause-value : goal.read_value-returns-in-List-Array-clause-value
 read_value-returns-in-List-Array-clause-value t c =
@@ -135,22 +136,22 @@ read_items-loop-index-preserved t c =
     c.index-items-index.is in
     let whole =
     c.loop-index.invariant.read
-    ∙ ap (λ x. onward (λ rest. map view_value c.loop-index.values ++ rest) x) q in
+    ∙ ap (λ x. onward (λ rest. map view_value c.loop-index.values.items ++ rest) x) q in
     record {
-      read = rw c.in_ok-push-in-Ok.ensures.ok
-          (goes_on view_value _ c.loop-index.values _ _ c.in-Ok.value whole
+      read = rw c.in_ok-put-in-Ok.ensures.ok
+          (goes_on view_value _ c.loop-index.values.items _ _ c.in-Ok.value whole
           (c.in-Ok.ensures.value _ c.read_value.ensures.value));
       within = omega arith;
-      many = rw c.in_ok-push-in-Ok.ensures.ok
-          (omega (arith, length-append c.loop-index.values (c.in-Ok.value ∷ []), c.loop-index.invariant.many));
-      short = rw c.in_ok-push-in-Ok.ensures.ok
-          (items_short-more view_value c.loop-index.values c.in-Ok.value c.loop-index.invariant.short
+      many = rw c.in_ok-put-in-Ok.ensures.ok
+          (omega (arith, length-append c.loop-index.values.items (c.in-Ok.value ∷ []), c.loop-index.invariant.many));
+      short = rw c.in_ok-put-in-Ok.ensures.ok
+          (items_short-more view_value c.loop-index.values.items c.in-Ok.value c.loop-index.invariant.short
           (c.in-Ok.ensures.short c.read_value.ensures.short));
     }
 
 pub read_items-returns-clause-short : goal.read_items-returns-clause-short
 read_items-returns-clause-short t c =
-    let few : length c.loop-index.values ≤ 9007199254740992 =
+    let few : length c.loop-index.values.items ≤ 9007199254740992 =
     omega (arith, c.loop-index.invariant.many, c.loop-index.invariant.within) in
-    subst (λ vs. HasShortLists (view_value (code_value.List vs))) (sym c.done.ensures)
-    (short_list c.loop-index.values few c.loop-index.invariant.short)
+    subst (λ vs. HasShortLists (view_value (code_value.List vs))) (sym c.new.ensures)
+    (short_list c.loop-index.values.items few c.loop-index.invariant.short)

@@ -11,11 +11,11 @@ abbrev pub invariant-read_items-loop-index : goal.invariant-read_items-loop-inde
 invariant-read_items-loop-index l =
     record {
       read : all_read (item_results (value_at (view_type l.of)) 0 (items_view l.items))
-          ≡ onward (λ rest. map view_value l.values ++ rest)
+          ≡ onward (λ rest. map view_value l.values.items ++ rest)
           (all_read (item_results (value_at (view_type l.of)) l.index (items_view (drop l.index l.items))));
       within : l.index ≤ length l.items;
-      many : length l.values ≡ l.index;
-      short : ItemsShort (items_of (map view_value l.values));
+      many : length l.values.items ≡ l.index;
+      short : ItemsShort (items_of (map view_value l.values.items));
     }
 
 abbrev pub invariant-read_entries-loop-key : goal.invariant-read_entries-loop-key
@@ -31,9 +31,9 @@ abbrev pub invariant-read_fields-loop-field : goal.invariant-read_fields-loop-fi
 invariant-read_fields-loop-field l =
     record {
       read : all_read (field_results (view_fields l.fields) (view l.json))
-          ≡ onward (λ rest. map view_entry l.entries ++ rest)
+          ≡ onward (λ rest. map view_entry l.entries.items ++ rest)
           (all_read (field_results (view_fields (drop l.field-index l.fields)) (view l.json)));
-      short : EntriesShort (entries_of (map view_entry l.entries));
+      short : EntriesShort (entries_of (map view_entry l.entries.items));
     }
 
 abbrev pub invariant-read_first-loop-of : goal.invariant-read_first-loop-of

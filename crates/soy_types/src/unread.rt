@@ -1,0 +1,23 @@
+//! Why nothing is read over lent texts.
+
+ghost use Rattle.std.specs.Prelude.{◌≡◌};
+
+use soy_base::OutOfMemory;
+
+/// Why there is no value: nothing fits, this way of reading can't say, or memory ran out.
+#[derive(Clone, Copy, Drop)]
+pub(crate) enum Unread {
+    Unfit,
+    Undecided,
+    OutOfMemory,
+}
+
+impl From<OutOfMemory> for Unread {
+    ghost use Rattle.soy_types.specs.declared.unread.Unread.TheVariants as unread;
+
+    ghost from_gives = { λ _ r. r ≡ unread.OutOfMemory };
+
+    fn from(_: OutOfMemory) -> Unread {
+        Unread::OutOfMemory
+    }
+}
