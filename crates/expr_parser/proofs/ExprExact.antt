@@ -9,7 +9,7 @@ use Rattle.soy_lexer.specs.declared.token.TokenKind.TheVariants as kind
 use Rattle.soy_tree.specs.declared.expr.ExprNode.TheVariants as node
 use Rattle.expr_parser.specs.declared.terminal.Terminal.TheVariants as terminal
 use Rattle.expr_parser.specs.declared.frame.Frame.{Frame}
-use Rattle.expr_parser.specs.declared.frame.Nested.{Nested}
+use Rattle.expr_parser.specs.Frames.{Nested}
 use Rattle.expr_parser.specs.declared.operand.Operand.{Operand}
 use Rattle.expr_parser.specs.declared.state.Expected.{Expected}
 use Rattle.expr_parser.specs.declared.state.Expected.TheVariants as expected

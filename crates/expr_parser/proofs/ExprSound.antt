@@ -16,7 +16,7 @@ use Rattle.expr_parser.specs.declared.frame.Pending.TheVariants as pending
 use Rattle.expr_parser.specs.declared.frame.Bracket.TheVariants as bracket
 use Rattle.expr_parser.specs.declared.frame.Frame.{Frame}
 use Rattle.expr_parser.specs.declared.frame.Frame.TheVariants as frame
-use Rattle.expr_parser.specs.declared.frame.Nested.{Nested}
+use Rattle.expr_parser.specs.Frames.{Nested}
 use Rattle.expr_parser.specs.declared.operand.Operand.{Operand}
 use Rattle.expr_parser.specs.declared.state.Expected.{Expected}
 use Rattle.expr_parser.specs.declared.state.Expected.TheVariants as expected

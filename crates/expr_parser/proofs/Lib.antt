@@ -20,3 +20,4 @@ pub mod Longest
 pub mod ExprAnswers
 pub mod TypeAnswers
 pub mod TypeForms
+pub mod ExprEnding

@@ -7,8 +7,8 @@ use Rattle.expr_parser.specs.declared.operand.Operand.{Operand}
 use Rattle.expr_parser.specs.declared.parse.Outcome.{Outcome}
 use Rattle.expr_parser.specs.declared.parse.Outcome.TheVariants.{Done, Refused}
 use Rattle.expr_parser.specs.declared.state.ExprState.{ExprState}
-use Rattle.expr_parser.specs.declared.state.ExprStep.{ExprStep}
-use Rattle.expr_parser.specs.declared.state.ExprStep.TheVariants.{Next, End}
+use Rattle.expr_parser.specs.ExprSteps.{ExprStep}
+use Rattle.expr_parser.specs.ExprSteps.ExprStep.{Next, End}
 use Rattle.expr_parser.specs.Depths.{is_within}
 use Rattle.expr_parser.specs.ExprSteps.{expr_step, whole_expr, expr_depth}
 

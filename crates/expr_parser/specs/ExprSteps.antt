@@ -2,7 +2,7 @@
 -- goes on.
 -- Example: after `(1` a `)` gives an operand, a `+` opens a frame in which an operand is expected, and a `]` has no
 -- step.
-use Rattle.std.specs.Prelude.{ℕ, Bool, List, [], ◌∷◌, Option, Some, None}
+use Rattle.std.specs.Prelude.{ℕ, Bool, true, false, List, [], ◌∷◌, Option, Some, None}
 use Rattle.soy_lexer.specs.declared.token.Token.{Token}
 use Rattle.soy_lexer.specs.declared.token.TokenKind.{TokenKind}
 use Rattle.soy_lexer.specs.declared.token.TokenKind.TheVariants as kind
@@ -15,17 +15,14 @@ use Rattle.expr_parser.specs.declared.frame.Pending.TheVariants as pending
 use Rattle.expr_parser.specs.declared.frame.Bracket.TheVariants as bracket
 use Rattle.expr_parser.specs.declared.frame.Frame.{Frame}
 use Rattle.expr_parser.specs.declared.frame.Frame.TheVariants as frame
-use Rattle.expr_parser.specs.declared.frame.Nested.{Nested}
 use Rattle.expr_parser.specs.declared.operand.Operand.{Operand}
 use Rattle.expr_parser.specs.declared.state.Expected.{Expected}
 use Rattle.expr_parser.specs.declared.state.Expected.TheVariants as expected
 use Rattle.expr_parser.specs.declared.state.ExprState.{ExprState}
-use Rattle.expr_parser.specs.declared.state.ExprStep.{ExprStep}
-use Rattle.expr_parser.specs.declared.state.ExprStep.TheVariants as step
 use Rattle.expr_parser.specs.Depths.{deeper}
 use Rattle.expr_parser.specs.Operands.{atom, member, indexed, in_parens, level_of}
 use Rattle.expr_parser.specs.Terminals.{terminal_of}
-use Rattle.expr_parser.specs.Frames.{reduced, raised}
+use Rattle.expr_parser.specs.Frames.{Nested, reduced, raised}
 
 abbrev pub at : List Frame → Expected → ExprState
 at frames expected = record { frames = frames; expected = expected }
@@ -126,10 +123,25 @@ whole_at _ frames = None
 abbrev pub whole_expr : ExprState → Option Operand
 whole_expr s = whole_at s.expected s.frames
 
--- what a token does: the state after it, or what was read before it as a whole expression
+-- what a token does: some expression goes on with it, and this is the state after it; or none does, and then what was
+-- read before it is a whole expression or isn't
+pub data ExprStep : Type 0 where
+  Next : ExprState → ExprStep
+  End : Option Operand → ExprStep
+
+-- what was read, where no expression goes on with the token
+abbrev pub given : Expected → Option Operand
+given (expected.Operator x) = Some x
+given _ = None
+
+-- what a step in place did that leaves this state, by whether some expression goes on with the token
+abbrev pub stepped : Bool → ExprState → ExprStep
+stepped true to = Next to
+stepped false left = End (given left.expected)
+
 abbrev pub step_of : Option ExprState → Option Operand → ExprStep
-step_of (Some to) before = step.Next to
-step_of None before = step.End before
+step_of (Some to) before = Next to
+step_of None before = End before
 
 abbrev pub operand_step : List Frame → Token → Terminal → ExprStep
 operand_step frames token m = step_of (operand_next frames token m) None
@@ -139,6 +151,25 @@ name_step frames x takes_null token k = step_of (name_next frames x takes_null t
 
 abbrev pub operator_step : List Frame → Operand → Token → Terminal → ExprStep
 operator_step frames x token m = step_of (operator_next frames x token m) (whole (reduced 9 frames x))
+
+-- the `}` of a command after one operand in no frame
+abbrev pub has_none : List Frame → Bool
+has_none [] = true
+has_none (f ∷ fs) = false
+
+abbrev pub alone_at : Expected → List Frame → Bool
+alone_at (expected.Operator x) frames = has_none frames
+alone_at _ frames = false
+
+abbrev pub is_alone : ExprState → Bool
+is_alone s = alone_at s.expected s.frames
+
+abbrev pub ended_at : TokenKind → ExprState → Bool
+ended_at kind.End s = is_alone s
+ended_at _ s = false
+
+abbrev pub is_ended : ExprState → Token → Bool
+is_ended s t = ended_at t.kind s
 
 abbrev pub step_at : Expected → List Frame → Token → ExprStep
 step_at expected.Operand frames token = operand_step frames token (terminal_of token)

@@ -9,10 +9,17 @@ use Rattle.expr_parser.specs.declared.frame.Bracket.{Bracket}
 use Rattle.expr_parser.specs.declared.frame.Bracket.TheVariants as bracket
 use Rattle.expr_parser.specs.declared.frame.Frame.{Frame}
 use Rattle.expr_parser.specs.declared.frame.Frame.TheVariants as frame
-use Rattle.expr_parser.specs.declared.frame.Nested.{Nested}
 use Rattle.expr_parser.specs.declared.operand.Operand.{Operand}
 use Rattle.expr_parser.specs.Depths.{deeper}
 use Rattle.expr_parser.specs.Operands.{negated, inverted, combined, coalesced, conditional, level_of}
+
+-- an operand, and the frames in which it stands
+pub record Nested : Type 0 where
+  pub frames : List Frame
+  pub operand : Operand
+
+abbrev pub in_frames : List Frame → Operand → Nested
+in_frames frames x = record { frames = frames; operand = x }
 
 -- the level of an operator that waits for its last operand
 abbrev pub level : Pending → ℕ

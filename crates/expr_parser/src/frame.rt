@@ -1,7 +1,8 @@
 //! What is open inside an expression, and closing it by precedence.
 
 ghost use Rattle.std.specs.Prelude.{◌≡◌, ◌∷◌, IfOk};
-ghost use Rattle.expr_parser.specs.Frames.{level, closed, reduced, branch, pending_branch, bracket_branch, raised};
+ghost use Rattle.expr_parser.specs.Frames.{level, closed, reduced, branch, in_frames, pending_branch, bracket_branch};
+ghost use Rattle.expr_parser.specs.Frames.{raised};
 
 use crate::operand::{Operand, deeper, level_of};
 use soy_base::{OutOfMemory, Span, Stack};
@@ -35,23 +36,31 @@ pub enum Frame {
     Bracket(Bracket),
 }
 
-/// An operand, and the frames in which it stands.
-#[derive(Drop)]
-pub struct Nested {
-    pub frames: Stack<Frame>,
-    pub operand: Operand,
-}
-
-/// What is left where the operators up to the level take the operand as their last.
+/// What is left where the operators up to the level take the operand as their last: the frames, and the operand.
 pub fn reduced(
     alloc: Global,
-    frames: Stack<Frame>,
+    frames: &mut Stack<Frame>,
     operand: Operand,
     level: u8,
-) -> Result<Nested, OutOfMemory>
-    ensures { IfOk result (λ r. r ≡ reduced level frames operand) }
+) -> Result<Operand, OutOfMemory>
+    ensures { IfOk result (λ x. in_frames frames.new x ≡ reduced level frames.old operand) }
 {
-    let mut frames = frames;
+    match frames.top() {
+        Some(_) => closed_by(alloc, frames, operand, level),
+        None => Ok(operand),
+    }
+}
+
+/// The same, frame by frame.
+#[inline(never)]
+fn closed_by(
+    alloc: Global,
+    frames: &mut Stack<Frame>,
+    operand: Operand,
+    level: u8,
+) -> Result<Operand, OutOfMemory>
+    ensures { IfOk result (λ x. in_frames frames.new x ≡ reduced level frames.old operand) }
+{
     let mut operand = operand;
     while let Some(frame) = frames.pop() {
         match frame {
@@ -65,16 +74,19 @@ pub fn reduced(
             Frame::Bracket(bracket) => return put_back(frames, Frame::Bracket(bracket), operand),
         }
     }
-    Ok(Nested { frames, operand })
+    Ok(operand)
 }
 
-/// The operand inside the frames, and this one put back on them.
-fn put_back(frames: Stack<Frame>, frame: Frame, operand: Operand) -> Result<Nested, OutOfMemory>
-    ensures { IfOk result (λ r. r ≡ record { frames = frame ∷ frames; operand = operand }) }
+/// The operand, and this frame put back on the frames.
+fn put_back(
+    frames: &mut Stack<Frame>,
+    frame: Frame,
+    operand: Operand,
+) -> Result<Operand, OutOfMemory>
+    ensures { IfOk result (λ x. in_frames frames.new x ≡ in_frames (frame ∷ frames.old) operand) }
 {
-    let mut frames = frames;
     match frames.push(frame) {
-        Ok(()) => Ok(Nested { frames, operand }),
+        Ok(()) => Ok(operand),
         Err(out) => {
             drop(operand);
             Err(out)

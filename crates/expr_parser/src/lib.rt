@@ -23,6 +23,6 @@ pub use laws::{
 };
 pub use operand::Operand;
 pub use parse::{parse_expr, parse_type};
-pub use state::{ExprState, ExprStep};
+pub use state::ExprState;
 pub use type_frame::TypeOperand;
 pub use type_state::{TypeState, TypeStep};

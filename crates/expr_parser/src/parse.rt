@@ -10,7 +10,7 @@ ghost use Rattle.expr_parser.specs.TypeReading.{type_answer, reading_type};
 ghost use Rattle.expr_parser.specs.TypeRuns.{type_start};
 
 use crate::operand::Operand;
-use crate::state::{ExprState, ExprStep};
+use crate::state::ExprState;
 use crate::type_frame::TypeOperand;
 use crate::type_state::{TypeState, TypeStep};
 use crate::type_terminal::TypeTerminal;
@@ -45,27 +45,35 @@ fn answer(read: Option<Operand>, count: usize, offset: u64) -> Outcome
     }
 }
 
-/// What is read of the tokens, one after the other.
-fn read(alloc: Global, tokens: &[Token], blocks: u32) -> Result<Outcome, OutOfMemory>
-    ensures { IfOk result (λ o. o ≡ reading blocks 0 0 tokens.now expr_start) }
+/// What is read of the tokens, one after the other, after what was read before them.
+fn read_on(
+    alloc: Global,
+    state: &mut ExprState,
+    tokens: &[Token],
+    blocks: u32,
+) -> Result<Outcome, OutOfMemory>
+    ensures { IfOk result (λ o. o ≡ reading blocks 0 0 tokens.now state.old) }
 {
-    let mut state = ExprState::start(alloc);
     let mut end = 0;
     for (count, token) in tokens.iter().enumerate() {
-        match state.step(alloc, token)? {
-            ExprStep::Next(to) => {
-                if is_within(blocks, to.depth()) {
-                    state = to;
-                } else {
-                    drop(to);
-                    return Ok(Outcome::Refused(Code::Nesting, token.span.start));
-                }
-            }
-            ExprStep::End(before) => return Ok(answer(before, count, token.span.start)),
+        let at = token.span.start;
+        if !state.step(alloc, token)? {
+            return Ok(answer(state.given(), count, at));
+        }
+        if !is_within(blocks, state.depth()) {
+            return Ok(Outcome::Refused(Code::Nesting, at));
         }
         end = token.span.end;
     }
     Ok(answer(state.finish(alloc)?, tokens.len(), end))
+}
+
+/// What is read of the tokens.
+fn read(alloc: Global, tokens: &[Token], blocks: u32) -> Result<Outcome, OutOfMemory>
+    ensures { IfOk result (λ o. o ≡ reading blocks 0 0 tokens.now expr_start) }
+{
+    let mut state = ExprState::start(alloc);
+    read_on(alloc, &mut state, tokens, blocks)
 }
 
 /// The longest prefix of the tokens with which some expression begins, if it is one, and the number of its tokens;

@@ -1,25 +1,33 @@
 //! The machine that reads an expression, a token a step.
 //!
+//! The state changes where it stands, and each case of a token is a function of its own that is not inlined, since a
+//! function pays at entry for the room of all its cases.
+//!
 //! What is let go is passed to `drop`, which is one call: left to the end of its block, each variant's parts would be
 //! taken apart there, in the model of the function too.
 
 ghost use Rattle.std.specs.Prelude.{◌≡◌, ◌∷◌, IfOk, None, Some};
 ghost use Rattle.expr_parser.specs.ExprRuns.{expr_start};
 ghost use Rattle.expr_parser.specs.ExprSteps.{expr_step, step_of, operand_step, name_step, operator_step, has, opens};
-ghost use Rattle.expr_parser.specs.ExprSteps.{infix_next, colon_next, paren_next, bracket_next};
-ghost use Rattle.expr_parser.specs.ExprSteps.{whole, whole_expr, expr_depth};
-ghost use Rattle.expr_parser.specs.Frames.{reduced};
-ghost use Rattle.expr_parser.specs.Operands.{level_of};
+ghost use Rattle.expr_parser.specs.ExprSteps.{infix_next, coalesce_next, question_next, colon_next, paren_next};
+ghost use Rattle.expr_parser.specs.ExprSteps.{bracket_next, stepped, given, whole, whole_expr, expr_depth};
+ghost use Rattle.expr_parser.specs.ExprSteps.{has_none, is_alone, is_ended};
+ghost use Rattle.expr_parser.specs.ExprSteps.ExprStep.{End};
+ghost use Rattle.expr_parser.specs.Frames.{in_frames, reduced};
+ghost use Rattle.expr_parser.specs.Operands.{atom, level_of};
 ghost use Rattle.expr_parser.specs.Terminals.{terminal_of};
+ghost use Rattle.expr_parser.specs.declared.frame.Bracket.TheVariants as bracket;
 ghost use Rattle.expr_parser.specs.declared.frame.Frame.TheVariants as frame;
+ghost use Rattle.expr_parser.specs.declared.state.Expected.TheVariants as expected;
 
-use crate::frame::{Bracket, Frame, Nested, Pending, raised, reduced};
+use crate::frame::{Bracket, Frame, Pending, raised, reduced};
 use crate::operand::{Operand, deeper, level_of};
 use crate::terminal::Terminal;
 use soy_base::{OutOfMemory, Stack};
 use soy_lexer::{Token, TokenKind};
 use soy_tree::{BinaryOp, ExprNode};
 use std::alloc::Global;
+use std::mem::replace;
 
 /// What may come next inside the innermost frame.
 #[derive(Drop)]
@@ -39,14 +47,6 @@ pub struct ExprState {
     pub(crate) expected: Expected,
 }
 
-/// What a token does: some expression goes on with it, and this is the state after it; or none does, and then what was
-/// read before it is a whole expression or isn't.
-#[derive(Drop)]
-pub enum ExprStep {
-    Next(ExprState),
-    End(Option<Operand>),
-}
-
 impl ExprState {
     /// The state before the first token. Takes no memory.
     pub fn start(alloc: Global) -> ExprState
@@ -58,17 +58,61 @@ impl ExprState {
         }
     }
 
-    /// What a token does.
-    pub fn step(self, alloc: Global, token: &Token) -> Result<ExprStep, OutOfMemory>
-        ensures { IfOk result (λ to. to ≡ expr_step self token.now) }
+    /// Takes a token, and says whether some expression goes on with it; if none does, `given` has what was read before
+    /// it, where that is a whole expression.
+    #[tactic(auto, using(crate::proofs::ExprEnding::ended))]
+    pub fn step(&mut self, alloc: Global, token: &Token) -> Result<bool, OutOfMemory>
+        ensures { IfOk result (λ on. stepped on self.new ≡ expr_step self.old token.now) }
     {
-        let ExprState { frames, expected } = self;
-        match expected {
-            Expected::Operand => at_operand(alloc, frames, token),
-            Expected::Name(operand, takes_null) => at_name(
-                alloc, frames, operand, takes_null, token,
-            ),
-            Expected::Operator(operand) => at_operator(alloc, frames, operand, token),
+        if self.is_ended_by(token) {
+            return Ok(false);
+        }
+        match self.take_expected() {
+            Expected::Operand => at_operand(alloc, self, token),
+            Expected::Name(operand, takes_null) => at_name(alloc, self, operand, takes_null, token),
+            Expected::Operator(operand) => at_operator(alloc, self, operand, token),
+        }
+    }
+
+    /// Whether the `}` of a command follows one operand in no frame, as is most often so: then nothing is moved.
+    fn is_ended_by(&self, token: &Token) -> bool
+        ensures { result ≡ is_ended self.now token.now }
+    {
+        match token.kind {
+            TokenKind::End => self.is_alone(),
+            _ => false,
+        }
+    }
+
+    /// Whether what was read is one operand in no frame.
+    fn is_alone(&self) -> bool
+        ensures { result ≡ is_alone self.now }
+    {
+        match &self.expected {
+            Expected::Operator(_) => has_none(&self.frames),
+            _ => false,
+        }
+    }
+
+    /// What may come next, for a step that says what may come after it.
+    fn take_expected(&mut self) -> Expected
+        ensures expected { result ≡ self.old.expected }
+        ensures left { self.new.expected ≡ expected.Operand }
+        ensures frames { self.new.frames ≡ self.old.frames }
+    {
+        replace(&mut self.expected, Expected::Operand)
+    }
+
+    /// What was read, where no expression went on with the last token; the state is of no use afterwards.
+    pub fn given(&mut self) -> Option<Operand>
+        ensures { result ≡ given self.old.expected }
+    {
+        match self.take_expected() {
+            Expected::Operator(operand) => Some(operand),
+            other => {
+                drop(other);
+                None
+            }
         }
     }
 
@@ -84,52 +128,79 @@ impl ExprState {
         raised(&self.frames, height)
     }
 
-    /// What was read, if it is a whole expression.
-    pub fn finish(self, alloc: Global) -> Result<Option<Operand>, OutOfMemory>
-        ensures { IfOk result (λ x. x ≡ whole_expr self) }
+    /// What was read, if it is a whole expression; the state is of no use afterwards.
+    pub fn finish(&mut self, alloc: Global) -> Result<Option<Operand>, OutOfMemory>
+        ensures { IfOk result (λ x. x ≡ whole_expr self.old) }
     {
-        let ExprState { frames, expected } = self;
-        match expected {
-            Expected::Operator(operand) => Ok(whole(reduced(alloc, frames, operand, 9)?)),
+        match self.take_expected() {
+            Expected::Operator(operand) => {
+                let operand = reduced(alloc, &mut self.frames, operand, 9)?;
+                Ok(whole(&self.frames, operand))
+            }
             other => {
                 drop(other);
                 Ok(None)
             }
         }
     }
+
+    /// This may come next.
+    fn expects(&mut self, expected: Expected) -> bool
+        ensures { stepped result self.new ≡
+            step_of (Some (record { frames = self.old.frames; expected = expected })) None }
+    {
+        self.expected = expected;
+        true
+    }
+
+    /// An operand has come.
+    fn has(&mut self, operand: Operand) -> bool
+        ensures { stepped result self.new ≡ step_of (has self.old.frames operand) None }
+    {
+        self.expects(Expected::Operator(operand))
+    }
+
+    /// An operand is expected inside a further frame.
+    fn opens(&mut self, frame: Frame) -> Result<bool, OutOfMemory>
+        ensures { IfOk result (λ on. stepped on self.new ≡ step_of (opens self.old.frames frame) None) }
+    {
+        self.frames.push(frame)?;
+        Ok(self.expects(Expected::Operand))
+    }
+
+    /// No expression goes on with the token, and what was read before it is none.
+    fn ends_without(&mut self) -> bool
+        ensures { stepped result self.new ≡ End None }
+    {
+        self.expected = Expected::Operand;
+        false
+    }
+
+    /// No expression goes on with the token, and what was read before it is this one.
+    fn ends_with(&mut self, operand: Operand) -> bool
+        ensures { stepped result self.new ≡ End (Some operand) }
+    {
+        self.expected = Expected::Operator(operand);
+        false
+    }
 }
 
-/// An operand has come.
-fn has(frames: Stack<Frame>, operand: Operand) -> ExprStep
-    ensures { result ≡ step_of (has frames operand) None }
+/// Whether no frame is open.
+fn has_none(frames: &Stack<Frame>) -> bool
+    ensures { result ≡ has_none frames.now }
 {
-    ExprStep::Next(ExprState {
-        frames,
-        expected: Expected::Operator(operand),
-    })
-}
-
-/// An operand is expected inside a further frame.
-fn opens(frames: Stack<Frame>, frame: Frame) -> Result<ExprStep, OutOfMemory>
-    ensures { IfOk result (λ to. to ≡ step_of (opens frames frame) None) }
-{
-    let mut frames = frames;
-    frames.push(frame)?;
-    Ok(ExprStep::Next(ExprState {
-        frames,
-        expected: Expected::Operand,
-    }))
+    match frames.top() {
+        Some(_) => false,
+        None => true,
+    }
 }
 
 /// The operand, where no frame is open around it.
-fn whole(nested: Nested) -> Option<Operand>
-    ensures { result ≡ whole nested }
+fn whole(frames: &Stack<Frame>, operand: Operand) -> Option<Operand>
+    ensures { result ≡ whole (in_frames frames.now operand) }
 {
-    let Nested { frames, operand } = nested;
-    let mut frames = frames;
-    match frames.pop() {
-        Some(frame) => {
-            drop(frame);
+    match frames.top() {
+        Some(_) => {
             drop(operand);
             None
         }
@@ -138,209 +209,302 @@ fn whole(nested: Nested) -> Option<Operand>
 }
 
 /// A token where an operand is expected.
-fn at_operand(alloc: Global, frames: Stack<Frame>, token: &Token) -> Result<ExprStep, OutOfMemory>
-    ensures { IfOk result (λ to. to ≡ operand_step frames token.now (terminal_of token.now)) }
+#[inline(never)]
+fn at_operand(alloc: Global, state: &mut ExprState, token: &Token) -> Result<bool, OutOfMemory>
+    ensures { IfOk result (λ on.
+        stepped on state.new ≡ operand_step state.old.frames token.now (terminal_of token.now)) }
 {
-    let node = match Terminal::of(token) {
-        Terminal::Null => ExprNode::Null,
-        Terminal::Bool(value) => ExprNode::Bool(value),
-        Terminal::Int(value) => ExprNode::Int(value),
-        Terminal::Str => ExprNode::Str(token.text.copy(alloc)?),
-        Terminal::Variable => ExprNode::Var(token.text.copy(alloc)?),
-        Terminal::Not => return opens(frames, Frame::Pending(Pending::Not(token.span))),
-        Terminal::Minus => return opens(frames, Frame::Pending(Pending::Neg(token.span))),
-        Terminal::OpenParen => return opens(frames, Frame::Bracket(Bracket::Paren(token.span))),
-        _ => return Ok(ExprStep::End(None)),
-    };
-    Ok(has(frames, Operand::atom(node, token)))
+    match Terminal::of(token) {
+        Terminal::Null => Ok(has_atom(state, ExprNode::Null, token)),
+        Terminal::Bool(value) => Ok(has_atom(state, ExprNode::Bool(value), token)),
+        Terminal::Int(value) => Ok(has_atom(state, ExprNode::Int(value), token)),
+        Terminal::Str => Ok(has_atom(state, ExprNode::Str(token.text.copy(alloc)?), token)),
+        Terminal::Variable => Ok(has_atom(state, ExprNode::Var(token.text.copy(alloc)?), token)),
+        Terminal::Not => state.opens(Frame::Pending(Pending::Not(token.span))),
+        Terminal::Minus => state.opens(Frame::Pending(Pending::Neg(token.span))),
+        Terminal::OpenParen => state.opens(Frame::Bracket(Bracket::Paren(token.span))),
+        _ => Ok(state.ends_without()),
+    }
+}
+
+/// A literal or variable has come.
+fn has_atom(state: &mut ExprState, node: ExprNode, token: &Token) -> bool
+    ensures { stepped result state.new ≡ step_of (has state.old.frames (atom node token.now)) None }
+{
+    state.has(Operand::atom(node, token))
 }
 
 /// A token after a `.` or `?.`.
+#[inline(never)]
 fn at_name(
     alloc: Global,
-    frames: Stack<Frame>,
+    state: &mut ExprState,
     operand: Operand,
     takes_null: bool,
     token: &Token,
-) -> Result<ExprStep, OutOfMemory>
-    ensures { IfOk result (λ to. to ≡ name_step frames operand takes_null token.now token.now.kind) }
+) -> Result<bool, OutOfMemory>
+    ensures { IfOk result (λ on.
+        stepped on state.new ≡ name_step state.old.frames operand takes_null token.now token.now.kind) }
 {
     match token.kind {
-        TokenKind::Word => Ok(has(frames, operand.member(alloc, takes_null, token)?)),
+        TokenKind::Word => Ok(state.has(operand.member(alloc, takes_null, token)?)),
         _ => {
             drop(operand);
-            Ok(ExprStep::End(None))
+            Ok(state.ends_without())
         }
     }
 }
 
 /// A token after an operand.
+#[inline(never)]
 fn at_operator(
     alloc: Global,
-    frames: Stack<Frame>,
+    state: &mut ExprState,
     operand: Operand,
     token: &Token,
-) -> Result<ExprStep, OutOfMemory>
-    ensures { IfOk result (λ to. to ≡ operator_step frames operand token.now (terminal_of token.now)) }
+) -> Result<bool, OutOfMemory>
+    ensures { IfOk result (λ on.
+        stepped on state.new ≡ operator_step state.old.frames operand token.now (terminal_of token.now)) }
 {
     match Terminal::of(token) {
-        Terminal::Dot(takes_null) => Ok(ExprStep::Next(ExprState {
-            frames,
-            expected: Expected::Name(operand, takes_null),
-        })),
-        Terminal::OpenBracket(takes_null) => opens(
-            frames,
-            Frame::Bracket(Bracket::Index(operand, takes_null)),
-        ),
-        Terminal::Infix(op) => infix(alloc, frames, operand, op),
-        Terminal::Minus => infix(alloc, frames, operand, BinaryOp::Sub),
-        Terminal::Coalesce => {
-            let nested = reduced(alloc, frames, operand, 8)?;
-            opens(
-                nested.frames,
-                Frame::Pending(Pending::Coalesce(nested.operand)),
-            )
-        }
-        Terminal::Question => {
-            let nested = reduced(alloc, frames, operand, 8)?;
-            opens(nested.frames, Frame::Bracket(Bracket::Then(nested.operand)))
-        }
-        Terminal::Colon => colon(reduced(alloc, frames, operand, 9)?),
-        Terminal::CloseParen => Ok(close_paren(reduced(alloc, frames, operand, 9)?, token)),
-        Terminal::CloseBracket => close_bracket(alloc, reduced(alloc, frames, operand, 9)?, token),
-        _ => Ok(ExprStep::End(whole(reduced(alloc, frames, operand, 9)?))),
+        Terminal::Dot(takes_null) => Ok(state.expects(Expected::Name(operand, takes_null))),
+        Terminal::OpenBracket(takes_null) => open_bracket(state, operand, takes_null),
+        Terminal::Infix(op) => infix(alloc, state, operand, op),
+        Terminal::Minus => infix(alloc, state, operand, BinaryOp::Sub),
+        Terminal::Coalesce => coalesce(alloc, state, operand),
+        Terminal::Question => question(alloc, state, operand),
+        Terminal::Colon => colon(alloc, state, operand),
+        Terminal::CloseParen => close_paren(alloc, state, operand, token),
+        Terminal::CloseBracket => close_bracket(alloc, state, operand, token),
+        _ => ends(alloc, state, operand),
     }
 }
 
+/// A token with which no expression goes on, after an operand.
+#[inline(never)]
+fn ends(alloc: Global, state: &mut ExprState, operand: Operand) -> Result<bool, OutOfMemory>
+    ensures { IfOk result (λ on. stepped on state.new ≡ End (whole (reduced 9 state.old.frames operand))) }
+{
+    let operand = reduced(alloc, &mut state.frames, operand, 9)?;
+    Ok(has_given(state, operand))
+}
+
+/// What was read is this operand, where no frame is open around it.
+fn has_given(state: &mut ExprState, operand: Operand) -> bool
+    ensures { stepped result state.new ≡ End (whole (in_frames state.old.frames operand)) }
+{
+    match whole(&state.frames, operand) {
+        Some(operand) => state.ends_with(operand),
+        None => state.ends_without(),
+    }
+}
+
+/// A `[` or `?[`.
+#[inline(never)]
+fn open_bracket(
+    state: &mut ExprState,
+    operand: Operand,
+    takes_null: bool,
+) -> Result<bool, OutOfMemory>
+    ensures { IfOk result (λ on. stepped on state.new ≡
+        step_of (opens state.old.frames (frame.Bracket (bracket.Index operand takes_null))) None) }
+{
+    state.opens(Frame::Bracket(Bracket::Index(operand, takes_null)))
+}
+
 /// An operator of the levels 3 to 8.
+#[inline(never)]
 fn infix(
     alloc: Global,
-    frames: Stack<Frame>,
+    state: &mut ExprState,
     operand: Operand,
     op: BinaryOp,
-) -> Result<ExprStep, OutOfMemory>
-    ensures { IfOk result (λ to. to ≡ step_of (infix_next (reduced (level_of op) frames operand) op) None) }
+) -> Result<bool, OutOfMemory>
+    ensures { IfOk result (λ on. stepped on state.new ≡
+        step_of (infix_next (reduced (level_of op) state.old.frames operand) op) None) }
 {
-    let nested = reduced(alloc, frames, operand, level_of(op))?;
-    opens(
-        nested.frames,
-        Frame::Pending(Pending::Binary(op, nested.operand)),
-    )
+    let operand = reduced(alloc, &mut state.frames, operand, level_of(op))?;
+    state.opens(Frame::Pending(Pending::Binary(op, operand)))
+}
+
+/// A `?:` or `??`.
+#[inline(never)]
+fn coalesce(alloc: Global, state: &mut ExprState, operand: Operand) -> Result<bool, OutOfMemory>
+    ensures { IfOk result (λ on. stepped on state.new ≡
+        step_of (coalesce_next (reduced 8 state.old.frames operand)) None) }
+{
+    let operand = reduced(alloc, &mut state.frames, operand, 8)?;
+    state.opens(Frame::Pending(Pending::Coalesce(operand)))
+}
+
+/// The `?` of a `c ? a : b`.
+#[inline(never)]
+fn question(alloc: Global, state: &mut ExprState, operand: Operand) -> Result<bool, OutOfMemory>
+    ensures { IfOk result (λ on. stepped on state.new ≡
+        step_of (question_next (reduced 8 state.old.frames operand)) None) }
+{
+    let operand = reduced(alloc, &mut state.frames, operand, 8)?;
+    state.opens(Frame::Bracket(Bracket::Then(operand)))
 }
 
 /// The `:` of a `c ? a : b`, or of what an expression stands in.
-fn colon(nested: Nested) -> Result<ExprStep, OutOfMemory>
-    ensures { IfOk result (λ to. to ≡ step_of (colon_next nested.frames nested.operand) (whole nested)) }
+#[inline(never)]
+fn colon(alloc: Global, state: &mut ExprState, operand: Operand) -> Result<bool, OutOfMemory>
+    ensures { IfOk result (λ on. stepped on state.new ≡
+        step_of (colon_next (reduced 9 state.old.frames operand).frames (reduced 9 state.old.frames operand).operand)
+        (whole (reduced 9 state.old.frames operand))) }
 {
-    let Nested { frames, operand } = nested;
-    let mut frames = frames;
-    match frames.pop() {
-        Some(Frame::Bracket(bracket)) => middle(frames, bracket, operand),
+    let operand = reduced(alloc, &mut state.frames, operand, 9)?;
+    colon_after(state, operand)
+}
+
+/// A `:` after an operand that no operator takes.
+fn colon_after(state: &mut ExprState, operand: Operand) -> Result<bool, OutOfMemory>
+    ensures { IfOk result (λ on. stepped on state.new ≡
+        step_of (colon_next state.old.frames operand) (whole (in_frames state.old.frames operand))) }
+{
+    match state.frames.pop() {
+        Some(Frame::Bracket(bracket)) => middle(state, bracket, operand),
         Some(Frame::Pending(pending)) => {
             drop(pending);
             drop(operand);
-            Ok(ExprStep::End(None))
+            Ok(state.ends_without())
         }
-        None => Ok(ExprStep::End(Some(operand))),
+        None => Ok(state.ends_with(operand)),
     }
 }
 
 /// The `:` after an operand in a bracket.
-fn middle(frames: Stack<Frame>, bracket: Bracket, operand: Operand) -> Result<ExprStep, OutOfMemory>
-    ensures { IfOk result (λ to. to ≡ step_of (colon_next (frame.Bracket bracket ∷ frames) operand) None) }
+fn middle(state: &mut ExprState, bracket: Bracket, operand: Operand) -> Result<bool, OutOfMemory>
+    ensures { IfOk result (λ on. stepped on state.new ≡
+        step_of (colon_next (frame.Bracket bracket ∷ state.old.frames) operand) None) }
 {
     match bracket {
-        Bracket::Then(condition) => {
-            opens(frames, Frame::Pending(Pending::Else(condition, operand)))
-        }
+        Bracket::Then(condition) => state.opens(Frame::Pending(Pending::Else(condition, operand))),
         Bracket::Paren(_) => {
             drop(operand);
-            Ok(ExprStep::End(None))
+            Ok(state.ends_without())
         }
         Bracket::Index(of, _) => {
             drop(of);
             drop(operand);
-            Ok(ExprStep::End(None))
+            Ok(state.ends_without())
         }
     }
 }
 
 /// A `)`.
-fn close_paren(nested: Nested, token: &Token) -> ExprStep
-    ensures { result ≡ step_of (paren_next nested.frames nested.operand token.now) (whole nested) }
+#[inline(never)]
+fn close_paren(
+    alloc: Global,
+    state: &mut ExprState,
+    operand: Operand,
+    token: &Token,
+) -> Result<bool, OutOfMemory>
+    ensures { IfOk result (λ on. stepped on state.new ≡
+        step_of (paren_next (reduced 9 state.old.frames operand).frames (reduced 9 state.old.frames operand).operand
+        token.now) (whole (reduced 9 state.old.frames operand))) }
 {
-    let Nested { frames, operand } = nested;
-    let mut frames = frames;
-    match frames.pop() {
-        Some(Frame::Bracket(bracket)) => in_parens(frames, bracket, operand, token),
+    let operand = reduced(alloc, &mut state.frames, operand, 9)?;
+    Ok(paren_after(state, operand, token))
+}
+
+/// A `)` after an operand that no operator takes.
+fn paren_after(state: &mut ExprState, operand: Operand, token: &Token) -> bool
+    ensures { stepped result state.new ≡
+        step_of (paren_next state.old.frames operand token.now) (whole (in_frames state.old.frames operand)) }
+{
+    match state.frames.pop() {
+        Some(Frame::Bracket(bracket)) => in_parens(state, bracket, operand, token),
         Some(Frame::Pending(pending)) => {
             drop(pending);
             drop(operand);
-            ExprStep::End(None)
+            state.ends_without()
         }
-        None => ExprStep::End(Some(operand)),
+        None => state.ends_with(operand),
     }
 }
 
 /// The `)` after an operand in a bracket.
-fn in_parens(frames: Stack<Frame>, bracket: Bracket, operand: Operand, token: &Token) -> ExprStep
-    ensures { result ≡ step_of (paren_next (frame.Bracket bracket ∷ frames) operand token.now) None }
+fn in_parens(state: &mut ExprState, bracket: Bracket, operand: Operand, token: &Token) -> bool
+    ensures { stepped result state.new ≡
+        step_of (paren_next (frame.Bracket bracket ∷ state.old.frames) operand token.now) None }
 {
     match bracket {
-        Bracket::Paren(opening) => has(frames, operand.in_parens(opening, token.span)),
+        Bracket::Paren(opening) => state.has(operand.in_parens(opening, token.span)),
         Bracket::Then(condition) => {
             drop(condition);
             drop(operand);
-            ExprStep::End(None)
+            state.ends_without()
         }
         Bracket::Index(of, _) => {
             drop(of);
             drop(operand);
-            ExprStep::End(None)
+            state.ends_without()
         }
     }
 }
 
 /// A `]`.
-fn close_bracket(alloc: Global, nested: Nested, token: &Token) -> Result<ExprStep, OutOfMemory>
-    ensures { IfOk result (λ to. to ≡ step_of (bracket_next nested.frames nested.operand token.now) (whole nested)) }
+#[inline(never)]
+fn close_bracket(
+    alloc: Global,
+    state: &mut ExprState,
+    operand: Operand,
+    token: &Token,
+) -> Result<bool, OutOfMemory>
+    ensures { IfOk result (λ on. stepped on state.new ≡
+        step_of (bracket_next (reduced 9 state.old.frames operand).frames (reduced 9 state.old.frames operand).operand
+        token.now) (whole (reduced 9 state.old.frames operand))) }
 {
-    let Nested { frames, operand } = nested;
-    let mut frames = frames;
-    match frames.pop() {
-        Some(Frame::Bracket(bracket)) => index(alloc, frames, bracket, operand, token),
+    let operand = reduced(alloc, &mut state.frames, operand, 9)?;
+    bracket_after(alloc, state, operand, token)
+}
+
+/// A `]` after an operand that no operator takes.
+fn bracket_after(
+    alloc: Global,
+    state: &mut ExprState,
+    operand: Operand,
+    token: &Token,
+) -> Result<bool, OutOfMemory>
+    ensures { IfOk result (λ on. stepped on state.new ≡
+        step_of (bracket_next state.old.frames operand token.now) (whole (in_frames state.old.frames operand))) }
+{
+    match state.frames.pop() {
+        Some(Frame::Bracket(bracket)) => index(alloc, state, bracket, operand, token),
         Some(Frame::Pending(pending)) => {
             drop(pending);
             drop(operand);
-            Ok(ExprStep::End(None))
+            Ok(state.ends_without())
         }
-        None => Ok(ExprStep::End(Some(operand))),
+        None => Ok(state.ends_with(operand)),
     }
 }
 
 /// The `]` after an operand in a bracket.
 fn index(
     alloc: Global,
-    frames: Stack<Frame>,
+    state: &mut ExprState,
     bracket: Bracket,
     operand: Operand,
     token: &Token,
-) -> Result<ExprStep, OutOfMemory>
-    ensures { IfOk result (λ to. to ≡
-        step_of (bracket_next (frame.Bracket bracket ∷ frames) operand token.now) None) }
+) -> Result<bool, OutOfMemory>
+    ensures { IfOk result (λ on. stepped on state.new ≡
+        step_of (bracket_next (frame.Bracket bracket ∷ state.old.frames) operand token.now) None) }
 {
     match bracket {
         Bracket::Index(of, takes_null) => {
-            Ok(has(frames, of.indexed(alloc, takes_null, operand, token.span)?))
+            Ok(state.has(of.indexed(alloc, takes_null, operand, token.span)?))
         }
         Bracket::Paren(_) => {
             drop(operand);
-            Ok(ExprStep::End(None))
+            Ok(state.ends_without())
         }
         Bracket::Then(condition) => {
             drop(condition);
             drop(operand);
-            Ok(ExprStep::End(None))
+            Ok(state.ends_without())
         }
     }
 }

@@ -170,6 +170,7 @@ fn settled_type(nested: TypeNested) -> Option<TypeOperand>
 }
 
 /// A token where a type is expected.
+#[inline(never)]
 fn at_type(alloc: Global, frames: Stack<TypeFrame>, token: &Token) -> Result<TypeStep, OutOfMemory>
     ensures { IfOk result (λ to. to ≡ type_step_of (type_expected_next frames token.now
         (type_terminal_of token.now)) None) }
@@ -183,6 +184,7 @@ fn at_type(alloc: Global, frames: Stack<TypeFrame>, token: &Token) -> Result<Typ
 }
 
 /// A token after a name.
+#[inline(never)]
 fn after_name(
     alloc: Global,
     frames: Stack<TypeFrame>,
@@ -199,6 +201,7 @@ fn after_name(
 }
 
 /// A `<` after a name.
+#[inline(never)]
 fn less(frames: Stack<TypeFrame>, name: TypeName) -> Result<TypeStep, OutOfMemory>
     ensures { IfOk result (λ to. to ≡ type_step_of (less_next frames name)
         (settled_type (settled frames (named name)))) }
@@ -214,6 +217,7 @@ fn less(frames: Stack<TypeFrame>, name: TypeName) -> Result<TypeStep, OutOfMemor
 }
 
 /// A token after a type.
+#[inline(never)]
 fn at_delimiter(
     alloc: Global,
     frames: Stack<TypeFrame>,
@@ -236,6 +240,7 @@ fn at_delimiter(
 }
 
 /// A `>`.
+#[inline(never)]
 fn greater(alloc: Global, nested: TypeNested) -> Result<TypeStep, OutOfMemory>
     ensures { IfOk result (λ to. to ≡ type_step_of (greater_next nested.frames nested.operand) (settled_type nested)) }
 {
@@ -256,6 +261,7 @@ fn greater(alloc: Global, nested: TypeNested) -> Result<TypeStep, OutOfMemory>
 }
 
 /// A comma after the type of a field, or of what a type stands in.
+#[inline(never)]
 fn comma(nested: TypeNested) -> Result<TypeStep, OutOfMemory>
     ensures { IfOk result (λ to. to ≡ type_step_of (comma_next nested.frames nested.operand) (settled_type nested)) }
 {
@@ -277,6 +283,7 @@ fn comma(nested: TypeNested) -> Result<TypeStep, OutOfMemory>
 }
 
 /// A `]`.
+#[inline(never)]
 fn close_bracket(nested: TypeNested) -> Result<TypeStep, OutOfMemory>
     ensures { IfOk result (λ to. to ≡ type_step_of (close_next nested.frames nested.operand) (settled_type nested)) }
 {
@@ -304,6 +311,7 @@ fn with_field(fields: Row<Field>, name: Text, of: SoyType) -> Result<Row<Field>,
 }
 
 /// The word `string`, as the key of a map.
+#[inline(never)]
 fn at_key(frames: Stack<TypeFrame>, token: &Token) -> TypeStep
     ensures { result ≡ type_step_of (key_next frames (type_terminal_of token.now)) None }
 {
@@ -317,6 +325,7 @@ fn at_key(frames: Stack<TypeFrame>, token: &Token) -> TypeStep
 }
 
 /// The comma after the key of a map.
+#[inline(never)]
 fn at_key_comma(frames: Stack<TypeFrame>, token: &Token) -> Result<TypeStep, OutOfMemory>
     ensures { IfOk result (λ to. to ≡ type_step_of (key_comma_next frames (type_terminal_of token.now)) None) }
 {
@@ -327,6 +336,7 @@ fn at_key_comma(frames: Stack<TypeFrame>, token: &Token) -> Result<TypeStep, Out
 }
 
 /// The name of a field.
+#[inline(never)]
 fn at_field_name(
     alloc: Global,
     frames: Stack<TypeFrame>,
@@ -347,6 +357,7 @@ fn at_field_name(
 }
 
 /// The colon after the name of a field.
+#[inline(never)]
 fn at_field_colon(
     frames: Stack<TypeFrame>,
     fields: Row<Field>,

@@ -1,6 +1,6 @@
 -- What a run holds, as its characters come one by one, and the token that is made of it.
-use Rattle.std.proofs.Common.{◌≡◌, ℕ, ◌+◌, List, [], ◌∷◌, ◌++◌, Bool, true, false, not, ◌||◌, if◌then◌else◌, refl, sym}
-use Rattle.std.proofs.Common.{◌∙◌, ap, subst, append_assoc, append-nil, arith}
+use Rattle.std.proofs.Common.{◌≡◌, ℕ, ◌+◌, List, [], ◌∷◌, ◌++◌, Bool, true, false, not, ◌||◌, ◌&&◌, if◌then◌else◌, refl}
+use Rattle.std.proofs.Common.{sym, ◌∙◌, ap, subst, append_assoc, append-nil, arith}
 use Rattle.std.specs.Char.{len_utf8}
 use Rattle.std.proofs.lemmas.Bool.Decides.{nat_tests}
 use Rattle.std.proofs.lemmas.List.{reverse-append}
@@ -340,6 +340,28 @@ no_token_represented all k e n =
     sym (ap token_of_lines (all_lines k)
     ∙ no_lines (k.done ++ unless_empty (k.line ++ k.tail)) all (filled-append k.done (k.line ++ k.tail) k.filled)
     (all_text k ∙ sym e) n)
+
+-- nothing is left of a run without text and white space, and the next one begins
+nil_append : (first second : List ℕ) → first ≡ [] → second ≡ [] → [] ≡ first ++ second
+nil_append first second p q = rw (p, q) refl
+
+both_nil : (first second : List ℕ) → (is_nil first && is_nil second) ≡ true → (first ≡ []) × (second ≡ [])
+both_nil [] [] e = (refl, refl)
+both_nil [] (c ∷ cs) e = absurd (is_not e)
+  where
+    is_not : false ≡ true → ⊥
+    is_not h = cc
+both_nil (c ∷ cs) second e = absurd (is_not e)
+  where
+    is_not : false ≡ true → ⊥
+    is_not h = cc
+
+pub restarted : {text white : List ℕ} {fresh angle : Bool} {start text_end end : ℕ} {run : List RunCharacter} →
+    Represents text white fresh angle start text_end end run → (is_nil text && is_nil white) ≡ true →
+    ([] ≡ run_token run) × Represents text white false false 0 0 0 []
+restarted {text = text} {white = white} k e =
+    let nils = both_nil text white e in
+    (no_token_represented [] k (nil_append text white nils.0 nils.1) refl, nothing_represented text white nils.0 nils.1)
 
 -- and else one
 pub token_represented : {text white : List ℕ} {fresh angle : Bool} {start text_end end : ℕ} {run : List RunCharacter}

@@ -110,8 +110,20 @@ impl Lexer {
         Ok(())
     }
 
-    /// Ends the run, and adds its token if anything is left of it.
+    /// Ends the run, and adds its token if anything is left of it. Between the tokens of a command there is none.
     fn end_run(&mut self) -> Result<(), OutOfMemory>
+        ensures { OnOk result (EndsRun self.old self.new) }
+    {
+        if self.run.is_empty() {
+            self.run.restart();
+            return Ok(());
+        }
+        self.end_text()
+    }
+
+    /// The same of a run that has text or white space.
+    #[inline(never)]
+    fn end_text(&mut self) -> Result<(), OutOfMemory>
         ensures { OnOk result (EndsRun self.old self.new) }
     {
         let run = replace(&mut self.run, Run::new(self.alloc));

@@ -1,7 +1,8 @@
 //! A text run as it is read, with its lines joined.
 
 ghost use Rattle.std.specs.Prelude.{◌≡◌, ℕ, ◌<◌, ◌+◌, ◌^◌, List, [], ◌∷◌, ◌++◌, OnOk, IfOk, IsTrue, false};
-ghost use Rattle.std.specs.Prelude.{option_to_list, if◌then◌else◌};
+ghost use Rattle.std.specs.Prelude.{option_to_list, if◌then◌else◌, ◌&&◌, true};
+ghost use Rattle.soy_base.specs.Cuts.{is_nil};
 ghost use Rattle.std.specs.Str.{chars};
 ghost use Rattle.std.specs.String.{string_bytes};
 ghost use Rattle.std.specs.List.{list_all};
@@ -174,6 +175,25 @@ impl Run {
             self.end = self.text_end;
         }
         Ok(())
+    }
+
+    /// Whether the run has neither text nor white space.
+    pub(crate) fn is_empty(&self) -> bool
+        ensures { result ≡ is_nil (chars (string_bytes self.now.text)) && is_nil (chars (string_bytes self.now.white)) }
+    {
+        is_empty(self.text.as_str()) && is_empty(self.white.as_str())
+    }
+
+    /// Ends a run that has neither text nor white space, of which no token is made, and begins the next.
+    pub(crate) fn restart(&mut self)
+        requires { (is_nil (chars (string_bytes self.old.text)) && is_nil (chars (string_bytes self.old.white))) ≡ true }
+        ensures { (run : List RunCharacter) → IsRunOf self.old run → ([] ≡ run_token run) × IsRunOf self.new [] }
+    {
+        self.fresh = false;
+        self.angle = false;
+        self.start = 0;
+        self.text_end = 0;
+        self.end = 0;
     }
 
     /// The token of the run, if anything is left of it.

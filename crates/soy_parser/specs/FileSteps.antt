@@ -16,8 +16,8 @@ use Rattle.expr_parser.specs.Operands.{joined}
 use Rattle.expr_parser.specs.TypeRuns.{type_start, is_after_name}
 use Rattle.expr_parser.specs.TypeSteps.{type_step, type_depth, unknown_type}
 use Rattle.expr_parser.specs.declared.operand.Operand.{Operand}
-use Rattle.expr_parser.specs.declared.state.ExprStep.{ExprStep}
-use Rattle.expr_parser.specs.declared.state.ExprStep.TheVariants as expr_does
+use Rattle.expr_parser.specs.ExprSteps.{ExprStep}
+use Rattle.expr_parser.specs.ExprSteps.{ExprStep as expr_does}
 use Rattle.expr_parser.specs.declared.type_state.TypeStep.{TypeStep}
 use Rattle.expr_parser.specs.declared.type_state.TypeStep.TheVariants as type_does
 use Rattle.soy_parser.specs.declared.attributes.AttributeName.{AttributeName}

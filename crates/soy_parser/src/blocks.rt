@@ -158,17 +158,11 @@ impl OpenSwitch {
         ensures { IfOk result (λ s. s ≡ with_case self values body) }
     {
         let mut part = self;
-        let case = Case {
+        part.cases.push(Case {
             values: values.done(),
             body: body.done(),
-        };
-        match part.cases.push(case) {
-            Ok(()) => Ok(part),
-            Err(out) => {
-                drop(part);
-                Err(out)
-            }
-        }
+        })?;
+        Ok(part)
     }
 }
 
@@ -261,10 +255,7 @@ fn arm_goes_on(
     match of {
         Middle::ElseIf(when) => begins(alloc, commands, Block::Arm(part, when)),
         Middle::Else => begins(alloc, commands, Block::Else(part)),
-        of => {
-            drop(part);
-            Ok(refused_middle(of))
-        }
+        of => Ok(refused_middle(of)),
     }
 }
 
@@ -280,10 +271,7 @@ pub(crate) fn case_goes_on(
     match of {
         Middle::Case(values) => begins(alloc, commands, Block::Case(part, values)),
         Middle::Default => begins(alloc, commands, Block::SwitchDefault(part)),
-        of => {
-            drop(part);
-            Ok(refused_middle(of))
-        }
+        of => Ok(refused_middle(of)),
     }
 }
 

@@ -9,6 +9,8 @@ ghost use Rattle.soy_parser.specs.CommandSteps.{single_step, state, template_ope
 ghost use Rattle.soy_parser.specs.CommandSteps.{with_text};
 ghost use Rattle.soy_parser.specs.Reached.{reached};
 ghost use Rattle.soy_parser.specs.declared.block.Content.TheVariants as content;
+ghost use Rattle.soy_parser.specs.declared.command.CommandForm.TheVariants as says;
+ghost use Rattle.soy_parser.specs.declared.command.Single.TheVariants as single;
 
 use crate::block::{
     Block, CommandState, Content, Nodes, OpenIf, OpenMessage, OpenPlural, OpenSelect, OpenSwitch,
@@ -23,7 +25,7 @@ use crate::messages::{choice, parts, plural_goes_on, select_goes_on};
 use crate::nodes::{is_white, joined};
 use crate::terminal::BlockName;
 use soy_base::{OutOfMemory, Row, Seq, Span, Stack, Text};
-use soy_tree::{Argument, Form, Given, Node, Param, Template};
+use soy_tree::{Argument, Expr, Form, Given, Node, Param, Template};
 use std::alloc::Global;
 
 impl CommandState {
@@ -37,7 +39,52 @@ impl CommandState {
         }
     }
 
+    /// Takes a text, as a command.
+    pub(crate) fn takes_text(
+        &mut self,
+        alloc: Global,
+        text: Text,
+        span: Span,
+    ) -> Result<bool, OutOfMemory>
+        ensures { IfOk result (λ on. reached on self.new ≡
+            command_step self.old (record { form = says.Text text; span = span })) }
+    {
+        match &mut self.content {
+            Content::Body(nodes) => {
+                nodes.add_text(text, span)?;
+                Ok(true)
+            }
+            _ => {
+                let form = CommandForm::Text(text);
+                self.step(alloc, Command { form, span })
+            }
+        }
+    }
+
+    /// Takes a print, as a command.
+    pub(crate) fn takes_print(
+        &mut self,
+        alloc: Global,
+        expr: Expr,
+        span: Span,
+    ) -> Result<bool, OutOfMemory>
+        ensures { IfOk result (λ on. reached on self.new ≡
+            command_step self.old (record { form = says.Single (single.Print expr); span = span })) }
+    {
+        match &mut self.content {
+            Content::Body(nodes) => {
+                nodes.add(Form::Print(expr, None), span)?;
+                Ok(true)
+            }
+            _ => {
+                let form = CommandForm::Single(Single::Print(expr));
+                self.step(alloc, Command { form, span })
+            }
+        }
+    }
+
     /// Takes a command, and says whether some file goes on with it; if none does, what was read is of no use.
+    #[inline(never)]
     pub(crate) fn step(&mut self, alloc: Global, command: Command) -> Result<bool, OutOfMemory>
         ensures { IfOk result (λ on. reached on self.new ≡ command_step self.old command) }
     {
@@ -57,6 +104,7 @@ impl CommandState {
 }
 
 /// Before the namespace.
+#[inline(never)]
 fn white(alloc: Global, commands: &mut CommandState, form: CommandForm, span: Span) -> bool
     ensures { reached result commands.new ≡ white_step commands.old.blocks form span }
 {
@@ -70,6 +118,7 @@ fn white(alloc: Global, commands: &mut CommandState, form: CommandForm, span: Sp
 }
 
 /// Between the templates of a file.
+#[inline(never)]
 fn between_templates(
     alloc: Global,
     commands: &mut CommandState,
@@ -119,6 +168,7 @@ fn opens_template(
 }
 
 /// In a body.
+#[inline(never)]
 fn body(
     alloc: Global,
     commands: &mut CommandState,
@@ -149,6 +199,7 @@ fn body(
 }
 
 /// A command with which a block goes on, after these nodes.
+#[inline(never)]
 fn goes_on_after(
     alloc: Global,
     commands: &mut CommandState,
@@ -167,6 +218,7 @@ fn goes_on_after(
 }
 
 /// A command that closes a block, after these nodes.
+#[inline(never)]
 fn closes_after(
     commands: &mut CommandState,
     nodes: Nodes,
@@ -179,6 +231,7 @@ fn closes_after(
 }
 
 /// A text of a body has come.
+#[inline(never)]
 fn text_in_body(
     commands: &mut CommandState,
     nodes: Nodes,
@@ -193,6 +246,7 @@ fn text_in_body(
 }
 
 /// A parameter, after these nodes.
+#[inline(never)]
 fn param_in_body(
     alloc: Global,
     commands: &mut CommandState,
@@ -242,6 +296,7 @@ fn block_param(
 }
 
 /// A command that holds no block, in a body.
+#[inline(never)]
 fn single_in_body(
     alloc: Global,
     commands: &mut CommandState,
@@ -263,6 +318,7 @@ fn single_in_body(
 }
 
 /// A command that opens a block, in a body.
+#[inline(never)]
 fn opens_in_body(
     alloc: Global,
     commands: &mut CommandState,
@@ -350,6 +406,7 @@ pub(crate) fn refused_form(form: CommandForm) -> bool
 }
 
 /// In a call.
+#[inline(never)]
 fn in_call(
     alloc: Global,
     commands: &mut CommandState,
@@ -455,6 +512,7 @@ fn closed_call(
 }
 
 /// Before the first case of a switch, plural or select.
+#[inline(never)]
 fn before_cases(
     alloc: Global,
     commands: &mut CommandState,

@@ -8,6 +8,9 @@ ghost use Rattle.soy_parser.specs.FileSteps.{depth_in, stands, taken, tree_of, u
 ghost use Rattle.soy_parser.specs.Reached.{reached};
 ghost use Rattle.soy_parser.specs.SpellsHead.{bare_head};
 ghost use Rattle.expr_parser.specs.ExprRuns.{expr_start};
+ghost use Rattle.expr_parser.specs.ExprSteps.ExprStep.{Next};
+ghost use Rattle.soy_parser.specs.Heads.{no_attributes};
+ghost use Rattle.soy_parser.specs.declared.spot.CommandSpot.TheVariants as spots;
 ghost use Rattle.soy_parser.specs.declared.spot.Spot.TheVariants as spot;
 ghost use Rattle.soy_parser.specs.declared.terminal.CommandTerminal.TheVariants as terminal;
 
@@ -15,11 +18,12 @@ use crate::attributes::Attributes;
 use crate::block::{CommandState, Content};
 use crate::command::{Command, CommandForm};
 use crate::head::{Head, HeadKind};
+use crate::held::{Held, expr_takes};
 use crate::nodes::joined;
 use crate::spot::{CommandSpot, DottedUse, FileState, Spot, Use};
 use crate::spots::inside;
 use crate::terminal::{CommandTerminal, CommandWord};
-use expr_parser::{ExprState, ExprStep};
+use expr_parser::ExprState;
 use soy_base::{OutOfMemory, Row, Span, Text};
 use soy_lexer::Token;
 use soy_tree::Tree;
@@ -41,11 +45,12 @@ impl FileState {
     pub(crate) fn step(&mut self, alloc: Global, token: &Token) -> Result<bool, OutOfMemory>
         ensures { IfOk result (λ on. reached on self.new ≡ file_step self.old token.now) }
     {
-        let terminal = CommandTerminal::of(token);
         match self.take_spot() {
-            CommandSpot::Between => between(alloc, self, token, terminal),
-            CommandSpot::Opened(from) => opened(alloc, self, from, token, terminal),
-            CommandSpot::Inside(from, spot) => inside(alloc, self, from, spot, token, terminal),
+            CommandSpot::Between => between(alloc, self, token, CommandTerminal::of(token)),
+            CommandSpot::Opened(from) => {
+                opened(alloc, self, from, token, CommandTerminal::of(token))
+            }
+            CommandSpot::Inside(from, spot) => inside(alloc, self, from, spot, token),
         }
     }
 
@@ -73,6 +78,16 @@ impl FileState {
         holds
     }
 
+    /// The reading stands between two commands, as it mostly does already.
+    fn ends_command(&mut self)
+        ensures { self.new ≡ record { commands = self.old.commands; spot = spots.Between } }
+    {
+        match &self.spot {
+            CommandSpot::Between => {}
+            _ => self.set_spot(CommandSpot::Between),
+        }
+    }
+
     /// What was read, if it is a whole file.
     pub(crate) fn finish(&mut self) -> Option<Tree>
         ensures { result ≡ whole_file self.old }
@@ -90,8 +105,8 @@ impl CommandSpot {
         ensures { result ≡ depth_in self.now }
     {
         match self {
-            CommandSpot::Inside(_, Spot::Expr(_, state)) => state.depth(),
-            CommandSpot::Inside(_, Spot::Type(_, _, state)) => state.depth(),
+            CommandSpot::Inside(_, Spot::Expr(_, state)) => state.get().depth(),
+            CommandSpot::Inside(_, Spot::Type(_, _, state)) => state.get().depth(),
             _ => 0,
         }
     }
@@ -102,7 +117,7 @@ impl CommandSpot {
         ensures { result ≡ unknown_in self.now less_follows }
     {
         match self {
-            CommandSpot::Inside(_, Spot::Type(_, _, state)) => state.unknown(less_follows),
+            CommandSpot::Inside(_, Spot::Type(_, _, state)) => state.get().unknown(less_follows),
             _ => None,
         }
     }
@@ -139,7 +154,8 @@ pub(crate) fn stands_if(file: &mut FileState, from: Span, spot: Spot, holds: boo
 }
 
 /// A command has come, as a whole.
-fn takes(
+#[inline(never)]
+pub(crate) fn takes(
     alloc: Global,
     file: &mut FileState,
     form: CommandForm,
@@ -153,11 +169,12 @@ fn takes(
 }
 
 /// A command was taken, if this says so.
-fn taken(file: &mut FileState, is_taken: bool) -> bool
+pub(crate) fn taken(file: &mut FileState, is_taken: bool) -> bool
     ensures { reached result file.new ≡ taken (reached is_taken file.old.commands) }
 {
     if is_taken {
-        file.stands_if(CommandSpot::Between, true)
+        file.ends_command();
+        true
     } else {
         false
     }
@@ -180,6 +197,7 @@ pub(crate) fn ended_command(
 }
 
 /// A token between commands.
+#[inline(never)]
 fn between(
     alloc: Global,
     file: &mut FileState,
@@ -190,8 +208,9 @@ fn between(
 {
     match terminal {
         CommandTerminal::Text => {
-            let form = CommandForm::Text(token.text.copy(alloc)?);
-            takes(alloc, file, form, token.span)
+            let text = token.text.copy(alloc)?;
+            let is_taken = file.commands.takes_text(alloc, text, token.span)?;
+            Ok(taken(file, is_taken))
         }
         CommandTerminal::Begin => Ok(file.stands_if(CommandSpot::Opened(token.span), true)),
         _ => Ok(false),
@@ -224,11 +243,13 @@ fn opened(
             Spot::TemplateParam,
         )),
         CommandTerminal::Word(word) => opened_word(alloc, file, from, token, word),
+        CommandTerminal::Variable => opens_expr(alloc, file, from, token),
         terminal => opens_bare(alloc, file, from, token, terminal),
     }
 }
 
 /// A head of one token, or an expression, directly after the `{` of a command.
+#[inline(never)]
 fn opens_bare(
     alloc: Global,
     file: &mut FileState,
@@ -244,6 +265,7 @@ fn opens_bare(
 }
 
 /// A word directly after the `{` of a command.
+#[inline(never)]
 fn opened_word(
     alloc: Global,
     file: &mut FileState,
@@ -260,33 +282,62 @@ fn opened_word(
             Ok(opens_if(file, from, HeadKind::Namespace, spot))
         }
         CommandWord::Template => Ok(opens_if(file, from, HeadKind::Template, Spot::Template)),
-        CommandWord::If => Ok(opens_expr_if(alloc, file, from, HeadKind::If, Use::If)),
-        CommandWord::ElseIf => Ok(opens_expr_if(alloc, file, from, HeadKind::ElseIf, Use::ElseIf)),
-        CommandWord::Switch => Ok(opens_expr_if(alloc, file, from, HeadKind::Switch, Use::Switch)),
-        CommandWord::Plural => Ok(opens_expr_if(alloc, file, from, HeadKind::Plural, Use::Plural)),
-        CommandWord::Select => Ok(opens_expr_if(alloc, file, from, HeadKind::Select, Use::Select)),
+        CommandWord::If => opens_expr_if(alloc, file, from, HeadKind::If, Use::If),
+        CommandWord::ElseIf => opens_expr_if(alloc, file, from, HeadKind::ElseIf, Use::ElseIf),
+        CommandWord::Switch => opens_expr_if(alloc, file, from, HeadKind::Switch, Use::Switch),
+        CommandWord::Plural => opens_expr_if(alloc, file, from, HeadKind::Plural, Use::Plural),
+        CommandWord::Select => opens_expr_if(alloc, file, from, HeadKind::Select, Use::Select),
         CommandWord::For => Ok(opens_if(file, from, HeadKind::For, Spot::For)),
         CommandWord::Let => Ok(opens_if(file, from, HeadKind::Let, Spot::Let)),
         CommandWord::Call => Ok(opens_if(file, from, HeadKind::Call, Spot::Call)),
         CommandWord::Param => Ok(opens_if(file, from, HeadKind::Param, Spot::Param)),
-        CommandWord::Print => Ok(print_opens(alloc, file, from)),
-        CommandWord::Case => Ok(case_opens(alloc, file, from)),
+        CommandWord::Print => print_opens(alloc, file, from),
+        CommandWord::Case => case_opens(alloc, file, from),
         word => opens_bare(alloc, file, from, token, CommandTerminal::Word(word)),
     }
 }
 
 /// Where an expression is expected.
-pub(crate) fn in_expr(alloc: Global, of: Use) -> Spot
-    ensures { result ≡ spot.Expr of expr_start }
+fn in_expr(alloc: Global, of: Use) -> Result<Spot, OutOfMemory>
+    ensures { IfOk result (λ at. at ≡ spot.Expr of expr_start) }
 {
-    Spot::Expr(of, ExprState::start(alloc))
+    match Held::new(alloc, ExprState::start(alloc)) {
+        Ok(state) => Ok(Spot::Expr(of, state)),
+        Err(out) => {
+            drop(of);
+            Err(out)
+        }
+    }
+}
+
+/// An expression goes on here.
+pub(crate) fn stands_in_expr(
+    alloc: Global,
+    file: &mut FileState,
+    from: Span,
+    of: Use,
+) -> Result<bool, OutOfMemory>
+    ensures { IfOk result (λ on. reached on file.new ≡
+        stands file.old.commands from (spot.Expr of expr_start)) }
+{
+    let spot = in_expr(alloc, of)?;
+    Ok(stands(file, from, spot))
 }
 
 /// An expression is expected here, if some file goes on with a command of this kind.
-fn opens_expr_if(alloc: Global, file: &mut FileState, from: Span, kind: HeadKind, of: Use) -> bool
-    ensures { reached result file.new ≡ opens_if file.old.commands from kind (spot.Expr of expr_start) }
+#[inline(never)]
+fn opens_expr_if(
+    alloc: Global,
+    file: &mut FileState,
+    from: Span,
+    kind: HeadKind,
+    of: Use,
+) -> Result<bool, OutOfMemory>
+    ensures { IfOk result (λ on. reached on file.new ≡
+        opens_if file.old.commands from kind (spot.Expr of expr_start)) }
 {
-    opens_if(file, from, kind, in_expr(alloc, of))
+    let spot = in_expr(alloc, of)?;
+    Ok(opens_if(file, from, kind, spot))
 }
 
 /// What an expression is for that begins a command, where a print may stand.
@@ -303,26 +354,29 @@ fn print_use(commands: &CommandState) -> Option<Use>
 }
 
 /// After the word `print`.
-fn print_opens(alloc: Global, file: &mut FileState, from: Span) -> bool
-    ensures { reached result file.new ≡ print_opens file.old.commands from (print_use file.old.commands) }
+#[inline(never)]
+fn print_opens(alloc: Global, file: &mut FileState, from: Span) -> Result<bool, OutOfMemory>
+    ensures { IfOk result (λ on. reached on file.new ≡
+        print_opens file.old.commands from (print_use file.old.commands)) }
 {
     match print_use(&file.commands) {
-        Some(of) => stands(file, from, in_expr(alloc, of)),
-        None => false,
+        Some(of) => stands_in_expr(alloc, file, from, of),
+        None => Ok(false),
     }
 }
 
 /// After the word `case`.
-fn case_opens(alloc: Global, file: &mut FileState, from: Span) -> bool
-    ensures { reached result file.new ≡ case_opens file.old.commands from }
+#[inline(never)]
+fn case_opens(alloc: Global, file: &mut FileState, from: Span) -> Result<bool, OutOfMemory>
+    ensures { IfOk result (λ on. reached on file.new ≡ case_opens file.old.commands from) }
 {
     if file.commands.admits(HeadKind::Case) {
-        stands(file, from, in_expr(alloc, Use::Case(Row::empty(alloc))))
+        stands_in_expr(alloc, file, from, Use::Case(Row::empty(alloc)))
     } else if file.commands.admits(HeadKind::PluralCase) {
-        stands(file, from, Spot::IntValue(Row::empty(alloc)))
+        Ok(stands(file, from, Spot::IntValue(Row::empty(alloc))))
     } else {
         let spot = Spot::CaseWord(Row::empty(alloc));
-        opens_if(file, from, HeadKind::SelectCase, spot)
+        Ok(opens_if(file, from, HeadKind::SelectCase, spot))
     }
 }
 
@@ -339,14 +393,24 @@ fn bare_opens(
     match head {
         Some(head) => {
             let kind = head.kind();
-            let spot = Spot::Attributes(head, Attributes::none());
+            let spot = after_head(alloc, head)?;
             Ok(opens_if(file, from, kind, spot))
         }
         None => opens_expr(alloc, file, from, token),
     }
 }
 
+/// Where an attribute is expected first, or the end of the command.
+pub(crate) fn after_head(alloc: Global, head: Head) -> Result<Spot, OutOfMemory>
+    ensures { IfOk result (λ at. at ≡ spot.Attributes head no_attributes) }
+{
+    let head = Held::new(alloc, head)?;
+    let attributes = Held::new(alloc, Attributes::none())?;
+    Ok(Spot::Attributes(head, attributes))
+}
+
 /// A token that begins an expression, if one may stand there.
+#[inline(never)]
 fn opens_expr(
     alloc: Global,
     file: &mut FileState,
@@ -355,32 +419,23 @@ fn opens_expr(
 ) -> Result<bool, OutOfMemory>
     ensures { IfOk result (λ on. reached on file.new ≡ bare_opens file.old.commands from None token.now) }
 {
-    let step = ExprState::start(alloc).step(alloc, token)?;
-    Ok(bare_expr(file, from, step))
-}
-
-/// A command that begins with an expression.
-fn bare_expr(file: &mut FileState, from: Span, step: ExprStep) -> bool
-    ensures { reached result file.new ≡ bare_expr file.old.commands from (print_use file.old.commands) step }
-{
-    match print_use(&file.commands) {
-        Some(of) => expr_opens(file, from, of, step),
-        None => {
-            drop(step);
-            false
-        }
+    let mut state = Held::new(alloc, ExprState::start(alloc))?;
+    if expr_takes(&mut state, alloc, token)? {
+        Ok(bare_expr(file, from, state))
+    } else {
+        Ok(false)
     }
 }
 
-/// A command that begins with an expression for this use.
-fn expr_opens(file: &mut FileState, from: Span, of: Use, step: ExprStep) -> bool
-    ensures { reached result file.new ≡ bare_expr file.old.commands from (Some of) step }
+/// A command that begins with an expression, of which this was read.
+fn bare_expr(file: &mut FileState, from: Span, state: Held<ExprState>) -> bool
+    ensures { reached result file.new ≡
+        bare_expr file.old.commands from (print_use file.old.commands) (Next state) }
 {
-    match step {
-        ExprStep::Next(state) => stands(file, from, Spot::Expr(of, state)),
-        ExprStep::End(operand) => {
-            drop(operand);
-            drop(of);
+    match print_use(&file.commands) {
+        Some(of) => stands(file, from, Spot::Expr(of, state)),
+        None => {
+            drop(state);
             false
         }
     }

@@ -7,6 +7,7 @@
 #![tactic(auto)]
 
 mod admission;
+mod attribute_spots;
 mod attributes;
 mod block;
 mod blocks;
@@ -15,6 +16,7 @@ mod commands;
 mod files;
 mod head;
 mod heads;
+mod held;
 mod laws;
 mod messages;
 mod nodes;
@@ -32,6 +34,7 @@ pub use block::{
 };
 pub use command::{Command, CommandForm, Middle, Opening, Single, TemplateOpening};
 pub use head::{Head, HeadKind};
+pub use held::Held;
 pub use laws::{law_file_machine, law_file_spans, law_formed_file, law_one_answer, law_one_file};
 pub use reading::parse;
 pub use spot::{CommandSpot, DottedUse, FileState, Spot, Use};

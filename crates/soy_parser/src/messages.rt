@@ -27,6 +27,7 @@ use soy_tree::{Expr, Form, Message, MessageBody, Node, PluralCase, SelectCase};
 use std::alloc::Global;
 
 /// Among the texts and prints of a message.
+#[inline(never)]
 pub(crate) fn parts(
     alloc: Global,
     commands: &mut CommandState,
@@ -146,18 +147,9 @@ fn message_print(
     ensures { IfOk result (λ on. reached on commands.new ≡
         part_single commands.old.blocks (ended nodes) (single.MessagePrint expr phname) span) }
 {
-    match nodes.ended() {
-        Ok(before) => {
-            let items = with_node(before, Form::Print(expr, phname), span)?;
-            let nodes = Nodes { items, run: None };
-            Ok(commands.holds(Content::Parts(nodes, false)))
-        }
-        Err(out) => {
-            drop(expr);
-            drop(phname);
-            Err(out)
-        }
-    }
+    let items = with_node(nodes.ended()?, Form::Print(expr, phname), span)?;
+    let nodes = Nodes { items, run: None };
+    Ok(commands.holds(Content::Parts(nodes, false)))
 }
 
 /// A plural or select of a message begins.
@@ -177,6 +169,7 @@ fn choice_opens(commands: &mut CommandState, of: Opening) -> Result<bool, OutOfM
 }
 
 /// After a plural or select of a message.
+#[inline(never)]
 pub(crate) fn choice(
     alloc: Global,
     commands: &mut CommandState,
@@ -328,10 +321,7 @@ pub(crate) fn plural_goes_on(
             begins_parts(alloc, commands, Block::PluralCase(part, values))
         }
         Middle::Default => begins_parts(alloc, commands, Block::PluralDefault(part)),
-        of => {
-            drop(part);
-            Ok(refused_middle(of))
-        }
+        of => Ok(refused_middle(of)),
     }
 }
 
@@ -349,10 +339,7 @@ pub(crate) fn select_goes_on(
             begins_parts(alloc, commands, Block::SelectCase(part, values))
         }
         Middle::Default => begins_parts(alloc, commands, Block::SelectDefault(part)),
-        of => {
-            drop(part);
-            Ok(refused_middle(of))
-        }
+        of => Ok(refused_middle(of)),
     }
 }
 
@@ -367,37 +354,21 @@ impl OpenPlural {
     ) -> Result<OpenPlural, OutOfMemory>
         ensures { IfOk result (λ p. p ≡ with_plural_cases self values.now body) }
     {
-        let OpenPlural {
-            selector,
-            offset,
-            cases,
-        } = self;
+        let mut part = self;
         match values.split_last() {
-            Some((last, others)) => match with_plural_copies(alloc, cases, others, &body) {
-                Ok(cases) => match with_plural_case(cases, *last, body) {
-                    Ok(cases) => Ok(OpenPlural {
-                        selector,
-                        offset,
-                        cases,
-                    }),
-                    Err(out) => {
-                        drop(selector);
-                        Err(out)
-                    }
-                },
+            Some((last, others)) => match with_plural_copies(alloc, part.cases, others, &body) {
+                Ok(cases) => {
+                    part.cases = with_plural_case(cases, *last, body)?;
+                    Ok(part)
+                }
                 Err(out) => {
                     drop(body);
-                    drop(selector);
                     Err(out)
                 }
             },
             None => {
                 drop(body);
-                Ok(OpenPlural {
-                    selector,
-                    offset,
-                    cases,
-                })
+                Ok(part)
             }
         }
     }
@@ -444,25 +415,21 @@ impl OpenSelect {
     ) -> Result<OpenSelect, OutOfMemory>
         ensures { IfOk result (λ s. s ≡ with_select_cases self words.now body) }
     {
-        let OpenSelect { selector, cases } = self;
+        let mut part = self;
         match words.split_last() {
-            Some((last, others)) => match with_select_copies(alloc, cases, others, &body) {
-                Ok(cases) => match with_select_case(alloc, cases, last, body) {
-                    Ok(cases) => Ok(OpenSelect { selector, cases }),
-                    Err(out) => {
-                        drop(selector);
-                        Err(out)
-                    }
-                },
+            Some((last, others)) => match with_select_copies(alloc, part.cases, others, &body) {
+                Ok(cases) => {
+                    part.cases = with_select_case(alloc, cases, last, body)?;
+                    Ok(part)
+                }
                 Err(out) => {
                     drop(body);
-                    drop(selector);
                     Err(out)
                 }
             },
             None => {
                 drop(body);
-                Ok(OpenSelect { selector, cases })
+                Ok(part)
             }
         }
     }
@@ -569,9 +536,9 @@ fn closed_message(
     ensures { IfOk result (λ on. reached on commands.new ≡ closed_message commands.old.blocks block body end) }
 {
     match block {
-        Block::Message(message) => message_ends(commands, message, body, end),
+        Block::Message(message) => message_ends(alloc, commands, message, body, end),
         Block::Fallback(message, first, fallback) => {
-            fallback_ends(commands, message, first, fallback, body, end)
+            fallback_ends(alloc, commands, message, first, fallback, body, end)
         }
         Block::PluralDefault(part) => plural_ends(alloc, commands, part, body),
         Block::SelectDefault(part) => select_ends(alloc, commands, part, body),
@@ -584,6 +551,7 @@ fn closed_message(
 
 /// The end of a message without a fallback.
 fn message_ends(
+    alloc: Global,
     commands: &mut CommandState,
     message: OpenMessage,
     body: MessageBody,
@@ -594,12 +562,13 @@ fn message_ends(
 {
     let start = message.start;
     let (before, message) = message.with_body(body);
-    let form = Form::Message(message, None);
+    let form = Form::Message(Boxed::new(alloc, message)?, None);
     adds(commands, before, form, joined(start, end))
 }
 
 /// The end of a message with its fallback.
 fn fallback_ends(
+    alloc: Global,
     commands: &mut CommandState,
     message: OpenMessage,
     first: MessageBody,
@@ -612,7 +581,8 @@ fn fallback_ends(
 {
     let start = message.start;
     let (before, message) = message.with_body(first);
-    let form = Form::Message(message, Some(fallback.with_body(body)));
+    let fallback = Boxed::new(alloc, fallback.with_body(body))?;
+    let form = Form::Message(Boxed::new(alloc, message)?, Some(fallback));
     adds(commands, before, form, joined(start, end))
 }
 
@@ -626,16 +596,9 @@ fn plural_ends(
     ensures { IfOk result (λ on. reached on commands.new ≡ state commands.old.blocks
         (content.Choice (message_body.Plural part.selector part.offset part.cases body))) }
 {
-    match Boxed::new(alloc, body) {
-        Ok(other) => {
-            let body = MessageBody::Plural(part.selector, part.offset, part.cases.done(), other);
-            Ok(commands.holds(Content::Choice(body)))
-        }
-        Err(out) => {
-            drop(part);
-            Err(out)
-        }
-    }
+    let other = Boxed::new(alloc, body)?;
+    let body = MessageBody::Plural(part.selector, part.offset, part.cases.done(), other);
+    Ok(commands.holds(Content::Choice(body)))
 }
 
 /// The end of a select.
@@ -648,16 +611,9 @@ fn select_ends(
     ensures { IfOk result (λ on. reached on commands.new ≡ state commands.old.blocks
         (content.Choice (message_body.Select part.selector part.cases body))) }
 {
-    match Boxed::new(alloc, body) {
-        Ok(other) => {
-            let body = MessageBody::Select(part.selector, part.cases.done(), other);
-            Ok(commands.holds(Content::Choice(body)))
-        }
-        Err(out) => {
-            drop(part);
-            Err(out)
-        }
-    }
+    let other = Boxed::new(alloc, body)?;
+    let body = MessageBody::Select(part.selector, part.cases.done(), other);
+    Ok(commands.holds(Content::Choice(body)))
 }
 
 impl OpenMessage {

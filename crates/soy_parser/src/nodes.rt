@@ -1,11 +1,11 @@
 //! Nodes that are read, and the text after them that may go on.
 
-ghost use Rattle.std.specs.Prelude.{◌≡◌, ◌++◌, ◌∷◌, [], IfOk, Some};
+ghost use Rattle.std.specs.Prelude.{◌≡◌, ◌++◌, ◌∷◌, [], IfOk, OnOk, None, Some};
 ghost use Rattle.std.specs.Str.{chars};
 ghost use Rattle.expr_parser.specs.Operands.{joined};
 ghost use Rattle.soy_base.specs.WhiteSpace.{is_template_space};
 ghost use Rattle.soy_parser.specs.CommandSteps.{ended, has_whole_tags, is_empty, is_white, no_nodes, text_run};
-ghost use Rattle.soy_parser.specs.CommandSteps.{with_text};
+ghost use Rattle.soy_parser.specs.CommandSteps.{nodes_with, with_text};
 ghost use Rattle.soy_parser.specs.CommandSteps.{body_of_parts};
 ghost use Rattle.soy_parser.specs.Nodes.{node_of, text_span, up_to};
 
@@ -67,14 +67,12 @@ fn text_span(text: &Text, more: &Text, a: Span, b: Span) -> Span
 }
 
 impl TextRun {
-    /// The text and one more, as one.
-    fn with(self, more: Text, span: Span) -> Result<TextRun, OutOfMemory>
-        ensures { IfOk result (λ run. run ≡ text_run (Some self) more span) }
+    /// Adds one more text.
+    fn add(&mut self, more: Text, span: Span) -> Result<(), OutOfMemory>
+        ensures { OnOk result (self.new ≡ text_run (Some self.old) more span) }
     {
-        let span = text_span(&self.text, &more, self.span, span);
-        let mut text = self.text;
-        text.append(&more)?;
-        Ok(TextRun { text, span })
+        self.span = text_span(&self.text, &more, self.span, span);
+        self.text.append(&more)
     }
 }
 
@@ -114,15 +112,48 @@ impl Nodes {
     pub(crate) fn with_text(self, text: Text, span: Span) -> Result<Nodes, OutOfMemory>
         ensures { IfOk result (λ nodes. nodes ≡ with_text self text span) }
     {
-        let Nodes { items, run } = self;
-        let run = match run {
-            None => TextRun { text, span },
-            Some(run) => run.with(text, span)?,
-        };
-        Ok(Nodes {
-            items,
-            run: Some(run),
-        })
+        let mut nodes = self;
+        nodes.add_text(text, span)?;
+        Ok(nodes)
+    }
+
+    /// Adds one more text.
+    pub(crate) fn add_text(&mut self, text: Text, span: Span) -> Result<(), OutOfMemory>
+        ensures { OnOk result (self.new ≡ with_text self.old text span) }
+    {
+        match &mut self.run {
+            Some(run) => run.add(text, span),
+            None => {
+                self.run = Some(TextRun { text, span });
+                Ok(())
+            }
+        }
+    }
+
+    /// Adds a node, with which the text before it ends.
+    pub(crate) fn add(&mut self, form: Form, span: Span) -> Result<(), OutOfMemory>
+        ensures { OnOk result (self.new ≡ nodes_with (ended self.old ++ (node_of form span ∷ [])) None) }
+    {
+        match self.end_text() {
+            Ok(()) => self.items.push(Node { form, span }),
+            Err(out) => {
+                drop(form);
+                Err(out)
+            }
+        }
+    }
+
+    /// Ends the text after the nodes, which is then one of them.
+    fn end_text(&mut self) -> Result<(), OutOfMemory>
+        ensures { OnOk result (self.new ≡ nodes_with (ended self.old) None) }
+    {
+        match self.run.take() {
+            Some(run) => self.items.push(Node {
+                form: Form::Text(run.text),
+                span: run.span,
+            }),
+            None => Ok(()),
+        }
     }
 
     /// The nodes where the text doesn't go on.

@@ -6,14 +6,15 @@ ghost use Rattle.expr_parser.specs.TypeSteps.{type_step};
 ghost use Rattle.expr_parser.specs.declared.type_state.TypeStep.TheVariants as type_does;
 ghost use Rattle.soy_parser.specs.FileSteps.{if_colon, in_type, spot_step, stands, template_param_step};
 ghost use Rattle.soy_parser.specs.FileSteps.{template_param_word_step};
+ghost use Rattle.soy_parser.specs.CommandTerminals.{command_terminal_of};
 ghost use Rattle.soy_parser.specs.Reached.{reached};
 ghost use Rattle.soy_parser.specs.declared.spot.Spot.TheVariants as spot;
 
+use crate::attribute_spots::form_done;
 use crate::command::CommandForm;
 use crate::files::stands;
-use crate::head::Head;
+use crate::held::Held;
 use crate::spot::{FileState, Spot};
-use crate::spots::head_done;
 use crate::terminal::{CommandTerminal, CommandWord};
 use expr_parser::{TypeOperand, TypeState, TypeStep};
 use soy_base::{OutOfMemory, Span, Text};
@@ -21,27 +22,28 @@ use soy_lexer::Token;
 use std::alloc::Global;
 
 /// After the `@` of a parameter.
-pub(crate) fn template_param(file: &mut FileState, from: Span, terminal: CommandTerminal) -> bool
-    ensures { reached result file.new ≡ template_param_step file.old.commands from terminal }
+#[inline(never)]
+pub(crate) fn template_param(file: &mut FileState, from: Span, token: &Token) -> bool
+    ensures { reached result file.new ≡ template_param_step file.old.commands from (command_terminal_of token.now) }
 {
-    match terminal {
+    match CommandTerminal::of(token) {
         CommandTerminal::Word(CommandWord::Param) => stands(file, from, Spot::TemplateParamWord),
         _ => false,
     }
 }
 
 /// After the word of a parameter.
+#[inline(never)]
 pub(crate) fn template_param_word(
     alloc: Global,
     file: &mut FileState,
     from: Span,
     token: &Token,
-    terminal: CommandTerminal,
 ) -> Result<bool, OutOfMemory>
     ensures { IfOk result (λ on. reached on file.new ≡
-        template_param_word_step file.old.commands from token.now terminal) }
+        template_param_word_step file.old.commands from token.now (command_terminal_of token.now)) }
 {
-    match terminal {
+    match CommandTerminal::of(token) {
         CommandTerminal::Question => Ok(stands(file, from, Spot::TemplateParamName)),
         CommandTerminal::Word(_) => {
             let name = token.text.copy(alloc)?;
@@ -52,17 +54,17 @@ pub(crate) fn template_param_word(
 }
 
 /// After the `?` of a parameter.
+#[inline(never)]
 pub(crate) fn template_param_name(
     alloc: Global,
     file: &mut FileState,
     from: Span,
     token: &Token,
-    terminal: CommandTerminal,
 ) -> Result<bool, OutOfMemory>
     ensures { IfOk result (λ on. reached on file.new ≡
-        spot_step file.old.commands from spot.TemplateParamName token.now terminal) }
+        spot_step file.old.commands from spot.TemplateParamName token.now (command_terminal_of token.now)) }
 {
-    match terminal {
+    match CommandTerminal::of(token) {
         CommandTerminal::Word(_) => {
             let name = token.text.copy(alloc)?;
             Ok(stands(file, from, Spot::TemplateParamColon(name, false)))
@@ -72,44 +74,45 @@ pub(crate) fn template_param_name(
 }
 
 /// After the name of a parameter.
+#[inline(never)]
 pub(crate) fn template_param_colon(
     alloc: Global,
     file: &mut FileState,
     from: Span,
     name: Text,
     required: bool,
-    terminal: CommandTerminal,
-) -> bool
-    ensures { reached result file.new ≡
-        if_colon terminal (stands file.old.commands from (spot.Type name required type_start)) }
+    token: &Token,
+) -> Result<bool, OutOfMemory>
+    ensures { IfOk result (λ on. reached on file.new ≡
+        if_colon (command_terminal_of token.now) (stands file.old.commands from (spot.Type name required type_start))) }
 {
-    match terminal {
+    match CommandTerminal::of(token) {
         CommandTerminal::Colon => {
-            stands(
-                file,
-                from,
-                Spot::Type(name, required, TypeState::start(alloc)),
-            )
+            let state = Held::new(alloc, TypeState::start(alloc))?;
+            Ok(stands(file, from, Spot::Type(name, required, state)))
         }
-        _ => false,
+        _ => Ok(false),
     }
 }
 
 /// In the type of a parameter.
+#[inline(never)]
 pub(crate) fn in_type(
     alloc: Global,
     file: &mut FileState,
     from: Span,
     name: Text,
     required: bool,
-    state: TypeState,
+    state: Held<TypeState>,
     token: &Token,
 ) -> Result<bool, OutOfMemory>
     ensures { IfOk result (λ on. reached on file.new ≡
         in_type file.old.commands from name required token.now (type_step state token.now)) }
 {
-    let step = state.step(alloc, token)?;
-    after_type_step(alloc, file, from, name, required, step, token)
+    let mut state = state;
+    let before = state.replaced(TypeState::start(alloc));
+    let step = before.step(alloc, token)?;
+    after_type_step(alloc, file, from, name, required, state, step, token)
 }
 
 /// Where the type of a parameter goes on or has ended.
@@ -119,18 +122,24 @@ fn after_type_step(
     from: Span,
     name: Text,
     required: bool,
+    held: Held<TypeState>,
     step: TypeStep,
     token: &Token,
 ) -> Result<bool, OutOfMemory>
     ensures { IfOk result (λ on. reached on file.new ≡ in_type file.old.commands from name required token.now step) }
 {
     match step {
-        TypeStep::Next(state) => Ok(stands(file, from, Spot::Type(name, required, state))),
+        TypeStep::Next(state) => {
+            let mut held = held;
+            drop(held.replaced(state));
+            Ok(stands(file, from, Spot::Type(name, required, held)))
+        }
         TypeStep::End(operand) => type_ends(alloc, file, from, name, required, operand, token),
     }
 }
 
 /// Where the type of a parameter has ended, if what was read is one.
+#[inline(never)]
 fn type_ends(
     alloc: Global,
     file: &mut FileState,
@@ -145,8 +154,8 @@ fn type_ends(
 {
     match operand {
         Some(operand) => {
-            let head = Head::Whole(CommandForm::TemplateParam(name, required, operand.of));
-            head_done(alloc, file, from, head, token)
+            let form = CommandForm::TemplateParam(name, required, operand.of);
+            form_done(alloc, file, from, form, token)
         }
         None => Ok(false),
     }

@@ -3,6 +3,7 @@
 use crate::attributes::{AttributeName, Attributes};
 use crate::block::CommandState;
 use crate::head::Head;
+use crate::held::Held;
 use expr_parser::{ExprState, TypeState};
 use soy_base::{Row, Span, Text};
 use soy_tree::Expr;
@@ -40,7 +41,7 @@ pub enum Spot {
     TemplateParamWord,
     TemplateParamName,
     TemplateParamColon(Text, bool),
-    Type(Text, bool, TypeState),
+    Type(Text, bool, Held<TypeState>),
     /// After the word `template`, and after a dot there.
     Template,
     TemplateName,
@@ -64,11 +65,11 @@ pub enum Spot {
     /// Where the word of a select's case is expected, after these, and after one.
     CaseWord(Row<Text>),
     AfterCaseWord(Row<Text>),
-    Expr(Use, ExprState),
-    Attributes(Head, Attributes),
+    Expr(Use, Held<ExprState>),
+    Attributes(Held<Head>, Held<Attributes>),
     /// After the name of an attribute, and after its `=`.
-    Equals(Head, Attributes, AttributeName),
-    Value(Head, Attributes, AttributeName),
+    Equals(Held<Head>, Held<Attributes>, AttributeName),
+    Value(Held<Head>, Held<Attributes>, AttributeName),
 }
 
 /// Between two commands, directly after a `{`, or further on in a command.

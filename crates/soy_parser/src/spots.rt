@@ -1,146 +1,145 @@
 //! What a token does in a command, by where its reading stands.
 
-ghost use Rattle.std.specs.Prelude.{◌≡◌, ◌++◌, ◌∷◌, [], IfOk, Some, None, pos, if◌then◌else◌};
+ghost use Rattle.std.specs.Prelude.{◌≡◌, ◌++◌, ◌∷◌, [], IfOk, Some, None, pos};
 ghost use Rattle.std.specs.Str.{chars};
 ghost use Rattle.soy_lexer.specs.CommandSegment.{number_after};
 ghost use Rattle.expr_parser.specs.ExprRuns.{expr_start};
 ghost use Rattle.expr_parser.specs.ExprSteps.{expr_step};
-ghost use Rattle.expr_parser.specs.declared.state.ExprStep.TheVariants as expr_does;
-ghost use Rattle.soy_parser.specs.FileSteps.{after_case_word_step, after_int_step, attributes_step, call_step};
+ghost use Rattle.expr_parser.specs.ExprSteps.{ExprStep as expr_does};
+ghost use Rattle.soy_parser.specs.FileSteps.{after_case_word_step, after_int_step, call_step};
 ghost use Rattle.soy_parser.specs.FileSteps.{dotted_head, dotted_step, for_in_step, head_done};
-ghost use Rattle.soy_parser.specs.FileSteps.{if_equals, if_in, if_int};
+ghost use Rattle.soy_parser.specs.FileSteps.{if_in, if_int};
 ghost use Rattle.soy_parser.specs.FileSteps.{in_expr, let_colon_step, next_value, param_colon_step};
-ghost use Rattle.soy_parser.specs.FileSteps.{spot_step, stands, template_step, value_step, with_value};
+ghost use Rattle.soy_parser.specs.FileSteps.{spot_step, stands, template_step};
 ghost use Rattle.soy_parser.specs.CommandTerminals.{command_terminal_of};
-ghost use Rattle.soy_parser.specs.Heads.{allows, with_attribute};
 ghost use Rattle.soy_parser.specs.Reached.{reached};
 ghost use Rattle.soy_parser.specs.declared.command.CommandForm.TheVariants as says;
+ghost use Rattle.soy_parser.specs.declared.command.Single.TheVariants as single;
 ghost use Rattle.soy_parser.specs.declared.head.Head.TheVariants as head;
 ghost use Rattle.soy_parser.specs.declared.spot.Spot.TheVariants as spot;
 ghost use Rattle.soy_parser.specs.declared.spot.Use.TheVariants as use_;
 ghost use Rattle.soy_parser.specs.declared.terminal.CommandTerminal.TheVariants as terminal;
 
-use crate::attributes::{AttributeName, Attributes};
+use crate::attribute_spots::{attributes_go_on, equals, form_done, head_done, value};
 use crate::command::{CommandForm, Middle, Opening, Single};
-use crate::files::{ended_command, in_expr, stands, stands_if};
+use crate::files::{after_head, stands, stands_in_expr, taken};
 use crate::head::Head;
 use crate::heads::text_of;
+use crate::held::{Held, expr_takes, given_by};
+use crate::nodes::joined;
 use crate::params::{
     in_type, template_param, template_param_colon, template_param_name, template_param_word,
 };
-use crate::spot::{CommandSpot, DottedUse, FileState, Spot, Use};
+use crate::spot::{DottedUse, FileState, Spot, Use};
 use crate::terminal::{CommandTerminal, CommandWord};
 use crate::values::{is_case_word, with_int, with_word, written_int};
-use expr_parser::{ExprState, ExprStep, Operand};
+use expr_parser::{ExprState, Operand};
 use soy_base::{OutOfMemory, Row, Span, Text};
 use soy_lexer::Token;
 use soy_tree::Expr;
 use std::alloc::Global;
 
-/// A token in a command.
+/// A token in a command. Most tokens of expressions and types aren't looked at as those of commands.
 pub(crate) fn inside(
     alloc: Global,
     file: &mut FileState,
     from: Span,
     spot: Spot,
     token: &Token,
-    terminal: CommandTerminal,
 ) -> Result<bool, OutOfMemory>
-    ensures { IfOk result (λ on. reached on file.new ≡ spot_step file.old.commands from spot token.now terminal) }
+    ensures { IfOk result (λ on. reached on file.new ≡ spot_step file.old.commands from spot token.now
+        (command_terminal_of token.now)) }
 {
     match spot {
-        Spot::TemplateParam => Ok(template_param(file, from, terminal)),
-        Spot::TemplateParamWord => template_param_word(alloc, file, from, token, terminal),
-        Spot::TemplateParamName => template_param_name(alloc, file, from, token, terminal),
+        Spot::TemplateParam => Ok(template_param(file, from, token)),
+        Spot::TemplateParamWord => template_param_word(alloc, file, from, token),
+        Spot::TemplateParamName => template_param_name(alloc, file, from, token),
         Spot::TemplateParamColon(name, required) => {
-            Ok(template_param_colon(alloc, file, from, name, required, terminal))
+            template_param_colon(alloc, file, from, name, required, token)
         }
         Spot::Type(name, required, state) => {
             in_type(alloc, file, from, name, required, state, token)
         }
-        Spot::Template => template(alloc, file, from, token, terminal),
-        Spot::TemplateName => template_name(alloc, file, from, token, terminal),
-        Spot::Call => call(alloc, file, from, token, terminal),
-        Spot::DottedName(of, text) => dotted_name(file, from, of, text, token, terminal),
-        Spot::Dotted(of, text) => dotted(alloc, file, from, of, text, token, terminal),
-        Spot::For => for_variable(alloc, file, from, token, terminal),
-        Spot::ForIn(name) => Ok(for_in(alloc, file, from, name, terminal)),
-        Spot::ForIndex(name) => for_index(alloc, file, from, name, token, terminal),
-        Spot::ForIndexIn(name, index) => {
-            Ok(for_index_in(alloc, file, from, name, index, terminal))
-        }
-        Spot::Let => let_variable(alloc, file, from, token, terminal),
-        Spot::LetColon(name) => let_colon(alloc, file, from, name, token, terminal),
-        Spot::Param => param_name(alloc, file, from, token, terminal),
-        Spot::ParamColon(name) => param_colon(alloc, file, from, name, token, terminal),
-        Spot::IntValue(values) => int_value(file, from, values, token, terminal),
-        Spot::AfterInt(values) => after_int(alloc, file, from, values, token, terminal),
-        Spot::CaseWord(words) => case_word(alloc, file, from, words, token, terminal),
-        Spot::AfterCaseWord(words) => { after_case_word(alloc, file, from, words, token, terminal) }
+        Spot::Template => template(alloc, file, from, token),
+        Spot::TemplateName => template_name(alloc, file, from, token),
+        Spot::Call => call(alloc, file, from, token),
+        Spot::DottedName(of, text) => dotted_name(file, from, of, text, token),
+        Spot::Dotted(of, text) => dotted(alloc, file, from, of, text, token),
+        Spot::For => for_variable(alloc, file, from, token),
+        Spot::ForIn(name) => for_in(alloc, file, from, name, token),
+        Spot::ForIndex(name) => for_index(alloc, file, from, name, token),
+        Spot::ForIndexIn(name, index) => { for_index_in(alloc, file, from, name, index, token) }
+        Spot::Let => let_variable(alloc, file, from, token),
+        Spot::LetColon(name) => let_colon(alloc, file, from, name, token),
+        Spot::Param => param_name(alloc, file, from, token),
+        Spot::ParamColon(name) => param_colon(alloc, file, from, name, token),
+        Spot::IntValue(values) => int_value(file, from, values, token),
+        Spot::AfterInt(values) => after_int(alloc, file, from, values, token),
+        Spot::CaseWord(words) => case_word(alloc, file, from, words, token),
+        Spot::AfterCaseWord(words) => { after_case_word(alloc, file, from, words, token) }
         Spot::Expr(of, state) => expr_goes_on(alloc, file, from, of, state, token),
         Spot::Attributes(head, attributes) => {
             attributes_go_on(alloc, file, from, head, attributes, token)
         }
         Spot::Equals(head, attributes, name) => {
-            Ok(equals(file, from, head, attributes, name, terminal))
+            Ok(equals(file, from, head, attributes, name, token))
         }
         Spot::Value(head, attributes, name) => {
-            value(alloc, file, from, head, attributes, name, token, terminal)
+            value(alloc, file, from, head, attributes, name, token)
         }
     }
 }
 
 /// After the word `template`.
+#[inline(never)]
 fn template(
     alloc: Global,
     file: &mut FileState,
     from: Span,
     token: &Token,
-    terminal: CommandTerminal,
 ) -> Result<bool, OutOfMemory>
-    ensures { IfOk result (λ on. reached on file.new ≡ template_step file.old.commands from token.now terminal) }
+    ensures { IfOk result (λ on. reached on file.new ≡
+        template_step file.old.commands from token.now (command_terminal_of token.now)) }
 {
-    match terminal {
+    match CommandTerminal::of(token) {
         CommandTerminal::Dot => Ok(stands(file, from, Spot::TemplateName)),
         CommandTerminal::Word(_) => {
             let head = Head::Template(token.text.copy(alloc)?);
-            Ok(stands(file, from, Spot::Attributes(head, Attributes::none())))
+            let spot = after_head(alloc, head)?;
+            Ok(stands(file, from, spot))
         }
         _ => Ok(false),
     }
 }
 
 /// After the dot before the name of a template.
+#[inline(never)]
 fn template_name(
     alloc: Global,
     file: &mut FileState,
     from: Span,
     token: &Token,
-    terminal: CommandTerminal,
 ) -> Result<bool, OutOfMemory>
     ensures { IfOk result (λ on. reached on file.new ≡
-        spot_step file.old.commands from spot.TemplateName token.now terminal) }
+        spot_step file.old.commands from spot.TemplateName token.now (command_terminal_of token.now)) }
 {
-    match terminal {
+    match CommandTerminal::of(token) {
         CommandTerminal::Word(_) => {
             let head = Head::Template(token.text.copy(alloc)?);
-            Ok(stands(file, from, Spot::Attributes(head, Attributes::none())))
+            let spot = after_head(alloc, head)?;
+            Ok(stands(file, from, spot))
         }
         _ => Ok(false),
     }
 }
 
 /// After the word `call`.
-fn call(
-    alloc: Global,
-    file: &mut FileState,
-    from: Span,
-    token: &Token,
-    terminal: CommandTerminal,
-) -> Result<bool, OutOfMemory>
-    ensures { IfOk result (λ on. reached on file.new ≡ call_step file.old.commands from token.now terminal) }
+#[inline(never)]
+fn call(alloc: Global, file: &mut FileState, from: Span, token: &Token) -> Result<bool, OutOfMemory>
+    ensures { IfOk result (λ on. reached on file.new ≡
+        call_step file.old.commands from token.now (command_terminal_of token.now)) }
 {
-    match terminal {
+    match CommandTerminal::of(token) {
         CommandTerminal::Dot => {
             let spot = Spot::DottedName(DottedUse::Call, Text::empty(alloc));
             Ok(stands(file, from, spot))
@@ -154,18 +153,18 @@ fn call(
 }
 
 /// Where a name joined by dots goes on with a name.
+#[inline(never)]
 fn dotted_name(
     file: &mut FileState,
     from: Span,
     of: DottedUse,
     text: Text,
     token: &Token,
-    terminal: CommandTerminal,
 ) -> Result<bool, OutOfMemory>
     ensures { IfOk result (λ on. reached on file.new ≡
-        spot_step file.old.commands from (spot.DottedName of text) token.now terminal) }
+        spot_step file.old.commands from (spot.DottedName of text) token.now (command_terminal_of token.now)) }
 {
-    match terminal {
+    match CommandTerminal::of(token) {
         CommandTerminal::Word(_) => {
             let mut text = text;
             text.append(&token.text)?;
@@ -176,6 +175,7 @@ fn dotted_name(
 }
 
 /// Where a name joined by dots goes on with a dot, or ends.
+#[inline(never)]
 fn dotted(
     alloc: Global,
     file: &mut FileState,
@@ -183,11 +183,11 @@ fn dotted(
     of: DottedUse,
     text: Text,
     token: &Token,
-    terminal: CommandTerminal,
 ) -> Result<bool, OutOfMemory>
-    ensures { IfOk result (λ on. reached on file.new ≡ dotted_step file.old.commands from of text token.now terminal) }
+    ensures { IfOk result (λ on. reached on file.new ≡
+        dotted_step file.old.commands from of text token.now (command_terminal_of token.now)) }
 {
-    match terminal {
+    match CommandTerminal::of(token) {
         CommandTerminal::Dot => {
             let text = with_dot(alloc, text)?;
             Ok(stands(file, from, Spot::DottedName(of, text)))
@@ -217,16 +217,17 @@ fn dotted_head(of: DottedUse, text: Text) -> Head
 }
 
 /// After the word `for`.
+#[inline(never)]
 fn for_variable(
     alloc: Global,
     file: &mut FileState,
     from: Span,
     token: &Token,
-    terminal: CommandTerminal,
 ) -> Result<bool, OutOfMemory>
-    ensures { IfOk result (λ on. reached on file.new ≡ spot_step file.old.commands from spot.For token.now terminal) }
+    ensures { IfOk result (λ on. reached on file.new ≡
+        spot_step file.old.commands from spot.For token.now (command_terminal_of token.now)) }
 {
-    match terminal {
+    match CommandTerminal::of(token) {
         CommandTerminal::Variable => {
             let name = token.text.copy(alloc)?;
             Ok(stands(file, from, Spot::ForIn(name)))
@@ -236,37 +237,39 @@ fn for_variable(
 }
 
 /// After the variable of a loop.
+#[inline(never)]
 fn for_in(
     alloc: Global,
     file: &mut FileState,
     from: Span,
     name: Text,
-    terminal: CommandTerminal,
-) -> bool
-    ensures { reached result file.new ≡ for_in_step file.old.commands from name terminal }
+    token: &Token,
+) -> Result<bool, OutOfMemory>
+    ensures { IfOk result (λ on. reached on file.new ≡
+        for_in_step file.old.commands from name (command_terminal_of token.now)) }
 {
-    match terminal {
-        CommandTerminal::Comma => stands(file, from, Spot::ForIndex(name)),
+    match CommandTerminal::of(token) {
+        CommandTerminal::Comma => Ok(stands(file, from, Spot::ForIndex(name))),
         CommandTerminal::Word(CommandWord::In) => {
-            stands(file, from, in_expr(alloc, Use::For(name, None)))
+            stands_in_expr(alloc, file, from, Use::For(name, None))
         }
-        _ => false,
+        _ => Ok(false),
     }
 }
 
 /// After the comma in a loop.
+#[inline(never)]
 fn for_index(
     alloc: Global,
     file: &mut FileState,
     from: Span,
     name: Text,
     token: &Token,
-    terminal: CommandTerminal,
 ) -> Result<bool, OutOfMemory>
     ensures { IfOk result (λ on. reached on file.new ≡
-        spot_step file.old.commands from (spot.ForIndex name) token.now terminal) }
+        spot_step file.old.commands from (spot.ForIndex name) token.now (command_terminal_of token.now)) }
 {
-    match terminal {
+    match CommandTerminal::of(token) {
         CommandTerminal::Variable => {
             let index = token.text.copy(alloc)?;
             Ok(stands(file, from, Spot::ForIndexIn(name, index)))
@@ -276,36 +279,39 @@ fn for_index(
 }
 
 /// After both variables of a loop.
+#[inline(never)]
 fn for_index_in(
     alloc: Global,
     file: &mut FileState,
     from: Span,
     name: Text,
     index: Text,
-    terminal: CommandTerminal,
-) -> bool
-    ensures { reached result file.new ≡
-        if_in terminal (stands file.old.commands from (spot.Expr (use_.For name (Some index)) expr_start)) }
+    token: &Token,
+) -> Result<bool, OutOfMemory>
+    ensures { IfOk result (λ on. reached on file.new ≡
+        if_in (command_terminal_of token.now)
+        (stands file.old.commands from (spot.Expr (use_.For name (Some index)) expr_start))) }
 {
-    match terminal {
+    match CommandTerminal::of(token) {
         CommandTerminal::Word(CommandWord::In) => {
-            stands(file, from, in_expr(alloc, Use::For(name, Some(index))))
+            stands_in_expr(alloc, file, from, Use::For(name, Some(index)))
         }
-        _ => false,
+        _ => Ok(false),
     }
 }
 
 /// After the word `let`.
+#[inline(never)]
 fn let_variable(
     alloc: Global,
     file: &mut FileState,
     from: Span,
     token: &Token,
-    terminal: CommandTerminal,
 ) -> Result<bool, OutOfMemory>
-    ensures { IfOk result (λ on. reached on file.new ≡ spot_step file.old.commands from spot.Let token.now terminal) }
+    ensures { IfOk result (λ on. reached on file.new ≡
+        spot_step file.old.commands from spot.Let token.now (command_terminal_of token.now)) }
 {
-    match terminal {
+    match CommandTerminal::of(token) {
         CommandTerminal::Variable => {
             let name = token.text.copy(alloc)?;
             Ok(stands(file, from, Spot::LetColon(name)))
@@ -315,33 +321,35 @@ fn let_variable(
 }
 
 /// After the variable of a let.
+#[inline(never)]
 fn let_colon(
     alloc: Global,
     file: &mut FileState,
     from: Span,
     name: Text,
     token: &Token,
-    terminal: CommandTerminal,
 ) -> Result<bool, OutOfMemory>
-    ensures { IfOk result (λ on. reached on file.new ≡ let_colon_step file.old.commands from name token.now terminal) }
+    ensures { IfOk result (λ on. reached on file.new ≡
+        let_colon_step file.old.commands from name token.now (command_terminal_of token.now)) }
 {
-    match terminal {
-        CommandTerminal::Colon => { Ok(stands(file, from, in_expr(alloc, Use::Let(name)))) }
+    match CommandTerminal::of(token) {
+        CommandTerminal::Colon => stands_in_expr(alloc, file, from, Use::Let(name)),
         _ => head_done(alloc, file, from, Head::Let(name), token),
     }
 }
 
 /// After the word `param`.
+#[inline(never)]
 fn param_name(
     alloc: Global,
     file: &mut FileState,
     from: Span,
     token: &Token,
-    terminal: CommandTerminal,
 ) -> Result<bool, OutOfMemory>
-    ensures { IfOk result (λ on. reached on file.new ≡ spot_step file.old.commands from spot.Param token.now terminal) }
+    ensures { IfOk result (λ on. reached on file.new ≡
+        spot_step file.old.commands from spot.Param token.now (command_terminal_of token.now)) }
 {
-    match terminal {
+    match CommandTerminal::of(token) {
         CommandTerminal::Word(_) => {
             let name = token.text.copy(alloc)?;
             Ok(stands(file, from, Spot::ParamColon(name)))
@@ -351,35 +359,35 @@ fn param_name(
 }
 
 /// After the name of a param.
+#[inline(never)]
 fn param_colon(
     alloc: Global,
     file: &mut FileState,
     from: Span,
     name: Text,
     token: &Token,
-    terminal: CommandTerminal,
 ) -> Result<bool, OutOfMemory>
     ensures { IfOk result (λ on. reached on file.new ≡
-        param_colon_step file.old.commands from name token.now terminal) }
+        param_colon_step file.old.commands from name token.now (command_terminal_of token.now)) }
 {
-    match terminal {
-        CommandTerminal::Colon => { Ok(stands(file, from, in_expr(alloc, Use::Param(name)))) }
+    match CommandTerminal::of(token) {
+        CommandTerminal::Colon => stands_in_expr(alloc, file, from, Use::Param(name)),
         _ => head_done(alloc, file, from, Head::Param(name), token),
     }
 }
 
 /// Where the int of a plural's case is expected.
+#[inline(never)]
 fn int_value(
     file: &mut FileState,
     from: Span,
     values: Row<i64>,
     token: &Token,
-    terminal: CommandTerminal,
 ) -> Result<bool, OutOfMemory>
     ensures { IfOk result (λ on. reached on file.new ≡
-        spot_step file.old.commands from (spot.IntValue values) token.now terminal) }
+        spot_step file.old.commands from (spot.IntValue values) token.now (command_terminal_of token.now)) }
 {
-    match terminal {
+    match CommandTerminal::of(token) {
         CommandTerminal::Int => int_of_case(file, from, values, token.text.text()),
         _ => Ok(false),
     }
@@ -405,36 +413,36 @@ fn int_of_case(
 }
 
 /// After an int of a plural's case.
+#[inline(never)]
 fn after_int(
     alloc: Global,
     file: &mut FileState,
     from: Span,
     values: Row<i64>,
     token: &Token,
-    terminal: CommandTerminal,
 ) -> Result<bool, OutOfMemory>
     ensures { IfOk result (λ on. reached on file.new ≡
-        after_int_step file.old.commands from values token.now terminal) }
+        after_int_step file.old.commands from values token.now (command_terminal_of token.now)) }
 {
-    match terminal {
+    match CommandTerminal::of(token) {
         CommandTerminal::Comma => Ok(stands(file, from, Spot::IntValue(values))),
         _ => middle_done(alloc, file, from, Middle::PluralCase(values), token),
     }
 }
 
 /// Where the word of a select's case is expected.
+#[inline(never)]
 fn case_word(
     alloc: Global,
     file: &mut FileState,
     from: Span,
     words: Row<Text>,
     token: &Token,
-    terminal: CommandTerminal,
 ) -> Result<bool, OutOfMemory>
     ensures { IfOk result (λ on. reached on file.new ≡
-        spot_step file.old.commands from (spot.CaseWord words) token.now terminal) }
+        spot_step file.old.commands from (spot.CaseWord words) token.now (command_terminal_of token.now)) }
 {
-    match terminal {
+    match CommandTerminal::of(token) {
         CommandTerminal::Str => {
             if is_case_word(&token.text) {
                 let words = with_word(alloc, words, &token.text)?;
@@ -448,58 +456,44 @@ fn case_word(
 }
 
 /// After a word of a select's case.
+#[inline(never)]
 fn after_case_word(
     alloc: Global,
     file: &mut FileState,
     from: Span,
     words: Row<Text>,
     token: &Token,
-    terminal: CommandTerminal,
 ) -> Result<bool, OutOfMemory>
     ensures { IfOk result (λ on. reached on file.new ≡
-        after_case_word_step file.old.commands from words token.now terminal) }
+        after_case_word_step file.old.commands from words token.now (command_terminal_of token.now)) }
 {
-    match terminal {
+    match CommandTerminal::of(token) {
         CommandTerminal::Comma => Ok(stands(file, from, Spot::CaseWord(words))),
         _ => middle_done(alloc, file, from, Middle::SelectCase(words), token),
     }
 }
 
 /// In an expression.
+#[inline(never)]
 fn expr_goes_on(
     alloc: Global,
     file: &mut FileState,
     from: Span,
     of: Use,
-    state: ExprState,
+    state: Held<ExprState>,
     token: &Token,
 ) -> Result<bool, OutOfMemory>
     ensures { IfOk result (λ on. reached on file.new ≡
         in_expr file.old.commands from of token.now (expr_step state token.now)) }
 {
-    match state.step(alloc, token) {
-        Ok(step) => after_expr_step(alloc, file, from, of, step, token),
+    let mut state = state;
+    match expr_takes(&mut state, alloc, token) {
+        Ok(true) => Ok(stands(file, from, Spot::Expr(of, state))),
+        Ok(false) => expr_ends(alloc, file, from, of, given_by(&mut state), token),
         Err(out) => {
             drop(of);
             Err(out)
         }
-    }
-}
-
-/// Where an expression goes on or has ended.
-fn after_expr_step(
-    alloc: Global,
-    file: &mut FileState,
-    from: Span,
-    of: Use,
-    step: ExprStep,
-    token: &Token,
-) -> Result<bool, OutOfMemory>
-    ensures { IfOk result (λ on. reached on file.new ≡ in_expr file.old.commands from of token.now step) }
-{
-    match step {
-        ExprStep::Next(state) => Ok(stands(file, from, Spot::Expr(of, state))),
-        ExprStep::End(operand) => expr_ends(alloc, file, from, of, operand, token),
     }
 }
 
@@ -537,7 +531,7 @@ fn after_expr(
         next_value file.old.commands from of operand token.now (command_terminal_of token.now)) }
 {
     match of {
-        Use::Print => single_done(alloc, file, from, Single::Print(operand.expr), token),
+        Use::Print => print_done(alloc, file, from, operand.expr, token),
         Use::MessagePrint => head_done(alloc, file, from, Head::MessagePrint(operand.expr), token),
         Use::If => opening_done(alloc, file, from, Opening::If(operand.expr), token),
         Use::ElseIf => middle_done(alloc, file, from, Middle::ElseIf(operand.expr), token),
@@ -576,6 +570,7 @@ fn after_expr(
 }
 
 /// After a value of a case.
+#[inline(never)]
 fn after_case_value(
     alloc: Global,
     file: &mut FileState,
@@ -590,32 +585,39 @@ fn after_case_value(
     let mut values = values;
     values.push(operand.expr)?;
     match CommandTerminal::of(token) {
-        CommandTerminal::Comma => Ok(stands(file, from, in_expr(alloc, Use::Case(values)))),
+        CommandTerminal::Comma => stands_in_expr(alloc, file, from, Use::Case(values)),
         _ => middle_done(alloc, file, from, Middle::Case(values), token),
     }
 }
 
-/// After what a command says that holds no block and has no attributes.
-fn single_done(
+/// After the expression of a print.
+#[inline(never)]
+fn print_done(
     alloc: Global,
     file: &mut FileState,
     from: Span,
-    of: Single,
+    expr: Expr,
     token: &Token,
 ) -> Result<bool, OutOfMemory>
     ensures { IfOk result (λ on. reached on file.new ≡
-        head_done file.old.commands from (head.Whole (says.Single of)) token.now) }
+        head_done file.old.commands from (head.Whole (says.Single (single.Print expr))) token.now) }
 {
-    head_done(
-        alloc,
-        file,
-        from,
-        Head::Whole(CommandForm::Single(of)),
-        token,
-    )
+    match CommandTerminal::of(token) {
+        CommandTerminal::End => {
+            let is_taken = file
+                .commands
+                .takes_print(alloc, expr, joined(from, token.span))?;
+            Ok(taken(file, is_taken))
+        }
+        _ => {
+            let form = CommandForm::Single(Single::Print(expr));
+            head_done(alloc, file, from, Head::Whole(form), token)
+        }
+    }
 }
 
 /// After what a command says that opens a block and has no attributes.
+#[inline(never)]
 fn opening_done(
     alloc: Global,
     file: &mut FileState,
@@ -626,16 +628,11 @@ fn opening_done(
     ensures { IfOk result (λ on. reached on file.new ≡
         head_done file.old.commands from (head.Whole (says.Opens of)) token.now) }
 {
-    head_done(
-        alloc,
-        file,
-        from,
-        Head::Whole(CommandForm::Opens(of)),
-        token,
-    )
+    form_done(alloc, file, from, CommandForm::Opens(of), token)
 }
 
 /// After what a command says with which a block goes on, and that has no attributes.
+#[inline(never)]
 fn middle_done(
     alloc: Global,
     file: &mut FileState,
@@ -646,130 +643,5 @@ fn middle_done(
     ensures { IfOk result (λ on. reached on file.new ≡
         head_done file.old.commands from (head.Whole (says.GoesOn of)) token.now) }
 {
-    head_done(
-        alloc,
-        file,
-        from,
-        Head::Whole(CommandForm::GoesOn(of)),
-        token,
-    )
-}
-
-/// After a head.
-pub(crate) fn head_done(
-    alloc: Global,
-    file: &mut FileState,
-    from: Span,
-    head: Head,
-    token: &Token,
-) -> Result<bool, OutOfMemory>
-    ensures { IfOk result (λ on. reached on file.new ≡ head_done file.old.commands from head token.now) }
-{
-    attributes_go_on(alloc, file, from, head, Attributes::none(), token)
-}
-
-/// Another attribute, or the end of the command.
-fn attributes_go_on(
-    alloc: Global,
-    file: &mut FileState,
-    from: Span,
-    head: Head,
-    attributes: Attributes,
-    token: &Token,
-) -> Result<bool, OutOfMemory>
-    ensures { IfOk result (λ on. reached on file.new ≡
-        attributes_step file.old.commands from head attributes token.now) }
-{
-    let terminal = CommandTerminal::of(token);
-    match AttributeName::of(terminal) {
-        Some(name) => Ok(attribute(file, from, head, attributes, name)),
-        None => {
-            let mut attributes = attributes;
-            let form = head.form(alloc, &mut attributes, terminal);
-            ended_command(alloc, file, from, form, token)
-        }
-    }
-}
-
-/// Another attribute, if it is allowed.
-fn attribute(
-    file: &mut FileState,
-    from: Span,
-    head: Head,
-    attributes: Attributes,
-    name: AttributeName,
-) -> bool
-    ensures { reached result file.new ≡ (if allows head attributes name then stands file.old.commands from
-        (spot.Equals head attributes name) else None) }
-{
-    let is_allowed = head.allows(&attributes, name);
-    stands_if(file, from, Spot::Equals(head, attributes, name), is_allowed)
-}
-
-/// After the name of an attribute.
-fn equals(
-    file: &mut FileState,
-    from: Span,
-    head: Head,
-    attributes: Attributes,
-    name: AttributeName,
-    terminal: CommandTerminal,
-) -> bool
-    ensures { reached result file.new ≡
-        if_equals terminal (stands file.old.commands from (spot.Value head attributes name)) }
-{
-    match terminal {
-        CommandTerminal::Equals => stands(file, from, Spot::Value(head, attributes, name)),
-        _ => {
-            drop(head);
-            drop(attributes);
-            false
-        }
-    }
-}
-
-/// After the `=` of an attribute.
-fn value(
-    alloc: Global,
-    file: &mut FileState,
-    from: Span,
-    head: Head,
-    attributes: Attributes,
-    name: AttributeName,
-    token: &Token,
-    terminal: CommandTerminal,
-) -> Result<bool, OutOfMemory>
-    ensures { IfOk result (λ on. reached on file.new ≡
-        value_step file.old.commands from head attributes name token.now terminal) }
-{
-    match terminal {
-        CommandTerminal::Attribute => {
-            attribute_value(alloc, file, from, head, attributes, name, &token.text)
-        }
-        _ => {
-            drop(head);
-            drop(attributes);
-            Ok(false)
-        }
-    }
-}
-
-/// The value of an attribute has come.
-#[tactic(auto, using(crate::proofs::OfFiles::Reaching::value_reached))]
-fn attribute_value(
-    alloc: Global,
-    file: &mut FileState,
-    from: Span,
-    head: Head,
-    attributes: Attributes,
-    name: AttributeName,
-    text: &Text,
-) -> Result<bool, OutOfMemory>
-    ensures { IfOk result (λ on. reached on file.new ≡
-        with_value file.old.commands from head (with_attribute attributes name text.now)) }
-{
-    let mut attributes = attributes;
-    let taken = attributes.add(alloc, name, text);
-    file.set_spot(CommandSpot::Inside(from, Spot::Attributes(head, attributes)));
-    taken
+    form_done(alloc, file, from, CommandForm::GoesOn(of), token)
 }

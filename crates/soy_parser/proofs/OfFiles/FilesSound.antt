@@ -10,7 +10,7 @@ use Rattle.soy_tree.specs.Formed.{is_case_word}
 use Rattle.soy_tree.specs.declared.expr.Expr.{Expr}
 use Rattle.expr_parser.specs.declared.operand.Operand.{Operand}
 use Rattle.expr_parser.specs.declared.state.ExprState.{ExprState}
-use Rattle.expr_parser.specs.declared.state.ExprStep.TheVariants as expr_does
+use Rattle.expr_parser.specs.ExprSteps.{ExprStep as expr_does}
 use Rattle.expr_parser.specs.declared.type_frame.TypeOperand.{TypeOperand}
 use Rattle.expr_parser.specs.declared.type_state.TypeState.{TypeState}
 use Rattle.expr_parser.specs.ExprRuns.{expr_run, expr_run_from, expr_start}

@@ -13,7 +13,7 @@ use Rattle.expr_parser.specs.declared.operand.Operand.{Operand}
 use Rattle.expr_parser.specs.declared.state.Expected.{Expected}
 use Rattle.expr_parser.specs.declared.state.Expected.TheVariants as expected
 use Rattle.expr_parser.specs.declared.state.ExprState.{ExprState}
-use Rattle.expr_parser.specs.declared.state.ExprStep.TheVariants as expr_does
+use Rattle.expr_parser.specs.ExprSteps.{ExprStep as expr_does}
 use Rattle.expr_parser.specs.declared.terminal.Terminal.{Terminal}
 use Rattle.expr_parser.specs.declared.terminal.Terminal.TheVariants as expr_terminal
 use Rattle.expr_parser.specs.ExprRuns.{expr_run, expr_run_from, expr_depths, expr_depths_from}

@@ -8,7 +8,7 @@ use Rattle.soy_lexer.specs.declared.token.TokenKind.{TokenKind}
 use Rattle.soy_lexer.specs.declared.token.TokenKind.TheVariants as token_kind
 use Rattle.expr_parser.specs.declared.operand.Operand.{Operand}
 use Rattle.expr_parser.specs.declared.state.ExprState.{ExprState}
-use Rattle.expr_parser.specs.declared.state.ExprStep.TheVariants as expr_does
+use Rattle.expr_parser.specs.ExprSteps.{ExprStep as expr_does}
 use Rattle.expr_parser.specs.declared.terminal.Terminal.TheVariants as expr_terminal
 use Rattle.expr_parser.specs.ExprSteps.{expr_step, step_of, whole_expr}
 use Rattle.expr_parser.specs.Terminals.{kind_terminal, symbol_terminal}

@@ -1,6 +1,6 @@
 use Rattle.std.proofs.Common.{◌≡◌, length}
 use Rattle.expr_parser.specs.Frames.{reduced}
-use Rattle.expr_parser.proofs.frame.reduced.Given as goal
+use Rattle.expr_parser.proofs.frame.closed_by.Given as goal
 
 -- what is left to close comes to the same
 abbrev pub invariant-loop-frame : goal.invariant-loop-frame
