@@ -102,6 +102,16 @@ written_no_classes at classes called old new result none c e k =
     (writes (Hole (view_site at) []) old new (row.Hole at classes) result e k
     (ap (λ (l : List ValueClass). walk_of (Hole (view_site at) l)) c))
 
+-- no translation behind arms that are there
+pub no_translation : (k : PlanContext) (m : Message) (scope : Scope) (at : Site) (old : List Row)
+    (before : Vec ℕ Global) → All (λ j. j < length old) before.items → k.translation m ≡ None
+    → WritesMore before.items (translation_plans k m scope at) old old (Ok before)
+no_translation k m scope at old before h is =
+    subst (λ (o : Option MsgParts). WritesMore before.items (translated_plan (uses_of m) scope at o) old old
+    (Ok before)) (sym is)
+    (list_written old old before.items (walks_of old before.items ++ map walk_of [])
+    (first_behind old before.items [] h))
+
 -- a translation behind arms that are there
 pub one_translation : (k : PlanContext) (m : Message) (scope : Scope) (at : Site) (parts : MsgParts)
     (old mid : List Row)

@@ -8,10 +8,15 @@ ghost use Rattle.soy_meaning.specs.Paths.PlanOfNodes.{case_plans};
 ghost use Rattle.soy_meaning.specs.Paths.PlanOfNodes.{fallback_plans, node_plan, nodes_plan, plural_plans};
 ghost use Rattle.soy_meaning.specs.Paths.PlanOfNodes.{select_plans};
 ghost use Rattle.soy_meaning.specs.Paths.PlanOfNodes.{given_frame, translation_plans};
+ghost use Rattle.soy_meaning.specs.Paths.PlanOfParts.{parts_plan};
+ghost use Rattle.soy_rules.specs.Placeholders.{uses_of};
 ghost use Rattle.soy_rules.specs.Templates.{callee};
+ghost use Rattle.soy_tree.specs.ViewMessageParts.{view_parts};
 ghost use Rattle.soy_tree.specs.ViewNodes.{view_arguments, view_arms, view_body, view_cases, view_given, view_message};
 ghost use Rattle.soy_tree.specs.ViewNodes.{fallback_of, view_node, view_nodes, view_plural_cases, view_select_cases};
 ghost use Rattle.soy_expr.specs.ViewScope.{view_vars};
+ghost use Rattle.msg_extract.specs.PlaceholderNodes.{placeholders_of};
+ghost use Rattle.msg_extract.specs.Views.ViewPlaceholders.{view_placeholder};
 ghost use Rattle.html_context.specs.RowPlans.{plan_at};
 ghost use Rattle.html_context.specs.StandsFor.{Writes, WritesMore};
 ghost use Rattle.html_context.specs.ViewBuilder.{plan_context};
@@ -27,11 +32,11 @@ use crate::table::Row;
 use crate::templates::callee;
 use crate::visible::Visible;
 use crate::writing::{write, write_hole, write_nothing, write_print, write_text};
-use msg_extract::{Translations, placeholders};
-use soy_base::{OutOfMemory, Seq, Text};
+use msg_extract::{NamedMessage, NamedPlaceholders, Placeholder, Translations};
+use soy_base::{Boxed, OutOfMemory, Seq, Text};
 use soy_rules::Templates;
 use soy_tree::{
-    Argument, Arm, Case, Form, Given, Message, MessageBody, Node, PluralCase, SelectCase,
+    Argument, Arm, Case, Form, Given, Message, MessageBody, MsgPart, Node, PluralCase, SelectCase,
 };
 use std::alloc::Global;
 
@@ -72,7 +77,50 @@ impl<'a> Builder<'a> {
         }
     }
 
-    /// Writes the translation of a message, if there is one, behind arms of these numbers.
+    /// Writes the parts of a translation of a message, which has these placeholders.
+    fn translated_parts(
+        &self,
+        at: Site,
+        message: &NamedMessage<'_>,
+        vars: &Visible,
+        placeholders: &[Placeholder],
+        parts: &[MsgPart],
+        rows: &mut Vec<Row>,
+    ) -> Result<usize, OutOfMemory>
+        requires { map view_placeholder placeholders.now ≡ placeholders_of (view_message message.now) }
+        ensures { Writes (parts_plan (uses_of (view_message message.now)) (view_vars vars.now) (view_site at)
+            (view_parts parts.now)) rows.old.items rows.new.items result }
+    {
+        let named = NamedPlaceholders::new(self.alloc, placeholders)?;
+        self.named_parts(at, message, vars, &named, parts, rows)
+    }
+
+    /// Writes the parts of a translation of a message, whose placeholders are found by their names.
+    fn named_parts(
+        &self,
+        at: Site,
+        message: &NamedMessage<'_>,
+        vars: &Visible,
+        placeholders: &NamedPlaceholders<'_>,
+        parts: &[MsgPart],
+        rows: &mut Vec<Row>,
+    ) -> Result<usize, OutOfMemory>
+        requires { map view_placeholder placeholders.now ≡ placeholders_of (view_message message.now) }
+        ensures { Writes (parts_plan (uses_of (view_message message.now)) (view_vars vars.now) (view_site at)
+            (view_parts parts.now)) rows.old.items rows.new.items result }
+    {
+        let source = Source {
+            alloc: self.alloc,
+            at,
+            vars,
+            message,
+            placeholders,
+        };
+        all_parts(&source, parts, rows)
+    }
+
+    /// Writes the translation of a message, if there is one, behind arms of these numbers. A bundle without translations
+    /// needs no names.
     fn translation(
         &self,
         at: Site,
@@ -86,19 +134,33 @@ impl<'a> Builder<'a> {
             (translation_plans (plan_context self.now) (view_message message.now) (view_vars vars.now) (view_site at))
             rows.old.items rows.new.items result }
     {
+        if self.bundle.is_empty() {
+            return Ok(before);
+        }
+        let named = NamedMessage::new(self.alloc, message)?;
+        self.named_translation(at, &named, vars, before, rows)
+    }
+
+    /// Writes the translation of a message with its names, if there is one, behind arms of these numbers.
+    fn named_translation(
+        &self,
+        at: Site,
+        message: &NamedMessage<'_>,
+        vars: &Visible,
+        before: Vec<usize>,
+        rows: &mut Vec<Row>,
+    ) -> Result<Vec<usize>, OutOfMemory>
+        requires { All (λ n. n < length rows.old.items) before.items }
+        ensures { WritesMore before.items
+            (translation_plans (plan_context self.now) (view_message message.now) (view_vars vars.now) (view_site at))
+            rows.old.items rows.new.items result }
+    {
         let mut numbers = before;
         let Some(parts) = self.bundle.find(self.alloc, message)? else {
             return Ok(numbers);
         };
-        let placeholders = placeholders(self.alloc, message)?;
-        let source = Source {
-            alloc: self.alloc,
-            at,
-            vars,
-            message,
-            placeholders: placeholders.items(),
-        };
-        let number = all_parts(&source, parts, rows)?;
+        let placeholders = message.placeholders(self.alloc)?;
+        let number = self.translated_parts(at, message, vars, placeholders.items(), parts, rows)?;
         numbers.push(number)?;
         Ok(numbers)
     }
@@ -107,7 +169,7 @@ impl<'a> Builder<'a> {
     fn fallback(
         &self,
         at: Site,
-        other: &Option<Message>,
+        other: &Option<Boxed<Message>>,
         vars: &Visible,
         before: Vec<usize>,
         rows: &mut Vec<Row>,
@@ -119,7 +181,7 @@ impl<'a> Builder<'a> {
     {
         match other {
             None => Ok(before),
-            Some(message) => self.translation(at, message, vars, before, rows),
+            Some(message) => self.translation(at, message.get(), vars, before, rows),
         }
     }
 
@@ -130,7 +192,7 @@ impl<'a> Builder<'a> {
         at: Site,
         source: usize,
         message: &Message,
-        other: &Option<Message>,
+        other: &Option<Boxed<Message>>,
         vars: &Visible,
         rows: &mut Vec<Row>,
     ) -> Result<usize, OutOfMemory>
@@ -212,6 +274,7 @@ impl<'a> Builder<'a> {
                 self.arguments(hole, given.items(), vars, rows)
             }
             Form::Message(message, other) => {
+                let message = message.get();
                 let source = self.body(at, &message.body, vars, rows)?;
                 self.translated(at, source, message, other, vars, rows)
             }

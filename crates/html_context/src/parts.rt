@@ -17,7 +17,6 @@ ghost use Rattle.html_context.specs.Walks.{view_site};
 use crate::source::Source;
 use crate::table::Row;
 use crate::writing::{write, write_hole, write_nothing, write_print, write_text};
-use msg_extract::named_nodes;
 use soy_base::{OutOfMemory, Seq, Text, ValueClass};
 use soy_tree::{ExactArm, Form, MsgPart, NamedArm, Node, SelectArm};
 
@@ -57,7 +56,7 @@ fn placeholder(source: &Source<'_>, name: &Text, rows: &mut Vec<Row>) -> Result<
         (placeholder_cut name.now (source_uses source.now) (source_uses source.now)))
         rows.old.items rows.new.items result }
 {
-    all_placed(source, named_nodes(source.placeholders, name), rows)
+    all_placed(source, source.placeholders.nodes(name), rows)
 }
 
 /// Writes parts, one after the other.

@@ -2,8 +2,7 @@
 
 use crate::fault::Site;
 use crate::visible::Visible;
-use msg_extract::Placeholder;
-use soy_tree::Message;
+use msg_extract::{NamedMessage, NamedPlaceholders};
 use std::alloc::Global;
 
 /// The site of a message, the variables that are visible there, the message and its placeholders.
@@ -12,6 +11,6 @@ pub(crate) struct Source<'a> {
     pub alloc: Global,
     pub at: Site,
     pub vars: &'a Visible,
-    pub message: &'a Message,
-    pub placeholders: &'a [Placeholder],
+    pub message: &'a NamedMessage<'a>,
+    pub placeholders: &'a NamedPlaceholders<'a>,
 }

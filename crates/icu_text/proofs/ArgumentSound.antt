@@ -10,7 +10,7 @@ use Rattle.soy_tree.specs.MessageParts.{MsgPart, Placeholder, PluralPart, Select
 use Rattle.soy_rules.specs.IcuText as icu
 use Rattle.soy_rules.specs.IcuText.{IsArgument, IsSpacedName, IsSpacedKeyword, exact_arms, named_arms, select_arms}
 use Rattle.soy_rules.specs.IcuText.{plural_keyword}
-use Rattle.icu_text.specs.declared.state.Argument.{Argument}
+use Rattle.icu_text.specs.PatternStates.{Argument}
 use Rattle.icu_text.specs.declared.state.ChoiceKind.{ChoiceKind}
 use Rattle.icu_text.specs.declared.state.ChoiceKind.TheVariants as choice
 use Rattle.icu_text.specs.declared.state.Frame.{Frame}

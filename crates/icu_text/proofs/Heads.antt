@@ -8,11 +8,11 @@ use Rattle.soy_base.specs.Names.{is_name, begins_name, continues_name}
 use Rattle.soy_base.specs.WhiteSpace.{is_template_space}
 use Rattle.soy_tree.specs.MessageParts.{MsgPart}
 use Rattle.soy_rules.specs.IcuText.{IsSpacedName, IsSpacedKeyword}
-use Rattle.icu_text.specs.declared.state.Argument.{Argument}
+use Rattle.icu_text.specs.PatternStates.{Argument}
 use Rattle.icu_text.specs.declared.state.ChoiceKind.{ChoiceKind}
 use Rattle.icu_text.specs.declared.state.ChoiceKind.TheVariants as choice
 use Rattle.icu_text.specs.declared.state.Frame.{Frame}
-use Rattle.icu_text.specs.declared.state.Expected.TheVariants as expected
+use Rattle.icu_text.specs.PatternStates as expected
 use Rattle.icu_text.specs.PatternSteps.{opened, may_be_ordinal}
 use Rattle.icu_text.proofs.CharacterTests.{and_left, and_right, not_white, white_fails}
 use Rattle.icu_text.proofs.PatternRunning.{at, parsed, stays, through}

@@ -14,7 +14,7 @@ use Rattle.soy_tree.specs.ViewMessageParts.{exact_arms_of, named_arms_of, select
 use Rattle.soy_rules.specs.IcuText.{Key, Exact, Named, is_int_among, exact_arms, named_arms, select_arms, is_other}
 use Rattle.icu_text.specs.declared.state.ArmKey.{ArmKey}
 use Rattle.icu_text.specs.declared.state.ArmKey.TheVariants as arm_key
-use Rattle.icu_text.specs.declared.state.Argument.{Argument}
+use Rattle.icu_text.specs.PatternStates.{Argument}
 use Rattle.icu_text.specs.declared.state.OpenPlural.{OpenPlural}
 use Rattle.icu_text.specs.declared.state.OpenSelect.{OpenSelect}
 use Rattle.icu_text.specs.FirstArms.{has_category, has_word, with_exact, with_named, with_select}

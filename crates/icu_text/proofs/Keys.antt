@@ -19,9 +19,9 @@ use Rattle.icu_text.specs.declared.state.OpenPlural.{OpenPlural}
 use Rattle.icu_text.specs.declared.state.OpenSelect.{OpenSelect}
 use Rattle.icu_text.specs.declared.state.Frame.{Frame}
 use Rattle.icu_text.specs.declared.state.Frame.TheVariants as frame
-use Rattle.icu_text.specs.declared.state.Expected.{Expected}
-use Rattle.icu_text.specs.declared.state.Expected.TheVariants as expected
-use Rattle.icu_text.specs.declared.state.PatternState.{PatternState}
+use Rattle.icu_text.specs.PatternStates.{Expected}
+use Rattle.icu_text.specs.PatternStates as expected
+use Rattle.icu_text.specs.PatternStates.{PatternState}
 use Rattle.icu_text.specs.PatternSteps.{pattern_next, more_digits, number_or, signed}
 use Rattle.icu_text.proofs.CharacterTests.{and_left, and_right, not_that, not_white, white_fails}
 use Rattle.icu_text.proofs.PatternRunning.{at, in_text, parsed, step, stays, through}

@@ -13,4 +13,9 @@ pub mod PatternSound
 pub mod StepsSound
 pub mod PatternCloses
 pub mod PatternExact
+pub mod PieceRuns
+pub mod PieceHeads
+pub mod PieceWords
+pub mod PieceKeys
+pub mod PieceReads
 pub mod EitherAnswer

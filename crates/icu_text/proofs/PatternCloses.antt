@@ -8,17 +8,16 @@ use Rattle.soy_tree.specs.MessageParts.{MsgPart, Placeholder, no_part}
 use Rattle.soy_tree.specs.ViewMessageParts.{parts_of}
 use Rattle.icu_text.specs.declared.state.ArmKey.{ArmKey}
 use Rattle.icu_text.specs.declared.state.ArmKey.TheVariants as arm_key
-use Rattle.icu_text.specs.declared.state.Argument.{Argument}
+use Rattle.icu_text.specs.PatternStates.{Argument}
 use Rattle.icu_text.specs.declared.state.ChoiceKind.{ChoiceKind}
 use Rattle.icu_text.specs.declared.state.ChoiceKind.TheVariants as choice
 use Rattle.icu_text.specs.declared.state.OpenPlural.{OpenPlural}
 use Rattle.icu_text.specs.declared.state.OpenSelect.{OpenSelect}
 use Rattle.icu_text.specs.declared.state.Frame.{Frame}
 use Rattle.icu_text.specs.declared.state.Frame.TheVariants as frame
-use Rattle.icu_text.specs.declared.state.Quoting.TheVariants as quoting
-use Rattle.icu_text.specs.declared.state.Expected.{Expected}
-use Rattle.icu_text.specs.declared.state.Expected.TheVariants as expected
-use Rattle.icu_text.specs.declared.state.PatternState.{PatternState}
+use Rattle.icu_text.specs.PatternStates.{Expected}
+use Rattle.icu_text.specs.PatternStates as expected
+use Rattle.icu_text.specs.PatternStates.{PatternState}
 use Rattle.icu_text.specs.FirstArms.{has_category, has_word, with_named, with_select}
 use Rattle.icu_text.specs.PatternSteps.{with_arm, with_word, with_offset, opened, plural_part, select_part}
 use Rattle.icu_text.specs.PatternSteps.{new_select, signed}
@@ -106,12 +105,12 @@ module _ (fs : List Frame) (inside : (l : List MsgPart × List ℕ) → Closes (
   choice_end a choice.Select more = refl
 
   pub expected_closes : (x : Expected) → Closes (at fs x)
-  expected_closes (expected.Text ps t quoting.Unquoted) = inside (ps, t)
-  expected_closes (expected.Text ps t quoting.Apostrophe) =
+  expected_closes (expected.Text ps t expected.Unquoted) = inside (ps, t)
+  expected_closes (expected.Text ps t expected.Apostrophe) =
       led (in_text fs (ps, t ++ codes "'")) (codes "'") (λ more. refl) (inside (ps, t ++ codes "'"))
-  expected_closes (expected.Text ps t quoting.Quoted) =
+  expected_closes (expected.Text ps t expected.Quoted) =
       led (in_text fs (ps, t ++ codes "x")) (codes "'x") (λ more. refl) (inside (ps, t ++ codes "x"))
-  expected_closes (expected.Text ps t quoting.QuotedApostrophe) =
+  expected_closes (expected.Text ps t expected.QuotedApostrophe) =
       led (in_text fs (ps, t ++ codes "x")) (codes "x") (λ more. refl) (inside (ps, t ++ codes "x"))
   expected_closes (expected.Name before) =
       led (in_text fs (before ++ Placeholder (codes "x") ∷ [], [])) (codes "x}") (λ more. refl)

@@ -16,13 +16,13 @@ use Rattle.soy_rules.specs.IcuText.{Reads, stop, plain, two, single, quoted, num
 use Rattle.soy_rules.specs.IcuText.{plural, select, PluralArms, no_more, plural_arm, WordArms, no_more_words, word_arm}
 use Rattle.soy_rules.specs.IcuText.{IsSpacedKeyword, plural_keyword, IsOffset, none, given, IsKey, exact, negative}
 use Rattle.soy_rules.specs.IcuText.{named, Key, is_other, exact_arms, named_arms, select_arms, IsPattern}
-use Rattle.icu_text.specs.declared.state.Argument.{Argument}
+use Rattle.icu_text.specs.PatternStates.{Argument}
 use Rattle.icu_text.specs.declared.state.ChoiceKind.TheVariants as choice
 use Rattle.icu_text.specs.declared.state.OpenPlural.{OpenPlural}
 use Rattle.icu_text.specs.declared.state.OpenSelect.{OpenSelect}
 use Rattle.icu_text.specs.declared.state.Frame.{Frame}
 use Rattle.icu_text.specs.declared.state.Frame.TheVariants as frame
-use Rattle.icu_text.specs.declared.state.Expected.TheVariants as expected
+use Rattle.icu_text.specs.PatternStates as expected
 use Rattle.icu_text.specs.FirstArms.{has_category, has_word}
 use Rattle.icu_text.specs.PatternSteps.{pattern_mode, with_arm, with_word, with_offset, new_plural, new_select}
 use Rattle.icu_text.specs.PatternSteps.{plural_part, select_part}

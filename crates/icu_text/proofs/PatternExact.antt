@@ -10,10 +10,9 @@ use Rattle.soy_rules.specs.IcuText.{AtTop, Reads, with_text, IsPattern}
 use Rattle.icu_text.specs.declared.parse.Outcome.{Outcome}
 use Rattle.icu_text.specs.declared.parse.Outcome.TheVariants.{Done, Refused}
 use Rattle.icu_text.specs.declared.state.Frame.{Frame}
-use Rattle.icu_text.specs.declared.state.Quoting.TheVariants as quoting
-use Rattle.icu_text.specs.declared.state.Expected.{Expected}
-use Rattle.icu_text.specs.declared.state.Expected.TheVariants as expected
-use Rattle.icu_text.specs.declared.state.PatternState.{PatternState}
+use Rattle.icu_text.specs.PatternStates.{Expected}
+use Rattle.icu_text.specs.PatternStates as expected
+use Rattle.icu_text.specs.PatternStates.{PatternState}
 use Rattle.icu_text.specs.BeginsPattern.{BeginsPattern}
 use Rattle.icu_text.specs.ParsesMessage.{IsNoPattern}
 use Rattle.icu_text.specs.PatternSteps.{finished, pattern_next, next_at, whole_at, whole_pattern}
@@ -44,18 +43,18 @@ end_text n out ps t e = record {
     all (Some l) = parts_of l
 
 ended : (fs : List Frame) (out : List MsgPart) (x : Expected) (n : ℕ) → whole_at x fs ≡ Some out → Left fs n out x []
-ended [] out (expected.Text ps t quoting.Unquoted) n e = end_text n out ps t e
-ended [] out (expected.Text ps t quoting.Apostrophe) n e =
+ended [] out (expected.Text ps t expected.Unquoted) n e = end_text n out ps t e
+ended [] out (expected.Text ps t expected.Apostrophe) n e =
     more_text (ps, t) (single_quote ∷ []) (single_quote ∷ []) []
     (λ qs rest r. icu.single [] rest qs (with_text (single_quote ∷ []) qs) refl refl r refl)
     (end_text n out ps (t ++ single_quote ∷ []) e)
-ended [] out (expected.Text ps t quoting.Quoted) n e = record {
+ended [] out (expected.Text ps t expected.Quoted) n e = record {
   chars = [];
   after = [];
   quoted = icu.unclosed;
   left = subst (λ u. TextLeft [] n out (ps, u) []) (sym (append-nil t)) (end_text n out ps t e);
 }
-ended [] out (expected.Text ps t quoting.QuotedApostrophe) n e = record {
+ended [] out (expected.Text ps t expected.QuotedApostrophe) n e = record {
   chars = [];
   after = [];
   quoted = icu.closed [] refl;
@@ -88,10 +87,10 @@ module _ (cs : List ℕ) (out : List MsgPart)
   stepped : (fs : List Frame) (x : Expected) (n c : ℕ) → n + length fs ≡ braces x → Fits x
       → parsed_from (parsed cs) (next_at x fs c) ≡ Some out
       → Left fs n out x (c ∷ cs)
-  stepped fs (expected.Text ps t quoting.Unquoted) n c d f e = step.plain_step_left cs out hyp fs n ps t c d e
-  stepped fs (expected.Text ps t quoting.Apostrophe) n c d f e = step.apostrophe_left cs out hyp fs n ps t c d e
-  stepped fs (expected.Text ps t quoting.Quoted) n c d f e = step.quoted_left cs out hyp fs n ps t c d e
-  stepped fs (expected.Text ps t quoting.QuotedApostrophe) n c d f e =
+  stepped fs (expected.Text ps t expected.Unquoted) n c d f e = step.plain_step_left cs out hyp fs n ps t c d e
+  stepped fs (expected.Text ps t expected.Apostrophe) n c d f e = step.apostrophe_left cs out hyp fs n ps t c d e
+  stepped fs (expected.Text ps t expected.Quoted) n c d f e = step.quoted_left cs out hyp fs n ps t c d e
+  stepped fs (expected.Text ps t expected.QuotedApostrophe) n c d f e =
       step.quoted_apostrophe_left cs out hyp fs n ps t c d e
   stepped fs (expected.Name before) n c d f e = step.name_left cs out hyp fs n before c d e
   stepped fs (expected.NameCharacter before name) n c d f e = step.name_character_left cs out hyp fs n before name c d e
@@ -121,7 +120,7 @@ sound (c ∷ cs) out fs x n d f e = stepped cs out (sound cs out) fs x n c d f e
 pub parsed_pattern : (text : List ℕ) (out : List MsgPart) → parsed text pattern_start ≡ Some out
     → IsPattern text (parts_of out)
 parsed_pattern text out e =
-    let l : TextLeft [] 64 out ([], []) text = sound text out [] (expected.Text [] [] quoting.Unquoted) 64
+    let l : TextLeft [] 64 out ([], []) text = sound text out [] (expected.Text [] [] expected.Unquoted) 64
     (omega arith) tt e in
     subst (λ q. Reads AtTop 64 text q []) (sym l.ends.1) (subst (λ r. Reads AtTop 64 text l.parts r) l.ends.0 l.reads)
 

@@ -16,16 +16,15 @@ use Rattle.soy_rules.specs.IcuText.{PatternMode, Reads, with_text, Quoted, IsNum
 use Rattle.soy_rules.specs.IcuText.{WordArms}
 use Rattle.icu_text.specs.declared.state.ArmKey.{ArmKey}
 use Rattle.icu_text.specs.declared.state.ArmKey.TheVariants as arm_key
-use Rattle.icu_text.specs.declared.state.Argument.{Argument}
+use Rattle.icu_text.specs.PatternStates.{Argument}
 use Rattle.icu_text.specs.declared.state.ChoiceKind.{ChoiceKind}
 use Rattle.icu_text.specs.declared.state.ChoiceKind.TheVariants as choice
 use Rattle.icu_text.specs.declared.state.OpenPlural.{OpenPlural}
 use Rattle.icu_text.specs.declared.state.OpenSelect.{OpenSelect}
 use Rattle.icu_text.specs.declared.state.Frame.{Frame}
 use Rattle.icu_text.specs.declared.state.Frame.TheVariants as frame
-use Rattle.icu_text.specs.declared.state.Quoting.TheVariants as quoting
-use Rattle.icu_text.specs.declared.state.Expected.{Expected}
-use Rattle.icu_text.specs.declared.state.Expected.TheVariants as expected
+use Rattle.icu_text.specs.PatternStates.{Expected}
+use Rattle.icu_text.specs.PatternStates as expected
 use Rattle.icu_text.specs.FirstArms.{has_category, has_word}
 use Rattle.icu_text.specs.PatternSteps.{pattern_mode, with_arm, with_word, with_offset, new_plural, new_select}
 use Rattle.icu_text.specs.PatternSteps.{plural_part, select_part, signed}
@@ -186,10 +185,10 @@ module _ (fs : List Frame) (n : ℕ) (out : List MsgPart) where
   NumberLeft plural minus v = KeyEndLeft plural (arm_key.Exact (signed minus v))
 
   abbrev pub Left : Expected → List ℕ → Type 0
-  Left (expected.Text ps t quoting.Unquoted) text = TextLeft fs n out (ps, t) text
-  Left (expected.Text ps t quoting.Apostrophe) text = TextLeft fs n out (ps, t) (single_quote ∷ text)
-  Left (expected.Text ps t quoting.Quoted) text = QuotedLeft fs n out (ps, t) text
-  Left (expected.Text ps t quoting.QuotedApostrophe) text = QuotedLeft fs n out (ps, t) (single_quote ∷ text)
+  Left (expected.Text ps t expected.Unquoted) text = TextLeft fs n out (ps, t) text
+  Left (expected.Text ps t expected.Apostrophe) text = TextLeft fs n out (ps, t) (single_quote ∷ text)
+  Left (expected.Text ps t expected.Quoted) text = QuotedLeft fs n out (ps, t) text
+  Left (expected.Text ps t expected.QuotedApostrophe) text = QuotedLeft fs n out (ps, t) (single_quote ∷ text)
   Left (expected.Name before) text = IsHead n (TextLeft fs (suc n) out) before text
   Left (expected.NameCharacter before name) text =
       Passed continues_name name (λ whole. After (NameTail (record { before = before; name = whole }))) text

@@ -4,10 +4,9 @@ use Rattle.std.specs.List.{list_all}
 use Rattle.soy_base.specs.WhiteSpace.{is_template_space}
 use Rattle.soy_tree.specs.MessageParts.{MsgPart}
 use Rattle.icu_text.specs.declared.state.Frame.{Frame}
-use Rattle.icu_text.specs.declared.state.Quoting.TheVariants as quoting
-use Rattle.icu_text.specs.declared.state.Expected.{Expected}
-use Rattle.icu_text.specs.declared.state.Expected.TheVariants as expected
-use Rattle.icu_text.specs.declared.state.PatternState.{PatternState}
+use Rattle.icu_text.specs.PatternStates.{Expected}
+use Rattle.icu_text.specs.PatternStates as expected
+use Rattle.icu_text.specs.PatternStates.{PatternState}
 use Rattle.icu_text.specs.PatternSteps.{pattern_next, whole_pattern}
 use Rattle.icu_text.specs.PatternReading.{pattern_run, pattern_run_from}
 use Rattle.icu_text.proofs.CharacterTests.{and_left, and_right}
@@ -17,7 +16,7 @@ at fs x = record { frames = fs; expected = x }
 
 -- in a text, of which these parts and this text after them were read
 abbrev pub in_text : List Frame → List MsgPart × List ℕ → PatternState
-in_text fs l = at fs (expected.Text l.0 l.1 quoting.Unquoted)
+in_text fs l = at fs (expected.Text l.0 l.1 expected.Unquoted)
 
 abbrev pub parsed_from : (PatternState → Option (List MsgPart)) → Option PatternState → Option (List MsgPart)
 parsed_from go_on None = None

@@ -22,17 +22,16 @@ use Rattle.soy_rules.specs.IcuText as icu
 use Rattle.soy_rules.specs.IcuText.{is_quotable, is_plain, with_text, Exact, Named, keyword, IsNumber, IsWord}
 use Rattle.icu_text.specs.declared.state.ArmKey.{ArmKey}
 use Rattle.icu_text.specs.declared.state.ArmKey.TheVariants as arm_key
-use Rattle.icu_text.specs.declared.state.Argument.{Argument}
+use Rattle.icu_text.specs.PatternStates.{Argument}
 use Rattle.icu_text.specs.declared.state.ChoiceKind.{ChoiceKind}
 use Rattle.icu_text.specs.declared.state.ChoiceKind.TheVariants as choice
 use Rattle.icu_text.specs.declared.state.OpenPlural.{OpenPlural}
 use Rattle.icu_text.specs.declared.state.OpenSelect.{OpenSelect}
 use Rattle.icu_text.specs.declared.state.Frame.{Frame}
 use Rattle.icu_text.specs.declared.state.Frame.TheVariants as frame
-use Rattle.icu_text.specs.declared.state.Quoting.TheVariants as quoting
-use Rattle.icu_text.specs.declared.state.Expected.{Expected}
-use Rattle.icu_text.specs.declared.state.Expected.TheVariants as expected
-use Rattle.icu_text.specs.declared.state.PatternState.{PatternState}
+use Rattle.icu_text.specs.PatternStates.{Expected}
+use Rattle.icu_text.specs.PatternStates as expected
+use Rattle.icu_text.specs.PatternStates.{PatternState}
 use Rattle.icu_text.specs.FirstArms.{has_category, has_word}
 use Rattle.icu_text.specs.PatternSteps as steps
 use Rattle.icu_text.specs.PatternSteps.{pattern_mode, finished, with_arm, with_word, with_offset, opened}
@@ -168,10 +167,10 @@ module _ (cs : List ℕ) (out : List MsgPart)
 
   add_left : (fs : List Frame) (n : ℕ) (ps : List MsgPart) (t : List ℕ) (c : ℕ) → n + length fs ≡ 64
       → is_plain (pattern_mode fs) c ≡ true
-      → Parsed (steps.add_next fs ps t quoting.Unquoted c) → TextLeft fs n out (ps, t) (c ∷ cs)
+      → Parsed (steps.add_next fs ps t expected.Unquoted c) → TextLeft fs n out (ps, t) (c ∷ cs)
   add_left fs n ps t c d h e =
       more_text (ps, t) (c ∷ []) (c ∷ cs) cs (λ qs rest r. icu.plain c cs rest qs (with_text (c ∷ []) qs) h r refl)
-      (hyp fs (expected.Text ps (t ++ c ∷ []) quoting.Unquoted) n d tt e)
+      (hyp fs (expected.Text ps (t ++ c ∷ []) expected.Unquoted) n d tt e)
 
   brace_left : (fs : List Frame) (n : ℕ) (ps : List MsgPart) (t : List ℕ) → n + length fs ≡ 64
       → Parsed (steps.brace_next fs (finished ps t))
@@ -210,7 +209,7 @@ module _ (cs : List ℕ) (out : List MsgPart)
   number_left [] n ps t d e = add_left [] n ps t number_sign d refl e
   number_left (frame.Plural p key ∷ fs) n ps t d e =
       number_text (ps, t) cs (hyp (frame.Plural p key ∷ fs)
-      (expected.Text (finished ps t ++ NumberPart ∷ []) [] quoting.Unquoted) n d tt e)
+      (expected.Text (finished ps t ++ NumberPart ∷ []) [] expected.Unquoted) n d tt e)
   number_left (frame.Select s word ∷ fs) n ps t d e = add_left (frame.Select s word ∷ fs) n ps t number_sign d refl e
 
   plain_by : (fs : List Frame) (c : ℕ) → (c == 39) ≡ false → (c == 123) ≡ false → (c == 125) ≡ false → (c == 35) ≡ false
@@ -224,7 +223,7 @@ module _ (cs : List ℕ) (out : List MsgPart)
       → TextLeft fs n out (ps, t) (c ∷ cs)
   plain_left fs n ps t c d =
       let P : ℕ → Type 0 = λ k. Parsed (steps.plain_next fs ps t k) → TextLeft fs n out (ps, t) (k ∷ cs) in
-      equal_or P c 39 (λ e. hyp fs (expected.Text ps t quoting.Apostrophe) n d tt e)
+      equal_or P c 39 (λ e. hyp fs (expected.Text ps t expected.Apostrophe) n d tt e)
       (λ a. equal_or P c 123 (brace_left fs n ps t d)
       (λ b. equal_or P c 125 (close_left fs n ps t d)
       (λ g. equal_or P c 35 (number_left fs n ps t d)
@@ -248,17 +247,17 @@ module _ (cs : List ℕ) (out : List MsgPart)
       equal_or P c 39
       (λ e. more_text (ps, t) (single_quote ∷ []) (single_quote ∷ (single_quote ∷ cs)) cs
       (λ qs rest r. icu.two cs rest qs (with_text (single_quote ∷ []) qs) r refl)
-      (hyp fs (expected.Text ps (t ++ single_quote ∷ []) quoting.Unquoted) n d tt e))
+      (hyp fs (expected.Text ps (t ++ single_quote ∷ []) expected.Unquoted) n d tt e))
       (λ a. λ e. holds_or _ (is_quotable (pattern_mode fs) c)
       (λ q. quotes_left fs n ps t c a q
-      (hyp fs (expected.Text ps (t ++ c ∷ []) quoting.Quoted) n d tt (rw (a, q) at e)))
+      (hyp fs (expected.Text ps (t ++ c ∷ []) expected.Quoted) n d tt (rw (a, q) at e)))
       (λ q. more_text (ps, t) (single_quote ∷ []) (single_quote ∷ (c ∷ cs)) (c ∷ cs)
       (λ qs rest r. icu.single (c ∷ cs) rest qs (with_text (single_quote ∷ []) qs) a q r refl)
       (plain_left fs n ps (t ++ single_quote ∷ []) c d
-      (subst (λ b. Parsed (if b then steps.add_next fs ps t quoting.Quoted c else steps.plain_next fs ps
+      (subst (λ b. Parsed (if b then steps.add_next fs ps t expected.Quoted c else steps.plain_next fs ps
       (t ++ single_quote ∷ []) c)) q
-      (subst (λ b. Parsed (if b then steps.add_next fs ps t quoting.Unquoted single_quote else
-      (if is_quotable (pattern_mode fs) c then steps.add_next fs ps t quoting.Quoted c
+      (subst (λ b. Parsed (if b then steps.add_next fs ps t expected.Unquoted single_quote else
+      (if is_quotable (pattern_mode fs) c then steps.add_next fs ps t expected.Quoted c
       else steps.plain_next fs ps (t ++ single_quote ∷ []) c))) a e)))))
 
   pub quoted_left : (fs : List Frame) (n : ℕ) (ps : List MsgPart) (t : List ℕ) (c : ℕ) → n + length fs ≡ 64
@@ -266,9 +265,9 @@ module _ (cs : List ℕ) (out : List MsgPart)
       → QuotedLeft fs n out (ps, t) (c ∷ cs)
   quoted_left fs n ps t c d =
       let P : ℕ → Type 0 = λ k. Parsed (steps.quoted_next fs ps t k) → QuotedLeft fs n out (ps, t) (k ∷ cs) in
-      equal_or P c 39 (λ e. hyp fs (expected.Text ps t quoting.QuotedApostrophe) n d tt e)
+      equal_or P c 39 (λ e. hyp fs (expected.Text ps t expected.QuotedApostrophe) n d tt e)
       (λ a. λ e. let l : QuotedLeft fs n out (ps, t ++ c ∷ []) cs = hyp fs
-      (expected.Text ps (t ++ c ∷ []) quoting.Quoted) n d tt (rw a at e) in
+      (expected.Text ps (t ++ c ∷ []) expected.Quoted) n d tt (rw a at e) in
       record {
         chars = c ∷ l.chars;
         after = l.after;
@@ -283,7 +282,7 @@ module _ (cs : List ℕ) (out : List MsgPart)
       → QuotedLeft fs n out (ps, t) (single_quote ∷ (k ∷ cs)) in
       equal_or P c 39
       (λ e. let l : QuotedLeft fs n out (ps, t ++ single_quote ∷ []) cs = hyp fs
-      (expected.Text ps (t ++ single_quote ∷ []) quoting.Quoted) n d tt e in
+      (expected.Text ps (t ++ single_quote ∷ []) expected.Quoted) n d tt e in
       record {
         chars = single_quote ∷ l.chars;
         after = l.after;
@@ -295,7 +294,7 @@ module _ (cs : List ℕ) (out : List MsgPart)
         after = c ∷ cs;
         quoted = icu.closed (c ∷ cs) a;
         left = subst (λ u. TextLeft fs n out (ps, u) (c ∷ cs)) (sym (append-nil t)) (plain_left fs n ps t c d
-            (subst (λ b. Parsed (if b then steps.add_next fs ps t quoting.Quoted single_quote else steps.plain_next fs
+            (subst (λ b. Parsed (if b then steps.add_next fs ps t expected.Quoted single_quote else steps.plain_next fs
             ps t c)) a e));
       })
 
@@ -328,7 +327,7 @@ module _ (cs : List ℕ) (out : List MsgPart)
       let P : ℕ → Type 0 = λ k. Parsed (steps.name_end_next fs a k) → After (NameTail fs n out a) (k ∷ cs) in
       equal_or P c 44 (λ e. unspaced (inr (behind comma (hyp fs (expected.Choice a) n d tt e))))
       (λ k. equal_or P c 125 (λ e. unspaced
-      (inl (behind right_brace (hyp fs (expected.Text (a.before ++ Placeholder a.name ∷ []) [] quoting.Unquoted)
+      (inl (behind right_brace (hyp fs (expected.Text (a.before ++ Placeholder a.name ∷ []) [] expected.Unquoted)
       (suc n) (omega (arith, d)) tt e))))
       (λ g. λ e. holds_or _ (is_template_space c) (λ w. spaced c w (hyp fs (expected.NameEnd a) n d tt (rw w at e)))
       (λ w. none_some _ (rw (w, k, g) at e))))
@@ -455,7 +454,7 @@ module _ (cs : List ℕ) (out : List MsgPart)
             rest = cs;
             reads = icu.no_more (right_brace ∷ cs);
             other = h;
-            follows = hyp fs (expected.Text (p.before ++ plural_part p ∷ []) [] quoting.Unquoted) (suc n)
+            follows = hyp fs (expected.Text (p.before ++ plural_part p ∷ []) [] expected.Unquoted) (suc n)
                 (omega (arith, d)) tt (rw h at e);
           }))
           (λ h. none_some _ (rw h at e))
@@ -488,7 +487,7 @@ module _ (cs : List ℕ) (out : List MsgPart)
   key_end_left fs n p key c d =
       let P : ℕ → Type 0 = λ k. Parsed (steps.key_end_next fs p key k) → KeyEndLeft fs n out p key (k ∷ cs) in
       equal_or P c 123 (λ e. unspaced
-      (behind left_brace (hyp (frame.Plural p key ∷ fs) (expected.Text [] [] quoting.Unquoted) n (omega (arith, d))
+      (behind left_brace (hyp (frame.Plural p key ∷ fs) (expected.Text [] [] expected.Unquoted) n (omega (arith, d))
       tt e)))
       (λ k. λ e. holds_or _ (is_template_space c)
       (λ w. let l : Lettered [] (KeyEndLeft fs n out p key) cs = hyp fs (expected.KeyLetter p key []) n d tt (rw w at e)
@@ -568,7 +567,7 @@ module _ (cs : List ℕ) (out : List MsgPart)
   word_end_left fs n s word c d =
       let P : ℕ → Type 0 = λ k. Parsed (steps.word_end_next fs s word k) → WordEndLeft fs n out s word (k ∷ cs) in
       equal_or P c 123 (λ e. unspaced
-      (behind left_brace (hyp (frame.Select s word ∷ fs) (expected.Text [] [] quoting.Unquoted) n (omega (arith, d))
+      (behind left_brace (hyp (frame.Select s word ∷ fs) (expected.Text [] [] expected.Unquoted) n (omega (arith, d))
       tt e)))
       (λ k. λ e. holds_or _ (is_template_space c)
       (λ w. spaced c w (hyp fs (expected.WordEnd s word) n d tt (rw w at e))) (λ w. none_some _ (rw (w, k) at e)))
@@ -612,7 +611,7 @@ module _ (cs : List ℕ) (out : List MsgPart)
             rest = cs;
             reads = icu.no_more_words (right_brace ∷ cs);
             other = h;
-            follows = hyp fs (expected.Text (s.before ++ select_part s ∷ []) [] quoting.Unquoted) (suc n)
+            follows = hyp fs (expected.Text (s.before ++ select_part s ∷ []) [] expected.Unquoted) (suc n)
                 (omega (arith, d)) tt (rw h at e);
           }))
           (λ h. none_some _ (rw h at e))

@@ -1,6 +1,11 @@
 pub mod CodedParts
 pub mod FirstArms
+pub mod PatternStates
 pub mod PatternSteps
 pub mod PatternReading
+pub mod Heads
+pub mod Keys
+pub mod Words
+pub mod Pieces
 pub mod BeginsPattern
 pub mod ParsesMessage

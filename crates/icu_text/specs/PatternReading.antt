@@ -1,17 +1,17 @@
--- How `parse_message` reads: character by character, until one has no step or the text ends.
+-- What the machine reads of a text, and so `parse_message`: character by character, until one has no step or the text
+-- ends.
 -- Example: `{N!` ends at its third character, so its first two begin a pattern.
 use Rattle.std.specs.Prelude.{ℕ, List, [], ◌∷◌, Option, Some, None}
 use Rattle.soy_base.specs.ByteLength.{byte_len}
 use Rattle.soy_tree.specs.MessageParts.{MsgPart}
 use Rattle.icu_text.specs.declared.parse.Outcome.{Outcome}
 use Rattle.icu_text.specs.declared.parse.Outcome.TheVariants.{Done, Refused}
-use Rattle.icu_text.specs.declared.state.PatternState.{PatternState}
-use Rattle.icu_text.specs.declared.state.Expected.TheVariants as expected
-use Rattle.icu_text.specs.declared.state.Quoting.TheVariants as quoting
+use Rattle.icu_text.specs.PatternStates.{PatternState}
+use Rattle.icu_text.specs.PatternStates as expected
 use Rattle.icu_text.specs.PatternSteps.{pattern_next, whole_pattern}
 
 abbrev pub pattern_start : PatternState
-pattern_start = record { frames = []; expected = expected.Text [] [] quoting.Unquoted }
+pattern_start = record { frames = []; expected = expected.Text [] [] expected.Unquoted }
 
 -- the state after the characters; there is none where one of them has no step
 abbrev pub pattern_run_from : (PatternState → Option PatternState) → Option PatternState → Option PatternState

@@ -17,28 +17,21 @@ use Rattle.soy_tree.specs.MessageParts.{MsgPart, MsgParts, TextPart, Placeholder
 use Rattle.soy_tree.specs.ViewMessageParts.{parts_of, exact_arms_of, named_arms_of, select_arms_of}
 use Rattle.icu_text.specs.declared.state.ArmKey.{ArmKey}
 use Rattle.icu_text.specs.declared.state.ArmKey.TheVariants as arm_key
-use Rattle.icu_text.specs.declared.state.Argument.{Argument}
+use Rattle.icu_text.specs.PatternStates.{Argument}
 use Rattle.icu_text.specs.declared.state.OpenPlural.{OpenPlural}
 use Rattle.icu_text.specs.declared.state.OpenSelect.{OpenSelect}
 use Rattle.icu_text.specs.declared.state.Frame.{Frame}
 use Rattle.icu_text.specs.declared.state.Frame.TheVariants as frame
-use Rattle.icu_text.specs.declared.state.Quoting.{Quoting}
-use Rattle.icu_text.specs.declared.state.Quoting.TheVariants as quoting
+use Rattle.icu_text.specs.PatternStates.{Quoting}
 use Rattle.icu_text.specs.declared.state.ChoiceKind.{ChoiceKind}
 use Rattle.icu_text.specs.declared.state.ChoiceKind.TheVariants as choice
-use Rattle.icu_text.specs.declared.state.Expected.{Expected}
-use Rattle.icu_text.specs.declared.state.Expected.TheVariants as expected
-use Rattle.icu_text.specs.declared.state.PatternState.{PatternState}
-use Rattle.icu_text.specs.declared.state.PatternStep.{PatternStep}
-use Rattle.icu_text.specs.declared.state.PatternStep.TheVariants as step
+use Rattle.icu_text.specs.PatternStates.{Expected}
+use Rattle.icu_text.specs.PatternStates as expected
+use Rattle.icu_text.specs.PatternStates.{PatternState}
 use Rattle.icu_text.specs.FirstArms.{has_category, has_word, with_exact, with_named, with_select}
 
 abbrev pub on : List Frame → Expected → Option PatternState
 on fs x = Some (record { frames = fs; expected = x })
-
-abbrev pub step_of : Option PatternState → PatternStep
-step_of (Some to) = step.Next to
-step_of None = step.End
 
 -- text
 
@@ -54,7 +47,7 @@ finished ps [] = ps
 finished ps (c ∷ cs) = ps ++ TextPart (c ∷ cs) ∷ []
 
 abbrev pub text_after : List Frame → List MsgPart → Option PatternState
-text_after fs ps = on fs (expected.Text ps [] quoting.Unquoted)
+text_after fs ps = on fs (expected.Text ps [] expected.Unquoted)
 
 abbrev pub add_next : List Frame → List MsgPart → List ℕ → Quoting → ℕ → Option PatternState
 add_next fs ps t q c = on fs (expected.Text ps (t ++ c ∷ []) q)
@@ -71,7 +64,7 @@ abbrev pub with_word : OpenSelect → List ℕ → MsgParts → OpenSelect
 with_word select word ps = record select { arms = with_select select.arms word ps }
 
 abbrev pub close_next : List Frame → List MsgPart → List ℕ → Option PatternState
-close_next [] ps t = add_next [] ps t quoting.Unquoted right_brace
+close_next [] ps t = add_next [] ps t expected.Unquoted right_brace
 close_next (frame.Plural plural key ∷ fs) ps t =
     on fs (expected.Key (with_arm plural key (parts_of (finished ps t))) false)
 close_next (frame.Select select word ∷ fs) ps t =
@@ -80,37 +73,37 @@ close_next (frame.Select select word ∷ fs) ps t =
 abbrev pub number_sign_next : List Frame → List MsgPart → List ℕ → Option PatternState
 number_sign_next (frame.Plural plural key ∷ fs) ps t =
     text_after (frame.Plural plural key ∷ fs) (finished ps t ++ NumberPart ∷ [])
-number_sign_next fs ps t = add_next fs ps t quoting.Unquoted number_sign
+number_sign_next fs ps t = add_next fs ps t expected.Unquoted number_sign
 
 abbrev pub plain_next : List Frame → List MsgPart → List ℕ → ℕ → Option PatternState
 plain_next fs ps t c =
-    if c == single_quote then on fs (expected.Text ps t quoting.Apostrophe)
+    if c == single_quote then on fs (expected.Text ps t expected.Apostrophe)
     else (if c == left_brace then brace_next fs (finished ps t)
     else (if c == right_brace then close_next fs ps t
     else (if c == number_sign then number_sign_next fs ps t
-    else add_next fs ps t quoting.Unquoted c)))
+    else add_next fs ps t expected.Unquoted c)))
 
 abbrev pub apostrophe_next : List Frame → List MsgPart → List ℕ → ℕ → Option PatternState
 apostrophe_next fs ps t c =
-    if c == single_quote then add_next fs ps t quoting.Unquoted single_quote
-    else (if is_quotable (pattern_mode fs) c then add_next fs ps t quoting.Quoted c
+    if c == single_quote then add_next fs ps t expected.Unquoted single_quote
+    else (if is_quotable (pattern_mode fs) c then add_next fs ps t expected.Quoted c
     else plain_next fs ps (t ++ single_quote ∷ []) c)
 
 abbrev pub quoted_next : List Frame → List MsgPart → List ℕ → ℕ → Option PatternState
 quoted_next fs ps t c =
-    if c == single_quote then on fs (expected.Text ps t quoting.QuotedApostrophe)
-    else add_next fs ps t quoting.Quoted c
+    if c == single_quote then on fs (expected.Text ps t expected.QuotedApostrophe)
+    else add_next fs ps t expected.Quoted c
 
 abbrev pub quoted_apostrophe_next : List Frame → List MsgPart → List ℕ → ℕ → Option PatternState
 quoted_apostrophe_next fs ps t c =
-    if c == single_quote then add_next fs ps t quoting.Quoted single_quote
+    if c == single_quote then add_next fs ps t expected.Quoted single_quote
     else plain_next fs ps t c
 
 abbrev pub text_next : List Frame → List MsgPart → List ℕ → Quoting → ℕ → Option PatternState
-text_next fs ps t quoting.Unquoted c = plain_next fs ps t c
-text_next fs ps t quoting.Apostrophe c = apostrophe_next fs ps t c
-text_next fs ps t quoting.Quoted c = quoted_next fs ps t c
-text_next fs ps t quoting.QuotedApostrophe c = quoted_apostrophe_next fs ps t c
+text_next fs ps t expected.Unquoted c = plain_next fs ps t c
+text_next fs ps t expected.Apostrophe c = apostrophe_next fs ps t c
+text_next fs ps t expected.Quoted c = quoted_next fs ps t c
+text_next fs ps t expected.QuotedApostrophe c = quoted_apostrophe_next fs ps t c
 
 -- an argument's name, and the kind of choice
 
@@ -309,7 +302,7 @@ pattern_next s c = next_at s.expected s.frames c
 
 -- the parts of what was read, if nothing is open
 abbrev pub text_at_end : List MsgPart → List ℕ → Quoting → List MsgPart
-text_at_end ps t quoting.Apostrophe = finished ps (t ++ single_quote ∷ [])
+text_at_end ps t expected.Apostrophe = finished ps (t ++ single_quote ∷ [])
 text_at_end ps t _ = finished ps t
 
 abbrev pub whole_at : Expected → List Frame → Option (List MsgPart)

@@ -1,11 +1,21 @@
-//! A number of a pattern, digit by digit.
+//! A number of a pattern.
 
 ghost use Rattle.std.specs.Prelude.{◌≡◌, ◌-◌, nat_le, true, false, MatchOption};
 ghost use Rattle.std.specs.Char.{is_ascii_digit};
 ghost use Rattle.soy_base.specs.Limits.{largest};
+ghost use Rattle.std.specs.Str.{chars};
+ghost use Rattle.icu_text.specs.Keys.{digits_read, number_read, view_digits};
 ghost use Rattle.icu_text.specs.PatternSteps.{more_digits, signed};
 
+use soy_base::first;
 use std::marker::Model;
+
+/// A number with what follows its digits, or the text from where no digit stands or one makes the number too large.
+#[derive(Drop)]
+pub enum Digits<'a> {
+    Number(Number, &'a str),
+    Stuck(&'a str),
+}
 
 /// The largest number of a pattern.
 const LARGEST: u64 = 9007199254740991;
@@ -69,4 +79,38 @@ impl Number {
             self.value as i64
         }
     }
+}
+
+/// The number that the digits write that a text begins with.
+pub fn read_number(text: &str) -> Digits<'_>
+    ensures { view_digits result ≡ number_read (chars text.now) }
+{
+    match first(text) {
+        None => Digits::Stuck(text),
+        Some((c, after)) => {
+            if !c.is_ascii_digit() {
+                return Digits::Stuck(text);
+            }
+            read_digits(Number::of_digit(c), after)
+        }
+    }
+}
+
+/// The number that further digits make.
+fn read_digits(number: Number, text: &str) -> Digits<'_>
+    ensures { view_digits result ≡ digits_read number (chars text.now) }
+{
+    let mut number = number;
+    let mut rest = text;
+    while let Some((c, after)) = first(rest) {
+        if !c.is_ascii_digit() {
+            return Digits::Number(number, rest);
+        }
+        match number.with_digit(c) {
+            Some(more) => number = more,
+            None => return Digits::Stuck(rest),
+        }
+        rest = after;
+    }
+    Digits::Number(number, rest)
 }

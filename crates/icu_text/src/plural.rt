@@ -1,34 +1,32 @@
-//! The offset, the keys and the end of a plural.
+//! A plural that is open: its arms, its offset and its end.
 
 ghost use Rattle.std.specs.Prelude.{◌≡◌, IfOk};
+ghost use Rattle.std.specs.Str.{chars};
 ghost use Rattle.soy_tree.specs.ViewMessageParts.{parts_of};
-ghost use Rattle.icu_text.specs.PatternSteps.{exact_key_next, first_digit_next, key_after_o_next, key_digit_next};
-ghost use Rattle.icu_text.specs.PatternSteps.{key_end_next, key_letter_next, key_next, keyword_next, new_plural};
-ghost use Rattle.icu_text.specs.PatternSteps.{offset_digit_next, offset_letter_next, plural_end, step_of};
-ghost use Rattle.icu_text.specs.PatternSteps.{with_arm, with_offset};
-ghost use Rattle.icu_text.specs.declared.state.ArmKey.TheVariants as arm_key;
-ghost use Rattle.icu_text.specs.declared.state.Expected.TheVariants as expected;
+ghost use Rattle.icu_text.specs.Keys.{view_digits, view_first_key, view_key};
+ghost use Rattle.icu_text.specs.PatternSteps.{new_plural, with_arm, with_offset};
+ghost use Rattle.icu_text.specs.Pieces.{end_plural_piece, first_key_piece, key_piece, offset_piece, view_piece};
 
-use crate::choice::at_letter;
-use crate::letters::Letters;
-use crate::number::Number;
-use crate::plain::after;
+use crate::key::{FirstKey, Key, read_key};
+use crate::number::{Digits, read_number};
+use crate::reader::{Next, Reader};
 use crate::rows::{ExactArms, NamedArms, Parts};
-use crate::state::{Argument, ArmKey, Expected, Frame, OpenPlural, PatternStep, on};
+use crate::scan::after_space;
+use crate::state::{ArmKey, Frame, OpenPlural};
 use plural_rules::Category;
-use soy_base::{OutOfMemory, Stack, is_template_space};
+use soy_base::{OutOfMemory, Text};
 use soy_tree::{MsgPart, PluralPart};
 use std::alloc::Global;
 
 impl OpenPlural {
     /// A plural without arms. Takes no memory.
-    pub fn new(alloc: Global, ordinal: bool, argument: Argument) -> OpenPlural
-        ensures { result ≡ new_plural ordinal argument }
+    pub fn new(alloc: Global, ordinal: bool, before: Parts, name: Text) -> OpenPlural
+        ensures { result ≡ new_plural ordinal (record { before = before; name = name }) }
     {
         OpenPlural {
-            before: argument.before,
+            before,
             ordinal,
-            name: argument.name,
+            name,
             offset: 0,
             exact: ExactArms::empty(alloc),
             named: NamedArms::empty(alloc),
@@ -65,252 +63,96 @@ impl OpenPlural {
     }
 }
 
-/// Where a key or the end of a plural is expected, or an offset if it starts.
-pub fn at_key(
-    alloc: Global,
-    frames: Stack<Frame>,
-    plural: OpenPlural,
-    starts: bool,
-    c: char,
-) -> Result<PatternStep, OutOfMemory>
-    ensures { IfOk result (λ to. to ≡ step_of (key_next frames plural starts c)) }
-{
-    if is_template_space(c) {
-        return Ok(on(frames, Expected::Key(plural, starts)));
-    }
-    match c {
-        '=' => Ok(on(frames, Expected::ExactKey(plural))),
-        '}' => at_plural_end(alloc, frames, plural),
-        'o' => Ok(on(frames, Expected::KeyAfterO(plural, starts))),
-        _ => Ok(at_keyword(frames, plural, c)),
-    }
-}
-
-/// The end of a plural, which has to have an arm for other.
-fn at_plural_end(
-    alloc: Global,
-    frames: Stack<Frame>,
-    plural: OpenPlural,
-) -> Result<PatternStep, OutOfMemory>
-    ensures { IfOk result (λ to. to ≡ step_of (plural_end frames plural)) }
-{
-    if !plural.named.has(Category::Other) {
-        drop(plural);
-        return Ok(PatternStep::End);
-    }
-    let OpenPlural {
-        before,
-        ordinal,
-        name,
-        offset,
-        exact,
-        named,
-    } = plural;
-    let mut before = before;
-    before.push(MsgPart::Plural(PluralPart {
-        ordinal,
-        name,
-        offset,
-        exact: exact.done(),
-        named: named.done(),
-    }))?;
-    Ok(after(alloc, frames, before))
-}
-
-/// The first letter of a key, but for `o`.
-fn at_keyword(frames: Stack<Frame>, plural: OpenPlural, c: char) -> PatternStep
-    ensures { result ≡ step_of (keyword_next frames plural c) }
-{
-    match c {
-        'z' => on(frames, named(plural, Category::Zero, Letters::new("ero"))),
-        't' => on(frames, named(plural, Category::Two, Letters::new("wo"))),
-        'f' => on(frames, named(plural, Category::Few, Letters::new("ew"))),
-        'm' => on(frames, named(plural, Category::Many, Letters::new("any"))),
-        _ => {
-            drop(plural);
-            PatternStep::End
+impl Reader {
+    /// Opens the first arm of a plural, or reads its offset.
+    pub fn read_first_arm<'a>(
+        &mut self,
+        plural: OpenPlural,
+        key: FirstKey<'a>,
+    ) -> Result<Next<'a>, OutOfMemory>
+        ensures { IfOk result (λ to. view_piece self.new to
+            ≡ first_key_piece self.old plural (view_first_key key.entry)) }
+    {
+        match key {
+            FirstKey::Offset(rest) => self.read_offset(plural, read_number(after_space(rest))),
+            FirstKey::Key(key) => self.read_arm(plural, key),
         }
     }
-}
 
-/// More letters of a keyword.
-fn named(plural: OpenPlural, category: Category, letters: Letters) -> Expected
-    ensures { result ≡ expected.KeyLetter plural (arm_key.Named category) letters }
-{
-    Expected::KeyLetter(plural, ArmKey::Named(category), letters)
-}
-
-/// A letter after the `o` of a key or an offset.
-pub fn at_key_after_o(
-    frames: Stack<Frame>,
-    plural: OpenPlural,
-    starts: bool,
-    c: char,
-) -> PatternStep
-    ensures { result ≡ step_of (key_after_o_next frames plural starts c) }
-{
-    if c == 'n' {
-        return on(frames, named(plural, Category::One, Letters::new("e")));
-    }
-    if c == 't' {
-        return on(frames, named(plural, Category::Other, Letters::new("her")));
-    }
-    if c == 'f' && starts {
-        return on(
-            frames,
-            Expected::OffsetLetter(plural, Letters::new("fset:")),
-        );
-    }
-    drop(plural);
-    PatternStep::End
-}
-
-/// A letter of a key, or what follows the key.
-pub fn at_key_letter(
-    alloc: Global,
-    frames: Stack<Frame>,
-    plural: OpenPlural,
-    key: ArmKey,
-    letters: Letters,
-    c: char,
-) -> Result<PatternStep, OutOfMemory>
-    ensures { IfOk result (λ to. to ≡ step_of (key_letter_next frames plural key letters c)) }
-{
-    match letters.split() {
-        Some((letter, letters)) => Ok(at_letter(
-            frames,
-            Expected::KeyLetter(plural, key, letters),
-            letter,
-            c,
-        )),
-        None => at_key_end(alloc, frames, plural, key, c),
-    }
-}
-
-/// Where the text of an arm is expected.
-fn at_key_end(
-    alloc: Global,
-    frames: Stack<Frame>,
-    plural: OpenPlural,
-    key: ArmKey,
-    c: char,
-) -> Result<PatternStep, OutOfMemory>
-    ensures { IfOk result (λ to. to ≡ step_of (key_end_next frames plural key c)) }
-{
-    if is_template_space(c) {
-        let letters = Letters::new("");
-        return Ok(on(frames, Expected::KeyLetter(plural, key, letters)));
-    }
-    if c != '{' {
-        drop(plural);
-        return Ok(PatternStep::End);
-    }
-    let mut frames = frames;
-    frames.push(Frame::Plural(plural, key))?;
-    Ok(after(alloc, frames, Parts::empty(alloc)))
-}
-
-/// A letter of `offset:`, or its number.
-pub fn at_offset_letter(
-    frames: Stack<Frame>,
-    plural: OpenPlural,
-    letters: Letters,
-    c: char,
-) -> PatternStep
-    ensures { result ≡ step_of (offset_letter_next frames plural letters c) }
-{
-    match letters.split() {
-        Some((letter, letters)) => {
-            at_letter(frames, Expected::OffsetLetter(plural, letters), letter, c)
-        }
-        None => {
-            if is_template_space(c) {
-                return on(frames, Expected::OffsetLetter(plural, Letters::new("")));
+    /// Sets the offset of a plural, and reads on in the plural.
+    #[inline(never)]
+    fn read_offset<'a>(
+        &mut self,
+        plural: OpenPlural,
+        digits: Digits<'a>,
+    ) -> Result<Next<'a>, OutOfMemory>
+        ensures { IfOk result (λ to. view_piece self.new to
+            ≡ offset_piece self.old plural (view_digits digits.entry)) }
+    {
+        match digits {
+            Digits::Number(number, rest) => {
+                self.read_arm(plural.with_offset(number.value()), read_key(rest))
             }
-            if c.is_ascii_digit() {
-                return on(frames, Expected::OffsetDigit(plural, Number::of_digit(c)));
+            Digits::Stuck(rest) => {
+                drop(plural);
+                Ok(Next::Stuck(rest))
             }
-            drop(plural);
-            PatternStep::End
         }
     }
-}
 
-/// A digit of an offset, or what follows it.
-pub fn at_offset_digit(
-    alloc: Global,
-    frames: Stack<Frame>,
-    plural: OpenPlural,
-    offset: Number,
-    c: char,
-) -> Result<PatternStep, OutOfMemory>
-    ensures { IfOk result (λ to. to ≡ step_of (offset_digit_next frames plural offset c)) }
-{
-    if !c.is_ascii_digit() {
-        return at_key(alloc, frames, plural.with_offset(offset.value()), false, c);
-    }
-    match offset.with_digit(c) {
-        Some(offset) => Ok(on(frames, Expected::OffsetDigit(plural, offset))),
-        None => {
-            drop(plural);
-            Ok(PatternStep::End)
+    /// Opens an arm of a plural, or ends the plural.
+    pub fn read_arm<'a>(
+        &mut self,
+        plural: OpenPlural,
+        key: Key<'a>,
+    ) -> Result<Next<'a>, OutOfMemory>
+        ensures { IfOk result (λ to. view_piece self.new to ≡ key_piece self.old plural (view_key key.entry)) }
+    {
+        match key {
+            Key::Arm(key, rest) => {
+                self.frames.push(Frame::Plural(plural, key))?;
+                Ok(Next::On(rest))
+            }
+            Key::End(text, rest) => self.end_plural(plural, text, rest),
+            Key::Stuck(rest) => {
+                drop(plural);
+                Ok(Next::Stuck(rest))
+            }
         }
     }
-}
 
-/// Where the number of a key is expected.
-pub fn at_exact_key(frames: Stack<Frame>, plural: OpenPlural, c: char) -> PatternStep
-    ensures { result ≡ step_of (exact_key_next frames plural c) }
-{
-    if is_template_space(c) {
-        return on(frames, Expected::ExactKey(plural));
-    }
-    if c == '-' {
-        return on(frames, Expected::NegativeKey(plural));
-    }
-    at_first_digit(frames, plural, false, c)
-}
-
-/// Where the first digit of a key is expected.
-pub fn at_first_digit(
-    frames: Stack<Frame>,
-    plural: OpenPlural,
-    negative: bool,
-    c: char,
-) -> PatternStep
-    ensures { result ≡ step_of (first_digit_next frames plural negative c) }
-{
-    if c.is_ascii_digit() {
-        on(
-            frames,
-            Expected::KeyDigit(plural, negative, Number::of_digit(c)),
-        )
-    } else {
-        drop(plural);
-        PatternStep::End
-    }
-}
-
-/// A digit of a key, or what follows the key.
-pub fn at_key_digit(
-    alloc: Global,
-    frames: Stack<Frame>,
-    plural: OpenPlural,
-    negative: bool,
-    number: Number,
-    c: char,
-) -> Result<PatternStep, OutOfMemory>
-    ensures { IfOk result (λ to. to ≡ step_of (key_digit_next frames plural negative number c)) }
-{
-    if !c.is_ascii_digit() {
-        let key = ArmKey::Exact(number.signed(negative));
-        return at_key_end(alloc, frames, plural, key, c);
-    }
-    match number.with_digit(c) {
-        Some(number) => Ok(on(frames, Expected::KeyDigit(plural, negative, number))),
-        None => {
+    /// Ends a plural, which has to have an arm for other.
+    #[inline(never)]
+    fn end_plural<'a>(
+        &mut self,
+        plural: OpenPlural,
+        text: &'a str,
+        rest: &'a str,
+    ) -> Result<Next<'a>, OutOfMemory>
+        ensures { IfOk result (λ to. view_piece self.new to
+            ≡ end_plural_piece self.old plural (chars text.now) (chars rest.now)) }
+    {
+        if !plural.named.has(Category::Other) {
             drop(plural);
-            Ok(PatternStep::End)
+            return Ok(Next::Stuck(text));
         }
+        let OpenPlural {
+            before,
+            ordinal,
+            name,
+            offset,
+            exact,
+            named,
+        } = plural;
+        let mut before = before;
+        before.push(MsgPart::Plural(PluralPart {
+            ordinal,
+            name,
+            offset,
+            exact: exact.done(),
+            named: named.done(),
+        }))?;
+        self.parts = before;
+        Ok(Next::On(rest))
     }
 }

@@ -7,7 +7,7 @@ ghost use Rattle.soy_tree.specs.ViewMessageParts.{view_select_arm, exact_arms_of
 ghost use Rattle.icu_text.specs.FirstArms.{has_category, has_word, with_exact, with_named, with_select};
 
 use plural_rules::Category;
-use soy_base::{OutOfMemory, Row, Seq, Text, push_char};
+use soy_base::{OutOfMemory, Row, Seq, Text, push_char, push_text};
 use soy_tree::{ExactArm, MsgPart, NamedArm, SelectArm};
 use std::alloc::Global;
 use std::collections::BTreeSet;
@@ -44,6 +44,13 @@ impl Characters {
         ensures { OnOk result (self.new ≡ self.old ++ c ∷ []) }
     {
         push_char(&mut self.text, c)
+    }
+
+    /// Adds characters at the end.
+    pub fn push_text(&mut self, more: &str) -> Result<(), OutOfMemory>
+        ensures { OnOk result (self.new ≡ self.old ++ chars more.now) }
+    {
+        push_text(&mut self.text, more)
     }
 
     /// The text of the characters.

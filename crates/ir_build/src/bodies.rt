@@ -105,10 +105,19 @@ fn push_node(
         }
         Form::Message(message, other) => {
             let old_length = out.ops.len();
+            let message = message.get();
             push_body(scene, out, &mut inner, &message.body)?;
             match other {
                 None => push_alone(scene, out, own, old_length, inner, message),
-                Some(other) => push_either(scene, out, own, old_length, inner, message, other),
+                Some(other) => push_either(
+                    scene,
+                    out,
+                    own,
+                    old_length,
+                    inner,
+                    message,
+                    other.get(),
+                ),
             }
         }
     }

@@ -16,7 +16,7 @@ ghost use Rattle.ir_build.specs.NamedRows.{is_of, selector_in};
 use crate::commands::{push_print, push_text};
 use crate::output::Output;
 use crate::source::Source;
-use msg_extract::{Selector, named_nodes};
+use msg_extract::Selector;
 use soy_base::{OutOfMemory, Text};
 use soy_tree::{Expr, Form, Node};
 use template_ir::Op;
@@ -74,7 +74,7 @@ pub(crate) fn push_placeholder(
         (part_holes (source_uses source.now) (named_part name.now)) (view_output out.old) (view_output out.new)
         (view_ops own.old.items) (view_ops own.new.items)) }
 {
-    push_all_placed(source, out, own, named_nodes(source.placeholders, name))
+    push_all_placed(source, out, own, source.placeholders.nodes(name))
 }
 
 /// Whether a selector is of a plural, or else of a select.

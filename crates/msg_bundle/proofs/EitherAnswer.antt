@@ -32,7 +32,7 @@ use Rattle.msg_bundle.specs.declared.fault.BundleFault.{BundleFault}
 use Rattle.msg_bundle.specs.BundleFault.{fault_at}
 use Rattle.soy_base.specs.Path.{Path}
 use Rattle.msg_bundle.specs.BundleForm.{direction_of, form_fault, members_fault}
-use Rattle.msg_bundle.specs.BundleRules.{AreTheRules, HasRuleFault, rule_texts}
+use Rattle.msg_bundle.specs.BundleRules.{rule_texts}
 use Rattle.msg_bundle.specs.ReadsBundle as reads
 use Rattle.msg_bundle.specs.ReadsBundle.{BringsBundle, IsBundle, IsFaultOf, RefusesBundle}
 use Rattle.msg_bundle.specs.Translations.{AreTranslations, HasTextFault, HasTranslationFault, IsFirstFault, IsNext}

@@ -4,6 +4,7 @@ pub mod EitherAnswer
 pub mod EntrySteps
 pub mod FittingNames
 pub mod FormedMessages
+pub mod NumberedNames
 pub mod OneAnswer
 pub mod OneEach
 pub mod OneFault

@@ -1,17 +1,14 @@
 -- Bytes have one first fault, and they bring one bundle, as far as its translations are seen.
 use Rattle.std.proofs.Common.{◌≡◌, ℕ, List, [], ◌∷◌, Option, Some, None, map, refl, sym, ap, ◌∙◌, inl, inr}
-use Rattle.std.specs.Prelude.{codes}
 use Rattle.std.specs.Str.{chars}
 use Rattle.serde_json.specs.Data.{Data, Members, no_members, member}
 use Rattle.plural_rules.specs.declared.category.Category.{Category}
 use Rattle.plural_rules.specs.declared.rules.RuleFault.{RuleFault}
 use Rattle.plural_rules.specs.RefusesEntries.{HasFirstFault}
-use Rattle.soy_base.specs.declared.code.Code.{Code}
 use Rattle.soy_base.specs.declared.code.Code.TheVariants as code
 use Rattle.soy_tree.specs.declared.bundle.Bundle.{Bundle}
 use Rattle.soy_tree.specs.declared.bundle.Translation.{Translation}
 use Rattle.soy_rules.specs.IcuText.{keyword}
-use Rattle.soy_tree.specs.MessageParts.{MsgParts}
 use Rattle.soy_tree.specs.ViewMessageParts.{view_parts}
 use Rattle.icu_text.proofs.PatternComplete.{one_pattern}
 use Rattle.msg_extract.specs.Catalogue.{find_listed}
@@ -19,15 +16,14 @@ use Rattle.msg_extract.specs.Fits.{parts_fault}
 use Rattle.msg_extract.specs.declared.catalogue.Listed.{Listed}
 use Rattle.msg_bundle.specs.declared.fault.BundleFault.{BundleFault}
 use Rattle.msg_bundle.specs.BundleFault.{entry_path, fault_at}
-use Rattle.soy_base.specs.Path.{Path}
-use Rattle.msg_bundle.specs.BundleForm.{IsFormFault, direction_of, form_fault}
-use Rattle.msg_bundle.specs.BundleRules.{HasRuleFault, rule_texts}
+use Rattle.msg_bundle.specs.BundleForm.{IsFormFault, form_fault}
+use Rattle.msg_bundle.specs.BundleRules.{HasRuleFault}
 use Rattle.msg_bundle.specs.ReadsBundle as reads
 use Rattle.msg_bundle.specs.ReadsBundle.{BringsBundle, IsBundle, IsFaultOf, RefusesBundle}
 use Rattle.msg_bundle.specs.Translations.{AreTranslations, HasTextFault, HasTranslationFault, IsFirstFault, IsNext}
 use Rattle.msg_bundle.specs.Translations.{IsTranslationUnder, message_path, messages_of, text_of}
 use Rattle.msg_bundle.specs.BundlesAlike.{BundlesAlike, view_translation}
-use Rattle.msg_bundle.proofs.OneAnswer.{rules_apart, text_apart, texts_apart}
+use Rattle.msg_bundle.proofs.OneAnswer.{rules_apart, text_apart}
 
 -- what is in two equal options is equal
 inside : {A : Type 0} (x y : A) → ◌≡◌ {A = Option A} (Some x) (Some y) → x ≡ y

@@ -9,6 +9,7 @@
 mod fault;
 mod form;
 mod laws;
+mod nameable;
 mod names;
 mod read;
 mod rules;

@@ -7,7 +7,7 @@ ghost use Rattle.soy_tree.specs.ViewMessageParts.{view_part, view_parts, view_se
 ghost use Rattle.msg_extract.specs.Fits as fits;
 ghost use Rattle.msg_extract.specs.Fits.{unless_among};
 
-use msg_extract::Listed;
+use crate::nameable::Nameable;
 use soy_base::{Code, Text};
 use soy_tree::{ExactArm, MsgPart, NamedArm, SelectArm};
 
@@ -23,7 +23,7 @@ fn is_among(names: &[Text], name: &Text) -> bool
 }
 
 /// A fault, unless the name is among these.
-fn unless_among(names: &[Text], name: &Text, fault: Code) -> Option<Code>
+pub(crate) fn unless_among(names: &[Text], name: &Text, fault: Code) -> Option<Code>
     ensures { result ≡ unless_among names.now name.now fault }
 {
     if is_among(names, name) {
@@ -35,7 +35,7 @@ fn unless_among(names: &[Text], name: &Text, fault: Code) -> Option<Code>
 
 /// The first refusal of what parts name that their message lacks.
 #[cycle(names)]
-pub(crate) fn parts_fault(source: &Listed, parts: &[MsgPart]) -> Option<Code>
+pub(crate) fn parts_fault(source: &Nameable<'_>, parts: &[MsgPart]) -> Option<Code>
     ensures { result ≡ fits.parts_fault source.now (view_parts parts.now) }
 {
     for part in parts {
@@ -47,17 +47,15 @@ pub(crate) fn parts_fault(source: &Listed, parts: &[MsgPart]) -> Option<Code>
 }
 
 #[cycle(names)]
-fn part_fault(source: &Listed, part: &MsgPart) -> Option<Code>
+fn part_fault(source: &Nameable<'_>, part: &MsgPart) -> Option<Code>
     ensures { result ≡ fits.part_fault source.now (view_part part.now) }
 {
     match part {
         MsgPart::Text(_) => None,
-        MsgPart::Placeholder(name) => {
-            unless_among(source.placeholders.items(), name, Code::Placeholder)
-        }
+        MsgPart::Placeholder(name) => source.placeholder_fault(name),
         MsgPart::Number => None,
         MsgPart::Plural(plural) => {
-            match unless_among(source.plurals.items(), &plural.name, Code::Selector) {
+            match unless_among(source.row().plurals.items(), &plural.name, Code::Selector) {
                 Some(code) => Some(code),
                 None => match exact_fault(source, plural.exact.items()) {
                     Some(code) => Some(code),
@@ -66,7 +64,7 @@ fn part_fault(source: &Listed, part: &MsgPart) -> Option<Code>
             }
         }
         MsgPart::Select(select) => {
-            match unless_among(source.selects.items(), &select.name, Code::Selector) {
+            match unless_among(source.row().selects.items(), &select.name, Code::Selector) {
                 Some(code) => Some(code),
                 None => select_fault(source, select.arms.items()),
             }
@@ -75,7 +73,7 @@ fn part_fault(source: &Listed, part: &MsgPart) -> Option<Code>
 }
 
 #[cycle(names)]
-fn exact_fault(source: &Listed, arms: &[ExactArm]) -> Option<Code>
+fn exact_fault(source: &Nameable<'_>, arms: &[ExactArm]) -> Option<Code>
     ensures { result ≡ fits.exact_fault source.now (exact_arms_of (map view_exact arms.now)) }
 {
     for arm in arms {
@@ -87,7 +85,7 @@ fn exact_fault(source: &Listed, arms: &[ExactArm]) -> Option<Code>
 }
 
 #[cycle(names)]
-fn named_fault(source: &Listed, arms: &[NamedArm]) -> Option<Code>
+fn named_fault(source: &Nameable<'_>, arms: &[NamedArm]) -> Option<Code>
     ensures { result ≡ fits.named_fault source.now (named_arms_of (map view_named arms.now)) }
 {
     for arm in arms {
@@ -99,7 +97,7 @@ fn named_fault(source: &Listed, arms: &[NamedArm]) -> Option<Code>
 }
 
 #[cycle(names)]
-fn select_fault(source: &Listed, arms: &[SelectArm]) -> Option<Code>
+fn select_fault(source: &Nameable<'_>, arms: &[SelectArm]) -> Option<Code>
     ensures { result ≡ fits.select_fault source.now (select_arms_of (map view_select_arm arms.now)) }
 {
     for arm in arms {

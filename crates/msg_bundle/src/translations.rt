@@ -1,21 +1,79 @@
 //! The translations of a bundle.
 
-ghost use Rattle.std.specs.Prelude.{◌≡◌, IfOk, option_map};
+ghost use Rattle.std.specs.Prelude.{◌≡◌, ℕ, List, IfOk, option_map};
 ghost use Rattle.std.specs.Str.{chars};
 ghost use Rattle.serde_json.specs.View.{members_view, view};
+ghost use Rattle.soy_rules.specs.IcuText.{IsPattern};
+ghost use Rattle.soy_tree.specs.ViewMessageParts.{view_parts};
+ghost use Rattle.msg_extract.specs.Fits.{parts_fault};
 ghost use Rattle.msg_bundle.specs.BundleFits.{AreOfOneEach};
 ghost use Rattle.msg_bundle.specs.Translations as translations;
 ghost use Rattle.msg_bundle.specs.Translations.{ReadsNext, ReadsTranslation, ReadsTranslations, messages_of};
 
 use crate::fault::{BundleFault, entry_fault};
+use crate::nameable::Nameable;
 use crate::names::parts_fault;
 use crate::sources::{source_of, sources_of};
 use icu_text::parse_message;
 use msg_extract::Listed;
 use serde_json::{Map, Value as Json};
-use soy_base::{Code, Refusal, Row, Seq, text_of};
-use soy_tree::Translation;
+use soy_base::{Code, OutOfMemory, Refusal, Row, Seq, text_of};
+use soy_tree::{MsgPart, Translation};
 use std::alloc::Global;
+
+/// The first refusal of what parts name that their message lacks.
+fn first_fault(
+    alloc: Global,
+    source: &Listed,
+    parts: &[MsgPart],
+) -> Result<Option<Code>, OutOfMemory>
+    ensures { IfOk result (λ fault. fault ≡ parts_fault source.now (view_parts parts.now)) }
+{
+    let nameable = Nameable::new(alloc, source)?;
+    let fault = parts_fault(&nameable, parts);
+    drop(nameable);
+    Ok(fault)
+}
+
+/// The translation of these parts under an id.
+fn translation_under(
+    alloc: Global,
+    id: &str,
+    parts: Seq<MsgPart>,
+) -> Result<Translation, OutOfMemory>
+    ensures { IfOk result (λ t. (t.id ≡ chars id.now) × (t.parts ≡ parts)) }
+{
+    match text_of(alloc, id) {
+        Ok(id) => Ok(Translation { id, parts }),
+        Err(fault) => {
+            drop(parts);
+            Err(fault)
+        }
+    }
+}
+
+/// The translation of a message under its id, of these parts, or the first refusal of what they name.
+fn named_translation(
+    alloc: Global,
+    source: &Listed,
+    id: &str,
+    parts: Seq<MsgPart>,
+) -> Result<Translation, Refusal<BundleFault>>
+    ensures { (text : List ℕ) → IsPattern text (view_parts parts)
+        → ReadsTranslation source.now id.now text result }
+{
+    match first_fault(alloc, source, parts.items()) {
+        Ok(None) => Ok(translation_under(alloc, id, parts)?),
+        Ok(Some(code)) => {
+            drop(parts);
+            Err(entry_fault(alloc, code, "messages", id))
+        }
+        Err(_) => {
+            drop(parts);
+            Err(Refusal::OutOfMemory)
+        }
+    }
+}
 
 /// The translation of a message under its id.
 fn read_translation(
@@ -27,13 +85,7 @@ fn read_translation(
     ensures { ReadsTranslation source.now id.now (chars text.now) result }
 {
     match parse_message(alloc, text) {
-        Ok(parts) => match parts_fault(source, parts.items()) {
-            None => Ok(Translation {
-                id: text_of(alloc, id)?,
-                parts,
-            }),
-            Some(code) => Err(entry_fault(alloc, code, "messages", id)),
-        },
+        Ok(parts) => named_translation(alloc, source, id, parts),
         Err(Refusal::Because(_)) => Err(entry_fault(alloc, Code::Icu, "messages", id)),
         Err(Refusal::OutOfMemory) => Err(Refusal::OutOfMemory),
     }

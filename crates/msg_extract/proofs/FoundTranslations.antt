@@ -1,7 +1,8 @@
 -- The translation of an id stands at the first number of the id.
 use Rattle.std.proofs.Common.{◌≡◌, ℕ, suc, Bool, true, false, List, [], ◌∷◌, refl, ap, sym, ◌∙◌}
-use Rattle.std.proofs.Common.{Option, Some, None, option_map, slice_get}
-use Rattle.std.specs.Prelude.{if◌then◌else◌, bytes_eq}
+use Rattle.std.proofs.Common.{Option, Some, None, length, option_map, slice_get}
+use Rattle.std.proofs.lemmas.Bool.{eqb-true}
+use Rattle.std.specs.Prelude.{◌==◌, if◌then◌else◌, bytes_eq}
 use Rattle.soy_tree.specs.declared.bundle.Translation.{Translation}
 use Rattle.soy_tree.specs.MessageParts.{MsgParts}
 use Rattle.soy_rules.specs.FirstNames.{first_from, first_number}
@@ -31,3 +32,8 @@ parts_found id (t ∷ ts) =
     parts_if t ts (bytes_eq t.id id) (translation_of ts id) (first_from id 1 (ids_of ts))
     (parts_found id ts ∙ sym (parts_later t ts (first_number id (ids_of ts)))
     ∙ ap (found_parts (t ∷ ts)) (sym (first_later id 0 (ids_of ts))))
+
+-- nothing is found where there is nothing
+pub none_found : (ts : List Translation) (id : List ℕ) → (length ts == 0) ≡ true → translation_of ts id ≡ None
+none_found [] id e = refl
+none_found (t ∷ ts) id e = let no : suc (length ts) ≡ 0 = eqb-true (length (t ∷ ts)) 0 e in absurd (cc no)

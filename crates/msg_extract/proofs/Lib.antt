@@ -14,6 +14,7 @@ pub mod MessageRows
 pub mod NoTranslation
 pub mod PlaceholderNodes
 pub mod PlaceholderRows
+pub mod PlainPieces
 pub mod SelectorRows
 pub mod Tries
 pub mod ViewBodies

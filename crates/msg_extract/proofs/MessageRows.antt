@@ -18,7 +18,8 @@ pub placeholders_rows : (body : MessageBody) (ps : List Piece) → ps ≡ body_p
     → rows_after (uses_in ps) [] (uses_in ps) ≡ rows_after (body_uses body) [] (body_uses body)
 placeholders_rows body ps e = ap (λ us. rows_after us [] us) (ap uses_in e ∙ body_pieces_uses false body)
 
-text_is : (body : MessageBody) (ps : List Piece) → ps ≡ body_pieces false body
+-- the text of pieces that are a message's
+pub text_is : (body : MessageBody) (ps : List Piece) → ps ≡ body_pieces false body
     → pieces_text (uses_in ps) ps ≡ canonical_text body
 text_is body ps e = ap (λ qs. pieces_text (uses_in qs) qs) e ∙ pieces_canonical body
 

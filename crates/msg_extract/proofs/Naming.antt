@@ -5,4 +5,5 @@ pub mod NameSteps
 pub mod NamedCuts
 pub mod OwnNames
 pub mod RoleNames
+pub mod SingleNames
 pub mod TagNames

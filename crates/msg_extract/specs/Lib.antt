@@ -11,6 +11,7 @@ pub mod NameGroups
 pub mod NamedNodes
 pub mod PlaceholderNodes
 pub mod PlaceholderRows
+pub mod PlainPieces
 pub mod RoleNames
 pub mod SelectorRows
 pub mod TagNames

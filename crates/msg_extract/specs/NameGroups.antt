@@ -1,8 +1,8 @@
 -- The base names of a message in order of first appearance, the contents of each, and the names of these: what the code
 -- keeps, so that a name is found without a walk over the uses.
 -- Example: of `{$a.name}{$b.name}{$n}` the base names are NAME with two contents, NAME_1 and NAME_2, and N with one, N.
-use Rattle.std.specs.Prelude.{◌≡◌, ℕ, zero, suc, ◌+◌, not, Bool, true, false, List, [], ◌∷◌, ◌++◌, length, Option}
-use Rattle.std.specs.Prelude.{if◌then◌else◌, bytes_eq, slice_get}
+use Rattle.std.specs.Prelude.{◌≡◌, ℕ, zero, suc, ◌+◌, not, Bool, true, false, List, [], ◌∷◌, ◌++◌, length, Option, Some}
+use Rattle.std.specs.Prelude.{◌==◌, None, if◌then◌else◌, bytes_eq, slice_get}
 use Rattle.std.specs.List.{position, position_or_len}
 use Rattle.std.specs.Option.{option_and_then}
 use Rattle.soy_base.specs.Among.{is_among}
@@ -80,6 +80,14 @@ pub record AreNames (uses : List Use) (bases : List Name) (groups : List (List C
   pub bases_are : bases ≡ bases_after [] uses
   pub groups_are : groups ≡ groups_after [] [] uses
   pub names_are : names ≡ group_names (length uses) bases bases groups
+
+-- the contents of a base name, if it is there, and whether they are a single one
+abbrev pub group_found : List Name → List (List Content) → Name → Option (List Content)
+group_found bases groups base = option_and_then (λ n. slice_get groups n) (position (bytes_eq base) bases)
+
+abbrev pub is_single : Option (List Content) → Bool
+is_single None = false
+is_single (Some group) = length group == 1
 
 -- the name of a content in a group of contents and their names
 abbrev pub name_in : List Content → List Name → Content → Option Name

@@ -1,21 +1,18 @@
-//! The canonical text of a message, and its id.
+//! The canonical text of a message, and the id that it gives.
 
 ghost use Rattle.std.specs.Prelude.{◌≡◌, map, IfOk, OnOk};
 ghost use Rattle.soy_base.specs.Appends.{Appends};
-ghost use Rattle.soy_tree.specs.ViewNodes.{view_body, view_message};
-ghost use Rattle.msg_extract.specs.Canonical.CanonicalText.{canonical_text};
-ghost use Rattle.msg_extract.specs.MessageId.{id_of, id_of_text};
+ghost use Rattle.msg_extract.specs.MessageId.{id_of_text};
 ghost use Rattle.msg_extract.specs.Canonical.Pieces.{pieces_text};
 ghost use Rattle.msg_extract.specs.Canonical.TextOfPiece.{piece_text};
 ghost use Rattle.msg_extract.specs.Views.ViewNames.{HasNames, named_uses};
 ghost use Rattle.msg_extract.specs.Views.ViewPieces.{view_piece};
 
 use crate::ascii::empty;
-use crate::names::{Names, name_of, names_of};
+use crate::names::{Names, name_of};
 use crate::piece::CodePiece;
 use sha2::{Digest, Sha256};
 use soy_base::{OutOfMemory, Text, push_text};
-use soy_tree::{Message, MessageBody};
 use std::alloc::Global;
 
 /// Adds the text of a piece.
@@ -29,6 +26,7 @@ fn push_piece(
     ensures { OnOk result (Appends out.old out.new (piece_text (named_uses names.now) (view_piece piece.now))) }
 {
     match piece {
+        CodePiece::Word(word) => push_text(out, word),
         CodePiece::Text(text) => push_text(out, text.text()),
         CodePiece::Use(of) => {
             let name = name_of(alloc, names, of)?;
@@ -50,17 +48,6 @@ pub fn text_of_pieces(alloc: Global, names: &Names<'_>) -> Result<Text, OutOfMem
     Ok(Text::new(out))
 }
 
-/// The canonical text of a message.
-#[tactic(auto, using(crate::proofs::Texts::PieceLists::pieces_canonical))]
-pub fn canonical_text(alloc: Global, body: &MessageBody) -> Result<Text, OutOfMemory>
-    ensures { IfOk result (λ t. t ≡ canonical_text (view_body body.now)) }
-{
-    let names = names_of(alloc, body)?;
-    let text = text_of_pieces(alloc, &names);
-    drop(names);
-    text
-}
-
 /// The id of a message of this meaning and canonical text.
 pub fn id_of_text(alloc: Global, meaning: &Text, text: &Text) -> Result<Text, OutOfMemory>
     ensures { IfOk result (λ id. id ≡ id_of_text meaning.now text.now) }
@@ -71,12 +58,4 @@ pub fn id_of_text(alloc: Global, meaning: &Text, text: &Text) -> Result<Text, Ou
     hasher.update(text.text().as_bytes());
     let digest = hasher.finalize();
     Ok(Text::new(hex::encode(alloc, &digest[..8])?))
-}
-
-/// The id of a message: sixteen hexadecimal digits, from its meaning and its canonical text.
-pub fn message_id(alloc: Global, message: &Message) -> Result<Text, OutOfMemory>
-    ensures { IfOk result (λ id. id ≡ id_of (view_message message.now)) }
-{
-    let text = canonical_text(alloc, &message.body)?;
-    id_of_text(alloc, &message.meaning, &text)
 }

@@ -8,7 +8,7 @@ ghost use Rattle.msg_extract.specs.MessagesIn.{argument_messages, arm_messages, 
 ghost use Rattle.msg_extract.specs.MessagesIn.{fallback_messages, messages_in, node_messages, tree_messages};
 ghost use Rattle.msg_extract.specs.Views.ViewMessages.{view_found};
 
-use soy_base::{OutOfMemory, Row};
+use soy_base::{Boxed, OutOfMemory, Row};
 use soy_tree::{Argument, Arm, Case, Form, Given, Message, Node, Tree};
 use std::alloc::Global;
 
@@ -52,7 +52,7 @@ fn push_node<'a>(found: &mut Row<&'a Message>, node: &'a Node) -> Result<(), Out
         Form::Let(_, _) => Ok(()),
         Form::LetBlock(_, _, body) => push_nodes(found, body.items()),
         Form::Call(_, _, given) => push_arguments(found, given.items()),
-        Form::Message(message, other) => push_message(found, message, other),
+        Form::Message(message, other) => push_message(found, message.get(), other),
     }
 }
 
@@ -61,7 +61,7 @@ fn push_node<'a>(found: &mut Row<&'a Message>, node: &'a Node) -> Result<(), Out
 fn push_message<'a>(
     found: &mut Row<&'a Message>,
     message: &'a Message,
-    other: &'a Option<Message>,
+    other: &'a Option<Boxed<Message>>,
 ) -> Result<(), OutOfMemory>
     ensures { OnOk result (map view_found found.new ≡ map view_found found.old
         ++ view_message message.now ∷ fallback_messages (fallback_of (option_map view_message other.now))) }
@@ -70,7 +70,7 @@ fn push_message<'a>(
         None => Ok(found.push(message)?),
         Some(other) => {
             found.push(message)?;
-            found.push(other)
+            found.push(other.get())
         }
     }
 }

@@ -1,6 +1,6 @@
 //! The placeholders of a message, by their names.
 
-ghost use Rattle.std.specs.Prelude.{◌≡◌, map, slice_get, IfOk};
+ghost use Rattle.std.specs.Prelude.{◌≡◌, map, slice_get, IfOk, IfSome};
 ghost use Rattle.soy_tree.specs.ViewNodes.{view_nodes};
 ghost use Rattle.msg_extract.specs.NamedNodes.{named_nodes};
 ghost use Rattle.msg_extract.specs.Views.ViewPlaceholders.{names_of, nodes_there, view_placeholder};
@@ -12,15 +12,18 @@ use soy_tree::Node;
 use std::alloc::Global;
 use std::marker::Model;
 
-/// Placeholders, which contracts see as their list. What a name stands for is found without a walk over all.
+/// So many placeholders are gone over one by one, which takes less than a map of their names.
+const FEW: usize = 8;
+
+/// Placeholders, which contracts see as their list. What a name stands for is found without a walk over many.
 #[derive(Drop)]
 pub struct NamedPlaceholders<'p> {
     placeholders: &'p [Placeholder],
-    names: Names<'p>,
+    names: Option<Names<'p>>,
 }
 
 impl<'p> Model for NamedPlaceholders<'p> {
-    ghost use Rattle.std.specs.Prelude.{◌≡◌, List};
+    ghost use Rattle.std.specs.Prelude.{◌≡◌, List, IfSome};
     ghost use Rattle.std.specs.Coded.{codes};
     ghost use Rattle.soy_tree.specs.contracts.node.Node as node;
     ghost use Rattle.msg_extract.specs.declared.placeholder.Placeholder.{Placeholder};
@@ -32,7 +35,7 @@ impl<'p> Model for NamedPlaceholders<'p> {
 
     ghost view = { λ s. s.placeholders.now };
 
-    ghost invariant = { λ s. s.names ≡ names_of s.placeholders.now };
+    ghost invariant = { λ s. IfSome s.names (λ names. names ≡ names_of s.placeholders.now) };
 }
 
 impl<'p> NamedPlaceholders<'p> {
@@ -43,7 +46,7 @@ impl<'p> NamedPlaceholders<'p> {
     ) -> Result<NamedPlaceholders<'p>, OutOfMemory>
         ensures { IfOk result (λ all. all ≡ placeholders.now) }
     {
-        let names = Names::new(alloc, all_names(alloc, placeholders)?)?;
+        let names = names_of_many(alloc, placeholders)?;
         Ok(NamedPlaceholders {
             placeholders,
             names,
@@ -54,11 +57,48 @@ impl<'p> NamedPlaceholders<'p> {
     pub fn nodes(&self, name: &Text) -> &'p [Node]
         ensures { view_nodes result.now ≡ named_nodes name.now (map view_placeholder self.now) }
     {
-        match self.names.number(name) {
-            Some(number) => nodes_at(self.placeholders, number),
-            None => &[],
+        match &self.names {
+            Some(names) => known_nodes(self.placeholders, names, name),
+            None => first_nodes(self.placeholders, name),
         }
     }
+}
+
+/// The names of placeholders, if they are many.
+fn names_of_many<'p>(
+    alloc: Global,
+    placeholders: &'p [Placeholder],
+) -> Result<Option<Names<'p>>, OutOfMemory>
+    ensures { IfOk result (λ names. IfSome names (λ names. names ≡ names_of placeholders.now)) }
+{
+    if placeholders.len() <= FEW {
+        return Ok(None);
+    }
+    let names = Names::new(alloc, all_names(alloc, placeholders)?)?;
+    Ok(Some(names))
+}
+
+/// What the placeholder of a name stands for, found by the number of the name.
+fn known_nodes<'p>(placeholders: &'p [Placeholder], names: &Names<'p>, name: &Text) -> &'p [Node]
+    requires { names.now ≡ names_of placeholders.now }
+    ensures { view_nodes result.now ≡ named_nodes name.now (map view_placeholder placeholders.now) }
+{
+    match names.number(name) {
+        Some(number) => nodes_at(placeholders, number),
+        None => &[],
+    }
+}
+
+/// What the first placeholder of a name stands for.
+fn first_nodes<'p>(placeholders: &'p [Placeholder], name: &Text) -> &'p [Node]
+    ensures { view_nodes result.now ≡ named_nodes name.now (map view_placeholder placeholders.now) }
+{
+    for placeholder in placeholders {
+        if placeholder.name.is(name.text()) {
+            return placeholder.nodes.items();
+        }
+    }
+    &[]
 }
 
 /// The names of placeholders.

@@ -8,7 +8,8 @@ ghost use Rattle.soy_rules.specs.Placeholders.{is_same_content, name_of, numbere
 ghost use Rattle.soy_tree.specs.ViewNodes.{view_body};
 ghost use Rattle.msg_extract.specs.Catalogue.{with_name};
 ghost use Rattle.msg_extract.specs.NameGroups.{bases_after, bases_step, content_names, found_name, free_among};
-ghost use Rattle.msg_extract.specs.NameGroups.{group_names, groups_after, groups_step, is_use, name_at, name_in};
+ghost use Rattle.msg_extract.specs.NameGroups.{group_found, group_names, groups_after, groups_step, is_single, is_use};
+ghost use Rattle.msg_extract.specs.NameGroups.{name_at, name_in};
 ghost use Rattle.msg_extract.specs.NameGroups.{names_from, with_content_at, with_group, with_use};
 ghost use Rattle.msg_extract.specs.Canonical.Pieces.{body_pieces, uses_in};
 ghost use Rattle.msg_extract.specs.Views.ViewKeys.{view_groups, view_key};
@@ -118,7 +119,7 @@ fn push_use(alloc: Global, groups: &mut Groups, of: &NameUse<'_>) -> Result<(), 
     ensures contents { OnOk result (view_groups groups.new.contents.items
         ≡ with_use groups.old.bases.keys (view_groups groups.old.contents.items) of.now.base (content_of of.now.of)) }
 {
-    let base = of.base.copy(alloc)?;
+    let base = of.base.name().copy(alloc)?;
     let number = push_base_group(alloc, groups, base)?;
     push_content(alloc, &mut groups.contents, number, &of.of)
 }
@@ -130,6 +131,7 @@ fn push_piece(alloc: Global, groups: &mut Groups, piece: &CodePiece<'_>) -> Resu
         ≡ groups_step groups.old.bases.keys (view_groups groups.old.contents.items) (view_piece piece.now)) }
 {
     match piece {
+        CodePiece::Word(_) => Ok(()),
         CodePiece::Text(_) => Ok(()),
         CodePiece::Use(of) => push_use(alloc, groups, of),
     }
@@ -157,6 +159,7 @@ fn is_use(piece: &CodePiece<'_>) -> bool
     ensures { result ≡ is_use (view_piece piece.now) }
 {
     match piece {
+        CodePiece::Word(_) => false,
         CodePiece::Text(_) => false,
         CodePiece::Use(_) => true,
     }
@@ -437,14 +440,31 @@ fn name_by_keys(
     }
 }
 
-/// The name of a use among those of a message.
+/// Whether a base name has a single content.
+fn is_single(groups: &Groups, base: &NameKey) -> bool
+    ensures { result ≡ is_single
+        (group_found groups.now.bases.keys (view_groups groups.now.contents.items) base.now) }
+{
+    let Some(number) = base_number(&groups.bases, base) else {
+        return false;
+    };
+    match group_at(&groups.contents, number) {
+        Some(group) => group.as_slice().len() == 1,
+        None => false,
+    }
+}
+
+/// The name of a use among those of a message. A single content has its base name.
+#[tactic(auto, using(crate::proofs::Naming::SingleNames::name_single))]
 pub fn name_of(alloc: Global, names: &Names<'_>, of: &NameUse<'_>) -> Result<Text, OutOfMemory>
     requires { HasNames names.now }
     ensures { IfOk result (λ name. name ≡ name_of (named_uses names.now) of.now.base (content_of of.now.of)) }
 {
-    let base = NameKey::new(of.base.copy(alloc)?);
+    if is_single(&names.groups, &of.base) {
+        return of.base.name().copy(alloc);
+    }
     let content = ContentKey::new(alloc, &of.of)?;
-    let name = name_by_keys(alloc, names, &base, &content);
+    let name = name_by_keys(alloc, names, &of.base, &content);
     drop(content);
     name
 }

@@ -6,12 +6,13 @@ ghost use Rattle.soy_base.specs.Appends.{Appends};
 ghost use Rattle.soy_rules.specs.BaseNames.{base_of_expr};
 ghost use Rattle.soy_tree.specs.MessageText.{message_items, cuts_of};
 ghost use Rattle.soy_tree.specs.ViewExpressions.{view_expr};
-ghost use Rattle.soy_tree.specs.ViewNodes.{view_body, view_nodes, view_plural_cases, view_select_cases};
+ghost use Rattle.soy_tree.specs.ViewNodes.{view_body, view_node, view_nodes, view_plural_cases, view_select_cases};
 ghost use Rattle.msg_extract.specs.Canonical.Ascii.{is_ascii};
 ghost use Rattle.msg_extract.specs.Canonical.CanonicalText.{written_offset};
 ghost use Rattle.msg_extract.specs.Canonical.Pieces.{TextPiece, UsePiece, body_pieces, cut_pieces, found_pieces};
 ghost use Rattle.msg_extract.specs.Canonical.Pieces.{one_cut_pieces};
 ghost use Rattle.msg_extract.specs.Canonical.Pieces.{plural_case_pieces, select_case_pieces};
+ghost use Rattle.msg_extract.specs.PlainPieces.{begun_behind, begun_pieces, node_pieces, plain_pieces, print_pieces};
 ghost use Rattle.msg_extract.specs.Views.ViewItems.{view_cut};
 ghost use Rattle.msg_extract.specs.Views.ViewPieces.{view_piece, view_use};
 
@@ -19,9 +20,11 @@ use crate::ascii::{decimal, empty, push_ascii, signed_decimal};
 use crate::base_name::{base_of_expr, base_of_print, base_of_tag};
 use crate::cut::{MessageCut, cut};
 use crate::item::{Item, items_of};
+use crate::name_key::NameKey;
+use crate::plain::are_plain;
 use crate::quoting::quoted;
 use soy_base::{OutOfMemory, Row, Span, Text, push_text};
-use soy_tree::{Expr, MessageBody, Node, PluralCase, SelectCase};
+use soy_tree::{Expr, Form, MessageBody, Node, PluralCase, SelectCase};
 use std::alloc::Global;
 
 /// What a name stands for.
@@ -36,13 +39,14 @@ pub enum Named<'a> {
 /// A use of a name: its base name, and what it stands for.
 #[derive(Drop)]
 pub struct NameUse<'a> {
-    pub base: Text,
+    pub base: NameKey,
     pub of: Named<'a>,
 }
 
-/// A part of a canonical text.
+/// A part of a canonical text: a word of the pattern's syntax, a text, or the use of a name.
 #[derive(Drop)]
 pub enum CodePiece<'a> {
+    Word(&'static str),
     Text(Text),
     Use(NameUse<'a>),
 }
@@ -77,17 +81,17 @@ fn push_body<'a>(
             push_selector(alloc, pieces, Named::Plural(selector), selector)?;
             push_offset(alloc, pieces, *offset)?;
             push_plural_cases(alloc, pieces, cases.items())?;
-            push_word(alloc, pieces, "other {")?;
+            push_word(pieces, "other {")?;
             push_body(alloc, pieces, true, other.get())?;
-            push_word(alloc, pieces, "}}")
+            push_word(pieces, "}}")
         }
         MessageBody::Select(selector, cases, other) => {
             push_selector(alloc, pieces, Named::Select(selector), selector)?;
-            push_word(alloc, pieces, ", select, ")?;
+            push_word(pieces, ", select, ")?;
             push_select_cases(alloc, pieces, cases.items())?;
-            push_word(alloc, pieces, "other {")?;
+            push_word(pieces, "other {")?;
             push_body(alloc, pieces, false, other.get())?;
-            push_word(alloc, pieces, "}}")
+            push_word(pieces, "}}")
         }
     }
 }
@@ -106,7 +110,7 @@ fn push_plural_cases<'a>(
     for case in cases {
         push_key(alloc, pieces, case.is)?;
         push_body(alloc, pieces, true, &case.body)?;
-        push_word(alloc, pieces, "} ")?;
+        push_word(pieces, "} ")?;
     }
     Ok(())
 }
@@ -125,7 +129,7 @@ fn push_select_cases<'a>(
     for case in cases {
         push_case_word(alloc, pieces, &case.is)?;
         push_body(alloc, pieces, false, &case.body)?;
-        push_word(alloc, pieces, "} ")?;
+        push_word(pieces, "} ")?;
     }
     Ok(())
 }
@@ -139,13 +143,12 @@ fn push_piece(pieces: &mut Row<CodePiece<'_>>, text: Text) -> Result<(), OutOfMe
 }
 
 /// Adds a word of ASCII characters as a piece.
-fn push_word(alloc: Global, pieces: &mut Row<CodePiece<'_>>, word: &str) -> Result<(), OutOfMemory>
+#[tactic(auto, using(crate::proofs::CutSteps::map_append, crate::proofs::Texts::AsciiTexts::chars_ascii))]
+fn push_word(pieces: &mut Row<CodePiece<'_>>, word: &'static str) -> Result<(), OutOfMemory>
     requires { is_ascii word.now ≡ true }
     ensures { OnOk result (map view_piece pieces.new ≡ map view_piece pieces.old ++ TextPiece word.now ∷ []) }
 {
-    let mut text = empty(alloc);
-    push_ascii(&mut text, word)?;
-    push_piece(pieces, Text::new(text))
+    pieces.push(CodePiece::Word(word))
 }
 
 /// Adds what stands before a plural's cases.
@@ -216,15 +219,14 @@ fn push_selector<'a>(
         ≡ map view_piece pieces.old ++ TextPiece (codes "{")
         ∷ UsePiece (view_use (base_of_expr (view_expr selector.now)) of.entry) ∷ []) }
 {
-    let base = base_of_expr(alloc, selector)?;
-    push_word(alloc, pieces, "{")?;
+    let base = NameKey::new(base_of_expr(alloc, selector)?);
+    push_word(pieces, "{")?;
     pieces.push(CodePiece::Use(NameUse { base, of }))
 }
 
 /// Adds a placeholder.
 #[tactic(auto, using(crate::proofs::CutSteps::map_append, crate::proofs::Texts::PieceLists::append_assoc))]
 fn push_placeholder<'a>(
-    alloc: Global,
     pieces: &mut Row<CodePiece<'a>>,
     base: Text,
     of: Named<'a>,
@@ -233,13 +235,107 @@ fn push_placeholder<'a>(
         ≡ map view_piece pieces.old ++ TextPiece (codes "{")
         ∷ UsePiece (view_use base of.entry) ∷ TextPiece (codes "}") ∷ []) }
 {
-    push_word(alloc, pieces, "{")?;
+    let base = NameKey::new(base);
+    push_word(pieces, "{")?;
     pieces.push(CodePiece::Use(NameUse { base, of }))?;
-    push_word(alloc, pieces, "}")
+    push_word(pieces, "}")
 }
 
-/// Adds the pieces of texts, prints and tags.
+/// Adds the pieces of texts, prints and tags. A plain body, as most are, isn't taken apart into its characters.
+#[tactic(auto, using(crate::proofs::PlainPieces::plain_are))]
 fn push_nodes<'a>(
+    alloc: Global,
+    pieces: &mut Row<CodePiece<'a>>,
+    in_plural: bool,
+    nodes: &'a [Node],
+) -> Result<(), OutOfMemory>
+    ensures { OnOk result (map view_piece pieces.new
+        ≡ map view_piece pieces.old ++ found_pieces in_plural (cuts_of (message_items (view_nodes nodes.now)))) }
+{
+    if are_plain(in_plural, nodes) {
+        return push_plain(alloc, pieces, nodes);
+    }
+    push_cut_nodes(alloc, pieces, in_plural, nodes)
+}
+
+/// Adds the pieces of a plain body.
+#[tactic(auto, using(crate::proofs::Texts::PieceLists::append_assoc))]
+fn push_plain<'a>(
+    alloc: Global,
+    pieces: &mut Row<CodePiece<'a>>,
+    nodes: &'a [Node],
+) -> Result<(), OutOfMemory>
+    ensures { OnOk result (map view_piece pieces.new
+        ≡ map view_piece pieces.old ++ plain_pieces [] (view_nodes nodes.now)) }
+{
+    let mut begun = Text::empty(alloc);
+    for node in nodes {
+        begun = push_plain_node(alloc, pieces, begun, node)?;
+    }
+    push_begun(pieces, begun)
+}
+
+/// Adds what a node ends behind a text that has begun, and gives the text that has begun after it.
+#[tactic(auto, using(crate::proofs::Texts::PieceLists::append_assoc))]
+fn push_plain_node<'a>(
+    alloc: Global,
+    pieces: &mut Row<CodePiece<'a>>,
+    begun: Text,
+    node: &'a Node,
+) -> Result<Text, OutOfMemory>
+    ensures { IfOk result (λ to. (to ≡ begun_behind begun (view_node node.now))
+        × (map view_piece pieces.new ≡ map view_piece pieces.old ++ node_pieces begun (view_node node.now))) }
+{
+    let span = node.span;
+    match &node.form {
+        Form::Text(text) => {
+            let mut begun = begun;
+            begun.append(text)?;
+            Ok(begun)
+        }
+        Form::Print(expr, phname) => {
+            push_begun(pieces, begun)?;
+            push_print(alloc, pieces, expr, phname, span)?;
+            Ok(Text::empty(alloc))
+        }
+        Form::If(_, _) => Ok(begun),
+        Form::Switch(_, _, _) => Ok(begun),
+        Form::For(_, _, _, _) => Ok(begun),
+        Form::Let(_, _) => Ok(begun),
+        Form::LetBlock(_, _, _) => Ok(begun),
+        Form::Call(_, _, _) => Ok(begun),
+        Form::Message(_, _) => Ok(begun),
+    }
+}
+
+/// Adds a text that has begun, if it has characters.
+#[tactic(auto, using(crate::proofs::PlainPieces::begun_none, crate::proofs::PlainPieces::begun_some))]
+fn push_begun(pieces: &mut Row<CodePiece<'_>>, begun: Text) -> Result<(), OutOfMemory>
+    ensures { OnOk result (map view_piece pieces.new ≡ map view_piece pieces.old ++ begun_pieces begun) }
+{
+    if begun.is_empty() {
+        return Ok(());
+    }
+    push_piece(pieces, begun)
+}
+
+/// Adds a print in braces.
+fn push_print<'a>(
+    alloc: Global,
+    pieces: &mut Row<CodePiece<'a>>,
+    expr: &'a Expr,
+    phname: &'a Option<Text>,
+    span: Span,
+) -> Result<(), OutOfMemory>
+    ensures { OnOk result (map view_piece pieces.new
+        ≡ map view_piece pieces.old ++ print_pieces (view_expr expr.now) phname.now span) }
+{
+    let base = base_of_print(alloc, expr, phname)?;
+    push_placeholder(pieces, base, Named::Print(expr, phname, span))
+}
+
+/// Adds the pieces of texts, prints and tags, by their characters.
+fn push_cut_nodes<'a>(
     alloc: Global,
     pieces: &mut Row<CodePiece<'a>>,
     in_plural: bool,
@@ -289,14 +385,11 @@ fn push_cut<'a>(
             let text = quoted(alloc, in_plural, text.items())?;
             push_piece(pieces, text)
         }
-        MessageCut::Print(expr, phname, span) => {
-            let base = base_of_print(alloc, expr, phname)?;
-            push_placeholder(alloc, pieces, base, Named::Print(expr, phname, *span))
-        }
+        MessageCut::Print(expr, phname, span) => push_print(alloc, pieces, expr, phname, *span),
         MessageCut::Tag(tag) => {
             let base = base_of_tag(alloc, tag.items())?;
             let tag = copied_items(alloc, tag.items())?;
-            push_placeholder(alloc, pieces, base, Named::Tag(tag))
+            push_placeholder(pieces, base, Named::Tag(tag))
         }
     }
 }

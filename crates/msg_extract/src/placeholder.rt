@@ -5,10 +5,9 @@ ghost use Rattle.soy_base.specs.Among.{is_among};
 ghost use Rattle.soy_tree.specs.MessageText.{Character};
 ghost use Rattle.soy_tree.specs.Nodes.{Print};
 ghost use Rattle.soy_tree.specs.ViewExpressions.{view_expr};
-ghost use Rattle.soy_tree.specs.ViewNodes.{view_message, view_node, view_nodes};
+ghost use Rattle.soy_tree.specs.ViewNodes.{view_node, view_nodes};
 ghost use Rattle.msg_extract.specs.Catalogue.{with_name};
-ghost use Rattle.msg_extract.specs.NamedNodes.{named_nodes};
-ghost use Rattle.msg_extract.specs.PlaceholderNodes.{begun_after, flushed, nodes_behind, placeholders_of};
+ghost use Rattle.msg_extract.specs.PlaceholderNodes.{begun_after, flushed, nodes_behind};
 ghost use Rattle.msg_extract.specs.PlaceholderNodes.{role_nodes, row_step, rows_after, text_nodes};
 ghost use Rattle.msg_extract.specs.PlaceholderRows.{HasRowNames};
 ghost use Rattle.msg_extract.specs.Views.ViewItems.{view_item};
@@ -19,11 +18,11 @@ ghost use Rattle.msg_extract.specs.Views.ViewPlaceholders.{view_begun, view_plac
 use crate::ascii::empty;
 use crate::item::Item;
 use crate::name_key::NameKey;
-use crate::names::{Names, name_of, names_of};
+use crate::names::{Names, name_of};
 use crate::piece::{CodePiece, Named};
 use indexmap::IndexSet;
 use soy_base::{OutOfMemory, Row, Seq, Span, Text, copied_name, push_char};
-use soy_tree::{Expr, Form, Message, Node};
+use soy_tree::{Expr, Form, Node};
 use std::alloc::Global;
 
 /// A placeholder of a message: its name, and the print or the texts and prints of the tag that it stands for.
@@ -182,6 +181,7 @@ fn add(
     ensures names { OnOk result (HasRowNames found.new) }
 {
     match piece {
+        CodePiece::Word(_) => Ok(()),
         CodePiece::Text(_) => Ok(()),
         CodePiece::Use(of) => {
             let Some(nodes) = nodes_of(alloc, &of.of)? else {
@@ -196,9 +196,9 @@ fn add(
     }
 }
 
-/// The placeholders of pieces.
+/// The placeholders of pieces, each once, in order of first appearance.
 #[tactic(auto, using(crate::proofs::PlaceholderNodes::rows_step))]
-fn placeholders_of(alloc: Global, names: &Names<'_>) -> Result<Seq<Placeholder>, OutOfMemory>
+pub fn placeholders_of(alloc: Global, names: &Names<'_>) -> Result<Seq<Placeholder>, OutOfMemory>
     requires { HasNames names.now }
     ensures { IfOk result (λ rows. map view_placeholder rows
         ≡ rows_after (named_uses names.now) [] (named_uses names.now)) }
@@ -211,26 +211,4 @@ fn placeholders_of(alloc: Global, names: &Names<'_>) -> Result<Seq<Placeholder>,
         add(alloc, &mut found, names, piece)?;
     }
     Ok(found.rows.done())
-}
-
-/// The placeholders of a message, each once, in order of first appearance.
-pub fn placeholders(alloc: Global, message: &Message) -> Result<Seq<Placeholder>, OutOfMemory>
-    ensures { IfOk result (λ rows. map view_placeholder rows ≡ placeholders_of (view_message message.now)) }
-{
-    let names = names_of(alloc, &message.body)?;
-    let rows = placeholders_of(alloc, &names);
-    drop(names);
-    rows
-}
-
-/// The texts and prints that the placeholder of a name stands for; none where there is no such placeholder.
-pub fn named_nodes<'p>(placeholders: &'p [Placeholder], name: &Text) -> &'p [Node]
-    ensures { view_nodes result.now ≡ named_nodes name.now (map view_placeholder placeholders.now) }
-{
-    for placeholder in placeholders {
-        if placeholder.name.is(name.text()) {
-            return placeholder.nodes.items();
-        }
-    }
-    &[]
 }

@@ -86,6 +86,7 @@ fn add_name(
         ≡ kind_step kind (named_uses names.now) found.old.keys (view_piece piece.now)) }
 {
     match piece {
+        CodePiece::Word(_) => Ok(()),
         CodePiece::Text(_) => Ok(()),
         CodePiece::Use(of) => {
             if !is_of_kind(kind, &of.of) {

@@ -3,15 +3,14 @@
 ghost use Rattle.std.specs.Prelude.{◌≡◌, [], ◌∷◌, ◌++◌, map, IfOk, OnOk};
 ghost use Rattle.soy_rules.specs.Placeholders.{name_of};
 ghost use Rattle.soy_tree.specs.ViewExpressions.{view_expr};
-ghost use Rattle.soy_tree.specs.ViewNodes.{view_message};
-ghost use Rattle.msg_extract.specs.SelectorRows.{piece_rows, selector_rows, selectors_of, view_selector};
+ghost use Rattle.msg_extract.specs.SelectorRows.{piece_rows, selector_rows, view_selector};
 ghost use Rattle.msg_extract.specs.Views.ViewNames.{HasNames, named_uses};
 ghost use Rattle.msg_extract.specs.Views.ViewPieces.{content_of, view_piece};
 
-use crate::names::{Names, name_of, names_of};
+use crate::names::{Names, name_of};
 use crate::piece::{CodePiece, NameUse, Named};
 use soy_base::{OutOfMemory, Row, Seq, Text};
-use soy_tree::{Expr, Message};
+use soy_tree::Expr;
 use std::alloc::Global;
 
 /// A selector of a message: its name, whether it is that of a plural or else of a select, and its expression.
@@ -57,6 +56,7 @@ fn add_selector(
         ≡ map view_selector rows.old ++ piece_rows (named_uses names.now) (view_piece piece.now)) }
 {
     match piece {
+        CodePiece::Word(_) => Ok(()),
         CodePiece::Text(_) => Ok(()),
         CodePiece::Use(of) => match &of.of {
             Named::Print(_, _, _) => Ok(()),
@@ -69,7 +69,7 @@ fn add_selector(
 
 /// The selectors among pieces.
 #[tactic(auto, using(crate::proofs::SelectorRows::selectors_step, crate::proofs::Texts::PieceLists::append_assoc))]
-fn selectors_among(alloc: Global, names: &Names<'_>) -> Result<Seq<Selector>, OutOfMemory>
+pub fn selectors_among(alloc: Global, names: &Names<'_>) -> Result<Seq<Selector>, OutOfMemory>
     requires { HasNames names.now }
     ensures { IfOk result (λ rows. map view_selector rows
         ≡ selector_rows (named_uses names.now) (named_uses names.now)) }
@@ -79,14 +79,4 @@ fn selectors_among(alloc: Global, names: &Names<'_>) -> Result<Seq<Selector>, Ou
         add_selector(alloc, &mut rows, names, piece)?;
     }
     Ok(rows.done())
-}
-
-/// The selectors of a message's plurals and selects, in the order of its text.
-pub fn selectors(alloc: Global, message: &Message) -> Result<Seq<Selector>, OutOfMemory>
-    ensures { IfOk result (λ rows. map view_selector rows ≡ selectors_of (view_message message.now)) }
-{
-    let names = names_of(alloc, &message.body)?;
-    let rows = selectors_among(alloc, &names);
-    drop(names);
-    rows
 }

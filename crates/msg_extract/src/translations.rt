@@ -1,15 +1,15 @@
 //! The translations of a bundle, by the ids of their messages.
 
-ghost use Rattle.std.specs.Prelude.{◌≡◌, option_map, slice_get, map, IfOk};
+ghost use Rattle.std.specs.Prelude.{◌≡◌, ◌==◌, length, option_map, slice_get, map, IfOk};
 ghost use Rattle.soy_tree.specs.ViewMessageParts.{view_parts};
 ghost use Rattle.soy_tree.specs.ViewNodes.{view_message};
 ghost use Rattle.msg_extract.specs.Translations.{ids_of, parts_of, translation_of};
 ghost use Rattle.msg_extract.specs.MessageId.{id_of};
 
-use crate::message_id;
+use crate::named_message::NamedMessage;
 use soy_base::{OutOfMemory, Text};
 use soy_rules::Names;
-use soy_tree::{Bundle, Message, MsgPart, Translation};
+use soy_tree::{Bundle, MsgPart, Translation};
 use std::alloc::Global;
 use std::marker::Model;
 
@@ -45,11 +45,18 @@ impl<'b> Translations<'b> {
         Ok(Translations { bundle, ids })
     }
 
+    /// Whether the bundle has no translation, so that a message need not be named.
+    pub fn is_empty(&self) -> bool
+        ensures { result ≡ (length self.now.messages == 0) }
+    {
+        self.bundle.messages.items().is_empty()
+    }
+
     /// The parts of the translation that the bundle has for a message, if it has one.
     pub fn find(
         &self,
         alloc: Global,
-        message: &Message,
+        message: &NamedMessage<'_>,
     ) -> Result<Option<&'b [MsgPart]>, OutOfMemory>
         ensures { IfOk result (λ found. option_map (λ parts. view_parts parts.now) found
             ≡ translation_of self.now.messages (id_of (view_message message.now))) }
@@ -57,7 +64,7 @@ impl<'b> Translations<'b> {
         if self.bundle.messages.items().is_empty() {
             return Ok(None);
         }
-        let id = message_id(alloc, message)?;
+        let id = message.id(alloc)?;
         Ok(self.parts(&id))
     }
 

@@ -23,7 +23,7 @@ use Rattle.msg_extract.proofs.JoinedTests.{holds_or}
 -- a content in its group
 
 -- the group of a base name; none is like an empty one
-abbrev group_of : List Name → List (List Content) → Name → List Content
+abbrev pub group_of : List Name → List (List Content) → Name → List Content
 group_of [] groups base = []
 group_of (b ∷ bs) [] base = []
 group_of (b ∷ bs) (g ∷ gs) base = if bytes_eq base b then g else group_of bs gs base
@@ -231,7 +231,7 @@ named_are base uses (c ∷ (d ∷ contents)) = numbered_contents base uses 1 (c 
 
 -- the first place behind another item
 
-position_cons : {X : Type 0} (p : X → Bool) (x : X) (xs : List X)
+pub position_cons : {X : Type 0} (p : X → Bool) (x : X) (xs : List X)
     → position p (x ∷ xs) ≡ (if p x then Some 0 else option_map (λ n. suc n) (position p xs))
 position_cons p x xs = at (p x) (position_or_len p xs) (length xs)
   where
@@ -248,7 +248,7 @@ position_cons p x xs = at (p x) (position_or_len p xs) (length xs)
         within true = refl
         within false = refl
 
-then_suc : {X : Type 0} (f : ℕ → Option X) (found : Option ℕ)
+pub then_suc : {X : Type 0} (f : ℕ → Option X) (found : Option ℕ)
     → option_and_then f (option_map (λ n. suc n) found) ≡ option_and_then (λ n. f (suc n)) found
 then_suc f None = refl
 then_suc f (Some n) = refl
@@ -315,6 +315,13 @@ found_in uses base content (b ∷ bs) (g ∷ gs) e =
         → from (bytes_eq base b) ≡ named base uses (if bytes_eq base b then g else group_of bs gs base) content
     behind rest h = rw h (then_suc at (position (bytes_eq base) bs) ∙ rest)
 
+-- the contents of a base name are those of its uses
+pub contents_are : (uses : List Use) (bases : List Name) (groups : List (List Content)) (names : List (List Name))
+    (base : Name) → AreNames uses bases groups names → group_of bases groups base ≡ contents_after [] base uses
+contents_are uses bases groups names base are =
+    ap (λ bs. group_of bs groups base) are.bases_are
+    ∙ (ap (λ gs. group_of (bases_after [] uses) gs base) are.groups_are ∙ group_after [] [] uses base refl)
+
 name_is : (uses : List Use) (bases : List Name) (groups : List (List Content)) (names : List (List Name)) (base : Name)
     (content : Content) → AreNames uses bases groups names
     → or_base base (found_name bases groups names base content) ≡ name_of uses base content
@@ -322,7 +329,7 @@ name_is uses bases groups names base content are =
     ap (λ found. or_base base (found_name bases groups found base content))
     (are.names_are ∙ group_names_are uses bases are.bases_are bases groups)
     ∙ (ap (or_base base) (found_in uses base content bases groups as_many)
-    ∙ (ap (λ group. or_base base (named base uses group content)) contents
+    ∙ (ap (λ group. or_base base (named base uses group content)) (contents_are uses bases groups names base are)
     ∙ (ap (λ group. or_base base (name_in group (names_in rows) content))
     (sym (named_are base uses (contents_after [] base uses)))
     ∙ sym (named_in content base rows))))
@@ -332,11 +339,6 @@ name_is uses bases groups names base content are =
 
     as_many : length groups ≡ length bases
     as_many = ap length are.groups_are ∙ (length_after [] [] uses refl ∙ ap length (sym are.bases_are))
-
-    contents : group_of bases groups base ≡ contents_after [] base uses
-    contents =
-        ap (λ bs. group_of bs groups base) are.bases_are
-        ∙ (ap (λ gs. group_of (bases_after [] uses) gs base) are.groups_are ∙ group_after [] [] uses base refl)
 
 -- a name that is found
 pub name_is_found : (uses : List Use) (bases : List Name) (groups : List (List Content)) (names : List (List Name))

@@ -1,5 +1,6 @@
 -- The pieces and uses of names that those of the code stand for.
 use Rattle.std.specs.Prelude.{map}
+use Rattle.std.specs.Str.{chars}
 use Rattle.soy_tree.specs.Types.{Name}
 use Rattle.soy_tree.specs.MessageText.{PrintCut, TagCut}
 use Rattle.soy_rules.specs.Placeholders.{Content, Role, Use, AsPlaceholder, AsPlural, AsSelect, ExprContent, TagContent}
@@ -31,5 +32,6 @@ abbrev pub view_name_use : NameUse → Use
 view_name_use u = view_use u.base u.of
 
 abbrev pub view_piece : CodePiece → Piece
+view_piece (code.Word word) = TextPiece (chars word.now)
 view_piece (code.Text text) = TextPiece text
 view_piece (code.Use u) = UsePiece (view_name_use u)

@@ -20,9 +20,9 @@ returns c =
     let scope = view_vars source.vars.now in
     let at = view_site source.at in
     let name = c.args.name.now in
-    writes_same (placed_nodes scope at (view_nodes c.named_nodes.result.now))
+    writes_same (placed_nodes scope at (view_nodes c.nodes.result.now))
     (cut_plan scope at (placeholder_cut name (source_uses source) (source_uses source)))
     c.args.rows.now.items c.all_placed.new.rows.items c.all_placed.result c.all_placed.ensures
     (ap (λ ns. λ w. walk page_machine (placed_nodes scope at ns) w)
-    (c.named_nodes.ensures ∙ ap (λ rows. named_nodes name rows) c.requires)
+    (c.nodes.ensures ∙ ap (λ rows. named_nodes name rows) c.requires)
     ∙ fun_ext (λ w. placed_cut (view_message source.message.now) name scope at w))

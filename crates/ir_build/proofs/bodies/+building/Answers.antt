@@ -1,8 +1,9 @@
 use mir.Syntax.{w64}
 use mir.Val.{SFits}
 use Rattle.std.proofs.lemmas.Int.{to_z-of_z}
-use Rattle.std.proofs.Common.{rules, ap, arith, drop, map}
+use Rattle.std.proofs.Common.{Some, rules, ap, arith, drop, map, sym, ◌∙◌}
 use Rattle.std.proofs.lemmas.Result.{on_ok_weaker}
+use Rattle.soy_tree.specs.declared.node.Form.TheVariants as form
 use Rattle.template_ir.specs.ViewOps.{view_branch, view_choice, view_handed, view_ops}
 use Rattle.ir_build.specs.Laid.{view_output}
 use Rattle.ir_build.proofs.GivenOps.{gives_block, gives_plain}
@@ -125,10 +126,11 @@ pub push_node-returns-in-None-other-2 :
     goal.push_node-returns-in-None-other-2
 push_node-returns-in-None-other-2 t c =
     on_ok_weaker c.push_alone.result
-    (at_message c.args.scene.now c.args.node.now c.in-Message.message c.in-Message.other
+    (at_message c.args.scene.now c.args.node.now c.get-message.result.now c.in-Message.other
     c.args.out.now c.push_body.new.out (view_output c.push_alone.new.out) c.len-old_length.result
     (view_ops c.new-inner.result.items) (view_ops c.push_body.new.own.items) (view_ops c.args.own.now.items)
-    (view_ops c.push_alone.new.own.items) c.in-Message.is c.in-None-other-2.is
+    (view_ops c.push_alone.new.own.items) (c.in-Message.is
+    ∙ ap (λ m. form.Message m c.in-Message.other) (sym c.get-message.ensures)) c.in-None-other-2.is
     (old_length c.args.out.now.ops.items c.len-old_length.result (omega arith))
     (ap view_ops c.new-inner.ensures.items) c.in_ok-push_body-in-Message.ensures) c.push_alone.ensures
 
@@ -136,12 +138,14 @@ pub push_node-returns-in-Some-other-2 :
     goal.push_node-returns-in-Some-other-2
 push_node-returns-in-Some-other-2 t c =
     on_ok_weaker c.push_either.result
-    (at_message_fallback c.args.scene.now c.args.node.now c.in-Message.message
-    c.in-Some-other-2.other c.in-Message.other c.args.out.now
+    (at_message_fallback c.args.scene.now c.args.node.now c.get-message.result.now
+    c.get.result.now c.in-Message.other c.args.out.now
     c.push_body.new.out (view_output c.push_either.new.out)
     c.len-old_length.result (view_ops c.new-inner.result.items)
     (view_ops c.push_body.new.own.items) (view_ops c.args.own.now.items)
-    (view_ops c.push_either.new.own.items) c.in-Message.is c.in-Some-other-2.is
+    (view_ops c.push_either.new.own.items) (c.in-Message.is
+    ∙ ap (λ m. form.Message m c.in-Message.other) (sym c.get-message.ensures))
+    (c.in-Some-other-2.is ∙ ap Some (sym c.get.ensures))
     (old_length c.args.out.now.ops.items c.len-old_length.result (omega arith)) (ap view_ops c.new-inner.ensures.items)
     c.in_ok-push_body-in-Message.ensures) c.push_either.ensures
 

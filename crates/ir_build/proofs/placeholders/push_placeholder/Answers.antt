@@ -11,7 +11,7 @@ pub returns : goal.returns
 returns c =
     let s = c.args.source.now in
     on_ok_weaker c.push_all_placed.result
-    (placeholder_pushed s c.args.name.now (view_nodes c.named_nodes.result.now)
+    (placeholder_pushed s c.args.name.now (view_nodes c.nodes.result.now)
     (map view_placeholder s.placeholders.now)
-    (view_output c.args.out.now) _ (view_ops c.args.own.now.items) _ c.named_nodes.ensures c.requires.named)
+    (view_output c.args.out.now) _ (view_ops c.args.own.now.items) _ c.nodes.ensures c.requires.named)
     c.push_all_placed.ensures

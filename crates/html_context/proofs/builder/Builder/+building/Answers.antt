@@ -1,9 +1,10 @@
-use Rattle.std.proofs.Common.{◌≡◌, List, [], ◌∷◌, ◌++◌, Ok, map, option_map, refl, ap, subst, ◌∙◌}
+use Rattle.std.proofs.Common.{◌≡◌, List, [], ◌∷◌, ◌++◌, Ok, map, option_map, refl, ap, sym, subst, ◌∙◌}
 use Rattle.soy_tree.specs.ViewNodes.{view_arguments, view_arms, view_body, view_cases, view_nodes, view_plural_cases}
 use Rattle.soy_rules.specs.Narrowing.{narrowed}
 use Rattle.soy_tree.specs.ViewExpressions.{view_expr}
 use Rattle.soy_tree.specs.ViewNodes.{fallback_of, view_given, view_message, view_node, view_select_cases}
 use Rattle.soy_tree.specs.declared.node.Arm as code_arm
+use Rattle.soy_tree.specs.declared.node.Form.TheVariants as form
 use Rattle.soy_tree.specs.declared.soy_type.Field.{Field}
 use Rattle.soy_expr.specs.ViewScope.{view_vars}
 use Rattle.soy_meaning.specs.Paths.Plan.{Then, arms_meet}
@@ -270,11 +271,11 @@ pub node-returns-in_ok-source-in-Message-clause-writes : goal.node-returns-in_ok
 node-returns-in_ok-source-in-Message-clause-writes t c =
     node_message (plan_context c.args.self.now) (view_vars c.args.vars.now) c.args.rows.now.items c.body.new.rows.items
     c.translated.new.rows.items c.in_ok-source-in-Message.source c.translated.result
-    c.args.node.now c.in-Message.message c.in-Message.other c.site-at.result
-    c.in-Message.is c.site-at.ensures c.in_ok-source-in-Message.ensures.writes
+    c.args.node.now c.get-message.result.now c.in-Message.other c.site-at.result
+    (c.in-Message.is ∙ ap (λ m. form.Message m c.in-Message.other) (sym c.get-message.ensures)) c.site-at.ensures c.in_ok-source-in-Message.ensures.writes
     (subst (λ (l : List Field). Writes (arms_meet (view_site c.site-at.result) (plan_at c.body.new.rows.items
     c.in_ok-source-in-Message.source ∷ (translation_plans (plan_context c.args.self.now)
-    (view_message c.in-Message.message) (view_vars l) (view_site c.site-at.result)
+    (view_message c.get-message.result.now) (view_vars l) (view_site c.site-at.result)
     ++ fallback_plans (plan_context c.args.self.now) (fallback_of (option_map view_message c.in-Message.other))
     (view_vars l) (view_site c.site-at.result)))) c.body.new.rows.items c.translated.new.rows.items c.translated.result)
     c.in_ok-source-in-Message.ensures.kept c.translated.ensures)
