@@ -10,7 +10,7 @@ use Rattle.bidi_class.specs.declared.class.Class.{Class}
 use Rattle.bidi_class.specs.declared.class.Class.TheVariants.{LRE, LRO, RLE, RLO, PDF, LRI, RLI, FSI, PDI, BN}
 use Rattle.bidi_class.specs.Brackets.{bracket}
 use Rattle.bidi_class.specs.Class.{bidi_class}
-use Rattle.bidi_order.specs.DirectionalStatus.{act_of_class, initial_status, status_after, strong_class}
+use Rattle.bidi_order.specs.DirectionalStatus.{act_of_class, initial_status, status_after}
 use Rattle.bidi_order.specs.DirectionalStatus.ExplicitAct.{Stays}
 use Rattle.bidi_order.specs.Explicit.{KeptCharacter, SequenceCharacter, explicit_character, explicit_from}
 use Rattle.bidi_order.specs.Levels.{line_levels}

@@ -1,8 +1,8 @@
 -- The order of a line on its characters themselves (UAX #9, L2), where the definition has their indexes.
-use Rattle.std.specs.Prelude.{ℕ, ◌-◌, not, if◌then◌else◌, List, [], ◌∷◌, ◌++◌, map, filter, get_or, take, drop, reverse}
-use Rattle.std.specs.Prelude.{Option, Some, None}
+use Rattle.std.specs.Prelude.{ℕ, Bool, true, false, not, if◌then◌else◌, List, [], ◌∷◌, ◌++◌, map, filter, get_or}
+use Rattle.std.specs.Prelude.{reverse, Option, Some, None}
 use Rattle.bidi_text.specs.Clean.{is_isolate_control}
-use Rattle.bidi_order.specs.VisualOrder.{LeveledCharacter, reversed_from, visual_order}
+use Rattle.bidi_order.specs.VisualOrder.{LeveledCharacter, visual_order}
 
 -- the character itself instead of its index
 abbrev pub with_character : List ℕ → LeveledCharacter → LeveledCharacter
@@ -22,11 +22,6 @@ leveled_from [] levels = []
 leveled_from (c ∷ text) [] = []
 leveled_from (c ∷ text) (level ∷ levels) = leveled_of c level ++ leveled_from text levels
 
--- a list of which the runs that ended before the start are reversed, and which was read up to an index
-abbrev pub runs_so_far : ℕ → ℕ → ℕ → List LeveledCharacter → List LeveledCharacter
-runs_so_far level start index xs =
-    take start xs ++ reversed_from level (reverse (take (index - start) (drop start xs))) (drop index xs)
-
 -- a character, unless it is an initiator or PDI
 abbrev pub visible_of : ℕ → List ℕ
 visible_of c = if is_isolate_control c then [] else c ∷ []
@@ -35,3 +30,8 @@ visible_of c = if is_isolate_control c then [] else c ∷ []
 abbrev pub visible_characters : List LeveledCharacter → List ℕ
 visible_characters order =
     filter (λ (c : ℕ). not (is_isolate_control c)) (map (λ (x : LeveledCharacter). x.index) order)
+
+-- a list, or the list from its last element to its first
+abbrev pub turned_by : Bool → List LeveledCharacter → List LeveledCharacter
+turned_by false xs = xs
+turned_by true xs = reverse xs

@@ -1,7 +1,9 @@
 //! The visual order of a line (UAX #9, 3.4, L2).
-ghost use Rattle.std.specs.Prelude.{◌≡◌, ◌<◌, ◌≤◌, ◌-◌, ◌+◌, ◌++◌, [], IfOk, OnOk, length};
-ghost use Rattle.bidi_order.specs.VisualOrder.{highest_level, least_odd_level, reordered, reversed_from};
-ghost use Rattle.bidi_preview.specs.OrderSteps.{characters_in_order, leveled_from, leveled_of, runs_so_far};
+ghost use Rattle.std.specs.Prelude.{◌≡◌, ◌==◌, ◌<◌, ◌≤◌, ◌-◌, ◌%◌, ◌++◌, true, not, if◌then◌else◌, IfOk, OnOk};
+ghost use Rattle.std.specs.Prelude.{length, nat_le, reverse};
+ghost use Rattle.std.specs.List.{list_all};
+ghost use Rattle.bidi_order.specs.VisualOrder.{LeveledCharacter, highest_level, least_odd_level, reordered};
+ghost use Rattle.bidi_preview.specs.OrderSteps.{characters_in_order, leveled_from, leveled_of, turned_by};
 
 use soy_base::OutOfMemory;
 use std::alloc::Global;
@@ -35,7 +37,13 @@ impl Leveled {
         self.character
     }
 
-    pub(crate) fn level(&self) -> u8
+    fn copied(&self) -> Leveled
+        ensures { result ≡ self.now }
+    {
+        Leveled::new(self.character, self.level)
+    }
+
+    fn level(&self) -> u8
         ensures { result ≡ self.now.level }
     {
         self.level
@@ -55,7 +63,9 @@ pub(crate) fn order_characters(
     let characters = level_characters(alloc, line, levels)?;
     let above = highest_level(levels) + 1;
     let lowest = least_odd_level(above, levels);
-    Ok(reordered(lowest, above, characters))
+    let mut order = Vec::with_capacity(alloc, characters.len())?;
+    push_order(lowest, above, false, &characters, &mut order)?;
+    Ok(order)
 }
 
 /// The characters that are kept, in their order, each with its level.
@@ -120,53 +130,174 @@ fn least_odd_level(above: usize, levels: &[Option<u8>]) -> usize
     least
 }
 
-/// L2: the characters after the reversals.
-fn reordered(lowest: usize, above: usize, mut characters: Vec<Leveled>) -> Vec<Leveled>
+/// L2: puts characters at the end, in their order after the reversals at the levels from the lowest one up, which are
+/// made below the number; or in the opposite order.
+#[cycle(order)]
+#[tactic(auto, using(crate::proofs::Orders::no_levels))]
+fn push_order(
+    lowest: usize,
+    above: usize,
+    turned: bool,
+    characters: &[Leveled],
+    order: &mut Vec<Leveled>,
+) -> Result<(), OutOfMemory>
     requires { lowest ≤ above }
-    ensures { result.items ≡ reordered lowest (above - lowest) characters.items }
+    ensures { OnOk result (order.new.items
+        ≡ order.old.items ++ turned_by turned (reordered lowest (above - lowest) characters.now)) }
 {
-    reorder(lowest, above, &mut characters);
-    characters
-}
-
-/// L2: the reversals, from the highest level down to the lowest one.
-fn reorder(lowest: usize, above: usize, characters: &mut [Leveled])
-    requires { lowest ≤ above }
-    ensures { characters.new ≡ reordered lowest (above - lowest) characters.old }
-{
-    let mut level = above;
-    while level > lowest {
-        level -= 1;
-        reverse_runs(level, characters);
+    if lowest == above {
+        push_characters(turned, characters, order)
+    } else if turned {
+        push_backward(lowest, above, characters, order)
+    } else {
+        push_forward(lowest, above, characters, order)
     }
 }
 
-/// L2: each maximal run of characters at the level or above is reversed.
-fn reverse_runs(level: usize, characters: &mut [Leveled])
-    ensures { characters.new ≡ reversed_from level [] characters.old }
+/// L2: the characters from the first on. Each maximal run at the lowest level or above is put where it ends.
+#[cycle(order)]
+#[tactic(auto, using(crate::proofs::Orders::run_ends, crate::proofs::Orders::run_longer, crate::proofs::Orders::run_none, crate::proofs::Orders::run_rest))]
+fn push_forward(
+    lowest: usize,
+    above: usize,
+    characters: &[Leveled],
+    order: &mut Vec<Leveled>,
+) -> Result<(), OutOfMemory>
+    requires { lowest < above }
+    ensures { OnOk result (order.new.items ≡ order.old.items ++ reordered lowest (above - lowest) characters.now) }
 {
     let mut start = 0;
+    let mut least = above - 1;
     for index in 0..characters.len() {
-        start = read_level(level, start, index, characters);
+        let level = usize::from(characters[index].level());
+        if level < lowest {
+            push_run(
+                lowest,
+                least,
+                above,
+                false,
+                &characters[start..index],
+                order,
+            )?;
+            order.push(characters[index].copied())?;
+            start = index + 1;
+            least = above - 1;
+        } else {
+            least = least.min(level);
+        }
     }
-    characters[start..].reverse();
+    push_run(lowest, least, above, false, &characters[start..], order)
 }
 
-/// Reads the character at an index. Where it is below the level, the run before it is reversed. Says where the run now
-/// begins.
-#[tactic(auto, using(crate::proofs::Orders::run_ends, crate::proofs::Orders::run_goes_on))]
-fn read_level(level: usize, start: usize, index: usize, characters: &mut [Leveled]) -> usize
-    requires order { start ≤ index }
-    requires within { index < length characters.old }
-    ensures order { result ≤ index + 1 }
-    ensures long { length characters.new ≡ length characters.old }
-    ensures list { runs_so_far level result (index + 1) characters.new
-        ≡ runs_so_far level start index characters.old }
+/// L2: the characters from the last on, for the opposite order. Each maximal run is put where it begins.
+#[cycle(order)]
+#[tactic(auto, using(crate::proofs::Orders::run_begins, crate::proofs::Orders::run_longer_back, crate::proofs::Orders::run_none, crate::proofs::Orders::run_whole, crate::proofs::Orders::all_taken))]
+fn push_backward(
+    lowest: usize,
+    above: usize,
+    characters: &[Leveled],
+    order: &mut Vec<Leveled>,
+) -> Result<(), OutOfMemory>
+    requires { lowest < above }
+    ensures { OnOk result (order.new.items
+        ≡ order.old.items ++ reverse (reordered lowest (above - lowest) characters.now)) }
 {
-    if usize::from(characters[index].level()) < level {
-        characters[start..index].reverse();
-        index + 1
-    } else {
-        start
+    let mut end = characters.len();
+    let mut least = above - 1;
+    let mut index = characters.len();
+    while index > 0 {
+        index -= 1;
+        let level = usize::from(characters[index].level());
+        if level < lowest {
+            push_run(
+                lowest,
+                least,
+                above,
+                true,
+                &characters[index + 1..end],
+                order,
+            )?;
+            order.push(characters[index].copied())?;
+            end = index;
+            least = above - 1;
+        } else {
+            least = least.min(level);
+        }
     }
+    push_run(lowest, least, above, true, &characters[..end], order)
+}
+
+/// L2: a run at the lowest level or above. All of it is at the least level or above, so up to that each level turns it
+/// whole, and only the characters above are looked for.
+#[cycle(order)]
+#[tactic(auto, using(crate::proofs::Orders::run_turned, crate::proofs::Orders::empty_run))]
+fn push_run(
+    lowest: usize,
+    least: usize,
+    above: usize,
+    turned: bool,
+    run: &[Leveled],
+    order: &mut Vec<Leveled>,
+) -> Result<(), OutOfMemory>
+    requires low { lowest ≤ least }
+    requires high { least < above }
+    requires run { list_all (λ (x : LeveledCharacter). nat_le least x.level) run.now ≡ true }
+    ensures { OnOk result (order.new.items
+        ≡ order.old.items ++ turned_by turned (reordered lowest (above - lowest) run.now)) }
+{
+    if run.is_empty() {
+        return Ok(());
+    }
+    push_order(
+        least + 1,
+        above,
+        turned_at(turned, least - lowest),
+        run,
+        order,
+    )
+}
+
+/// Whether a run is turned after the lowest level and so many above it.
+fn turned_at(turned: bool, levels: usize) -> bool
+    ensures { result ≡ (if levels % 2 == 0 then not turned else turned) }
+{
+    if levels % 2 == 0 { !turned } else { turned }
+}
+
+/// Puts characters at the end, or from the last to the first.
+fn push_characters(
+    turned: bool,
+    characters: &[Leveled],
+    order: &mut Vec<Leveled>,
+) -> Result<(), OutOfMemory>
+    ensures { OnOk result (order.new.items ≡ order.old.items ++ turned_by turned characters.now) }
+{
+    if turned {
+        push_turned(characters, order)
+    } else {
+        push_unchanged(characters, order)
+    }
+}
+
+/// Puts characters at the end.
+fn push_unchanged(characters: &[Leveled], order: &mut Vec<Leveled>) -> Result<(), OutOfMemory>
+    ensures { OnOk result (order.new.items ≡ order.old.items ++ characters.now) }
+{
+    for x in characters {
+        order.push(x.copied())?;
+    }
+    Ok(())
+}
+
+/// Puts characters at the end, from the last to the first.
+#[tactic(auto, using(crate::proofs::Orders::turned_more))]
+fn push_turned(characters: &[Leveled], order: &mut Vec<Leveled>) -> Result<(), OutOfMemory>
+    ensures { OnOk result (order.new.items ≡ order.old.items ++ reverse characters.now) }
+{
+    let mut index = characters.len();
+    while index > 0 {
+        index -= 1;
+        order.push(characters[index].copied())?;
+    }
+    Ok(())
 }

@@ -1,5 +1,5 @@
 -- What the code finds, against what it stands for.
-use Rattle.std.proofs.Common.{◌≡◌, ℕ, suc, ◌-◌, ◌<◌, ◌&&◌, Bool, true, false, List, [], ◌∷◌, Some, inl, inr}
+use Rattle.std.proofs.Common.{◌≡◌, ℕ, suc, ◌-◌, ◌<◌, ◌&&◌, Bool, true, false, List, [], ◌∷◌, Option, Some, inl, inr}
 use Rattle.std.proofs.Common.{None}
 use Rattle.std.proofs.Common.{take, refl, sym, ap, ◌∙◌, arith, subst, lt-ltb, le-ltb}
 use Rattle.std.proofs.lemmas.Bool.{cases_lt}
@@ -10,13 +10,16 @@ use Rattle.soy_rules.specs.Cost.{cost}
 use Rattle.soy_tree.specs.Expressions.{Expr, Binary, BoolLiteral, Coalesce, Conditional, Index, IntLiteral, Member}
 use Rattle.soy_tree.specs.Expressions.{Minus}
 use Rattle.soy_tree.specs.Expressions.{Not, NullLiteral, StringLiteral, Variable}
-use Rattle.soy_rules.specs.Val.{Binding, BlockOf, Env, Known, binding, is_truthy, val}
+use Rattle.soy_rules.specs.Val.{Binding, BlockOf, Env, Known, binding, is_truthy, member_value, operand, val}
 use Rattle.soy_tree.specs.Values.{Value, NullValue}
 use Rattle.soy_expr.specs.ForgottenBlocks.{forgotten, forgotten_env}
 use Rattle.soy_expr.proofs.Forgetting.{forgotten_cost, forgotten_val}
-use Rattle.soy_pieces.specs.Giving.{RunEnv}
+use Rattle.soy_expr.specs.ViewEvaluated.{view_made}
+use Rattle.soy_expr.specs.declared.evaluated.Made.{Made}
+use Rattle.soy_expr.specs.declared.evaluated.Made.TheVariants as made
+use Rattle.soy_pieces.specs.Giving.{BoundBlock, RunEnv}
 use Rattle.template_ir.specs.declared.program.ProgramParts.{ProgramParts}
-use Rattle.render_core.specs.Finds.{IsPlain, binding_at, bound_binding}
+use Rattle.render_core.specs.Finds.{IsPlain, binding_at, bound_binding, place_binding}
 use Rattle.soy_expr.specs.Parts.{child}
 use Rattle.render_core.specs.Keys.{fits_key, key_of, lowered, next_of}
 use Rattle.render_core.specs.Linked.{Leads, is_sought}
@@ -27,12 +30,10 @@ use Rattle.render_core.specs.declared.held.Bound.{Bound}
 use Rattle.render_core.specs.declared.held.Held.{Held}
 use Rattle.render_core.specs.declared.held.Held.TheVariants as held
 use Rattle.render_core.specs.declared.held.Path.{Path}
-use Rattle.render_core.specs.declared.links.Links.{Links}
-use Rattle.render_core.specs.declared.links.Links.TheVariants as links
 use Rattle.render_core.specs.declared.held.Path.TheVariants as path
 use Rattle.render_core.proofs.Conditions.{if_false, if_true}
 use Rattle.render_core.proofs.Cells.{cell_none, cell_there, cells_take, env_past, env_take, part_is}
-use Rattle.render_core.proofs.Cells.{part_lower, part_there}
+use Rattle.render_core.proofs.Cells.{part_lower, part_none, part_there}
 
 -- ---- variables by their names
 
@@ -92,27 +93,16 @@ module _ (p : ProgramParts) (input : Value) (bound : List Bound) where
       ∙ (ap (λ (cs : List Cell). binding name (env_at cs next)) (cells_take p input bound (number - 1))
       ∙ lowered_env (cells_of p input bound) number next name some)))))
 
-  -- the same where few variables are visible
-  pub found_next : (number : ℕ) (b : Bound) (name : Name) (n : ℕ) → 0 < number
-      → slice_get bound (number - 1) ≡ Some b → b.links ≡ links.Few n
-      → bytes_eq (name_or_none (name_there p b.name)) name ≡ false
+  -- to the next below it
+  pub found_next : (number : ℕ) (b : Bound) (name : Name) → 0 < number → slice_get bound (number - 1) ≡ Some b
+      → is_sought p b name ≡ false
       → binding name (env_at (cells_of p input bound) (lowered number b.below))
       ≡ binding name (env_at (cells_of p input bound) number)
-  found_next number b name n some is few other =
+  found_next number b name some is other =
       let cells : List Cell = take (number - 1) (cells_of p input bound) in
-      let own : Name = name_or_none (name_there p b.name) in
       sym (number_there number b name some is
-      ∙ (if_false (is_sought p b name) (held_means p input cells b.to) (binding name (env_at cells b.below))
-      (ap (λ (x : Links). fits_key x own && bytes_eq own name) few ∙ other)
+      ∙ (if_false (is_sought p b name) (held_means p input cells b.to) (binding name (env_at cells b.below)) other
       ∙ lowered_env (cells_of p input bound) number b.below name some))
-
-  pub found_first : (number : ℕ) (b : Bound) (name : Name) (n : ℕ) → 0 < number
-      → slice_get bound (number - 1) ≡ Some b → b.links ≡ links.Few n
-      → bytes_eq (name_or_none (name_there p b.name)) name ≡ true
-      → binding_at p input bound (number - 1) ≡ binding name (env_at (cells_of p input bound) number)
-  found_first number b name n some is few named =
-      let own : Name = name_or_none (name_there p b.name) in
-      found_here number b name some is (ap (λ (x : Links). fits_key x own && bytes_eq own name) few ∙ named)
 
   pub found_none : (number : ℕ) (name : Name) → 0 < number → slice_get bound (number - 1) ≡ None
       → Known NullValue ≡ binding name (env_at (cells_of p input bound) number)
@@ -207,6 +197,40 @@ module _ (p : ProgramParts) (input : Value) (bound : List Bound) where
       ∙ (ap (led (path_steps way)) (sym (part_lower p input bound at (path_of way) low))
       ∙ part_is p input bound at b (held.Part way) is to)))
       ∙ bound_path at b way is to
+
+-- ---- fields of variables
+
+made_field : (field : Name) (m : Made) → member_value field NullValue ≡ member_value field (view_made m)
+made_field field made.Null = refl
+made_field field (made.Bool b) = refl
+made_field field (made.Int n) = refl
+made_field field (made.Str text) = refl
+
+-- a field of what a variable is bound to is one of the part that it is bound to
+held_field_there : (p : ProgramParts) (input : Value) (cells : List Cell) (field : Name) (h : Held)
+    → member_value field (part_held input cells h) ≡ member_value field (operand (held_means p input cells h))
+held_field_there p input cells field (held.Made m) = made_field field m
+held_field_there p input cells field held.Root = refl
+held_field_there p input cells field (held.Item k n) = refl
+held_field_there p input cells field (held.Part way) = refl
+held_field_there p input cells field (held.Block kept) = refl
+
+part_field : (p : ProgramParts) (input : Value) (bound : List Bound) (at : ℕ) (field : Name) (b : Option Bound)
+    → slice_get bound at ≡ b
+    → member_value field (cell_at (cells_of p input bound) at).part
+    ≡ member_value field (operand (bound_binding p input (take at (cells_of p input bound)) b))
+part_field p input bound at field None is = ap (member_value field) (part_none p input bound at is)
+part_field p input bound at field (Some b) is =
+    ap (member_value field) (part_there p input bound at b is)
+    ∙ held_field_there p input (take at (cells_of p input bound)) field b.to
+
+pub field_there : (p : ProgramParts) (input : Value) (bound : List Bound) (at : ℕ) (name field : Name) (env : RunEnv)
+    → place_binding p input bound (Some at) ≡ binding name env
+    → member_value field (cell_at (cells_of p input bound) at).part
+    ≡ member_value field (operand (binding name env))
+field_there p input bound at name field env is =
+    part_field p input bound at field (slice_get bound at) refl
+    ∙ ap (λ (b : Binding BoundBlock). member_value field (operand b)) is
 
 -- ---- values where nothing is known of blocks
 

@@ -26,6 +26,7 @@ use Rattle.render_core.specs.declared.held.Held.{Held}
 use Rattle.render_core.specs.declared.held.Held.TheVariants as held
 use Rattle.render_core.specs.declared.held.Kept.{Kept}
 use Rattle.render_core.specs.declared.held.Naming.TheVariants as naming
+use Rattle.render_core.specs.declared.held.Path.TheVariants as path
 use Rattle.render_core.specs.declared.valuing.Found.{Found}
 use Rattle.render_core.specs.declared.valuing.Found.TheVariants as found
 use Rattle.render_core.proofs.Ops.{block_within, op_there}
@@ -34,7 +35,9 @@ use Rattle.render_core.proofs.Ops.{block_within, op_there}
 pub held_found : (p : ProgramParts) (input : values.Value) (cells : List Cell) (f : Found)
     → held_means p input cells (held_of f) ≡ found_means p cells f
 held_found p input cells (found.Made made) = refl
-held_found p input cells (found.Part path) = refl
+held_found p input cells (found.Part (path.Whole of)) = refl
+held_found p input cells (found.Part (path.Child of number)) = refl
+held_found p input cells (found.Part (path.Deep of steps)) = refl
 held_found p input cells (found.Block kept) = refl
 
 pub named_by : (p : ProgramParts) (at : ℕ) (o : Op) (name : Name) → slice_get p.ops at ≡ Some o → op_name o ≡ Some name

@@ -3,6 +3,7 @@ mod Begins
 mod Calls
 mod Cells
 mod Choices
+mod Comparisons
 mod Conditions
 mod Finds
 mod Forms

@@ -95,7 +95,7 @@ other_name p b l name key is other = by_case (is_sought p b name) refl
         && bytes_eq (name_or_none (name_there p b.name)) name) ≡ true) is e)))))
 
 levels_are : (x : Links) (l : Levels) → Some l ≡ levels_of x → x ≡ links.Many l
-levels_are (links.Few n) l e = cc
+levels_are (links.Few n fingerprint) l e = cc
 levels_are (links.Many m) l e = let h : m ≡ l = cc in ap links.Many h
 
 -- past a variable from which down many are visible

@@ -3,15 +3,15 @@ use Rattle.std.proofs.Common.{◌≡◌, ℕ, Bool, List, Result, length, ap, sy
 use Rattle.soy_base.specs.declared.memory.OutOfMemory.{OutOfMemory}
 use Rattle.soy_rules.specs.Cost.{cost}
 use Rattle.soy_tree.specs.Expressions.{Expr}
-use Rattle.soy_rules.specs.Val.{Binding, val}
+use Rattle.soy_rules.specs.Val.{val}
 use Rattle.soy_expr.specs.Evaluates.{IsWithin}
-use Rattle.soy_pieces.specs.Giving.{BoundBlock, RunEnv}
+use Rattle.soy_pieces.specs.Giving.{RunEnv}
 use Rattle.soy_tree.specs.ViewValues.{view_value}
 use Rattle.soy_tree.specs.declared.value.Value as code
 use Rattle.template_ir.specs.declared.program.ProgramParts.{ProgramParts}
 use Rattle.render_core.specs.Finds.{Finds, HasItem, found_means}
 use Rattle.render_core.specs.Seen.{cells_seen, env_seen, program_seen}
-use Rattle.render_core.specs.Shows.{IsAtHand, IsShownAtHand, Shows}
+use Rattle.render_core.specs.Shows.{IsAtHand, IsShownAtHand, Prints}
 use Rattle.render_core.specs.Variables.{Cell, cell_at, cells_of, env_at}
 use Rattle.render_core.specs.declared.held.Bound.{Bound}
 use Rattle.render_core.specs.declared.parts.Point.{Point}
@@ -32,16 +32,6 @@ pub same_env : (point : Point) (p : ProgramParts) (v : code.Value) (bound : List
 same_env point p v bound n program input bounds env =
     ap (λ k. env_at (cells_seen point) k) env
     ∙ ap (λ cells. env_at cells n) (same_cells point p v bound program input bounds)
-
-pub shows_at : (point : Point) (p : ProgramParts) (v : code.Value) (bound : List Bound) → point.scene.program.now ≡ p
-    → point.scene.input.now ≡ v → point.bound.now ≡ bound → (b : Binding BoundBlock) (s : Shown)
-    → Shows (program_seen point) (cells_seen point) (length point.bound.now) b s
-    → Shows p (cells_of p (view_value v) bound) (length bound) b s
-shows_at point p v bound program input bounds b s h =
-    subst (λ (q : ProgramParts). Shows q (cells_of p (view_value v) bound) (length bound) b s) program
-    (subst (λ (cells : List Cell). Shows (program_seen point) cells (length bound) b s)
-    (same_cells point p v bound program input bounds)
-    (subst (λ (bs : List Bound). Shows (program_seen point) (cells_seen point) (length bs) b s) bounds h))
 
 pub hand_at : (point : Point) (p : ProgramParts) (v : code.Value) (bound : List Bound) → point.scene.program.now ≡ p
     → point.scene.input.now ≡ v → point.bound.now ≡ bound → (s : Shown) → IsShownAtHand (cells_seen point) s
@@ -89,6 +79,24 @@ pub finds_err : (point : Point) (p : ProgramParts) (v : code.Value) (bound : Lis
 finds_err point p v bound n program input bounds env e before after h =
     subst (λ (around : RunEnv). IsWithin (cost e around) before after)
     (same_env point p v bound n program input bounds env) h
+
+pub prints_at : (point : Point) (p : ProgramParts) (v : code.Value) (bound : List Bound) (n : ℕ)
+    → point.scene.program.now ≡ p → point.scene.input.now ≡ v → point.bound.now ≡ bound → point.env ≡ n
+    → (e : Expr) (before after : ℕ) (r : Result Shown OutOfMemory)
+    → Prints (program_seen point) (cells_seen point) (length point.bound.now) (val e (env_seen point))
+    (cost e (env_seen point)) before after r
+    → Prints p (cells_of p (view_value v) bound) (length bound) (val e (env_at (cells_of p (view_value v) bound) n))
+    (cost e (env_at (cells_of p (view_value v) bound) n)) before after r
+prints_at point p v bound n program input bounds env e before after r h =
+    let cells : List Cell = cells_of p (view_value v) bound in
+    subst (λ (q : ProgramParts). Prints q cells (length bound) (val e (env_at cells n)) (cost e (env_at cells n)) before
+    after r) program
+    (subst (λ (cs : List Cell). Prints (program_seen point) cs (length bound) (val e (env_at cells n))
+    (cost e (env_at cells n)) before after r) (same_cells point p v bound program input bounds)
+    (subst (λ (bs : List Bound). Prints (program_seen point) (cells_seen point) (length bs) (val e (env_at cells n))
+    (cost e (env_at cells n)) before after r) bounds
+    (subst (λ (around : RunEnv). Prints (program_seen point) (cells_seen point) (length point.bound.now) (val e around)
+    (cost e around) before after r) (same_env point p v bound n program input bounds env) h)))
 
 pub items_at : (point : Point) (p : ProgramParts) (v : code.Value) (bound : List Bound) → point.scene.program.now ≡ p
     → point.scene.input.now ≡ v → point.bound.now ≡ bound → (list number : ℕ) (has : Bool)

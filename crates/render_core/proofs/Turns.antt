@@ -37,6 +37,7 @@ use Rattle.render_core.specs.declared.frame.Frame.TheVariants as frame
 use Rattle.render_core.specs.declared.frame.Round.{Round}
 use Rattle.render_core.specs.declared.held.Bound.{Bound}
 use Rattle.render_core.specs.declared.held.Naming.TheVariants as naming
+use Rattle.render_core.specs.declared.held.Path.TheVariants as path
 use Rattle.render_core.specs.declared.stack.Machine.{Machine}
 use Rattle.render_core.specs.declared.valuing.Found.{Found}
 use Rattle.render_core.specs.declared.valuing.Found.TheVariants as found
@@ -68,7 +69,9 @@ items_found p input cells (found.Made made.Null) = refl
 items_found p input cells (found.Made (made.Bool b)) = refl
 items_found p input cells (found.Made (made.Int n)) = refl
 items_found p input cells (found.Made (made.Str text)) = refl
-items_found p input cells (found.Part path) = refl
+items_found p input cells (found.Part (path.Whole of)) = refl
+items_found p input cells (found.Part (path.Child of number)) = refl
+items_found p input cells (found.Part (path.Deep of steps)) = refl
 items_found p input cells (found.Block kept) = refl
 
 -- ---- the variables of a turn, by those that were bound one after the other

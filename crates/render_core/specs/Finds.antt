@@ -2,8 +2,10 @@
 use Rattle.std.specs.Prelude.{◌≡◌, ℕ, ◌+◌, ◌≤◌, List, Option, Some, None, Result, Ok, Err, slice_get, take}
 use Rattle.std.specs.Prelude.{Bool, true, false, if◌then◌else◌, nat_lt}
 use Rattle.std.specs.Borrow.{Bor}
+use Rattle.soy_base.specs.declared.fault.Span.{Span}
 use Rattle.soy_base.specs.declared.memory.OutOfMemory.{OutOfMemory}
 use Rattle.soy_tree.specs.Expressions.{Expr, Coalesce, Conditional, Variable}
+use Rattle.soy_tree.specs.Types.{Name}
 use Rattle.soy_rules.specs.Val.{Binding, BlockOf, Known}
 use Rattle.soy_tree.specs.Values.{Items, Value, NullValue, item, no_item}
 use Rattle.soy_tree.specs.ViewValues.{view_value}
@@ -16,10 +18,13 @@ use Rattle.soy_pieces.specs.Pieces.{listed_items}
 use Rattle.template_ir.specs.declared.program.ProgramParts.{ProgramParts}
 use Rattle.render_core.specs.Frames.{items_after}
 use Rattle.render_core.specs.Variables.{Cell, cells_of, held_means, kept_means, path_value}
+use Rattle.render_core.specs.declared.fields.FieldPart.{FieldPart}
 use Rattle.render_core.specs.declared.held.Bound.{Bound}
 use Rattle.render_core.specs.declared.held.Held.{Held}
 use Rattle.render_core.specs.declared.held.Held.TheVariants as held
 use Rattle.render_core.specs.declared.held.Kept.{Kept}
+use Rattle.render_core.specs.declared.held.Path.{Path}
+use Rattle.render_core.specs.declared.held.Path.TheVariants as path
 use Rattle.render_core.specs.declared.valuing.Found.{Found}
 use Rattle.render_core.specs.declared.valuing.Found.TheVariants as found
 
@@ -46,10 +51,16 @@ found_means p cells (found.Made made) = Known (view_made made)
 found_means p cells (found.Part path) = Known (path_value cells path)
 found_means p cells (found.Block kept) = BlockOf (kept_means p cells kept)
 
+-- what a variable is bound to that is the part that a path names
+abbrev pub held_part : Path → Held
+held_part (path.Whole of) = held.Part (path.Whole of)
+held_part (path.Child of number) = held.Item of number
+held_part (path.Deep of steps) = held.Part (path.Deep of steps)
+
 -- what a variable is bound to that has this value
 abbrev pub held_of : Found → Held
 held_of (found.Made made) = held.Made made
-held_of (found.Part path) = held.Part path
+held_of (found.Part way) = held_part way
 held_of (found.Block kept) = held.Block kept
 
 -- a block names variables of which there are so many
@@ -66,6 +77,17 @@ abbrev pub HasItem : ℕ → Value → Bool → Type 0
 HasItem n v true = (w : Value) × (vs : Items) × (items_after n (listed_items v) ≡ item w vs) × (w ≡ child n v)
 HasItem n v false = items_after n (listed_items v) ≡ no_item
 
+-- a field of a variable that has this value
+abbrev pub IsFieldValue : List Cell → Value → FieldPart → Type 0
+IsFieldValue cells v f =
+    (v ≡ path_value cells (path.Child f.at f.number)) × (view_value f.value.now ≡ v)
+
+-- the field of a variable that an expression of this value and this cost is
+abbrev pub IsField : List Cell → Binding BoundBlock → ℕ → FieldPart → Type 0
+IsField cells b spent f =
+    (b ≡ Known (view_value f.value.now)) × (spent ≡ 2)
+    × (view_value f.value.now ≡ path_value cells (path.Child f.at f.number))
+
 -- a value of this cost
 abbrev pub Finds : ProgramParts → List Cell → ℕ → Binding BoundBlock → ℕ → ℕ → ℕ → Result Found OutOfMemory → Type 0
 Finds p cells n b spent before after (Ok f) =
@@ -78,6 +100,11 @@ IsPlain (Variable name span) = ⊥
 IsPlain (Coalesce a b span) = ⊥
 IsPlain (Conditional c a b span) = ⊥
 IsPlain _ = Unit {0}
+
+-- whether an expression is the variable of this name
+abbrev pub IsVariable : Expr → Option Name → Type 0
+IsVariable e (Some name) = (span : Span) × (e ≡ Variable name span)
+IsVariable e None = Unit {0}
 
 -- which block is taken, and what was valued to know it
 abbrev pub Takes : {A : Type 0} → A × ℕ → ℕ → ℕ → Result A OutOfMemory → Type 0

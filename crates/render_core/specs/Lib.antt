@@ -4,6 +4,7 @@ pub mod Chosen
 pub mod Finds
 pub mod Forms
 pub mod Frames
+pub mod Ints
 pub mod Keys
 pub mod Linked
 pub mod Pulls

@@ -47,7 +47,7 @@ is_sought p b name =
 
 -- a variable, of which it isn't said which links it has
 abbrev pub bound_over : Naming → Held → ℕ → Bound
-bound_over name to below = record { name = name; to = to; below = below; links = links.Few 0 }
+bound_over name to below = record { name = name; to = to; below = below; links = links.Few 0 0 }
 
 -- one more variable, with some links
 pub record Adds (p : ProgramParts) (b : Bound) (old new : List Bound) : Type 0 where

@@ -1,8 +1,10 @@
 -- How something that was found is printed: a value by its text and its class, or a block.
-use Rattle.std.specs.Prelude.{◌≡◌, ℕ, ◌≤◌, List, encode_utf8_all, pos}
+use Rattle.std.specs.Prelude.{◌≡◌, ℕ, ◌+◌, ◌≤◌, List, Result, Ok, Err, encode_utf8_all, pos}
 use Rattle.std.specs.Str.{chars}
+use Rattle.soy_base.specs.declared.memory.OutOfMemory.{OutOfMemory}
 use Rattle.soy_base.specs.declared.place.ValueClass.{ValueClass}
 use Rattle.soy_rules.specs.Val.{Binding, BlockOf, Known, value_text}
+use Rattle.soy_expr.specs.Evaluates.{IsWithin}
 use Rattle.soy_tree.specs.Values.{Value}
 use Rattle.soy_pieces.specs.Giving.{BoundBlock, value_class}
 use Rattle.template_ir.specs.declared.program.ProgramParts.{ProgramParts}
@@ -39,6 +41,11 @@ abbrev pub Shows : ProgramParts → List Cell → ℕ → Binding BoundBlock →
 Shows p cells n (Known v) (shown.Value text class) = ShowsValue v (print_text cells text) class
 Shows p cells n (BlockOf block) (shown.Block kept) = (kept_means p cells kept ≡ block) × (kept.env ≤ n)
 Shows p cells n _ _ = ⊥
+
+-- how a value of this cost is printed
+abbrev pub Prints : ProgramParts → List Cell → ℕ → Binding BoundBlock → ℕ → ℕ → ℕ → Result Shown OutOfMemory → Type 0
+Prints p cells n b spent before after (Ok s) = Shows p cells n b s × (after ≡ before + spent)
+Prints p cells n b spent before after (Err e) = IsWithin spent before after
 
 -- the frame of a block that is printed over so many variables
 abbrev pub kept_child : Kept → ℕ → Ahead

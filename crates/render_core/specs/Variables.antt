@@ -130,7 +130,7 @@ held_means p input cells held.Root = Known input
 held_means p input cells (held.Item of number) = Known (child number (cell_at cells of).part)
 held_means p input cells (held.Part path) = Known (path_value cells path)
 
--- from those before it; it isn't visible where it has the key of another name
+-- from those before it; it isn't visible where it has the fingerprint or the key of another name
 abbrev pub bound_means : ProgramParts → Value → List Cell → Bound → Cell
 bound_means p input cells b =
     record {

@@ -25,7 +25,7 @@ use escapers::{Escaper, escape, escaper_for};
 use soy_base::{Dir, OutOfMemory, Place, Text, ValueClass};
 use soy_tree::Value;
 use template_ir::{Op, ProgramParts};
-use value_cursor::Cursor;
+use value_cursor::{Cursor, give_whole};
 
 /// The text of the static op at a place, from one offset up to its end.
 #[derive(Clone, Copy, Debug)]
@@ -126,6 +126,7 @@ pub(crate) fn static_bytes(program: &ProgramParts, at: usize) -> &[u8]
 }
 
 /// Copies what fits of the bytes from an offset on.
+#[inline(always)]
 fn copy_from(bytes: &[u8], from: usize, room: &mut [u8]) -> usize
     requires { from ≤ length bytes.now }
     ensures size { result ≡ min (length room.old) (length (drop from bytes.now)) }
@@ -148,6 +149,7 @@ fn escaper_at(place: Place, class: ValueClass) -> Option<Escaper>
 }
 
 /// Gives the first bytes of the static text of the op at a place, and answers their number. What is left has begun.
+#[inline(always)]
 pub(crate) fn give_fixed(
     at: usize,
     text: &Text,
@@ -222,6 +224,35 @@ fn give_made(
         (output room.old room.new piece.new) n) }
     ensures refused { OnErr result (IsSpared (output room.old room.new piece.new)) }
 {
+    match give_whole(how, class, text.text(), dir, room) {
+        Some(n) => {
+            drop(text);
+            Ok(n)
+        }
+        None => begin_made(point, how, _place, class, dir, text, room, piece),
+    }
+}
+
+/// Gives the form by a cursor, which goes on with what the room doesn't take.
+#[inline(never)]
+fn begin_made(
+    point: Point,
+    how: Escaper,
+    _place: Place,
+    class: ValueClass,
+    dir: Dir,
+    text: Text,
+    room: &mut [u8],
+    piece: &mut Option<Begun>,
+) -> Result<usize, OutOfMemory>
+    requires escapes { EscapesAt _place class (Some how) }
+    requires none { piece.old ≡ None }
+    ensures given { IfOk result (λ n.
+        Given (program_seen point.entry) (input_seen point.entry) point.entry.bound.now
+        (encode_utf8_all (form_at _place class text dir))
+        (output room.old room.new piece.new) n) }
+    ensures refused { OnErr result (IsSpared (output room.old room.new piece.new)) }
+{
     let mut cursor = match Cursor::begin(point.scene.alloc, how, class, text.text(), dir) {
         Ok(cursor) => cursor,
         Err(_) => {
@@ -243,6 +274,38 @@ fn give_made(
 /// The same of a string of the data.
 #[inline(always)]
 fn give_part(
+    point: Point,
+    how: Escaper,
+    _place: Place,
+    class: ValueClass,
+    dir: Dir,
+    path: Path,
+    text: &str,
+    room: &mut [u8],
+    piece: &mut Option<Begun>,
+) -> Result<usize, OutOfMemory>
+    requires characters { chars text.now ≡ string_text (path_value (cells_seen point) path) }
+    requires bytes { text.now ≡ encode_utf8_all (string_text (path_value (cells_seen point) path)) }
+    requires escapes { EscapesAt _place class (Some how) }
+    requires none { piece.old ≡ None }
+    ensures given { IfOk result (λ n.
+        Given (program_seen point.entry) (input_seen point.entry) point.entry.bound.now
+        (encode_utf8_all (form_at _place class (string_text (path_value (cells_seen point.entry) path)) dir))
+        (output room.old room.new piece.new) n) }
+    ensures refused { OnErr result (IsSpared (output room.old room.new piece.new)) }
+{
+    match give_whole(how, class, text, dir, room) {
+        Some(n) => {
+            drop(path);
+            Ok(n)
+        }
+        None => begin_part(point, how, _place, class, dir, path, text, room, piece),
+    }
+}
+
+/// Gives the form by a cursor, which goes on with what the room doesn't take.
+#[inline(never)]
+fn begin_part(
     point: Point,
     how: Escaper,
     _place: Place,

@@ -16,8 +16,9 @@ ghost use Rattle.render_core.specs.Finds.{Takes};
 ghost use Rattle.render_core.specs.Seen.{env_seen};
 
 use crate::begun::no_text;
+use crate::ints::int_at_hand;
 use crate::parts::Point;
-use crate::valuing::is_truthy;
+use crate::truth::is_truthy;
 use plural_rules::Category;
 use soy_base::{OutOfMemory, Steps};
 use soy_expr::{Shallow, evaluate, is_same};
@@ -94,8 +95,26 @@ pub(crate) fn select_taken<L: Ledger>(
 }
 
 /// The int that an expression has, or 0.
-#[tactic(auto, using(crate::proofs::Choices::int_shallow, crate::proofs::Choices::same_valued, crate::proofs::Finds::same_cost))]
 pub(crate) fn int_value<L: Ledger>(
+    point: Point,
+    number: &Expr,
+    steps: &mut Steps<L>,
+) -> Result<i64, OutOfMemory>
+    ensures { Takes (
+      int_of (valued (view_expr number.now) (env_seen point.entry)),
+      cost (view_expr number.now) (env_seen point.entry),
+    ) steps.old steps.new result }
+{
+    match int_at_hand(point, number, steps) {
+        Some(int) => Ok(int),
+        None => evaluated_int(point, number, steps),
+    }
+}
+
+/// The int that any expression has, or 0.
+#[inline(never)]
+#[tactic(auto, using(crate::proofs::Choices::int_shallow, crate::proofs::Choices::same_valued, crate::proofs::Finds::same_cost))]
+fn evaluated_int<L: Ledger>(
     point: Point,
     number: &Expr,
     steps: &mut Steps<L>,

@@ -9,8 +9,10 @@
 mod begun;
 mod binding;
 mod choosing;
+mod fields;
 mod frame;
 mod held;
+mod ints;
 mod links;
 mod machine;
 mod names;
@@ -25,6 +27,7 @@ mod step_let;
 mod step_loop;
 mod step_print;
 mod texts;
+mod truth;
 mod valuing;
 mod variable_stack;
 

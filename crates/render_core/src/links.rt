@@ -1,15 +1,17 @@
 //! From where the search for a variable goes on past another.
 
-ghost use Rattle.std.specs.Prelude.{◌≡◌, ◌<◌, option_map};
-ghost use Rattle.render_core.specs.Keys.{agreed, key_of, level_of, levels_of, lowered, mixed, next_of};
+ghost use Rattle.std.specs.Prelude.{◌≡◌, ◌<◌, option_map, slice_index_or};
+ghost use Rattle.render_core.specs.Keys.{agreed, bytes_fingerprint, fingerprint_of, fits_key, key_of, level_of};
+ghost use Rattle.render_core.specs.Keys.{levels_of, lowered, mixed, next_of};
 
 use soy_base::{Boxed, Text};
 
 /// From where the search for a variable goes on past another.
 #[derive(Drop)]
 pub(crate) enum Links {
-    /// Past one of few that are visible, from the next below it; so many are visible from it down.
-    Few(u8),
+    /// Past one of few that are visible, from the next below it; so many are visible from it down. The other number is
+    /// the fingerprint of its name.
+    Few(u8, u32),
     /// Past one of many, by the keys of both names.
     Many(Boxed<Levels>),
 }
@@ -31,6 +33,33 @@ pub(crate) fn key_of(name: &Text) -> u64
     let first = bytes.split_at(bytes.len().min(16)).0;
     let last = bytes.split_at(bytes.len().saturating_sub(16)).1;
     mixed(mixed(0, first), last)
+}
+
+/// The fingerprint of a name.
+pub(crate) fn fingerprint_of(name: &Text) -> u32
+    ensures { result ≡ fingerprint_of name.now }
+{
+    bytes_fingerprint(name.text().as_bytes())
+}
+
+/// The fingerprint of the bytes of a name.
+fn bytes_fingerprint(bytes: &[u8]) -> u32
+    ensures { result ≡ bytes_fingerprint bytes.now }
+{
+    let first = byte_at(bytes, 0);
+    let last = byte_at(bytes, bytes.len().saturating_sub(1));
+    (bytes.len() % 256) as u32 * 65536 + first * 256 + last
+}
+
+/// The byte at a place, or 0.
+fn byte_at(bytes: &[u8], at: usize) -> u32
+    ensures byte { result ≡ slice_index_or bytes.now at 0 }
+    ensures low { result < 256 }
+{
+    match bytes.get(at) {
+        Some(byte) => u32::from(*byte),
+        None => 0,
+    }
 }
 
 /// A key that more bytes are mixed into.
@@ -77,8 +106,19 @@ impl Links {
         ensures { option_map (λ l. l.now) result ≡ levels_of self.now }
     {
         match self {
-            Links::Few(_) => None,
+            Links::Few(_, _) => None,
             Links::Many(levels) => Some(levels.get()),
+        }
+    }
+
+    /// Whether the fingerprint or the key is that of a name with this key.
+    pub(crate) fn fits(&self, name: &Text, key: u64) -> bool
+        requires { key ≡ key_of name.now }
+        ensures { result ≡ fits_key self.now name.now }
+    {
+        match self {
+            Links::Few(_, fingerprint) => *fingerprint == fingerprint_of(name),
+            Links::Many(levels) => levels.get().key == key,
         }
     }
 
@@ -87,7 +127,7 @@ impl Links {
         ensures { result ≡ next_of self.now below key }
     {
         match self {
-            Links::Few(_) => below,
+            Links::Few(_, _) => below,
             Links::Many(levels) => {
                 let levels = levels.get();
                 levels.at(agreed(levels.key, key))

@@ -46,9 +46,39 @@ impl Machine {
         }
     }
 
-    /// One step, which may give bytes into the room.
-    #[tactic(auto, using(crate::proofs::Gives::quiet_step))]
+    /// One step, which may give bytes into the room. Static texts and prints, as most ops are, are looked for first.
+    #[inline(always)]
     fn step<L: Ledger>(
+        &mut self,
+        scene: &Scene,
+        room: &mut [u8],
+        piece: &mut Option<Begun>,
+        steps: &mut Steps<L>,
+    ) -> Result<Step, OutOfMemory>
+        requires fits { MachineFits self.old }
+        requires none { piece.old ≡ None }
+        ensures stepped { SteppedInto scene.now.program.now (view_value scene.now.input.now) self.old self.new steps.old
+            steps.new (output room.old room.new piece.new) result }
+        ensures spares { Spares (output room.old room.new piece.new) result }
+    {
+        if let Frame::Ops(ahead) = self.top {
+            if let Some(op) = op_before(scene.program, ahead) {
+                match op {
+                    Op::Static(text) => return self.step_static(scene, ahead, text, room, piece),
+                    Op::Print(expr, place) => {
+                        return self.step_print(scene, ahead, expr, *place, room, piece, steps);
+                    }
+                    _ => {}
+                }
+            }
+        }
+        self.step_frame(scene, room, piece, steps)
+    }
+
+    /// A step of any frame.
+    #[inline(never)]
+    #[tactic(auto, using(crate::proofs::Gives::quiet_step))]
+    fn step_frame<L: Ledger>(
         &mut self,
         scene: &Scene,
         room: &mut [u8],
@@ -82,6 +112,7 @@ impl Machine {
     }
 
     /// One op.
+    #[inline(never)]
     #[tactic(auto, using(crate::proofs::Gives::quiet_step))]
     fn step_op<L: Ledger>(
         &mut self,

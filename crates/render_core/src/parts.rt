@@ -3,23 +3,25 @@
 ghost use Rattle.std.specs.Prelude.{◌≡◌, [], IfOk, option_map, slice_get};
 ghost use Rattle.soy_rules.specs.Val.{Known, binding, item_value};
 ghost use Rattle.soy_tree.specs.ViewValues.{view_entries, view_items, view_value};
+ghost use Rattle.template_ir.specs.declared.program.ProgramParts as code_parts;
 ghost use Rattle.soy_expr.specs.ForgottenBlocks.{forgotten};
 ghost use Rattle.soy_expr.specs.Parts.{child, nth_entry_value};
 ghost use Rattle.soy_expr.specs.ViewEvaluated.{IsBinding};
 ghost use Rattle.render_core.specs.Finds.{binding_at, part_value, place_binding};
-ghost use Rattle.render_core.specs.Keys.{key_of};
+ghost use Rattle.render_core.specs.Keys.{fingerprint_of, fits_key, key_of};
 ghost use Rattle.render_core.specs.Linked.{is_sought};
 ghost use Rattle.render_core.specs.Seen.{cells_seen, env_seen, input_seen, program_seen};
 ghost use Rattle.render_core.specs.Variables.{cell_at, cells_of, env_at, led, path_of, path_steps, path_value};
 
 use crate::held::{Bound, Held, Path};
-use crate::links::{Links, key_of, lowered};
+use crate::links::{Links, fingerprint_of, key_of, lowered};
 use crate::names::is_named;
 use crate::scene::Scene;
 use crate::variable_stack::VariableStack;
 use soy_base::{OutOfMemory, Text};
 use soy_expr::{Evaluated, Made, Variables};
 use soy_tree::{Entry, Value};
+use template_ir::ProgramParts;
 
 /// Where expressions are valued: what a pull is lent, all variables, and the number of those that are visible.
 #[derive(Clone, Copy)]
@@ -141,22 +143,48 @@ pub(crate) fn copied_path(point: Point, path: &Path) -> Result<Path, OutOfMemory
     }
 }
 
-/// The place of the first variable of a name, of those that are visible.
-#[tactic(auto, using(crate::proofs::Finds::found_first, crate::proofs::Finds::found_next, crate::proofs::Finds::found_none))]
+/// The place of the first variable of a name, of those that are visible. The first of them, as the item of a loop
+/// mostly is in its body, is looked at by itself.
+#[tactic(auto, using(crate::proofs::Finds::found_here, crate::proofs::Finds::found_next, crate::proofs::Finds::found_none, crate::proofs::Sought::few_fits))]
 pub(crate) fn place_of(point: Point, name: &Text) -> Option<usize>
     ensures { place_binding (program_seen point.entry) (input_seen point.entry) point.entry.bound.now result
         ≡ binding name.now
         (env_seen point.entry) }
 {
-    let mut number = point.env;
+    let number = point.env;
+    if number == 0 {
+        return None;
+    }
+    let Some(variable) = variable_at(point.bound, number - 1) else {
+        return None;
+    };
+    let Links::Few(_, own) = &variable.links else {
+        return place_by_links(point, name, number, key_of(name));
+    };
+    let fingerprint = fingerprint_of(name);
+    if is_sought(point.scene.program, variable, name, *own == fingerprint) {
+        return Some(number - 1);
+    }
+    place_below(point, name, lowered(number, variable.below), fingerprint)
+}
+
+/// The place of the first variable of a name, of the variables of a number, by the fingerprint of the name.
+#[inline(never)]
+#[tactic(auto, using(crate::proofs::Finds::found_here, crate::proofs::Finds::found_next, crate::proofs::Finds::found_none, crate::proofs::Sought::few_fits))]
+fn place_below(point: Point, name: &Text, from: usize, fingerprint: u32) -> Option<usize>
+    requires { fingerprint ≡ fingerprint_of name.now }
+    ensures { place_binding (program_seen point.entry) (input_seen point.entry) point.entry.bound.now result
+        ≡ binding name.now (env_at (cells_seen point.entry) from) }
+{
+    let mut number = from;
     while number > 0 {
         let Some(variable) = variable_at(point.bound, number - 1) else {
             return None;
         };
-        let Links::Few(_) = &variable.links else {
+        let Links::Few(_, own) = &variable.links else {
             return place_by_links(point, name, number, key_of(name));
         };
-        if is_named(point.scene.program, variable.name, name) {
+        if is_sought(point.scene.program, variable, name, *own == fingerprint) {
             return Some(number - 1);
         }
         number = lowered(number, variable.below);
@@ -164,7 +192,8 @@ pub(crate) fn place_of(point: Point, name: &Text) -> Option<usize>
     None
 }
 
-/// The same of the variables of a number, by the key of the name.
+/// The place of the first variable of a name, of the variables of a number, by the key of the name.
+#[inline(never)]
 #[tactic(auto, using(crate::proofs::Finds::found_here, crate::proofs::Finds::found_below, crate::proofs::Finds::found_none))]
 fn place_by_links(point: Point, name: &Text, from: usize, key: u64) -> Option<usize>
     requires { key ≡ key_of name.now }
@@ -176,7 +205,8 @@ fn place_by_links(point: Point, name: &Text, from: usize, key: u64) -> Option<us
         let Some(variable) = point.bound.linked_at(number - 1) else {
             return None;
         };
-        if is_sought(point, variable, name, key) {
+        let fits = variable.links.fits(name, key);
+        if is_sought(point.scene.program, variable, name, fits) {
             return Some(number - 1);
         }
         number = lowered(number, variable.links.next(variable.below, key));
@@ -184,29 +214,37 @@ fn place_by_links(point: Point, name: &Text, from: usize, key: u64) -> Option<us
     None
 }
 
-/// Whether a variable is that of a name with this key.
-#[tactic(auto, using(crate::proofs::Sought::sought_few, crate::proofs::Sought::sought_key, crate::proofs::Sought::sought_other))]
-fn is_sought(point: Point, variable: &Bound, name: &Text, key: u64) -> bool
-    requires { key ≡ key_of name.now }
-    ensures { result ≡ is_sought (program_seen point.entry) variable.now name.now }
+/// Whether a variable is that of a name; `fits` says whether its fingerprint or key is that of the name.
+#[inline(always)]
+#[tactic(auto, using(crate::proofs::Sought::sought_fits, crate::proofs::Sought::sought_other))]
+fn is_sought(program: &ProgramParts, variable: &Bound, name: &Text, fits: bool) -> bool
+    requires { fits ≡ fits_key variable.now.links name.now }
+    ensures { result ≡ is_sought program.now variable.now name.now }
 {
-    match variable.links.levels() {
-        Some(levels) => levels.key == key && is_named(point.scene.program, variable.name, name),
-        None => is_named(point.scene.program, variable.name, name),
-    }
+    fits && is_named(program, variable.name, name)
 }
 
 /// The part of the data that the variable at a place is bound to, if it is bound to one.
+#[inline(always)]
 pub(crate) fn part_at<'i>(point: Point<'_, 'i, '_>, at: usize) -> Option<&'i Value>
     ensures { part_value result ≡ (cell_at (cells_seen point.entry) at).part }
 {
-    match variable_at(point.bound, at) {
+    bound_part(point.bound, point.scene.input, at)
+}
+
+/// The same under any program.
+#[inline(never)]
+fn bound_part<'i>(bound: &VariableStack, input: &'i Value, at: usize) -> Option<&'i Value>
+    ensures { (p : code_parts.ProgramParts) → part_value result
+        ≡ (cell_at (cells_of p (view_value input.now) bound.now) at).part }
+{
+    match variable_at(bound, at) {
         Some(variable) => match &variable.to {
             Held::Made(_) => None,
-            Held::Root => Some(point.scene.input),
+            Held::Root => Some(input),
             Held::Item(of, number) => {
                 if *of < at {
-                    child_of(part_at(point, *of), *number)
+                    child_of(bound_part(bound, input, *of), *number)
                 } else {
                     None
                 }
@@ -214,7 +252,7 @@ pub(crate) fn part_at<'i>(point: Point<'_, 'i, '_>, at: usize) -> Option<&'i Val
             Held::Part(path) => {
                 let root = root_of(path);
                 if root < at {
-                    followed_from(part_at(point, root), path)
+                    followed_from(bound_part(bound, input, root), path)
                 } else {
                     None
                 }
@@ -233,7 +271,7 @@ pub(crate) fn part_of<'i>(point: Point<'_, 'i, '_>, path: &Path) -> Option<&'i V
 }
 
 /// The item, entry or field of a number in a part, if there is one.
-fn child_of(part: Option<&Value>, number: usize) -> Option<&Value>
+pub(crate) fn child_of(part: Option<&Value>, number: usize) -> Option<&Value>
     ensures { part_value result ≡ child number (part_value part.entry) }
 {
     match part {

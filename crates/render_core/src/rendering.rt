@@ -2,14 +2,14 @@
 
 ghost use Rattle.std.specs.Prelude.{◌≡◌, ◌<◌, ◌≤◌, ◌++◌, ℕ, [], Some, false, true, IfOk, None, length, slice_get, take};
 ghost use Rattle.soy_tree.specs.ViewTrees.{view_params};
-ghost use Rattle.soy_tree.specs.ViewValues.{view_entries, view_value};
+ghost use Rattle.soy_tree.specs.ViewValues.{view_value};
 ghost use Rattle.soy_tree.specs.Values as values;
 ghost use Rattle.soy_pieces.specs.Outcome.{end_of_outcome, pieces_of_outcome};
 ghost use Rattle.template_ir.specs.Run.{run};
 ghost use Rattle.soy_pieces.specs.InputEnv.{input_env, names_of};
 ghost use Rattle.template_ir.specs.ViewOps.{view_program};
 ghost use Rattle.template_ir.specs.declared.program.ProgramParts.{ProgramParts};
-ghost use Rattle.render_core.specs.Begins.{EntryFound, FieldFound, HasRoot, entry_frame, held_field};
+ghost use Rattle.render_core.specs.Begins.{HasRoot, entry_frame, held_field};
 ghost use Rattle.render_core.specs.Pulls.{Fresh, Gave, Pulls, stops_at};
 ghost use Rattle.render_core.specs.Rest.{BegunFits, Fits, IsWhole, begun_left, has_ended};
 ghost use Rattle.render_core.specs.Rest.{rest_bytes, rest_end, rest_of, solid};
@@ -18,6 +18,7 @@ ghost use Rattle.render_core.specs.declared.frame.Frame.TheVariants as frame;
 ghost use Rattle.render_core.specs.declared.held.Naming.TheVariants as naming;
 
 use crate::begun::Begun;
+use crate::fields::field_number;
 use crate::frame::{Ahead, Frame};
 use crate::held::{Held, Naming};
 use crate::machine::left_of;
@@ -25,9 +26,9 @@ use crate::scene::Scene;
 use crate::stack::Machine;
 use crate::texts::Texts;
 use crate::variable_stack::VariableStack;
-use soy_base::{OutOfMemory, Refusal, Stack, Steps, Text, TooDeep};
+use soy_base::{OutOfMemory, Refusal, Stack, Steps, TooDeep};
 use soy_expr::Made;
-use soy_tree::{Entry, Param, Value};
+use soy_tree::{Param, Value};
 use std::alloc::Global;
 use std::sync::ledger::Ledger;
 use template_ir::{Block, Program, Routine};
@@ -74,9 +75,8 @@ impl Rendering {
             }) }
         ensures not_done { IfOk result (λ r. has_ended r ≡ false) }
     {
-        let mut bound = VariableStack::none(scene.alloc);
-        match bound.bind(scene, Naming::Hidden, Held::Root, 0) {
-            Ok(_) => Rendering::begin_over(scene, template, bound),
+        match all_data(scene) {
+            Ok(bound) => Rendering::begin_over(scene, template, bound),
             Err(_) => Err(OutOfMemory),
         }
     }
@@ -264,6 +264,7 @@ impl Rendering {
     }
 
     /// Gives bytes of the piece that has begun.
+    #[inline(never)]
     fn give(&mut self, scene: &Scene, room: &mut [u8]) -> usize
         requires { BegunFits scene.now.program.now (view_value scene.now.input.now) self.old.machine.bound
             self.old.piece }
@@ -284,6 +285,18 @@ impl Rendering {
         let n = piece.fill(self.machine.point(scene, 0), room);
         self.piece = left_of(piece);
         n
+    }
+}
+
+/// The variable that all data are bound to.
+#[tactic(auto, using(crate::proofs::Begins::root_first))]
+fn all_data(scene: &Scene) -> Result<VariableStack, OutOfMemory>
+    ensures { IfOk result (λ bound. HasRoot bound) }
+{
+    let mut bound = VariableStack::with_room(scene.alloc)?;
+    match bound.bind(scene, Naming::Hidden, Held::Root, 0) {
+        Ok(_) => Ok(bound),
+        Err(_) => Err(OutOfMemory),
     }
 }
 
@@ -324,32 +337,4 @@ fn held_field(field: Option<usize>) -> Held
         Some(number) => Held::Item(0, number),
         None => Held::Made(Made::Null),
     }
-}
-
-/// The number of the first field of a name.
-fn field_number(input: &Value, name: &Text) -> Option<usize>
-    ensures { FieldFound name.now (view_value input.now) result }
-{
-    match input {
-        Value::Null => None,
-        Value::Bool(_) => None,
-        Value::Int(_) => None,
-        Value::Str(_) => None,
-        Value::List(_) => None,
-        Value::Map(_) => None,
-        Value::Fields(entries) => entry_number(entries.items(), name),
-    }
-}
-
-/// The number of the first entry of a name.
-#[tactic(auto, using(crate::proofs::Values::entry_found, soy_expr::proofs::PartRows::entry_passed))]
-fn entry_number(entries: &[Entry], name: &Text) -> Option<usize>
-    ensures { EntryFound name.now (view_entries entries.now) result }
-{
-    for (number, entry) in entries.iter().enumerate() {
-        if entry.name.is(name.text()) {
-            return Some(number);
-        }
-    }
-    None
 }

@@ -5,20 +5,24 @@ ghost use Rattle.std.specs.Fmt.{signed_decimal};
 ghost use Rattle.soy_expr.specs.Ascii.{is_ascii};
 ghost use Rattle.soy_expr.specs.ViewEvaluated.{view_made};
 ghost use Rattle.soy_expr.specs.ViewShallow.{view_shallow};
-ghost use Rattle.render_core.specs.Finds.{FoundWithin, found_means, part_value};
-ghost use Rattle.render_core.specs.Seen.{cells_seen, program_seen};
-ghost use Rattle.render_core.specs.Shows.{IsShownAtHand, Shows, ShowsValue};
-ghost use Rattle.soy_rules.specs.Val.{Known};
-ghost use Rattle.soy_tree.specs.Values.{IntValue};
-ghost use Rattle.render_core.specs.Variables.{path_value};
+ghost use Rattle.render_core.specs.Finds.{FoundWithin, IsField, binding_at, found_means, part_value};
+ghost use Rattle.render_core.specs.Seen.{cells_seen, env_seen, input_seen, program_seen};
+ghost use Rattle.render_core.specs.Shows.{IsShownAtHand, Prints, Shows, ShowsValue};
+ghost use Rattle.soy_rules.specs.Cost.{cost};
+ghost use Rattle.soy_rules.specs.Val.{Known, binding, val};
+ghost use Rattle.soy_tree.specs.Values.{IntValue, NullValue};
+ghost use Rattle.soy_tree.specs.ViewExpressions.{view_expr};
+ghost use Rattle.render_core.specs.Variables.{cell_at, path_value};
 
-use crate::held::{Kept, Path};
-use crate::parts::{Point, part_of};
-use crate::valuing::Found;
-use soy_base::{OutOfMemory, Text, ValueClass};
+use crate::fields::FieldPart;
+use crate::held::{Held, Kept, Path};
+use crate::parts::{Point, part_at, part_of, place_of, variable_at};
+use crate::valuing::{Found, lowered, value_of};
+use soy_base::{OutOfMemory, Steps, Text, ValueClass};
 use soy_expr::{Made, Shallow};
-use soy_tree::Value;
+use soy_tree::{Expr, ExprNode, Value};
 use std::alloc::Global;
+use std::sync::ledger::Ledger;
 
 /// Where the text of a printed value stands.
 #[derive(Drop)]
@@ -45,6 +49,155 @@ pub(crate) enum Shown<'i> {
     Block(Kept),
 }
 
+/// How the value of an expression is printed. Each node that is valued is a step.
+#[tactic(auto, using(crate::proofs::Shows::prints_shown))]
+pub(crate) fn how_printed<'i, L: Ledger>(
+    point: Point<'_, 'i, '_>,
+    expr: &Expr,
+    steps: &mut Steps<L>,
+) -> Result<Shown<'i>, OutOfMemory>
+    ensures prints { Prints (program_seen point.entry) (cells_seen point.entry) (length point.entry.bound.now)
+        (val (view_expr expr.now) (env_seen point.entry)) (cost (view_expr expr.now) (env_seen point.entry))
+        steps.old steps.new result }
+    ensures at_hand { IfOk result (λ s. IsShownAtHand (cells_seen point.entry) s) }
+{
+    match &expr.node {
+        ExprNode::Var(name) => {
+            steps.count();
+            shown_variable(point, name)
+        }
+        _ => printed_value(point, expr, steps),
+    }
+}
+
+/// How a field of a variable is printed that an expression is.
+#[inline(always)]
+#[tactic(auto, using(crate::proofs::Shows::prints_shown))]
+pub(crate) fn shown_field<'i, L: Ledger>(
+    point: Point<'_, 'i, '_>,
+    _expr: &Expr,
+    field: FieldPart<'i>,
+    steps: &mut Steps<L>,
+) -> Result<Shown<'i>, OutOfMemory>
+    requires { IsField (cells_seen point) (val (view_expr _expr.now) (env_seen point))
+        (cost (view_expr _expr.now) (env_seen point)) field }
+    ensures prints { Prints (program_seen point.entry) (cells_seen point.entry) (length point.entry.bound.now)
+        (val (view_expr _expr.now) (env_seen point.entry)) (cost (view_expr _expr.now) (env_seen point.entry))
+        steps.old steps.new result }
+    ensures at_hand { IfOk result (λ s. IsShownAtHand (cells_seen point.entry) s) }
+{
+    steps.count();
+    steps.count();
+    shown_part(
+        point,
+        Some(field.value),
+        Path::Child(field.at, field.number),
+    )
+}
+
+/// How the value of any expression is printed.
+#[inline(never)]
+#[tactic(auto, using(crate::proofs::Shows::prints_shown))]
+fn printed_value<'i, L: Ledger>(
+    point: Point<'_, 'i, '_>,
+    expr: &Expr,
+    steps: &mut Steps<L>,
+) -> Result<Shown<'i>, OutOfMemory>
+    ensures prints { Prints (program_seen point.entry) (cells_seen point.entry) (length point.entry.bound.now)
+        (val (view_expr expr.now) (env_seen point.entry)) (cost (view_expr expr.now) (env_seen point.entry))
+        steps.old steps.new result }
+    ensures at_hand { IfOk result (λ s. IsShownAtHand (cells_seen point.entry) s) }
+{
+    match value_of(point, expr, steps) {
+        Ok(found) => how_shown(point, found),
+        Err(_) => Err(OutOfMemory),
+    }
+}
+
+/// How a variable is printed, which is found but once.
+#[tactic(auto, using(crate::proofs::Shows::shows_same))]
+fn shown_variable<'i>(point: Point<'_, 'i, '_>, name: &Text) -> Result<Shown<'i>, OutOfMemory>
+    ensures shows { IfOk result (λ s. Shows (program_seen point.entry) (cells_seen point.entry)
+        (length point.entry.bound.now) (binding name.now (env_seen point.entry)) s) }
+    ensures at_hand { IfOk result (λ s. IsShownAtHand (cells_seen point.entry) s) }
+{
+    match place_of(point, name) {
+        Some(at) => shown_at(point, at),
+        None => shown_null(point),
+    }
+}
+
+/// How what the variable at a place is bound to is printed.
+#[tactic(auto, using(crate::proofs::Shows::shows_same, crate::proofs::Finds::bound_root, crate::proofs::Finds::bound_item, crate::proofs::Finds::bound_path))]
+fn shown_at<'i>(point: Point<'_, 'i, '_>, at: usize) -> Result<Shown<'i>, OutOfMemory>
+    ensures shows { IfOk result (λ s. Shows (program_seen point.entry) (cells_seen point.entry)
+        (length point.entry.bound.now)
+        (binding_at (program_seen point.entry) (input_seen point.entry) point.entry.bound.now at) s) }
+    ensures at_hand { IfOk result (λ s. IsShownAtHand (cells_seen point.entry) s) }
+{
+    match variable_at(point.bound, at) {
+        Some(variable) => match &variable.to {
+            Held::Made(made) => shown_made(point, made),
+            Held::Block(kept) => Ok(Shown::Block(lowered(*kept, at))),
+            Held::Root => shown_whole(point, at),
+            Held::Item(_, _) => shown_whole(point, at),
+            Held::Part(_) => shown_whole(point, at),
+        },
+        None => shown_null(point),
+    }
+}
+
+/// How the part of the data that the variable at a place is bound to is printed.
+fn shown_whole<'i>(point: Point<'_, 'i, '_>, at: usize) -> Result<Shown<'i>, OutOfMemory>
+    ensures shows { IfOk result (λ s. Shows (program_seen point.entry) (cells_seen point.entry)
+        (length point.entry.bound.now) (Known (cell_at (cells_seen point.entry) at).part) s) }
+    ensures at_hand { IfOk result (λ s. IsShownAtHand (cells_seen point.entry) s) }
+{
+    shown_part(point, part_at(point, at), Path::Whole(at))
+}
+
+/// How null is printed.
+fn shown_null<'i>(point: Point<'_, 'i, '_>) -> Result<Shown<'i>, OutOfMemory>
+    ensures shows { IfOk result (λ s. Shows (program_seen point.entry) (cells_seen point.entry)
+        (length point.entry.bound.now) (Known NullValue) s) }
+    ensures at_hand { IfOk result (λ s. IsShownAtHand (cells_seen point.entry) s) }
+{
+    shown_shallow(point, Shallow::Null)
+}
+
+/// How a value that was made is printed.
+#[tactic(auto, using(crate::proofs::Shows::shows_same))]
+fn shown_made<'i>(point: Point<'_, 'i, '_>, made: &Made) -> Result<Shown<'i>, OutOfMemory>
+    ensures shows { IfOk result (λ s. Shows (program_seen point.entry) (cells_seen point.entry)
+        (length point.entry.bound.now) (Known (view_made made.now)) s) }
+    ensures at_hand { IfOk result (λ s. IsShownAtHand (cells_seen point.entry) s) }
+{
+    shown_shallow(point, shallow_of(made))
+}
+
+/// A value that was made, as text is made of it.
+fn shallow_of(made: &Made) -> Shallow<'_>
+    ensures { view_shallow result ≡ view_made made.now }
+{
+    match made {
+        Made::Null => Shallow::Null,
+        Made::Bool(is) => Shallow::Bool(*is),
+        Made::Int(number) => Shallow::Int(*number),
+        Made::Str(text) => Shallow::Str(text),
+    }
+}
+
+/// How a value of which a text is made is printed.
+#[inline(never)]
+fn shown_shallow<'i>(point: Point<'_, 'i, '_>, value: Shallow) -> Result<Shown<'i>, OutOfMemory>
+    ensures shows { IfOk result (λ s. Shows (program_seen point.entry) (cells_seen point.entry)
+        (length point.entry.bound.now) (Known (view_shallow value.entry)) s) }
+    ensures at_hand { IfOk result (λ s. IsShownAtHand (cells_seen point.entry) s) }
+{
+    let (text, class) = text_of(point.scene.alloc, value)?;
+    Ok(Shown::Value(Print::Made(text), class))
+}
+
 /// How a value is printed.
 pub(crate) fn how_shown<'i>(
     point: Point<'_, 'i, '_>,
@@ -65,9 +218,11 @@ pub(crate) fn how_shown<'i>(
     }
 }
 
-#[tactic(auto, using(crate::proofs::Shows::shows_seen))]
+/// How a part of the data is printed.
+#[inline(always)]
+#[tactic(auto, using(crate::proofs::Shows::shows_same, crate::proofs::Shows::shows_shallow))]
 fn shown_part<'i>(
-    point: Point,
+    point: Point<'_, 'i, '_>,
     part: Option<&'i Value>,
     path: Path,
 ) -> Result<Shown<'i>, OutOfMemory>
@@ -83,13 +238,11 @@ fn shown_part<'i>(
         )),
         Some(value) => {
             drop(path);
-            let (text, class) = text_of(point.scene.alloc, Shallow::of_value(value))?;
-            Ok(Shown::Value(Print::Made(text), class))
+            shown_shallow(point, Shallow::of_value(value))
         }
         None => {
             drop(path);
-            let (text, class) = text_of(point.scene.alloc, Shallow::Null)?;
-            Ok(Shown::Value(Print::Made(text), class))
+            shown_null(point)
         }
     }
 }

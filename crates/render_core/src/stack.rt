@@ -140,7 +140,7 @@ impl Machine {
     }
 
     /// Gives a value, and goes on with another frame.
-    #[inline(always)]
+    #[inline(never)]
     pub(crate) fn give_value(
         &mut self,
         scene: &Scene,
@@ -181,7 +181,23 @@ impl Machine {
         }
     }
 
+    /// Goes past the op at hand.
+    #[inline(always)]
+    pub(crate) fn pass(&mut self, ahead: Ahead)
+        requires top { self.old.top ≡ frame.Ops ahead }
+        requires low { ahead.at < ahead.end }
+        ensures top { self.new.top ≡ frame.Ops (past ahead) }
+        ensures below { self.new.below ≡ self.old.below }
+        ensures texts { self.new.texts ≡ self.old.texts }
+        ensures bound { self.new.bound ≡ self.old.bound }
+    {
+        if let Frame::Ops(now) = &mut self.top {
+            now.at = ahead.at + 1;
+        }
+    }
+
     /// Adds to the innermost text, and goes on with another frame.
+    #[inline(never)]
     fn gather_more(&mut self, next: Frame, more: &Text) -> Result<Step, OutOfMemory>
         requires { is_none self.old.texts ≡ false }
         ensures gave { (p : code_parts.ProgramParts) (input : values.Value) (out : Output) →
@@ -198,6 +214,7 @@ impl Machine {
     }
 
     /// Gives the static text of the op at a place, and goes past it.
+    #[inline(always)]
     pub(crate) fn step_static(
         &mut self,
         scene: &Scene,
@@ -216,13 +233,14 @@ impl Machine {
         ensures spares { Spares (output room.old room.new piece.new) result }
     {
         if text.is_empty() {
-            self.top = Frame::Ops(past(ahead));
+            self.pass(ahead);
             return Ok(Step::Silent);
         }
         self.give_static(ahead, text, room, piece)
     }
 
     /// Gives the static text of the op at a place, and goes past it.
+    #[inline(always)]
     fn give_static(
         &mut self,
         ahead: Ahead,
@@ -230,6 +248,7 @@ impl Machine {
         room: &mut [u8],
         piece: &mut Option<Begun>,
     ) -> Result<Step, OutOfMemory>
+        requires top { self.old.top ≡ frame.Ops ahead }
         requires low { ahead.at < ahead.end }
         requires none { piece.old ≡ None }
         ensures gave { (p : code_parts.ProgramParts) (input : values.Value)
@@ -238,17 +257,29 @@ impl Machine {
             (output room.old room.new piece.new) result }
         ensures spares { Spares (output room.old room.new piece.new) result }
     {
-        let next = Frame::Ops(past(ahead));
         if self.texts.is_empty() {
             let n = give_fixed(ahead.at, text, room, piece);
-            self.top = next;
+            self.pass(ahead);
             Ok(Step::Gives(n))
         } else {
-            self.gather_more(next, text)
+            self.gather_static(ahead, text)
         }
     }
 
+    /// Adds a static text to the innermost text, and goes past its op.
+    #[inline(never)]
+    fn gather_static(&mut self, ahead: Ahead, text: &Text) -> Result<Step, OutOfMemory>
+        requires low { ahead.at < ahead.end }
+        requires some { is_none self.old.texts ≡ false }
+        ensures gave { (p : code_parts.ProgramParts) (input : values.Value) (out : Output) →
+            GaveForm p input self.old self.new (frame.Ops (past ahead)) text.now out result }
+        ensures silent { OnOk result (result ≡ Ok step.Silent) }
+    {
+        self.gather_more(Frame::Ops(past(ahead)), text)
+    }
+
     /// Leaves the frame on top, which gives nothing more.
+    #[inline(never)]
     pub(crate) fn leave(&mut self, scene: &Scene, mark: usize) -> Step
         requires mark { mark_of self.old.top ≡ mark }
         requires fits { MachineFits self.old }

@@ -50,6 +50,7 @@ impl Machine {
     }
 
     /// The next parameter of a call, or its opening.
+    #[inline(never)]
     #[tactic(auto, using(crate::proofs::Gives::quiet_step))]
     pub(crate) fn step_handing<L: Ledger>(
         &mut self,

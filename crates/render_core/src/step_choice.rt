@@ -18,6 +18,7 @@ use template_ir::{Block, Branch, Choice, PluralOp, SelectOp};
 
 impl Machine {
     /// An if.
+    #[inline(never)]
     pub(crate) fn step_if<L: Ledger>(
         &mut self,
         scene: &Scene,
@@ -45,6 +46,7 @@ impl Machine {
     }
 
     /// A switch.
+    #[inline(never)]
     pub(crate) fn step_switch<L: Ledger>(
         &mut self,
         scene: &Scene,
@@ -73,6 +75,7 @@ impl Machine {
     }
 
     /// A plural.
+    #[inline(never)]
     pub(crate) fn step_plural<L: Ledger>(
         &mut self,
         scene: &Scene,
@@ -104,6 +107,7 @@ impl Machine {
     }
 
     /// A select.
+    #[inline(never)]
     pub(crate) fn step_select<L: Ledger>(
         &mut self,
         scene: &Scene,

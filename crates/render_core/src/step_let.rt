@@ -26,6 +26,7 @@ use template_ir::Block;
 
 impl Machine {
     /// A let.
+    #[inline(never)]
     pub(crate) fn step_let<L: Ledger>(
         &mut self,
         scene: &Scene,
@@ -52,6 +53,7 @@ impl Machine {
     }
 
     /// A let of a block that isn't of kind text.
+    #[inline(never)]
     pub(crate) fn step_let_block(
         &mut self,
         scene: &Scene,
@@ -94,6 +96,7 @@ impl Machine {
     }
 
     /// A let of a block of kind text.
+    #[inline(never)]
     pub(crate) fn step_let_text(
         &mut self,
         scene: &Scene,
@@ -134,6 +137,7 @@ impl Machine {
     }
 
     /// The end of a text that was gathered: it is bound, and what it is for comes next.
+    #[inline(never)]
     pub(crate) fn step_gathered(
         &mut self,
         scene: &Scene,

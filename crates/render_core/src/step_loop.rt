@@ -25,6 +25,7 @@ use template_ir::{Block, Op, ProgramParts};
 
 impl Machine {
     /// A loop: its list is bound, and its turns come next.
+    #[inline(never)]
     pub(crate) fn step_for<L: Ledger>(
         &mut self,
         scene: &Scene,
@@ -85,6 +86,7 @@ impl Machine {
     }
 
     /// A turn of a loop, or its end.
+    #[inline(never)]
     pub(crate) fn step_turn(&mut self, scene: &Scene, round: Round) -> Result<Step, OutOfMemory>
         requires top { self.old.top ≡ frame.Turns round }
         requires fits { MachineFits self.old }

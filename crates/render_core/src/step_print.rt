@@ -6,20 +6,21 @@ ghost use Rattle.soy_tree.specs.ViewValues.{view_value};
 ghost use Rattle.soy_pieces.specs.Giving.{BoundBlock};
 ghost use Rattle.template_ir.specs.Run.{print_gives};
 ghost use Rattle.template_ir.specs.declared.op.Op.TheVariants as op;
+ghost use Rattle.render_core.specs.Forms.{form_at};
 ghost use Rattle.render_core.specs.Frames.{MachineFits, call_place, past, text_bound};
-ghost use Rattle.render_core.specs.Shows.{IsShownAtHand, Shows, kept_child};
-ghost use Rattle.render_core.specs.Stepping.{Does, IsSame, Spares, SteppedInto, output};
+ghost use Rattle.render_core.specs.Shows.{IsAtHand, IsShownAtHand, Shows, kept_child, print_text};
+ghost use Rattle.render_core.specs.Stepping.{Does, GaveForm, IsSame, Spares, SteppedInto, output};
 ghost use Rattle.render_core.specs.Variables.{cells_of};
 ghost use Rattle.render_core.specs.declared.frame.Frame.TheVariants as frame;
 
-use crate::begun::Begun;
+use crate::begun::{Begun, give_form};
+use crate::fields::field_part;
 use crate::frame::{Ahead, Frame};
 use crate::held::{Held, Kept};
 use crate::parts::variable_at;
 use crate::scene::Scene;
-use crate::showing::{Print, Shown, how_shown, text_of};
+use crate::showing::{Print, Shown, how_printed, shown_field, text_of};
 use crate::stack::{Machine, Step, past};
-use crate::valuing::value_of;
 use crate::variable_stack::VariableStack;
 use soy_base::{OutOfMemory, Place, Steps, Text, ValueClass};
 use soy_expr::{Made, Shallow};
@@ -28,6 +29,7 @@ use std::sync::ledger::Ledger;
 
 impl Machine {
     /// A print.
+    #[inline(never)]
     pub(crate) fn step_print<L: Ledger>(
         &mut self,
         scene: &Scene,
@@ -47,11 +49,39 @@ impl Machine {
             steps.new (output room.old room.new piece.new) result }
         ensures spares { Spares (output room.old room.new piece.new) result }
     {
-        let found = match value_of(self.point(scene, ahead.env), expr, steps) {
-            Ok(found) => found,
+        let point = self.point(scene, ahead.env);
+        let Some(field) = field_part(point, expr) else {
+            return self.print_any(scene, ahead, expr, place, room, piece, steps);
+        };
+        let shown = match shown_field(point, expr, field, steps) {
+            Ok(shown) => shown,
             Err(_) => return Err(OutOfMemory),
         };
-        let shown = match how_shown(self.point(scene, ahead.env), found) {
+        self.print_shown(scene, ahead, place, shown, room, piece)
+    }
+
+    /// The print of any expression.
+    #[inline(never)]
+    fn print_any<L: Ledger>(
+        &mut self,
+        scene: &Scene,
+        ahead: Ahead,
+        expr: &Expr,
+        place: Place,
+        room: &mut [u8],
+        piece: &mut Option<Begun>,
+        steps: &mut Steps<L>,
+    ) -> Result<Step, OutOfMemory>
+        requires top { self.old.top ≡ frame.Ops ahead }
+        requires fits { MachineFits self.old }
+        requires op { slice_get scene.now.program.now.ops ahead.at ≡ Some (op.Print expr.now place) }
+        requires low { ahead.at < ahead.end }
+        requires none { piece.old ≡ None }
+        ensures stepped { SteppedInto scene.now.program.now (view_value scene.now.input.now) self.old self.new steps.old
+            steps.new (output room.old room.new piece.new) result }
+        ensures spares { Spares (output room.old room.new piece.new) result }
+    {
+        let shown = match how_printed(self.point(scene, ahead.env), expr, steps) {
             Ok(shown) => shown,
             Err(_) => return Err(OutOfMemory),
         };
@@ -84,8 +114,7 @@ impl Machine {
     {
         match shown {
             Shown::Value(print, class) => {
-                let next = Frame::Ops(past(ahead));
-                self.give_value(scene, next, place, print, class, room, piece)
+                self.print_value(scene, ahead, place, print, class, room, piece)
             }
             Shown::Block(kept) => match self.enter_kept(ahead, kept) {
                 Ok(()) => Ok(Step::Silent),
@@ -94,7 +123,45 @@ impl Machine {
         }
     }
 
+    /// Gives a value, and goes past the op at hand.
+    #[inline(always)]
+    fn print_value(
+        &mut self,
+        scene: &Scene,
+        ahead: Ahead,
+        place: Place,
+        print: Print,
+        class: ValueClass,
+        room: &mut [u8],
+        piece: &mut Option<Begun>,
+    ) -> Result<Step, OutOfMemory>
+        requires top { self.old.top ≡ frame.Ops ahead }
+        requires low { ahead.at < ahead.end }
+        requires at_hand { IsAtHand
+            (cells_of scene.now.program.now (view_value scene.now.input.now) self.old.bound) print }
+        requires none { piece.old ≡ None }
+        ensures gave { GaveForm scene.now.program.now (view_value scene.now.input.now) self.old self.new
+            (frame.Ops (past ahead)) (form_at place class (print_text
+            (cells_of scene.now.program.now (view_value scene.now.input.now) self.old.bound) print.entry)
+            scene.now.program.now.dir) (output room.old room.new piece.new) result }
+        ensures spares { Spares (output room.old room.new piece.new) result }
+    {
+        if self.texts.is_empty() {
+            match give_form(self.point(scene, 0), place, print, class, room, piece) {
+                Ok(n) => {
+                    self.pass(ahead);
+                    Ok(Step::Gives(n))
+                }
+                Err(_) => Err(OutOfMemory),
+            }
+        } else {
+            let next = Frame::Ops(past(ahead));
+            self.give_value(scene, next, place, print, class, room, piece)
+        }
+    }
+
     /// Goes into a block that is printed, and past its print.
+    #[inline(never)]
     fn enter_kept(&mut self, ahead: Ahead, kept: Kept) -> Result<(), OutOfMemory>
         requires { ahead.at < ahead.end }
         ensures top { OnOk result (self.new.top ≡ frame.Ops (kept_child kept (length self.old.bound))) }
@@ -118,6 +185,7 @@ impl Machine {
     }
 
     /// `#`.
+    #[inline(never)]
     pub(crate) fn step_number(
         &mut self,
         scene: &Scene,
@@ -144,6 +212,7 @@ impl Machine {
     }
 
     /// The print of a text that was gathered.
+    #[inline(never)]
     pub(crate) fn step_show(
         &mut self,
         scene: &Scene,

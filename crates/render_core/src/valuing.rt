@@ -2,11 +2,12 @@
 
 ghost use Rattle.std.specs.Prelude.{◌≡◌, IfOk, length};
 ghost use Rattle.soy_rules.specs.Cost.{cost};
-ghost use Rattle.soy_rules.specs.Val.{binding, is_null, is_truthy, val};
+ghost use Rattle.soy_rules.specs.Val.{binding, is_null, val};
+ghost use Rattle.soy_tree.specs.Expressions.{Coalesce, Conditional};
 ghost use Rattle.soy_tree.specs.ViewExpressions.{view_expr};
 ghost use Rattle.soy_tree.specs.Values.{ListValue};
 ghost use Rattle.soy_tree.specs.ViewValues.{view_items, view_value};
-ghost use Rattle.render_core.specs.Finds.{Finds, FoundWithin, HasItem, IsPlain, Takes, binding_at, found_means};
+ghost use Rattle.render_core.specs.Finds.{Finds, FoundWithin, HasItem, IsPlain, binding_at, found_means};
 ghost use Rattle.render_core.specs.Finds.{lowered_to};
 ghost use Rattle.render_core.specs.Seen.{cells_seen, env_seen, input_seen, program_seen};
 ghost use Rattle.render_core.specs.Variables.{cell_at, cells_of, env_at};
@@ -15,6 +16,7 @@ use crate::held::{Held, Kept, Path};
 use crate::parts::{
     Point, copied, copied_path, item_at, part_at, part_of, place_of, root_of, variable_at, whole,
 };
+use crate::truth::is_truthy;
 use soy_base::{OutOfMemory, Steps, Text};
 use soy_expr::{Evaluated, Made, evaluate};
 use soy_tree::{Expr, ExprNode, Value};
@@ -29,6 +31,7 @@ pub(crate) enum Found {
 }
 
 /// The value of an expression, or which block it is. Each node that is valued is a step.
+#[cycle(valuing)]
 pub(crate) fn value_of<L: Ledger>(
     point: Point,
     expr: &Expr,
@@ -45,23 +48,9 @@ pub(crate) fn value_of<L: Ledger>(
             steps.count();
             variable(point, name)
         }
-        ExprNode::Coalesce(left, right) => {
-            steps.count();
-            let left = value_of(point, left.get(), steps)?;
-            if is_null(point, &left) {
-                drop(left);
-                value_of(point, right.get(), steps)
-            } else {
-                Ok(left)
-            }
-        }
+        ExprNode::Coalesce(left, right) => value_or(point, left.get(), right.get(), steps),
         ExprNode::Cond(when, left, right) => {
-            steps.count();
-            if is_truthy(point, when.get(), steps)? {
-                value_of(point, left.get(), steps)
-            } else {
-                value_of(point, right.get(), steps)
-            }
+            chosen_value(point, when.get(), left.get(), right.get(), steps)
         }
         ExprNode::Null => plain_value(point, expr, steps),
         ExprNode::Bool(_) => plain_value(point, expr, steps),
@@ -75,7 +64,59 @@ pub(crate) fn value_of<L: Ledger>(
     }
 }
 
+/// The value of an expression, or that of another where it is null.
+#[cycle(valuing)]
+#[inline(never)]
+fn value_or<L: Ledger>(
+    point: Point,
+    left: &Expr,
+    right: &Expr,
+    steps: &mut Steps<L>,
+) -> Result<Found, OutOfMemory>
+    ensures { Finds (program_seen point.entry)
+        (cells_seen point.entry) (length point.entry.bound.now)
+        (val (Coalesce (view_expr left.now) (view_expr right.now) left.now.span) (env_seen point.entry))
+        (cost (Coalesce (view_expr left.now) (view_expr right.now) left.now.span) (env_seen point.entry))
+        steps.old steps.new result }
+{
+    steps.count();
+    let first = value_of(point, left, steps)?;
+    if is_null(point, &first) {
+        drop(first);
+        value_of(point, right, steps)
+    } else {
+        Ok(first)
+    }
+}
+
+/// The value of an expression where a condition is truthy, and else that of another.
+#[cycle(valuing)]
+#[inline(never)]
+fn chosen_value<L: Ledger>(
+    point: Point,
+    when: &Expr,
+    left: &Expr,
+    right: &Expr,
+    steps: &mut Steps<L>,
+) -> Result<Found, OutOfMemory>
+    ensures { Finds (program_seen point.entry)
+        (cells_seen point.entry) (length point.entry.bound.now)
+        (val (Conditional (view_expr when.now) (view_expr left.now) (view_expr right.now) when.now.span)
+        (env_seen point.entry))
+        (cost (Conditional (view_expr when.now) (view_expr left.now) (view_expr right.now) when.now.span)
+        (env_seen point.entry))
+        steps.old steps.new result }
+{
+    steps.count();
+    if is_truthy(point, when, steps)? {
+        value_of(point, left, steps)
+    } else {
+        value_of(point, right, steps)
+    }
+}
+
 /// The value of an expression that is no block.
+#[inline(never)]
 #[tactic(auto, using(crate::proofs::Finds::plain_value, crate::proofs::Finds::plain_block, crate::proofs::Finds::same_cost))]
 fn plain_value<L: Ledger>(
     point: Point,
@@ -93,29 +134,6 @@ fn plain_value<L: Ledger>(
         Ok(Evaluated::Made(made)) => Ok(Found::Made(made)),
         Ok(Evaluated::Part(_, path)) => Ok(Found::Part(path)),
         Ok(Evaluated::Block) => Ok(Found::Made(Made::Null)),
-        Err(_) => Err(OutOfMemory),
-    }
-}
-
-/// Whether an expression is truthy.
-#[tactic(auto, using(crate::proofs::Finds::same_truth, crate::proofs::Finds::same_cost))]
-pub(crate) fn is_truthy<L: Ledger>(
-    point: Point,
-    expr: &Expr,
-    steps: &mut Steps<L>,
-) -> Result<bool, OutOfMemory>
-    ensures { Takes (
-      is_truthy (val (view_expr expr.now) (env_seen point.entry)),
-      cost (view_expr expr.now) (env_seen point.entry),
-    )
-        steps.old steps.new result }
-{
-    match evaluate(point.scene.alloc, expr, &point, steps) {
-        Ok(value) => {
-            let is = value.is_truthy();
-            drop(value);
-            Ok(is)
-        }
         Err(_) => Err(OutOfMemory),
     }
 }
@@ -167,7 +185,7 @@ fn bound_at(point: Point, at: usize) -> Result<Found, OutOfMemory>
 }
 
 /// A block of a variable at a place, which sees only the variables below it.
-fn lowered(kept: Kept, at: usize) -> Kept
+pub(crate) fn lowered(kept: Kept, at: usize) -> Kept
     ensures { result ≡ lowered_to at kept }
 {
     if kept.env > at {

@@ -9,7 +9,7 @@ ghost use Rattle.render_core.specs.declared.held.Bound as code_bound;
 
 use crate::held::{Bound, Held, Naming};
 use crate::links::{Levels, Links, agreed, lowered};
-use crate::names::name_key;
+use crate::names::{name_fingerprint, name_key};
 use crate::scene::Scene;
 use soy_base::{Boxed, OutOfMemory};
 use std::alloc::Global;
@@ -35,13 +35,12 @@ impl Model for VariableStack {
 }
 
 impl VariableStack {
-    /// No variables. Takes no memory.
-    pub(crate) fn none(alloc: Global) -> VariableStack
-        ensures { result ≡ [] }
+    /// No variables, with room for as many as most templates see at a time.
+    pub(crate) fn with_room(alloc: Global) -> Result<VariableStack, OutOfMemory>
+        ensures { IfOk result (λ s. s ≡ []) }
     {
-        VariableStack {
-            bound: Vec::new(alloc),
-        }
+        let bound = Vec::with_capacity(alloc, 32)?;
+        Ok(VariableStack { bound })
     }
 
     /// How many there are.
@@ -125,7 +124,7 @@ impl VariableStack {
         ensures leads { IfOk result (λ l. Leads self.now l below) }
     {
         match self.few(below) {
-            Some(count) => Ok(Links::Few(count)),
+            Some(count) => Ok(Links::Few(count, name_fingerprint(scene.program, name))),
             None => {
                 let key = name_key(scene.program, name);
                 let levels = self.levels(scene.alloc, key, below)?;
@@ -140,7 +139,7 @@ impl VariableStack {
             return Some(1);
         }
         match &self.at(below - 1)?.links {
-            Links::Few(count) => { if *count < 8 { Some(*count + 1) } else { None } }
+            Links::Few(count, _) => { if *count < 8 { Some(*count + 1) } else { None } }
             Links::Many(_) => None,
         }
     }

@@ -105,12 +105,12 @@ fn check_node(
             Ok(())
         }
         Form::Message(message, None) => {
-            check_body(alloc, around, &message.body, vars)?;
+            check_body(alloc, around, &message.get().body, vars)?;
             Ok(())
         }
         Form::Message(message, Some(other)) => {
-            check_body(alloc, around, &message.body, vars)?;
-            check_body(alloc, around, &other.body, vars)?;
+            check_body(alloc, around, &message.get().body, vars)?;
+            check_body(alloc, around, &other.get().body, vars)?;
             Ok(())
         }
     }

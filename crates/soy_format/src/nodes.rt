@@ -83,10 +83,12 @@ fn push_node(alloc: Global, out: &mut String, node: &Node) -> Result<(), OutOfMe
             push_call_close(out, given.items())
         }
         Form::Message(message, None) => {
-            push_message(alloc, out, "{msg", message)?;
+            push_message(alloc, out, "{msg", message.get())?;
             push_ascii(out, "{/msg}")
         }
-        Form::Message(message, Some(other)) => push_messages(alloc, out, message, other),
+        Form::Message(message, Some(other)) => {
+            push_messages(alloc, out, message.get(), other.get())
+        }
     }
 }
 

@@ -1,11 +1,8 @@
 use Rattle.std.proofs.Common.{subst, length}
 use Rattle.soy_tree.specs.ViewValues.{view_value}
 use Rattle.render_core.specs.Variables.{cells_of}
-use Rattle.render_core.specs.Forms.{form_at}
-use Rattle.render_core.specs.Shows.{Shows, print_text}
-use Rattle.render_core.specs.Stepping.{GaveForm, output}
-use Rattle.render_core.specs.declared.frame.Ahead.{Ahead}
-use Rattle.render_core.specs.declared.frame.Frame.TheVariants as frame
+use Rattle.render_core.specs.Shows.{Shows}
+use Rattle.render_core.specs.Stepping.{output}
 use Rattle.render_core.specs.declared.showing.Shown.{Shown}
 use Rattle.render_core.proofs.Gives.{block_prints, value_prints}
 use Rattle.render_core.proofs.stack.Machine.print_shown.Goals as goal
@@ -19,12 +16,9 @@ returns-in-Value-clause-does c b shows =
     let class = c.in-Value.class in
     let text = c.in-Value.print in
     let n = length old.bound in
-    let out = output c.args.room.now c.give_value.new.room c.give_value.new.piece in
-    value_prints p input old c.give_value.new.self f c.args.place text class n out c.give_value.result b c.requires.top
-    c.requires.fits
-    (subst (λ (g : Ahead). GaveForm p input old c.give_value.new.self (frame.Ops g)
-    (form_at c.args.place class (print_text (cells_of p input old.bound) text) p.dir) out c.give_value.result)
-    c.past.ensures c.give_value.ensures.gave)
+    let out = output c.args.room.now c.print_value.new.room c.print_value.new.piece in
+    value_prints p input old c.print_value.new.self f c.args.place text class n out c.print_value.result b
+    c.requires.top c.requires.fits c.print_value.ensures.gave
     (subst (λ (s : Shown). Shows p (cells_of p input old.bound) n b s) c.in-Value.is shows)
 
 pub returns-in-Ok-clause-does : goal.returns-in-Ok-clause-does

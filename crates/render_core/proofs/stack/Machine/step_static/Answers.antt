@@ -1,4 +1,4 @@
-use Rattle.std.proofs.Common.{Ok, refl, sym, ap, ◌∙◌, arith}
+use Rattle.std.proofs.Common.{Ok, sym, ap, ◌∙◌, arith}
 use Rattle.soy_tree.specs.ViewValues.{view_value}
 use Rattle.soy_pieces.specs.Giving.{RunEnv}
 use Rattle.template_ir.specs.declared.op.Op.TheVariants as op
@@ -6,8 +6,6 @@ use Rattle.render_core.specs.Variables.{cells_of, env_at}
 use Rattle.soy_base.specs.Piece.{Static}
 use Rattle.soy_pieces.specs.Outcome.{GivesPiece, Outcome, gives_nothing, none_spent, spent_first}
 use Rattle.template_ir.specs.Run.{one_step}
-use Rattle.render_core.specs.declared.frame.Frame.TheVariants as frame
-use Rattle.render_core.specs.declared.stack.Machine.{Machine}
 use Rattle.render_core.proofs.Moves.{into_none, silent_in}
 use Rattle.render_core.specs.Stepping.{output}
 use Rattle.render_core.specs.declared.stack.Step.TheVariants as step
@@ -23,13 +21,14 @@ returns-then-is_empty-clause-stepped c n =
     let f = c.args.ahead in
     let env : RunEnv = env_at (cells_of p input old.bound) f.env in
     let text = c.args.text.now in
-    let new : Machine = record old { top = frame.Ops c.past.result } in
+    let new = c.pass.new.self in
     quiet_step p input old new n n (output c.args.room.now c.args.room.now c.args.piece.now) (Ok step.Silent)
     (silent_in p input old new f (op.Static text) 0 gives_nothing n n c.requires.top c.requires.op c.requires.low
     (ap (λ (o : Outcome). (spent_first (one_step 0) o, env))
     (text_none text (sym c.is_empty.ensures ∙ c.if-is_empty.true)))
     (omega arith)
-    (into_none p input old new f c.requires.top c.requires.fits (ap frame.Ops c.past.ensures) refl refl refl))
+    (into_none p input old new f c.requires.top c.requires.fits c.pass.ensures.top c.pass.ensures.below
+    c.pass.ensures.texts c.pass.ensures.bound))
 
 pub returns-clause-stepped : goal.returns-clause-stepped
 returns-clause-stepped c n =

@@ -1,7 +1,7 @@
 use Rattle.std.proofs.Common.{◌≡◌, drop}
 use Rattle.soy_rules.specs.Has.{entry_value}
 use Rattle.soy_tree.specs.ViewValues.{view_entries}
-use Rattle.render_core.proofs.rendering.entry_number.Given as goal
+use Rattle.render_core.proofs.fields.entry_number.Given as goal
 
 abbrev pub invariant-loop-number : goal.invariant-loop-number
 invariant-loop-number l =

@@ -2,7 +2,7 @@ use Rattle.render_core.specs.Rest.{string_text}
 use Rattle.render_core.specs.Seen.{cells_seen, input_seen, program_seen}
 use Rattle.render_core.specs.Variables.{path_value}
 use Rattle.render_core.proofs.Givens.{form_whole}
-use Rattle.render_core.proofs.begun.give_part.Goals as goal
+use Rattle.render_core.proofs.begun.begin_part.Goals as goal
 
 pub returns-else-left-gt0-clause-given : goal.returns-else-left-gt0-clause-given
 returns-else-left-gt0-clause-given c =

@@ -1,0 +1,94 @@
+//! Fields of the data, by their names.
+
+ghost use Rattle.std.specs.Prelude.{◌≡◌, IfSome};
+ghost use Rattle.soy_rules.specs.Cost.{cost};
+ghost use Rattle.soy_rules.specs.Val.{Known, binding, member_value, operand, val};
+ghost use Rattle.soy_tree.specs.ViewExpressions.{view_expr};
+ghost use Rattle.soy_tree.specs.ViewValues.{view_entries, view_value};
+ghost use Rattle.render_core.specs.Begins.{EntryFound, FieldFound};
+ghost use Rattle.render_core.specs.Finds.{IsField, IsFieldValue, part_value};
+ghost use Rattle.render_core.specs.Seen.{cells_seen, env_seen};
+
+use crate::names::variable_of;
+use crate::parts::{Point, child_of, part_at, place_of};
+use soy_base::Text;
+use soy_tree::{Entry, Expr, ExprNode, Value};
+
+/// A field of what a variable is bound to: the place of the variable, the number of the field, and its value.
+#[derive(Clone, Copy)]
+pub(crate) struct FieldPart<'i> {
+    pub(crate) at: usize,
+    pub(crate) number: usize,
+    pub(crate) value: &'i Value,
+}
+
+/// The field of a variable that an expression is, as those of most prints are, if it is there.
+#[inline(always)]
+pub(crate) fn field_part<'i>(point: Point<'_, 'i, '_>, expr: &Expr) -> Option<FieldPart<'i>>
+    ensures { IfSome result (λ f. IsField (cells_seen point.entry) (val (view_expr expr.now) (env_seen point.entry))
+        (cost (view_expr expr.now) (env_seen point.entry)) f) }
+{
+    match &expr.node {
+        ExprNode::Member(of, field, _) => match variable_of(of.get()) {
+            Some(variable) => field_of_variable(point, variable, field),
+            None => None,
+        },
+        _ => None,
+    }
+}
+
+/// The field of a name of what the first variable of another name is bound to.
+#[inline(always)]
+#[tactic(auto, using(crate::proofs::Finds::field_there))]
+fn field_of_variable<'i>(
+    point: Point<'_, 'i, '_>,
+    variable: &Text,
+    field: &Text,
+) -> Option<FieldPart<'i>>
+    ensures { IfSome result (λ f. IsFieldValue (cells_seen point.entry)
+        (member_value field.now (operand (binding variable.now (env_seen point.entry)))) f) }
+{
+    let at = place_of(point, variable)?;
+    let whole = part_at(point, at);
+    let number = field_of(whole, field)?;
+    let value = child_of(whole, number)?;
+    Some(FieldPart { at, number, value })
+}
+
+/// The number of the first field of a name in a part, if there is one.
+pub(crate) fn field_of(part: Option<&Value>, name: &Text) -> Option<usize>
+    ensures { FieldFound name.now (part_value part.entry) result }
+{
+    match part {
+        Some(value) => field_number(value, name),
+        None => None,
+    }
+}
+
+/// The number of the first field of a name.
+pub(crate) fn field_number(input: &Value, name: &Text) -> Option<usize>
+    ensures { FieldFound name.now (view_value input.now) result }
+{
+    match input {
+        Value::Null => None,
+        Value::Bool(_) => None,
+        Value::Int(_) => None,
+        Value::Str(_) => None,
+        Value::List(_) => None,
+        Value::Map(_) => None,
+        Value::Fields(entries) => entry_number(entries.items(), name),
+    }
+}
+
+/// The number of the first entry of a name.
+#[tactic(auto, using(crate::proofs::Values::entry_found, soy_expr::proofs::PartRows::entry_passed))]
+fn entry_number(entries: &[Entry], name: &Text) -> Option<usize>
+    ensures { EntryFound name.now (view_entries entries.now) result }
+{
+    for (number, entry) in entries.iter().enumerate() {
+        if entry.name.is(name.text()) {
+            return Some(number);
+        }
+    }
+    None
+}
