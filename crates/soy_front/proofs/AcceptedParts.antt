@@ -14,16 +14,17 @@ use Rattle.soy_meaning.specs.Walks.Walk.{WalkFault, Walked}
 use Rattle.html_context.specs.ChosenTranslation.{chosen_translation}
 use Rattle.html_context.specs.Infers.{Infers, IsFaultOf}
 use Rattle.html_context.specs.declared.fault.PlaceFault.{PlaceFault}
-use Rattle.soy_front.specs.Accepted.{Brings, LanguageFault}
 use Rattle.soy_front.specs.Accepted.FirstFault.{OfFiles, OfLanguage}
 use Rattle.soy_front.specs.Accepted.LanguageFault.{Unread, Walk}
-use Rattle.soy_front.specs.Accepts.{Accepts, AcceptsLanguage, AreAcceptedAs, IsOfFiles, ReadsLanguage}
-use Rattle.soy_front.specs.Accepts.{RefusesBundleOf}
+use Rattle.soy_front.specs.Accepted.{Brings, LanguageFault}
+use Rattle.soy_front.specs.Accepts.{Accepts, AcceptsLanguage, AreAcceptedAs, ReadsLanguage, RefusesBundleOf}
 use Rattle.soy_front.specs.FilesAnswer.{files_answer}
+use Rattle.soy_front.specs.HasDetail.{IsOfFiles, without_detail}
 use Rattle.soy_front.specs.ReadsFiles.{ReadsFiles, view_files}
 use Rattle.soy_front.specs.declared.accepting.Language.{Language}
-use Rattle.soy_front.specs.declared.fault.FrontFault.{FrontFault}
+use Rattle.soy_front.specs.declared.fault.Detailed.{Detailed}
 use Rattle.soy_front.specs.declared.fault.FrontFault.TheVariants as front
+use Rattle.soy_front.specs.declared.fault.FrontFault.{FrontFault}
 use Rattle.soy_front.specs.declared.files.ReadFiles.{ReadFiles}
 use Rattle.soy_front.proofs.FilesLaws.{read_as, refused_as}
 
@@ -50,26 +51,30 @@ unread trees rows None fault refuses = absurd refuses
 unread trees rows (Some bytes) (front.Soy fault) refuses = absurd refuses
 unread trees rows (Some bytes) (front.Bundle fault) refuses = Unread bytes fault refl refuses
 
-pub language_unread : (trees : List Tree) (rows : List Listed) (bundle : Option (List ℕ)) (refusal : Refusal FrontFault)
-    → ReadsLanguage bundle rows (Err refusal) → AcceptsLanguage trees rows bundle (Err refusal)
-language_unread trees rows bundle (Because fault) is = unread trees rows bundle fault is
+pub language_unread : (trees : List Tree) (rows : List Listed) (bundle : Option (List ℕ))
+    (refusal : Refusal (Detailed FrontFault)) → ReadsLanguage bundle rows (without_detail (Err refusal))
+    → AcceptsLanguage trees rows bundle (without_detail (Err refusal))
+language_unread trees rows bundle (Because r) is = unread trees rows bundle r.fault is
 language_unread trees rows bundle OutOfMemory is = tt
 
 module _ (contents : List (List ℕ)) (bundle : Option (List ℕ)) where
   -- files are refused
-  pub files_refused : (refusal : Refusal Fault) (out : Refusal FrontFault)
-      → ReadsFiles (files_answer contents) (Err refusal) → IsOfFiles refusal out → Accepts contents bundle (Err out)
-  files_refused (Because fault) out e is =
-      subst (λ o. Accepts contents bundle (Err o)) (sym is) (OfFiles fault (refused_as contents fault e))
-  files_refused OutOfMemory out e is = subst (λ o. Accepts contents bundle (Err o)) (sym is) tt
+  pub files_refused : (refusal : Refusal (Detailed Fault)) (out : Refusal (Detailed FrontFault))
+      → ReadsFiles (files_answer contents) (without_detail (Err refusal)) → IsOfFiles refusal out
+      → Accepts contents bundle (without_detail (Err out))
+  files_refused (Because r) out e is =
+      subst (λ (o : Refusal (Detailed FrontFault)). Accepts contents bundle (without_detail (Err o))) (sym is)
+      (OfFiles r.fault (refused_as contents r.fault e))
+  files_refused OutOfMemory out e is =
+      subst (λ (o : Refusal (Detailed FrontFault)). Accepts contents bundle (without_detail (Err o))) (sym is) tt
 
   -- the bundle or the walk under it is
-  pub language_refused : (files : ReadFiles) (refusal : Refusal FrontFault)
+  pub language_refused : (files : ReadFiles) (refusal : Refusal (Detailed FrontFault))
       → ReadsFiles (files_answer contents) (Ok files)
-      → AcceptsLanguage files.typed files.catalogue.messages bundle (Err refusal)
-      → Accepts contents bundle (Err refusal)
-  language_refused files (Because fault) e is =
-      OfLanguage files.typed files.catalogue.messages fault (read_as contents (view_files files) e) is
+      → AcceptsLanguage files.typed files.catalogue.messages bundle (without_detail (Err refusal))
+      → Accepts contents bundle (without_detail (Err refusal))
+  language_refused files (Because r) e is =
+      OfLanguage files.typed files.catalogue.messages r.fault (read_as contents (view_files files) e) is
   language_refused files OutOfMemory e is = tt
 
   pub all_accepted : (files : ReadFiles) (language : Language) → ReadsFiles (files_answer contents) (Ok files)

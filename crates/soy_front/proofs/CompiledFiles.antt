@@ -20,7 +20,9 @@ use Rattle.msg_extract.specs.Translations.{translation_of}
 use Rattle.msg_extract.specs.LanguageOf.{language_of}
 use Rattle.soy_front.specs.Accepts.{Accepts, AreAcceptedAs, Decides}
 use Rattle.soy_front.specs.Compiled.{AreCompiled, CompilesFiles, GivesTheSame}
+use Rattle.soy_front.specs.HasDetail.{without_detail}
 use Rattle.soy_front.specs.declared.accepting.AcceptedFiles.{AcceptedFiles}
+use Rattle.soy_front.specs.declared.fault.Detailed.{Detailed}
 use Rattle.soy_front.specs.declared.fault.FrontFault.{FrontFault}
 use Rattle.soy_front.proofs.EntryNumbers.{entries_same}
 use Rattle.soy_front.proofs.FormedSources.{trees_formed}
@@ -85,12 +87,13 @@ module _ (contents : List (List ℕ)) (bundle : Option (List ℕ)) (a : Accepted
 
 -- ---- refusals
 
-pub refused_same : (contents : List (List ℕ)) (bundle : Option (List ℕ)) (refusal : Refusal FrontFault)
-    → Accepts contents bundle (Err refusal) → CompilesFiles contents bundle (Err refusal)
-refused_same contents bundle (Because fault) is = is
+pub refused_same : (contents : List (List ℕ)) (bundle : Option (List ℕ)) (refusal : Refusal (Detailed FrontFault))
+    → Accepts contents bundle (without_detail (Err refusal))
+    → CompilesFiles contents bundle (without_detail (Err refusal))
+refused_same contents bundle (Because r) is = is
 refused_same contents bundle OutOfMemory is = tt
 
-pub refused_decides : (A B : Type 0) (holds : Type 0) (refusal : Refusal FrontFault)
-    → Decides {A = A} holds (Err refusal) → Decides {A = B} holds (Err refusal)
-refused_decides A B holds (Because fault) is = is
+pub refused_decides : (A B : Type 0) (holds : Type 0) (refusal : Refusal (Detailed FrontFault))
+    → Decides {A = A} holds (without_detail (Err refusal)) → Decides {A = B} holds (without_detail (Err refusal))
+refused_decides A B holds (Because r) is = is
 refused_decides A B holds OutOfMemory is = tt

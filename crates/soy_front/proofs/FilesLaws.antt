@@ -73,7 +73,7 @@ test_within : (n : ℕ) (over : Bool) → nat_lt largest_file n ≡ over → n �
 test_within n true e h = let more : largest_file < n = ltb-true largest_file n e in absurd (omega (arith, more, h))
 test_within n false e h = refl
 
-none_large : (file : ℕ) (contents : List (List ℕ)) → AreWithin contents → large_from file contents ≡ None
+pub none_large : (file : ℕ) (contents : List (List ℕ)) → AreWithin contents → large_from file contents ≡ None
 none_large file [] within = refl
 none_large file (bytes ∷ contents) within =
     ap (λ b. if b then Some (too_large file) else large_from (file + 1) contents)
@@ -92,7 +92,7 @@ first_large file (first ∷ before) bytes after within over =
     (test_within (length first) (nat_lt largest_file (length first)) refl within.0)
     ∙ (first_large (file + 1) before bytes after within.1 over ∙ ap (λ n. Some (too_large n)) same)
 
-large_had : (contents : List (List ℕ)) (fault : Fault) → HasLargeFile contents fault
+pub large_had : (contents : List (List ℕ)) (fault : Fault) → HasLargeFile contents fault
     → large_from 0 contents ≡ Some fault
 large_had contents fault large =
     let same : 0 + length large.before ≡ length large.before = omega arith in

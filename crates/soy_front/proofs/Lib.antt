@@ -2,6 +2,8 @@ pub mod AcceptedParts
 pub mod BundleTranslations
 pub mod CompiledFiles
 pub mod DataFits
+pub mod DetailLaws
+pub mod DetailParts
 pub mod EntryNumbers
 pub mod FilesLaws
 pub mod FirstFaults

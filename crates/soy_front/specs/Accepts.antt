@@ -1,6 +1,5 @@
 -- What accepting files and a bundle answers.
 use Rattle.std.specs.Prelude.{◌≡◌, ℕ, List, [], Option, Some, Result, Ok, Err}
-use Rattle.soy_base.specs.declared.fault.Fault.{Fault}
 use Rattle.soy_base.specs.declared.memory.Refusal.{Refusal}
 use Rattle.soy_base.specs.declared.memory.Refusal.TheVariants.{Because, OutOfMemory}
 use Rattle.soy_tree.specs.declared.bundle.Bundle.{Bundle}
@@ -16,11 +15,6 @@ use Rattle.soy_front.specs.declared.accepting.AcceptedFiles.{AcceptedFiles}
 use Rattle.soy_front.specs.declared.accepting.Language.{Language}
 use Rattle.soy_front.specs.declared.fault.FrontFault.{FrontFault}
 use Rattle.soy_front.specs.declared.fault.FrontFault.TheVariants as front
-
--- a refusal of files is the same
-abbrev pub IsOfFiles : Refusal Fault → Refusal FrontFault → Type 0
-IsOfFiles (Because fault) refusal = refusal ≡ Because (front.Soy fault)
-IsOfFiles OutOfMemory refusal = refusal ≡ OutOfMemory
 
 -- the bundle is refused with this fault
 abbrev pub RefusesBundleOf : Option (List ℕ) → List Listed → FrontFault → Type 0

@@ -2,10 +2,13 @@ pub mod Accepted
 pub mod Accepts
 pub mod Compiled
 pub mod Deserves
+pub mod DetailAnswer
+pub mod Details
 pub mod Entries
 pub mod FilesAnswer
 pub mod FilesDeserve
 pub mod FrontAnswer
+pub mod HasDetail
 pub mod ReadsFiles
 pub mod ReadsSource
 pub mod Sources

@@ -6,14 +6,16 @@ ghost use Rattle.std.specs.Str.{chars};
 ghost use Rattle.soy_front.specs.Accepted.{Accepted};
 ghost use Rattle.soy_front.specs.Accepts.{Decides};
 ghost use Rattle.soy_front.specs.Compiled.{CompilesFiles};
+ghost use Rattle.soy_front.specs.DetailAnswer.{front_detail};
 ghost use Rattle.soy_front.specs.Entries.{is_entry_kind, is_entry_routine};
 ghost use Rattle.soy_front.specs.FilesAnswer.{files_answer};
+ghost use Rattle.soy_front.specs.HasDetail.{HasDetail, without_detail};
 ghost use Rattle.soy_front.specs.ReadsFiles.{view_files};
 ghost use Rattle.soy_front.specs.ViewSources.{view_contents};
 
 use crate::accepting::{AcceptedFiles, accept_read, of_files};
-use crate::fault::FrontFault;
-use crate::files::{ReadFiles, read_files};
+use crate::fault::FrontRefusal;
+use crate::files::{ReadFiles, read_detailed};
 use crate::source::Source;
 use ir_build::build;
 use msg_extract::Catalogue;
@@ -31,17 +33,22 @@ pub struct Compiled {
     pub dir: Dir,
 }
 
-/// Compiles files under a bundle, or answers their first fault; without a bundle the language is that of the source.
+/// Compiles files under a bundle, or answers their first fault and what goes with it; without a bundle the language is
+/// that of the source.
 pub fn compile(
     alloc: Global,
     sources: &[Source],
     bundle: Option<&[u8]>,
-) -> Result<Compiled, Refusal<FrontFault>>
+) -> Result<Compiled, Refusal<FrontRefusal>>
     requires { length sources.now ≤ 64 }
-    ensures compiles { CompilesFiles (view_contents sources.now) (option_map (λ b. b.now) bundle.entry) result }
-    ensures decides { Decides (Accepted (view_contents sources.now) (option_map (λ b. b.now) bundle.entry)) result }
+    ensures compiles { CompilesFiles (view_contents sources.now) (option_map (λ b. b.now) bundle.entry)
+        (without_detail result) }
+    ensures decides { Decides (Accepted (view_contents sources.now) (option_map (λ b. b.now) bundle.entry))
+        (without_detail result) }
+    ensures detail { HasDetail (front_detail (view_contents sources.now) (option_map (λ b. b.now) bundle.entry))
+        result }
 {
-    match read_files(alloc, sources) {
+    match read_detailed(alloc, sources) {
         Ok(files) => compile_read(alloc, files, bundle),
         Err(refusal) => Err(of_files(refusal)),
     }
@@ -52,12 +59,14 @@ pub fn compile_read(
     alloc: Global,
     files: ReadFiles,
     bundle: Option<&[u8]>,
-) -> Result<Compiled, Refusal<FrontFault>>
+) -> Result<Compiled, Refusal<FrontRefusal>>
     requires { (contents : List (List ℕ)) × (files_answer contents ≡ Ok (view_files files)) }
     ensures compiles { (contents : List (List ℕ)) → files_answer contents ≡ Ok (view_files files) →
-        CompilesFiles contents (option_map (λ b. b.now) bundle.entry) result }
+        CompilesFiles contents (option_map (λ b. b.now) bundle.entry) (without_detail result) }
     ensures decides { (contents : List (List ℕ)) → files_answer contents ≡ Ok (view_files files) →
-        Decides (Accepted contents (option_map (λ b. b.now) bundle.entry)) result }
+        Decides (Accepted contents (option_map (λ b. b.now) bundle.entry)) (without_detail result) }
+    ensures detail { (contents : List (List ℕ)) → files_answer contents ≡ Ok (view_files files) →
+        HasDetail (front_detail contents (option_map (λ b. b.now) bundle.entry)) result }
 {
     let accepted = match accept_read(alloc, files, bundle) {
         Ok(accepted) => accepted,

@@ -15,6 +15,8 @@ ghost use Rattle.soy_pieces.specs.InputEnv.{input_env, names_of};
 ghost use Rattle.soy_front.specs.Accepted.{Accepted, AreFiles, FilesFault, FirstFault};
 ghost use Rattle.soy_front.specs.Accepts.{AreAcceptedAs};
 ghost use Rattle.soy_front.specs.Deserves.{Deserves};
+ghost use Rattle.soy_front.specs.DetailAnswer.{front_detail};
+ghost use Rattle.soy_front.specs.Details.{fault_detail};
 ghost use Rattle.soy_front.specs.FilesAnswer.{ReadFiles, files_answer};
 ghost use Rattle.soy_front.specs.FrontAnswer.{DeserveFront, Front, IsFront, front_answer};
 ghost use Rattle.soy_front.specs.Sources.{source_answer};
@@ -64,6 +66,13 @@ pub fn law_front_answer()
         AreAcceptedAs contents bundle a → IsFront (front_answer contents bundle) a }
     ensures only_fault { (contents : List (List ℕ)) (bundle : Option (List ℕ)) (fault : FrontFault) →
         FirstFault contents bundle fault → front_answer contents bundle ≡ Err fault }
+{}
+
+/// What goes with a refusal of files and a bundle is what goes with their first fault by the rule that finds it.
+pub fn law_detail()
+    ensures { (contents : List (List ℕ)) (bundle : Option (List ℕ)) (fault : FrontFault)
+        (first : FirstFault contents bundle fault) →
+        front_detail contents bundle ≡ fault_detail contents bundle fault first }
 {}
 
 /// Data that are read for the parameters of a template of typed trees, and whose lists are short, fit the template.

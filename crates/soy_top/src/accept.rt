@@ -102,8 +102,8 @@ fn accept_front(
 {
     match accept_sources(alloc, sources, content) {
         Ok(accepted) => Ok(accepted),
-        Err(Refusal::Because(fault)) => {
-            let line = front_line(alloc, names, sources, bundle, fault)?;
+        Err(Refusal::Because(refusal)) => {
+            let line = front_line(alloc, names, sources, bundle, refusal.fault)?;
             Err(Ending::Refused(line))
         }
         Err(Refusal::OutOfMemory) => Err(Ending::Memory),

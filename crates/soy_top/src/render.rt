@@ -3,6 +3,7 @@
 ghost use Rattle.std.specs.Prelude.{◌≡◌, ◌≤◌, ℕ, List, Ok, Option, Some, IfOk, IfSome, length, option_map, slice_get};
 ghost use Rattle.soy_front.specs.Compiled.{AreCompiled, CompilesFiles};
 ghost use Rattle.soy_front.specs.FilesAnswer.{files_answer};
+ghost use Rattle.soy_front.specs.HasDetail.{without_detail};
 ghost use Rattle.soy_front.specs.ReadsFiles.{view_files};
 ghost use Rattle.soy_front.specs.ViewSources.{view_contents};
 ghost use Rattle.soy_top.specs.Accepts.{Accepts, AcceptsPage, CompilesFront, IsNumbered};
@@ -24,7 +25,7 @@ use crate::line::{entry_line, pointer_line};
 use crate::output::Output;
 use crate::page::Page;
 use soy_base::Refusal;
-use soy_front::{Compiled, FrontFault, ReadFiles, Source, compile, compile_read};
+use soy_front::{Compiled, FrontRefusal, ReadFiles, Source, compile, compile_read};
 use soy_types::read_data;
 use std::alloc::Global;
 
@@ -142,15 +143,16 @@ fn unless_refused(
     names: &[String],
     sources: &[Source],
     bundle: &str,
-    compiled: Result<Compiled, Refusal<FrontFault>>,
+    compiled: Result<Compiled, Refusal<FrontRefusal>>,
 ) -> Result<Compiled, Ending>
-    ensures { (content : Option (List ℕ)) → CompilesFiles (view_contents sources.now) content compiled →
+    ensures { (content : Option (List ℕ)) →
+        CompilesFiles (view_contents sources.now) content (without_detail compiled) →
         CompilesFront (command_words names.now) (view_contents sources.now) bundle.now content result }
 {
     match compiled {
         Ok(compiled) => Ok(compiled),
-        Err(Refusal::Because(fault)) => {
-            let line = front_line(alloc, names, sources, bundle, fault)?;
+        Err(Refusal::Because(refusal)) => {
+            let line = front_line(alloc, names, sources, bundle, refusal.fault)?;
             Err(Ending::Refused(line))
         }
         Err(Refusal::OutOfMemory) => Err(Ending::Memory),

@@ -1,5 +1,15 @@
-pub mod Calls
+pub mod AboutFaults
+pub mod AskedPages
+pub mod CompileCalls
+pub mod FileReplies
+pub mod Filling
+pub mod LineParts
 pub mod Listed
+pub mod Looses
+pub mod OpeningLimits
+pub mod Openings
 pub mod PartBytes
 pub mod PlainRuns
+pub mod ReadCalls
 pub mod Replies
+pub mod SlotSteps

@@ -2,11 +2,15 @@
 
 ghost use Rattle.std.specs.Prelude.{◌≡◌, ℕ, List, None, Some, IfOk, IfErr, option_map};
 ghost use Rattle.std.specs.String.{string_bytes};
+ghost use Rattle.soy_front.specs.ViewSources.{view_contents};
 ghost use Rattle.soy_top.specs.Words.{command_words};
 ghost use Rattle.soyc_c.specs.Call.{file_at, files_at, text_at, words_at};
+ghost use Rattle.soyc_c.specs.CompileCall.{contents_at, names_at};
 ghost use Rattle.soyc_c.specs.Parts.{part_bytes};
 ghost use Rattle.soyc_c.specs.Stops.{StopsAt};
 
+use soy_base::{Seq, Text};
+use soy_front::Source;
 use soy_io::NamedFile;
 use std::alloc::{AllocError, AllocFailed, Global};
 use std::str;
@@ -63,14 +67,14 @@ impl<T: Drop> From<AllocFailed<T>> for Stop {
 }
 
 /// The bytes of a part, if it is one of these bytes.
-fn part_of(bytes: &[u8], part: Part) -> Option<&[u8]>
+pub(crate) fn part_of(bytes: &[u8], part: Part) -> Option<&[u8]>
     ensures { option_map (λ found. found.now) result ≡ part_bytes bytes.now part }
 {
     bytes.get(part.begin..part.end)
 }
 
 /// The text of a part, if it is a part and UTF-8.
-fn text_of(bytes: &[u8], part: Part) -> Option<&str>
+pub(crate) fn text_of(bytes: &[u8], part: Part) -> Option<&str>
     ensures { option_map (λ text. text.now) result ≡ text_at bytes.now part }
 {
     match part_of(bytes, part) {
@@ -140,4 +144,48 @@ pub(crate) fn files_of(
         files.push(file_of(alloc, bytes, *file)?)?;
     }
     Ok(files)
+}
+
+/// The names of the files of a call.
+pub(crate) fn names_of(
+    alloc: Global,
+    bytes: &[u8],
+    files: &[FileParts],
+) -> Result<Vec<String>, Stop>
+    ensures ok { IfOk result (λ names. names_at bytes.now files.now ≡ Some (command_words names.items)) }
+    ensures err { IfErr result (λ stop. StopsAt stop (names_at bytes.now files.now)) }
+{
+    let mut names = Vec::new(alloc);
+    for file in files {
+        names.push(string_of(alloc, bytes, file.name)?)?;
+    }
+    Ok(names)
+}
+
+/// A file without a name of a part's bytes.
+fn source_of(alloc: Global, bytes: &[u8], part: Part) -> Result<Source, Stop>
+    ensures ok { IfOk result (λ source. part_bytes bytes.now part ≡ Some source.bytes) }
+    ensures err { IfErr result (λ stop. StopsAt stop (part_bytes bytes.now part)) }
+{
+    let content = content_of(alloc, bytes, part)?;
+    Ok(Source {
+        name: Text::new(String::new(alloc)),
+        bytes: Seq::new(content),
+    })
+}
+
+/// The files of a call, without their names.
+pub(crate) fn sources_of(
+    alloc: Global,
+    bytes: &[u8],
+    files: &[FileParts],
+) -> Result<Vec<Source>, Stop>
+    ensures ok { IfOk result (λ sources. contents_at bytes.now files.now ≡ Some (view_contents sources.items)) }
+    ensures err { IfErr result (λ stop. StopsAt stop (contents_at bytes.now files.now)) }
+{
+    let mut sources = Vec::new(alloc);
+    for file in files {
+        sources.push(source_of(alloc, bytes, file.content)?)?;
+    }
+    Ok(sources)
 }

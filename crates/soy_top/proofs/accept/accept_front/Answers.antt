@@ -13,5 +13,5 @@ returns-in-Ok c =
 pub returns-in_ok-line-in-Err-Because : goal.returns-in_ok-line-in-Err-Because
 returns-in_ok-line-in-Err-Because c =
     front_refused (command_words c.args.names.now) (view_contents c.args.sources.now) c.args.bundle.now
-    (option_map (λ b. b.now) c.args.content) c.in-Err-Because.fault c.in_ok-line-in-Err-Because.line
+    (option_map (λ b. b.now) c.args.content) c.in-Err-Because.refusal.fault c.in_ok-line-in-Err-Because.line
     (rw c.in-Err-Because.field-0-is at c.in-Err-Because.ensures.accepts) c.in_ok-line-in-Err-Because.ensures

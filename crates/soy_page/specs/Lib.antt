@@ -1,0 +1,6 @@
+pub mod Begun
+pub mod Opens
+pub mod PageRest
+pub mod PageState
+pub mod Pulled
+pub mod WereCompiled
