@@ -39,14 +39,20 @@ fn answers(
     };
     match (accept(alloc, sources.as_slice(), bundle), wanted) {
         (Ok(accepted), Wanted::Accepted) => Ok(accepted.files.typed.trees().len() == 2),
-        (Err(Refusal::Because(FrontFault::Soy(fault))), Wanted::In(file, at, code)) => {
-            Ok(fault.file == *file && fault.at == *at && fault.code == *code)
-        }
-        (Err(Refusal::Because(FrontFault::Bundle(fault))), Wanted::OfBundle(code)) => {
-            Ok(fault.code == *code)
-        }
+        (Err(Refusal::Because(refusal)), _) => Ok(is_wanted(&refusal.fault, wanted)),
         (Err(Refusal::OutOfMemory), _) => Err(OutOfMemory),
         _ => Ok(false),
+    }
+}
+
+/// Whether a fault is what is asked.
+fn is_wanted(fault: &FrontFault, wanted: &Wanted) -> bool {
+    match (fault, wanted) {
+        (FrontFault::Soy(fault), Wanted::In(file, at, code)) => {
+            fault.file == *file && fault.at == *at && fault.code == *code
+        }
+        (FrontFault::Bundle(fault), Wanted::OfBundle(code)) => fault.code == *code,
+        _ => false,
     }
 }
 

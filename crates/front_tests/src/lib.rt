@@ -6,3 +6,5 @@
 mod accepting;
 #[cfg(test)]
 mod compiling;
+#[cfg(test)]
+mod details;

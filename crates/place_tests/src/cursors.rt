@@ -5,7 +5,7 @@ use escapers::{Escaper, escaper_for};
 use soy_base::{Dir, Place, ValueClass};
 use std::alloc::Global;
 use std::test::Fail;
-use value_cursor::Cursor;
+use value_cursor::{Cursor, give_whole};
 
 // Texts that have every row of the escaper, the characters next to it and characters of two to four bytes, and their
 // forms.
@@ -144,6 +144,71 @@ const ESCAPED: &[(Place, ValueClass, &[(&str, &str)])] = &[
     (Place::Plain, ValueClass::Text, PLAIN),
 ];
 
+// Texts that are given at once where the room is ample, with their places and forms.
+const AT_ONCE: &[(Place, ValueClass, &str, &str)] = &[
+    (
+        Place::Text,
+        ValueClass::Text,
+        "<i> a&b",
+        "<span dir=\"ltr\">&lt;i&gt; a&amp;b</span>",
+    ),
+    (
+        Place::Text,
+        ValueClass::Text,
+        "\u{5d0}\u{5d1} \u{1f600}",
+        "<span dir=\"rtl\">\u{5d0}\u{5d1} \u{1f600}</span>",
+    ),
+    (
+        Place::Text,
+        ValueClass::Int,
+        "42",
+        "<span dir=\"ltr\">42</span>",
+    ),
+    (
+        Place::Attr,
+        ValueClass::Text,
+        "\0\r!\"#%&'(;<=>?\u{e9}\u{5d0}\u{1f600}",
+        "\u{fffd}&#13;!&quot;#%&amp;&#39;(;&lt;=&gt;?\u{e9}\u{5d0}\u{1f600}",
+    ),
+    (Place::Rcdata, ValueClass::Text, "", ""),
+    (
+        Place::JsSingle,
+        ValueClass::Text,
+        "\0\t\n./0<\\`\u{5d0}",
+        "\\x00\\t\\n.\\/0\\x3c\\\\\\x60\u{5d0}",
+    ),
+    (Place::JsValue, ValueClass::Text, "it's", "'it\\x27s'"),
+    (Place::JsValue, ValueClass::Int, "-3", " -3 "),
+    (
+        Place::CssString,
+        ValueClass::Text,
+        "\0\t\"a",
+        "\\fffd \\9 \\22 a",
+    ),
+    (Place::CssValue, ValueClass::Text, "red", "red"),
+    (Place::CssValue, ValueClass::Text, "red;x", "zSoyz"),
+    (
+        Place::UriStart,
+        ValueClass::Text,
+        "HTTP://a/?b&c",
+        "HTTP://a/?b&amp;c",
+    ),
+    (
+        Place::UriStart,
+        ValueClass::Text,
+        "javascript:alert(1)",
+        "about:invalid#zSoyz",
+    ),
+    (
+        Place::UriPath,
+        ValueClass::Text,
+        "/a b?c&d",
+        "/a%20b?c&amp;d",
+    ),
+    (Place::UriQuery, ValueClass::Text, "a&b c", "a%26b%20c"),
+    (Place::Plain, ValueClass::Text, "<a&\u{5d0}>", "<a&\u{5d0}>"),
+];
+
 const SIZES: &[usize] = &[1, 2, 3, 7, 4096];
 
 // Whether a cursor gives just these bytes, room by room, and says before each how many are left.
@@ -216,5 +281,51 @@ fn cursor_in_pieces(rt: HostRuntime) -> Result<(), Fail> {
     assert!(rt; third.as_slice().starts_with(b";i&gt;</span>...".as_slice()));
     assert_eq!(rt; cursor.left(), 0);
     assert_eq!(rt; cursor.fill("<i>", &mut third), 0);
+    Ok(())
+}
+
+// Whether a room of so many bytes has the form of a value as wanted and is unchanged behind it, or is unchanged.
+fn is_whole(place: Place, class: ValueClass, text: &str, want: Option<&str>, size: usize) -> bool {
+    let mut room = [7; 4096];
+    let Some(how) = escaper_for(place, class) else {
+        return false;
+    };
+    if size > 4096 {
+        return false;
+    }
+    let form = match give_whole(how, class, text, Dir::Ltr, &mut room[..size]) {
+        Some(count) => match want {
+            Some(form) if form.len() == count => form,
+            _ => return false,
+        },
+        None => match want {
+            Some(_) => return false,
+            None => "",
+        },
+    };
+    room.starts_with(form.as_bytes()) && room.iter().skip(form.len()).all(|byte| *byte == 7)
+}
+
+#[test]
+fn forms_at_once(rt: HostRuntime) -> Result<(), Fail> {
+    for (place, class, text, want) in AT_ONCE {
+        let ample = 6 * text.len().min(600) + 32;
+        let whole = is_whole(*place, *class, *text, Some(*want), ample);
+        assert!(rt; whole, "{text:?} into a room of {ample}");
+        let none = is_whole(*place, *class, *text, None, ample - 1);
+        assert!(rt; none, "{text:?} into a room of one byte less");
+    }
+    Ok(())
+}
+
+#[test]
+fn forms_at_once_or_none(rt: HostRuntime) -> Result<(), Fail> {
+    for (place, class, rows) in ESCAPED {
+        for (text, want) in *rows {
+            let whole = is_whole(*place, *class, *text, Some(*want), 4096);
+            let none = is_whole(*place, *class, *text, None, 4096);
+            assert!(rt; whole || none, "{text:?} into a room of 4096");
+        }
+    }
     Ok(())
 }

@@ -1,6 +1,6 @@
 //! Rows of the grammar of expressions and types, over the tokens of the lexer.
 
-use expr_parser::{ExprState, ExprStep, TypeState, TypeStep, parse_expr, parse_type};
+use expr_parser::{ExprState, TypeState, TypeStep, parse_expr, parse_type};
 use soy_base::{Code, Fault, OutOfMemory, Refusal, Span, push_text};
 use soy_lexer::{Token, lex};
 use soy_tree::{BinaryOp, Expr, ExprNode, Field, SoyType};
@@ -468,19 +468,37 @@ fn an_expression_spans_its_tokens(rt: HostRuntime) {
     }
 }
 
-/// The number of tokens that the machine takes, the depth after them, and whether they are a whole expression.
-fn steps(alloc: Global, tokens: &[Token]) -> Result<(usize, u32, bool), OutOfMemory> {
-    let mut state = ExprState::start(alloc);
+/// Whether what was read before a token with which no expression goes on is a whole one.
+fn is_given(state: &mut ExprState) -> bool {
+    state.given().is_some()
+}
+
+/// Whether what was read is a whole expression.
+fn is_whole(alloc: Global, state: &mut ExprState) -> Result<bool, OutOfMemory> {
+    let whole = state.finish(alloc)?;
+    Ok(whole.is_some())
+}
+
+/// The number of tokens that the machine takes from a state, the depth after them, and whether they are whole.
+fn steps_on(
+    alloc: Global,
+    state: &mut ExprState,
+    tokens: &[Token],
+) -> Result<(usize, u32, bool), OutOfMemory> {
     for (count, token) in tokens.iter().enumerate() {
         let depth = state.depth();
-        match state.step(alloc, token)? {
-            ExprStep::Next(to) => state = to,
-            ExprStep::End(before) => return Ok((count, depth, before.is_some())),
+        if !state.step(alloc, token)? {
+            return Ok((count, depth, is_given(state)));
         }
     }
     let depth = state.depth();
-    let whole = state.finish(alloc)?;
-    Ok((tokens.len(), depth, whole.is_some()))
+    Ok((tokens.len(), depth, is_whole(alloc, state)?))
+}
+
+/// The number of tokens that the machine takes, the depth after them, and whether they are a whole expression.
+fn steps(alloc: Global, tokens: &[Token]) -> Result<(usize, u32, bool), OutOfMemory> {
+    let mut state = ExprState::start(alloc);
+    steps_on(alloc, &mut state, tokens)
 }
 
 /// The same of a type.

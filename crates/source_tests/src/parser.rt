@@ -69,10 +69,10 @@ fn write_form(out: &mut String, form: &Form) -> Result<(), OutOfMemory> {
             }
             Ok(())
         }
-        Form::Message(message, None) => write_message(out, &message.body),
+        Form::Message(message, None) => write_message(out, &message.get().body),
         Form::Message(message, Some(other)) => {
-            write_message(out, &message.body)?;
-            write_message(out, &other.body)
+            write_message(out, &message.get().body)?;
+            write_message(out, &other.get().body)
         }
     }
 }
@@ -505,10 +505,10 @@ fn write_attributes(out: &mut String, nodes: &[Node]) -> Result<(), OutOfMemory>
                     }
                 }
             }
-            Form::Message(message, None) => write_named(out, message)?,
+            Form::Message(message, None) => write_named(out, message.get())?,
             Form::Message(message, Some(other)) => {
-                write_named(out, message)?;
-                write_named(out, other)?;
+                write_named(out, message.get())?;
+                write_named(out, other.get())?;
             }
             _ => {}
         }

@@ -4,7 +4,8 @@ use msg_bundle::read_bundle;
 use msg_extract::{Catalogue, Listed, extract};
 use plural_rules::Category;
 use soy_base::{
-    Code, Dir, Fault, Kind, OutOfMemory, PathStep, Refusal, Seq, Span, Text, push_char, push_text,
+    Boxed, Code, Dir, Fault, Kind, OutOfMemory, PathStep, Refusal, Seq, Span, Text, push_char,
+    push_text,
 };
 use soy_tree::{Bundle, Expr, ExprNode, Form, Message, MessageBody, Node, Template, Tree};
 use std::alloc::Global;
@@ -296,13 +297,18 @@ fn love(alloc: Global) -> Result<Message, OutOfMemory> {
     })
 }
 
+/// The node of this message.
+fn love_node(alloc: Global) -> Result<Node, OutOfMemory> {
+    Ok(Node {
+        form: Form::Message(Boxed::new(alloc, love(alloc)?)?, None),
+        span: SPAN,
+    })
+}
+
 /// A file with one template, of this message.
 fn file(alloc: Global) -> Result<Tree, OutOfMemory> {
     let mut body = Vec::new(alloc);
-    body.push(Node {
-        form: Form::Message(love(alloc)?, None),
-        span: SPAN,
-    })?;
+    body.push(love_node(alloc)?)?;
     let mut templates = Vec::new(alloc);
     templates.push(Template {
         name: text(alloc, "m")?,

@@ -1,8 +1,15 @@
 //! Messages with their canonical texts, placeholders, ids and catalogues.
 
-use msg_extract::{Placeholder, extract, message_id, placeholders, write_catalogue};
-use soy_base::{Boxed, Fault, Kind, OutOfMemory, Refusal, Seq, Span, Text};
-use soy_tree::{Expr, ExprNode, Form, Message, MessageBody, Node, PluralCase, Template, Tree};
+use msg_extract::{
+    NamedMessage, NamedPlaceholders, Placeholder, Translations, extract, message_id, placeholders,
+    write_catalogue,
+};
+use plural_rules::Rules;
+use soy_base::{Boxed, Dir, Fault, Kind, OutOfMemory, Refusal, Seq, Span, Text};
+use soy_tree::{
+    Bundle, Expr, ExprNode, Form, Message, MessageBody, MsgPart, Node, PluralCase, Template,
+    Translation, Tree,
+};
 use std::alloc::Global;
 
 const SPAN: Span = Span { start: 0, end: 0 };
@@ -89,13 +96,23 @@ fn who_body(alloc: Global, words: &str) -> Result<MessageBody, OutOfMemory> {
     Ok(MessageBody::Parts(Seq::new(nodes)))
 }
 
-/// A file of one template with a message and its fallback.
-fn tree(alloc: Global, message: Message, other: Option<Message>) -> Result<Tree, OutOfMemory> {
-    let mut body = Vec::new(alloc);
-    body.push(Node {
+/// A message of this body, in a box.
+fn boxed(alloc: Global, body: MessageBody, start: u64) -> Result<Boxed<Message>, OutOfMemory> {
+    Ok(Boxed::new(alloc, message(alloc, "", body, start)?)?)
+}
+
+/// The node of a message and its fallback.
+fn message_node(message: Boxed<Message>, other: Option<Boxed<Message>>) -> Node {
+    Node {
         form: Form::Message(message, other),
         span: SPAN,
-    })?;
+    }
+}
+
+/// A file of one template with one node.
+fn tree(alloc: Global, node: Node) -> Result<Tree, OutOfMemory> {
+    let mut body = Vec::new(alloc);
+    body.push(node)?;
     let mut templates = Vec::new(alloc);
     templates.push(Template {
         name: text(alloc, "m")?,
@@ -113,7 +130,7 @@ fn tree(alloc: Global, message: Message, other: Option<Message>) -> Result<Tree,
 
 /// The canonical text of a message of this body, as the catalogue lists it.
 fn listed_text(alloc: Global, body: MessageBody) -> Result<Text, Refusal<Fault>> {
-    let tree = tree(alloc, message(alloc, "", body, 0)?, None)?;
+    let tree = tree(alloc, message_node(boxed(alloc, body, 0)?, None))?;
     let catalogue = extract(alloc, &[tree])?;
     match catalogue.messages.items() {
         [listed] => Ok(listed.text.copy(alloc)?),
@@ -171,9 +188,9 @@ fn an_id_comes_of_meaning_and_canonical_text(rt: HostRuntime) {
 
 /// A file with the same message as message and fallback.
 fn love_tree(alloc: Global) -> Result<Tree, OutOfMemory> {
-    let first = message(alloc, "", who_body(alloc, "love ")?, 3)?;
-    let second = message(alloc, "", who_body(alloc, "love ")?, 9)?;
-    tree(alloc, first, Some(second))
+    let first = boxed(alloc, who_body(alloc, "love ")?, 3)?;
+    let second = boxed(alloc, who_body(alloc, "love ")?, 9)?;
+    tree(alloc, message_node(first, Some(second)))
 }
 
 fn love_catalogue(alloc: Global) -> Result<String, Refusal<Fault>> {
@@ -215,4 +232,159 @@ fn placeholders_stand_for_prints_and_tags(rt: HostRuntime) {
     assert_eq!(rt; items.len(), 4);
     assert!(rt; is_named(items, 0, "START_LINK") && is_named(items, 1, "NAME_1"));
     assert!(rt; is_named(items, 2, "END_LINK") && is_named(items, 3, "NAME_2"));
+}
+
+/// How many nodes a name stands for.
+fn named_count(
+    alloc: Global,
+    placeholders: &[Placeholder],
+    name: &str,
+) -> Result<usize, OutOfMemory> {
+    let named = NamedPlaceholders::new(alloc, placeholders)?;
+    let name = text(alloc, name)?;
+    Ok(named.nodes(&name).len())
+}
+
+#[test]
+fn placeholders_are_found_by_name(rt: HostRuntime) {
+    let Ok(found) = names_placeholders(rt.alloc()) else {
+        assert!(rt; false);
+        return;
+    };
+    for (name, wanted) in [
+        ("START_LINK", 1),
+        ("NAME_1", 1),
+        ("END_LINK", 1),
+        ("NAME_2", 1),
+        ("NAME", 0),
+    ] {
+        match named_count(rt.alloc(), found.items(), name) {
+            Ok(count) => assert_eq!(rt; count, wanted, "{name}"),
+            Err(_) => assert!(rt; false, "{name}"),
+        }
+    }
+}
+
+/// Ten prints, whose names are `A` to `J`.
+fn many_placeholders(alloc: Global) -> Result<Seq<Placeholder>, OutOfMemory> {
+    let mut nodes = Vec::new(alloc);
+    for name in ["a", "b", "c", "d", "e", "f", "g", "h", "i", "j"] {
+        nodes.push(print_node(variable(alloc, name)?))?;
+    }
+    let body = MessageBody::Parts(Seq::new(nodes));
+    placeholders(alloc, &message(alloc, "", body, 0)?)
+}
+
+#[test]
+fn many_placeholders_are_found_by_name(rt: HostRuntime) {
+    let Ok(found) = many_placeholders(rt.alloc()) else {
+        assert!(rt; false);
+        return;
+    };
+    for (name, wanted) in [("A", 1), ("J", 1), ("K", 0)] {
+        match named_count(rt.alloc(), found.items(), name) {
+            Ok(count) => assert_eq!(rt; count, wanted, "{name}"),
+            Err(_) => assert!(rt; false, "{name}"),
+        }
+    }
+}
+
+/// The id of a message by its names.
+fn named_id(alloc: Global, message: &Message) -> Result<Text, OutOfMemory> {
+    let named = NamedMessage::new(alloc, message)?;
+    named.id(alloc)
+}
+
+/// How many placeholders a message has by its names.
+fn named_placeholders(alloc: Global, message: &Message) -> Result<usize, OutOfMemory> {
+    let named = NamedMessage::new(alloc, message)?;
+    let found = named.placeholders(alloc)?;
+    Ok(found.items().len())
+}
+
+/// How many selectors a message has by its names.
+fn named_selectors(alloc: Global, message: &Message) -> Result<usize, OutOfMemory> {
+    let named = NamedMessage::new(alloc, message)?;
+    let found = named.selectors(alloc)?;
+    Ok(found.items().len())
+}
+
+/// Whether there are so many.
+fn is_count(count: Result<usize, OutOfMemory>, wanted: usize) -> bool {
+    match count {
+        Ok(count) => count == wanted,
+        Err(_) => false,
+    }
+}
+
+/// A message of a plural.
+fn plural_message(alloc: Global) -> Result<Message, OutOfMemory> {
+    message(alloc, "", plural_body(alloc)?, 0)
+}
+
+#[test]
+fn the_names_of_a_message_give_its_id_placeholders_and_selectors(rt: HostRuntime) {
+    let Ok(message) = plural_message(rt.alloc()) else {
+        assert!(rt; false);
+        return;
+    };
+    match named_id(rt.alloc(), &message) {
+        Ok(id) => assert!(rt; id.is("4e4dc2996d68020f")),
+        Err(_) => assert!(rt; false),
+    }
+    assert!(rt; is_count(named_placeholders(rt.alloc(), &message), 1));
+    assert!(rt; is_count(named_selectors(rt.alloc(), &message), 1));
+}
+
+/// A bundle with one translation of one part.
+fn one_translation(alloc: Global, id: &str) -> Result<Bundle, OutOfMemory> {
+    let mut parts = Vec::new(alloc);
+    parts.push(MsgPart::Number)?;
+    let mut messages = Vec::new(alloc);
+    messages.push(Translation {
+        id: text(alloc, id)?,
+        parts: Seq::new(parts),
+    })?;
+    Ok(Bundle {
+        dir: Dir::Ltr,
+        plural: Rules::none(alloc),
+        ordinal: Rules::none(alloc),
+        messages: Seq::new(messages),
+    })
+}
+
+/// How many parts the translation has that is found for a message; 0 for none.
+fn parts_found(
+    alloc: Global,
+    translations: &Translations<'_>,
+    message: &Message,
+) -> Result<usize, OutOfMemory> {
+    let named = NamedMessage::new(alloc, message)?;
+    match translations.find(alloc, &named)? {
+        Some(parts) => Ok(parts.len()),
+        None => Ok(0),
+    }
+}
+
+/// The same in a bundle.
+fn parts_in(alloc: Global, bundle: &Bundle, message: &Message) -> Result<usize, OutOfMemory> {
+    let translations = Translations::new(alloc, bundle)?;
+    parts_found(alloc, &translations, message)
+}
+
+/// The same of the plural's message, in a bundle with one translation for an id.
+fn found_parts(alloc: Global, id: &str) -> Result<usize, OutOfMemory> {
+    let bundle = one_translation(alloc, id)?;
+    let message = plural_message(alloc)?;
+    parts_in(alloc, &bundle, &message)
+}
+
+#[test]
+fn a_translation_is_found_by_the_id_of_its_message(rt: HostRuntime) {
+    for (id, wanted) in [("4e4dc2996d68020f", 1), ("29b104d2ffbb3f3d", 0)] {
+        match found_parts(rt.alloc(), id) {
+            Ok(count) => assert_eq!(rt; count, wanted, "{id}"),
+            Err(_) => assert!(rt; false, "{id}"),
+        }
+    }
 }

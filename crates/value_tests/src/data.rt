@@ -29,6 +29,8 @@ enum Of {
     MapOrRecord,
     /// `[y: int]|map<string, int>`
     RecordOrMap,
+    /// `[m: map<string, int>, l: list<int>]`
+    MapAndList,
 }
 
 fn pair(alloc: Global, first: SoyType, second: SoyType) -> Result<SoyType, OutOfMemory> {
@@ -73,6 +75,21 @@ fn one_field(alloc: Global) -> Result<SoyType, OutOfMemory> {
     Ok(SoyType::Fields(Seq::new(fields)))
 }
 
+fn map_and_list(alloc: Global) -> Result<SoyType, OutOfMemory> {
+    let m = text_of(alloc, "m")?;
+    let l = text_of(alloc, "l")?;
+    let mut fields = Vec::new(alloc);
+    fields.push(Field {
+        name: m,
+        of: counts(alloc)?,
+    })?;
+    fields.push(Field {
+        name: l,
+        of: ints(alloc)?,
+    })?;
+    Ok(SoyType::Fields(Seq::new(fields)))
+}
+
 fn type_of(alloc: Global, of: Of) -> Result<SoyType, OutOfMemory> {
     match of {
         Of::Null => Ok(SoyType::Null),
@@ -87,6 +104,7 @@ fn type_of(alloc: Global, of: Of) -> Result<SoyType, OutOfMemory> {
         Of::Record => record(alloc),
         Of::MapOrRecord => pair(alloc, counts(alloc)?, one_field(alloc)?),
         Of::RecordOrMap => pair(alloc, one_field(alloc)?, counts(alloc)?),
+        Of::MapAndList => map_and_list(alloc),
     }
 }
 
@@ -213,6 +231,23 @@ const ROWS: &[(Of, bool, &str, &str)] = &[
     (Of::Int, true, "{\"a\":-0}", "DataType/a"),
     (Of::Int, true, "{\"a\":1.0}", "DataType/a"),
     (Of::Int, true, "{\"a\":1e2}", "DataType/a"),
+    (Of::Int, true, "{\"a\":18446744073709551616}", "DataType/a"),
+    (Of::Ints, true, "{\"a\":[1,-0]}", "DataType/a/1"),
+    (Of::Ints, true, "{\"a\":[1,1e2]}", "DataType/a/1"),
+    (
+        Of::Ints,
+        true,
+        "{\"a\":[1,9007199254740992]}",
+        "DataType/a/1",
+    ),
+    // numbers that no type names, which are read too
+    (
+        Of::Int,
+        true,
+        "{\"a\":1,\"b\":[-0.5,1e99,-18446744073709551616]}",
+        "{a=1 }",
+    ),
+    (Of::Int, true, "{\"a\":1,\"b\":1e999}", "Data"),
     // other types
     (Of::Int, true, "{\"a\":\"1\"}", "DataType/a"),
     (Of::Html, true, "{\"a\":\"x\"}", "DataType/a"),
@@ -246,10 +281,28 @@ const ROWS: &[(Of, bool, &str, &str)] = &[
     ),
     (Of::Record, true, "{\"a\":{\"y\":2}}", "{a={y=2 x=null } }"),
     (Of::Record, true, "{\"a\":{\"x\":2}}", "DataType/a/y"),
+    // of two members of one name the last
+    (Of::Int, true, "{\"a\":1,\"a\":2}", "{a=2 }"),
+    (Of::Int, true, "{\"a\":null,\"a\":1}", "{a=1 }"),
+    (Of::Int, true, "{\"a\":1,\"a\":null}", "DataType/a"),
+    (
+        Of::Record,
+        true,
+        "{\"a\":{\"y\":1,\"y\":2}}",
+        "{a={y=2 x=null } }",
+    ),
+    // a map beside a list
+    (
+        Of::MapAndList,
+        true,
+        "{\"a\":{\"l\":[1],\"m\":{\"z\":1,\"b\":2}}}",
+        "{a={m=map{b=2 z=1 } l=[1 ] } }",
+    ),
     // the first member that fits, and the path to the union
     (Of::MapOrRecord, true, "{\"a\":{\"y\":1}}", "{a=map{y=1 } }"),
     (Of::RecordOrMap, true, "{\"a\":{\"y\":1}}", "{a={y=1 } }"),
     (Of::RecordOrMap, true, "{\"a\":{\"x\":1}}", "{a=map{x=1 } }"),
+    (Of::NullOrInts, true, "{\"a\":[1]}", "{a=[1 ] }"),
     (Of::NullOrInts, true, "{\"a\":[null]}", "DataType/a"),
     (Of::IntsOrNull, true, "{\"a\":[1,null]}", "DataType/a"),
     (Of::IntsOrNull, true, "{\"a\":null}", "{a=null }"),
@@ -300,6 +353,15 @@ fn nested(alloc: Global, depth: usize) -> Result<String, OutOfMemory> {
     Ok(text)
 }
 
+/// Whether so many lists in one another are read, under a name that isn't asked for.
+fn is_passed(alloc: Global, depth: usize) -> Result<bool, OutOfMemory> {
+    let mut text = String::from_str(alloc, "{\"a\":1,\"b\":")?;
+    push_text(&mut text, nested(alloc, depth)?.as_str())?;
+    push_char(&mut text, '}')?;
+    let params = params(alloc, Of::Int, true)?;
+    Ok(read_data(alloc, text.as_bytes(), params.as_slice()).is_ok())
+}
+
 fn is_read(alloc: Global, depth: usize) -> Result<bool, OutOfMemory> {
     let text = nested(alloc, depth)?;
     Ok(read_data(alloc, text.as_bytes(), &[]).is_ok())
@@ -309,4 +371,6 @@ fn is_read(alloc: Global, depth: usize) -> Result<bool, OutOfMemory> {
 fn data_nest_at_most_127_deep(rt: HostRuntime) {
     assert!(rt; matches!(is_read(rt.alloc(), 127), Ok(true)));
     assert!(rt; matches!(is_read(rt.alloc(), 128), Ok(false)));
+    assert!(rt; matches!(is_passed(rt.alloc(), 126), Ok(true)));
+    assert!(rt; matches!(is_passed(rt.alloc(), 127), Ok(false)));
 }

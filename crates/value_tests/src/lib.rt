@@ -15,3 +15,5 @@ mod evaluation;
 mod patterns;
 #[cfg(test)]
 mod trees;
+#[cfg(test)]
+mod wide;

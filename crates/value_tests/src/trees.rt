@@ -87,39 +87,47 @@ fn values_are_copied_with_ample_memory(rt: HostRuntime) {
     assert!(rt; matches!(items.items().first(), Some(Value::Int(7))));
 }
 
-/// The parameter `a`, and the expression `$a + 1`, both copied.
-fn copied(alloc: Global) -> Result<(Param, Expr), OutOfMemory> {
-    let param = Param {
+/// `{@param? a: int}`
+fn param(alloc: Global) -> Result<Param, OutOfMemory> {
+    Ok(Param {
         name: text_of(alloc, "a")?,
         of: SoyType::Int,
         required: false,
         span: SPAN,
-    };
-    let left = Expr {
-        node: ExprNode::Var(text_of(alloc, "a")?),
-        span: SPAN,
-    };
-    let right = Expr {
-        node: ExprNode::Int(1),
-        span: SPAN,
-    };
-    let left = Boxed::new(alloc, left)?;
-    let right = Boxed::new(alloc, right)?;
-    let sum = Expr {
-        node: ExprNode::Binary(BinaryOp::Add, left, right),
-        span: SPAN,
-    };
-    Ok((param.copy(alloc)?, sum.copy(alloc)?))
+    })
+}
+
+/// `$a + 1`
+fn sum(alloc: Global) -> Result<Expr, OutOfMemory> {
+    let left = Boxed::new(alloc, variable(alloc)?)?;
+    let right = Boxed::new(alloc, expr_of(ExprNode::Int(1)))?;
+    Ok(expr_of(ExprNode::Binary(BinaryOp::Add, left, right)))
+}
+
+fn copied_param(alloc: Global) -> Result<Param, OutOfMemory> {
+    param(alloc)?.copy(alloc)
+}
+
+fn copied_sum(alloc: Global) -> Result<Expr, OutOfMemory> {
+    sum(alloc)?.copy(alloc)
 }
 
 #[test]
-fn parameters_and_expressions_are_copied_with_ample_memory(rt: HostRuntime) {
-    let Ok((param, sum)) = copied(rt.alloc()) else {
+fn a_parameter_is_copied(rt: HostRuntime) {
+    let Ok(param) = copied_param(rt.alloc()) else {
         assert!(rt; false);
         return;
     };
     assert!(rt; param.name.is("a") && !param.required);
     assert_eq!(rt; param.span, SPAN);
+}
+
+#[test]
+fn a_sum_is_copied(rt: HostRuntime) {
+    let Ok(sum) = copied_sum(rt.alloc()) else {
+        assert!(rt; false);
+        return;
+    };
     let ExprNode::Binary(op, left, right) = &sum.node else {
         assert!(rt; false);
         return;
@@ -252,17 +260,26 @@ fn no_trees_are_typed(rt: HostRuntime) {
     assert!(rt; typed.params(0).is_empty());
 }
 
+fn text_node(alloc: Global, words: &str) -> Result<Node, OutOfMemory> {
+    Ok(Node {
+        form: Form::Text(text_of(alloc, words)?),
+        span: SPAN,
+    })
+}
+
+fn print_node(alloc: Global) -> Result<Node, OutOfMemory> {
+    Ok(Node {
+        form: Form::Print(variable(alloc)?, None),
+        span: SPAN,
+    })
+}
+
 /// A text, a print and a text.
 fn around_print(alloc: Global, before: &str, after: &str) -> Result<Vec<Node>, OutOfMemory> {
-    let forms = [
-        Form::Text(text_of(alloc, before)?),
-        Form::Print(variable(alloc)?, None),
-        Form::Text(text_of(alloc, after)?),
-    ];
     let mut nodes = Vec::new(alloc);
-    for form in forms {
-        nodes.push(Node { form, span: SPAN })?;
-    }
+    nodes.push(text_node(alloc, before)?)?;
+    nodes.push(print_node(alloc)?)?;
+    nodes.push(text_node(alloc, after)?)?;
     Ok(nodes)
 }
 
