@@ -1,6 +1,7 @@
-# Sourced by .ci/start and .ci/prove, which set `top`, the checkout: whether a program that was made earlier is that of
-# the files as they are now. Beside FOLDER/soyc stand soyc.files (the names of what it was made of and its own, each
-# ended by NUL), soyc.times (the size of each and when it was changed last) and soyc.sums (SHA-256).
+# Sourced by .ci/start, .ci/prove and .ci/dist, which set `top`, the checkout: how cc makes a program, and whether one
+# that was made earlier is that of the files as they are now. Beside FOLDER/soyc stand soyc.files (the names of what it
+# was made of and its own, each ended by NUL), soyc.times (the size of each and when it was changed last) and soyc.sums
+# (SHA-256).
 
 say() { printf 'soyc: %s\n' "$*" >&2; }
 
@@ -36,3 +37,7 @@ made_of() {
     { cat "$3" && printf '%s/soyc\0' "$1" | times; } >"$made.times"
     mv -f "$made.sums.$$" "$made.sums"
 }
+
+# cc_linked MADE FILE..: makes a program of C and of texts by cc. Where the C library is there as an archive it is linked
+# in, since such a program starts in two thirds of the time.
+cc_linked() { cc -O2 -static -o "$@" 2>/dev/null || cc -O2 -o "$@"; }
