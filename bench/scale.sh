@@ -1,16 +1,19 @@
 #!/usr/bin/env bash
 # Renders many pages of the shop in two languages on three hosts, by examples/scale, and checks each against the page
 # that is rendered here: with a kill in the middle, after which the same command goes on; with 1, 2 and 4 jobs at once,
-# in pages a second, the best of ROUNDS; and with a host that goes away in the middle. Then what a page and a job take
-# by themselves. The hosts are network namespaces of this machine, each with an
+# in pages a second, the best of ROUNDS, by the program and by the library; and with a host that goes away in the
+# middle. Then what a page and a job take by themselves. The hosts are network namespaces of this machine, each with an
 # address on a bridge, an sshd and a home of its own; so they share its processors.
 #
-# bench/scale.sh [PAGES [SHARD [ROUNDS [PROGRAM]]]], as root: so many pages, in shards of so many each. On Debian:
-# apt install parallel rsync openssh-server iproute2
+# bench/scale.sh [PAGES [SHARD [ROUNDS [PROGRAM]]]], as root: so many pages, in shards of so many each. The library is
+# that in dist/out, or where the environment's SOYC_LIBRARY says. On Debian: apt install parallel rsync openssh-server
+# iproute2
 set -eu
 . "$(dirname "$0")/setup.sh"
 pages=${1-3000} shard_pages=${2-250} rounds=${3-3}
 find_program "${@:4}"
+library=${SOYC_LIBRARY:-$top/dist/out/libsoyc.so}
+[[ ${SOYC_LIBRARY-} ]] || make -s -C "$top/dist" libsoyc.so
 network=10.77.42
 
 # ---- hosts
@@ -99,9 +102,9 @@ hosts() {
 # The folder of the run: the program, the files that it needs and the shards; and the pages as rendered here.
 make_pages() {
     mkdir -p "$work/run/shards" "$work/right"
-    cp "$soyc" "$work/run/soyc"
-    cp "$top"/examples/scale/render "$top"/examples/shop/*.soy "$top/examples/shop/he.json" "$work/run"
+    cp "$top"/examples/shop/*.soy "$top/examples/shop/he.json" "$work/run"
     cd "$work/run"
+    by_program
     en=$(tr -d '\n' <"$top/examples/shop/data.json") he=$(tr -d '\n' <"$top/examples/shop/data.he.json") \
         awk -v pages="$pages" -v each="$shard_pages" 'BEGIN {
             for (i = 0; i < pages; i++) {
@@ -118,6 +121,20 @@ make_pages() {
     { time for it in shards/*.tsv; do ./render "$it"; done; } 2>"$work/local.times"
     for it in shards/*.tar; do tar -xf "$it" -C "$work/right"; done
     cd "$work/run"
+}
+
+# The job and what it needs, besides templates and bundles.
+by_program() {
+    rm -f soyc.py libsoyc.so
+    cp "$soyc" soyc
+    cp "$top/examples/scale/render" render
+}
+
+by_library() {
+    rm -f soyc
+    cp "$library" libsoyc.so
+    cp "$top/bindings/python/soyc.py" soyc.py
+    cp "$top/examples/scale/render.py" render
 }
 
 # Nothing is done yet.
@@ -222,7 +239,13 @@ by_page() {
 # What a page takes by itself, and a job without pages.
 parts() {
     local it before words
-    by_page 'the script render' "$work/local.times"
+    by_page 'the program' "$work/local.times"
+    (
+        cd "$work/local"
+        by_library
+        { time for it in shards/*.tsv; do ./render "$it"; done; } 2>"$work/library.times"
+    )
+    by_page 'the library' "$work/library.times"
     head -n 1 shards/00000.tsv | cut -f4 >"$work/one.json"
     words=(render shop.list.main "$work/one.json" - ./*.soy)
     { time for it in {1..100}; do ./soyc "${words[@]}" >"$work/page"; done; } 2>"$work/soyc.times"
@@ -252,8 +275,12 @@ make_pages
 for host in 1 2 3; do start_host "$host"; done
 echo "$pages pages of the shop in two languages, in $shards shards"
 kill_and_resume
-speed '1 job on 1 host' 1
-speed '2 jobs on 2 hosts' 1 1
-speed '4 jobs on 3 hosts' 2 1 1
+for by in program library; do
+    "by_$by"
+    speed "by the $by, 1 job on 1 host" 1
+    speed "by the $by, 2 jobs on 2 hosts" 1 1
+    speed "by the $by, 4 jobs on 3 hosts" 2 1 1
+done
+by_program
 lose_and_finish
 parts

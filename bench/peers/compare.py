@@ -51,7 +51,7 @@ def shell(folder, *words, **more):
 
 def build_soyc(folder):
     (folder / "soyc.s").write_bytes(gzip.decompress((TOP / "dist/soyc.s.gz").read_bytes()))
-    shell(folder, "cc", "-O2", "-o", "soyc", "soyc.s", TOP / "dist/runtime.c")
+    shell(folder, "cc", "-O2", "-static", "-DSOYC_PROGRAM", "-o", "soyc", "soyc.s", TOP / "dist/runtime.c")
     return folder / "soyc"
 
 
@@ -65,7 +65,7 @@ def build_hand(folder):
 
 
 def go(folder, *words):
-    cache = str(folder / "go-cache")
+    cache = os.environ.get("GOCACHE") or str(folder / "go-cache")
     shell(folder, "go", *words, GOPATH="/usr/share/gocode", GO111MODULE="off", GOFLAGS="", GOCACHE=cache)
 
 

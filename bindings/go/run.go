@@ -1,4 +1,5 @@
-// Package soyc makes pages from Closure Templates and data, by the library libsoyc.a, in this process.
+// Package soyc makes pages from Closure Templates and data, by the library libsoyc.a, in this process. Compile compiles
+// templates once, and Open opens pages of them, which are made as they are read; Run is the program itself.
 //
 // `make -C dist` in the repository makes the library, which takes a C compiler and a second or two. Nothing else is
 // needed but cgo.

@@ -8,6 +8,7 @@ package main
 
 import (
 	"fmt"
+	"io"
 	"os"
 	"path/filepath"
 
@@ -19,28 +20,46 @@ func stop(what any) {
 	os.Exit(1)
 }
 
-func file(folder, name string) soyc.File {
+func content(folder, name string) []byte {
 	content, err := os.ReadFile(filepath.Join(folder, name))
 	if err != nil {
 		stop(err)
 	}
-	return soyc.File{Name: name, Content: content}
+	return content
 }
 
-// render writes the page of the shop with these data under these translations.
-func render(from, to, data, bundle, page string) {
-	words, files := []string{"render", "shop.list.main", data, bundle}, []soyc.File{file(from, data)}
-	if bundle != "-" {
-		files = append(files, file(from, bundle))
-	}
+// compile compiles the shop's templates under a bundle, if one is named.
+func compile(from, bundle string) *soyc.Templates {
+	var files []soyc.File
 	for _, source := range []string{"layout.soy", "list.soy", "product.soy"} {
-		words, files = append(words, source), append(files, file(from, source))
+		files = append(files, soyc.File{Name: source, Content: content(from, source)})
 	}
-	made := soyc.Run(words, files)
-	if made.Status != 0 {
-		stop(fmt.Sprintf("%s: status %d\n%s", page, made.Status, made.Err))
+	var translations []byte
+	if bundle != "" {
+		translations = content(from, bundle)
 	}
-	if err := os.WriteFile(filepath.Join(to, page), made.Out, 0o666); err != nil {
+	templates, err := soyc.Compile(files, translations)
+	if err != nil {
+		stop(err)
+	}
+	return templates
+}
+
+// write writes the shop's page with these data into a file, piece by piece as it is made.
+func write(templates *soyc.Templates, data []byte, path string) {
+	page, err := templates.Open("shop.list.main", data)
+	if err != nil {
+		stop(err)
+	}
+	defer page.Close()
+	file, err := os.Create(path)
+	if err != nil {
+		stop(err)
+	}
+	if _, err = io.Copy(file, page); err != nil {
+		stop(err)
+	}
+	if err = file.Close(); err != nil {
 		stop(err)
 	}
 }
@@ -50,6 +69,7 @@ func main() {
 		fmt.Fprintln(os.Stderr, "usage: shop FROM TO")
 		os.Exit(2)
 	}
-	render(os.Args[1], os.Args[2], "data.json", "-", "page.en.html")
-	render(os.Args[1], os.Args[2], "data.he.json", "he.json", "page.he.html")
+	from, to := os.Args[1], os.Args[2]
+	write(compile(from, ""), content(from, "data.json"), filepath.Join(to, "page.en.html"))
+	write(compile(from, "he.json"), content(from, "data.he.json"), filepath.Join(to, "page.he.html"))
 }
