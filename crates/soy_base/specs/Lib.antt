@@ -15,3 +15,4 @@ pub mod Piece
 pub mod Table
 pub mod Limits
 pub mod Path
+pub mod Storage

@@ -23,6 +23,7 @@ mod row;
 mod seq;
 mod stack;
 mod steps;
+mod storage;
 mod text;
 mod white;
 
@@ -48,6 +49,3 @@ pub use stack::Stack;
 pub use steps::Steps;
 pub use text::{Text, copied_name, text_of};
 pub use white::{is_line_break, is_template_space};
-
-#[cfg(test)]
-mod tests;

@@ -7,24 +7,26 @@ ghost use Rattle.std.specs.String.{string_bytes};
 ghost use Rattle.soy_base.specs.Cuts.{is_nil};
 
 use crate::OutOfMemory;
-use crate::push::push_text;
+use crate::storage::Storage;
+use arrayvec::ArrayString;
 use std::alloc::Global;
 use std::marker::Model;
 
 /// A text, which contracts see as the list of its characters (Unicode scalar values).
 #[derive(Debug, Drop)]
 pub struct Text {
-    text: String,
+    storage: Storage,
+    alloc: Global,
 }
 
 impl Model for Text {
     ghost use Rattle.std.specs.Prelude.{List, ℕ};
     ghost use Rattle.std.specs.Str.{chars};
-    ghost use Rattle.std.specs.String.{string_bytes};
+    ghost use Rattle.soy_base.specs.Storage.{storage_bytes};
 
     ghost Value = { List ℕ };
 
-    ghost view = { λ t. chars (string_bytes t.text) };
+    ghost view = { λ t. chars (storage_bytes t.storage) };
 }
 
 impl Text {
@@ -32,7 +34,12 @@ impl Text {
     pub fn new(text: String) -> Text
         ensures { result ≡ chars (string_bytes text) }
     {
-        Text { text }
+        let alloc = *text.allocator();
+        let storage = match ArrayString::from(text.as_str()) {
+            Ok(short) => Storage::Inline(short),
+            Err(_) => Storage::Heap(text),
+        };
+        Text { storage, alloc }
     }
 
     /// The text without characters. Takes no memory.
@@ -40,7 +47,8 @@ impl Text {
         ensures { result ≡ [] }
     {
         Text {
-            text: String::new(alloc),
+            storage: Storage::Inline(ArrayString::new()),
+            alloc,
         }
     }
 
@@ -49,21 +57,21 @@ impl Text {
         ensures characters { chars result.now ≡ self.now }
         ensures bytes { result.now ≡ encode_utf8_all self.now }
     {
-        self.text.as_str()
+        self.storage.as_str()
     }
 
     /// Whether the text has no characters.
     pub fn is_empty(&self) -> bool
         ensures { result ≡ is_nil self.now }
     {
-        self.text.as_str().is_empty()
+        self.storage.as_str().is_empty()
     }
 
     /// Whether the text has just these characters.
     pub fn is(&self, other: &str) -> bool
         ensures { result ≡ bytes_eq self.now (chars other.now) }
     {
-        self.text.as_str() == other
+        self.storage.as_str() == other
     }
 
     /// Adds the characters of another text at the end.
@@ -71,15 +79,14 @@ impl Text {
         ensures ok { OnOk result (self.new ≡ self.old ++ more.now) }
         ensures unchanged { OnErr result (self.new ≡ self.old) }
     {
-        push_text(&mut self.text, more.text.as_str())
+        self.storage.push(self.alloc, more.storage.as_str())
     }
 
     /// An equal text.
     pub fn copy(&self, alloc: Global) -> Result<Text, OutOfMemory>
         ensures { IfOk result (λ t. t ≡ self.now) }
     {
-        let text = String::from_str(alloc, self.text.as_str())?;
-        Ok(Text { text })
+        text_of(alloc, self.storage.as_str())
     }
 }
 
@@ -101,7 +108,8 @@ impl Eq for Text {
 pub fn text_of(alloc: Global, text: &str) -> Result<Text, OutOfMemory>
     ensures { IfOk result (λ t. t ≡ chars text.now) }
 {
-    Ok(Text::new(String::from_str(alloc, text)?))
+    let storage = Storage::of(alloc, text)?;
+    Ok(Text { storage, alloc })
 }
 
 /// An equal text, if there is one.

@@ -1,9 +1,10 @@
 use Rattle.std.proofs.Common.{sym, ◌∙◌, ap}
 use Rattle.std.specs.Prelude.{encode_utf8_all}
-use Rattle.std.proofs.lemmas.Str.{encodes-chars, IsUtf8-string_bytes}
+use Rattle.std.specs.Str.{chars}
+use Rattle.std.proofs.lemmas.Str.{encodes-chars}
 use Rattle.soy_base.proofs.text.Text.text.Goals as goal
 
 pub returns-clause-bytes : goal.returns-clause-bytes
 returns-clause-bytes c =
-    c.as_str.ensures.value
-    ∙ sym (ap encode_utf8_all (sym c.self.view_is) ∙ encodes-chars _ (IsUtf8-string_bytes c.self.inside.text))
+    sym (encodes-chars c.as_str.result.now c.as_str.utf8)
+    ∙ ap encode_utf8_all (ap chars c.as_str.ensures ∙ c.self.view_is)
