@@ -75,27 +75,33 @@ chunk_represented c (d ∷ ds) offset chunk {text} {white} {fresh} {angle} {star
     refl (not_nil text c) text' end'
     (t ∙ sym (append_assoc text (c ∷ []) (d ∷ ds))) (omega (arith, n)))
 
--- the same of a run that has no white space after its text
+-- the same of any run
 pub chunk_added : (cs : List ℕ) (offset : ℕ) → IsTrue (list_all is_chunk_character cs) → is_nil cs ≡ false →
     {text white : List ℕ} {fresh angle : Bool} {start text_end end : ℕ} {run : List RunCharacter} →
-    Represents text white fresh angle start text_end end run → fresh ≡ false → white ≡ [] → is_nil text ≡ false →
-    (text' : List ℕ) (end' : ℕ) → text' ≡ text ++ cs → end' ≡ offset + byte_len cs →
-    Represents text' white fresh false start end' end' (run ++ run_characters offset cs)
-chunk_added [] offset chunk filled k begun none some text' end' t n = absurd (cc)
-chunk_added (c ∷ cs) offset chunk filled {text} {white} {fresh} {angle} {start} {text_end} {end} {run} k begun none some
-    text' end' t n =
-    rw (begun, none) (chunk_represented c cs offset chunk k begun none some text' end' t n)
+    Represents text white fresh angle start text_end end run → (text' white' : List ℕ) (start' end' : ℕ) →
+    text' ≡ ((text ++ space_before text fresh angle false) ++ white) ++ cs → white' ≡ [] →
+    start' ≡ start_with text white start offset → end' ≡ offset + byte_len cs →
+    Represents text' white' false false start' end' end' (run ++ run_characters offset cs)
+chunk_added [] offset chunk filled k text' white' start' end' t w s n = absurd (cc)
+chunk_added (c ∷ []) offset chunk filled k text' white' start' end' t w s n =
+    let is = (first_of_chunk c [] chunk).0 in
+    other_represented text' white' false start' end' (record { offset = offset; character = c }) k
+    (chunk_white c is) (chunk_line c is) t w (chunk_angle c is) s (omega (arith, n))
+chunk_added (c ∷ d ∷ ds) offset chunk filled {text} {white} {fresh} {angle} {start} {text_end} {end} {run} k text'
+    white' start' end' t w s n =
+    let both = first_of_chunk c (d ∷ ds) chunk in
+    let here : RunCharacter = record { offset = offset; character = c } in
+    let before = (text ++ space_before text fresh angle false) ++ white in
+    rw w (subst (λ l. Represents text' [] false false start' end' end' l)
+    (append_assoc run (here ∷ []) (run_characters (offset + len_utf8 c) (d ∷ ds)))
+    (chunk_represented d ds (offset + len_utf8 c) both.1
+    (other_represented (before ++ c ∷ []) [] false start' (offset + len_utf8 c) here k (chunk_white c both.0)
+    (chunk_line c both.0) refl refl (chunk_angle c both.0) s refl)
+    refl refl (not_nil before c) text' end'
+    (t ∙ sym (append_assoc before (c ∷ []) (d ∷ ds))) (omega (arith, n))))
 
 -- and of no more characters
 pub none_added : (P : List RunCharacter → Type 0) (cs : List ℕ) (offset : ℕ) → is_nil cs ≡ true
     → (run : List RunCharacter) → P run → P (run ++ run_characters offset cs)
 none_added P [] offset nil run h = subst P (sym (append-nil run)) h
 none_added P (c ∷ cs) offset nil run h = absurd (cc)
-
--- a character and then more of a chunk
-pub first_added : (P : List RunCharacter → Type 0) (c offset : ℕ) (cs : List ℕ) (run : List RunCharacter) →
-    P ((run ++ record { offset = offset; character = c } ∷ []) ++ run_characters (offset + len_utf8 c) cs)
-    → P (run ++ run_characters offset (c ∷ cs))
-first_added P c offset cs run h =
-    subst P (append_assoc run (record { offset = offset; character = c } ∷ [])
-    (run_characters (offset + len_utf8 c) cs)) h

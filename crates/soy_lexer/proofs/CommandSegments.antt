@@ -305,7 +305,7 @@ symbol_of_one c cs none =
     rw (none, found) refl
 
 -- what a text in a command begins with, by its first character
-begins_white : (c : ℕ) (cs : List ℕ) → is_template_space c ≡ true
+pub begins_white : (c : ℕ) (cs : List ℕ) → is_template_space c ≡ true
     → command_segment (c ∷ cs) ≡ Begins (Skipped (c ∷ [])) cs
 begins_white c cs white = rw (white, no_null-cons c [] (not_null is_template_space c refl white) refl) refl
 
@@ -371,6 +371,17 @@ opened_close (c ∷ cs) name rest h = close_by (c == 47) refl h
         let is : c ≡ 47 = grind (arith, nat_tests, e) in
         rw (is, name_after kind.BeginClose 47 cs name rest (λ z. cc) (h ∙ rw e refl)) refl
     close_by false e h = let is : some_parts name rest ≡ None = h ∙ rw e refl in cc
+
+pub opened_none : (text : List ℕ) → None ≡ closing_name text → opened_segment text ≡ command_segment text
+opened_none [] h = refl
+opened_none (c ∷ cs) h = by_slash (c == 47) refl h
+  where
+    by_slash : (t : Bool) → (c == 47) ≡ t → None ≡ closing_name (c ∷ cs)
+        → opened_segment (c ∷ cs) ≡ command_segment (c ∷ cs)
+    by_slash true e h =
+        let none : name_prefix cs ≡ None = sym (h ∙ rw e refl) in
+        rw (e, none) refl
+    by_slash false e h = rw e refl
 
 pub closing_whole : (text name rest : List ℕ) → some_parts name rest ≡ closing_name text → text ≡ (47 ∷ name) ++ rest
 closing_whole [] name rest h = cc

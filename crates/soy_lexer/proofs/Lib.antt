@@ -6,9 +6,9 @@ pub mod Represented
 pub mod TextSegments
 pub mod ChunksAdded
 pub mod Reading
+pub mod PlainAdded
 pub mod ChunksRead
 pub mod Ordered
-pub mod Chunks
 pub mod CommandSegments
 pub mod StringReading
 mod LongestTokens

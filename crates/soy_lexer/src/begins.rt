@@ -7,7 +7,7 @@ ghost use Rattle.soy_lexer.specs.Segment.{source_text};
 ghost use Rattle.soy_lexer.specs.ReadsSegment.{ReadsSegment, view_segment};
 
 use crate::source_segment::{FirstSegment, SourceSegment};
-use soy_base::{Refusal, byte_len, cut};
+use soy_base::{Refusal, byte_len, cut_at};
 
 /// A segment that stands in these characters, unless a U+0000 is one of them.
 pub(crate) fn begins<'a>(
@@ -18,7 +18,7 @@ pub(crate) fn begins<'a>(
     requires { chars text.now ≡ source_text (view_segment segment) }
     ensures { ReadsSegment (begins (view_segment segment.entry) (chars rest.now)) result }
 {
-    match cut(text, "\0") {
+    match cut_at(text, '\0') {
         Some((prefix, _)) => Err(Refusal::Because(byte_len(prefix))),
         None => Ok(FirstSegment { segment, rest }),
     }

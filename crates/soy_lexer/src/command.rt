@@ -23,26 +23,29 @@ use crate::source_segment::{FirstSegment, SourceSegment};
 use crate::string::string_segment;
 use crate::token::TokenKind;
 use soy_base::{
-    Refusal, before, begins_name, cut, first, is_template_space, split_digits, split_name, text_of,
+    Refusal, before, begins_name, cut_at, first, is_template_space, split_digits, split_name,
+    text_of,
 };
 use std::alloc::Global;
 
 /// The greatest int that is a token.
 const LARGEST_INT: u64 = 9007199254740991;
 
-/// The segment with which a text in a command begins, directly after its `{`.
-pub(crate) fn opened_segment<'a>(
+/// The segment with which a text in a command begins, directly after its `{`, where it closes; otherwise it is one that
+/// may stand further on too.
+pub(crate) fn closing_segment<'a>(
     alloc: Global,
     text: &'a str,
-) -> Result<FirstSegment<'a>, Refusal<usize>>
-    ensures { ReadsSegment (opened_segment (chars text.now)) result }
+) -> Option<Result<FirstSegment<'a>, Refusal<usize>>>
+    ensures { MatchOption result (opened_segment (chars text.now) ≡ command_segment (chars text.now))
+        (ReadsSegment (opened_segment (chars text.now))) }
 {
     match closing_name(text) {
         Some((name, rest)) => {
             let source_text = before(text, rest);
-            command_token(alloc, TokenKind::BeginClose, source_text, name, rest)
+            Some(command_token(alloc, TokenKind::BeginClose, source_text, name, rest))
         }
-        None => command_segment(alloc, text),
+        None => None,
     }
 }
 
@@ -215,7 +218,7 @@ fn attribute_segment<'a>(
     requires { chars text.now ≡ double_quote ∷ chars inner.now }
     ensures { ReadsSegment (value_segment (cut (double_quote ∷ []) (chars inner.now))) result }
 {
-    match cut(inner, "\"") {
+    match cut_at(inner, '"') {
         Some((value, rest)) => {
             let source_text = before(text, rest);
             let value = text_of(alloc, value)?;

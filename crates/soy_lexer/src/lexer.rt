@@ -1,9 +1,9 @@
 //! The lexer: the segments of a text one after the other, and the tokens that they make.
 
-ghost use Rattle.std.specs.Prelude.{◌≡◌, ℕ, ◌+◌, ◌<◌, ◌≤◌, ◌^◌, List, [], ◌∷◌, ◌++◌, OnOk, IfOk, IsTrue, length};
-ghost use Rattle.std.specs.List.{list_all};
-ghost use Rattle.std.specs.Str.{chars};
+ghost use Rattle.std.specs.Prelude.{◌≡◌, ℕ, ◌+◌, ◌<◌, ◌≤◌, ◌^◌, List, [], ◌∷◌, ◌++◌, OnOk, IfOk, MatchOption, length};
+ghost use Rattle.std.specs.Str.{chars, IsUtf8};
 ghost use Rattle.soy_base.specs.ByteLength.{byte_len};
+ghost use Rattle.soy_lexer.specs.CommandSegment.{command_segment};
 ghost use Rattle.soy_lexer.specs.InOrder.{InOrder};
 ghost use Rattle.soy_lexer.specs.Lexed.{Lexed, HasRead, TakesSegment, TakesToken, EndsRun};
 ghost use Rattle.soy_lexer.specs.Lexes.{Lexes};
@@ -14,27 +14,44 @@ ghost use Rattle.soy_lexer.specs.Segment.{source_text};
 ghost use Rattle.soy_lexer.specs.ReadsSegment.{ReadsSegment, view_segment};
 ghost use Rattle.soy_lexer.specs.TextSegment.{segment_of};
 ghost use Rattle.soy_lexer.specs.Tokens.{literal_start, run_token};
-ghost use Rattle.soy_lexer.specs.Chunks.{TakesCharacters, is_chunk_character, run_characters};
+ghost use Rattle.soy_lexer.specs.Chunks.{TakesAll};
 ghost use Rattle.soy_lexer.specs.declared.token.Token.{Token};
 
-use crate::command::{command_segment, opened_segment};
+use crate::command::{closing_segment, command_segment};
 use crate::mode::Mode;
 use crate::run::Run;
 use crate::source_segment::{FirstSegment, SourceSegment};
+use crate::text::split_white;
 use crate::text_segment::text_segment;
 use crate::token::{Token, TokenKind};
 use soy_base::{Code, Fault, OutOfMemory, Refusal, Span, Text, byte_len, is_empty, text_of};
 use std::alloc::Global;
 use std::mem::replace;
 
-/// The segment with which a text in this mode begins.
+/// The segment with which a text in this mode begins. One of commands is read at one place here, so that it isn't
+/// moved on the way.
 fn segment<'a>(alloc: Global, mode: Mode, text: &'a str) -> Result<FirstSegment<'a>, Refusal<usize>>
     ensures { ReadsSegment (segment_of mode (chars text.now)) result }
 {
+    match own_segment(alloc, mode, text) {
+        Some(read) => read,
+        None => command_segment(alloc, text),
+    }
+}
+
+/// The same, where it is one of this mode alone and not of commands.
+fn own_segment<'a>(
+    alloc: Global,
+    mode: Mode,
+    text: &'a str,
+) -> Option<Result<FirstSegment<'a>, Refusal<usize>>>
+    ensures { MatchOption result (segment_of mode (chars text.now) ≡ command_segment (chars text.now))
+        (ReadsSegment (segment_of mode (chars text.now))) }
+{
     match mode {
-        Mode::Outside(white) => text_segment(alloc, white, text),
-        Mode::Opened => opened_segment(alloc, text),
-        Mode::Inside => command_segment(alloc, text),
+        Mode::Outside(white) => Some(text_segment(alloc, white, text)),
+        Mode::Opened => closing_segment(alloc, text),
+        Mode::Inside => None,
     }
 }
 
@@ -92,13 +109,29 @@ impl Lexer {
         }
     }
 
-    /// Takes a chunk that stands at an offset.
-    fn take_chunk(&mut self, chunk: &str, offset: u64) -> Result<(), OutOfMemory>
-        requires chunk { IsTrue (list_all is_chunk_character (chars chunk.now)) }
-        requires offset { offset + byte_len (chars chunk.now) + 4 < 2 ^ 64 }
-        ensures { OnOk result (TakesCharacters self.old self.new (run_characters offset (chars chunk.now))) }
+    /// Takes what is read at once of a text that stands at an offset, and gives the mode after it and what follows.
+    fn take_all<'a>(
+        &mut self,
+        mode: Mode,
+        text: &'a str,
+        offset: u64,
+    ) -> Result<(Mode, &'a str), OutOfMemory>
+        requires { offset + byte_len (chars text.now) + 4 < 2 ^ 64 }
+        ensures takes { IfOk result (λ after.
+            TakesAll self.old self.new offset mode (chars text.now) (chars after.1.now) after.0) }
+        ensures utf8 { IfOk result (λ after. IsUtf8 after.1.now) }
     {
-        self.run.add_chunk(chunk, offset)
+        match mode {
+            Mode::Outside(white) => {
+                let after = self.run.add_all(white, text, offset)?;
+                Ok((Mode::Outside(after.white), after.rest))
+            }
+            Mode::Opened => Ok((Mode::Opened, text)),
+            Mode::Inside => {
+                let (_, rest) = split_white(text);
+                Ok((Mode::Inside, rest))
+            }
+        }
     }
 
     /// Ends the run, and adds a token after it.
@@ -163,12 +196,10 @@ fn lexed(alloc: Global, text: &str) -> Result<Vec<Token>, Refusal<u64>>
             Err(Refusal::OutOfMemory) => return Err(Refusal::OutOfMemory),
         };
         mode = mode.after(&read.segment);
-        rest = read.rest;
-        let end = length - byte_len(rest);
+        let end = length - byte_len(read.rest);
         lexer.take(read.segment, offset as u64, end as u64)?;
-        let (chunk, others) = mode.chunk(rest);
-        lexer.take_chunk(chunk, end as u64)?;
-        mode = mode.after_chunk(chunk);
+        let (after, others) = lexer.take_all(mode, read.rest, end as u64)?;
+        mode = after;
         rest = others;
         offset = length - byte_len(rest);
     }

@@ -1,15 +1,12 @@
 //! The mode of the lexer: whether the rest of a text stands outside of commands or in one.
 
 ghost use Rattle.std.specs.Prelude.{◌≡◌};
-ghost use Rattle.std.specs.Str.{chars, IsUtf8};
 ghost use Rattle.soy_lexer.specs.ModeAfter.{mode_after, mode_after_skipped, mode_after_token};
 ghost use Rattle.soy_lexer.specs.ReadsSegment.{view_segment};
-ghost use Rattle.soy_lexer.specs.Chunks.{after_chunk, mode_after_chunk, chunk};
 
 use crate::source_segment::SourceSegment;
-use crate::text::split_chunk;
 use crate::token::TokenKind;
-use soy_base::{is_empty, is_template_space};
+use soy_base::is_template_space;
 
 /// The mode in which the rest of a text is read.
 #[derive(Clone, Copy, Debug, PartialEq, Eq)]
@@ -32,30 +29,6 @@ impl Mode {
             SourceSegment::Skipped(_) => self.after_skipped(),
             SourceSegment::Literal(_) => Mode::Outside(false),
             SourceSegment::CommandToken(kind, _, _) => Mode::after_token(*kind),
-        }
-    }
-
-    /// The chunk with which a text in this mode begins, and what follows it.
-    pub(crate) fn chunk(self, text: &str) -> (&str, &str)
-        ensures prefix { chars result.0.now ≡ chunk self (chars text.now) }
-        ensures rest { chars result.1.now ≡ after_chunk self (chars text.now) }
-        ensures utf8 { IsUtf8 result.1.now }
-    {
-        match self {
-            Mode::Outside(_) => split_chunk(text),
-            Mode::Opened => ("", text),
-            Mode::Inside => ("", text),
-        }
-    }
-
-    /// The mode after a chunk.
-    pub(crate) fn after_chunk(self, chunk: &str) -> Mode
-        ensures { result ≡ mode_after_chunk self (chars chunk.now) }
-    {
-        if is_empty(chunk) {
-            self
-        } else {
-            Mode::Outside(false)
         }
     }
 

@@ -1,9 +1,9 @@
 //! A text run as it is read, with its lines joined.
 
 ghost use Rattle.std.specs.Prelude.{◌≡◌, ℕ, ◌<◌, ◌+◌, ◌^◌, List, [], ◌∷◌, ◌++◌, OnOk, IfOk, IsTrue, false};
-ghost use Rattle.std.specs.Prelude.{option_to_list, if◌then◌else◌, ◌&&◌, true};
+ghost use Rattle.std.specs.Prelude.{option_to_list, if◌then◌else◌, ◌&&◌, true, IfSome};
 ghost use Rattle.soy_base.specs.Cuts.{is_nil};
-ghost use Rattle.std.specs.Str.{chars};
+ghost use Rattle.std.specs.Str.{chars, IsUtf8};
 ghost use Rattle.std.specs.String.{string_bytes};
 ghost use Rattle.std.specs.List.{list_all};
 ghost use Rattle.soy_base.specs.Appends.{Appends};
@@ -13,10 +13,13 @@ ghost use Rattle.soy_base.specs.ByteLength.{byte_len};
 ghost use Rattle.soy_lexer.specs.IsRunOf.{AddsCharacter, IsRunOf, needs_space, start_with};
 ghost use Rattle.soy_lexer.specs.Lines.{RunCharacter, is_angle};
 ghost use Rattle.soy_lexer.specs.Tokens.{run_token};
-ghost use Rattle.soy_lexer.specs.Chunks.{AddsCharacters, IsWithinChunk, is_chunk_character, run_characters};
+ghost use Rattle.soy_lexer.specs.Chunks.{AddsAll, AddsCharacters, AddsNext, is_chunk_character, run_characters};
 
+use crate::text::{is_chunk_character, is_plain, split_chunk};
 use crate::token::{Token, TokenKind};
-use soy_base::{OutOfMemory, Span, Text, byte_len, first, is_empty, push_char, push_text};
+use soy_base::{
+    OutOfMemory, Span, Text, byte_len, first, is_empty, is_template_space, push_char, push_text,
+};
 use std::alloc::Global;
 
 /// A text run as it is read, its lines joined up to the last character that isn't white space.
@@ -35,6 +38,13 @@ pub(crate) struct Run {
     text_end: u64,
     /// The offset where the white space after it ends.
     end: u64,
+}
+
+/// What follows characters that came to a run, and whether white space is the last before it.
+#[derive(Drop)]
+pub(crate) struct AfterPiece<'a> {
+    pub(crate) white: bool,
+    pub(crate) rest: &'a str,
 }
 
 /// Whether a character is `<` or `>`.
@@ -64,6 +74,61 @@ impl Run {
             start: 0,
             text_end: 0,
             end: 0,
+        }
+    }
+
+    /// Adds the characters from this offset on, up to the first that may begin something else than a character of a
+    /// run. `white` says whether white space stands before them.
+    pub(crate) fn add_all<'a>(
+        &mut self,
+        white: bool,
+        text: &'a str,
+        offset: u64,
+    ) -> Result<AfterPiece<'a>, OutOfMemory>
+        requires { offset + byte_len (chars text.now) + 4 < 2 ^ 64 }
+        ensures adds { IfOk result (λ after. AddsAll self.old self.new offset white (chars text.now)
+            (chars after.rest.now) after.white) }
+        ensures utf8 { IfOk result (λ after. IsUtf8 after.rest.now) }
+    {
+        let end = offset + byte_len(text) as u64;
+        let mut white = white;
+        let mut rest = text;
+        loop {
+            match self.add_next(rest, end - byte_len(rest) as u64)? {
+                Some(after) => {
+                    white = after.white;
+                    rest = after.rest;
+                }
+                None => return Ok(AfterPiece { white, rest }),
+            }
+        }
+    }
+
+    /// Adds the character with which a text at this offset begins, or the chunk, unless something else may begin there.
+    fn add_next<'a>(
+        &mut self,
+        text: &'a str,
+        offset: u64,
+    ) -> Result<Option<AfterPiece<'a>>, OutOfMemory>
+        requires { offset + byte_len (chars text.now) + 4 < 2 ^ 64 }
+        ensures adds { IfOk result (λ after. AddsNext self.old self.new offset (chars text.now) after) }
+        ensures utf8 { IfOk result (λ after. IfSome after (λ after. IsUtf8 after.rest.now)) }
+    {
+        match first(text) {
+            Some((c, rest)) => {
+                if is_chunk_character(c) {
+                    let (chunk, rest) = split_chunk(text);
+                    self.add_chunk(chunk, offset)?;
+                    Ok(Some(AfterPiece { white: false, rest }))
+                } else if is_plain(c) {
+                    self.add(c, offset)?;
+                    let white = is_template_space(c);
+                    Ok(Some(AfterPiece { white, rest }))
+                } else {
+                    Ok(None)
+                }
+            }
+            None => Ok(None),
         }
     }
 
@@ -131,8 +196,7 @@ impl Run {
     fn add_other(&mut self, c: char, offset: u64) -> Result<(), OutOfMemory>
         requires other { is_template_space c ≡ false }
         requires offset { offset + 4 < 2 ^ 64 }
-        ensures adds { OnOk result (AddsCharacter self.old self.new (record { offset = offset; character = c })) }
-        ensures within { OnOk result (IsWithinChunk self.new) }
+        ensures { OnOk result (AddsCharacter self.old self.new (record { offset = offset; character = c })) }
     {
         let angle = is_angle(c);
         let needs_space = self.needs_space(angle);
@@ -148,32 +212,25 @@ impl Run {
         Ok(())
     }
 
-    /// Adds characters that stand one after the other from this offset on, none of them white space.
-    pub(crate) fn add_chunk(&mut self, chunk: &str, offset: u64) -> Result<(), OutOfMemory>
+    /// Adds characters that stand one after the other from this offset on, none of them white space or an angle.
+    fn add_chunk(&mut self, chunk: &str, offset: u64) -> Result<(), OutOfMemory>
         requires chunk { IsTrue (list_all is_chunk_character (chars chunk.now)) }
         requires offset { offset + byte_len (chars chunk.now) + 4 < 2 ^ 64 }
         ensures { OnOk result (AddsCharacters self.old self.new (run_characters offset (chars chunk.now))) }
     {
-        if let Some((c, others)) = first(chunk) {
-            self.add_other(c, offset)?;
-            self.go_on(others, offset + c.len_utf8() as u64)?;
+        if is_empty(chunk) {
+            return Ok(());
         }
-        Ok(())
-    }
-
-    /// Adds more of them to a line that ends with one.
-    fn go_on(&mut self, chunk: &str, offset: u64) -> Result<(), OutOfMemory>
-        requires chunk { IsTrue (list_all is_chunk_character (chars chunk.now)) }
-        requires offset { offset + byte_len (chars chunk.now) + 4 < 2 ^ 64 }
-        requires within { IsWithinChunk self.old }
-        ensures { OnOk result (AddsCharacters self.old self.new (run_characters offset (chars chunk.now))) }
-    {
-        if !is_empty(chunk) {
-            push_text(&mut self.text, chunk)?;
-            self.angle = false;
-            self.text_end = offset + byte_len(chunk) as u64;
-            self.end = self.text_end;
-        }
+        let needs_space = self.needs_space(false);
+        self.start = self.start_with(offset);
+        push_space_if(&mut self.text, needs_space)?;
+        push_text(&mut self.text, self.white.as_str())?;
+        push_text(&mut self.text, chunk)?;
+        self.white.clear();
+        self.fresh = false;
+        self.angle = false;
+        self.text_end = offset + byte_len(chunk) as u64;
+        self.end = self.text_end;
         Ok(())
     }
 

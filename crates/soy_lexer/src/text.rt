@@ -3,12 +3,13 @@
 ghost use Rattle.std.specs.Prelude.{◌≡◌};
 ghost use Rattle.std.specs.Str.{chars, IsUtf8};
 ghost use Rattle.soy_base.specs.Cuts.{after_while, prefix_while};
-ghost use Rattle.soy_lexer.specs.Chunks.{begins_chunk, is_chunk_character};
+ghost use Rattle.soy_base.specs.WhiteSpace.{is_template_space};
+ghost use Rattle.soy_lexer.specs.Chunks.{is_chunk_character, is_plain};
 
-use soy_base::{first, split_while};
+use soy_base::{is_template_space, split_while};
 
 /// Whether a character is one of a chunk.
-fn is_chunk_character(c: char) -> bool
+pub(crate) fn is_chunk_character(c: char) -> bool
     ensures { result ≡ is_chunk_character c }
 {
     !matches!(
@@ -17,25 +18,33 @@ fn is_chunk_character(c: char) -> bool
     )
 }
 
-/// Whether a text outside of commands begins with a chunk.
-fn begins_chunk(text: &str) -> bool
-    ensures { result ≡ begins_chunk (chars text.now) }
+/// Whether a character outside of commands can only be one of a run.
+pub(crate) fn is_plain(c: char) -> bool
+    ensures { result ≡ is_plain c }
 {
-    match first(text) {
-        Some((c, _)) => is_chunk_character(c),
-        None => false,
-    }
+    !matches!(c, '\0' | '/' | '{' | '}')
 }
 
-/// The chunk at the start of a text outside of commands, and what follows it.
+/// The chunk at the start of a text, and what follows it.
 pub(crate) fn split_chunk(text: &str) -> (&str, &str)
     ensures prefix { chars result.0.now ≡ prefix_while is_chunk_character (chars text.now) }
     ensures rest { chars result.1.now ≡ after_while is_chunk_character (chars text.now) }
     ensures utf8 { IsUtf8 result.1.now }
 {
-    if begins_chunk(text) {
-        split_while(text, is_chunk_character)
-    } else {
-        ("", text)
-    }
+    split_while(text, is_chunk_character)
+}
+
+fn is_space(c: char) -> bool
+    ensures { result ≡ is_template_space c }
+{
+    is_template_space(c)
+}
+
+/// The white space at the start of a text, and what follows it.
+pub(crate) fn split_white(text: &str) -> (&str, &str)
+    ensures prefix { chars result.0.now ≡ prefix_while is_template_space (chars text.now) }
+    ensures rest { chars result.1.now ≡ after_while is_template_space (chars text.now) }
+    ensures utf8 { IsUtf8 result.1.now }
+{
+    split_while(text, is_space)
 }

@@ -1,20 +1,18 @@
-use Rattle.std.proofs.Common.{arith, sym, ap, ◌∙◌}
+use Rattle.std.proofs.Common.{sym, ap, ◌∙◌}
 use Rattle.std.specs.Str.{chars}
-use Rattle.soy_base.specs.Cuts.{cut}
 use Rattle.soy_lexer.specs.Found.Found.{Fails}
 use Rattle.soy_lexer.specs.ReadsSegment.{view_segment}
-use Rattle.soy_base.proofs.Texts.{chars-byte}
 use Rattle.soy_lexer.proofs.CommandSegments.{null_free, null_within}
 use Rattle.soy_lexer.proofs.begins.begins.Goals as goal
 
 pub returns : goal.returns
 returns c =
     null_free (view_segment c.args.segment) (chars c.args.text.now) (chars c.args.rest.now) c.requires
-    (c.in-None.ensures ∙ ap (λ delimiter. cut delimiter (chars c.args.text.now)) (chars-byte 0 (omega arith)))
+    c.in-None.ensures.parts
 
 pub returns-in-Some : goal.returns-in-Some
 returns-in-Some c =
     null_within (view_segment c.args.segment) (chars c.args.text.now) (chars c.in-Some.prefix.now)
     (chars c.in-Some.field-0-1.now) (chars c.args.rest.now) c.requires
-    (c.in-Some.ensures ∙ ap (λ delimiter. cut delimiter (chars c.args.text.now)) (chars-byte 0 (omega arith)))
+    c.in-Some.ensures.parts
     ∙ ap Fails (sym c.byte_len.ensures)

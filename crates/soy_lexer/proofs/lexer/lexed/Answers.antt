@@ -3,9 +3,9 @@ use Rattle.std.specs.Str.{chars}
 use Rattle.soy_base.specs.ByteLength.{byte_len}
 use Rattle.soy_lexer.specs.Segment.{source_text}
 use Rattle.soy_lexer.specs.ReadsSegment.{view_segment}
-use Rattle.soy_lexer.specs.Chunks.{chunk}
+use Rattle.soy_lexer.specs.Chunks.{at_once}
 use Rattle.soy_lexer.proofs.Reading.{fails_within, ended, stopped, offset_after}
-use Rattle.soy_lexer.proofs.ChunksRead.{all_chunk, chunk_within, chunk_smaller, both_next}
+use Rattle.soy_lexer.proofs.ChunksRead.{all_within, all_smaller, both_next}
 use Rattle.soy_lexer.proofs.lexer.lexed.Goals as goal
 
 pub overflow_add-result : goal.overflow_add-result
@@ -37,38 +37,30 @@ take-requires-clause-end c =
     (view_segment c.in-Ok.read.segment) (chars c.in-Ok.read.rest.now) c.in-Ok.ensures in
     omega (arith, after, c.byte_len.ensures, c.byte_len-length.ensures)
 
-pub take_chunk-requires-clause-chunk : goal.take_chunk-requires-clause-chunk
-take_chunk-requires-clause-chunk c =
-    rw c.chunk.ensures.prefix (all_chunk c.after-mode.result (chars c.in-Ok.read.rest.now))
-
-pub take_chunk-requires-clause-offset : goal.take_chunk-requires-clause-offset
-take_chunk-requires-clause-offset c =
-    let within = chunk_within (chars c.args.text.now) (chars c.loop-rest.rest.now) c.loop-rest.mode c.loop-rest.lexer
-    c.loop-rest.offset c.loop-rest.invariant.goes_on
-    (view_segment c.in-Ok.read.segment) (chars c.in-Ok.read.rest.now) c.in-Ok.ensures c.after-mode.result in
+pub take_all-requires : goal.take_all-requires
+take_all-requires c =
     let after = offset_after (chars c.args.text.now) (chars c.loop-rest.rest.now) c.loop-rest.mode c.loop-rest.lexer
     c.loop-rest.offset c.loop-rest.invariant.goes_on
     (view_segment c.in-Ok.read.segment) (chars c.in-Ok.read.rest.now) c.in-Ok.ensures in
-    omega (
-      arith,
-      within,
-      after,
-      ap byte_len c.chunk.ensures.prefix,
-      c.byte_len.ensures,
-      c.byte_len-length.ensures,
-      c.requires,
-    )
+    omega (arith, after, c.byte_len.ensures, c.byte_len-length.ensures, c.requires)
 
 pub overflow_sub-offset : goal.overflow_sub-offset
 overflow_sub-offset c =
-    let within = chunk_within (chars c.args.text.now) (chars c.loop-rest.rest.now) c.loop-rest.mode c.loop-rest.lexer
+    let within = all_within (chars c.args.text.now) (chars c.loop-rest.rest.now) c.loop-rest.mode c.loop-rest.lexer
     c.loop-rest.offset c.loop-rest.invariant.goes_on
     (view_segment c.in-Ok.read.segment) (chars c.in-Ok.read.rest.now) c.in-Ok.ensures c.after-mode.result in
-    omega (arith, within, ap byte_len c.chunk.ensures.rest, c.byte_len-in-loop-rest.ensures, c.byte_len-length.ensures)
+    omega (
+      arith,
+      within,
+      ap byte_len c.in_ok-after.ensures.takes.rest_is,
+      c.byte_len-in-loop-rest.ensures,
+      c.byte_len-length.ensures,
+    )
 
 pub loop-rest-smaller : goal.loop-rest-smaller
 loop-rest-smaller c =
-    rw c.chunk.ensures.rest (chunk_smaller (chars c.args.text.now) (chars c.loop-rest.rest.now) c.loop-rest.mode
+    rw c.in_ok-after.ensures.takes.rest_is
+    (all_smaller (chars c.args.text.now) (chars c.loop-rest.rest.now) c.loop-rest.mode
     c.loop-rest.lexer c.loop-rest.offset c.loop-rest.invariant.goes_on
     (view_segment c.in-Ok.read.segment) (chars c.in-Ok.read.rest.now) c.in-Ok.ensures c.after-mode.result)
 
@@ -77,27 +69,26 @@ loop-rest-preserved c =
     let mode = c.after-mode.result in
     let segment = view_segment c.in-Ok.read.segment in
     let rest = chars c.in-Ok.read.rest.now in
-    let within = chunk_within (chars c.args.text.now) (chars c.loop-rest.rest.now) c.loop-rest.mode c.loop-rest.lexer
-    c.loop-rest.offset c.loop-rest.invariant.goes_on
-    (view_segment c.in-Ok.read.segment) (chars c.in-Ok.read.rest.now) c.in-Ok.ensures c.after-mode.result in
+    let takes = c.in_ok-after.ensures.takes in
+    let within = all_within (chars c.args.text.now) (chars c.loop-rest.rest.now) c.loop-rest.mode c.loop-rest.lexer
+    c.loop-rest.offset c.loop-rest.invariant.goes_on segment rest c.in-Ok.ensures mode in
     let after = offset_after (chars c.args.text.now) (chars c.loop-rest.rest.now) c.loop-rest.mode c.loop-rest.lexer
     c.loop-rest.offset c.loop-rest.invariant.goes_on
     segment rest c.in-Ok.ensures in
     let start : c.byte_len-length.result - c.byte_len.result ≡ c.loop-rest.offset + byte_len (source_text segment) =
     omega (arith, after, c.byte_len.ensures, c.byte_len-length.ensures) in
-    let offset : (c.loop-rest.offset + byte_len (source_text segment)) + byte_len (chunk mode rest)
+    let offset : (c.loop-rest.offset + byte_len (source_text segment)) + byte_len (at_once mode rest)
     ≡ c.byte_len-length.result - c.byte_len-in-loop-rest.result =
-    omega (arith, within, ap byte_len c.chunk.ensures.rest, c.byte_len-in-loop-rest.ensures, c.byte_len-length.ensures)
+    omega (arith, within, ap byte_len takes.rest_is, c.byte_len-in-loop-rest.ensures, c.byte_len-length.ensures)
     in
     record {
-      utf8 = c.chunk.ensures.utf8;
-      goes_on = rw (c.after_chunk-mode.ensures, c.chunk.ensures.prefix, c.chunk.ensures.rest, ← offset)
+      utf8 = c.in_ok-after.ensures.utf8;
+      goes_on = rw (← offset)
           (both_next (chars c.args.text.now) (chars c.loop-rest.rest.now) c.loop-rest.mode c.loop-rest.lexer
-          c.loop-rest.offset c.loop-rest.invariant.goes_on
-          (view_segment c.in-Ok.read.segment) (chars c.in-Ok.read.rest.now) c.in-Ok.ensures c.after-mode.result
-          c.take.new.self c.take_chunk.new.self
+          c.loop-rest.offset c.loop-rest.invariant.goes_on segment rest c.in-Ok.ensures mode
+          c.take.new.self c.take_all.new.self (chars c.in_ok-after.others.now) c.in_ok-after.after
           (sym c.is_empty.ensures ∙ c.loop-rest-test.true) c.after-mode.ensures c.in_ok-take.ensures
-          (rw (← c.chunk.ensures.prefix, ← start) c.in_ok-take_chunk.ensures));
+          (rw (← start) takes));
     }
 
 pub returns : goal.returns

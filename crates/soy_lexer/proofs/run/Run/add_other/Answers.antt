@@ -1,15 +1,13 @@
-use Rattle.std.proofs.Common.{◌+◌, ◌++◌, [], ◌∷◌, if◌then◌else◌, refl, ap, ◌∙◌}
+use Rattle.std.proofs.Common.{◌+◌, ◌++◌, [], ◌∷◌, if◌then◌else◌, ap, ◌∙◌}
 use Rattle.std.specs.Str.{chars}
 use Rattle.std.specs.String.{string_bytes}
 use Rattle.std.proofs.lemmas.Str.{chars-nil}
-use Rattle.soy_base.specs.Cuts.{is_nil}
 use Rattle.soy_base.specs.Characters.{space}
 use Rattle.soy_lexer.proofs.Represented.{other_represented, not_white, space_before}
-use Rattle.soy_lexer.proofs.ChunksAdded.{not_nil}
 use Rattle.soy_lexer.proofs.run.Run.add_other.Goals as goal
 
-pub returns-clause-adds : goal.returns-clause-adds
-returns-clause-adds c = λ run is_run.
+pub returns : goal.returns
+returns c = λ run is_run.
     other_represented _ _ _ _ _ (record { offset = c.args.offset; character = c.args.c }) is_run c.requires.other
     (not_white c.args.c c.requires.other)
     (c.in_ok-push_char.ensures.ok ∙ ap (λ l. l ++ c.args.c ∷ [])
@@ -25,10 +23,3 @@ returns-clause-adds c = λ run is_run.
     c.is_angle-angle.ensures
     c.start_with-self.ensures
     (ap (λ n. c.args.offset + n) c.len_utf8.ensures.value)
-
-pub returns-clause-within : goal.returns-clause-within
-returns-clause-within c = record {
-  not_fresh = refl;
-  no_white = ap chars c.clear.ensures.bytes ∙ chars-nil;
-  some_text = ap is_nil c.in_ok-push_char.ensures.ok ∙ not_nil _ c.args.c;
-}

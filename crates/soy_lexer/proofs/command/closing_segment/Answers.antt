@@ -1,8 +1,8 @@
 use Rattle.std.proofs.Common.{◌∷◌}
 use Rattle.std.specs.Str.{chars}
 use Rattle.soy_lexer.specs.declared.token.TokenKind.TheVariants as kind
-use Rattle.soy_lexer.proofs.CommandSegments.{source_text_value, opened_close, closing_whole}
-use Rattle.soy_lexer.proofs.command.opened_segment.Goals as goal
+use Rattle.soy_lexer.proofs.CommandSegments.{source_text_value, opened_close, opened_none, closing_whole}
+use Rattle.soy_lexer.proofs.command.closing_segment.Goals as goal
 
 pub before-source_text-requires : goal.before-source_text-requires
 before-source_text-requires c = (
@@ -19,3 +19,6 @@ returns-in-Some c =
     c.before-source_text.ensures
     (opened_close (chars c.args.text.now) (chars c.in-Some.name.now) (chars c.in-Some.rest.now) c.in-Some.ensures)
     c.command_token.ensures
+
+pub returns-in-None : goal.returns-in-None
+returns-in-None c = opened_none (chars c.args.text.now) c.in-None.ensures
