@@ -1,4 +1,5 @@
 pub mod Terminals
+pub mod Symbols
 pub mod Depths
 pub mod Operands
 pub mod SpellsExpr

@@ -1,12 +1,11 @@
-//! What a row of the grammar makes of its parts. Both operands are boxed before either answer is looked at, so that no
-//! operand is live where memory runs out.
+//! What a row of the grammar makes of its parts.
 
 ghost use Rattle.std.specs.Prelude.{◌≡◌, IfOk};
 ghost use Rattle.expr_parser.specs.Depths.{deeper};
 ghost use Rattle.expr_parser.specs.Operands.{joined, made, atom, negated, inverted, combined, coalesced};
 ghost use Rattle.expr_parser.specs.Operands.{conditional, member, indexed, in_parens, level_of};
 
-use soy_base::{Boxed, OutOfMemory, Span};
+use soy_base::{OutOfMemory, Span};
 use soy_lexer::Token;
 use soy_tree::{BinaryOp, Expr, ExprNode};
 use std::alloc::Global;
@@ -53,21 +52,18 @@ pub(crate) fn level_of(op: BinaryOp) -> u8
 
 impl Operand {
     /// A node over the whole span.
-    fn made(node: ExprNode, span: Span, height: u32) -> Operand
-        ensures { result ≡ made node span height }
+    fn made(alloc: Global, node: ExprNode, span: Span, height: u32) -> Result<Operand, OutOfMemory>
+        ensures { IfOk result (λ x. x ≡ made node span height) }
     {
-        Operand {
-            span,
-            height,
-            expr: Expr { node, span },
-        }
+        let expr = Expr::new(alloc, node, span)?;
+        Ok(Operand { span, height, expr })
     }
 
     /// A literal or variable.
-    pub(crate) fn atom(node: ExprNode, token: &Token) -> Operand
-        ensures { result ≡ atom node token.now }
+    pub(crate) fn atom(alloc: Global, node: ExprNode, token: &Token) -> Result<Operand, OutOfMemory>
+        ensures { IfOk result (λ x. x ≡ atom node token.now) }
     {
-        Operand::made(node, token.span, deeper(0, 0))
+        Operand::made(alloc, node, token.span, deeper(0, 0))
     }
 
     /// `-` before an operand.
@@ -76,7 +72,7 @@ impl Operand {
     {
         let whole = joined(span, self.span);
         let height = deeper(0, self.height);
-        Ok(Operand::made(ExprNode::Neg(Boxed::new(alloc, self.expr)?), whole, height))
+        Operand::made(alloc, ExprNode::Neg(self.expr), whole, height)
     }
 
     /// `not` before an operand.
@@ -85,7 +81,7 @@ impl Operand {
     {
         let whole = joined(span, self.span);
         let height = deeper(0, self.height);
-        Ok(Operand::made(ExprNode::Not(Boxed::new(alloc, self.expr)?), whole, height))
+        Operand::made(alloc, ExprNode::Not(self.expr), whole, height)
     }
 
     /// An operator between two operands.
@@ -99,9 +95,12 @@ impl Operand {
     {
         let whole = joined(self.span, right.span);
         let height = deeper(self.height, right.height);
-        let left = Boxed::new(alloc, self.expr);
-        let right = Boxed::new(alloc, right.expr);
-        Ok(Operand::made(ExprNode::Binary(op, left?, right?), whole, height))
+        Operand::made(
+            alloc,
+            ExprNode::Binary(op, self.expr, right.expr),
+            whole,
+            height,
+        )
     }
 
     /// `?:` between two operands.
@@ -110,9 +109,12 @@ impl Operand {
     {
         let whole = joined(self.span, right.span);
         let height = deeper(self.height, right.height);
-        let left = Boxed::new(alloc, self.expr);
-        let right = Boxed::new(alloc, right.expr);
-        Ok(Operand::made(ExprNode::Coalesce(left?, right?), whole, height))
+        Operand::made(
+            alloc,
+            ExprNode::Coalesce(self.expr, right.expr),
+            whole,
+            height,
+        )
     }
 
     /// `c ? a : b`.
@@ -126,10 +128,12 @@ impl Operand {
     {
         let whole = joined(self.span, no.span);
         let height = deeper(self.height.max(yes.height), no.height);
-        let condition = Boxed::new(alloc, self.expr);
-        let yes = Boxed::new(alloc, yes.expr);
-        let no = Boxed::new(alloc, no.expr);
-        Ok(Operand::made(ExprNode::Cond(condition?, yes?, no?), whole, height))
+        Operand::made(
+            alloc,
+            ExprNode::Cond(self.expr, yes.expr, no.expr),
+            whole,
+            height,
+        )
     }
 
     /// The access `.name`, or `?.name` where it takes null.
@@ -143,9 +147,13 @@ impl Operand {
     {
         let whole = joined(self.span, name.span);
         let height = deeper(self.height, 0);
-        let of = Boxed::new(alloc, self.expr)?;
         let text = name.text.copy(alloc)?;
-        Ok(Operand::made(ExprNode::Member(of, text, takes_null), whole, height))
+        Operand::made(
+            alloc,
+            ExprNode::Member(self.expr, text, takes_null),
+            whole,
+            height,
+        )
     }
 
     /// The access `[index]`, or `?[index]` where it takes null.
@@ -160,9 +168,12 @@ impl Operand {
     {
         let whole = joined(self.span, close);
         let height = deeper(self.height, index.height);
-        let of = Boxed::new(alloc, self.expr);
-        let index = Boxed::new(alloc, index.expr);
-        Ok(Operand::made(ExprNode::Index(of?, index?, takes_null), whole, height))
+        Operand::made(
+            alloc,
+            ExprNode::Index(self.expr, index.expr, takes_null),
+            whole,
+            height,
+        )
     }
 
     /// An operand in parentheses, which are no node of the tree.

@@ -67,6 +67,17 @@ impl ExprState {
         if self.is_ended_by(token) {
             return Ok(false);
         }
+        match &self.expected {
+            Expected::Operand => at_operand(alloc, self, token),
+            _ => self.step_after(alloc, token),
+        }
+    }
+
+    /// The same, with what may come next moved out, as the operand that it holds has to be.
+    #[inline(never)]
+    fn step_after(&mut self, alloc: Global, token: &Token) -> Result<bool, OutOfMemory>
+        ensures { IfOk result (λ on. stepped on self.new ≡ expr_step self.old token.now) }
+    {
         match self.take_expected() {
             Expected::Operand => at_operand(alloc, self, token),
             Expected::Name(operand, takes_null) => at_name(alloc, self, operand, takes_null, token),
@@ -215,11 +226,17 @@ fn at_operand(alloc: Global, state: &mut ExprState, token: &Token) -> Result<boo
         stepped on state.new ≡ operand_step state.old.frames token.now (terminal_of token.now)) }
 {
     match Terminal::of(token) {
-        Terminal::Null => Ok(has_atom(state, ExprNode::Null, token)),
-        Terminal::Bool(value) => Ok(has_atom(state, ExprNode::Bool(value), token)),
-        Terminal::Int(value) => Ok(has_atom(state, ExprNode::Int(value), token)),
-        Terminal::Str => Ok(has_atom(state, ExprNode::Str(token.text.copy(alloc)?), token)),
-        Terminal::Variable => Ok(has_atom(state, ExprNode::Var(token.text.copy(alloc)?), token)),
+        Terminal::Null => has_atom(alloc, state, ExprNode::Null, token),
+        Terminal::Bool(value) => has_atom(alloc, state, ExprNode::Bool(value), token),
+        Terminal::Int(value) => has_atom(alloc, state, ExprNode::Int(value), token),
+        Terminal::Str => {
+            let text = token.text.copy(alloc)?;
+            has_atom(alloc, state, ExprNode::Str(text), token)
+        }
+        Terminal::Variable => {
+            let name = token.text.copy(alloc)?;
+            has_atom(alloc, state, ExprNode::Var(name), token)
+        }
         Terminal::Not => state.opens(Frame::Pending(Pending::Not(token.span))),
         Terminal::Minus => state.opens(Frame::Pending(Pending::Neg(token.span))),
         Terminal::OpenParen => state.opens(Frame::Bracket(Bracket::Paren(token.span))),
@@ -228,10 +245,15 @@ fn at_operand(alloc: Global, state: &mut ExprState, token: &Token) -> Result<boo
 }
 
 /// A literal or variable has come.
-fn has_atom(state: &mut ExprState, node: ExprNode, token: &Token) -> bool
-    ensures { stepped result state.new ≡ step_of (has state.old.frames (atom node token.now)) None }
+fn has_atom(
+    alloc: Global,
+    state: &mut ExprState,
+    node: ExprNode,
+    token: &Token,
+) -> Result<bool, OutOfMemory>
+    ensures { IfOk result (λ on. stepped on state.new ≡ step_of (has state.old.frames (atom node token.now)) None) }
 {
-    state.has(Operand::atom(node, token))
+    Ok(state.has(Operand::atom(alloc, node, token)?))
 }
 
 /// A token after a `.` or `?.`.

@@ -1,6 +1,7 @@
 //! What a token is to an expression.
 
 ghost use Rattle.std.specs.Prelude.{◌≡◌};
+ghost use Rattle.expr_parser.specs.Symbols.{last_symbol, second_symbol};
 ghost use Rattle.expr_parser.specs.Terminals.{terminal_of, word_terminal, symbol_terminal, int_terminal, int_after};
 
 use soy_lexer::{Token, TokenKind};
@@ -72,7 +73,7 @@ impl Terminal {
         }
     }
 
-    /// A symbol of expressions.
+    /// A symbol of expressions. At most eight are compared in a function, which it does by their lengths first.
     fn of_symbol(text: &str) -> Terminal
         ensures { result ≡ symbol_terminal text.now }
     {
@@ -85,6 +86,15 @@ impl Terminal {
             ">" => Terminal::Infix(BinaryOp::Gt),
             "<=" => Terminal::Infix(BinaryOp::Le),
             ">=" => Terminal::Infix(BinaryOp::Ge),
+            _ => Terminal::of_second_symbol(text),
+        }
+    }
+
+    /// The same of a symbol that is none of those.
+    fn of_second_symbol(text: &str) -> Terminal
+        ensures { result ≡ second_symbol text.now }
+    {
+        match text {
             "==" => Terminal::Infix(BinaryOp::Eq),
             "!=" => Terminal::Infix(BinaryOp::Ne),
             "?:" => Terminal::Coalesce,
@@ -93,6 +103,15 @@ impl Terminal {
             ":" => Terminal::Colon,
             "." => Terminal::Dot(false),
             "?." => Terminal::Dot(true),
+            _ => Terminal::of_last_symbol(text),
+        }
+    }
+
+    /// And of one that is none of these either.
+    fn of_last_symbol(text: &str) -> Terminal
+        ensures { result ≡ last_symbol text.now }
+    {
+        match text {
             "[" => Terminal::OpenBracket(false),
             "?[" => Terminal::OpenBracket(true),
             "]" => Terminal::CloseBracket,

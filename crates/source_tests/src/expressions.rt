@@ -26,54 +26,54 @@ fn written(op: BinaryOp) -> &'static str {
 
 /// Writes an expression with parentheses around each of its operators.
 fn write(out: &mut String, expr: &Expr) -> Result<(), OutOfMemory> {
-    match &expr.node {
+    match expr.node.get() {
         ExprNode::Null => push_text(out, "null"),
         ExprNode::Bool(_) => push_text(out, "bool"),
         ExprNode::Int(_) => push_text(out, "int"),
         ExprNode::Str(text) => push_text(out, text.text()),
         ExprNode::Var(name) => push_text(out, name.text()),
         ExprNode::Member(of, name, takes_null) => {
-            write(out, of.get())?;
+            write(out, of)?;
             push_text(out, if *takes_null { "?." } else { "." })?;
             push_text(out, name.text())
         }
         ExprNode::Index(of, index, takes_null) => {
-            write(out, of.get())?;
+            write(out, of)?;
             push_text(out, if *takes_null { "?[" } else { "[" })?;
-            write(out, index.get())?;
+            write(out, index)?;
             push_text(out, "]")
         }
         ExprNode::Neg(of) => {
             push_text(out, "(-")?;
-            write(out, of.get())?;
+            write(out, of)?;
             push_text(out, ")")
         }
         ExprNode::Not(of) => {
             push_text(out, "(not ")?;
-            write(out, of.get())?;
+            write(out, of)?;
             push_text(out, ")")
         }
         ExprNode::Binary(op, left, right) => {
             push_text(out, "(")?;
-            write(out, left.get())?;
+            write(out, left)?;
             push_text(out, written(*op))?;
-            write(out, right.get())?;
+            write(out, right)?;
             push_text(out, ")")
         }
         ExprNode::Coalesce(left, right) => {
             push_text(out, "(")?;
-            write(out, left.get())?;
+            write(out, left)?;
             push_text(out, " ?: ")?;
-            write(out, right.get())?;
+            write(out, right)?;
             push_text(out, ")")
         }
         ExprNode::Cond(condition, yes, no) => {
             push_text(out, "(")?;
-            write(out, condition.get())?;
+            write(out, condition)?;
             push_text(out, " ? ")?;
-            write(out, yes.get())?;
+            write(out, yes)?;
             push_text(out, " : ")?;
-            write(out, no.get())?;
+            write(out, no)?;
             push_text(out, ")")
         }
     }

@@ -1,4 +1,5 @@
 pub mod CommandTerminals
+pub mod CommandWords
 pub mod Depth
 pub mod TypeWords
 pub mod Heads
@@ -10,6 +11,7 @@ pub mod SpellsTree
 pub mod SpellsFile
 pub mod CommandSteps
 pub mod FileSteps
+pub mod ExprEnds
 pub mod ParsesFile
 pub mod FileRuns
 pub mod FileReading

@@ -6,6 +6,7 @@ ghost use Rattle.soy_parser.specs.FileSteps.{attributes_step, ended_command, hea
 ghost use Rattle.soy_parser.specs.FileSteps.{value_step, with_value};
 ghost use Rattle.soy_parser.specs.Heads.{allows, form_at, no_attributes, with_attribute};
 ghost use Rattle.soy_parser.specs.Reached.{reached};
+ghost use Rattle.soy_parser.specs.declared.attributes.Attributes.{Attributes};
 ghost use Rattle.soy_parser.specs.declared.head.Head.TheVariants as head;
 ghost use Rattle.soy_parser.specs.declared.spot.Spot.TheVariants as spot;
 
@@ -86,7 +87,38 @@ pub(crate) fn attributes_go_on(
 {
     match AttributeName::of(CommandTerminal::of(token)) {
         Some(name) => Ok(attribute(file, from, head, attributes, name)),
-        None => ends(alloc, file, from, head.taken(), attributes.taken(), token),
+        None => match head.taken() {
+            Head::Whole(form) => {
+                drop(attributes);
+                whole_ends(alloc, file, from, form, token)
+            }
+            head => ends(alloc, file, from, head, attributes.taken(), token),
+        },
+    }
+}
+
+/// The end of a command that has no attributes, if it may end so.
+#[inline(never)]
+fn whole_ends(
+    alloc: Global,
+    file: &mut FileState,
+    from: Span,
+    form: CommandForm,
+    token: &Token,
+) -> Result<bool, OutOfMemory>
+    ensures { (attributes : Attributes) → IfOk result (λ on. reached on file.new ≡ ended_command file.old.commands from
+        (form_at (head.Whole form) attributes (command_terminal_of token.now)) token.now) }
+{
+    match CommandTerminal::of(token) {
+        CommandTerminal::End => takes(alloc, file, form, joined(from, token.span)),
+        CommandTerminal::SlashEnd => {
+            drop(form);
+            Ok(false)
+        }
+        _ => {
+            drop(form);
+            Ok(false)
+        }
     }
 }
 

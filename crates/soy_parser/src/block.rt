@@ -1,7 +1,7 @@
 //! What is open around the commands to come.
 
 use crate::command::TemplateOpening;
-use soy_base::{Kind, Row, Span, Stack, Text};
+use soy_base::{Boxed, Kind, Row, Span, Stack, Text};
 use soy_tree::{
     Argument, Arm, Case, Expr, MessageBody, Node, Param, PluralCase, SelectCase, Template,
 };
@@ -72,7 +72,7 @@ pub enum Block {
     /// The arm of an if, with its condition.
     Arm(OpenIf, Expr),
     Else(OpenIf),
-    For(Row<Node>, Span, Text, Option<Text>, Expr),
+    For(Row<Node>, Span, Boxed<Text>, Option<Boxed<Text>>, Expr),
     Let(Row<Node>, Span, Text, Kind),
     Call(Row<Node>, Span, Text, bool),
     /// A param of a call, with those before it.

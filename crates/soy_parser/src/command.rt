@@ -1,7 +1,7 @@
 //! Commands, each as a whole.
 
 use crate::terminal::BlockName;
-use soy_base::{Kind, Row, Span, Text};
+use soy_base::{Boxed, Kind, Row, Span, Text};
 use soy_tree::{Expr, SoyType};
 
 /// What the opening command of a template says.
@@ -31,7 +31,7 @@ pub enum Opening {
     If(Expr),
     Switch(Expr),
     /// The variable of a loop, that of its index, and the list.
-    For(Text, Option<Text>, Expr),
+    For(Boxed<Text>, Option<Boxed<Text>>, Expr),
     Let(Text, Kind),
     Call(Text, bool),
     Param(Text, Kind),

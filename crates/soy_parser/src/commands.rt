@@ -20,7 +20,7 @@ use crate::blocks::{
     adds, adds_after, adds_argument, begins, begins_parts, body_closes, body_goes_on, case_goes_on,
     closed_switch, opens_with, refused, refused_middle,
 };
-use crate::command::{Command, CommandForm, Middle, Opening, Single};
+use crate::command::{CommandForm, Middle, Opening, Single};
 use crate::messages::{choice, parts, plural_goes_on, select_goes_on};
 use crate::nodes::{is_white, joined};
 use crate::terminal::BlockName;
@@ -54,10 +54,7 @@ impl CommandState {
                 nodes.add_text(text, span)?;
                 Ok(true)
             }
-            _ => {
-                let form = CommandForm::Text(text);
-                self.step(alloc, Command { form, span })
-            }
+            _ => { self.step(alloc, CommandForm::Text(text), span) }
         }
     }
 
@@ -73,22 +70,24 @@ impl CommandState {
     {
         match &mut self.content {
             Content::Body(nodes) => {
-                nodes.add(Form::Print(expr, None), span)?;
+                nodes.add_print(expr, span)?;
                 Ok(true)
             }
-            _ => {
-                let form = CommandForm::Single(Single::Print(expr));
-                self.step(alloc, Command { form, span })
-            }
+            _ => { self.step(alloc, CommandForm::Single(Single::Print(expr)), span) }
         }
     }
 
     /// Takes a command, and says whether some file goes on with it; if none does, what was read is of no use.
     #[inline(never)]
-    pub(crate) fn step(&mut self, alloc: Global, command: Command) -> Result<bool, OutOfMemory>
-        ensures { IfOk result (λ on. reached on self.new ≡ command_step self.old command) }
+    pub(crate) fn step(
+        &mut self,
+        alloc: Global,
+        form: CommandForm,
+        span: Span,
+    ) -> Result<bool, OutOfMemory>
+        ensures { IfOk result (λ on. reached on self.new ≡
+            command_step self.old (record { form = form; span = span })) }
     {
-        let Command { form, span } = command;
         match self.take_content() {
             Content::White => Ok(white(alloc, self, form, span)),
             Content::Templates(namespace, templates) => between_templates(

@@ -10,19 +10,21 @@ ghost use Rattle.soy_parser.specs.SpellsHead.{bare_head};
 ghost use Rattle.expr_parser.specs.ExprRuns.{expr_start};
 ghost use Rattle.expr_parser.specs.ExprSteps.ExprStep.{Next};
 ghost use Rattle.soy_parser.specs.Heads.{no_attributes};
-ghost use Rattle.soy_parser.specs.declared.spot.CommandSpot.TheVariants as spots;
+ghost use Rattle.soy_parser.specs.declared.command.CommandForm.TheVariants as says;
+ghost use Rattle.soy_parser.specs.declared.head.Head.TheVariants as head;
+ghost use Rattle.soy_parser.specs.declared.spot.CommandSpot.TheVariants as where_;
 ghost use Rattle.soy_parser.specs.declared.spot.Spot.TheVariants as spot;
 ghost use Rattle.soy_parser.specs.declared.terminal.CommandTerminal.TheVariants as terminal;
 
 use crate::attributes::Attributes;
 use crate::block::{CommandState, Content};
-use crate::command::{Command, CommandForm};
+use crate::command::CommandForm;
 use crate::head::{Head, HeadKind};
 use crate::held::{Held, expr_takes};
 use crate::nodes::joined;
 use crate::spot::{CommandSpot, DottedUse, FileState, Spot, Use};
-use crate::spots::inside;
-use crate::terminal::{CommandTerminal, CommandWord};
+use crate::spots::{expr_ended, inside};
+use crate::terminal::{BlockName, CommandTerminal, CommandWord};
 use expr_parser::ExprState;
 use soy_base::{OutOfMemory, Row, Span, Text};
 use soy_lexer::Token;
@@ -45,17 +47,25 @@ impl FileState {
     pub(crate) fn step(&mut self, alloc: Global, token: &Token) -> Result<bool, OutOfMemory>
         ensures { IfOk result (λ on. reached on self.new ≡ file_step self.old token.now) }
     {
-        match self.take_spot() {
+        match &mut self.spot {
             CommandSpot::Between => between(alloc, self, token, CommandTerminal::of(token)),
             CommandSpot::Opened(from) => {
+                let from = *from;
                 opened(alloc, self, from, token, CommandTerminal::of(token))
             }
-            CommandSpot::Inside(from, spot) => inside(alloc, self, from, spot, token),
+            CommandSpot::Inside(_, Spot::Expr(_, state)) => {
+                if expr_takes(state, alloc, token)? {
+                    Ok(true)
+                } else {
+                    expr_ended(alloc, self, token)
+                }
+            }
+            CommandSpot::Inside(_, _) => further_on(alloc, self, token),
         }
     }
 
     /// Where the reading stands, for a step that says where it stands next.
-    fn take_spot(&mut self) -> CommandSpot
+    pub(crate) fn take_spot(&mut self) -> CommandSpot
         ensures spot { result ≡ self.old.spot }
         ensures commands { self.new.commands ≡ self.old.commands }
     {
@@ -78,9 +88,17 @@ impl FileState {
         holds
     }
 
+    /// The reading stands directly after the `{` of a command.
+    fn opens(&mut self, from: Span) -> bool
+        ensures { reached result self.new ≡ file_at self.old.commands (where_.Opened from) }
+    {
+        self.spot = CommandSpot::Opened(from);
+        true
+    }
+
     /// The reading stands between two commands, as it mostly does already.
     fn ends_command(&mut self)
-        ensures { self.new ≡ record { commands = self.old.commands; spot = spots.Between } }
+        ensures { self.new ≡ record { commands = self.old.commands; spot = where_.Between } }
     {
         match &self.spot {
             CommandSpot::Between => {}
@@ -120,6 +138,18 @@ impl CommandSpot {
             CommandSpot::Inside(_, Spot::Type(_, _, state)) => state.get().unknown(less_follows),
             _ => None,
         }
+    }
+}
+
+/// A token in a command, but for its `{`.
+#[inline(never)]
+fn further_on(alloc: Global, file: &mut FileState, token: &Token) -> Result<bool, OutOfMemory>
+    ensures { IfOk result (λ on. reached on file.new ≡ file_step file.old token.now) }
+{
+    match file.take_spot() {
+        CommandSpot::Between => between(alloc, file, token, CommandTerminal::of(token)),
+        CommandSpot::Opened(from) => opened(alloc, file, from, token, CommandTerminal::of(token)),
+        CommandSpot::Inside(from, spot) => inside(alloc, file, from, spot, token),
     }
 }
 
@@ -164,7 +194,7 @@ pub(crate) fn takes(
     ensures { IfOk result (λ on. reached on file.new ≡
         taken (command_step file.old.commands (record { form = form; span = span }))) }
 {
-    let is_taken = file.commands.step(alloc, Command { form, span })?;
+    let is_taken = file.commands.step(alloc, form, span)?;
     Ok(taken(file, is_taken))
 }
 
@@ -212,7 +242,7 @@ fn between(
             let is_taken = file.commands.takes_text(alloc, text, token.span)?;
             Ok(taken(file, is_taken))
         }
-        CommandTerminal::Begin => Ok(file.stands_if(CommandSpot::Opened(token.span), true)),
+        CommandTerminal::Begin => Ok(file.opens(token.span)),
         _ => Ok(false),
     }
 }
@@ -244,8 +274,28 @@ fn opened(
         )),
         CommandTerminal::Word(word) => opened_word(alloc, file, from, token, word),
         CommandTerminal::Variable => opens_expr(alloc, file, from, token),
+        CommandTerminal::Close(BlockName::Other) => opens_expr(alloc, file, from, token),
+        CommandTerminal::Close(name) => opens_close(alloc, file, from, token, name),
         terminal => opens_bare(alloc, file, from, token, terminal),
     }
+}
+
+/// The name of a block command that closes, directly after the `{` of a command: its head is made where it stays.
+#[inline(never)]
+fn opens_close(
+    alloc: Global,
+    file: &mut FileState,
+    from: Span,
+    token: &Token,
+    name: BlockName,
+) -> Result<bool, OutOfMemory>
+    ensures { IfOk result (λ on. reached on file.new ≡
+        bare_opens file.old.commands from (Some (head.Whole (says.Closes name))) token.now) }
+{
+    let head = Held::new(alloc, Head::Whole(CommandForm::Closes(name)))?;
+    let attributes = Held::new(alloc, Attributes::none())?;
+    let spot = Spot::Attributes(head, attributes);
+    Ok(opens_if(file, from, HeadKind::Closes(name), spot))
 }
 
 /// A head of one token, or an expression, directly after the `{` of a command.

@@ -54,6 +54,7 @@ pub(crate) fn parts(
 }
 
 /// A block opens after these texts and prints of a message.
+#[inline(never)]
 fn parts_open(commands: &mut CommandState, white: bool, of: Opening) -> Result<bool, OutOfMemory>
     ensures { IfOk result (λ on. reached on commands.new ≡
         (if white then choice_opens commands.old.blocks of else None)) }
@@ -66,6 +67,7 @@ fn parts_open(commands: &mut CommandState, white: bool, of: Opening) -> Result<b
 }
 
 /// A message, or a case of one, goes on after these texts and prints.
+#[inline(never)]
 fn parts_go_on(
     alloc: Global,
     commands: &mut CommandState,
@@ -89,6 +91,7 @@ fn parts_go_on(
 }
 
 /// A command that closes a block of a message after these texts and prints.
+#[inline(never)]
 fn parts_close(
     alloc: Global,
     commands: &mut CommandState,
@@ -107,6 +110,7 @@ fn parts_close(
 }
 
 /// A text of a message has come.
+#[inline(never)]
 fn with_text(
     commands: &mut CommandState,
     nodes: Nodes,
@@ -122,6 +126,7 @@ fn with_text(
 }
 
 /// A print of a message.
+#[inline(never)]
 fn single_part(
     commands: &mut CommandState,
     nodes: Nodes,

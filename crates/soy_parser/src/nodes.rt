@@ -8,10 +8,11 @@ ghost use Rattle.soy_parser.specs.CommandSteps.{ended, has_whole_tags, is_empty,
 ghost use Rattle.soy_parser.specs.CommandSteps.{nodes_with, with_text};
 ghost use Rattle.soy_parser.specs.CommandSteps.{body_of_parts};
 ghost use Rattle.soy_parser.specs.Nodes.{node_of, text_span, up_to};
+ghost use Rattle.soy_tree.specs.declared.node.Form.TheVariants as forms;
 
 use crate::block::{Nodes, TextRun};
 use soy_base::{OutOfMemory, Row, Span, Text, is_template_space};
-use soy_tree::{Form, MessageBody, Node, is_message_text, is_message_text_with};
+use soy_tree::{Expr, Form, MessageBody, Node, is_message_text, is_message_text_with};
 use std::alloc::Global;
 
 /// From the start of one span to the end of the other.
@@ -138,6 +139,23 @@ impl Nodes {
             Ok(()) => self.items.push(Node { form, span }),
             Err(out) => {
                 drop(form);
+                Err(out)
+            }
+        }
+    }
+
+    /// Adds a print, made where it stays.
+    pub(crate) fn add_print(&mut self, expr: Expr, span: Span) -> Result<(), OutOfMemory>
+        ensures { OnOk result (self.new ≡
+            nodes_with (ended self.old ++ (node_of (forms.Print expr None) span ∷ [])) None) }
+    {
+        match self.end_text() {
+            Ok(()) => self.items.push(Node {
+                form: Form::Print(expr, None),
+                span,
+            }),
+            Err(out) => {
+                drop(expr);
                 Err(out)
             }
         }

@@ -4,10 +4,10 @@ ghost use Rattle.std.specs.Prelude.{◌≡◌, ◌+◌, IfOk};
 ghost use Rattle.expr_parser.specs.Depths.{is_within};
 ghost use Rattle.expr_parser.specs.TypeTerminals.{is_less, type_terminal_of};
 ghost use Rattle.soy_parser.specs.FileReading.{file_answer, reading_file};
-ghost use Rattle.soy_parser.specs.FileSteps.{depth_in, file_start};
+ghost use Rattle.soy_parser.specs.FileSteps.{depth_in, file_start, unknown_in};
 ghost use Rattle.soy_parser.specs.ParsesFile.{ParsesFile};
 
-use crate::spot::FileState;
+use crate::spot::{CommandSpot, FileState, Spot};
 use soy_base::{Code, Fault, OutOfMemory, Refusal};
 use soy_lexer::{Token, TokenKind};
 use soy_tree::Tree;
@@ -30,6 +30,17 @@ fn is_less(token: &Token) -> bool
     match token.kind {
         TokenKind::Symbol => token.text.text() == "<",
         _ => false,
+    }
+}
+
+/// The offset of the word that was read last, if it stands as a type and names none before this token, which is looked
+/// at only in a type.
+fn unknown_before(spot: &CommandSpot, token: &Token) -> Option<u64>
+    ensures { result ≡ unknown_in spot.now (is_less (type_terminal_of token.now)) }
+{
+    match spot {
+        CommandSpot::Inside(_, Spot::Type(_, _, _)) => spot.unknown(is_less(token)),
+        _ => None,
     }
 }
 
@@ -58,7 +69,7 @@ fn read_on(
 {
     let mut end = 0;
     for token in tokens {
-        if let Some(at) = state.spot.unknown(is_less(token)) {
+        if let Some(at) = unknown_before(&state.spot, token) {
             let code = Code::Mistyped;
             return Ok(Err(Fault { code, file, at }));
         }

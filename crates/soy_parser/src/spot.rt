@@ -5,7 +5,7 @@ use crate::block::CommandState;
 use crate::head::Head;
 use crate::held::Held;
 use expr_parser::{ExprState, TypeState};
-use soy_base::{Row, Span, Text};
+use soy_base::{Boxed, Row, Span, Text};
 use soy_tree::Expr;
 
 /// What an expression in a command is for.
@@ -21,7 +21,7 @@ pub enum Use {
     /// A value of a case, after these.
     Case(Row<Expr>),
     /// The list of a loop, with its variables.
-    For(Text, Option<Text>),
+    For(Boxed<Text>, Option<Boxed<Text>>),
     Let(Text),
     Param(Text),
 }

@@ -9,13 +9,16 @@ ghost use Rattle.expr_parser.specs.ExprSteps.{ExprStep as expr_does};
 ghost use Rattle.soy_parser.specs.FileSteps.{after_case_word_step, after_int_step, call_step};
 ghost use Rattle.soy_parser.specs.FileSteps.{dotted_head, dotted_step, for_in_step, head_done};
 ghost use Rattle.soy_parser.specs.FileSteps.{if_in, if_int};
+ghost use Rattle.soy_parser.specs.ExprEnds.{ended_in};
 ghost use Rattle.soy_parser.specs.FileSteps.{in_expr, let_colon_step, next_value, param_colon_step};
 ghost use Rattle.soy_parser.specs.FileSteps.{spot_step, stands, template_step};
 ghost use Rattle.soy_parser.specs.CommandTerminals.{command_terminal_of};
 ghost use Rattle.soy_parser.specs.Reached.{reached};
 ghost use Rattle.soy_parser.specs.declared.command.CommandForm.TheVariants as says;
 ghost use Rattle.soy_parser.specs.declared.command.Single.TheVariants as single;
+ghost use Rattle.soy_parser.specs.declared.command.Opening.TheVariants as opening;
 ghost use Rattle.soy_parser.specs.declared.head.Head.TheVariants as head;
+ghost use Rattle.soy_parser.specs.declared.spot.CommandSpot.TheVariants as where_;
 ghost use Rattle.soy_parser.specs.declared.spot.Spot.TheVariants as spot;
 ghost use Rattle.soy_parser.specs.declared.spot.Use.TheVariants as use_;
 ghost use Rattle.soy_parser.specs.declared.terminal.CommandTerminal.TheVariants as terminal;
@@ -30,11 +33,11 @@ use crate::nodes::joined;
 use crate::params::{
     in_type, template_param, template_param_colon, template_param_name, template_param_word,
 };
-use crate::spot::{DottedUse, FileState, Spot, Use};
+use crate::spot::{CommandSpot, DottedUse, FileState, Spot, Use};
 use crate::terminal::{CommandTerminal, CommandWord};
 use crate::values::{is_case_word, with_int, with_word, written_int};
 use expr_parser::{ExprState, Operand};
-use soy_base::{OutOfMemory, Row, Span, Text};
+use soy_base::{Boxed, OutOfMemory, Row, Span, Text};
 use soy_lexer::Token;
 use soy_tree::Expr;
 use std::alloc::Global;
@@ -251,6 +254,7 @@ fn for_in(
     match CommandTerminal::of(token) {
         CommandTerminal::Comma => Ok(stands(file, from, Spot::ForIndex(name))),
         CommandTerminal::Word(CommandWord::In) => {
+            let name = Boxed::new(alloc, name)?;
             stands_in_expr(alloc, file, from, Use::For(name, None))
         }
         _ => Ok(false),
@@ -294,6 +298,8 @@ fn for_index_in(
 {
     match CommandTerminal::of(token) {
         CommandTerminal::Word(CommandWord::In) => {
+            let name = Boxed::new(alloc, name)?;
+            let index = Boxed::new(alloc, index)?;
             stands_in_expr(alloc, file, from, Use::For(name, Some(index)))
         }
         _ => Ok(false),
@@ -497,6 +503,45 @@ fn expr_goes_on(
     }
 }
 
+/// In an expression that didn't go on with the token.
+#[inline(never)]
+pub(crate) fn expr_ended(
+    alloc: Global,
+    file: &mut FileState,
+    token: &Token,
+) -> Result<bool, OutOfMemory>
+    ensures { IfOk result (λ on. reached on file.new ≡ ended_in file.old.commands token.now file.old.spot) }
+{
+    match file.take_spot() {
+        CommandSpot::Between => Ok(false),
+        CommandSpot::Opened(_) => Ok(false),
+        CommandSpot::Inside(from, spot) => ended_inside(alloc, file, from, spot, token),
+    }
+}
+
+/// The same, in a command.
+fn ended_inside(
+    alloc: Global,
+    file: &mut FileState,
+    from: Span,
+    spot: Spot,
+    token: &Token,
+) -> Result<bool, OutOfMemory>
+    ensures { IfOk result (λ on. reached on file.new ≡
+        ended_in file.old.commands token.now (where_.Inside from spot)) }
+{
+    match spot {
+        Spot::Expr(of, state) => {
+            let mut state = state;
+            expr_ends(alloc, file, from, of, given_by(&mut state), token)
+        }
+        spot => {
+            drop(spot);
+            Ok(false)
+        }
+    }
+}
+
 /// Where an expression has ended, if what was read is one.
 fn expr_ends(
     alloc: Global,
@@ -532,41 +577,108 @@ fn after_expr(
 {
     match of {
         Use::Print => print_done(alloc, file, from, operand.expr, token),
-        Use::MessagePrint => head_done(alloc, file, from, Head::MessagePrint(operand.expr), token),
+        Use::MessagePrint => message_print_done(alloc, file, from, operand.expr, token),
         Use::If => opening_done(alloc, file, from, Opening::If(operand.expr), token),
         Use::ElseIf => middle_done(alloc, file, from, Middle::ElseIf(operand.expr), token),
         Use::Switch => opening_done(alloc, file, from, Opening::Switch(operand.expr), token),
-        Use::Plural => head_done(alloc, file, from, Head::Plural(operand.expr), token),
+        Use::Plural => plural_done(alloc, file, from, operand.expr, token),
         Use::Select => opening_done(alloc, file, from, Opening::Select(operand.expr), token),
         Use::Case(values) => after_case_value(alloc, file, from, values, operand, token),
-        Use::For(name, index) => {
-            opening_done(
-                alloc,
-                file,
-                from,
-                Opening::For(name, index, operand.expr),
-                token,
-            )
-        }
-        Use::Let(name) => {
-            head_done(
-                alloc,
-                file,
-                from,
-                Head::Alone(Single::Let(name, operand.expr)),
-                token,
-            )
-        }
-        Use::Param(name) => {
-            head_done(
-                alloc,
-                file,
-                from,
-                Head::Alone(Single::Param(name, operand.expr)),
-                token,
-            )
-        }
+        Use::For(name, index) => for_done(alloc, file, from, name, index, operand.expr, token),
+        Use::Let(name) => let_done(alloc, file, from, name, operand.expr, token),
+        Use::Param(name) => param_done(alloc, file, from, name, operand.expr, token),
     }
+}
+
+/// After the expression of a print in a message.
+#[inline(never)]
+fn message_print_done(
+    alloc: Global,
+    file: &mut FileState,
+    from: Span,
+    expr: Expr,
+    token: &Token,
+) -> Result<bool, OutOfMemory>
+    ensures { IfOk result (λ on. reached on file.new ≡
+        head_done file.old.commands from (head.MessagePrint expr) token.now) }
+{
+    head_done(alloc, file, from, Head::MessagePrint(expr), token)
+}
+
+/// After the selector of a plural.
+#[inline(never)]
+fn plural_done(
+    alloc: Global,
+    file: &mut FileState,
+    from: Span,
+    expr: Expr,
+    token: &Token,
+) -> Result<bool, OutOfMemory>
+    ensures { IfOk result (λ on. reached on file.new ≡
+        head_done file.old.commands from (head.Plural expr) token.now) }
+{
+    head_done(alloc, file, from, Head::Plural(expr), token)
+}
+
+/// After the list of a loop.
+#[inline(never)]
+fn for_done(
+    alloc: Global,
+    file: &mut FileState,
+    from: Span,
+    name: Boxed<Text>,
+    index: Option<Boxed<Text>>,
+    expr: Expr,
+    token: &Token,
+) -> Result<bool, OutOfMemory>
+    ensures { IfOk result (λ on. reached on file.new ≡
+        head_done file.old.commands from (head.Whole (says.Opens (opening.For name index expr))) token.now) }
+{
+    opening_done(alloc, file, from, Opening::For(name, index, expr), token)
+}
+
+/// After the expression of a let.
+#[inline(never)]
+fn let_done(
+    alloc: Global,
+    file: &mut FileState,
+    from: Span,
+    name: Text,
+    expr: Expr,
+    token: &Token,
+) -> Result<bool, OutOfMemory>
+    ensures { IfOk result (λ on. reached on file.new ≡
+        head_done file.old.commands from (head.Alone (single.Let name expr)) token.now) }
+{
+    head_done(
+        alloc,
+        file,
+        from,
+        Head::Alone(Single::Let(name, expr)),
+        token,
+    )
+}
+
+/// After the expression of a param.
+#[inline(never)]
+fn param_done(
+    alloc: Global,
+    file: &mut FileState,
+    from: Span,
+    name: Text,
+    expr: Expr,
+    token: &Token,
+) -> Result<bool, OutOfMemory>
+    ensures { IfOk result (λ on. reached on file.new ≡
+        head_done file.old.commands from (head.Alone (single.Param name expr)) token.now) }
+{
+    head_done(
+        alloc,
+        file,
+        from,
+        Head::Alone(Single::Param(name, expr)),
+        token,
+    )
 }
 
 /// After a value of a case.

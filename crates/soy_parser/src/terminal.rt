@@ -2,6 +2,7 @@
 
 ghost use Rattle.std.specs.Prelude.{◌≡◌};
 ghost use Rattle.soy_parser.specs.CommandTerminals.{block_name, command_symbol, command_terminal_of, command_word};
+ghost use Rattle.soy_parser.specs.CommandWords.{last_word, second_word, third_word};
 
 use soy_lexer::{Token, TokenKind};
 
@@ -124,7 +125,7 @@ impl CommandTerminal {
 }
 
 impl CommandWord {
-    /// The command word that a name is.
+    /// The command word that a name is. At most eight are compared in a function, which it does by their lengths first.
     fn of(text: &str) -> CommandWord
         ensures { result ≡ command_word text.now }
     {
@@ -137,6 +138,15 @@ impl CommandWord {
             "elseif" => CommandWord::ElseIf,
             "else" => CommandWord::Else,
             "switch" => CommandWord::Switch,
+            _ => CommandWord::of_second(text),
+        }
+    }
+
+    /// The same of a name that is none of the first words.
+    fn of_second(text: &str) -> CommandWord
+        ensures { result ≡ second_word text.now }
+    {
+        match text {
             "case" => CommandWord::Case,
             "default" => CommandWord::Default,
             "for" => CommandWord::For,
@@ -145,6 +155,15 @@ impl CommandWord {
             "call" => CommandWord::Call,
             "msg" => CommandWord::Msg,
             "fallbackmsg" => CommandWord::FallbackMsg,
+            _ => CommandWord::of_third(text),
+        }
+    }
+
+    /// And of the second ones.
+    fn of_third(text: &str) -> CommandWord
+        ensures { result ≡ third_word text.now }
+    {
+        match text {
             "plural" => CommandWord::Plural,
             "select" => CommandWord::Select,
             "kind" => CommandWord::Kind,
@@ -153,6 +172,15 @@ impl CommandWord {
             "desc" => CommandWord::Desc,
             "meaning" => CommandWord::Meaning,
             "offset" => CommandWord::Offset,
+            _ => CommandWord::of_last(text),
+        }
+    }
+
+    /// And of the third ones.
+    fn of_last(text: &str) -> CommandWord
+        ensures { result ≡ last_word text.now }
+    {
+        match text {
             "phname" => CommandWord::Phname,
             "sp" => CommandWord::Space,
             "nil" => CommandWord::Nil,

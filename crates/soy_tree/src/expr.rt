@@ -9,7 +9,7 @@ use std::alloc::Global;
 #[derive(Drop)]
 #[cycle(exprs)]
 pub struct Expr {
-    pub node: ExprNode,
+    pub node: Boxed<ExprNode>,
     pub span: Span,
 }
 
@@ -23,16 +23,16 @@ pub enum ExprNode {
     Str(Text),
     Var(Text),
     /// `.x` and `?.x`.
-    Member(Boxed<Expr>, Text, bool),
+    Member(Expr, Text, bool),
     /// `[e]` and `?[e]`.
-    Index(Boxed<Expr>, Boxed<Expr>, bool),
-    Neg(Boxed<Expr>),
-    Not(Boxed<Expr>),
-    Binary(BinaryOp, Boxed<Expr>, Boxed<Expr>),
+    Index(Expr, Expr, bool),
+    Neg(Expr),
+    Not(Expr),
+    Binary(BinaryOp, Expr, Expr),
     /// `a ?: b`, which is also written `a ?? b`.
-    Coalesce(Boxed<Expr>, Boxed<Expr>),
+    Coalesce(Expr, Expr),
     /// `c ? a : b`.
-    Cond(Boxed<Expr>, Boxed<Expr>, Boxed<Expr>),
+    Cond(Expr, Expr, Expr),
 }
 
 /// An operator of two operands: `*`, `%`, `+`, `-`, `<`, `>`, `<=`, `>=`, `==`, `!=`, `and` and `or`.
@@ -53,15 +53,20 @@ pub enum BinaryOp {
 }
 
 impl Expr {
+    /// The expression of a node, which stands at a span.
+    pub fn new(alloc: Global, node: ExprNode, span: Span) -> Result<Expr, OutOfMemory>
+        ensures { IfOk result (λ e. e ≡ record { node = node; span = span }) }
+    {
+        let node = Boxed::new(alloc, node)?;
+        Ok(Expr { node, span })
+    }
+
     /// An equal expression.
     #[cycle(copying_exprs)]
     pub fn copy(&self, alloc: Global) -> Result<Expr, OutOfMemory>
         ensures { IfOk result (λ e. e ≡ self.now) }
     {
-        Ok(Expr {
-            node: self.node.copy(alloc)?,
-            span: self.span,
-        })
+        Expr::new(alloc, self.node.get().copy(alloc)?, self.span)
     }
 }
 
@@ -78,36 +83,24 @@ impl ExprNode {
             ExprNode::Str(text) => ExprNode::Str(text.copy(alloc)?),
             ExprNode::Var(name) => ExprNode::Var(name.copy(alloc)?),
             ExprNode::Member(of, name, takes_null) => {
-                ExprNode::Member(boxed(alloc, of)?, name.copy(alloc)?, *takes_null)
+                ExprNode::Member(of.copy(alloc)?, name.copy(alloc)?, *takes_null)
             }
             ExprNode::Index(of, index, takes_null) => {
-                ExprNode::Index(boxed(alloc, of)?, boxed(alloc, index)?, *takes_null)
+                ExprNode::Index(of.copy(alloc)?, index.copy(alloc)?, *takes_null)
             }
-            ExprNode::Neg(of) => ExprNode::Neg(boxed(alloc, of)?),
-            ExprNode::Not(of) => ExprNode::Not(boxed(alloc, of)?),
+            ExprNode::Neg(of) => ExprNode::Neg(of.copy(alloc)?),
+            ExprNode::Not(of) => ExprNode::Not(of.copy(alloc)?),
             ExprNode::Binary(op, left, right) => {
-                ExprNode::Binary(*op, boxed(alloc, left)?, boxed(alloc, right)?)
+                ExprNode::Binary(*op, left.copy(alloc)?, right.copy(alloc)?)
             }
             ExprNode::Coalesce(left, right) => {
-                ExprNode::Coalesce(boxed(alloc, left)?, boxed(alloc, right)?)
+                ExprNode::Coalesce(left.copy(alloc)?, right.copy(alloc)?)
             }
             ExprNode::Cond(when, left, right) => {
-                ExprNode::Cond(
-                    boxed(alloc, when)?,
-                    boxed(alloc, left)?,
-                    boxed(alloc, right)?,
-                )
+                ExprNode::Cond(when.copy(alloc)?, left.copy(alloc)?, right.copy(alloc)?)
             }
         })
     }
-}
-
-/// An equal expression, boxed.
-#[cycle(copying_exprs)]
-fn boxed(alloc: Global, of: &Boxed<Expr>) -> Result<Boxed<Expr>, OutOfMemory>
-    ensures { IfOk result (λ e. e ≡ of.now) }
-{
-    Boxed::new(alloc, of.get().copy(alloc)?)
 }
 
 /// Equal expressions.

@@ -26,8 +26,9 @@ pub enum Form {
     If(Seq<Arm>, Option<Seq<Node>>),
     /// The subject of a switch, its cases and its default.
     Switch(Expr, Seq<Case>, Option<Seq<Node>>),
-    /// The variable of a loop, that of its index, the list and the body.
-    For(Text, Option<Text>, Expr, Seq<Node>),
+    /// The variable of a loop, that of its index, the list and the body. The names are in boxes: few nodes are loops, and
+    /// a node is as large as its largest form.
+    For(Boxed<Text>, Option<Boxed<Text>>, Expr, Seq<Node>),
     Let(Text, Expr),
     LetBlock(Text, Kind, Seq<Node>),
     /// The name of the callee as written, without a leading dot; whether `data="all"` is there; the params.
@@ -143,7 +144,7 @@ impl Form {
             }
             Form::For(name, index, list, body) => {
                 let body = copied_nodes(alloc, body.items())?;
-                copied_for(alloc, name, index, list, body)
+                copied_for(alloc, name.get(), index, list, body)
             }
             Form::Let(name, expr) => copied_let(alloc, name, expr),
             Form::LetBlock(name, kind, body) => {
@@ -198,15 +199,28 @@ fn copied_switch(
 fn copied_for(
     alloc: Global,
     name: &Text,
-    index: &Option<Text>,
+    index: &Option<Boxed<Text>>,
     list: &Expr,
     body: Seq<Node>,
 ) -> Result<Form, OutOfMemory>
     ensures { IfOk result (λ f. f ≡ Form.For name.now index.now list.now body) }
 {
-    let index = copied_name(alloc, index)?;
-    let name = name.copy(alloc)?;
+    let index = copied_index(alloc, index)?;
+    let name = Boxed::new(alloc, name.copy(alloc)?)?;
     Ok(Form::For(name, index, list.copy(alloc)?, body))
+}
+
+/// An equal name, if there is one.
+fn copied_index(
+    alloc: Global,
+    index: &Option<Boxed<Text>>,
+) -> Result<Option<Boxed<Text>>, OutOfMemory>
+    ensures { IfOk result (λ n. n ≡ index.now) }
+{
+    match index {
+        None => Ok(None),
+        Some(index) => Ok(Some(Boxed::new(alloc, index.get().copy(alloc)?)?)),
+    }
 }
 
 /// A let of an equal expression.
