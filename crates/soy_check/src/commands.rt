@@ -15,7 +15,7 @@ use crate::faults::untyped;
 use crate::visible::Visible;
 use soy_base::{Code, Refusal, Span};
 use soy_expr::{TypeFault, both_mistyped, is_int, is_simple, is_string, param_type, type_by};
-use soy_rules::accepts;
+use soy_rules::accepts_by_names;
 use soy_tree::{Expr, Param, SoyType};
 use std::alloc::Global;
 
@@ -147,7 +147,7 @@ pub(crate) fn check_accepted(
 ) -> Result<(), Refusal<TypeFault>>
     ensures { (scope : Scope) → Passes (accepted (view_type to.now) span (view_type given.now) scope) scope result }
 {
-    if !accepts(to, given) {
+    if !accepts_by_names(alloc, to, given)? {
         return Err(both_mistyped(alloc, span, to, given));
     }
     Ok(())

@@ -18,7 +18,7 @@ ghost use Rattle.soy_check.specs.Visible.{variable};
 
 use crate::faults::{misnamed, untyped};
 use crate::visible::Visible;
-use soy_base::{Code, OutOfMemory, Refusal, Span, Text};
+use soy_base::{Boxed, Code, OutOfMemory, Refusal, Span, Text};
 use soy_expr::{TypeFault, param_type, type_by};
 use soy_tree::{Expr, Param, SoyType};
 use std::alloc::Global;
@@ -90,11 +90,27 @@ pub(crate) fn check_let(
 }
 
 /// The variables of a loop, which are visible in its body.
-#[tactic(auto, using(crate::proofs::Refusals::refused_first, crate::proofs::Refusals::refused_type, crate::proofs::Spans::span_of_view, crate::proofs::Loops::scope_of_items, crate::proofs::Loops::no_items))]
 pub(crate) fn enter_loop(
     alloc: Global,
+    name: &Boxed<Text>,
+    index: &Option<Boxed<Text>>,
+    list: &Expr,
+    span: Span,
+    vars: &mut Visible,
+) -> Result<(), Refusal<TypeFault>>
+    ensures passes { Passes (loop_start name.now index.now (view_expr list.now) span (view_vars vars.old))
+        (view_vars vars.new) result }
+    ensures grown { OnOk result (Grows vars.old vars.new) }
+{
+    enter_items(alloc, name.get(), index, list, span, vars)
+}
+
+/// The same, by the variable of the items.
+#[tactic(auto, using(crate::proofs::Refusals::refused_first, crate::proofs::Refusals::refused_type, crate::proofs::Spans::span_of_view, crate::proofs::Loops::scope_of_items, crate::proofs::Loops::no_items))]
+fn enter_items(
+    alloc: Global,
     name: &Text,
-    index: &Option<Text>,
+    index: &Option<Boxed<Text>>,
     list: &Expr,
     span: Span,
     vars: &mut Visible,
@@ -125,7 +141,7 @@ fn item_of(of: &SoyType) -> Option<&SoyType>
 fn declare_pair(
     alloc: Global,
     name: &Text,
-    index: &Option<Text>,
+    index: &Option<Boxed<Text>>,
     item: SoyType,
     vars: &mut Visible,
 ) -> Result<(), OutOfMemory>
@@ -137,7 +153,7 @@ fn declare_pair(
     declare(alloc, name, item, vars)?;
     match index {
         Some(index) => {
-            declare(alloc, index, SoyType::Int, vars)?;
+            declare(alloc, index.get(), SoyType::Int, vars)?;
             Ok(())
         }
         None => Ok(()),
@@ -149,7 +165,7 @@ fn declare_pair(
 fn check_new_pair(
     alloc: Global,
     name: &Text,
-    index: &Option<Text>,
+    index: &Option<Boxed<Text>>,
     span: Span,
     vars: &Visible,
 ) -> Result<(), Refusal<TypeFault>>
@@ -158,7 +174,7 @@ fn check_new_pair(
 {
     check_new(alloc, name, span, vars)?;
     match index {
-        Some(index) => check_new_index(alloc, name, index, span, vars),
+        Some(index) => check_new_index(alloc, name, index.get(), span, vars),
         None => Ok(()),
     }
 }

@@ -7,6 +7,7 @@ mod SameLists
 pub mod Shallows
 mod TextOrder
 mod TextsLeft
+mod TypeNumbers
 mod TypeSearch
 mod TypeTexts
 mod ValueOrBlock

@@ -6,6 +6,7 @@ pub mod MemberKinds
 pub mod Parts
 pub mod Rules
 pub mod Separators
+pub mod TypeNumbers
 pub mod ViewEnv
 pub mod ViewEvaluated
 pub mod ViewScope

@@ -27,7 +27,7 @@ pub fn evaluate<'a, V: Variables, L: Ledger>(
 ) -> Result<Evaluated<'a, V::Path>, OutOfMemory>
     ensures { Evaluates (V.Names variables.now) (V.env variables.now) (view_expr expr.now) steps.old steps.new result }
 {
-    match &expr.node {
+    match expr.node.get() {
         ExprNode::Int(number) => {
             steps.count();
             Ok(Evaluated::Made(Made::Int(*number)))
@@ -38,7 +38,7 @@ pub fn evaluate<'a, V: Variables, L: Ledger>(
         }
         ExprNode::Member(of, name, _) => {
             steps.count();
-            evaluate_member(alloc, of.get(), name, variables, steps)
+            evaluate_member(alloc, of, name, variables, steps)
         }
         _ => evaluate_any(alloc, expr, variables, steps),
     }
@@ -74,46 +74,44 @@ fn evaluate_any<'a, V: Variables, L: Ledger>(
     ensures { Evaluates (V.Names variables.now) (V.env variables.now) (view_expr expr.now) steps.old steps.new result }
 {
     steps.count();
-    match &expr.node {
+    match expr.node.get() {
         ExprNode::Null => Ok(Evaluated::Made(Made::Null)),
         ExprNode::Bool(is) => Ok(Evaluated::Made(Made::Bool(*is))),
         ExprNode::Int(number) => Ok(Evaluated::Made(Made::Int(*number))),
         ExprNode::Str(text) => Ok(Evaluated::Made(Made::Str(text.copy(alloc)?))),
         ExprNode::Var(name) => variables.find(name),
-        ExprNode::Member(of, name, _) => {
-            evaluate_member(alloc, of.get(), name, variables, steps)
-        }
+        ExprNode::Member(of, name, _) => { evaluate_member(alloc, of, name, variables, steps) }
         ExprNode::Index(of, index, _) => {
-            let of = evaluate(alloc, of.get(), variables, steps)?;
-            let index = evaluate(alloc, index.get(), variables, steps)?;
+            let of = evaluate(alloc, of, variables, steps)?;
+            let index = evaluate(alloc, index, variables, steps)?;
             item(variables, of, index.shallow())
         }
         ExprNode::Neg(of) => {
-            let of = evaluate(alloc, of.get(), variables, steps)?;
+            let of = evaluate(alloc, of, variables, steps)?;
             Ok(Evaluated::Made(negated(of.shallow())))
         }
         ExprNode::Not(of) => {
-            let of = evaluate(alloc, of.get(), variables, steps)?;
+            let of = evaluate(alloc, of, variables, steps)?;
             Ok(Evaluated::Made(Made::Bool(!of.is_truthy())))
         }
         ExprNode::Binary(op, left, right) => {
-            let left = evaluate(alloc, left.get(), variables, steps)?;
-            evaluate_right(alloc, *op, left, right.get(), variables, steps)
+            let left = evaluate(alloc, left, variables, steps)?;
+            evaluate_right(alloc, *op, left, right, variables, steps)
         }
         ExprNode::Coalesce(left, right) => {
-            let left = evaluate(alloc, left.get(), variables, steps)?;
+            let left = evaluate(alloc, left, variables, steps)?;
             if left.is_null() {
-                evaluate(alloc, right.get(), variables, steps)
+                evaluate(alloc, right, variables, steps)
             } else {
                 Ok(left)
             }
         }
         ExprNode::Cond(when, left, right) => {
-            let when = evaluate(alloc, when.get(), variables, steps)?;
+            let when = evaluate(alloc, when, variables, steps)?;
             if when.is_truthy() {
-                evaluate(alloc, left.get(), variables, steps)
+                evaluate(alloc, left, variables, steps)
             } else {
-                evaluate(alloc, right.get(), variables, steps)
+                evaluate(alloc, right, variables, steps)
             }
         }
     }

@@ -6,6 +6,7 @@ ghost use Rattle.soy_rules.specs.Members.{are_same_fields, are_same_members, is_
 ghost use Rattle.soy_rules.specs.Members.{union_members, with_member, with_members};
 ghost use Rattle.soy_tree.specs.ViewTypes.{view_fields, view_members, view_type};
 
+use crate::joining_by_text::add_new_by_text;
 use soy_base::OutOfMemory;
 use soy_rules::union_of;
 use soy_tree::{Field, SoyType};
@@ -17,8 +18,31 @@ pub fn joined(alloc: Global, left: &SoyType, right: &SoyType) -> Result<SoyType,
 {
     let mut kept = Vec::new(alloc);
     add_members(alloc, &mut kept, left)?;
-    add_new_members(alloc, &mut kept, right)?;
+    add_others(alloc, &mut kept, right)?;
     Ok(union_of(kept))
+}
+
+/// To so few members, each is looked for in a walk over all that are there: that takes no longer than to write texts.
+const FEW: usize = 32;
+
+/// Adds the members of a type that aren't yet there, by their texts where they are many.
+fn add_others(alloc: Global, kept: &mut Vec<SoyType>, of: &SoyType) -> Result<(), OutOfMemory>
+    ensures { OnOk result (map view_type kept.new.items
+        ≡ with_members (map view_type kept.old.items) (members (view_type of.now))) }
+{
+    if is_wide(of) {
+        add_new_by_text(alloc, kept, of)
+    } else {
+        add_new_members(alloc, kept, of)
+    }
+}
+
+/// Whether a type has many members.
+fn is_wide(of: &SoyType) -> bool {
+    match of {
+        SoyType::Union(members) => members.items().len() > FEW,
+        _ => false,
+    }
 }
 
 /// Adds the members of a type.
@@ -80,7 +104,11 @@ fn add_all_new_members(
 }
 
 /// Adds a type that isn't yet there.
-fn add_new(alloc: Global, kept: &mut Vec<SoyType>, of: &SoyType) -> Result<(), OutOfMemory>
+pub(crate) fn add_new(
+    alloc: Global,
+    kept: &mut Vec<SoyType>,
+    of: &SoyType,
+) -> Result<(), OutOfMemory>
     ensures { OnOk result (map view_type kept.new.items
         ≡ with_member (map view_type kept.old.items) (view_type of.now)) }
 {
@@ -105,7 +133,7 @@ fn is_among(of: &SoyType, types: &[SoyType]) -> bool
 
 /// Whether two types are the same.
 #[cycle(comparing)]
-fn is_same(left: &SoyType, right: &SoyType) -> bool
+pub(crate) fn is_same(left: &SoyType, right: &SoyType) -> bool
     ensures { result ≡ is_same_type (view_type left.now) (view_type right.now) }
 {
     match (left, right) {
@@ -147,7 +175,7 @@ fn are_same_members(left: &[SoyType], right: &[SoyType]) -> bool
     }
 }
 
-fn member_at(members: &[SoyType], number: usize) -> Option<&SoyType>
+pub(crate) fn member_at(members: &[SoyType], number: usize) -> Option<&SoyType>
     ensures { option_map (λ t. t.now) result ≡ slice_get members.now number }
 {
     members.get(number)

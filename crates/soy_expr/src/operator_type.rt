@@ -183,7 +183,7 @@ fn are_compared(left: &Expr, right: &Expr, of_left: &SoyType, of_right: &SoyType
 fn is_null_literal(expr: &Expr) -> bool
     ensures { result ≡ is_null_literal (view_expr expr.now) }
 {
-    match &expr.node {
+    match expr.node.get() {
         ExprNode::Null => true,
         _ => false,
     }
@@ -193,7 +193,7 @@ fn is_null_literal(expr: &Expr) -> bool
 fn is_divisor(expr: &Expr) -> bool
     ensures { result ≡ is_divisor (view_expr expr.now) }
 {
-    match &expr.node {
+    match expr.node.get() {
         ExprNode::Int(number) => *number != 0,
         _ => false,
     }

@@ -86,29 +86,23 @@ fn type_in<'a, V: VariableTypes>(
     ensures { Types view_typing (type_of (view_expr expr.now) (V.visible vars.now)) result }
 {
     let span = expr.span;
-    match &expr.node {
+    match expr.node.get() {
         ExprNode::Null => Ok(Typing::Made(SoyType::Null)),
         ExprNode::Bool(_) => Ok(Typing::Made(SoyType::Bool)),
         ExprNode::Int(_) => Ok(Typing::Made(SoyType::Int)),
         ExprNode::Str(_) => Ok(Typing::Made(SoyType::Str)),
         ExprNode::Var(name) => variable_typing(alloc, span, name, vars),
         ExprNode::Member(of, name, takes_null) => {
-            member_typing(alloc, span, of.get(), name, *takes_null, vars)
+            member_typing(alloc, span, of, name, *takes_null, vars)
         }
         ExprNode::Index(of, index, takes_null) => {
-            index_typing(alloc, span, of.get(), index.get(), *takes_null, vars)
+            index_typing(alloc, span, of, index, *takes_null, vars)
         }
-        ExprNode::Neg(of) => minus_typing(alloc, span, of.get(), vars),
-        ExprNode::Not(of) => not_typing(alloc, of.get(), vars),
-        ExprNode::Binary(op, left, right) => {
-            binary_typing(alloc, *op, span, left.get(), right.get(), vars)
-        }
-        ExprNode::Coalesce(left, right) => {
-            coalesce_typing(alloc, span, left.get(), right.get(), vars)
-        }
-        ExprNode::Cond(when, left, right) => {
-            choice_typing(alloc, span, when.get(), left.get(), right.get(), vars)
-        }
+        ExprNode::Neg(of) => minus_typing(alloc, span, of, vars),
+        ExprNode::Not(of) => not_typing(alloc, of, vars),
+        ExprNode::Binary(op, left, right) => { binary_typing(alloc, *op, span, left, right, vars) }
+        ExprNode::Coalesce(left, right) => { coalesce_typing(alloc, span, left, right, vars) }
+        ExprNode::Cond(when, left, right) => { choice_typing(alloc, span, when, left, right, vars) }
     }
 }
 

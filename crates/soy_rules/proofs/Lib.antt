@@ -16,6 +16,7 @@ pub mod PlaceholderRows
 pub mod Rows
 pub mod SameContents
 pub mod SameTypes
+pub mod Searches
 pub mod TemplateNumbers
 pub mod TypeRows
 pub mod ValueRows

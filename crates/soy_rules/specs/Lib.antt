@@ -5,6 +5,7 @@ pub mod Cost
 pub mod Declarations
 pub mod Demands
 pub mod Faults
+pub mod FieldNames
 pub mod FirstNames
 pub mod Fits
 pub mod FullNames

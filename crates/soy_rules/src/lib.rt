@@ -7,6 +7,8 @@
 #![tactic(auto)]
 
 mod acceptance;
+mod acceptance_by_names;
+mod field_names;
 mod laws;
 mod names;
 mod narrowing;
@@ -15,6 +17,7 @@ mod templates;
 mod typed;
 
 pub use acceptance::accepts;
+pub use acceptance_by_names::accepts_by_names;
 pub use laws::{
     law_accepted_value, law_accepts_by_members, law_branch, law_cost, law_joined, law_narrow,
     law_placeholder_names, law_value_type,
