@@ -14,4 +14,4 @@ pub mod LentFacts
 pub mod FitsFacts
 pub mod ShortInts
 pub mod Pushed
-pub mod FirstMissing
+pub mod KnownUnfit

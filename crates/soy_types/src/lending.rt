@@ -22,8 +22,8 @@ ghost use Rattle.soy_types.specs.Read.{member_or_null, under_key, value_at};
 ghost use Rattle.soy_types.specs.ReadData.{values_at};
 ghost use Rattle.soy_types.specs.Reads.{ReadsShort};
 
-use crate::lacking::lacks_first;
 use crate::lent::{in_order, member_of};
+use crate::lent_unfit::is_unfit;
 use crate::number::int_of;
 use crate::reading::{LARGEST_INT, MOST_ITEMS};
 use crate::room::{put, with_room};
@@ -35,7 +35,7 @@ use std::alloc::Global;
 
 /// An object of more members than this isn't searched for more fields than this, since each search is a walk over its
 /// members: the other way of reading has a map.
-const MOST_WALKS: usize = 32;
+pub(crate) const MOST_WALKS: usize = 32;
 
 /// Whether so many fields are too many to be looked for.
 fn is_wide(fields: usize, json: &Lent<'_>) -> bool {
@@ -354,13 +354,13 @@ fn lent_first(alloc: Global, types: &[SoyType], json: &Lent<'_>) -> Result<Value
     Err(Unread::Unfit)
 }
 
-/// The value at a member of a union. A record is passed over at once where its first field is missing.
+/// The value at a member of a union. What is known not to fit is passed over at once.
 #[cycle(lending)]
 fn lent_choice(alloc: Global, of: &SoyType, json: &Lent<'_>) -> Result<Value, Unread>
     ensures value { Fits view_value (value_at (view_type of.now) (data_of (value_view json.now))) result }
     ensures short { ReadsShort result }
 {
-    if lacks_first(of, json) {
+    if is_unfit(of, json) {
         return Err(Unread::Unfit);
     }
     lent_value(alloc, of, json)

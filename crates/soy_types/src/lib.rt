@@ -8,10 +8,11 @@
 
 mod data;
 mod fault;
-mod lacking;
+mod json_unfit;
 mod laws;
 mod lending;
 mod lent;
+mod lent_unfit;
 mod number;
 mod path;
 mod reading;

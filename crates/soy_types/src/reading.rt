@@ -11,6 +11,7 @@ ghost use Rattle.soy_types.specs.Paths.{all_read, onward};
 ghost use Rattle.soy_types.specs.Read.{entry_results, field_results, first_read, int_read, item_results, value_at};
 ghost use Rattle.soy_types.specs.Reads.{Reads, ReadsShort};
 
+use crate::json_unfit::is_unfit;
 use crate::path::{Path, at_index, at_key, unfit};
 use crate::room::{put, with_room};
 use serde_json::{Map, Value as Json};
@@ -133,6 +134,9 @@ fn read_first(alloc: Global, types: &[SoyType], json: &Json) -> Result<Value, Re
     ensures short { ReadsShort result }
 {
     for of in types {
+        if is_unfit(of, json) {
+            continue;
+        }
         match read_value(alloc, of, json) {
             Ok(value) => return Ok(value),
             Err(Refusal::Because(_)) => {}

@@ -281,10 +281,7 @@ fn love(alloc: Global) -> Result<Message, OutOfMemory> {
         form: Form::Text(text(alloc, "love ")?),
         span: SPAN,
     })?;
-    let who = Expr {
-        node: ExprNode::Var(text(alloc, "who")?),
-        span: SPAN,
-    };
+    let who = Expr::new(alloc, ExprNode::Var(text(alloc, "who")?), SPAN)?;
     nodes.push(Node {
         form: Form::Print(who, None),
         span: SPAN,

@@ -19,19 +19,13 @@ fn text(alloc: Global, text: &str) -> Result<Text, OutOfMemory> {
 }
 
 fn variable(alloc: Global, name: &str) -> Result<Expr, OutOfMemory> {
-    Ok(Expr {
-        node: ExprNode::Var(text(alloc, name)?),
-        span: SPAN,
-    })
+    Expr::new(alloc, ExprNode::Var(text(alloc, name)?), SPAN)
 }
 
 /// `$of.name`
 fn member(alloc: Global, of: &str, name: &str) -> Result<Expr, OutOfMemory> {
-    let of = Boxed::new(alloc, variable(alloc, of)?)?;
-    Ok(Expr {
-        node: ExprNode::Member(of, text(alloc, name)?, false),
-        span: SPAN,
-    })
+    let of = variable(alloc, of)?;
+    Expr::new(alloc, ExprNode::Member(of, text(alloc, name)?, false), SPAN)
 }
 
 fn text_node(alloc: Global, words: &str) -> Result<Node, OutOfMemory> {

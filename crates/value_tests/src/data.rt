@@ -29,6 +29,8 @@ enum Of {
     MapOrRecord,
     /// `[y: int]|map<string, int>`
     RecordOrMap,
+    /// `[y: int, x: int|null]|[y: string, z: bool]`
+    Records,
     /// `[m: map<string, int>, l: list<int>]`
     MapAndList,
 }
@@ -75,6 +77,21 @@ fn one_field(alloc: Global) -> Result<SoyType, OutOfMemory> {
     Ok(SoyType::Fields(Seq::new(fields)))
 }
 
+fn other_record(alloc: Global) -> Result<SoyType, OutOfMemory> {
+    let y = text_of(alloc, "y")?;
+    let z = text_of(alloc, "z")?;
+    let mut fields = Vec::new(alloc);
+    fields.push(Field {
+        name: y,
+        of: SoyType::Str,
+    })?;
+    fields.push(Field {
+        name: z,
+        of: SoyType::Bool,
+    })?;
+    Ok(SoyType::Fields(Seq::new(fields)))
+}
+
 fn map_and_list(alloc: Global) -> Result<SoyType, OutOfMemory> {
     let m = text_of(alloc, "m")?;
     let l = text_of(alloc, "l")?;
@@ -104,6 +121,7 @@ fn type_of(alloc: Global, of: Of) -> Result<SoyType, OutOfMemory> {
         Of::Record => record(alloc),
         Of::MapOrRecord => pair(alloc, counts(alloc)?, one_field(alloc)?),
         Of::RecordOrMap => pair(alloc, one_field(alloc)?, counts(alloc)?),
+        Of::Records => pair(alloc, record(alloc)?, other_record(alloc)?),
         Of::MapAndList => map_and_list(alloc),
     }
 }
@@ -302,6 +320,21 @@ const ROWS: &[(Of, bool, &str, &str)] = &[
     (Of::MapOrRecord, true, "{\"a\":{\"y\":1}}", "{a=map{y=1 } }"),
     (Of::RecordOrMap, true, "{\"a\":{\"y\":1}}", "{a={y=1 } }"),
     (Of::RecordOrMap, true, "{\"a\":{\"x\":1}}", "{a=map{x=1 } }"),
+    (Of::Records, true, "{\"a\":{\"y\":1}}", "{a={y=1 x=null } }"),
+    (
+        Of::Records,
+        true,
+        "{\"a\":{\"z\":true,\"y\":\"s\"}}",
+        "{a={y='s' z=true } }",
+    ),
+    (Of::Records, true, "{\"a\":{\"y\":\"s\"}}", "DataType/a"),
+    (
+        Of::Records,
+        true,
+        "{\"a\":{\"y\":1,\"x\":\"s\"}}",
+        "DataType/a",
+    ),
+    (Of::Records, true, "{\"a\":[1]}", "DataType/a"),
     (Of::NullOrInts, true, "{\"a\":[1]}", "{a=[1 ] }"),
     (Of::NullOrInts, true, "{\"a\":[null]}", "DataType/a"),
     (Of::IntsOrNull, true, "{\"a\":[1,null]}", "DataType/a"),

@@ -1,5 +1,5 @@
 //! Tests of what no clause says: rows of operators, accesses and faults, with ample memory.
-ghost use Rattle.std.specs.Prelude.{◌≡◌, ◌<◌, pos, []};
+ghost use Rattle.std.specs.Prelude.{◌≡◌, ◌<◌, pos, [], IfOk};
 ghost use Rattle.soy_tree.specs.Expressions.{IntLiteral};
 ghost use Rattle.soy_tree.specs.ViewExpressions.{view_expr};
 ghost use Rattle.soy_expr.specs.ViewEnv.{view_env};
@@ -17,20 +17,19 @@ fn text_of(alloc: Global, text: &str) -> Result<Text, OutOfMemory> {
     Ok(Text::new(String::from_str(alloc, text)?))
 }
 
-fn expr(node: ExprNode, start: u64) -> Expr {
-    let span = Span { start, end: start };
-    Expr { node, span }
+fn expr(alloc: Global, node: ExprNode, start: u64) -> Result<Expr, OutOfMemory>
+    ensures { IfOk result (λ e. e ≡ record { node = node; span = record { start = start; end = start } }) }
+{
+    Expr::new(alloc, node, Span { start, end: start })
 }
 
 fn binary(alloc: Global, op: BinaryOp, left: Expr, right: Expr) -> Result<Expr, OutOfMemory> {
     let start = left.span.start;
-    let left = Boxed::new(alloc, left)?;
-    let right = Boxed::new(alloc, right)?;
-    Ok(expr(ExprNode::Binary(op, left, right), start))
+    expr(alloc, ExprNode::Binary(op, left, right), start)
 }
 
 fn variable(alloc: Global, name: &str, start: u64) -> Result<Expr, OutOfMemory> {
-    Ok(expr(ExprNode::Var(text_of(alloc, name)?), start))
+    expr(alloc, ExprNode::Var(text_of(alloc, name)?), start)
 }
 
 /// The text of the value, if it is null, a bool, an int or a string.
@@ -45,7 +44,7 @@ fn value_text<L: Ledger>(
     requires some { 0 < blank.parts }
 {
     let mut steps = Steps::<L>::new(blank);
-    let empty = expr(ExprNode::Str(Text::empty(alloc)), 0);
+    let empty = expr(alloc, ExprNode::Str(Text::empty(alloc)), 0)?;
     let text = binary(alloc, BinaryOp::Add, value, empty)?;
     match evaluate(alloc, &text, env, &mut steps)? {
         Evaluated::Made(Made::Str(text)) => Ok(text),
@@ -71,12 +70,12 @@ enum Literal {
 }
 
 fn literal_expr(alloc: Global, of: Literal) -> Result<Expr, OutOfMemory> {
-    Ok(match of {
-        Literal::Null => expr(ExprNode::Null, 0),
-        Literal::Bool(is) => expr(ExprNode::Bool(is), 0),
-        Literal::Int(number) => expr(ExprNode::Int(number), 0),
-        Literal::Str(text) => expr(ExprNode::Str(text_of(alloc, text)?), 0),
-    })
+    match of {
+        Literal::Null => expr(alloc, ExprNode::Null, 0),
+        Literal::Bool(is) => expr(alloc, ExprNode::Bool(is), 0),
+        Literal::Int(number) => expr(alloc, ExprNode::Int(number), 0),
+        Literal::Str(text) => expr(alloc, ExprNode::Str(text_of(alloc, text)?), 0),
+    }
 }
 
 /// The left operand, the operator, the right operand, and the text of the value.
@@ -172,15 +171,15 @@ fn variables(alloc: Global) -> Result<Env, OutOfMemory> {
 }
 
 fn at(alloc: Global, name: &str, index: Literal) -> Result<Expr, OutOfMemory> {
-    let of = Boxed::new(alloc, variable(alloc, name, 0)?)?;
-    let index = Boxed::new(alloc, literal_expr(alloc, index)?)?;
-    Ok(expr(ExprNode::Index(of, index, false), 0))
+    let of = variable(alloc, name, 0)?;
+    let index = literal_expr(alloc, index)?;
+    expr(alloc, ExprNode::Index(of, index, false), 0)
 }
 
 fn field_at(alloc: Global, index: i64) -> Result<Expr, OutOfMemory> {
-    let of = Boxed::new(alloc, at(alloc, "l", Literal::Int(index))?)?;
+    let of = at(alloc, "l", Literal::Int(index))?;
     let name = text_of(alloc, "x")?;
-    Ok(expr(ExprNode::Member(of, name, true), 0))
+    expr(alloc, ExprNode::Member(of, name, true), 0)
 }
 
 /// The first of two entries counts, and null is where nothing is there.
@@ -208,13 +207,10 @@ fn accesses_to_parts(rt: HostRuntime) {
 }
 
 /// The literal 7.
-fn seven() -> Expr
-    ensures { view_expr result ≡ IntLiteral (pos 7) (record { start = 0; end = 0 }) }
+fn seven(alloc: Global) -> Result<Expr, OutOfMemory>
+    ensures { IfOk result (λ e. view_expr e ≡ IntLiteral (pos 7) (record { start = 0; end = 0 })) }
 {
-    Expr {
-        node: ExprNode::Int(7),
-        span: Span { start: 0, end: 0 },
-    }
+    expr(alloc, ExprNode::Int(7), 0)
 }
 
 fn calls<L: Ledger>(alloc: Global, blank: Blank) -> Result<(Value, bool), OutOfMemory>
@@ -227,7 +223,8 @@ fn calls<L: Ledger>(alloc: Global, blank: Blank) -> Result<(Value, bool), OutOfM
     let block = variable(alloc, "h", 0)?;
     let truth = test(alloc, &block, &env, &mut steps)?;
     let none = no_variables(alloc);
-    let value = eval(alloc, &seven(), &none, &mut steps)?;
+    let seven = seven(alloc)?;
+    let value = eval(alloc, &seven, &none, &mut steps)?;
     Ok((value, truth))
 }
 

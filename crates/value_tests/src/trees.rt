@@ -99,9 +99,9 @@ fn param(alloc: Global) -> Result<Param, OutOfMemory> {
 
 /// `$a + 1`
 fn sum(alloc: Global) -> Result<Expr, OutOfMemory> {
-    let left = Boxed::new(alloc, variable(alloc)?)?;
-    let right = Boxed::new(alloc, expr_of(ExprNode::Int(1)))?;
-    Ok(expr_of(ExprNode::Binary(BinaryOp::Add, left, right)))
+    let left = variable(alloc)?;
+    let right = expr_of(alloc, ExprNode::Int(1))?;
+    expr_of(alloc, ExprNode::Binary(BinaryOp::Add, left, right))
 }
 
 fn copied_param(alloc: Global) -> Result<Param, OutOfMemory> {
@@ -128,13 +128,13 @@ fn a_sum_is_copied(rt: HostRuntime) {
         assert!(rt; false);
         return;
     };
-    let ExprNode::Binary(op, left, right) = &sum.node else {
+    let ExprNode::Binary(op, left, right) = sum.node.get() else {
         assert!(rt; false);
         return;
     };
     assert_eq!(rt; *op, BinaryOp::Add);
-    assert!(rt; matches!(left.get().node, ExprNode::Var(_)));
-    assert!(rt; matches!(right.get().node, ExprNode::Int(1)));
+    assert!(rt; matches!(left.node.get(), ExprNode::Var(_)));
+    assert!(rt; matches!(right.node.get(), ExprNode::Int(1)));
 }
 
 #[test]
@@ -209,33 +209,31 @@ fn every_value_is_copied(rt: HostRuntime) {
     assert!(rt; matches!(items.items().get(1), Some(Value::Bool(true))));
 }
 
-fn expr_of(node: ExprNode) -> Expr {
-    Expr { node, span: SPAN }
+fn expr_of(alloc: Global, node: ExprNode) -> Result<Expr, OutOfMemory> {
+    Expr::new(alloc, node, SPAN)
 }
 
 /// `$a`
 fn variable(alloc: Global) -> Result<Expr, OutOfMemory> {
-    Ok(expr_of(ExprNode::Var(text_of(alloc, "a")?)))
+    expr_of(alloc, ExprNode::Var(text_of(alloc, "a")?))
 }
 
 fn copied_expression(alloc: Global) -> Result<Expr, OutOfMemory> {
-    let of = Boxed::new(alloc, variable(alloc)?)?;
-    expr_of(ExprNode::Not(of)).copy(alloc)
+    let of = variable(alloc)?;
+    expr_of(alloc, ExprNode::Not(of))?.copy(alloc)
 }
 
 #[test]
 fn an_expression_is_copied(rt: HostRuntime) {
-    let Ok(
-        Expr {
-            node: ExprNode::Not(of),
-            ..
-        },
-    ) = copied_expression(rt.alloc())
-    else {
+    let Ok(copied) = copied_expression(rt.alloc()) else {
         assert!(rt; false);
         return;
     };
-    assert!(rt; matches!(of.get().node, ExprNode::Var(_)));
+    let ExprNode::Not(of) = copied.node.get() else {
+        assert!(rt; false);
+        return;
+    };
+    assert!(rt; matches!(of.node.get(), ExprNode::Var(_)));
 }
 
 fn copied_node(alloc: Global) -> Result<Node, OutOfMemory> {

@@ -1,6 +1,8 @@
-//! Data of more than 32 members at as many fields, for which there is a map.
+//! Data of more than 32 members at as many fields, and types of as many fields and members, for which there are maps.
 
 use soy_base::{OutOfMemory, Refusal, Seq, Span, Text, push_char, push_text};
+use soy_expr::joined;
+use soy_rules::accepts_by_names;
 use soy_tree::{Field, Param, SoyType, Value};
 use soy_types::{DataFault, read_data};
 use std::alloc::Global;
@@ -114,4 +116,49 @@ fn a_record_of_33_fields(rt: HostRuntime) {
         Some(entry) => assert_eq!(rt; field_count(&entry.value), 33),
         None => assert!(rt; false),
     }
+}
+
+/// The union of a record with one of the names for each name.
+fn records(alloc: Global) -> Result<SoyType, OutOfMemory> {
+    let mut members = Vec::new(alloc);
+    for letter in LETTERS.chars() {
+        let mut fields = Vec::new(alloc);
+        fields.push(field(alloc, letter)?)?;
+        members.push(SoyType::Fields(Seq::new(fields)))?;
+    }
+    Ok(SoyType::Union(Seq::new(members)))
+}
+
+/// How many members a type has as it is written.
+fn member_count(of: &SoyType) -> usize {
+    match of {
+        SoyType::Union(members) => members.items().len(),
+        _ => 1,
+    }
+}
+
+/// Whether wide types accept themselves, and not null.
+fn are_accepted(alloc: Global) -> Result<bool, OutOfMemory> {
+    let record = record(alloc)?;
+    let records = records(alloc)?;
+    Ok(
+        accepts_by_names(alloc, &record, &record)?
+            && accepts_by_names(alloc, &records, &records)?
+            && !accepts_by_names(alloc, &records, &SoyType::Null)?,
+    )
+}
+
+/// How many members a union of 33 records has, joined with itself.
+fn joined_count(alloc: Global) -> Result<usize, OutOfMemory> {
+    let records = records(alloc)?;
+    Ok(member_count(&joined(alloc, &records, &records)?))
+}
+
+#[test]
+fn types_of_33_names_are_accepted_and_joined(rt: HostRuntime) {
+    let (Ok(are_accepted), Ok(count)) = (are_accepted(rt.alloc()), joined_count(rt.alloc())) else {
+        assert!(rt; false);
+        return;
+    };
+    assert!(rt; are_accepted && count == 33);
 }
