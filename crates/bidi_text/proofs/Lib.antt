@@ -1,3 +1,4 @@
+pub mod AsciiWords
 pub mod Starts
 pub mod WordKinds
 pub mod WordCuts

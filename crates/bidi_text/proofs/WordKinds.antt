@@ -42,6 +42,11 @@ left_to_right-is_some [] h = refl
 left_to_right-is_some (c ∷ cs) h = left_to_right_step (bidi_class c) (find is_strong (map bidi_class cs)) _
     (left_to_right-is_some cs) h
 
+-- without a character a word says nothing
+pub kind-nothing : word_kind [] ≡ Neutral
+unfolding word_kind first_strong is_address
+kind-nothing = refl
+
 -- the rules of the kinds, each where the rules before it fail
 pub kind-right_to_left : (word : List ℕ) → option_map_or is_right_to_left (first_strong word) false ≡ true
     → word_kind word ≡ RightToLeft

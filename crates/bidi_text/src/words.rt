@@ -1,13 +1,13 @@
 //! The direction of a text by its words.
 ghost use Rattle.std.specs.Prelude.{◌≡◌, ℕ, ◌+◌, ◌*◌, ◌^◌, ◌≤◌, ◌<◌, ◌||◌, nat_eq, codes, length, if◌then◌else◌};
 ghost use Rattle.std.specs.List.{list_any, starts_with};
-ghost use Rattle.std.specs.Char.{is_ascii_digit};
-ghost use Rattle.std.specs.Str.{chars};
+ghost use Rattle.std.specs.Char.{is_ascii_alphanumeric, is_ascii_digit, is_whitespace};
+ghost use Rattle.std.specs.Str.{IsAscii, chars};
 ghost use Rattle.bidi_text.specs.Estimate.{counts_in_total, counts_right_to_left, direction_by, estimated_direction};
 ghost use Rattle.bidi_text.specs.Estimate.{first_strong, is_address, is_weak, word_kind};
 
 use bidi_class::{Class, class_of};
-use soy_base::Dir;
+use soy_base::{Dir, split_while};
 
 /// The direction of a text, estimated by its words, or the context's where no word decides.
 ///
@@ -17,15 +17,55 @@ use soy_base::Dir;
 pub fn estimate(text: &str, context: Dir) -> Dir
     ensures { result ≡ estimated_direction (chars text.now) context }
 {
+    if text.is_ascii() {
+        return ascii_direction(text, context);
+    }
     let mut tally = Tally {
         right_to_left: 0,
         total: 0,
         weak: false,
     };
-    for word in text.split_whitespace() {
+    let mut rest = text;
+    while !rest.is_empty() {
+        let (word, behind) = split_while(rest, |c| !is_space(c));
         tally.count(word);
+        let (_, others) = split_while(behind, is_space);
+        rest = others;
     }
     tally.direction(context)
+}
+
+/// The direction of a text of ASCII: from left to right where it has a letter or a digit, else the context's.
+///
+/// None of its words is from right to left, and a word has a direction, or says a little for one, exactly where it has
+/// a letter or a digit.
+pub fn ascii_direction(text: &str, context: Dir) -> Dir
+    requires { IsAscii text.now }
+    ensures { result ≡ estimated_direction (chars text.now) context }
+{
+    if has_alphanumeric(text.as_bytes()) {
+        Dir::Ltr
+    } else {
+        context
+    }
+}
+
+/// Whether a byte is a letter or a digit of ASCII.
+fn has_alphanumeric(bytes: &[u8]) -> bool
+    ensures { result ≡ list_any is_ascii_alphanumeric bytes.now }
+{
+    bytes.iter().any(|byte| byte.is_ascii_alphanumeric())
+}
+
+/// Whether the character is white space. One comparison says so of the characters from U+00A1 to U+167F.
+#[inline(always)]
+fn is_space(c: char) -> bool
+    ensures { result ≡ is_whitespace c }
+{
+    match c {
+        '\u{a1}'..='\u{167f}' => false,
+        _ => c.is_whitespace(),
+    }
 }
 
 /// What the words so far say of the direction.

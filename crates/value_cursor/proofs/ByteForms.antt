@@ -10,7 +10,7 @@ use Rattle.std.proofs.lemmas.Bool.Decides.{nat_tests}
 use Rattle.std.proofs.lemmas.Grind.{flat_map-append}
 use Rattle.std.proofs.lemmas.List.Folds.{list_all-append}
 use Rattle.std.proofs.lemmas.Slice.Eq.{bytes_eq-Decides}
-use Rattle.std.proofs.lemmas.Str.{encode_ascii, encodes-append, encodes-chars, scalars-chars}
+use Rattle.std.proofs.lemmas.Str.{chars-append, encode_ascii, encodes-append, encodes-chars, scalars-chars}
 use lib.Utf8.{scalar}
 use Rattle.esc_table.specs.HtmlRows.{html_rows}
 use Rattle.esc_table.specs.LeadBytes.{lead_byte}
@@ -206,3 +206,27 @@ short_form how byte short low =
     let same : 0 + byte ≡ byte = omega arith in
     let P : ℕ → Type 0 = λ k. length (encode_utf8_all (escaped_character how k)) ≤ 6 in
     subst P same (short_at how 0 128 byte short low)
+
+-- ---- a text of which a prefix stands for itself
+
+pub own_forms : (how : Escaper) (cs : List ℕ) → list_all (stands_for_itself how) cs ≡ true
+    → flat_map (escaped_character how) cs ≡ cs
+own_forms how [] own = refl
+own_forms how (c ∷ cs) own =
+    let parts = and_parts (stands_for_itself how c) (list_all (stands_for_itself how) cs) own in
+    ap (λ l. l ++ flat_map (escaped_character how) cs) (own_form how c parts.0)
+    ∙ ap (λ l. c ∷ l) (own_forms how cs parts.1)
+
+pub body_forms : (how : Escaper) (text plain others : List ℕ) → text ≡ plain ++ others → IsUtf8 plain
+    → list_all (stands_for_itself how) (chars plain) ≡ true
+    → encode_utf8_all (flat_map (escaped_character how) (chars others)) ≡ flat_map (byte_form how) others
+    → encode_utf8_all (flat_map (escaped_character how) (chars text)) ≡ plain ++ flat_map (byte_form how) others
+body_forms how text plain others whole utf8 own rest =
+    let form : ℕ → List ℕ = escaped_character how in
+    ap (λ l. encode_utf8_all (flat_map form (chars l))) whole
+    ∙ ap (λ l. encode_utf8_all (flat_map form l)) (chars-append plain others utf8)
+    ∙ ap encode_utf8_all (flat_map-append form (chars plain) (chars others))
+    ∙ encodes-append (flat_map form (chars plain)) (flat_map form (chars others))
+    ∙ ap (λ l. l ++ encode_utf8_all (flat_map form (chars others)))
+    (ap encode_utf8_all (own_forms how (chars plain) own) ∙ encodes-chars plain utf8)
+    ∙ ap (λ l. plain ++ l) rest

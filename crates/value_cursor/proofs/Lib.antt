@@ -1,7 +1,7 @@
 mod AsciiForms
 mod ByteForms
+mod CleanBytes
 mod Closed
-mod Directions
 mod Enclosed
 mod Forms
 mod Givings
@@ -9,7 +9,7 @@ mod LeftOut
 mod LenSoFar
 mod Marked
 mod PlainRuns
-mod Printable
+mod PlainTexts
 mod Rooms
 mod RunSoFar
 mod SharedRuns

@@ -28,6 +28,13 @@ pub more_given : {whole room between part : List ℕ} {filled more : ℕ} (form 
 more_given {whole} {room} {between} {part} {filled} {more} form byte rest first next =
     gives_then first (gives_behind between filled next) (room_end between part filled)
 
+-- a text, and what follows it
+pub both_given : {body room first second : List ℕ} {n m : ℕ} (text : List ℕ) → Gives (text ++ body) body room first n
+    → Gives body [] (take (length first - n) (drop n first)) second m
+    → Gives (text ++ body) [] room (take n first ++ (second ++ drop (length first - n) (drop n first))) (n + m)
+both_given {body} {room} {first} {second} {n} {m} text given filled =
+    gives_then given (gives_behind first n filled) (room_end first second n)
+
 -- an opening, what stands between, and a closing
 pub enclosed_given : {body room first second third : List ℕ} {n m k : ℕ} (opening closing room_second : List ℕ)
     → Gives (opening ++ (body ++ closing)) (body ++ closing) room first n

@@ -44,6 +44,11 @@ is_clean c = not (is_isolate_control c) && not (is_separator (bidi_class c))
 abbrev pub is_printable : ℕ → Bool
 is_printable c = nat_le 32 c && nat_lt c 127
 
+-- a byte that only clean characters have: from 32 on, and neither 194 nor 226, with which the characters from U+0080 to
+-- U+00BF and from U+2000 to U+2FFF begin
+abbrev pub is_clean_byte : ℕ → Bool
+is_clean_byte byte = (nat_le 32 byte && not (byte == 194)) && not (byte == 226)
+
 -- it is what is cleaned of this text where it is wrapped
 abbrev pub Cleans : Cleaning → List ℕ → Type 0
 Cleans cleaning.Nothing text = list_all is_clean text ≡ true

@@ -6,4 +6,5 @@ pub mod EscapedForm
 pub mod Gives
 pub mod GivesWhole
 pub mod Joined
+pub mod PlainBytes
 pub mod Shares

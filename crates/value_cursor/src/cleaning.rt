@@ -3,7 +3,8 @@ ghost use Rattle.std.specs.Prelude.{◌≡◌, OnErr, IfOk, IsTrue, true};
 ghost use Rattle.std.specs.List.{list_all, list_any};
 ghost use Rattle.std.specs.Str.{chars};
 ghost use Rattle.bidi_class.specs.Pairs.{is_initiator};
-ghost use Rattle.value_cursor.specs.Cleaned.{MarksAscend, cleaned, is_clean, is_left_out, is_printable, Cleans};
+ghost use Rattle.value_cursor.specs.Cleaned.{MarksAscend, cleaned, is_clean, is_clean_byte, is_left_out, is_printable};
+ghost use Rattle.value_cursor.specs.Cleaned.{Cleans};
 
 use bidi_class::{Class, class_of, is_initiator};
 use bidi_text::{Marks, marks};
@@ -71,15 +72,26 @@ impl Cleaning {
 pub(crate) fn is_clean_text(text: &str) -> bool
     ensures { result ≡ list_all is_clean (chars text.now) }
 {
-    is_printable(text) || text.chars().all(is_clean)
+    has_clean_bytes(text) || text.chars().all(is_clean)
 }
 
-/// Whether all characters are printable ones of ASCII, of which none is changed or left out: most texts are so.
-#[tactic(auto, using(crate::proofs::Printable::printable_clean))]
-fn is_printable(text: &str) -> bool
+/// Whether no byte is below 32 or begins a character that may be changed or left out: in most texts none is.
+fn has_clean_bytes(text: &str) -> bool
     ensures { result ≡ true → list_all is_clean (chars text.now) ≡ true }
 {
-    all_printable(text.as_bytes())
+    all_clean(text.as_bytes())
+}
+
+fn all_clean(bytes: &[u8]) -> bool
+    ensures { result ≡ list_all is_clean_byte bytes.now }
+{
+    bytes.iter().all(|byte| is_clean_byte(*byte))
+}
+
+fn is_clean_byte(byte: u8) -> bool
+    ensures { result ≡ is_clean_byte byte }
+{
+    byte >= 0x20 && byte != 0xc2 && byte != 0xe2
 }
 
 /// Whether all bytes are printable characters of ASCII.

@@ -14,6 +14,7 @@ mod ascii_forms;
 mod cleaning;
 mod cursor;
 mod laws;
+mod plain;
 mod plan;
 mod progress;
 mod runs;

@@ -1,14 +1,15 @@
 //! Runs of characters that stand for themselves.
-ghost use Rattle.std.specs.Prelude.{◌≡◌, ◌≤◌, ◌++◌, ℕ, List, length, true};
+ghost use Rattle.std.specs.Prelude.{◌≡◌, ◌≤◌, ◌+◌, ◌++◌, ℕ, List, length, true};
 ghost use Rattle.std.specs.List.{list_all};
 ghost use Rattle.std.specs.Str.{chars, IsUtf8};
 ghost use Rattle.escapers.specs.PlainPrefix.{stands_for_itself};
 ghost use Rattle.value_cursor.specs.BytesLeft.{forms, IsPlan};
+ghost use Rattle.value_cursor.specs.Shares.{AreShares};
 
 use crate::cleaning::{Cleaning, is_clean};
 use crate::plan::Plan;
 use crate::shares::{first_other, shares_by};
-use escapers::plain_prefix;
+use escapers::{Escaper, plain_prefix};
 use soy_base::split_while;
 
 /// How far ahead a text that is cleaned is searched for a character that doesn't stand for itself. It is searched
@@ -42,11 +43,24 @@ fn plain_bytes<'a>(plan: &Plan, text: &'a str) -> (&'a str, &'a str)
     ensures plain { list_all (stands_for_itself plan.now.how) (chars result.0.now) ≡ true }
 {
     match shares_by(plan.how) {
-        Some(shares) => match first_other(shares, text.as_bytes()) {
-            Some(at) => text.split_at(at),
-            None => (text, ""),
-        },
+        Some(shares) => own_run(plan.how, shares, text),
         None => plain_prefix(plan.how, text),
+    }
+}
+
+/// The longest prefix of the text whose bytes have the share 1, and the rest. Its characters stand for themselves.
+#[inline(always)]
+pub(crate) fn own_run<'a>(_how: Escaper, shares: &[u16; 256], text: &'a str) -> (&'a str, &'a str)
+    requires { AreShares _how shares.now }
+    ensures whole { text.now ≡ result.0.now ++ result.1.now }
+    ensures run_utf8 { IsUtf8 result.0.now }
+    ensures rest_utf8 { IsUtf8 result.1.now }
+    ensures plain { list_all (stands_for_itself _how) (chars result.0.now) ≡ true }
+    ensures size { length result.0.now + length result.1.now ≡ length text.now }
+{
+    match first_other(shares, text.as_bytes()) {
+        Some(at) => text.split_at(at),
+        None => (text, ""),
     }
 }
 

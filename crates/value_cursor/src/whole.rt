@@ -11,7 +11,7 @@ ghost use Rattle.escapers.specs.JsValue.{js_value};
 ghost use Rattle.escapers.specs.UriStart.{uri_start};
 ghost use Rattle.value_cursor.specs.AsciiForms.{ascii_forms};
 ghost use Rattle.value_cursor.specs.ByteForms.{byte_form, is_own, is_short, is_single};
-ghost use Rattle.value_cursor.specs.Cleaned.{is_clean, is_printable};
+ghost use Rattle.value_cursor.specs.Cleaned.{is_clean};
 ghost use Rattle.value_cursor.specs.EscapedForm.{escaped_form};
 ghost use Rattle.value_cursor.specs.Gives.{Gives};
 ghost use Rattle.value_cursor.specs.GivesWhole.{GivesWhole};
@@ -19,8 +19,10 @@ ghost use Rattle.value_cursor.specs.Shares.{AreShares};
 
 use crate::ascii_forms::{forms_by, text_of};
 use crate::cleaning::{all_printable, is_clean_text};
+use crate::plain::all_plain;
+use crate::runs::own_run;
 use crate::shares::shares_by;
-use bidi_text::estimate;
+use bidi_text::{ascii_direction, estimate};
 use escapers::{Escaper, is_css_value, may_start_uri};
 use soy_base::{Dir, ValueClass};
 
@@ -68,10 +70,23 @@ fn give_wrapped(text: &str, context: Dir, room: &mut [u8]) -> Option<usize>
         room.old room.new) }
     ensures unchanged { result ≡ None → room.new ≡ room.old }
 {
+    if all_plain(text.as_bytes()) {
+        return Some(put_plain(ascii_direction(text, context), text, room));
+    }
     let Some(direction) = clean_direction(text, context) else {
         return None;
     };
     give_enclosed(Escaper::Html, span_begin(direction), text, "</span>", room)
+}
+
+/// Gives a text that stands for itself in its span, and answers the length of all.
+#[inline(always)]
+fn put_plain(direction: Dir, text: &str, room: &mut [u8]) -> usize
+    requires { length text.now + 32 ≤ length room.old }
+    ensures { Gives ((encode_utf8_all (codes "<span dir=\"" ++ (direction_word direction ++ codes "\">")) ++ text.now)
+        ++ codes "</span>") [] room.old room.new result }
+{
+    put_between(span_begin(direction), text, "</span>", room)
 }
 
 /// The tag before a wrapped text.
@@ -93,24 +108,11 @@ fn clean_direction(text: &str, context: Dir) -> Option<Dir>
     ensures direction { IfSome result (λ direction. direction ≡ estimated_direction (chars text.now) context) }
 {
     if all_printable(text.as_bytes()) {
-        Some(printable_direction(text, context))
+        Some(ascii_direction(text, context))
     } else if is_clean_text(text) {
         Some(estimate(text, context))
     } else {
         None
-    }
-}
-
-/// The direction of a text of printable characters of ASCII. None of them is from right to left, so in a context
-/// from left to right nothing has to be estimated.
-#[inline(always)]
-fn printable_direction(text: &str, context: Dir) -> Dir
-    requires { list_all is_printable text.now ≡ true }
-    ensures { result ≡ estimated_direction (chars text.now) context }
-{
-    match context {
-        Dir::Ltr => Dir::Ltr,
-        Dir::Rtl => estimate(text, context),
     }
 }
 
@@ -122,7 +124,7 @@ fn give_js_value(class: ValueClass, text: &str, room: &mut [u8]) -> Option<usize
 {
     match class {
         ValueClass::Text => give_enclosed(Escaper::JsString, "'", text, "'", room),
-        _ => Some(put_word(text, room)),
+        _ => Some(put_between(" ", text, " ", room)),
     }
 }
 
@@ -175,12 +177,45 @@ fn give_enclosed(
     let Some(forms) = forms_by(how) else {
         return None;
     };
-    if !is_by_bytes(how, shares, text) {
+    let (plain, others) = own_run(how, shares, text);
+    if !is_by_bytes(how, shares, others) {
         return None;
     }
     let opened = put_text(opening, room);
-    let filled = opened + put_forms(how, shares, forms, text.as_bytes(), &mut room[opened..]);
+    let filled = opened
+        + put_body(
+            how,
+            shares,
+            forms,
+            plain,
+            others.as_bytes(),
+            &mut room[opened..],
+        );
     Some(filled + put_text(closing, &mut room[filled..]))
+}
+
+/// Gives a text that stands for itself and the forms of all bytes after it, and answers the length of both.
+#[inline(always)]
+fn put_body(
+    _how: Escaper,
+    shares: &[u16; 256],
+    forms: &[&'static str; 128],
+    plain: &str,
+    others: &[u8],
+    room: &mut [u8],
+) -> usize
+    requires shares { AreShares _how shares.now }
+    requires forms { map (λ text. text.now) forms.now ≡ ascii_forms _how }
+    requires short { list_all is_short (ascii_forms _how) ≡ true }
+    requires room { length plain.now + 6 * length others.now ≤ length room.old }
+    ensures gives { Gives (plain.now ++ flat_map (byte_form _how) others.now) [] room.old room.new result }
+    ensures bound { result ≤ length plain.now + 6 * length others.now }
+{
+    let begun = put_text(plain, room);
+    if others.is_empty() {
+        return begun;
+    }
+    begun + put_forms(_how, shares, forms, others, &mut room[begun..])
 }
 
 /// Whether the form of a text is that of each of its bytes. By `Html` each is, since no character beyond ASCII has a
@@ -274,14 +309,15 @@ fn put_byte(byte: u8, room: &mut [u8]) -> usize
     1
 }
 
-/// Gives a text between two spaces, and answers the length of both.
-fn put_word(text: &str, room: &mut [u8]) -> usize
-    requires { length text.now + 2 ≤ length room.old }
-    ensures { Gives ((32 ∷ text.now) ++ 32 ∷ []) [] room.old room.new result }
+/// Gives an opening, a text and a closing, and answers the length of all.
+#[inline(always)]
+fn put_between(opening: &str, text: &str, closing: &str, room: &mut [u8]) -> usize
+    requires { length opening.now + (length text.now + length closing.now) ≤ length room.old }
+    ensures { Gives ((opening.now ++ text.now) ++ closing.now) [] room.old room.new result }
 {
-    let opened = put_text(" ", room);
+    let opened = put_text(opening, room);
     let filled = opened + put_text(text, &mut room[opened..]);
-    filled + put_text(" ", &mut room[filled..])
+    filled + put_text(closing, &mut room[filled..])
 }
 
 /// Gives a text, and answers its length.

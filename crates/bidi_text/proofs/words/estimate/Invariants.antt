@@ -1,7 +1,13 @@
-use Rattle.std.specs.Str.Iter.{split_whitespace_rest}
+use Rattle.std.proofs.Common.{length}
+use Rattle.std.specs.Str.{IsUtf8, chars}
 use Rattle.bidi_text.proofs.Counted.{Counted}
 use Rattle.bidi_text.proofs.words.estimate.Given as goal
 
-abbrev pub invariant-loop-word : goal.invariant-loop-word
-invariant-loop-word l = Counted l.tally.right_to_left l.tally.total l.tally.weak
-    (split_whitespace_rest l.word-iterator) l.text
+abbrev pub invariant-loop-rest : goal.invariant-loop-rest
+invariant-loop-rest l = record {
+  utf8 : IsUtf8 l.rest;
+  counted : Counted l.tally.right_to_left l.tally.total l.tally.weak (chars l.rest) (chars l.text) (length l.text);
+}
+
+abbrev pub decreases-loop-rest : goal.decreases-loop-rest
+decreases-loop-rest l = length (chars l.rest)

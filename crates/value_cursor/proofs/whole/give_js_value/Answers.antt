@@ -16,7 +16,7 @@ returns-in-Text-clause-gives c =
 
 pub returns-in_default : goal.returns-in_default
 returns-in_default c = record {
-  gives = gives_same (encode_utf8_all (js_value c.args.class (chars c.args.text.now))) c.put_word.ensures
+  gives = gives_same (encode_utf8_all (js_value c.args.class (chars c.args.text.now))) c.put_between.ensures
       (ap encode_utf8_all (other_value c.args.class (chars c.args.text.now) c.in_default.not-Text)
       ∙ word_text c.args.text.now c.utf8.text);
   unchanged = λ e. cc;
