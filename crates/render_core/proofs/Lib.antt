@@ -6,6 +6,7 @@ mod Choices
 mod Comparisons
 mod Conditions
 mod Finds
+mod Firsts
 mod Forms
 mod Gathers
 mod GivenForms
@@ -24,6 +25,7 @@ mod Ops
 mod Overs
 mod Plurals
 mod Pullings
+mod ReadyOps
 mod Shows
 mod Sights
 mod Sought

@@ -43,6 +43,14 @@ prints_shown p cells n valued b spent before after (Ok s) same is shows =
 prints_shown p cells n valued b spent before after (Err e) same is shows =
     (omega (arith, is), omega (arith, is))
 
+-- what is shown of a value that is valued in two steps
+pub prints_field : (p : ProgramParts) (cells : List Cell) (n : ℕ) (b : Binding BoundBlock) (v : Value)
+    (spent before after : ℕ) (r : Result Shown OutOfMemory) → b ≡ Known v → spent ≡ 2
+    → Prints p cells n (Known v) 2 before after r → Prints p cells n b spent before after r
+prints_field p cells n b v spent before after r same two h =
+    subst (λ (x : Binding BoundBlock). Prints p cells n x spent before after r) (sym same)
+    (subst (λ k. Prints p cells n (Known v) k before after r) (sym two) h)
+
 -- what is shown of a value is shown of one that is equal
 pub shows_same : (p : ProgramParts) (cells : List Cell) (n : ℕ) (valued b : Binding BoundBlock)
     (r : Result Shown OutOfMemory) → valued ≡ b → IfOk r (λ s. Shows p cells n valued s)

@@ -13,7 +13,7 @@ use Rattle.soy_tree.specs.declared.value.Value as code
 use Rattle.soy_expr.specs.Parts.{child, nth_entry_value}
 use Rattle.soy_expr.proofs.PartRows.{entry_nth, item_none, item_some, view_entry_is}
 use Rattle.render_core.proofs.Conditions.{if_true}
-use Rattle.render_core.specs.Finds.{HasItem}
+use Rattle.render_core.specs.Finds.{HasItem, IsFirstEntry}
 use Rattle.render_core.specs.Frames.{items_after}
 use Rattle.render_core.specs.Variables.{led}
 
@@ -104,3 +104,10 @@ pub entry_found : (es : List code_entry.Entry) (n : ℕ) (e : code_entry.Entry) 
 entry_found es n e name below is named same =
     entry_nth es n e below is
     ∙ sym (ap (λ (o : Option Value). unwrap_or o NullValue) (same ∙ entry_named es n e name below is named))
+
+pub entry_first : (es : List code_entry.Entry) (n : ℕ) (e : code_entry.Entry) (name : Name) → n < length es
+    → e ≡ slice_index_or es n e → bytes_eq e.name name ≡ true
+    → entry_value name (view_entries es) ≡ entry_value name (view_entries (drop n es))
+    → IsFirstEntry name (view_entries es) n (view_value e.value)
+entry_first es n e name below is named same =
+    (entry_found es n e name below is named same, sym (entry_nth es n e below is))

@@ -85,7 +85,7 @@ some_length : (left after room room_after : List ℕ) (n : ℕ) → Gave left af
     → 0 < length left
 some_length left after room room_after n gave some = let size = gave.size in omega (arith, size, some)
 
-none_room : (left after room room_after : List ℕ) (n : ℕ) → Gave left after room room_after n → n ≡ 0
+pub none_room : (left after room room_after : List ℕ) (n : ℕ) → Gave left after room room_after n → n ≡ 0
     → room_after ≡ room
 none_room left after room room_after n gave none =
     gave.given ∙ ap (λ k. take k left ++ drop k room) none

@@ -1,17 +1,18 @@
 -- What the code finds: variables, parts of data, and the values of expressions.
 use Rattle.std.specs.Prelude.{◌≡◌, ℕ, ◌+◌, ◌≤◌, List, Option, Some, None, Result, Ok, Err, slice_get, take}
-use Rattle.std.specs.Prelude.{Bool, true, false, if◌then◌else◌, nat_lt}
+use Rattle.std.specs.Prelude.{Bool, true, false, if◌then◌else◌, nat_lt, unwrap_or}
 use Rattle.std.specs.Borrow.{Bor}
 use Rattle.soy_base.specs.declared.fault.Span.{Span}
 use Rattle.soy_base.specs.declared.memory.OutOfMemory.{OutOfMemory}
 use Rattle.soy_tree.specs.Expressions.{Expr, Coalesce, Conditional, Variable}
 use Rattle.soy_tree.specs.Types.{Name}
-use Rattle.soy_rules.specs.Val.{Binding, BlockOf, Known}
-use Rattle.soy_tree.specs.Values.{Items, Value, NullValue, item, no_item}
+use Rattle.soy_rules.specs.Has.{entry_value}
+use Rattle.soy_rules.specs.Val.{Binding, BlockOf, Known, member_value}
+use Rattle.soy_tree.specs.Values.{Entries, Items, Value, NullValue, item, no_item}
 use Rattle.soy_tree.specs.ViewValues.{view_value}
 use Rattle.soy_tree.specs.declared.value.Value as code
 use Rattle.soy_expr.specs.Evaluates.{IsWithin}
-use Rattle.soy_expr.specs.Parts.{child}
+use Rattle.soy_expr.specs.Parts.{child, nth_entry_value}
 use Rattle.soy_expr.specs.ViewEvaluated.{view_made}
 use Rattle.soy_pieces.specs.Giving.{BoundBlock}
 use Rattle.soy_pieces.specs.Pieces.{listed_items}
@@ -82,11 +83,18 @@ abbrev pub IsFieldValue : List Cell → Value → FieldPart → Type 0
 IsFieldValue cells v f =
     (v ≡ path_value cells (path.Child f.at f.number)) × (view_value f.value.now ≡ v)
 
+-- the value of the first entry of a name, by its number
+abbrev pub IsFirstEntry : Name → Entries → ℕ → Value → Type 0
+IsFirstEntry name es n v =
+    (nth_entry_value es n ≡ unwrap_or (entry_value name es) NullValue) × (v ≡ nth_entry_value es n)
+
+abbrev pub IsFirstField : Name → Value → ℕ → Value → Type 0
+IsFirstField name whole n v = (child n whole ≡ member_value name whole) × (v ≡ child n whole)
+
 -- the field of a variable that an expression of this value and this cost is
 abbrev pub IsField : List Cell → Binding BoundBlock → ℕ → FieldPart → Type 0
 IsField cells b spent f =
-    (b ≡ Known (view_value f.value.now)) × (spent ≡ 2)
-    × (view_value f.value.now ≡ path_value cells (path.Child f.at f.number))
+    (b ≡ Known (view_value f.value.now)) × (spent ≡ 2) × IsFieldValue cells (view_value f.value.now) f
 
 -- a value of this cost
 abbrev pub Finds : ProgramParts → List Cell → ℕ → Binding BoundBlock → ℕ → ℕ → ℕ → Result Found OutOfMemory → Type 0

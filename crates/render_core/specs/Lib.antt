@@ -8,6 +8,7 @@ pub mod Ints
 pub mod Keys
 pub mod Linked
 pub mod Pulls
+pub mod Ready
 pub mod Rest
 pub mod Rounds
 pub mod Seen

@@ -127,7 +127,7 @@ pub(crate) fn static_bytes(program: &ProgramParts, at: usize) -> &[u8]
 
 /// Copies what fits of the bytes from an offset on.
 #[inline(always)]
-fn copy_from(bytes: &[u8], from: usize, room: &mut [u8]) -> usize
+pub(crate) fn copy_from(bytes: &[u8], from: usize, room: &mut [u8]) -> usize
     requires { from ≤ length bytes.now }
     ensures size { result ≡ min (length room.old) (length (drop from bytes.now)) }
     ensures given { room.new ≡ take result (drop from bytes.now) ++ drop result room.old }
@@ -139,7 +139,7 @@ fn copy_from(bytes: &[u8], from: usize, room: &mut [u8]) -> usize
 }
 
 /// How a value of a class is escaped at a place, if it is there.
-fn escaper_at(place: Place, class: ValueClass) -> Option<Escaper>
+pub(crate) fn escaper_at(place: Place, class: ValueClass) -> Option<Escaper>
     ensures { EscapesAt place class result }
 {
     match escaper_for(place, class) {

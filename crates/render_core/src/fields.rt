@@ -6,11 +6,11 @@ ghost use Rattle.soy_rules.specs.Val.{Known, binding, member_value, operand, val
 ghost use Rattle.soy_tree.specs.ViewExpressions.{view_expr};
 ghost use Rattle.soy_tree.specs.ViewValues.{view_entries, view_value};
 ghost use Rattle.render_core.specs.Begins.{EntryFound, FieldFound};
-ghost use Rattle.render_core.specs.Finds.{IsField, IsFieldValue, part_value};
+ghost use Rattle.render_core.specs.Finds.{IsField, IsFieldValue, IsFirstEntry, IsFirstField, part_value};
 ghost use Rattle.render_core.specs.Seen.{cells_seen, env_seen};
 
 use crate::names::variable_of;
-use crate::parts::{Point, child_of, part_at, place_of};
+use crate::parts::{Point, part_at, place_of};
 use soy_base::Text;
 use soy_tree::{Entry, Expr, ExprNode, Value};
 
@@ -28,8 +28,8 @@ pub(crate) fn field_part<'i>(point: Point<'_, 'i, '_>, expr: &Expr) -> Option<Fi
     ensures { IfSome result (λ f. IsField (cells_seen point.entry) (val (view_expr expr.now) (env_seen point.entry))
         (cost (view_expr expr.now) (env_seen point.entry)) f) }
 {
-    match &expr.node {
-        ExprNode::Member(of, field, _) => match variable_of(of.get()) {
+    match expr.node.get() {
+        ExprNode::Member(of, field, _) => match variable_of(of) {
             Some(variable) => field_of_variable(point, variable, field),
             None => None,
         },
@@ -49,10 +49,38 @@ fn field_of_variable<'i>(
         (member_value field.now (operand (binding variable.now (env_seen point.entry)))) f) }
 {
     let at = place_of(point, variable)?;
-    let whole = part_at(point, at);
-    let number = field_of(whole, field)?;
-    let value = child_of(whole, number)?;
+    let (number, value) = first_field(part_at(point, at)?, field)?;
     Some(FieldPart { at, number, value })
+}
+
+/// The number and the value of the first field of a name, if there is one.
+#[inline(always)]
+fn first_field<'i>(whole: &'i Value, name: &Text) -> Option<(usize, &'i Value)>
+    ensures { IfSome result (λ f. IsFirstField name.now (view_value whole.now) f.0 (view_value f.1.now)) }
+{
+    match whole {
+        Value::Null => None,
+        Value::Bool(_) => None,
+        Value::Int(_) => None,
+        Value::Str(_) => None,
+        Value::List(_) => None,
+        Value::Map(_) => None,
+        Value::Fields(entries) => first_entry(entries.items(), name),
+    }
+}
+
+/// The number and the value of the first entry of a name, if there is one.
+#[inline(always)]
+#[tactic(auto, using(crate::proofs::Values::entry_first, soy_expr::proofs::PartRows::entry_passed))]
+fn first_entry<'i>(entries: &'i [Entry], name: &Text) -> Option<(usize, &'i Value)>
+    ensures { IfSome result (λ f. IsFirstEntry name.now (view_entries entries.now) f.0 (view_value f.1.now)) }
+{
+    for (number, entry) in entries.iter().enumerate() {
+        if entry.name.is(name.text()) {
+            return Some((number, &entry.value));
+        }
+    }
+    None
 }
 
 /// The number of the first field of a name in a part, if there is one.

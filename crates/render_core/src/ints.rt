@@ -46,14 +46,14 @@ pub(crate) fn is_truthy_comparison<L: Ledger>(
 pub(crate) fn int_at_hand<L: Ledger>(point: Point, expr: &Expr, steps: &mut Steps<L>) -> Option<i64>
     ensures { HasInt (view_expr expr.now) (env_seen point.entry) steps.old steps.new result }
 {
-    match &expr.node {
+    match expr.node.get() {
         ExprNode::Var(name) => {
             let int = int_of_variable(point, name)?;
             steps.count();
             Some(int)
         }
         ExprNode::Member(of, field, _) => {
-            let int = int_of_field(point, variable_of(of.get())?, field)?;
+            let int = int_of_field(point, variable_of(of)?, field)?;
             steps.count();
             steps.count();
             Some(int)
@@ -119,7 +119,7 @@ fn int_of_part(part: Option<&Value>) -> Option<i64>
 fn literal_int(expr: &Expr) -> Option<i64>
     ensures { IfSome result (λ n. literal_int (view_expr expr.now) ≡ Some n) }
 {
-    match &expr.node {
+    match expr.node.get() {
         ExprNode::Int(number) => Some(*number),
         _ => None,
     }

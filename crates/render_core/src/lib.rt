@@ -9,6 +9,7 @@
 mod begun;
 mod binding;
 mod choosing;
+mod field_names;
 mod fields;
 mod frame;
 mod held;
@@ -17,6 +18,7 @@ mod links;
 mod machine;
 mod names;
 mod parts;
+mod ready;
 mod rendering;
 mod scene;
 mod showing;

@@ -17,8 +17,30 @@ use std::sync::ledger::Ledger;
 use template_ir::{Callee, Op, ProgramParts};
 
 impl Machine {
-    /// Steps up to the next piece that isn't empty, or to the end.
+    /// Steps up to the next piece that isn't empty, or to the end. Mostly the next op gives it at once.
+    #[inline(always)]
     pub(crate) fn advance<L: Ledger>(
+        &mut self,
+        scene: &Scene,
+        room: &mut [u8],
+        piece: &mut Option<Begun>,
+        steps: &mut Steps<L>,
+    ) -> Result<Option<usize>, Refusal<TooDeep>>
+        requires fits { MachineFits self.old }
+        requires some { 0 < length room.old }
+        requires none { piece.old ≡ None }
+        ensures { Advanced scene.now.program.now (view_value scene.now.input.now) self.old self.new steps.old steps.new
+            (output room.old room.new piece.new) result }
+    {
+        match self.give_ready(scene, room, steps) {
+            Some(n) => Ok(Some(n)),
+            None => self.advance_by_steps(scene, room, piece, steps),
+        }
+    }
+
+    /// The same by steps.
+    #[inline(never)]
+    fn advance_by_steps<L: Ledger>(
         &mut self,
         scene: &Scene,
         room: &mut [u8],
@@ -171,7 +193,8 @@ pub(crate) fn left_of(begun: Begun) -> Option<Begun>
 }
 
 /// The next op of a block.
-fn op_before(program: &ProgramParts, ahead: Ahead) -> Option<&Op>
+#[inline(always)]
+pub(crate) fn op_before(program: &ProgramParts, ahead: Ahead) -> Option<&Op>
     ensures { OpBefore program.now ahead (option_map (λ o. o.now) result) }
 {
     if ahead.at < ahead.end {

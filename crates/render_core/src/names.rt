@@ -17,7 +17,7 @@ use template_ir::{Op, ProgramParts};
 pub(crate) fn variable_of(expr: &Expr) -> Option<&Text>
     ensures { IsVariable (view_expr expr.now) (option_map (λ t. t.now) result) }
 {
-    match &expr.node {
+    match expr.node.get() {
         ExprNode::Var(name) => Some(name),
         _ => None,
     }

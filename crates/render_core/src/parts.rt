@@ -1,12 +1,13 @@
 //! The parts of the data that variables are bound to.
 
-ghost use Rattle.std.specs.Prelude.{◌≡◌, [], IfOk, option_map, slice_get};
+ghost use Rattle.std.specs.Prelude.{◌≡◌, [], IfOk, option_map, slice_get, true};
 ghost use Rattle.soy_rules.specs.Val.{Known, binding, item_value};
 ghost use Rattle.soy_tree.specs.ViewValues.{view_entries, view_items, view_value};
 ghost use Rattle.template_ir.specs.declared.program.ProgramParts as code_parts;
 ghost use Rattle.soy_expr.specs.ForgottenBlocks.{forgotten};
 ghost use Rattle.soy_expr.specs.Parts.{child, nth_entry_value};
 ghost use Rattle.soy_expr.specs.ViewEvaluated.{IsBinding};
+ghost use Rattle.render_core.specs.Begins.{IsRoot};
 ghost use Rattle.render_core.specs.Finds.{binding_at, part_value, place_binding};
 ghost use Rattle.render_core.specs.Keys.{fingerprint_of, fits_key, key_of};
 ghost use Rattle.render_core.specs.Linked.{is_sought};
@@ -145,6 +146,7 @@ pub(crate) fn copied_path(point: Point, path: &Path) -> Result<Path, OutOfMemory
 
 /// The place of the first variable of a name, of those that are visible. The first of them, as the item of a loop
 /// mostly is in its body, is looked at by itself.
+#[inline(always)]
 #[tactic(auto, using(crate::proofs::Finds::found_here, crate::proofs::Finds::found_next, crate::proofs::Finds::found_none, crate::proofs::Sought::few_fits))]
 pub(crate) fn place_of(point: Point, name: &Text) -> Option<usize>
     ensures { place_binding (program_seen point.entry) (input_seen point.entry) point.entry.bound.now result
@@ -244,7 +246,11 @@ fn bound_part<'i>(bound: &VariableStack, input: &'i Value, at: usize) -> Option<
             Held::Root => Some(input),
             Held::Item(of, number) => {
                 if *of < at {
-                    child_of(bound_part(bound, input, *of), *number)
+                    if is_root(bound, *of) {
+                        child(input, *number)
+                    } else {
+                        child_of(bound_part(bound, input, *of), *number)
+                    }
                 } else {
                     None
                 }
@@ -260,6 +266,23 @@ fn bound_part<'i>(bound: &VariableStack, input: &'i Value, at: usize) -> Option<
             Held::Block(_) => None,
         },
         None => None,
+    }
+}
+
+/// Whether the variable at a place is bound to all data.
+#[inline(always)]
+fn is_root(bound: &VariableStack, at: usize) -> bool
+    ensures { result ≡ true → IsRoot bound.now at }
+{
+    match variable_at(bound, at) {
+        Some(variable) => match &variable.to {
+            Held::Made(_) => false,
+            Held::Root => true,
+            Held::Item(_, _) => false,
+            Held::Part(_) => false,
+            Held::Block(_) => false,
+        },
+        None => false,
     }
 }
 

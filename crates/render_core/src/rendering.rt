@@ -18,7 +18,7 @@ ghost use Rattle.render_core.specs.declared.frame.Frame.TheVariants as frame;
 ghost use Rattle.render_core.specs.declared.held.Naming.TheVariants as naming;
 
 use crate::begun::Begun;
-use crate::fields::field_number;
+use crate::field_names::FieldNames;
 use crate::frame::{Ahead, Frame};
 use crate::held::{Held, Naming};
 use crate::machine::left_of;
@@ -316,11 +316,12 @@ fn bind_params(
     ensures low { IfOk result (λ n. n ≤ length bound.new) }
     ensures root { HasRoot bound.new }
 {
+    let fields = FieldNames::of(scene.alloc, scene.input, params.len())?;
     let mut number = params.len();
     let mut env = 0;
     while number > 0 {
         number -= 1;
-        let to = held_field(field_number(scene.input, &params[number].name));
+        let to = held_field(fields.find(&params[number].name));
         match bound.bind(scene, Naming::Param(template, number), to, env) {
             Ok(next) => env = next,
             Err(_) => return Err(OutOfMemory),

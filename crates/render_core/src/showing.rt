@@ -5,13 +5,14 @@ ghost use Rattle.std.specs.Fmt.{signed_decimal};
 ghost use Rattle.soy_expr.specs.Ascii.{is_ascii};
 ghost use Rattle.soy_expr.specs.ViewEvaluated.{view_made};
 ghost use Rattle.soy_expr.specs.ViewShallow.{view_shallow};
-ghost use Rattle.render_core.specs.Finds.{FoundWithin, IsField, binding_at, found_means, part_value};
+ghost use Rattle.render_core.specs.Finds.{FoundWithin, IsFieldValue, binding_at, found_means, part_value};
 ghost use Rattle.render_core.specs.Seen.{cells_seen, env_seen, input_seen, program_seen};
 ghost use Rattle.render_core.specs.Shows.{IsShownAtHand, Prints, Shows, ShowsValue};
 ghost use Rattle.soy_rules.specs.Cost.{cost};
 ghost use Rattle.soy_rules.specs.Val.{Known, binding, val};
 ghost use Rattle.soy_tree.specs.Values.{IntValue, NullValue};
 ghost use Rattle.soy_tree.specs.ViewExpressions.{view_expr};
+ghost use Rattle.soy_tree.specs.ViewValues.{view_value};
 ghost use Rattle.render_core.specs.Variables.{cell_at, path_value};
 
 use crate::fields::FieldPart;
@@ -61,7 +62,7 @@ pub(crate) fn how_printed<'i, L: Ledger>(
         steps.old steps.new result }
     ensures at_hand { IfOk result (λ s. IsShownAtHand (cells_seen point.entry) s) }
 {
-    match &expr.node {
+    match expr.node.get() {
         ExprNode::Var(name) => {
             steps.count();
             shown_variable(point, name)
@@ -70,20 +71,17 @@ pub(crate) fn how_printed<'i, L: Ledger>(
     }
 }
 
-/// How a field of a variable is printed that an expression is.
+/// How a field of a variable is printed, which is valued in two steps.
 #[inline(always)]
 #[tactic(auto, using(crate::proofs::Shows::prints_shown))]
 pub(crate) fn shown_field<'i, L: Ledger>(
     point: Point<'_, 'i, '_>,
-    _expr: &Expr,
     field: FieldPart<'i>,
     steps: &mut Steps<L>,
 ) -> Result<Shown<'i>, OutOfMemory>
-    requires { IsField (cells_seen point) (val (view_expr _expr.now) (env_seen point))
-        (cost (view_expr _expr.now) (env_seen point)) field }
+    requires { IsFieldValue (cells_seen point) (view_value field.value.now) field }
     ensures prints { Prints (program_seen point.entry) (cells_seen point.entry) (length point.entry.bound.now)
-        (val (view_expr _expr.now) (env_seen point.entry)) (cost (view_expr _expr.now) (env_seen point.entry))
-        steps.old steps.new result }
+        (Known (view_value field.entry.value.now)) 2 steps.old steps.new result }
     ensures at_hand { IfOk result (λ s. IsShownAtHand (cells_seen point.entry) s) }
 {
     steps.count();

@@ -53,7 +53,7 @@ impl Machine {
         let Some(field) = field_part(point, expr) else {
             return self.print_any(scene, ahead, expr, place, room, piece, steps);
         };
-        let shown = match shown_field(point, expr, field, steps) {
+        let shown = match shown_field(point, field, steps) {
             Ok(shown) => shown,
             Err(_) => return Err(OutOfMemory),
         };

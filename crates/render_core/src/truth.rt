@@ -31,12 +31,12 @@ pub(crate) fn is_truthy<L: Ledger>(
     )
         steps.old steps.new result }
 {
-    match &expr.node {
+    match expr.node.get() {
         ExprNode::Var(name) => {
             steps.count();
             Ok(is_truthy_variable(point, name))
         }
-        ExprNode::Member(of, field, _) => match variable_of(of.get()) {
+        ExprNode::Member(of, field, _) => match variable_of(of) {
             Some(variable) => {
                 steps.count();
                 steps.count();
@@ -45,7 +45,7 @@ pub(crate) fn is_truthy<L: Ledger>(
             None => is_truthy_value(point, expr, steps),
         },
         ExprNode::Binary(op, left, right) => {
-            match is_truthy_comparison(point, *op, left.get(), right.get(), steps) {
+            match is_truthy_comparison(point, *op, left, right, steps) {
                 Some(is) => Ok(is),
                 None => is_truthy_value(point, expr, steps),
             }

@@ -43,15 +43,13 @@ pub(crate) fn value_of<L: Ledger>(
         (cost (view_expr expr.now) (env_seen point.entry))
         steps.old steps.new result }
 {
-    match &expr.node {
+    match expr.node.get() {
         ExprNode::Var(name) => {
             steps.count();
             variable(point, name)
         }
-        ExprNode::Coalesce(left, right) => value_or(point, left.get(), right.get(), steps),
-        ExprNode::Cond(when, left, right) => {
-            chosen_value(point, when.get(), left.get(), right.get(), steps)
-        }
+        ExprNode::Coalesce(left, right) => value_or(point, left, right, steps),
+        ExprNode::Cond(when, left, right) => { chosen_value(point, when, left, right, steps) }
         ExprNode::Null => plain_value(point, expr, steps),
         ExprNode::Bool(_) => plain_value(point, expr, steps),
         ExprNode::Int(_) => plain_value(point, expr, steps),

@@ -1,4 +1,4 @@
-use Rattle.std.proofs.Common.{◌≡◌, ℕ, List, ap, ◌∙◌}
+use Rattle.std.proofs.Common.{◌≡◌, ℕ, List, ap, sym, ◌∙◌}
 use Rattle.soy_base.specs.declared.fault.Span.{Span}
 use Rattle.soy_tree.specs.declared.expr.Expr as code
 use Rattle.soy_tree.specs.declared.expr.ExprNode as code_node
@@ -19,4 +19,4 @@ variable_seen e name is =
     p) e.span) (node.outs-Var name)))
 
 pub returns-in-Var : goal.returns-in-Var
-returns-in-Var c = (c.args.expr.now.span, variable_seen c.args.expr.now c.in-Var.name c.in-Var.is)
+returns-in-Var c = (c.args.expr.now.span, variable_seen c.args.expr.now c.in-Var.name (sym c.get.ensures ∙ c.in-Var.is))

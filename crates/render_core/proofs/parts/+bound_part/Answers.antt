@@ -1,7 +1,8 @@
-use Rattle.std.proofs.Common.{sym, ap, take, ◌∙◌}
+use Rattle.std.proofs.Common.{◌≡◌, sym, ap, take, ◌∙◌}
 use Rattle.soy_tree.specs.ViewValues.{view_value}
 use Rattle.soy_expr.specs.Parts.{child}
 use Rattle.render_core.specs.Variables.{cell_at, cells_of, led, path_steps}
+use Rattle.render_core.specs.declared.held.Held.TheVariants as held
 use Rattle.render_core.proofs.Cells.{part_is, part_lost, part_lower, part_none}
 use Rattle.render_core.proofs.Values.{led_null}
 use Rattle.render_core.proofs.parts.+bound_part.Goals as goal
@@ -27,8 +28,21 @@ returns-in-Block t c p =
     part_is p input bound c.args.at c.in-Some.variable.now _ c.in-Some.ensures
     c.in-Block.is
 
-pub returns-then-of-at : goal.returns-then-of-at
-returns-then-of-at t c p =
+pub returns-then-is_root : goal.returns-then-is_root
+returns-then-is_root t c p =
+    let input = view_value c.args.input.now in
+    let bound = c.args.bound.now in
+    let root = c.is_root.ensures c.if-is_root.true in
+    let whole : input ≡ (cell_at (cells_of p input bound) c.in-Item.of).part =
+    part_is p input bound c.in-Item.of root.0 held.Root (sym root.1) root.2 in
+    c.child.ensures
+    ∙ (ap (child c.in-Item.number) (whole
+    ∙ sym (part_lower p input bound c.args.at c.in-Item.of c.if-of-at.true))
+    ∙ part_is p input bound c.args.at c.in-Some.variable.now _ c.in-Some.ensures
+    c.in-Item.is)
+
+pub returns-else-is_root : goal.returns-else-is_root
+returns-else-is_root t c p =
     let input = view_value c.args.input.now in
     let bound = c.args.bound.now in
     let n = c.in-Item.number in

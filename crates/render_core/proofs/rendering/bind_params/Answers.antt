@@ -32,14 +32,15 @@ loop-number-preserved c =
     let next = c.in-Ok.ensures.number in
     record {
       within = omega (arith, some, within);
+      finds = inv.finds;
       root = root_stays p b bound wider adds inv.root;
       low = omega (arith, size, next);
       env =
           ap (λ (k : ℕ). env_at (cells_of p input wider) k) next
-          ∙ param_next p input bound wider c.args.template n params c.index-params-number.result c.field_number.result
+          ∙ param_next p input bound wider c.args.template n params c.index-params-number.result c.find.result
           c.held_field-to.result c.loop-number.env inv.root (c.requires.params n)
-          (subst (λ (x : Param). FieldFound x.name input c.field_number.result) (sym c.index-params-number.is)
-          c.field_number.ensures) c.held_field-to.ensures
+          (subst (λ (x : Param). FieldFound x.name input c.find.result) (sym c.index-params-number.is)
+          (c.find.ensures input inv.finds)) c.held_field-to.ensures
           (inv.env ∙ ap (λ (k : ℕ). input_env (names_of (view_params (drop k params))) input) back) below
           c.index-params-number.is adds;
     }

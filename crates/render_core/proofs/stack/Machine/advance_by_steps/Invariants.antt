@@ -2,7 +2,7 @@ use Rattle.std.specs.Prelude.{◌≡◌, None}
 use Rattle.soy_tree.specs.ViewValues.{view_value}
 use Rattle.render_core.specs.Stepping.{Went}
 use Rattle.render_core.proofs.Wents.{measure}
-use Rattle.render_core.proofs.stack.Machine.advance.Given as goal
+use Rattle.render_core.proofs.stack.Machine.advance_by_steps.Given as goal
 
 abbrev pub invariant-loop-n : goal.invariant-loop-n
 invariant-loop-n g l = record {
