@@ -258,7 +258,7 @@ impl<'a> Builder<'a> {
             }
             Form::For(name, index, list, body) => {
                 let count = vars.count()?;
-                enter_loop(self.alloc, name, index, list, vars)?;
+                enter_loop(self.alloc, name.get(), index, list, vars)?;
                 let body = self.nodes(body.items(), vars, rows)?;
                 vars.leave(count);
                 write(rows, Row::Loop(at, body))

@@ -31,14 +31,14 @@ pub(crate) fn narrow_variables<'w>(
     ensures narrowed { OnOk result (view_vars vars.new ≡ narrowed (view_expr when.now) (view_vars vars.old)) }
     ensures put_back { OnOk result (put_back outside.new.items vars.new ≡ put_back outside.old.items vars.old) }
 {
-    match &when.node {
+    match when.node.get() {
         ExprNode::Var(name) => narrow_name(alloc, name, vars, outside),
         ExprNode::Binary(BinaryOp::Ne, left, right) => {
-            narrow_unequal(alloc, left.get(), right.get(), vars, outside)
+            narrow_unequal(alloc, left, right, vars, outside)
         }
         ExprNode::Binary(BinaryOp::And, left, right) => {
-            narrow_variables(alloc, left.get(), vars, outside)?;
-            narrow_variables(alloc, right.get(), vars, outside)
+            narrow_variables(alloc, left, vars, outside)?;
+            narrow_variables(alloc, right, vars, outside)
         }
         _ => Ok(()),
     }
@@ -57,7 +57,7 @@ fn narrow_unequal<'w>(
         else view_vars vars.old)) }
     ensures put_back { OnOk result (put_back outside.new.items vars.new ≡ put_back outside.old.items vars.old) }
 {
-    match (&left.node, &right.node) {
+    match (left.node.get(), right.node.get()) {
         (ExprNode::Var(name), ExprNode::Null) => narrow_name(alloc, name, vars, outside),
         _ => Ok(()),
     }

@@ -14,7 +14,7 @@ ghost use Rattle.html_context.specs.Grows.{Grows};
 ghost use Rattle.html_context.specs.Visible.{variable};
 
 use crate::visible::Visible;
-use soy_base::{OutOfMemory, Refusal, Text};
+use soy_base::{Boxed, OutOfMemory, Refusal, Text};
 use soy_expr::{kind_type, param_type, type_by};
 use soy_tree::{Expr, Form, Node, Param, SoyType};
 use std::alloc::Global;
@@ -49,7 +49,7 @@ pub(crate) fn pass(alloc: Global, node: &Node, vars: &mut Visible) -> Result<(),
 fn enter_items(
     alloc: Global,
     name: &Text,
-    index: &Option<Text>,
+    index: &Option<Boxed<Text>>,
     of: &SoyType,
     vars: &mut Visible,
 ) -> Result<(), OutOfMemory>
@@ -60,7 +60,7 @@ fn enter_items(
     declare(alloc, name, of.copy(alloc)?, vars)?;
     match index {
         Some(index) => {
-            declare(alloc, index, SoyType::Int, vars)?;
+            declare(alloc, index.get(), SoyType::Int, vars)?;
             Ok(())
         }
         None => Ok(()),
@@ -72,7 +72,7 @@ fn enter_items(
 pub(crate) fn enter_loop(
     alloc: Global,
     name: &Text,
-    index: &Option<Text>,
+    index: &Option<Boxed<Text>>,
     list: &Expr,
     vars: &mut Visible,
 ) -> Result<(), OutOfMemory>

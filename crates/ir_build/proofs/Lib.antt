@@ -12,6 +12,7 @@ pub mod Placing
 pub mod Choosing
 pub mod Numbered
 pub mod Callees
+pub mod KnownNames
 pub mod RoutineSteps
 pub mod NodeOps
 pub mod PartOps

@@ -6,6 +6,7 @@ pub mod OnGoing
 pub mod Laid
 pub mod NamedRows
 pub mod HasNames
+pub mod KnownNames
 pub mod Claims
 pub mod Chooses
 pub mod Gives

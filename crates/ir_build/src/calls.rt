@@ -1,8 +1,7 @@
 //! The op of a call, over the blocks of its params.
 
-ghost use Rattle.std.specs.Prelude.{◌≡◌, ◌∷◌, [], ◌++◌, is_some, map, slice_get, OnOk};
-ghost use Rattle.soy_rules.specs.Bodies.{names_given, param_of};
-ghost use Rattle.soy_base.specs.Among.{is_among};
+ghost use Rattle.std.specs.Prelude.{◌≡◌, ◌∷◌, [], ◌++◌, map, slice_get, OnOk};
+ghost use Rattle.soy_rules.specs.Bodies.{names_given};
 ghost use Rattle.soy_tree.specs.ViewExpressions.{view_expr};
 ghost use Rattle.soy_tree.specs.ViewNodes.{view_arguments};
 ghost use Rattle.soy_rules.specs.ViewTemplates.{view_all};
@@ -10,11 +9,13 @@ ghost use Rattle.soy_tree.specs.ViewTrees.{view_params};
 ghost use Rattle.template_ir.specs.Compiles.{handed_on_names, params_there, same_handed};
 ghost use Rattle.template_ir.specs.Ops.{HandedBlock, HandedValue};
 ghost use Rattle.template_ir.specs.ViewOps.{view_handed, view_ops};
+ghost use Rattle.ir_build.specs.KnownNames.{known_names, known_params};
 ghost use Rattle.ir_build.specs.Laid.{laid_block, view_output, with_ops};
 ghost use Rattle.ir_build.specs.Rows.{handed_as};
 ghost use Rattle.ir_build.specs.ViewScene.{call_op};
 
 use crate::commands::push_op;
+use crate::known_names::KnownNames;
 use crate::output::Output;
 use crate::scene::Scene;
 use crate::templates::callee_number;
@@ -24,33 +25,9 @@ use soy_tree::{Argument, Expr, Param};
 use std::alloc::Global;
 use template_ir::{Callee, Handed, HandedBy, Op};
 
-/// Whether one of these parameters has the name.
-fn has_param(name: &Text, params: &[Param]) -> bool
-    ensures { result ≡ is_some (param_of name.now (view_params params.now)) }
-{
-    for param in params {
-        if param.name.is(name.text()) {
-            return true;
-        }
-    }
-    false
-}
-
-/// Whether a param names a parameter.
-fn is_given(name: &Text, given: &[Argument]) -> bool
-    ensures { result ≡ is_among (names_given (view_arguments given.now)) name.now }
-{
-    for argument in given {
-        if name.is(argument.name.text()) {
-            return true;
-        }
-    }
-    false
-}
-
 /// Adds what `data="all"` hands on, if it is there: those of the callee's parameters that the caller has too and no
 /// param names.
-#[tactic(auto, using(crate::proofs::OpLists::map_append, crate::proofs::OpLists::append_assoc))]
+#[tactic(auto, using(crate::proofs::KnownNames::handed_none, crate::proofs::KnownNames::handed_known))]
 fn add_same(
     alloc: Global,
     handed: &mut Vec<Handed>,
@@ -63,8 +40,29 @@ fn add_same(
         ++ map same_handed (handed_on_names all (view_params own.now) (names_given (view_arguments given.now))
         (view_params params.now))) }
 {
+    if all {
+        let own = KnownNames::of_params(alloc, own)?;
+        let given = KnownNames::of_given(alloc, given)?;
+        add_known(alloc, handed, &own, &given, params)
+    } else {
+        Ok(())
+    }
+}
+
+/// Adds those of these parameters that are known and aren't given.
+#[tactic(auto, using(crate::proofs::OpLists::map_append, crate::proofs::OpLists::append_assoc))]
+fn add_known(
+    alloc: Global,
+    handed: &mut Vec<Handed>,
+    own: &KnownNames<'_>,
+    given: &KnownNames<'_>,
+    params: &[Param],
+) -> Result<(), OutOfMemory>
+    ensures { OnOk result (map view_handed handed.new.items ≡ map view_handed handed.old.items
+        ++ map same_handed (known_params (known_names own.now) (known_names given.now) (view_params params.now))) }
+{
     for param in params {
-        if all && has_param(&param.name, own) && !is_given(&param.name, given) {
+        if own.has(&param.name) && !given.has(&param.name) {
             add_one(alloc, handed, &param.name)?;
         }
     }

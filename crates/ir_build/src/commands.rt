@@ -12,7 +12,7 @@ ghost use Rattle.ir_build.specs.TextOps.{text_ops};
 
 use crate::output::Output;
 use plural_rules::Category;
-use soy_base::{Kind, OutOfMemory, Place, Seq, Text, copied_name};
+use soy_base::{Boxed, Kind, OutOfMemory, Place, Seq, Text};
 use soy_tree::Expr;
 use std::alloc::Global;
 use template_ir::{
@@ -156,8 +156,8 @@ pub(crate) fn push_for(
     alloc: Global,
     out: &mut Output,
     own: &mut Vec<Op>,
-    name: &Text,
-    index: &Option<Text>,
+    name: &Boxed<Text>,
+    index: &Option<Boxed<Text>>,
     list: &Expr,
     body: Vec<Op>,
 ) -> Result<(), OutOfMemory>
@@ -167,10 +167,20 @@ pub(crate) fn push_for(
     ensures made { OnOk result (view_output out.new ≡ with_ops (view_output out.old) (view_ops body.items)) }
 {
     let body = out.lay(body)?;
-    let index = copied_name(alloc, index)?;
-    let name = name.copy(alloc)?;
+    let index = copied_index(alloc, index)?;
+    let name = name.get().copy(alloc)?;
     let list = list.copy(alloc)?;
     push_op(own, Op::For(name, index, list, body))
+}
+
+/// An equal name of an index, if there is one.
+fn copied_index(alloc: Global, index: &Option<Boxed<Text>>) -> Result<Option<Text>, OutOfMemory>
+    ensures { IfOk result (λ n. n ≡ index.now) }
+{
+    match index {
+        None => Ok(None),
+        Some(index) => Ok(Some(index.get().copy(alloc)?)),
+    }
 }
 
 /// Adds a let of an expression.

@@ -10,6 +10,7 @@ mod bodies;
 mod building;
 mod calls;
 mod commands;
+mod known_names;
 mod laws;
 mod messages;
 mod output;

@@ -23,7 +23,7 @@ use std::alloc::Global;
 pub fn base_of_expr(alloc: Global, expr: &Expr) -> Result<Text, OutOfMemory>
     ensures { IfOk result (λ t. t ≡ base_of_expr (view_expr expr.now)) }
 {
-    match &expr.node {
+    match expr.node.get() {
         ExprNode::Var(name) => base_of_name(alloc, name.text()),
         ExprNode::Member(_, name, _) => base_of_name(alloc, name.text()),
         _ => no_name(alloc),

@@ -171,7 +171,7 @@ fn op_number(op: BinaryOp) -> u8
 fn hash_expr<H: Hasher>(expr: &Expr, state: &mut H)
     ensures { state.new ≡ fold H.write state.old (expr_input (view_expr expr.now)) }
 {
-    match &expr.node {
+    match expr.node.get() {
         ExprNode::Null => state.write_u8(0),
         ExprNode::Bool(is) => {
             state.write_u8(1);
@@ -189,38 +189,38 @@ fn hash_expr<H: Hasher>(expr: &Expr, state: &mut H)
         ExprNode::Member(of, name, takes_null) => {
             state.write_u8(4);
             hash_bool(*takes_null, state);
-            hash_expr(of.get(), state);
+            hash_expr(of, state);
             hash_name(name, state);
         }
         ExprNode::Index(of, at, takes_null) => {
             state.write_u8(5);
             hash_bool(*takes_null, state);
-            hash_expr(of.get(), state);
-            hash_expr(at.get(), state);
+            hash_expr(of, state);
+            hash_expr(at, state);
         }
         ExprNode::Neg(of) => {
             state.write_u8(6);
-            hash_expr(of.get(), state);
+            hash_expr(of, state);
         }
         ExprNode::Not(of) => {
             state.write_u8(7);
-            hash_expr(of.get(), state);
+            hash_expr(of, state);
         }
         ExprNode::Binary(op, left, right) => {
             state.write_u8(op_number(*op));
-            hash_expr(left.get(), state);
-            hash_expr(right.get(), state);
+            hash_expr(left, state);
+            hash_expr(right, state);
         }
         ExprNode::Coalesce(left, right) => {
             state.write_u8(8);
-            hash_expr(left.get(), state);
-            hash_expr(right.get(), state);
+            hash_expr(left, state);
+            hash_expr(right, state);
         }
         ExprNode::Cond(when, then, other) => {
             state.write_u8(9);
-            hash_expr(when.get(), state);
-            hash_expr(then.get(), state);
-            hash_expr(other.get(), state);
+            hash_expr(when, state);
+            hash_expr(then, state);
+            hash_expr(other, state);
         }
     }
 }

@@ -14,30 +14,28 @@ use soy_tree::{Expr, ExprNode};
 fn is_same_expr(left: &Expr, right: &Expr) -> bool
     ensures { result ≡ is_same_expr (view_expr left.now) (view_expr right.now) }
 {
-    match (&left.node, &right.node) {
+    match (left.node.get(), right.node.get()) {
         (ExprNode::Null, ExprNode::Null) => true,
         (ExprNode::Bool(a), ExprNode::Bool(b)) => *a == *b,
         (ExprNode::Int(a), ExprNode::Int(b)) => *a == *b,
         (ExprNode::Str(a), ExprNode::Str(b)) => a.is(b.text()),
         (ExprNode::Var(a), ExprNode::Var(b)) => a.is(b.text()),
         (ExprNode::Member(a, x, p), ExprNode::Member(b, y, q)) => {
-            is_same_expr(a.get(), b.get()) && x.is(y.text()) && *p == *q
+            is_same_expr(a, b) && x.is(y.text()) && *p == *q
         }
         (ExprNode::Index(a, i, p), ExprNode::Index(b, j, q)) => {
-            is_same_expr(a.get(), b.get()) && is_same_expr(i.get(), j.get()) && *p == *q
+            is_same_expr(a, b) && is_same_expr(i, j) && *p == *q
         }
-        (ExprNode::Neg(a), ExprNode::Neg(b)) => is_same_expr(a.get(), b.get()),
-        (ExprNode::Not(a), ExprNode::Not(b)) => is_same_expr(a.get(), b.get()),
+        (ExprNode::Neg(a), ExprNode::Neg(b)) => is_same_expr(a, b),
+        (ExprNode::Not(a), ExprNode::Not(b)) => is_same_expr(a, b),
         (ExprNode::Binary(f, a, c), ExprNode::Binary(g, b, d)) => {
-            *f == *g && is_same_expr(a.get(), b.get()) && is_same_expr(c.get(), d.get())
+            *f == *g && is_same_expr(a, b) && is_same_expr(c, d)
         }
         (ExprNode::Coalesce(a, c), ExprNode::Coalesce(b, d)) => {
-            is_same_expr(a.get(), b.get()) && is_same_expr(c.get(), d.get())
+            is_same_expr(a, b) && is_same_expr(c, d)
         }
         (ExprNode::Cond(a, c, e), ExprNode::Cond(b, d, f)) => {
-            is_same_expr(a.get(), b.get())
-                && is_same_expr(c.get(), d.get())
-                && is_same_expr(e.get(), f.get())
+            is_same_expr(a, b) && is_same_expr(c, d) && is_same_expr(e, f)
         }
         _ => false,
     }

@@ -36,7 +36,7 @@ fn push_other(alloc: Global, out: &mut String, block: &Option<Block>) -> Result<
 
 /// A variable or a literal.
 fn push_atom(alloc: Global, out: &mut String, expr: &Expr) -> Result<(), OutOfMemory> {
-    match &expr.node {
+    match expr.node.get() {
         ExprNode::Null => push_text(out, "null"),
         ExprNode::Var(name) => {
             push_text(out, "$")?;
@@ -78,22 +78,16 @@ fn operator_word(operator: BinaryOp) -> &'static str {
 }
 
 fn push_expr(alloc: Global, out: &mut String, expr: &Expr) -> Result<(), OutOfMemory> {
-    match &expr.node {
+    match expr.node.get() {
         ExprNode::Member(of, name, _) => {
-            push_atom(alloc, out, of.get())?;
+            push_atom(alloc, out, of)?;
             push_text(out, ".")?;
             push_text(out, name.text())
         }
         ExprNode::Binary(operator, left, right) => {
-            push_pair(
-                alloc,
-                out,
-                left.get(),
-                operator_word(*operator),
-                right.get(),
-            )
+            push_pair(alloc, out, left, operator_word(*operator), right)
         }
-        ExprNode::Coalesce(left, right) => push_pair(alloc, out, left.get(), " ?: ", right.get()),
+        ExprNode::Coalesce(left, right) => push_pair(alloc, out, left, " ?: ", right),
         _ => push_atom(alloc, out, expr),
     }
 }

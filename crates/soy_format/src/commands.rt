@@ -19,7 +19,7 @@ use crate::attribute::{
 };
 use crate::expression::{begins_with_variable, push_expr, push_values, push_variable};
 use crate::string::push_string;
-use soy_base::{Kind, OutOfMemory, Text, push_text};
+use soy_base::{Boxed, Kind, OutOfMemory, Text, push_text};
 use soy_tree::{Argument, Expr, Message};
 use std::alloc::Global;
 
@@ -82,14 +82,14 @@ pub(crate) fn push_print(
 
 /// Adds the variable of a loop's index, if there is one.
 #[tactic(auto, using(crate::proofs::Pushes::append_assoc))]
-fn push_index(out: &mut String, index: &Option<Text>) -> Result<(), OutOfMemory>
+fn push_index(out: &mut String, index: &Option<Boxed<Text>>) -> Result<(), OutOfMemory>
     ensures { OnOk result (Appends out.old out.new (index_text index.now)) }
 {
     match index {
         None => Ok(()),
         Some(name) => {
             push_ascii(out, ", ")?;
-            push_variable(out, name)
+            push_variable(out, name.get())
         }
     }
 }
@@ -100,7 +100,7 @@ pub(crate) fn push_for(
     alloc: Global,
     out: &mut String,
     name: &Text,
-    index: &Option<Text>,
+    index: &Option<Boxed<Text>>,
     list: &Expr,
 ) -> Result<(), OutOfMemory>
     ensures { OnOk result (Appends out.old out.new (for_text name.now index.now (view_expr list.now))) }

@@ -10,7 +10,7 @@ ghost use Rattle.soy_format.specs.Levels.{level_of, level_of_op};
 
 use crate::ascii::{push_ascii, push_signed_decimal};
 use crate::string::push_string;
-use soy_base::{Boxed, OutOfMemory, Text, push_text};
+use soy_base::{OutOfMemory, Text, push_text};
 use soy_tree::{BinaryOp, Expr, ExprNode};
 use std::alloc::Global;
 
@@ -32,7 +32,7 @@ fn level_of_op(op: BinaryOp) -> u8
 fn level_of(of: &Expr) -> u8
     ensures { result ≡ level_of (view_expr of.now) }
 {
-    match &of.node {
+    match of.node.get() {
         ExprNode::Null => 0,
         ExprNode::Bool(_) => 0,
         ExprNode::Int(_) => 0,
@@ -53,27 +53,21 @@ fn level_of(of: &Expr) -> u8
 pub(crate) fn begins_with_variable(of: &Expr) -> bool
     ensures { result ≡ begins_with_variable (view_expr of.now) }
 {
-    match &of.node {
+    match of.node.get() {
         ExprNode::Null => false,
         ExprNode::Bool(_) => false,
         ExprNode::Int(_) => false,
         ExprNode::Str(_) => false,
         ExprNode::Var(_) => true,
-        ExprNode::Member(base, _, _) => level_of(base.get()) <= 1
-            && begins_with_variable(base.get()),
-        ExprNode::Index(base, _, _) => level_of(base.get()) <= 1
-            && begins_with_variable(base.get()),
+        ExprNode::Member(base, _, _) => level_of(base) <= 1 && begins_with_variable(base),
+        ExprNode::Index(base, _, _) => level_of(base) <= 1 && begins_with_variable(base),
         ExprNode::Neg(_) => false,
         ExprNode::Not(_) => false,
         ExprNode::Binary(op, left, _) => {
-            level_of(left.get()) <= level_of_op(*op) && begins_with_variable(left.get())
+            level_of(left) <= level_of_op(*op) && begins_with_variable(left)
         }
-        ExprNode::Coalesce(left, _) => {
-            level_of(left.get()) < 9 && begins_with_variable(left.get())
-        }
-        ExprNode::Cond(when, _, _) => {
-            level_of(when.get()) < 9 && begins_with_variable(when.get())
-        }
+        ExprNode::Coalesce(left, _) => { level_of(left) < 9 && begins_with_variable(left) }
+        ExprNode::Cond(when, _, _) => { level_of(when) < 9 && begins_with_variable(when) }
     }
 }
 
@@ -140,7 +134,7 @@ fn push_bracket(out: &mut String, takes_null: bool) -> Result<(), OutOfMemory>
 fn push_minus(out: &mut String, of: &Expr) -> Result<(), OutOfMemory>
     ensures { OnOk result (Appends out.old out.new (minus_text (view_expr of.now))) }
 {
-    match &of.node {
+    match of.node.get() {
         ExprNode::Null => push_ascii(out, "-"),
         ExprNode::Bool(_) => push_ascii(out, "-"),
         ExprNode::Int(_) => push_ascii(out, "-"),
@@ -162,43 +156,43 @@ fn push_minus(out: &mut String, of: &Expr) -> Result<(), OutOfMemory>
 pub(crate) fn push_expr(alloc: Global, out: &mut String, of: &Expr) -> Result<(), OutOfMemory>
     ensures { OnOk result (Appends out.old out.new (formatted_expr (view_expr of.now))) }
 {
-    match &of.node {
+    match of.node.get() {
         ExprNode::Null => push_ascii(out, "null"),
         ExprNode::Bool(is) => push_bool(out, *is),
         ExprNode::Int(number) => push_signed_decimal(alloc, out, *number),
         ExprNode::Str(text) => push_string(out, text),
         ExprNode::Var(name) => push_variable(out, name),
         ExprNode::Member(base, name, takes_null) => {
-            push_operand(alloc, out, base, level_of(base.get()) > 1)?;
+            push_operand(alloc, out, base, level_of(base) > 1)?;
             push_dot(out, *takes_null)?;
             push_text(out, name.text())
         }
         ExprNode::Index(base, index, takes_null) => {
-            push_operand(alloc, out, base, level_of(base.get()) > 1)?;
+            push_operand(alloc, out, base, level_of(base) > 1)?;
             push_bracket(out, *takes_null)?;
             push_operand(alloc, out, index, false)?;
             push_ascii(out, "]")
         }
         ExprNode::Neg(operand) => {
-            push_minus(out, operand.get())?;
-            push_operand(alloc, out, operand, level_of(operand.get()) > 2)
+            push_minus(out, operand)?;
+            push_operand(alloc, out, operand, level_of(operand) > 2)
         }
         ExprNode::Not(operand) => {
             push_ascii(out, "not ")?;
-            push_operand(alloc, out, operand, level_of(operand.get()) > 2)
+            push_operand(alloc, out, operand, level_of(operand) > 2)
         }
         ExprNode::Binary(op, left, right) => {
-            push_operand(alloc, out, left, level_of(left.get()) > level_of_op(*op))?;
+            push_operand(alloc, out, left, level_of(left) > level_of_op(*op))?;
             push_op(out, *op)?;
-            push_operand(alloc, out, right, level_of(right.get()) >= level_of_op(*op))
+            push_operand(alloc, out, right, level_of(right) >= level_of_op(*op))
         }
         ExprNode::Coalesce(left, right) => {
-            push_operand(alloc, out, left, level_of(left.get()) >= 9)?;
+            push_operand(alloc, out, left, level_of(left) >= 9)?;
             push_ascii(out, " ?: ")?;
             push_operand(alloc, out, right, false)
         }
         ExprNode::Cond(when, left, right) => {
-            push_operand(alloc, out, when, level_of(when.get()) >= 9)?;
+            push_operand(alloc, out, when, level_of(when) >= 9)?;
             push_ascii(out, " ? ")?;
             push_operand(alloc, out, left, false)?;
             push_ascii(out, " : ")?;
@@ -213,17 +207,17 @@ pub(crate) fn push_expr(alloc: Global, out: &mut String, of: &Expr) -> Result<()
 fn push_operand(
     alloc: Global,
     out: &mut String,
-    of: &Boxed<Expr>,
+    of: &Expr,
     is_in_parentheses: bool,
 ) -> Result<(), OutOfMemory>
     ensures { OnOk result (Appends out.old out.new
         (in_parentheses is_in_parentheses (formatted_expr (view_expr of.now)))) }
 {
     if !is_in_parentheses {
-        return push_expr(alloc, out, of.get());
+        return push_expr(alloc, out, of);
     }
     push_ascii(out, "(")?;
-    push_expr(alloc, out, of.get())?;
+    push_expr(alloc, out, of)?;
     push_ascii(out, ")")
 }
 

@@ -66,7 +66,7 @@ fn push_node(alloc: Global, out: &mut String, node: &Node) -> Result<(), OutOfMe
             push_ascii(out, "{/switch}")
         }
         Form::For(name, index, list, body) => {
-            push_for(alloc, out, name, index, list)?;
+            push_for(alloc, out, name.get(), index, list)?;
             push_nodes(alloc, out, body.items())?;
             push_ascii(out, "{/for}")
         }

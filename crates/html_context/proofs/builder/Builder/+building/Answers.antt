@@ -246,7 +246,8 @@ node-returns-in_ok-body-in-For-clause-writes t c =
     c.write.new.rows.items c.in_ok-body-in-For.body c.write.result
     c.args.node.now c.in-For.name c.in-For.index c.in-For.list c.in-For.body c.items-in-For.result.now
     c.enter_loop.new.vars c.site-at.result
-    c.in-For.is c.site-at.ensures c.items-in-For.ensures c.in_ok-enter_loop-in-For.ensures.scope c.in_ok-body-in-For.ensures.writes
+    c.in-For.is c.site-at.ensures c.items-in-For.ensures
+    (rw (← c.get.ensures) c.in_ok-enter_loop-in-For.ensures.scope) c.in_ok-body-in-For.ensures.writes
     c.write.ensures.rows c.write.ensures.number
 
 pub node-returns-in_ok-body-in-LetBlock-clause-writes : goal.node-returns-in_ok-body-in-LetBlock-clause-writes
