@@ -105,13 +105,20 @@ impl Compiled {
     pub fn entry(&self, name: &str) -> Option<usize>
         ensures { result ≡ position (is_entry_routine (chars name.now)) self.now.program.templates }
     {
-        self.program
-            .parts()
-            .templates
-            .items()
-            .iter()
-            .position(|routine| is_entry(routine, name))
+        entry_number(&self.program, name)
     }
+}
+
+/// The number of the template of a program that may be rendered under a full name: a public one of kind html or text.
+pub fn entry_number(program: &Program, name: &str) -> Option<usize>
+    ensures { result ≡ position (is_entry_routine (chars name.now)) program.now.templates }
+{
+    program
+        .parts()
+        .templates
+        .items()
+        .iter()
+        .position(|routine| is_entry(routine, name))
 }
 
 /// Whether a routine may be rendered under a full name.

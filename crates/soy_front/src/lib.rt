@@ -18,7 +18,7 @@ mod source;
 mod sources;
 
 pub use accepting::{AcceptedFiles, Language, accept, accept_language};
-pub use compiling::{Compiled, compile, compile_read};
+pub use compiling::{Compiled, compile, compile_read, entry_number};
 pub use fault::{Detail, Detailed, FrontFault, FrontRefusal};
 pub use files::{ReadFiles, read_files};
 pub use laws::{

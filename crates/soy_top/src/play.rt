@@ -1,11 +1,9 @@
 //! Plays a script on a desk, line by line.
 
 ghost use Rattle.std.specs.Prelude.{◌≡◌, ◌≤◌, ◌<◌, IfErr, IfOk, Ok, Some, length, option_map};
-ghost use Rattle.std.specs.List.{position};
 ghost use Rattle.std.specs.Str.{chars};
 ghost use Rattle.std.specs.String.{string_bytes};
 ghost use Rattle.soy_desk.specs.DeskState.{desk_with};
-ghost use Rattle.soy_front.specs.Entries.{is_entry_kind, is_entry_routine};
 ghost use Rattle.soy_io.specs.PutRose.{PutRose};
 ghost use Rattle.soy_top.specs.Runs.Change.{change, Took, TookPrefix};
 ghost use Rattle.soy_top.specs.Scripts.DeskLines.{LineShows, program_of};
@@ -21,8 +19,9 @@ ghost use Rattle.template_ir.specs.declared.program.ProgramParts.{ProgramParts};
 
 use crate::output::End;
 use crate::script::{ScriptBundle, ScriptLine, first_line, read_line};
-use soy_base::{Code, Kind, OutOfMemory, Refusal, Steps};
+use soy_base::{Code, OutOfMemory, Refusal, Steps};
 use soy_desk::{Desk, DeskFault, Unopened};
+use soy_front::entry_number;
 use soy_io::{PutFault, Sink, put_all};
 use soy_rules::Typed;
 use soy_tree::Value;
@@ -31,7 +30,7 @@ use std::alloc::Global;
 use std::marker::Brand;
 use std::rc::Rc;
 use std::sync::ledger::{Blank, Ledger};
-use template_ir::{Program, Routine};
+use template_ir::Program;
 
 /// A script, with the trees of the files and the programs that they are under the two bundles.
 #[derive(Drop)]
@@ -281,34 +280,6 @@ fn at_line(number: u64, refusal: Refusal<Code>) -> Refusal<StepFault>
     match refusal {
         Refusal::Because(code) => Refusal::Because(StepFault { line: number, code }),
         Refusal::OutOfMemory => Refusal::OutOfMemory,
-    }
-}
-
-/// The number of the template that may be rendered under a full name: a public one of kind html or text.
-fn entry_number(program: &Program, name: &str) -> Option<usize>
-    ensures { result ≡ position (is_entry_routine (chars name.now)) program.now.templates }
-{
-    program
-        .parts()
-        .templates
-        .items()
-        .iter()
-        .position(|routine| is_entry(routine, name))
-}
-
-/// Whether a routine may be rendered under a full name.
-fn is_entry(routine: &Routine, name: &str) -> bool
-    ensures { result ≡ is_entry_routine (chars name.now) routine.now }
-{
-    routine.name.is(name) && !routine.private && is_entry_kind(routine.kind)
-}
-
-fn is_entry_kind(kind: Kind) -> bool
-    ensures { result ≡ is_entry_kind kind }
-{
-    match kind {
-        Kind::Html | Kind::Text => true,
-        Kind::Attributes => false,
     }
 }
 
