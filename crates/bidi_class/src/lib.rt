@@ -19,6 +19,3 @@ mod laws;
 pub use brackets::{Bracket, bracket_of};
 pub use class::{Class, class_of, is_initiator};
 pub use laws::law_pairs;
-
-#[cfg(test)]
-mod tests;

@@ -38,7 +38,4 @@ mod weak;
 
 pub use laws::law_seen_order;
 pub use line::levels;
-pub use page::preview;
-
-#[cfg(test)]
-mod tests;
+pub use page::{preview, show_page};

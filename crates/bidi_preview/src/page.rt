@@ -26,7 +26,7 @@ pub fn preview(alloc: Global, page: &str, context: Dir) -> Result<Seq<Text>, Out
 /// Each line of any page as it is seen, up to its first fault.
 ///
 /// The page is read twice: first for the directions that go by content, then for its lines.
-pub(crate) fn show_page(alloc: Global, page: &str, context: Dir) -> Result<Seq<Text>, OutOfMemory>
+pub fn show_page(alloc: Global, page: &str, context: Dir) -> Result<Seq<Text>, OutOfMemory>
     ensures { IfOk result (λ texts. texts ≡ seen (chars page.now) context) }
 {
     let directions = find_directions(alloc, page)?;

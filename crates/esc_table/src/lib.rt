@@ -24,6 +24,3 @@ pub use laws::{law_escaped_text_keeps_states, law_joined_texts_keep_states};
 pub use memory::OutOfMemory;
 pub use table::{Row, Table};
 pub use tail::Tail;
-
-#[cfg(test)]
-mod tests;

@@ -19,6 +19,3 @@ mod steps;
 
 pub use category::Category;
 pub use rules::{OutOfMemory, RuleFault, RuleRefusal, RuleText, Rules};
-
-#[cfg(test)]
-mod tests;

@@ -22,6 +22,3 @@ pub use laws::law_taken_in_parts;
 pub use library::{Fetch, FetchFault, Library};
 pub use plain::{PlainLibrary, PlainSink};
 pub use sink::{PutAll, PutFault, Sink, put_all};
-
-#[cfg(test)]
-mod tests;

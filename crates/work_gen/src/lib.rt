@@ -10,6 +10,3 @@ mod source;
 mod workload;
 
 pub use workload::{Workload, make};
-
-#[cfg(test)]
-mod tests;

@@ -1,10 +1,8 @@
 //! The rules of some languages at their own samples, texts that are rules, and texts that are no rules
 //! with the offsets that the grammar gives them.
 
-mod languages;
-
-use crate::{Category, OutOfMemory, RuleFault, RuleRefusal, RuleText, Rules};
-use languages::{LANGUAGES, Row};
+use crate::languages::{LANGUAGES, Row};
+use plural_rules::{Category, OutOfMemory, RuleFault, RuleRefusal, RuleText, Rules};
 use std::alloc::{AllocError, Global};
 
 /// A category, a text that is no rule of it, and the offset of its fault.

@@ -1,7 +1,6 @@
 //! The levels of worked lines, and worked pages as they are seen. The figures are those of an implementation apart.
 
-use crate::levels;
-use crate::page::show_page;
+use bidi_preview::{levels, show_page};
 use soy_base::Dir;
 use std::alloc::Global;
 

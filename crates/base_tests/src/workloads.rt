@@ -1,6 +1,6 @@
 //! The workload of one number beside what another program makes of it.
 
-use crate::make;
+use work_gen::make;
 
 /// The first item of number 7, with what stands before it.
 const FIRST: &str =

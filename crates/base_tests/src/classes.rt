@@ -1,5 +1,5 @@
 //! Classes and brackets at the ends of each range, written from outside.
-use crate::{Bracket, Class, bracket_of, class_of, is_initiator, law_pairs};
+use bidi_class::{Bracket, Class, bracket_of, class_of, is_initiator, law_pairs};
 
 // The first and the last character of each range of the table, row by row, and of some runs of one category.
 const ENDS: &[(Class, &str)] = &[

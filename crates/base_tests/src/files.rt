@@ -1,5 +1,8 @@
 //! Tests of what no clause says.
-use super::*;
+use soy_io::{
+    Fetch, FetchFault, Library, MemoryLibrary, MemorySink, NamedFile, PlainLibrary, PlainSink,
+    PutAll, PutFault, Sink, put_all,
+};
 use std::alloc::Global;
 use std::test::Fail;
 

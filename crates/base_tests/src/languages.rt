@@ -1,12 +1,12 @@
 //! The rules of some languages with numbers from the rules' own samples (CLDR 41, plurals.xml and
 //! ordinals.xml).
 
-use crate::Category;
+use plural_rules::Category;
 
 /// A category, its rule, and numbers of that category.
-pub(super) type Row = (Category, &'static str, &'static [i64]);
+pub(crate) type Row = (Category, &'static str, &'static [i64]);
 
-pub(super) const LANGUAGES: &[(&str, &[Row])] = &[
+pub(crate) const LANGUAGES: &[(&str, &[Row])] = &[
     (
         "English",
         &[

@@ -1,5 +1,7 @@
 //! Texts by the table of HTML, and a tail over rooms.
-use super::*;
+use esc_table::{
+    Tail, escape_into, html, law_escaped_text_keeps_states, law_joined_texts_keep_states,
+};
 use std::test::Fail;
 
 // A text and its escaped form: each row, the characters next to it, and words.
