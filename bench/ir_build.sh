@@ -31,7 +31,7 @@ fn text(alloc: Global, text: &str) -> Result<Text, OutOfMemory> {
 
 fn variable(alloc: Global) -> Result<Expr, OutOfMemory> {
     let node = ExprNode::Var(text(alloc, "x")?);
-    Ok(Expr { node, span: SPAN })
+    Expr::new(alloc, node, SPAN)
 }
 
 fn node(form: Form) -> Node {

@@ -10,7 +10,7 @@ begin bench_msg_extract soy_base plural_rules soy_tree msg_extract \
 #![tactic(auto)]
 
 use msg_extract::{extract, message_id, placeholders};
-use soy_base::{Boxed, Kind, OutOfMemory, Seq, Span, Text};
+use soy_base::{Kind, OutOfMemory, Seq, Span, Text};
 use soy_tree::{Expr, ExprNode, Form, Message, MessageBody, Node, Template, Tree};
 use std::alloc::Global;
 use std::io;
@@ -35,10 +35,8 @@ enum Shape {
 }
 
 fn variable(alloc: Global, name: &str) -> Result<Expr, OutOfMemory> {
-    Ok(Expr {
-        node: ExprNode::Var(Text::new(String::from_str(alloc, name)?)),
-        span: SPAN,
-    })
+    let name = Text::new(String::from_str(alloc, name)?);
+    Expr::new(alloc, ExprNode::Var(name), SPAN)
 }
 
 fn print_node(expr: Expr, phname: Option<Text>) -> Node {
@@ -57,11 +55,9 @@ fn text_node(text: String) -> Node {
 
 /// `$OF.name`
 fn name_of(alloc: Global, of: &str) -> Result<Expr, OutOfMemory> {
-    let of = Boxed::new(alloc, variable(alloc, of)?)?;
-    Ok(Expr {
-        node: ExprNode::Member(of, Text::new(String::from_str(alloc, "name")?), false),
-        span: SPAN,
-    })
+    let of = variable(alloc, of)?;
+    let name = Text::new(String::from_str(alloc, "name")?);
+    Expr::new(alloc, ExprNode::Member(of, name, false), SPAN)
 }
 
 fn push_shape(alloc: Global, nodes: &mut Vec<Node>, shape: Shape, number: u64) -> Result<(), OutOfMemory> {

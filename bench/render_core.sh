@@ -55,7 +55,7 @@ fn variable(alloc: Global, name: &str) -> Result<Expr, OutOfMemory>
     ensures { IfOk result (λ e. view_expr e ≡ variable name.now) }
 {
     let node = ExprNode::Var(text(alloc, name)?);
-    Ok(Expr { node, span: NOWHERE })
+    Expr::new(alloc, node, NOWHERE)
 }
 
 /// A field of the item.
@@ -63,9 +63,9 @@ fn item_field(alloc: Global, name: &str) -> Result<Expr, OutOfMemory>
     requires { is_ascii name.now ≡ true }
     ensures { IfOk result (λ e. view_expr e ≡ item_field name.now) }
 {
-    let item = Boxed::new(alloc, variable(alloc, "i")?)?;
+    let item = variable(alloc, "i")?;
     let node = ExprNode::Member(item, text(alloc, name)?, false);
-    Ok(Expr { node, span: NOWHERE })
+    Expr::new(alloc, node, NOWHERE)
 }
 
 fn field(alloc: Global, name: &str, of: SoyType) -> Result<Field, OutOfMemory>

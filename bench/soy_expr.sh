@@ -11,7 +11,7 @@ begin bench_soy_expr soy_base plural_rules soy_tree soy_expr \
 
 ghost use Rattle.std.specs.Prelude.{◌≡◌, ◌<◌};
 
-use soy_base::{Boxed, OutOfMemory, Seq, Span, Steps, Text};
+use soy_base::{OutOfMemory, Seq, Span, Steps, Text};
 use soy_expr::{Binding, Bound, Env, Evaluated, evaluate};
 use soy_tree::{Entry, Expr, ExprNode, Value};
 use std::alloc::Global;
@@ -27,16 +27,16 @@ fn text(alloc: Global, text: &str) -> Result<Text, OutOfMemory> {
     Ok(Text::new(String::from_str(alloc, text)?))
 }
 
-fn expr(node: ExprNode) -> Expr {
-    Expr { node, span: SPAN }
+fn expr(alloc: Global, node: ExprNode) -> Result<Expr, OutOfMemory> {
+    Expr::new(alloc, node, SPAN)
 }
 
 /// `$list[$i].name`.
 fn look_up(alloc: Global) -> Result<Expr, OutOfMemory> {
-    let list = Boxed::new(alloc, expr(ExprNode::Var(text(alloc, "list")?)))?;
-    let i = Boxed::new(alloc, expr(ExprNode::Var(text(alloc, "i")?)))?;
-    let item = Boxed::new(alloc, expr(ExprNode::Index(list, i, false)))?;
-    Ok(expr(ExprNode::Member(item, text(alloc, "name")?, false)))
+    let list = expr(alloc, ExprNode::Var(text(alloc, "list")?))?;
+    let i = expr(alloc, ExprNode::Var(text(alloc, "i")?))?;
+    let item = expr(alloc, ExprNode::Index(list, i, false))?;
+    expr(alloc, ExprNode::Member(item, text(alloc, "name")?, false))
 }
 
 /// A record of three fields.
