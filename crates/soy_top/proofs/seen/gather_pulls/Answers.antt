@@ -1,10 +1,10 @@
-use Rattle.std.proofs.Common.{◌≡◌, ℕ, List, length, refl, sym, ap, ◌∙◌, arith}
+use Rattle.std.proofs.Common.{◌≡◌, ℕ, ◌≤◌, List, length, refl, sym, ap, ◌∙◌, arith}
 use Rattle.render_core.specs.Rest.{rest_bytes, rest_end, rest_of}
 use Rattle.soy_tree.specs.ViewValues.{view_value}
 use Rattle.soy_top.specs.Answer.{run_text}
 use Rattle.soy_top.specs.Runs.ViewOutput.{page_run}
-use Rattle.soy_top.proofs.Previews.Gathering.{gathered_none, gathered_whole, gathered_with}
-use Rattle.soy_top.proofs.Pulling.{done_whole, end_solid, pulled_none, pulled_stop, text_solid}
+use Rattle.soy_top.proofs.Previews.Gathering.{gathered_none, gathered_whole, gathered_with, too_many}
+use Rattle.soy_top.proofs.Pulling.{done_whole, end_solid, pulled_none, pulled_stop, pulled_within, text_solid}
 use Rattle.soy_top.proofs.seen.gather_pulls.Goals as goal
 
 pub loop-bytes-init : goal.loop-bytes-init
@@ -47,3 +47,16 @@ returns-in-Err-Because g c =
     let whole : c.loop-bytes.bytes.items ≡ run_text (page_run c.args.page.now) =
     gathered_whole (run_text (page_run c.args.page.now)) rest c.loop-bytes.bytes.items inv.so_far stop.0 in
     (omega (arith, inv.few, ap length whole), sym inv.same_end ∙ stop.1)
+
+pub returns-then-len-n : goal.returns-then-len-n
+returns-then-len-n g c =
+    let inv = c.loop-bytes.invariant in
+    let rest : List ℕ = rest_bytes (rest_of c.args.page.now.program (view_value c.args.page.now.input)
+    c.loop-bytes.rendering) in
+    let others : List ℕ = rest_bytes (rest_of c.args.page.now.program (view_value c.args.page.now.input)
+    c.pull.new.self) in
+    let given : c.in-Ok-pull.n ≤ length c.loop-bytes.room =
+    pulled_within _ _ _ _ _ _ _ _ _ c.in-Ok-pull.n c.in-Ok-pull.ensures.pulls in
+    too_many (run_text (page_run c.args.page.now)) rest c.loop-bytes.bytes.items inv.so_far 1048576 c.in-Ok-pull.n
+    c.pull.new.room others c.in-Ok-pull.ensures.bytes
+    (omega (arith, given, c.pull.auto.room)) (omega (arith, inv.few, c.len.ensures, c.if-len-n.true))
