@@ -1,5 +1,5 @@
 //! A text, which contracts see as the list of its characters.
-ghost use Rattle.std.specs.Prelude.{◌≡◌, [], ◌++◌, IfOk, OnOk, OnErr, encode_utf8_all};
+ghost use Rattle.std.specs.Prelude.{◌≡◌, [], ◌++◌, IfOk, OnOk, OnErr, encode_utf8_all, true};
 ghost use Rattle.std.specs.Cmp.Rules.{comparing};
 ghost use Rattle.std.proofs.Common.{rules};
 ghost use Rattle.std.specs.Str.{chars, bytes_eq};
@@ -71,7 +71,7 @@ impl Text {
     pub fn is(&self, other: &str) -> bool
         ensures { result ≡ bytes_eq self.now (chars other.now) }
     {
-        self.storage.as_str() == other
+        is_same(self.storage.as_str(), other)
     }
 
     /// Adds the characters of another text at the end.
@@ -110,6 +110,22 @@ pub fn text_of(alloc: Global, text: &str) -> Result<Text, OutOfMemory>
 {
     let storage = Storage::of(alloc, text)?;
     Ok(Text { storage, alloc })
+}
+
+/// Whether two texts are the same. Names of one length mostly differ in their last byte, which is compared first.
+#[inline(always)]
+fn is_same(left: &str, right: &str) -> bool
+    ensures { result ≡ bytes_eq left.now right.now }
+{
+    has_same_end(left.as_bytes(), right.as_bytes()) && left == right
+}
+
+/// Whether two runs of bytes are as long and end alike.
+#[inline(always)]
+fn has_same_end(left: &[u8], right: &[u8]) -> bool
+    ensures { left.now ≡ right.now → result ≡ true }
+{
+    left.len() == right.len() && (left.is_empty() || left[left.len() - 1] == right[left.len() - 1])
 }
 
 /// An equal text, if there is one.
