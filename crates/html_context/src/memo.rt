@@ -25,24 +25,21 @@ pub(crate) struct Kept {
 /// few, where the lists of them are many.
 #[derive(Drop)]
 pub(crate) struct Memo {
-    met: Vec<Vec<State>>,
+    met: HashMap<usize, Vec<State>>,
     numbers: HashMap<Vec<usize>, usize>,
     pub kept: Vec<Kept>,
 }
 
-/// Nothing was done by bodies of so many rows.
-pub(crate) fn new_memo(alloc: Global, rows: &[Row]) -> Result<Memo, OutOfMemory>
-    ensures { IfOk result (λ memo. AllKept rows.now memo) }
+/// Nothing was done by the bodies of these rows.
+pub(crate) fn new_memo(alloc: Global, rows: &[Row]) -> Memo
+    ensures { AllKept rows.now result }
 {
-    let mut met = Vec::new(alloc);
-    for _ in rows {
-        met.push(Vec::new(alloc))?;
-    }
-    Ok(Memo {
-        met,
+    let _ = rows;
+    Memo {
+        met: HashMap::new(alloc),
         numbers: HashMap::new(alloc),
         kept: Vec::new(alloc),
-    })
+    }
 }
 
 /// The number of a state among those that were met, to which it is added where it is new.
@@ -81,7 +78,10 @@ pub(crate) fn key_of(
 ) -> Result<Vec<usize>, OutOfMemory>
     ensures { OnOk result (memo.new.kept ≡ memo.old.kept) }
 {
-    match memo.met.get_mut(body) {
+    if !memo.met.contains_key(&body) {
+        memo.met.insert(body, Vec::new(alloc))?;
+    }
+    match memo.met.get_mut(&body) {
         None => Ok(Vec::new(alloc)),
         Some(met) => numbers_of(alloc, body, met, before),
     }

@@ -340,7 +340,7 @@ pub(crate) fn walk_table(alloc: Global, table: &Table) -> Result<Vec<Place>, Sto
 {
     let rows = table.rows.as_slice();
     let walker = Walker { alloc, rows };
-    let mut memo = new_memo(alloc, rows)?;
+    let mut memo = new_memo(alloc, rows);
     let mut places = Vec::new(alloc);
     if let Some(row) = rows.get(table.root) {
         walker.root(table.root, row, Vec::new(alloc), &mut places, &mut memo)?;
