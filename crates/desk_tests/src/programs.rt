@@ -8,7 +8,7 @@ ghost use Rattle.template_ir.specs.ViewOps.{view_program};
 ghost use Rattle.template_ir.specs.declared.op.Op.TheVariants as op;
 
 use plural_rules::Rules;
-use soy_base::{Dir, Kind, OutOfMemory, Place, Seq, Text, TooDeep};
+use soy_base::{Boxed, Dir, Kind, OutOfMemory, Place, Seq, Text, TooDeep};
 use std::alloc::Global;
 use std::rc::Rc;
 use template_ir::{Block, Callee, Op, Program, ProgramParts, Routine};
@@ -105,7 +105,7 @@ fn call_of_first(alloc: Global) -> Callee
 fn endless_ops(alloc: Global, text: Text, call: Callee) -> Result<Vec<Op>, OutOfMemory>
     ensures { IfOk result (λ v. v.items ≡ op.Static text ∷ op.Call call ∷ []) }
 {
-    let ops = [Op::Static(text), Op::Call(call)];
+    let ops = [Op::Static(text), Op::Call(Boxed::new(alloc, call)?)];
     Ok(Vec::from_array(alloc, ops)?)
 }
 

@@ -19,7 +19,7 @@ use crate::known_names::KnownNames;
 use crate::output::Output;
 use crate::scene::Scene;
 use crate::templates::callee_number;
-use soy_base::{Kind, OutOfMemory, Place, Seq, Span, Text};
+use soy_base::{Boxed, Kind, OutOfMemory, Place, Seq, Span, Text};
 use soy_rules::Templates;
 use soy_tree::{Argument, Expr, Param};
 use std::alloc::Global;
@@ -154,14 +154,12 @@ pub(crate) fn push_call(
     let number = callee_number(scene.alloc, scene.declared, scene.namespace, name)?;
     let params = params_at(scene.declared, number);
     add_same(scene.alloc, &mut handed, all, scene.params, given, params)?;
-    push_op(
-        own,
-        Op::Call(Callee {
-            template: number,
-            given: Seq::new(handed),
-            place,
-            file: scene.file,
-            at: span.start,
-        }),
-    )
+    let callee = Callee {
+        template: number,
+        given: Seq::new(handed),
+        place,
+        file: scene.file,
+        at: span.start,
+    };
+    push_op(own, Op::Call(Boxed::new(scene.alloc, callee)?))
 }

@@ -168,18 +168,21 @@ pub(crate) fn push_for(
 {
     let body = out.lay(body)?;
     let index = copied_index(alloc, index)?;
-    let name = name.get().copy(alloc)?;
+    let name = Boxed::new(alloc, name.get().copy(alloc)?)?;
     let list = list.copy(alloc)?;
     push_op(own, Op::For(name, index, list, body))
 }
 
 /// An equal name of an index, if there is one.
-fn copied_index(alloc: Global, index: &Option<Boxed<Text>>) -> Result<Option<Text>, OutOfMemory>
+fn copied_index(
+    alloc: Global,
+    index: &Option<Boxed<Text>>,
+) -> Result<Option<Boxed<Text>>, OutOfMemory>
     ensures { IfOk result (λ n. n ≡ index.now) }
 {
     match index {
         None => Ok(None),
-        Some(index) => Ok(Some(index.get().copy(alloc)?)),
+        Some(index) => Ok(Some(Boxed::new(alloc, index.get().copy(alloc)?)?)),
     }
 }
 
@@ -244,16 +247,14 @@ pub(crate) fn push_plural(
         ≡ view_ops own.old.items ++ plural_op (view_expr number.now) offset ordinal exact named ∷ []) }
 {
     let number = number.copy(alloc)?;
-    push_op(
-        own,
-        Op::Plural(PluralOp {
-            number,
-            offset,
-            ordinal,
-            exact,
-            named,
-        }),
-    )
+    let plural = PluralOp {
+        number,
+        offset,
+        ordinal,
+        exact,
+        named,
+    };
+    push_op(own, Op::Plural(Boxed::new(alloc, plural)?))
 }
 
 /// Adds a plural of the source, whose default is these ops, as the arm of the category other.
@@ -315,7 +316,7 @@ pub(crate) fn push_select(
         ≡ view_ops own.old.items ++ select_op (view_expr word.now) arms ∷ []) }
 {
     let word = word.copy(alloc)?;
-    push_op(own, Op::Select(SelectOp { word, arms }))
+    push_op(own, Op::Select(Boxed::new(alloc, SelectOp { word, arms })?))
 }
 
 /// Adds a select of the source, whose default is these ops, as the arm of the word other, the last one.

@@ -223,10 +223,10 @@ fn push_op(alloc: Global, out: &mut String, op: &Op) -> Result<(), OutOfMemory> 
         }
         Op::For(name, index, list, body) => {
             push_text(out, "for ")?;
-            push_text(out, name.text())?;
+            push_text(out, name.get().text())?;
             if let Some(index) = index {
                 push_text(out, ",")?;
-                push_text(out, index.text())?;
+                push_text(out, index.get().text())?;
             }
             push_text(out, " ")?;
             push_expr(alloc, out, list)?;
@@ -244,9 +244,9 @@ fn push_op(alloc: Global, out: &mut String, op: &Op) -> Result<(), OutOfMemory> 
             push_text(out, name.text())?;
             push_arm(alloc, out, kind_word(*kind), body)
         }
-        Op::Call(callee) => push_call(alloc, out, callee),
-        Op::Plural(plural) => push_plural(alloc, out, plural),
-        Op::Select(select) => push_select(alloc, out, select),
+        Op::Call(callee) => push_call(alloc, out, callee.get()),
+        Op::Plural(plural) => push_plural(alloc, out, plural.get()),
+        Op::Select(select) => push_select(alloc, out, select.get()),
     }
 }
 

@@ -1,6 +1,6 @@
 //! Fields of the data, by their names.
 
-ghost use Rattle.std.specs.Prelude.{◌≡◌, IfSome};
+ghost use Rattle.std.specs.Prelude.{◌≡◌, IfSome, None};
 ghost use Rattle.soy_rules.specs.Cost.{cost};
 ghost use Rattle.soy_rules.specs.Val.{Known, binding, member_value, operand, val};
 ghost use Rattle.soy_tree.specs.ViewExpressions.{view_expr};
@@ -73,7 +73,8 @@ fn first_field<'i>(whole: &'i Value, name: &Text) -> Option<(usize, &'i Value)>
 #[inline(always)]
 #[tactic(auto, using(crate::proofs::Values::entry_first, soy_expr::proofs::PartRows::entry_passed))]
 fn first_entry<'i>(entries: &'i [Entry], name: &Text) -> Option<(usize, &'i Value)>
-    ensures { IfSome result (λ f. IsFirstEntry name.now (view_entries entries.now) f.0 (view_value f.1.now)) }
+    ensures some { IfSome result (λ f. IsFirstEntry name.now (view_entries entries.now) f.0 (view_value f.1.now)) }
+    ensures none { result ≡ None → EntryFound name.now (view_entries entries.now) None }
 {
     for (number, entry) in entries.iter().enumerate() {
         if entry.name.is(name.text()) {
@@ -109,14 +110,11 @@ pub(crate) fn field_number(input: &Value, name: &Text) -> Option<usize>
 }
 
 /// The number of the first entry of a name.
-#[tactic(auto, using(crate::proofs::Values::entry_found, soy_expr::proofs::PartRows::entry_passed))]
 fn entry_number(entries: &[Entry], name: &Text) -> Option<usize>
     ensures { EntryFound name.now (view_entries entries.now) result }
 {
-    for (number, entry) in entries.iter().enumerate() {
-        if entry.name.is(name.text()) {
-            return Some(number);
-        }
+    match first_entry(entries, name) {
+        Some((number, _)) => Some(number),
+        None => None,
     }
-    None
 }

@@ -174,8 +174,8 @@ impl Machine {
                 Kind::Attributes => self.step_let_block(scene, ahead, *kind, *block, name),
             },
             Op::Call(callee) => Ok(self.step_call(scene, ahead, callee)),
-            Op::Plural(plural) => self.step_plural(scene, ahead, plural, steps),
-            Op::Select(select) => self.step_select(scene, ahead, select, steps),
+            Op::Plural(plural) => self.step_plural(scene, ahead, plural.get(), steps),
+            Op::Select(select) => self.step_select(scene, ahead, select.get(), steps),
         }
     }
 }
@@ -209,7 +209,7 @@ fn callee_at(program: &ProgramParts, at: usize) -> Option<&Callee>
     ensures { option_map (λ c. c.now) result ≡ callee_of (slice_get program.now.ops at) }
 {
     match program.op(at) {
-        Some(Op::Call(callee)) => Some(callee),
+        Some(Op::Call(callee)) => Some(callee.get()),
         _ => None,
     }
 }
@@ -219,7 +219,7 @@ fn call_place(program: &ProgramParts, at: usize) -> Place
     ensures { result ≡ call_place (slice_get program.now.ops at) }
 {
     match program.op(at) {
-        Some(Op::Call(callee)) => callee.place,
+        Some(Op::Call(callee)) => callee.get().place,
         _ => Place::Plain,
     }
 }

@@ -99,7 +99,7 @@ fn op_name(op: &Op) -> Option<&Text>
     ensures { option_map (λ t. t.now) result ≡ op_name op.now }
 {
     match op {
-        Op::For(name, _, _, _) => Some(name),
+        Op::For(name, _, _, _) => Some(name.get()),
         Op::Let(name, _) => Some(name),
         Op::LetBlock(name, _, _) => Some(name),
         _ => None,
@@ -110,7 +110,7 @@ fn index_name(op: &Op) -> Option<&Text>
     ensures { option_map (λ t. t.now) result ≡ index_name op.now }
 {
     match op {
-        Op::For(_, Some(index), _, _) => Some(index),
+        Op::For(_, Some(index), _, _) => Some(index.get()),
         _ => None,
     }
 }
@@ -119,7 +119,7 @@ fn handed_name(op: &Op, number: usize) -> Option<&Text>
     ensures { option_map (λ t. t.now) result ≡ handed_name number op.now }
 {
     match op {
-        Op::Call(callee) => Some(&callee.given.items().get(number)?.name),
+        Op::Call(callee) => Some(&callee.get().given.items().get(number)?.name),
         _ => None,
     }
 }

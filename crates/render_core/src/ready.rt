@@ -1,6 +1,6 @@
 //! Ops that are given at once.
 
-ghost use Rattle.std.specs.Prelude.{◌≡◌, ◌<◌, ℕ, [], IfSome, None, Some, encode_utf8_all, slice_get, true};
+ghost use Rattle.std.specs.Prelude.{◌≡◌, ◌<◌, ℕ, [], IfSome, None, Some, encode_utf8_all};
 ghost use Rattle.std.specs.Str.{chars};
 ghost use Rattle.soy_expr.specs.ViewEvaluated.{view_made};
 ghost use Rattle.soy_rules.specs.Val.{binding};
@@ -13,12 +13,10 @@ ghost use Rattle.render_core.specs.Finds.{IsVariable, binding_at};
 ghost use Rattle.render_core.specs.Forms.{form_at};
 ghost use Rattle.render_core.specs.Frames.{MachineFits};
 ghost use Rattle.render_core.specs.Pulls.{Gave};
-ghost use Rattle.render_core.specs.Ready.{GivesBinding, GivesField};
+ghost use Rattle.render_core.specs.Ready.{GivesBinding, GivesField, IsNext};
 ghost use Rattle.render_core.specs.Seen.{cells_seen, input_seen, program_seen};
 ghost use Rattle.render_core.specs.Stepping.{Gives, output};
-ghost use Rattle.render_core.specs.Texts.{is_none};
 ghost use Rattle.render_core.specs.Variables.{cell_at, cells_of, env_at};
-ghost use Rattle.render_core.specs.declared.frame.Frame.TheVariants as frame;
 
 use crate::begun::{copy_from, escaper_at};
 use crate::fields::field_part;
@@ -82,11 +80,7 @@ impl Machine {
         text: &Text,
         room: &mut [u8],
     ) -> Option<usize>
-        requires top { self.old.top ≡ frame.Ops ahead }
-        requires fits { MachineFits self.old }
-        requires op { slice_get scene.now.program.now.ops ahead.at ≡ Some (op.Static text.now) }
-        requires low { ahead.at < ahead.end }
-        requires none { is_none self.old.texts ≡ true }
+        requires { IsNext scene.now.program.now self.old ahead (op.Static text.now) }
         ensures some { IfSome result (λ n. 0 < n) }
         ensures gives { (m : ℕ) → IfSome result (λ n. Gives scene.now.program.now (view_value scene.now.input.now)
             self.old self.new m m (output room.old room.new None) n) }
@@ -109,11 +103,7 @@ impl Machine {
         room: &mut [u8],
         steps: &mut Steps<L>,
     ) -> Option<usize>
-        requires top { self.old.top ≡ frame.Ops ahead }
-        requires fits { MachineFits self.old }
-        requires op { slice_get scene.now.program.now.ops ahead.at ≡ Some (op.Print expr.now place) }
-        requires low { ahead.at < ahead.end }
-        requires none { is_none self.old.texts ≡ true }
+        requires { IsNext scene.now.program.now self.old ahead (op.Print expr.now place) }
         ensures some { IfSome result (λ n. 0 < n) }
         ensures gives { IfSome result (λ n. Gives scene.now.program.now (view_value scene.now.input.now) self.old
             self.new steps.old steps.new (output room.old room.new None) n) }
@@ -141,11 +131,7 @@ impl Machine {
         room: &mut [u8],
         steps: &mut Steps<L>,
     ) -> Option<usize>
-        requires top { self.old.top ≡ frame.Ops ahead }
-        requires fits { MachineFits self.old }
-        requires op { slice_get scene.now.program.now.ops ahead.at ≡ Some (op.Print expr.now place) }
-        requires low { ahead.at < ahead.end }
-        requires none { is_none self.old.texts ≡ true }
+        requires { IsNext scene.now.program.now self.old ahead (op.Print expr.now place) }
         ensures some { IfSome result (λ n. 0 < n) }
         ensures gives { IfSome result (λ n. Gives scene.now.program.now (view_value scene.now.input.now) self.old
             self.new steps.old steps.new (output room.old room.new None) n) }
@@ -172,12 +158,8 @@ impl Machine {
         room: &mut [u8],
         steps: &mut Steps<L>,
     ) -> Option<usize>
-        requires top { self.old.top ≡ frame.Ops ahead }
-        requires fits { MachineFits self.old }
-        requires op { slice_get scene.now.program.now.ops ahead.at ≡ Some (op.Print expr.now place) }
+        requires next { IsNext scene.now.program.now self.old ahead (op.Print expr.now place) }
         requires variable { IsVariable (view_expr expr.now) (Some name.now) }
-        requires low { ahead.at < ahead.end }
-        requires none { is_none self.old.texts ≡ true }
         ensures some { IfSome result (λ n. 0 < n) }
         ensures gives { IfSome result (λ n. Gives scene.now.program.now (view_value scene.now.input.now) self.old
             self.new steps.old steps.new (output room.old room.new None) n) }

@@ -24,7 +24,7 @@ use crate::showing::{Print, text_of};
 use crate::stack::{Machine, Step, past};
 use crate::step_let::{handed_on, kept};
 use crate::valuing::{Found, value_of, variable};
-use soy_base::{Kind, OutOfMemory, Place, Steps, TooDeep};
+use soy_base::{Boxed, Kind, OutOfMemory, Place, Steps, TooDeep};
 use soy_expr::Shallow;
 use soy_tree::Expr;
 use std::sync::ledger::Ledger;
@@ -32,7 +32,7 @@ use template_ir::{Block, Callee, Handed, HandedBy, Routine};
 
 impl Machine {
     /// A call: its parameters are handed one after the other, and then it is opened.
-    pub(crate) fn step_call(&mut self, scene: &Scene, ahead: Ahead, callee: &Callee) -> Step
+    pub(crate) fn step_call(&mut self, scene: &Scene, ahead: Ahead, callee: &Boxed<Callee>) -> Step
         requires top { self.old.top ≡ frame.Ops ahead }
         requires fits { MachineFits self.old }
         requires op { slice_get scene.now.program.now.ops ahead.at ≡ Some (op.Call callee.now) }

@@ -17,7 +17,7 @@ use crate::scene::Scene;
 use crate::stack::{Machine, Step, past};
 use crate::valuing::{Found, has_item, value_of};
 use crate::variable_stack::VariableStack;
-use soy_base::{OutOfMemory, Steps, Text};
+use soy_base::{Boxed, OutOfMemory, Steps, Text};
 use soy_expr::Made;
 use soy_tree::Expr;
 use std::sync::ledger::Ledger;
@@ -161,7 +161,7 @@ fn turn_ahead(round: Round, body: Block, env: usize, mark: usize) -> Ahead
 }
 
 /// The loop at a place: the variable of its index, and its body.
-fn loop_at(program: &ProgramParts, at: usize) -> Option<(&Option<Text>, &Block)>
+fn loop_at(program: &ProgramParts, at: usize) -> Option<(&Option<Boxed<Text>>, &Block)>
     ensures { LoopAt (option_map (λ t. (t.0.now, t.1.now)) result) (slice_get program.now.ops at) }
 {
     match program.op(at) {
@@ -171,7 +171,7 @@ fn loop_at(program: &ProgramParts, at: usize) -> Option<(&Option<Text>, &Block)>
 }
 
 /// The same of an op.
-fn loop_of(op: &Op) -> Option<(&Option<Text>, &Block)>
+fn loop_of(op: &Op) -> Option<(&Option<Boxed<Text>>, &Block)>
     ensures { LoopAt (option_map (λ t. (t.0.now, t.1.now)) result) (Some op.now) }
 {
     match op {

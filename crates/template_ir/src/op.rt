@@ -1,7 +1,7 @@
 //! Ops, and the blocks of them that they name.
 
 use plural_rules::Category;
-use soy_base::{Kind, Place, Seq, Text};
+use soy_base::{Boxed, Kind, Place, Seq, Text};
 use soy_tree::Expr;
 
 /// The ops from `first` up to but not with `end`.
@@ -24,15 +24,16 @@ pub enum Op {
     If(Seq<Branch>, Option<Block>),
     /// The first choice with a value that equals the subject, else the block.
     Switch(Expr, Seq<Choice>, Option<Block>),
-    /// The variable of a loop, that of its index, the list and the body.
-    For(Text, Option<Text>, Expr, Block),
+    /// The variable of a loop, that of its index, the list and the body. The names are in boxes, as is what a call, a
+    /// plural and a select are made of: few ops are such, and an op is as large as its largest form.
+    For(Boxed<Text>, Option<Boxed<Text>>, Expr, Block),
     /// What a name is bound to.
     Let(Text, Expr),
     /// What a name is bound to: the joined text of a block of kind text, or a block of another kind.
     LetBlock(Text, Kind, Block),
-    Call(Callee),
-    Plural(PluralOp),
-    Select(SelectOp),
+    Call(Boxed<Callee>),
+    Plural(Boxed<PluralOp>),
+    Select(Boxed<SelectOp>),
 }
 
 /// A branch of an if.

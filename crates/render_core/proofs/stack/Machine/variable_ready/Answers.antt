@@ -7,12 +7,12 @@ returns-clause-gives g c =
     variable_gives c.args.scene.now.program.now (view_value c.args.scene.now.input.now) c.args.self.now c.pass.new.self
     c.args.ahead c.args.room.now c.put_variable.new.room c.in_ok-n.n c.args.expr.now c.args.name.now c.args.place
     c.args.steps.now c.count.new.self (record {
-      top = c.requires.top;
-      fits = c.requires.fits;
-      low = c.requires.low;
-      none = c.requires.none;
+      top = c.requires.next.top;
+      fits = c.requires.next.fits;
+      low = c.requires.next.low;
+      none = c.requires.next.none;
       top_after = c.pass.ensures.top;
       below = c.pass.ensures.below;
       bound = c.pass.ensures.bound;
       texts = c.pass.ensures.texts;
-    }) c.requires.op c.count.ensures c.requires.variable c.in_ok-n.ensures.gives
+    }) c.requires.next.op c.count.ensures c.requires.variable c.in_ok-n.ensures.gives
