@@ -1,6 +1,6 @@
 -- Results of parts that are read over lent texts.
 use Rattle.std.proofs.Common.{◌≡◌, ℕ, ◌+◌, ◌<◌, true, false, List, ◌∷◌, ◌++◌, drop, map, length, slice_index_or}
-use Rattle.std.proofs.Common.{refl, sym, ap, ◌∙◌, subst, Option, Some, Vec, Global, IfOk}
+use Rattle.std.proofs.Common.{refl, sym, ap, ◌∙◌, subst, Vec, Global, IfOk}
 use Rattle.std.specs.Prelude.{Result, Ok, Err, is_ok, is_some}
 use Rattle.std.specs.Borrow.{Bor}
 use Rattle.std.specs.Str.{IsUtf8, chars}
@@ -28,7 +28,7 @@ use Rattle.soy_types.specs.Fits.{Fits}
 use Rattle.soy_types.specs.LentData.{data_in_order, data_items, data_members, data_of}
 use Rattle.soy_types.specs.Paths.{all_read, below, headed, onward}
 use Rattle.soy_types.specs.Read.{entry_results, item_results, under_key, value_at}
-use Rattle.soy_types.specs.ReadData.{data_at, refused, values_at, values_of_json}
+use Rattle.soy_types.specs.ReadData.{data_at, values_of_json}
 use Rattle.soy_types.proofs.Joining.{joined_null}
 use Rattle.soy_types.proofs.JsonOf.{json_of-utf8}
 use Rattle.soy_types.proofs.LentFacts.{items-left}
@@ -95,12 +95,6 @@ lent_list of inner taken j v items r of_is taken_is j_is items_is is =
     (subst (λ x. Fits view_value (value_at (ListType (view_type inner)) (data_of x)) r) (sym d)
     (subst (λ x. Fits view_value (read (view_type inner) (data_items (items_view x))) r) items_is
     (subst (λ x. Fits view_value (read (view_type x) (data_items (items_view items))) r) taken_is is)))
-
--- a record that is read is that of the text
-pub fits_data : (ps : List Param) (d : Data) (o : Option Data) (r : Result code_value.Value Unread) → o ≡ Some d
-    → Fits view_value (values_at ps d) r → IfOk r (λ v. values_of_json ps o ≡ Ok (view_value v))
-fits_data ps d o (Ok v) e is = ap (values_of_json ps) e ∙ ap refused is
-fits_data ps d o (Err unread) e is = tt
 
 -- null at a type that takes null too
 null_seen : (j : json_of.Json) → true ≡ is_null j → true ≡ is_some (as_null (data_of j))

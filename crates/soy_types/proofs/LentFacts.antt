@@ -8,7 +8,7 @@ use Rattle.std.specs.BTreeMap.{insert_entry}
 use Rattle.std.specs.Cmp.Lexicographic.{slice_cmp}
 use Rattle.std.specs.Ordering.{match_ordering}
 use Rattle.std.specs.Borrow.{Bor}
-use Rattle.std.specs.Prelude.{is_some, unwrap_or, IfOk, Result, Ok, Err}
+use Rattle.std.specs.Prelude.{is_some, unwrap_or}
 use Rattle.json.specs.Token.{Token}
 use Rattle.json.specs.Lex.{tokens}
 use Rattle.json.specs.Json as json
@@ -23,7 +23,6 @@ use Rattle.serde_json.specs.Read.{max_depth, number_of, of_items, of_json, of_me
 use Rattle.serde_json.proofs.Views.{get_member-put, get_member-put_other}
 use Rattle.soy_types.specs.LentData.{data_in_order, data_items, data_members, data_of, has_values, items_have_values}
 use Rattle.soy_types.specs.LentData.{members_have_values}
-use Rattle.soy_types.specs.declared.unread.Unread.{Unread}
 
 -- ---- numbers
 
@@ -74,16 +73,6 @@ read_data_of text ts j are whole h =
     ap (λ us. option_and_then of_json (option_and_then (λ p. json.if_last p.0 p.1) (json.value max_depth us))) (sym are)
     ∙ ap (option_and_then of_json) whole
     ∙ of_json-data j h
-
--- the same of the value that is answered
-pub lent_read : (text : List ℕ) (ts : List Token) (j : lent.Value Global) (r : Result (lent.Value Global) Unread)
-    → ts ≡ tokens text
-    → option_and_then (λ p. json.if_last p.0 p.1) (json.value max_depth ts) ≡ Some (value_view j)
-    → IfOk r (λ kept. kept ≡ j) → IfOk r (λ kept. has_values (value_view kept) ≡ true)
-    → IfOk r (λ kept. read text ≡ Some (data_of (value_view kept)))
-lent_read text ts j (Ok kept) are whole same h =
-    read_data_of text ts (value_view kept) are (whole ∙ ap (λ k. Some (value_view k)) (sym same)) h
-lent_read text ts j (Err unread) are whole same h = tt
 
 -- ---- members by name
 

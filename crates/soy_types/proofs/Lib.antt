@@ -15,3 +15,6 @@ pub mod FitsFacts
 pub mod ShortInts
 pub mod Pushed
 pub mod KnownUnfit
+pub mod TokenFacts
+pub mod Filled
+pub mod Shapes

@@ -15,14 +15,14 @@ use Rattle.soy_tree.specs.declared.soy_type.SoyType as code_type
 use Rattle.soy_tree.specs.declared.soy_type.SoyType.TheVariants as type_form
 use Rattle.soy_tree.specs.declared.soy_type.SoyType.TheOpen.{SoyType-F}
 use Rattle.soy_tree.specs.declared.value.Entry as code_entry
-use Rattle.soy_tree.specs.Types.{Name, SoyType, IntType, StringType}
+use Rattle.soy_tree.specs.Types.{Name, SoyType, BoolType, IntType, StringType}
 use Rattle.soy_tree.specs.Values.{Value, StringValue}
 use Rattle.soy_tree.specs.ViewTypes.{view_type, type_layer, field_layer}
 use Rattle.soy_tree.specs.ViewValues.{view_entry, view_value, value_layer, entry_layer}
 use Rattle.soy_types.specs.LentData.{data_of, number_or_zero}
 use Rattle.soy_types.specs.Read.{int_read, under_key, value_at}
 
-view_entry_is : (e : code_entry.Entry) → view_entry e ≡ (e.name, view_value e.value)
+pub view_entry_is : (e : code_entry.Entry) → view_entry e ≡ (e.name, view_value e.value)
 view_entry_is e = code_entry.fold_out-Entry Value (Name × Value) value_layer entry_layer e
 
 -- an entry of what is read under a name
@@ -49,15 +49,20 @@ view_string text = search (rules, the_lemmas)
 view_number : (text : Bor (List ℕ)) → value_view {A = Global} (lent.Number text) ≡ json_of.number text.now
 view_number text = search (rules, the_lemmas)
 
-string_type : view_type code_type.Str ≡ StringType
+pub string_type : view_type code_type.Str ≡ StringType
 string_type =
     ap view_type (sym type_form.rolls-Str)
     ∙ code_type.fold-roll-SoyType SoyType (Name × SoyType) type_layer field_layer SoyType-F.Str
 
-int_type : view_type code_type.Int ≡ IntType
+pub int_type : view_type code_type.Int ≡ IntType
 int_type =
     ap view_type (sym type_form.rolls-Int)
     ∙ code_type.fold-roll-SoyType SoyType (Name × SoyType) type_layer field_layer SoyType-F.Int
+
+pub bool_type : view_type code_type.Bool ≡ BoolType
+bool_type =
+    ap view_type (sym type_form.rolls-Bool)
+    ∙ code_type.fold-roll-SoyType SoyType (Name × SoyType) type_layer field_layer SoyType-F.Bool
 
 -- a text at string, and a number at int
 pub string_at : (of : code_type.SoyType) (j : lent.Value Global) (text : Bor (List ℕ)) → of ≡ code_type.Str

@@ -1,5 +1,5 @@
 -- What types, values and JSON values of the code stand for, form by form.
-use Rattle.std.proofs.Common.{◌≡◌, List, map, sym, ap, ◌∙◌, String, Global, Vec, BTreeMap}
+use Rattle.std.proofs.Common.{◌≡◌, Bool, List, map, sym, ap, ◌∙◌, String, Global, Vec, BTreeMap}
 use Rattle.serde_json.specs.Data.{Data, array, object}
 use Rattle.serde_json.specs.View.{view, view_step, items_view, members_view}
 use Rattle.serde_json.specs.declared.value.Value as json
@@ -13,7 +13,7 @@ use Rattle.soy_tree.specs.declared.value.Entry as code_entry
 use Rattle.soy_tree.specs.declared.value.Value.TheVariants as value_form
 use Rattle.soy_tree.specs.declared.value.Value.TheOpen as value_open
 use Rattle.soy_tree.specs.Types.{Name, SoyType, ListType, MapType}
-use Rattle.soy_tree.specs.Values.{Value, NullValue, ListValue, RecordValue}
+use Rattle.soy_tree.specs.Values.{Value, NullValue, BoolValue, ListValue, RecordValue}
 use Rattle.soy_tree.specs.ViewTypes.{view_type, type_layer, field_layer}
 use Rattle.soy_tree.specs.ViewValues.{view_value, view_entry, items_of, entries_of, value_layer, entry_layer}
 
@@ -37,6 +37,11 @@ pub view_null : view_value code_value.Null ≡ NullValue
 view_null =
     ap view_value (sym value_form.rolls-Null)
     ∙ code_value.fold-roll-Value Value (Name × Value) value_layer entry_layer value_open.Value-F.Null
+
+pub view_bool : (b : Bool) → view_value (code_value.Bool b) ≡ BoolValue b
+view_bool b =
+    ap view_value (sym (value_form.rolls-Bool b))
+    ∙ code_value.fold-roll-Value Value (Name × Value) value_layer entry_layer (value_open.Value-F.Bool b)
 
 pub view_items : (vs : List code_value.Value) → view_value (code_value.List vs)
     ≡ ListValue (items_of (map view_value vs))

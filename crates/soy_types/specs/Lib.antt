@@ -8,3 +8,5 @@ pub mod ListsWithin
 pub mod LentData
 pub mod Fits
 pub mod ShortInt
+pub mod TokenValues
+pub mod Filling

@@ -18,13 +18,12 @@ ghost use Rattle.soy_types.specs.ReadData.{data_at, json_of, refused, values_at,
 ghost use Rattle.soy_types.specs.Reads.{Reads, ReadsData, ReadsShort};
 
 use crate::DataFault;
-use crate::lending::lent_params;
-use crate::lent::lent_json;
 use crate::path::{Path, at_key, steps_of, unfit};
 use crate::reading::read_value;
 use crate::room::{put, with_room};
+use crate::token_reading::read_document;
 use crate::unread::Unread;
-use json::Scratch;
+use json::{Reader, Scratch};
 use serde_json::Value as Json;
 use soy_base::{Code, OutOfMemory, Refusal, Seq};
 use soy_tree::{Param, SoyType, Value};
@@ -43,7 +42,7 @@ pub fn read_data(alloc: Global, bytes: &[u8], params: &[Param]) -> Result<Value,
     }
 }
 
-/// The values of parameters, if they are read over lent texts: keys and texts are lent by the bytes or, where they have
+/// The values of parameters, if they are read token by token: keys and texts are lent by the bytes or, where they have
 /// escapes, by a scratch.
 fn read_lent(alloc: Global, bytes: &[u8], params: &[Param]) -> Result<Value, Unread>
     ensures value { IfOk result (λ v. data_at (view_params params.now) bytes.now ≡ Ok (view_value v)) }
@@ -67,10 +66,10 @@ fn read_text<'a>(
         (λ v. values_of_json (view_params params.now) (read text.now) ≡ Ok (view_value v)) }
     ensures short { ReadsShort result }
 {
-    match lent_json(alloc, text, scratch) {
-        Ok(json) => lent_params(alloc, params, &json),
-        Err(unread) => Err(unread),
-    }
+    let Ok(mut reader) = Reader::new(text, scratch) else {
+        return Err(Unread::OutOfMemory);
+    };
+    read_document(alloc, params, &mut reader)
 }
 
 /// The values of parameters, or the path to the first part that doesn't fit.

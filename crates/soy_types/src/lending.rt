@@ -1,17 +1,18 @@
 //! Values at types, read over lent texts and without paths.
 
-ghost use Rattle.std.specs.Prelude.{◌≡◌, IfOk, Ok, Result, encode_utf8_all, unwrap_or};
+ghost use Rattle.std.specs.Prelude.{◌≡◌, IfOk, Ok, OnOk, Result, is_some, true};
 ghost use Rattle.std.specs.Str.{chars};
 ghost use Rattle.json.specs.Value.{items_view, members_view, value_view};
-ghost use Rattle.serde_json.specs.Data.{no_members, null};
-ghost use Rattle.serde_json.specs.Find.{as_i64, get};
+ghost use Rattle.serde_json.specs.Data.{no_members};
+ghost use Rattle.serde_json.specs.Find.{as_i64};
+ghost use Rattle.serde_json.specs.Read.{number_of};
 ghost use Rattle.soy_rules.specs.Members.{joined};
 ghost use Rattle.soy_rules.specs.ShortLists.{HasShortLists};
 ghost use Rattle.soy_rules.specs.Templates.{param_type};
 ghost use Rattle.soy_base.specs.Path.{Path};
 ghost use Rattle.soy_tree.specs.Types.{NullType};
 ghost use Rattle.soy_tree.specs.Values as values;
-ghost use Rattle.soy_tree.specs.ViewTrees.{view_param, view_params};
+ghost use Rattle.soy_tree.specs.ViewTrees.{view_param};
 ghost use Rattle.soy_tree.specs.ViewTypes.{view_fields, view_members, view_type};
 ghost use Rattle.soy_tree.specs.ViewValues.{entries_of, items_of, view_entry, view_value};
 ghost use Rattle.soy_types.specs.Fits.{Fits, Pushes};
@@ -19,7 +20,6 @@ ghost use Rattle.soy_types.specs.LentData.{data_items, data_members, data_of, nu
 ghost use Rattle.soy_types.specs.Paths.{all_read, onward};
 ghost use Rattle.soy_types.specs.Read.{entry_results, field_results, first_read, int_read, item_results};
 ghost use Rattle.soy_types.specs.Read.{member_or_null, under_key, value_at};
-ghost use Rattle.soy_types.specs.ReadData.{values_at};
 ghost use Rattle.soy_types.specs.Reads.{ReadsShort};
 
 use crate::lent::{in_order, member_of};
@@ -33,8 +33,8 @@ use soy_base::{Seq, Text, text_of};
 use soy_tree::{Entry, Field, Param, SoyType, Value};
 use std::alloc::Global;
 
-/// An object of more members than this isn't searched for more fields than this, since each search is a walk over its
-/// members: the other way of reading has a map.
+/// An object of more members than this isn't searched for more fields than this, nor are more entries than this searched
+/// for a key, since each search is a walk over them: the other way of reading has a map.
 pub(crate) const MOST_WALKS: usize = 32;
 
 /// Whether so many fields are too many to be looked for.
@@ -45,43 +45,8 @@ fn is_wide(fields: usize, json: &Lent<'_>) -> bool {
     }
 }
 
-/// The values of parameters, as a record.
-pub(crate) fn lent_params(alloc: Global, params: &[Param], json: &Lent<'_>) -> Result<Value, Unread>
-    ensures value { Fits view_value (values_at (view_params params.now) (data_of (value_view json.now))) result }
-    ensures short { ReadsShort result }
-{
-    if is_wide(params.len(), json) {
-        return Err(Unread::Undecided);
-    }
-    let mut entries = with_room(alloc, params.len())?;
-    for param in params {
-        match push_read(
-            alloc,
-            &mut entries,
-            &param.name,
-            lent_param(alloc, param, json),
-        ) {
-            Ok(()) => {}
-            Err(unread) => return Err(unread),
-        }
-    }
-    Ok(Value::Fields(Seq::new(entries)))
-}
-
-/// The value of a parameter, which is null where it is missing.
-fn lent_param(alloc: Global, param: &Param, json: &Lent<'_>) -> Result<Value, Unread>
-    ensures value { Fits view_value (value_at (param_type (view_param param.now))
-        (unwrap_or (get (encode_utf8_all param.now.name) (data_of (value_view json.now))) null)) result }
-    ensures short { ReadsShort result }
-{
-    match member_of(json, &param.name) {
-        Some(member) => lent_given(alloc, param, member),
-        None => lent_given(alloc, param, &Lent::Null),
-    }
-}
-
 /// The value of a parameter of which this is given.
-fn lent_given(alloc: Global, param: &Param, json: &Lent<'_>) -> Result<Value, Unread>
+pub(crate) fn lent_given(alloc: Global, param: &Param, json: &Lent<'_>) -> Result<Value, Unread>
     ensures value { Fits view_value
         (value_at (param_type (view_param param.now)) (data_of (value_view json.now))) result }
     ensures short { ReadsShort result }
@@ -109,7 +74,7 @@ fn lent_optional(alloc: Global, of: &SoyType, json: &Lent<'_>) -> Result<Value, 
 
 /// The value of a JSON value at a type.
 #[cycle(lending)]
-fn lent_value(alloc: Global, of: &SoyType, json: &Lent<'_>) -> Result<Value, Unread>
+pub(crate) fn lent_value(alloc: Global, of: &SoyType, json: &Lent<'_>) -> Result<Value, Unread>
     ensures value { Fits view_value (value_at (view_type of.now) (data_of (value_view json.now))) result }
     ensures short { ReadsShort result }
 {
@@ -128,8 +93,9 @@ fn lent_value(alloc: Global, of: &SoyType, json: &Lent<'_>) -> Result<Value, Unr
 
 /// The int of a number.
 #[inline(always)]
-fn lent_number(text: &str) -> Result<Value, Unread>
+pub(crate) fn lent_number(text: &str) -> Result<Value, Unread>
     ensures value { Fits view_value (int_read (as_i64 (number_or_zero text.now))) result }
+    ensures has_value { OnOk result (is_some (number_of text.now) ≡ true) }
     ensures short { ReadsShort result }
 {
     match int_of(text) {
@@ -151,7 +117,7 @@ fn lent_int(number: Option<i64>) -> Result<Value, Unread>
 }
 
 /// A copy of a text.
-fn lent_text(alloc: Global, text: &str) -> Result<Value, Unread>
+pub(crate) fn lent_text(alloc: Global, text: &str) -> Result<Value, Unread>
     ensures value { Fits view_value (Ok (values.StringValue (chars text.now))) result }
     ensures short { ReadsShort result }
 {

@@ -1,54 +1,39 @@
 //! JSON values whose texts are lent, not copied.
 
-ghost use Rattle.std.specs.Prelude.{◌≡◌, IfOk, Some, encode_utf8_all, is_some, option_and_then, option_map, true};
+ghost use Rattle.std.specs.Prelude.{◌≡◌, ◌<◌, IfOk, OnOk, Some, encode_utf8_all, is_some, length, option_map, true};
 ghost use Rattle.std.specs.Bool.{OnTrue};
 ghost use Rattle.std.specs.Str.{bytes_eq};
 ghost use Rattle.json.specs.Find.{get as get_named, get_member};
-ghost use Rattle.json.specs.Json.{if_last, value};
+ghost use Rattle.json.specs.Json.{value};
 ghost use Rattle.json.specs.Value.{items_view, members_view, value_view};
 ghost use Rattle.serde_json.specs.Data.{no_members};
 ghost use Rattle.serde_json.specs.Find.{get};
-ghost use Rattle.serde_json.specs.Read.{max_depth, number_of, read};
+ghost use Rattle.serde_json.specs.Read.{number_of};
 ghost use Rattle.soy_types.specs.LentData.{data_in_order, data_members, data_of, has_values};
 ghost use Rattle.soy_types.specs.LentData.{items_have_values, members_have_values};
 
 use crate::number::int_of;
 use crate::unread::Unread;
-use json::{Error, Reader, Scratch, Value as Lent};
+use json::{Error, Reader, Value as Lent};
 use soy_base::{OutOfMemory, Text};
 use std::alloc::Global;
 use std::collections::BTreeMap;
 
 /// How deep arrays and objects may nest.
-const MAX_DEPTH: usize = 127;
+pub(crate) const MAX_DEPTH: usize = 127;
 
-/// The JSON value of a text.
-pub(crate) fn lent_json<'a>(
+/// The JSON value that a reader has next, if each of its numbers has a value.
+pub(crate) fn read_tree<'a>(
     alloc: Global,
-    text: &'a str,
-    scratch: &'a mut Scratch,
+    reader: &mut Reader<'a>,
+    depth: usize,
 ) -> Result<Lent<'a>, Unread>
-    ensures { IfOk result (λ json. read text.now ≡ Some (data_of (value_view json))) }
+    ensures tree { IfOk result (λ json. value depth reader.old ≡ Some (value_view json, reader.new)) }
+    ensures values { IfOk result (λ json. has_values (value_view json) ≡ true) }
+    ensures shorter { OnOk result (length reader.new < length reader.old) }
 {
-    let Ok(mut reader) = Reader::new(text, scratch) else {
-        return Err(Unread::OutOfMemory);
-    };
-    match read_whole(alloc, &mut reader) {
+    match Lent::read(alloc, reader, depth) {
         Ok(json) => with_values(json),
-        Err(unread) => Err(unread),
-    }
-}
-
-/// The one JSON value that a reader has left.
-fn read_whole<'a>(alloc: Global, reader: &mut Reader<'a>) -> Result<Lent<'a>, Unread>
-    ensures { IfOk result (λ json. option_and_then (λ p. if_last p.0 p.1) (value max_depth reader.old)
-        ≡ Some (value_view json)) }
-{
-    match Lent::read(alloc, reader, MAX_DEPTH) {
-        Ok(json) => match reader.next() {
-            None => Ok(json),
-            Some(_) => Err(Unread::Undecided),
-        },
         Err(Error::OutOfMemory) => Err(Unread::OutOfMemory),
         Err(_) => Err(Unread::Undecided),
     }
@@ -160,7 +145,7 @@ fn last_of<'v, 'a>(members: &'v Vec<(&'a str, Lent<'a>)>, name: &str) -> Option<
 }
 
 /// Whether a key is a name; most others have another length.
-fn is_named(key: &str, name: &str) -> bool
+pub(crate) fn is_named(key: &str, name: &str) -> bool
     ensures { result ≡ bytes_eq key.now name.now }
 {
     key.len() == name.len() && has_bytes(key, name)

@@ -1,8 +1,8 @@
 //! Reading data at types.
 //!
 //! `read_data` gives the values of parameters that are read of JSON, exactly as `Read` says, or the
-//! code and the path of the first part that doesn't fit. What fits is read over lent texts (`lending`); all else is
-//! read over the tree of `serde_json` (`reading`), which finds the path.
+//! code and the path of the first part that doesn't fit. What fits is read token by token (`token_reading`), or over
+//! trees with lent texts (`lending`); all else is read over the tree of `serde_json` (`reading`), which finds the path.
 //! Depends on soy_base, soy_tree, soy_rules, serde_json, json, whose grammar it reads by, and fast_float for numbers.
 #![tactic(auto)]
 
@@ -17,6 +17,8 @@ mod number;
 mod path;
 mod reading;
 mod room;
+mod shape;
+mod token_reading;
 mod unread;
 
 pub use data::read_data;

@@ -2,6 +2,7 @@
 
 ghost use Rattle.std.specs.Prelude.{◌≡◌};
 
+use json::Invalid;
 use soy_base::OutOfMemory;
 
 /// Why there is no value: nothing fits, this way of reading can't say, or memory ran out.
@@ -19,5 +20,15 @@ impl From<OutOfMemory> for Unread {
 
     fn from(_: OutOfMemory) -> Unread {
         Unread::OutOfMemory
+    }
+}
+
+impl From<Invalid> for Unread {
+    ghost use Rattle.soy_types.specs.declared.unread.Unread.TheVariants as unread;
+
+    ghost from_gives = { λ _ r. r ≡ unread.Undecided };
+
+    fn from(_: Invalid) -> Unread {
+        Unread::Undecided
     }
 }
