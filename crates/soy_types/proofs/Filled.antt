@@ -2,12 +2,14 @@
 use Rattle.std.proofs.Common.{◌≡◌, ℕ, zero, suc, ◌+◌, ◌<◌, ◌≤◌, Bool, true, false, not, ◌&&◌, ◌||◌, List, [], ◌∷◌, ◌++◌}
 use Rattle.std.proofs.Common.{length, map, take, drop, slice_index_or, Option, Some, None, true≢false, bytes_eq, arith}
 use Rattle.std.proofs.Common.{refl, sym, ap, ◌∙◌, subst, encode_utf8_all}
+use Rattle.std.proofs.lemmas.Option.{none-some, same_Some}
 use Rattle.std.proofs.lemmas.Slice.Eq.{bytes_eq-Decides}
 use Rattle.std.specs.Prelude.{Ok, unwrap_or}
 use Rattle.serde_json.specs.Data.{Data, Members, no_members, null, object, put}
 use Rattle.serde_json.specs.Find.{get_member}
 use Rattle.serde_json.proofs.Views.{get_member-put, get_member-put_other}
 use Rattle.soy_rules.specs.ShortLists.{EntriesShort, HasShortLists}
+use Rattle.soy_rules.specs.Val.{is_null_value}
 use Rattle.soy_tree.specs.declared.value.Entry.{Entry}
 use Rattle.soy_tree.specs.declared.value.Value as code_value
 use Rattle.soy_tree.specs.Types.{Name, SoyType}
@@ -15,7 +17,7 @@ use Rattle.soy_tree.specs.Values.{Value, NullValue, RecordValue}
 use Rattle.soy_tree.specs.ViewTypes.{fields_of}
 use Rattle.soy_tree.specs.ViewValues.{entries_of, view_entries, view_entry, view_value}
 use Rattle.soy_types.specs.Filling.{AreEntries, FieldAt, IsEntryAt, IsFilled, IsValueOf, MayBeNull, MayBeNullAt}
-use Rattle.soy_types.specs.Filling.{NullsFit, are_distinct, has_entry, is_null_value}
+use Rattle.soy_types.specs.Filling.{NullsFit, are_distinct, has_entry}
 use Rattle.soy_types.specs.Paths.{all_read, headed, onward}
 use Rattle.soy_types.specs.Read.{field_results, under_key, value_at}
 use Rattle.soy_types.specs.TokenValues.{record_at}
@@ -66,7 +68,7 @@ skipped (f ∷ fs) ms (e ∷ es) key d are none =
       skipped fs ms es key d are.2 parts.1,
     )
 
-entry_found : (key : List ℕ) (i : ℕ) (es : List Entry) → IsEntryAt key i es → has_entry key es ≡ true
+pub entry_found : (key : List ℕ) (i : ℕ) (es : List Entry) → IsEntryAt key i es → has_entry key es ≡ true
 entry_found key i [] at = absurd at
 entry_found key zero (e ∷ es) at = true_or (bytes_eq key (encode_utf8_all e.name)) (has_entry key es) at
 entry_found key (suc i) (e ∷ es) at =
@@ -89,7 +91,7 @@ pub filled : (fs : List (Name × SoyType)) (ms : Members) (es now : List Entry) 
     (v : code_value.Value) (d : Data) (name : Name) (t : SoyType) → AreEntries fs ms es → are_distinct es ≡ true
     → IsEntryAt key i es → IsFilled i v es now → FieldAt i name t fs → value_at t d ≡ Ok (view_value v)
     → AreEntries fs (put key d ms) now
-filled [] ms es now i key v d name t are alone at is field read = absurd field
+filled [] ms es now i key v d name t are alone at is field read = absurd (none-some (name, t) field)
 filled (f ∷ fs) ms [] now i key v d name t are alone at is field read = absurd are
 filled (f ∷ fs) ms (e ∷ es) [] zero key v d name t are alone at is field read = absurd is
 filled (f ∷ fs) ms (e ∷ es) [] (suc i) key v d name t are alone at is field read = absurd is
@@ -100,7 +102,9 @@ filled (f ∷ fs) ms (e ∷ es) (x ∷ xs) zero key v d name t are alone at is f
     subst (λ n. bytes_eq key (encode_utf8_all n) ≡ true) are.0 at in
     let later : has_entry key es ≡ false = ap (λ k. has_entry k es) same ∙ parts.0 in
     let value : value_at f.1 d ≡ Ok (view_value x.value) =
-    ap (λ u. value_at u d) field.1 ∙ read ∙ ap (λ w. Ok (view_value w)) (sym is.1) in (
+    ap (λ (p : Name × SoyType). value_at p.1 d) (same_Some f (name, t) field)
+    ∙ read
+    ∙ ap (λ w. Ok (view_value w)) (sym is.1) in (
       is.0 ∙ are.0,
       subst (λ o. IsValueOf f.1 o (view_value x.value)) (sym (put_here (encode_utf8_all f.0) key d ms here)) value,
       subst (AreEntries fs (put key d ms)) (sym is.2) (skipped fs ms es key d are.2 later),
@@ -173,19 +177,12 @@ one_blank [] (x ∷ es) name t e are named blank = absurd are
 one_blank (f ∷ fs) [] name t e are named blank = absurd are
 one_blank (f ∷ fs) (x ∷ es) name t e are named blank = (are.0, are.1, one_blank fs es name t e are.2 named blank)
 
-pub field_within : (i : ℕ) (name : Name) (t : SoyType) (fs : List (Name × SoyType)) → FieldAt i name t fs
-    → i < length fs
-field_within i name t [] at = absurd at
-field_within zero name t (f ∷ fs) at = omega arith
-field_within (suc i) name t (f ∷ fs) at = omega (arith, field_within i name t fs at)
-
 pub field_taken : (i : ℕ) (name : Name) (t : SoyType) (fs : List (Name × SoyType)) → FieldAt i name t fs
-    → (u : SoyType) × (take (i + 1) fs ≡ take i fs ++ (name, u) ∷ [])
-field_taken i name t [] at = absurd at
-field_taken zero name t (f ∷ fs) at = (f.1, ap (λ (n : Name). (n, f.1) ∷ []) at.0)
+    → take (i + 1) fs ≡ take i fs ++ (name, t) ∷ []
+field_taken i name t [] at = absurd (none-some (name, t) at)
+field_taken zero name t (f ∷ fs) at = ap (λ g. g ∷ []) (same_Some f (name, t) at)
 field_taken (suc i) name t (f ∷ fs) at =
-    let rest = field_taken i name t fs at in
-    let e : suc i + 1 ≡ suc (i + 1) = omega arith in (rest.0, rw e (ap (λ gs. f ∷ gs) rest.1))
+    let e : suc i + 1 ≡ suc (i + 1) = omega arith in rw e (ap (λ gs. f ∷ gs) (field_taken i name t fs at))
 
 pub all_taken : (i : ℕ) (fs : List (Name × SoyType)) → length fs ≤ i → take i fs ≡ fs
 all_taken zero [] h = refl
@@ -202,7 +199,7 @@ null_left [] (x ∷ es) (suc i) e below_ is may rest = tt
 null_left (f ∷ fs) (x ∷ es) zero e below_ is may rest = (
   λ blank.
       let found = may (ap (λ y. is_null_value (view_value y.value)) is ∙ blank) in
-      ap (λ u. value_at u null) found.2.1 ∙ found.3,
+      ap (λ (p : Name × SoyType). value_at p.1 null) (same_Some f (found.0, found.1) found.2) ∙ found.3,
   rest,
 )
 null_left (f ∷ fs) (x ∷ es) (suc i) e below_ is may rest =

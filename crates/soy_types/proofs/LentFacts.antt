@@ -35,7 +35,7 @@ has_number : (o : Option Num) → is_some o ≡ true → option_map number o ≡
 has_number None h = let no : ⊥ = cc in absurd no
 has_number (Some m) h = refl
 
-both : (a b : Bool) → (a && b) ≡ true → (a ≡ true) × (b ≡ true)
+pub both : (a b : Bool) → (a && b) ≡ true → (a ≡ true) × (b ≡ true)
 both true b h = (refl, h)
 both false b h = let no : ⊥ = cc in absurd no
 

@@ -3,7 +3,7 @@ use Rattle.std.proofs.Common.{◌≡◌, ℕ, zero, suc, ◌+◌, ◌<◌, Bool,
 use Rattle.std.proofs.Common.{◌++◌, drop, map, length, length-append, take, set, slice_index_or, bytes_eq, arith, refl}
 use Rattle.std.proofs.Common.{sym, ap, ◌∙◌, subst, encode_utf8_all}
 use Rattle.std.specs.Bool.{OnTrue}
-use Rattle.std.specs.Prelude.{Ok}
+use Rattle.std.specs.Prelude.{MatchOption, Ok, Option, Some, None, is_some}
 use Rattle.serde_json.specs.Data.{no_members, null}
 use Rattle.soy_rules.proofs.Views.{view_field-is}
 use Rattle.soy_rules.specs.ShortLists.{EntriesShort, HasShortLists}
@@ -19,23 +19,19 @@ use Rattle.soy_tree.specs.ViewTypes.{view_field, view_type}
 use Rattle.soy_tree.specs.ViewValues.{view_entries, view_entry, view_value}
 use Rattle.soy_types.specs.Filling.{AreEntries, FieldAt, IsEntryAt, IsFilled, NullsFit, are_distinct, has_entry}
 use Rattle.soy_types.specs.Read.{value_at}
-use Rattle.soy_types.proofs.Filled.{entry_short, field_taken, one_blank}
+use Rattle.soy_types.proofs.Filled.{entry_found, entry_short, field_taken, one_blank}
 use Rattle.soy_types.proofs.Shortness.{entries_short-more}
 
 pub field_at : (fs : List code_field.Field) (i : ℕ) (f : code_field.Field) → i < length fs → f ≡ slice_index_or fs i f
     → FieldAt i f.name (view_type f.of) (map view_field fs)
 field_at [] i f below_ is = absurd (omega arith)
-field_at (x ∷ fs) zero f below_ is = (
-  ap (λ (p : Name × SoyType). p.0) (view_field-is x) ∙ ap (λ y. y.name) (sym is),
-  ap (λ (p : Name × SoyType). p.1) (view_field-is x) ∙ ap (λ y. view_type y.of) (sym is),
-)
+field_at (x ∷ fs) zero f below_ is = ap (λ y. Some (view_field y)) (sym is) ∙ ap Some (view_field-is f)
 field_at (x ∷ fs) (suc i) f below_ is = field_at fs i f (omega arith) is
 
 pub param_at : (ps : List code_param.Param) (i : ℕ) (p : code_param.Param) → i < length ps
     → p ≡ slice_index_or ps i p → FieldAt i p.name (param_type (view_param p)) (param_scope (view_params ps))
 param_at [] i p below_ is = absurd (omega arith)
-param_at (x ∷ ps) zero p below_ is =
-    (ap (λ y. y.name) (sym is), ap (λ y. param_type (view_param y)) (sym is))
+param_at (x ∷ ps) zero p below_ is = ap (λ y. Some (y.name, param_type (view_param y))) (sym is)
 param_at (x ∷ ps) (suc i) p below_ is = param_at ps i p (omega arith) is
 
 -- ---- entries
@@ -54,6 +50,12 @@ entry_left (x ∷ es) zero e key below_ is =
     ap (λ y. bytes_eq key (encode_utf8_all y.name) || has_entry key es) (sym is)
 entry_left (x ∷ es) (suc i) e key below_ is =
     let n : suc i + 1 ≡ suc (i + 1) = omega arith in rw n (entry_left es i e key (omega arith) is)
+
+-- an index is found where an entry has a key
+pub found_where : (r : Option ℕ) (key : List ℕ) (es : List Entry)
+    → MatchOption r (has_entry key es ≡ false) (λ i. IsEntryAt key i es) → is_some r ≡ has_entry key es
+found_where None key es none = sym none
+found_where (Some i) key es at = sym (entry_found key i es at)
 
 -- whether the entries from an index on have names of their own
 pub distinct_left : (es : List Entry) (i : ℕ) (e : Entry) → i < length es → e ≡ slice_index_or es i e
@@ -103,8 +105,8 @@ blank_turn fs es now name t e at named blank made are =
     let taken = field_taken (length es) name t fs at in
     let count : length (es ++ e ∷ []) ≡ length es + 1 = length-append es (e ∷ []) in
     subst (λ xs. AreEntries (take (length xs) fs) no_members xs) (sym made)
-    (subst (λ gs. AreEntries gs no_members (es ++ e ∷ [])) (sym (ap (λ n. take n fs) count ∙ taken.1))
-    (one_blank (take (length es) fs) es name taken.0 e are named blank))
+    (subst (λ gs. AreEntries gs no_members (es ++ e ∷ [])) (sym (ap (λ n. take n fs) count ∙ taken))
+    (one_blank (take (length es) fs) es name t e are named blank))
 
 pub blank_short : (es now : List Entry) (e : Entry) → view_value e.value ≡ NullValue → now ≡ es ++ e ∷ []
     → EntriesShort (view_entries es) → EntriesShort (view_entries now)

@@ -34,7 +34,7 @@ use Rattle.soy_types.specs.ReadData.{param_results, refused, values_of_json}
 use Rattle.soy_types.specs.TokenValues.{AreItemsAt, ReadsAt, ReadsDocument, ReadsField, ReadsItems, ReadsMembers}
 use Rattle.soy_types.specs.TokenValues.{ReadsObject, TakesMember}
 use Rattle.soy_types.proofs.Filled.{record_is}
-use Rattle.soy_types.proofs.LentFacts.{read_data_of}
+use Rattle.soy_types.proofs.LentFacts.{both, read_data_of}
 
 -- ---- items and members with those before
 
@@ -82,10 +82,6 @@ items_end (json.item j js) = ap (json.item j) (items_end js)
 members_end : (ms : json.Members) → members_joined ms json.no_members ≡ ms
 members_end json.no_members = refl
 members_end (json.member k j ms) = ap (json.member k j) (members_end ms)
-
-both : (a b : Bool) → (a && b) ≡ true → (a ≡ true) × (b ≡ true)
-both true b h = (refl, h)
-both false b h = let no : ⊥ = cc in absurd no
 
 and_true : (a b : Bool) → a ≡ true → b ≡ true → (a && b) ≡ true
 and_true true b h i = i

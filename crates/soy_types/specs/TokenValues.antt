@@ -1,6 +1,6 @@
 -- What is read of tokens: the value, at a type, of the JSON value with which they begin and whose numbers all have
 -- values; and the tokens after it.
--- Example: of the tokens of `[1],2` the list of 1 is read at `list<int>`, and those of `,2` are left.
+-- Example: of the tokens of `[1] 2` the list of 1 is read at `list<int>`, and that of `2` is left.
 use Rattle.std.specs.Prelude.{◌≡◌, ℕ, true, List, [], ◌∷◌, length, Some, option_and_then, Result, Ok}
 use Rattle.json.specs.Token.{Token}
 use Rattle.json.specs.Json as json

@@ -30,7 +30,8 @@ use soy_tree::{Param, SoyType, Value};
 use std::alloc::Global;
 use std::str;
 
-/// The values of parameters, read of bytes of JSON as a record; or why there are none.
+/// The values of parameters, read of bytes of JSON as a record; or why there are none: 27 if the bytes aren't JSON, 28
+/// and a path if a part doesn't fit, or out of memory.
 pub fn read_data(alloc: Global, bytes: &[u8], params: &[Param]) -> Result<Value, Refusal<DataFault>>
     ensures value { ReadsData (data_at (view_params params.now) bytes.now) result }
     ensures short { ReadsShort result }
@@ -69,7 +70,7 @@ fn read_text<'a>(
     let Ok(mut reader) = Reader::new(text, scratch) else {
         return Err(Unread::OutOfMemory);
     };
-    read_document(alloc, params, &mut reader)
+    read_document(alloc, &mut reader, params)
 }
 
 /// The values of parameters, or the path to the first part that doesn't fit.

@@ -8,13 +8,12 @@ ghost use Rattle.serde_json.specs.Find.{as_i64};
 ghost use Rattle.serde_json.specs.Read.{number_of};
 ghost use Rattle.soy_rules.specs.Members.{joined};
 ghost use Rattle.soy_rules.specs.ShortLists.{HasShortLists};
-ghost use Rattle.soy_rules.specs.Templates.{param_type};
 ghost use Rattle.soy_base.specs.Path.{Path};
 ghost use Rattle.soy_tree.specs.Types.{NullType};
 ghost use Rattle.soy_tree.specs.Values as values;
-ghost use Rattle.soy_tree.specs.ViewTrees.{view_param};
 ghost use Rattle.soy_tree.specs.ViewTypes.{view_fields, view_members, view_type};
 ghost use Rattle.soy_tree.specs.ViewValues.{entries_of, items_of, view_entry, view_value};
+ghost use Rattle.soy_types.specs.Filling.{type_taken};
 ghost use Rattle.soy_types.specs.Fits.{Fits, Pushes};
 ghost use Rattle.soy_types.specs.LentData.{data_items, data_members, data_of, number_or_zero};
 ghost use Rattle.soy_types.specs.Paths.{all_read, onward};
@@ -30,11 +29,11 @@ use crate::room::{put, with_room};
 use crate::unread::Unread;
 use json::Value as Lent;
 use soy_base::{Seq, Text, text_of};
-use soy_tree::{Entry, Field, Param, SoyType, Value};
+use soy_tree::{Entry, Field, SoyType, Value};
 use std::alloc::Global;
 
-/// An object of more members than this isn't searched for more fields than this, nor are more entries than this searched
-/// for a key, since each search is a walk over them: the other way of reading has a map.
+/// An object of more members than this isn't searched for more fields than this, nor are more entries than this
+/// searched for a key, since each search is a walk over them: the other way of reading has a map.
 pub(crate) const MOST_WALKS: usize = 32;
 
 /// Whether so many fields are too many to be looked for.
@@ -45,21 +44,26 @@ fn is_wide(fields: usize, json: &Lent<'_>) -> bool {
     }
 }
 
-/// The value of a parameter of which this is given.
-pub(crate) fn lent_given(alloc: Global, param: &Param, json: &Lent<'_>) -> Result<Value, Unread>
+/// The value of a field of which this is given; one that isn't required also takes null.
+pub(crate) fn lent_given(
+    alloc: Global,
+    of: &SoyType,
+    required: bool,
+    json: &Lent<'_>,
+) -> Result<Value, Unread>
     ensures value { Fits view_value
-        (value_at (param_type (view_param param.now)) (data_of (value_view json.now))) result }
+        (value_at (type_taken required (view_type of.now)) (data_of (value_view json.now))) result }
     ensures short { ReadsShort result }
 {
-    if param.required {
-        lent_value(alloc, &param.of, json)
+    if required {
+        lent_value(alloc, of, json)
     } else {
-        lent_optional(alloc, &param.of, json)
+        lent_optional(alloc, of, json)
     }
 }
 
 /// The value at a type that also takes null.
-fn lent_optional(alloc: Global, of: &SoyType, json: &Lent<'_>) -> Result<Value, Unread>
+pub(crate) fn lent_optional(alloc: Global, of: &SoyType, json: &Lent<'_>) -> Result<Value, Unread>
     ensures value { Fits view_value
         (value_at (joined (view_type of.now) NullType) (data_of (value_view json.now))) result }
     ensures short { ReadsShort result }

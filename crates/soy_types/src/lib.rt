@@ -2,7 +2,8 @@
 //!
 //! `read_data` gives the values of parameters that are read of JSON, exactly as `Read` says, or the
 //! code and the path of the first part that doesn't fit. What fits is read token by token (`token_reading`), or over
-//! trees with lent texts (`lending`); all else is read over the tree of `serde_json` (`reading`), which finds the path.
+//! trees with lent texts (`lending`), as each optional parameter is. What these can't read, which is all that doesn't
+//! fit and a little that does, is read again over the tree of `serde_json` (`reading`), which finds the path.
 //! Depends on soy_base, soy_tree, soy_rules, serde_json, json, whose grammar it reads by, and fast_float for numbers.
 #![tactic(auto)]
 

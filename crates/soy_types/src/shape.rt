@@ -4,17 +4,16 @@ ghost use Rattle.std.specs.Bool.{OnTrue};
 ghost use Rattle.std.specs.Prelude.{◌≡◌, ◌<◌, ◌≤◌, IfOk, MatchOption, Ok, false, length, true};
 ghost use Rattle.serde_json.specs.Data.{no_members, null};
 ghost use Rattle.soy_rules.specs.ShortLists.{EntriesShort};
-ghost use Rattle.soy_rules.specs.Templates.{param_type};
+ghost use Rattle.soy_rules.specs.Val.{is_null_value};
 ghost use Rattle.soy_tree.specs.Types as types;
 ghost use Rattle.soy_tree.specs.Values.{NullValue};
-ghost use Rattle.soy_tree.specs.ViewTrees.{view_param};
 ghost use Rattle.soy_tree.specs.ViewTypes.{view_type};
 ghost use Rattle.soy_tree.specs.ViewValues.{view_entries, view_value};
 ghost use Rattle.soy_types.specs.Filling.{AreEntries, FieldAt, IsEntryAt, IsFilled, MayBeNullAt, NullsFit};
-ghost use Rattle.soy_types.specs.Filling.{are_distinct, fields_at, has_entry, is_null_value};
+ghost use Rattle.soy_types.specs.Filling.{are_distinct, fields_at, has_entry, type_taken};
 ghost use Rattle.soy_types.specs.Read.{value_at};
 
-use crate::lending::{MOST_WALKS, lent_given, lent_value};
+use crate::lending::{MOST_WALKS, lent_given};
 use crate::lent::is_named;
 use crate::room::{put, with_room};
 use crate::unread::Unread;
@@ -30,6 +29,14 @@ pub(crate) enum Shape<'t> {
     Params(&'t [Param]),
 }
 
+/// A field of a record type, or a parameter of a template, which need not be required.
+#[derive(Clone, Copy, Drop)]
+pub(crate) struct ShapeField<'t> {
+    pub(crate) name: &'t Text,
+    pub(crate) of: &'t SoyType,
+    pub(crate) required: bool,
+}
+
 impl<'t> Shape<'t> {
     /// How many fields there are.
     fn len(self) -> usize {
@@ -39,18 +46,26 @@ impl<'t> Shape<'t> {
         }
     }
 
-    /// The name of a field.
-    fn name(self, index: usize) -> Option<&'t Text>
+    /// A field.
+    pub(crate) fn get(self, index: usize) -> Option<ShapeField<'t>>
         ensures { MatchOption result (length (fields_at self.entry) ≤ index)
-            (λ name. (t : types.SoyType) × FieldAt index name.now t (fields_at self.entry)) }
+            (λ f. FieldAt index f.name.now (type_taken f.required (view_type f.of.now)) (fields_at self.entry)) }
     {
         match self {
             Shape::Record(fields) => match fields.get(index) {
-                Some(field) => Some(&field.name),
+                Some(field) => Some(ShapeField {
+                    name: &field.name,
+                    of: &field.of,
+                    required: true,
+                }),
                 None => None,
             },
             Shape::Params(params) => match params.get(index) {
-                Some(param) => Some(&param.name),
+                Some(param) => Some(ShapeField {
+                    name: &param.name,
+                    of: &param.of,
+                    required: param.required,
+                }),
                 None => None,
             },
         }
@@ -61,34 +76,18 @@ impl<'t> Shape<'t> {
         ensures { OnTrue result ((name : types.Name) × (t : types.SoyType) × FieldAt index name t (fields_at self.entry)
             × (value_at t null ≡ Ok NullValue)) }
     {
-        match self {
-            Shape::Record(fields) => match fields.get(index) {
-                Some(field) => type_takes_null(alloc, &field.of),
-                None => false,
-            },
-            Shape::Params(params) => match params.get(index) {
-                Some(param) => param_takes_null(alloc, param),
-                None => false,
-            },
+        match self.get(index) {
+            Some(field) => fits_null(alloc, field.of, field.required),
+            None => false,
         }
     }
 }
 
-/// Whether null is known to fit a type.
-fn type_takes_null(alloc: Global, of: &SoyType) -> bool
-    ensures { OnTrue result (value_at (view_type of.now) null ≡ Ok NullValue) }
+/// Whether null is known to fit what a field of a type takes.
+fn fits_null(alloc: Global, of: &SoyType, required: bool) -> bool
+    ensures { OnTrue result (value_at (type_taken required (view_type of.now)) null ≡ Ok NullValue) }
 {
-    match lent_value(alloc, of, &Lent::Null) {
-        Ok(Value::Null) => true,
-        _ => false,
-    }
-}
-
-/// Whether null is known to fit a parameter.
-fn param_takes_null(alloc: Global, param: &Param) -> bool
-    ensures { OnTrue result (value_at (param_type (view_param param.now)) null ≡ Ok NullValue) }
-{
-    match lent_given(alloc, param, &Lent::Null) {
+    match lent_given(alloc, of, required, &Lent::Null) {
         Ok(Value::Null) => true,
         _ => false,
     }
@@ -116,8 +115,8 @@ fn named_entries(alloc: Global, shape: Shape<'_>) -> Result<Vec<Entry>, OutOfMem
     ensures short { IfOk result (λ es. EntriesShort (view_entries es.items)) }
 {
     let mut entries = with_room(alloc, shape.len())?;
-    while let Some(name) = shape.name(entries.len()) {
-        let name = name.copy(alloc)?;
+    while let Some(field) = shape.get(entries.len()) {
+        let name = field.name.copy(alloc)?;
         put(
             &mut entries,
             Entry {
@@ -145,12 +144,7 @@ fn are_distinct(entries: &[Entry]) -> bool
 fn has_entry(entries: &[Entry], key: &str) -> bool
     ensures { result ≡ has_entry key.now entries.now }
 {
-    for entry in entries {
-        if is_named(key, entry.name.text()) {
-            return true;
-        }
-    }
-    false
+    walked_index(entries, key).is_some()
 }
 
 /// The index of the entry of a key, which mostly is the one expected.

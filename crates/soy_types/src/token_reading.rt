@@ -5,20 +5,20 @@
 
 ghost use Rattle.std.specs.Prelude.{◌≡◌, ◌<◌, ℕ, IfOk, OnOk, Some, length, true};
 ghost use Rattle.json.specs.Json.{Json, value};
+ghost use Rattle.soy_rules.specs.Members.{joined};
 ghost use Rattle.soy_rules.specs.ShortLists.{EntriesShort};
-ghost use Rattle.soy_rules.specs.Templates.{param_type};
 ghost use Rattle.soy_tree.specs.Types.{BoolType, IntType, StringType};
 ghost use Rattle.soy_tree.specs.Types as types;
-ghost use Rattle.soy_tree.specs.ViewTrees.{view_param, view_params};
+ghost use Rattle.soy_tree.specs.ViewTrees.{view_params};
 ghost use Rattle.soy_tree.specs.ViewTypes.{view_type};
 ghost use Rattle.soy_tree.specs.ViewValues.{view_entries, view_value};
-ghost use Rattle.soy_types.specs.Filling.{fields_at};
+ghost use Rattle.soy_types.specs.Filling.{fields_at, type_taken};
 ghost use Rattle.soy_types.specs.LentData.{has_values};
 ghost use Rattle.soy_types.specs.Reads.{ReadsShort};
 ghost use Rattle.soy_types.specs.TokenValues.{ReadsAt, ReadsDocument, ReadsField, ReadsItems, ReadsMembers};
 ghost use Rattle.soy_types.specs.TokenValues.{ReadsObject, TakesMember};
 
-use crate::lending::{MOST_WALKS, lent_given, lent_number, lent_text, lent_value};
+use crate::lending::{MOST_WALKS, lent_number, lent_optional, lent_text, lent_value};
 use crate::lent::{MAX_DEPTH, read_tree};
 use crate::reading::MOST_ITEMS;
 use crate::room::put;
@@ -32,13 +32,13 @@ use std::alloc::Global;
 /// The values of parameters, read of the one JSON value that a reader has left.
 pub(crate) fn read_document(
     alloc: Global,
-    params: &[Param],
     reader: &mut Reader<'_>,
+    params: &[Param],
 ) -> Result<Value, Unread>
     ensures value { IfOk result (λ v. ReadsDocument (view_params params.now) reader.old (view_value v)) }
     ensures short { ReadsShort result }
 {
-    match read_object(alloc, Shape::Params(params), reader, MAX_DEPTH) {
+    match next_object(alloc, reader, Shape::Params(params), MAX_DEPTH) {
         Ok(value) => match reader.next() {
             None => Ok(value),
             Some(_) => Err(Unread::Undecided),
@@ -49,10 +49,10 @@ pub(crate) fn read_document(
 
 /// The value at a type of the JSON value that is next.
 #[cycle(token_reading)]
-fn read_at(
+fn next_value(
     alloc: Global,
-    of: &SoyType,
     reader: &mut Reader<'_>,
+    of: &SoyType,
     depth: usize,
 ) -> Result<Value, Unread>
     ensures value { IfOk result (λ v. ReadsAt depth (view_type of.now) reader.old reader.new (view_value v)) }
@@ -60,19 +60,19 @@ fn read_at(
     ensures short { ReadsShort result }
 {
     match of {
-        SoyType::Str => read_string(alloc, reader),
-        SoyType::Int => read_int(reader),
-        SoyType::Bool => read_bool(reader),
-        SoyType::List(of) => read_list(alloc, of.get(), reader, depth),
+        SoyType::Str => next_string(alloc, reader),
+        SoyType::Int => next_int(reader),
+        SoyType::Bool => next_bool(reader),
+        SoyType::List(of) => next_list(alloc, reader, of.get(), depth),
         SoyType::Fields(fields) if fields.items().len() <= MOST_WALKS => {
-            read_object(alloc, Shape::Record(fields.items()), reader, depth)
+            next_object(alloc, reader, Shape::Record(fields.items()), depth)
         }
-        _ => read_by_tree(alloc, of, reader, depth),
+        _ => next_by_tree(alloc, reader, of, depth),
     }
 }
 
 /// A copy of the string that is next.
-fn read_string(alloc: Global, reader: &mut Reader<'_>) -> Result<Value, Unread>
+fn next_string(alloc: Global, reader: &mut Reader<'_>) -> Result<Value, Unread>
     ensures value { (depth : ℕ) → IfOk result (λ v. ReadsAt depth StringType reader.old reader.new (view_value v)) }
     ensures shorter { OnOk result (length reader.new < length reader.old) }
     ensures short { ReadsShort result }
@@ -84,7 +84,7 @@ fn read_string(alloc: Global, reader: &mut Reader<'_>) -> Result<Value, Unread>
 }
 
 /// The int that is next.
-fn read_int(reader: &mut Reader<'_>) -> Result<Value, Unread>
+fn next_int(reader: &mut Reader<'_>) -> Result<Value, Unread>
     ensures value { (depth : ℕ) → IfOk result (λ v. ReadsAt depth IntType reader.old reader.new (view_value v)) }
     ensures shorter { OnOk result (length reader.new < length reader.old) }
     ensures short { ReadsShort result }
@@ -96,7 +96,7 @@ fn read_int(reader: &mut Reader<'_>) -> Result<Value, Unread>
 }
 
 /// The bool that is next.
-fn read_bool(reader: &mut Reader<'_>) -> Result<Value, Unread>
+fn next_bool(reader: &mut Reader<'_>) -> Result<Value, Unread>
     ensures value { (depth : ℕ) → IfOk result (λ v. ReadsAt depth BoolType reader.old reader.new (view_value v)) }
     ensures shorter { OnOk result (length reader.new < length reader.old) }
     ensures short { ReadsShort result }
@@ -108,10 +108,10 @@ fn read_bool(reader: &mut Reader<'_>) -> Result<Value, Unread>
 }
 
 /// The value at a type of the JSON value that is next, which is read as a tree first.
-fn read_by_tree(
+fn next_by_tree(
     alloc: Global,
-    of: &SoyType,
     reader: &mut Reader<'_>,
+    of: &SoyType,
     depth: usize,
 ) -> Result<Value, Unread>
     ensures value { IfOk result (λ v. ReadsAt depth (view_type of.now) reader.old reader.new (view_value v)) }
@@ -124,20 +124,20 @@ fn read_by_tree(
     }
 }
 
-/// The value of a parameter of which the JSON value that is next is given, which is read as a tree first.
-fn read_given(
+/// The value at a type that also takes null of the JSON value that is next, which is read as a tree first.
+fn next_optional(
     alloc: Global,
-    param: &Param,
     reader: &mut Reader<'_>,
+    of: &SoyType,
     depth: usize,
 ) -> Result<Value, Unread>
     ensures value { IfOk result
-        (λ v. ReadsAt depth (param_type (view_param param.now)) reader.old reader.new (view_value v)) }
+        (λ v. ReadsAt depth (joined (view_type of.now) types.NullType) reader.old reader.new (view_value v)) }
     ensures shorter { OnOk result (length reader.new < length reader.old) }
     ensures short { ReadsShort result }
 {
     match read_tree(alloc, reader, depth) {
-        Ok(json) => lent_given(alloc, param, &json),
+        Ok(json) => lent_optional(alloc, of, &json),
         Err(unread) => Err(unread),
     }
 }
@@ -154,10 +154,10 @@ fn skip_value(alloc: Global, reader: &mut Reader<'_>, depth: usize) -> Result<()
 
 /// The list that is next.
 #[cycle(token_reading)]
-fn read_list(
+fn next_list(
     alloc: Global,
-    of: &SoyType,
     reader: &mut Reader<'_>,
+    of: &SoyType,
     depth: usize,
 ) -> Result<Value, Unread>
     ensures value { IfOk result
@@ -166,7 +166,7 @@ fn read_list(
     ensures short { ReadsShort result }
 {
     match reader.next() {
-        Some(Token::BeginArray) if depth > 0 => read_items(alloc, of, reader, depth - 1),
+        Some(Token::BeginArray) if depth > 0 => next_items(alloc, reader, of, depth - 1),
         _ => Err(Unread::Undecided),
     }
 }
@@ -174,10 +174,10 @@ fn read_list(
 /// The list of the items up to the bracket that closes it.
 #[cycle(token_reading)]
 #[inline(never)]
-fn read_items(
+fn next_items(
     alloc: Global,
-    of: &SoyType,
     reader: &mut Reader<'_>,
+    of: &SoyType,
     depth: usize,
 ) -> Result<Value, Unread>
     ensures value { IfOk result (λ v. ReadsItems depth (view_type of.now) reader.old reader.new (view_value v)) }
@@ -189,7 +189,7 @@ fn read_items(
         if values.len() == MOST_ITEMS {
             return Err(Unread::OutOfMemory);
         }
-        match read_at(alloc, of, reader, depth) {
+        match next_value(alloc, reader, of, depth) {
             Ok(value) => put(&mut values, value)?,
             Err(unread) => return Err(unread),
         }
@@ -199,10 +199,10 @@ fn read_items(
 
 /// The record of the object that is next.
 #[cycle(token_reading)]
-fn read_object(
+fn next_object(
     alloc: Global,
-    shape: Shape<'_>,
     reader: &mut Reader<'_>,
+    shape: Shape<'_>,
     depth: usize,
 ) -> Result<Value, Unread>
     ensures value { IfOk result (λ v. ReadsObject depth (fields_at shape.entry) reader.old reader.new (view_value v)) }
@@ -210,7 +210,7 @@ fn read_object(
     ensures short { ReadsShort result }
 {
     match reader.next() {
-        Some(Token::BeginObject) if depth > 0 => read_members(alloc, shape, reader, depth - 1),
+        Some(Token::BeginObject) if depth > 0 => next_members(alloc, reader, shape, depth - 1),
         _ => Err(Unread::Undecided),
     }
 }
@@ -218,10 +218,10 @@ fn read_object(
 /// The record of the members up to the brace that closes it.
 #[cycle(token_reading)]
 #[inline(never)]
-fn read_members(
+fn next_members(
     alloc: Global,
-    shape: Shape<'_>,
     reader: &mut Reader<'_>,
+    shape: Shape<'_>,
     depth: usize,
 ) -> Result<Value, Unread>
     ensures value { IfOk result (λ v. ReadsMembers depth (fields_at shape.entry) reader.old reader.new (view_value v)) }
@@ -231,7 +231,7 @@ fn read_members(
     let mut entries = blank_entries(alloc, shape)?;
     let mut expected = 0;
     while let Some(key) = reader.next_key()? {
-        expected = read_member(alloc, shape, &mut entries, expected, key, reader, depth)?;
+        expected = next_member(alloc, &mut entries, reader, shape, key, expected, depth)?;
     }
     if !nulls_fit(alloc, shape, entries.as_slice()) {
         return Err(Unread::Undecided);
@@ -239,16 +239,16 @@ fn read_members(
     Ok(Value::Fields(Seq::new(entries)))
 }
 
-/// Fills the entry of a key with the value that is next, and says which entry is expected then. A key that no entry has
-/// is passed over, with its value.
+/// Fills the entry of a key with the value that is next, and says which entry is expected then. That is a hint alone:
+/// an entry is found by its name. A key that no entry has is passed over, with its value.
 #[cycle(token_reading)]
-fn read_member(
+fn next_member(
     alloc: Global,
-    shape: Shape<'_>,
     entries: &mut Vec<Entry>,
-    expected: usize,
-    key: &str,
     reader: &mut Reader<'_>,
+    shape: Shape<'_>,
+    key: &str,
+    expected: usize,
     depth: usize,
 ) -> Result<usize, Unread>
     ensures value { OnOk result
@@ -261,18 +261,18 @@ fn read_member(
         skip_value(alloc, reader, depth)?;
         return Ok(expected);
     };
-    let value = read_field(alloc, shape, index, reader, depth)?;
+    let value = next_field(alloc, reader, shape, index, depth)?;
     fill(entries, index, value);
     Ok(index.wrapping_add(1))
 }
 
 /// The value of a field.
 #[cycle(token_reading)]
-fn read_field(
+fn next_field(
     alloc: Global,
+    reader: &mut Reader<'_>,
     shape: Shape<'_>,
     index: usize,
-    reader: &mut Reader<'_>,
     depth: usize,
 ) -> Result<Value, Unread>
     ensures value { IfOk result
@@ -280,34 +280,29 @@ fn read_field(
     ensures shorter { OnOk result (length reader.new < length reader.old) }
     ensures short { ReadsShort result }
 {
-    match shape {
-        Shape::Record(fields) => match fields.get(index) {
-            Some(field) => read_at(alloc, &field.of, reader, depth),
-            None => Err(Unread::Undecided),
-        },
-        Shape::Params(params) => match params.get(index) {
-            Some(param) => read_param(alloc, param, reader, depth),
-            None => Err(Unread::Undecided),
-        },
+    match shape.get(index) {
+        Some(field) => next_taken(alloc, reader, field.of, field.required, depth),
+        None => Err(Unread::Undecided),
     }
 }
 
-/// The value of a parameter of which the JSON value that is next is given.
+/// The value of a field of which the JSON value that is next is given.
 #[cycle(token_reading)]
-fn read_param(
+fn next_taken(
     alloc: Global,
-    param: &Param,
     reader: &mut Reader<'_>,
+    of: &SoyType,
+    required: bool,
     depth: usize,
 ) -> Result<Value, Unread>
     ensures value { IfOk result
-        (λ v. ReadsAt depth (param_type (view_param param.now)) reader.old reader.new (view_value v)) }
+        (λ v. ReadsAt depth (type_taken required (view_type of.now)) reader.old reader.new (view_value v)) }
     ensures shorter { OnOk result (length reader.new < length reader.old) }
     ensures short { ReadsShort result }
 {
-    if param.required {
-        read_at(alloc, &param.of, reader, depth)
+    if required {
+        next_value(alloc, reader, of, depth)
     } else {
-        read_given(alloc, param, reader, depth)
+        next_optional(alloc, reader, of, depth)
     }
 }

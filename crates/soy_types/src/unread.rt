@@ -5,7 +5,8 @@ ghost use Rattle.std.specs.Prelude.{◌≡◌};
 use json::Invalid;
 use soy_base::OutOfMemory;
 
-/// Why there is no value: nothing fits, this way of reading can't say, or memory ran out.
+/// Why there is no value: nothing fits, this way of reading can't say, or memory ran out. Of a reading token by token a
+/// value alone says something: there `Unfit` may be of a member that a later one of its name replaces.
 #[derive(Clone, Copy, Drop)]
 pub(crate) enum Unread {
     Unfit,

@@ -5,12 +5,12 @@ use Rattle.soy_tree.specs.ViewValues.{view_entries}
 use Rattle.soy_types.specs.Filling.{AreEntries, fields_at}
 use Rattle.soy_types.proofs.shape.named_entries.Given as goal
 
-abbrev pub invariant-loop-name : goal.invariant-loop-name
-invariant-loop-name l =
+abbrev pub invariant-loop-field : goal.invariant-loop-field
+invariant-loop-field l =
     record {
       blank : AreEntries (take (length l.entries.items) (fields_at l.shape)) no_members l.entries.items;
       short : EntriesShort (view_entries l.entries.items);
     }
 
-abbrev pub decreases-loop-name : goal.decreases-loop-name
-decreases-loop-name l = length (fields_at l.shape) - length l.entries.items
+abbrev pub decreases-loop-field : goal.decreases-loop-field
+decreases-loop-field l = length (fields_at l.shape) - length l.entries.items

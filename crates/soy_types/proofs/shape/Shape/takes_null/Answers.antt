@@ -1,25 +1,10 @@
-use Rattle.std.proofs.Common.{sym, subst}
-use Rattle.soy_rules.specs.Templates.{param_type}
-use Rattle.soy_tree.specs.ViewTrees.{view_param}
 use Rattle.soy_tree.specs.ViewTypes.{view_type}
-use Rattle.soy_types.specs.Filling.{FieldAt, fields_at}
-use Rattle.soy_types.proofs.Shapes.{field_at, null_taken, param_at}
+use Rattle.soy_types.specs.Filling.{fields_at, type_taken}
+use Rattle.soy_types.proofs.Shapes.{null_taken}
 use Rattle.soy_types.proofs.shape.Shape.takes_null.Goals as goal
 
 pub returns-in-Some : goal.returns-in-Some
 returns-in-Some c =
-    let f = c.in-Some.field.now in
-    let found = c.in-Some.ensures.lookup in
-    null_taken c.type_takes_null.result c.args.index f.name (view_type f.of) (fields_at c.args.self)
-    c.type_takes_null.ensures
-    (subst (λ s. FieldAt c.args.index f.name (view_type f.of) (fields_at s)) (sym c.in-Record.is)
-    (field_at c.in-Record.fields.now c.args.index f found.3.0 found.1))
-
-pub returns-in-Some-get : goal.returns-in-Some-get
-returns-in-Some-get c =
-    let p = c.in-Some-get.param.now in
-    let found = c.in-Some-get.ensures.lookup in
-    null_taken c.param_takes_null.result c.args.index p.name (param_type (view_param p)) (fields_at c.args.self)
-    c.param_takes_null.ensures
-    (subst (λ s. FieldAt c.args.index p.name (param_type (view_param p)) (fields_at s)) (sym c.in-Params.is)
-    (param_at c.in-Params.params.now c.args.index p found.3.0 found.1))
+    let f = c.in-Some.field in
+    null_taken c.fits_null.result c.args.index f.name.now (type_taken f.required (view_type f.of.now))
+    (fields_at c.args.self) c.fits_null.ensures c.in-Some.ensures

@@ -1,7 +1,7 @@
 use Rattle.std.proofs.Common.{◌≡◌, ◌∷◌, arith}
 use Rattle.json.specs.Token.{Token}
 use Rattle.soy_types.proofs.TokenFacts.{string_read}
-use Rattle.soy_types.proofs.token_reading.read_string.Goals as goal
+use Rattle.soy_types.proofs.token_reading.next_string.Goals as goal
 
 pub returns-in-Some-String-clause-value : goal.returns-in-Some-String-clause-value
 returns-in-Some-String-clause-value c =

@@ -2,7 +2,7 @@ use Rattle.std.proofs.Common.{◌≡◌, ◌∷◌, arith}
 use Rattle.json.specs.Token.{Token}
 use Rattle.soy_types.proofs.TokenFacts.{bool_read_of}
 use Rattle.soy_types.proofs.Views.{view_bool}
-use Rattle.soy_types.proofs.token_reading.read_bool.Goals as goal
+use Rattle.soy_types.proofs.token_reading.next_bool.Goals as goal
 
 pub returns-in-Some-Bool-clause-value : goal.returns-in-Some-Bool-clause-value
 returns-in-Some-Bool-clause-value c =

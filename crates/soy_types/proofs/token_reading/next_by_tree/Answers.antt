@@ -1,7 +1,7 @@
 use Rattle.json.specs.Value.{value_view}
 use Rattle.soy_tree.specs.ViewTypes.{view_type}
 use Rattle.soy_types.proofs.TokenFacts.{tree_read}
-use Rattle.soy_types.proofs.token_reading.read_by_tree.Goals as goal
+use Rattle.soy_types.proofs.token_reading.next_by_tree.Goals as goal
 
 pub returns-in-Ok-clause-value : goal.returns-in-Ok-clause-value
 returns-in-Ok-clause-value c =

@@ -1,7 +1,7 @@
 use Rattle.std.proofs.Common.{◌≡◌, ◌∷◌, arith}
 use Rattle.json.specs.Token.{Token}
 use Rattle.soy_types.proofs.TokenFacts.{int_read_of}
-use Rattle.soy_types.proofs.token_reading.read_int.Goals as goal
+use Rattle.soy_types.proofs.token_reading.next_int.Goals as goal
 
 pub returns-in-Some-Number-clause-value : goal.returns-in-Some-Number-clause-value
 returns-in-Some-Number-clause-value c =
